@@ -1,0 +1,95 @@
+-- How items are ordered, and where a key lies among them.
+use Rattle.std.specs.Prelude.{◌≡◌, ◌≢◌, ◌↔◌, ℕ, Bool, true, false, not, ◌||◌, nat_lt, nat_le, if◌then◌else◌}
+use Rattle.std.specs.declared.cmp.Ordering.{Ordering}
+use Rattle.std.specs.declared.cmp.Ordering.TheVariants.{Less, Equal, Greater}
+use Rattle.std.proofs.Common.{arith}
+use Rattle.std.proofs.lemmas.Bool.Decides.{nat_tests}
+use Rattle.order_laws.specs.declared.items.Item.{Item}
+
+-- what an order answers; `comp` says where a key lies against any three words
+pub record Order (K : Type 0) : Type 0 where
+  pub key_of : Item → K
+  pub valid : Item → Bool
+  pub apart : Item → Item → Bool
+  pub less : Item → Item → Bool
+  pub comp : K → Item → Ordering
+
+-- two valid items that are apart, of which the first is less
+pub record Precedes {K : Type 0} (o : Order K) (x y : Item) : Type 0 where
+  pub first_valid : o.valid x ≡ true
+  pub second_valid : o.valid y ≡ true
+  pub is_apart : o.apart x y ≡ true
+  pub is_less : o.less x y ≡ true
+
+-- what an order owes
+pub record IsLawful {K : Type 0} (o : Order K) : Type 0 where
+  pub irreflexive : (x : Item) → o.less x x ≡ false
+  pub transitive : (x y z : Item) → o.less x y ≡ true → o.less y z ≡ true → o.less x z ≡ true
+  -- of two valid items that are apart exactly one is less
+  pub one_is_less : (x y : Item) → o.valid x ≡ true → o.valid y ≡ true → o.apart x y ≡ true → o.less x y ≡ not (o.less y x)
+  -- the key of an item is in it, below what it is less than, above what is less
+  pub own_key : (x : Item) → o.valid x ≡ true → o.comp (o.key_of x) x ≡ Equal
+  pub key_below : (x y : Item) → o.valid x ≡ true → o.valid y ≡ true → o.apart x y ≡ true → (o.comp (o.key_of x) y ≡ Less) ↔ (o.less x y ≡ true)
+  pub key_above : (x y : Item) → o.valid x ≡ true → o.valid y ≡ true → o.apart x y ≡ true → (o.comp (o.key_of x) y ≡ Greater) ↔ (o.less y x ≡ true)
+  -- a key below the lesser is below the greater, and so on
+  pub below_lesser : (k : K) (x y : Item) → Precedes o x y → o.comp k x ≡ Less → o.comp k y ≡ Less
+  pub above_greater : (k : K) (x y : Item) → Precedes o x y → o.comp k y ≡ Greater → o.comp k x ≡ Greater
+  pub in_lesser : (k : K) (x y : Item) → Precedes o x y → o.comp k x ≡ Equal → o.comp k y ≡ Less
+  pub in_greater : (k : K) (x y : Item) → Precedes o x y → o.comp k y ≡ Equal → o.comp k x ≡ Greater
+  pub symmetric : (x y : Item) → o.apart x y ≡ o.apart y x
+  pub own_first_word : (x y : Item) → o.valid x ≡ true → o.valid y ≡ true → o.apart x y ≡ true → x.a ≢ y.a
+
+-- ranges without their end, and with it
+abbrev pub half_open : Order ℕ
+half_open =
+    record {
+      key_of = λ i. i.a;
+      valid = λ i. nat_lt i.a i.b;
+      apart = λ x y. nat_le x.b y.a || nat_le y.b x.a;
+      less = λ x y. nat_lt x.a y.a;
+      comp = λ k i. if nat_lt k i.a then Less else if nat_le i.b k then Greater else Equal;
+    }
+
+abbrev pub closed : Order ℕ
+closed =
+    record {
+      key_of = λ i. i.a;
+      valid = λ i. nat_le i.a i.b;
+      apart = λ x y. nat_lt x.b y.a || nat_lt y.b x.a;
+      less = λ x y. nat_lt x.a y.a;
+      comp = λ k i. if nat_lt k i.a then Less else if nat_lt i.b k then Greater else Equal;
+    }
+
+pub half_open_lawful : IsLawful half_open
+half_open_lawful =
+    record {
+      irreflexive = λ x. grind (arith, nat_tests);
+      transitive = λ x y z p q. grind (arith, nat_tests);
+      one_is_less = λ x y vx vy ap. grind (arith, nat_tests);
+      own_key = λ x v. grind (arith, nat_tests);
+      key_below = λ x y vx vy ap. (grind (arith, nat_tests), grind (arith, nat_tests));
+      key_above = λ x y vx vy ap. (grind (arith, nat_tests), grind (arith, nat_tests));
+      below_lesser = λ k x y b c. grind (arith, nat_tests);
+      above_greater = λ k x y b c. grind (arith, nat_tests);
+      in_lesser = λ k x y b c. grind (arith, nat_tests);
+      in_greater = λ k x y b c. grind (arith, nat_tests);
+      symmetric = λ x y. grind (arith, nat_tests);
+      own_first_word = λ x y vx vy ap e. grind (arith, nat_tests);
+    }
+
+pub closed_lawful : IsLawful closed
+closed_lawful =
+    record {
+      irreflexive = λ x. grind (arith, nat_tests);
+      transitive = λ x y z p q. grind (arith, nat_tests);
+      one_is_less = λ x y vx vy ap. grind (arith, nat_tests);
+      own_key = λ x v. grind (arith, nat_tests);
+      key_below = λ x y vx vy ap. (grind (arith, nat_tests), grind (arith, nat_tests));
+      key_above = λ x y vx vy ap. (grind (arith, nat_tests), grind (arith, nat_tests));
+      below_lesser = λ k x y b c. grind (arith, nat_tests);
+      above_greater = λ k x y b c. grind (arith, nat_tests);
+      in_lesser = λ k x y b c. grind (arith, nat_tests);
+      in_greater = λ k x y b c. grind (arith, nat_tests);
+      symmetric = λ x y. grind (arith, nat_tests);
+      own_first_word = λ x y vx vy ap e. grind (arith, nat_tests);
+    }

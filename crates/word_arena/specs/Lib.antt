@@ -1,0 +1,4 @@
+pub mod Layouts
+pub mod Copies
+pub mod Words
+pub mod Stores

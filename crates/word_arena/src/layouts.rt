@@ -1,0 +1,69 @@
+//! How many nodes there are, and which word holds what.
+
+ghost use Rattle.std.specs.Prelude.{◌+◌, ◌*◌, ◌<◌, ◌≤◌, ◌^◌};
+
+use order_laws::Refusal;
+
+/// The greatest number of nodes.
+pub const MOST_NODES: u32 = 65536;
+
+/// The greatest sequence of a 32-bit layout: the last even number, so that the sequence never wraps round.
+pub const GREATEST_SEQUENCE: u64 = 4294967294;
+
+/// The number of nodes of a table, and the greatest sequence that it may come to.
+#[derive(Clone, Copy, Debug, PartialEq, Eq, Drop)]
+pub struct Layout {
+    capacity: u32,
+    limit: u64,
+    ghost some: { 0 < capacity },
+    ghost most: { capacity ≤ 65536 },
+    ghost room: { 2 ≤ limit },
+    ghost counts: { limit + 1 < 2 ^ 64 },
+}
+
+impl Layout {
+    ghost use Rattle.std.specs.Prelude.{◌≡◌, ◌↔◌, ◌⊎◌, IfOk, IsErr, IfErr};
+    ghost use Rattle.word_arena.specs.Layouts.{capacity_of, limit_of};
+    ghost use Rattle.word_arena.specs.Words.{words_for};
+
+    /// A layout of `n` nodes with 32-bit sequences. Refused by [`Refusal::BadCapacity`] outside 1 to 65536.
+    pub fn new(n: u32) -> Result<Layout, Refusal>
+        ensures capacity { IfOk result (λ l. capacity_of l ≡ n) }
+        ensures limit { IfOk result (λ l. limit_of l ≡ 4294967294) }
+        ensures refused { IsErr result ↔ ((n ≡ 0) ⊎ (65536 < n)) }
+        ensures refusal { IfErr result (λ e. e ≡ Refusal.BadCapacity) }
+    {
+        if n == 0 || n > MOST_NODES {
+            return Err(Refusal::BadCapacity);
+        }
+        Ok(Layout {
+            capacity: n,
+            limit: GREATEST_SEQUENCE,
+        })
+    }
+
+    /// The number of nodes, 1 to 65536.
+    pub fn capacity(&self) -> u32
+        ensures is { result ≡ capacity_of self.now }
+        ensures some { 0 < result }
+        ensures most { result ≤ 65536 }
+    {
+        self.capacity
+    }
+
+    /// The greatest sequence.
+    pub fn limit(&self) -> u64
+        ensures is { result ≡ limit_of self.now }
+        ensures room { 2 ≤ result }
+        ensures counts { result + 1 < 2 ^ 64 }
+    {
+        self.limit
+    }
+
+    /// The number of words: seven for each node, and three.
+    pub fn words(&self) -> usize
+        ensures { result ≡ words_for (capacity_of self.now) }
+    {
+        7 * self.capacity as usize + 3
+    }
+}

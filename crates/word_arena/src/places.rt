@@ -1,0 +1,68 @@
+//! Which word holds what.
+
+ghost use Rattle.std.specs.Prelude.{◌≡◌};
+ghost use Rattle.word_arena.specs.Words.{root_word, a_word, b_word, tag_word, left_word, right_word};
+ghost use Rattle.word_arena.specs.Copies.{copy_number};
+
+/// One of the two copies of the tree.
+#[derive(Clone, Copy, Debug, PartialEq, Eq, Drop)]
+pub enum TreeCopy {
+    /// Copy 0, which readers walk while the sequence is even.
+    Zero,
+    /// Copy 1, which readers walk while the sequence is odd.
+    One,
+}
+
+impl TreeCopy {
+    /// The number of the copy, 0 or 1.
+    pub fn number(self) -> usize
+        ensures { result ≡ copy_number self }
+    {
+        match self {
+            TreeCopy::Zero => 0,
+            TreeCopy::One => 1,
+        }
+    }
+}
+
+/// The word of a copy's root.
+pub fn root_of(copy: TreeCopy) -> usize
+    ensures { result ≡ root_word (copy_number copy) }
+{
+    1 + copy.number()
+}
+
+/// The word of a node's `a`.
+pub fn a_of(node: u32) -> usize
+    ensures { result ≡ a_word node }
+{
+    3 + 7 * node as usize
+}
+
+/// The word of a node's `b`.
+pub fn b_of(node: u32) -> usize
+    ensures { result ≡ b_word node }
+{
+    4 + 7 * node as usize
+}
+
+/// The word of a node's `tag`.
+pub fn tag_of(node: u32) -> usize
+    ensures { result ≡ tag_word node }
+{
+    5 + 7 * node as usize
+}
+
+/// The word of a node's left link in a copy.
+pub fn left_of(copy: TreeCopy, node: u32) -> usize
+    ensures { result ≡ left_word (copy_number copy) node }
+{
+    6 + 7 * node as usize + 2 * copy.number()
+}
+
+/// The word of a node's right link in a copy.
+pub fn right_of(copy: TreeCopy, node: u32) -> usize
+    ensures { result ≡ right_word (copy_number copy) node }
+{
+    7 + 7 * node as usize + 2 * copy.number()
+}
