@@ -1,0 +1,5 @@
+pub mod Readings
+pub mod Walks
+pub mod Steps
+pub mod Sound
+pub mod Planned

@@ -1,0 +1,148 @@
+-- What the writer's steps keep.
+use Rattle.std.proofs.Common.{◌≡◌, ◌≢◌, ℕ, suc, ◌+◌, ◌<◌, ◌≤◌, true, false, cond, List, [], ◌∷◌, ◌++◌, length, take, Some, None, refl, sym, ◌∙◌, ap, subst, inl, inr, ⊎_elim, arith, length-append, get_or-set_other, get_or-set_same}
+use Rattle.std.specs.Prelude.{◌⊎◌, ◌==◌, not, ◌||◌, slice_set}
+use Rattle.std.specs.List.{AllByRecursion}
+use Rattle.order_laws.specs.declared.refusals.Refusal.TheVariants.{BadItem, Overlap, Full}
+use Rattle.std.proofs.lemmas.Bool.{cases_lt, eqb-false}
+use Rattle.std.proofs.lemmas.List.{take-append-le, take_all}
+use Rattle.order_laws.specs.declared.items.Item.{Item}
+use Rattle.word_arena.specs.declared.stores.Store.{Store}
+use Rattle.latch_core.specs.declared.updates.Update.{Update}
+use Rattle.latch_core.specs.declared.updates.Update.TheVariants.{Insert, Erase}
+use Rattle.order_laws.specs.Orders.{Order, IsLawful}
+use Rattle.order_laws.specs.Tables.{IsTable, meets, with_item}
+use Rattle.latch_core.specs.Updates.{after, refuses, spent}
+use Rattle.latch_core.specs.Histories.{replay}
+use Rattle.word_arena.specs.Words.{at, root_word, a_word, b_word, tag_word, left_word, right_word, item_at, Nodes, none, fork, items, Leads, Reaches, by_root, by_left, by_right, InUse, HoldsTable}
+use Rattle.latch_core.specs.Sequences.{stable}
+use Rattle.latch_core.specs.Attempts.{attempt}
+use Rattle.latch_core.specs.Latches.{Hand, Latch, IsHidden, MayStep}
+use Rattle.word_arena.specs.Stores.{words_after}
+use Rattle.latch_core.specs.Invariants.{IsStanding, AreTables}
+use Rattle.order_laws.proofs.TableLemmas.{with_item_table, without_table, length_with_item, length_without}
+use Rattle.latch_core.proofs.Readings.{AllLoads, stand_on}
+use Rattle.latch_core.proofs.Walks.{walk_uses}
+
+-- a memory that has the same words in use holds the same
+leads_on : (m m' : List ℕ) (n copy : ℕ) → ((w : ℕ) → InUse m n copy w → at m' w ≡ at m w) → (t : Nodes) (link : ℕ) → ((i : ℕ) → link ≡ suc i → i < n → Reaches m n copy i) → Leads m n copy link t → Leads m' n copy link t × (items m' t ≡ items m t)
+leads_on m m' n copy same none link reached leads = (leads, refl)
+leads_on m m' n copy same (fork l i r) link reached leads =
+    let here : Reaches m n copy i = reached i leads.0 leads.1 in
+    let ea : at m' (a_word i) ≡ at m (a_word i) = same (a_word i) (inr (i, here, inl refl)) in
+    let eb : at m' (b_word i) ≡ at m (b_word i) = same (b_word i) (inr (i, here, inr (inl refl))) in
+    let et : at m' (tag_word i) ≡ at m (tag_word i) = same (tag_word i) (inr (i, here, inr (inr (inl refl)))) in
+    let el : at m' (left_word copy i) ≡ at m (left_word copy i) = same (left_word copy i) (inr (i, here, inr (inr (inr (inl refl))))) in
+    let er : at m' (right_word copy i) ≡ at m (right_word copy i) = same (right_word copy i) (inr (i, here, inr (inr (inr (inr refl))))) in
+    let hl = leads_on m m' n copy same l (at m (left_word copy i)) (λ j e lt. by_left i j here lt e) leads.2 in
+    let hr = leads_on m m' n copy same r (at m (right_word copy i)) (λ j e lt. by_right i j here lt e) leads.3 in
+    let is : item_at m' i ≡ item_at m i = λ d. record { a = ea d; b = eb d; tag = et d } in (
+      (leads.0, leads.1, subst (λ p. Leads m' n copy p l) (sym el) hl.0, subst (λ p. Leads m' n copy p r) (sym er) hr.0),
+      (λ d. hl.1 d ++ is d ∷ hr.1 d),
+    )
+
+pub holds_on : (m m' : List ℕ) (n copy : ℕ) (table : List Item) → ((w : ℕ) → InUse m n copy w → at m' w ≡ at m w) → HoldsTable m n copy table → HoldsTable m' n copy table
+holds_on m m' n copy table same (t, h) =
+    let k = leads_on m m' n copy same t (at m (root_word copy)) (λ i e lt. by_root i lt e) h.leads in
+    (t, record { leads = subst (λ p. Leads m' n copy p t) (sym (same (root_word copy) (inl refl))) k.0; listed_items = k.1 ∙ h.listed_items })
+
+-- word 0 is in no use
+not_zero : (m : List ℕ) (n copy w : ℕ) → InUse m n copy w → w ≢ 0
+not_zero m n copy w h =
+    ⊎_elim
+    (λ e z. absurd (omega arith))
+    (λ (i, reached, is).
+    ⊎_elim (λ e z. absurd (omega arith))
+    (⊎_elim (λ e z. absurd (omega arith))
+    (⊎_elim (λ e z. absurd (omega arith))
+    (⊎_elim (λ e z. absurd (omega arith)) (λ e z. absurd (omega arith))))) is)
+    h
+
+-- what a step does to the words
+pub hidden_same : (n : ℕ) (m began : List ℕ) (s : Store) → IsHidden n m began s.word → (w : ℕ) → (w ≡ 0) ⊎ InUse m n (stable (at m 0)) w → at (words_after m s) w ≡ at m w
+hidden_same n m began s h w p =
+    let ne : w ≢ s.word = ⊎_elim (λ z e. h.not_sequence (sym e ∙ z)) (λ u e. h.not_in_use (subst (InUse m n (stable (at m 0))) e u)) p in
+    get_or-set_other m s.word w s.value 0 ne
+
+pub flip_same : (n copy : ℕ) (m : List ℕ) (s : Store) → s.word ≡ 0 → (w : ℕ) → InUse m n copy w → at (words_after m s) w ≡ at m w
+flip_same n copy m s z w u =
+    let ne : w ≢ s.word = λ e. not_zero m n copy w u (e ∙ z) in
+    get_or-set_other m s.word w s.value 0 ne
+
+pub flip_adds : (m : List ℕ) (s : Store) → 0 < length m → s.word ≡ 0 → s.value ≡ at m 0 + 1 → at (words_after m s) 0 ≡ at m 0 + 1
+flip_adds m s sized z v = ap (λ i. at (slice_set m i s.value) 0) z ∙ get_or-set_same m 0 s.value 0 sized ∙ v
+
+-- the sequence after a step: the same, or one more
+pub sequence_after : (n : ℕ) (l : Latch) (h : Hand) (s : Store) → 0 < length l.words → MayStep n l h s → (IsHidden n l.words h.began s.word × (at (words_after l.words s) 0 ≡ at l.words 0)) ⊎ (at (words_after l.words s) 0 ≡ at l.words 0 + 1)
+sequence_after n l h s sized may =
+    ⊎_elim
+    (λ hid. inl (hid, hidden_same n l.words h.began s hid 0 (inl refl)))
+    (⊎_elim (λ f. inr (flip_adds l.words s sized f.sequence f.adds_one)) (λ f. inr (flip_adds l.words s sized f.sequence f.adds_one)))
+    may.kind
+
+-- the words that an attempt loads
+pub attempt_uses : {K : Type 0} (o : Order K) (m : List ℕ) (n : ℕ) (k : K) → AllLoads m (λ w. (w ≡ 0) ⊎ InUse m n (stable (at m 0)) w) (attempt o n k)
+attempt_uses o m n k = (inl refl, (inr (inl refl), walk_uses o m n k (at m 0) n (at m (root_word (stable (at m 0)))) (λ i e lt. by_root i lt e)))
+
+-- a reader's attempt stands through each step of the writer
+pub standing_step : {K : Type 0} (o : Order K) (n : ℕ) (k : K) (l : Latch) (h : Hand) (s : Store) (v : List ℕ) → 0 < length l.words → MayStep n l h s → IsStanding l.words (attempt o n k) v → IsStanding (words_after l.words s) (attempt o n k) v
+standing_step o n k l h s [] sized may st = tt
+standing_step o n k l h s (x ∷ v) sized may st =
+    ⊎_elim
+    (λ (hid, e). (
+      omega arith,
+      λ is.
+          let was : x ≡ at l.words 0 = omega arith in
+          stand_on l.words (words_after l.words s) (λ w. (w ≡ 0) ⊎ InUse l.words n (stable (at l.words 0)) w) (hidden_same n l.words h.began s hid) (attempt o n k) (x ∷ v) (attempt_uses o l.words n k) (st.1 was),
+    ))
+    (λ e. let le = st.0 in (omega arith, λ is. absurd (omega arith)))
+    (sequence_after n l h s sized may)
+
+-- accepted updates
+not_meeting : {K : Type 0} (o : Order K) (i : Item) (xs : List Item) → meets o i xs ≡ false → AllByRecursion (λ x. o.apart x i ≡ true) xs
+not_meeting o i [] e = tt
+not_meeting o i (x ∷ xs) e =
+    elim (o.apart x i) as (λ b. o.apart x i ≡ b → (not b || meets o i xs) ≡ false → AllByRecursion (λ y. o.apart y i ≡ true) (x ∷ xs)) [
+      | true ↦ λ is f. (is, not_meeting o i xs f)
+      | false ↦ λ is f. absurd (cc)
+    ] refl e
+
+-- the table after an accepted update is one, and fits
+pub accepted_table : {K : Type 0} (o : Order K) → IsLawful o → (n limit : ℕ) (table : List Item) (seq : ℕ) (u : Update) → refuses o n limit false table seq u ≡ None → IsTable o table → length table ≤ n → IsTable o (after o table u) × (length (after o table u) ≤ n)
+accepted_table o law n limit table seq (Insert i) e t fits =
+    elim (o.valid i) as (λ b. o.valid i ≡ b → cond (not b) (Some BadItem) (cond (meets o i table) (Some Overlap) (cond (length table == n) (Some Full) (spent limit seq))) ≡ None → IsTable o (with_item o i table) × (length (with_item o i table) ≤ n)) [
+      | false ↦ λ v f. absurd (cc)
+      | true ↦ λ v.
+          elim (meets o i table) as (λ b. meets o i table ≡ b → cond b (Some Overlap) (cond (length table == n) (Some Full) (spent limit seq)) ≡ None → IsTable o (with_item o i table) × (length (with_item o i table) ≤ n)) [
+            | true ↦ λ v f. absurd (cc)
+            | false ↦ λ free.
+                elim (length table == n) as (λ b. (length table == n) ≡ b → cond b (Some Full) (spent limit seq) ≡ None → IsTable o (with_item o i table) × (length (with_item o i table) ≤ n)) [
+                  | true ↦ λ v f. absurd (cc)
+                  | false ↦ λ ne f. (
+                    with_item_table o law i table v (not_meeting o i table free) t,
+                    let differ : length table ≢ n = eqb-false (length table) n ne in
+                        omega (arith, length_with_item o i table),
+                  )
+                ] refl
+          ] refl
+    ] refl e
+accepted_table o law n limit table seq (Erase a) e t fits = (without_table o a table t, omega (arith, length_without a table))
+
+pub replay_push : {K : Type 0} (o : Order K) (table : List Item) (us : List Update) (u : Update) → replay o table (us ++ u ∷ []) ≡ after o (replay o table us) u
+replay_push o table [] u = refl
+replay_push o table (v ∷ us) u = replay_push o (after o table v) us u
+
+pub tables_push : {K : Type 0} (o : Order K) → IsLawful o → (n limit : ℕ) (us : List Update) (seq : ℕ) (u : Update) → refuses o n limit false (replay o [] us) seq u ≡ None → AreTables o n us → AreTables o n (us ++ u ∷ [])
+tables_push o law n limit us seq u e h j =
+    ⊎_elim
+    (λ le. let t : take j (us ++ u ∷ []) ≡ take j us = take-append-le j us (u ∷ []) le in
+    (subst (λ xs. IsTable o (replay o [] xs)) (sym t) (h j).0, subst (λ xs. length (replay o [] xs) ≤ n) (sym t) (h j).1))
+    (λ gt.
+    let t : take j (us ++ u ∷ []) ≡ us ++ u ∷ [] = take_all j (us ++ u ∷ []) (omega (arith, length-append us (u ∷ []))) in
+    let whole : take (length us) us ≡ us = take_all (length us) us (omega arith) in
+    let now = accepted_table o law n limit (replay o [] us) seq u e (subst (λ xs. IsTable o (replay o [] xs)) whole (h (length us)).0) (subst (λ xs. length (replay o [] xs) ≤ n) whole (h (length us)).1) in
+    let same : replay o [] (take j (us ++ u ∷ [])) ≡ after o (replay o [] us) u = ap (replay o []) t ∙ replay_push o [] us u in
+    (subst (IsTable o) (sym same) now.0, subst (λ xs. length xs ≤ n) (sym same) now.1))
+    (cases_le j (length us))
+  where
+    cases_le : (a b : ℕ) → (a ≤ b) ⊎ (b < a)
+    cases_le a b = ⊎_elim (λ lt. inr lt) (λ le. inl le) (cases_lt b a)

@@ -1,0 +1,74 @@
+-- How a reader looks a key up: by one load at a time, where each next step depends on its key and on the values
+-- that it has loaded, and on nothing else.
+use Rattle.std.specs.Prelude.{◌≡◌, ℕ, zero, suc, List, [], ◌∷◌, Option, Some, None, if◌then◌else◌, ◌==◌, nat_lt}
+use Rattle.std.specs.declared.cmp.Ordering.{Ordering}
+use Rattle.std.specs.declared.cmp.Ordering.TheVariants.{Less, Equal, Greater}
+use Rattle.order_laws.specs.declared.items.Item.{Item}
+use Rattle.order_laws.specs.Orders.{Order}
+use Rattle.word_arena.specs.Words.{root_word, a_word, b_word, tag_word, left_word, right_word, at}
+use Rattle.latch_core.specs.Sequences.{gen, stable}
+
+-- what an attempt came to: an answer with its generation, or another attempt
+pub data Outcome : Type 0 where
+  Answer : Option Item → ℕ → Outcome
+  Again : Outcome
+
+-- what is left of an attempt: a word to load, and how it goes on with the value; or its end
+pub data Reading : Type 0 where
+  Load : ℕ → (ℕ → Reading) → Reading
+  Ends : Outcome → Reading
+
+-- how a walk ended: at an item, at link 0, or stuck
+pub data Found : Type 0 where
+  Item_found : Item → Found
+  No_item : Found
+  Stuck : Found
+
+-- the outcome, by the first and the last number
+abbrev pub outcome : ℕ → ℕ → Found → Outcome
+outcome s t Stuck = Again
+outcome s t (Item_found x) = if s == t then Answer (Some x) (gen s) else Again
+outcome s t No_item = if s == t then Answer None (gen s) else Again
+
+-- the second reading of the sequence
+abbrev pub closing : ℕ → Found → Reading
+closing s found = Load 0 (λ t. Ends (outcome s t found))
+
+-- where a walk goes on from an item
+abbrev pub turn : ℕ → ℕ → Item → (ℕ → Reading) → Ordering → Reading
+turn s i x go Less = Load (left_word (stable s) i) go
+turn s i x go Equal = closing s (Item_found x)
+turn s i x go Greater = Load (right_word (stable s) i) go
+
+-- one node
+abbrev pub visit : {K : Type 0} → Order K → K → ℕ → ℕ → (ℕ → Reading) → Reading
+visit o k s i go =
+    Load (a_word i) (λ a. Load (b_word i) (λ b. Load (tag_word i) (λ tag.
+    let x : Item = record { a = a; b = b; tag = tag } in
+    turn s i x go (o.comp k x))))
+
+-- a walk that begins at a link, with at most `left` visits
+abbrev pub walk : {K : Type 0} → Order K → ℕ → K → ℕ → ℕ → ℕ → Reading
+walk o n k s left zero = closing s No_item
+walk o n k s zero (suc i) = closing s Stuck
+walk o n k s (suc left) (suc i) = if nat_lt i n then visit o k s i (walk o n k s left) else closing s Stuck
+
+-- one attempt, at a capacity of n nodes
+abbrev pub attempt : {K : Type 0} → Order K → ℕ → K → Reading
+attempt o n k = Load 0 (λ s. Load (root_word (stable s)) (walk o n k s n))
+
+-- what is left after these values were loaded; none where there are values after the end
+abbrev pub rest_after : Reading → List ℕ → Option Reading
+rest_after r [] = Some r
+rest_after (Load w go) (x ∷ v) = rest_after (go x) v
+rest_after (Ends out) (x ∷ v) = None
+
+-- these values make a whole attempt with this outcome
+abbrev pub IsAttempt : {K : Type 0} → Order K → ℕ → K → List ℕ → Outcome → Type 0
+IsAttempt o n k v out = rest_after (attempt o n k) v ≡ Some (Ends out)
+
+-- each of the values that were loaded stands in its word
+abbrev pub Stand : List ℕ → Reading → List ℕ → Type 0
+Stand m r [] = Unit {0}
+Stand m (Load w go) (x ∷ v) = (at m w ≡ x) × Stand m (go x) v
+Stand m (Ends out) (x ∷ v) = ⊥

@@ -1,0 +1,16 @@
+-- The table after a list of updates.
+use Rattle.std.specs.Prelude.{ℕ, ◌-◌, List, [], ◌∷◌, take}
+use Rattle.order_laws.specs.declared.items.Item.{Item}
+use Rattle.order_laws.specs.Orders.{Order}
+use Rattle.latch_core.specs.declared.updates.Update.{Update}
+use Rattle.latch_core.specs.Updates.{after}
+use Rattle.latch_core.specs.Sequences.{gen}
+
+-- the table after these updates, in order
+abbrev pub replay : {K : Type 0} → Order K → List Item → List Update → List Item
+replay o table [] = table
+replay o table (u ∷ us) = replay o (after o table u) us
+
+-- the table at a generation, where the opening sequence is start
+abbrev pub table_at : {K : Type 0} → Order K → ℕ → List Update → ℕ → List Item
+table_at o start us g = replay o [] (take (g - gen start) us)

@@ -1,0 +1,40 @@
+-- What stays true at every step.
+use Rattle.std.specs.Prelude.{◌≡◌, ℕ, ◌+◌, ◌-◌, ◌*◌, ◌<◌, ◌≤◌, List, [], ◌∷◌, length, take, Option, Some, None}
+use Rattle.latch_core.specs.declared.updates.Update.{Update}
+use Rattle.order_laws.specs.Orders.{Order}
+use Rattle.order_laws.specs.Tables.{IsTable}
+use Rattle.latch_core.specs.Histories.{replay, table_at}
+use Rattle.word_arena.specs.Words.{at, HoldsTable}
+use Rattle.latch_core.specs.Sequences.{gen, stable}
+use Rattle.latch_core.specs.Attempts.{Reading, Stand}
+use Rattle.latch_core.specs.Latches.{Hand, Latch}
+
+-- a reader's attempt: its first number is not above the sequence, and while it is the sequence, each value that was
+-- loaded still stands in its word
+abbrev pub IsStanding : List ℕ → Reading → List ℕ → Type 0
+IsStanding m r [] = Unit {0}
+IsStanding m r (s ∷ v) = (s ≤ at m 0) × (s ≡ at m 0 → Stand m r (s ∷ v))
+
+-- each replay is a table, and fits
+abbrev pub AreTables : {K : Type 0} → Order K → ℕ → List Update → Type 0
+AreTables o n us = (j : ℕ) → IsTable o (replay o [] (take j us)) × (length (replay o [] (take j us)) ≤ n)
+
+-- an update in hand is the last that was accepted; with none in hand the sequence counts two for each
+pub record IsHand {K : Type 0} (o : Order K) (start seq : ℕ) (us : List Update) (h : Hand) : Type 0 where
+  pub count : seq + 2 ≡ start + 2 * length us + h.flips
+  pub flips : h.flips ≤ 2
+  pub last : 0 < length us
+  pub old : h.old ≡ replay o [] (take (length us - 1) us)
+
+abbrev pub IsInHand : {K : Type 0} → Order K → ℕ → ℕ → List Update → Option Hand → Type 0
+IsInHand o start seq us None = seq ≡ start + 2 * length us
+IsInHand o start seq us (Some h) = IsHand o start seq us h
+
+-- the latch after these updates: the stable copy holds the table that the sequence names
+pub record IsSound {K : Type 0} (o : Order K) (n start : ℕ) (us : List Update) (l : Latch) : Type 0 where
+  pub even : stable start ≡ 0
+  pub sized : 0 < length l.words
+  pub tables : AreTables o n us
+  pub table_is : l.table ≡ replay o [] us
+  pub in_hand : IsInHand o start (at l.words 0) us l.hand
+  pub current : HoldsTable l.words n (stable (at l.words 0)) (table_at o start us (gen (at l.words 0)))

@@ -1,0 +1,7 @@
+pub mod Sequences
+pub mod Updates
+pub mod Histories
+pub mod Attempts
+pub mod Latches
+pub mod Plans
+pub mod Invariants

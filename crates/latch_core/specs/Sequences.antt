@@ -1,0 +1,10 @@
+-- The sequence of a latch (Documentation/locking/seqlock.rst, latch sequence counters).
+use Rattle.std.specs.Prelude.{ℕ, ◌/◌, ◌%◌}
+
+-- the generation that a sequence names: how many updates readers see, above the opening one
+abbrev pub gen : ℕ → ℕ
+gen s = s / 2
+
+-- the copy that readers walk, 0 or 1
+abbrev pub stable : ℕ → ℕ
+stable s = s % 2
