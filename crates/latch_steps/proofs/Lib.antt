@@ -1,0 +1,4 @@
+mod Worlds
+mod SafeRuns
+mod Undisturbed
+mod Patient
