@@ -24,7 +24,7 @@ use Rattle.word_arena.specs.Stores.{words_after}
 use Rattle.latch_steps.specs.Runs.{LookupInHand, Moment, more, opening, counted, with_latch, with_lookups, Begins, Writes, Starts, wanted, Gets, Reads, Step, Run, accepted, history}
 use Rattle.latch_core.specs.Histories.{table_at}
 use Rattle.latch_steps.specs.Safe.{sequence_at}
-use Rattle.latch_steps.specs.Quiet.{IsPatientReply, IsQuiet}
+use Rattle.latch_steps.specs.Quiet.{flips_between, IsPatientReply, IsQuiet}
 use Rattle.latch_core.specs.Invariants.{IsStanding}
 use Rattle.order_laws.specs.declared.items.Item.{Item}
 use Rattle.latch_core.proofs.Readings.{rest_push, stand_push}
@@ -32,6 +32,7 @@ use Rattle.latch_core.proofs.Walks.{attempt_answers}
 use Rattle.latch_core.proofs.Steps.{sequence_after}
 use Rattle.latch_steps.proofs.Worlds.{IsWorld, IsLookup, IsRight, step_leads}
 use Rattle.latch_steps.proofs.SafeRuns.{opening_world}
+use Rattle.latch_steps.proofs.Latched.{flips_counted}
 use Rattle.latch_steps.proofs.Undisturbed.{quiet_run}
 
 -- the attempts so far, against the sequence at the start and at this attempt's first load
@@ -167,35 +168,43 @@ module _ {K : Type 0} (o : Order K) (law : IsLawful o) (n limit start : ℕ) (us
       words_kept (Some l) (er, ew) = there ∙ ap (λ v. at v.latch.words 0) ew
   step_goes (Read r) reply w' there s = read_goes r (get w.lookups r) refl reply w' s
 
-patient_reply : {K : Type 0} (o : Order K) (start : ℕ) (us : List Update) (w' w0 : Moment K) (all : List (Moment K)) (seq c : ℕ) (r : Reply K) → sequence_at w0 all c ≡ seq → IsRight o start us c w' r → Patient_now (sequence_at w0 all) seq r → IsPatientReply w0 all r
-patient_reply o start us w' w0 all seq c (Gave x) e right h = let f : sequence_at w0 all x.last ≡ seq = ap (sequence_at w0 all) right.last ∙ e in omega arith
-patient_reply o start us w' w0 all seq c _ e right h = tt
+patient_reply : {K : Type 0} (o : Order K) (start : ℕ) (us : List Update) (w' w0 : Moment K) (whole : List (Reply K)) (all : List (Moment K)) (seq c : ℕ) (r : Reply K) → sequence_at w0 all c ≡ seq → ((i : ℕ) → i ≤ c → sequence_at w0 all c ≡ sequence_at w0 all i + flips_between whole i c) → IsRight o start us c w' r → Patient_now (sequence_at w0 all) seq r → IsPatientReply whole r
+patient_reply o start us w' w0 whole all seq c (Gave x) e counts right h =
+    let added = counts x.first right.first in
+    let few : x.tries ≤ 1 + flips_between whole x.first c = omega arith in
+    subst (λ j. x.tries ≤ 1 + flips_between whole x.first j) (sym right.last) few
+patient_reply o start us w' w0 whole all seq c _ e counts right h = tt
 
-patient_run : {K : Type 0} (o : Order K) → IsLawful o → (n limit start : ℕ) (w0 : Moment K) (all : List (Moment K)) (es : List (Event K)) (rs : List (Reply K)) (ws : List (Moment K)) (us : List Update) (c : ℕ) (w : Moment K) (before : List (Moment K)) → length before ≡ c → w0 ∷ all ≡ before ++ w ∷ ws → IsWorld o n start us c w → AreTried (sequence_at w0 all) (at w.latch.words 0) w.lookups → c + length es < 2 ^ 64 → Run o n limit w es rs ws → AllByRecursion (IsPatientReply w0 all) rs
-patient_run o law n limit start w0 all [] [] ws us c w before lb eq ok tried room run = tt
-patient_run o law n limit start w0 all [] (r ∷ rs) ws us c w before lb eq ok tried room run = absurd run
-patient_run o law n limit start w0 all (ev ∷ es) [] ws us c w before lb eq ok tried room run = tt
-patient_run o law n limit start w0 all (ev ∷ es) (r ∷ rs) [] us c w before lb eq ok tried room run = absurd run
-patient_run o law n limit start w0 all (ev ∷ es) (r ∷ rs) (w' ∷ ws) us c w before lb eq ok tried room run =
-    let counts : more c ≡ c + 1 = omega arith in
-    let leads = step_leads o law n limit start us c w ok counts ev r w' run.0 in
+abbrev Counts : {K : Type 0} → Moment K → List (Reply K) → List (Moment K) → Type 0
+Counts w0 whole all = (i j : ℕ) → i ≤ j → j ≤ length all → sequence_at w0 all j ≡ sequence_at w0 all i + flips_between whole i j
+
+patient_run : {K : Type 0} (o : Order K) → IsLawful o → (n limit start : ℕ) (w0 : Moment K) (whole : List (Reply K)) (all : List (Moment K)) → Counts w0 whole all → (es : List (Event K)) (rs : List (Reply K)) (ws : List (Moment K)) (us : List Update) (c : ℕ) (w : Moment K) (before : List (Moment K)) → length before ≡ c → w0 ∷ all ≡ before ++ w ∷ ws → IsWorld o n start us c w → AreTried (sequence_at w0 all) (at w.latch.words 0) w.lookups → c + length es < 2 ^ 64 → Run o n limit w es rs ws → AllByRecursion (IsPatientReply whole) rs
+patient_run o law n limit start w0 whole all counts [] [] ws us c w before lb eq ok tried room run = tt
+patient_run o law n limit start w0 whole all counts [] (r ∷ rs) ws us c w before lb eq ok tried room run = absurd run
+patient_run o law n limit start w0 whole all counts (ev ∷ es) [] ws us c w before lb eq ok tried room run = tt
+patient_run o law n limit start w0 whole all counts (ev ∷ es) (r ∷ rs) [] us c w before lb eq ok tried room run = absurd run
+patient_run o law n limit start w0 whole all counts (ev ∷ es) (r ∷ rs) (w' ∷ ws) us c w before lb eq ok tried room run =
+    let one : more c ≡ c + 1 = omega arith in
+    let leads = step_leads o law n limit start us c w ok one ev r w' run.0 in
     let us' = us ++ accepted ev r in
     let eq' : w0 ∷ all ≡ (before ++ w ∷ []) ++ w' ∷ ws = eq ∙ sym (append_assoc before (w ∷ []) (w' ∷ ws)) in
     let lb' : length (before ++ w ∷ []) ≡ c + 1 = omega (arith, length-append before (w ∷ [])) in
     let there : sequence_at w0 all (c + 1) ≡ at w'.latch.words 0 =
     ap (λ (v : Moment _). at v.latch.words 0)
     (ap (λ xs. slice_index_or xs (c + 1) w0) eq' ∙ ap (λ i. slice_index_or ((before ++ w ∷ []) ++ w' ∷ ws) i w0) (sym lb') ∙ get_or-append_seam (before ++ w ∷ []) w' ws w0) in
-    let g = step_goes o law n limit start us c (sequence_at w0 all) w ok tried ev r w' (ap (sequence_at w0 all) (ap more ok.events ∙ counts) ∙ there) run.0 in (
-      patient_reply o start us' w' w0 all (at w'.latch.words 0) (c + 1) r there leads.right g.now,
-      patient_run o law n limit start w0 all es rs ws us' (c + 1) w' (before ++ w ∷ []) lb' eq' leads.world g.lookups (omega arith) run.1,
+    let within : c + 1 ≤ length all = omega (arith, ap length eq', length-append (before ++ w ∷ []) (w' ∷ ws)) in
+    let g = step_goes o law n limit start us c (sequence_at w0 all) w ok tried ev r w' (ap (sequence_at w0 all) (ap more ok.events ∙ one) ∙ there) run.0 in (
+      patient_reply o start us' w' w0 whole all (at w'.latch.words 0) (c + 1) r there (λ i le. counts i (c + 1) le within) leads.right g.now,
+      patient_run o law n limit start w0 whole all counts es rs ws us' (c + 1) w' (before ++ w ∷ []) lb' eq' leads.world g.lookups (omega arith) run.1,
     )
 
 -- every run from the opening is quiet
-pub quiet : {K : Type 0} (o : Order K) → IsLawful o → (n limit start : ℕ) → stable start ≡ 0 → (es : List (Event K)) (rs : List (Reply K)) (ws : List (Moment K)) → length es < 2 ^ 64 → Run o n limit (opening n start) es rs ws → IsQuiet o n start es rs ws
+pub quiet : {K : Type 0} (o : Order K) → IsLawful o → (n limit start : ℕ) → stable start ≡ 0 → (es : List (Event K)) (rs : List (Reply K)) (ws : List (Moment K)) → length es < 2 ^ 64 → Run o n limit (opening n start) es rs ws → IsQuiet o start es rs ws
 quiet {K = K} o law n limit start even es rs ws room run =
     let w0 : Moment K = opening n start in
     let ok = opening_world o n start even in
+    let counts : Counts w0 rs ws = flips_counted o law n limit start [] w0 es rs ws ok.latch run in
     record {
       undisturbed = quiet_run o law n limit start (history es rs) es rs ws [] 0 w0 ok (omega arith) run refl;
-      patient = patient_run o law n limit start w0 ws es rs ws [] 0 w0 [] refl refl ok (λ q l e. (let none_yet : get w0.lookups q ≡ None = get-empty nat_cmp q in absurd (cc))) (omega arith) run;
+      patient = patient_run o law n limit start w0 rs ws counts es rs ws [] 0 w0 [] refl refl ok (λ q l e. (let none_yet : get w0.lookups q ≡ None = get-empty nat_cmp q in absurd (cc))) (omega arith) run;
     }

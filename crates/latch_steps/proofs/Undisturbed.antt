@@ -25,7 +25,7 @@ use Rattle.latch_core.specs.Sequences.{gen, stable}
 use Rattle.latch_core.specs.Attempts.{Outcome, Answer, Again, Reading, Load, Ends, attempt, rest_after, Stand, IsAttempt}
 use Rattle.latch_core.specs.Latches.{Hand, Latch, MayStep, stepped, begun}
 use Rattle.latch_steps.specs.Runs.{LookupInHand, Moment, more, opening, counted, with_latch, with_lookups, Begins, Writes, Starts, wanted, Gets, Reads, Step, Run, accepted, history}
-use Rattle.latch_steps.specs.Quiet.{Undisturbed, UnlessWrote, Returning, FromStart, AreUndisturbed, IsPatientReply, IsQuiet}
+use Rattle.latch_steps.specs.Quiet.{Undisturbed, UnlessWrote, Returning, FromStart, AreUndisturbed, IsQuiet}
 use Rattle.latch_steps.specs.Safe.{sequence_at}
 use Rattle.latch_core.specs.Invariants.{IsStanding, IsSound}
 use Rattle.std.proofs.lemmas.List.{take-append-le}

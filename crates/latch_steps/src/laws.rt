@@ -19,5 +19,5 @@ pub fn every_run_is_safe<O: TreeOrder>()
 /// A lookup that the writer leaves alone returns at its first attempt, within four loads for each item of the table and
 /// three; and no lookup tries again more often than the writer flips between its start and its last load.
 pub fn every_run_is_quiet<O: TreeOrder>()
-    ensures { (n limit start : ℕ) (es : List (Event O.Key)) (rs : List (Reply O.Key)) (ws : List (Moment O.Key)) → stable start ≡ 0 → length es < 2 ^ 64 → Run O.order n limit (opening n start) es rs ws → IsQuiet O.order n start es rs ws }
+    ensures { (n limit start : ℕ) (es : List (Event O.Key)) (rs : List (Reply O.Key)) (ws : List (Moment O.Key)) → stable start ≡ 0 → length es < 2 ^ 64 → Run O.order n limit (opening n start) es rs ws → IsQuiet O.order start es rs ws }
 {}
