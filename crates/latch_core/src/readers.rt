@@ -23,7 +23,6 @@ pub struct ReaderCore<O: TreeOrder> {
 }
 
 /// What a core becomes with a value.
-#[derive(Drop)]
 pub enum Taken<O: TreeOrder> {
     /// The attempt goes on.
     Going(ReaderCore<O>),
