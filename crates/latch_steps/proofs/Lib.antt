@@ -3,3 +3,4 @@ mod SafeRuns
 mod Latched
 mod Undisturbed
 mod Patient
+mod Loading

@@ -1,3 +1,4 @@
 pub mod Runs
 pub mod Safe
 pub mod Quiet
+pub mod Lookups

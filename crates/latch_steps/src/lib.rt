@@ -7,6 +7,7 @@
 pub mod commands;
 pub mod events;
 pub mod laws;
+mod lookups;
 pub mod replies;
 
 pub use commands::Command;
