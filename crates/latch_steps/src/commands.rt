@@ -1,0 +1,20 @@
+//! Groups of steps, as a trace file names them.
+
+use latch_core::Update;
+
+/// A group of events of one actor.
+#[derive(Clone, Copy, Debug, PartialEq, Eq, Drop)]
+pub enum Command<K> {
+    /// The writer takes an update in hand.
+    Begin(Update),
+    /// At most this many steps of the writer, up to the end of the update in hand.
+    Write(u32),
+    /// Steps of the writer up to and with its next flip; where none remains, up to the end of the update in hand.
+    WriteFlip,
+    /// Steps of the writer up to the end of the update in hand.
+    WriteEnd,
+    /// A reader begins a lookup of this key.
+    Start(u32, K),
+    /// At most this many loads of a reader, up to the return of its lookup.
+    Read(u32, u32),
+}

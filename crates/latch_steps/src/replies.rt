@@ -1,0 +1,55 @@
+//! What a step replies, and what a run notes.
+
+use order_laws::{Item, Refusal};
+use word_arena::Store;
+
+/// A lookup that returned. The counts stay at the greatest `u64`.
+#[derive(Clone, Copy, Debug, PartialEq, Eq, Drop)]
+pub struct Returned<K> {
+    /// The reader's number.
+    pub reader: u32,
+    /// What it looked up.
+    pub key: K,
+    /// The item that the key is in, or none.
+    pub answer: Option<Item>,
+    /// The generation of the table that this is the lookup of.
+    pub generation: u64,
+    /// How many events there were up to and with its start.
+    pub first: u64,
+    /// How many events there were up to and with its last load.
+    pub last: u64,
+    /// How many loads it made.
+    pub loads: u64,
+    /// How many attempts it made.
+    pub tries: u64,
+}
+
+/// What a step replies.
+#[derive(Clone, Copy, Debug, PartialEq, Eq, Drop)]
+pub enum Reply<K> {
+    /// The update is in hand, and takes this many steps.
+    Begun(u64),
+    /// The writer made this store.
+    Wrote(Store),
+    /// The writer has nothing in hand.
+    Idle,
+    /// The lookup is in hand.
+    Started,
+    /// The reader loaded a word.
+    Loaded,
+    /// The reader loaded a word, and its attempt has to be made again.
+    Retried,
+    /// The reader loaded a word, and its lookup returned.
+    Returned(Returned<K>),
+    /// Nothing was done.
+    Refused(Refusal),
+}
+
+/// What a run notes: each lookup that returned and each refusal.
+#[derive(Clone, Copy, Debug, PartialEq, Eq, Drop)]
+pub enum Note<K> {
+    /// A lookup that returned.
+    Returned(Returned<K>),
+    /// An event that was refused.
+    Refused(Refusal),
+}
