@@ -1,0 +1,4 @@
+pub mod WordLemmas
+pub mod StoreLemmas
+pub mod HoldsLemmas
+pub mod ReachLemmas
