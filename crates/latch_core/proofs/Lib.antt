@@ -3,3 +3,4 @@ pub mod Walks
 pub mod Steps
 pub mod Sound
 pub mod Planned
+pub mod Leads

@@ -73,3 +73,11 @@ loads_below m (Load w' go') (x ∷ v) w go st e =
     let f = ap (λ y. loads_in m (go' y)) st.0 in
     omega arith
 loads_below m (Ends o) (x ∷ v) w go st e = absurd st
+
+pub within_below : (b : ℕ) (r : Reading) (v : List ℕ) (w : ℕ) (go : ℕ → Reading) → Within b r → rest_after r v ≡ Some (Load w go) → length v < b
+within_below zero (Load w' go') [] w go h e = absurd h
+within_below (suc b) (Load w' go') [] w go h e = omega arith
+within_below zero (Load w' go') (x ∷ v) w go h e = absurd h
+within_below (suc b) (Load w' go') (x ∷ v) w go h e = omega (arith, within_below b (go' x) v w go (h x) e)
+within_below b (Ends o) [] w go h e = absurd (cc)
+within_below b (Ends o) (x ∷ v) w go h e = absurd (cc)

@@ -15,12 +15,12 @@ use Rattle.latch_core.specs.Updates.{after, refuses, spent}
 use Rattle.latch_core.specs.Histories.{replay}
 use Rattle.word_arena.specs.Words.{at, root_word, a_word, b_word, tag_word, left_word, right_word, item_at, Nodes, none, fork, items, Leads, Reaches, by_root, by_left, by_right, InUse, HoldsTable}
 use Rattle.latch_core.specs.Sequences.{stable}
-use Rattle.latch_core.specs.Attempts.{attempt}
+use Rattle.latch_core.specs.Attempts.{Reading, Load, attempt, rest_after}
 use Rattle.latch_core.specs.Latches.{Hand, Latch, IsHidden, MayStep}
 use Rattle.word_arena.specs.Stores.{words_after}
 use Rattle.latch_core.specs.Invariants.{IsStanding, AreTables}
 use Rattle.order_laws.proofs.TableLemmas.{with_item_table, without_table, length_with_item, length_without}
-use Rattle.latch_core.proofs.Readings.{AllLoads, stand_on}
+use Rattle.latch_core.proofs.Readings.{AllLoads, stand_on, stand_push}
 use Rattle.latch_core.proofs.Walks.{walk_uses}
 
 -- a memory that has the same words in use holds the same
@@ -96,6 +96,14 @@ standing_step o n k l h s (x ∷ v) sized may st =
     ))
     (λ e. let le = st.0 in (omega arith, λ is. absurd (omega arith)))
     (sequence_after n l h s sized may)
+
+-- and through the load of the word that it asks for
+pub standing_load : {K : Type 0} (o : Order K) (m : List ℕ) (n : ℕ) (k : K) (v : List ℕ) (w : ℕ) (go : ℕ → Reading) → rest_after (attempt o n k) v ≡ Some (Load w go) → IsStanding m (attempt o n k) v → IsStanding m (attempt o n k) (v ++ at m w ∷ [])
+standing_load o m n k [] w go e st = let zero_first : w ≡ 0 = cc in (omega (arith, ap (at m) zero_first), λ is. (is_first is, tt))
+  where
+    is_first : at m w ≡ at m 0 → at m 0 ≡ at m w
+    is_first is = sym is
+standing_load o m n k (x ∷ v) w go e st = (st.0, λ is. stand_push m (attempt o n k) (x ∷ v) w go (at m w) e (st.1 is) refl)
 
 -- accepted updates
 not_meeting : {K : Type 0} (o : Order K) (i : Item) (xs : List Item) → meets o i xs ≡ false → AllByRecursion (λ x. o.apart x i ≡ true) xs

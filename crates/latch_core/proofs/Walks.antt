@@ -10,7 +10,7 @@ use Rattle.word_arena.specs.Words.{at, root_word, left_word, right_word, item_at
 use Rattle.latch_core.specs.Sequences.{gen, stable}
 use Rattle.latch_core.specs.Attempts.{Outcome, Answer, Reading, Load, Ends, Found, Item_found, No_item, Stuck, outcome, closing, turn, visit, walk, attempt, rest_after, Stand, IsAttempt}
 use Rattle.order_laws.proofs.TableLemmas.{parted, look_less, look_greater, look_equal}
-use Rattle.latch_core.proofs.Readings.{ends_in, loads_in, AllLoads, Within, ends_as, loads_so_far, loads_below, within_length}
+use Rattle.latch_core.proofs.Readings.{ends_in, loads_in, AllLoads, Within, ends_as, loads_so_far, loads_below, within_length, within_below}
 
 -- how many nodes a tree has
 abbrev pub size : Nodes → ℕ
@@ -115,6 +115,9 @@ attempt_within o n k =
 
 pub attempt_length : {K : Type 0} (o : Order K) (n : ℕ) (k : K) (v : List ℕ) (r : Reading) → rest_after (attempt o n k) v ≡ Some r → length v ≤ 4 * n + 3
 attempt_length o n k v r e = within_length (4 * n + 3) (attempt o n k) v r (attempt_within o n k) e
+
+pub attempt_below_most : {K : Type 0} (o : Order K) (n : ℕ) (k : K) (v : List ℕ) (w : ℕ) (go : ℕ → Reading) → rest_after (attempt o n k) v ≡ Some (Load w go) → length v < 4 * n + 3
+attempt_below_most o n k v w go e = within_below (4 * n + 3) (attempt o n k) v w go (attempt_within o n k) e
 
 module _ {K : Type 0} (o : Order K) (law : IsLawful o) (m : List ℕ) (n : ℕ) (k : K) (table : List Item) (t : Nodes) (holds : Holds m n (stable (at m 0)) table t) (is_table : IsTable o table) (fits : length table ≤ n) where
   small : size t ≤ n

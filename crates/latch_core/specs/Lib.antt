@@ -5,3 +5,4 @@ pub mod Attempts
 pub mod Latches
 pub mod Plans
 pub mod Invariants
+pub mod Cores

@@ -5,6 +5,11 @@
 //! word at a time and the writer hands out one store at a time; neither knows where the words are kept.
 #![tactic(auto)]
 
+pub mod laws;
+pub mod readers;
+pub mod sequences;
+pub mod spots;
 pub mod updates;
 
+pub use readers::{ReaderCore, Taken};
 pub use updates::Update;

@@ -1,0 +1,81 @@
+use Rattle.std.proofs.Common.{◌∷◌, [], ◌++◌, ◌∙◌, ap, refl, ⊎_elim, sym, Some, arith}
+use Rattle.std.specs.declared.cmp.Ordering.TheVariants.{Less, Equal, Greater}
+use Rattle.latch_core.specs.declared.spots.Place.TheVariants.{First, Root, WordA, WordB, Tag, Left, Right, Found, Missing, Stuck}
+use Rattle.latch_core.specs.Attempts.{Ends, Answer}
+use Rattle.latch_core.proofs.Leads.{next_from, values_before, values_of_core, values_of_place, moved, turned, answers, answers_none, again, again_none}
+use Rattle.latch_core.proofs.readers.ReaderCore.take.Goals as goal
+use Rattle.latch_core.proofs.readers.ReaderCore.take.Goals.{in-Less, in-Equal, in-Greater, in-Found+else-value-self, in-Missing+else-value-self-2}
+
+pub returns-in-First-clause-leads : goal.returns-in-First-clause-leads
+returns-in-First-clause-leads g c = λ values leads.
+    let o = g.O.TreeOrder.order in
+    let h = next_from o c.args.self First _ _ c.args.value values c.in-First.is refl leads in
+    (refl, refl, h, values_before o c.args.self.spot.capacity c.args.self.key (values ++ c.args.value ∷ []) _ _ h)
+
+pub returns-in-Root-clause-leads : goal.returns-in-Root-clause-leads
+returns-in-Root-clause-leads g c = λ values leads.
+    let o = g.O.TreeOrder.order in
+    let e = c.follow.ensures in
+    let h = moved o _ _ _ _ (values ++ c.args.value ∷ []) _ _ e.capacity e.key (next_from o c.args.self Root _ _ c.args.value values c.in-Root.is refl leads) e.leads in
+    (e.capacity, e.key, h, let few = values_of_core o c.follow.result (values ++ c.args.value ∷ []) h in omega (arith, e.capacity))
+
+pub returns-in-WordA-clause-leads : goal.returns-in-WordA-clause-leads
+returns-in-WordA-clause-leads g c = λ values leads.
+    let o = g.O.TreeOrder.order in
+    let h = next_from o c.args.self WordA _ _ c.args.value values c.in-WordA.is refl leads in
+    (refl, refl, h, values_before o c.args.self.spot.capacity c.args.self.key (values ++ c.args.value ∷ []) _ _ h)
+
+pub returns-in-WordB-clause-leads : goal.returns-in-WordB-clause-leads
+returns-in-WordB-clause-leads g c = λ values leads.
+    let o = g.O.TreeOrder.order in
+    let h = next_from o c.args.self WordB _ _ c.args.value values c.in-WordB.is refl leads in
+    (refl, refl, h, values_before o c.args.self.spot.capacity c.args.self.key (values ++ c.args.value ∷ []) _ _ h)
+
+pub returns-after-comp-clause-leads : goal.returns-after-comp-clause-leads
+returns-after-comp-clause-leads g c = λ values leads.
+    let o = g.O.TreeOrder.order in
+    let s = c.args.self in
+    let h = next_from o s Tag _ _ c.args.value values c.in-Tag.is refl leads in
+    let on = h ∙ ap Some (elim c.match-comp.branch [
+      | in-Less w ↦ turned o s.spot.capacity s.key s.spot.first s.spot.left s.spot.node s.spot.a s.spot.b c.args.value _ Less _ (w.in-Less.ensures ∙ ap (o.comp s.key) c.item.ensures) w.self-is
+      | in-Equal w ↦ turned o s.spot.capacity s.key s.spot.first s.spot.left s.spot.node s.spot.a s.spot.b c.args.value _ Equal _ (w.in-Equal.ensures ∙ ap (o.comp s.key) c.item.ensures) w.self-is
+      | in-Greater w ↦ turned o s.spot.capacity s.key s.spot.first s.spot.left s.spot.node s.spot.a s.spot.b c.args.value _ Greater _ (w.in-Greater.ensures ∙ ap (o.comp s.key) c.item.ensures) w.self-is
+    ]) in
+    (refl, refl, on, values_of_place o s.spot.capacity s.key s.spot.first s.spot.left s.spot.node s.spot.a s.spot.b c.args.value c.match-comp.self (values ++ c.args.value ∷ []) on)
+
+pub returns-in-Left-clause-leads : goal.returns-in-Left-clause-leads
+returns-in-Left-clause-leads g c = λ values leads.
+    let o = g.O.TreeOrder.order in
+    let e = c.follow-in-Left.ensures in
+    let h = ⊎_elim
+      (λ is. moved o _ _ _ _ (values ++ c.args.value ∷ []) _ _ e.capacity e.key (next_from o c.args.self Left _ _ c.args.value values is refl leads) e.leads)
+      (λ is. moved o _ _ _ _ (values ++ c.args.value ∷ []) _ _ e.capacity e.key (next_from o c.args.self Right _ _ c.args.value values is refl leads) e.leads)
+      c.in-Left.is in
+    (e.capacity, e.key, h, let few = values_of_core o c.follow-in-Left.result (values ++ c.args.value ∷ []) h in omega (arith, e.capacity))
+
+pub returns-in-Found-clause-leads : goal.returns-in-Found-clause-leads
+returns-in-Found-clause-leads g c = λ values leads.
+    next_from g.O.TreeOrder.order c.args.self Found _ _ c.args.value values c.in-Found.is refl leads
+    ∙ ap (λ x. Some (Ends x)) (answers _ _ _ _ (sym c.if-value-self.true) c.generation.ensures)
+    ∙ ap (λ x. Some (Ends (Answer (Some x) c.generation.result))) (sym c.item-in-Found.ensures)
+
+pub returns-in-Missing-clause-leads : goal.returns-in-Missing-clause-leads
+returns-in-Missing-clause-leads g c = λ values leads.
+    next_from g.O.TreeOrder.order c.args.self Missing _ _ c.args.value values c.in-Missing.is refl leads
+    ∙ ap (λ x. Some (Ends x)) (answers_none _ _ _ (sym c.if-value-self-2.true) c.generation-in-Missing.ensures)
+
+pub returns-in-Found-2-clause-leads : goal.returns-in-Found-2-clause-leads
+returns-in-Found-2-clause-leads g c = λ values leads.
+    let o = g.O.TreeOrder.order in
+    let e = c.again-in-Found-2.ensures in
+    (e.capacity, e.key,
+     elim c.in-Found-2-1.branch [
+       | in-Found+else-value-self w ↦ next_from o c.args.self Found _ _ c.args.value values w.in-Found.is refl leads ∙ ap (λ x. Some (Ends x)) (again _ _ _ (λ e. w.if-value-self.false (sym e)))
+       | in-Missing+else-value-self-2 w ↦ next_from o c.args.self Missing _ _ c.args.value values w.in-Missing.is refl leads ∙ ap (λ x. Some (Ends x)) (again_none _ _ (λ e. w.if-value-self-2.false (sym e)))
+     ],
+     ap Some (sym e.whole))
+
+pub returns-in-Stuck-clause-leads : goal.returns-in-Stuck-clause-leads
+returns-in-Stuck-clause-leads g c = λ values leads.
+    let e = c.again.ensures in
+    (e.capacity, e.key, next_from g.O.TreeOrder.order c.args.self Stuck _ _ c.args.value values c.in-Stuck.is refl leads, ap Some (sym e.whole))
