@@ -6,6 +6,7 @@
 #![tactic(auto)]
 
 pub mod laws;
+pub mod plain;
 pub mod readers;
 pub mod sequences;
 pub mod spots;
