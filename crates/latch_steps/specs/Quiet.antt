@@ -1,5 +1,5 @@
 -- What is promised of a lookup that the writer leaves alone.
-use Rattle.std.specs.Prelude.{◌≡◌, ℕ, ◌+◌, ◌-◌, ◌*◌, ◌<◌, ◌≤◌, List, [], ◌∷◌, length, MatchBool, ◌==◌}
+use Rattle.std.specs.Prelude.{◌≡◌, ℕ, ◌+◌, ◌-◌, ◌*◌, ◌<◌, ◌≤◌, Bool, false, List, [], ◌∷◌, length, take, drop, count_by, MatchBool, ◌==◌}
 use Rattle.std.specs.List.{AllByRecursion}
 use Rattle.latch_core.specs.declared.updates.Update.{Update}
 use Rattle.latch_steps.specs.declared.events.Event.{Event}
@@ -10,8 +10,7 @@ use Rattle.order_laws.specs.Orders.{Order}
 use Rattle.word_arena.specs.Words.{at}
 use Rattle.latch_core.specs.Sequences.{gen}
 use Rattle.latch_core.specs.Histories.{table_at}
-use Rattle.latch_steps.specs.Runs.{Moment, opening, history}
-use Rattle.latch_steps.specs.Safe.{sequence_at}
+use Rattle.latch_steps.specs.Runs.{Moment, history}
 
 -- As long as the writer makes no step, this reader's loads lead to its return at its first attempt, within this many
 -- loads more.
@@ -46,11 +45,20 @@ AreUndisturbed o start us (e ∷ es) (r ∷ rs) [] = Unit {0}
 AreUndisturbed o start us (e ∷ es) (r ∷ rs) (w ∷ ws) =
     FromStart (length (table_at o start us (gen (at w.latch.words 0)))) e r es rs × AreUndisturbed o start us es rs ws
 
--- a lookup tries again at most once for each flip between its start and its return; the sequence counts the flips
-abbrev pub IsPatientReply : {K : Type 0} → Moment K → List (Moment K) → Reply K → Type 0
-IsPatientReply w ws (Gave x) = x.tries ≤ 1 + (sequence_at w ws x.last - sequence_at w ws x.first)
-IsPatientReply w ws _ = Unit {0}
+-- whether a step was a flip
+abbrev pub is_flip : {K : Type 0} → Reply K → Bool
+is_flip (Wrote s) = s.word == 0
+is_flip _ = false
 
-pub record IsQuiet {K : Type 0} (o : Order K) (n start : ℕ) (es : List (Event K)) (rs : List (Reply K)) (ws : List (Moment K)) : Type 0 where
+-- how many flips there were after event number i, up to and with event number j
+abbrev pub flips_between : {K : Type 0} → List (Reply K) → ℕ → ℕ → ℕ
+flips_between rs i j = count_by is_flip (take (j - i) (drop i rs))
+
+-- a lookup tries again at most once for each flip between its start and its last load
+abbrev pub IsPatientReply : {K : Type 0} → List (Reply K) → Reply K → Type 0
+IsPatientReply rs (Gave x) = x.tries ≤ 1 + flips_between rs x.first x.last
+IsPatientReply rs _ = Unit {0}
+
+pub record IsQuiet {K : Type 0} (o : Order K) (start : ℕ) (es : List (Event K)) (rs : List (Reply K)) (ws : List (Moment K)) : Type 0 where
   pub undisturbed : AreUndisturbed o start (history es rs) es rs ws
-  pub patient : AllByRecursion (IsPatientReply (opening n start) ws) rs
+  pub patient : AllByRecursion (IsPatientReply rs) rs

@@ -6,8 +6,10 @@
 
 pub mod commands;
 pub mod events;
+pub mod laws;
 pub mod replies;
 
 pub use commands::Command;
 pub use events::Event;
+pub use laws::{every_run_is_quiet, every_run_is_safe};
 pub use replies::{Note, Reply, Returned};

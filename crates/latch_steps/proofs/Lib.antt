@@ -1,0 +1,5 @@
+mod Worlds
+mod SafeRuns
+mod Latched
+mod Undisturbed
+mod Patient
