@@ -1,0 +1,4 @@
+pub mod Cutting
+pub mod Values
+pub mod Forms
+pub mod Steps
