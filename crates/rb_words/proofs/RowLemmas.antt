@@ -23,11 +23,12 @@ kept_at slab keys place key are within is = all_get (λ k. IsSome (get slab k)) 
 -- a vacant key is none of those that are kept
 away_from_vacant : (slab : Slab Record) (key : ℕ) (keys : List ℕ) → get slab key ≡ None → AllByRecursion (λ k. IsSome (get slab k)) keys → AllByRecursion (λ k. k ≢ key) keys
 away_from_vacant slab key [] vacant kept = tt
-away_from_vacant slab key (k ∷ keys) vacant kept =
-    ((λ e. let some : is_some (get slab key) ≡ true = subst (λ x. is_some (get slab x) ≡ true) e kept.0 in
-           let none : is_some (get slab key) ≡ false = ap is_some vacant in
-           absurd (cc)),
-     away_from_vacant slab key keys vacant kept.1)
+away_from_vacant slab key (k ∷ keys) vacant kept = (
+  (λ e. let some : is_some (get slab key) ≡ true = subst (λ x. is_some (get slab x) ≡ true) e kept.0 in
+      let none : is_some (get slab key) ≡ false = ap is_some vacant in
+      absurd (cc)),
+  away_from_vacant slab key keys vacant kept.1,
+)
 
 -- the other keys read as before
 others_same : (old new : Slab Record) (key : ℕ) (slot : Option Record) (keys : List ℕ) → Updates old new key slot → AllByRecursion (λ k. k ≢ key) keys → AllByRecursion (λ k. get new k ≡ get old k) keys
