@@ -8,7 +8,7 @@ ghost use Rattle.word_arena.specs.Copies.{copy_number};
 ghost use Rattle.word_arena.specs.Words.{none, listed, root_word};
 ghost use Rattle.rb_words.specs.Pictures.{IsPicture};
 ghost use Rattle.rb_words.specs.Plans.{item_stores, Inserts, LeadsWithItem, Erases, LeadsByLinks};
-ghost use Rattle.rb_words.specs.ChainTrees.{link_to, word_before};
+ghost use Rattle.rb_words.specs.ChainTrees.{link_to, word_before, insert_links, erase_links};
 
 use crate::records::{Record, Records};
 use order_laws::{Item, Refusal, TreeOrder};
@@ -129,15 +129,11 @@ impl<O: TreeOrder> Shape<O> {
         ensures sound { IsPicture O.order self.new }
     {
         let place = place_for::<O>(&self.records, &item);
-        let next = link_at(&self.records, place);
-        let before = word_at(&self.records, self.copy, place);
-        push_store(out, a_of(node), item.a);
-        push_store(out, b_of(node), item.b);
-        push_store(out, tag_of(node), item.tag);
-        push_store(out, left_of(self.copy, node), 0);
-        push_store(out, right_of(self.copy, node), next);
-        push_store(out, before, node as u64 + 1);
-        self.records.insert(place, Record { node, item });
+        let record = Record { node, item };
+        let links = insert_links(&self.records, self.copy, place, record);
+        append(out, &item_stores(node, item));
+        append(out, &links);
+        self.records.insert(place, record);
     }
 
     /// Plans to erase the item of this first word, and pictures the copy without it. Answers the node that is free then.
@@ -154,9 +150,7 @@ impl<O: TreeOrder> Shape<O> {
         ensures sound { IsPicture O.order self.new }
     {
         let place = place_of(&self.records, a);
-        let next = link_at(&self.records, place + 1);
-        let before = word_at(&self.records, self.copy, place);
-        push_store(out, before, next);
+        append(out, &erase_links(&self.records, self.copy, place));
         self.records.remove(place).node
     }
 }
@@ -195,6 +189,17 @@ fn link_at(records: &Records, place: usize) -> u64
     records.at(place).node as u64 + 1
 }
 
+// The link to what comes behind the record at a place.
+fn link_behind(records: &Records, place: usize) -> u64
+    requires { place < length records.now.list }
+    ensures { result ≡ link_to (drop (place + 1) records.now.list) }
+{
+    if records.len() - place == 1 {
+        return 0;
+    }
+    link_at(records, place + 1)
+}
+
 // The word whose link leads to the record at a place.
 fn word_at(records: &Records, copy: TreeCopy, place: usize) -> usize
     requires { place ≤ length records.now.list }
@@ -206,11 +211,66 @@ fn word_at(records: &Records, copy: TreeCopy, place: usize) -> usize
     right_of(copy, records.at(place - 1).node)
 }
 
-fn push_store(out: &mut Vec<Store>, word: usize, value: u64)
-    requires { vec_len out.old < vec_capacity out.old }
-    ensures items { out.new.items ≡ out.old.items ++ record { word = word; value = value } ∷ [] }
-    ensures len { vec_len out.new ≡ vec_len out.old + 1 }
+// The stores of an item's words.
+fn item_stores(node: u32, item: Item) -> [Store; 3]
+    ensures { result ≡ item_stores node item }
+{
+    [
+        Store {
+            word: a_of(node),
+            value: item.a,
+        },
+        Store {
+            word: b_of(node),
+            value: item.b,
+        },
+        Store {
+            word: tag_of(node),
+            value: item.tag,
+        },
+    ]
+}
+
+// The stores that link a node in at a place: its own links first, so that no reader could come to it before they stand.
+fn insert_links(records: &Records, copy: TreeCopy, place: usize, added: Record) -> [Store; 3]
+    requires { place ≤ length records.now.list }
+    ensures { result ≡ insert_links (copy_number copy) (take place records.now.list) added (drop place records.now.list) }
+{
+    [
+        Store {
+            word: left_of(copy, added.node),
+            value: 0,
+        },
+        Store {
+            word: right_of(copy, added.node),
+            value: link_at(records, place),
+        },
+        Store {
+            word: word_at(records, copy, place),
+            value: added.node as u64 + 1,
+        },
+    ]
+}
+
+// The store that links what comes behind a place to what comes before it.
+fn erase_links(records: &Records, copy: TreeCopy, place: usize) -> [Store; 1]
+    requires { place < length records.now.list }
+    ensures { result ≡ erase_links (copy_number copy) (take place records.now.list) (drop (place + 1) records.now.list) }
+{
+    [Store {
+        word: word_at(records, copy, place),
+        value: link_behind(records, place),
+    }]
+}
+
+// Appends stores, for which there is room.
+fn append(out: &mut Vec<Store>, stores: &[Store])
+    requires { vec_len out.old + length stores.now ≤ vec_capacity out.old }
+    ensures items { out.new.items ≡ out.old.items ++ stores.now }
+    ensures len { vec_len out.new ≡ vec_len out.old + length stores.now }
     ensures capacity { vec_capacity out.new ≡ vec_capacity out.old }
 {
-    out.push_reserved(Store { word, value });
+    for store in stores {
+        out.push_reserved(*store);
+    }
 }
