@@ -1,14 +1,13 @@
 -- Chains in words, and what the stores of a plan make of them.
-use Rattle.std.proofs.Common.{◌≡◌, ◌≢◌, ℕ, suc, zero, ◌+◌, ◌*◌, ◌<◌, ◌≤◌, List, [], ◌∷◌, ◌++◌, length, map, refl, sym, ◌∙◌, ap, subst, inl, inr, arith, length-set}
-use Rattle.std.specs.Prelude.{◌⊎◌, slice_set}
+use Rattle.std.proofs.Common.{◌≡◌, ◌≢◌, ℕ, suc, ◌+◌, ◌<◌, ◌≤◌, List, [], ◌∷◌, ◌++◌, length, map, refl, sym, ◌∙◌, ap, subst, inl, inr, arith, length-set}
+use Rattle.std.specs.Prelude.{slice_set}
 use Rattle.std.specs.List.{AllByRecursion}
-use Rattle.order_laws.specs.declared.items.Item.{Item}
 use Rattle.order_laws.proofs.TableLemmas.{all_left, all_right, all_weaker}
 use Rattle.word_arena.specs.declared.stores.Store.{Store}
-use Rattle.word_arena.specs.Words.{words_for, at, root_word, a_word, b_word, tag_word, left_word, right_word, item_at, Nodes, none, fork, listed, items, Leads}
-use Rattle.word_arena.specs.Stores.{words_after, words_after_all, IsItemWord, IsLinkWord, AreLinkStores}
+use Rattle.word_arena.specs.Words.{words_for, at, root_word, a_word, b_word, tag_word, left_word, right_word, item_at, listed, items, Leads}
+use Rattle.word_arena.specs.Stores.{words_after_all, IsItemWord, IsLinkWord, AreLinkStores}
 use Rattle.word_arena.proofs.WordLemmas.{root_not_left, root_not_right, left_not_right, left_not_left, right_not_right, link_no_item, link_place}
-use Rattle.word_arena.proofs.StoreLemmas.{at_stored, at_other, untouched, length_after}
+use Rattle.word_arena.proofs.StoreLemmas.{at_stored, at_other, untouched}
 use Rattle.rb_words.specs.declared.records.Record.{Record}
 use Rattle.rb_words.specs.Rows.{AreDistinct}
 use Rattle.rb_words.specs.ChainTrees.{chain_tree, link_to, word_before, insert_links, erase_links}

@@ -1,6 +1,6 @@
 -- What planned changes make of the picture, and that the plan's stores lead a copy there.
-use Rattle.std.proofs.Common.{◌≡◌, ◌≢◌, ℕ, suc, zero, ◌+◌, ◌<◌, ◌≤◌, true, false, List, [], ◌∷◌, ◌++◌, length, map, take, drop, Option, Some, None, refl, sym, ◌∙◌, ap, subst, inl, inr, ⊎_elim, arith, length-set}
-use Rattle.std.specs.Prelude.{◌⊎◌, ◌↔◌, Contains, insert, remove, slice_get, slice_set}
+use Rattle.std.proofs.Common.{◌≡◌, ◌≢◌, ℕ, suc, ◌+◌, ◌<◌, ◌≤◌, true, false, List, [], ◌∷◌, ◌++◌, length, take, drop, Some, refl, sym, ◌∙◌, ap, subst, inl, inr, arith, length-set}
+use Rattle.std.specs.Prelude.{Contains, insert, remove, slice_get, slice_set}
 use Rattle.std.specs.Option.{option_map}
 use Rattle.std.proofs.lemmas.Option.{slice_get-map}
 use Rattle.std.specs.List.{AllByRecursion}
@@ -8,11 +8,11 @@ use Rattle.std.proofs.lemmas.List.{take-append-drop, length-map}
 use Rattle.order_laws.specs.declared.items.Item.{Item}
 use Rattle.order_laws.specs.Orders.{Order, IsLawful}
 use Rattle.order_laws.specs.Tables.{IsTable, with_item, without, place_for, place_of, has, meets}
-use Rattle.order_laws.proofs.TableLemmas.{with_item_table, without_table, all_left, all_right, all_weaker}
-use Rattle.order_laws.proofs.PlaceLemmas.{with_place, without_place, not_meeting, place_of_has}
+use Rattle.order_laws.proofs.TableLemmas.{with_item_table, without_table}
+use Rattle.order_laws.proofs.PlaceLemmas.{with_place, without_place, place_for_fits, place_of_fits, not_meeting, place_of_has}
 use Rattle.word_arena.specs.declared.stores.Store.{Store}
-use Rattle.word_arena.specs.Words.{words_for, at, root_word, a_word, b_word, tag_word, left_word, right_word, item_at, listed, items, Leads, Holds, Reaches, InUse}
-use Rattle.word_arena.specs.Stores.{words_after_all, IsItemWord, IsLinkWord, AreLinkStores, AreItemStores}
+use Rattle.word_arena.specs.Words.{words_for, at, root_word, a_word, b_word, tag_word, item_at, listed, Leads, Reaches, InUse}
+use Rattle.word_arena.specs.Stores.{words_after_all}
 use Rattle.word_arena.proofs.WordLemmas.{unused_item}
 use Rattle.word_arena.proofs.StoreLemmas.{length_after, after_append, at_stored, at_other}
 use Rattle.word_arena.proofs.HoldsLemmas.{tree_untouched}
@@ -21,10 +21,10 @@ use Rattle.rb_words.specs.declared.records.Record.{Record}
 use Rattle.rb_words.specs.Rows.{Rows, AreDistinct}
 use Rattle.rb_words.specs.Pictures.{Picture, IsPicture, IsPictured}
 use Rattle.rb_words.specs.Plans.{AreLinks, Inserts, LeadsWithItem, Erases, LeadsByLinks, item_stores}
-use Rattle.rb_words.specs.ChainTrees.{chain_tree, link_to, word_before, insert_links, erase_links, picture_of}
+use Rattle.rb_words.specs.ChainTrees.{chain_tree, insert_links, erase_links, picture_of}
 use Rattle.rb_words.proofs.ListLemmas.{all_insert, all_remove, all_take, all_drop, all_get, distinct_insert, distinct_remove, map-insert, map-remove, member_insert, insert_member, member_remove, remove_member, parted_at, away_of_absent, distinct_fit}
 use Rattle.rb_words.proofs.ScanLemmas.{items_of}
-use Rattle.rb_words.proofs.ChainLemmas.{listed_chain, ApartRows, all_nodes, apart_rows, root_off, before_link, link_within, insert_leads, erase_leads, Stored, stored_items, items_stored, item_kept, stored_kept, adds_node, drops_node}
+use Rattle.rb_words.proofs.ChainLemmas.{listed_chain, ApartRows, all_nodes, apart_rows, root_off, before_link, link_within, insert_leads, erase_leads, Stored, stored_items, items_stored, stored_kept, adds_node, drops_node}
 
 -- the nodes in the order of the items, after a change
 listed_insert : (rs : List Record) (p : ℕ) (x : Record) → listed (chain_tree (insert rs p x)) ≡ insert (listed (chain_tree rs)) p x.node
@@ -52,9 +52,9 @@ module _ {K : Type 0} (o : Order K) (law : IsLawful o) (n c : ℕ) where
     inserted_picture room p e =
         let listed_new = listed_insert rows.list p x in
         let below_new : AllByRecursion (λ i. i < n) (listed (chain_tree (insert rows.list p x))) =
-          subst (AllByRecursion (λ i. i < n)) (sym listed_new) (all_insert (λ i. i < n) (listed (chain_tree rows.list)) p x.node is.below lt) in
+        subst (AllByRecursion (λ i. i < n)) (sym listed_new) (all_insert (λ i. i < n) (listed (chain_tree rows.list)) p x.node is.below lt) in
         let distinct_new : AreDistinct (listed (chain_tree (insert rows.list p x))) =
-          subst AreDistinct (sym listed_new) (distinct_insert (listed (chain_tree rows.list)) p x.node is.distinct nodes_away) in
+        subst AreDistinct (sym listed_new) (distinct_insert (listed (chain_tree rows.list)) p x.node is.distinct nodes_away) in
         let many = as_many_rows (insert rows.list p x) in
         record {
           one_copy = is.one_copy;
@@ -74,7 +74,8 @@ module _ {K : Type 0} (o : Order K) (law : IsLawful o) (n c : ℕ) where
           table = items_after p e;
           nodes = λ i. (
             (λ h. member_insert (listed (chain_tree rows.list)) p x.node i (subst (λ xs. Contains xs i) listed_new h)),
-            (λ h. subst (λ xs. Contains xs i) (sym listed_new) (insert_member (listed (chain_tree rows.list)) p x.node i h)));
+            (λ h. subst (λ xs. Contains xs i) (sym listed_new) (insert_member (listed (chain_tree rows.list)) p x.node i h)),
+          );
           in_order = listed_new ∙ ap (λ k. insert (listed (chain_tree rows.list)) k x.node) e;
           room = more;
         }
@@ -140,12 +141,15 @@ module _ (n c : ℕ) (small : c ≤ 1) (rows : Rows) (below : AllByRecursion (λ
         let links = insert_links c (take p rows.list) x (drop p rows.list) in
         let m1 = words_after_all m stores in
         let unreached : Reaches m n c x.node → ⊥ = λ r. free (reached_listed m n c (chain_tree rows.list) is.holds.leads x.node r) in
-        let unused : AllByRecursion (λ (s : Store). InUse m n c s.word → ⊥) stores =
-          (unused_item m n c x.node (a_word x.node) small unreached (inl refl),
-           (unused_item m n c x.node (b_word x.node) small unreached (inr (inl refl)),
-            (unused_item m n c x.node (tag_word x.node) small unreached (inr (inr refl)), tt))) in
+        let unused : AllByRecursion (λ (s : Store). InUse m n c s.word → ⊥) stores = (
+          unused_item m n c x.node (a_word x.node) small unreached (inl refl),
+          (
+            unused_item m n c x.node (b_word x.node) small unreached (inr (inl refl)),
+            (unused_item m n c x.node (tag_word x.node) small unreached (inr (inr refl)), tt),
+          ),
+        ) in
         let put : IsPictured m1 (picture_of n c rows) =
-          record { sized = length_after m stores ∙ is.sized; holds = tree_untouched m n c (items_of rows.list) (chain_tree rows.list) stores unused is.holds } in
+        record { sized = length_after m stores ∙ is.sized; holds = tree_untouched m n c (items_of rows.list) (chain_tree rows.list) stores unused is.holds } in
         subst (λ w. IsPictured w (picture_of n c (record { list = insert rows.list p x; room = room }))) (sym (after_append m stores links)) (insert_alone m1 put (item_put m n x.node x.item lt is.sized))
 
     pub inserted_leads : LeadsWithItem (picture_of n c rows) (picture_of n c (record { list = insert rows.list p x; room = room })) x.node x.item (insert_links c (take p rows.list) x (drop p rows.list))
@@ -192,9 +196,9 @@ module _ {K : Type 0} (o : Order K) (law : IsLawful o) (n c : ℕ) (rows : Rows)
   erased_picture room p e =
       let listed_new = listed_remove rows.list p in
       let below_new : AllByRecursion (λ i. i < n) (listed (chain_tree (remove rows.list p))) =
-        subst (AllByRecursion (λ i. i < n)) (sym listed_new) (all_remove (λ i. i < n) (listed (chain_tree rows.list)) p is.below) in
+      subst (AllByRecursion (λ i. i < n)) (sym listed_new) (all_remove (λ i. i < n) (listed (chain_tree rows.list)) p is.below) in
       let distinct_new : AreDistinct (listed (chain_tree (remove rows.list p))) =
-        subst AreDistinct (sym listed_new) (distinct_remove (listed (chain_tree rows.list)) p is.distinct) in
+      subst AreDistinct (sym listed_new) (distinct_remove (listed (chain_tree rows.list)) p is.distinct) in
       let many = as_many_rows (remove rows.list p) in
       record {
         one_copy = is.one_copy;
@@ -209,9 +213,9 @@ module _ {K : Type 0} (o : Order K) (law : IsLawful o) (n c : ℕ) (rows : Rows)
   erased room p x e at_p more =
       let listed_new = listed_remove rows.list p in
       let node_at : slice_get (listed (chain_tree rows.list)) p ≡ Some x.node =
-        ap (λ xs. slice_get xs p) (listed_chain rows.list) ∙ slice_get-map (λ (r : Record). r.node) rows.list p ∙ ap (option_map (λ (r : Record). r.node)) at_p in
+      ap (λ xs. slice_get xs p) (listed_chain rows.list) ∙ slice_get-map (λ (r : Record). r.node) rows.list p ∙ ap (option_map (λ (r : Record). r.node)) at_p in
       let item_there : slice_get (items_of rows.list) (place_of a (items_of rows.list)) ≡ Some x.item =
-        ap (slice_get (items_of rows.list)) (sym e) ∙ slice_get-map (λ (r : Record). r.item) rows.list p ∙ ap (option_map (λ (r : Record). r.item)) at_p in
+      ap (slice_get (items_of rows.list)) (sym e) ∙ slice_get-map (λ (r : Record). r.item) rows.list p ∙ ap (option_map (λ (r : Record). r.item)) at_p in
       let is_a : x.item.a ≡ a = place_of_has a (items_of rows.list) x.item there item_there in
       record {
         capacity = refl;
@@ -219,9 +223,61 @@ module _ {K : Type 0} (o : Order K) (law : IsLawful o) (n c : ℕ) (rows : Rows)
         table = rest_after p e;
         nodes = λ i. (
           (λ h. member_remove (listed (chain_tree rows.list)) p x.node i is.distinct node_at (subst (λ xs. Contains xs i) listed_new h)),
-          (λ h. subst (λ xs. Contains xs i) (sym listed_new) (remove_member (listed (chain_tree rows.list)) p x.node i node_at h)));
+          (λ h. subst (λ xs. Contains xs i) (sym listed_new) (remove_member (listed (chain_tree rows.list)) p x.node i node_at h)),
+        );
         in_order = listed_new ∙ ap (remove (listed (chain_tree rows.list))) e;
         at_place = ap (slice_get (listed (chain_tree rows.list))) (sym e) ∙ node_at;
         had_item = λ m held. ap (λ (i : Item). i.a) (all_get (λ r. item_at m r.node ≡ r.item) rows.list p x (items_stored m rows.list held.holds.listed_items) at_p) ∙ is_a;
         room = more;
       }
+
+-- the whole of a planned insert, as a shape shows it
+module _ {K : Type 0} (o : Order K) (law : IsLawful o) (n c : ℕ) (rows new : Rows) (x : Record) (p : ℕ) (place : p ≡ place_for o x.item (items_of rows.list)) (list : new.list ≡ insert rows.list p x) (more : new.room + 1 ≡ rows.room) (is : IsPicture o (picture_of n c rows)) where
+  abbrev AfterInsert : Picture → Type 0
+  AfterInsert shown =
+      IsPicture o (picture_of n c new) × Inserts o shown (picture_of n c new) x.node x.item × LeadsWithItem shown (picture_of n c new) x.node x.item (insert_links c (take p rows.list) x (drop p rows.list))
+
+  abbrev CanInsert : Picture → Type 0
+  CanInsert shown = (x.node < shown.capacity) × (Contains (listed shown.tree) x.node → ⊥) × (o.valid x.item ≡ true) × (meets o x.item shown.table ≡ false)
+
+  whole_insert : CanInsert (picture_of n c rows) → AfterInsert (picture_of n c rows)
+  whole_insert can =
+      let fresh : Rows = record { list = insert rows.list p x; room = new.room } in
+      let picture = inserted_picture o law n c rows is x can.0 can.1 can.2 can.3 new.room p place in
+      let inserts = inserted o law n c rows is x can.0 can.1 can.2 can.3 new.room p place more in
+      let leads = inserted_leads n c is.one_copy rows is.below x can.0 can.1 p new.room picture.distinct in
+      subst
+      (λ l. IsPicture o (picture_of n c (record { list = l; room = new.room })) × Inserts o (picture_of n c rows) (picture_of n c (record { list = l; room = new.room })) x.node x.item
+      × LeadsWithItem (picture_of n c rows) (picture_of n c (record { list = l; room = new.room })) x.node x.item (insert_links c (take p rows.list) x (drop p rows.list)))
+      (sym list) (picture, inserts, leads)
+
+  pub shown_insert : (shown : Picture) → picture_of n c rows ≡ shown → CanInsert shown → AfterInsert shown
+  shown_insert shown view = subst (λ q. CanInsert q → AfterInsert q) view whole_insert
+
+-- and of a planned erase
+module _ {K : Type 0} (o : Order K) (law : IsLawful o) (n c : ℕ) (rows new : Rows) (a p : ℕ) (x : Record) (place : p ≡ place_of a (items_of rows.list)) (at_p : slice_get rows.list p ≡ Some x) (list : new.list ≡ remove rows.list p) (more : new.room ≡ rows.room + 1) (is : IsPicture o (picture_of n c rows)) where
+  abbrev AfterErase : Picture → Type 0
+  AfterErase shown =
+      IsPicture o (picture_of n c new) × Erases shown (picture_of n c new) a x.node × LeadsByLinks shown (picture_of n c new) (erase_links c (take p rows.list) (drop (p + 1) rows.list))
+
+  whole_erase : has a (items_of rows.list) ≡ true → AfterErase (picture_of n c rows)
+  whole_erase there =
+      let next : suc p ≡ p + 1 = omega arith in
+      let picture = erased_picture o law n c rows is a there new.room p place in
+      let erases = erased o law n c rows is a there new.room p x place at_p more in
+      let leads = subst (λ k. LeadsByLinks (picture_of n c rows) (picture_of n c (record { list = remove rows.list p; room = new.room })) (erase_links c (take p rows.list) (drop k rows.list))) next (erased_leads n c is.one_copy rows is.below x p new.room at_p is.distinct) in
+      subst
+      (λ l. IsPicture o (picture_of n c (record { list = l; room = new.room })) × Erases (picture_of n c rows) (picture_of n c (record { list = l; room = new.room })) a x.node
+      × LeadsByLinks (picture_of n c rows) (picture_of n c (record { list = l; room = new.room })) (erase_links c (take p rows.list) (drop (p + 1) rows.list)))
+      (sym list) (picture, erases, leads)
+
+  pub shown_erase : (shown : Picture) → picture_of n c rows ≡ shown → has a shown.table ≡ true → AfterErase shown
+  shown_erase shown view = subst (λ q. has a q.table ≡ true → AfterErase q) view whole_erase
+
+-- where an erase finds its record
+pub erase_within : (n c a : ℕ) (rows : Rows) (shown : Picture) → picture_of n c rows ≡ shown → has a shown.table ≡ true → place_of a (items_of rows.list) < length rows.list
+erase_within n c a rows shown view there =
+    omega (arith, place_of_fits a (items_of rows.list) (ap (λ q. has a q.table) view ∙ there), length-map rows.list (λ (r : Record). r.item))
+
+pub insert_within : {K : Type 0} (o : Order K) (item : Item) (rows : Rows) → place_for o item (items_of rows.list) ≤ length rows.list
+insert_within o item rows = omega (arith, place_for_fits o item (items_of rows.list), length-map rows.list (λ (r : Record). r.item))

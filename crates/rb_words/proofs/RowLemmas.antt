@@ -1,12 +1,12 @@
 -- What the keys of records show, and how a change of the slab and the keys shows.
-use Rattle.std.proofs.Common.{◌≡◌, ◌≢◌, ℕ, suc, zero, ◌+◌, ◌<◌, ◌≤◌, true, false, List, [], ◌∷◌, ◌++◌, length, get_or, Option, Some, None, refl, sym, ◌∙◌, ap, subst, arith}
+use Rattle.std.proofs.Common.{◌≡◌, ◌≢◌, ℕ, ◌<◌, true, false, List, [], ◌∷◌, length, get_or, Option, Some, None, sym, ◌∙◌, ap, subst}
 use Rattle.std.specs.Prelude.{insert, remove, slice_get, filter_map, IsSome, is_some, vec_len}
 use Rattle.std.specs.List.{AllByRecursion}
 use Rattle.std.specs.declared.vec.Vec.{Vec}
 use Rattle.std.proofs.lemmas.Option.{slice_get-get_or}
 use Rattle.slab.specs.Slab.{Slab, get, Updates}
 use Rattle.rb_words.specs.declared.records.Record.{Record}
-use Rattle.rb_words.specs.Rows.{Rows, AreDistinct, AreKeys, rows_of}
+use Rattle.rb_words.specs.Rows.{Rows, AreKeys, rows_of}
 use Rattle.rb_words.proofs.ListLemmas.{all_insert, all_remove, all_get, distinct_insert, distinct_remove, removed_away, length-kept, get-kept, insert-kept, remove-kept, same-kept}
 
 pub count-rows : (slab : Slab Record) (keys : List ℕ) → AreKeys slab keys → length (filter_map (get slab) keys) ≡ length keys

@@ -1,4 +1,4 @@
-use Rattle.std.proofs.Common.{◌∙◌, sym, arith}
+use Rattle.std.proofs.Common.{arith}
 use Rattle.rb_words.proofs.ScanLemmas.{link_here}
 use Rattle.rb_words.proofs.shapes.link_at.Goals as goal
 
