@@ -1,8 +1,8 @@
 -- Where items stand in a table.
-use Rattle.std.proofs.Common.{◌≡◌, ◌≢◌, ℕ, suc, ◌<◌, ◌≤◌, true, false, cond, List, [], ◌∷◌, length, refl, sym, ◌∙◌, ap, arith}
-use Rattle.std.specs.Prelude.{not, ◌||◌, ◌==◌, insert, remove}
+use Rattle.std.proofs.Common.{◌≡◌, ◌≢◌, ℕ, suc, ◌<◌, ◌≤◌, true, false, cond, List, [], ◌∷◌, length, refl, sym, ◌∙◌, ap, subst, ⊎_elim, arith}
+use Rattle.std.specs.Prelude.{not, ◌||◌, ◌==◌, Some, insert, remove, slice_get}
 use Rattle.std.specs.List.{AllByRecursion}
-use Rattle.std.proofs.lemmas.Bool.{eqb-true, ne_eqb}
+use Rattle.std.proofs.lemmas.Bool.{eq-eqb, eqb-true, ne_eqb, cases_eq}
 use Rattle.order_laws.specs.declared.items.Item.{Item}
 use Rattle.order_laws.specs.Orders.{Order, Precedes, IsLawful}
 use Rattle.order_laws.specs.Tables.{IsTable, with_item, without, without_all, place_for, place_of, has, meets}
@@ -49,6 +49,13 @@ without_place o law a (x ∷ xs) t h =
       | false ↦ λ e f. ap (λ ys. x ∷ ys) (without_place o law a xs t.2 f)
     ] refl h
 
+eqb-flip : (a b : ℕ) → (a == b) ≡ (b == a)
+eqb-flip a b =
+    ⊎_elim
+    (λ same. eq-eqb a b same ∙ sym (eq-eqb b a (sym same)))
+    (λ differ. ne_eqb a b differ ∙ sym (ne_eqb b a (λ e. differ (sym e))))
+    (cases_eq a b)
+
 -- without no item, and without one
 pub without_none : (xs : List Item) → without_all [] xs ≡ xs
 without_none [] = refl
@@ -57,10 +64,11 @@ without_none (x ∷ xs) = ap (λ ys. x ∷ ys) (without_none xs)
 pub without_one : (a : ℕ) (xs : List Item) → without_all (a ∷ []) xs ≡ without a xs
 without_one a [] = refl
 without_one a (x ∷ xs) =
-    elim (x.a == a) as (λ b. cond (not (b || false)) (x ∷ without_all (a ∷ []) xs) (without_all (a ∷ []) xs) ≡ cond (not b) (x ∷ without a xs) (without a xs)) [
-      | true ↦ without_one a xs
-      | false ↦ ap (λ ys. x ∷ ys) (without_one a xs)
-    ]
+    ap (λ b. cond (not (b || false)) (x ∷ without_all (a ∷ []) xs) (without_all (a ∷ []) xs)) (eqb-flip a x.a)
+    ∙ (elim (x.a == a) as (λ b. cond (not (b || false)) (x ∷ without_all (a ∷ []) xs) (without_all (a ∷ []) xs) ≡ cond (not b) (x ∷ without a xs) (without a xs)) [
+        | true ↦ without_one a xs
+        | false ↦ ap (λ ys. x ∷ ys) (without_one a xs)
+      ])
 
 -- an item that meets none is apart from each
 pub not_meeting : {K : Type 0} (o : Order K) (i : Item) (xs : List Item) → meets o i xs ≡ false → AllByRecursion (λ x. o.apart x i ≡ true) xs
@@ -70,3 +78,12 @@ not_meeting o i (x ∷ xs) e =
       | true ↦ λ is f. (is, not_meeting o i xs f)
       | false ↦ λ is f. absurd (cc)
     ] refl e
+
+-- the item at the place of a first word has it
+pub place_of_has : (a : ℕ) (xs : List Item) (i : Item) → has a xs ≡ true → slice_get xs (place_of a xs) ≡ Some i → i.a ≡ a
+place_of_has a [] i h e = absurd (cc)
+place_of_has a (x ∷ xs) i h e =
+    elim (x.a == a) as (λ b. (x.a == a) ≡ b → (b || has a xs) ≡ true → slice_get (x ∷ xs) (cond b 0 (suc (place_of a xs))) ≡ Some i → i.a ≡ a) [
+      | true ↦ λ is f g. let same : x ≡ i = cc in subst (λ y. y.a ≡ a) same (eqb-true x.a a is)
+      | false ↦ λ is f g. place_of_has a xs i f g
+    ] refl h e

@@ -32,7 +32,7 @@ without a table = filter (λ x. not (x.a == a)) table
 
 -- the table without the items that have one of these first words
 abbrev pub without_all : List ℕ → List Item → List Item
-without_all gone table = filter (λ x. not (list_any (λ a. x.a == a) gone)) table
+without_all gone table = filter (λ x. not (list_any (λ a. a == x.a) gone)) table
 
 -- how many items of a table come before a new one
 abbrev pub place_for : {K : Type 0} → Order K → Item → List Item → ℕ

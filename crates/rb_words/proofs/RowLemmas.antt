@@ -1,12 +1,12 @@
 -- What the keys of records show, and how a change of the slab and the keys shows.
-use Rattle.std.proofs.Common.{◌≡◌, ◌≢◌, ℕ, suc, zero, ◌+◌, ◌<◌, ◌≤◌, true, false, List, [], ◌∷◌, ◌++◌, length, get_or, Option, Some, None, refl, sym, ◌∙◌, ap, subst, arith}
+use Rattle.std.proofs.Common.{◌≡◌, ◌≢◌, ℕ, ◌<◌, true, false, List, [], ◌∷◌, length, get_or, Option, Some, None, sym, ◌∙◌, ap, subst}
 use Rattle.std.specs.Prelude.{insert, remove, slice_get, filter_map, IsSome, is_some, vec_len}
 use Rattle.std.specs.List.{AllByRecursion}
 use Rattle.std.specs.declared.vec.Vec.{Vec}
 use Rattle.std.proofs.lemmas.Option.{slice_get-get_or}
 use Rattle.slab.specs.Slab.{Slab, get, Updates}
 use Rattle.rb_words.specs.declared.records.Record.{Record}
-use Rattle.rb_words.specs.Rows.{Rows, AreDistinct, AreKeys, rows_of}
+use Rattle.rb_words.specs.Rows.{Rows, AreKeys, rows_of}
 use Rattle.rb_words.proofs.ListLemmas.{all_insert, all_remove, all_get, distinct_insert, distinct_remove, removed_away, length-kept, get-kept, insert-kept, remove-kept, same-kept}
 
 pub count-rows : (slab : Slab Record) (keys : List ℕ) → AreKeys slab keys → length (filter_map (get slab) keys) ≡ length keys
@@ -23,11 +23,12 @@ kept_at slab keys place key are within is = all_get (λ k. IsSome (get slab k)) 
 -- a vacant key is none of those that are kept
 away_from_vacant : (slab : Slab Record) (key : ℕ) (keys : List ℕ) → get slab key ≡ None → AllByRecursion (λ k. IsSome (get slab k)) keys → AllByRecursion (λ k. k ≢ key) keys
 away_from_vacant slab key [] vacant kept = tt
-away_from_vacant slab key (k ∷ keys) vacant kept =
-    ((λ e. let some : is_some (get slab key) ≡ true = subst (λ x. is_some (get slab x) ≡ true) e kept.0 in
-           let none : is_some (get slab key) ≡ false = ap is_some vacant in
-           absurd (cc)),
-     away_from_vacant slab key keys vacant kept.1)
+away_from_vacant slab key (k ∷ keys) vacant kept = (
+  (λ e. let some : is_some (get slab key) ≡ true = subst (λ x. is_some (get slab x) ≡ true) e kept.0 in
+      let none : is_some (get slab key) ≡ false = ap is_some vacant in
+      absurd (cc)),
+  away_from_vacant slab key keys vacant kept.1,
+)
 
 -- the other keys read as before
 others_same : (old new : Slab Record) (key : ℕ) (slot : Option Record) (keys : List ℕ) → Updates old new key slot → AllByRecursion (λ k. k ≢ key) keys → AllByRecursion (λ k. get new k ≡ get old k) keys

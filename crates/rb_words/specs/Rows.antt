@@ -1,5 +1,5 @@
 -- What the writer's records show: the list of them, and how many more fit without memory.
-use Rattle.std.specs.Prelude.{◌≡◌, ◌≢◌, ℕ, ◌+◌, ◌-◌, ◌<◌, List, [], ◌∷◌, IsSome, filter_map, min, vec_len, vec_capacity, refl}
+use Rattle.std.specs.Prelude.{◌≢◌, ℕ, ◌-◌, List, [], ◌∷◌, IsSome, filter_map, min, vec_len, vec_capacity, refl}
 use Rattle.std.specs.List.{AllByRecursion}
 use Rattle.std.specs.Coded.{Coded, code_by, coded×, coded_ℕ, coded_list}
 use Rattle.std.specs.declared.vec.Vec.{Vec}

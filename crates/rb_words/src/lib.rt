@@ -9,4 +9,4 @@
 mod records;
 pub mod shapes;
 
-pub use shapes::STORES;
+pub use shapes::{STORES, Shape};

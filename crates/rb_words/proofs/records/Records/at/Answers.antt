@@ -1,5 +1,5 @@
-use Rattle.std.proofs.Common.{◌≡◌, ◌∙◌, ◌<◌, sym, ap, length, true, false, arith}
-use Rattle.std.specs.Prelude.{slice_get, is_some, vec_len}
+use Rattle.std.proofs.Common.{◌≡◌, ◌∙◌, sym, ap, false, arith}
+use Rattle.std.specs.Prelude.{slice_get, is_some}
 use Rattle.slab.specs.Slab.{get}
 use Rattle.rb_words.proofs.RowLemmas.{seen_len, row_at, kept_at}
 use Rattle.rb_words.proofs.records.Records.at.Goals as goal

@@ -1,4 +1,4 @@
-use Rattle.std.proofs.Common.{◌≡◌, ◌∙◌, sym, ap, subst, List, arith}
+use Rattle.std.proofs.Common.{◌∙◌, sym, ap, subst, arith}
 use Rattle.std.specs.Prelude.{filter_map, remove, slice_get}
 use Rattle.slab.specs.Slab.{get}
 use Rattle.rb_words.specs.Rows.{AreKeys}
