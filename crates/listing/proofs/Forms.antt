@@ -2,7 +2,7 @@
 use Rattle.std.proofs.Common.{cond, ◌≡◌, ℕ, ◌<◌, ◌≤◌, Bool, true, false, List, [], ◌∷◌, length, map, None, Option, refl, ap, arith, Bor, slice_index_or}
 use Rattle.std.specs.Str.{bytes_eq}
 use Rattle.std.specs.Prelude.{codes}
-use Rattle.listing.specs.Header.{header_of, header_with}
+use Rattle.listing.specs.Header.{header_of_words, header_with}
 use Rattle.listing.specs.Numbers.{number_of}
 use Rattle.listing.specs.Commands.{command_of, insert_of, erase_of, write_of, start_of, read_of}
 
@@ -72,14 +72,14 @@ command_long (word ∷ b ∷ c ∷ d ∷ e ∷ words) many =
     (nothing (bytes_eq word (codes "start")) _ _ refl
     (nothing (bytes_eq word (codes "read")) _ _ refl refl))))
 
-pub header_short : (words : Words) → length words < 4 → header_of (map (λ w. w.now) words) ≡ None
+pub header_short : (words : Words) → length words < 4 → header_of_words (map (λ w. w.now) words) ≡ None
 header_short [] few = refl
 header_short (a ∷ []) few = refl
 header_short (a ∷ b ∷ []) few = refl
 header_short (a ∷ b ∷ c ∷ []) few = refl
 header_short (a ∷ b ∷ c ∷ d ∷ words) few = absurd (omega arith)
 
-pub header_long : (words : Words) → 6 ≤ length words → header_of (map (λ w. w.now) words) ≡ None
+pub header_long : (words : Words) → 6 ≤ length words → header_of_words (map (λ w. w.now) words) ≡ None
 header_long [] many = absurd (omega arith)
 header_long (a ∷ []) many = absurd (omega arith)
 header_long (a ∷ b ∷ []) many = absurd (omega arith)
@@ -88,7 +88,7 @@ header_long (a ∷ b ∷ c ∷ d ∷ []) many = absurd (omega arith)
 header_long (a ∷ b ∷ c ∷ d ∷ e ∷ []) many = absurd (omega arith)
 header_long (a ∷ b ∷ c ∷ d ∷ e ∷ f ∷ words) many = refl
 
-pub header_too_long : (words : List (List ℕ)) → 5 < length words → header_of words ≡ None
+pub header_too_long : (words : List (List ℕ)) → 5 < length words → header_of_words words ≡ None
 header_too_long [] many = absurd (omega arith)
 header_too_long (a ∷ []) many = absurd (omega arith)
 header_too_long (a ∷ b ∷ []) many = absurd (omega arith)
@@ -98,7 +98,7 @@ header_too_long (a ∷ b ∷ c ∷ d ∷ e ∷ []) many = absurd (omega arith)
 header_too_long (a ∷ b ∷ c ∷ d ∷ e ∷ f ∷ words) many = refl
 
 pub header_five : (words : Words) (d : Bor (List ℕ)) (start : Option ℕ) → start ≡ number_of (slice_index_or words 4 d).now → 5 ≤ length words → length words < 6
-    → header_with (slice_index_or words 0 d).now (slice_index_or words 1 d).now (slice_index_or words 2 d).now (slice_index_or words 3 d).now start ≡ header_of (map (λ w. w.now) words)
+    → header_with (slice_index_or words 0 d).now (slice_index_or words 1 d).now (slice_index_or words 2 d).now (slice_index_or words 3 d).now start ≡ header_of_words (map (λ w. w.now) words)
 header_five [] d start e many few = absurd (omega arith)
 header_five (a ∷ []) d start e many few = absurd (omega arith)
 header_five (a ∷ b ∷ []) d start e many few = absurd (omega arith)

@@ -18,10 +18,10 @@ header_with name version order capacity start =
     else None
 
 -- `latchtrace 1 ORDER CAPACITY` and `latchtrace 1 ORDER CAPACITY START`
-abbrev pub header_of : List (List ℕ) → Option Header
-header_of (name ∷ version ∷ order ∷ capacity ∷ []) = header_with name version order capacity (Some 0)
-header_of (name ∷ version ∷ order ∷ capacity ∷ start ∷ []) = header_with name version order capacity (number_of start)
-header_of _ = None
+abbrev pub header_of_words : List (List ℕ) → Option Header
+header_of_words (name ∷ version ∷ order ∷ capacity ∷ []) = header_with name version order capacity (Some 0)
+header_of_words (name ∷ version ∷ order ∷ capacity ∷ start ∷ []) = header_with name version order capacity (number_of start)
+header_of_words _ = None
 
-abbrev pub header_by : List ℕ → Option Header
-header_by line = if nat_lt longest_line (length line) then None else header_of (words_of line)
+abbrev pub header_of : List ℕ → Option Header
+header_of line = if nat_lt longest_line (length line) then None else header_of_words (words_of line)

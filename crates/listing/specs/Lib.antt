@@ -3,3 +3,4 @@ pub mod Numbers
 pub mod Commands
 pub mod Header
 pub mod Trace
+pub mod Understood

@@ -10,7 +10,7 @@ use Rattle.listing.specs.declared.faults.GrammarFault.{GrammarFault}
 use Rattle.listing.specs.declared.faults.GrammarFault.TheVariants as grammar
 use Rattle.listing.specs.Lines.{lines_of}
 use Rattle.listing.specs.Commands.{said_of}
-use Rattle.listing.specs.Header.{header_by}
+use Rattle.listing.specs.Header.{header_of}
 
 -- these commands, and then those that are said
 abbrev pub after_front : List (Command ℕ) → Result (List (Command ℕ)) ℕ → Result (List (Command ℕ)) ℕ
@@ -31,15 +31,16 @@ pub record Contents : Type 0 where
 abbrev pub contents_of : TraceFile → Contents
 contents_of t = record { header = t.header; commands = t.commands.items }
 
-abbrev pub under : Option Header → Result (List (Command ℕ)) ℕ → Result Contents ℕ
-under None said = Err 1
-under (Some header) (Ok commands) = Ok (record { header = header; commands = commands })
-under (Some header) (Err n) = Err n
+-- a header, and then what the other lines say
+abbrev pub headed : Option Header → Result (List (Command ℕ)) ℕ → Result Contents ℕ
+headed None said = Err 1
+headed (Some header) (Ok commands) = Ok (record { header = header; commands = commands })
+headed (Some header) (Err n) = Err n
 
 -- line 1 is the header, also where there is no line
 abbrev pub trace_of_lines : List (List ℕ) → Result Contents ℕ
 trace_of_lines [] = Err 1
-trace_of_lines (first ∷ lines) = under (header_by first) (commands_from 2 lines)
+trace_of_lines (first ∷ lines) = headed (header_of first) (commands_from 2 lines)
 
 abbrev pub trace_of : List ℕ → Result Contents ℕ
 trace_of bytes = trace_of_lines (lines_of bytes)

@@ -1,6 +1,6 @@
 //! The header of a trace.
 ghost use Rattle.std.specs.Prelude.{◌≡◌, map};
-ghost use Rattle.listing.specs.Header.{header_by, header_of, header_with, is_closed_of};
+ghost use Rattle.listing.specs.Header.{header_of, header_of_words, header_with, is_closed_of};
 ghost use Rattle.listing.specs.Lines.{words_of};
 
 use crate::lines::{LONGEST_LINE, words_in};
@@ -22,17 +22,17 @@ pub struct Header {
 /// The header that a line is: `latchtrace 1 ORDER CAPACITY` or `latchtrace 1 ORDER CAPACITY START`.
 #[tactic(auto, using(crate::proofs::Forms::header_too_long))]
 pub(crate) fn header_in(line: &[u8]) -> Option<Header>
-    ensures { result ≡ header_by line.now }
+    ensures { result ≡ header_of line.now }
 {
     if line.len() > LONGEST_LINE {
         return None;
     }
-    header_of_words(&words_in(line)?)
+    header_in_words(&words_in(line)?)
 }
 
 #[tactic(auto, using(crate::proofs::Forms::header_short, crate::proofs::Forms::header_long))]
-fn header_of_words(words: &[&[u8]]) -> Option<Header>
-    ensures { result ≡ header_of (map (λ w. w.now) words.now) }
+fn header_in_words(words: &[&[u8]]) -> Option<Header>
+    ensures { result ≡ header_of_words (map (λ w. w.now) words.now) }
 {
     match words {
         [name, version, order, capacity] => make_header(name, version, order, capacity, Some(0)),

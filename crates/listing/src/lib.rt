@@ -7,6 +7,7 @@ mod commands;
 mod faults;
 mod header;
 mod input;
+mod laws;
 mod lines;
 mod numbers;
 mod trace;
@@ -14,6 +15,10 @@ mod trace;
 pub use faults::{LineFault, ReadFault};
 pub use header::Header;
 pub use input::read_whole;
+pub use laws::trace_by_its_lines;
 pub use lines::LONGEST_LINE;
 pub use numbers::number;
 pub use trace::{TraceFile, read_trace};
+
+#[cfg(test)]
+mod tests;

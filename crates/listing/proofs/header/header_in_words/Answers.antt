@@ -1,6 +1,6 @@
 use Rattle.std.proofs.Common.{[], ◌∙◌}
 use Rattle.listing.proofs.Forms.{header_five}
-use Rattle.listing.proofs.header.header_of_words.Goals as goal
+use Rattle.listing.proofs.header.header_in_words.Goals as goal
 
 pub returns-in-len5 : goal.returns-in-len5
 returns-in-len5 c =
