@@ -66,9 +66,9 @@ without_one a [] = refl
 without_one a (x ∷ xs) =
     ap (λ b. cond (not (b || false)) (x ∷ without_all (a ∷ []) xs) (without_all (a ∷ []) xs)) (eqb-flip a x.a)
     ∙ (elim (x.a == a) as (λ b. cond (not (b || false)) (x ∷ without_all (a ∷ []) xs) (without_all (a ∷ []) xs) ≡ cond (not b) (x ∷ without a xs) (without a xs)) [
-        | true ↦ without_one a xs
-        | false ↦ ap (λ ys. x ∷ ys) (without_one a xs)
-      ])
+      | true ↦ without_one a xs
+      | false ↦ ap (λ ys. x ∷ ys) (without_one a xs)
+    ])
 
 -- an item that meets none is apart from each
 pub not_meeting : {K : Type 0} (o : Order K) (i : Item) (xs : List Item) → meets o i xs ≡ false → AllByRecursion (λ x. o.apart x i ≡ true) xs
