@@ -75,7 +75,11 @@ pub fn meets<O: TreeOrder>(table: &[Item], item: &Item) -> bool
 }
 
 /// The table after an update.
-pub fn after<O: TreeOrder>(alloc: Global, table: &[Item], u: Update) -> Result<Vec<Item>, AllocError>
+pub fn after<O: TreeOrder>(
+    alloc: Global,
+    table: &[Item],
+    u: Update,
+) -> Result<Vec<Item>, AllocError>
     ensures { IfOk result (λ new. new.items ≡ after O.order table.now u) }
 {
     match u {
@@ -85,7 +89,11 @@ pub fn after<O: TreeOrder>(alloc: Global, table: &[Item], u: Update) -> Result<V
 }
 
 /// The table with the item in its place.
-fn with_item<O: TreeOrder>(alloc: Global, table: &[Item], item: Item) -> Result<Vec<Item>, AllocError>
+fn with_item<O: TreeOrder>(
+    alloc: Global,
+    table: &[Item],
+    item: Item,
+) -> Result<Vec<Item>, AllocError>
     ensures { IfOk result (λ new. new.items ≡ with_item O.order item table.now) }
 {
     let mut new = Vec::new(alloc);
