@@ -7,8 +7,10 @@ use Rattle.std.specs.Str.Parse.{digits_value}
 -- 1 to `most` digits, of a value below 2 ^ 64
 abbrev pub numeral : ℕ → ℕ → List ℕ → Option ℕ
 numeral radix most digits =
-    if nat_lt 0 (length digits) && nat_le (length digits) most && list_all (λ c. is_digit c radix) digits && nat_lt (digits_value radix digits) (2 ^ 64)
-    then Some (digits_value radix digits) else None
+    if nat_lt 0 (length digits) && nat_le (length digits) most && list_all (λ c. is_digit c radix) digits
+    && nat_lt (digits_value radix digits) (2 ^ 64)
+    then Some (digits_value radix digits)
+    else None
 
 -- 1 to 20 decimal digits, or `0x` and 1 to 16 hexadecimal digits of either case
 abbrev pub number_of : List ℕ → Option ℕ

@@ -21,7 +21,11 @@ after_front front (Err n) = Err n
 abbrev pub commands_from : ℕ → List (List ℕ) → Result (List (Command ℕ)) ℕ
 commands_from n [] = Ok []
 commands_from n (line ∷ lines) =
-    elim (said_of line) [ Nothing ↦ commands_from (n + 1) lines | One c ↦ after_front (c ∷ []) (commands_from (n + 1) lines) | Bad ↦ Err n ]
+    elim (said_of line) [
+      | Nothing ↦ commands_from (n + 1) lines
+      | One c ↦ after_front (c ∷ []) (commands_from (n + 1) lines)
+      | Bad ↦ Err n
+    ]
 
 -- what a trace says
 pub record Contents : Type 0 where
