@@ -1,6 +1,6 @@
 //! The grammars of the texts that are read.
 //!
-//! A text is read whole, then cut into lines, and a line into words; nothing is looked at twice.
+//! A text is read whole, then cut into lines, and a line into words, in time linear in its length.
 #![tactic(auto)]
 
 mod commands;
