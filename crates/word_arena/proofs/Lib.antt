@@ -2,3 +2,4 @@ pub mod WordLemmas
 pub mod StoreLemmas
 pub mod HoldsLemmas
 pub mod ReachLemmas
+pub mod HeldLemmas

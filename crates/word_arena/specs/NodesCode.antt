@@ -1,7 +1,7 @@
 -- A tree of node numbers as a list, from which it is built again: what a model that has a tree as its value needs.
 use Rattle.std.specs.Prelude.{◌≡◌, ℕ, List, [], ◌∷◌, ◌++◌, Option, Some, None, refl}
 use Rattle.std.specs.Coded.{Coded, code_by, coded_ℕ, coded_list, coded_option}
-use Rattle.std.proofs.Common.{append_assoc, ◌∙◌, ap}
+use Rattle.std.proofs.Common.{◌∙◌, ap}
 use Rattle.word_arena.specs.Words.{Nodes, none, fork}
 
 -- both trees of a node before the node, and nothing for no tree
