@@ -9,7 +9,7 @@ use Rattle.word_arena.specs.declared.stores.Store.{Store}
 use Rattle.latch_core.specs.declared.updates.Update.{Update}
 use Rattle.latch_core.specs.declared.updates.Update.TheVariants.{Insert, Erase}
 use Rattle.order_laws.specs.Orders.{Order, IsLawful}
-use Rattle.order_laws.specs.Tables.{IsTable, meets, with_item}
+use Rattle.order_laws.specs.Tables.{IsTable, meets, with_item, without}
 use Rattle.latch_core.specs.Updates.{after, refuses, spent}
 use Rattle.latch_core.specs.Histories.{replay}
 use Rattle.word_arena.specs.Words.{at, root_word, by_root, InUse}
@@ -19,7 +19,7 @@ use Rattle.latch_core.specs.Latches.{Hand, Latch, IsHidden, MayStep}
 use Rattle.word_arena.specs.Stores.{words_after}
 use Rattle.latch_core.specs.Invariants.{IsStanding, AreTables}
 use Rattle.word_arena.proofs.WordLemmas.{used_not_zero}
-use Rattle.order_laws.proofs.PlaceLemmas.{not_meeting}
+use Rattle.order_laws.proofs.PlaceLemmas.{not_meeting, without_none, without_one}
 use Rattle.order_laws.proofs.TableLemmas.{with_item_table, without_table, length_with_item, length_without}
 use Rattle.latch_core.proofs.Readings.{AllLoads, stand_on, stand_push}
 use Rattle.latch_core.proofs.Walks.{walk_uses}
@@ -72,10 +72,18 @@ standing_load o m n k [] w go e st = let zero_first : w ≡ 0 = cc in (omega (ar
     is_first is = sym is
 standing_load o m n k (x ∷ v) w go e st = (st.0, λ is. stand_push m (attempt o n k) (x ∷ v) w go (at m w) e (st.1 is) refl)
 
+-- one item more, one item less
+pub after_insert : {K : Type 0} (o : Order K) (table : List Item) (i : Item) → after o table (Insert i) ≡ with_item o i table
+after_insert o table i = ap (with_item o i) (without_none table)
+
+pub after_erase : {K : Type 0} (o : Order K) (table : List Item) (a : ℕ) → after o table (Erase a) ≡ without a table
+after_erase o table a = without_one a table
+
 -- the table after an accepted update is one, and fits
 pub accepted_table : {K : Type 0} (o : Order K) → IsLawful o → (n limit : ℕ) (table : List Item) (seq : ℕ) (u : Update) → refuses o n limit false table seq u ≡ None → IsTable o table → length table ≤ n → IsTable o (after o table u) × (length (after o table u) ≤ n)
 accepted_table o law n limit table seq (Insert i) e t fits =
-    elim (o.valid i) as (λ b. o.valid i ≡ b → cond (not b) (Some BadItem) (cond (meets o i table) (Some Overlap) (cond (length table == n) (Some Full) (spent limit seq))) ≡ None → IsTable o (with_item o i table) × (length (with_item o i table) ≤ n)) [
+    subst (λ new. IsTable o new × (length new ≤ n)) (sym (after_insert o table i))
+    (elim (o.valid i) as (λ b. o.valid i ≡ b → cond (not b) (Some BadItem) (cond (meets o i table) (Some Overlap) (cond (length table == n) (Some Full) (spent limit seq))) ≡ None → IsTable o (with_item o i table) × (length (with_item o i table) ≤ n)) [
       | false ↦ λ v f. absurd (cc)
       | true ↦ λ v.
           elim (meets o i table) as (λ b. meets o i table ≡ b → cond b (Some Overlap) (cond (length table == n) (Some Full) (spent limit seq)) ≡ None → IsTable o (with_item o i table) × (length (with_item o i table) ≤ n)) [
@@ -90,8 +98,9 @@ accepted_table o law n limit table seq (Insert i) e t fits =
                   )
                 ] refl
           ] refl
-    ] refl e
-accepted_table o law n limit table seq (Erase a) e t fits = (without_table o a table t, omega (arith, length_without a table))
+    ] refl e)
+accepted_table o law n limit table seq (Erase a) e t fits =
+    subst (λ new. IsTable o new × (length new ≤ n)) (sym (after_erase o table a)) (without_table o a table t, omega (arith, length_without a table))
 
 pub replay_push : {K : Type 0} (o : Order K) (table : List Item) (us : List Update) (u : Update) → replay o table (us ++ u ∷ []) ≡ after o (replay o table us) u
 replay_push o table [] u = refl

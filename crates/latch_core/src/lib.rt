@@ -15,6 +15,9 @@ pub mod spots;
 pub mod updates;
 pub mod writers;
 
+#[cfg(test)]
+mod tests;
+
 pub use readers::{ReaderCore, Taken};
 pub use updates::Update;
 pub use writers::WriterCore;

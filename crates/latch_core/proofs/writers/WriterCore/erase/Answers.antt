@@ -7,6 +7,8 @@ use Rattle.latch_core.specs.Updates.{most_steps}
 use Rattle.latch_core.specs.Plans.{update_stores}
 use Rattle.latch_core.specs.WriterViews.{WriterView}
 use Rattle.latch_core.specs.Writers.{AreInStep, HasBegun}
+use Rattle.latch_core.proofs.Steps.{after_erase}
+use Rattle.latch_core.proofs.Planned.{Leading}
 use Rattle.latch_core.proofs.BeginLemmas.{accepted_erase, step_erase, leading_erase, has_begun}
 use Rattle.latch_core.proofs.writers.WriterCore.erase.Goals as goal
 
@@ -56,8 +58,8 @@ returns-clause-begun g c =
     (let count0 = ap length first in
     let count1 = ap length second in
     omega (arith, c.deref.ensures.len, c.deref-2.ensures.len, c.plan_erase-node.ensures.few, c.plan_erase.ensures.few, lists.zero_room.2, lists.one_room.2)) in
-    let begun = has_begun order w (Erase c.args.a) [] p0.0 p1.0 z.table z.tree o.tree zero_erases.table idle few
-    (λ l p rest. leading_erase n s.zero s.one z o c.reserve.new.zero.room c.reserve.new.one.room c.args.a c.plan_erase-node.result c.plan_erase.result p0.0 p1.0 zero_erases one_erases zero_leads one_leads s.free.items s.plan.left c.self.invariant.0 l.words rest.sized rest.even rest.zero rest.one) in
+    let begun = has_begun order w (Erase c.args.a) [] p0.0 p1.0 z.table z.tree o.tree (zero_erases.table ∙ sym (after_erase order s.zero.table c.args.a)) idle few
+    (λ l p rest. subst (λ new. Leading n s.zero.table new l.words [] p0.0 p1.0 z.tree o.tree) (sym (after_erase order s.zero.table c.args.a)) (leading_erase n s.zero s.one z o c.reserve.new.zero.room c.reserve.new.one.room c.args.a c.plan_erase-node.result c.plan_erase.result p0.0 p1.0 zero_erases one_erases zero_leads one_leads s.free.items s.plan.left c.self.invariant.0 l.words rest.sized rest.even rest.zero rest.one)) in
     let left_as : List Store → WriterView = λ ss. record { capacity = n; limit = limit_of s.layout; sequence = s.sequence; table = z.table; zero_tree = z.tree; one_tree = o.tree; left = ss } in
     subst (λ v. HasBegun order v (Erase c.args.a) (left_as c.fill.new.self.left)) c.self.view_is
     (subst (λ ss. HasBegun order w (Erase c.args.a) (left_as ss)) (sym filled) begun)

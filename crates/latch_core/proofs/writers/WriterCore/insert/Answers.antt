@@ -11,6 +11,8 @@ use Rattle.latch_core.specs.Plans.{update_stores}
 use Rattle.latch_core.specs.WriterViews.{WriterView}
 use Rattle.latch_core.specs.Writers.{AreInStep, HasBegun}
 use Rattle.latch_core.proofs.WriterLemmas.{unlisted}
+use Rattle.latch_core.proofs.Steps.{after_insert}
+use Rattle.latch_core.proofs.Planned.{Leading}
 use Rattle.latch_core.proofs.BeginLemmas.{accepted_insert, taken_node, step_insert, leading_insert, has_begun}
 use Rattle.latch_core.proofs.writers.WriterCore.insert.Goals as goal
 
@@ -94,8 +96,8 @@ returns-clause-begun g c =
     (let count0 = ap length first in
     let count1 = ap length second in
     omega (arith, c.deref.ensures.len, c.deref-2.ensures.len, c.plan_insert.ensures.few, c.plan_insert-2.ensures.few, lists.zero_room.2, lists.one_room.2)) in
-    let begun = has_begun order w (Insert item) (item_stores node item) p0.0 p1.0 z.table z.tree o.tree zero_inserts.table idle few
-    (λ l p rest. leading_insert order n s.zero s.one z o c.reserve.new.zero.room c.reserve.new.one.room node item p0.0 p1.0 zero_inserts one_inserts zero_leads one_leads s.free.items s.plan.left c.self.invariant.0 l.words rest.sized rest.even rest.zero rest.one taken.0 (unlisted w l.words node rest c.self.invariant.0.same_nodes taken.1)) in
+    let begun = has_begun order w (Insert item) (item_stores node item) p0.0 p1.0 z.table z.tree o.tree (zero_inserts.table ∙ sym (after_insert order s.zero.table item)) idle few
+    (λ l p rest. subst (λ new. Leading n s.zero.table new l.words (item_stores node item) p0.0 p1.0 z.tree o.tree) (sym (after_insert order s.zero.table item)) (leading_insert order n s.zero s.one z o c.reserve.new.zero.room c.reserve.new.one.room node item p0.0 p1.0 zero_inserts one_inserts zero_leads one_leads s.free.items s.plan.left c.self.invariant.0 l.words rest.sized rest.even rest.zero rest.one taken.0 (unlisted w l.words node rest c.self.invariant.0.same_nodes taken.1))) in
     let left_as : List Store → WriterView = λ ss. record { capacity = n; limit = limit_of s.layout; sequence = s.sequence; table = z.table; zero_tree = z.tree; one_tree = o.tree; left = ss } in
     subst (λ v. HasBegun order v (Insert item) (left_as c.fill.new.self.left)) c.self.view_is
     (subst (λ ss. HasBegun order w (Insert item) (left_as ss)) (sym filled) begun)
