@@ -12,11 +12,10 @@ mod plans;
 pub mod readers;
 pub mod sequences;
 pub mod spots;
-pub mod updates;
-pub mod writers;
-
 #[cfg(test)]
 mod tests;
+pub mod updates;
+pub mod writers;
 
 pub use readers::{ReaderCore, Taken};
 pub use updates::Update;

@@ -1,11 +1,10 @@
 ghost use Rattle.order_laws.specs.Orders.{half_open, half_open_lawful};
 
-use crate::plain;
 use crate::sequences::{generation, stable_copy};
-use crate::{ReaderCore, Taken, Update, WriterCore};
+use crate::{ReaderCore, Taken, Update, WriterCore, plain};
 use order_laws::laws::look_through;
 use order_laws::{HalfOpen, Item, Refusal, TreeOrder};
-use std::alloc::AllocError;
+use std::alloc::Global;
 use std::cmp::Ordering;
 use std::process::Abort;
 use std::test::Fail;
@@ -71,11 +70,10 @@ struct Latch<O: TreeOrder> {
 }
 
 impl<O: TreeOrder> Latch<O> {
-    /// A latch of `n` nodes that opens at `start`.
-    fn open(rt: &HostRuntime, n: u32, start: u64) -> Result<Self, Fail> {
-        let l = Layout::new(n)?;
-        let writer = WriterCore::open(rt.alloc(), l, start)?;
-        let mut words = vec![in rt.alloc(); 0; l.words()]?;
+    /// A latch that opens at `start`.
+    fn open(rt: &impl Abort, alloc: Global, l: Layout, start: u64) -> Result<Self, Refusal> {
+        let writer = WriterCore::open(alloc, l, start)?;
+        let mut words = vec![in alloc; 0; l.words()]?;
         assert!(rt; !words.is_empty());
         words[0] = start;
         Ok(Latch { words, writer })
@@ -105,7 +103,7 @@ impl<O: TreeOrder> Latch<O> {
 
     /// A lookup that nobody disturbs: what it found, its generation and its loads.
     fn find(&self, rt: &impl Abort, l: Layout, key: O::Key) -> (Option<Item>, u64, u32) {
-        let mut lookup = Lookup::start(l, key);
+        let mut lookup = Lookup::<O>::start(l, key);
         lookup.read(rt, &self.words, 1000);
         assert_eq!(rt; lookup.tries, 1);
         (lookup.answer, lookup.generation, lookup.loads)
@@ -155,4 +153,145 @@ impl<O: TreeOrder> Lookup<O> {
             }
         }
     }
+}
+
+#[test]
+fn the_least_lookup_and_both_ends_of_a_range(rt: HostRuntime) -> Result<(), Fail> {
+    let l = Layout::new(4)?;
+    let mut latch = Latch::<HalfOpen>::open(&rt, rt.alloc(), l, 0)?;
+    assert_eq!(rt; latch.find(&rt, l, 0x10), (None, 0, 3));
+    let one = item(0x1000, 0x2000, 7);
+    latch.carry_out(&rt, Update::Insert(one))?;
+    assert_eq!(rt; latch.find(&rt, l, 0x1000), (Some(one), 1, 6));
+    assert_eq!(rt; latch.find(&rt, l, 0x1fff), (Some(one), 1, 6));
+    assert_eq!(rt; latch.find(&rt, l, 0x2000), (None, 1, 7));
+    assert_eq!(rt; latch.words.first().copied(), Some(2));
+    assert_eq!(rt; latch.writer.generation(), 1);
+    assert_eq!(rt; latch.writer.len(), 1);
+    assert!(rt; latch.writer.holds(0x1000));
+    assert!(rt; !latch.writer.holds(0x2000));
+    assert_eq!(rt; latch.writer.layout(), l);
+    assert_eq!(rt; ReaderCore::<HalfOpen>::start(l, 9).copy().key(), 9);
+    Ok(())
+}
+
+// The reader loads an item's first word and the words of the item that later takes its node, and would find its key in
+// that mixture; its second reading of the sequence differs from the first.
+#[test]
+fn a_torn_item_is_not_answered(rt: HostRuntime) -> Result<(), Fail> {
+    let l = Layout::new(1)?;
+    let mut latch = Latch::<HalfOpen>::open(&rt, rt.alloc(), l, 0)?;
+    assert_eq!(rt;
+        latch.carry_out(&rt, Update::Erase(0x99)),
+        Err(Refusal::NoSuchItem)
+    );
+    latch.carry_out(&rt, Update::Insert(item(0x10, 0x20, 1)))?;
+    let mut lookup = Lookup::<HalfOpen>::start(l, 0x28);
+    lookup.read(&rt, &latch.words, 3);
+    latch.carry_out(&rt, Update::Erase(0x10))?;
+    latch.carry_out(&rt, Update::Insert(item(0x30, 0x40, 2)))?;
+    lookup.read(&rt, &latch.words, 10);
+    assert!(rt; lookup.core.is_none());
+    assert_eq!(rt; (lookup.answer, lookup.generation), (None, 3));
+    assert_eq!(rt; (lookup.loads, lookup.tries), (13, 2));
+    assert_eq!(rt; latch.words.first().copied(), Some(6));
+    Ok(())
+}
+
+#[test]
+fn the_last_sequence(rt: HostRuntime) -> Result<(), Fail> {
+    let l = Layout::new(4)?;
+    let mut latch = Latch::<HalfOpen>::open(&rt, rt.alloc(), l, 4294967292)?;
+    let one = item(0x10, 0x20, 1);
+    latch.carry_out(&rt, Update::Insert(one))?;
+    let spent = Err(Refusal::SequenceSpent);
+    assert_eq!(rt;
+        latch.carry_out(&rt, Update::Insert(item(0x30, 0x40, 2))),
+        spent
+    );
+    assert_eq!(rt; latch.carry_out(&rt, Update::Erase(0x10)), spent);
+    assert_eq!(rt; latch.find(&rt, l, 0x10), (Some(one), 2147483647, 6));
+    assert_eq!(rt; latch.words.first().copied(), Some(4294967294));
+    for start in [1, 4294967295, 4294967296] {
+        let opened = WriterCore::<HalfOpen>::open(rt.alloc(), l, start);
+        assert_eq!(rt; opened.err(), Some(Refusal::BadCapacity), "at {start}");
+    }
+    Ok(())
+}
+
+#[test]
+fn each_refusal_and_none_beside_an_update_in_hand(rt: HostRuntime) -> Result<(), Fail> {
+    let l = Layout::new(1)?;
+    let mut latch = Latch::<HalfOpen>::open(&rt, rt.alloc(), l, 0)?;
+    let (one, other) = (item(0x10, 0x20, 1), item(0x30, 0x40, 2));
+    let empty = item(5, 5, 1);
+    assert_eq!(rt;
+        latch.carry_out(&rt, Update::Insert(empty)),
+        Err(Refusal::BadItem)
+    );
+    latch.writer.begin(Update::Insert(one))?;
+    assert_eq!(rt;
+        latch.writer.begin(Update::Insert(empty)),
+        Err(Refusal::UpdateInHand)
+    );
+    latch.write(&rt, 1000);
+    let overlap = Update::Insert(item(0x18, 0x28, 3));
+    assert_eq!(rt; latch.carry_out(&rt, overlap), Err(Refusal::Overlap));
+    assert_eq!(rt;
+        latch.carry_out(&rt, Update::Insert(other)),
+        Err(Refusal::Full)
+    );
+    assert_eq!(rt; latch.find(&rt, l, 0x30), (None, 1, 7));
+    let table = [one];
+    for u in [
+        Update::Insert(empty),
+        overlap,
+        Update::Insert(other),
+        Update::Erase(0x30),
+    ] {
+        let why = plain::refuses::<HalfOpen>(l, false, &table, 2, u);
+        assert_eq!(rt; latch.carry_out(&rt, u).err(), why);
+    }
+    let busy = plain::refuses::<HalfOpen>(l, true, &table, 2, Update::Erase(0x10));
+    assert_eq!(rt; busy, Some(Refusal::UpdateInHand));
+    Ok(())
+}
+
+// At each stop of each update, a lookup answers for the table before the second flip's one, and for the new one from there on.
+#[test]
+fn an_order_whose_key_is_a_struct(rt: HostRuntime) -> Result<(), Fail> {
+    let l = Layout::new(4)?;
+    let mut latch = Latch::<Ranges>::open(&rt, rt.alloc(), l, 0)?;
+    let updates = [
+        Update::Insert(item(0x3000, 0x4000, 9)),
+        Update::Insert(item(0x1000, 0x2000, 7)),
+        Update::Insert(item(0x2000, 0x3000, 8)),
+        Update::Erase(0x1000),
+        Update::Insert(item(0x500, 0x1800, 6)),
+        Update::Erase(0x3000),
+    ];
+    for (count, u) in updates.iter().enumerate() {
+        let left = latch.writer.begin(*u)?;
+        for _ in 0..left {
+            latch.write(&rt, 1);
+            assert!(rt; !latch.words.is_empty());
+            let done = generation(latch.words[0]) as usize;
+            assert!(rt; done == count || Some(done) == count.checked_add(1));
+            let table = plain::replay::<Ranges>(
+                rt.alloc(),
+                updates.get(..done).ok_or("too many")?,
+            )?;
+            for key in [
+                0, 0x500, 0x1000, 0x17ff, 0x1fff, 0x2000, 0x3000, 0x3fff, 0x4000,
+            ] {
+                let (found, at, _) = latch.find(&rt, l, Address(key));
+                assert_eq!(rt; found, look_through::<Ranges>(&table, Address(key)));
+                assert_eq!(rt; at as usize, done);
+            }
+        }
+        assert_eq!(rt; latch.writer.remaining(), 0);
+    }
+    assert_eq!(rt; latch.writer.len(), 2);
+    assert_eq!(rt; stable_copy(13), TreeCopy::One);
+    Ok(())
 }

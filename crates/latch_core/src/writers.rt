@@ -1,6 +1,6 @@
 //! The writer of a latched tree, which hands out one store at a time.
 
-ghost use Rattle.std.specs.Prelude.{◌≡◌, ◌⊎◌, ◌+◌, ◌*◌, ◌<◌, ◌≤◌, [], Some, None, IsSome, IfSome, IfOk, IfErr, OnOk, OnErr, is_some, MatchOption, length, vec_len, vec_capacity};
+ghost use Rattle.std.specs.Prelude.{◌≡◌, ◌↔◌, ◌⊎◌, ◌+◌, ◌*◌, ◌<◌, ◌≤◌, [], Some, None, IsTrue, IsSome, IfSome, IfOk, IfErr, OnOk, OnErr, is_some, MatchOption, length, vec_len, vec_capacity};
 ghost use Rattle.order_laws.specs.Tables.{has};
 ghost use Rattle.word_arena.specs.declared.stores.Store.{Store};
 ghost use Rattle.word_arena.specs.Layouts.{capacity_of, limit_of};
@@ -173,7 +173,6 @@ impl<O: TreeOrder> WriterCore<O> {
         ensures within { IfSome result (λ s. s.word < words_for self.now.capacity) }
         ensures may { (l : Latch) → Pictures self.now l → MatchOption result (l.hand ≡ None) (λ s. (h : Hand) × (l.hand ≡ Some h) × MayStep self.now.capacity l h s) }
     {
-        let _ = &self.layout;
         self.plan.next()
     }
 
@@ -231,6 +230,13 @@ impl<O: TreeOrder> WriterCore<O> {
         ensures pictured { (l : Latch) → Pictures self.now l → result ≡ length l.table }
     {
         self.zero.len()
+    }
+
+    /// Whether the table after all accepted updates has no item.
+    pub fn is_empty(&self) -> bool
+        ensures { IsTrue result ↔ (self.now.table ≡ []) }
+    {
+        self.len() == 0
     }
 
     /// The number of nodes and the greatest sequence.
