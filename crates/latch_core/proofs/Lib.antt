@@ -4,3 +4,7 @@ pub mod Steps
 pub mod Sound
 pub mod Planned
 pub mod Leads
+pub mod PlanLemmas
+pub mod NodeLemmas
+pub mod WriterLemmas
+pub mod BeginLemmas

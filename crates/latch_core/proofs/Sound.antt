@@ -14,7 +14,8 @@ use Rattle.latch_core.specs.Sequences.{gen, stable}
 use Rattle.latch_core.specs.Latches.{Hand, Latch, MayStep, flips_after, stepped, begun, opening_latch}
 use Rattle.word_arena.specs.Stores.{words_after}
 use Rattle.latch_core.specs.Invariants.{IsHand, IsInHand, IsSound}
-use Rattle.latch_core.proofs.Steps.{holds_on, hidden_same, flip_same, flip_adds, tables_push, replay_push}
+use Rattle.word_arena.proofs.HoldsLemmas.{holds_on}
+use Rattle.latch_core.proofs.Steps.{hidden_same, flip_same, flip_adds, tables_push, replay_push}
 
 -- what a step leaves, by its kind: the sequence, the number of flips, and what the stable copy holds
 record Left {K : Type 0} (o : Order K) (n start : ℕ) (us : List Update) (l : Latch) (h : Hand) (s : Store) : Type 0 where

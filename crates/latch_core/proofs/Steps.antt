@@ -1,7 +1,6 @@
 -- What the writer's steps keep.
-use Rattle.std.proofs.Common.{◌≡◌, ◌≢◌, ℕ, suc, ◌+◌, ◌<◌, ◌≤◌, true, false, cond, List, [], ◌∷◌, ◌++◌, length, take, Some, None, refl, sym, ◌∙◌, ap, subst, inl, inr, ⊎_elim, arith, length-append, get_or-set_other, get_or-set_same}
-use Rattle.std.specs.Prelude.{◌⊎◌, ◌==◌, not, ◌||◌, slice_set}
-use Rattle.std.specs.List.{AllByRecursion}
+use Rattle.std.proofs.Common.{◌≡◌, ◌≢◌, ℕ, ◌+◌, ◌<◌, ◌≤◌, true, false, cond, List, [], ◌∷◌, ◌++◌, length, take, Some, None, refl, sym, ◌∙◌, ap, subst, inl, inr, ⊎_elim, arith, length-append, get_or-set_other, get_or-set_same}
+use Rattle.std.specs.Prelude.{◌⊎◌, ◌==◌, not, slice_set}
 use Rattle.order_laws.specs.declared.refusals.Refusal.TheVariants.{BadItem, Overlap, Full}
 use Rattle.std.proofs.lemmas.Bool.{cases_lt, eqb-false}
 use Rattle.std.proofs.lemmas.List.{take-append-le, take_all}
@@ -10,52 +9,20 @@ use Rattle.word_arena.specs.declared.stores.Store.{Store}
 use Rattle.latch_core.specs.declared.updates.Update.{Update}
 use Rattle.latch_core.specs.declared.updates.Update.TheVariants.{Insert, Erase}
 use Rattle.order_laws.specs.Orders.{Order, IsLawful}
-use Rattle.order_laws.specs.Tables.{IsTable, meets, with_item}
+use Rattle.order_laws.specs.Tables.{IsTable, meets, with_item, without}
 use Rattle.latch_core.specs.Updates.{after, refuses, spent}
 use Rattle.latch_core.specs.Histories.{replay}
-use Rattle.word_arena.specs.Words.{at, root_word, a_word, b_word, tag_word, left_word, right_word, item_at, Nodes, none, fork, items, Leads, Reaches, by_root, by_left, by_right, InUse, HoldsTable}
+use Rattle.word_arena.specs.Words.{at, root_word, by_root, InUse}
 use Rattle.latch_core.specs.Sequences.{stable}
 use Rattle.latch_core.specs.Attempts.{Reading, Load, attempt, rest_after}
 use Rattle.latch_core.specs.Latches.{Hand, Latch, IsHidden, MayStep}
 use Rattle.word_arena.specs.Stores.{words_after}
 use Rattle.latch_core.specs.Invariants.{IsStanding, AreTables}
+use Rattle.word_arena.proofs.WordLemmas.{used_not_zero}
+use Rattle.order_laws.proofs.PlaceLemmas.{not_meeting, without_none, without_one}
 use Rattle.order_laws.proofs.TableLemmas.{with_item_table, without_table, length_with_item, length_without}
 use Rattle.latch_core.proofs.Readings.{AllLoads, stand_on, stand_push}
 use Rattle.latch_core.proofs.Walks.{walk_uses}
-
--- a memory that has the same words in use holds the same
-leads_on : (m m' : List ℕ) (n copy : ℕ) → ((w : ℕ) → InUse m n copy w → at m' w ≡ at m w) → (t : Nodes) (link : ℕ) → ((i : ℕ) → link ≡ suc i → i < n → Reaches m n copy i) → Leads m n copy link t → Leads m' n copy link t × (items m' t ≡ items m t)
-leads_on m m' n copy same none link reached leads = (leads, refl)
-leads_on m m' n copy same (fork l i r) link reached leads =
-    let here : Reaches m n copy i = reached i leads.0 leads.1 in
-    let ea : at m' (a_word i) ≡ at m (a_word i) = same (a_word i) (inr (i, here, inl refl)) in
-    let eb : at m' (b_word i) ≡ at m (b_word i) = same (b_word i) (inr (i, here, inr (inl refl))) in
-    let et : at m' (tag_word i) ≡ at m (tag_word i) = same (tag_word i) (inr (i, here, inr (inr (inl refl)))) in
-    let el : at m' (left_word copy i) ≡ at m (left_word copy i) = same (left_word copy i) (inr (i, here, inr (inr (inr (inl refl))))) in
-    let er : at m' (right_word copy i) ≡ at m (right_word copy i) = same (right_word copy i) (inr (i, here, inr (inr (inr (inr refl))))) in
-    let hl = leads_on m m' n copy same l (at m (left_word copy i)) (λ j e lt. by_left i j here lt e) leads.2 in
-    let hr = leads_on m m' n copy same r (at m (right_word copy i)) (λ j e lt. by_right i j here lt e) leads.3 in
-    let is : item_at m' i ≡ item_at m i = λ d. record { a = ea d; b = eb d; tag = et d } in (
-      (leads.0, leads.1, subst (λ p. Leads m' n copy p l) (sym el) hl.0, subst (λ p. Leads m' n copy p r) (sym er) hr.0),
-      (λ d. hl.1 d ++ is d ∷ hr.1 d),
-    )
-
-pub holds_on : (m m' : List ℕ) (n copy : ℕ) (table : List Item) → ((w : ℕ) → InUse m n copy w → at m' w ≡ at m w) → HoldsTable m n copy table → HoldsTable m' n copy table
-holds_on m m' n copy table same (t, h) =
-    let k = leads_on m m' n copy same t (at m (root_word copy)) (λ i e lt. by_root i lt e) h.leads in
-    (t, record { leads = subst (λ p. Leads m' n copy p t) (sym (same (root_word copy) (inl refl))) k.0; listed_items = k.1 ∙ h.listed_items })
-
--- word 0 is in no use
-not_zero : (m : List ℕ) (n copy w : ℕ) → InUse m n copy w → w ≢ 0
-not_zero m n copy w h =
-    ⊎_elim
-    (λ e z. absurd (omega arith))
-    (λ (i, reached, is).
-    ⊎_elim (λ e z. absurd (omega arith))
-    (⊎_elim (λ e z. absurd (omega arith))
-    (⊎_elim (λ e z. absurd (omega arith))
-    (⊎_elim (λ e z. absurd (omega arith)) (λ e z. absurd (omega arith))))) is)
-    h
 
 -- what a step does to the words
 pub hidden_same : (n : ℕ) (m began : List ℕ) (s : Store) → IsHidden n m began s.word → (w : ℕ) → (w ≡ 0) ⊎ InUse m n (stable (at m 0)) w → at (words_after m s) w ≡ at m w
@@ -65,7 +32,7 @@ hidden_same n m began s h w p =
 
 pub flip_same : (n copy : ℕ) (m : List ℕ) (s : Store) → s.word ≡ 0 → (w : ℕ) → InUse m n copy w → at (words_after m s) w ≡ at m w
 flip_same n copy m s z w u =
-    let ne : w ≢ s.word = λ e. not_zero m n copy w u (e ∙ z) in
+    let ne : w ≢ s.word = λ e. used_not_zero m n copy w u (e ∙ z) in
     get_or-set_other m s.word w s.value 0 ne
 
 pub flip_adds : (m : List ℕ) (s : Store) → 0 < length m → s.word ≡ 0 → s.value ≡ at m 0 + 1 → at (words_after m s) 0 ≡ at m 0 + 1
@@ -105,19 +72,18 @@ standing_load o m n k [] w go e st = let zero_first : w ≡ 0 = cc in (omega (ar
     is_first is = sym is
 standing_load o m n k (x ∷ v) w go e st = (st.0, λ is. stand_push m (attempt o n k) (x ∷ v) w go (at m w) e (st.1 is) refl)
 
--- accepted updates
-not_meeting : {K : Type 0} (o : Order K) (i : Item) (xs : List Item) → meets o i xs ≡ false → AllByRecursion (λ x. o.apart x i ≡ true) xs
-not_meeting o i [] e = tt
-not_meeting o i (x ∷ xs) e =
-    elim (o.apart x i) as (λ b. o.apart x i ≡ b → (not b || meets o i xs) ≡ false → AllByRecursion (λ y. o.apart y i ≡ true) (x ∷ xs)) [
-      | true ↦ λ is f. (is, not_meeting o i xs f)
-      | false ↦ λ is f. absurd (cc)
-    ] refl e
+-- one item more, one item less
+pub after_insert : {K : Type 0} (o : Order K) (table : List Item) (i : Item) → after o table (Insert i) ≡ with_item o i table
+after_insert o table i = ap (with_item o i) (without_none table)
+
+pub after_erase : {K : Type 0} (o : Order K) (table : List Item) (a : ℕ) → after o table (Erase a) ≡ without a table
+after_erase o table a = without_one a table
 
 -- the table after an accepted update is one, and fits
 pub accepted_table : {K : Type 0} (o : Order K) → IsLawful o → (n limit : ℕ) (table : List Item) (seq : ℕ) (u : Update) → refuses o n limit false table seq u ≡ None → IsTable o table → length table ≤ n → IsTable o (after o table u) × (length (after o table u) ≤ n)
 accepted_table o law n limit table seq (Insert i) e t fits =
-    elim (o.valid i) as (λ b. o.valid i ≡ b → cond (not b) (Some BadItem) (cond (meets o i table) (Some Overlap) (cond (length table == n) (Some Full) (spent limit seq))) ≡ None → IsTable o (with_item o i table) × (length (with_item o i table) ≤ n)) [
+    subst (λ new. IsTable o new × (length new ≤ n)) (sym (after_insert o table i))
+    (elim (o.valid i) as (λ b. o.valid i ≡ b → cond (not b) (Some BadItem) (cond (meets o i table) (Some Overlap) (cond (length table == n) (Some Full) (spent limit seq))) ≡ None → IsTable o (with_item o i table) × (length (with_item o i table) ≤ n)) [
       | false ↦ λ v f. absurd (cc)
       | true ↦ λ v.
           elim (meets o i table) as (λ b. meets o i table ≡ b → cond b (Some Overlap) (cond (length table == n) (Some Full) (spent limit seq)) ≡ None → IsTable o (with_item o i table) × (length (with_item o i table) ≤ n)) [
@@ -132,8 +98,9 @@ accepted_table o law n limit table seq (Insert i) e t fits =
                   )
                 ] refl
           ] refl
-    ] refl e
-accepted_table o law n limit table seq (Erase a) e t fits = (without_table o a table t, omega (arith, length_without a table))
+    ] refl e)
+accepted_table o law n limit table seq (Erase a) e t fits =
+    subst (λ new. IsTable o new × (length new ≤ n)) (sym (after_erase o table a)) (without_table o a table t, omega (arith, length_without a table))
 
 pub replay_push : {K : Type 0} (o : Order K) (table : List Item) (us : List Update) (u : Update) → replay o table (us ++ u ∷ []) ≡ after o (replay o table us) u
 replay_push o table [] u = refl

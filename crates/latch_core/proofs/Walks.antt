@@ -1,5 +1,5 @@
 -- Attempts in one memory: they look the key up in the table that the stable copy holds.
-use Rattle.std.proofs.Common.{◌≡◌, ℕ, suc, zero, ◌+◌, ◌*◌, ◌<◌, ◌≤◌, true, false, cond, List, ◌∷◌, length, Option, Some, None, refl, sym, ◌∙◌, ap, subst, inl, inr, arith, length-append}
+use Rattle.std.proofs.Common.{◌≡◌, ℕ, suc, zero, ◌+◌, ◌*◌, ◌<◌, ◌≤◌, true, false, cond, List, length, Option, Some, None, refl, sym, ◌∙◌, ap, subst, inl, inr, arith}
 use Rattle.std.specs.Prelude.{◌⊎◌, ◌==◌, nat_lt}
 use Rattle.std.specs.declared.cmp.Ordering.TheVariants.{Less, Equal, Greater}
 use Rattle.std.proofs.lemmas.Bool.{lt-ltb, ltb-true, eq-eqb}
@@ -9,18 +9,11 @@ use Rattle.order_laws.specs.Tables.{IsTable, look}
 use Rattle.word_arena.specs.Words.{at, root_word, left_word, right_word, item_at, Nodes, none, fork, items, Leads, Holds, Reaches, by_left, by_right, InUse}
 use Rattle.latch_core.specs.Sequences.{gen, stable}
 use Rattle.latch_core.specs.Attempts.{Outcome, Answer, Reading, Load, Ends, Found, Item_found, No_item, Stuck, outcome, closing, turn, visit, walk, attempt, rest_after, Stand, IsAttempt}
+use Rattle.word_arena.proofs.HoldsLemmas.{size, size_items}
 use Rattle.order_laws.proofs.TableLemmas.{parted, look_less, look_greater, look_equal}
 use Rattle.latch_core.proofs.Readings.{ends_in, loads_in, AllLoads, Within, ends_as, loads_so_far, loads_below, within_length, within_below}
 
--- how many nodes a tree has
-abbrev pub size : Nodes → ℕ
-size none = 0
-size (fork l i r) = suc (size l + size r)
-
-pub size_items : (m : List ℕ) (t : Nodes) → length (items m t) ≡ size t
-size_items m none = refl
-size_items m (fork l i r) = omega (arith, length-append (items m l) (item_at m i ∷ items m r), size_items m l, size_items m r)
-
+-- how a walk ended, by what was looked up
 abbrev pub found_of : Option Item → Found
 found_of None = No_item
 found_of (Some x) = Item_found x

@@ -4,5 +4,9 @@ pub mod Histories
 pub mod Attempts
 pub mod Latches
 pub mod Plans
+pub mod PlanViews
+pub mod FreeNodes
+pub mod WriterViews
+pub mod Writers
 pub mod Invariants
 pub mod Cores

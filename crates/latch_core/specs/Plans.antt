@@ -1,5 +1,5 @@
 -- Lists of stores that the writer plans, and when they carry an update out.
-use Rattle.std.specs.Prelude.{◌≡◌, ℕ, List, [], ◌∷◌, Some, None}
+use Rattle.std.specs.Prelude.{◌≡◌, ℕ, ◌+◌, List, [], ◌∷◌, ◌++◌, Some, None}
 use Rattle.word_arena.specs.declared.stores.Store.{Store}
 use Rattle.latch_core.specs.Latches.{Hand, Latch, MayStep, stepped}
 
@@ -7,3 +7,12 @@ use Rattle.latch_core.specs.Latches.{Hand, Latch, MayStep, stepped}
 abbrev pub IsPlan : ℕ → Latch → List Store → Type 0
 IsPlan n l [] = l.hand ≡ None
 IsPlan n l (s ∷ ss) = (h : Hand) × (l.hand ≡ Some h) × MayStep n l h s × IsPlan n (stepped l h s) ss
+
+-- the store that makes this number the sequence
+abbrev pub flip_to : ℕ → Store
+flip_to seq = record { word = 0; value = seq }
+
+-- the stores of an update from a sequence on: item words of free nodes, the first flip, links of copy 0, the second flip,
+-- links of copy 1
+abbrev pub update_stores : ℕ → List Store → List Store → List Store → List Store
+update_stores seq item_stores links0 links1 = item_stores ++ flip_to (seq + 1) ∷ links0 ++ flip_to (seq + 2) ∷ links1

@@ -4,7 +4,7 @@ use Rattle.order_laws.specs.declared.items.Item.{Item}
 use Rattle.order_laws.specs.declared.refusals.Refusal.{Refusal}
 use Rattle.order_laws.specs.declared.refusals.Refusal.TheVariants.{BadItem, Overlap, NoSuchItem, Full, UpdateInHand, SequenceSpent}
 use Rattle.order_laws.specs.Orders.{Order}
-use Rattle.order_laws.specs.Tables.{with_item, without, has, meets}
+use Rattle.order_laws.specs.Tables.{with_item, without_all, has, meets}
 use Rattle.latch_core.specs.declared.updates.Update.{Update}
 use Rattle.latch_core.specs.declared.updates.Update.TheVariants.{Insert, Erase}
 
@@ -17,11 +17,7 @@ abbrev pub inserted : Update → List Item
 inserted (Insert i) = i ∷ []
 inserted (Erase a) = []
 
--- the table without all of these, and with all of these
-abbrev pub without_all : List ℕ → List Item → List Item
-without_all [] table = table
-without_all (a ∷ rest) table = without_all rest (without a table)
-
+-- the table with all of these
 abbrev pub with_items : {K : Type 0} → Order K → List Item → List Item → List Item
 with_items o [] table = table
 with_items o (i ∷ rest) table = with_items o rest (with_item o i table)

@@ -6,11 +6,17 @@
 #![tactic(auto)]
 
 pub mod laws;
+mod nodes;
 pub mod plain;
+mod plans;
 pub mod readers;
 pub mod sequences;
 pub mod spots;
+#[cfg(test)]
+mod tests;
 pub mod updates;
+pub mod writers;
 
 pub use readers::{ReaderCore, Taken};
 pub use updates::Update;
+pub use writers::WriterCore;

@@ -1,12 +1,13 @@
 //! The definitions of updates and histories as plain, slow programs, to compare with.
 
 ghost use Rattle.std.specs.Prelude.{◌≡◌, ◌+◌, [], IfOk, nat_lt};
-ghost use Rattle.order_laws.specs.Tables.{has, meets, with_item, without};
+ghost use Rattle.order_laws.specs.Tables.{has, meets};
 ghost use Rattle.word_arena.specs.Layouts.{capacity_of, limit_of};
 ghost use Rattle.latch_core.specs.Updates.{refuses, after};
 ghost use Rattle.latch_core.specs.Histories.{replay};
 
 use crate::updates::Update;
+use order_laws::tables::{with_item, without};
 use order_laws::{Item, Refusal, TreeOrder};
 use std::alloc::{AllocError, Global};
 use word_arena::Layout;
@@ -75,39 +76,17 @@ pub fn meets<O: TreeOrder>(table: &[Item], item: &Item) -> bool
 }
 
 /// The table after an update.
-pub fn after<O: TreeOrder>(alloc: Global, table: &[Item], u: Update) -> Result<Vec<Item>, AllocError>
+pub fn after<O: TreeOrder>(
+    alloc: Global,
+    table: &[Item],
+    u: Update,
+) -> Result<Vec<Item>, AllocError>
     ensures { IfOk result (λ new. new.items ≡ after O.order table.now u) }
 {
     match u {
         Update::Insert(item) => with_item::<O>(alloc, table, item),
         Update::Erase(a) => without(alloc, table, a),
     }
-}
-
-/// The table with the item in its place.
-fn with_item<O: TreeOrder>(alloc: Global, table: &[Item], item: Item) -> Result<Vec<Item>, AllocError>
-    ensures { IfOk result (λ new. new.items ≡ with_item O.order item table.now) }
-{
-    let mut new = Vec::new(alloc);
-    let mut placed = false;
-    for x in table {
-        if !placed && O::less(&item, x) {
-            new.push(item)?;
-            placed = true;
-        }
-        new.push(*x)?;
-    }
-    if !placed {
-        new.push(item)?;
-    }
-    Ok(new)
-}
-
-/// The table without the item that has this first word.
-fn without(alloc: Global, table: &[Item], a: u64) -> Result<Vec<Item>, AllocError>
-    ensures { IfOk result (λ new. new.items ≡ without a table.now) }
-{
-    table.iter().filter(|x| x.a != a).copied().collect(alloc)
 }
 
 /// The table after these updates, in order, from the empty table.

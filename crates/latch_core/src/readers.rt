@@ -147,7 +147,10 @@ impl<O: TreeOrder> ReaderCore<O> {
                 Taken::Going(self)
             }
             Place::Left | Place::Right => Taken::Going(self.follow(value)),
-            Place::Found if value == self.spot.first => Taken::Returned(Some(self.item()), generation(value)),
+            Place::Found if value == self.spot.first => Taken::Returned(
+                Some(self.item()),
+                generation(value),
+            ),
             Place::Missing if value == self.spot.first => Taken::Returned(None, generation(value)),
             Place::Found | Place::Missing => Taken::Retrying(self.again()),
             Place::Stuck => Taken::Retrying(self.again()),

@@ -17,5 +17,9 @@ pub fn generation(sequence: u64) -> u64
 pub fn stable_copy(sequence: u64) -> TreeCopy
     ensures { copy_number result ≡ stable sequence }
 {
-    if sequence % 2 == 0 { TreeCopy::Zero } else { TreeCopy::One }
+    if sequence % 2 == 0 {
+        TreeCopy::Zero
+    } else {
+        TreeCopy::One
+    }
 }

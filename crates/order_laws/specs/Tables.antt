@@ -1,5 +1,5 @@
 -- Tables of items, and what a key finds in one.
-use Rattle.std.specs.Prelude.{◌≡◌, ◌≢◌, ℕ, Bool, true, not, List, [], ◌∷◌, Option, Some, None, if◌then◌else◌, ◌==◌, filter, Contains}
+use Rattle.std.specs.Prelude.{◌≡◌, ◌≢◌, ℕ, suc, Bool, true, not, List, [], ◌∷◌, Option, Some, None, if◌then◌else◌, ◌==◌, filter, Contains}
 use Rattle.std.specs.List.{AllByRecursion, list_any}
 use Rattle.std.specs.Ordering.{is_eq}
 use Rattle.std.specs.declared.cmp.Ordering.TheVariants.{Equal}
@@ -29,6 +29,20 @@ with_item o i (x ∷ xs) = if o.less i x then i ∷ x ∷ xs else x ∷ with_ite
 -- the table without the item that has this first word
 abbrev pub without : ℕ → List Item → List Item
 without a table = filter (λ x. not (x.a == a)) table
+
+-- the table without the items that have one of these first words
+abbrev pub without_all : List ℕ → List Item → List Item
+without_all gone table = filter (λ x. not (list_any (λ a. a == x.a) gone)) table
+
+-- how many items of a table come before a new one
+abbrev pub place_for : {K : Type 0} → Order K → Item → List Item → ℕ
+place_for o i [] = 0
+place_for o i (x ∷ xs) = if o.less i x then 0 else suc (place_for o i xs)
+
+-- how many items come before the one that has this first word
+abbrev pub place_of : ℕ → List Item → ℕ
+place_of a [] = 0
+place_of a (x ∷ xs) = if x.a == a then 0 else suc (place_of a xs)
 
 -- whether some item has this first word
 abbrev pub has : ℕ → List Item → Bool

@@ -5,11 +5,18 @@
 //! trait [`TreeOrder`], and proves them for ranges of addresses with and without their end.
 #![tactic(auto)]
 
+pub mod closed_ranges;
+pub mod half_open_ranges;
 pub mod items;
 pub mod laws;
 pub mod orders;
 pub mod refusals;
+pub mod tables;
+#[cfg(test)]
+mod tests;
 
+pub use closed_ranges::Closed;
+pub use half_open_ranges::HalfOpen;
 pub use items::Item;
-pub use orders::{Closed, HalfOpen, TreeOrder};
+pub use orders::TreeOrder;
 pub use refusals::Refusal;

@@ -1,7 +1,7 @@
 //! Orders of items, and where a key lies among them.
 
 ghost use Rattle.std.specs.Prelude.{◌≡◌};
-ghost use Rattle.order_laws.specs.Orders.{Order, IsLawful, half_open, half_open_lawful, closed, closed_lawful};
+ghost use Rattle.order_laws.specs.Orders.{Order, IsLawful};
 
 use crate::items::Item;
 use std::cmp::Ordering;
@@ -38,80 +38,4 @@ pub trait TreeOrder {
         ensures { result ≡ order.comp k i.now };
 
     ghost lawful: { IsLawful order };
-}
-
-/// Ranges `a..b` of addresses, the end excluded.
-#[derive(Clone, Copy, Debug, Drop)]
-pub struct HalfOpen;
-
-impl TreeOrder for HalfOpen {
-    type Key = u64;
-
-    ghost order = { half_open };
-
-    fn key_of(i: &Item) -> u64 {
-        i.a
-    }
-
-    fn valid(i: &Item) -> bool {
-        i.a < i.b
-    }
-
-    fn apart(x: &Item, y: &Item) -> bool {
-        x.b <= y.a || y.b <= x.a
-    }
-
-    fn less(x: &Item, y: &Item) -> bool {
-        x.a < y.a
-    }
-
-    fn comp(k: u64, i: &Item) -> Ordering {
-        if k < i.a {
-            Ordering::Less
-        } else if k >= i.b {
-            Ordering::Greater
-        } else {
-            Ordering::Equal
-        }
-    }
-
-    ghost lawful = { half_open_lawful };
-}
-
-/// Ranges `a..=b` of addresses, the end included.
-#[derive(Clone, Copy, Debug, Drop)]
-pub struct Closed;
-
-impl TreeOrder for Closed {
-    type Key = u64;
-
-    ghost order = { closed };
-
-    fn key_of(i: &Item) -> u64 {
-        i.a
-    }
-
-    fn valid(i: &Item) -> bool {
-        i.a <= i.b
-    }
-
-    fn apart(x: &Item, y: &Item) -> bool {
-        x.b < y.a || y.b < x.a
-    }
-
-    fn less(x: &Item, y: &Item) -> bool {
-        x.a < y.a
-    }
-
-    fn comp(k: u64, i: &Item) -> Ordering {
-        if k < i.a {
-            Ordering::Less
-        } else if k > i.b {
-            Ordering::Greater
-        } else {
-            Ordering::Equal
-        }
-    }
-
-    ghost lawful = { closed_lawful };
 }

@@ -21,6 +21,10 @@ left_word copy i = 6 + 7 * i + 2 * copy
 abbrev pub right_word : ℕ → ℕ → ℕ
 right_word copy i = 7 + 7 * i + 2 * copy
 
+-- the seven words of a node by their place: a, b, tag, left and right link in copy 0, left and right link in copy 1
+abbrev pub word_of_node : ℕ → ℕ → ℕ
+word_of_node place i = 3 + place + 7 * i
+
 -- how many words a memory has for n nodes
 abbrev pub words_for : ℕ → ℕ
 words_for n = 7 * n + 3

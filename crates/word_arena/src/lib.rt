@@ -5,9 +5,13 @@
 //! copy 0 and of copy 1. A link is 0 for none, or a node's number plus 1. The numbering is told in docs/FORMATS.md.
 #![tactic(auto)]
 
+pub mod held;
+pub mod laws;
 pub mod layouts;
 pub mod places;
 pub mod stores;
+#[cfg(test)]
+mod tests;
 
 pub use layouts::Layout;
 pub use places::TreeCopy;

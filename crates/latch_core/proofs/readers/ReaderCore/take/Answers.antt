@@ -48,9 +48,9 @@ returns-in-Left-clause-leads g c = λ values leads.
     let o = g.O.TreeOrder.order in
     let e = c.follow-in-Left.ensures in
     let h = ⊎_elim
-      (λ is. moved o _ _ _ _ (values ++ c.args.value ∷ []) _ _ e.capacity e.key (next_from o c.args.self Left _ _ c.args.value values is refl leads) e.leads)
-      (λ is. moved o _ _ _ _ (values ++ c.args.value ∷ []) _ _ e.capacity e.key (next_from o c.args.self Right _ _ c.args.value values is refl leads) e.leads)
-      c.in-Left.is in
+    (λ is. moved o _ _ _ _ (values ++ c.args.value ∷ []) _ _ e.capacity e.key (next_from o c.args.self Left _ _ c.args.value values is refl leads) e.leads)
+    (λ is. moved o _ _ _ _ (values ++ c.args.value ∷ []) _ _ e.capacity e.key (next_from o c.args.self Right _ _ c.args.value values is refl leads) e.leads)
+    c.in-Left.is in
     (e.capacity, e.key, h, let few = values_of_core o c.follow-in-Left.result (values ++ c.args.value ∷ []) h in omega (arith, e.capacity))
 
 pub returns-in-Found-clause-leads : goal.returns-in-Found-clause-leads
@@ -67,13 +67,15 @@ returns-in-Missing-clause-leads g c = λ values leads.
 pub returns-in-Found-2-clause-leads : goal.returns-in-Found-2-clause-leads
 returns-in-Found-2-clause-leads g c = λ values leads.
     let o = g.O.TreeOrder.order in
-    let e = c.again-in-Found-2.ensures in
-    (e.capacity, e.key,
-     elim c.in-Found-2-1.branch [
-       | in-Found+else-value-self w ↦ next_from o c.args.self Found _ _ c.args.value values w.in-Found.is refl leads ∙ ap (λ x. Some (Ends x)) (again _ _ _ (λ e. w.if-value-self.false (sym e)))
-       | in-Missing+else-value-self-2 w ↦ next_from o c.args.self Missing _ _ c.args.value values w.in-Missing.is refl leads ∙ ap (λ x. Some (Ends x)) (again_none _ _ (λ e. w.if-value-self-2.false (sym e)))
-     ],
-     ap Some (sym e.whole))
+    let e = c.again-in-Found-2.ensures in (
+      e.capacity,
+      e.key,
+      elim c.in-Found-2-1.branch [
+        | in-Found+else-value-self w ↦ next_from o c.args.self Found _ _ c.args.value values w.in-Found.is refl leads ∙ ap (λ x. Some (Ends x)) (again _ _ _ (λ e. w.if-value-self.false (sym e)))
+        | in-Missing+else-value-self-2 w ↦ next_from o c.args.self Missing _ _ c.args.value values w.in-Missing.is refl leads ∙ ap (λ x. Some (Ends x)) (again_none _ _ (λ e. w.if-value-self-2.false (sym e)))
+      ],
+      ap Some (sym e.whole),
+    )
 
 pub returns-in-Stuck-clause-leads : goal.returns-in-Stuck-clause-leads
 returns-in-Stuck-clause-leads g c = λ values leads.

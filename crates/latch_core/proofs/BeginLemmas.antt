@@ -1,0 +1,253 @@
+-- An update that begins: what was tested, the node that it takes or frees, and the stores that were planned.
+use Rattle.std.proofs.Common.{◌≡◌, ◌≢◌, ℕ, suc, ◌+◌, ◌<◌, ◌≤◌, true, false, cond, List, [], ◌∷◌, ◌++◌, length, Some, None, refl, sym, ◌∙◌, ap, subst, inl, inr, arith, length-append}
+use Rattle.std.specs.Prelude.{◌==◌, All, nat_lt, insert, remove, Contains, not}
+use Rattle.std.proofs.lemmas.Bool.{eqb-false, eq-eqb, ne_eqb, ltb-false, lt-ltb}
+use Rattle.std.proofs.lemmas.List.Elements.{All-append, All-cons, All-nil, All-from_recursion}
+use Rattle.std.proofs.lemmas.Option.{slice_get_within}
+use Rattle.order_laws.specs.declared.items.Item.{Item}
+use Rattle.order_laws.specs.declared.refusals.Refusal.TheVariants.{BadItem, Overlap, NoSuchItem, Full, UpdateInHand, SequenceSpent}
+use Rattle.order_laws.specs.Orders.{Order}
+use Rattle.order_laws.specs.Tables.{place_for, place_of, with_item, without, has, meets}
+use Rattle.order_laws.proofs.TableLemmas.{all_weaker}
+use Rattle.word_arena.specs.declared.stores.Store.{Store}
+use Rattle.word_arena.specs.Words.{at, words_for, Nodes, Holds, IsUnreached, listed}
+use Rattle.word_arena.specs.Stores.{words_after_all, IsLinkWord, AreLinkStores}
+use Rattle.word_arena.proofs.WordLemmas.{link_place, item_place}
+use Rattle.word_arena.proofs.StoreLemmas.{after_append}
+use Rattle.rb_words.specs.Pictures.{Picture, IsPictured}
+use Rattle.rb_words.specs.Plans.{Inserts, Erases, LeadsWithItem, LeadsByLinks, AreLinks, item_stores}
+use Rattle.latch_core.specs.declared.updates.Update.{Update}
+use Rattle.latch_core.specs.declared.updates.Update.TheVariants.{Insert, Erase}
+use Rattle.latch_core.specs.Sequences.{stable}
+use Rattle.latch_core.specs.Updates.{refuses, after, spent, most_steps}
+use Rattle.latch_core.specs.Latches.{Latch}
+use Rattle.latch_core.specs.Plans.{flip_to, update_stores}
+use Rattle.latch_core.specs.FreeNodes.{AreAllNodes}
+use Rattle.latch_core.specs.WriterViews.{WriterView}
+use Rattle.latch_core.specs.Writers.{AtRest, Pictures, HasBegun, why_refused, AreInStep}
+use Rattle.latch_core.proofs.Planned.{Leading}
+use Rattle.latch_core.proofs.NodeLemmas.{last_is_free, node_taken, node_freed}
+use Rattle.latch_core.proofs.WriterLemmas.{begun_pictures, rest_now}
+
+no_length : (xs : List Store) → length xs ≡ 0 → xs ≡ []
+no_length [] e = refl
+no_length (x ∷ xs) e = absurd (omega arith)
+
+-- with nothing in hand, the tests tell why an update is refused
+module _ {K : Type 0} (o : Order K) (w : WriterView) (idle : length w.left ≡ 0) where
+  none_in_hand : (u : Update) → why_refused o w u ≡ refuses o w.capacity w.limit false w.table w.sequence u
+  none_in_hand u = ap (λ xs. refuses o w.capacity w.limit (nat_lt 0 (length xs)) w.table w.sequence u) (no_length w.left idle)
+
+  after_valid : (i : Item) → o.valid i ≡ true → why_refused o w (Insert i) ≡ cond (meets o i w.table) (Some Overlap) (cond (length w.table == w.capacity) (Some Full) (spent w.limit w.sequence))
+  after_valid i v = none_in_hand (Insert i) ∙ ap (λ b. cond (not b) (Some BadItem) (cond (meets o i w.table) (Some Overlap) (cond (length w.table == w.capacity) (Some Full) (spent w.limit w.sequence)))) v
+
+  pub why_overlap : (i : Item) → o.valid i ≡ true → meets o i w.table ≡ true → Some Overlap ≡ why_refused o w (Insert i)
+  why_overlap i v m = sym (after_valid i v ∙ ap (λ b. cond b (Some Overlap) (cond (length w.table == w.capacity) (Some Full) (spent w.limit w.sequence))) m)
+
+  after_apart : (i : Item) → o.valid i ≡ true → meets o i w.table ≡ false → why_refused o w (Insert i) ≡ cond (length w.table == w.capacity) (Some Full) (spent w.limit w.sequence)
+  after_apart i v m = after_valid i v ∙ ap (λ b. cond b (Some Overlap) (cond (length w.table == w.capacity) (Some Full) (spent w.limit w.sequence))) m
+
+  pub why_full : (i : Item) → o.valid i ≡ true → meets o i w.table ≡ false → length w.table ≡ w.capacity → Some Full ≡ why_refused o w (Insert i)
+  why_full i v m full = sym (after_apart i v m ∙ ap (λ b. cond b (Some Full) (spent w.limit w.sequence)) (eq-eqb (length w.table) w.capacity full))
+
+  pub insert_spent : (i : Item) → o.valid i ≡ true → meets o i w.table ≡ false → length w.table ≢ w.capacity → spent w.limit w.sequence ≡ why_refused o w (Insert i)
+  insert_spent i v m room = sym (after_apart i v m ∙ ap (λ b. cond b (Some Full) (spent w.limit w.sequence)) (ne_eqb (length w.table) w.capacity room))
+
+  pub erase_spent : (a : ℕ) → has a w.table ≡ true → spent w.limit w.sequence ≡ why_refused o w (Erase a)
+  erase_spent a h = sym (none_in_hand (Erase a) ∙ ap (λ b. cond (not b) (Some NoSuchItem) (spent w.limit w.sequence)) h)
+
+-- what an accepted update has passed
+pub record Accepted (w : WriterView) : Type 0 where
+  pub idle : w.left ≡ []
+  pub counts : w.sequence + 2 ≤ w.limit
+
+not_spent : (limit seq : ℕ) → spent limit seq ≡ None → seq + 2 ≤ limit
+not_spent limit seq e =
+    elim (nat_lt limit (seq + 2)) as (λ b. nat_lt limit (seq + 2) ≡ b → cond b (Some SequenceSpent) None ≡ None → seq + 2 ≤ limit) [
+      | true ↦ λ is f. absurd (cc)
+      | false ↦ λ is f. ltb-false limit (seq + 2) is
+    ] refl e
+
+idle_from : {K : Type 0} (o : Order K) (n limit seq : ℕ) (table : List Item) (u : Update) (xs : List Store) → refuses o n limit (nat_lt 0 (length xs)) table seq u ≡ None → xs ≡ []
+idle_from o n limit seq table u [] e = refl
+idle_from o n limit seq table u (x ∷ xs) e =
+    let more : nat_lt 0 (suc (length xs)) ≡ true = lt-ltb 0 (suc (length xs)) (omega arith) in
+    absurd (let f : Some UpdateInHand ≡ None = ap (λ b. refuses o n limit b table seq u) (sym more) ∙ e in cc)
+
+pub accepted_insert : {K : Type 0} (o : Order K) (w : WriterView) (i : Item) → why_refused o w (Insert i) ≡ None → Accepted w × (o.valid i ≡ true) × (meets o i w.table ≡ false) × (length w.table ≢ w.capacity)
+accepted_insert o w i e =
+    let idle = idle_from o w.capacity w.limit w.sequence w.table (Insert i) w.left e in
+    let f : refuses o w.capacity w.limit false w.table w.sequence (Insert i) ≡ None = ap (λ xs. refuses o w.capacity w.limit (nat_lt 0 (length xs)) w.table w.sequence (Insert i)) (sym idle) ∙ e in
+    elim (o.valid i) as (λ b. o.valid i ≡ b → cond (not b) (Some BadItem) (cond (meets o i w.table) (Some Overlap) (cond (length w.table == w.capacity) (Some Full) (spent w.limit w.sequence))) ≡ None → Accepted w × (o.valid i ≡ true) × (meets o i w.table ≡ false) × (length w.table ≢ w.capacity)) [
+      | false ↦ λ v g. absurd (cc)
+      | true ↦ λ v.
+          elim (meets o i w.table) as (λ b. meets o i w.table ≡ b → cond b (Some Overlap) (cond (length w.table == w.capacity) (Some Full) (spent w.limit w.sequence)) ≡ None → Accepted w × (o.valid i ≡ true) × (meets o i w.table ≡ false) × (length w.table ≢ w.capacity)) [
+            | true ↦ λ m g. absurd (cc)
+            | false ↦ λ m.
+                elim (length w.table == w.capacity) as (λ b. (length w.table == w.capacity) ≡ b → cond b (Some Full) (spent w.limit w.sequence) ≡ None → Accepted w × (o.valid i ≡ true) × (meets o i w.table ≡ false) × (length w.table ≢ w.capacity)) [
+                  | true ↦ λ r g. absurd (cc)
+                  | false ↦ λ r g. (record { idle = idle; counts = not_spent w.limit w.sequence g }, v, m, eqb-false (length w.table) w.capacity r)
+                ] refl
+          ] refl
+    ] refl f
+
+pub accepted_erase : {K : Type 0} (o : Order K) (w : WriterView) (a : ℕ) → why_refused o w (Erase a) ≡ None → Accepted w × (has a w.table ≡ true)
+accepted_erase o w a e =
+    let idle = idle_from o w.capacity w.limit w.sequence w.table (Erase a) w.left e in
+    let f : refuses o w.capacity w.limit false w.table w.sequence (Erase a) ≡ None = ap (λ xs. refuses o w.capacity w.limit (nat_lt 0 (length xs)) w.table w.sequence (Erase a)) (sym idle) ∙ e in
+    elim (has a w.table) as (λ b. has a w.table ≡ b → cond (not b) (Some NoSuchItem) (spent w.limit w.sequence) ≡ None → Accepted w × (has a w.table ≡ true)) [
+      | false ↦ λ h g. absurd (cc)
+      | true ↦ λ h g. (record { idle = idle; counts = not_spent w.limit w.sequence g }, h)
+    ] refl f
+
+-- the free node that an insert takes
+pub taken_node : (n : ℕ) (zero one : Picture) (free rest : List ℕ) (node : ℕ) (left : List Store) → AreInStep n zero one free left → free ≡ rest ++ node ∷ [] → (node < n) × (Contains (listed zero.tree) node → ⊥) × (Contains (listed one.tree) node → ⊥)
+taken_node n zero one free rest node left step e =
+    let last = last_is_free n node rest (listed zero.tree) (subst (λ xs. AreAllNodes n (xs ++ listed zero.tree)) e step.nodes) in
+    (last.0, last.1, λ is. last.1 (subst (λ ns. Contains ns node) step.same_nodes is))
+
+-- the stores lie in the memory
+items_in_range : (n node : ℕ) (i : Item) → node < n → All (λ (s : Store). s.word < words_for n) (item_stores node i)
+items_in_range n node i lt =
+    All-from_recursion (λ (s : Store). s.word < words_for n) (item_stores node i)
+    ((item_place n node _ lt (inl refl)).1, ((item_place n node _ lt (inr (inl refl))).1, ((item_place n node _ lt (inr (inr refl))).1, tt)))
+
+links_of : (n copy : ℕ) (p : Picture) (links : List Store) → p.capacity ≡ n → p.copy ≡ copy → AreLinks p links → AreLinkStores n copy links
+links_of n copy p links ec ek are = subst (λ k. AreLinkStores k copy links) ec (subst (λ c. AreLinkStores p.capacity c links) ek are.words)
+
+links_in_range : (n copy : ℕ) (links : List Store) → copy ≤ 1 → AreLinkStores n copy links → All (λ (s : Store). s.word < words_for n) links
+links_in_range n copy links one are =
+    All-from_recursion (λ (s : Store). s.word < words_for n) links
+    (all_weaker (λ (s : Store). IsLinkWord n copy s.word) (λ (s : Store). s.word < words_for n) (λ s a. (link_place n copy s.word one a).1) links are)
+
+flip_in_range : (n seq : ℕ) (links : List Store) → All (λ (s : Store). s.word < words_for n) links → All (λ (s : Store). s.word < words_for n) (flip_to seq ∷ links)
+flip_in_range n seq links all = All-cons (λ (s : Store). s.word < words_for n) (flip_to seq) links (omega arith) all
+
+update_in_range : (n seq : ℕ) (items links0 links1 : List Store) → All (λ (s : Store). s.word < words_for n) items → AreLinkStores n 0 links0 → AreLinkStores n 1 links1 → All (λ (s : Store). s.word < words_for n) (update_stores seq items links0 links1)
+update_in_range n seq items links0 links1 all zero one =
+    let P : Store → Type 0 = λ s. s.word < words_for n in
+    let f0 = flip_in_range n (seq + 1) links0 (links_in_range n 0 links0 (omega arith) zero) in
+    let f1 = flip_in_range n (seq + 2) links1 (links_in_range n 1 links1 (omega arith) one) in
+    All-append P (items ++ flip_to (seq + 1) ∷ links0) (flip_to (seq + 2) ∷ links1) (All-append P items (flip_to (seq + 1) ∷ links0) all f0) f1
+
+-- how many stores an update has
+update_length : (seq : ℕ) (items links0 links1 : List Store) → length (update_stores seq items links0 links1) ≡ length items + length links0 + length links1 + 2
+update_length seq items links0 links1 =
+    omega (arith, length-append (items ++ flip_to (seq + 1) ∷ links0) (flip_to (seq + 2) ∷ links1), length-append items (flip_to (seq + 1) ∷ links0))
+
+-- the same picture with other room
+abbrev pub with_room : Picture → ℕ → Picture
+with_room p r = record p { room = r }
+
+pictured : (m : List ℕ) (n copy r : ℕ) (p : Picture) → length m ≡ words_for n → p.capacity ≡ n → p.copy ≡ copy → Holds m n copy p.table p.tree → IsPictured m (with_room p r)
+pictured m n copy r p sized ec ek holds =
+    record {
+      sized = sized ∙ ap words_for (sym ec);
+      holds = subst (λ k. Holds m k p.copy p.table p.tree) (sym ec) (subst (λ c. Holds m n c p.table p.tree) (sym ek) holds);
+    }
+
+unpictured : (m : List ℕ) (n copy : ℕ) (table : List Item) (p : Picture) → p.capacity ≡ n → p.copy ≡ copy → p.table ≡ table → IsPictured m p → Holds m n copy table p.tree
+unpictured m n copy table p ec ek et is =
+    subst (λ k. Holds m k copy table p.tree) ec (subst (λ c. Holds m p.capacity c table p.tree) ek (subst (λ t. Holds m p.capacity p.copy t p.tree) et is.holds))
+
+-- an insert of an item in a node
+module _ {K : Type 0} (o : Order K) (n : ℕ) (zero one zero' one' : Picture) (r s node : ℕ) (item : Item) (links0 links1 : List Store)
+    (zero_inserts : Inserts o (with_room zero r) zero' node item) (one_inserts : Inserts o (with_room one s) one' node item)
+    (zero_leads : LeadsWithItem (with_room zero r) zero' node item links0) (one_leads : LeadsWithItem (with_room one s) one' node item links1) where
+  pub step_insert : (rest : List ℕ) (left : List Store) (seq : ℕ) → AreInStep n zero one (rest ++ node ∷ []) left → node < n → AreInStep n zero' one' rest (update_stores seq (item_stores node item) links0 links1)
+  step_insert rest left seq step lt =
+      record {
+        zero_capacity = zero_inserts.capacity ∙ step.zero_capacity;
+        zero_copy = zero_inserts.copy ∙ step.zero_copy;
+        one_capacity = one_inserts.capacity ∙ step.one_capacity;
+        one_copy = one_inserts.copy ∙ step.one_copy;
+        same_table = one_inserts.table ∙ ap (with_item o item) step.same_table ∙ sym zero_inserts.table;
+        same_nodes =
+            one_inserts.in_order
+            ∙ ap (λ ns. insert ns (place_for o item one.table) node) step.same_nodes
+            ∙ ap (λ t. insert (listed zero.tree) (place_for o item t) node) step.same_table
+            ∙ sym zero_inserts.in_order;
+        nodes = subst (λ ns. AreAllNodes n (rest ++ ns)) (sym zero_inserts.in_order) (node_taken n node (place_for o item zero.table) rest (listed zero.tree) step.nodes);
+        in_range =
+            update_in_range n seq (item_stores node item) links0 links1 (items_in_range n node item lt)
+            (links_of n 0 (with_room zero r) links0 step.zero_capacity step.zero_copy zero_leads.links_only)
+            (links_of n 1 (with_room one s) links1 step.one_capacity step.one_copy one_leads.links_only);
+      }
+
+  pub leading_insert : (free : List ℕ) (left : List Store) → AreInStep n zero one free left → (m : List ℕ) → length m ≡ words_for n → stable (at m 0) ≡ 0 → Holds m n 0 zero.table zero.tree → Holds m n 1 zero.table one.tree → node < n → IsUnreached m n node → Leading n zero.table (with_item o item zero.table) m (item_stores node item) links0 links1 zero'.tree one'.tree
+  leading_insert free left step m sized even holds0 holds1 lt unreached =
+      let then0 = zero_leads.leads m (pictured m n 0 r zero sized step.zero_capacity step.zero_copy holds0) in
+      let then1 = one_leads.leads m (pictured m n 1 s one sized step.one_capacity step.one_copy (subst (λ t. Holds m n 1 t one.tree) (sym step.same_table) holds1)) in
+      let new0 = unpictured (words_after_all m (item_stores node item ++ links0)) n 0 (with_item o item zero.table) zero' (zero_inserts.capacity ∙ step.zero_capacity) (zero_inserts.copy ∙ step.zero_copy) zero_inserts.table then0 in
+      let new1 = unpictured (words_after_all m (item_stores node item ++ links1)) n 1 (with_item o item zero.table) one' (one_inserts.capacity ∙ step.one_capacity) (one_inserts.copy ∙ step.one_copy) (one_inserts.table ∙ ap (with_item o item) step.same_table) then1 in
+      record {
+        sized = sized;
+        even = even;
+        both_old = ((zero.tree, holds0), (one.tree, holds1));
+        items_free = ((node, lt, unreached, inl refl), ((node, lt, unreached, inr (inl refl)), ((node, lt, unreached, inr (inr refl)), tt)));
+        links_zero = links_of n 0 (with_room zero r) links0 step.zero_capacity step.zero_copy zero_leads.links_only;
+        links_one = links_of n 1 (with_room one s) links1 step.one_capacity step.one_copy one_leads.links_only;
+        leads_zero = subst (λ x. Holds x n 0 (with_item o item zero.table) zero'.tree) (after_append m (item_stores node item) links0) new0;
+        leads_one = subst (λ x. Holds x n 1 (with_item o item zero.table) one'.tree) (after_append m (item_stores node item) links1) new1;
+      }
+
+-- an erase of the item of a first word
+module _ (n : ℕ) (zero one zero' one' : Picture) (r s a node other : ℕ) (links0 links1 : List Store)
+    (zero_erases : Erases (with_room zero r) zero' a node) (one_erases : Erases (with_room one s) one' a other)
+    (zero_leads : LeadsByLinks (with_room zero r) zero' links0) (one_leads : LeadsByLinks (with_room one s) one' links1) where
+  pub step_erase : (free : List ℕ) (left : List Store) (seq : ℕ) → AreInStep n zero one free left → AreInStep n zero' one' (free ++ node ∷ []) (update_stores seq [] links0 links1)
+  step_erase free left seq step =
+      record {
+        zero_capacity = zero_erases.capacity ∙ step.zero_capacity;
+        zero_copy = zero_erases.copy ∙ step.zero_copy;
+        one_capacity = one_erases.capacity ∙ step.one_capacity;
+        one_copy = one_erases.copy ∙ step.one_copy;
+        same_table = one_erases.table ∙ ap (without a) step.same_table ∙ sym zero_erases.table;
+        same_nodes =
+            one_erases.in_order
+            ∙ ap (λ ns. remove ns (place_of a one.table)) step.same_nodes
+            ∙ ap (λ t. remove (listed zero.tree) (place_of a t)) step.same_table
+            ∙ sym zero_erases.in_order;
+        nodes = subst (λ ns. AreAllNodes n ((free ++ node ∷ []) ++ ns)) (sym zero_erases.in_order) (node_freed n node (place_of a zero.table) free (listed zero.tree) zero_erases.at_place step.nodes);
+        in_range =
+            update_in_range n seq [] links0 links1 (All-nil (λ (s : Store). s.word < words_for n))
+            (links_of n 0 (with_room zero r) links0 step.zero_capacity step.zero_copy zero_leads.links_only)
+            (links_of n 1 (with_room one s) links1 step.one_capacity step.one_copy one_leads.links_only);
+      }
+
+  -- there is a place for the node among the free ones
+  pub place_to_free : (free : List ℕ) (left : List Store) → AreInStep n zero one free left → length free < n
+  place_to_free free left step =
+      let within : place_of a zero.table < length (listed zero.tree) = slice_get_within (listed zero.tree) (place_of a zero.table) node zero_erases.at_place in
+      omega (arith, length-append free (listed zero.tree), step.nodes.as_many)
+
+  pub leading_erase : (free : List ℕ) (left : List Store) → AreInStep n zero one free left → (m : List ℕ) → length m ≡ words_for n → stable (at m 0) ≡ 0 → Holds m n 0 zero.table zero.tree → Holds m n 1 zero.table one.tree → Leading n zero.table (without a zero.table) m [] links0 links1 zero'.tree one'.tree
+  leading_erase free left step m sized even holds0 holds1 =
+      let then0 = zero_leads.leads m (pictured m n 0 r zero sized step.zero_capacity step.zero_copy holds0) in
+      let then1 = one_leads.leads m (pictured m n 1 s one sized step.one_capacity step.one_copy (subst (λ t. Holds m n 1 t one.tree) (sym step.same_table) holds1)) in
+      record {
+        sized = sized;
+        even = even;
+        both_old = ((zero.tree, holds0), (one.tree, holds1));
+        items_free = tt;
+        links_zero = links_of n 0 (with_room zero r) links0 step.zero_capacity step.zero_copy zero_leads.links_only;
+        links_one = links_of n 1 (with_room one s) links1 step.one_capacity step.one_copy one_leads.links_only;
+        leads_zero = unpictured (words_after_all m links0) n 0 (without a zero.table) zero' (zero_erases.capacity ∙ step.zero_capacity) (zero_erases.copy ∙ step.zero_copy) zero_erases.table then0;
+        leads_one = unpictured (words_after_all m links1) n 1 (without a zero.table) one' (one_erases.capacity ∙ step.one_capacity) (one_erases.copy ∙ step.one_copy) (one_erases.table ∙ ap (without a) step.same_table) then1;
+      }
+
+-- the core with an update in hand
+pub has_begun : {K : Type 0} (o : Order K) (w : WriterView) (u : Update) (items links0 links1 : List Store) (table : List Item) (zero one : Nodes)
+    → table ≡ after o w.table u → w.left ≡ []
+    → length items + length links0 + length links1 + 2 ≤ most_steps w.capacity u
+    → ((l : Latch) → Pictures w l → AtRest w l.words → Leading w.capacity w.table (after o w.table u) l.words items links0 links1 zero one)
+    → HasBegun o w u (record w { table = table; zero_tree = zero; one_tree = one; left = update_stores w.sequence items links0 links1 })
+has_begun o w u items links0 links1 table zero one et idle few leading =
+    let new : WriterView = record w { table = table; zero_tree = zero; one_tree = one; left = update_stores w.sequence items links0 links1 } in
+    let rest : new ≡ record w { table = after o w.table u; zero_tree = zero; one_tree = one; left = update_stores w.sequence items links0 links1 } = ap (λ t. record w { table = t; zero_tree = zero; one_tree = one; left = update_stores w.sequence items links0 links1 }) et in
+    record {
+      rest = rest;
+      some = omega (arith, update_length w.sequence items links0 links1);
+      few = omega (arith, update_length w.sequence items links0 links1);
+      pictures = λ l p. begun_pictures o w u items links0 links1 new rest l p idle (leading l p (rest_now w l p idle));
+    }

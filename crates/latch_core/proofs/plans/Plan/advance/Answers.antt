@@ -1,0 +1,7 @@
+use Rattle.std.proofs.Common.{◌∙◌, ap, drop}
+use Rattle.latch_core.specs.PlanViews.{PlanView}
+use Rattle.latch_core.proofs.PlanLemmas.{drop_more}
+use Rattle.latch_core.proofs.plans.Plan.advance.Goals as goal
+
+pub returns : goal.returns
+returns c = drop_more c.self.inside.made c.self.inside.stores.items ∙ ap (λ (p : PlanView). drop 1 p.left) c.self.view_is

@@ -1,0 +1,80 @@
+-- What a writer's core knows of the words, and when it accepts an update.
+use Rattle.std.specs.Prelude.{◌≡◌, ℕ, ◌<◌, ◌≤◌, Bool, List, [], ◌++◌, length, Option, All, nat_lt, slice_get, drop, if◌then◌else◌, ◌==◌}
+use Rattle.order_laws.specs.declared.refusals.Refusal.{Refusal}
+use Rattle.order_laws.specs.Orders.{Order}
+use Rattle.word_arena.specs.declared.layouts.Layout.{Layout}
+use Rattle.word_arena.specs.declared.stores.Store.{Store}
+use Rattle.word_arena.specs.Layouts.{capacity_of, limit_of}
+use Rattle.word_arena.specs.Words.{at, words_for, none, listed, Holds}
+use Rattle.word_arena.specs.Stores.{words_after_all}
+use Rattle.rb_words.specs.Pictures.{Picture}
+use Rattle.latch_core.specs.declared.updates.Update.{Update}
+use Rattle.latch_core.specs.Sequences.{stable}
+use Rattle.latch_core.specs.Updates.{refuses, after, most_steps}
+use Rattle.latch_core.specs.Latches.{Latch, begun}
+use Rattle.latch_core.specs.Plans.{IsPlan}
+use Rattle.latch_core.specs.FreeNodes.{AreAllNodes}
+use Rattle.latch_core.specs.WriterViews.{WriterView}
+
+-- the store to be made next
+abbrev pub next_store : WriterView → Option Store
+next_store w = slice_get w.left 0
+
+-- an update has begun and is not at its end
+abbrev pub in_hand : WriterView → Bool
+in_hand w = nat_lt 0 (length w.left)
+
+-- why the core refuses an update, or none
+abbrev pub why_refused : {K : Type 0} → Order K → WriterView → Update → Option Refusal
+why_refused o w u = refuses o w.capacity w.limit (in_hand w) w.table w.sequence u
+
+-- a memory at rest: both copies hold the core's table, in its trees
+pub record AtRest (w : WriterView) (m : List ℕ) : Type 0 where
+  pub sized : length m ≡ words_for w.capacity
+  pub even : stable (at m 0) ≡ 0
+  pub zero : Holds m w.capacity 0 w.table w.zero_tree
+  pub one : Holds m w.capacity 1 w.table w.one_tree
+
+-- the core pictures a latch: the stores that are left carry the update in hand to its end, and then the memory is at rest
+pub record Pictures (w : WriterView) (l : Latch) : Type 0 where
+  pub plan : IsPlan w.capacity l w.left
+  pub at_rest : AtRest w (words_after_all l.words w.left)
+  pub table : l.table ≡ w.table
+  pub sequence : at l.words 0 ≡ w.sequence
+
+-- a core that has made nothing
+abbrev pub opening_writer : Layout → ℕ → WriterView
+opening_writer l start =
+    record { capacity = capacity_of l; limit = limit_of l; sequence = start; table = []; zero_tree = none; one_tree = none; left = [] }
+
+-- an opening sequence is even and not above the limit
+abbrev pub MayOpen : Layout → ℕ → Type 0
+MayOpen l start = (stable start ≡ 0) × (start ≤ limit_of l)
+
+-- the sequence after a store
+abbrev pub sequence_after : ℕ → Store → ℕ
+sequence_after seq s = if s.word == 0 then s.value else seq
+
+-- the core after its next store was made
+abbrev pub stepped_writer : WriterView → Store → WriterView
+stepped_writer w s = record w { sequence = sequence_after w.sequence s; left = drop 1 w.left }
+
+-- Both copies are in step: they list the same nodes with the same items, and these and the free nodes are all that there
+-- are. The stores that are left lie in the memory.
+pub record AreInStep (n : ℕ) (zero one : Picture) (free : List ℕ) (left : List Store) : Type 0 where
+  pub zero_capacity : zero.capacity ≡ n
+  pub zero_copy : zero.copy ≡ 0
+  pub one_capacity : one.capacity ≡ n
+  pub one_copy : one.copy ≡ 1
+  pub same_table : one.table ≡ zero.table
+  pub same_nodes : listed one.tree ≡ listed zero.tree
+  pub nodes : AreAllNodes n (free ++ listed zero.tree)
+  pub in_range : All (λ s. s.word < words_for n) left
+
+-- the new core has the update in hand: its table is the one after it, and on each latch that the old core pictures the stores
+-- that it planned carry the update out
+pub record HasBegun {K : Type 0} (o : Order K) (old : WriterView) (u : Update) (new : WriterView) : Type 0 where
+  pub rest : new ≡ record old { table = after o old.table u; zero_tree = new.zero_tree; one_tree = new.one_tree; left = new.left }
+  pub some : 0 < length new.left
+  pub few : length new.left ≤ most_steps old.capacity u
+  pub pictures : (l : Latch) → Pictures old l → Pictures new (begun o l u (length new.left))

@@ -1,0 +1,272 @@
+//! The writer of a latched tree, which hands out one store at a time.
+
+ghost use Rattle.std.specs.Prelude.{◌≡◌, ◌↔◌, ◌⊎◌, ◌+◌, ◌*◌, ◌<◌, ◌≤◌, [], Some, None, IsTrue, IsSome, IfSome, IfOk, IfErr, OnOk, OnErr, is_some, MatchOption, length, vec_len, vec_capacity};
+ghost use Rattle.order_laws.specs.Tables.{has};
+ghost use Rattle.word_arena.specs.declared.stores.Store.{Store};
+ghost use Rattle.word_arena.specs.Layouts.{capacity_of, limit_of};
+ghost use Rattle.word_arena.specs.Words.{at, words_for};
+ghost use Rattle.rb_words.specs.Pictures.{IsPicture};
+ghost use Rattle.latch_core.specs.Sequences.{gen};
+ghost use Rattle.latch_core.specs.Updates.{refuses};
+ghost use Rattle.latch_core.specs.Latches.{Latch, Hand, MayStep, stepped, opening_latch};
+ghost use Rattle.latch_core.specs.Writers.{next_store, why_refused, MayOpen, Pictures, HasBegun, opening_writer, stepped_writer};
+
+use crate::nodes::all_nodes;
+use crate::plain::is_spent;
+use crate::plans::Plan;
+use crate::sequences::generation;
+use crate::updates::Update;
+use order_laws::{Item, Refusal, TreeOrder};
+use rb_words::{STORES, Shape};
+use std::alloc::Global;
+use std::marker::Model;
+use word_arena::{Layout, Store, TreeCopy};
+
+/// How many stores an item's words take.
+const ITEM_STORES: usize = 3;
+
+/// The writer's side of a latch (`latch_tree_insert`, `latch_tree_erase` and `raw_write_seqcount_latch` of
+/// include/linux/rbtree_latch.h and include/linux/seqlock.h).
+///
+/// An update flips the sequence, changes copy 0, flips again and changes copy 1. All of its stores are planned when it
+/// begins, and all memory is taken then; after that [`next`](WriterCore::next) tells one store and
+/// [`did`](WriterCore::did) is told that it was made. One update is in hand at a time.
+#[derive(Drop)]
+pub struct WriterCore<O: TreeOrder> {
+    layout: Layout,
+    sequence: u64,
+    zero: Shape<O>,
+    one: Shape<O>,
+    free: Vec<u32>,
+    plan: Plan,
+}
+
+impl<O: TreeOrder> Model for WriterCore<O> {
+    ghost use Rattle.std.specs.Prelude.{◌≤◌, vec_capacity};
+    ghost use Rattle.word_arena.specs.Layouts.{capacity_of, limit_of};
+    ghost use Rattle.latch_core.specs.WriterViews.{WriterView, writer_code};
+    ghost use Rattle.latch_core.specs.Writers.{AreInStep};
+
+    ghost Value = { WriterView };
+
+    ghost coded = { writer_code };
+
+    ghost view = { λ w. record { capacity = capacity_of w.layout; limit = limit_of w.layout; sequence = w.sequence; table = w.zero.table; zero_tree = w.zero.tree; one_tree = w.one.tree; left = w.plan.left } };
+
+    ghost invariant = { λ w. AreInStep (capacity_of w.layout) w.zero w.one w.free.items w.plan.left × (capacity_of w.layout ≤ vec_capacity w.free) };
+}
+
+impl<O: TreeOrder> WriterCore<O> {
+    /// The writer of an empty table, at an opening sequence.
+    ///
+    /// Refused by [`Refusal::BadCapacity`] where the sequence is odd or above the layout's limit, and else by
+    /// [`Refusal::OutOfMemory`].
+    pub fn open(alloc: Global, l: Layout, start: u64) -> Result<Self, Refusal>
+        ensures opened { IfOk result (λ w. w ≡ opening_writer l start) }
+        ensures may { IfOk result (λ w. MayOpen l start) }
+        ensures pictures { IfOk result (λ w. Pictures w (opening_latch (capacity_of l) start)) }
+        ensures refusal { IfErr result (λ e. ((e ≡ Refusal.BadCapacity) × (MayOpen l start → ⊥)) ⊎ ((e ≡ Refusal.OutOfMemory) × MayOpen l start)) }
+    {
+        if start % 2 == 1 || start > l.limit() {
+            return Err(Refusal::BadCapacity);
+        }
+        Ok(WriterCore {
+            layout: l,
+            sequence: start,
+            zero: Shape::new(alloc, l, TreeCopy::Zero),
+            one: Shape::new(alloc, l, TreeCopy::One),
+            free: all_nodes(alloc, l.capacity())?,
+            plan: Plan::new(alloc),
+        })
+    }
+
+    /// Takes an update in hand, and answers how many stores it takes.
+    ///
+    /// The stores are planned and all memory is taken here. Refused by [`Refusal::UpdateInHand`], then by
+    /// [`Refusal::BadItem`], then by [`Refusal::Overlap`] or [`Refusal::NoSuchItem`], by [`Refusal::Full`], by
+    /// [`Refusal::SequenceSpent`] and last by [`Refusal::OutOfMemory`]; a refusal changes nothing.
+    pub fn begin(&mut self, u: Update) -> Result<u64, Refusal>
+        ensures accepted { IfOk result (λ left. why_refused O.order self.old u ≡ None) }
+        ensures begun { IfOk result (λ left. (left ≡ length self.new.left) × HasBegun O.order self.old u self.new) }
+        ensures refusal { IfErr result (λ e. (why_refused O.order self.old u ≡ Some e) ⊎ ((why_refused O.order self.old u ≡ None) × (e ≡ Refusal.OutOfMemory))) }
+        ensures unchanged { OnErr result (self.new ≡ self.old) }
+        ensures pictured { (l : Latch) → Pictures self.old l → refuses O.order self.old.capacity self.old.limit (is_some l.hand) l.table (at l.words 0) u ≡ why_refused O.order self.old u }
+    {
+        if let Some(refusal) = self.refusal(&u) {
+            return Err(refusal);
+        }
+        match u {
+            Update::Insert(item) => self.insert(item)?,
+            Update::Erase(a) => self.erase(a)?,
+        }
+        Ok(self.plan.remaining())
+    }
+
+    /// Why an update is refused before any memory is asked for, if it is.
+    fn refusal(&self, u: &Update) -> Option<Refusal>
+        ensures { result ≡ why_refused O.order self.now u.now }
+    {
+        if self.plan.remaining() > 0 {
+            return Some(Refusal::UpdateInHand);
+        }
+        match u {
+            Update::Insert(item) => {
+                if !O::valid(item) {
+                    return Some(Refusal::BadItem);
+                }
+                if self.zero.meets(item, &[]) {
+                    return Some(Refusal::Overlap);
+                }
+                if self.zero.len() == self.layout.capacity() {
+                    return Some(Refusal::Full);
+                }
+            }
+            Update::Erase(a) => {
+                if !self.zero.has(*a) {
+                    return Some(Refusal::NoSuchItem);
+                }
+            }
+        }
+        if is_spent(self.layout, self.sequence) {
+            return Some(Refusal::SequenceSpent);
+        }
+        None
+    }
+
+    /// Plans to insert an item: it goes into a free node, which both copies then link.
+    fn insert(&mut self, item: Item) -> Result<(), Refusal>
+        requires accepted { why_refused O.order self.old (Update.Insert item) ≡ None }
+        ensures begun { OnOk result (HasBegun O.order self.old (Update.Insert item) self.new) }
+        ensures refusal { IfErr result (λ e. e ≡ Refusal.OutOfMemory) }
+        ensures unchanged { OnErr result (self.new ≡ self.old) }
+    {
+        let (mut first, mut second) = reserve(&mut self.zero, &mut self.one, &mut self.plan)?;
+        let Some(node) = self.free.pop() else {
+            unreachable!()
+        };
+        self.zero.plan_insert(&mut first, node, item);
+        self.one.plan_insert(&mut second, node, item);
+        self.plan.fill(self.sequence, &first, &second, ITEM_STORES);
+        Ok(())
+    }
+
+    /// Plans to erase the item of a first word: both copies leave out its node, which is free afterwards.
+    fn erase(&mut self, a: u64) -> Result<(), Refusal>
+        requires accepted { why_refused O.order self.old (Update.Erase a) ≡ None }
+        ensures begun { OnOk result (HasBegun O.order self.old (Update.Erase a) self.new) }
+        ensures refusal { IfErr result (λ e. e ≡ Refusal.OutOfMemory) }
+        ensures unchanged { OnErr result (self.new ≡ self.old) }
+    {
+        let (mut first, mut second) = reserve(&mut self.zero, &mut self.one, &mut self.plan)?;
+        let node = self.zero.plan_erase(&mut first, a);
+        let _ = self.one.plan_erase(&mut second, a);
+        self.free.push_reserved(node);
+        self.plan.fill(self.sequence, &first, &second, 0);
+        Ok(())
+    }
+
+    /// The store to be made next; none where no update is in hand.
+    ///
+    /// Its word lies in the memory. On any words that the core pictures it is a step that a writer may make.
+    pub fn next(&self) -> Option<Store>
+        ensures which { result ≡ next_store self.now }
+        ensures within { IfSome result (λ s. s.word < words_for self.now.capacity) }
+        ensures may { (l : Latch) → Pictures self.now l → MatchOption result (l.hand ≡ None) (λ s. (h : Hand) × (l.hand ≡ Some h) × MayStep self.now.capacity l h s) }
+    {
+        self.plan.next()
+    }
+
+    /// The store that [`next`](WriterCore::next) told was made.
+    pub fn did(&mut self)
+        requires { IsSome (next_store self.old) }
+        ensures left { length self.new.left + 1 ≡ length self.old.left }
+        ensures stepped { (s : Store) → next_store self.old ≡ Some s → self.new ≡ stepped_writer self.old s }
+        ensures pictures { (l : Latch) (h : Hand) (s : Store) → Pictures self.old l → l.hand ≡ Some h → next_store self.old ≡ Some s → Pictures self.new (stepped l h s) }
+    {
+        self.step_on();
+    }
+
+    /// Leaves the next store behind, and keeps the sequence that it makes.
+    fn step_on(&mut self)
+        requires { IsSome (next_store self.old) }
+        ensures left { length self.new.left + 1 ≡ length self.old.left }
+        ensures stepped { (s : Store) → next_store self.old ≡ Some s → self.new ≡ stepped_writer self.old s }
+    {
+        if let Some(store) = self.plan.next() {
+            if store.word == 0 {
+                self.sequence = store.value;
+            }
+        }
+        self.plan.advance();
+    }
+
+    /// How many stores are left until the update in hand is at its end; 0 where none is in hand.
+    pub fn remaining(&self) -> u64
+        ensures count { result ≡ length self.now.left }
+        ensures left { (l : Latch) (h : Hand) → Pictures self.now l → l.hand ≡ Some h → h.left ≡ result }
+    {
+        self.plan.remaining()
+    }
+
+    /// The generation of the sequence.
+    pub fn generation(&self) -> u64
+        ensures is { result ≡ gen self.now.sequence }
+        ensures pictured { (l : Latch) → Pictures self.now l → result ≡ gen (at l.words 0) }
+    {
+        generation(self.sequence)
+    }
+
+    /// Whether an item of the table after all accepted updates has this first word.
+    pub fn holds(&self, a: u64) -> bool
+        ensures is { result ≡ has a self.now.table }
+        ensures pictured { (l : Latch) → Pictures self.now l → result ≡ has a l.table }
+    {
+        self.zero.has(a)
+    }
+
+    /// How many items the table after all accepted updates has.
+    pub fn len(&self) -> u32
+        ensures is { result ≡ length self.now.table }
+        ensures pictured { (l : Latch) → Pictures self.now l → result ≡ length l.table }
+    {
+        self.zero.len()
+    }
+
+    /// Whether the table after all accepted updates has no item.
+    pub fn is_empty(&self) -> bool
+        ensures { IsTrue result ↔ (self.now.table ≡ []) }
+    {
+        self.len() == 0
+    }
+
+    /// The number of nodes and the greatest sequence.
+    pub fn layout(&self) -> Layout
+        ensures capacity { capacity_of result ≡ self.now.capacity }
+        ensures limit { limit_of result ≡ self.now.limit }
+    {
+        self.layout
+    }
+}
+
+/// Makes room for an update of one item: in the pictures of both copies, in a list of stores for each, which it hands out, and
+/// in the plan.
+fn reserve<O: TreeOrder>(
+    zero: &mut Shape<O>,
+    one: &mut Shape<O>,
+    plan: &mut Plan,
+) -> Result<(Vec<Store>, Vec<Store>), Refusal>
+    requires { plan.old.left ≡ [] }
+    ensures zero_kept { zero.new ≡ record zero.old { room = zero.new.room } }
+    ensures one_kept { one.new ≡ record one.old { room = one.new.room } }
+    ensures plan_kept { plan.new.left ≡ [] }
+    ensures zero_room { IfOk result (λ lists. (0 < zero.new.room) × (lists.0.items ≡ []) × (vec_len lists.0 ≡ 0) × (STORES ≤ vec_capacity lists.0)) }
+    ensures one_room { IfOk result (λ lists. (0 < one.new.room) × (lists.1.items ≡ []) × (vec_len lists.1 ≡ 0) × (STORES ≤ vec_capacity lists.1)) }
+    ensures plan_room { IfOk result (λ lists. 2 * STORES + 2 ≤ plan.new.room) }
+    ensures refusal { IfErr result (λ e. e ≡ Refusal.OutOfMemory) }
+    ensures sound { IsPicture O.order zero.new }
+{
+    let first = zero.reserve(1)?;
+    let second = one.reserve(1)?;
+    plan.reserve(2 * STORES + 2)?;
+    Ok((first, second))
+}

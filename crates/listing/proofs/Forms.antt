@@ -1,0 +1,108 @@
+-- Words of another number than that of a form are not of this form.
+use Rattle.std.proofs.Common.{cond, ◌≡◌, ℕ, ◌<◌, ◌≤◌, Bool, true, false, List, [], ◌∷◌, length, map, None, Option, refl, ap, arith, Bor, slice_index_or}
+use Rattle.std.specs.Str.{bytes_eq}
+use Rattle.std.specs.Prelude.{codes}
+use Rattle.listing.specs.Header.{header_of_words, header_with}
+use Rattle.listing.specs.Numbers.{number_of}
+use Rattle.listing.specs.Commands.{command_of, insert_of, erase_of, write_of, start_of, read_of}
+
+abbrev pub Words : Type 0
+Words = List (Bor (List ℕ))
+
+pub insert_short : (words : Words) → length words < 3 → insert_of (map (λ w. w.now) words) ≡ None
+insert_short [] few = refl
+insert_short (a ∷ []) few = refl
+insert_short (a ∷ b ∷ []) few = refl
+insert_short (a ∷ b ∷ c ∷ words) few = absurd (omega arith)
+
+pub insert_long : (words : Words) → 4 ≤ length words → insert_of (map (λ w. w.now) words) ≡ None
+insert_long [] many = refl
+insert_long (a ∷ []) many = refl
+insert_long (a ∷ b ∷ []) many = refl
+insert_long (a ∷ b ∷ c ∷ []) many = absurd (omega arith)
+insert_long (a ∷ b ∷ c ∷ d ∷ words) many = refl
+
+pub erase_long : (words : Words) → 2 ≤ length words → erase_of (map (λ w. w.now) words) ≡ None
+erase_long [] many = refl
+erase_long (a ∷ []) many = absurd (omega arith)
+erase_long (a ∷ b ∷ words) many = refl
+
+pub write_long : (words : Words) → 2 ≤ length words → write_of (map (λ w. w.now) words) ≡ None
+write_long [] many = refl
+write_long (a ∷ []) many = absurd (omega arith)
+write_long (a ∷ b ∷ words) many = refl
+
+pub start_short : (words : Words) → length words < 2 → start_of (map (λ w. w.now) words) ≡ None
+start_short [] few = refl
+start_short (a ∷ []) few = refl
+start_short (a ∷ b ∷ words) few = absurd (omega arith)
+
+pub start_long : (words : Words) → 3 ≤ length words → start_of (map (λ w. w.now) words) ≡ None
+start_long [] many = refl
+start_long (a ∷ []) many = refl
+start_long (a ∷ b ∷ []) many = absurd (omega arith)
+start_long (a ∷ b ∷ c ∷ words) many = refl
+
+pub read_short : (words : Words) → length words < 2 → read_of (map (λ w. w.now) words) ≡ None
+read_short [] few = refl
+read_short (a ∷ []) few = refl
+read_short (a ∷ b ∷ words) few = absurd (omega arith)
+
+pub read_long : (words : Words) → 3 ≤ length words → read_of (map (λ w. w.now) words) ≡ None
+read_long [] many = refl
+read_long (a ∷ []) many = refl
+read_long (a ∷ b ∷ []) many = absurd (omega arith)
+read_long (a ∷ b ∷ c ∷ words) many = refl
+
+-- a choice between two that are nothing is nothing
+nothing : {C : Type 0} → (b : Bool) (x y : Option C) → x ≡ None → y ≡ None → cond b x y ≡ None
+nothing true x y p q = p
+nothing false x y p q = q
+
+pub command_long : (words : List (List ℕ)) → 5 < length words → command_of words ≡ None
+command_long [] many = refl
+command_long (a ∷ []) many = absurd (omega arith)
+command_long (a ∷ b ∷ []) many = absurd (omega arith)
+command_long (a ∷ b ∷ c ∷ []) many = absurd (omega arith)
+command_long (a ∷ b ∷ c ∷ d ∷ []) many = absurd (omega arith)
+command_long (word ∷ b ∷ c ∷ d ∷ e ∷ words) many =
+    nothing (bytes_eq word (codes "insert")) _ _ refl
+    (nothing (bytes_eq word (codes "erase")) _ _ refl
+    (nothing (bytes_eq word (codes "write")) _ _ refl
+    (nothing (bytes_eq word (codes "start")) _ _ refl
+    (nothing (bytes_eq word (codes "read")) _ _ refl refl))))
+
+pub header_short : (words : Words) → length words < 4 → header_of_words (map (λ w. w.now) words) ≡ None
+header_short [] few = refl
+header_short (a ∷ []) few = refl
+header_short (a ∷ b ∷ []) few = refl
+header_short (a ∷ b ∷ c ∷ []) few = refl
+header_short (a ∷ b ∷ c ∷ d ∷ words) few = absurd (omega arith)
+
+pub header_long : (words : Words) → 6 ≤ length words → header_of_words (map (λ w. w.now) words) ≡ None
+header_long [] many = absurd (omega arith)
+header_long (a ∷ []) many = absurd (omega arith)
+header_long (a ∷ b ∷ []) many = absurd (omega arith)
+header_long (a ∷ b ∷ c ∷ []) many = absurd (omega arith)
+header_long (a ∷ b ∷ c ∷ d ∷ []) many = absurd (omega arith)
+header_long (a ∷ b ∷ c ∷ d ∷ e ∷ []) many = absurd (omega arith)
+header_long (a ∷ b ∷ c ∷ d ∷ e ∷ f ∷ words) many = refl
+
+pub header_too_long : (words : List (List ℕ)) → 5 < length words → header_of_words words ≡ None
+header_too_long [] many = absurd (omega arith)
+header_too_long (a ∷ []) many = absurd (omega arith)
+header_too_long (a ∷ b ∷ []) many = absurd (omega arith)
+header_too_long (a ∷ b ∷ c ∷ []) many = absurd (omega arith)
+header_too_long (a ∷ b ∷ c ∷ d ∷ []) many = absurd (omega arith)
+header_too_long (a ∷ b ∷ c ∷ d ∷ e ∷ []) many = absurd (omega arith)
+header_too_long (a ∷ b ∷ c ∷ d ∷ e ∷ f ∷ words) many = refl
+
+pub header_five : (words : Words) (d : Bor (List ℕ)) (start : Option ℕ) → start ≡ number_of (slice_index_or words 4 d).now → 5 ≤ length words → length words < 6
+    → header_with (slice_index_or words 0 d).now (slice_index_or words 1 d).now (slice_index_or words 2 d).now (slice_index_or words 3 d).now start ≡ header_of_words (map (λ w. w.now) words)
+header_five [] d start e many few = absurd (omega arith)
+header_five (a ∷ []) d start e many few = absurd (omega arith)
+header_five (a ∷ b ∷ []) d start e many few = absurd (omega arith)
+header_five (a ∷ b ∷ c ∷ []) d start e many few = absurd (omega arith)
+header_five (a ∷ b ∷ c ∷ f ∷ []) d start e many few = absurd (omega arith)
+header_five (a ∷ b ∷ c ∷ f ∷ g ∷ []) d start e many few = ap (header_with a.now b.now c.now f.now) e
+header_five (a ∷ b ∷ c ∷ f ∷ g ∷ h ∷ words) d start e many few = absurd (omega arith)

@@ -1,0 +1,10 @@
+use Rattle.std.proofs.Common.{◌≡◌, ◌+◌, ap, ◌∙◌, arith, refl}
+use Rattle.std.specs.Char.{digit_value}
+use Rattle.listing.specs.declared.numbers.TheConstants.{DIGITS}
+use Rattle.listing.proofs.Digits.{digit_at}
+use Rattle.listing.proofs.numbers.digit_of.Goals as goal
+
+pub returns : goal.returns
+returns c =
+    let place : 48 + c.from.result ≡ c.args.byte = omega arith in
+    c.from-2.ensures ∙ digit_at DIGITS 48 c.from.result refl (omega arith) ∙ ap digit_value place

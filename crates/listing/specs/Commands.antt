@@ -1,0 +1,74 @@
+-- The commands that lines of a trace are.
+use Rattle.std.specs.Prelude.{ℕ, ◌==◌, nat_lt, Bool, true, List, [], ◌∷◌, length, codes, Option, Some, None, if◌then◌else◌}
+use Rattle.std.specs.Option.{option_map, option_map_or}
+use Rattle.std.specs.Str.{bytes_eq}
+use Rattle.latch_core.specs.declared.updates.Update.TheVariants.{Insert, Erase}
+use Rattle.latch_steps.specs.declared.commands.Command.{Command}
+use Rattle.latch_steps.specs.declared.commands.Command.TheVariants.{Begin, Write, WriteFlip, WriteEnd, Start, Read}
+use Rattle.listing.specs.declared.commands.Said.{Said}
+use Rattle.listing.specs.declared.commands.Said.TheVariants.{Nothing, One, Bad}
+use Rattle.listing.specs.Lines.{longest_line, words_of}
+use Rattle.listing.specs.Numbers.{number_of, short_number_of, count_of}
+
+-- `insert LO HI TAG`
+abbrev pub insert_with : Option ℕ → Option ℕ → Option ℕ → Option (Command ℕ)
+insert_with (Some low) (Some high) (Some tag) = Some (Begin (Insert (record { a = low; b = high; tag = tag })))
+insert_with _ _ _ = None
+
+abbrev pub insert_of : List (List ℕ) → Option (Command ℕ)
+insert_of (low ∷ high ∷ tag ∷ []) = insert_with (number_of low) (number_of high) (number_of tag)
+insert_of _ = None
+
+-- `erase LO`
+abbrev pub erase_of : List (List ℕ) → Option (Command ℕ)
+erase_of (low ∷ []) = option_map (λ a. Begin (Erase a)) (number_of low)
+erase_of _ = None
+
+-- `write flip`, `write end` and `write K`
+abbrev pub write_of : List (List ℕ) → Option (Command ℕ)
+write_of (steps ∷ []) =
+    if bytes_eq steps (codes "flip") then Some WriteFlip
+    else if bytes_eq steps (codes "end") then Some WriteEnd
+    else option_map (λ k. Write k) (count_of steps)
+write_of _ = None
+
+-- `start R ADDR`
+abbrev pub start_with : Option ℕ → Option ℕ → Option (Command ℕ)
+start_with (Some reader) (Some key) = Some (Start reader key)
+start_with _ _ = None
+
+abbrev pub start_of : List (List ℕ) → Option (Command ℕ)
+start_of (reader ∷ key ∷ []) = start_with (short_number_of reader) (number_of key)
+start_of _ = None
+
+-- `read R K`
+abbrev pub read_with : Option ℕ → Option ℕ → Option (Command ℕ)
+read_with (Some reader) (Some loads) = Some (Read reader loads)
+read_with _ _ = None
+
+abbrev pub read_of : List (List ℕ) → Option (Command ℕ)
+read_of (reader ∷ loads ∷ []) = read_with (short_number_of reader) (count_of loads)
+read_of _ = None
+
+-- the command that the words of a line are, if they are one
+abbrev pub command_of : List (List ℕ) → Option (Command ℕ)
+command_of [] = None
+command_of (word ∷ words) =
+    if bytes_eq word (codes "insert") then insert_of words
+    else if bytes_eq word (codes "erase") then erase_of words
+    else if bytes_eq word (codes "write") then write_of words
+    else if bytes_eq word (codes "start") then start_of words
+    else if bytes_eq word (codes "read") then read_of words
+    else None
+
+-- nothing, or a comment: a line whose first byte is #
+abbrev pub is_passed_over : List ℕ → Bool
+is_passed_over [] = true
+is_passed_over (b ∷ line) = b == 35
+
+-- what a line behind the header says
+abbrev pub said_of : List ℕ → Said
+said_of line =
+    if nat_lt longest_line (length line) then Bad
+    else if is_passed_over line then Nothing
+    else option_map_or (λ c. One c) (command_of (words_of line)) Bad

@@ -1,0 +1,6 @@
+pub mod Lines
+pub mod Numbers
+pub mod Commands
+pub mod Header
+pub mod Trace
+pub mod Understood

@@ -1,0 +1,73 @@
+//! The numbers that words are.
+ghost use Rattle.std.specs.Prelude.{◌≡◌, ◌≤◌};
+ghost use Rattle.std.specs.Char.{digit_value};
+ghost use Rattle.listing.specs.Numbers.{numeral, number_of, short_number_of, count_of};
+
+/// The number that a word is: 1 to 20 decimal digits, or `0x` and 1 to 16 hexadecimal digits of
+/// either case, with a value of at most the greatest `u64`. Leading zeros are allowed.
+pub fn number(word: &[u8]) -> Option<u64>
+    ensures { result ≡ number_of word.now }
+{
+    if word.starts_with(b"0x") {
+        digits(&word[2..], 16, 16)
+    } else {
+        digits(word, 10, 20)
+    }
+}
+
+/// The number that a word is, where it fits 32 bits.
+pub(crate) fn short_number(word: &[u8]) -> Option<u32>
+    ensures { result ≡ short_number_of word.now }
+{
+    u32::try_from(number(word)?).ok()
+}
+
+/// The number from 1 on that a word is, where it fits 32 bits.
+pub(crate) fn count(word: &[u8]) -> Option<u32>
+    ensures { result ≡ count_of word.now }
+{
+    match short_number(word) {
+        Some(0) | None => None,
+        Some(count) => Some(count),
+    }
+}
+
+/// The number that 1 to `most` digits write, where it is below 2 ^ 64.
+fn digits(text: &[u8], radix: u64, most: usize) -> Option<u64>
+    requires { 2 ≤ radix }
+    ensures { result ≡ numeral radix most text.now }
+{
+    if text.is_empty() || text.len() > most {
+        return None;
+    }
+    let mut value = 0u64;
+    for byte in text {
+        let digit = digit_of(*byte);
+        if digit >= radix {
+            return None;
+        }
+        value = value.checked_mul(radix)?.checked_add(digit)?;
+    }
+    Some(value)
+}
+
+/// The digits that the bytes from `0` to `z` are, with 36 for a byte that is none.
+static DIGITS: [u8; 75] = [
+    0, 1, 2, 3, 4, 5, 6, 7, 8, 9, 36, 36, 36, 36, 36, 36, 36, 10, 11, 12, 13, 14, 15, 16, 17, 18,
+    19, 20, 21, 22, 23, 24, 25, 26, 27, 28, 29, 30, 31, 32, 33, 34, 35, 36, 36, 36, 36, 36, 36, 10,
+    11, 12, 13, 14, 15, 16, 17, 18, 19, 20, 21, 22, 23, 24, 25, 26, 27, 28, 29, 30, 31, 32, 33, 34,
+    35,
+];
+
+/// The digit that a byte is in a radix of up to 36, or 36.
+///
+/// A table costs less than comparisons, since the digits and letters of an address come in no order
+/// that a processor could guess.
+fn digit_of(byte: u8) -> u64
+    ensures { result ≡ digit_value byte }
+{
+    if byte < b'0' || byte > b'z' {
+        return 36;
+    }
+    u64::from(DIGITS[usize::from(byte - b'0')])
+}

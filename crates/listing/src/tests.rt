@@ -1,0 +1,155 @@
+use crate::{
+    Header, LONGEST_LINE, LineFault, ReadFault, TraceFile, number, read_trace, read_whole,
+};
+use devices::{Counted, FailAt};
+use latch_core::Update;
+use latch_steps::Command;
+use order_laws::Item;
+use std::alloc::{AllocError, Global};
+use std::test::Fail;
+
+fn trace(alloc: Global, text: &[u8]) -> Result<TraceFile, LineFault> {
+    read_trace(alloc, &mut Counted::new(text))
+}
+
+/// A text of a header and one line of this many bytes, of which the first is given.
+fn text_with_line(alloc: Global, first: u8, length: usize) -> Result<Vec<u8>, AllocError> {
+    let mut text = Vec::from_slice(alloc, b"latchtrace 1 halfopen 4\n")?;
+    text.push(first)?;
+    for _ in 1..length {
+        text.push(b'0')?;
+    }
+    text.push(b'\n')?;
+    Ok(text)
+}
+
+#[test]
+fn all_commands_are_read(rt: HostRuntime) -> Result<(), Fail> {
+    let text = b"latchtrace 1 closed 0x10 4294967292\n\
+        # a comment  with two blanks\n\
+        insert 0x1000 8191 7\n\
+        \n\
+        write 4294967295\n\
+        write flip\n\
+        write end\n\
+        start 0 0xFFFFffffFFFFffff\n\
+        read 4294967295 0x0000000000000001\n\
+        #\n\
+        erase 00000000000000000016";
+    let trace = trace(rt.alloc(), text)?;
+    let header = Header {
+        version: 1,
+        closed: true,
+        capacity: 16,
+        start: 4294967292,
+    };
+    assert_eq!(rt; trace.header, header);
+    let item = Item {
+        a: 4096,
+        b: 8191,
+        tag: 7,
+    };
+    let commands = [
+        Command::Begin(Update::Insert(item)),
+        Command::Write(4294967295),
+        Command::WriteFlip,
+        Command::WriteEnd,
+        Command::Start(0, u64::MAX),
+        Command::Read(4294967295, 1),
+        Command::Begin(Update::Erase(16)),
+    ];
+    assert_eq!(rt; trace.commands.as_slice(), commands.as_slice());
+    Ok(())
+}
+
+#[test]
+fn the_first_bad_line_is_named(rt: HostRuntime) {
+    let texts = [
+        (b"".as_slice(), 1),
+        (b"\n".as_slice(), 1),
+        (b"latchtrace 1 halfopen".as_slice(), 1),
+        (b"latchtrace 1 halfopen 4294967296".as_slice(), 1),
+        (b"latchtrace 1 halfopen 4 0 0".as_slice(), 1),
+        (b"latchtrace 2 halfopen 4".as_slice(), 1),
+        (b"latchtrace 1 halfopen 4\nwrite 0".as_slice(), 2),
+        (b"latchtrace 1 halfopen 4\n# x\nstart  1 0x10".as_slice(), 3),
+        (
+            b"latchtrace 1 halfopen 4\nstart 1 0x10\nread 1 4294967296".as_slice(),
+            3,
+        ),
+        (
+            b"latchtrace 1 halfopen 4\nstart 1 18446744073709551616".as_slice(),
+            2,
+        ),
+        (
+            b"latchtrace 1 halfopen 4\nerase 0x00000000000000001".as_slice(),
+            2,
+        ),
+        (
+            b"latchtrace 1 halfopen 4\nerase 000000000000000000016".as_slice(),
+            2,
+        ),
+        (b"latchtrace 1 halfopen 4\nwrite end\r\n".as_slice(), 2),
+        (
+            b"latchtrace 1 halfopen 4\n\nwrite end \nwrite 0\n".as_slice(),
+            3,
+        ),
+        (b"latchtrace 1 halfopen 4\n #\n".as_slice(), 2),
+    ];
+    for (text, line) in texts {
+        let answer = trace(rt.alloc(), text).map(|trace| trace.commands.len());
+        assert_eq!(rt; answer, Err(LineFault::BadLine(line)), "in {text:?}");
+    }
+}
+
+#[test]
+fn a_capacity_that_no_table_has_is_no_bad_line(rt: HostRuntime) -> Result<(), Fail> {
+    let trace = trace(rt.alloc(), b"latchtrace 1 halfopen 4294967295")?;
+    assert_eq!(rt; trace.header.capacity, 4294967295);
+    assert_eq!(rt; trace.header.start, 0);
+    assert!(rt; trace.commands.is_empty());
+    Ok(())
+}
+
+#[test]
+fn a_line_has_at_most_4096_bytes(rt: HostRuntime) -> Result<(), Fail> {
+    let alloc = rt.alloc();
+    assert!(rt; trace(alloc, &text_with_line(alloc, b'#', LONGEST_LINE)?).is_ok());
+    let longer = text_with_line(alloc, b'#', LONGEST_LINE + 1)?;
+    let answer = trace(alloc, &longer).map(|trace| trace.commands.len());
+    assert_eq!(rt; answer, Err(LineFault::BadLine(2)));
+    Ok(())
+}
+
+#[test]
+fn each_failing_call_is_told(rt: HostRuntime) -> Result<(), Fail> {
+    let alloc = rt.alloc();
+    let mut text = Vec::from_slice(alloc, b"latchtrace 1 halfopen 4\n")?;
+    for _ in 0..15000 {
+        text.extend_from_slice(b"write end\n")?;
+    }
+    for call in 1..=4 {
+        let mut reader = Counted::new(FailAt::new(text.as_slice(), call));
+        let answer = read_trace(alloc, &mut reader).map(|trace| trace.commands.len());
+        assert_eq!(rt; answer, Err(LineFault::Read), "at call {call}");
+        assert_eq!(rt; reader.failures(), 1);
+    }
+    let mut reader = Counted::new(FailAt::new(text.as_slice(), 5));
+    let answer = read_trace(alloc, &mut reader).map(|trace| trace.commands.len());
+    assert_eq!(rt; answer, Ok(15000));
+    assert_eq!(rt; reader.failures(), 0);
+    Ok(())
+}
+
+#[test]
+fn input_is_read_whole(rt: HostRuntime) -> Result<(), Fail> {
+    let mut reader = Counted::new(b"one\ntwo".as_slice());
+    let bytes = read_whole(rt.alloc(), &mut reader).map_err(|fault| fault == ReadFault::Read);
+    assert_eq!(rt; bytes?.as_slice(), b"one\ntwo".as_slice());
+    assert_eq!(rt; number(b"0xAbCdEf0123456789"), Some(0xabcdef0123456789));
+    assert_eq!(rt; number(b"18446744073709551615"), Some(u64::MAX));
+    assert_eq!(rt; number(b"0x"), None);
+    assert_eq!(rt; number(b"0X10"), None);
+    assert_eq!(rt; number(b"+1"), None);
+    Ok(())
+}

@@ -1,0 +1,5 @@
+pub mod WordLemmas
+pub mod StoreLemmas
+pub mod HoldsLemmas
+pub mod ReachLemmas
+pub mod HeldLemmas

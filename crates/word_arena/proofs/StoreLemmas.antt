@@ -1,0 +1,63 @@
+-- What lists of stores change and what they leave.
+use Rattle.std.proofs.Common.{◌≡◌, ◌≢◌, ℕ, ◌<◌, List, [], ◌∷◌, ◌++◌, length, refl, sym, ◌∙◌, ap, subst, ⊎_elim, arith, length-set, get_or-set_other, get_or-set_same}
+use Rattle.std.specs.Prelude.{slice_set}
+use Rattle.std.specs.List.{AllByRecursion}
+use Rattle.std.proofs.lemmas.Bool.{cases_eq, cases_lt}
+use Rattle.std.proofs.lemmas.List.{set_past}
+use Rattle.word_arena.specs.declared.stores.Store.{Store}
+use Rattle.word_arena.specs.Words.{at}
+use Rattle.word_arena.specs.Stores.{words_after, words_after_all}
+
+-- two memories agree on the words of a kind
+abbrev pub Agree : (ℕ → Type 0) → List ℕ → List ℕ → Type 0
+Agree P m m' = (w : ℕ) → P w → at m' w ≡ at m w
+
+pub length_after : (m : List ℕ) (ss : List Store) → length (words_after_all m ss) ≡ length m
+length_after m [] = refl
+length_after m (s ∷ ss) = length_after (words_after m s) ss ∙ length-set m s.word s.value
+
+pub after_append : (m : List ℕ) (xs ys : List Store) → words_after_all m (xs ++ ys) ≡ words_after_all (words_after_all m xs) ys
+after_append m [] ys = refl
+after_append m (x ∷ xs) ys = after_append (words_after m x) xs ys
+
+-- a store gives its word its value, and no other
+pub at_stored : (m : List ℕ) (i v : ℕ) → i < length m → at (slice_set m i v) i ≡ v
+at_stored m i v lt = get_or-set_same m i v 0 lt
+
+pub at_other : (m : List ℕ) (i v w : ℕ) → w ≢ i → at (slice_set m i v) w ≡ at m w
+at_other m i v w ne = get_or-set_other m i w v 0 ne
+
+-- a store of what the word holds changes nothing that is read
+pub at_same : (m : List ℕ) (i v w : ℕ) → at m i ≡ v → at (slice_set m i v) w ≡ at m w
+at_same m i v w e =
+    ⊎_elim
+    (λ same.
+    ⊎_elim
+    (λ lt. ap (at (slice_set m i v)) same ∙ at_stored m i v lt ∙ sym e ∙ sym (ap (at m) same))
+    (λ ge. ap (λ l. at l w) (set_past m i v ge))
+    (cases_lt i (length m)))
+    (λ ne. at_other m i v w ne)
+    (cases_eq w i)
+
+-- stores elsewhere change nothing; the same stores on words that agree leave words that agree
+pub untouched : (P : ℕ → Type 0) (m : List ℕ) (ss : List Store) → AllByRecursion (λ (s : Store). P s.word → ⊥) ss → Agree P m (words_after_all m ss)
+untouched P m [] h w p = refl
+untouched P m (s ∷ ss) h w p =
+    untouched P (words_after m s) ss h.1 w p ∙ get_or-set_other m s.word w s.value 0 (λ e. h.0 (subst P e p))
+
+pub same_store : (m m' : List ℕ) (i v w : ℕ) → length m' ≡ length m → at m' w ≡ at m w → at (slice_set m' i v) w ≡ at (slice_set m i v) w
+same_store m m' i v w el e =
+    ⊎_elim
+    (λ same.
+    ⊎_elim
+    (λ lt. ap (at (slice_set m' i v)) same ∙ at_stored m' i v (omega arith) ∙ sym (at_stored m i v lt) ∙ ap (at (slice_set m i v)) (sym same))
+    (λ ge. ap (λ l. at l w) (set_past m' i v (omega arith)) ∙ e ∙ sym (ap (λ l. at l w) (set_past m i v ge)))
+    (cases_lt i (length m)))
+    (λ ne. at_other m' i v w ne ∙ e ∙ sym (at_other m i v w ne))
+    (cases_eq w i)
+
+pub agree_after : (P : ℕ → Type 0) (m m' : List ℕ) (ss : List Store) → length m' ≡ length m → Agree P m m' → Agree P (words_after_all m ss) (words_after_all m' ss)
+agree_after P m m' [] el h = h
+agree_after P m m' (s ∷ ss) el h =
+    agree_after P (words_after m s) (words_after m' s) ss (length-set m' s.word s.value ∙ el ∙ sym (length-set m s.word s.value))
+    (λ w p. same_store m m' s.word s.value w el (h w p))
