@@ -43,16 +43,18 @@ module _ {O K : Type 0} (o : Order K) (n : ℕ) (c : Lookup O K) (l : LookupInHa
       let values = l.values ++ value ∷ [] in
       let next : LookupInHand K = record { key = l.key; first = l.first; loads = more l.loads; tries = l.tries; values = values } in
       let asks = core_loads o core in
-      let left : rest_after (attempt o n l.key) values ≡ Some (Load asks.0 asks.1) = left_after core leads.0 leads.1 values leads.2 ∙ ap Some asks.2 in
-      (next,
-       record { capacity = leads.0 ∙ is.capacity; key = leads.1 ∙ is.key; leads = leads.2; first = is.first; loads = ex ∙ ap more is.loads; tries = is.tries },
-       λ w same. gets_reads (Some (Load asks.0 asks.1)) left w (with_lookups w (insert w.lookups r next)) r Loaded same (refl, refl))
+      let left : rest_after (attempt o n l.key) values ≡ Some (Load asks.0 asks.1) = left_after core leads.0 leads.1 values leads.2 ∙ ap Some asks.2 in (
+        next,
+        record { capacity = leads.0 ∙ is.capacity; key = leads.1 ∙ is.key; leads = leads.2; first = is.first; loads = ex ∙ ap more is.loads; tries = is.tries },
+        λ w same. gets_reads (Some (Load asks.0 asks.1)) left w (with_lookups w (insert w.lookups r next)) r Loaded same (refl, refl),
+      )
 
   pub retries : (core : ReaderCore O K) (x y r last : ℕ) → LeadsOn o (capacity_of_core c.core) (key_of_core c.core) (l.values ++ value ∷ []) (Retrying core) → x ≡ more c.loads → y ≡ more c.tries → LoadsTo o n words r last l (Retries (record { core = core; first = c.first; loads = x; tries = y }))
   retries core x y r last leads ex ey =
       let values = l.values ++ value ∷ [] in
       let next : LookupInHand K = record { key = l.key; first = l.first; loads = more l.loads; tries = more l.tries; values = [] } in
-      let left : rest_after (attempt o n l.key) values ≡ Some (Ends Again) = ap (λ a. rest_after a values) (sym same_attempt) ∙ leads.2 in
-      (next,
-       record { capacity = leads.0 ∙ is.capacity; key = leads.1 ∙ is.key; leads = leads.3; first = is.first; loads = ex ∙ ap more is.loads; tries = ey ∙ ap more is.tries },
-       λ w same. gets_reads (Some (Ends Again)) left w (with_lookups w (insert w.lookups r next)) r Retried same (refl, refl))
+      let left : rest_after (attempt o n l.key) values ≡ Some (Ends Again) = ap (λ a. rest_after a values) (sym same_attempt) ∙ leads.2 in (
+        next,
+        record { capacity = leads.0 ∙ is.capacity; key = leads.1 ∙ is.key; leads = leads.3; first = is.first; loads = ex ∙ ap more is.loads; tries = ey ∙ ap more is.tries },
+        λ w same. gets_reads (Some (Ends Again)) left w (with_lookups w (insert w.lookups r next)) r Retried same (refl, refl),
+      )

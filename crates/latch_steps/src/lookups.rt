@@ -1,11 +1,11 @@
 //! A lookup in hand, and what one load makes of it.
 
 ghost use Rattle.std.specs.Prelude.{◌≡◌, ℕ};
-ghost use Rattle.word_arena.specs.Words.{at};
 ghost use Rattle.word_arena.specs.Layouts.{capacity_of};
 ghost use Rattle.latch_steps.specs.Runs.{LookupInHand};
 
 use crate::replies::Returned;
+use crate::words::word_at;
 use latch_core::{ReaderCore, Taken};
 use order_laws::TreeOrder;
 use word_arena::Layout;
@@ -27,13 +27,6 @@ pub(crate) enum Loaded<O: TreeOrder> {
     Retrying(Lookup<O>),
     /// It is at its end.
     Returned(Returned<O::Key>),
-}
-
-/// What a word holds; 0 past the last.
-fn word_at(words: &[u64], word: usize) -> u64
-    ensures { result ≡ at words.now word }
-{
-    if word < words.len() { words[word] } else { 0 }
 }
 
 impl<O: TreeOrder> Lookup<O> {
