@@ -23,7 +23,7 @@ returns-clause-after g c =
     let ok = c.in_ok-writer.ensures in
     record {
       moment = opening (capacity_of c.args.l) c.args.start;
-      shows =    record {
+      shows = record {
         capacity = ap (λ (v : WriterView). v.capacity) ok.opened;
         limit = ap (λ (v : WriterView). v.limit) ok.opened;
         words = c.in-Ok.ensures;
