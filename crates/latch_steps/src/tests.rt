@@ -280,7 +280,7 @@ fn interrupts(rt: &impl Abort, alloc: Global, seed: u64, start: u64) -> Result<(
             notes.push(Note::Refused(why))?;
         }
     }
-    assert!(rt; 50 < returned);
+    assert!(rt; 20 < returned);
     let trace = run::<HalfOpen>(alloc, Layout::new(8)?, start, events.as_slice())?;
     assert!(rt; trace.events.as_slice() == events.as_slice());
     assert!(rt; trace.notes.as_slice() == notes.as_slice());
