@@ -6,5 +6,6 @@ mod Patient
 mod Loading
 mod Showing
 mod Recording
+mod HeldLoads
 mod Settling
 mod Searching

@@ -31,8 +31,8 @@ use Rattle.latch_steps.specs.declared.lookups.Loaded.TheVariants.{Going, Retryin
 use Rattle.latch_steps.specs.declared.worlds.World.{World}
 use Rattle.latch_steps.specs.Runs.{LookupInHand, Moment, more, counted, with_latch, with_lookups, Begins, Writes, Starts, Reads}
 use Rattle.latch_steps.specs.Expands.{writes_left}
-use Rattle.latch_steps.specs.Lookups.{IsLookupOf, LoadsTo, started}
-use Rattle.latch_steps.specs.Shows.{IsInHand, AreInHand, Shows, Does, GivesUp, MayDo, IsAtRest}
+use Rattle.latch_steps.specs.Lookups.{IsInHand, IsLookupOf, LoadsTo, started}
+use Rattle.latch_steps.specs.Shows.{AreInHand, Shows, Does, GivesUp, MayDo, IsAtRest}
 
 -- the lookup in hand that is shown
 module _ {O K : Type 0} (o : Order K) (n : ℕ) where

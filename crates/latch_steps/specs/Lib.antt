@@ -3,6 +3,7 @@ pub mod Safe
 pub mod Quiet
 pub mod Expands
 pub mod Lookups
+pub mod Held
 pub mod Shows
 pub mod Found
 pub mod GivesUp

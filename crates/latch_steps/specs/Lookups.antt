@@ -1,5 +1,5 @@
 -- What a lookup of the code stands for, and what one load of it does.
-use Rattle.std.specs.Prelude.{◌≡◌, ℕ, List, [], Some}
+use Rattle.std.specs.Prelude.{◌≡◌, ℕ, List, [], Option, Some, None}
 use Rattle.std.specs.FinMap.{insert, remove}
 use Rattle.order_laws.specs.Orders.{Order}
 use Rattle.latch_core.specs.Cores.{capacity_of_core, key_of_core, LeadsTo}
@@ -17,6 +17,12 @@ pub record IsLookupOf {O K : Type 0} (o : Order K) (n : ℕ) (c : Lookup O K) (l
   pub first : c.first ≡ l.first
   pub loads : c.loads ≡ l.loads
   pub tries : c.tries ≡ l.tries
+
+-- a reader has this lookup in hand, or none
+abbrev pub IsInHand : {O K : Type 0} → Order K → ℕ → Option (Lookup O K) → Option (LookupInHand K) → Type 0
+IsInHand o n None None = Unit {0}
+IsInHand o n (Some c) (Some l) = IsLookupOf o n c l
+IsInHand o n _ _ = ⊥
 
 -- a lookup that has loaded nothing
 abbrev pub started : {K : Type 0} → K → ℕ → LookupInHand K

@@ -15,17 +15,11 @@ use Rattle.latch_steps.specs.declared.replies.Reply.TheVariants.{Refused}
 use Rattle.latch_steps.specs.declared.lookups.Lookup.{Lookup}
 use Rattle.latch_steps.specs.declared.worlds.World.{World}
 use Rattle.latch_steps.specs.Runs.{LookupInHand, Moment, Step}
-use Rattle.latch_steps.specs.Lookups.{IsLookupOf}
+use Rattle.latch_steps.specs.Lookups.{IsInHand}
 
 -- the layout of a world
 abbrev pub layout_in : {O K : Type 0} → World O K → Layout
 layout_in c = c.layout
-
--- a reader has this lookup in hand, or none
-abbrev pub IsInHand : {O K : Type 0} → Order K → ℕ → Option (Lookup O K) → Option (LookupInHand K) → Type 0
-IsInHand o n None None = Unit {0}
-IsInHand o n (Some c) (Some l) = IsLookupOf o n c l
-IsInHand o n _ _ = ⊥
 
 -- each reader has the lookup in hand that the moment has
 abbrev pub AreInHand : {O K : Type 0} → Order K → ℕ → (ℕ → Option (Lookup O K)) → FinMap nat_cmp (LookupInHand K) → Type 0

@@ -1,13 +1,16 @@
 //! A lookup in hand, and what one load makes of it.
 
-ghost use Rattle.std.specs.Prelude.{◌≡◌, ℕ};
+ghost use Rattle.std.specs.Prelude.{◌≡◌, ℕ, Some, IfOk};
 ghost use Rattle.word_arena.specs.Layouts.{capacity_of};
-ghost use Rattle.latch_steps.specs.Runs.{LookupInHand};
+ghost use Rattle.latch_steps.specs.Runs.{LookupInHand, Moment};
+ghost use Rattle.std.specs.FinMap.{get};
 
+use crate::events::Event;
 use crate::replies::Returned;
 use crate::words::word_at;
 use latch_core::{ReaderCore, Taken};
 use order_laws::TreeOrder;
+use std::alloc::AllocError;
 use word_arena::Layout;
 
 /// A lookup in hand: the reader's core, the number of the event that started it, and the loads and attempts so far.
@@ -29,8 +32,17 @@ pub(crate) enum Loaded<O: TreeOrder> {
     Returned(Returned<O::Key>),
 }
 
+/// What some loads make of a lookup.
+pub(crate) enum Held<O: TreeOrder> {
+    /// It is in hand.
+    Going(Lookup<O>),
+    /// It is at its end.
+    Returned(Returned<O::Key>),
+}
+
 impl<O: TreeOrder> Lookup<O> {
-    ghost use Rattle.latch_steps.specs.Lookups.{IsLookupOf, LoadsTo, started};
+    ghost use Rattle.latch_steps.specs.Lookups.{IsInHand, IsLookupOf, LoadsTo, started};
+    ghost use Rattle.latch_steps.specs.Held.{LoadsOn};
 
     /// A lookup that has loaded nothing, begun by event number `first`.
     pub(crate) fn start(l: Layout, key: O::Key, first: u64) -> Self
@@ -42,6 +54,42 @@ impl<O: TreeOrder> Lookup<O> {
             loads: 0,
             tries: 1,
         }
+    }
+
+    /// The same lookup once more.
+    fn copy(&self) -> Self
+        ensures { result ≡ self.now }
+    {
+        Lookup {
+            core: self.core.copy(),
+            first: self.first,
+            loads: self.loads,
+            tries: self.tries,
+        }
+    }
+
+    /// Loads of the reader, at most so many and up to its return, after `events` events. `done` takes in each of them.
+    pub(crate) fn load_on(
+        &self,
+        words: &[u64],
+        reader: u32,
+        most: u32,
+        mut events: u64,
+        done: &mut Vec<Event<O::Key>>,
+    ) -> Result<(Held<O>, u64), AllocError>
+        ensures { IfOk result (λ p. (n limit : ℕ) (w : Moment O.Key) → w.latch.words ≡ words.now → IsInHand O.order n (Some self.now) (get w.lookups reader) → events ≡ w.events → LoadsOn O.order n limit w reader most done.old.items done.new.items p.0 p.1) }
+    {
+        let mut lookup = self.copy();
+        for _turn in 0..most {
+            done.push(Event::Read(reader))?;
+            events = events.saturating_add(1);
+            match lookup.load(words, reader, events) {
+                Loaded::Going(next) => lookup = next,
+                Loaded::Retrying(next) => lookup = next,
+                Loaded::Returned(returned) => return Ok((Held::Returned(returned), events)),
+            }
+        }
+        Ok((Held::Going(lookup), events))
     }
 
     /// One load of the reader, which is event number `last`.

@@ -1,0 +1,104 @@
+-- Loads of a lookup that is held apart.
+use Rattle.std.proofs.Common.{◌≡◌, ◌≢◌, ℕ, ◌+◌, ◌<◌, ◌≤◌, true, false, cond, List, [], ◌∷◌, ◌++◌, length, Option, Some, None, refl, sym, ◌∙◌, ap, subst, arith, length-append, append_assoc, append-nil}
+use Rattle.std.specs.Ordering.{nat_cmp, eq_by_cmp}
+use Rattle.std.specs.Cmp.{nat_cmp_total}
+use Rattle.std.specs.FinMap.{FinMap, get, insert, remove, get-remove}
+use Rattle.std.proofs.lemmas.Bool.Decides.{nat_tests}
+use Rattle.order_laws.specs.Orders.{Order}
+use Rattle.latch_steps.specs.declared.events.Event.{Event}
+use Rattle.latch_steps.specs.declared.events.Event.TheVariants.{Read}
+use Rattle.latch_steps.specs.declared.commands.Command.{Command}
+use Rattle.latch_steps.specs.declared.commands.Command.TheVariants.{Read as ToRead}
+use Rattle.latch_steps.specs.declared.replies.Returned.{Returned}
+use Rattle.latch_steps.specs.declared.replies.Reply.{Reply}
+use Rattle.latch_steps.specs.declared.replies.Reply.TheVariants.{Loaded, Retried, Returned as Gave}
+use Rattle.latch_steps.specs.declared.lookups.Lookup.{Lookup}
+use Rattle.latch_steps.specs.declared.lookups.Loaded.TheVariants.{Going, Retrying, Returned as Ended}
+use Rattle.latch_steps.specs.declared.lookups.Held.TheVariants.{Going as Holds, Returned as Ends}
+use Rattle.latch_steps.specs.Runs.{LookupInHand, Moment, more, with_lookups, Reads, Run, last_of, notes_of}
+use Rattle.latch_steps.specs.Expands.{Repeats}
+use Rattle.latch_steps.specs.Lookups.{IsInHand, IsLookupOf, LoadsTo}
+use Rattle.latch_steps.specs.Held.{IsHolding, LoadsOn}
+use Rattle.latch_steps.proofs.Undisturbed.{get_insert_same, get_insert_other, get_remove_other}
+use Rattle.latch_steps.proofs.Showing.{shown}
+use Rattle.latch_steps.proofs.Recording.{run_append, last_append, notes_append, Unended, unended_push, repeats_full, repeats_ended}
+
+get_remove_same : {X : Type 0} (m : FinMap nat_cmp X) (r : ℕ) → get (remove m r) r ≡ None
+get_remove_same m r = let same : eq_by_cmp nat_cmp r r ≡ true = grind (arith, nat_tests) in get-remove nat_cmp_total m r r ∙ ap (λ b. cond b None (get m r)) same
+
+-- loads so far, none of which returned
+pub record Loading {O K : Type 0} (o : Order K) (n limit : ℕ) (w : Moment K) (r : ℕ) (most turn : ℕ) (before now : List (Event K)) (c : Lookup O K) (count : ℕ) : Type 0 where
+  pub es : List (Event K)
+  pub rs : List (Reply K)
+  pub ws : List (Moment K)
+  pub done : now ≡ before ++ es
+  pub run : Run o n limit w es rs ws
+  pub unended : Unended (ToRead r most) es rs ws
+  pub turns : length es ≡ turn
+  pub notes : notes_of rs ≡ []
+  pub holding : IsHolding o n w (last_of w ws) r (Some c) count
+
+module _ {O K : Type 0} (o : Order K) (n limit : ℕ) (w : Moment K) (r most : ℕ) (before : List (Event K)) where
+  pub no_loads : (c : Lookup O K) (count : ℕ) → IsInHand o n (Some c) (get w.lookups r) → count ≡ w.events → Loading o n limit w r most 0 before before c count
+  no_loads c count is e =
+      record { es = []; rs = []; ws = []; done = sym (append-nil before); run = tt; unended = tt; turns = refl; notes = refl;
+        holding = record { latch = refl; lookup = is; others = λ q ne. refl; events = e } }
+
+  -- the next load, by the reply and the moment that it leads to
+  module _ (now new : List (Event K)) (c : Lookup O K) (count next : ℕ) (turn : ℕ) (h : Loading o n limit w r most turn before now c count) (pushed : new ≡ now ++ Read r ∷ []) (counts : next ≡ more count) where
+    abbrev v : Moment K
+    v = last_of w h.ws
+
+    in_hand : (l : LookupInHand K) × (get v.lookups r ≡ Some l) × IsLookupOf o n c l
+    in_hand = shown o n (Some c) (get v.lookups r) c refl h.holding.lookup
+
+    done_now : new ≡ before ++ (h.es ++ Read r ∷ [])
+    done_now = pushed ∙ ap (λ xs. xs ++ Read r ∷ []) h.done ∙ append_assoc before h.es (Read r ∷ [])
+
+    run_on : (reply : Reply K) (v' : Moment K) → Reads o n v r (Some in_hand.0) reply v' → Run o n limit w (h.es ++ Read r ∷ []) (h.rs ++ reply ∷ []) (h.ws ++ v' ∷ [])
+    run_on reply v' reads = run_append o n limit w h.es (Read r ∷ []) h.rs (reply ∷ []) h.ws (v' ∷ []) h.run (subst (λ f. Reads o n v r f reply v') (sym in_hand.1) reads, tt)
+
+    holds_on : (c' : Option (Lookup O K)) (v' : Moment K) → v'.latch ≡ v.latch → IsInHand o n c' (get v'.lookups r) → ((q : ℕ) → q ≢ r → get v'.lookups q ≡ get v.lookups q) → v'.events ≡ more v.events → IsHolding o n w (last_of w (h.ws ++ v' ∷ [])) r c' next
+    holds_on c' v' el is others ee =
+        subst (λ x. IsHolding o n w x r c' next) (sym (last_append w h.ws (v' ∷ [])))
+        (record { latch = el ∙ h.holding.latch; lookup = is; others = λ q ne. others q ne ∙ h.holding.others q ne; events = counts ∙ ap more h.holding.events ∙ sym ee })
+
+    loads_more : (c' : Lookup O K) (reply : Reply K) (l' : LookupInHand K) → IsLookupOf o n c' l' → Reads o n v r (Some in_hand.0) reply (with_lookups v (insert v.lookups r l')) → (notes_of (reply ∷ []) ≡ []) → ((x : Moment K) → Unended (ToRead r most) (Read r ∷ []) (reply ∷ []) (x ∷ [])) → Loading o n limit w r most (turn + 1) before new c' next
+    loads_more c' reply l' is reads quiet goes =
+        let v' = with_lookups v (insert v.lookups r l') in
+        record {
+          es = h.es ++ Read r ∷ []; rs = h.rs ++ reply ∷ []; ws = h.ws ++ v' ∷ [];
+          done = done_now;
+          run = run_on reply v' reads;
+          unended = unended_push (ToRead r most) h.es h.rs h.ws reply v' h.unended (goes v').1;
+          turns = length-append h.es (Read r ∷ []) ∙ ap (λ j. j + 1) h.turns;
+          notes = notes_append h.rs (reply ∷ []) ∙ ap (λ xs. xs ++ notes_of (reply ∷ [])) h.notes ∙ quiet;
+          holding = holds_on (Some c') v' refl (subst (IsInHand o n (Some c')) (sym (get_insert_same v.lookups r l')) is) (λ q ne. get_insert_other v.lookups q r l' ne) refl;
+        }
+
+    pub load_goes : (words : List ℕ) → w.latch.words ≡ words → (c' : Lookup O K) → ((l : LookupInHand K) → IsLookupOf o n c l → LoadsTo o n words r next l (Going c')) → Loading o n limit w r most (turn + 1) before new c' next
+    load_goes words same c' loads =
+        let g = loads in_hand.0 in_hand.2 in
+        loads_more c' Loaded g.0 g.1 (g.2 v (ap (λ l. l.words) h.holding.latch ∙ same)) refl (λ x. (refl, refl, tt))
+
+    pub load_retries : (words : List ℕ) → w.latch.words ≡ words → (c' : Lookup O K) → ((l : LookupInHand K) → IsLookupOf o n c l → LoadsTo o n words r next l (Retrying c')) → Loading o n limit w r most (turn + 1) before new c' next
+    load_retries words same c' loads =
+        let g = loads in_hand.0 in_hand.2 in
+        loads_more c' Retried g.0 g.1 (g.2 v (ap (λ l. l.words) h.holding.latch ∙ same)) refl (λ x. (refl, refl, tt))
+
+    pub load_ends : (words : List ℕ) → w.latch.words ≡ words → (x : Returned K) → turn < most → ((l : LookupInHand K) → IsLookupOf o n c l → LoadsTo {O = O} o n words r next l (Ended x)) → LoadsOn {O = O} o n limit w r most before new (Ends x) next
+    load_ends words same x lt loads =
+        let v' = with_lookups v (remove v.lookups r) in
+        let reads = loads in_hand.0 in_hand.2 v (ap (λ l. l.words) h.holding.latch ∙ same) (ap more (sym h.holding.events) ∙ sym counts) in
+        record {
+          es = h.es ++ Read r ∷ []; rs = h.rs ++ Gave x ∷ []; ws = h.ws ++ v' ∷ [];
+          done = done_now;
+          run = run_on (Gave x) v' reads;
+          repeats = repeats_ended (ToRead r most) h.es h.rs h.ws most (Gave x) v' h.unended (let t = h.turns in omega arith) refl;
+          notes = notes_append h.rs (Gave x ∷ []) ∙ ap (λ xs. xs ++ notes_of (Gave x ∷ [])) h.notes;
+          holding = holds_on None v' refl (subst (IsInHand {O = O} o n None) (sym (get_remove_same v.lookups r)) tt) (λ q ne. get_remove_other v.lookups q r ne) refl;
+        }
+
+  pub all_loaded : (now : List (Event K)) (c : Lookup O K) (count turn : ℕ) → Loading o n limit w r most turn before now c count → turn ≡ most → LoadsOn o n limit w r most before now (Holds c) count
+  all_loaded now c count turn h e =
+      record { es = h.es; rs = h.rs; ws = h.ws; done = h.done; run = h.run; repeats = repeats_full (ToRead r most) h.es h.rs h.ws most h.unended (h.turns ∙ e); notes = h.notes; holding = h.holding }
