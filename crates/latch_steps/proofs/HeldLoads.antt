@@ -1,5 +1,5 @@
 -- Loads of a lookup that is held apart.
-use Rattle.std.proofs.Common.{◌≡◌, ◌≢◌, ℕ, ◌+◌, ◌<◌, ◌≤◌, true, false, cond, List, [], ◌∷◌, ◌++◌, length, Option, Some, None, refl, sym, ◌∙◌, ap, subst, arith, length-append, append_assoc, append-nil}
+use Rattle.std.proofs.Common.{◌≡◌, ◌≢◌, ℕ, ◌+◌, ◌<◌, ◌≤◌, true, false, cond, List, [], ◌∷◌, ◌++◌, length, Option, Some, None, refl, sym, ◌∙◌, ap, subst, ⊎_elim, arith, length-append, append_assoc, append-nil}
 use Rattle.std.specs.Ordering.{nat_cmp, eq_by_cmp}
 use Rattle.std.specs.Cmp.{nat_cmp_total}
 use Rattle.std.specs.FinMap.{FinMap, get, insert, remove, get-remove}
@@ -18,9 +18,19 @@ use Rattle.latch_steps.specs.declared.lookups.Held.TheVariants.{Going as Holds, 
 use Rattle.latch_steps.specs.Runs.{LookupInHand, Moment, more, with_lookups, Reads, Run, last_of, notes_of}
 use Rattle.latch_steps.specs.Expands.{Repeats}
 use Rattle.latch_steps.specs.Lookups.{IsInHand, IsLookupOf, LoadsTo}
-use Rattle.latch_steps.specs.Held.{IsHolding, LoadsOn}
+use Rattle.latch_steps.specs.Held.{lookup_of, notes_of_held, IsHolding, LoadsOn}
 use Rattle.latch_steps.proofs.Undisturbed.{get_insert_same, get_insert_other, get_remove_other}
-use Rattle.latch_steps.proofs.Showing.{shown}
+use Rattle.latch_core.specs.Latches.{Latch}
+use Rattle.latch_core.specs.Writers.{Pictures}
+use Rattle.word_arena.specs.Layouts.{capacity_of, limit_of}
+use Rattle.std.specs.Prelude.{is_some}
+use Rattle.std.specs.BTreeMap.{BTreeMap, get as tree_get, is_at}
+use Rattle.std.proofs.lemmas.Bool.{cases_eq}
+use Rattle.latch_steps.specs.declared.worlds.World.{World}
+use Rattle.latch_steps.specs.declared.lookups.Held.{Held}
+use Rattle.latch_steps.specs.Shows.{AreInHand, Shows}
+use Rattle.latch_steps.specs.HeldReads.{notes_of_return, ReadsOn}
+use Rattle.latch_steps.proofs.Showing.{shown, shown_none}
 use Rattle.latch_steps.proofs.Recording.{run_append, last_append, notes_append, Unended, unended_push, repeats_full, repeats_ended}
 
 get_remove_same : {X : Type 0} (m : FinMap nat_cmp X) (r : ℕ) → get (remove m r) r ≡ None
@@ -102,3 +112,51 @@ module _ {O K : Type 0} (o : Order K) (n limit : ℕ) (w : Moment K) (r most : �
   pub all_loaded : (now : List (Event K)) (c : Lookup O K) (count turn : ℕ) → Loading o n limit w r most turn before now c count → turn ≡ most → LoadsOn o n limit w r most before now (Holds c) count
   all_loaded now c count turn h e =
       record { es = h.es; rs = h.rs; ws = h.ws; done = h.done; run = h.run; repeats = repeats_full (ToRead r most) h.es h.rs h.ws most h.unended (h.turns ∙ e); notes = h.notes; holding = h.holding }
+
+-- the lookup is put back, or taken out
+module _ {O K : Type 0} (o : Order K) (c : World O K) (r : ℕ) where
+  in_hand_at : (n : ℕ) (cs ds : ℕ → Option (Lookup O K)) (ls ms : FinMap nat_cmp (LookupInHand K)) (left : Option (Lookup O K)) → AreInHand o n cs ls → ((q : ℕ) → ds q ≡ cond (is_at (nat_cmp r) q) left (cs q)) → IsInHand o n left (get ms r) → ((q : ℕ) → q ≢ r → get ms q ≡ get ls q) → AreInHand o n ds ms
+  in_hand_at n cs ds ls ms left h e is others q =
+      ⊎_elim
+      (λ same.
+        let here : is_at (nat_cmp r) r ≡ true = grind (arith, nat_tests) in
+        let f : ds r ≡ left = e r ∙ ap (λ b. cond b left (cs r)) here in
+        subst (λ j. IsInHand {O = O} o n (ds j) (get ms j)) (sym same) (subst (λ x. IsInHand {O = O} o n x (get ms r)) (sym f) is))
+      (λ ne.
+        let there : is_at (nat_cmp r) q ≡ false = grind (arith, nat_tests) in
+        let f : ds q ≡ cs q = e q ∙ ap (λ b. cond b left (cs q)) there in
+        subst (λ x. IsInHand {O = O} o n x (get ms q)) (sym f) (subst (λ x. IsInHand {O = O} o n (cs q) x) (sym (others q ne)) (h q)))
+      (cases_eq q r)
+
+  held_shows : (w v : Moment K) (left : Option (Lookup O K)) (ds : BTreeMap ℕ (Lookup O K)) (count : ℕ) → Shows o c w → IsHolding o (capacity_of c.layout) w v r left count → ((q : ℕ) → tree_get nat_cmp ds q ≡ cond (is_at (nat_cmp r) q) left (tree_get nat_cmp c.lookups q)) → Shows o (record c { lookups = ds; events = count }) v
+  held_shows w v left ds count s h e =
+      record {
+        capacity = s.capacity; limit = s.limit;
+        words = s.words ∙ ap (λ (l : Latch). l.words) (sym h.latch);
+        writer = subst (Pictures c.writer) (sym h.latch) s.writer;
+        lookups = in_hand_at (capacity_of c.layout) (tree_get nat_cmp c.lookups) (tree_get nat_cmp ds) w.lookups v.lookups left s.lookups e h.lookup h.others;
+        events = h.events;
+      }
+
+  pub nobody_reads : (most : ℕ) (before after : List (Event K)) (x : Option (Returned K)) (new : World O K) → tree_get nat_cmp c.lookups r ≡ None → (w : Moment K) → Shows o c w → is_some (get w.lookups r) ≡ true → ReadsOn o c w r most before after x new
+  nobody_reads most before after x new free w s there =
+      let none_there : get w.lookups r ≡ None = shown_none o (capacity_of c.layout) (tree_get nat_cmp c.lookups r) (get w.lookups r) free (s.lookups r) in
+      absurd (cc)
+
+  module _ (lk : Lookup O K) (found : Some lk ≡ tree_get nat_cmp c.lookups r) (words : List ℕ) (same : words ≡ c.words.items) (most count : ℕ) (before after : List (Event K)) (ds : BTreeMap ℕ (Lookup O K)) (w : Moment K) (s : Shows o c w) where
+    reads : (h : Held O K) (x : Option (Returned K)) → notes_of_held h ≡ notes_of_return x → ((q : ℕ) → tree_get nat_cmp ds q ≡ cond (is_at (nat_cmp r) q) (lookup_of h) (tree_get nat_cmp c.lookups q))
+        → ((n limit : ℕ) (v : Moment K) → v.latch.words ≡ words → IsInHand o n (Some lk) (get v.lookups r) → c.events ≡ v.events → LoadsOn o n limit v r most before after h count)
+        → ReadsOn o c w r most before after x (record c { lookups = ds; events = count })
+    reads h x quiet e loads =
+        let l = loads (capacity_of c.layout) (limit_of c.layout) w (sym s.words ∙ sym same) (subst (λ q. IsInHand o (capacity_of c.layout) q (get w.lookups r)) (sym found) (s.lookups r)) s.events in
+        record { es = l.es; rs = l.rs; ws = l.ws; done = l.done; run = l.run; repeats = l.repeats; notes = l.notes ∙ quiet; shows = held_shows w (last_of w l.ws) (lookup_of h) ds count s l.holding e }
+
+    pub reads_hold : (next : Lookup O K) → ((q : ℕ) → tree_get nat_cmp ds q ≡ cond (is_at (nat_cmp r) q) (Some next) (tree_get nat_cmp c.lookups q))
+        → ((n limit : ℕ) (v : Moment K) → v.latch.words ≡ words → IsInHand o n (Some lk) (get v.lookups r) → c.events ≡ v.events → LoadsOn o n limit v r most before after (Holds next) count)
+        → ReadsOn o c w r most before after None (record c { lookups = ds; events = count })
+    reads_hold next e loads = reads (Holds next) None refl e loads
+
+    pub reads_end : (x : Returned K) → ((q : ℕ) → tree_get nat_cmp ds q ≡ cond (is_at (nat_cmp r) q) None (tree_get nat_cmp c.lookups q))
+        → ((n limit : ℕ) (v : Moment K) → v.latch.words ≡ words → IsInHand o n (Some lk) (get v.lookups r) → c.events ≡ v.events → LoadsOn {O = O} o n limit v r most before after (Ends x) count)
+        → ReadsOn o c w r most before after (Some x) (record c { lookups = ds; events = count })
+    reads_end x e loads = reads (Ends x) (Some x) refl e loads

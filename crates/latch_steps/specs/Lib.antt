@@ -5,6 +5,7 @@ pub mod Expands
 pub mod Lookups
 pub mod Held
 pub mod Shows
+pub mod HeldReads
 pub mod Found
 pub mod GivesUp
 pub mod Records

@@ -1,6 +1,6 @@
 //! The words, their writer and the lookups in hand, one step at a time.
 
-ghost use Rattle.std.specs.Prelude.{◌≡◌, ℕ, ◌<◌, ◌⊎◌, List, [], ◌++◌, length, IfOk, IfErr, IfSome, IfNone, OnSome, is_some};
+ghost use Rattle.std.specs.Prelude.{◌≡◌, ℕ, ◌<◌, ◌⊎◌, List, [], ◌++◌, length, IfOk, IfErr, IfSome, IfNone, OnSome, is_some, true};
 ghost use Rattle.std.specs.FinMap.{get};
 ghost use Rattle.word_arena.specs.Words.{at};
 ghost use Rattle.word_arena.specs.Layouts.{capacity_of};
@@ -11,12 +11,12 @@ ghost use Rattle.latch_steps.specs.Runs.{Moment, accepted, opening};
 ghost use Rattle.latch_steps.specs.Expands.{writes_left};
 
 use crate::events::Event;
-use crate::lookups::{Loaded, Lookup};
+use crate::lookups::{Held, Loaded, Lookup};
 use crate::replies::{Reply, Returned};
 use crate::words::{opening_words, put, word_at};
 use latch_core::{Update, WriterCore};
 use order_laws::{Refusal, TreeOrder};
-use std::alloc::Global;
+use std::alloc::{AllocError, Global};
 use std::collections::BTreeMap;
 use word_arena::{Layout, Store};
 
@@ -36,6 +36,7 @@ pub struct World<O: TreeOrder> {
 
 impl<O: TreeOrder> World<O> {
     ghost use Rattle.latch_steps.specs.Shows.{Shows, Does, MayDo, Steps, IsAtRest, layout_in};
+    ghost use Rattle.latch_steps.specs.HeldReads.{ReadsOn};
     ghost use Rattle.latch_steps.specs.Found.{IsAfter, IsSettled, Settles, IsFound, Finds, IsNotBegun};
 
     /// A world before any event, with its sequence at `start`.
@@ -201,6 +202,35 @@ impl<O: TreeOrder> World<O> {
             }
         }
         Err(Refusal::ReaderBusy)
+    }
+
+    /// Loads of a reader, at most so many and up to the return of its lookup, which is answered. `done` takes in each of
+    /// them. The lookup is looked up once and held apart while they run.
+    pub(crate) fn read_on(
+        &mut self,
+        reader: u32,
+        most: u32,
+        done: &mut Vec<Event<O::Key>>,
+    ) -> Result<Option<Returned<O::Key>>, AllocError>
+        ensures layout { layout_in self.new ≡ layout_in self.old }
+        ensures reads { IfOk result (λ x. (w : Moment O.Key) → Shows O.order self.old w → is_some (get w.lookups reader) ≡ true → ReadsOn O.order self.old w reader most done.old.items done.new.items x self.new) }
+    {
+        let Some(lookup) = self.lookups.get_mut(&reader) else {
+            return Ok(None);
+        };
+        let (held, events) =
+            lookup.load_on(self.words.as_slice(), reader, most, self.events, done)?;
+        self.events = events;
+        match held {
+            Held::Going(next) => {
+                *lookup = next;
+                Ok(None)
+            }
+            Held::Returned(returned) => {
+                let _ = self.lookups.remove(&reader);
+                Ok(Some(returned))
+            }
+        }
     }
 
     /// Whether an update is in hand.

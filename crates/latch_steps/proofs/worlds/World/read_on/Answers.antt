@@ -1,0 +1,27 @@
+use Rattle.std.proofs.Common.{subst, refl}
+use Rattle.std.specs.Prelude.{IsSome}
+use Rattle.std.specs.Ordering.{nat_cmp}
+use Rattle.std.specs.BTreeMap.{is_at}
+use Rattle.latch_steps.specs.declared.lookups.Held.{Held}
+use Rattle.latch_steps.specs.Held.{LoadsOn}
+use Rattle.latch_steps.proofs.Showing.{removed}
+use Rattle.latch_steps.proofs.HeldLoads.{reads_hold, reads_end}
+use Rattle.latch_steps.proofs.worlds.World.read_on.Goals as goal
+
+pub returns-in-Going-clause-reads : goal.returns-in-Going-clause-reads
+returns-in-Going-clause-reads g c = λ w s there.
+    let o = g.O.TreeOrder.order in
+    let before = c.args.done.now.items in
+    let after = c.load_on.new.done.items in
+    reads_hold o c.args.self.now c.args.reader c.in-Some.lookup.now c.in-Some.ensures.value c.as_slice.result.now c.as_slice.ensures.value c.args.most c.in_ok-held.events before after _ w s c.in-Going.next
+    ((c.get_mut.follows.holds c.in-Going.next).3 (subst IsSome c.in-Some.ensures.value refl)).0
+    (λ n limit v words is e. subst (λ (h : Held g.row.O.Denot g.row.O-Key.Denot). LoadsOn o n limit v c.args.reader c.args.most before after h c.in_ok-held.events) c.in-Going.is (c.in_ok-held.ensures n limit v words is e))
+
+pub returns-in-Returned-clause-reads : goal.returns-in-Returned-clause-reads
+returns-in-Returned-clause-reads g c = λ w s there.
+    let o = g.O.TreeOrder.order in
+    let before = c.args.done.now.items in
+    let after = c.load_on.new.done.items in
+    reads_end o c.args.self.now c.args.reader c.in-Some.lookup.now c.in-Some.ensures.value c.as_slice.result.now c.as_slice.ensures.value c.args.most c.in_ok-held.events before after _ w s c.in-Returned.returned
+    (λ q. removed (is_at (nat_cmp c.args.reader) q) _ _ _ (c.remove.ensures.updates.0 q) _ (((c.get_mut.follows.holds _).3 (subst IsSome c.in-Some.ensures.value refl)).0 q))
+    (λ n limit v words is e. subst (λ (h : Held g.row.O.Denot g.row.O-Key.Denot). LoadsOn o n limit v c.args.reader c.args.most before after h c.in_ok-held.events) c.in-Returned.is (c.in_ok-held.ensures n limit v words is e))
