@@ -51,8 +51,17 @@ pub record Loading {O K : Type 0} (o : Order K) (n limit : ℕ) (w : Moment K) (
 module _ {O K : Type 0} (o : Order K) (n limit : ℕ) (w : Moment K) (r most : ℕ) (before : List (Event K)) where
   pub no_loads : (c : Lookup O K) (count : ℕ) → IsInHand o n (Some c) (get w.lookups r) → count ≡ w.events → Loading o n limit w r most 0 before before c count
   no_loads c count is e =
-      record { es = []; rs = []; ws = []; done = sym (append-nil before); run = tt; unended = tt; turns = refl; notes = refl;
-        holding = record { latch = refl; lookup = is; others = λ q ne. refl; events = e } }
+      record {
+        es = [];
+        rs = [];
+        ws = [];
+        done = sym (append-nil before);
+        run = tt;
+        unended = tt;
+        turns = refl;
+        notes = refl;
+        holding = record { latch = refl; lookup = is; others = λ q ne. refl; events = e };
+      }
 
   -- the next load, by the reply and the moment that it leads to
   module _ (now new : List (Event K)) (c : Lookup O K) (count next : ℕ) (turn : ℕ) (h : Loading o n limit w r most turn before now c count) (pushed : new ≡ now ++ Read r ∷ []) (counts : next ≡ more count) where
@@ -77,7 +86,9 @@ module _ {O K : Type 0} (o : Order K) (n limit : ℕ) (w : Moment K) (r most : �
     loads_more c' reply l' is reads quiet goes =
         let v' = with_lookups v (insert v.lookups r l') in
         record {
-          es = h.es ++ Read r ∷ []; rs = h.rs ++ reply ∷ []; ws = h.ws ++ v' ∷ [];
+          es = h.es ++ Read r ∷ [];
+          rs = h.rs ++ reply ∷ [];
+          ws = h.ws ++ v' ∷ [];
           done = done_now;
           run = run_on reply v' reads;
           unended = unended_push (ToRead r most) h.es h.rs h.ws reply v' h.unended (goes v').1;
@@ -101,7 +112,9 @@ module _ {O K : Type 0} (o : Order K) (n limit : ℕ) (w : Moment K) (r most : �
         let v' = with_lookups v (remove v.lookups r) in
         let reads = loads in_hand.0 in_hand.2 v (ap (λ l. l.words) h.holding.latch ∙ same) (ap more (sym h.holding.events) ∙ sym counts) in
         record {
-          es = h.es ++ Read r ∷ []; rs = h.rs ++ Gave x ∷ []; ws = h.ws ++ v' ∷ [];
+          es = h.es ++ Read r ∷ [];
+          rs = h.rs ++ Gave x ∷ [];
+          ws = h.ws ++ v' ∷ [];
           done = done_now;
           run = run_on (Gave x) v' reads;
           repeats = repeats_ended (ToRead r most) h.es h.rs h.ws most (Gave x) v' h.unended (let t = h.turns in omega arith) refl;
@@ -119,19 +132,20 @@ module _ {O K : Type 0} (o : Order K) (c : World O K) (r : ℕ) where
   in_hand_at n cs ds ls ms left h e is others q =
       ⊎_elim
       (λ same.
-        let here : is_at (nat_cmp r) r ≡ true = grind (arith, nat_tests) in
-        let f : ds r ≡ left = e r ∙ ap (λ b. cond b left (cs r)) here in
-        subst (λ j. IsInHand {O = O} o n (ds j) (get ms j)) (sym same) (subst (λ x. IsInHand {O = O} o n x (get ms r)) (sym f) is))
+      let here : is_at (nat_cmp r) r ≡ true = grind (arith, nat_tests) in
+      let f : ds r ≡ left = e r ∙ ap (λ b. cond b left (cs r)) here in
+      subst (λ j. IsInHand {O = O} o n (ds j) (get ms j)) (sym same) (subst (λ x. IsInHand {O = O} o n x (get ms r)) (sym f) is))
       (λ ne.
-        let there : is_at (nat_cmp r) q ≡ false = grind (arith, nat_tests) in
-        let f : ds q ≡ cs q = e q ∙ ap (λ b. cond b left (cs q)) there in
-        subst (λ x. IsInHand {O = O} o n x (get ms q)) (sym f) (subst (λ x. IsInHand {O = O} o n (cs q) x) (sym (others q ne)) (h q)))
+      let there : is_at (nat_cmp r) q ≡ false = grind (arith, nat_tests) in
+      let f : ds q ≡ cs q = e q ∙ ap (λ b. cond b left (cs q)) there in
+      subst (λ x. IsInHand {O = O} o n x (get ms q)) (sym f) (subst (λ x. IsInHand {O = O} o n (cs q) x) (sym (others q ne)) (h q)))
       (cases_eq q r)
 
   held_shows : (w v : Moment K) (left : Option (Lookup O K)) (ds : BTreeMap ℕ (Lookup O K)) (count : ℕ) → Shows o c w → IsHolding o (capacity_of c.layout) w v r left count → ((q : ℕ) → tree_get nat_cmp ds q ≡ cond (is_at (nat_cmp r) q) left (tree_get nat_cmp c.lookups q)) → Shows o (record c { lookups = ds; events = count }) v
   held_shows w v left ds count s h e =
       record {
-        capacity = s.capacity; limit = s.limit;
+        capacity = s.capacity;
+        limit = s.limit;
         words = s.words ∙ ap (λ (l : Latch). l.words) (sym h.latch);
         writer = subst (Pictures c.writer) (sym h.latch) s.writer;
         lookups = in_hand_at (capacity_of c.layout) (tree_get nat_cmp c.lookups) (tree_get nat_cmp ds) w.lookups v.lookups left s.lookups e h.lookup h.others;

@@ -1,6 +1,6 @@
 -- Runs one after another, and what a recorder keeps of them.
 use Rattle.std.proofs.Common.{◌≡◌, ◌≢◌, ℕ, suc, ◌+◌, ◌-◌, ◌<◌, ◌≤◌, Bool, true, false, cond, List, [], ◌∷◌, ◌++◌, length, take, get_or, Option, Some, None, refl, sym, ◌∙◌, ap, subst, inl, inr, ⊎_elim, arith, append_assoc, append-nil, length-append}
-use Rattle.std.specs.Prelude.{◌⊎◌, filter_map}
+use Rattle.std.specs.Prelude.{◌⊎◌, filter_map, is_some}
 use Rattle.std.specs.List.{cons_option}
 use Rattle.std.proofs.lemmas.List.{take_more}
 use Rattle.std.proofs.lemmas.List.Elements.{filter_map-append}
@@ -20,11 +20,14 @@ use Rattle.latch_steps.specs.declared.worlds.World.{World}
 use Rattle.latch_steps.specs.declared.traces.Recorder.{Recorder}
 use Rattle.latch_steps.specs.declared.traces.Trace.{Trace}
 use Rattle.latch_steps.specs.Traces.{IsTraceOf}
-use Rattle.latch_steps.specs.Runs.{Moment, Step, Run, opening, last_of, note_of, notes_of}
+use Rattle.latch_steps.specs.Runs.{LookupInHand, Moment, Step, Run, opening, last_of, note_of, notes_of}
 use Rattle.latch_steps.specs.Shows.{Shows, Does, GivesUp, MayDo, Steps, layout_in}
 use Rattle.latch_steps.specs.GivesUp.{is_out_of_memory, gives_up}
-use Rattle.latch_steps.specs.Records.{Records}
-use Rattle.latch_steps.specs.Expands.{event_of, most_of, ends, Repeats, Expand}
+use Rattle.latch_steps.specs.Records.{Records, Obeys}
+use Rattle.latch_steps.specs.declared.commands.Command.TheVariants.{Read as ToRead}
+use Rattle.latch_steps.specs.declared.replies.Returned.{Returned}
+use Rattle.latch_steps.specs.HeldReads.{notes_of_return, ReadsOn}
+use Rattle.latch_steps.specs.Expands.{reads_within, event_of, most_of, ends, Repeats, Expand}
 
 module _ {K : Type 0} where
   pub last_append : (w : Moment K) (ws vs : List (Moment K)) → last_of w (ws ++ vs) ≡ last_of (last_of w ws) vs
@@ -153,13 +156,10 @@ pub record Repeating {O K : Type 0} (o : Order K) (c : Command K) (old now : Rec
   pub turns : length es ≡ turn
 
 module _ {O K : Type 0} (o : Order K) (c : Command K) (old : Recorder O K) where
-  abbrev pub Obeys : Recorder O K → Moment K → ℕ → Type 0
-  Obeys new w most = (es : List (Event K)) × (rs : List (Reply K)) × (ws : List (Moment K)) × Records o old w new es rs ws × Repeats c most es rs ws
-
   pub repeats_none : (w : Moment K) → Shows o old.world w → Repeating o c old old 0 w
   repeats_none w s = record { es = []; rs = []; ws = []; records = records_none o old w s; unended = tt; turns = refl }
 
-  pub repeats_all : (now : Recorder O K) (turn most : ℕ) (w : Moment K) → Repeating o c old now turn w → turn ≡ most → Obeys now w most
+  pub repeats_all : (now : Recorder O K) (turn most : ℕ) (w : Moment K) → Repeating o c old now turn w → turn ≡ most → Obeys o c old now w most
   repeats_all now turn most w h e = (h.es, h.rs, h.ws, h.records, repeats_full c h.es h.rs h.ws most h.unended (h.turns ∙ e))
 
   module _ (now new : Recorder O K) (e : Event K) (r : Reply K) (b : Bool) (turn : ℕ) (w : Moment K) (h : Repeating o c old now turn w)
@@ -187,7 +187,7 @@ module _ {O K : Type 0} (o : Order K) (c : Command K) (old : Recorder O K) where
           turns = length-append h.es (event_of c ∷ []) ∙ ap (λ n. n + 1) h.turns;
         }
 
-    pub repeats_last : (most : ℕ) → turn < most → b ≡ true → Obeys new w most
+    pub repeats_last : (most : ℕ) → turn < most → b ≡ true → Obeys o c old new w most
     repeats_last most lt holds = (
       h.es ++ event_of c ∷ [],
       h.rs ++ r ∷ [],

@@ -1,11 +1,13 @@
 -- What a recorder keeps of a run.
-use Rattle.std.specs.Prelude.{◌≡◌, List, ◌++◌}
+use Rattle.std.specs.Prelude.{◌≡◌, ℕ, List, ◌++◌}
 use Rattle.order_laws.specs.Orders.{Order}
 use Rattle.word_arena.specs.Layouts.{capacity_of, limit_of}
 use Rattle.latch_steps.specs.declared.events.Event.{Event}
+use Rattle.latch_steps.specs.declared.commands.Command.{Command}
 use Rattle.latch_steps.specs.declared.replies.Reply.{Reply}
 use Rattle.latch_steps.specs.declared.traces.Recorder.{Recorder}
 use Rattle.latch_steps.specs.Runs.{Moment, Run, last_of, notes_of}
+use Rattle.latch_steps.specs.Expands.{Repeats}
 use Rattle.latch_steps.specs.Shows.{Shows, layout_in}
 
 -- from a moment that its world shows, a recorder did a run of these events and noted its replies
@@ -15,3 +17,8 @@ pub record Records {O K : Type 0} (o : Order K) (old : Recorder O K) (w : Moment
   pub events : new.events.items ≡ old.events.items ++ es
   pub notes : new.notes.items ≡ old.notes.items ++ notes_of rs
   pub shows : Shows o new.world (last_of w ws)
+
+-- it did a command's event so often at most
+abbrev pub Obeys : {O K : Type 0} → Order K → Command K → Recorder O K → Recorder O K → Moment K → ℕ → Type 0
+Obeys {O} {K} o c old new w most =
+    (es : List (Event K)) × (rs : List (Reply K)) × (ws : List (Moment K)) × Records o old w new es rs ws × Repeats c most es rs ws

@@ -1,6 +1,7 @@
 //! Whole runs, and what they leave.
 
-ghost use Rattle.std.specs.Prelude.{◌≡◌, ◌<◌, ◌^◌, ◌⊎◌, ◌++◌, ◌∷◌, [], List, length, IfOk, IfErr, OnOk};
+ghost use Rattle.std.specs.Prelude.{◌≡◌, ◌<◌, ◌^◌, ◌⊎◌, ◌++◌, ◌∷◌, [], List, length, IfOk, IfErr, OnOk, is_some, true};
+ghost use Rattle.std.specs.FinMap.{get};
 ghost use Rattle.word_arena.specs.Layouts.{capacity_of, limit_of};
 ghost use Rattle.latch_core.specs.Writers.{MayOpen};
 ghost use Rattle.latch_steps.specs.declared.events.Event.{Event};
@@ -114,7 +115,7 @@ fn event_of<K: Copy>(command: &Command<K>) -> Event<K>
 
 impl<O: TreeOrder> Recorder<O> {
     ghost use Rattle.latch_steps.specs.Shows.{Shows, layout_in};
-    ghost use Rattle.latch_steps.specs.Records.{Records};
+    ghost use Rattle.latch_steps.specs.Records.{Records, Obeys};
 
     /// A world before any event, with nothing recorded.
     pub(crate) fn open(alloc: Global, l: Layout, start: u64) -> Result<Self, Refusal>
@@ -186,7 +187,32 @@ impl<O: TreeOrder> Recorder<O> {
 
     /// Does the events of a command.
     pub(crate) fn obey(&mut self, command: &Command<O::Key>) -> Result<(), Refusal>
-        ensures obeyed { OnOk result ((w : Moment O.Key) → Shows O.order self.old.world w → (es : List (Event O.Key)) × (rs : List (Reply O.Key)) × (ws : List (Moment O.Key)) × Records O.order self.old w self.new es rs ws × Repeats command.now (most_of w command.now) es rs ws) }
+        ensures obeyed { OnOk result ((w : Moment O.Key) → Shows O.order self.old.world w → Obeys O.order command.now self.old self.new w (most_of w command.now)) }
+        ensures refusal { IfErr result (λ e. e ≡ Refusal.OutOfMemory) }
+    {
+        if let Command::Read(reader, most) = command {
+            if self.world.is_reading(*reader) {
+                return self.read_on(*reader, *most);
+            }
+        }
+        self.repeat(command)
+    }
+
+    /// Loads of a reader that has a lookup in hand, at most so many and up to its return.
+    fn read_on(&mut self, reader: u32, most: u32) -> Result<(), Refusal>
+        ensures read { OnOk result ((w : Moment O.Key) → Shows O.order self.old.world w → is_some (get w.lookups reader) ≡ true → Obeys O.order (Command.Read reader most) self.old self.new w most) }
+        ensures refusal { IfErr result (λ e. e ≡ Refusal.OutOfMemory) }
+    {
+        match self.world.read_on(reader, most, &mut self.events) {
+            Ok(None) => Ok(()),
+            Ok(Some(returned)) => push(&mut self.notes, Note::Returned(returned)),
+            Err(_) => Err(Refusal::OutOfMemory),
+        }
+    }
+
+    /// Does a command's event again and again.
+    fn repeat(&mut self, command: &Command<O::Key>) -> Result<(), Refusal>
+        ensures obeyed { OnOk result ((w : Moment O.Key) → Shows O.order self.old.world w → Obeys O.order command.now self.old self.new w (most_of w command.now)) }
         ensures refusal { IfErr result (λ e. e ≡ Refusal.OutOfMemory) }
     {
         let event = event_of(command);

@@ -218,8 +218,13 @@ impl<O: TreeOrder> World<O> {
         let Some(lookup) = self.lookups.get_mut(&reader) else {
             return Ok(None);
         };
-        let (held, events) =
-            lookup.load_on(self.words.as_slice(), reader, most, self.events, done)?;
+        let (held, events) = lookup.load_on(
+            self.words.as_slice(),
+            reader,
+            most,
+            self.events,
+            done,
+        )?;
         self.events = events;
         match held {
             Held::Going(next) => {

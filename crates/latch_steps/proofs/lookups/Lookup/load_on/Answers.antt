@@ -21,9 +21,9 @@ loop-turn-preserved g c = λ n limit w words is e.
     let made = λ (lk : Lookup g.row.O.Denot g.row.O-Key.Denot). Loading o n limit w c.args.reader c.args.most (c.loop-turn._turn + 1) before new lk next in
     elim c.match-load.branch [
       | in-Going x ↦ subst made (sym x.lookup-is)
-        (load_goes o n limit w c.args.reader c.args.most before now new old c.loop-turn.events next c.loop-turn._turn h c.in_ok-push.ensures.items c.saturating_add-events.ensures c.args.words.now words x.in-Going.next (x.in-Going.ensures n))
+          (load_goes o n limit w c.args.reader c.args.most before now new old c.loop-turn.events next c.loop-turn._turn h c.in_ok-push.ensures.items c.saturating_add-events.ensures c.args.words.now words x.in-Going.next (x.in-Going.ensures n))
       | in-Retrying x ↦ subst made (sym x.lookup-is)
-        (load_retries o n limit w c.args.reader c.args.most before now new old c.loop-turn.events next c.loop-turn._turn h c.in_ok-push.ensures.items c.saturating_add-events.ensures c.args.words.now words x.in-Retrying.next (x.in-Retrying.ensures n))
+          (load_retries o n limit w c.args.reader c.args.most before now new old c.loop-turn.events next c.loop-turn._turn h c.in_ok-push.ensures.items c.saturating_add-events.ensures c.args.words.now words x.in-Retrying.next (x.in-Retrying.ensures n))
     ]
 
 pub returns-in-Returned : goal.returns-in-Returned

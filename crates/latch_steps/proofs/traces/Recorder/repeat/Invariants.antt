@@ -1,7 +1,7 @@
 use Rattle.latch_steps.specs.Runs.{Moment}
 use Rattle.latch_steps.specs.Shows.{Shows}
 use Rattle.latch_steps.proofs.Recording.{Repeating}
-use Rattle.latch_steps.proofs.traces.Recorder.obey.Given as goal
+use Rattle.latch_steps.proofs.traces.Recorder.repeat.Given as goal
 
 -- the command's event was done as often as the loop has turned, and nothing ended it
 abbrev pub invariant-loop-turn : goal.invariant-loop-turn

@@ -1,7 +1,8 @@
 use Rattle.std.proofs.Common.{◌≡◌, ◌∙◌, sym, subst, arith}
 use Rattle.latch_steps.specs.Expands.{most_of}
-use Rattle.latch_steps.proofs.Recording.{Obeys, repeats_none, repeats_all, repeats_more, repeats_last}
-use Rattle.latch_steps.proofs.traces.Recorder.obey.Goals as goal
+use Rattle.latch_steps.specs.Records.{Obeys}
+use Rattle.latch_steps.proofs.Recording.{repeats_none, repeats_all, repeats_more, repeats_last}
+use Rattle.latch_steps.proofs.traces.Recorder.repeat.Goals as goal
 
 pub loop-turn-init : goal.loop-turn-init
 loop-turn-init g c = λ w s. repeats_none g.O.TreeOrder.order c.args.command.now c.args.self.now w s
