@@ -1,5 +1,5 @@
 -- Loads of a lookup that is held apart.
-use Rattle.std.proofs.Common.{◌≡◌, ◌≢◌, ℕ, ◌+◌, ◌<◌, ◌≤◌, true, false, cond, List, [], ◌∷◌, ◌++◌, length, Option, Some, None, refl, sym, ◌∙◌, ap, subst, ⊎_elim, arith, length-append, append_assoc, append-nil}
+use Rattle.std.proofs.Common.{◌≡◌, ◌≢◌, ℕ, ◌+◌, ◌<◌, true, false, cond, List, [], ◌∷◌, ◌++◌, length, Option, Some, None, refl, sym, ◌∙◌, ap, subst, ⊎_elim, arith, length-append, append_assoc, append-nil}
 use Rattle.std.specs.Ordering.{nat_cmp, eq_by_cmp}
 use Rattle.std.specs.Cmp.{nat_cmp_total}
 use Rattle.std.specs.FinMap.{FinMap, get, insert, remove, get-remove}
@@ -7,7 +7,6 @@ use Rattle.std.proofs.lemmas.Bool.Decides.{nat_tests}
 use Rattle.order_laws.specs.Orders.{Order}
 use Rattle.latch_steps.specs.declared.events.Event.{Event}
 use Rattle.latch_steps.specs.declared.events.Event.TheVariants.{Read}
-use Rattle.latch_steps.specs.declared.commands.Command.{Command}
 use Rattle.latch_steps.specs.declared.commands.Command.TheVariants.{Read as ToRead}
 use Rattle.latch_steps.specs.declared.replies.Returned.{Returned}
 use Rattle.latch_steps.specs.declared.replies.Reply.{Reply}
@@ -16,7 +15,6 @@ use Rattle.latch_steps.specs.declared.lookups.Lookup.{Lookup}
 use Rattle.latch_steps.specs.declared.lookups.Loaded.TheVariants.{Going, Retrying, Returned as Ended}
 use Rattle.latch_steps.specs.declared.lookups.Held.TheVariants.{Going as Holds, Returned as Ends}
 use Rattle.latch_steps.specs.Runs.{LookupInHand, Moment, more, with_lookups, Reads, Run, last_of, notes_of}
-use Rattle.latch_steps.specs.Expands.{Repeats}
 use Rattle.latch_steps.specs.Lookups.{IsInHand, IsLookupOf, LoadsTo}
 use Rattle.latch_steps.specs.Held.{lookup_of, notes_of_held, IsHolding, LoadsOn}
 use Rattle.latch_steps.proofs.Undisturbed.{get_insert_same, get_insert_other, get_remove_other}

@@ -1,7 +1,6 @@
 -- What events do to the latch: each accepted update is the last of the history, and each flip adds one to the sequence.
-use Rattle.std.proofs.Common.{◌≡◌, ◌≢◌, ℕ, suc, zero, ◌+◌, ◌-◌, ◌*◌, ◌<◌, ◌≤◌, Bool, true, false, cond, List, [], ◌∷◌, ◌++◌, length, take, drop, get_or, Option, Some, None, refl, sym, ◌∙◌, ap, subst, inl, inr, ⊎_elim, arith, append_assoc, append-nil}
-use Rattle.std.specs.Prelude.{◌⊎◌, ◌==◌, is_some, slice_index_or, count_by}
-use Rattle.std.specs.FinMap.{get}
+use Rattle.std.proofs.Common.{◌≡◌, ℕ, suc, zero, ◌+◌, ◌-◌, ◌<◌, ◌≤◌, false, cond, List, [], ◌∷◌, ◌++◌, length, take, drop, Option, Some, None, refl, sym, ◌∙◌, ap, subst, inl, ⊎_elim, arith, append-nil}
+use Rattle.std.specs.Prelude.{◌==◌, is_some, slice_index_or, count_by}
 use Rattle.std.proofs.lemmas.Bool.{eq-eqb, ne_eqb}
 use Rattle.std.proofs.lemmas.List.{drop-take}
 use Rattle.std.proofs.lemmas.List.Sums.{sum_by-append, sum_by-take-drop}
@@ -11,17 +10,17 @@ use Rattle.order_laws.specs.declared.refusals.Refusal.{Refusal}
 use Rattle.latch_steps.specs.declared.events.Event.{Event}
 use Rattle.latch_steps.specs.declared.events.Event.TheVariants.{Begin, Write, Start, Read}
 use Rattle.latch_steps.specs.declared.replies.Reply.{Reply}
-use Rattle.latch_steps.specs.declared.replies.Reply.TheVariants.{Begun, Wrote, Idle, Started, Loaded, Retried, Returned as Gave, Refused}
+use Rattle.latch_steps.specs.declared.replies.Reply.TheVariants.{Begun, Wrote}
 use Rattle.order_laws.specs.Orders.{Order, IsLawful}
 use Rattle.word_arena.specs.Words.{at}
 use Rattle.word_arena.specs.Stores.{words_after}
 use Rattle.latch_core.specs.Updates.{refuses}
-use Rattle.latch_core.specs.Attempts.{Answer, Again, Reading, Load, Ends, attempt, rest_after}
-use Rattle.latch_core.specs.Latches.{Hand, Latch, MayStep, stepped, begun}
+use Rattle.latch_core.specs.Attempts.{Answer, Again, Reading, Load, Ends}
+use Rattle.latch_core.specs.Latches.{Hand, Latch, MayStep}
 use Rattle.latch_core.specs.Invariants.{IsSound}
 use Rattle.latch_core.proofs.Steps.{hidden_same, flip_adds}
 use Rattle.latch_core.proofs.Sound.{sound_step, sound_begin}
-use Rattle.latch_steps.specs.Runs.{LookupInHand, Moment, counted, with_latch, with_lookups, Begins, Writes, Starts, Gets, Reads, Step, Run, accepted, history}
+use Rattle.latch_steps.specs.Runs.{LookupInHand, Moment, Begins, Writes, Starts, Gets, Reads, Step, Run, accepted}
 use Rattle.latch_steps.specs.Safe.{sequence_at}
 use Rattle.latch_steps.specs.Quiet.{is_flip, flips_between}
 

@@ -1,13 +1,11 @@
 -- One load of a lookup.
-use Rattle.std.proofs.Common.{◌≡◌, ℕ, ◌+◌, List, [], ◌∷◌, ◌++◌, Option, Some, None, refl, sym, ◌∙◌, ap, subst}
-use Rattle.std.specs.FinMap.{insert, remove}
-use Rattle.order_laws.specs.declared.items.Item.{Item}
+use Rattle.std.proofs.Common.{◌≡◌, ℕ, List, [], ◌∷◌, ◌++◌, Option, Some, refl, sym, ◌∙◌, ap, subst}
+use Rattle.std.specs.FinMap.{insert}
 use Rattle.order_laws.specs.Orders.{Order}
 use Rattle.word_arena.specs.Words.{at}
-use Rattle.latch_core.specs.Attempts.{Reading, Load, Ends, Answer, Again, attempt, rest_after, IsAttempt}
+use Rattle.latch_core.specs.Attempts.{Reading, Load, Ends, Again, attempt, rest_after}
 use Rattle.latch_core.specs.declared.readers.ReaderCore.{ReaderCore}
-use Rattle.latch_core.specs.declared.readers.Taken.{Taken}
-use Rattle.latch_core.specs.declared.readers.Taken.TheVariants.{Going, Retrying, Returned}
+use Rattle.latch_core.specs.declared.readers.Taken.TheVariants.{Going, Retrying}
 use Rattle.latch_core.specs.Cores.{capacity_of_core, key_of_core, remaining, LeadsTo, LeadsOn}
 use Rattle.latch_core.proofs.Leads.{core_loads}
 use Rattle.latch_steps.specs.declared.replies.Reply.{Reply}

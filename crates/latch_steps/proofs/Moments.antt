@@ -1,37 +1,33 @@
 -- Every lookup that returns is right.
-use Rattle.std.proofs.Common.{◌≡◌, ◌≢◌, ℕ, suc, zero, ◌+◌, ◌-◌, ◌*◌, ◌<◌, ◌≤◌, min, Bool, true, false, cond, List, [], ◌∷◌, ◌++◌, length, take, get_or, Option, Some, None, refl, sym, ◌∙◌, ap, subst, inl, inr, ⊎_elim, arith, length-append, append_assoc, append-nil}
-use Rattle.std.specs.Prelude.{◌⊎◌, ◌==◌, is_some, slice_index_or, nat_lt}
-use Rattle.std.specs.List.{AllByRecursion}
+use Rattle.std.proofs.Common.{◌≡◌, ℕ, suc, zero, ◌+◌, ◌-◌, ◌<◌, ◌≤◌, true, false, cond, List, [], ◌∷◌, ◌++◌, Option, Some, None, refl, sym, ◌∙◌, ap, subst, arith, append-nil}
+use Rattle.std.specs.Prelude.{◌==◌, is_some, nat_lt}
 use Rattle.std.specs.Ordering.{nat_cmp, eq_by_cmp}
 use Rattle.std.specs.Cmp.{nat_cmp_total}
-use Rattle.std.specs.FinMap.{FinMap, get, insert, remove, empty, get-insert, get-remove, get-empty}
+use Rattle.std.specs.FinMap.{FinMap, get, insert, remove, get-insert, get-remove}
 use Rattle.std.proofs.lemmas.Bool.{eqb-true}
 use Rattle.std.specs.declared.cmp.Ordering.TheVariants.{Less, Equal, Greater}
 use Rattle.order_laws.specs.declared.items.Item.{Item}
-use Rattle.word_arena.specs.declared.stores.Store.{Store}
 use Rattle.latch_core.specs.declared.updates.Update.{Update}
 use Rattle.order_laws.specs.declared.refusals.Refusal.{Refusal}
 use Rattle.latch_steps.specs.declared.events.Event.{Event}
 use Rattle.latch_steps.specs.declared.events.Event.TheVariants.{Begin, Write, Start, Read}
 use Rattle.latch_steps.specs.declared.replies.Returned.{Returned}
 use Rattle.latch_steps.specs.declared.replies.Reply.{Reply}
-use Rattle.latch_steps.specs.declared.replies.Reply.TheVariants.{Begun, Wrote, Idle, Started, Loaded, Retried, Returned as Gave, Refused}
+use Rattle.latch_steps.specs.declared.replies.Reply.TheVariants.{Loaded, Retried, Returned as Gave, Refused}
 use Rattle.order_laws.specs.Orders.{Order, IsLawful}
-use Rattle.order_laws.specs.Tables.{IsTable, look}
-use Rattle.latch_core.specs.Updates.{after, refuses}
-use Rattle.latch_core.specs.Histories.{replay, table_at}
-use Rattle.word_arena.specs.Words.{at, root_word, Nodes, Holds, left_word, right_word, HoldsTable}
+use Rattle.order_laws.specs.Tables.{look}
+use Rattle.latch_core.specs.Updates.{refuses}
+use Rattle.latch_core.specs.Histories.{table_at}
+use Rattle.word_arena.specs.Words.{at, root_word}
 use Rattle.latch_core.specs.Sequences.{gen, stable}
-use Rattle.latch_core.specs.Attempts.{Outcome, Answer, Again, Reading, Load, Ends, Found, Item_found, No_item, Stuck, outcome, closing, turn, visit, walk, attempt, rest_after, Stand, IsAttempt}
-use Rattle.latch_core.specs.Latches.{Hand, Latch, MayStep, stepped, begun}
-use Rattle.word_arena.specs.Stores.{words_after}
-use Rattle.latch_steps.specs.Runs.{LookupInHand, Moment, more, opening, counted, with_latch, with_lookups, Begins, Writes, Starts, wanted, Gets, Reads, Step, Run, accepted, history}
-use Rattle.latch_steps.specs.Safe.{sequence_at, IsCurrent, IsSafeReply, IsSafe}
-use Rattle.latch_core.specs.Invariants.{IsStanding, AreTables, IsSound}
+use Rattle.latch_core.specs.Attempts.{Answer, Again, Reading, Load, Ends, Found, Item_found, No_item, Stuck, closing, turn, visit, walk, attempt, rest_after, Stand, IsAttempt}
+use Rattle.latch_core.specs.Latches.{Hand, begun}
+use Rattle.latch_steps.specs.Runs.{LookupInHand, Moment, more, counted, with_latch, with_lookups, Begins, Writes, Starts, wanted, Gets, Reads, Step, accepted}
+use Rattle.latch_core.specs.Invariants.{IsStanding, IsSound}
 use Rattle.latch_core.proofs.Readings.{rest_push, stand_push}
 use Rattle.latch_core.proofs.Walks.{attempt_answers}
 use Rattle.latch_core.proofs.Steps.{standing_step}
-use Rattle.latch_core.proofs.Sound.{sound_step, sound_begin, sound_opening}
+use Rattle.latch_core.proofs.Sound.{sound_step, sound_begin}
 
 -- an answer is given only at a load of word 0 that gives the first number again
 abbrev AnswersAt : ℕ → ℕ → ℕ → Reading → Type 0

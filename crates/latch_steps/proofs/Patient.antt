@@ -1,27 +1,25 @@
 -- Each attempt after the first needs a flip.
-use Rattle.std.proofs.Common.{◌≡◌, ◌≢◌, ℕ, suc, zero, ◌+◌, ◌-◌, ◌*◌, ◌^◌, ◌<◌, ◌≤◌, min, Bool, true, false, cond, List, [], ◌∷◌, ◌++◌, length, take, get_or, Option, Some, None, refl, sym, ◌∙◌, ap, subst, inl, inr, ⊎_elim, arith, length-append, append_assoc, append-nil}
-use Rattle.std.specs.Prelude.{◌⊎◌, ◌==◌, is_some, slice_index_or}
+use Rattle.std.proofs.Common.{◌≡◌, ◌≢◌, ℕ, ◌+◌, ◌-◌, ◌^◌, ◌<◌, ◌≤◌, true, false, cond, List, [], ◌∷◌, ◌++◌, length, Option, Some, None, refl, sym, ◌∙◌, ap, subst, ⊎_elim, arith, length-append, append_assoc}
+use Rattle.std.specs.Prelude.{slice_index_or}
 use Rattle.std.specs.List.{AllByRecursion}
 use Rattle.std.specs.Ordering.{nat_cmp, eq_by_cmp}
 use Rattle.std.specs.Cmp.{nat_cmp_total}
 use Rattle.std.specs.FinMap.{FinMap, get, insert, remove, get-insert, get-remove, get-empty}
-use Rattle.std.proofs.lemmas.Bool.{cases_lt}
 use Rattle.std.proofs.Math.Seq.{get_or-append_seam}
 use Rattle.latch_core.specs.declared.updates.Update.{Update}
 use Rattle.order_laws.specs.declared.refusals.Refusal.{Refusal}
 use Rattle.latch_steps.specs.declared.events.Event.{Event}
 use Rattle.latch_steps.specs.declared.events.Event.TheVariants.{Begin, Write, Start, Read}
-use Rattle.latch_steps.specs.declared.replies.Returned.{Returned}
 use Rattle.latch_steps.specs.declared.replies.Reply.{Reply}
-use Rattle.latch_steps.specs.declared.replies.Reply.TheVariants.{Begun, Wrote, Idle, Started, Loaded, Retried, Returned as Gave, Refused}
+use Rattle.latch_steps.specs.declared.replies.Reply.TheVariants.{Loaded, Retried, Returned as Gave}
 use Rattle.order_laws.specs.Orders.{Order, IsLawful}
 use Rattle.order_laws.specs.Tables.{look, IsTable}
 use Rattle.word_arena.specs.Words.{at, Nodes, Holds}
 use Rattle.latch_core.specs.Sequences.{gen, stable}
-use Rattle.latch_core.specs.Attempts.{Outcome, Answer, Again, Reading, Load, Ends, attempt, rest_after, Stand, IsAttempt}
-use Rattle.latch_core.specs.Latches.{Hand, Latch, MayStep, stepped}
+use Rattle.latch_core.specs.Attempts.{Answer, Again, Reading, Load, Ends, attempt, rest_after, Stand, IsAttempt}
+use Rattle.latch_core.specs.Latches.{Hand}
 use Rattle.word_arena.specs.Stores.{words_after}
-use Rattle.latch_steps.specs.Runs.{LookupInHand, Moment, more, opening, counted, with_latch, with_lookups, Begins, Writes, Starts, wanted, Gets, Reads, Step, Run, accepted, history}
+use Rattle.latch_steps.specs.Runs.{LookupInHand, Moment, more, opening, counted, Begins, Writes, Starts, wanted, Gets, Reads, Step, Run, accepted, history}
 use Rattle.latch_core.specs.Histories.{table_at}
 use Rattle.latch_steps.specs.Safe.{sequence_at}
 use Rattle.latch_steps.specs.Quiet.{flips_between, IsPatientReply, IsQuiet}

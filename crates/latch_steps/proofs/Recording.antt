@@ -1,11 +1,8 @@
 -- Runs one after another, and what a recorder keeps of them.
-use Rattle.std.proofs.Common.{◌≡◌, ◌≢◌, ℕ, suc, ◌+◌, ◌-◌, ◌<◌, ◌≤◌, Bool, true, false, cond, List, [], ◌∷◌, ◌++◌, length, take, get_or, Option, Some, None, refl, sym, ◌∙◌, ap, subst, inl, inr, ⊎_elim, arith, append_assoc, append-nil, length-append}
-use Rattle.std.specs.Prelude.{◌⊎◌, filter_map, is_some}
+use Rattle.std.proofs.Common.{◌≡◌, ℕ, ◌+◌, ◌-◌, ◌<◌, Bool, true, false, cond, List, [], ◌∷◌, ◌++◌, length, take, get_or, Option, refl, sym, ◌∙◌, ap, subst, ⊎_elim, arith, append_assoc, append-nil, length-append}
 use Rattle.std.specs.List.{cons_option}
 use Rattle.std.proofs.lemmas.List.{take_more}
 use Rattle.std.proofs.lemmas.List.Elements.{filter_map-append}
-use Rattle.order_laws.specs.declared.refusals.Refusal.{Refusal}
-use Rattle.order_laws.specs.declared.refusals.Refusal.TheVariants.{OutOfMemory}
 use Rattle.order_laws.specs.Orders.{Order}
 use Rattle.word_arena.specs.declared.layouts.Layout.{Layout}
 use Rattle.word_arena.specs.Layouts.{capacity_of, limit_of}
@@ -15,19 +12,15 @@ use Rattle.latch_steps.specs.declared.events.Event.TheVariants.{Begin, Write, St
 use Rattle.latch_steps.specs.declared.commands.Command.{Command}
 use Rattle.latch_steps.specs.declared.replies.Note.{Note}
 use Rattle.latch_steps.specs.declared.replies.Reply.{Reply}
-use Rattle.latch_steps.specs.declared.replies.Reply.TheVariants.{Refused}
 use Rattle.latch_steps.specs.declared.worlds.World.{World}
 use Rattle.latch_steps.specs.declared.traces.Recorder.{Recorder}
 use Rattle.latch_steps.specs.declared.traces.Trace.{Trace}
 use Rattle.latch_steps.specs.Traces.{IsTraceOf}
-use Rattle.latch_steps.specs.Runs.{LookupInHand, Moment, Step, Run, opening, last_of, note_of, notes_of}
-use Rattle.latch_steps.specs.Shows.{Shows, Does, GivesUp, MayDo, Steps, layout_in}
-use Rattle.latch_steps.specs.GivesUp.{is_out_of_memory, gives_up}
+use Rattle.latch_steps.specs.Runs.{Moment, Run, opening, last_of, note_of, notes_of}
+use Rattle.latch_steps.specs.Shows.{Shows, Does, MayDo, Steps, layout_in}
+use Rattle.latch_steps.specs.GivesUp.{gives_up}
 use Rattle.latch_steps.specs.Records.{Records, Obeys}
-use Rattle.latch_steps.specs.declared.commands.Command.TheVariants.{Read as ToRead}
-use Rattle.latch_steps.specs.declared.replies.Returned.{Returned}
-use Rattle.latch_steps.specs.HeldReads.{notes_of_return, ReadsOn}
-use Rattle.latch_steps.specs.Expands.{reads_within, event_of, most_of, ends, Repeats, Expand}
+use Rattle.latch_steps.specs.Expands.{event_of, most_of, ends, Repeats, Expand}
 
 module _ {K : Type 0} where
   pub last_append : (w : Moment K) (ws vs : List (Moment K)) → last_of w (ws ++ vs) ≡ last_of (last_of w ws) vs

@@ -1,28 +1,26 @@
 -- Whole runs.
-use Rattle.std.proofs.Common.{◌≡◌, ◌≢◌, ℕ, suc, zero, ◌+◌, ◌-◌, ◌*◌, ◌/◌, ◌%◌, ◌^◌, ◌<◌, ◌≤◌, Bool, true, false, cond, List, [], ◌∷◌, ◌++◌, length, take, get_or, Option, Some, None, refl, sym, ◌∙◌, ap, subst, inl, inr, ⊎_elim, arith, length-append, append_assoc, append-nil}
+use Rattle.std.proofs.Common.{◌≡◌, ℕ, ◌+◌, ◌-◌, ◌%◌, ◌^◌, ◌<◌, ◌≤◌, List, [], ◌∷◌, ◌++◌, length, take, Option, Some, None, refl, sym, ◌∙◌, ap, arith, length-append, append_assoc}
 use Rattle.std.specs.Prelude.{slice_index_or}
 use Rattle.std.specs.List.{AllByRecursion}
-use Rattle.std.specs.FinMap.{get, empty, get-empty}
+use Rattle.std.specs.FinMap.{get, get-empty}
 use Rattle.std.specs.Ordering.{nat_cmp}
 use Rattle.std.proofs.Math.Seq.{get_or-append_seam}
-use Rattle.std.proofs.lemmas.List.{take-append-le, take_all}
-use Rattle.order_laws.specs.declared.items.Item.{Item}
+use Rattle.std.proofs.lemmas.List.{take-append-le}
 use Rattle.latch_core.specs.declared.updates.Update.{Update}
 use Rattle.latch_steps.specs.declared.events.Event.{Event}
-use Rattle.latch_steps.specs.declared.replies.Returned.{Returned}
 use Rattle.latch_steps.specs.declared.replies.Reply.{Reply}
-use Rattle.latch_steps.specs.declared.replies.Reply.TheVariants.{Begun, Wrote, Idle, Started, Loaded, Retried, Returned as Gave, Refused}
+use Rattle.latch_steps.specs.declared.replies.Reply.TheVariants.{Returned as Gave}
 use Rattle.order_laws.specs.Orders.{Order, IsLawful}
 use Rattle.order_laws.specs.Tables.{look}
 use Rattle.latch_core.specs.Histories.{replay, table_at}
 use Rattle.word_arena.specs.Words.{at}
 use Rattle.latch_core.specs.Sequences.{gen, stable}
 use Rattle.latch_core.specs.Latches.{Hand, Latch}
-use Rattle.latch_steps.specs.Runs.{LookupInHand, Moment, more, opening, Run, accepted, history}
-use Rattle.latch_steps.specs.Safe.{sequence_at, IsCurrent, IsSafeReply, IsSafe}
+use Rattle.latch_steps.specs.Runs.{Moment, opening, Run, accepted, history}
+use Rattle.latch_steps.specs.Safe.{IsSafeReply, IsSafe}
 use Rattle.latch_core.specs.Invariants.{IsInHand, IsSound}
 use Rattle.latch_core.proofs.Sound.{sound_opening}
-use Rattle.latch_steps.proofs.Moments.{IsWorld, IsRightNow, IsRight, Leads_to, step_leads}
+use Rattle.latch_steps.proofs.Moments.{IsWorld, IsRight, step_leads}
 
 -- the sequence names no more updates than were accepted
 pub gen_within : {K : Type 0} (o : Order K) (n start : ℕ) (us : List Update) (l : Latch) → IsSound o n start us l → gen (at l.words 0) - gen start ≤ length us

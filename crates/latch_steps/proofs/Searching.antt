@@ -1,9 +1,8 @@
 -- A lookup from its start to its return, with no step of the writer between.
-use Rattle.std.proofs.Common.{◌≡◌, ◌≢◌, ℕ, suc, ◌+◌, ◌-◌, ◌*◌, ◌^◌, ◌<◌, ◌≤◌, min, List, [], ◌∷◌, ◌++◌, length, Option, Some, None, true, refl, sym, ◌∙◌, ap, subst, inl, inr, ⊎_elim, arith, length-append, append-nil, append_assoc}
-use Rattle.std.specs.Prelude.{◌⊎◌, is_some}
+use Rattle.std.proofs.Common.{◌≡◌, ℕ, ◌+◌, ◌-◌, ◌*◌, ◌≤◌, List, [], ◌∷◌, ◌++◌, length, Option, Some, None, refl, sym, ◌∙◌, ap, subst, inl, inr, ⊎_elim, arith, length-append, append-nil}
+use Rattle.std.specs.Prelude.{is_some}
 use Rattle.std.specs.List.{AllByRecursion}
-use Rattle.std.specs.Ordering.{nat_cmp}
-use Rattle.std.specs.FinMap.{get, insert, remove}
+use Rattle.std.specs.FinMap.{get}
 use Rattle.order_laws.specs.declared.items.Item.{Item}
 use Rattle.order_laws.specs.declared.refusals.Refusal.{Refusal}
 use Rattle.order_laws.specs.declared.refusals.Refusal.TheVariants.{OutOfMemory, ReaderBusy}
@@ -14,20 +13,19 @@ use Rattle.word_arena.specs.Words.{at}
 use Rattle.latch_core.specs.declared.updates.Update.{Update}
 use Rattle.latch_core.specs.Sequences.{gen}
 use Rattle.latch_core.specs.Histories.{table_at}
-use Rattle.latch_core.specs.Attempts.{Outcome, Answer, Again, Reading, Load, Ends, attempt, rest_after, Stand, IsAttempt}
+use Rattle.latch_core.specs.Attempts.{Answer, Again, Reading, Load, Ends, attempt, rest_after, Stand, IsAttempt}
 use Rattle.latch_core.specs.Invariants.{IsSound}
 use Rattle.latch_core.proofs.Readings.{rest_push, stand_push}
-use Rattle.latch_core.proofs.Walks.{attempt_answers, attempt_loads, attempt_below}
+use Rattle.latch_core.proofs.Walks.{attempt_answers, attempt_loads}
 use Rattle.latch_steps.specs.declared.events.Event.{Event}
 use Rattle.latch_steps.specs.declared.events.Event.TheVariants.{Start, Read}
 use Rattle.latch_steps.specs.declared.replies.Returned.{Returned}
 use Rattle.latch_steps.specs.declared.replies.Reply.{Reply}
-use Rattle.latch_steps.specs.declared.replies.Reply.TheVariants.{Begun, Wrote, Idle, Started, Loaded, Retried, Returned as Gave, Refused}
+use Rattle.latch_steps.specs.declared.replies.Reply.TheVariants.{Started, Loaded, Returned as Gave, Refused}
 use Rattle.latch_steps.specs.declared.worlds.World.{World}
-use Rattle.latch_steps.specs.Runs.{LookupInHand, Moment, more, counted, with_lookups, wanted, Gets, Reads, Starts, Run, last_of, accepted, history}
-use Rattle.latch_steps.specs.Shows.{Shows, Does, GivesUp, MayDo, layout_in}
+use Rattle.latch_steps.specs.Runs.{LookupInHand, Moment, more, wanted, Gets, Reads, Starts, Run, last_of, history}
+use Rattle.latch_steps.specs.Shows.{Shows, Does, MayDo, layout_in}
 use Rattle.latch_steps.specs.Found.{IsAfter, IsFound, Finds, IsNotBegun}
-use Rattle.latch_steps.proofs.Latched.{step_sound}
 use Rattle.latch_steps.proofs.Undisturbed.{get_insert_same}
 use Rattle.latch_steps.proofs.Recording.{run_append, last_append}
 use Rattle.latch_steps.proofs.Settling.{run_sound, none_accepted, all_push}

@@ -1,5 +1,5 @@
 -- What the methods of a world do to the moments that it shows.
-use Rattle.std.proofs.Common.{◌≡◌, ◌≢◌, ℕ, suc, ◌+◌, ◌*◌, ◌<◌, ◌≤◌, Bool, true, false, cond, List, [], ◌∷◌, length, Option, Some, None, refl, sym, ◌∙◌, ap, subst, inl, inr, ⊎_elim, arith, Vec, Global}
+use Rattle.std.proofs.Common.{◌≡◌, ◌≢◌, ℕ, ◌<◌, ◌≤◌, Bool, true, false, cond, List, [], ◌∷◌, length, Option, Some, None, refl, sym, ◌∙◌, ap, subst, inl, inr, ⊎_elim, arith, Vec, Global}
 use Rattle.std.specs.Prelude.{◌⊎◌, is_some, nat_lt}
 use Rattle.std.proofs.lemmas.Bool.{lt-ltb}
 use Rattle.std.specs.Ordering.{nat_cmp, eq_by_cmp}
@@ -11,7 +11,6 @@ use Rattle.order_laws.specs.declared.refusals.Refusal.{Refusal}
 use Rattle.order_laws.specs.declared.refusals.Refusal.TheVariants.{OutOfMemory, ReaderBusy, ReaderIdle}
 use Rattle.order_laws.specs.Orders.{Order}
 use Rattle.word_arena.specs.declared.stores.Store.{Store}
-use Rattle.word_arena.specs.declared.layouts.Layout.{Layout}
 use Rattle.word_arena.specs.Layouts.{capacity_of, limit_of}
 use Rattle.word_arena.specs.Words.{at}
 use Rattle.word_arena.specs.Stores.{words_after}
@@ -21,10 +20,8 @@ use Rattle.latch_core.specs.Updates.{refuses, most_steps}
 use Rattle.latch_core.specs.Latches.{Hand, Latch, MayStep, stepped, begun}
 use Rattle.latch_core.specs.Plans.{IsPlan}
 use Rattle.latch_core.specs.Writers.{Pictures, HasBegun, in_hand, why_refused, stepped_writer}
-use Rattle.latch_steps.specs.declared.events.Event.{Event}
 use Rattle.latch_steps.specs.declared.events.Event.TheVariants.{Begin, Write, Start, Read}
 use Rattle.latch_steps.specs.declared.replies.Returned.{Returned}
-use Rattle.latch_steps.specs.declared.replies.Reply.{Reply}
 use Rattle.latch_steps.specs.declared.replies.Reply.TheVariants.{Begun, Wrote, Idle, Started, Loaded, Retried, Returned as Gave, Refused}
 use Rattle.latch_steps.specs.declared.lookups.Lookup.{Lookup}
 use Rattle.latch_steps.specs.declared.lookups.Loaded.TheVariants.{Going, Retrying, Returned as Ended}
@@ -32,7 +29,7 @@ use Rattle.latch_steps.specs.declared.worlds.World.{World}
 use Rattle.latch_steps.specs.Runs.{LookupInHand, Moment, more, counted, with_latch, with_lookups, Begins, Writes, Starts, Reads}
 use Rattle.latch_steps.specs.Expands.{writes_left}
 use Rattle.latch_steps.specs.Lookups.{IsInHand, IsLookupOf, LoadsTo, started}
-use Rattle.latch_steps.specs.Shows.{AreInHand, Shows, Does, GivesUp, MayDo, IsAtRest}
+use Rattle.latch_steps.specs.Shows.{AreInHand, Shows, Does, MayDo, IsAtRest}
 
 -- the lookup in hand that is shown
 module _ {O K : Type 0} (o : Order K) (n : ℕ) where

@@ -1,39 +1,31 @@
 -- A lookup that the writer leaves alone returns at its first attempt, and each other attempt needs a flip.
-use Rattle.std.proofs.Common.{◌≡◌, ◌≢◌, ℕ, suc, zero, ◌+◌, ◌-◌, ◌*◌, ◌^◌, ◌<◌, ◌≤◌, min, Bool, true, false, cond, List, [], ◌∷◌, ◌++◌, length, take, get_or, Option, Some, None, refl, sym, ◌∙◌, ap, subst, inl, inr, ⊎_elim, arith, length-append, append_assoc, append-nil}
-use Rattle.std.specs.Prelude.{◌⊎◌, ◌==◌, is_some, slice_index_or, MatchBool}
-use Rattle.std.specs.List.{AllByRecursion}
+use Rattle.std.proofs.Common.{◌≡◌, ◌≢◌, ℕ, ◌+◌, ◌-◌, ◌*◌, ◌^◌, ◌<◌, ◌≤◌, true, false, cond, List, [], ◌∷◌, ◌++◌, length, take, Option, Some, None, refl, sym, ◌∙◌, ap, subst, arith, length-append, append_assoc}
+use Rattle.std.specs.Prelude.{◌==◌, MatchBool}
 use Rattle.std.specs.Ordering.{nat_cmp, eq_by_cmp}
 use Rattle.std.specs.Cmp.{nat_cmp_total}
 use Rattle.std.specs.FinMap.{FinMap, get, insert, remove, get-insert, get-remove}
 use Rattle.std.proofs.lemmas.Bool.{eqb-true, eqb-false}
 use Rattle.std.proofs.lemmas.Bool.Decides.{nat_tests}
 use Rattle.order_laws.specs.declared.items.Item.{Item}
-use Rattle.word_arena.specs.declared.stores.Store.{Store}
 use Rattle.latch_core.specs.declared.updates.Update.{Update}
 use Rattle.order_laws.specs.declared.refusals.Refusal.{Refusal}
 use Rattle.latch_steps.specs.declared.events.Event.{Event}
 use Rattle.latch_steps.specs.declared.events.Event.TheVariants.{Begin, Write, Start, Read}
-use Rattle.latch_steps.specs.declared.replies.Returned.{Returned}
 use Rattle.latch_steps.specs.declared.replies.Reply.{Reply}
-use Rattle.latch_steps.specs.declared.replies.Reply.TheVariants.{Begun, Wrote, Idle, Started, Loaded, Retried, Returned as Gave, Refused}
+use Rattle.latch_steps.specs.declared.replies.Reply.TheVariants.{Started, Loaded, Returned as Gave}
 use Rattle.order_laws.specs.Orders.{Order, IsLawful}
 use Rattle.order_laws.specs.Tables.{IsTable, look}
 use Rattle.latch_core.specs.Histories.{replay, table_at}
-use Rattle.latch_core.specs.Updates.{refuses, after}
 use Rattle.word_arena.specs.Words.{at, Nodes, Holds}
 use Rattle.latch_core.specs.Sequences.{gen, stable}
-use Rattle.latch_core.specs.Attempts.{Outcome, Answer, Again, Reading, Load, Ends, attempt, rest_after, Stand, IsAttempt}
-use Rattle.latch_core.specs.Latches.{Hand, Latch, MayStep, stepped, begun}
-use Rattle.latch_steps.specs.Runs.{LookupInHand, Moment, more, opening, counted, with_latch, with_lookups, Begins, Writes, Starts, wanted, Gets, Reads, Step, Run, accepted, history}
-use Rattle.latch_steps.specs.Quiet.{Undisturbed, UnlessWrote, Returning, FromStart, AreUndisturbed, IsQuiet}
-use Rattle.latch_steps.specs.Safe.{sequence_at}
-use Rattle.latch_core.specs.Invariants.{IsStanding, IsSound}
+use Rattle.latch_core.specs.Attempts.{Answer, Again, Reading, Load, Ends, attempt, rest_after, Stand, IsAttempt}
+use Rattle.latch_core.specs.Latches.{Hand}
+use Rattle.latch_steps.specs.Runs.{LookupInHand, Moment, more, counted, Begins, Writes, Starts, wanted, Gets, Reads, Step, Run, accepted, history}
+use Rattle.latch_steps.specs.Quiet.{Undisturbed, UnlessWrote, Returning, FromStart, AreUndisturbed}
 use Rattle.std.proofs.lemmas.List.{take-append-le}
 use Rattle.latch_core.proofs.Readings.{rest_push, stand_push}
-use Rattle.latch_core.proofs.Sound.{sound_opening}
-use Rattle.latch_steps.proofs.Moments.{IsWorld, IsLookup, AreLookups, step_leads}
-use Rattle.latch_steps.proofs.SafeRuns.{gen_within, opening_world}
-use Rattle.std.proofs.Math.Seq.{get_or-append_seam}
+use Rattle.latch_steps.proofs.Moments.{IsWorld, step_leads}
+use Rattle.latch_steps.proofs.SafeRuns.{gen_within}
 use Rattle.latch_core.proofs.Walks.{attempt_answers, attempt_below}
 
 -- a map at a key, after a change at another and at this one

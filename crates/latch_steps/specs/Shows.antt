@@ -1,5 +1,5 @@
 -- When a world of the code shows a moment of the definitions, and what its methods do then.
-use Rattle.std.specs.Prelude.{◌≡◌, ℕ, ◌⊎◌, Option, Some, None}
+use Rattle.std.specs.Prelude.{◌≡◌, ℕ, ◌⊎◌, Option, None}
 use Rattle.std.specs.Ordering.{nat_cmp}
 use Rattle.std.specs.BTreeMap.{get as tree_get}
 use Rattle.std.specs.FinMap.{FinMap, get}

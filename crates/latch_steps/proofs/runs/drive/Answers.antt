@@ -1,8 +1,7 @@
-use Rattle.std.proofs.Common.{◌≡◌, ◌∙◌, ◌++◌, ◌∷◌, [], take, sym, subst, refl, arith}
+use Rattle.std.proofs.Common.{◌++◌, [], take, sym, subst, refl, arith}
 use Rattle.std.proofs.lemmas.List.{take_all}
 use Rattle.word_arena.specs.Layouts.{capacity_of}
 use Rattle.latch_steps.specs.Runs.{opening, last_of}
-use Rattle.latch_steps.specs.Records.{Records}
 use Rattle.latch_steps.specs.Expands.{Expand}
 use Rattle.latch_steps.proofs.SafeRuns.{safe}
 use Rattle.latch_steps.proofs.Patient.{quiet}

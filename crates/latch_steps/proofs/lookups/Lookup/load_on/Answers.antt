@@ -1,4 +1,4 @@
-use Rattle.std.proofs.Common.{◌≡◌, ◌+◌, Some, subst, sym, arith}
+use Rattle.std.proofs.Common.{◌+◌, Some, subst, sym, arith}
 use Rattle.std.specs.FinMap.{get}
 use Rattle.latch_steps.specs.declared.lookups.Lookup.{Lookup}
 use Rattle.latch_steps.specs.Lookups.{IsInHand}

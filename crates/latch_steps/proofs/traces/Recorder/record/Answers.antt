@@ -1,4 +1,4 @@
-use Rattle.std.proofs.Common.{◌≡◌, ◌∙◌, ◌++◌, ◌∷◌, [], Some, None, sym, subst, append-nil}
+use Rattle.std.proofs.Common.{◌∙◌, ◌∷◌, [], Some, None, sym, subst, append-nil}
 use Rattle.latch_steps.specs.declared.traces.Recorder.{Recorder}
 use Rattle.latch_steps.specs.Runs.{Moment}
 use Rattle.latch_steps.specs.Shows.{Shows}

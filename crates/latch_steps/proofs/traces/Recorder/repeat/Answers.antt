@@ -1,5 +1,4 @@
-use Rattle.std.proofs.Common.{◌≡◌, ◌∙◌, sym, subst, arith}
-use Rattle.latch_steps.specs.Expands.{most_of}
+use Rattle.std.proofs.Common.{subst, arith}
 use Rattle.latch_steps.specs.Records.{Obeys}
 use Rattle.latch_steps.proofs.Recording.{repeats_none, repeats_all, repeats_more, repeats_last}
 use Rattle.latch_steps.proofs.traces.Recorder.repeat.Goals as goal

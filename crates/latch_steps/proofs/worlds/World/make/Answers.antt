@@ -1,5 +1,4 @@
-use Rattle.std.proofs.Common.{◌≡◌, ◌∙◌, ap, sym, refl}
-use Rattle.word_arena.specs.Stores.{words_after}
+use Rattle.std.proofs.Common.{sym}
 use Rattle.latch_steps.proofs.Showing.{makes}
 use Rattle.latch_steps.proofs.worlds.World.make.Goals as goal
 

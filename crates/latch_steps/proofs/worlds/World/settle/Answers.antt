@@ -1,5 +1,4 @@
-use Rattle.std.proofs.Common.{◌∙◌, ap, refl}
-use Rattle.latch_steps.specs.Shows.{layout_in}
+use Rattle.std.proofs.Common.{◌∙◌, refl}
 use Rattle.latch_steps.proofs.Settling.{no_writes, one_write, all_written, is_settled}
 use Rattle.latch_steps.proofs.worlds.World.settle.Goals as goal
 

@@ -1,4 +1,4 @@
-use Rattle.std.proofs.Common.{◌≡◌, ℕ, length}
+use Rattle.std.proofs.Common.{◌≡◌, length}
 use Rattle.latch_steps.specs.Runs.{Moment}
 use Rattle.latch_steps.specs.Shows.{Shows, layout_in}
 use Rattle.latch_steps.proofs.Settling.{Writing}
