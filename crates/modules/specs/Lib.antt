@@ -1,2 +1,4 @@
 pub mod Listed
 pub mod Lines
+pub mod Regions
+pub mod Spread

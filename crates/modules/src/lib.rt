@@ -2,5 +2,6 @@
 #![tactic(auto)]
 
 pub mod lines;
+mod regions;
 
 pub use lines::{ModuleLine, SymbolLine};
