@@ -1,1 +1,2 @@
 pub mod Spreading
+pub mod Admitting

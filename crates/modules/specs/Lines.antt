@@ -18,3 +18,7 @@ built_in_region lines =
     option_and_then
         (λ start. option_and_then (λ end. if nat_lt start end then Some (start, end) else None) (first_address (codes "_end") lines))
         (first_address (codes "_stext") lines)
+
+-- from the base up to the base plus the size
+abbrev pub region_of : ListedModule → ℕ × ℕ
+region_of l = (l.base, l.base + l.size)

@@ -1,6 +1,7 @@
 //! The modules that may be loaded.
 #![tactic(auto)]
 
+mod admission;
 pub mod lines;
 mod regions;
 

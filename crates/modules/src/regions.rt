@@ -10,6 +10,7 @@ use std::marker::Model;
 
 /// Regions from an address up to an end that is excluded, by their first addresses. They lie apart, so that one
 /// neighbour tells whether a further region is apart from all of them.
+#[derive(Drop)]
 pub(crate) struct Regions {
     ends: BTreeMap<u64, u64>,
 }
