@@ -1,2 +1,3 @@
 pub mod Spreading
 pub mod Admitting
+pub mod Indexing

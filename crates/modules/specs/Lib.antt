@@ -4,3 +4,6 @@ pub mod Regions
 pub mod Spread
 pub mod Accepted
 pub mod Admissions
+pub mod Entries
+pub mod Around
+pub mod Index

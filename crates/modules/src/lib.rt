@@ -4,5 +4,6 @@
 mod admission;
 pub mod lines;
 mod regions;
+pub mod symbols;
 
 pub use lines::{ModuleLine, SymbolLine};
