@@ -1,5 +1,5 @@
 -- Symbols by rising address.
-use Rattle.std.specs.Prelude.{ℕ, Bool, ◌&&◌, ◌||◌, nat_lt, nat_eq, List, map, IsPermutation}
+use Rattle.std.specs.Prelude.{ℕ, ◌<◌, ◌≤◌, Bool, ◌&&◌, ◌||◌, nat_lt, nat_eq, List, length, slice_index_or, map, IsPermutation}
 use Rattle.std.specs.List.{enumerate_from}
 use Rattle.std.specs.List.Sorted.{IsSortedBy}
 use Rattle.modules.specs.Entries.{SymbolEntry}
@@ -17,3 +17,9 @@ comes_before x y = nat_lt x.addr y.addr || (nat_eq x.addr y.addr && nat_lt y.pla
 pub record IsIndex (symbols : List SymbolEntry) (index : List IndexEntry) : Type 0 where
   pub sorted : IsSortedBy comes_before index
   pub listed : IsPermutation (entries_of symbols) index
+
+-- the entries below the place are not above the address, and the others are
+pub record IsSplit (index : List IndexEntry) (addr place : ℕ) : Type 0 where
+  pub bound : place ≤ length index
+  pub below : (k : ℕ) (d : IndexEntry) → k < place → (slice_index_or index k d).addr ≤ addr
+  pub above : (k : ℕ) (d : IndexEntry) → place ≤ k → k < length index → addr < (slice_index_or index k d).addr

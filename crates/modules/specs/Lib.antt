@@ -7,3 +7,4 @@ pub mod Admissions
 pub mod Entries
 pub mod Around
 pub mod Index
+pub mod Modules

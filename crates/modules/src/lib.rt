@@ -3,6 +3,7 @@
 
 mod admission;
 pub mod lines;
+pub mod module;
 mod regions;
 pub mod symbols;
 

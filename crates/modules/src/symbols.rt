@@ -1,7 +1,9 @@
 //! Symbols in the order of a listing, and an index of them by address.
 
-ghost use Rattle.std.specs.Prelude.{◌≡◌, IfOk};
-ghost use Rattle.modules.specs.Index.{entries_of, IsIndex};
+ghost use Rattle.std.specs.Prelude.{◌≡◌, IfOk, slice_get};
+ghost use Rattle.std.specs.List.Sorted.{IsNonDecreasingBy};
+ghost use Rattle.std.specs.Option.{option_map};
+ghost use Rattle.modules.specs.Index.{entries_of, IsIndex, IsSplit};
 
 use std::alloc::{AllocError, Global};
 use std::marker::Model;
@@ -51,4 +53,19 @@ pub(crate) fn by_address(alloc: Global, symbols: &[Symbol]) -> Result<Vec<IndexE
     let mut entries = listed_entries(alloc, symbols)?;
     entries.sort_by(|x, y| x.addr.cmp(&y.addr).then(y.place.cmp(&x.place)))?;
     Ok(entries)
+}
+
+/// How many entries are not above the address.
+pub(crate) fn split_at(index: &[IndexEntry], addr: u64) -> usize
+    requires { IsNonDecreasingBy (λ e. e.addr) index.now }
+    ensures { IsSplit index.now addr result }
+{
+    index.partition_point(|entry| entry.addr <= addr)
+}
+
+/// The address of the entry at a place, if there is one.
+pub(crate) fn address_at(index: &[IndexEntry], place: usize) -> Option<u64>
+    ensures { result ≡ option_map (λ e. e.addr) (slice_get index.now place) }
+{
+    index.get(place).map(|entry| entry.addr)
 }
