@@ -1,3 +1,4 @@
 pub mod Spreading
 pub mod Admitting
 pub mod Indexing
+pub mod Keeping

@@ -8,3 +8,5 @@ pub mod Entries
 pub mod Around
 pub mod Index
 pub mod Modules
+pub mod Kept
+pub mod Gathering

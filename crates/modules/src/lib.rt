@@ -2,6 +2,7 @@
 #![tactic(auto)]
 
 mod admission;
+mod gathering;
 pub mod lines;
 pub mod module;
 mod regions;

@@ -1,7 +1,8 @@
 //! The lines of the two listings that a catalog is built from.
 
 ghost use Rattle.std.specs.Prelude.{◌≡◌};
-ghost use Rattle.modules.specs.Lines.{fits, first_address, built_in_region};
+ghost use Rattle.modules.specs.Lines.{fits, first_address, built_in_region, region_of};
+ghost use Rattle.modules.specs.Regions.{holds};
 
 use std::marker::Model;
 
@@ -31,6 +32,13 @@ impl ModuleLine {
         ensures { result ≡ fits self.now }
     {
         self.base != 0 && self.size != 0 && self.size <= u64::MAX - self.base
+    }
+
+    /// Whether the address lies in the line's region.
+    pub(crate) fn holds(&self, addr: u64) -> bool
+        ensures { result ≡ holds (region_of self.now) addr }
+    {
+        self.base <= addr && addr - self.base < self.size
     }
 }
 
@@ -68,7 +76,7 @@ fn first_address(lines: &[SymbolLine], name: &[u8]) -> Option<u64>
 }
 
 /// The region of the kernel itself, from `_stext` up to `_end`.
-fn built_in_region(lines: &[SymbolLine]) -> Option<(u64, u64)>
+pub(crate) fn built_in_region(lines: &[SymbolLine]) -> Option<(u64, u64)>
     ensures { result ≡ built_in_region lines.now }
 {
     let start = first_address(lines, b"_stext")?;
