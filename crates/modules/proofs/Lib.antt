@@ -2,3 +2,4 @@ pub mod Spreading
 pub mod Admitting
 pub mod Indexing
 pub mod Keeping
+pub mod Gatherings
