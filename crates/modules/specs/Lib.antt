@@ -10,3 +10,7 @@ pub mod Index
 pub mod Modules
 pub mod Kept
 pub mod Gathering
+pub mod Names
+pub mod Building
+pub mod Catalogs
+pub mod Sound

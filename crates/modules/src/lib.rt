@@ -1,11 +1,17 @@
-//! The modules that may be loaded.
+//! The catalog of the modules that may be loaded, with the symbols of each.
 #![tactic(auto)]
 
 mod admission;
+mod build;
+pub mod catalog;
 mod gathering;
 pub mod lines;
 pub mod module;
+mod names;
 mod regions;
 pub mod symbols;
 
+pub use catalog::{BuildCounts, Catalog};
 pub use lines::{ModuleLine, SymbolLine};
+pub use module::Module;
+pub use symbols::Symbol;
