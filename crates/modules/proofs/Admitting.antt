@@ -31,16 +31,16 @@ pub is_some-position_from : {A : Type 0} (test : A → Bool) (i : ℕ) (xs : Lis
 is_some-position_from test i [] = refl
 is_some-position_from test i (x ∷ xs) =
     elim (test x) as (λ b. is_some (cond b (Some i) (position_from test (i + 1) xs)) ≡ (b || list_any test xs))
-        [ true ↦ refl | false ↦ is_some-position_from test (i + 1) xs ]
+    [ true ↦ refl | false ↦ is_some-position_from test (i + 1) xs ]
 
 -- one more element at the end
 pub position_from-push : {A : Type 0} (test : A → Bool) (i : ℕ) (xs : List A) (y : A) → position_from test i (xs ++ y ∷ []) ≡ cond (is_some (position_from test i xs)) (position_from test i xs) (cond (test y) (Some (i + length xs)) None)
 position_from-push test i [] y = rw (add-zero) refl
 position_from-push test i (x ∷ xs) y =
-    elim (test x) as (λ b. cond b (Some i) (position_from test (i + 1) (xs ++ y ∷ [])) ≡ cond (is_some (cond b (Some i) (position_from test (i + 1) xs))) (cond b (Some i) (position_from test (i + 1) xs)) (cond (test y) (Some (i + length (x ∷ xs))) None))
-        [ true ↦ refl
-        | false ↦ let n : i + length (x ∷ xs) ≡ (i + 1) + length xs = omega arith in rw n (position_from-push test (i + 1) xs y)
-        ]
+    elim (test x) as (λ b. cond b (Some i) (position_from test (i + 1) (xs ++ y ∷ [])) ≡ cond (is_some (cond b (Some i) (position_from test (i + 1) xs))) (cond b (Some i) (position_from test (i + 1) xs)) (cond (test y) (Some (i + length (x ∷ xs))) None)) [
+      | true ↦ refl
+      | false ↦ let n : i + length (x ∷ xs) ≡ (i + 1) + length xs = omega arith in rw n (position_from-push test (i + 1) xs y)
+    ]
 
 kept_or_none : {A : Type 0} (o : Option A) → o ≡ cond (is_some o) o None
 kept_or_none None = refl
@@ -57,15 +57,15 @@ pub placed_after : (names : List (List ℕ)) (new name : List ℕ) (n : ℕ) →
 placed_after names new name n absent last =
     rw (position_from-push (bytes_eq name) 0 names new)
     (⊎_elim
-        (λ same.
-            let is : new ≡ name = (bytes_decides new name).0 same in
-            let back : bytes_eq name new ≡ true = (bytes_decides name new).1 (sym is) in
-            let none : is_some (position_from (bytes_eq name) 0 names) ≡ false = is_some-position_from (bytes_eq name) 0 names ∙ ap (λ w. list_any (bytes_eq w) names) (sym is) ∙ absent in
-            last_place (bytes_eq new name) (bytes_eq name new) n (0 + length names) (position_from (bytes_eq name) 0 names) same back none (omega arith))
-        (λ other.
-            let back : bytes_eq name new ≡ false = false_from_ne_true (bytes_eq name new) (λ t. let turned : bytes_eq new name ≡ true = (bytes_decides new name).1 (sym ((bytes_decides name new).0 t)) in cc) in
-            same_place (bytes_eq new name) (bytes_eq name new) n (0 + length names) (position_from (bytes_eq name) 0 names) other back)
-        (cases_Bool (bytes_eq new name)))
+    (λ same.
+    let is : new ≡ name = (bytes_decides new name).0 same in
+    let back : bytes_eq name new ≡ true = (bytes_decides name new).1 (sym is) in
+    let none : is_some (position_from (bytes_eq name) 0 names) ≡ false = is_some-position_from (bytes_eq name) 0 names ∙ ap (λ w. list_any (bytes_eq w) names) (sym is) ∙ absent in
+    last_place (bytes_eq new name) (bytes_eq name new) n (0 + length names) (position_from (bytes_eq name) 0 names) same back none (omega arith))
+    (λ other.
+    let back : bytes_eq name new ≡ false = false_from_ne_true (bytes_eq name new) (λ t. let turned : bytes_eq new name ≡ true = (bytes_decides new name).1 (sym ((bytes_decides name new).0 t)) in cc) in
+    same_place (bytes_eq new name) (bytes_eq name new) n (0 + length names) (position_from (bytes_eq name) 0 names) other back)
+    (cases_Bool (bytes_eq new name)))
 
 turned_and : (x y z : Bool) → (z && (x && y)) ≡ (x && (y && (z && true)))
 turned_and true true true = refl
@@ -92,13 +92,13 @@ total a = a.double + a.overlap + length a.lines
 
 pub total-after_line : (a : Accepted) (line : ListedModule) → total (after_line a line) ≡ total a + 1
 total-after_line a line =
-    elim (list_any (bytes_eq line.name) (names_of a.lines)) as (λ b. total (cond b (record a { double = a.double + 1 }) (cond (list_all (is_apart (region_of line)) (taken a)) (record a { lines = a.lines ++ line ∷ [] }) (record a { overlap = a.overlap + 1 }))) ≡ total a + 1)
-        [ true ↦ omega arith
-        | false ↦ elim (list_all (is_apart (region_of line)) (taken a)) as (λ b. total (cond b (record a { lines = a.lines ++ line ∷ [] }) (record a { overlap = a.overlap + 1 })) ≡ total a + 1)
-            [ true ↦ omega (arith, length-append a.lines (line ∷ []))
-            | false ↦ omega arith
-            ]
-        ]
+    elim (list_any (bytes_eq line.name) (names_of a.lines)) as (λ b. total (cond b (record a { double = a.double + 1 }) (cond (list_all (is_apart (region_of line)) (taken a)) (record a { lines = a.lines ++ line ∷ [] }) (record a { overlap = a.overlap + 1 }))) ≡ total a + 1) [
+      | true ↦ omega arith
+      | false ↦ elim (list_all (is_apart (region_of line)) (taken a)) as (λ b. total (cond b (record a { lines = a.lines ++ line ∷ [] }) (record a { overlap = a.overlap + 1 })) ≡ total a + 1) [
+        | true ↦ omega (arith, length-append a.lines (line ∷ []))
+        | false ↦ omega arith
+      ]
+    ]
 
 -- what the map of names and the regions answer is what the definitions ask
 pub found_in : (a : Admission) → IsTied a → (name query : List ℕ) (r : Bool) → r ≡ is_some (get_by (λ k. slice_cmp nat_cmp query k.now) a.places) → query ≡ name → list_any (bytes_eq name) (names_of (shown a).lines) ≡ r
@@ -115,9 +115,9 @@ pub IsTied-accepted : (a : Admission) (line : ListedModule) → IsTied a → (n 
     → IsTied n
 IsTied-accepted a line tied n shows absent k last names regions =
     record {
-        placed = λ name.
-            let names_are : names_of (shown n).lines ≡ names_of (shown a).lines ++ line.name ∷ [] = ap (λ (s : Accepted). names_of s.lines) shows ∙ map-append (λ (l : ListedModule). l.name) (shown a).lines (line ∷ []) in
-            names name ∙ ap (λ (o : Option ℕ). cond (bytes_eq line.name name) (Some k) o) (tied.placed name) ∙ placed_after (names_of (shown a).lines) line.name name k absent (last ∙ sym (length-map (shown a).lines (λ (l : ListedModule). l.name))) ∙ ap (position_from (bytes_eq name) 0) (sym names_are);
-        free = λ p.
-            list_all-taken_after p (shown a) line (list_all p n.taken) (regions p ∙ ap (λ w. p (region_of line) && w) (tied.free p)) ∙ ap (λ s. list_all p (taken s)) (sym shows);
+      placed = λ name.
+          let names_are : names_of (shown n).lines ≡ names_of (shown a).lines ++ line.name ∷ [] = ap (λ (s : Accepted). names_of s.lines) shows ∙ map-append (λ (l : ListedModule). l.name) (shown a).lines (line ∷ []) in
+          names name ∙ ap (λ (o : Option ℕ). cond (bytes_eq line.name name) (Some k) o) (tied.placed name) ∙ placed_after (names_of (shown a).lines) line.name name k absent (last ∙ sym (length-map (shown a).lines (λ (l : ListedModule). l.name))) ∙ ap (position_from (bytes_eq name) 0) (sym names_are);
+      free = λ p.
+          list_all-taken_after p (shown a) line (list_all p n.taken) (regions p ∙ ap (λ w. p (region_of line) && w) (tied.free p)) ∙ ap (λ s. list_all p (taken s)) (sym shows);
     }

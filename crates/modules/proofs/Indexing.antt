@@ -30,8 +30,8 @@ order_chain a p b q c r h k = grind (arith, nat_tests)
 
 pub comes_before_weak : IsStrictWeakOrder comes_before
 comes_before_weak = record {
-    one_way = λ x y h. order_one_way x.addr x.place y.addr y.place h;
-    chain = λ x y z h k. order_chain x.addr x.place y.addr y.place z.addr z.place h k;
+  one_way = λ x y h. order_one_way x.addr x.place y.addr y.place h;
+  chain = λ x y z h k. order_chain x.addr x.place y.addr y.place z.addr z.place h k;
 }
 
 -- comparing by address and then, turned round, by place
@@ -57,10 +57,10 @@ find_none p (x ∷ xs) none =
 pub find_number : {A : Type 0} (p : A → Bool) (f : A → ℕ) (xs : List A) (a : ℕ) → All (λ x. p x ≡ true → f x ≡ a) xs → list_any p xs ≡ true → option_map f (find p xs) ≡ Some a
 find_number p f [] a all some = absurd (cc)
 find_number p f (x ∷ xs) a all some =
-    elim (p x) as (λ b. (b ≡ true → f x ≡ a) → (b || list_any p xs) ≡ true → option_map f (cond b (Some x) (find p xs)) ≡ Some a)
-        [ true ↦ λ here _. ap (λ n. Some n) (here refl)
-        | false ↦ λ _ rest. find_number p f xs a (All-tail (λ y. p y ≡ true → f y ≡ a) x xs all) rest
-        ] (All-head (λ y. p y ≡ true → f y ≡ a) x xs all) some
+    elim (p x) as (λ b. (b ≡ true → f x ≡ a) → (b || list_any p xs) ≡ true → option_map f (cond b (Some x) (find p xs)) ≡ Some a) [
+      | true ↦ λ here _. ap (λ n. Some n) (here refl)
+      | false ↦ λ _ rest. find_number p f xs a (All-tail (λ y. p y ≡ true → f y ≡ a) x xs all) rest
+    ] (All-head (λ y. p y ≡ true → f y ≡ a) x xs all) some
 
 -- ---- the index and its symbols
 
@@ -83,10 +83,10 @@ all_symbols symbols index is P all j s lt =
 pub each_entry : (symbols : List SymbolEntry) (index : List IndexEntry) → IsIndex symbols index → All (λ e. (e.place < length symbols) × ((s : SymbolEntry) → (get_or symbols e.place s).addr ≡ e.addr)) index
 each_entry symbols index is =
     All-permutation (λ (e : IndexEntry). (e.place < length symbols) × ((s : SymbolEntry) → (get_or symbols e.place s).addr ≡ e.addr)) (entries_of symbols) index is.listed (λ j d lt.
-        let within : j < length symbols = rw (← length-entries_of symbols) lt in
-        let none : SymbolEntry = record { addr = 0; name = [] } in
-        let place_is : (get_or (entries_of symbols) j d).place ≡ j = ap (λ (e : IndexEntry). e.place) (entry_at symbols 0 j j d none within (omega arith)) in
-        (omega arith, λ s. ap (λ k. (get_or symbols k s).addr) place_is ∙ sym (ap (λ (e : IndexEntry). e.addr) (entry_at symbols 0 j j d s within (omega arith)))))
+    let within : j < length symbols = rw (← length-entries_of symbols) lt in
+    let none : SymbolEntry = record { addr = 0; name = [] } in
+    let place_is : (get_or (entries_of symbols) j d).place ≡ j = ap (λ (e : IndexEntry). e.place) (entry_at symbols 0 j j d none within (omega arith)) in
+    (omega arith, λ s. ap (λ k. (get_or symbols k s).addr) place_is ∙ sym (ap (λ (e : IndexEntry). e.addr) (entry_at symbols 0 j j d s within (omega arith)))))
 
 -- an entry that does not come first
 not_first : (a p b q : ℕ) → (nat_lt b a || (nat_eq b a && nat_lt p q)) ≡ false → (a ≤ b) × (a ≡ b → q ≤ p)
@@ -108,9 +108,9 @@ lt_from_leb a b h = grind (arith, nat_tests)
 pub IsSplit-from_partition : (index : List IndexEntry) (addr split : ℕ) → split ≤ length index → IsPartitionPoint (λ e. nat_le e.addr addr ≡ true) (λ e. nat_le e.addr addr ≡ false) index split → IsSplit index addr split
 IsSplit-from_partition index addr split bound point =
     record {
-        bound = bound;
-        below = λ k d lt. le_from_leb (get_or index k d).addr addr (point.0 k d (omega arith) lt);
-        above = λ k d le lt. lt_from_leb (get_or index k d).addr addr (point.1 k d le lt);
+      bound = bound;
+      below = λ k d lt. le_from_leb (get_or index k d).addr addr (point.0 k d (omega arith) lt);
+      above = λ k d le lt. lt_from_leb (get_or index k d).addr addr (point.1 k d le lt);
     }
 
 -- ---- the symbol that is not above an address
@@ -136,8 +136,8 @@ le_is_false a b h = grind (arith, nat_tests)
 pub none_below : (symbols : List SymbolEntry) (index : List IndexEntry) → IsIndex symbols index → (addr : ℕ) → IsSplit index addr 0 → symbol_below symbols addr ≡ None
 none_below symbols index is addr split =
     find_none (is_nearest symbols addr) symbols (λ j s lt.
-        let over : addr < (get_or symbols j s).addr = all_symbols symbols index is (λ e. addr < e.addr) (λ k d l. split.above k d (omega arith) l) j s lt in
-        rw (le_is_false (get_or symbols j s).addr addr over))
+    let over : addr < (get_or symbols j s).addr = all_symbols symbols index is (λ e. addr < e.addr) (λ k d l. split.above k d (omega arith) l) j s lt in
+    rw (le_is_false (get_or symbols j s).addr addr over))
 
 pub last_below : (symbols : List SymbolEntry) (index : List IndexEntry) → IsIndex symbols index → (addr split : ℕ) → IsSplit index addr split → 0 < split → (e : IndexEntry) → e ≡ get_or index (split - 1) e → (s : SymbolEntry) → symbol_below symbols addr ≡ Some (get_or symbols e.place s)
 last_below symbols index is addr split parts some e at s =
@@ -146,25 +146,25 @@ last_below symbols index is addr split parts some e at s =
     let its : (get_or symbols e.place s).addr ≡ e.addr = own.1 s in
     let low : e.addr ≤ addr = subst (λ (x : IndexEntry). x.addr ≤ addr) (sym at) (parts.below (split - 1) e (omega arith)) in
     let near : All (λ (x : IndexEntry). (x.addr ≤ e.addr) ⊎ (addr < x.addr)) index = λ k d lt. ⊎_elim
-        (λ before. inl (subst (λ (x : IndexEntry). (get_or index k d).addr ≤ x.addr) (get_or_default index (split - 1) d e within ∙ sym at) (in_order symbols index is k (split - 1) d (omega arith) within).0))
-        (λ after. inr (parts.above k d after lt))
-        (cases_lt k split) in
+    (λ before. inl (subst (λ (x : IndexEntry). (get_or index k d).addr ≤ x.addr) (get_or_default index (split - 1) d e within ∙ sym at) (in_order symbols index is k (split - 1) d (omega arith) within).0))
+    (λ after. inr (parts.above k d after lt))
+    (cases_lt k split) in
     let later : All (λ (x : IndexEntry). x.addr ≡ e.addr → e.place ≤ x.place) index = λ k d lt. ⊎_elim
-        (λ before. subst (λ (x : IndexEntry). (get_or index k d).addr ≡ x.addr → x.place ≤ (get_or index k d).place) (get_or_default index (split - 1) d e within ∙ sym at) (in_order symbols index is k (split - 1) d (omega arith) within).1)
-        (λ after. λ same. let over : addr < (get_or index k d).addr = parts.above k d after lt in absurd (omega arith))
-        (cases_lt k split) in
+    (λ before. subst (λ (x : IndexEntry). (get_or index k d).addr ≡ x.addr → x.place ≤ (get_or index k d).place) (get_or_default index (split - 1) d e within ∙ sym at) (in_order symbols index is k (split - 1) d (omega arith) within).1)
+    (λ after. λ same. let over : addr < (get_or index k d).addr = parts.above k d after lt in absurd (omega arith))
+    (cases_lt k split) in
     find_first (is_nearest symbols addr) symbols e.place s own.0
-        (let le : nat_le (get_or symbols e.place s).addr addr ≡ true = rw its (le_is_true e.addr addr low) in
-         rw le (list_all-from_AllPass (λ (t : SymbolEntry). nat_le t.addr (get_or symbols e.place s).addr || nat_lt addr t.addr) symbols (λ j t lt. rw its (nearest_test (get_or symbols j t).addr e.addr addr (all_symbols symbols index is (λ (x : IndexEntry). (x.addr ≤ e.addr) ⊎ (addr < x.addr)) near j t lt)))))
-        (λ k less. false_from_ne_true (is_nearest symbols addr (get_or symbols k s)) (λ yes.
-            let lt : k < length symbols = let o = own.0 in omega arith in
-            let both = and_parts (nat_le (get_or symbols k s).addr addr) (list_all (λ (t : SymbolEntry). nat_le t.addr (get_or symbols k s).addr || nat_lt addr t.addr) symbols) yes in
-            let under : (get_or symbols k s).addr ≤ addr = le_from_leb (get_or symbols k s).addr addr both.0 in
-            let test = AllPass-from_list_all (λ (t : SymbolEntry). nat_le t.addr (get_or symbols k s).addr || nat_lt addr t.addr) symbols both.1 e.place s own.0 in
-            let upper : e.addr ≤ (get_or symbols k s).addr = let u = below_nearest (get_or symbols e.place s).addr (get_or symbols k s).addr addr test (omega arith) in omega arith in
-            let lower : (get_or symbols k s).addr ≤ e.addr = ⊎_elim (λ le. le) (λ over. absurd (omega arith)) (all_symbols symbols index is (λ (x : IndexEntry). (x.addr ≤ e.addr) ⊎ (addr < x.addr)) near k s lt) in
-            let first : e.place ≤ k = all_symbols symbols index is (λ (x : IndexEntry). x.addr ≡ e.addr → e.place ≤ x.place) later k s lt (omega arith) in
-            omega arith))
+    (let le : nat_le (get_or symbols e.place s).addr addr ≡ true = rw its (le_is_true e.addr addr low) in
+    rw le (list_all-from_AllPass (λ (t : SymbolEntry). nat_le t.addr (get_or symbols e.place s).addr || nat_lt addr t.addr) symbols (λ j t lt. rw its (nearest_test (get_or symbols j t).addr e.addr addr (all_symbols symbols index is (λ (x : IndexEntry). (x.addr ≤ e.addr) ⊎ (addr < x.addr)) near j t lt)))))
+    (λ k less. false_from_ne_true (is_nearest symbols addr (get_or symbols k s)) (λ yes.
+    let lt : k < length symbols = let o = own.0 in omega arith in
+    let both = and_parts (nat_le (get_or symbols k s).addr addr) (list_all (λ (t : SymbolEntry). nat_le t.addr (get_or symbols k s).addr || nat_lt addr t.addr) symbols) yes in
+    let under : (get_or symbols k s).addr ≤ addr = le_from_leb (get_or symbols k s).addr addr both.0 in
+    let test = AllPass-from_list_all (λ (t : SymbolEntry). nat_le t.addr (get_or symbols k s).addr || nat_lt addr t.addr) symbols both.1 e.place s own.0 in
+    let upper : e.addr ≤ (get_or symbols k s).addr = let u = below_nearest (get_or symbols e.place s).addr (get_or symbols k s).addr addr test (omega arith) in omega arith in
+    let lower : (get_or symbols k s).addr ≤ e.addr = ⊎_elim (λ le. le) (λ over. absurd (omega arith)) (all_symbols symbols index is (λ (x : IndexEntry). (x.addr ≤ e.addr) ⊎ (addr < x.addr)) near k s lt) in
+    let first : e.place ≤ k = all_symbols symbols index is (λ (x : IndexEntry). x.addr ≡ e.addr → e.place ≤ x.place) later k s lt (omega arith) in
+    omega arith))
 
 -- ---- the least address above an address
 
@@ -186,8 +186,8 @@ lt_from_ltb a b h = grind (arith, nat_tests)
 pub none_above : (symbols : List SymbolEntry) (index : List IndexEntry) → IsIndex symbols index → (addr split : ℕ) → IsSplit index addr split → length index ≤ split → address_above symbols addr ≡ None
 none_above symbols index is addr split parts all =
     ap (option_map (λ (s : SymbolEntry). s.addr)) (find_none (is_next symbols addr) symbols (λ j s lt.
-        let under : (get_or symbols j s).addr ≤ addr = all_symbols symbols index is (λ e. e.addr ≤ addr) (λ k d l. parts.below k d (omega arith)) j s lt in
-        rw (lt_is_false addr (get_or symbols j s).addr under)))
+    let under : (get_or symbols j s).addr ≤ addr = all_symbols symbols index is (λ e. e.addr ≤ addr) (λ k d l. parts.below k d (omega arith)) j s lt in
+    rw (lt_is_false addr (get_or symbols j s).addr under)))
 
 pub first_above : (symbols : List SymbolEntry) (index : List IndexEntry) → IsIndex symbols index → (addr split : ℕ) → IsSplit index addr split → split < length index → (e : IndexEntry) → e ≡ get_or index split e → address_above symbols addr ≡ Some e.addr
 first_above symbols index is addr split parts within e at =
@@ -196,24 +196,24 @@ first_above symbols index is addr split parts within e at =
     let its : (get_or symbols e.place s).addr ≡ e.addr = own.1 s in
     let high : addr < e.addr = subst (λ (x : IndexEntry). addr < x.addr) (sym at) (parts.above split e (omega arith) within) in
     let beyond : All (λ (x : IndexEntry). (x.addr ≤ addr) ⊎ (e.addr ≤ x.addr)) index = λ k d lt. ⊎_elim
-        (λ before. inl (parts.below k d before))
-        (λ after. inr (subst (λ (x : IndexEntry). x.addr ≤ (get_or index k d).addr) (get_or_default index split d e within ∙ sym at) (in_order symbols index is split k d after lt).0))
-        (cases_lt k split) in
+    (λ before. inl (parts.below k d before))
+    (λ after. inr (subst (λ (x : IndexEntry). x.addr ≤ (get_or index k d).addr) (get_or_default index split d e within ∙ sym at) (in_order symbols index is split k d after lt).0))
+    (cases_lt k split) in
     find_number (is_next symbols addr) (λ (t : SymbolEntry). t.addr) symbols e.addr
-        (λ j t lt yes.
-            let both = and_parts (nat_lt addr (get_or symbols j t).addr) (list_all (λ (u : SymbolEntry). nat_le u.addr addr || nat_le (get_or symbols j t).addr u.addr) symbols) yes in
-            let over : addr < (get_or symbols j t).addr = lt_from_ltb addr (get_or symbols j t).addr both.0 in
-            let lower : e.addr ≤ (get_or symbols j t).addr = ⊎_elim (λ le. absurd (omega arith)) (λ le. le) (all_symbols symbols index is (λ (x : IndexEntry). (x.addr ≤ addr) ⊎ (e.addr ≤ x.addr)) beyond j t lt) in
-            let test = AllPass-from_list_all (λ (u : SymbolEntry). nat_le u.addr addr || nat_le (get_or symbols j t).addr u.addr) symbols both.1 e.place s own.0 in
-            let upper : (get_or symbols j t).addr ≤ e.addr = let u = above_next (get_or symbols j t).addr (get_or symbols e.place s).addr addr test (omega arith) in omega arith in
-            omega arith)
-        (list_any_at (is_next symbols addr) symbols e.place s own.0
-            (let lt : nat_lt addr (get_or symbols e.place s).addr ≡ true = rw its (lt_is_true addr e.addr high) in
-             rw lt (list_all-from_AllPass (λ (u : SymbolEntry). nat_le u.addr addr || nat_le (get_or symbols e.place s).addr u.addr) symbols (λ j t l. rw its (next_test e.addr (get_or symbols j t).addr addr (all_symbols symbols index is (λ (x : IndexEntry). (x.addr ≤ addr) ⊎ (e.addr ≤ x.addr)) beyond j t l))))))
+    (λ j t lt yes.
+    let both = and_parts (nat_lt addr (get_or symbols j t).addr) (list_all (λ (u : SymbolEntry). nat_le u.addr addr || nat_le (get_or symbols j t).addr u.addr) symbols) yes in
+    let over : addr < (get_or symbols j t).addr = lt_from_ltb addr (get_or symbols j t).addr both.0 in
+    let lower : e.addr ≤ (get_or symbols j t).addr = ⊎_elim (λ le. absurd (omega arith)) (λ le. le) (all_symbols symbols index is (λ (x : IndexEntry). (x.addr ≤ addr) ⊎ (e.addr ≤ x.addr)) beyond j t lt) in
+    let test = AllPass-from_list_all (λ (u : SymbolEntry). nat_le u.addr addr || nat_le (get_or symbols j t).addr u.addr) symbols both.1 e.place s own.0 in
+    let upper : (get_or symbols j t).addr ≤ e.addr = let u = above_next (get_or symbols j t).addr (get_or symbols e.place s).addr addr test (omega arith) in omega arith in
+    omega arith)
+    (list_any_at (is_next symbols addr) symbols e.place s own.0
+    (let lt : nat_lt addr (get_or symbols e.place s).addr ≡ true = rw its (lt_is_true addr e.addr high) in
+    rw lt (list_all-from_AllPass (λ (u : SymbolEntry). nat_le u.addr addr || nat_le (get_or symbols e.place s).addr u.addr) symbols (λ j t l. rw its (next_test e.addr (get_or symbols j t).addr addr (all_symbols symbols index is (λ (x : IndexEntry). (x.addr ≤ addr) ⊎ (e.addr ≤ x.addr)) beyond j t l))))))
 
 pub above_at : (symbols : List SymbolEntry) (index : List IndexEntry) → IsIndex symbols index → (addr split : ℕ) → IsSplit index addr split → option_map (λ e. e.addr) (slice_get index split) ≡ address_above symbols addr
 above_at symbols index is addr split parts =
     ⊎_elim
-        (λ (e, within, got, at). ap (option_map (λ (x : IndexEntry). x.addr)) got ∙ sym (first_above symbols index is addr split parts within e (sym at)))
-        (λ (past, got). ap (option_map (λ (x : IndexEntry). x.addr)) got ∙ sym (none_above symbols index is addr split parts past))
-        (slice_get_cases index split).1
+    (λ (e, within, got, at). ap (option_map (λ (x : IndexEntry). x.addr)) got ∙ sym (first_above symbols index is addr split parts within e (sym at)))
+    (λ (past, got). ap (option_map (λ (x : IndexEntry). x.addr)) got ∙ sym (none_above symbols index is addr split parts past))
+    (slice_get_cases index split).1

@@ -45,8 +45,8 @@ pub no_home : (a : Accepted) (s : ListedSymbol) (name : List ℕ) → s.owner �
 no_home a s name owner absent j m lt =
     let none : list_any (bytes_eq name) (names_of a.lines) ≡ false = sym (is_some-position_from (bytes_eq name) 0 (names_of a.lines)) ∙ ap is_some absent in
     let differs : bytes_eq name (get_or a.lines j m).name ≡ false = false_from_ne_true (bytes_eq name (get_or a.lines j m).name) (λ same.
-        let some : list_any (bytes_eq name) (names_of a.lines) ≡ true = list_any_at (bytes_eq name) (names_of a.lines) j [] (rw (length-map a.lines (λ (l : ListedModule). l.name)) lt) (ap (bytes_eq name) (name_at a.lines j m lt) ∙ same) in
-        cc) in
+    let some : list_any (bytes_eq name) (names_of a.lines) ≡ true = list_any_at (bytes_eq name) (names_of a.lines) j [] (rw (length-map a.lines (λ (l : ListedModule). l.name)) lt) (ap (bytes_eq name) (name_at a.lines j m lt) ∙ same) in
+    cc) in
     owned_by s name (get_or a.lines j m) owner ∙ first_false (bytes_eq name (get_or a.lines j m).name) (holds (region_of (get_or a.lines j m)) s.addr) differs
 
 -- the place of a name
@@ -63,15 +63,15 @@ only_home a s name k distinct owner at j m lt other =
     let is : name ≡ get_or (names_of a.lines) k [] = (bytes_decides name (get_or (names_of a.lines) k [])).0 found.1 in
     let within : j < length (names_of a.lines) = rw (length-map a.lines (λ (l : ListedModule). l.name)) lt in
     let apart : get_or (names_of a.lines) k [] ≡ get_or (names_of a.lines) j [] → ⊥ = ⊎_elim
-        (λ same. absurd (other (sym same)))
-        (λ differs. ⊎_elim
-            (λ before. distinct k j [] before within)
-            (λ after. λ e. distinct j k [] after found.0 (sym e))
-            differs)
-        (cases_order k j) in
+    (λ same. absurd (other (sym same)))
+    (λ differs. ⊎_elim
+    (λ before. distinct k j [] before within)
+    (λ after. λ e. distinct j k [] after found.0 (sym e))
+    differs)
+    (cases_order k j) in
     let differs : bytes_eq name (get_or a.lines j m).name ≡ false = false_from_ne_true (bytes_eq name (get_or a.lines j m).name) (λ same.
-        let e : name ≡ (get_or a.lines j m).name = (bytes_decides name (get_or a.lines j m).name).0 same in
-        apart (sym is ∙ e ∙ sym (name_at a.lines j m lt))) in
+    let e : name ≡ (get_or a.lines j m).name = (bytes_decides name (get_or a.lines j m).name).0 same in
+    apart (sym is ∙ e ∙ sym (name_at a.lines j m lt))) in
     owned_by s name (get_or a.lines j m) owner ∙ first_false (bytes_eq name (get_or a.lines j m).name) (holds (region_of (get_or a.lines j m)) s.addr) differs
 
 pub belongs_at : (a : Accepted) (s : ListedSymbol) (name : List ℕ) (k : ℕ) → s.owner ≡ Some name → position_from (bytes_eq name) 0 (names_of a.lines) ≡ Some k → (m : ListedModule) → belongs (get_or a.lines k m) s ≡ holds (region_of (get_or a.lines k m)) s.addr

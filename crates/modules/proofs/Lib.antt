@@ -6,3 +6,4 @@ pub mod Gatherings
 pub mod Naming
 pub mod Soundness
 pub mod Makings
+pub mod Counting

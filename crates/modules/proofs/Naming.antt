@@ -37,22 +37,22 @@ all_places names index is P all k lt =
 -- the place of a name that stands at one place
 pub place_is : (names : List (List ℕ)) (name : List ℕ) (k : ℕ) → AreDistinct names → k < length names → get_or names k [] ≡ name → position_from (bytes_eq name) 0 names ≡ Some k
 place_is names name k distinct lt at =
-    elim (position_from (bytes_eq name) 0 names) as (λ o. position_from (bytes_eq name) 0 names ≡ o → o ≡ Some k)
-        [ None ↦ λ none.
-            let some : list_any (bytes_eq name) names ≡ true = list_any_at (bytes_eq name) names k [] lt ((bytes_decides name (get_or names k [])).1 (sym at)) in
-            let nowhere : list_any (bytes_eq name) names ≡ false = sym (is_some-position_from (bytes_eq name) 0 names) ∙ ap is_some none in
-            absurd (cc)
-        | Some j ↦ λ found.
-            let there = position-Some (bytes_eq name) names j [] (position_from-zero (bytes_eq name) names ∙ found) in
-            let is : name ≡ get_or names j [] = (bytes_decides name (get_or names j [])).0 there.1 in
-            ⊎_elim
-                (λ same. ap (λ i. Some i) same)
-                (λ other. ⊎_elim
-                    (λ before. absurd (distinct j k [] before lt (sym is ∙ sym at)))
-                    (λ after. absurd (distinct k j [] after there.0 (at ∙ is)))
-                    other)
-                (cases_order j k)
-        ] refl
+    elim (position_from (bytes_eq name) 0 names) as (λ o. position_from (bytes_eq name) 0 names ≡ o → o ≡ Some k) [
+      | None ↦ λ none.
+          let some : list_any (bytes_eq name) names ≡ true = list_any_at (bytes_eq name) names k [] lt ((bytes_decides name (get_or names k [])).1 (sym at)) in
+          let nowhere : list_any (bytes_eq name) names ≡ false = sym (is_some-position_from (bytes_eq name) 0 names) ∙ ap is_some none in
+          absurd (cc)
+      | Some j ↦ λ found.
+          let there = position-Some (bytes_eq name) names j [] (position_from-zero (bytes_eq name) names ∙ found) in
+          let is : name ≡ get_or names j [] = (bytes_decides name (get_or names j [])).0 there.1 in
+          ⊎_elim
+          (λ same. ap (λ i. Some i) same)
+          (λ other. ⊎_elim
+          (λ before. absurd (distinct j k [] before lt (sym is ∙ sym at)))
+          (λ after. absurd (distinct k j [] after there.0 (at ∙ is)))
+          other)
+          (cases_order j k)
+    ] refl
 
 pub found : (names : List (List ℕ)) (index : List ℕ) → IsNameIndex names index → AreDistinct names → (name : List ℕ) (at : ℕ) → at < length index → slice_cmp nat_cmp (get_or names (get_or index at 0) []) name ≡ Equal → Some (get_or index at 0) ≡ position_from (bytes_eq name) 0 names
 found names index is distinct name at lt equal =
@@ -65,17 +65,17 @@ cmp_same (x ∷ xs) = let first : nat_cmp x x ≡ Equal = grind (arith, nat_test
 pub absent : (names : List (List ℕ)) (index : List ℕ) → IsNameIndex names index → (name : List ℕ) (split : ℕ) → IsPartitionPoint (λ k. slice_cmp nat_cmp (get_or names k []) name ≡ Less) (λ k. slice_cmp nat_cmp (get_or names k []) name ≡ Greater) index split → None ≡ position_from (bytes_eq name) 0 names
 absent names index is name split point =
     let other : All (λ k. slice_cmp nat_cmp (get_or names k []) name ≡ Equal → ⊥) index = λ i d lt. ⊎_elim
-        (λ before. λ equal. let less : slice_cmp nat_cmp (get_or names (get_or index i d) []) name ≡ Less = point.0 i d (omega arith) before in absurd (cc))
-        (λ after. λ equal. let greater : slice_cmp nat_cmp (get_or names (get_or index i d) []) name ≡ Greater = point.1 i d after lt in absurd (cc))
-        (cases_lt i split) in
-    elim (position_from (bytes_eq name) 0 names) as (λ o. position_from (bytes_eq name) 0 names ≡ o → None ≡ o)
-        [ None ↦ λ _. refl
-        | Some j ↦ λ at.
-            let there = position-Some (bytes_eq name) names j [] (position_from-zero (bytes_eq name) names ∙ at) in
-            let same : name ≡ get_or names j [] = (bytes_decides name (get_or names j [])).0 there.1 in
-            let equal : slice_cmp nat_cmp (get_or names j []) name ≡ Equal = ap (λ (w : List ℕ). slice_cmp nat_cmp w name) (sym same) ∙ cmp_same name in
-            absurd (all_places names index is (λ k. slice_cmp nat_cmp (get_or names k []) name ≡ Equal → ⊥) other j there.0 equal)
-        ] refl
+    (λ before. λ equal. let less : slice_cmp nat_cmp (get_or names (get_or index i d) []) name ≡ Less = point.0 i d (omega arith) before in absurd (cc))
+    (λ after. λ equal. let greater : slice_cmp nat_cmp (get_or names (get_or index i d) []) name ≡ Greater = point.1 i d after lt in absurd (cc))
+    (cases_lt i split) in
+    elim (position_from (bytes_eq name) 0 names) as (λ o. position_from (bytes_eq name) 0 names ≡ o → None ≡ o) [
+      | None ↦ λ _. refl
+      | Some j ↦ λ at.
+          let there = position-Some (bytes_eq name) names j [] (position_from-zero (bytes_eq name) names ∙ at) in
+          let same : name ≡ get_or names j [] = (bytes_decides name (get_or names j [])).0 there.1 in
+          let equal : slice_cmp nat_cmp (get_or names j []) name ≡ Equal = ap (λ (w : List ℕ). slice_cmp nat_cmp w name) (sym same) ∙ cmp_same name in
+          absurd (all_places names index is (λ k. slice_cmp nat_cmp (get_or names k []) name ≡ Equal → ⊥) other j there.0 equal)
+    ] refl
 
 pub range_more : (a n : ℕ) → range_with_len a (n + 1) ≡ range_with_len a n ++ (a + n) ∷ []
 range_more a zero = rw add-zero refl

@@ -45,15 +45,15 @@ region_fits l h = (fits_parts l.base l.size h).1
 pub AreApart-push : (regions : List (ℕ × ℕ)) (r : ℕ × ℕ) → AreApart regions → r.0 < r.1 → list_all (is_apart r) regions ≡ true → AreApart (regions ++ r ∷ [])
 AreApart-push regions r apart valid beside =
     record {
-        valid = All-push (λ (x : ℕ × ℕ). x.0 < x.1) regions r apart.valid valid;
-        apart = all_pairs_push (λ (x y : ℕ × ℕ). is_apart x y ≡ true) regions r apart.apart (λ k d lt. turned r (get_or regions k d) (AllPass-from_list_all (is_apart r) regions beside k d lt));
+      valid = All-push (λ (x : ℕ × ℕ). x.0 < x.1) regions r apart.valid valid;
+      apart = all_pairs_push (λ (x y : ℕ × ℕ). is_apart x y ≡ true) regions r apart.apart (λ k d lt. turned r (get_or regions k d) (AllPass-from_list_all (is_apart r) regions beside k d lt));
     }
 
 pub AreDistinct-push : (names : List (List ℕ)) (n : List ℕ) → AreDistinct names → list_any (bytes_eq n) names ≡ false → AreDistinct (names ++ n ∷ [])
 AreDistinct-push names n distinct absent =
     all_pairs_push (λ (x y : List ℕ). x ≢ y) names n distinct (λ k d lt same.
-        let some : list_any (bytes_eq n) names ≡ true = list_any_at (bytes_eq n) names k d lt ((bytes_decides n (get_or names k d)).1 (sym same)) in
-        cc)
+    let some : list_any (bytes_eq n) names ≡ true = list_any_at (bytes_eq n) names k d lt ((bytes_decides n (get_or names k d)).1 (sym same)) in
+    cc)
 
 taken_more : (a : Accepted) (line : ListedModule) → taken (record a { lines = a.lines ++ line ∷ [] }) ≡ taken a ++ region_of line ∷ []
 taken_more a line = ap (λ rs. option_to_list a.built_in ++ rs) (map-append region_of a.lines (line ∷ [])) ∙ sym (append_assoc (option_to_list a.built_in) (map region_of a.lines) (region_of line ∷ []))
@@ -63,18 +63,18 @@ names_more a line = map-append (λ (l : ListedModule). l.name) a.lines (line ∷
 
 pub IsGood-after_line : (a : Accepted) (line : ListedModule) → IsGood a → fits line ≡ true → IsGood (after_line a line)
 IsGood-after_line a line good fit =
-    elim (list_any (bytes_eq line.name) (names_of a.lines)) as (λ b. list_any (bytes_eq line.name) (names_of a.lines) ≡ b → IsGood (cond b (record a { double = a.double + 1 }) (cond (list_all (is_apart (region_of line)) (taken a)) (record a { lines = a.lines ++ line ∷ [] }) (record a { overlap = a.overlap + 1 }))))
-        [ true ↦ λ _. record { fit = good.fit; distinct = good.distinct; apart = good.apart }
-        | false ↦ λ absent.
-            elim (list_all (is_apart (region_of line)) (taken a)) as (λ b. list_all (is_apart (region_of line)) (taken a) ≡ b → IsGood (cond b (record a { lines = a.lines ++ line ∷ [] }) (record a { overlap = a.overlap + 1 })))
-                [ true ↦ λ beside. record {
-                    fit = All-push (λ (l : ListedModule). fits l ≡ true) a.lines line good.fit fit;
-                    distinct = subst AreDistinct (sym (names_more a line)) (AreDistinct-push (names_of a.lines) line.name good.distinct absent);
-                    apart = subst AreApart (sym (taken_more a line)) (AreApart-push (taken a) (region_of line) good.apart (valid_region line fit) beside);
-                }
-                | false ↦ λ _. record { fit = good.fit; distinct = good.distinct; apart = good.apart }
-                ] refl
-        ] refl
+    elim (list_any (bytes_eq line.name) (names_of a.lines)) as (λ b. list_any (bytes_eq line.name) (names_of a.lines) ≡ b → IsGood (cond b (record a { double = a.double + 1 }) (cond (list_all (is_apart (region_of line)) (taken a)) (record a { lines = a.lines ++ line ∷ [] }) (record a { overlap = a.overlap + 1 })))) [
+      | true ↦ λ _. record { fit = good.fit; distinct = good.distinct; apart = good.apart }
+      | false ↦ λ absent.
+          elim (list_all (is_apart (region_of line)) (taken a)) as (λ b. list_all (is_apart (region_of line)) (taken a) ≡ b → IsGood (cond b (record a { lines = a.lines ++ line ∷ [] }) (record a { overlap = a.overlap + 1 }))) [
+            | true ↦ λ beside. record {
+              fit = All-push (λ (l : ListedModule). fits l ≡ true) a.lines line good.fit fit;
+              distinct = subst AreDistinct (sym (names_more a line)) (AreDistinct-push (names_of a.lines) line.name good.distinct absent);
+              apart = subst AreApart (sym (taken_more a line)) (AreApart-push (taken a) (region_of line) good.apart (valid_region line fit) beside);
+            }
+            | false ↦ λ _. record { fit = good.fit; distinct = good.distinct; apart = good.apart }
+          ] refl
+    ] refl
 
 pub IsGood-fold : (a : Accepted) (lines : List ListedModule) → IsGood a → All (λ l. fits l ≡ true) lines → IsGood (fold after_line a lines)
 IsGood-fold a [] good fit = good
@@ -86,21 +86,21 @@ none_pairs R xs short = λ i j d lt within. absurd (omega arith)
 pub IsGood-none : (built_in : Option (ℕ × ℕ)) → IfSome built_in (λ r. r.0 < r.1) → IsGood (none_yet built_in)
 IsGood-none None valid =
     record {
-        fit = All-nil (λ (l : ListedModule). fits l ≡ true);
-        distinct = none_pairs (λ (x y : List ℕ). x ≢ y) [] (omega arith);
-        apart = record { valid = All-nil (λ (x : ℕ × ℕ). x.0 < x.1); apart = none_pairs (λ (x y : ℕ × ℕ). is_apart x y ≡ true) [] (omega arith) };
+      fit = All-nil (λ (l : ListedModule). fits l ≡ true);
+      distinct = none_pairs (λ (x y : List ℕ). x ≢ y) [] (omega arith);
+      apart = record { valid = All-nil (λ (x : ℕ × ℕ). x.0 < x.1); apart = none_pairs (λ (x y : ℕ × ℕ). is_apart x y ≡ true) [] (omega arith) };
     }
 IsGood-none (Some r) valid =
     record {
-        fit = All-nil (λ (l : ListedModule). fits l ≡ true);
-        distinct = none_pairs (λ (x y : List ℕ). x ≢ y) [] (omega arith);
-        apart = record { valid = All-cons (λ (x : ℕ × ℕ). x.0 < x.1) r [] valid (All-nil (λ (x : ℕ × ℕ). x.0 < x.1)); apart = none_pairs (λ (x y : ℕ × ℕ). is_apart x y ≡ true) (r ∷ []) (omega arith) };
+      fit = All-nil (λ (l : ListedModule). fits l ≡ true);
+      distinct = none_pairs (λ (x y : List ℕ). x ≢ y) [] (omega arith);
+      apart = record { valid = All-cons (λ (x : ℕ × ℕ). x.0 < x.1) r [] valid (All-nil (λ (x : ℕ × ℕ). x.0 < x.1)); apart = none_pairs (λ (x y : ℕ × ℕ). is_apart x y ≡ true) (r ∷ []) (omega arith) };
     }
 
 picked : (start end : ℕ) → IfSome {T = ℕ × ℕ} (cond (nat_lt start end) (Some (start, end)) None) (λ r. r.0 < r.1)
 picked start end =
     elim (nat_lt start end) as (λ b. nat_lt start end ≡ b → IfSome {T = ℕ × ℕ} (cond b (Some (start, end)) None) (λ r. r.0 < r.1))
-        [ true ↦ λ h. grind (arith, nat_tests) | false ↦ λ h. tt ] refl
+    [ true ↦ λ h. grind (arith, nat_tests) | false ↦ λ h. tt ] refl
 
 -- the region of the kernel itself has an address
 pub valid_built_in : (start end : Option ℕ) → IfSome {T = ℕ × ℕ} (option_and_then (λ s. option_and_then (λ e. cond (nat_lt s e) (Some (s, e)) None) end) start) (λ r. r.0 < r.1)
@@ -115,10 +115,10 @@ accepted_good modules symbols fit = IsGood-fold (none_yet (built_in_region symbo
 
 built_in_after : (a : Accepted) (line : ListedModule) → (after_line a line).built_in ≡ a.built_in
 built_in_after a line =
-    elim (list_any (bytes_eq line.name) (names_of a.lines)) as (λ b. (cond b (record a { double = a.double + 1 }) (cond (list_all (is_apart (region_of line)) (taken a)) (record a { lines = a.lines ++ line ∷ [] }) (record a { overlap = a.overlap + 1 }))).built_in ≡ a.built_in)
-        [ true ↦ refl
-        | false ↦ elim (list_all (is_apart (region_of line)) (taken a)) as (λ b. (cond b (record a { lines = a.lines ++ line ∷ [] }) (record a { overlap = a.overlap + 1 })).built_in ≡ a.built_in) [ true ↦ refl | false ↦ refl ]
-        ]
+    elim (list_any (bytes_eq line.name) (names_of a.lines)) as (λ b. (cond b (record a { double = a.double + 1 }) (cond (list_all (is_apart (region_of line)) (taken a)) (record a { lines = a.lines ++ line ∷ [] }) (record a { overlap = a.overlap + 1 }))).built_in ≡ a.built_in) [
+      | true ↦ refl
+      | false ↦ elim (list_all (is_apart (region_of line)) (taken a)) as (λ b. (cond b (record a { lines = a.lines ++ line ∷ [] }) (record a { overlap = a.overlap + 1 })).built_in ≡ a.built_in) [ true ↦ refl | false ↦ refl ]
+    ]
 
 pub built_in_kept : (a : Accepted) (lines : List ListedModule) → (fold after_line a lines).built_in ≡ a.built_in
 built_in_kept a [] = refl
@@ -151,9 +151,9 @@ IsSound-catalog_of modules symbols fit =
     let good : IsGood a = accepted_good modules symbols fit in
     let kept : a.built_in ≡ built_in = built_in_kept (none_yet built_in) modules in
     record {
-        one_region = all_one built_in symbols a.lines;
-        apart = subst AreApart (ap (λ (b : Option (ℕ × ℕ)). option_to_list b ++ map region_of a.lines) kept ∙ sym (all_regions built_in symbols a.lines)) good.apart;
-        distinct = subst AreDistinct (sym (module_names symbols a.lines)) good.distinct;
+      one_region = all_one built_in symbols a.lines;
+      apart = subst AreApart (ap (λ (b : Option (ℕ × ℕ)). option_to_list b ++ map region_of a.lines) kept ∙ sym (all_regions built_in symbols a.lines)) good.apart;
+      distinct = subst AreDistinct (sym (module_names symbols a.lines)) good.distinct;
     }
 
 -- where each module has one region, there are as many regions as modules

@@ -36,13 +36,17 @@ counts_of modules symbols =
     let a = accepted_of (built_in_region symbols) modules in
     record { modules = length a.lines; double = a.double; overlap = a.overlap; symbols = count_by (is_kept a) symbols; stray = count_by (λ s. not (is_kept a s)) symbols }
 
--- all regions, that of the kernel itself first
+-- the kernel itself where it has a region, and then the modules
+abbrev pub entries_of : CatalogEntries → List ModuleEntry
+entries_of c = option_to_list c.built_in ++ c.modules
+
+-- the regions of all of them
 abbrev pub regions_of : CatalogEntries → List (ℕ × ℕ)
-regions_of c = flat_map (λ m. m.regions) (option_to_list c.built_in ++ c.modules)
+regions_of c = flat_map (λ m. m.regions) (entries_of c)
 
 -- each module has one region, the regions have addresses and lie apart, and no two modules from number 1 on have one name
 pub record IsSound (c : CatalogEntries) : Type 0 where
-  pub one_region : All (λ m. length m.regions ≡ 1) (option_to_list c.built_in ++ c.modules)
+  pub one_region : All (λ m. length m.regions ≡ 1) (entries_of c)
   pub apart : AreApart (regions_of c)
   pub distinct : AreDistinct (names_in c.modules)
 

@@ -16,8 +16,8 @@ first_address name lines = option_map (λ l. l.addr) (find (λ l. is_none l.owne
 abbrev pub built_in_region : List ListedSymbol → Option (ℕ × ℕ)
 built_in_region lines =
     option_and_then
-        (λ start. option_and_then (λ end. if nat_lt start end then Some (start, end) else None) (first_address (codes "_end") lines))
-        (first_address (codes "_stext") lines)
+    (λ start. option_and_then (λ end. if nat_lt start end then Some (start, end) else None) (first_address (codes "_end") lines))
+    (first_address (codes "_stext") lines)
 
 -- from the base up to the base plus the size
 abbrev pub region_of : ListedModule → ℕ × ℕ

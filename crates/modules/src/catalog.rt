@@ -93,7 +93,11 @@ impl Catalog {
         ensures { result ≡ number_of self.now name.now }
     {
         if name == b"-".as_slice() {
-            return if self.built_in.is_some() { Some(0) } else { None };
+            return if self.built_in.is_some() {
+                Some(0)
+            } else {
+                None
+            };
         }
         let place = place_of(self.modules.as_slice(), self.by_name.as_slice(), name)?;
         Some(place as u64 + 1)

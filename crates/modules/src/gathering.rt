@@ -99,7 +99,11 @@ fn home_of(admission: &Admission, line: &SymbolLine) -> Home
         return Home::Stray;
     };
     let module = admission.lines[*place];
-    if module.holds(line.addr) { Home::Module(*place) } else { Home::Stray }
+    if module.holds(line.addr) {
+        Home::Module(*place)
+    } else {
+        Home::Stray
+    }
 }
 
 /// Goes through the lines in their order.

@@ -5,6 +5,7 @@ mod admission;
 mod build;
 pub mod catalog;
 mod gathering;
+pub mod laws;
 pub mod lines;
 pub mod module;
 mod names;
@@ -15,3 +16,6 @@ pub use catalog::{BuildCounts, Catalog};
 pub use lines::{ModuleLine, SymbolLine};
 pub use module::Module;
 pub use symbols::Symbol;
+
+#[cfg(test)]
+mod tests;

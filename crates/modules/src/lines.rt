@@ -81,5 +81,9 @@ pub(crate) fn built_in_region(lines: &[SymbolLine]) -> Option<(u64, u64)>
 {
     let start = first_address(lines, b"_stext")?;
     let end = first_address(lines, b"_end")?;
-    if start < end { Some((start, end)) } else { None }
+    if start < end {
+        Some((start, end))
+    } else {
+        None
+    }
 }

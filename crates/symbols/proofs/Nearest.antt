@@ -1,6 +1,6 @@
 -- The symbol below an address and the address above it.
-use Rattle.std.proofs.Common.{◌≡◌, ℕ, ◌-◌, ◌<◌, ◌≤◌, Bool, true, false, ◌&&◌, ◌||◌, nat_lt, nat_le, cond, List, [], ◌∷◌, length, get_or, Some, None, Option, refl, sym, ap, ◌∙◌, arith}
-use Rattle.std.specs.Prelude.{All, find, unwrap_or, OnSome}
+use Rattle.std.proofs.Common.{◌≡◌, ℕ, ◌-◌, ◌<◌, ◌≤◌, Bool, true, false, ◌&&◌, ◌||◌, nat_lt, nat_le, cond, List, [], ◌∷◌, get_or, Some, None, Option, refl, sym, ap, ◌∙◌, arith}
+use Rattle.std.specs.Prelude.{All, find, unwrap_or}
 use Rattle.std.specs.List.{list_all}
 use Rattle.std.specs.Option.{option_map}
 use Rattle.std.proofs.lemmas.Bool.Decides.{nat_tests}
@@ -14,10 +14,10 @@ use Rattle.symbols.specs.Found.{Found, found_at, found_in}
 pub find_passes : {A : Type 0} (p : A → Bool) (xs : List A) (x : A) → find p xs ≡ Some x → p x ≡ true
 find_passes p [] x h = absurd (cc)
 find_passes p (y ∷ ys) x h =
-    elim (p y) as (λ b. p y ≡ b → cond b (Some y) (find p ys) ≡ Some x → p x ≡ true)
-        [ true ↦ λ passes is. let same : y ≡ x = cc in ap p (sym same) ∙ passes
-        | false ↦ λ _ rest. find_passes p ys x rest
-        ] refl h
+    elim (p y) as (λ b. p y ≡ b → cond b (Some y) (find p ys) ≡ Some x → p x ≡ true) [
+      | true ↦ λ passes is. let same : y ≡ x = cc in ap p (sym same) ∙ passes
+      | false ↦ λ _ rest. find_passes p ys x rest
+    ] refl h
 
 -- two tests that agree on a list find the same in it
 pub find_agree : {A : Type 0} (p q : A → Bool) (xs : List A) → All (λ x. p x ≡ q x) xs → find p xs ≡ find q xs
@@ -71,9 +71,9 @@ above_same symbols addr s h =
     let low : s.addr ≤ addr = below_le symbols addr s h in
     let none : All (λ t. (nat_le t.addr s.addr || nat_lt addr t.addr) ≡ true) symbols = AllPass-from_list_all (λ (t : SymbolEntry). nat_le t.addr s.addr || nat_lt addr t.addr) symbols (second_of_both (nat_le s.addr addr) (list_all (λ t. nat_le t.addr s.addr || nat_lt addr t.addr) symbols) passes) in
     ap (option_map (λ (t : SymbolEntry). t.addr)) (find_agree (is_next symbols s.addr) (is_next symbols addr) symbols (λ k d lt.
-        let t = get_or symbols k d in
-        ap (λ b. b && list_all (λ (u : SymbolEntry). nat_le u.addr s.addr || nat_le t.addr u.addr) symbols) (same_below s.addr addr t.addr low (none k d lt))
-            ∙ ap (λ b. nat_lt addr t.addr && b) (list_all_agree (λ (u : SymbolEntry). nat_le u.addr s.addr || nat_le t.addr u.addr) (λ (u : SymbolEntry). nat_le u.addr addr || nat_le t.addr u.addr) symbols (λ i e l. same_above s.addr addr t.addr (get_or symbols i e).addr low (none i e l)))))
+    let t = get_or symbols k d in
+    ap (λ b. b && list_all (λ (u : SymbolEntry). nat_le u.addr s.addr || nat_le t.addr u.addr) symbols) (same_below s.addr addr t.addr low (none k d lt))
+    ∙ ap (λ b. nat_lt addr t.addr && b) (list_all_agree (λ (u : SymbolEntry). nat_le u.addr s.addr || nat_le t.addr u.addr) (λ (u : SymbolEntry). nat_le u.addr addr || nat_le t.addr u.addr) symbols (λ i e l. same_above s.addr addr t.addr (get_or symbols i e).addr low (none i e l)))))
 
 abbrev pub found : SymbolEntry → ℕ → ℕ → Found
 found s offset size = record { symbol = s; offset = offset; size = size }
@@ -82,5 +82,5 @@ found s offset size = record { symbol = s; offset = offset; size = size }
 pub found_is : (symbols : List SymbolEntry) (end addr : ℕ) (s : SymbolEntry) (own reach : ℕ) → symbol_below symbols addr ≡ Some s → own ≡ s.addr → reach ≡ unwrap_or (address_above symbols addr) end → Some (found s (addr - own) (reach - own)) ≡ found_in symbols end addr
 found_is symbols end addr s own reach below own_is reach_is =
     ap (λ a. Some (found s (addr - a) (reach - a))) own_is
-        ∙ ap (λ r. Some (found s (addr - s.addr) (r - s.addr))) (reach_is ∙ ap (λ o. unwrap_or o end) (sym (above_same symbols addr s below)))
-        ∙ ap (option_map (found_at symbols end addr)) (sym below)
+    ∙ ap (λ r. Some (found s (addr - s.addr) (r - s.addr))) (reach_is ∙ ap (λ o. unwrap_or o end) (sym (above_same symbols addr s below)))
+    ∙ ap (option_map (found_at symbols end addr)) (sym below)

@@ -6,3 +6,6 @@ pub mod find;
 
 pub use answers::write_answer;
 pub use find::symbol_of;
+
+#[cfg(test)]
+mod tests;

@@ -8,7 +8,7 @@ use Rattle.modules.proofs.admission.admit.Given as goal
 abbrev pub invariant-loop-line : goal.invariant-loop-line
 invariant-loop-line l =
     record {
-        shows : shown l.admission ≡ fold after_line (none_yet l.fn.built_in) (take l.line-index l.lines);
-        tied : IsTied l.admission;
-        counted : total (shown l.admission) ≡ l.line-index;
+      shows : shown l.admission ≡ fold after_line (none_yet l.fn.built_in) (take l.line-index l.lines);
+      tied : IsTied l.admission;
+      counted : total (shown l.admission) ≡ l.line-index;
     }

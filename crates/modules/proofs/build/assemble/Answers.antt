@@ -31,8 +31,8 @@ invariant_of-catalog c =
     let made : AreModules c.in_ok-admission.admission.lines.items c.in_ok-gathered.gathered.modules.items c.in_ok-modules.modules.items = rw (← c.as_slice.ensures.value) c.in_ok-modules.ensures in
     let built = catalog_from c.in_ok-admission.admission c.in_ok-gathered.gathered c.args.modules.now c.args.symbols.now c.in_ok-built_in.built_in c.in_ok-modules.modules.items a c.in_ok-gathered.ensures c.in_ok-built_in.ensures made in
     record {
-        sound = subst IsSound (sym built) (IsSound-catalog_of c.args.modules.now c.args.symbols.now c.requires);
-        named = rw (← c.as_slice-2.ensures.value) c.in_ok-by_name.ensures;
+      sound = subst IsSound (sym built) (IsSound-catalog_of c.args.modules.now c.args.symbols.now c.requires);
+      named = rw (← c.as_slice-2.ensures.value) c.in_ok-by_name.ensures;
     }
 
 pub returns-clause-built : goal.returns-clause-built

@@ -15,6 +15,6 @@ loop-line-preserved c =
     let x = c.line-item.result in
     let first : take (i + 1) xs ≡ take i xs ++ x ∷ [] = take_more xs i x c.loop-line-test.true ∙ ap (λ (y : ListedSymbol). take i xs ++ y ∷ []) (sym c.line-item.is) in
     record {
-        gathers = subst (λ (ys : List ListedSymbol). Gathers a ys c.keep.new.self) (sym first) (Gathers-more a (take i xs) x c.loop-line.gathered c.keep.new.self c.home_of.result c.loop-line.invariant.gathers c.home_of.ensures c.in_ok-keep.ensures);
-        counted = counts_more c.home_of.result (entry_of x) c.loop-line.gathered c.keep.new.self c.in_ok-keep.ensures ∙ ap (λ n. n + 1) c.loop-line.invariant.counted;
+      gathers = subst (λ (ys : List ListedSymbol). Gathers a ys c.keep.new.self) (sym first) (Gathers-more a (take i xs) x c.loop-line.gathered c.keep.new.self c.home_of.result c.loop-line.invariant.gathers c.home_of.ensures c.in_ok-keep.ensures);
+      counted = counts_more c.home_of.result (entry_of x) c.loop-line.gathered c.keep.new.self c.in_ok-keep.ensures ∙ ap (λ n. n + 1) c.loop-line.invariant.counted;
     }

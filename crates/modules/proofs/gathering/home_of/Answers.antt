@@ -57,8 +57,10 @@ returns-else-holds c =
     let place = place_within a.lines name k at in
     let within : k < length lines.items = omega (arith, place.0, length-map lines.items (λ (l : Bor ListedModule). l.now)) in
     let line_is : (m : ListedModule) → get_or a.lines k m ≡ c.index-module.result.now.now = λ m. get_or-map (λ (l : Bor ListedModule). l.now) lines.items k c.index-module.result.now m within ∙ ap (λ (l : Bor ListedModule). l.now) (sym c.index-module.ensures) in
-    let addr_is : s.addr ≡ c.line.inside.addr = ap (λ (l : ListedSymbol). l.addr) (sym c.line.view_is) in
-    (not_built_in c.args.admission.now.built_in s name owner, λ j m lt. ⊎_elim
-        (λ same. ap (λ (i : ℕ). belongs (get_or a.lines i m) s) same ∙ belongs_at a s name k owner at m ∙ ap (λ (l : ListedModule). holds (region_of l) s.addr) (line_is m) ∙ ap (λ n. holds (region_of c.index-module.result.now.now) n) addr_is ∙ sym c.holds.ensures ∙ c.if-holds.false)
-        (λ other. only_home a s name k c.requires.distinct owner at j m lt other)
-        (cases_eq j k))
+    let addr_is : s.addr ≡ c.line.inside.addr = ap (λ (l : ListedSymbol). l.addr) (sym c.line.view_is) in (
+      not_built_in c.args.admission.now.built_in s name owner,
+      λ j m lt. ⊎_elim
+          (λ same. ap (λ (i : ℕ). belongs (get_or a.lines i m) s) same ∙ belongs_at a s name k owner at m ∙ ap (λ (l : ListedModule). holds (region_of l) s.addr) (line_is m) ∙ ap (λ n. holds (region_of c.index-module.result.now.now) n) addr_is ∙ sym c.holds.ensures ∙ c.if-holds.false)
+          (λ other. only_home a s name k c.requires.distinct owner at j m lt other)
+          (cases_eq j k),
+    )

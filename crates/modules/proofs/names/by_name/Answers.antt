@@ -15,6 +15,6 @@ pub returns : goal.returns
 returns c =
     let names = names_in c.args.modules.now in
     record {
-        sorted = c.in_ok-sort_by.ensures.sorted (is_less names) (ranks_by nat_list_cmp_total (λ i. get_or names i [])) (always_returns_same _ _ _ (λ a r q called. search rules));
-        listed = subst (λ n. IsPermutation (range_with_len 0 n) c.sort_by.new.self.items) (sym (length-map c.args.modules.now (λ (m : ModuleEntry). m.name))) (rw (← c.in_ok-places.ensures) c.in_ok-sort_by.ensures.permutation);
+      sorted = c.in_ok-sort_by.ensures.sorted (is_less names) (ranks_by nat_list_cmp_total (λ i. get_or names i [])) (always_returns_same _ _ _ (λ a r q called. search rules));
+      listed = subst (λ n. IsPermutation (range_with_len 0 n) c.sort_by.new.self.items) (sym (length-map c.args.modules.now (λ (m : ModuleEntry). m.name))) (rw (← c.in_ok-places.ensures) c.in_ok-sort_by.ensures.permutation);
     }

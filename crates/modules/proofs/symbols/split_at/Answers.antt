@@ -7,4 +7,4 @@ use Rattle.modules.proofs.symbols.split_at.Goals as goal
 pub returns : goal.returns
 returns c =
     IsSplit-from_partition c.args.index.now c.args.addr c.partition_point.result c.partition_point.ensures.bound
-        (IsPartitionPoint-from_clause (λ (e : IndexEntry). nat_le e.addr c.args.addr) c.args.index.now c.partition_point.result c.partition_point.ensures.partitioned (IsPartitionedBy-leb (λ (e : IndexEntry). e.addr) c.args.index.now c.args.addr c.requires) (λ a r q k. search rules))
+    (IsPartitionPoint-from_clause (λ (e : IndexEntry). nat_le e.addr c.args.addr) c.args.index.now c.partition_point.result c.partition_point.ensures.partitioned (IsPartitionedBy-leb (λ (e : IndexEntry). e.addr) c.args.index.now c.args.addr c.requires) (λ a r q k. search rules))

@@ -46,9 +46,9 @@ returns-clause-tied c =
     let found = found_in a c.requires.tied line.name c.as_slice-name.result.now c.contains_key.result c.contains_key.ensures name_is in
     let joined : map (λ (l : Bor ListedModule). l.now) c.push.new.self.items ≡ (shown a).lines ++ line ∷ [] = ap (map (λ (l : Bor ListedModule). l.now)) c.in_ok-push.ensures.items ∙ map-append (λ (l : Bor ListedModule). l.now) a.lines.items (c.args.line ∷ []) in
     IsTied-accepted a line c.requires.tied _
-        (ap (λ (ls : List ListedModule). record (shown a) { lines = ls }) joined)
-        (found ∙ c.if-contains_key.false)
-        c.len.result
-        (c.len.ensures ∙ a.lines.ok.0 ∙ sym (length-map a.lines.items (λ (l : Bor ListedModule). l.now)))
-        (λ name. btree_map_updates_str c.as_slice-name.result.now a.places c.insert.new.self _ c.in_ok-insert.ensures.updates name ∙ ap (λ (w : List ℕ). cond (bytes_eq w name) (Some c.len.result) (get_by (λ q. slice_cmp nat_cmp name q.now) a.places)) name_is)
-        (λ p. c.in_ok-insert-2.ensures p ∙ ap (λ r. p r && list_all p a.taken) (ap region_of c.line.view_is))
+    (ap (λ (ls : List ListedModule). record (shown a) { lines = ls }) joined)
+    (found ∙ c.if-contains_key.false)
+    c.len.result
+    (c.len.ensures ∙ a.lines.ok.0 ∙ sym (length-map a.lines.items (λ (l : Bor ListedModule). l.now)))
+    (λ name. btree_map_updates_str c.as_slice-name.result.now a.places c.insert.new.self _ c.in_ok-insert.ensures.updates name ∙ ap (λ (w : List ℕ). cond (bytes_eq w name) (Some c.len.result) (get_by (λ q. slice_cmp nat_cmp name q.now) a.places)) name_is)
+    (λ p. c.in_ok-insert-2.ensures p ∙ ap (λ r. p r && list_all p a.taken) (ap region_of c.line.view_is))

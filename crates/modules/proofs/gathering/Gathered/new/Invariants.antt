@@ -4,6 +4,6 @@ use Rattle.modules.proofs.gathering.Gathered.new.Given as goal
 
 abbrev pub invariant-loop : goal.invariant-loop
 invariant-loop l = record {
-    count : length l.lists.items ≡ l.counter;
-    empty : All (λ list. list.items ≡ []) l.lists.items;
+  count : length l.lists.items ≡ l.counter;
+  empty : All (λ list. list.items ≡ []) l.lists.items;
 }
