@@ -1,6 +1,6 @@
 //! A copy as its writer sees it, and the plans of its changes.
 
-ghost use Rattle.std.specs.Prelude.{◌≡◌, ◌+◌, ◌*◌, ◌<◌, ◌≤◌, ◌++◌, ◌∷◌, [], map, true, false, List, IfOk, IfErr, Contains, length, take, drop, vec_len, vec_capacity};
+ghost use Rattle.std.specs.Prelude.{◌≡◌, ◌↔◌, ◌+◌, ◌*◌, ◌<◌, ◌≤◌, ◌++◌, ◌∷◌, [], map, true, false, List, IsTrue, IfOk, IfErr, Contains, length, take, drop, vec_len, vec_capacity};
 ghost use Rattle.order_laws.specs.Tables.{has, meets, without_all, place_for, place_of};
 ghost use Rattle.word_arena.specs.declared.stores.Store.{Store};
 ghost use Rattle.word_arena.specs.Layouts.{capacity_of};
@@ -77,6 +77,18 @@ impl<O: TreeOrder> Shape<O> {
     {
         for place in 0..self.records.len() {
             if self.records.at(place).item.a == a {
+                return true;
+            }
+        }
+        false
+    }
+
+    /// Whether the node is one of the pictured tree.
+    pub fn reaches(&self, node: u32) -> bool
+        ensures { IsTrue result ↔ Contains (listed self.now.tree) node }
+    {
+        for place in 0..self.records.len() {
+            if self.records.at(place).node == node {
                 return true;
             }
         }
