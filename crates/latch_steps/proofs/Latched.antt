@@ -84,11 +84,11 @@ module _ {K : Type 0} (n : ℕ) (w : Moment K) (sized : 0 < length w.latch.words
   stepped_adds h s may =
       ⊎_elim
       (λ hid.
-        let e : at (words_after w.latch.words s) 0 ≡ at w.latch.words 0 = hidden_same n w.latch.words h.began s hid 0 (inl refl) in
-        rw (ne_eqb s.word 0 hid.not_sequence) (let f : at (words_after w.latch.words s) 0 ≡ at w.latch.words 0 + 0 = omega arith in f))
+      let e : at (words_after w.latch.words s) 0 ≡ at w.latch.words 0 = hidden_same n w.latch.words h.began s hid 0 (inl refl) in
+      rw (ne_eqb s.word 0 hid.not_sequence) (let f : at (words_after w.latch.words s) 0 ≡ at w.latch.words 0 + 0 = omega arith in f))
       (⊎_elim
-        (λ flip. rw (eq-eqb s.word 0 flip.sequence) (flip_adds w.latch.words s sized flip.sequence flip.adds_one))
-        (λ flip. rw (eq-eqb s.word 0 flip.sequence) (flip_adds w.latch.words s sized flip.sequence flip.adds_one)))
+      (λ flip. rw (eq-eqb s.word 0 flip.sequence) (flip_adds w.latch.words s sized flip.sequence flip.adds_one))
+      (λ flip. rw (eq-eqb s.word 0 flip.sequence) (flip_adds w.latch.words s sized flip.sequence flip.adds_one)))
       may.kind
 
   writes_adds : (hand : Option Hand) (reply : Reply K) (w' : Moment K) → Writes n w hand reply w' → Adds w reply w'
@@ -120,7 +120,7 @@ flips_upto o law n limit start us w d (e ∷ es) (r ∷ rs) (w' ∷ ws) ok run (
     let rest = flips_upto o law n limit start (us ++ accepted e r) w' d es rs ws (step_sound o n start us w ok law limit e r w' run.0) run.1 i (omega arith) in
     let here : at (slice_index_or (w ∷ w' ∷ ws) (suc i) d).latch.words 0 ≡ at (slice_index_or (w' ∷ ws) i d).latch.words 0 = refl in
     let count : count_by is_flip (take (suc i) (r ∷ rs)) ≡ cond (is_flip r) 1 0 + count_by is_flip (take i rs) =
-      sum_by-append (λ x. cond (is_flip x) 1 0) (r ∷ []) (take i rs) ∙ (let f : 0 + cond (is_flip r) 1 0 ≡ cond (is_flip r) 1 0 = omega arith in ap (λ j. j + count_by is_flip (take i rs)) f) in
+    sum_by-append (λ x. cond (is_flip x) 1 0) (r ∷ []) (take i rs) ∙ (let f : 0 + cond (is_flip r) 1 0 ≡ cond (is_flip r) 1 0 = omega arith in ap (λ j. j + count_by is_flip (take i rs)) f) in
     omega arith
 
 front_of : {X : Type 0} (i m : ℕ) (xs : List X) → take i (take (i + m) xs) ≡ take i xs

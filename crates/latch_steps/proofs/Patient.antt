@@ -30,7 +30,7 @@ use Rattle.order_laws.specs.declared.items.Item.{Item}
 use Rattle.latch_core.proofs.Readings.{rest_push, stand_push}
 use Rattle.latch_core.proofs.Walks.{attempt_answers}
 use Rattle.latch_core.proofs.Steps.{sequence_after}
-use Rattle.latch_steps.proofs.Worlds.{IsWorld, IsLookup, IsRight, step_leads}
+use Rattle.latch_steps.proofs.Moments.{IsWorld, IsLookup, IsRight, step_leads}
 use Rattle.latch_steps.proofs.SafeRuns.{opening_world}
 use Rattle.latch_steps.proofs.Latched.{flips_counted}
 use Rattle.latch_steps.proofs.Undisturbed.{quiet_run}

@@ -22,7 +22,7 @@ use Rattle.latch_steps.specs.Runs.{LookupInHand, Moment, more, opening, Run, acc
 use Rattle.latch_steps.specs.Safe.{sequence_at, IsCurrent, IsSafeReply, IsSafe}
 use Rattle.latch_core.specs.Invariants.{IsInHand, IsSound}
 use Rattle.latch_core.proofs.Sound.{sound_opening}
-use Rattle.latch_steps.proofs.Worlds.{IsWorld, IsRightNow, IsRight, Leads_to, step_leads}
+use Rattle.latch_steps.proofs.Moments.{IsWorld, IsRightNow, IsRight, Leads_to, step_leads}
 
 -- the sequence names no more updates than were accepted
 pub gen_within : {K : Type 0} (o : Order K) (n start : ℕ) (us : List Update) (l : Latch) → IsSound o n start us l → gen (at l.words 0) - gen start ≤ length us

@@ -31,7 +31,7 @@ use Rattle.latch_core.specs.Invariants.{IsStanding, IsSound}
 use Rattle.std.proofs.lemmas.List.{take-append-le}
 use Rattle.latch_core.proofs.Readings.{rest_push, stand_push}
 use Rattle.latch_core.proofs.Sound.{sound_opening}
-use Rattle.latch_steps.proofs.Worlds.{IsWorld, IsLookup, AreLookups, step_leads}
+use Rattle.latch_steps.proofs.Moments.{IsWorld, IsLookup, AreLookups, step_leads}
 use Rattle.latch_steps.proofs.SafeRuns.{gen_within, opening_world}
 use Rattle.std.proofs.Math.Seq.{get_or-append_seam}
 use Rattle.latch_core.proofs.Walks.{attempt_answers, attempt_below}

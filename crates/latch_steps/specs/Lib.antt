@@ -1,3 +1,9 @@
 pub mod Runs
 pub mod Safe
 pub mod Quiet
+pub mod Expands
+pub mod Lookups
+pub mod Shows
+pub mod GivesUp
+pub mod Records
+pub mod Traces

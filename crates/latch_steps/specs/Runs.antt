@@ -1,5 +1,5 @@
 -- Lists of events, each a single step of the writer or of a reader, and what is promised of them.
-use Rattle.std.specs.Prelude.{◌≡◌, ℕ, ◌+◌, ◌<◌, ◌≤◌, List, [], ◌∷◌, ◌++◌, min, Option, Some, None, is_some}
+use Rattle.std.specs.Prelude.{◌≡◌, ℕ, ◌+◌, ◌<◌, ◌≤◌, List, [], ◌∷◌, ◌++◌, min, Option, Some, None, is_some, filter_map}
 use Rattle.std.specs.Ordering.{nat_cmp}
 use Rattle.std.specs.FinMap.{FinMap, get, insert, remove, empty}
 use Rattle.latch_core.specs.declared.updates.Update.{Update}
@@ -10,6 +10,8 @@ use Rattle.latch_steps.specs.declared.events.Event.{Event}
 use Rattle.latch_steps.specs.declared.events.Event.TheVariants.{Begin, Write, Start, Read}
 use Rattle.latch_steps.specs.declared.replies.Reply.{Reply}
 use Rattle.latch_steps.specs.declared.replies.Reply.TheVariants.{Begun, Wrote, Idle, Started, Loaded, Retried, Returned as Gave, Refused}
+use Rattle.latch_steps.specs.declared.replies.Note.{Note}
+use Rattle.latch_steps.specs.declared.replies.Note.TheVariants.{Returned as ToNote, Refused as ToRefuse}
 use Rattle.order_laws.specs.Orders.{Order}
 use Rattle.latch_core.specs.Updates.{refuses, most_steps}
 use Rattle.word_arena.specs.Words.{at}
@@ -116,3 +118,17 @@ abbrev pub history : {K : Type 0} → List (Event K) → List (Reply K) → List
 history [] rs = []
 history (e ∷ es) [] = []
 history (e ∷ es) (r ∷ rs) = accepted e r ++ history es rs
+
+-- the moment that a run comes to
+abbrev pub last_of : {K : Type 0} → Moment K → List (Moment K) → Moment K
+last_of w [] = w
+last_of w (w' ∷ ws) = last_of w' ws
+
+-- what a reply is noted as, and the notes of a run, in order
+abbrev pub note_of : {K : Type 0} → Reply K → Option (Note K)
+note_of (Gave x) = Some (ToNote x)
+note_of (Refused why) = Some (ToRefuse why)
+note_of _ = None
+
+abbrev pub notes_of : {K : Type 0} → List (Reply K) → List (Note K)
+notes_of rs = filter_map note_of rs

@@ -7,9 +7,17 @@
 pub mod commands;
 pub mod events;
 pub mod laws;
+mod lookups;
 pub mod replies;
+pub mod runs;
+pub mod traces;
+mod words;
+pub mod worlds;
 
 pub use commands::Command;
 pub use events::Event;
 pub use laws::{every_run_is_quiet, every_run_is_safe};
 pub use replies::{Note, Reply, Returned};
+pub use runs::{drive, run};
+pub use traces::Trace;
+pub use worlds::World;

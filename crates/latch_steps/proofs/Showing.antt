@@ -1,0 +1,282 @@
+-- What the methods of a world do to the moments that it shows.
+use Rattle.std.proofs.Common.{◌≡◌, ◌≢◌, ℕ, suc, ◌+◌, ◌*◌, ◌<◌, ◌≤◌, Bool, true, false, cond, List, [], ◌∷◌, length, Option, Some, None, refl, sym, ◌∙◌, ap, subst, inl, inr, ⊎_elim, arith, Vec, Global}
+use Rattle.std.specs.Prelude.{◌⊎◌, is_some, nat_lt}
+use Rattle.std.proofs.lemmas.Bool.{lt-ltb}
+use Rattle.std.specs.Ordering.{nat_cmp, eq_by_cmp}
+use Rattle.std.specs.Cmp.{nat_cmp_total}
+use Rattle.std.specs.BTreeMap.{BTreeMap, get as tree_get, is_at}
+use Rattle.std.specs.FinMap.{FinMap, get, insert, remove, empty, get-insert, get-remove, get-empty}
+use Rattle.std.proofs.lemmas.Bool.Decides.{nat_tests}
+use Rattle.order_laws.specs.declared.refusals.Refusal.{Refusal}
+use Rattle.order_laws.specs.declared.refusals.Refusal.TheVariants.{OutOfMemory, ReaderBusy, ReaderIdle}
+use Rattle.order_laws.specs.Orders.{Order}
+use Rattle.word_arena.specs.declared.stores.Store.{Store}
+use Rattle.word_arena.specs.declared.layouts.Layout.{Layout}
+use Rattle.word_arena.specs.Layouts.{capacity_of, limit_of}
+use Rattle.word_arena.specs.Words.{at}
+use Rattle.word_arena.specs.Stores.{words_after}
+use Rattle.latch_core.specs.declared.updates.Update.{Update}
+use Rattle.latch_core.specs.WriterViews.{WriterView}
+use Rattle.latch_core.specs.Updates.{refuses, most_steps}
+use Rattle.latch_core.specs.Latches.{Hand, Latch, MayStep, stepped, begun}
+use Rattle.latch_core.specs.Plans.{IsPlan}
+use Rattle.latch_core.specs.Writers.{Pictures, HasBegun, in_hand, why_refused, stepped_writer}
+use Rattle.latch_steps.specs.declared.events.Event.{Event}
+use Rattle.latch_steps.specs.declared.events.Event.TheVariants.{Begin, Write, Start, Read}
+use Rattle.latch_steps.specs.declared.replies.Returned.{Returned}
+use Rattle.latch_steps.specs.declared.replies.Reply.{Reply}
+use Rattle.latch_steps.specs.declared.replies.Reply.TheVariants.{Begun, Wrote, Idle, Started, Loaded, Retried, Returned as Gave, Refused}
+use Rattle.latch_steps.specs.declared.lookups.Lookup.{Lookup}
+use Rattle.latch_steps.specs.declared.lookups.Loaded.TheVariants.{Going, Retrying, Returned as Ended}
+use Rattle.latch_steps.specs.declared.worlds.World.{World}
+use Rattle.latch_steps.specs.Runs.{LookupInHand, Moment, more, counted, with_latch, with_lookups, Begins, Writes, Starts, Reads}
+use Rattle.latch_steps.specs.Expands.{writes_left}
+use Rattle.latch_steps.specs.Lookups.{IsLookupOf, LoadsTo, started}
+use Rattle.latch_steps.specs.Shows.{IsInHand, AreInHand, Shows, Does, GivesUp, MayDo, IsAtRest}
+
+-- the lookup in hand that is shown
+module _ {O K : Type 0} (o : Order K) (n : ℕ) where
+  pub shown : (c : Option (Lookup O K)) (m : Option (LookupInHand K)) (lk : Lookup O K) → Some lk ≡ c → IsInHand o n c m → (l : LookupInHand K) × (m ≡ Some l) × IsLookupOf o n lk l
+  shown None m lk e h = absurd (cc)
+  shown (Some k) None lk e h = absurd h
+  shown (Some k) (Some l) lk e h = let same : k ≡ lk = cc in (l, refl, subst (λ (x : Lookup O K). IsLookupOf o n x l) same h)
+
+  pub shown_none : (c : Option (Lookup O K)) (m : Option (LookupInHand K)) → c ≡ None → IsInHand o n c m → m ≡ None
+  shown_none None None e h = refl
+  shown_none None (Some l) e h = absurd h
+  shown_none (Some k) m e h = absurd (cc)
+
+  pub shown_some : (c : Option (Lookup O K)) (m : Option (LookupInHand K)) → is_some c ≡ true → IsInHand o n c m → (l : LookupInHand K) × (m ≡ Some l)
+  shown_some None m e h = absurd (cc)
+  shown_some (Some k) None e h = absurd h
+  shown_some (Some k) (Some l) e h = (l, refl)
+
+  -- lookups that are changed at one reader
+  pub in_hand_set : (cs ds : ℕ → Option (Lookup O K)) (ls : FinMap nat_cmp (LookupInHand K)) (r : ℕ) (new : Lookup O K) (l : LookupInHand K) → AreInHand o n cs ls → ((q : ℕ) → ds q ≡ cond (is_at (nat_cmp r) q) (Some new) (cs q)) → IsLookupOf o n new l → AreInHand o n ds (insert ls r l)
+  in_hand_set cs ds ls r new l h e is q =
+      let turn : eq_by_cmp nat_cmp q r ≡ is_at (nat_cmp r) q = grind (arith, nat_tests) in
+      let f : get (insert ls r l) q ≡ cond (is_at (nat_cmp r) q) (Some l) (get ls q) = get-insert nat_cmp_total ls r l q ∙ ap (λ b. cond b (Some l) (get ls q)) turn in
+      let both : IsInHand {O = O} o n (cond (is_at (nat_cmp r) q) (Some new) (cs q)) (cond (is_at (nat_cmp r) q) (Some l) (get ls q)) =
+      elim (is_at (nat_cmp r) q) as (λ b. IsInHand {O = O} o n (cond b (Some new) (cs q)) (cond b (Some l) (get ls q))) [ true ↦ is | false ↦ h q ] in
+      subst (λ x. IsInHand {O = O} o n x (get (insert ls r l) q)) (sym (e q)) (subst (IsInHand o n (cond (is_at (nat_cmp r) q) (Some new) (cs q))) (sym f) both)
+
+  pub in_hand_remove : (cs ds : ℕ → Option (Lookup O K)) (ls : FinMap nat_cmp (LookupInHand K)) (r : ℕ) → AreInHand o n cs ls → ((q : ℕ) → ds q ≡ cond (is_at (nat_cmp r) q) None (cs q)) → AreInHand o n ds (remove ls r)
+  in_hand_remove cs ds ls r h e q =
+      let turn : eq_by_cmp nat_cmp q r ≡ is_at (nat_cmp r) q = grind (arith, nat_tests) in
+      let f : get (remove ls r) q ≡ cond (is_at (nat_cmp r) q) None (get ls q) = get-remove nat_cmp_total ls r q ∙ ap (λ b. cond b None (get ls q)) turn in
+      let both : IsInHand {O = O} o n (cond (is_at (nat_cmp r) q) None (cs q)) (cond (is_at (nat_cmp r) q) None (get ls q)) =
+      elim (is_at (nat_cmp r) q) as (λ b. IsInHand {O = O} o n (cond b None (cs q)) (cond b None (get ls q))) [ true ↦ tt | false ↦ h q ] in
+      subst (λ x. IsInHand {O = O} o n x (get (remove ls r) q)) (sym (e q)) (subst (IsInHand o n (cond (is_at (nat_cmp r) q) None (cs q))) (sym f) both)
+
+-- the writer
+module _ {O K : Type 0} (o : Order K) (c : World O K) where
+  pub counts : (w : Moment K) (y : ℕ) → Shows o c w → y ≡ more c.events → Shows o (record c { events = y }) (counted w)
+  counts w y s e = record { capacity = s.capacity; limit = s.limit; words = s.words; writer = s.writer; lookups = s.lookups; events = e ∙ ap more s.events }
+
+  -- stores are left just where an update is in hand, and as many as it has steps left
+  pub hand_shown : (w : Moment K) → Shows o c w → nat_lt 0 (length c.writer.left) ≡ is_some w.latch.hand
+  hand_shown w s = busy_plan c.writer.left w.latch s.writer.plan
+    where
+      busy_plan : (left : List Store) (l : Latch) → IsPlan c.writer.capacity l left → nat_lt 0 (length left) ≡ is_some l.hand
+      busy_plan [] l plan = ap is_some (sym plan)
+      busy_plan (t ∷ ts) l plan = (let some : nat_lt 0 (length (t ∷ ts)) ≡ true = lt-ltb 0 (length (t ∷ ts)) (omega arith) in some) ∙ ap is_some (sym plan.1)
+
+  pub left_shown : (w : Moment K) → Shows o c w → (n : ℕ) → n ≡ length c.writer.left → ((l : Latch) (h : Hand) → Pictures c.writer l → l.hand ≡ Some h → h.left ≡ n) → n ≡ writes_left w.latch.hand
+  left_shown w s n count left = by w.latch.hand refl
+    where
+      none_left : (left : List Store) → nat_lt 0 (length left) ≡ false → length left ≡ 0
+      none_left [] e = refl
+      none_left (t ∷ ts) e = (let some : nat_lt 0 (length (t ∷ ts)) ≡ true = lt-ltb 0 (length (t ∷ ts)) (omega arith) in absurd (cc))
+
+      by : (h : Option Hand) → w.latch.hand ≡ h → n ≡ writes_left h
+      by None e = count ∙ none_left c.writer.left (hand_shown w s ∙ ap is_some e)
+      by (Some h) e = sym (left w.latch h s.writer e)
+
+  -- what the writer says of an update is what the definitions say
+  pub says : (u : Update) (why : Option Refusal) (w : Moment K) → Shows o c w → why_refused o c.writer u ≡ why → refuses o (capacity_of c.layout) (limit_of c.layout) (is_some w.latch.hand) w.latch.table (at w.latch.words 0) u ≡ why
+  says u why w s e =
+      let hand : in_hand c.writer ≡ is_some w.latch.hand = hand_shown w s in
+      (λ i. refuses o (sym s.capacity i) (sym s.limit i) (sym hand i) (s.writer.table i) (s.writer.sequence i) u) ∙ e
+
+  pub begins : (u : Update) (left y : ℕ) (wr : WriterView) → why_refused o c.writer u ≡ None → left ≡ length wr.left → HasBegun o c.writer u wr → y ≡ more c.events → MayDo o c (Begin u) (Begun left) (record c { writer = wr; events = y })
+  begins u left y wr accepted count h e =
+      inl (λ w s.
+      let next = with_latch w (begun o w.latch u left) in
+      let few : left ≤ most_steps (capacity_of c.layout) u = subst (λ n. left ≤ most_steps n u) s.capacity (subst (λ j. j ≤ most_steps c.writer.capacity u) (sym count) h.few) in (
+        next,
+        subst (λ why. Begins o (capacity_of c.layout) w u why (Begun left) next) (sym (says u None w s accepted)) (left, subst (λ j. 0 < j) (sym count) h.some, few, refl, refl),
+        record {
+          capacity = ap (λ (v : WriterView). v.capacity) h.rest ∙ s.capacity;
+          limit = ap (λ (v : WriterView). v.limit) h.rest ∙ s.limit;
+          words = s.words;
+          writer = subst (λ j. Pictures wr (begun o w.latch u j)) (sym count) (h.pictures w.latch s.writer);
+          lookups = s.lookups;
+          events = e ∙ ap more s.events;
+        },
+      ))
+
+  pub refused : (u : Update) (why : Refusal) (y : ℕ) (wr : WriterView) → wr ≡ c.writer → (why_refused o c.writer u ≡ Some why) ⊎ ((why_refused o c.writer u ≡ None) × (why ≡ OutOfMemory)) → why ≢ OutOfMemory → y ≡ more c.events → MayDo o c (Begin u) (Refused why) (record c { writer = wr; events = y })
+  refused u why y wr same err other e =
+      subst (λ (v : WriterView). MayDo o c (Begin u) (Refused why) (record c { writer = v; events = y })) (sym same)
+      (⊎_elim
+      (λ right.
+      inl (λ w s. (
+        counted w,
+        subst (λ why'. Begins o (capacity_of c.layout) w u why' (Refused why) (counted w)) (sym (says u (Some why) w s right)) (refl, refl),
+        counts w y s e,
+      )))
+      (λ out. absurd (other out.1))
+      err)
+
+  pub given_up : (u : Update) (why : Refusal) (wr : WriterView) → wr ≡ c.writer → why ≡ OutOfMemory → MayDo o c (Begin u) (Refused why) (record c { writer = wr })
+  given_up u why wr same out =
+      inr (ap Refused out, λ w s. subst (λ (v : WriterView). Shows o (record c { writer = v }) w) (sym same) s)
+
+  pub makes : (store : Store) (y : ℕ) (words : Vec ℕ Global) (wr : WriterView) → wr ≡ stepped_writer c.writer store
+      → ((l : Latch) → Pictures c.writer l → (h : Hand) × (l.hand ≡ Some h) × MayStep c.writer.capacity l h store)
+      → ((l : Latch) (h : Hand) → Pictures c.writer l → l.hand ≡ Some h → Pictures wr (stepped l h store))
+      → words.items ≡ words_after c.words.items store → y ≡ more c.events
+      → Does o c Write (Wrote store) (record c { words = words; writer = wr; events = y })
+  makes store y words wr el may then ew ee = λ w s.
+      let h = may w.latch s.writer in
+      let next = with_latch w (stepped w.latch h.0 store) in
+      let step : MayStep (capacity_of c.layout) w.latch h.0 store = subst (λ n. MayStep n w.latch h.0 store) s.capacity h.2 in (
+        next,
+        subst (λ hand. Writes (capacity_of c.layout) w hand (Wrote store) next) (sym h.1) (store, step, refl, refl),
+        record {
+          capacity = ap (λ (v : WriterView). v.capacity) el ∙ s.capacity;
+          limit = ap (λ (v : WriterView). v.limit) el ∙ s.limit;
+          words = ew ∙ ap (λ m. words_after m store) s.words;
+          writer = then w.latch h.0 s.writer h.1;
+          lookups = s.lookups;
+          events = ee ∙ ap more s.events;
+        },
+      )
+
+  pub idles : (y : ℕ) → IsAtRest o c → y ≡ more c.events → Does o c Write Idle (record c { events = y })
+  idles y rests e = λ w s. (
+    counted w,
+    subst (λ hand. Writes (capacity_of c.layout) w hand Idle (counted w)) (sym (rests w s)) (refl, refl),
+    counts w y s e,
+  )
+
+  -- the readers
+  pub busy : (r y : ℕ) (k : K) → is_some (tree_get nat_cmp c.lookups r) ≡ true → y ≡ more c.events → MayDo o c (Start r k) (Refused ReaderBusy) (record c { events = y })
+  busy r y k there e =
+      inl (λ w s.
+      let l = shown_some o (capacity_of c.layout) (tree_get nat_cmp c.lookups r) (get w.lookups r) there (s.lookups r) in (
+        counted w,
+        subst (λ f. Starts w r k f (Refused ReaderBusy) (counted w)) (sym l.1) (refl, refl),
+        counts w y s e,
+      ))
+
+  pub starts : (r y : ℕ) (k : K) (new : Lookup O K) (ds : BTreeMap ℕ (Lookup O K)) → tree_get nat_cmp c.lookups r ≡ None → IsLookupOf o (capacity_of c.layout) new (started k y) → ((q : ℕ) → tree_get nat_cmp ds q ≡ cond (is_at (nat_cmp r) q) (Some new) (tree_get nat_cmp c.lookups q)) → y ≡ more c.events → MayDo o c (Start r k) Started (record c { lookups = ds; events = y })
+  starts r y k new ds free is e ey =
+      inl (λ w s.
+      let none_there : get w.lookups r ≡ None = shown_none o (capacity_of c.layout) (tree_get nat_cmp c.lookups r) (get w.lookups r) free (s.lookups r) in
+      let count : y ≡ more w.events = ey ∙ ap more s.events in
+      let l : LookupInHand K = started k (more w.events) in
+      let next = with_lookups w (insert w.lookups r l) in (
+        next,
+        subst (λ f. Starts w r k f Started next) (sym none_there) (refl, refl),
+        record {
+          capacity = s.capacity;
+          limit = s.limit;
+          words = s.words;
+          writer = s.writer;
+          lookups = in_hand_set o (capacity_of c.layout) (tree_get nat_cmp c.lookups) (tree_get nat_cmp ds) w.lookups r new l s.lookups e (subst (λ j. IsLookupOf o (capacity_of c.layout) new (started k j)) count is);
+          events = count;
+        },
+      ))
+
+  pub idle : (r y : ℕ) (ds : BTreeMap ℕ (Lookup O K)) → tree_get nat_cmp c.lookups r ≡ None → ((q : ℕ) → tree_get nat_cmp ds q ≡ tree_get nat_cmp c.lookups q) → y ≡ more c.events → Does o c (Read r) (Refused ReaderIdle) (record c { lookups = ds; events = y })
+  idle r y ds free e ey = λ w s.
+      let none_there : get w.lookups r ≡ None = shown_none o (capacity_of c.layout) (tree_get nat_cmp c.lookups r) (get w.lookups r) free (s.lookups r) in (
+        counted w,
+        subst (λ f. Reads o (capacity_of c.layout) w r f (Refused ReaderIdle) (counted w)) (sym none_there) (refl, refl),
+        record {
+          capacity = s.capacity;
+          limit = s.limit;
+          words = s.words;
+          writer = s.writer;
+          lookups = λ q. subst (λ x. IsInHand o (capacity_of c.layout) x (get w.lookups q)) (sym (e q)) (s.lookups q);
+          events = ey ∙ ap more s.events;
+        },
+      )
+
+  pub goes_on : (r y : ℕ) (lk new : Lookup O K) (ds : BTreeMap ℕ (Lookup O K)) (words : List ℕ) → Some lk ≡ tree_get nat_cmp c.lookups r → words ≡ c.words.items
+      → ((l : LookupInHand K) → IsLookupOf o (capacity_of c.layout) lk l → LoadsTo o (capacity_of c.layout) words r y l (Going new))
+      → ((q : ℕ) → tree_get nat_cmp ds q ≡ cond (is_at (nat_cmp r) q) (Some new) (tree_get nat_cmp c.lookups q)) → y ≡ more c.events
+      → Does o c (Read r) Loaded (record c { lookups = ds; events = y })
+  goes_on r y lk new ds words there ew loads e ey = λ w s.
+      let m = shown o (capacity_of c.layout) (tree_get nat_cmp c.lookups r) (get w.lookups r) lk there (s.lookups r) in
+      let g = loads m.0 m.2 in
+      let next = with_lookups w (insert w.lookups r g.0) in (
+        next,
+        subst (λ f. Reads o (capacity_of c.layout) w r f Loaded next) (sym m.1) (g.2 w (sym s.words ∙ sym ew)),
+        record {
+          capacity = s.capacity;
+          limit = s.limit;
+          words = s.words;
+          writer = s.writer;
+          lookups = in_hand_set o (capacity_of c.layout) (tree_get nat_cmp c.lookups) (tree_get nat_cmp ds) w.lookups r new g.0 s.lookups e g.1;
+          events = ey ∙ ap more s.events;
+        },
+      )
+
+  pub tries_again : (r y : ℕ) (lk new : Lookup O K) (ds : BTreeMap ℕ (Lookup O K)) (words : List ℕ) → Some lk ≡ tree_get nat_cmp c.lookups r → words ≡ c.words.items
+      → ((l : LookupInHand K) → IsLookupOf o (capacity_of c.layout) lk l → LoadsTo o (capacity_of c.layout) words r y l (Retrying new))
+      → ((q : ℕ) → tree_get nat_cmp ds q ≡ cond (is_at (nat_cmp r) q) (Some new) (tree_get nat_cmp c.lookups q)) → y ≡ more c.events
+      → Does o c (Read r) Retried (record c { lookups = ds; events = y })
+  tries_again r y lk new ds words there ew loads e ey = λ w s.
+      let m = shown o (capacity_of c.layout) (tree_get nat_cmp c.lookups r) (get w.lookups r) lk there (s.lookups r) in
+      let g = loads m.0 m.2 in
+      let next = with_lookups w (insert w.lookups r g.0) in (
+        next,
+        subst (λ f. Reads o (capacity_of c.layout) w r f Retried next) (sym m.1) (g.2 w (sym s.words ∙ sym ew)),
+        record {
+          capacity = s.capacity;
+          limit = s.limit;
+          words = s.words;
+          writer = s.writer;
+          lookups = in_hand_set o (capacity_of c.layout) (tree_get nat_cmp c.lookups) (tree_get nat_cmp ds) w.lookups r new g.0 s.lookups e g.1;
+          events = ey ∙ ap more s.events;
+        },
+      )
+
+  pub returns : (r y : ℕ) (lk : Lookup O K) (x : Returned K) (ds : BTreeMap ℕ (Lookup O K)) (words : List ℕ) → Some lk ≡ tree_get nat_cmp c.lookups r → words ≡ c.words.items
+      → ((l : LookupInHand K) → IsLookupOf o (capacity_of c.layout) lk l → LoadsTo {O = O} o (capacity_of c.layout) words r y l (Ended x))
+      → ((q : ℕ) → tree_get nat_cmp ds q ≡ cond (is_at (nat_cmp r) q) None (tree_get nat_cmp c.lookups q)) → y ≡ more c.events
+      → Does o c (Read r) (Gave x) (record c { lookups = ds; events = y })
+  returns r y lk x ds words there ew loads e ey = λ w s.
+      let m = shown o (capacity_of c.layout) (tree_get nat_cmp c.lookups r) (get w.lookups r) lk there (s.lookups r) in
+      let count : y ≡ more w.events = ey ∙ ap more s.events in
+      let g = loads m.0 m.2 w (sym s.words ∙ sym ew) (sym count) in
+      let next = with_lookups w (remove w.lookups r) in (
+        next,
+        subst (λ f. Reads o (capacity_of c.layout) w r f (Gave x) next) (sym m.1) g,
+        record {
+          capacity = s.capacity;
+          limit = s.limit;
+          words = s.words;
+          writer = s.writer;
+          lookups = in_hand_remove o (capacity_of c.layout) (tree_get nat_cmp c.lookups) (tree_get nat_cmp ds) w.lookups r s.lookups e;
+          events = count;
+        },
+      )
+
+-- nobody has a lookup in hand at the opening
+pub none_in_hand : {O K : Type 0} (o : Order K) (n : ℕ) (m : BTreeMap ℕ (Lookup O K)) → m.entries ≡ [] → AreInHand o n (tree_get nat_cmp m) empty
+none_in_hand {O} {K} o n m e r =
+    let no : FinMap nat_cmp (LookupInHand K) = empty in
+    let free : tree_get nat_cmp m r ≡ None = rw e refl in
+    subst (λ x. IsInHand {O = O} o n x (get no r)) (sym free) (subst (IsInHand {O = O} o n None) (sym (get-empty nat_cmp r)) tt)
+
+-- a map that took a key out
+pub removed : {X : Type 0} (b : Bool) (x y z : Option X) → x ≡ cond b None y → (u : Option X) → y ≡ cond b u z → x ≡ cond b None z
+removed true x y z e u f = e
+removed false x y z e u f = e ∙ f
+
+pub no_lookup : {X : Type 0} (x : Option X) → is_some x ≡ false → x ≡ None
+no_lookup None e = refl
+no_lookup (Some x) e = absurd (cc)

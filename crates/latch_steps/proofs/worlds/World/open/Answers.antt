@@ -1,0 +1,17 @@
+use Rattle.std.proofs.Common.{refl, ap}
+use Rattle.latch_core.specs.WriterViews.{WriterView}
+use Rattle.word_arena.specs.Layouts.{capacity_of}
+use Rattle.latch_steps.proofs.Showing.{none_in_hand}
+use Rattle.latch_steps.proofs.worlds.World.open.Goals as goal
+
+pub returns-clause-shows : goal.returns-clause-shows
+returns-clause-shows g c =
+    let ok = c.in_ok-writer.ensures in
+    record {
+      capacity = ap (λ (v : WriterView). v.capacity) ok.opened;
+      limit = ap (λ (v : WriterView). v.limit) ok.opened;
+      words = c.in-Ok.ensures;
+      writer = ok.pictures;
+      lookups = none_in_hand g.O.TreeOrder.order (capacity_of c.args.l) c.new.result c.new.ensures.empty;
+      events = refl;
+    }

@@ -1,0 +1,15 @@
+use Rattle.std.proofs.Common.{sym, subst}
+use Rattle.latch_steps.specs.declared.events.Event.TheVariants.{Write}
+use Rattle.latch_steps.specs.declared.replies.Reply.TheVariants.{Idle}
+use Rattle.latch_steps.specs.declared.worlds.World.{World}
+use Rattle.latch_steps.specs.Shows.{Does, IsAtRest}
+use Rattle.latch_steps.proofs.Showing.{idles}
+use Rattle.latch_steps.proofs.worlds.World.write.Goals as goal
+
+pub returns-in-None-clause-steps : goal.returns-in-None-clause-steps
+returns-in-None-clause-steps g c =
+    let o = g.O.TreeOrder.order in
+    let made = c.make.new.self in
+    let none = c.in-None.ensures.none in
+    subst (λ (old : World g.row.O.Denot g.row.O-Key.Denot). Does o old Write Idle (record made { events = c.saturating_add-self.result })) none.0
+    (idles o made c.saturating_add-self.result (subst (IsAtRest o) (sym none.0) none.1) c.saturating_add-self.ensures)

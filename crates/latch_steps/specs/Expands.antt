@@ -1,0 +1,71 @@
+-- The events that a list of commands stands for.
+use Rattle.std.specs.Prelude.{◌≡◌, ℕ, ◌-◌, ◌<◌, Bool, true, false, ◌||◌, List, [], ◌∷◌, ◌++◌, Option, Some, None, is_none, if◌then◌else◌}
+use Rattle.std.specs.FinMap.{get}
+use Rattle.latch_steps.specs.declared.events.Event.{Event}
+use Rattle.latch_steps.specs.declared.events.Event.TheVariants.{Begin, Write, Start, Read}
+use Rattle.latch_steps.specs.declared.commands.Command.{Command}
+use Rattle.latch_steps.specs.declared.commands.Command.TheVariants.{Begin as ToBegin, Write as ToWrite, WriteFlip, WriteEnd, Start as ToStart, Read as ToRead}
+use Rattle.latch_steps.specs.declared.replies.Reply.{Reply}
+use Rattle.latch_steps.specs.declared.replies.Reply.TheVariants.{Returned as Gave}
+use Rattle.latch_core.specs.Latches.{Hand}
+use Rattle.latch_steps.specs.Runs.{LookupInHand, Moment, last_of}
+use Rattle.latch_steps.specs.Quiet.{is_flip}
+
+-- a command repeats one event
+abbrev pub event_of : {K : Type 0} → Command K → Event K
+event_of (ToBegin u) = Begin u
+event_of (ToWrite most) = Write
+event_of WriteFlip = Write
+event_of WriteEnd = Write
+event_of (ToStart r k) = Start r k
+event_of (ToRead r most) = Read r
+
+-- with nothing in hand the writer makes no step; with an update in hand it has so many left
+abbrev pub writes_within : Option Hand → ℕ → ℕ
+writes_within None most = 0
+writes_within (Some h) most = most
+
+abbrev pub writes_left : Option Hand → ℕ
+writes_left None = 0
+writes_left (Some h) = h.left
+
+-- a reader without a lookup in hand is refused once
+abbrev pub reads_within : {K : Type 0} → Option (LookupInHand K) → ℕ → ℕ
+reads_within None most = 1
+reads_within (Some l) most = most
+
+-- how often it repeats the event at most, from a moment
+abbrev pub most_of : {K : Type 0} → Moment K → Command K → ℕ
+most_of w (ToBegin u) = 1
+most_of w (ToWrite most) = writes_within w.latch.hand most
+most_of w WriteFlip = writes_left w.latch.hand
+most_of w WriteEnd = writes_left w.latch.hand
+most_of w (ToStart r k) = 1
+most_of w (ToRead r most) = reads_within (get w.lookups r) most
+
+-- a lookup returned
+abbrev pub is_return : {K : Type 0} → Reply K → Bool
+is_return (Gave x) = true
+is_return _ = false
+
+-- whether this reply, with the moment after it, ends the command before that
+abbrev pub ends : {K : Type 0} → Command K → Reply K → Moment K → Bool
+ends (ToWrite most) reply w = is_none w.latch.hand
+ends WriteFlip reply w = is_flip reply || is_none w.latch.hand
+ends WriteEnd reply w = is_none w.latch.hand
+ends (ToRead r most) reply w = is_return reply
+ends _ reply w = false
+
+-- the command's event again and again, up to the first that ends it, or so many where that takes more
+abbrev pub Repeats : {K : Type 0} → Command K → ℕ → List (Event K) → List (Reply K) → List (Moment K) → Type 0
+Repeats c most [] [] [] = most ≡ 0
+Repeats c most (e ∷ es) (r ∷ rs) (w ∷ ws) = (0 < most) × (e ≡ event_of c) × Repeats c (if ends c r w then 0 else most - 1) es rs ws
+Repeats c most _ _ _ = ⊥
+
+-- one group of events for each command
+abbrev pub Expand : {K : Type 0} → Moment K → List (Command K) → List (Event K) → List (Reply K) → List (Moment K) → Type 0
+Expand w [] es rs ws = (es ≡ []) × (rs ≡ []) × (ws ≡ [])
+Expand {K} w (c ∷ cs) es rs ws =
+    (es1 : List (Event K)) × (es2 : List (Event K)) × (rs1 : List (Reply K)) × (rs2 : List (Reply K)) × (ws1 : List (Moment K)) × (ws2 : List (Moment K))
+    × (es ≡ es1 ++ es2) × (rs ≡ rs1 ++ rs2) × (ws ≡ ws1 ++ ws2)
+    × Repeats c (most_of w c) es1 rs1 ws1 × Expand (last_of w ws1) cs es2 rs2 ws2

@@ -1,0 +1,34 @@
+-- What a lookup of the code stands for, and what one load of it does.
+use Rattle.std.specs.Prelude.{◌≡◌, ℕ, List, [], Some}
+use Rattle.std.specs.FinMap.{insert, remove}
+use Rattle.order_laws.specs.Orders.{Order}
+use Rattle.latch_core.specs.Cores.{capacity_of_core, key_of_core, LeadsTo}
+use Rattle.latch_steps.specs.declared.lookups.Lookup.{Lookup}
+use Rattle.latch_steps.specs.declared.lookups.Loaded.{Loaded}
+use Rattle.latch_steps.specs.declared.lookups.Loaded.TheVariants.{Going, Retrying, Returned}
+use Rattle.latch_steps.specs.declared.replies.Reply.TheVariants.{Loaded as Went, Retried, Returned as Gave}
+use Rattle.latch_steps.specs.Runs.{LookupInHand, Moment, more, with_lookups, Reads}
+
+-- a lookup at n nodes
+pub record IsLookupOf {O K : Type 0} (o : Order K) (n : ℕ) (c : Lookup O K) (l : LookupInHand K) : Type 0 where
+  pub capacity : capacity_of_core c.core ≡ n
+  pub key : key_of_core c.core ≡ l.key
+  pub leads : LeadsTo o l.values c.core
+  pub first : c.first ≡ l.first
+  pub loads : c.loads ≡ l.loads
+  pub tries : c.tries ≡ l.tries
+
+-- a lookup that has loaded nothing
+abbrev pub started : {K : Type 0} → K → ℕ → LookupInHand K
+started k first = record { key = k; first = first; loads = 0; tries = 1; values = [] }
+
+-- one load of the lookup that this reader has in hand, from these words, as event number `last`
+abbrev pub LoadsTo : {O K : Type 0} → Order K → ℕ → List ℕ → ℕ → ℕ → LookupInHand K → Loaded O K → Type 0
+LoadsTo {O} {K} o n words r last l (Going c) =
+    (next : LookupInHand K) × IsLookupOf o n c next
+    × ((w : Moment K) → w.latch.words ≡ words → Reads o n w r (Some l) Went (with_lookups w (insert w.lookups r next)))
+LoadsTo {O} {K} o n words r last l (Retrying c) =
+    (next : LookupInHand K) × IsLookupOf o n c next
+    × ((w : Moment K) → w.latch.words ≡ words → Reads o n w r (Some l) Retried (with_lookups w (insert w.lookups r next)))
+LoadsTo {O} {K} o n words r last l (Returned x) =
+    (w : Moment K) → w.latch.words ≡ words → more w.events ≡ last → Reads o n w r (Some l) (Gave x) (with_lookups w (remove w.lookups r))

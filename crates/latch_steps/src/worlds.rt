@@ -1,0 +1,197 @@
+//! The words, their writer and the lookups in hand, one step at a time.
+
+ghost use Rattle.std.specs.Prelude.{◌≡◌, ◌<◌, ◌⊎◌, length, IfOk, IfErr, IfSome, IfNone, OnSome, is_some};
+ghost use Rattle.std.specs.FinMap.{get};
+ghost use Rattle.word_arena.specs.Words.{at};
+ghost use Rattle.word_arena.specs.Layouts.{capacity_of};
+ghost use Rattle.latch_core.specs.Writers.{MayOpen};
+ghost use Rattle.latch_steps.specs.declared.events.Event.TheVariants.{Begin, Write, Start, Read};
+ghost use Rattle.latch_steps.specs.Runs.{Moment, opening};
+ghost use Rattle.latch_steps.specs.Expands.{writes_left};
+
+use crate::events::Event;
+use crate::lookups::{Loaded, Lookup};
+use crate::replies::Reply;
+use crate::words::{opening_words, put, word_at};
+use latch_core::{Update, WriterCore};
+use order_laws::{Refusal, TreeOrder};
+use std::alloc::Global;
+use std::collections::BTreeMap;
+use word_arena::{Layout, Store};
+
+/// The words of a latched tree with their writer, the lookups in hand by reader, and the count of events, which stays at
+/// the greatest `u64`.
+///
+/// Its methods do one event each. A refused event is counted too, unless it was refused for want of memory, which changes
+/// nothing.
+#[derive(Drop)]
+pub struct World<O: TreeOrder> {
+    layout: Layout,
+    words: Vec<u64>,
+    writer: WriterCore<O>,
+    lookups: BTreeMap<u32, Lookup<O>>,
+    events: u64,
+}
+
+impl<O: TreeOrder> World<O> {
+    ghost use Rattle.latch_steps.specs.Shows.{Shows, Does, MayDo, Steps, IsAtRest, layout_in};
+
+    /// A world before any event, with its sequence at `start`.
+    ///
+    /// Refused by [`Refusal::BadCapacity`] where the start is odd or above the layout's limit, and by
+    /// [`Refusal::OutOfMemory`].
+    pub fn open(alloc: Global, l: Layout, start: u64) -> Result<Self, Refusal>
+        ensures layout { IfOk result (λ w. layout_in w ≡ l) }
+        ensures shows { IfOk result (λ w. Shows O.order w (opening (capacity_of l) start)) }
+        ensures may { IfOk result (λ w. MayOpen l start) }
+        ensures refusal { IfErr result (λ e. ((e ≡ Refusal.BadCapacity) × (MayOpen l start → ⊥)) ⊎ ((e ≡ Refusal.OutOfMemory) × MayOpen l start)) }
+    {
+        let writer = WriterCore::open(alloc, l, start)?;
+        let Ok(words) = opening_words(alloc, l, start) else {
+            return Err(Refusal::OutOfMemory);
+        };
+        Ok(World {
+            layout: l,
+            words,
+            writer,
+            lookups: BTreeMap::new(alloc),
+            events: 0,
+        })
+    }
+
+    /// Does one event.
+    ///
+    /// Begin and Start may be refused by [`Refusal::OutOfMemory`], and nothing has changed then.
+    pub fn step(&mut self, event: Event<O::Key>) -> Reply<O::Key>
+        ensures layout { layout_in self.new ≡ layout_in self.old }
+        ensures steps { Steps O.order self.old event result self.new }
+    {
+        match event {
+            Event::Begin(update) => self.begin(update),
+            Event::Write => self.write(),
+            Event::Start(reader, key) => self.start(reader, key),
+            Event::Read(reader) => self.read(reader),
+        }
+    }
+
+    /// The writer takes an update in hand.
+    fn begin(&mut self, update: Update) -> Reply<O::Key>
+        ensures layout { layout_in self.new ≡ layout_in self.old }
+        ensures steps { MayDo O.order self.old (Begin update) result self.new }
+    {
+        match self.writer.begin(update) {
+            Ok(left) => {
+                self.events = self.events.saturating_add(1);
+                Reply::Begun(left)
+            }
+            Err(why) => {
+                match why {
+                    Refusal::OutOfMemory => {}
+                    _ => self.events = self.events.saturating_add(1),
+                }
+                Reply::Refused(why)
+            }
+        }
+    }
+
+    /// The writer makes one store, where it has an update in hand.
+    fn write(&mut self) -> Reply<O::Key>
+        ensures layout { layout_in self.new ≡ layout_in self.old }
+        ensures steps { Does O.order self.old Write result self.new }
+    {
+        match self.make() {
+            Some(store) => Reply::Wrote(store),
+            None => {
+                self.events = self.events.saturating_add(1);
+                Reply::Idle
+            }
+        }
+    }
+
+    /// Makes the writer's next store, if it has one.
+    fn make(&mut self) -> Option<Store>
+        ensures layout { layout_in self.new ≡ layout_in self.old }
+        ensures made { IfSome result (λ s. Does O.order self.old Write (Reply.Wrote s) self.new) }
+        ensures fewer { OnSome result (length self.new.writer.left < length self.old.writer.left) }
+        ensures none { IfNone result ((self.new ≡ self.old) × IsAtRest O.order self.old) }
+    {
+        let store = self.writer.next()?;
+        put(&mut self.words, store);
+        self.writer.did();
+        self.events = self.events.saturating_add(1);
+        Some(store)
+    }
+
+    /// A reader begins a lookup.
+    fn start(&mut self, reader: u32, key: O::Key) -> Reply<O::Key>
+        ensures layout { layout_in self.new ≡ layout_in self.old }
+        ensures steps { MayDo O.order self.old (Start reader key) result self.new }
+    {
+        if self.lookups.contains_key(&reader) {
+            self.events = self.events.saturating_add(1);
+            return Reply::Refused(Refusal::ReaderBusy);
+        }
+        let first = self.events.saturating_add(1);
+        let lookup = Lookup::start(self.layout, key, first);
+        match self.lookups.insert(reader, lookup) {
+            Ok(_) => {
+                self.events = first;
+                Reply::Started
+            }
+            Err(_) => Reply::Refused(Refusal::OutOfMemory),
+        }
+    }
+
+    /// A reader makes one load.
+    fn read(&mut self, reader: u32) -> Reply<O::Key>
+        ensures layout { layout_in self.new ≡ layout_in self.old }
+        ensures steps { Does O.order self.old (Read reader) result self.new }
+    {
+        self.events = self.events.saturating_add(1);
+        let Some(lookup) = self.lookups.get_mut(&reader) else {
+            return Reply::Refused(Refusal::ReaderIdle);
+        };
+        match lookup.load(self.words.as_slice(), reader, self.events) {
+            Loaded::Going(next) => {
+                *lookup = next;
+                Reply::Loaded
+            }
+            Loaded::Retrying(next) => {
+                *lookup = next;
+                Reply::Retried
+            }
+            Loaded::Returned(returned) => {
+                let _ = self.lookups.remove(&reader);
+                Reply::Returned(returned)
+            }
+        }
+    }
+
+    /// Whether an update is in hand.
+    pub(crate) fn is_writing(&self) -> bool
+        ensures { (w : Moment O.Key) → Shows O.order self.now w → result ≡ is_some w.latch.hand }
+    {
+        self.writer.remaining() > 0
+    }
+
+    /// How many steps the update in hand has left; 0 with none in hand.
+    pub(crate) fn writes_left(&self) -> u64
+        ensures { (w : Moment O.Key) → Shows O.order self.now w → result ≡ writes_left w.latch.hand }
+    {
+        self.writer.remaining()
+    }
+
+    /// Whether a reader has a lookup in hand.
+    pub(crate) fn is_reading(&self, reader: u32) -> bool
+        ensures { (w : Moment O.Key) → Shows O.order self.now w → result ≡ is_some (get w.lookups reader) }
+    {
+        self.lookups.contains_key(&reader)
+    }
+
+    /// The sequence, which is word 0.
+    pub fn sequence(&self) -> u64
+        ensures { (w : Moment O.Key) → Shows O.order self.now w → result ≡ at w.latch.words 0 }
+    {
+        word_at(self.words.as_slice(), 0)
+    }
+}
