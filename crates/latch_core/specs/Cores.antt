@@ -78,3 +78,9 @@ IsShorter old _ = Unit {0}
 abbrev pub StartsAgain : {O K : Type 0} → Order K → Taken O K → Type 0
 StartsAgain o (Retrying c) = remaining o c ≡ attempt o (capacity_of_core c) (key_of_core c)
 StartsAgain o _ = Unit {0}
+
+-- a core that is handed back looks the same key up among as many nodes
+abbrev pub IsSameLookup : {O K : Type 0} → ReaderCore O K → Taken O K → Type 0
+IsSameLookup old (Going c) = (capacity_of_core c ≡ capacity_of_core old) × (key_of_core c ≡ key_of_core old)
+IsSameLookup old (Retrying c) = (capacity_of_core c ≡ capacity_of_core old) × (key_of_core c ≡ key_of_core old)
+IsSameLookup old (Returned answer g) = Unit {0}

@@ -33,7 +33,7 @@ pub enum Taken<O: TreeOrder> {
 }
 
 impl<O: TreeOrder> ReaderCore<O> {
-    ghost use Rattle.latch_core.specs.Cores.{capacity_of_core, key_of_core, remaining, LeadsTo, LeadsOn, most_loads, IsShorter, StartsAgain};
+    ghost use Rattle.latch_core.specs.Cores.{capacity_of_core, key_of_core, remaining, LeadsTo, LeadsOn, most_loads, IsSameLookup, IsShorter, StartsAgain};
 
     /// A lookup of `k` that was given nothing yet.
     pub fn start(l: Layout, k: O::Key) -> Self
@@ -113,6 +113,7 @@ impl<O: TreeOrder> ReaderCore<O> {
     /// A core that goes on was given at most 4N + 2 values in its attempt, whatever they were; one that begins again was
     /// given none in its new attempt.
     pub fn take(mut self, value: u64) -> Taken<O>
+        ensures same { IsSameLookup self result }
         ensures shorter { IsShorter self result }
         ensures again { StartsAgain O.order result }
         ensures leads { (values : List ℕ) → LeadsTo O.order values self → LeadsOn O.order (capacity_of_core self) (key_of_core self) (values ++ value ∷ []) result }

@@ -90,6 +90,7 @@ impl<O: TreeOrder> WriterCore<O> {
         ensures begun { IfOk result (λ left. (left ≡ length self.new.left) × HasBegun O.order self.old u self.new) }
         ensures refusal { IfErr result (λ e. (why_refused O.order self.old u ≡ Some e) ⊎ ((why_refused O.order self.old u ≡ None) × (e ≡ Refusal.OutOfMemory))) }
         ensures unchanged { OnErr result (self.new ≡ self.old) }
+        ensures same { (self.new.capacity ≡ self.old.capacity) × (self.new.limit ≡ self.old.limit) × (self.new.sequence ≡ self.old.sequence) }
         ensures pictured { (l : Latch) → Pictures self.old l → refuses O.order self.old.capacity self.old.limit (is_some l.hand) l.table (at l.words 0) u ≡ why_refused O.order self.old u }
     {
         if let Some(refusal) = self.refusal(&u) {
@@ -179,6 +180,7 @@ impl<O: TreeOrder> WriterCore<O> {
     /// The store that [`next`](WriterCore::next) told was made.
     pub fn did(&mut self)
         requires { IsSome (next_store self.old) }
+        ensures same { (self.new.capacity ≡ self.old.capacity) × (self.new.limit ≡ self.old.limit) × (self.new.table ≡ self.old.table) }
         ensures left { length self.new.left + 1 ≡ length self.old.left }
         ensures stepped { (s : Store) → next_store self.old ≡ Some s → self.new ≡ stepped_writer self.old s }
         ensures pictures { (l : Latch) (h : Hand) (s : Store) → Pictures self.old l → l.hand ≡ Some h → next_store self.old ≡ Some s → Pictures self.new (stepped l h s) }
@@ -189,6 +191,7 @@ impl<O: TreeOrder> WriterCore<O> {
     /// Leaves the next store behind, and keeps the sequence that it makes.
     fn step_on(&mut self)
         requires { IsSome (next_store self.old) }
+        ensures same { (self.new.capacity ≡ self.old.capacity) × (self.new.limit ≡ self.old.limit) × (self.new.table ≡ self.old.table) }
         ensures left { length self.new.left + 1 ≡ length self.old.left }
         ensures stepped { (s : Store) → next_store self.old ≡ Some s → self.new ≡ stepped_writer self.old s }
     {
