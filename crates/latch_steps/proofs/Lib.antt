@@ -6,3 +6,4 @@ mod Patient
 mod Loading
 mod Showing
 mod Recording
+mod Settling

@@ -4,6 +4,7 @@ pub mod Quiet
 pub mod Expands
 pub mod Lookups
 pub mod Shows
+pub mod Found
 pub mod GivesUp
 pub mod Records
 pub mod Traces

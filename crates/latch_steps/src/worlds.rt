@@ -1,10 +1,11 @@
 //! The words, their writer and the lookups in hand, one step at a time.
 
-ghost use Rattle.std.specs.Prelude.{◌≡◌, ◌<◌, ◌⊎◌, length, IfOk, IfErr, IfSome, IfNone, OnSome, is_some};
+ghost use Rattle.std.specs.Prelude.{◌≡◌, ℕ, ◌<◌, ◌⊎◌, List, length, IfOk, IfErr, IfSome, IfNone, OnSome, is_some};
 ghost use Rattle.std.specs.FinMap.{get};
 ghost use Rattle.word_arena.specs.Words.{at};
 ghost use Rattle.word_arena.specs.Layouts.{capacity_of};
 ghost use Rattle.latch_core.specs.Writers.{MayOpen};
+ghost use Rattle.latch_core.specs.declared.updates.Update.{Update};
 ghost use Rattle.latch_steps.specs.declared.events.Event.TheVariants.{Begin, Write, Start, Read};
 ghost use Rattle.latch_steps.specs.Runs.{Moment, opening};
 ghost use Rattle.latch_steps.specs.Expands.{writes_left};
@@ -35,6 +36,7 @@ pub struct World<O: TreeOrder> {
 
 impl<O: TreeOrder> World<O> {
     ghost use Rattle.latch_steps.specs.Shows.{Shows, Does, MayDo, Steps, IsAtRest, layout_in};
+    ghost use Rattle.latch_steps.specs.Found.{IsAfter, IsSettled, Settles, IsFound, Finds};
 
     /// A world before any event, with its sequence at `start`.
     ///
@@ -165,6 +167,15 @@ impl<O: TreeOrder> World<O> {
                 Reply::Returned(returned)
             }
         }
+    }
+
+    /// Makes the writer's steps until nothing is in hand.
+    pub fn settle(&mut self)
+        ensures layout { layout_in self.new ≡ layout_in self.old }
+        ensures settles { (w : Moment O.Key) → Shows O.order self.old w → Settles O.order self.old w self.new }
+        ensures settled { (start : ℕ) (us : List Update) → IsAfter O.order start us self.old → IsSettled O.order start us self.new }
+    {
+        while let Some(_) = self.make() {}
     }
 
     /// Whether an update is in hand.
