@@ -7,3 +7,4 @@ mod Loading
 mod Showing
 mod Recording
 mod Settling
+mod Searching

@@ -1,5 +1,8 @@
 -- Worlds after a history of updates, and what a lookup that no step of the writer meets finds in one.
-use Rattle.std.specs.Prelude.{◌≡◌, ℕ, ◌+◌, ◌*◌, ◌≤◌, List, ◌∷◌, [], ◌++◌, length, None}
+use Rattle.std.specs.Prelude.{◌≡◌, ℕ, ◌+◌, ◌*◌, ◌≤◌, List, ◌∷◌, [], ◌++◌, length, None, is_some, true, ◌⊎◌}
+use Rattle.std.specs.FinMap.{get}
+use Rattle.order_laws.specs.declared.refusals.Refusal.{Refusal}
+use Rattle.order_laws.specs.declared.refusals.Refusal.TheVariants.{OutOfMemory, ReaderBusy}
 use Rattle.std.specs.List.{AllByRecursion}
 use Rattle.order_laws.specs.Orders.{Order}
 use Rattle.order_laws.specs.Tables.{look}
@@ -15,7 +18,7 @@ use Rattle.latch_steps.specs.declared.replies.Returned.{Returned}
 use Rattle.latch_steps.specs.declared.replies.Reply.{Reply}
 use Rattle.latch_steps.specs.declared.replies.Reply.TheVariants.{Started, Returned as Gave}
 use Rattle.latch_steps.specs.declared.worlds.World.{World}
-use Rattle.latch_steps.specs.Runs.{Moment, Run, last_of}
+use Rattle.latch_steps.specs.Runs.{Moment, Run, counted, last_of}
 use Rattle.latch_steps.specs.Shows.{Shows, layout_in}
 
 -- the world shows a moment after these accepted updates, from this opening sequence on
@@ -57,3 +60,7 @@ pub record Finds {O K : Type 0} (o : Order K) (old : World O K) (w : Moment K) (
   pub reads : AllByRecursion (λ e. e ≡ Read r) es
   pub run : Run o (capacity_of (layout_in old)) (limit_of (layout_in old)) w (Start r k ∷ es) (Started ∷ rs ++ Gave x ∷ []) ws
   pub shows : Shows o new (last_of w ws)
+
+-- a lookup that was not begun: for want of memory, with nothing changed; or since the reader has one in hand
+abbrev pub IsNotBegun : {O K : Type 0} (o : Order K) {start' : ℕ} {us : List Update} {c : World O K} → IsAfter o start' us c → ℕ → Refusal → World O K → Type 0
+IsNotBegun o h r why new = ((why ≡ OutOfMemory) × Shows o new h.moment) ⊎ ((why ≡ ReaderBusy) × (is_some (get h.moment.lookups r) ≡ true) × Shows o new (counted h.moment))

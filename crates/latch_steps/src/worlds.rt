@@ -12,7 +12,7 @@ ghost use Rattle.latch_steps.specs.Expands.{writes_left};
 
 use crate::events::Event;
 use crate::lookups::{Loaded, Lookup};
-use crate::replies::Reply;
+use crate::replies::{Reply, Returned};
 use crate::words::{opening_words, put, word_at};
 use latch_core::{Update, WriterCore};
 use order_laws::{Refusal, TreeOrder};
@@ -36,7 +36,7 @@ pub struct World<O: TreeOrder> {
 
 impl<O: TreeOrder> World<O> {
     ghost use Rattle.latch_steps.specs.Shows.{Shows, Does, MayDo, Steps, IsAtRest, layout_in};
-    ghost use Rattle.latch_steps.specs.Found.{IsAfter, IsSettled, Settles, IsFound, Finds};
+    ghost use Rattle.latch_steps.specs.Found.{IsAfter, IsSettled, Settles, IsFound, Finds, IsNotBegun};
 
     /// A world before any event, with its sequence at `start`.
     ///
@@ -176,6 +176,29 @@ impl<O: TreeOrder> World<O> {
         ensures settled { (start : ℕ) (us : List Update) → IsAfter O.order start us self.old → IsSettled O.order start us self.new }
     {
         while let Some(_) = self.make() {}
+    }
+
+    /// Looks a key up at once: starts a lookup and makes its loads up to its return.
+    ///
+    /// No step of the writer comes between, so the lookup returns at its first attempt within `4n + 3` loads at a table of
+    /// `n` items, also where the writer stands inside an update. Refused by [`Refusal::ReaderBusy`] where the reader has a
+    /// lookup in hand, and by [`Refusal::OutOfMemory`].
+    pub fn find_now(&mut self, reader: u32, key: O::Key) -> Result<Returned<O::Key>, Refusal>
+        ensures layout { layout_in self.new ≡ layout_in self.old }
+        ensures finds { IfOk result (λ x. (w : Moment O.Key) → Shows O.order self.old w → Finds O.order self.old w reader key x self.new) }
+        ensures found { IfOk result (λ x. (start : ℕ) (us : List Update) (h : IsAfter O.order start us self.old) → IsFound O.order start us (at h.moment.latch.words 0) reader key x) }
+        ensures after { IfOk result (λ x. (start : ℕ) (us : List Update) → IsAfter O.order start us self.old → IsAfter O.order start us self.new) }
+        ensures refusal { (start : ℕ) (us : List Update) (h : IsAfter O.order start us self.old) → IfErr result (λ e. IsNotBegun O.order h reader e self.new) }
+    {
+        if let Reply::Refused(why) = self.start(reader, key) {
+            return Err(why);
+        }
+        for _turn in 0..u64::MAX {
+            if let Reply::Returned(returned) = self.read(reader) {
+                return Ok(returned);
+            }
+        }
+        Err(Refusal::ReaderBusy)
     }
 
     /// Whether an update is in hand.
