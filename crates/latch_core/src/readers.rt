@@ -153,8 +153,9 @@ impl<O: TreeOrder> ReaderCore<O> {
                 Some(self.item()),
                 generation(value),
             ),
+            Place::Found => Taken::Retrying(self.again()),
             Place::Missing if value == self.spot.first => Taken::Returned(None, generation(value)),
-            Place::Found | Place::Missing => Taken::Retrying(self.again()),
+            Place::Missing => Taken::Retrying(self.again()),
             Place::Stuck => Taken::Retrying(self.again()),
         }
     }
