@@ -1,7 +1,7 @@
 -- Each line is counted once.
-use Rattle.std.proofs.Common.{◌≡◌, ◌≢◌, ℕ, ◌+◌, ◌<◌, Bool, true, false, ◌&&◌, ◌||◌, not, cond, List, [], ◌∷◌, ◌++◌, length, get_or, map, Some, None, Option, refl, sym, suc, zero-add, ap, ◌∙◌, arith, length-append}
+use Rattle.std.proofs.Common.{◌≡◌, ◌≢◌, ℕ, ◌+◌, Bool, true, false, ◌&&◌, ◌||◌, not, cond, List, [], ◌∷◌, ◌++◌, length, get_or, map, Some, None, Option, refl, sym, suc, zero-add, ap, ◌∙◌, arith}
 use Rattle.std.specs.Prelude.{All, codes, count_by, filter, fold, is_none, sum_by}
-use Rattle.std.specs.List.{AllPairs, list_any}
+use Rattle.std.specs.List.{list_any}
 use Rattle.std.specs.Option.{option_map_or, option_to_list}
 use Rattle.std.specs.Cmp.Lexicographic.{bytes_decides}
 use Rattle.std.specs.Str.{bytes_eq}
@@ -74,11 +74,13 @@ sum_agree f g (x ∷ xs) same = omega (arith, sum_agree f g xs same, same x, sum
 pub symbols_by_home : (lines : List ListedModule) (symbols : List ListedSymbol) → sum_by (λ m. count_by (belongs m) symbols) lines ≡ sum_by (homes lines) symbols
 symbols_by_home [] symbols = sym (zero_for_all symbols)
 symbols_by_home (m ∷ ms) symbols =
-    omega (arith,
-        symbols_by_home ms symbols,
-        sum_of_both (belongs m) (homes ms) symbols,
-        sum_cons (λ n. count_by (belongs n) symbols) m ms,
-        sum_agree (homes (m ∷ ms)) (λ s. cond (belongs m s) 1 0 + homes ms s) symbols (λ s. sum_cons (λ n. cond (belongs n s) 1 0) m ms))
+    omega (
+      arith,
+      symbols_by_home ms symbols,
+      sum_of_both (belongs m) (homes ms) symbols,
+      sum_cons (λ n. count_by (belongs n) symbols) m ms,
+      sum_agree (homes (m ∷ ms)) (λ s. cond (belongs m s) 1 0 + homes ms s) symbols (λ s. sum_cons (λ n. cond (belongs n s) 1 0) m ms),
+    )
 
 both_parts : (a b : Bool) → (a && b) ≡ true → a ≡ true
 both_parts true b h = refl
@@ -146,13 +148,15 @@ kept_by_home built_in a (s ∷ symbols) same distinct =
     let one : homes a.lines s ≡ cond (list_any (λ m. belongs m s) a.lines) 1 0 = one_home a.lines s distinct in
     let apart : is_built_in a.built_in s ≡ true → list_any (λ m. belongs m s) a.lines ≡ false = λ h. unowned s.owner s.addr a.lines (both_parts (is_none s.owner) (option_map_or (λ r. holds r s.addr) a.built_in false) h) in
     let this : cond (is_built_in built_in s) 1 0 + cond (list_any (λ m. belongs m s) a.lines) 1 0 ≡ cond (is_kept a s) 1 0 = ap (λ (b : Option (ℕ × ℕ)). cond (is_built_in b s) 1 0 + cond (list_any (λ m. belongs m s) a.lines) 1 0) (sym same) ∙ kept_one (is_built_in a.built_in s) (list_any (λ m. belongs m s) a.lines) apart in
-    omega (arith,
-        one,
-        this,
-        kept_by_home built_in a symbols same distinct,
-        sum_cons (λ x. cond (is_built_in built_in x) 1 0) s symbols,
-        sum_cons (homes a.lines) s symbols,
-        sum_cons (λ x. cond (is_kept a x) 1 0) s symbols)
+    omega (
+      arith,
+      one,
+      this,
+      kept_by_home built_in a symbols same distinct,
+      sum_cons (λ x. cond (is_built_in built_in x) 1 0) s symbols,
+      sum_cons (homes a.lines) s symbols,
+      sum_cons (λ x. cond (is_kept a x) 1 0) s symbols,
+    )
 
 sum_of_modules : (symbols : List ListedSymbol) (lines : List ListedModule) → sum_by (λ (m : ModuleEntry). length m.symbols) (map (entry_for symbols) lines) ≡ sum_by (λ m. count_by (belongs m) symbols) lines
 sum_of_modules symbols [] = refl
