@@ -1,5 +1,5 @@
 -- The modules that are made of accepted lines.
-use Rattle.std.proofs.Common.{◌≡◌, ℕ, ◌+◌, ◌<◌, ◌≤◌, Bor, List, [], ◌∷◌, ◌++◌, length, get_or, map, not, true, Some, None, Option, refl, sym, ap, ◌∙◌, subst, ⊎_elim, arith, length-append}
+use Rattle.std.proofs.Common.{◌≡◌, ℕ, ◌<◌, Bor, List, [], ◌∷◌, ◌++◌, length, get_or, map, not, true, Option, refl, sym, ap, ◌∙◌, ⊎_elim, arith, length-append}
 use Rattle.std.specs.Prelude.{All, count_by}
 use Rattle.std.specs.Vec.{vec_len}
 use Rattle.std.specs.Global.{Vec}
@@ -12,7 +12,7 @@ use Rattle.modules.specs.Building.{AreModules, EachMade, module_with, built_in_w
 use Rattle.modules.specs.Catalogs.{built_in_of, catalog_of, counts_of, entry_for}
 use Rattle.modules.specs.Entries.{CatalogEntries, ModuleEntry, SymbolEntry}
 use Rattle.modules.specs.Gathering.{Gathers}
-use Rattle.modules.specs.Kept.{belongs, is_built_in, is_kept, symbols_that}
+use Rattle.modules.specs.Kept.{is_kept}
 use Rattle.modules.specs.Lines.{built_in_region, fits}
 use Rattle.modules.specs.Listed.{ListedModule, ListedSymbol}
 use Rattle.modules.specs.declared.admission.Admission.{Admission}

@@ -1,24 +1,21 @@
 -- The accepted lines have distinct names and regions that lie apart.
-use Rattle.std.proofs.Common.{◌≡◌, ◌≢◌, ℕ, ◌+◌, ◌^◌, ◌<◌, ◌≤◌, Bool, true, false, ◌&&◌, nat_lt, nat_eq, nat_le, not, cond, List, [], ◌∷◌, ◌++◌, length, get_or, map, Some, None, Option, refl, sym, ap, ◌∙◌, subst, inl, inr, ⊎_elim, arith, append_assoc, length-append}
-use Rattle.std.specs.Prelude.{All, IfSome, fold, is_some, sum_by, codes}
+use Rattle.std.proofs.Common.{◌≡◌, ◌≢◌, ℕ, ◌+◌, ◌^◌, ◌<◌, ◌≤◌, true, false, ◌&&◌, nat_lt, nat_eq, not, cond, List, [], ◌∷◌, ◌++◌, length, get_or, map, Some, None, Option, refl, sym, ap, ◌∙◌, subst, arith, append_assoc, length-append}
+use Rattle.std.specs.Prelude.{All, IfSome, fold, is_some, codes}
 use Rattle.std.specs.Cmp.Lexicographic.{bytes_decides}
 use Rattle.std.specs.List.{AllPairs, flat_map, list_any, list_all}
-use Rattle.std.specs.Option.{option_to_list, option_map, option_and_then}
+use Rattle.std.specs.Option.{option_to_list, option_and_then}
 use Rattle.std.specs.Int.{from_bool}
 use Rattle.std.specs.Str.{bytes_eq}
-use Rattle.std.proofs.lemmas.Bool.{cases_Bool, false_from_ne_true}
 use Rattle.std.proofs.lemmas.Bool.Decides.{nat_tests}
-use Rattle.std.proofs.lemmas.Grind.{flat_map-append}
-use Rattle.std.proofs.lemmas.List.{map-append, length-map, get_or-map}
-use Rattle.std.proofs.lemmas.List.Concat.{flat_map_single, length-flat_map}
-use Rattle.std.proofs.lemmas.List.Elements.{All-nil, All-push, All-head, All-tail, All-cons, All-append, All-map}
-use Rattle.std.proofs.lemmas.List.Folds.{list_any_at, flat_map-map}
+use Rattle.std.proofs.lemmas.List.{map-append}
+use Rattle.std.proofs.lemmas.List.Elements.{All-nil, All-push, All-head, All-tail, All-cons}
+use Rattle.std.proofs.lemmas.List.Folds.{list_any_at}
 use Rattle.std.proofs.lemmas.List.Quantifiers.{all_pairs_push}
 use Rattle.std.proofs.lemmas.List.Sums.{AllPass-from_list_all}
 use Rattle.modules.specs.Accepted.{Accepted, accepted_of, after_line, names_of, none_yet, taken}
 use Rattle.modules.specs.Catalogs.{IsSound, built_in_of, catalog_of, entry_for, regions_of}
 use Rattle.modules.specs.Entries.{CatalogEntries, ModuleEntry}
-use Rattle.modules.specs.Kept.{AreDistinct, is_built_in, symbols_that, belongs}
+use Rattle.modules.specs.Kept.{AreDistinct, is_built_in, symbols_that}
 use Rattle.modules.specs.Lines.{fits, first_address, region_of, built_in_region}
 use Rattle.modules.specs.Listed.{ListedModule, ListedSymbol}
 use Rattle.modules.specs.Names.{names_in}

@@ -1,5 +1,5 @@
 -- The catalog of two listings, and what is asked of it.
-use Rattle.std.specs.Prelude.{◌≡◌, ℕ, ◌+◌, zero, suc, Bool, not, if◌then◌else◌, List, [], ◌∷◌, ◌++◌, length, slice_index_or, slice_get, map, count_by, codes, All, Option, Some, None, IfSome, Result, Ok, Err}
+use Rattle.std.specs.Prelude.{◌≡◌, ℕ, ◌+◌, zero, suc, Bool, not, if◌then◌else◌, List, [], ◌∷◌, ◌++◌, length, slice_index_or, slice_get, map, count_by, codes, All, Option, Result, Ok, Err}
 use Rattle.std.specs.List.{flat_map, position_from}
 use Rattle.std.specs.Option.{option_map, option_map_or, option_to_list}
 use Rattle.std.specs.Str.{bytes_eq}
@@ -7,7 +7,7 @@ use Rattle.latch_core.specs.declared.updates.Update.{Update}
 use Rattle.latch_core.specs.declared.updates.Update.TheVariants.{Insert, Erase}
 use Rattle.order_laws.specs.declared.refusals.Refusal.{Refusal}
 use Rattle.order_laws.specs.declared.refusals.Refusal.TheVariants.{UnknownModule, AlreadyLoaded, NotLoaded}
-use Rattle.modules.specs.Accepted.{Accepted, accepted_of}
+use Rattle.modules.specs.Accepted.{accepted_of}
 use Rattle.modules.specs.Entries.{CatalogEntries, ModuleEntry}
 use Rattle.modules.specs.Kept.{AreDistinct, belongs, is_built_in, is_kept, symbols_that}
 use Rattle.modules.specs.Lines.{built_in_region, region_of}

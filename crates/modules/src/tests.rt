@@ -88,12 +88,11 @@ fn a_module_and_the_kernel(rt: HostRuntime) -> Result<(), Fail> {
     assert_eq!(rt; ext4.name(), b"ext4".as_slice());
     assert_eq!(rt; ext4.regions(), [(first, 0xffff_ffff_c000_1000)].as_slice());
     assert_eq!(rt; ext4.symbols().len(), 3);
-    assert_eq!(rt; ext4.symbols()[1].name.as_slice(), b"ext4_b".as_slice());
+    let second = &ext4.symbols()[1];
+    assert_eq!(rt; second.name.as_slice(), b"ext4_b".as_slice());
     let (below, above) = ext4.around(0xffff_ffff_c000_0018);
-    assert_eq!(rt;
-        below.ok_or("no symbol")?.name.as_slice(),
-        b"ext4_a".as_slice()
-    );
+    let below = below.ok_or("no symbol")?;
+    assert_eq!(rt; below.name.as_slice(), b"ext4_a".as_slice());
     assert_eq!(rt; above, Some(0xffff_ffff_c000_0040));
     let kernel = catalog.module(0).ok_or("no module 0")?;
     assert_eq!(rt; kernel.name(), b"-".as_slice());

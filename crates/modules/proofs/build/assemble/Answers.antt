@@ -1,18 +1,11 @@
-use Rattle.std.proofs.Common.{◌≡◌, ℕ, List, Bor, Option, length, map, sym, ap, ◌∙◌, subst, refl}
-use Rattle.std.specs.Prelude.{All, codes}
-use Rattle.std.proofs.lemmas.List.{length-map}
-use Rattle.modules.specs.Accepted.{Accepted, accepted_of, names_of, none_yet}
+use Rattle.std.proofs.Common.{◌≡◌, ℕ, Option, sym, ap, ◌∙◌, subst}
+use Rattle.modules.specs.Accepted.{accepted_of}
 use Rattle.modules.specs.Admissions.{shown}
-use Rattle.modules.specs.Building.{AreModules, built_in_with}
-use Rattle.modules.specs.Catalogs.{IsSound, built_in_of, catalog_of, counts_of, entry_for}
-use Rattle.modules.specs.Entries.{CatalogEntries, ModuleEntry, SymbolEntry}
-use Rattle.modules.specs.Gathering.{Gathers}
-use Rattle.modules.specs.Kept.{AreDistinct, is_built_in, symbols_that}
-use Rattle.modules.specs.Lines.{built_in_region, fits}
-use Rattle.modules.specs.Listed.{ListedModule}
-use Rattle.modules.specs.Names.{names_in, IsNameIndex}
-use Rattle.modules.proofs.Soundness.{IsGood, accepted_good, built_in_kept, IsSound-catalog_of}
-use Rattle.modules.proofs.Makings.{modules_are, all_fit, catalog_from, counts_from}
+use Rattle.modules.specs.Building.{AreModules}
+use Rattle.modules.specs.Catalogs.{IsSound}
+use Rattle.modules.specs.Lines.{built_in_region}
+use Rattle.modules.proofs.Soundness.{IsGood, accepted_good, IsSound-catalog_of}
+use Rattle.modules.proofs.Makings.{all_fit, catalog_from, counts_from}
 use Rattle.modules.proofs.build.assemble.Goals as goal
 
 pub gather-requires-clause-distinct : goal.gather-requires-clause-distinct

@@ -1,9 +1,8 @@
 use Rattle.std.proofs.Common.{◌≡◌, ℕ, ◌+◌, ◌<◌, Bor, [], ◌∷◌, ◌++◌, length, get_or, sym, ap, subst, List, ◌∙◌, arith, length-append, append_assoc}
-use Rattle.std.specs.Global.{Vec}
 use Rattle.std.proofs.lemmas.List.{get_or_default}
 use Rattle.std.specs.Vec.Iter.{into_iter_items}
 use Rattle.modules.specs.Building.{EachMade, module_with}
-use Rattle.modules.specs.Entries.{ModuleEntry, SymbolEntry}
+use Rattle.modules.specs.Entries.{ModuleEntry}
 use Rattle.modules.specs.Listed.{ListedModule}
 use Rattle.modules.proofs.Makings.{EachMade-push}
 use Rattle.modules.proofs.build.modules_from.Goals as goal

@@ -1,4 +1,4 @@
-use Rattle.std.proofs.Common.{◌≡◌, ℕ, ◌+◌, [], ◌∷◌, ◌++◌, ap, sym, ◌∙◌, zero-add}
+use Rattle.std.proofs.Common.{[], ◌∷◌, ◌++◌, ap, sym, ◌∙◌, zero-add}
 use Rattle.std.specs.List.{range_with_len}
 use Rattle.modules.proofs.Naming.{range_more}
 use Rattle.modules.proofs.names.places.Goals as goal

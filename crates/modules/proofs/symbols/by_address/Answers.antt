@@ -1,8 +1,7 @@
-use Rattle.std.proofs.Common.{◌≡◌, rules, ap, ◌∙◌, List}
+use Rattle.std.proofs.Common.{◌≡◌, rules, ap, ◌∙◌}
 use Rattle.std.specs.Ordering.{is_lt, nat_cmp, ordering_then}
 use Rattle.std.proofs.lemmas.List.Sorted.{answers_always}
-use Rattle.modules.specs.Index.{comes_before, entries_of}
-use Rattle.modules.specs.declared.symbols.IndexEntry.{IndexEntry}
+use Rattle.modules.specs.Index.{comes_before}
 use Rattle.modules.proofs.Indexing.{comes_before_weak, is_lt-then}
 use Rattle.modules.proofs.symbols.by_address.Goals as goal
 

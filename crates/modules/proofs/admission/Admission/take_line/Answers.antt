@@ -1,16 +1,14 @@
-use Rattle.std.proofs.Common.{◌≡◌, ℕ, ◌+◌, Bool, true, false, List, ◌∷◌, [], ◌++◌, map, length, Bor, cond, Some, ◌&&◌, sym, ap, ◌∙◌, refl}
-use Rattle.std.specs.List.{list_any, list_all}
+use Rattle.std.proofs.Common.{◌≡◌, ℕ, ◌+◌, List, ◌∷◌, [], ◌++◌, map, Bor, cond, Some, ◌&&◌, sym, ap, ◌∙◌}
+use Rattle.std.specs.List.{list_all}
 use Rattle.std.specs.BTreeMap.{get_by}
 use Rattle.std.specs.Cmp.Lexicographic.{slice_cmp}
 use Rattle.std.specs.Ordering.{nat_cmp}
 use Rattle.std.specs.Str.{bytes_eq}
 use Rattle.std.proofs.lemmas.List.{length-map, map-append}
 use Rattle.std.proofs.lemmas.Map.Text.{btree_map_updates_str}
-use Rattle.modules.specs.Accepted.{Accepted, names_of, taken}
 use Rattle.modules.specs.Admissions.{shown}
 use Rattle.modules.specs.Listed.{ListedModule}
 use Rattle.modules.specs.Lines.{region_of}
-use Rattle.modules.specs.Regions.{is_apart}
 use Rattle.modules.proofs.Admitting.{after_double, after_overlap, after_accepted, found_in, free_in, IsTied-accepted}
 use Rattle.modules.proofs.admission.Admission.take_line.Goals as goal
 

@@ -1,4 +1,4 @@
-use Rattle.std.proofs.Common.{◌≡◌, ℕ, ◌+◌, sym, ap, ◌∙◌, length, subst}
+use Rattle.std.proofs.Common.{◌+◌, sym, ap, ◌∙◌, length}
 use Rattle.std.specs.Prelude.{is_some}
 use Rattle.std.specs.Int.{from_bool}
 use Rattle.modules.specs.Catalogs.{regions_of}

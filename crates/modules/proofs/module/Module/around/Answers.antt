@@ -1,4 +1,4 @@
-use Rattle.std.proofs.Common.{◌≡◌, ◌<◌, ◌≤◌, ℕ, ◌-◌, List, length, get_or, Some, option_map, slice_get, arith, sym, subst, ap, ◌∙◌}
+use Rattle.std.proofs.Common.{◌≡◌, ◌<◌, ◌-◌, List, length, get_or, Some, option_map, slice_get, arith, sym, subst, ap, ◌∙◌}
 use Rattle.modules.specs.Around.{symbol_below, address_above}
 use Rattle.modules.specs.Entries.{ModuleEntry, SymbolEntry}
 use Rattle.modules.specs.Index.{IsSplit}

@@ -1,4 +1,4 @@
-use Rattle.std.proofs.Common.{ℕ, ◌≡◌, Bool, ◌&&◌, true}
+use Rattle.std.proofs.Common.{◌≡◌, true}
 use Rattle.std.specs.List.{list_all}
 use Rattle.modules.specs.Regions.{is_apart}
 use Rattle.modules.proofs.Spreading.{IsSpread-inserted, list_all-insert_entry, absent_from_apart}

@@ -1,6 +1,4 @@
-use Rattle.std.proofs.Common.{ℕ, ◌<◌, ◌≡◌, Some, sym}
-use Rattle.std.specs.BTreeMap.{get}
-use Rattle.std.specs.Ordering.{nat_cmp}
+use Rattle.std.proofs.Common.{sym}
 use Rattle.modules.proofs.Spreading.{apart_from_none, tested_by_last, below_from_Less, Less_from_below, not_below}
 use Rattle.modules.proofs.regions.Regions.is_apart.Goals as goal
 
