@@ -1,4 +1,7 @@
 //! A copy as its writer sees it, and the plans of its changes.
+//!
+//! The tree is a chain for now: the root is the least item, each right link leads to the next item, each left link is 0. No
+//! public clause tells so.
 
 ghost use Rattle.std.specs.Prelude.{◌≡◌, ◌↔◌, ◌+◌, ◌*◌, ◌<◌, ◌≤◌, ◌++◌, ◌∷◌, [], map, true, false, List, IsTrue, IfOk, IfErr, Contains, length, take, drop, vec_len, vec_capacity};
 ghost use Rattle.order_laws.specs.Tables.{has, meets, without_all, place_for, place_of};
@@ -110,7 +113,7 @@ impl<O: TreeOrder> Shape<O> {
 
     /// Makes room for `k` items, and hands out an empty list with room for `k` plans.
     ///
-    /// What is pictured stays, also where memory is refused.
+    /// What is pictured stays, also where memory is refused by [`Refusal::OutOfMemory`].
     pub fn reserve(&mut self, k: u32) -> Result<Vec<Store>, Refusal>
         ensures kept { self.new ≡ record self.old { room = self.new.room } }
         ensures grown { self.old.room ≤ self.new.room }
@@ -125,7 +128,8 @@ impl<O: TreeOrder> Shape<O> {
 
     /// Plans to insert an item in a free node, and pictures the copy with it.
     ///
-    /// Appends the stores of the item's words, and then those of links. Takes no memory.
+    /// Appends the stores of the item's words, and then those of links. Takes no memory. There must be room for one item
+    /// and for [`STORES`] stores ([`Shape::reserve`]); the item must be valid and meet none ([`Shape::meets`]).
     pub fn plan_insert(&mut self, out: &mut Vec<Store>, node: u32, item: Item)
         requires room { 0 < self.old.room }
         requires list { vec_len out.old + STORES ≤ vec_capacity out.old }
@@ -150,7 +154,8 @@ impl<O: TreeOrder> Shape<O> {
 
     /// Plans to erase the item of this first word, and pictures the copy without it. Answers the node that is free then.
     ///
-    /// Appends stores of links alone. Takes no memory.
+    /// Appends stores of links alone, since the words of the item serve both copies. Takes no memory. There must be room for
+    /// [`STORES`] stores, and an item of this first word ([`Shape::has`]).
     pub fn plan_erase(&mut self, out: &mut Vec<Store>, a: u64) -> u32
         requires list { vec_len out.old + STORES ≤ vec_capacity out.old }
         requires pictured { has a self.old.table ≡ true }
