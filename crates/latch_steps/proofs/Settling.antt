@@ -1,5 +1,5 @@
 -- Writes up to the end of an update.
-use Rattle.std.proofs.Common.{◌≡◌, ℕ, ◌+◌, ◌-◌, ◌*◌, ◌/◌, ◌%◌, ◌≤◌, List, [], ◌∷◌, ◌++◌, length, take, Option, Some, None, refl, sym, ◌∙◌, ap, subst, arith, append_assoc, append-nil}
+use Rattle.std.proofs.Common.{◌≡◌, ℕ, ◌+◌, ◌-◌, ◌*◌, ◌/◌, ◌%◌, ◌≤◌, List, [], ◌∷◌, ◌++◌, length, take, Option, Some, None, refl, sym, ◌∙◌, ap, subst, ⊎_elim, arith, append_assoc, append-nil}
 use Rattle.std.specs.List.{AllByRecursion}
 use Rattle.std.proofs.lemmas.List.{take_all}
 use Rattle.order_laws.specs.Orders.{Order, IsLawful}
@@ -12,12 +12,13 @@ use Rattle.latch_core.specs.Sequences.{gen, stable}
 use Rattle.latch_core.specs.Histories.{replay, table_at}
 use Rattle.latch_core.specs.Invariants.{IsSound, IsInHand}
 use Rattle.latch_steps.specs.declared.events.Event.{Event}
-use Rattle.latch_steps.specs.declared.events.Event.TheVariants.{Write, Read}
+use Rattle.latch_steps.specs.declared.events.Event.TheVariants.{Begin, Write, Start, Read}
 use Rattle.latch_steps.specs.declared.replies.Reply.{Reply}
-use Rattle.latch_steps.specs.declared.replies.Reply.TheVariants.{Wrote}
+use Rattle.latch_steps.specs.declared.replies.Reply.TheVariants.{Wrote, Refused}
+use Rattle.order_laws.specs.declared.refusals.Refusal.TheVariants.{OutOfMemory}
 use Rattle.latch_steps.specs.declared.worlds.World.{World}
 use Rattle.latch_steps.specs.Runs.{Moment, Run, last_of, accepted, history}
-use Rattle.latch_steps.specs.Shows.{Shows, Does, IsAtRest, layout_in}
+use Rattle.latch_steps.specs.Shows.{Shows, Does, GivesUp, Steps, IsAtRest, layout_in}
 use Rattle.latch_steps.specs.Found.{IsAfter, IsSettled, Settles}
 use Rattle.latch_steps.proofs.Latched.{step_sound}
 use Rattle.latch_steps.proofs.Recording.{run_append, last_append}
@@ -91,3 +92,28 @@ module _ {O K : Type 0} (o : Order K) (old : World O K) where
         rest = d.rest;
         current = rest_is_current o (capacity_of (layout_in old)) start us (last_of h.moment d.ws).latch same d.rest;
       }
+
+-- one event, of which an accepted update is the last of the history
+module _ {O K : Type 0} (o : Order K) (law : IsLawful o) (old new : World O K) (lay : layout_in new ≡ layout_in old) (start : ℕ) (us : List Update) (h : IsAfter o start us old) where
+  does_after : (e : Event K) (r : Reply K) → Does o old e r new → IsAfter o start (us ++ accepted e r) new
+  does_after e r does =
+      let d = does h.moment h.shows in
+      record {
+        moment = d.0;
+        shows = d.2;
+        sound = subst (λ l. IsSound o (capacity_of l) start (us ++ accepted e r) d.0.latch) (sym lay) (step_sound o (capacity_of (layout_in old)) start us h.moment h.sound law (limit_of (layout_in old)) e r d.0 d.1);
+      }
+
+  gives_after : (r : Reply K) → GivesUp o old r new → IsAfter o start us new
+  gives_after r up = record { moment = h.moment; shows = up.1 h.moment h.shows; sound = subst (λ l. IsSound o (capacity_of l) start us h.moment.latch) (sym lay) h.sound }
+
+  refused_after : (e : Event K) (r : Reply K) → accepted e (Refused OutOfMemory) ≡ [] → GivesUp o old r new → IsAfter o start (us ++ accepted e r) new
+  refused_after e r none up =
+      let same : us ++ accepted e r ≡ us = ap (λ q. us ++ accepted e q) up.0 ∙ ap (λ vs. us ++ vs) none ∙ append-nil us in
+      subst (λ vs. IsAfter o start vs new) (sym same) (gives_after r up)
+
+  pub step_after : (e : Event K) (r : Reply K) → Steps o old e r new → IsAfter o start (us ++ accepted e r) new
+  step_after (Begin u) r s = ⊎_elim (does_after (Begin u) r) (refused_after (Begin u) r refl) s
+  step_after Write r s = does_after Write r s
+  step_after (Start q k) r s = ⊎_elim (does_after (Start q k) r) (refused_after (Start q k) r refl) s
+  step_after (Read q) r s = does_after (Read q) r s

@@ -21,3 +21,6 @@ pub use replies::{Note, Reply, Returned};
 pub use runs::{drive, run};
 pub use traces::Trace;
 pub use worlds::World;
+
+#[cfg(test)]
+mod tests;

@@ -1,13 +1,13 @@
 //! The words, their writer and the lookups in hand, one step at a time.
 
-ghost use Rattle.std.specs.Prelude.{◌≡◌, ℕ, ◌<◌, ◌⊎◌, List, length, IfOk, IfErr, IfSome, IfNone, OnSome, is_some};
+ghost use Rattle.std.specs.Prelude.{◌≡◌, ℕ, ◌<◌, ◌⊎◌, List, [], ◌++◌, length, IfOk, IfErr, IfSome, IfNone, OnSome, is_some};
 ghost use Rattle.std.specs.FinMap.{get};
 ghost use Rattle.word_arena.specs.Words.{at};
 ghost use Rattle.word_arena.specs.Layouts.{capacity_of};
 ghost use Rattle.latch_core.specs.Writers.{MayOpen};
 ghost use Rattle.latch_core.specs.declared.updates.Update.{Update};
 ghost use Rattle.latch_steps.specs.declared.events.Event.TheVariants.{Begin, Write, Start, Read};
-ghost use Rattle.latch_steps.specs.Runs.{Moment, opening};
+ghost use Rattle.latch_steps.specs.Runs.{Moment, accepted, opening};
 ghost use Rattle.latch_steps.specs.Expands.{writes_left};
 
 use crate::events::Event;
@@ -46,6 +46,7 @@ impl<O: TreeOrder> World<O> {
         ensures layout { IfOk result (λ w. layout_in w ≡ l) }
         ensures shows { IfOk result (λ w. Shows O.order w (opening (capacity_of l) start)) }
         ensures may { IfOk result (λ w. MayOpen l start) }
+        ensures after { IfOk result (λ w. IsAfter O.order start [] w) }
         ensures refusal { IfErr result (λ e. ((e ≡ Refusal.BadCapacity) × (MayOpen l start → ⊥)) ⊎ ((e ≡ Refusal.OutOfMemory) × MayOpen l start)) }
     {
         let writer = WriterCore::open(alloc, l, start)?;
@@ -67,6 +68,7 @@ impl<O: TreeOrder> World<O> {
     pub fn step(&mut self, event: Event<O::Key>) -> Reply<O::Key>
         ensures layout { layout_in self.new ≡ layout_in self.old }
         ensures steps { Steps O.order self.old event result self.new }
+        ensures after { (start : ℕ) (us : List Update) → IsAfter O.order start us self.old → IsAfter O.order start (us ++ accepted event result) self.new }
     {
         match event {
             Event::Begin(update) => self.begin(update),

@@ -1,6 +1,8 @@
 use Rattle.std.proofs.Common.{refl, ap}
 use Rattle.latch_core.specs.WriterViews.{WriterView}
 use Rattle.word_arena.specs.Layouts.{capacity_of}
+use Rattle.latch_core.proofs.Sound.{sound_opening}
+use Rattle.latch_steps.specs.Runs.{opening}
 use Rattle.latch_steps.proofs.Showing.{none_in_hand}
 use Rattle.latch_steps.proofs.worlds.World.open.Goals as goal
 
@@ -14,4 +16,20 @@ returns-clause-shows g c =
       writer = ok.pictures;
       lookups = none_in_hand g.O.TreeOrder.order (capacity_of c.args.l) c.new.result c.new.ensures.empty;
       events = refl;
+    }
+
+pub returns-clause-after : goal.returns-clause-after
+returns-clause-after g c =
+    let ok = c.in_ok-writer.ensures in
+    record {
+      moment = opening (capacity_of c.args.l) c.args.start;
+      shows = record {
+        capacity = ap (λ (v : WriterView). v.capacity) ok.opened;
+        limit = ap (λ (v : WriterView). v.limit) ok.opened;
+        words = c.in-Ok.ensures;
+        writer = ok.pictures;
+        lookups = none_in_hand g.O.TreeOrder.order (capacity_of c.args.l) c.new.result c.new.ensures.empty;
+        events = refl;
+      };
+      sound = sound_opening g.O.TreeOrder.order (capacity_of c.args.l) c.args.start ok.may.0;
     }

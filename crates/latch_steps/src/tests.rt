@@ -1,0 +1,406 @@
+ghost use Rattle.std.specs.Prelude.{◌<◌};
+
+use crate::{Command, Event, Note, Reply, Returned, World, drive, run};
+use latch_core::{Update, plain};
+use order_laws::{Closed, HalfOpen, Item, Refusal};
+use std::alloc::Global;
+use std::process::Abort;
+use std::test::Fail;
+use word_arena::Layout;
+
+fn item(a: u64, b: u64, tag: u64) -> Item {
+    Item { a, b, tag }
+}
+
+fn insert(a: u64, b: u64, tag: u64) -> Command<u64> {
+    Command::Begin(Update::Insert(item(a, b, tag)))
+}
+
+/// The item of a list that a key is in, ends excluded.
+fn look(table: &[Item], key: u64) -> Option<Item> {
+    table.iter().find(|x| x.a <= key && key < x.b).copied()
+}
+
+/// A lookup's tag, generation, loads and attempts; a refusal's number.
+type Line = (u32, u64, Option<u64>, u64, u64, u64);
+
+fn line_of(note: &Note<u64>) -> Line {
+    match note {
+        Note::Returned(x) => {
+            let tag = x.answer.map(|found| found.tag);
+            (x.reader, x.key, tag, x.generation, x.loads, x.tries)
+        }
+        Note::Refused(why) => (0, why.number() as u64, None, 0, 0, 0),
+    }
+}
+
+/// Drives commands from the sequence 0 at four nodes, or as told, and compares what is noted.
+fn drives(
+    rt: &impl Abort,
+    alloc: Global,
+    capacity: u32,
+    commands: &[Command<u64>],
+    lines: &[Line],
+    sequence: u64,
+) -> Result<(), Fail> {
+    let trace = drive::<HalfOpen>(alloc, Layout::new(capacity)?, 0, commands)?;
+    assert_eq!(rt; trace.notes.len(), lines.len());
+    for (note, line) in trace.notes.iter().zip(lines) {
+        assert!(rt; line_of(note) == *line);
+    }
+    assert_eq!(rt; trace.sequence, sequence);
+    let again = run::<HalfOpen>(alloc, Layout::new(capacity)?, 0, trace.events.as_slice())?;
+    assert!(rt; again.events.as_slice() == trace.events.as_slice());
+    assert!(rt; again.notes.as_slice() == trace.notes.as_slice());
+    assert_eq!(rt; again.sequence, sequence);
+    Ok(())
+}
+
+#[test]
+fn lookups_between_the_steps_of_an_insert(rt: HostRuntime) -> Result<(), Fail> {
+    let seven = insert(0x1000, 0x2000, 7);
+    // inside the first half
+    drives(
+        &rt,
+        rt.alloc(),
+        4,
+        [
+            seven,
+            Command::WriteFlip,
+            Command::Start(1, 0x1000),
+            Command::Read(1, 3),
+        ]
+        .as_slice(),
+        [(1, 0x1000, None, 0, 3, 1)].as_slice(),
+        1,
+    )?;
+    // inside the second half, copy 1 still old
+    drives(
+        &rt,
+        rt.alloc(),
+        4,
+        [
+            seven,
+            Command::WriteFlip,
+            Command::WriteFlip,
+            Command::Start(1, 0x1000),
+            Command::Read(1, 6),
+        ]
+        .as_slice(),
+        [(1, 0x1000, Some(7), 1, 6, 1)].as_slice(),
+        2,
+    )?;
+    // the reader slept through a whole update
+    drives(
+        &rt,
+        rt.alloc(),
+        4,
+        [
+            Command::Start(1, 0x1000),
+            Command::Read(1, 1),
+            seven,
+            Command::WriteEnd,
+            Command::Read(1, 11),
+        ]
+        .as_slice(),
+        [(1, 0x1000, Some(7), 1, 12, 2)].as_slice(),
+        2,
+    )?;
+    // the second attempt still finds the old table
+    drives(
+        &rt,
+        rt.alloc(),
+        4,
+        [
+            Command::Start(1, 0x1000),
+            Command::Read(1, 2),
+            seven,
+            Command::WriteFlip,
+            Command::Read(1, 4),
+        ]
+        .as_slice(),
+        [(1, 0x1000, None, 0, 6, 2)].as_slice(),
+        1,
+    )
+}
+
+#[test]
+fn refusals_are_noted_in_their_order(rt: HostRuntime) -> Result<(), Fail> {
+    let refused = |number: u64| (0, number, None, 0, 0, 0);
+    // a second update while one is in hand
+    drives(
+        &rt,
+        rt.alloc(),
+        4,
+        [
+            insert(0x10, 0x20, 1),
+            Command::WriteFlip,
+            insert(0x30, 0x40, 2),
+            Command::WriteEnd,
+            Command::Start(1, 0x10),
+            Command::Read(1, 6),
+        ]
+        .as_slice(),
+        [refused(5), (1, 0x10, Some(1), 1, 6, 1)].as_slice(),
+        2,
+    )?;
+    // a busy and an idle reader
+    drives(
+        &rt,
+        rt.alloc(),
+        4,
+        [
+            Command::Start(1, 0x10),
+            Command::Start(1, 0x20),
+            Command::Read(2, 1),
+            Command::Read(1, 9),
+            Command::Read(1, 1),
+        ]
+        .as_slice(),
+        [refused(8), refused(9), (1, 0x10, None, 0, 3, 1), refused(9)].as_slice(),
+        0,
+    )?;
+    // words of two items mixed: the attempt is made again
+    drives(
+        &rt,
+        rt.alloc(),
+        1,
+        [
+            Command::Begin(Update::Erase(0x99)),
+            insert(0x10, 0x20, 1),
+            Command::WriteEnd,
+            Command::Start(1, 0x28),
+            Command::Read(1, 3),
+            Command::Begin(Update::Erase(0x10)),
+            Command::WriteEnd,
+            insert(0x30, 0x40, 2),
+            Command::Write(4294967295),
+            Command::Read(1, 10),
+        ]
+        .as_slice(),
+        [refused(3), (1, 0x28, None, 3, 13, 2)].as_slice(),
+        6,
+    )
+}
+
+#[test]
+fn the_last_sequence(rt: HostRuntime) -> Result<(), Fail> {
+    let layout = Layout::new(4)?;
+    let commands = [
+        insert(0x10, 0x20, 1),
+        Command::WriteEnd,
+        insert(0x30, 0x40, 2),
+        Command::Start(1, 0x10),
+        Command::Read(1, 6),
+    ];
+    let trace = drive::<Closed>(rt.alloc(), layout, 4294967292, commands.as_slice())?;
+    assert_eq!(rt; trace.sequence, 4294967294);
+    assert_eq!(rt; trace.notes.len(), 2);
+    assert!(rt; line_of(&trace.notes[0]) == (0, 6, None, 0, 0, 0));
+    assert!(rt; line_of(&trace.notes[1]) == (1, 0x10, Some(1), 2147483647, 6, 1));
+    for start in [1, 4294967296] {
+        match drive::<Closed>(rt.alloc(), layout, start, commands.as_slice()) {
+            Ok(_) => assert!(rt; false),
+            Err(why) => assert_eq!(rt; why, Refusal::BadCapacity),
+        }
+    }
+    Ok(())
+}
+
+/// A pseudo-random number below `below`; `state` goes on.
+fn draw(state: &mut u64, below: u64) -> u64
+    requires { 0 < below }
+    ensures { result < below }
+{
+    *state = state
+        .wrapping_mul(6364136223846793005)
+        .wrapping_add(1442695040888963407);
+    (*state >> 33) % below
+}
+
+fn some_event(state: &mut u64) -> Event<u64> {
+    let a = 16 * draw(state, 12);
+    let reader = draw(state, 3) as u32;
+    match draw(state, 40) {
+        0 | 1 => Event::Begin(Update::Insert(item(a, a + 8 + draw(state, 16), a + 1))),
+        2 => Event::Begin(Update::Erase(a)),
+        3 | 4 | 5 | 6 => Event::Write,
+        7 | 8 | 9 | 10 => Event::Start(reader, a + draw(state, 24)),
+        _ => Event::Read(reader),
+    }
+}
+
+/// Whether some moment from the lookup's start to its end had its generation, with the answer of the plain replay.
+fn was_current(
+    alloc: Global,
+    x: &Returned<u64>,
+    start: u64,
+    sequences: &[u64],
+    updates: &[Update],
+) -> Result<bool, Fail> {
+    let count = (x.generation as usize)
+        .saturating_sub((start / 2) as usize)
+        .min(updates.len());
+    let table = plain::replay::<HalfOpen>(alloc, &updates[..count])?;
+    let mut current = false;
+    for (i, sequence) in sequences.iter().enumerate() {
+        if x.first <= i as u64 && i as u64 <= x.last && sequence / 2 == x.generation {
+            current = true;
+        }
+    }
+    Ok(current && look(table.as_slice(), x.key) == x.answer)
+}
+
+/// A list of events with three readers: each lookup that returned is compared with the plain replay of the history, and
+/// all notes with those of a run of the whole list.
+fn interrupts(rt: &impl Abort, alloc: Global, seed: u64, start: u64) -> Result<(), Fail> {
+    let mut state = seed;
+    let mut world = World::<HalfOpen>::open(alloc, Layout::new(8)?, start)?;
+    let mut events = Vec::new(alloc);
+    let mut notes = Vec::new(alloc);
+    let mut updates = Vec::new(alloc);
+    let mut sequences = vec![in alloc; start]?;
+    let mut returned: u64 = 0;
+    for _ in 0..2500 {
+        let event = some_event(&mut state);
+        let reply = world.step(event);
+        events.push(event)?;
+        sequences.push(world.sequence())?;
+        if let Event::Begin(update) = event
+            && let Reply::Begun(_) = reply
+        {
+            updates.push(update)?;
+        }
+        if let Reply::Returned(x) = reply {
+            assert!(rt; was_current(alloc, &x, start, sequences.as_slice(), updates.as_slice())?);
+            notes.push(Note::Returned(x))?;
+            returned = returned.saturating_add(1);
+        }
+        if let Reply::Refused(why) = reply {
+            notes.push(Note::Refused(why))?;
+        }
+    }
+    assert!(rt; 20 < returned);
+    let trace = run::<HalfOpen>(alloc, Layout::new(8)?, start, events.as_slice())?;
+    assert!(rt; trace.events.as_slice() == events.as_slice());
+    assert!(rt; trace.notes.as_slice() == notes.as_slice());
+    assert_eq!(rt; trace.sequence, world.sequence());
+    Ok(())
+}
+
+#[test]
+fn three_readers_interrupt_and_are_interrupted(rt: HostRuntime) -> Result<(), Fail> {
+    interrupts(&rt, rt.alloc(), 1, 0)?;
+    interrupts(&rt, rt.alloc(), 20261121, 100)
+}
+
+/// Looks a key up in a table with so many items, and compares.
+fn finds(
+    rt: &impl Abort,
+    world: &mut World<HalfOpen>,
+    key: u64,
+    tag: Option<u64>,
+    generation: u64,
+    items: u64,
+) -> Result<(), Fail> {
+    let x = world.find_now(3, key)?;
+    assert!(rt; x.answer.map(|found| found.tag) == tag);
+    assert_eq!(rt; x.generation, generation);
+    assert_eq!(rt; x.tries, 1);
+    assert!(rt; x.loads <= 4u64.saturating_mul(items).saturating_add(3));
+    Ok(())
+}
+
+/// Does an update, with lookups of its own key, of an old one and of one past all at each single step.
+fn steps_through(
+    rt: &impl Abort,
+    world: &mut World<HalfOpen>,
+    update: Update,
+    key: u64,
+    tags: (Option<u64>, Option<u64>),
+    old: Option<u64>,
+    counts: (u64, u64),
+) -> Result<(), Fail> {
+    let before = world.sequence();
+    assert!(rt; matches!(world.step(Event::Begin(update)), Reply::Begun(_)));
+    loop_over(rt, world, before, key, tags, old, counts)?;
+    assert_eq!(rt; world.sequence(), before.saturating_add(2));
+    world.settle();
+    assert!(rt; world.step(Event::Write) == Reply::Idle);
+    Ok(())
+}
+
+/// The lookups at each single step of an update that was begun at the sequence `before`.
+fn loop_over(
+    rt: &impl Abort,
+    world: &mut World<HalfOpen>,
+    before: u64,
+    key: u64,
+    tags: (Option<u64>, Option<u64>),
+    old: Option<u64>,
+    counts: (u64, u64),
+) -> Result<(), Fail> {
+    for _ in 0..10000 {
+        let is_new = before.saturating_add(2) <= world.sequence();
+        let generation = world.sequence() / 2;
+        let (tag, items) = if is_new {
+            (tags.1, counts.1)
+        } else {
+            (tags.0, counts.0)
+        };
+        finds(rt, world, key, tag, generation, items)?;
+        if let Some(first) = old {
+            finds(
+                rt,
+                world,
+                16u64.saturating_mul(first),
+                Some(first),
+                generation,
+                items,
+            )?;
+        }
+        finds(rt, world, 0x400, None, generation, items)?;
+        if world.step(Event::Write) == Reply::Idle {
+            break;
+        }
+    }
+    Ok(())
+}
+
+#[test]
+fn lookups_at_every_step_of_inserts_and_erasures(rt: HostRuntime) -> Result<(), Fail> {
+    let mut world = World::<HalfOpen>::open(rt.alloc(), Layout::new(64)?, 0)?;
+    for i in 0..64u64 {
+        let j = 37 * i % 64;
+        let update = Update::Insert(item(16 * j, 16 * j + 16, j));
+        let old = if 0 < i { Some(0) } else { None };
+        steps_through(
+            &rt,
+            &mut world,
+            update,
+            16 * j,
+            (None, Some(j)),
+            old,
+            (i, i + 1),
+        )?;
+    }
+    let mut items: u64 = 64;
+    for i in 0..64u64 {
+        let j = 37 * i % 64;
+        if j % 2 == 0 {
+            let old = if j == 0 { Some(1) } else { Some(63) };
+            let fewer = items.saturating_sub(1);
+            steps_through(
+                &rt,
+                &mut world,
+                Update::Erase(16 * j),
+                16 * j,
+                (Some(j), None),
+                old,
+                (items, fewer),
+            )?;
+            items = fewer;
+        }
+    }
+    Ok(())
+}
