@@ -1,5 +1,5 @@
 -- The symbol that an address belongs to.
-use Rattle.std.specs.Prelude.{ℕ, ◌-◌, List, Option, unwrap_or}
+use Rattle.std.specs.Prelude.{◌≡◌, ◌≢◌, ℕ, ◌-◌, ◌<◌, ◌≤◌, ◌⊎◌, All, Contains, List, Option, Some, slice_get, slice_index_or, unwrap_or}
 use Rattle.std.specs.Borrow.{Bor}
 use Rattle.std.specs.Option.{option_map, option_and_then}
 use Rattle.order_laws.specs.declared.items.Item.{Item}
@@ -27,3 +27,19 @@ found_in symbols end addr = option_map (found_at symbols end addr) (symbol_below
 -- of the kept symbols of the item's module
 abbrev pub symbol_at : CatalogEntries → Item → ℕ → Option Found
 symbol_at c item addr = option_and_then (λ m. found_in m.symbols item.b addr) (module_of c item.tag)
+
+-- the symbol reaches to the least address of a symbol above its own, or to the region's end where there is none
+abbrev pub Reaches : List SymbolEntry → ℕ → SymbolEntry → ℕ → Type 0
+Reaches symbols end s size =
+    (All (λ t. t.addr ≤ s.addr) symbols × (size ≡ end - s.addr))
+    ⊎ ((t : SymbolEntry) × Contains symbols t × (s.addr < t.addr) × All (λ u. (u.addr ≤ s.addr) ⊎ (t.addr ≤ u.addr)) symbols × (size ≡ t.addr - s.addr))
+
+-- the symbol at a place, at or below the address, with none between them and none of its address at an earlier place
+pub record IsFound (symbols : List SymbolEntry) (end addr : ℕ) (f : Found) : Type 0 where
+  pub place : ℕ
+  pub listed : slice_get symbols place ≡ Some f.symbol
+  pub below : f.symbol.addr ≤ addr
+  pub nearest : All (λ s. (s.addr ≤ f.symbol.addr) ⊎ (addr < s.addr)) symbols
+  pub first : (k : ℕ) (d : SymbolEntry) → k < place → (slice_index_or symbols k d).addr ≢ f.symbol.addr
+  pub offset : f.offset ≡ addr - f.symbol.addr
+  pub reaches : Reaches symbols end f.symbol f.size

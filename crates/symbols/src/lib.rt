@@ -3,6 +3,7 @@
 
 pub mod answers;
 pub mod find;
+pub mod laws;
 
 pub use answers::write_answer;
 pub use find::symbol_of;
