@@ -157,6 +157,7 @@ impl<O: TreeOrder> WriterCore<O> {
         };
         self.zero.plan_insert(&mut first, node, item);
         self.one.plan_insert(&mut second, node, item);
+        // The node's words serve both copies, so they are stored once, before copy 1 links the node.
         self.plan.fill(self.sequence, &first, &second, ITEM_STORES);
         Ok(())
     }
