@@ -1,0 +1,11 @@
+#!/usr/bin/env bash
+# How long the step machine takes over some million events at a table of ITEMS ranges (1000), in ROUNDS rounds (500) of
+# an erasure, an insertion and a lookup beside.
+set -eu
+items=${1:-1000}
+rounds=${2:-500}
+top=$(cd "$(dirname "$0")/.." && pwd)
+program=$top/crates/bench_drive/out/bench_drive
+[ -x "$program" ] || (cd "$top/crates/bench_drive" && rt run >/dev/null)
+
+/usr/bin/time -f '%e s, most memory: %M kB' "$program" "$items" "$rounds"
