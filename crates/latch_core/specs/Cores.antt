@@ -1,5 +1,5 @@
 -- What a reader's core has still to do, and how the values that it takes lead it on.
-use Rattle.std.specs.Prelude.{◌≡◌, ℕ, ◌+◌, ◌*◌, ◌<◌, ◌≤◌, List, [], length, Some}
+use Rattle.std.specs.Prelude.{◌≡◌, ℕ, ◌+◌, ◌*◌, ◌<◌, ◌≤◌, List, [], ◌∷◌, ◌++◌, length, Some}
 use Rattle.order_laws.specs.declared.items.Item.{Item}
 use Rattle.order_laws.specs.Orders.{Order}
 use Rattle.word_arena.specs.Words.{root_word, b_word, tag_word, left_word, right_word}
@@ -46,12 +46,21 @@ remaining o c = left_at o c.spot.capacity c.key c.spot.first c.spot.left c.spot.
 abbrev pub LeadsTo : {O K : Type 0} → Order K → List ℕ → ReaderCore O K → Type 0
 LeadsTo o values c = rest_after (attempt o (capacity_of_core c) (key_of_core c)) values ≡ Some (remaining o c)
 
+-- whatever values led to the core, its attempt goes on with a load of this word
+abbrev pub IsWanted : {O K : Type 0} → Order K → ReaderCore O K → ℕ → Type 0
+IsWanted o c word =
+    (values : List ℕ) → LeadsTo o values c → (go : ℕ → Reading) × (rest_after (attempt o (capacity_of_core c) (key_of_core c)) values ≡ Some (Load word go))
+
 -- one value more leads to what the core hands back: to a core that has taken these values, at most 4n + 2; or to the end
 -- of the attempt, after which a core that begins again has taken none
 abbrev pub LeadsOn : {O K : Type 0} → Order K → ℕ → K → List ℕ → Taken O K → Type 0
 LeadsOn o n k values (Going c) = (capacity_of_core c ≡ n) × (key_of_core c ≡ k) × LeadsTo o values c × (length values ≤ 4 * n + 2)
 LeadsOn o n k values (Retrying c) = (capacity_of_core c ≡ n) × (key_of_core c ≡ k) × IsAttempt o n k values Again × LeadsTo o [] c
 LeadsOn o n k values (Returned answer g) = IsAttempt o n k values (Answer answer g)
+
+-- whatever values led to the core, this one leads on to what it hands back
+abbrev pub LeadsBy : {O K : Type 0} → Order K → ReaderCore O K → ℕ → Taken O K → Type 0
+LeadsBy o c value taken = (values : List ℕ) → LeadsTo o values c → LeadsOn o (capacity_of_core c) (key_of_core c) (values ++ value ∷ []) taken
 
 -- how many loads a core makes at most before its attempt ends
 abbrev pub most_at : ℕ → ℕ → Place → ℕ
@@ -78,3 +87,9 @@ IsShorter old _ = Unit {0}
 abbrev pub StartsAgain : {O K : Type 0} → Order K → Taken O K → Type 0
 StartsAgain o (Retrying c) = remaining o c ≡ attempt o (capacity_of_core c) (key_of_core c)
 StartsAgain o _ = Unit {0}
+
+-- a core that is handed back looks the same key up among as many nodes
+abbrev pub IsSameLookup : {O K : Type 0} → ReaderCore O K → Taken O K → Type 0
+IsSameLookup old (Going c) = (capacity_of_core c ≡ capacity_of_core old) × (key_of_core c ≡ key_of_core old)
+IsSameLookup old (Retrying c) = (capacity_of_core c ≡ capacity_of_core old) × (key_of_core c ≡ key_of_core old)
+IsSameLookup old (Returned answer g) = Unit {0}

@@ -1,6 +1,7 @@
 -- What a writer's core knows of the words, and when it accepts an update.
-use Rattle.std.specs.Prelude.{◌≡◌, ℕ, ◌<◌, ◌≤◌, Bool, List, [], ◌++◌, length, Option, All, nat_lt, slice_get, drop, if◌then◌else◌, ◌==◌}
+use Rattle.std.specs.Prelude.{◌≡◌, ◌⊎◌, ℕ, ◌<◌, ◌≤◌, Bool, List, [], ◌++◌, length, Option, Some, None, is_some, MatchOption, All, nat_lt, slice_get, drop, if◌then◌else◌, ◌==◌}
 use Rattle.order_laws.specs.declared.refusals.Refusal.{Refusal}
+use Rattle.order_laws.specs.declared.refusals.Refusal.TheVariants.{BadCapacity, OutOfMemory}
 use Rattle.order_laws.specs.Orders.{Order}
 use Rattle.word_arena.specs.declared.layouts.Layout.{Layout}
 use Rattle.word_arena.specs.declared.stores.Store.{Store}
@@ -11,7 +12,7 @@ use Rattle.rb_words.specs.Pictures.{Picture}
 use Rattle.latch_core.specs.declared.updates.Update.{Update}
 use Rattle.latch_core.specs.Sequences.{stable}
 use Rattle.latch_core.specs.Updates.{refuses, after, most_steps}
-use Rattle.latch_core.specs.Latches.{Latch, begun}
+use Rattle.latch_core.specs.Latches.{Latch, Hand, MayStep, stepped, begun}
 use Rattle.latch_core.specs.Plans.{IsPlan}
 use Rattle.latch_core.specs.FreeNodes.{AreAllNodes}
 use Rattle.latch_core.specs.WriterViews.{WriterView}
@@ -42,6 +43,26 @@ pub record Pictures (w : WriterView) (l : Latch) : Type 0 where
   pub table : l.table ≡ w.table
   pub sequence : at l.words 0 ≡ w.sequence
 
+-- a store that may be made next: on each latch that the core pictures it is a step of the update in hand, and with none
+-- left no update is in hand
+abbrev pub MayBeNext : WriterView → Option Store → Type 0
+MayBeNext w next =
+    (l : Latch) → Pictures w l → MatchOption next (l.hand ≡ None) (λ s. (h : Hand) × (l.hand ≡ Some h) × MayStep w.capacity l h s)
+
+-- the next store leads from what the one core pictures to what the other does
+abbrev pub LeadsFrom : WriterView → WriterView → Type 0
+LeadsFrom old new =
+    (l : Latch) (h : Hand) (s : Store) → Pictures old l → l.hand ≡ Some h → next_store old ≡ Some s → Pictures new (stepped l h s)
+
+-- the latch that is pictured refuses what the core refuses
+abbrev pub RefusesAsPictured : {K : Type 0} → Order K → WriterView → Update → Type 0
+RefusesAsPictured o w u =
+    (l : Latch) → Pictures w l → refuses o w.capacity w.limit (is_some l.hand) l.table (at l.words 0) u ≡ why_refused o w u
+
+-- an update is refused by what its tests say, and else for want of memory
+abbrev pub IsRefusedBy : {K : Type 0} → Order K → WriterView → Update → Refusal → Type 0
+IsRefusedBy o w u e = (why_refused o w u ≡ Some e) ⊎ ((why_refused o w u ≡ None) × (e ≡ OutOfMemory))
+
 -- a core that has made nothing
 abbrev pub opening_writer : Layout → ℕ → WriterView
 opening_writer l start =
@@ -50,6 +71,10 @@ opening_writer l start =
 -- an opening sequence is even and not above the limit
 abbrev pub MayOpen : Layout → ℕ → Type 0
 MayOpen l start = (stable start ≡ 0) × (start ≤ limit_of l)
+
+-- an opening is refused by its sequence, and else for want of memory
+abbrev pub IsOpeningRefused : Layout → ℕ → Refusal → Type 0
+IsOpeningRefused l start e = ((e ≡ BadCapacity) × (MayOpen l start → ⊥)) ⊎ ((e ≡ OutOfMemory) × MayOpen l start)
 
 -- the sequence after a store
 abbrev pub sequence_after : ℕ → Store → ℕ

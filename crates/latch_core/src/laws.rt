@@ -34,8 +34,10 @@ pub fn attempt_is_short<O: TreeOrder>()
 
 /// Whatever values an attempt takes, it ends: after at most four loads for each node and three.
 pub fn attempt_ends<O: TreeOrder>()
-    ensures whole { (n : ℕ) (k : O.Key) (values : List ℕ) (rest : Reading) → rest_after (attempt O.order n k) values ≡ Some rest → length values ≤ 4 * n + 3 }
-    ensures part { (n : ℕ) (k : O.Key) (values : List ℕ) (word : ℕ) (go : ℕ → Reading) → rest_after (attempt O.order n k) values ≡ Some (Load word go) → length values ≤ 4 * n + 2 }
+    ensures whole { (n : ℕ) (k : O.Key) (values : List ℕ) (rest : Reading)
+        → rest_after (attempt O.order n k) values ≡ Some rest → length values ≤ 4 * n + 3 }
+    ensures part { (n : ℕ) (k : O.Key) (values : List ℕ) (word : ℕ) (go : ℕ → Reading)
+        → rest_after (attempt O.order n k) values ≡ Some (Load word go) → length values ≤ 4 * n + 2 }
 {}
 
 /// While the sequence is what an attempt read first, each value that it loaded still stands in its word: each step that

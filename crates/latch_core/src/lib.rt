@@ -11,7 +11,7 @@ pub mod plain;
 mod plans;
 pub mod readers;
 pub mod sequences;
-pub mod spots;
+mod spots;
 #[cfg(test)]
 mod tests;
 pub mod updates;

@@ -81,7 +81,8 @@ impl Plan {
         requires second_items { items ≤ length second.now }
         requires room { length first.now + length second.now + 2 ≤ self.old.room }
         requires counts { sequence + 2 < 2 ^ 64 }
-        ensures { self.new.left ≡ update_stores sequence (take items first.now) (drop items first.now) (drop items second.now) }
+        ensures { self.new.left
+            ≡ update_stores sequence (take items first.now) (drop items first.now) (drop items second.now) }
     {
         append(&mut self.stores, &first[..items]);
         self.stores.push_reserved(flip_to(sequence + 1));

@@ -33,7 +33,7 @@ pub enum Taken<O: TreeOrder> {
 }
 
 impl<O: TreeOrder> ReaderCore<O> {
-    ghost use Rattle.latch_core.specs.Cores.{capacity_of_core, key_of_core, remaining, LeadsTo, LeadsOn, most_loads, IsShorter, StartsAgain};
+    ghost use Rattle.latch_core.specs.Cores.{capacity_of_core, key_of_core, remaining, LeadsTo, IsWanted, LeadsBy, most_loads, IsSameLookup, IsShorter, StartsAgain};
 
     /// A lookup of `k` that was given nothing yet.
     pub fn start(l: Layout, k: O::Key) -> Self
@@ -74,7 +74,7 @@ impl<O: TreeOrder> ReaderCore<O> {
     /// The word whose value is taken next.
     pub fn wanted(&self) -> usize
         ensures within { result < words_for (capacity_of_core self.now) }
-        ensures word { (values : List ℕ) → LeadsTo O.order values self.now → (go : ℕ → Reading) × (rest_after (attempt O.order (capacity_of_core self.now) (key_of_core self.now)) values ≡ Some (Load result go)) }
+        ensures word { IsWanted O.order self.now result }
     {
         let node = self.spot.node;
         let copy = stable_copy(self.spot.first);
@@ -94,7 +94,8 @@ impl<O: TreeOrder> ReaderCore<O> {
         ensures capacity { capacity_of_core result ≡ capacity_of_core self }
         ensures key { key_of_core result ≡ key_of_core self }
         ensures shorter { most_loads result ≤ 4 * self.spot.left + 1 }
-        ensures leads { remaining O.order result ≡ walk O.order (capacity_of_core self) (key_of_core self) self.spot.first self.spot.left link }
+        ensures leads { remaining O.order result
+            ≡ walk O.order (capacity_of_core self) (key_of_core self) self.spot.first self.spot.left link }
     {
         if link == 0 {
             self.spot.place = Place::Missing;
@@ -113,9 +114,10 @@ impl<O: TreeOrder> ReaderCore<O> {
     /// A core that goes on was given at most 4N + 2 values in its attempt, whatever they were; one that begins again was
     /// given none in its new attempt.
     pub fn take(mut self, value: u64) -> Taken<O>
+        ensures same { IsSameLookup self result }
         ensures shorter { IsShorter self result }
         ensures again { StartsAgain O.order result }
-        ensures leads { (values : List ℕ) → LeadsTo O.order values self → LeadsOn O.order (capacity_of_core self) (key_of_core self) (values ++ value ∷ []) result }
+        ensures leads { LeadsBy O.order self value result }
     {
         match self.spot.place {
             Place::First => {
@@ -151,8 +153,9 @@ impl<O: TreeOrder> ReaderCore<O> {
                 Some(self.item()),
                 generation(value),
             ),
+            Place::Found => Taken::Retrying(self.again()),
             Place::Missing if value == self.spot.first => Taken::Returned(None, generation(value)),
-            Place::Found | Place::Missing => Taken::Retrying(self.again()),
+            Place::Missing => Taken::Retrying(self.again()),
             Place::Stuck => Taken::Retrying(self.again()),
         }
     }

@@ -257,7 +257,7 @@ fn each_refusal_and_none_beside_an_update_in_hand(rt: HostRuntime) -> Result<(),
     Ok(())
 }
 
-// At each stop of each update, a lookup answers for the table before the second flip's one, and for the new one from there on.
+// At each stop of each update, a lookup answers for the old table before the second flip and for the new one from it on.
 #[test]
 fn an_order_whose_key_is_a_struct(rt: HostRuntime) -> Result<(), Fail> {
     let l = Layout::new(4)?;

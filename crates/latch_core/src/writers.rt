@@ -9,7 +9,7 @@ ghost use Rattle.rb_words.specs.Pictures.{IsPicture};
 ghost use Rattle.latch_core.specs.Sequences.{gen};
 ghost use Rattle.latch_core.specs.Updates.{refuses};
 ghost use Rattle.latch_core.specs.Latches.{Latch, Hand, MayStep, stepped, opening_latch};
-ghost use Rattle.latch_core.specs.Writers.{next_store, why_refused, MayOpen, Pictures, HasBegun, opening_writer, stepped_writer};
+ghost use Rattle.latch_core.specs.Writers.{next_store, why_refused, IsRefusedBy, RefusesAsPictured, MayOpen, IsOpeningRefused, Pictures, MayBeNext, LeadsFrom, HasBegun, opening_writer, stepped_writer};
 
 use crate::nodes::all_nodes;
 use crate::plain::is_spent;
@@ -51,9 +51,18 @@ impl<O: TreeOrder> Model for WriterCore<O> {
 
     ghost coded = { writer_code };
 
-    ghost view = { λ w. record { capacity = capacity_of w.layout; limit = limit_of w.layout; sequence = w.sequence; table = w.zero.table; zero_tree = w.zero.tree; one_tree = w.one.tree; left = w.plan.left } };
+    ghost view = { λ w. record {
+      capacity = capacity_of w.layout;
+      limit = limit_of w.layout;
+      sequence = w.sequence;
+      table = w.zero.table;
+      zero_tree = w.zero.tree;
+      one_tree = w.one.tree;
+      left = w.plan.left;
+    } };
 
-    ghost invariant = { λ w. AreInStep (capacity_of w.layout) w.zero w.one w.free.items w.plan.left × (capacity_of w.layout ≤ vec_capacity w.free) };
+    ghost invariant = { λ w. AreInStep (capacity_of w.layout) w.zero w.one w.free.items w.plan.left
+        × (capacity_of w.layout ≤ vec_capacity w.free) };
 }
 
 impl<O: TreeOrder> WriterCore<O> {
@@ -65,7 +74,7 @@ impl<O: TreeOrder> WriterCore<O> {
         ensures opened { IfOk result (λ w. w ≡ opening_writer l start) }
         ensures may { IfOk result (λ w. MayOpen l start) }
         ensures pictures { IfOk result (λ w. Pictures w (opening_latch (capacity_of l) start)) }
-        ensures refusal { IfErr result (λ e. ((e ≡ Refusal.BadCapacity) × (MayOpen l start → ⊥)) ⊎ ((e ≡ Refusal.OutOfMemory) × MayOpen l start)) }
+        ensures refusal { IfErr result (IsOpeningRefused l start) }
     {
         if start % 2 == 1 || start > l.limit() {
             return Err(Refusal::BadCapacity);
@@ -88,9 +97,11 @@ impl<O: TreeOrder> WriterCore<O> {
     pub fn begin(&mut self, u: Update) -> Result<u64, Refusal>
         ensures accepted { IfOk result (λ left. why_refused O.order self.old u ≡ None) }
         ensures begun { IfOk result (λ left. (left ≡ length self.new.left) × HasBegun O.order self.old u self.new) }
-        ensures refusal { IfErr result (λ e. (why_refused O.order self.old u ≡ Some e) ⊎ ((why_refused O.order self.old u ≡ None) × (e ≡ Refusal.OutOfMemory))) }
+        ensures refusal { IfErr result (IsRefusedBy O.order self.old u) }
         ensures unchanged { OnErr result (self.new ≡ self.old) }
-        ensures pictured { (l : Latch) → Pictures self.old l → refuses O.order self.old.capacity self.old.limit (is_some l.hand) l.table (at l.words 0) u ≡ why_refused O.order self.old u }
+        ensures same { (self.new.capacity ≡ self.old.capacity) × (self.new.limit ≡ self.old.limit)
+            × (self.new.sequence ≡ self.old.sequence) }
+        ensures pictured { RefusesAsPictured O.order self.old u }
     {
         if let Some(refusal) = self.refusal(&u) {
             return Err(refusal);
@@ -146,6 +157,7 @@ impl<O: TreeOrder> WriterCore<O> {
         };
         self.zero.plan_insert(&mut first, node, item);
         self.one.plan_insert(&mut second, node, item);
+        // The node's words serve both copies, so they are stored once, before copy 1 links the node.
         self.plan.fill(self.sequence, &first, &second, ITEM_STORES);
         Ok(())
     }
@@ -170,8 +182,9 @@ impl<O: TreeOrder> WriterCore<O> {
     /// Its word lies in the memory. On any words that the core pictures it is a step that a writer may make.
     pub fn next(&self) -> Option<Store>
         ensures which { result ≡ next_store self.now }
+        ensures some { IsSome result ↔ (0 < length self.now.left) }
         ensures within { IfSome result (λ s. s.word < words_for self.now.capacity) }
-        ensures may { (l : Latch) → Pictures self.now l → MatchOption result (l.hand ≡ None) (λ s. (h : Hand) × (l.hand ≡ Some h) × MayStep self.now.capacity l h s) }
+        ensures may { MayBeNext self.now result }
     {
         self.plan.next()
     }
@@ -179,9 +192,11 @@ impl<O: TreeOrder> WriterCore<O> {
     /// The store that [`next`](WriterCore::next) told was made.
     pub fn did(&mut self)
         requires { IsSome (next_store self.old) }
+        ensures same { (self.new.capacity ≡ self.old.capacity) × (self.new.limit ≡ self.old.limit)
+            × (self.new.table ≡ self.old.table) }
         ensures left { length self.new.left + 1 ≡ length self.old.left }
         ensures stepped { (s : Store) → next_store self.old ≡ Some s → self.new ≡ stepped_writer self.old s }
-        ensures pictures { (l : Latch) (h : Hand) (s : Store) → Pictures self.old l → l.hand ≡ Some h → next_store self.old ≡ Some s → Pictures self.new (stepped l h s) }
+        ensures pictures { LeadsFrom self.old self.new }
     {
         self.step_on();
     }
@@ -189,6 +204,8 @@ impl<O: TreeOrder> WriterCore<O> {
     /// Leaves the next store behind, and keeps the sequence that it makes.
     fn step_on(&mut self)
         requires { IsSome (next_store self.old) }
+        ensures same { (self.new.capacity ≡ self.old.capacity) × (self.new.limit ≡ self.old.limit)
+            × (self.new.table ≡ self.old.table) }
         ensures left { length self.new.left + 1 ≡ length self.old.left }
         ensures stepped { (s : Store) → next_store self.old ≡ Some s → self.new ≡ stepped_writer self.old s }
     {
@@ -259,8 +276,10 @@ fn reserve<O: TreeOrder>(
     ensures zero_kept { zero.new ≡ record zero.old { room = zero.new.room } }
     ensures one_kept { one.new ≡ record one.old { room = one.new.room } }
     ensures plan_kept { plan.new.left ≡ [] }
-    ensures zero_room { IfOk result (λ lists. (0 < zero.new.room) × (lists.0.items ≡ []) × (vec_len lists.0 ≡ 0) × (STORES ≤ vec_capacity lists.0)) }
-    ensures one_room { IfOk result (λ lists. (0 < one.new.room) × (lists.1.items ≡ []) × (vec_len lists.1 ≡ 0) × (STORES ≤ vec_capacity lists.1)) }
+    ensures zero_room { IfOk result (λ lists.
+        (0 < zero.new.room) × (lists.0.items ≡ []) × (vec_len lists.0 ≡ 0) × (STORES ≤ vec_capacity lists.0)) }
+    ensures one_room { IfOk result (λ lists.
+        (0 < one.new.room) × (lists.1.items ≡ []) × (vec_len lists.1 ≡ 0) × (STORES ≤ vec_capacity lists.1)) }
     ensures plan_room { IfOk result (λ lists. 2 * STORES + 2 ≤ plan.new.room) }
     ensures refusal { IfErr result (λ e. e ≡ Refusal.OutOfMemory) }
     ensures sound { IsPicture O.order zero.new }

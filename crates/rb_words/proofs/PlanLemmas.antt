@@ -1,14 +1,14 @@
 -- What planned changes make of the picture, and that the plan's stores lead a copy there.
-use Rattle.std.proofs.Common.{◌≡◌, ◌≢◌, ℕ, suc, ◌+◌, ◌<◌, ◌≤◌, true, false, List, [], ◌∷◌, ◌++◌, length, take, drop, Some, refl, sym, ◌∙◌, ap, subst, inl, inr, arith, length-set}
+use Rattle.std.proofs.Common.{◌≡◌, ◌≢◌, ℕ, suc, ◌+◌, ◌<◌, ◌≤◌, true, false, List, [], ◌∷◌, ◌++◌, length, take, drop, Some, refl, sym, ◌∙◌, ap, subst, inl, inr, ⊎_elim, arith, length-set}
 use Rattle.std.specs.Prelude.{Contains, insert, remove, slice_get, slice_set}
 use Rattle.std.specs.Option.{option_map}
-use Rattle.std.proofs.lemmas.Option.{slice_get-map}
+use Rattle.std.proofs.lemmas.Option.{slice_get-map, slice_get_within, get_or_from_slice_get}
 use Rattle.std.specs.List.{AllByRecursion}
-use Rattle.std.proofs.lemmas.List.{take-append-drop, length-map}
+use Rattle.std.proofs.lemmas.List.{take-append-drop, drop_all, length-map}
 use Rattle.order_laws.specs.declared.items.Item.{Item}
 use Rattle.order_laws.specs.Orders.{Order, IsLawful}
 use Rattle.order_laws.specs.Tables.{IsTable, with_item, without, place_for, place_of, has, meets}
-use Rattle.order_laws.proofs.TableLemmas.{with_item_table, without_table}
+use Rattle.order_laws.proofs.TableLemmas.{members, with_item_table, without_table}
 use Rattle.order_laws.proofs.PlaceLemmas.{with_place, without_place, place_for_fits, place_of_fits, not_meeting, place_of_has}
 use Rattle.word_arena.specs.declared.stores.Store.{Store}
 use Rattle.word_arena.specs.Words.{words_for, at, root_word, a_word, b_word, tag_word, item_at, listed, Leads, Reaches, InUse}
@@ -23,7 +23,7 @@ use Rattle.rb_words.specs.Pictures.{Picture, IsPicture, IsPictured}
 use Rattle.rb_words.specs.Plans.{AreLinks, Inserts, LeadsWithItem, Erases, LeadsByLinks, item_stores}
 use Rattle.rb_words.specs.ChainTrees.{chain_tree, insert_links, erase_links, picture_of}
 use Rattle.rb_words.proofs.ListLemmas.{all_insert, all_remove, all_take, all_drop, all_get, distinct_insert, distinct_remove, map-insert, map-remove, member_insert, insert_member, member_remove, remove_member, parted_at, away_of_absent, distinct_fit}
-use Rattle.rb_words.proofs.ScanLemmas.{items_of}
+use Rattle.rb_words.proofs.ScanLemmas.{items_of, drop_at}
 use Rattle.rb_words.proofs.ChainLemmas.{listed_chain, ApartRows, all_nodes, apart_rows, root_off, before_link, link_within, insert_leads, erase_leads, Stored, stored_items, items_stored, stored_kept, adds_node, drops_node}
 
 -- the nodes in the order of the items, after a change
@@ -281,3 +281,21 @@ erase_within n c a rows shown view there =
 
 pub insert_within : {K : Type 0} (o : Order K) (item : Item) (rows : Rows) → place_for o item (items_of rows.list) ≤ length rows.list
 insert_within o item rows = omega (arith, place_for_fits o item (items_of rows.list), length-map rows.list (λ (r : Record). r.item))
+
+-- a walk over the records finds the nodes of the tree
+pub reached_here : (rows : List Record) (i node : ℕ) (r : Record) → slice_get rows i ≡ Some r → r.node ≡ node → Contains (listed (chain_tree rows)) node
+reached_here rows i node r at_i e =
+    let found : slice_get (listed (chain_tree rows)) i ≡ Some node =
+    ap (λ xs. slice_get xs i) (listed_chain rows) ∙ slice_get-map (λ (s : Record). s.node) rows i ∙ ap (option_map (λ (s : Record). s.node)) at_i ∙ ap Some e in
+    (i, slice_get_within (listed (chain_tree rows)) i node found, get_or_from_slice_get (listed (chain_tree rows)) i node node found)
+
+pub reached_past : (rows : List Record) (i node : ℕ) (r : Record) → slice_get rows i ≡ Some r → r.node ≢ node → Contains (listed (chain_tree (drop i rows))) node → Contains (listed (chain_tree (drop (i + 1) rows))) node
+reached_past rows i node r at_i differs is =
+    ⊎_elim (λ e. absurd (differs e)) (λ rest. rest)
+    (members r.node node (listed (chain_tree (drop (i + 1) rows))) (subst (λ rs. Contains (listed (chain_tree rs)) node) (drop_at rows i r at_i) is))
+
+pub reached_none : (rows : List Record) (i node : ℕ) → length rows ≤ i → Contains (listed (chain_tree (drop i rows))) node → ⊥
+reached_none rows i node past is =
+    let empty : drop i rows ≡ [] = drop_all i rows past in
+    let n = is.1 in
+    omega (arith, n, ap (λ rs. length (listed (chain_tree rs))) empty)

@@ -8,5 +8,7 @@
 
 mod records;
 pub mod shapes;
+#[cfg(test)]
+mod tests;
 
 pub use shapes::{STORES, Shape};

@@ -1,6 +1,9 @@
 //! A copy as its writer sees it, and the plans of its changes.
+//!
+//! The tree is a chain for now: the root is the least item, each right link leads to the next item, each left link is 0. No
+//! public clause tells so.
 
-ghost use Rattle.std.specs.Prelude.{◌≡◌, ◌+◌, ◌*◌, ◌<◌, ◌≤◌, ◌++◌, ◌∷◌, [], map, true, false, List, IfOk, IfErr, Contains, length, take, drop, vec_len, vec_capacity};
+ghost use Rattle.std.specs.Prelude.{◌≡◌, ◌↔◌, ◌+◌, ◌*◌, ◌<◌, ◌≤◌, ◌++◌, ◌∷◌, [], map, true, false, List, IsTrue, IfOk, IfErr, Contains, length, take, drop, vec_len, vec_capacity};
 ghost use Rattle.order_laws.specs.Tables.{has, meets, without_all, place_for, place_of};
 ghost use Rattle.word_arena.specs.declared.stores.Store.{Store};
 ghost use Rattle.word_arena.specs.Layouts.{capacity_of};
@@ -83,6 +86,18 @@ impl<O: TreeOrder> Shape<O> {
         false
     }
 
+    /// Whether the node is one of the pictured tree.
+    pub fn reaches(&self, node: u32) -> bool
+        ensures { IsTrue result ↔ Contains (listed self.now.tree) node }
+    {
+        for place in 0..self.records.len() {
+            if self.records.at(place).node == node {
+                return true;
+            }
+        }
+        false
+    }
+
     /// Whether some item, those with one of the first words `but` left out, is not apart from this one.
     pub fn meets(&self, item: &Item, but: &[u64]) -> bool
         ensures { result ≡ meets O.order item.now (without_all but.now self.now.table) }
@@ -98,7 +113,7 @@ impl<O: TreeOrder> Shape<O> {
 
     /// Makes room for `k` items, and hands out an empty list with room for `k` plans.
     ///
-    /// What is pictured stays, also where memory is refused.
+    /// What is pictured stays, also where memory is refused by [`Refusal::OutOfMemory`].
     pub fn reserve(&mut self, k: u32) -> Result<Vec<Store>, Refusal>
         ensures kept { self.new ≡ record self.old { room = self.new.room } }
         ensures grown { self.old.room ≤ self.new.room }
@@ -113,7 +128,8 @@ impl<O: TreeOrder> Shape<O> {
 
     /// Plans to insert an item in a free node, and pictures the copy with it.
     ///
-    /// Appends the stores of the item's words, and then those of links. Takes no memory.
+    /// Appends the stores of the item's words, and then those of links. Takes no memory. There must be room for one item
+    /// and for [`STORES`] stores ([`Shape::reserve`]); the item must be valid and meet none ([`Shape::meets`]).
     pub fn plan_insert(&mut self, out: &mut Vec<Store>, node: u32, item: Item)
         requires room { 0 < self.old.room }
         requires list { vec_len out.old + STORES ≤ vec_capacity out.old }
@@ -138,7 +154,8 @@ impl<O: TreeOrder> Shape<O> {
 
     /// Plans to erase the item of this first word, and pictures the copy without it. Answers the node that is free then.
     ///
-    /// Appends stores of links alone. Takes no memory.
+    /// Appends stores of links alone, since the words of the item serve both copies. Takes no memory. There must be room for
+    /// [`STORES`] stores, and an item of this first word ([`Shape::has`]).
     pub fn plan_erase(&mut self, out: &mut Vec<Store>, a: u64) -> u32
         requires list { vec_len out.old + STORES ≤ vec_capacity out.old }
         requires pictured { has a self.old.table ≡ true }

@@ -4,7 +4,7 @@ use Rattle.latch_core.specs.declared.spots.Place.TheVariants.{First, Root, WordA
 use Rattle.latch_core.specs.Attempts.{Ends, Answer}
 use Rattle.latch_core.proofs.Leads.{next_from, values_before, values_of_core, values_of_place, moved, turned, answers, answers_none, again, again_none}
 use Rattle.latch_core.proofs.readers.ReaderCore.take.Goals as goal
-use Rattle.latch_core.proofs.readers.ReaderCore.take.Goals.{in-Less, in-Equal, in-Greater, in-Found+else-value-self, in-Missing+else-value-self-2}
+use Rattle.latch_core.proofs.readers.ReaderCore.take.Goals.{in-Less, in-Equal, in-Greater}
 
 pub returns-in-First-clause-leads : goal.returns-in-First-clause-leads
 returns-in-First-clause-leads g c = λ values leads.
@@ -66,18 +66,23 @@ returns-in-Missing-clause-leads g c = λ values leads.
 
 pub returns-in-Found-2-clause-leads : goal.returns-in-Found-2-clause-leads
 returns-in-Found-2-clause-leads g c = λ values leads.
-    let o = g.O.TreeOrder.order in
-    let e = c.again-in-Found-2.ensures in (
+    let e = c.again.ensures in (
       e.capacity,
       e.key,
-      elim c.in-Found-2-1.branch [
-        | in-Found+else-value-self w ↦ next_from o c.args.self Found _ _ c.args.value values w.in-Found.is refl leads ∙ ap (λ x. Some (Ends x)) (again _ _ _ (λ e. w.if-value-self.false (sym e)))
-        | in-Missing+else-value-self-2 w ↦ next_from o c.args.self Missing _ _ c.args.value values w.in-Missing.is refl leads ∙ ap (λ x. Some (Ends x)) (again_none _ _ (λ e. w.if-value-self-2.false (sym e)))
-      ],
+      next_from g.O.TreeOrder.order c.args.self Found _ _ c.args.value values c.in-Found-2.is refl leads ∙ ap (λ x. Some (Ends x)) (again _ _ _ (λ e. c.if-value-self.false (sym e))),
+      ap Some (sym e.whole),
+    )
+
+pub returns-in-Missing-2-clause-leads : goal.returns-in-Missing-2-clause-leads
+returns-in-Missing-2-clause-leads g c = λ values leads.
+    let e = c.again-in-Missing-2.ensures in (
+      e.capacity,
+      e.key,
+      next_from g.O.TreeOrder.order c.args.self Missing _ _ c.args.value values c.in-Missing-2.is refl leads ∙ ap (λ x. Some (Ends x)) (again_none _ _ (λ e. c.if-value-self-2.false (sym e))),
       ap Some (sym e.whole),
     )
 
 pub returns-in-Stuck-clause-leads : goal.returns-in-Stuck-clause-leads
 returns-in-Stuck-clause-leads g c = λ values leads.
-    let e = c.again.ensures in
+    let e = c.again-in-Stuck.ensures in
     (e.capacity, e.key, next_from g.O.TreeOrder.order c.args.self Stuck _ _ c.args.value values c.in-Stuck.is refl leads, ap Some (sym e.whole))

@@ -1,0 +1,2 @@
+mod ParseLemmas
+mod Writing

@@ -1,0 +1,30 @@
+-- The program's command line, as `clap` reads it.
+use Rattle.std.specs.Prelude.{◌≡◌, codes, true, false}
+use Rattle.clap.specs.Words.{App, Rule, Text, app_of, new_app, new_rule, rule_of, with_rule, with_subcommand}
+use Rattle.clap.specs.Simple.{on_top}
+use Rattle.clap.specs.declared.builder.arg.Arg.{Arg}
+use Rattle.clap.specs.declared.builder.command.Command.{Command}
+use Rattle.clap.specs.declared.builder.command.Command.TheViews.{out-Command}
+
+-- a word that has to be given, and has a name in the help
+abbrev pub word_rule : Text → Rule
+word_rule id = record (new_rule id) { value_names = 1; required = true }
+
+-- trace FILE
+abbrev pub trace_app : App
+trace_app = with_rule (new_app (codes "trace")) (word_rule (codes "file"))
+
+-- a subcommand has to be given
+abbrev pub top_app : App
+top_app = on_top (λ s. record s { subcommand_required = true }) (new_app (codes "latchsym"))
+
+abbrev pub latchsym_app : App
+latchsym_app = with_subcommand top_app trace_app.top
+
+-- the command reads words as `app` does
+abbrev pub IsCommand : App → Command → Type 0
+IsCommand app c = (app_of c ≡ app) × ((out-Command c).has_globals ≡ false)
+
+-- the argument is read as `rule` says
+abbrev pub IsPlainArg : Rule → Arg → Type 0
+IsPlainArg rule a = (rule_of a ≡ rule) × (a.global ≡ false)

@@ -1,0 +1,57 @@
+-- Why a run of the program failed, and the line that says so.
+use Rattle.std.specs.Prelude.{ℕ, List, [], ◌++◌, ◌≤◌, ◌⊎◌, Option, Some, None, codes, decimal, option_and_then, slice_get, unwrap_or}
+use Rattle.std.specs.Io.KnownBytes.{Appends}
+use Rattle.clap.specs.Words.{Text}
+use Rattle.devices.specs.declared.counted.Counted.{Counted}
+use Rattle.devices.specs.Counted.{Rose, device_of, failures_of}
+use Rattle.order_laws.specs.Refusals as refusals
+use Rattle.latchsym.specs.Jobs.{files_of}
+use Rattle.latchsym.specs.Texts.{refused_text}
+use Rattle.latchsym.specs.declared.command_line.Job.{Job}
+use Rattle.latchsym.specs.declared.fault.Fault.{Fault}
+use Rattle.latchsym.specs.declared.fault.Fault.TheVariants.{Refused, BadLine, Read, Write}
+
+-- the number that stands for a fault
+abbrev pub number_of : Fault → ℕ
+number_of (Refused refusal) = refusals.number_of refusal
+number_of (BadLine place line) = 15
+number_of (Read place) = 16
+number_of Write = 16
+
+abbrev pub place_of : Fault → Option ℕ
+place_of (Refused refusal) = None
+place_of (BadLine place line) = Some place
+place_of (Read place) = Some place
+place_of Write = None
+
+abbrev pub line_of : Fault → Option ℕ
+line_of (Refused refusal) = None
+line_of (BadLine place line) = Some line
+line_of (Read place) = None
+line_of Write = None
+
+abbrev pub bad_line_text : Text → ℕ → List ℕ
+bad_line_text file line = file ++ codes ": line " ++ decimal line ++ codes " is not understood\n"
+
+abbrev pub unread_text : Text → List ℕ
+unread_text file = file ++ codes ": cannot be read\n"
+
+-- what is said of a fault that is about this file, behind the program's name
+abbrev pub message_text : Text → Fault → List ℕ
+message_text file (Refused refusal) = refused_text (refusals.number_of refusal)
+message_text file (BadLine place line) = bad_line_text file line
+message_text file (Read place) = unread_text file
+message_text file Write = codes "cannot write\n"
+
+-- the line on the standard error
+abbrev pub fault_text : Text → Fault → List ℕ
+fault_text file fault = codes "latchsym: " ++ message_text file fault
+
+-- the file of the job that the fault is about
+abbrev pub file_of : Job → Fault → Text
+file_of job fault = unwrap_or (option_and_then (slice_get (files_of job)) (place_of fault)) []
+
+-- the writer has taken this line and nothing else, or a call of it failed
+pub record Reported {D : Type 0} (contents : D → Option (List ℕ)) (old new : Counted D) (line : List ℕ) : Type 0 where
+  pub outcome : Appends (contents (device_of old)) (contents (device_of new)) line ⊎ Rose (failures_of old) (failures_of new)
+  pub never_falls : failures_of old ≤ failures_of new

@@ -1,0 +1,5 @@
+pub mod CommandLine
+pub mod Faults
+pub mod Jobs
+pub mod Texts
+pub mod Traces

@@ -1,0 +1,36 @@
+-- The lines that a trace writes.
+use Rattle.std.specs.Prelude.{ℕ, List, ◌++◌, Option, codes, decimal}
+use Rattle.std.specs.Option.{option_map_or}
+use Rattle.devices.specs.Exact.{hexadecimal}
+use Rattle.order_laws.specs.declared.items.Item.{Item}
+use Rattle.order_laws.specs.Refusals.{number_of}
+use Rattle.latch_core.specs.Sequences.{gen}
+use Rattle.latch_steps.specs.declared.replies.Note.{Note}
+use Rattle.latch_steps.specs.declared.replies.Note.TheVariants.{Returned as Gave, Refused}
+use Rattle.latch_steps.specs.declared.replies.Returned.{Returned}
+
+-- the tag of the item that was found, or `-`
+abbrev pub tag_text : Option Item → List ℕ
+tag_text answer = option_map_or (λ item. decimal item.tag) answer (codes "-")
+
+-- R ADDR -> TAG
+abbrev pub found_text : ℕ → ℕ → Option Item → List ℕ
+found_text reader key answer = decimal reader ++ codes " " ++ hexadecimal key ++ codes " -> " ++ tag_text answer
+
+-- gen J loads S tries T, behind a blank
+abbrev pub counts_text : ℕ → ℕ → ℕ → List ℕ
+counts_text generation loads tries = codes " gen " ++ decimal generation ++ codes " loads " ++ decimal loads ++ codes " tries " ++ decimal tries
+
+abbrev pub returned_text : Returned ℕ → List ℕ
+returned_text r = found_text r.reader r.key r.answer ++ counts_text r.generation r.loads r.tries ++ codes "\n"
+
+abbrev pub refused_text : ℕ → List ℕ
+refused_text n = codes "refused " ++ decimal n ++ codes "\n"
+
+abbrev pub note_text : Note ℕ → List ℕ
+note_text (Gave returned) = returned_text returned
+note_text (Refused refusal) = refused_text (number_of refusal)
+
+-- the last line
+abbrev pub end_text : ℕ → List ℕ
+end_text sequence = codes "seq " ++ decimal sequence ++ codes " gen " ++ decimal (gen sequence) ++ codes "\n"

@@ -1,0 +1,133 @@
+//! Why a run of the program fails, and the line that says so.
+ghost use Rattle.std.specs.Prelude.{◌≡◌, []};
+ghost use Rattle.devices.specs.Exact.{Wrote};
+ghost use Rattle.latchsym.specs.Faults.{Reported, bad_line_text, fault_text, file_of, line_of, message_text, number_of, place_of, unread_text};
+
+use crate::command_line::Job;
+use crate::texts::{put_decimal, put_refused};
+use devices::{Counted, put};
+use order_laws::Refusal;
+use std::io;
+use std::io::Write;
+use thiserror::Error;
+
+/// The program's status where a run failed.
+pub const FAILED: u8 = 1;
+
+/// Why a run of the program failed.
+///
+/// A `place` is that of a file among those that the job reads, in the order in which it reads them,
+/// the first being 0. Lines count from 1.
+#[derive(Clone, Copy, Debug, PartialEq, Eq, Drop, Error)]
+pub enum Fault {
+    /// The run as a whole was refused.
+    #[error("refused {}", .0.number())]
+    Refused(Refusal),
+    /// A line is not in the grammar of its file. It is the first such line.
+    #[error("line {line} is not understood")]
+    BadLine { place: u64, line: u64 },
+    /// A file cannot be read.
+    #[error("cannot be read")]
+    Read { place: u64 },
+    /// The output cannot be written. Some of it may have gone out.
+    #[error("cannot write")]
+    Write,
+}
+
+impl Fault {
+    /// The number that stands for the fault: that of the refusal, 15 for a bad line, 16 where a
+    /// reader or the writer failed.
+    pub fn number(&self) -> u32
+        ensures { result ≡ number_of self.now }
+    {
+        match self {
+            Fault::Refused(refusal) => refusal.number(),
+            Fault::BadLine { .. } => 15,
+            Fault::Read { .. } | Fault::Write => 16,
+        }
+    }
+
+    /// The place of the file that the fault is about, if it is about one.
+    pub fn place(&self) -> Option<u64>
+        ensures { result ≡ place_of self.now }
+    {
+        match self {
+            Fault::BadLine { place, .. } | Fault::Read { place } => Some(*place),
+            Fault::Refused(_) | Fault::Write => None,
+        }
+    }
+
+    /// The line that the fault is about, if it is about one.
+    pub fn line(&self) -> Option<u64>
+        ensures { result ≡ line_of self.now }
+    {
+        match self {
+            Fault::BadLine { line, .. } => Some(*line),
+            Fault::Refused(_) | Fault::Read { .. } | Fault::Write => None,
+        }
+    }
+}
+
+/// Writes the line that says why the job failed, and answers the program's status. Where the writer
+/// fails too, the status is all that there is to tell.
+pub fn report<W: Write>(fault: &Fault, job: &Job<'_>, writer: &mut Counted<W>) -> u8
+    ensures status { result ≡ 1 }
+    ensures line { Reported W.contents writer.old writer.new (fault_text (file_of job.now fault.now) fault.now) }
+{
+    let file = file_of(fault, job);
+    let _ = put_fault(fault, file.as_bytes(), writer);
+    FAILED
+}
+
+/// The same for a fault that came before there was a job. It is about no file.
+pub fn report_before_job<W: Write>(fault: &Fault, writer: &mut Counted<W>) -> u8
+    ensures status { result ≡ 1 }
+    ensures line { Reported W.contents writer.old writer.new (fault_text [] fault.now) }
+{
+    let _ = put_fault(fault, b"", writer);
+    FAILED
+}
+
+/// The file that the fault is about, or an empty name.
+fn file_of<'a>(fault: &Fault, job: &Job<'a>) -> &'a str
+    ensures { result.now ≡ file_of job.now fault.now }
+{
+    match fault.place() {
+        Some(place) => job.file(place).unwrap_or(""),
+        None => "",
+    }
+}
+
+fn put_fault<W: Write>(fault: &Fault, file: &[u8], writer: &mut Counted<W>) -> io::Result<()>
+    ensures { Wrote W.contents writer.old writer.new result (fault_text file.now fault.now) }
+{
+    put(writer, b"latchsym: ")?;
+    put_message(fault, file, writer)
+}
+
+fn put_message<W: Write>(fault: &Fault, file: &[u8], writer: &mut Counted<W>) -> io::Result<()>
+    ensures { Wrote W.contents writer.old writer.new result (message_text file.now fault.now) }
+{
+    match fault {
+        Fault::Refused(refusal) => put_refused(writer, *refusal),
+        Fault::BadLine { line, .. } => put_bad_line(writer, file, *line),
+        Fault::Read { .. } => put_unread(writer, file),
+        Fault::Write => put(writer, b"cannot write\n"),
+    }
+}
+
+fn put_bad_line<W: Write>(writer: &mut Counted<W>, file: &[u8], line: u64) -> io::Result<()>
+    ensures { Wrote W.contents writer.old writer.new result (bad_line_text file.now line) }
+{
+    put(writer, file)?;
+    put(writer, b": line ")?;
+    put_decimal(writer, line)?;
+    put(writer, b" is not understood\n")
+}
+
+fn put_unread<W: Write>(writer: &mut Counted<W>, file: &[u8]) -> io::Result<()>
+    ensures { Wrote W.contents writer.old writer.new result (unread_text file.now) }
+{
+    put(writer, file)?;
+    put(writer, b": cannot be read\n")
+}

@@ -1,0 +1,19 @@
+//! The engine over readers and writers in memory.
+mod bad_input;
+mod devices_that_fail;
+mod rows;
+mod stops;
+mod words;
+
+use crate::fault::Fault;
+use crate::trace::trace_engine;
+use devices::Counted;
+use std::alloc::Global;
+
+/// What the engine answers for a trace, and what it writes.
+fn traced(alloc: Global, trace: &[u8]) -> (Result<u8, Fault>, Vec<u8>) {
+    let mut reader = Counted::new(trace);
+    let mut writer = Counted::new(Vec::new(alloc));
+    let answer = trace_engine(alloc, &mut reader, &mut writer);
+    (answer, writer.into_inner())
+}

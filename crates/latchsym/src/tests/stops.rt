@@ -1,0 +1,75 @@
+//! An update that is stopped after each of its steps.
+use crate::tests::traced;
+use std::alloc::{AllocError, Global};
+use std::test::Fail;
+
+/// More stops than the update has steps: it stores three words of its item and, in each copy, a root and few links.
+const STOPS: usize = 40;
+
+/// A second item is inserted beside a first, stopped before its first step and after each, with three lookups at a stop.
+fn stopped_trace(alloc: Global) -> Result<Vec<u8>, AllocError> {
+    let lookups =
+        b"start 1 0x3000\nread 1 100\nstart 2 0x1000\nread 2 100\nstart 3 0x5000\nread 3 100\n";
+    let mut trace = Vec::from_slice(
+        alloc,
+        b"latchtrace 1 halfopen 4\ninsert 0x3000 0x4000 9\nwrite end\ninsert 0x1000 0x2000 7\n",
+    )?;
+    trace.extend_from_slice(lookups)?;
+    for _ in 1..STOPS {
+        trace.extend_from_slice(b"write 1\n")?;
+        trace.extend_from_slice(lookups)?;
+    }
+    Ok(trace)
+}
+
+/// What a lookup of a key answers at a stop in this generation, but for its loads.
+fn answer_at(generation: u64, key: u64) -> Option<&'static str> {
+    match (generation, key) {
+        (1, 0) => Some("1 0x3000 -> 9 gen 1 loads "),
+        (1, 1) => Some("2 0x1000 -> - gen 1 loads "),
+        (1, 2) => Some("3 0x5000 -> - gen 1 loads "),
+        (2, 0) => Some("1 0x3000 -> 9 gen 2 loads "),
+        (2, 1) => Some("2 0x1000 -> 7 gen 2 loads "),
+        (2, 2) => Some("3 0x5000 -> - gen 2 loads "),
+        _ => None,
+    }
+}
+
+/// The loads of a lookup that answered so at its first attempt.
+fn loads_of(line: &str, answer: &str) -> Option<u64> {
+    line.strip_prefix(answer)?
+        .strip_suffix(" tries 1")?
+        .parse()
+        .ok()
+}
+
+/// Every lookup answers at its first attempt: the old table up to the second flip, the new one from it on.
+#[test]
+fn every_stop_has_one_table(rt: HostRuntime) -> Result<(), Fail> {
+    let (answer, written) = traced(rt.alloc(), &stopped_trace(rt.alloc())?);
+    assert_eq!(rt; answer, Ok(0));
+    let mut generation = 1u64;
+    let mut lookups = 0u64;
+    let mut old = 0u64;
+    for line in std::str::from_utf8(&written)?.lines() {
+        if lookups >= 3 * STOPS as u64 {
+            assert_eq!(rt; line, "seq 4 gen 2");
+            break;
+        }
+        let key = lookups % 3;
+        if key == 0 && line.contains("gen 2") {
+            generation = 2;
+        }
+        old = old.saturating_add(u64::from(generation == 1));
+        let loads = loads_of(line, answer_at(generation, key).ok_or("a generation")?);
+        let most = if generation == 1 { 7 } else { 11 };
+        assert!(rt; loads.is_some_and(|n| n >= 3 && n <= most), "{lookups}");
+        lookups += 1;
+    }
+    // three stores of the item and a root, at least, come before the second flip
+    assert!(rt;
+        lookups == 3 * STOPS as u64 && old >= 3 * 6,
+        "{lookups} {old}"
+    );
+    Ok(())
+}

@@ -1,0 +1,70 @@
+//! Command lines, and the lines that report a fault.
+use crate::command_line::{Job, JobFault, job_of};
+use crate::fault::{Fault, report, report_before_job};
+use clap::error::ErrorKind;
+use devices::Counted;
+use order_laws::Refusal;
+use std::alloc::Global;
+
+/// The kind of what is wrong with a command line, if something is.
+fn fault_in(alloc: Global, words: &[&str]) -> Option<ErrorKind> {
+    match job_of(alloc, words) {
+        Err(JobFault::CommandLine(error)) => Some(error.kind()),
+        _ => None,
+    }
+}
+
+#[test]
+fn a_command_line_asks_for_a_trace(rt: HostRuntime) {
+    let words = ["latchsym", "trace", "a file"];
+    match job_of(rt.alloc(), &words) {
+        Ok(job) => assert!(rt; job == Job::Trace { file: "a file" }),
+        Err(_) => assert!(rt; false, "no job"),
+    }
+    let words = ["latchsym", "trace", "--", "--help"];
+    match job_of(rt.alloc(), &words) {
+        Ok(job) => assert!(rt; job == Job::Trace { file: "--help" }),
+        Err(_) => assert!(rt; false, "no job"),
+    }
+}
+
+#[test]
+fn a_command_line_may_be_at_fault(rt: HostRuntime) {
+    let alloc = rt.alloc();
+    assert!(rt; fault_in(alloc, &["latchsym"]) == Some(ErrorKind::MissingSubcommand));
+    assert!(rt;
+        fault_in(alloc, &["latchsym", "trace"]) == Some(ErrorKind::MissingRequiredArgument)
+    );
+    assert!(rt; fault_in(alloc, &["latchsym", "race"]) == Some(ErrorKind::InvalidSubcommand));
+    assert!(rt;
+        fault_in(alloc, &["latchsym", "trace", "a", "b"]) == Some(ErrorKind::UnknownArgument)
+    );
+    assert!(rt; fault_in(alloc, &["latchsym", "--help"]) == Some(ErrorKind::DisplayHelp));
+    assert!(rt; fault_in(alloc, &["latchsym", "help"]) == Some(ErrorKind::DisplayHelp));
+    assert!(rt; fault_in(alloc, &["latchsym", "trace", "-h"]) == Some(ErrorKind::DisplayHelp));
+}
+
+/// The line that reports a fault of a trace.
+fn line_of(alloc: Global, fault: Fault) -> Vec<u8> {
+    let job = Job::Trace { file: "my.trace" };
+    let mut writer = Counted::new(Vec::new(alloc));
+    let _status = report(&fault, &job, &mut writer);
+    writer.into_inner()
+}
+
+#[test]
+fn a_fault_has_its_line(rt: HostRuntime) {
+    let alloc = rt.alloc();
+    let line = line_of(alloc, Fault::BadLine { place: 0, line: 12 });
+    assert!(rt; line.as_slice() == b"latchsym: my.trace: line 12 is not understood\n".as_slice());
+    let line = line_of(alloc, Fault::Read { place: 0 });
+    assert!(rt; line.as_slice() == b"latchsym: my.trace: cannot be read\n".as_slice());
+    let line = line_of(alloc, Fault::Write);
+    assert!(rt; line.as_slice() == b"latchsym: cannot write\n".as_slice());
+    let line = line_of(alloc, Fault::Refused(Refusal::BadCapacity));
+    assert!(rt; line.as_slice() == b"latchsym: refused 10\n".as_slice());
+
+    let mut writer = Counted::new(Vec::new(alloc));
+    assert!(rt; report_before_job(&Fault::Refused(Refusal::OutOfMemory), &mut writer) == 1);
+    assert!(rt; writer.into_inner().as_slice() == b"latchsym: refused 7\n".as_slice());
+}

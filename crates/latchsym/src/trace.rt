@@ -1,0 +1,85 @@
+//! From the bytes of a trace to the lines that it writes.
+ghost use Rattle.std.specs.Prelude.{◌++◌, flat_map};
+ghost use Rattle.devices.specs.Exact.{Wrote};
+ghost use Rattle.listing.specs.Trace.{contents_of};
+ghost use Rattle.latchsym.specs.Texts.{end_text, note_text};
+ghost use Rattle.latchsym.specs.Traces.{Answers, AnswersIn, IsInputFault};
+
+use crate::fault::Fault;
+use crate::texts::{put_end, put_notes};
+use devices::Counted;
+use latch_steps::{Note, drive};
+use listing::{LineFault, TraceFile, read_trace};
+use order_laws::{Closed, HalfOpen, Refusal, TreeOrder};
+use std::alloc::Global;
+use std::io;
+use std::io::{Read, Write};
+use word_arena::Layout;
+
+/// Runs a trace, and writes a line for each lookup that returned and for each refusal, and the line
+/// of the last sequence. Answers the program's status, 0.
+///
+/// The trace is read whole and run to its end before the first byte is written, so every fault but
+/// a failed write leaves the writer as it was. docs/FORMATS.md has the grammar and the lines.
+pub fn trace_engine<R: Read, W: Write>(
+    alloc: Global,
+    reader: &mut Counted<R>,
+    writer: &mut Counted<W>,
+) -> Result<u8, Fault>
+    ensures { Answers R.remaining W.contents reader.old reader.new writer.old writer.new result }
+{
+    let trace = match read_trace(alloc, reader) {
+        Ok(trace) => trace,
+        Err(fault) => return Err(input_fault(fault)),
+    };
+    if trace.header.closed {
+        run_in::<Closed, W>(alloc, &trace, writer)
+    } else {
+        run_in::<HalfOpen, W>(alloc, &trace, writer)
+    }
+}
+
+fn input_fault(fault: LineFault) -> Fault
+    ensures { IsInputFault fault result }
+{
+    match fault {
+        LineFault::OutOfMemory => Fault::Refused(Refusal::OutOfMemory),
+        LineFault::Read => Fault::Read { place: 0 },
+        LineFault::BadLine(line) => Fault::BadLine { place: 0, line },
+    }
+}
+
+/// Runs a trace in the order that its header names.
+fn run_in<O: TreeOrder<Key = u64>, W: Write>(
+    alloc: Global,
+    trace: &TraceFile,
+    writer: &mut Counted<W>,
+) -> Result<u8, Fault>
+    ensures { AnswersIn O.order W.contents (contents_of trace.now) writer.old writer.new result }
+{
+    let layout = match Layout::new(trace.header.capacity) {
+        Ok(layout) => layout,
+        Err(refusal) => return Err(Fault::Refused(refusal)),
+    };
+    let run = match drive::<O>(alloc, layout, trace.header.start, &trace.commands) {
+        Ok(run) => run,
+        Err(refusal) => return Err(Fault::Refused(refusal)),
+    };
+    match put_trace(writer, &run.notes, run.sequence) {
+        Ok(()) => Ok(0),
+        Err(_) => Err(Fault::Write),
+    }
+}
+
+/// Writes the lines of a run, and lets the writer keep nothing back.
+fn put_trace<W: Write>(
+    writer: &mut Counted<W>,
+    notes: &[Note<u64>],
+    sequence: u64,
+) -> io::Result<()>
+    ensures { Wrote W.contents writer.old writer.new result (flat_map note_text notes.now ++ end_text sequence) }
+{
+    put_notes(writer, notes)?;
+    put_end(writer, sequence)?;
+    writer.flush()
+}

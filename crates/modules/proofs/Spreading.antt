@@ -1,0 +1,140 @@
+-- A region beside regions that are spread.
+use Rattle.std.proofs.Common.{◌≡◌, ℕ, ◌<◌, ◌≤◌, Bool, true, false, ◌&&◌, cond, ◌⊎◌, nat_le, List, [], ◌∷◌, get_or, Some, None, Option, refl, sym, ap, ◌∙◌, inl, inr, ⊎_elim, arith}
+use Rattle.std.specs.Prelude.{Contains, IsSome}
+use Rattle.std.specs.declared.cmp.Ordering.{Ordering}
+use Rattle.std.specs.declared.cmp.Ordering.TheVariants.{Less, Equal, Greater}
+use Rattle.std.specs.List.{list_all}
+use Rattle.std.specs.Ordering.{nat_cmp, is_eq, is_lt, match_ordering}
+use Rattle.std.specs.BTreeMap.{BTreeMap, IsOrdered, Updates, get, insert_entry, is_at}
+use Rattle.std.specs.Map.{lookup}
+use Rattle.std.proofs.lemmas.Bool.{cases_lt, cases_order, cases_eq}
+use Rattle.std.proofs.lemmas.Bool.Decides.{nat_tests}
+use Rattle.std.proofs.lemmas.Cmp.{nat_cmp_total}
+use Rattle.std.proofs.lemmas.List.Elements.{Contains-get_or, All-contains}
+use Rattle.std.proofs.lemmas.List.Sums.{AllPass-from_list_all, list_all-from_AllPass}
+use Rattle.std.proofs.lemmas.List.Folds.{list_all_at}
+use Rattle.std.proofs.lemmas.Map.Lookups.{exact_unsigned}
+use Rattle.std.proofs.lemmas.Map.Views.{All-found, btree_map_get_iff}
+use Rattle.modules.specs.Regions.{is_apart}
+use Rattle.modules.specs.Spread.{IsSpread}
+
+pub apart_before : (r s : ℕ × ℕ) → s.1 ≤ r.0 → is_apart r s ≡ true
+apart_before r s h = grind (arith, nat_tests)
+
+pub apart_after : (r s : ℕ × ℕ) → r.1 ≤ s.0 → is_apart r s ≡ true
+apart_after r s h = grind (arith, nat_tests)
+
+pub not_apart : (r s : ℕ × ℕ) → s.0 < r.1 → r.0 < s.1 → is_apart r s ≡ false
+not_apart r s h k = grind (arith, nat_tests)
+
+pub before_or_after : (r s : ℕ × ℕ) → is_apart r s ≡ true → r.0 < s.1 → r.1 ≤ s.0
+before_or_after r s h k = grind (arith, nat_tests)
+
+pub after_other : (r s : ℕ × ℕ) → is_apart r s ≡ true → s.0 < r.1 → s.1 ≤ r.0
+after_other r s h k = grind (arith, nat_tests)
+
+-- where the region with the greatest start below b ends at a or before it, all are apart from a .. b
+pub apart_from_last : (m : BTreeMap ℕ ℕ) → IsOrdered nat_cmp m → IsSpread m.entries → (a b s e : ℕ) → get nat_cmp m s ≡ Some e → ((q : ℕ) → q < b → IsSome (get nat_cmp m q) → q ≤ s) → e ≤ a → list_all (is_apart (a, b)) m.entries ≡ true
+apart_from_last m ordered spread a b s e found last ends =
+    list_all-from_AllPass (is_apart (a, b)) m.entries (λ k d lt.
+    let r : ℕ × ℕ = get_or m.entries k d in
+    let at : get nat_cmp m r.0 ≡ Some r.1 = All-found nat_cmp_total m ordered k d lt in
+    let here : Contains m.entries r = Contains-get_or m.entries k d lt in
+    let there : Contains m.entries (s, e) = (btree_map_get_iff nat_cmp_total exact_unsigned m ordered s e).0 found in
+    ⊎_elim
+    (λ below.
+    ⊎_elim
+    (λ same. apart_before (a, b) r (let is : Some r.1 ≡ Some e = sym at ∙ ap (get nat_cmp m) same ∙ found in let ends_are : r.1 ≡ e = cc in omega arith))
+    (λ other. ⊎_elim
+    (λ lower. apart_before (a, b) r (let before : r.1 ≤ s = spread.spread r (s, e) here there lower in let valid : s < e = All-contains (λ (x : ℕ × ℕ). x.0 < x.1) m.entries (s, e) spread.valid there in omega arith))
+    (λ upper. let le : r.0 ≤ s = last r.0 below (let some : IsSome (get nat_cmp m r.0) = rw at refl in some) in absurd (omega arith))
+    other)
+    (cases_order r.0 s))
+    (λ above. apart_after (a, b) r above)
+    (cases_lt r.0 b))
+
+-- where no region begins below b, all are apart from a .. b
+pub apart_from_none : (m : BTreeMap ℕ ℕ) → IsOrdered nat_cmp m → (a b : ℕ) → ((q : ℕ) → q < b → get nat_cmp m q ≡ None) → list_all (is_apart (a, b)) m.entries ≡ true
+apart_from_none m ordered a b none =
+    list_all-from_AllPass (is_apart (a, b)) m.entries (λ k d lt.
+    let r : ℕ × ℕ = get_or m.entries k d in
+    let at : get nat_cmp m r.0 ≡ Some r.1 = All-found nat_cmp_total m ordered k d lt in
+    ⊎_elim
+    (λ below. let nothing : get nat_cmp m r.0 ≡ None = none r.0 below in absurd (cc))
+    (λ above. apart_after (a, b) r above)
+    (cases_lt r.0 b))
+
+-- a region that begins below b and ends above a is not apart from a .. b
+pub meets_from_found : (m : BTreeMap ℕ ℕ) → IsOrdered nat_cmp m → (a b s e : ℕ) → get nat_cmp m s ≡ Some e → s < b → a < e → list_all (is_apart (a, b)) m.entries ≡ false
+meets_from_found m ordered a b s e found below above =
+    let there : Contains m.entries (s, e) = (btree_map_get_iff nat_cmp_total exact_unsigned m ordered s e).0 found in
+    list_all_at (is_apart (a, b)) m.entries there.0 (s, e) there.1 (rw there.2 (not_apart (a, b) (s, e) below above))
+
+-- a region that is apart from all of them begins where none does
+pub absent_from_apart : (m : BTreeMap ℕ ℕ) → IsOrdered nat_cmp m → IsSpread m.entries → (a b : ℕ) → a < b → list_all (is_apart (a, b)) m.entries ≡ true → get nat_cmp m a ≡ None
+absent_from_apart m ordered spread a b some apart =
+    elim (get nat_cmp m a) as (λ o. get nat_cmp m a ≡ o → o ≡ None) [
+      | None ↦ λ _. refl
+      | Some e ↦ λ found.
+          let there : Contains m.entries (a, e) = (btree_map_get_iff nat_cmp_total exact_unsigned m ordered a e).0 found in
+          let valid : a < e = All-contains (λ (x : ℕ × ℕ). x.0 < x.1) m.entries (a, e) spread.valid there in
+          let meets : list_all (is_apart (a, b)) m.entries ≡ false = meets_from_found m ordered a b a e found some valid in
+          absurd (cc)
+    ] refl
+
+inserted_step : (p : ℕ × ℕ → Bool) (e : ℕ × ℕ) (es rest : List (ℕ × ℕ)) (k v : ℕ) (found : Option ℕ) (o : Ordering) → cond (is_eq o) (Some e.1) found ≡ None → (found ≡ None → list_all p rest ≡ (p (k, v) && list_all p es)) → list_all p (match_ordering o ((k, v) ∷ e ∷ es) ((e.0, v) ∷ es) (e ∷ rest)) ≡ (p (k, v) && (p e && list_all p es))
+inserted_step p e es rest k v found Less h ih = refl
+inserted_step p e es rest k v found Equal h ih = absurd (cc)
+inserted_step p e es rest k v found Greater h ih = let is : list_all p rest ≡ (p (k, v) && list_all p es) = ih h in grind arith
+
+-- a test of all regions after one more was put in
+pub list_all-insert_entry : (p : ℕ × ℕ → Bool) (es : List (ℕ × ℕ)) (k v : ℕ) → lookup (is_at (nat_cmp k)) es ≡ None → list_all p (insert_entry nat_cmp es k v) ≡ (p (k, v) && list_all p es)
+list_all-insert_entry p [] k v h = refl
+list_all-insert_entry p (e ∷ es) k v h = inserted_step p e es (insert_entry nat_cmp es k v) k v (lookup (is_at (nat_cmp k)) es) (nat_cmp k e.0) h (λ none. list_all-insert_entry p es k v none)
+
+-- what is below a key in the maps' order
+pub below_from_Less : (q b : ℕ) → nat_cmp q b ≡ Less → q < b
+below_from_Less q b h = grind (arith, nat_tests)
+
+pub Less_from_below : (q b : ℕ) → q < b → nat_cmp q b ≡ Less
+Less_from_below q b h = grind (arith, nat_tests)
+
+pub not_below : (s q : ℕ) → is_lt (nat_cmp s q) ≡ false → q ≤ s
+not_below s q h = grind (arith, nat_tests)
+
+-- the test by one neighbour
+pub tested_by_last : (m : BTreeMap ℕ ℕ) → IsOrdered nat_cmp m → IsSpread m.entries → (a b s e : ℕ) → get nat_cmp m s ≡ Some e → s < b → ((q : ℕ) → q < b → IsSome (get nat_cmp m q) → q ≤ s) → nat_le e a ≡ list_all (is_apart (a, b)) m.entries
+tested_by_last m ordered spread a b s e found below last =
+    ⊎_elim
+    (λ over. let is : list_all (is_apart (a, b)) m.entries ≡ false = meets_from_found m ordered a b s e found below over in rw is (grind (arith, nat_tests)))
+    (λ ends. let is : list_all (is_apart (a, b)) m.entries ≡ true = apart_from_last m ordered spread a b s e found last ends in rw is (grind (arith, nat_tests)))
+    (cases_lt a e)
+
+-- an entry of the map after an insert is the new one or an old one
+inserted_cases : (m n : BTreeMap ℕ ℕ) → IsOrdered nat_cmp m → IsOrdered nat_cmp n → (a b : ℕ) → Updates nat_cmp m n a (Some b) → (r : ℕ × ℕ) → Contains n.entries r → ((r.0 ≡ a) × (r.1 ≡ b)) ⊎ Contains m.entries r
+inserted_cases m n om on a b updates r there =
+    let now : get nat_cmp n r.0 ≡ Some r.1 = (btree_map_get_iff nat_cmp_total exact_unsigned n on r.0 r.1).1 there in
+    ⊎_elim
+    (λ same. inl (same, let is : Some r.1 ≡ Some b = sym now ∙ ap (get nat_cmp n) same ∙ updates.1 in cc))
+    (λ other. inr ((btree_map_get_iff nat_cmp_total exact_unsigned m om r.0 r.1).0 (sym (updates.2 r.0 (grind (arith, nat_tests))) ∙ now)))
+    (cases_eq r.0 a)
+
+-- regions stay spread where one more that is apart from all is put in
+pub IsSpread-inserted : (m n : BTreeMap ℕ ℕ) → IsOrdered nat_cmp m → IsOrdered nat_cmp n → (a b : ℕ) → a < b → IsSpread m.entries → list_all (is_apart (a, b)) m.entries ≡ true → Updates nat_cmp m n a (Some b) → IsSpread n.entries
+IsSpread-inserted m n om on a b some spread apart updates =
+    let beside : (r : ℕ × ℕ) → Contains m.entries r → is_apart (a, b) r ≡ true = λ r there. All-contains (λ (x : ℕ × ℕ). is_apart (a, b) x ≡ true) m.entries r (AllPass-from_list_all (is_apart (a, b)) m.entries apart) there in
+    let old_valid : (r : ℕ × ℕ) → Contains m.entries r → r.0 < r.1 = λ r there. All-contains (λ (x : ℕ × ℕ). x.0 < x.1) m.entries r spread.valid there in
+    record {
+      valid = λ k d lt. ⊎_elim (λ new. omega (arith, new.0, new.1)) (λ old. old_valid (get_or n.entries k d) old) (inserted_cases m n om on a b updates (get_or n.entries k d) (Contains-get_or n.entries k d lt));
+      spread = λ r s in_r in_s lt.
+          ⊎_elim
+          (λ new_r. ⊎_elim
+          (λ new_s. absurd (omega (arith, new_r.0, new_s.0)))
+          (λ old_s. let is_valid : s.0 < s.1 = old_valid s old_s in let h : b ≤ s.0 = before_or_after (a, b) s (beside s old_s) (omega (arith, new_r.0)) in omega (arith, new_r.1))
+          (inserted_cases m n om on a b updates s in_s))
+          (λ old_r. ⊎_elim
+          (λ new_s. let is_valid : r.0 < r.1 = old_valid r old_r in let h : r.1 ≤ a = after_other (a, b) r (beside r old_r) (omega (arith, new_s.0)) in omega (arith, new_s.0))
+          (λ old_s. spread.spread r s old_r old_s lt)
+          (inserted_cases m n om on a b updates s in_s))
+          (inserted_cases m n om on a b updates r in_r);
+    }

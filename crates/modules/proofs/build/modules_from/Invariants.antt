@@ -1,0 +1,14 @@
+use Rattle.std.proofs.Common.{◌≡◌, ◌++◌, length}
+use Rattle.std.specs.Vec.Iter.{into_iter_items}
+use Rattle.modules.specs.Building.{EachMade}
+use Rattle.modules.proofs.build.modules_from.Given as goal
+
+abbrev pub invariant-loop-symbols : goal.invariant-loop-symbols
+invariant-loop-symbols l =
+    record {
+      can_next : (goal.iterator-loop-symbols).can_next l.symbols-iterator;
+      finite : (goal.iterator-loop-symbols).is_finite l.symbols-iterator;
+      gone : l.fn.lists.items ≡ l.yielded ++ into_iter_items l.symbols-iterator;
+      count : length l.modules.items ≡ length l.yielded;
+      each : EachMade l.lines l.yielded l.modules.items;
+    }

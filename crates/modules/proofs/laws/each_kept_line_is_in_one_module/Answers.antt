@@ -1,0 +1,5 @@
+use Rattle.modules.proofs.Counting.{kept_in_one}
+use Rattle.modules.proofs.laws.each_kept_line_is_in_one_module.Goals as goal
+
+pub returns : goal.returns
+returns c = kept_in_one

@@ -1,0 +1,18 @@
+use Rattle.std.proofs.Common.{◌≡◌, true}
+use Rattle.std.specs.List.{list_all}
+use Rattle.modules.specs.Regions.{is_apart}
+use Rattle.modules.proofs.Spreading.{IsSpread-inserted, list_all-insert_entry, absent_from_apart}
+use Rattle.modules.proofs.regions.Regions.insert.Goals as goal
+
+pub invariant_of-self-2 : goal.invariant_of-self-2
+invariant_of-self-2 c =
+    let e = c.in_ok-insert.ensures in
+    let apart : list_all (is_apart (c.args.start, c.args.end)) c.self.inside.ends.entries ≡ true = rw c.self.view_is c.requires.apart in
+    IsSpread-inserted c.self.inside.ends c.insert.new.self e.was_ordered e.ordered c.args.start c.args.end c.requires.some c.self.invariant apart e.updates
+
+pub returns : goal.returns
+returns c = λ p.
+    let e = c.in_ok-insert.ensures in
+    let m = c.self.inside.ends in
+    let apart : list_all (is_apart (c.args.start, c.args.end)) m.entries ≡ true = rw c.self.view_is c.requires.apart in
+    rw (e.entries, ← c.self.view_is) (list_all-insert_entry p m.entries c.args.start c.args.end (absent_from_apart m e.was_ordered c.self.invariant c.args.start c.args.end c.requires.some apart))

@@ -1,0 +1,18 @@
+-- What a catalog holds.
+use Rattle.std.specs.Prelude.{ℕ, List, Option}
+
+-- an address, and its name
+pub record SymbolEntry : Type 0 where
+  pub addr : ℕ
+  pub name : List ℕ
+
+-- a module's name, its regions, and its symbols in the order listed
+pub record ModuleEntry : Type 0 where
+  pub name : List ℕ
+  pub regions : List (ℕ × ℕ)
+  pub symbols : List SymbolEntry
+
+-- the kernel itself, where it has a region, and the modules from number 1 on
+pub record CatalogEntries : Type 0 where
+  pub built_in : Option ModuleEntry
+  pub modules : List ModuleEntry

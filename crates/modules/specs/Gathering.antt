@@ -1,0 +1,51 @@
+-- Symbols that are put where they are kept.
+use Rattle.std.specs.Prelude.{◌≡◌, ◌≢◌, ℕ, ◌+◌, ◌<◌, true, false, not, List, [], ◌∷◌, ◌++◌, length, slice_index_or, count_by}
+use Rattle.std.specs.Vec.{vec_len}
+use Rattle.std.specs.Global.{Vec}
+use Rattle.modules.specs.Accepted.{Accepted}
+use Rattle.modules.specs.Entries.{SymbolEntry}
+use Rattle.modules.specs.Kept.{belongs, is_built_in, is_kept, symbols_that}
+use Rattle.modules.specs.Listed.{ListedModule, ListedSymbol}
+use Rattle.modules.specs.declared.gathering.Gathered.{Gathered}
+use Rattle.modules.specs.declared.gathering.Home.{Home}
+use Rattle.modules.specs.declared.gathering.Home.TheVariants.{BuiltIn, Module, Stray}
+
+-- the symbol belongs to no accepted module other than that at this place
+abbrev pub BelongsOnlyAt : Accepted → ListedSymbol → ℕ → Type 0
+BelongsOnlyAt a s place = (j : ℕ) (m : ListedModule) → j < length a.lines → j ≢ place → belongs (slice_index_or a.lines j m) s ≡ false
+
+abbrev pub IsHome : Accepted → ListedSymbol → Home → Type 0
+IsHome a s BuiltIn = (is_built_in a.built_in s ≡ true) × ((j : ℕ) (m : ListedModule) → j < length a.lines → belongs (slice_index_or a.lines j m) s ≡ false)
+IsHome a s (Module place) = (is_built_in a.built_in s ≡ false) × (place < length a.lines) × ((m : ListedModule) → belongs (slice_index_or a.lines place m) s ≡ true) × BelongsOnlyAt a s place
+IsHome a s Stray = (is_built_in a.built_in s ≡ false) × ((j : ℕ) (m : ListedModule) → j < length a.lines → belongs (slice_index_or a.lines j m) s ≡ false)
+
+-- there is a list for the module
+abbrev pub HasRoom : Gathered → Home → Type 0
+HasRoom g BuiltIn = Unit {0}
+HasRoom g (Module place) = place < vec_len g.modules
+HasRoom g Stray = Unit {0}
+
+-- one symbol more in the list at its place, and the other lists as they were
+abbrev pub Keeps : Home → SymbolEntry → Gathered → Gathered → Type 0
+Keeps BuiltIn e g h = (h.built_in.items ≡ g.built_in.items ++ e ∷ []) × (h.modules.items ≡ g.modules.items) × (h.kept ≡ g.kept + 1) × (h.stray ≡ g.stray)
+Keeps (Module place) e g h = (h.built_in.items ≡ g.built_in.items) × (length h.modules.items ≡ length g.modules.items)
+    × ((d : Vec SymbolEntry) → (slice_index_or h.modules.items place d).items ≡ (slice_index_or g.modules.items place d).items ++ e ∷ [])
+    × ((j : ℕ) (d : Vec SymbolEntry) → j ≢ place → slice_index_or h.modules.items j d ≡ slice_index_or g.modules.items j d)
+    × (h.kept ≡ g.kept + 1) × (h.stray ≡ g.stray)
+Keeps Stray e g h = (h.built_in.items ≡ g.built_in.items) × (h.modules.items ≡ g.modules.items) × (h.kept ≡ g.kept) × (h.stray ≡ g.stray + 1)
+
+-- an empty list for each of so many modules
+pub record IsEmptyFor (modules : ℕ) (g : Gathered) : Type 0 where
+  pub built_in : g.built_in.items ≡ []
+  pub lists : length g.modules.items ≡ modules
+  pub each : (j : ℕ) (d : Vec SymbolEntry) → j < modules → (slice_index_or g.modules.items j d).items ≡ []
+  pub kept : g.kept ≡ 0
+  pub stray : g.stray ≡ 0
+
+-- what the lines leave in each list
+pub record Gathers (a : Accepted) (symbols : List ListedSymbol) (g : Gathered) : Type 0 where
+  pub built_in : g.built_in.items ≡ symbols_that (is_built_in a.built_in) symbols
+  pub lists : length g.modules.items ≡ length a.lines
+  pub each : (j : ℕ) (d : Vec SymbolEntry) (m : ListedModule) → j < length a.lines → (slice_index_or g.modules.items j d).items ≡ symbols_that (belongs (slice_index_or a.lines j m)) symbols
+  pub kept : g.kept ≡ count_by (is_kept a) symbols
+  pub stray : g.stray ≡ count_by (λ s. not (is_kept a s)) symbols

@@ -1,0 +1,25 @@
+-- Symbols by rising address.
+use Rattle.std.specs.Prelude.{ℕ, ◌<◌, ◌≤◌, Bool, ◌&&◌, ◌||◌, nat_lt, nat_eq, List, length, slice_index_or, map, IsPermutation}
+use Rattle.std.specs.List.{enumerate_from}
+use Rattle.std.specs.List.Sorted.{IsSortedBy}
+use Rattle.modules.specs.Entries.{SymbolEntry}
+use Rattle.modules.specs.declared.symbols.IndexEntry.{IndexEntry}
+
+-- the address of each symbol, with its place
+abbrev pub entries_of : List SymbolEntry → List IndexEntry
+entries_of symbols = map (λ p. record { addr = p.1.addr; place = p.0 }) (enumerate_from 0 symbols)
+
+-- a lesser address comes first, and of equal ones the later place
+abbrev pub comes_before : IndexEntry → IndexEntry → Bool
+comes_before x y = nat_lt x.addr y.addr || (nat_eq x.addr y.addr && nat_lt y.place x.place)
+
+-- the entries of the symbols in this order
+pub record IsIndex (symbols : List SymbolEntry) (index : List IndexEntry) : Type 0 where
+  pub sorted : IsSortedBy comes_before index
+  pub listed : IsPermutation (entries_of symbols) index
+
+-- the entries below the place are not above the address, and the others are
+pub record IsSplit (index : List IndexEntry) (addr place : ℕ) : Type 0 where
+  pub bound : place ≤ length index
+  pub below : (k : ℕ) (d : IndexEntry) → k < place → (slice_index_or index k d).addr ≤ addr
+  pub above : (k : ℕ) (d : IndexEntry) → place ≤ k → k < length index → addr < (slice_index_or index k d).addr

@@ -1,0 +1,16 @@
+pub mod Listed
+pub mod Lines
+pub mod Regions
+pub mod Spread
+pub mod Accepted
+pub mod Admissions
+pub mod Entries
+pub mod Around
+pub mod Index
+pub mod Modules
+pub mod Kept
+pub mod Gathering
+pub mod Names
+pub mod Building
+pub mod Catalogs
+pub mod Sound

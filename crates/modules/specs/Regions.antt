@@ -1,0 +1,16 @@
+-- Regions of addresses, from a first address up to an end that is excluded.
+use Rattle.std.specs.Prelude.{◌≡◌, ℕ, ◌<◌, Bool, true, ◌||◌, ◌&&◌, nat_le, nat_lt, List, All}
+use Rattle.std.specs.List.{AllPairs}
+
+-- no address lies in both
+abbrev pub is_apart : ℕ × ℕ → ℕ × ℕ → Bool
+is_apart r s = nat_le r.1 s.0 || nat_le s.1 r.0
+
+-- the address lies in the region
+abbrev pub holds : ℕ × ℕ → ℕ → Bool
+holds r addr = nat_le r.0 addr && nat_lt addr r.1
+
+-- each region has an address, and no two have one in common
+pub record AreApart (regions : List (ℕ × ℕ)) : Type 0 where
+  pub valid : All (λ r. r.0 < r.1) regions
+  pub apart : AllPairs (λ r s. is_apart r s ≡ true) regions

@@ -1,0 +1,12 @@
+-- What a catalog keeps.
+use Rattle.modules.specs.Catalogs.{IsSound}
+use Rattle.modules.specs.Entries.{CatalogEntries}
+use Rattle.modules.specs.Names.{names_in, IsNameIndex}
+use Rattle.modules.specs.declared.catalog.Catalog.TheInside.{Inside}
+
+abbrev pub shown : Inside → CatalogEntries
+shown c = record { built_in = c.built_in; modules = c.modules.items }
+
+pub record IsWhole (c : Inside) : Type 0 where
+  pub sound : IsSound (shown c)
+  pub named : IsNameIndex (names_in c.modules.items) c.by_name.items

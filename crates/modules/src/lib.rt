@@ -1,0 +1,21 @@
+//! The catalog of the modules that may be loaded, with the symbols of each.
+#![tactic(auto)]
+
+mod admission;
+mod build;
+pub mod catalog;
+mod gathering;
+pub mod laws;
+pub mod lines;
+pub mod module;
+mod names;
+mod regions;
+pub mod symbols;
+
+pub use catalog::{BuildCounts, Catalog};
+pub use lines::{ModuleLine, SymbolLine};
+pub use module::Module;
+pub use symbols::Symbol;
+
+#[cfg(test)]
+mod tests;

@@ -1,0 +1,197 @@
+//! Catalogs of small listings.
+
+use crate::{BuildCounts, Catalog, ModuleLine, SymbolLine};
+use latch_core::Update;
+use order_laws::{Item, Refusal};
+use std::alloc::{AllocError, Global};
+use std::process::Abort;
+use std::test::Fail;
+
+fn module(alloc: Global, name: &[u8], base: u64, size: u64) -> Result<ModuleLine, AllocError> {
+    Ok(ModuleLine {
+        name: Vec::from_slice(alloc, name)?,
+        base,
+        size,
+    })
+}
+
+fn symbol(
+    alloc: Global,
+    addr: u64,
+    name: &[u8],
+    module: Option<&[u8]>,
+) -> Result<SymbolLine, AllocError> {
+    let module = match module {
+        Some(module) => Some(Vec::from_slice(alloc, module)?),
+        None => None,
+    };
+    Ok(SymbolLine {
+        addr,
+        letter: b't',
+        name: Vec::from_slice(alloc, name)?,
+        module,
+    })
+}
+
+fn build(
+    rt: &impl Abort,
+    alloc: Global,
+    modules: &[ModuleLine],
+    symbols: &[SymbolLine],
+) -> Result<(Catalog, BuildCounts), Refusal> {
+    assert!(rt; modules.iter().all(|line| line.fits()));
+    Catalog::build(alloc, modules, symbols)
+}
+
+#[test]
+fn a_module_and_the_kernel(rt: HostRuntime) -> Result<(), Fail> {
+    let alloc = rt.alloc();
+    let ext4 = b"ext4".as_slice();
+    let modules = [module(alloc, ext4, 0xffff_ffff_c000_0000, 4096)?];
+    let symbols = [
+        symbol(alloc, 0xffff_ffff_c000_0010, b"ext4_a", Some(ext4))?,
+        symbol(alloc, 0xffff_ffff_c000_0010, b"ext4_b", Some(ext4))?,
+        symbol(alloc, 0xffff_ffff_c000_0040, b"ext4_c", Some(ext4))?,
+        symbol(alloc, 0xffff_ffff_8100_0000, b"_stext", None)?,
+        symbol(alloc, 0xffff_ffff_8100_0100, b"do_one", None)?,
+        symbol(alloc, 0xffff_ffff_8100_2000, b"_end", None)?,
+    ];
+    let (catalog, counts) = build(&rt, alloc, &modules, &symbols)?;
+    let expected = BuildCounts {
+        modules: 1,
+        double: 0,
+        overlap: 0,
+        symbols: 5,
+        stray: 1,
+    };
+    assert_eq!(rt; counts, expected);
+    assert_eq!(rt; catalog.regions(), 2);
+
+    let insert = |a, b, tag| Ok(Update::Insert(Item { a, b, tag }));
+    let first = 0xffff_ffff_c000_0000;
+    assert_eq!(rt;
+        catalog.load(1, false),
+        insert(first, 0xffff_ffff_c000_1000, 1)
+    );
+    assert_eq!(rt; catalog.load(1, true), Err(Refusal::AlreadyLoaded));
+    assert_eq!(rt; catalog.unload(1, true), Ok(Update::Erase(first)));
+    assert_eq!(rt; catalog.unload(1, false), Err(Refusal::NotLoaded));
+    let kernel = insert(0xffff_ffff_8100_0000, 0xffff_ffff_8100_2000, 0);
+    assert_eq!(rt; catalog.load(0, false), kernel);
+    assert_eq!(rt; catalog.load(9, true), Err(Refusal::UnknownModule));
+    assert_eq!(rt; catalog.unload(2, true), Err(Refusal::UnknownModule));
+    assert_eq!(rt; catalog.number_of(b"-"), Some(0));
+    assert_eq!(rt; catalog.number_of(ext4), Some(1));
+    assert_eq!(rt; catalog.number_of(b"nfs"), None);
+
+    let ext4 = catalog.module(1).ok_or("no module 1")?;
+    assert_eq!(rt; ext4.name(), b"ext4".as_slice());
+    assert_eq!(rt; ext4.regions(), [(first, 0xffff_ffff_c000_1000)].as_slice());
+    assert_eq!(rt; ext4.symbols().len(), 3);
+    let second = &ext4.symbols()[1];
+    assert_eq!(rt; second.name.as_slice(), b"ext4_b".as_slice());
+    let (below, above) = ext4.around(0xffff_ffff_c000_0018);
+    let below = below.ok_or("no symbol")?;
+    assert_eq!(rt; below.name.as_slice(), b"ext4_a".as_slice());
+    assert_eq!(rt; above, Some(0xffff_ffff_c000_0040));
+    let kernel = catalog.module(0).ok_or("no module 0")?;
+    assert_eq!(rt; kernel.name(), b"-".as_slice());
+    Ok(())
+}
+
+#[test]
+fn lines_that_are_not_accepted(rt: HostRuntime) -> Result<(), Fail> {
+    let alloc = rt.alloc();
+    let modules = [
+        module(alloc, b"b", 0xffff_ffff_c010_0000, 8192)?,
+        module(alloc, b"b", 0xffff_ffff_c020_0000, 4096)?,
+        module(alloc, b"d", 0xffff_ffff_c010_1000, 4096)?,
+        module(alloc, b"g", 0xffff_ffff_c010_2000, 16)?,
+    ];
+    let symbols = [
+        symbol(alloc, 0xffff_ffff_c010_0010, b"b_run", Some(b"b"))?,
+        symbol(alloc, 0xffff_ffff_c050_0000, b"bpf_prog_6d", Some(b"bpf"))?,
+        symbol(alloc, 0xffff_ffff_c020_0000, b"b_far", Some(b"b"))?,
+        symbol(alloc, 0xffff_ffff_c010_2004, b"g_data", Some(b"g"))?,
+    ];
+    let (catalog, counts) = build(&rt, alloc, &modules, &symbols)?;
+    let expected = BuildCounts {
+        modules: 2,
+        double: 1,
+        overlap: 1,
+        symbols: 2,
+        stray: 2,
+    };
+    assert_eq!(rt; counts, expected);
+    assert_eq!(rt; catalog.number_of(b"g"), Some(2));
+    assert_eq!(rt; catalog.number_of(b"d"), None);
+    assert_eq!(rt; catalog.number_of(b"-"), None);
+    assert!(rt; catalog.module(0).is_none());
+    Ok(())
+}
+
+#[test]
+fn no_lines(rt: HostRuntime) -> Result<(), Fail> {
+    let (catalog, counts) = build(&rt, rt.alloc(), &[], &[])?;
+    let expected = BuildCounts {
+        modules: 0,
+        double: 0,
+        overlap: 0,
+        symbols: 0,
+        stray: 0,
+    };
+    assert_eq!(rt; counts, expected);
+    assert_eq!(rt; catalog.regions(), 0);
+    assert_eq!(rt; catalog.load(0, false), Err(Refusal::UnknownModule));
+    Ok(())
+}
+
+#[test]
+fn the_edges_of_the_kernel(rt: HostRuntime) -> Result<(), Fail> {
+    let alloc = rt.alloc();
+    let own = b"own".as_slice();
+
+    // A module that meets the kernel, one that is named as the kernel, one that ends at the greatest address.
+    let modules = [
+        module(alloc, b"meets", 0x1ff0, 0x20)?,
+        module(alloc, b"-", 0x2000, 0x10)?,
+        module(alloc, own, u64::MAX - 0x10, 0x10)?,
+    ];
+    let symbols = [
+        symbol(alloc, 0x500, b"_stext", Some(own))?,
+        symbol(alloc, 0x1000, b"_stext", None)?,
+        symbol(alloc, 0x2000, b"_end", None)?,
+        symbol(alloc, 0x3000, b"_end", None)?,
+        symbol(alloc, 0x2008, b"dash", Some(b"-"))?,
+        symbol(alloc, u64::MAX - 1, b"last", Some(own))?,
+        symbol(alloc, u64::MAX, b"past", Some(own))?,
+    ];
+    let (catalog, counts) = build(&rt, alloc, &modules, &symbols)?;
+    let expected = BuildCounts {
+        modules: 2,
+        double: 0,
+        overlap: 1,
+        symbols: 3,
+        stray: 4,
+    };
+    assert_eq!(rt; counts, expected);
+    assert_eq!(rt; catalog.number_of(b"-"), Some(0));
+    assert_eq!(rt;
+        catalog.module(1).ok_or("no module 1")?.name(),
+        b"-".as_slice()
+    );
+    assert_eq!(rt; catalog.module(2).ok_or("no module 2")?.symbols().len(), 1);
+
+    // `_end` is not above `_stext`, or `_stext` is of a module alone.
+    let turned = [
+        symbol(alloc, 0x1000, b"_end", None)?,
+        symbol(alloc, 0x1000, b"_stext", None)?,
+    ];
+    assert_eq!(rt; build(&rt, alloc, &[], &turned)?.0.regions(), 0);
+    let owned = [
+        symbol(alloc, 0x1000, b"_stext", Some(own))?,
+        symbol(alloc, 0x2000, b"_end", None)?,
+    ];
+    assert_eq!(rt; build(&rt, alloc, &[], &owned)?.0.regions(), 0);
+    Ok(())
+}

@@ -1,0 +1,45 @@
+-- The symbol that an address belongs to.
+use Rattle.std.specs.Prelude.{◌≡◌, ◌≢◌, ℕ, ◌-◌, ◌<◌, ◌≤◌, ◌⊎◌, All, Contains, List, Option, Some, slice_get, slice_index_or, unwrap_or}
+use Rattle.std.specs.Borrow.{Bor}
+use Rattle.std.specs.Option.{option_map, option_and_then}
+use Rattle.order_laws.specs.declared.items.Item.{Item}
+use Rattle.modules.specs.Around.{symbol_below, address_above}
+use Rattle.modules.specs.Catalogs.{module_of}
+use Rattle.modules.specs.Entries.{CatalogEntries, SymbolEntry}
+
+-- a symbol, how far the address lies above it, and how far it reaches
+pub record Found : Type 0 where
+  pub symbol : SymbolEntry
+  pub offset : ℕ
+  pub size : ℕ
+
+abbrev pub seen : Bor SymbolEntry × ℕ × ℕ → Found
+seen f = record { symbol = f.0.now; offset = f.1; size = f.2 }
+
+-- the symbol reaches to the least address of a symbol above its own, or to the region's end
+abbrev pub found_at : List SymbolEntry → ℕ → ℕ → SymbolEntry → Found
+found_at symbols end addr s = record { symbol = s; offset = addr - s.addr; size = unwrap_or (address_above symbols s.addr) end - s.addr }
+
+-- of symbols in the order listed, in a region that ends at `end`
+abbrev pub found_in : List SymbolEntry → ℕ → ℕ → Option Found
+found_in symbols end addr = option_map (found_at symbols end addr) (symbol_below symbols addr)
+
+-- of the kept symbols of the item's module
+abbrev pub symbol_at : CatalogEntries → Item → ℕ → Option Found
+symbol_at c item addr = option_and_then (λ m. found_in m.symbols item.b addr) (module_of c item.tag)
+
+-- the symbol reaches to the least address of a symbol above its own, or to the region's end where there is none
+abbrev pub Reaches : List SymbolEntry → ℕ → SymbolEntry → ℕ → Type 0
+Reaches symbols end s size =
+    (All (λ t. t.addr ≤ s.addr) symbols × (size ≡ end - s.addr))
+    ⊎ ((t : SymbolEntry) × Contains symbols t × (s.addr < t.addr) × All (λ u. (u.addr ≤ s.addr) ⊎ (t.addr ≤ u.addr)) symbols × (size ≡ t.addr - s.addr))
+
+-- the symbol at a place, at or below the address, with none between them and none of its address at an earlier place
+pub record IsFound (symbols : List SymbolEntry) (end addr : ℕ) (f : Found) : Type 0 where
+  pub place : ℕ
+  pub listed : slice_get symbols place ≡ Some f.symbol
+  pub below : f.symbol.addr ≤ addr
+  pub nearest : All (λ s. (s.addr ≤ f.symbol.addr) ⊎ (addr < s.addr)) symbols
+  pub first : (k : ℕ) (d : SymbolEntry) → k < place → (slice_index_or symbols k d).addr ≢ f.symbol.addr
+  pub offset : f.offset ≡ addr - f.symbol.addr
+  pub reaches : Reaches symbols end f.symbol f.size

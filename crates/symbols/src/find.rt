@@ -1,0 +1,34 @@
+//! The symbol that an address belongs to.
+
+ghost use Rattle.std.specs.Prelude.{◌≡◌, ◌≤◌, ◌<◌};
+ghost use Rattle.std.specs.Option.{option_map};
+ghost use Rattle.symbols.specs.Found.{seen, found_in, symbol_at};
+
+use modules::{Catalog, Module, Symbol};
+use order_laws::Item;
+
+/// The symbol of a module's region at an address, how far the address lies above it, and how many bytes it reaches,
+/// to the next address of a symbol or to the region's end. Of symbols at one address it is the one listed first.
+pub(crate) fn symbol_in(module: &Module, end: u64, addr: u64) -> Option<(&Symbol, u64, u64)>
+    requires { addr < end }
+    ensures { option_map seen result ≡ found_in module.now.symbols end addr }
+{
+    let (below, above) = module.around(addr);
+    let symbol = below?;
+    let end = above.unwrap_or(end);
+    Some((symbol, addr - symbol.addr, end - symbol.addr))
+}
+
+/// The symbol that an address of the item belongs to, its offset above the symbol, and the symbol's size, both in
+/// bytes.
+///
+/// It is the kept symbol of the item's module with the greatest address that is not above `addr`, the first listed
+/// among equal addresses. Its size reaches to the next greater address of such a symbol, or to the item's end. There is
+/// none where no symbol is at or below the address, or where the item's tag is the number of no module.
+pub fn symbol_of(catalog: &Catalog, item: Item, addr: u64) -> Option<(&Symbol, u64, u64)>
+    requires from { item.a ≤ addr }
+    requires below { addr < item.b }
+    ensures { option_map seen result ≡ symbol_at catalog.now item addr }
+{
+    symbol_in(catalog.module(item.tag)?, item.b, addr)
+}

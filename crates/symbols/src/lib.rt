@@ -1,0 +1,12 @@
+//! The symbol of an address in a catalog, and the text of an answer.
+#![tactic(auto)]
+
+pub mod answers;
+pub mod find;
+pub mod laws;
+
+pub use answers::write_answer;
+pub use find::symbol_of;
+
+#[cfg(test)]
+mod tests;

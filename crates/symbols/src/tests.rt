@@ -1,0 +1,118 @@
+//! Answers over small catalogs.
+
+use crate::{symbol_of, write_answer};
+use devices::{Counted, FailAt};
+use modules::{Catalog, ModuleLine, SymbolLine};
+use order_laws::Item;
+use std::alloc::{AllocError, Global};
+use std::process::Abort;
+use std::test::Fail;
+
+const EXT4: Item = Item {
+    a: 0xffff_ffff_c000_0000,
+    b: 0xffff_ffff_c000_1000,
+    tag: 1,
+};
+
+const KERNEL: Item = Item {
+    a: 0xffff_ffff_8100_0000,
+    b: 0xffff_ffff_8100_2000,
+    tag: 0,
+};
+
+fn symbol(
+    alloc: Global,
+    addr: u64,
+    name: &[u8],
+    module: Option<&[u8]>,
+) -> Result<SymbolLine, AllocError> {
+    let module = match module {
+        Some(module) => Some(Vec::from_slice(alloc, module)?),
+        None => None,
+    };
+    Ok(SymbolLine {
+        addr,
+        letter: b't',
+        name: Vec::from_slice(alloc, name)?,
+        module,
+    })
+}
+
+fn small_catalog(rt: &impl Abort, alloc: Global) -> Result<Catalog, Fail> {
+    let ext4 = b"ext4".as_slice();
+    let modules = [ModuleLine {
+        name: Vec::from_slice(alloc, ext4)?,
+        base: EXT4.a,
+        size: 4096,
+    }];
+    let symbols = [
+        symbol(alloc, 0xffff_ffff_c000_0010, b"ext4_a", Some(ext4))?,
+        symbol(alloc, 0xffff_ffff_c000_0010, b"ext4_b", Some(ext4))?,
+        symbol(alloc, 0xffff_ffff_c000_0040, b"ext4_c", Some(ext4))?,
+        symbol(alloc, 0xffff_ffff_8100_0000, b"_stext", None)?,
+        symbol(alloc, 0xffff_ffff_8100_0100, b"do_one", None)?,
+        symbol(alloc, 0xffff_ffff_8100_2000, b"_end", None)?,
+    ];
+    assert!(rt; modules.iter().all(|line| line.fits()));
+    let (catalog, _) = Catalog::build(alloc, &modules, &symbols)?;
+    Ok(catalog)
+}
+
+#[test]
+fn texts_of_answers(rt: HostRuntime) -> Result<(), Fail> {
+    let catalog = small_catalog(&rt, rt.alloc())?;
+    let no_module = Item { tag: 7, ..EXT4 };
+    let kernel_below = Item { a: 1, b: 3, tag: 0 };
+    let cases = [
+        (
+            Some(EXT4),
+            0xffff_ffff_c000_0018,
+            b"ext4_a+0x8/0x30 [ext4]".as_slice(),
+        ),
+        (Some(EXT4), 0xffff_ffff_c000_0008, b"? [ext4]".as_slice()),
+        (
+            Some(EXT4),
+            0xffff_ffff_c000_0fff,
+            b"ext4_c+0xfbf/0xfc0 [ext4]".as_slice(),
+        ),
+        (Some(EXT4), 0xffff_ffff_c000_1000, b"-".as_slice()),
+        (None, 0xffff_ffff_c000_1000, b"-".as_slice()),
+        (
+            Some(KERNEL),
+            0xffff_ffff_8100_0108,
+            b"do_one+0x8/0x1f00".as_slice(),
+        ),
+        (Some(no_module), 0xffff_ffff_c000_0018, b"-".as_slice()),
+        (Some(kernel_below), 2, b"-".as_slice()),
+    ];
+    for (item, addr, text) in cases {
+        let mut writer = Counted::new(Vec::new(rt.alloc()));
+        write_answer(&mut writer, &catalog, item, addr)?;
+        assert_eq!(rt; writer.into_inner().as_slice(), text);
+    }
+    Ok(())
+}
+
+#[test]
+fn symbols_of_addresses(rt: HostRuntime) -> Result<(), Fail> {
+    let catalog = small_catalog(&rt, rt.alloc())?;
+    let (symbol, offset, size) = symbol_of(&catalog, EXT4, 0xffff_ffff_c000_0018).ok_or(
+        "no symbol",
+    )?;
+    assert_eq!(rt; symbol.name.as_slice(), b"ext4_a".as_slice());
+    assert_eq!(rt; (offset, size), (0x8, 0x30));
+    assert!(rt; symbol_of(&catalog, EXT4, 0xffff_ffff_c000_0008).is_none());
+    Ok(())
+}
+
+#[test]
+fn each_failed_write_is_an_error(rt: HostRuntime) -> Result<(), Fail> {
+    let catalog = small_catalog(&rt, rt.alloc())?;
+    for call in 1..12 {
+        let mut writer = Counted::new(FailAt::new(Vec::new(rt.alloc()), call));
+        let result = write_answer(&mut writer, &catalog, Some(EXT4), 0xffff_ffff_c000_0018);
+        assert_eq!(rt; result.is_err(), call < 11);
+        assert_eq!(rt; writer.failures(), u64::from(call < 11));
+    }
+    Ok(())
+}

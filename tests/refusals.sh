@@ -1,0 +1,87 @@
+#!/usr/bin/env bash
+# Refuses each request for memory of a run of the program in turn, until a run meets no refusal. Each run has to give what it
+# gives with ample memory, or nothing on standard output, `latchsym: refused 7` on standard error and status 1.
+#
+# The program is linked to the C library dynamically, so a library in front of it can refuse a request. Needs a C compiler.
+# The program is built where it is missing.
+set -eu
+top=$(cd "$(dirname "$0")/.." && pwd)
+program=$top/crates/latchsym/out/latchsym
+[ -x "$program" ] || (cd "$top/crates/latchsym" && rt run -- --help >/dev/null)
+
+work=$(mktemp -d)
+trap 'rm -rf "$work"' EXIT
+cat >"$work/refuse.c" <<'C'
+#include <errno.h>
+#include <fcntl.h>
+#include <stdlib.h>
+
+extern void *__libc_malloc(size_t size);
+extern void *__libc_calloc(size_t count, size_t size);
+extern void *__libc_realloc(void *block, size_t size);
+
+static long refused_request, requests;
+
+/* Whether this request is the one to refuse. A mark is left for the script where it is. */
+static int is_refused(void) {
+    if (refused_request == 0 || ++requests != refused_request) return 0;
+    open(getenv("REFUSAL_MARK"), O_CREAT | O_WRONLY, 0600);
+    errno = ENOMEM;
+    return 1;
+}
+
+void *malloc(size_t size) { return is_refused() ? NULL : __libc_malloc(size); }
+void *calloc(size_t count, size_t size) { return is_refused() ? NULL : __libc_calloc(count, size); }
+void *realloc(void *block, size_t size) { return is_refused() ? NULL : __libc_realloc(block, size); }
+
+/* The requests of the loader, before this, do not count. */
+__attribute__((constructor)) static void begin(void) { refused_request = atol(getenv("REFUSED_REQUEST")); }
+C
+cc -O1 -shared -fPIC -o "$work/refuse.so" "$work/refuse.c"
+
+# run NAME COMMAND..: the output of the command in NAME.out and NAME.err, its status in NAME.status
+run() {
+    local name=$1 status=0
+    shift
+    "$@" >"$work/$name.out" 2>"$work/$name.err" || status=$?
+    echo "$status" >"$work/$name.status"
+}
+
+same() { cmp -s "$work/$1.out" "$work/$2.out" && cmp -s "$work/$1.err" "$work/$2.err" && cmp -s "$work/$1.status" "$work/$2.status"; }
+
+: >"$work/refused.out"
+echo "latchsym: refused 7" >"$work/refused.err"
+echo 1 >"$work/refused.status"
+
+# try ARGUMENT..: the program with these arguments, each of its requests refused in turn
+try() {
+    local request=0 refused=0
+    run ample "$program" "$@"
+    while :; do
+        request=$((request + 1))
+        rm -f "$work/mark"
+        run once env REFUSED_REQUEST=$request REFUSAL_MARK="$work/mark" LD_PRELOAD="$work/refuse.so" "$program" "$@"
+        if same once refused; then
+            refused=$((refused + 1))
+        elif ! same once ample; then
+            echo "refusals: latchsym $*: request $request refused, and then:"
+            cat "$work/once.out" "$work/once.err" "$work/once.status"
+            exit 1
+        fi
+        [ -e "$work/mark" ] || break
+    done
+    if [ "$refused" = 0 ] || ! same once ample; then
+        echo "refusals: latchsym $*: no request was refused, or the last run differs"
+        exit 1
+    fi
+    echo "refusals: latchsym $*: $((request - 1)) requests, $refused runs refused as a whole"
+}
+
+cd "$top/examples/traces"
+for trace in torn_item both_ends; do
+    "$program" trace $trace.trace | cmp - $trace.expected
+    try trace $trace.trace
+done
+try --help
+try trace cut_short.trace
+try trace no_such.trace
