@@ -8,17 +8,23 @@ ghost use Rattle.modules.specs.Listed.{ListedModule, ListedSymbol};
 
 /// Each line of either listing is counted once.
 pub fn each_line_is_counted_once()
-    ensures modules { (modules : List ListedModule) (symbols : List ListedSymbol) → (counts_of modules symbols).modules + (counts_of modules symbols).double + (counts_of modules symbols).overlap ≡ length modules }
-    ensures symbols { (modules : List ListedModule) (symbols : List ListedSymbol) → (counts_of modules symbols).symbols + (counts_of modules symbols).stray ≡ length symbols }
+    ensures modules { (modules : List ListedModule) (symbols : List ListedSymbol)
+        → let n = counts_of modules symbols in n.modules + n.double + n.overlap ≡ length modules }
+    ensures symbols { (modules : List ListedModule) (symbols : List ListedSymbol)
+        → let n = counts_of modules symbols in n.symbols + n.stray ≡ length symbols }
 {}
 
 /// Each kept line is the symbol of one module: the modules have as many symbols as lines were kept.
 pub fn each_kept_line_is_in_one_module()
-    ensures { (modules : List ListedModule) (symbols : List ListedSymbol) → All (λ l. fits l ≡ true) modules → sum_by (λ m. length m.symbols) (entries_of (catalog_of modules symbols)) ≡ (counts_of modules symbols).symbols }
+    ensures { (modules : List ListedModule) (symbols : List ListedSymbol)
+        → All (λ l. fits l ≡ true) modules
+        → let c = catalog_of modules symbols in sum_by (λ m. length m.symbols) (entries_of c) ≡ (counts_of modules symbols).symbols }
 {}
 
 /// In the catalog of lines that fit the regions have addresses and lie apart, and no two modules from number 1 on have
 /// one name.
 pub fn every_catalog_is_sound()
-    ensures { (modules : List ListedModule) (symbols : List ListedSymbol) → All (λ l. fits l ≡ true) modules → IsSound (catalog_of modules symbols) }
+    ensures { (modules : List ListedModule) (symbols : List ListedSymbol)
+        → All (λ l. fits l ≡ true) modules
+        → IsSound (catalog_of modules symbols) }
 {}

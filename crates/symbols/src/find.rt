@@ -9,11 +9,11 @@ use order_laws::Item;
 
 /// The symbol of a module's region at an address, how far the address lies above it, and how many bytes it reaches,
 /// to the next address of a symbol or to the region's end. Of symbols at one address it is the one listed first.
-pub(crate) fn symbol_in(module: &Module, end: u64, addr: u64) -> Option<(&Symbol, u64, u64)>
+pub(crate) fn symbol_in(owner: &Module, end: u64, addr: u64) -> Option<(&Symbol, u64, u64)>
     requires { addr < end }
-    ensures { option_map seen result ≡ found_in module.now.symbols end addr }
+    ensures { option_map seen result ≡ found_in owner.now.symbols end addr }
 {
-    let (below, above) = module.around(addr);
+    let (below, above) = owner.around(addr);
     let symbol = below?;
     let end = above.unwrap_or(end);
     Some((symbol, addr - symbol.addr, end - symbol.addr))

@@ -8,5 +8,6 @@ ghost use Rattle.symbols.specs.Found.{IsFound, found_in};
 /// it reaches to the next symbol above its own address or to the region's end. Nothing is found exactly where all
 /// symbols lie above the address.
 pub fn a_found_symbol_is_the_nearest()
-    ensures { (symbols : List SymbolEntry) (end addr : ℕ) → MatchOption (found_in symbols end addr) (All (λ s. addr < s.addr) symbols) (IsFound symbols end addr) }
+    ensures { (symbols : List SymbolEntry) (end addr : ℕ)
+        → MatchOption (found_in symbols end addr) (All (λ s. addr < s.addr) symbols) (IsFound symbols end addr) }
 {}
