@@ -1,12 +1,7 @@
 #!/usr/bin/env bash
 # How long the program takes over long traces, beside `wc -l` of the same file. The program is built where it is missing.
 set -eu
-top=$(cd "$(dirname "$0")/.." && pwd)
-program=$top/crates/latchsym/out/latchsym
-[ -x "$program" ] || (cd "$top/crates/latchsym" && rt run -- --help >/dev/null)
-
-work=$(mktemp -d)
-trap 'rm -rf "$work"' EXIT
+. "$(dirname "$0")/../tests/program.sh"
 
 # trace LINES: a small table, one update in every thousand lines, and lookups of 4 readers
 trace() {

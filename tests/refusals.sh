@@ -5,12 +5,7 @@
 # The program is linked to the C library dynamically, so a library in front of it can refuse a request. Needs a C compiler.
 # The program is built where it is missing.
 set -eu
-top=$(cd "$(dirname "$0")/.." && pwd)
-program=$top/crates/latchsym/out/latchsym
-[ -x "$program" ] || (cd "$top/crates/latchsym" && rt run -- --help >/dev/null)
-
-work=$(mktemp -d)
-trap 'rm -rf "$work"' EXIT
+. "$(dirname "$0")/program.sh"
 cat >"$work/refuse.c" <<'C'
 #include <errno.h>
 #include <fcntl.h>

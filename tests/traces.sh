@@ -2,12 +2,7 @@
 # Runs each trace of examples/traces/ that has its lines beside it, or the line that reports its fault, and compares. Among
 # the lines a `*` stands for a number that depends on the tree's shape. The program is built where it is missing.
 set -eu
-top=$(cd "$(dirname "$0")/.." && pwd)
-program=$top/crates/latchsym/out/latchsym
-[ -x "$program" ] || (cd "$top/crates/latchsym" && rt run -- --help >/dev/null)
-
-work=$(mktemp -d)
-trap 'rm -rf "$work"' EXIT
+. "$(dirname "$0")/program.sh"
 cd "$top/examples/traces"
 failed=0
 
