@@ -4,13 +4,16 @@ use Rattle.std.specs.Ordering.{nat_cmp, eq_by_cmp}
 use Rattle.std.specs.Cmp.{nat_cmp_total}
 use Rattle.std.specs.FinMap.{FinMap, get, insert, remove, get-remove}
 use Rattle.std.proofs.lemmas.Bool.Decides.{nat_tests}
+use Rattle.order_laws.specs.declared.refusals.Refusal.TheVariants.{ReaderIdle}
 use Rattle.order_laws.specs.Orders.{Order}
 use Rattle.latch_steps.specs.declared.events.Event.{Event}
 use Rattle.latch_steps.specs.declared.events.Event.TheVariants.{Read}
 use Rattle.latch_steps.specs.declared.commands.Command.TheVariants.{Read as ToRead}
 use Rattle.latch_steps.specs.declared.replies.Returned.{Returned}
 use Rattle.latch_steps.specs.declared.replies.Reply.{Reply}
-use Rattle.latch_steps.specs.declared.replies.Reply.TheVariants.{Loaded, Retried, Returned as Gave}
+use Rattle.latch_steps.specs.declared.replies.Note.{Note}
+use Rattle.latch_steps.specs.declared.replies.Note.TheVariants.{Returned as ToNote, Refused as ToRefuse}
+use Rattle.latch_steps.specs.declared.replies.Reply.TheVariants.{Loaded, Retried, Refused, Returned as Gave}
 use Rattle.latch_steps.specs.declared.lookups.Lookup.{Lookup}
 use Rattle.latch_steps.specs.declared.lookups.Loaded.TheVariants.{Going, Retrying, Returned as Ended}
 use Rattle.latch_steps.specs.declared.lookups.Held.TheVariants.{Going as Holds, Returned as Ends}
@@ -21,13 +24,14 @@ use Rattle.latch_steps.proofs.Undisturbed.{get_insert_same, get_insert_other, ge
 use Rattle.latch_core.specs.Latches.{Latch}
 use Rattle.latch_core.specs.Writers.{Pictures}
 use Rattle.word_arena.specs.Layouts.{capacity_of, limit_of}
-use Rattle.std.specs.Prelude.{is_some}
+use Rattle.std.specs.List.{cons_option}
 use Rattle.std.specs.BTreeMap.{BTreeMap, get as tree_get, is_at}
 use Rattle.std.proofs.lemmas.Bool.{cases_eq}
 use Rattle.latch_steps.specs.declared.worlds.World.{World}
 use Rattle.latch_steps.specs.declared.lookups.Held.{Held}
-use Rattle.latch_steps.specs.Shows.{AreInHand, Shows}
-use Rattle.latch_steps.specs.HeldReads.{notes_of_return, ReadsOn}
+use Rattle.latch_steps.specs.Shows.{AreInHand, Shows, Does}
+use Rattle.latch_steps.specs.Expands.{reads_within, Repeats}
+use Rattle.latch_steps.specs.HeldReads.{ReadsOn}
 use Rattle.latch_steps.proofs.Showing.{shown, shown_none}
 use Rattle.latch_steps.proofs.Recording.{run_append, last_append, notes_append, Unended, unended_push, repeats_full, repeats_ended}
 
@@ -150,18 +154,32 @@ module _ {O K : Type 0} (o : Order K) (c : World O K) (r : ℕ) where
         events = h.events;
       }
 
-  pub nobody_reads : (most : ℕ) (before after : List (Event K)) (x : Option (Returned K)) (new : World O K) → tree_get nat_cmp c.lookups r ≡ None → (w : Moment K) → Shows o c w → is_some (get w.lookups r) ≡ true → ReadsOn o c w r most before after x new
-  nobody_reads most before after x new free w s there =
+  -- a reader without a lookup is refused once
+  pub idle_reads : (most : ℕ) (before after : List (Event K)) (new : World O K) → tree_get nat_cmp c.lookups r ≡ None → after ≡ before ++ Read r ∷ [] → Does o c (Read r) (Refused ReaderIdle) new → (w : Moment K) → Shows o c w → ReadsOn o c w r most before after (Some (ToRefuse ReaderIdle)) new
+  idle_reads most before after new free pushed does w s =
+      let d = does w s in
       let none_there : get w.lookups r ≡ None = shown_none o (capacity_of c.layout) (tree_get nat_cmp c.lookups r) (get w.lookups r) free (s.lookups r) in
-      absurd (cc)
+      let once : Repeats (ToRead r most) 1 (Read r ∷ []) (Refused ReaderIdle ∷ []) (d.0 ∷ []) = (omega arith, refl, refl) in
+      record {
+        es = Read r ∷ [];
+        rs = Refused ReaderIdle ∷ [];
+        ws = d.0 ∷ [];
+        done = pushed;
+        run = (d.1, tt);
+        repeats = subst (λ f. Repeats (ToRead r most) (reads_within f most) (Read r ∷ []) (Refused ReaderIdle ∷ []) (d.0 ∷ [])) (sym none_there) once;
+        notes = refl;
+        shows = d.2;
+      }
 
-  module _ (lk : Lookup O K) (found : Some lk ≡ tree_get nat_cmp c.lookups r) (words : List ℕ) (same : words ≡ c.words.items) (most count : ℕ) (before after : List (Event K)) (ds : BTreeMap ℕ (Lookup O K)) (w : Moment K) (s : Shows o c w) where
-    reads : (h : Held O K) (x : Option (Returned K)) → notes_of_held h ≡ notes_of_return x → ((q : ℕ) → tree_get nat_cmp ds q ≡ cond (is_at (nat_cmp r) q) (lookup_of h) (tree_get nat_cmp c.lookups q))
+  module _ (lk : Lookup O K) (there : Some lk ≡ tree_get nat_cmp c.lookups r) (words : List ℕ) (same : words ≡ c.words.items) (most count : ℕ) (before after : List (Event K)) (ds : BTreeMap ℕ (Lookup O K)) (w : Moment K) (s : Shows o c w) where
+    reads : (h : Held O K) (found : Option (Note K)) → notes_of_held h ≡ cons_option found [] → ((q : ℕ) → tree_get nat_cmp ds q ≡ cond (is_at (nat_cmp r) q) (lookup_of h) (tree_get nat_cmp c.lookups q))
         → ((n limit : ℕ) (v : Moment K) → v.latch.words ≡ words → IsInHand o n (Some lk) (get v.lookups r) → c.events ≡ v.events → LoadsOn o n limit v r most before after h count)
-        → ReadsOn o c w r most before after x (record c { lookups = ds; events = count })
-    reads h x quiet e loads =
-        let l = loads (capacity_of c.layout) (limit_of c.layout) w (sym s.words ∙ sym same) (subst (λ q. IsInHand o (capacity_of c.layout) q (get w.lookups r)) (sym found) (s.lookups r)) s.events in
-        record { es = l.es; rs = l.rs; ws = l.ws; done = l.done; run = l.run; repeats = l.repeats; notes = l.notes ∙ quiet; shows = held_shows w (last_of w l.ws) (lookup_of h) ds count s l.holding e }
+        → ReadsOn o c w r most before after found (record c { lookups = ds; events = count })
+    reads h found quiet e loads =
+        let here = shown o (capacity_of c.layout) (tree_get nat_cmp c.lookups r) (get w.lookups r) lk there (s.lookups r) in
+        let within : most ≡ reads_within (get w.lookups r) most = ap (λ f. reads_within f most) (sym here.1) in
+        let l = loads (capacity_of c.layout) (limit_of c.layout) w (sym s.words ∙ sym same) (subst (λ q. IsInHand o (capacity_of c.layout) q (get w.lookups r)) (sym there) (s.lookups r)) s.events in
+        record { es = l.es; rs = l.rs; ws = l.ws; done = l.done; run = l.run; repeats = subst (λ m. Repeats (ToRead r most) m l.es l.rs l.ws) within l.repeats; notes = l.notes ∙ quiet; shows = held_shows w (last_of w l.ws) (lookup_of h) ds count s l.holding e }
 
     pub reads_hold : (next : Lookup O K) → ((q : ℕ) → tree_get nat_cmp ds q ≡ cond (is_at (nat_cmp r) q) (Some next) (tree_get nat_cmp c.lookups q))
         → ((n limit : ℕ) (v : Moment K) → v.latch.words ≡ words → IsInHand o n (Some lk) (get v.lookups r) → c.events ≡ v.events → LoadsOn o n limit v r most before after (Holds next) count)
@@ -170,5 +188,5 @@ module _ {O K : Type 0} (o : Order K) (c : World O K) (r : ℕ) where
 
     pub reads_end : (x : Returned K) → ((q : ℕ) → tree_get nat_cmp ds q ≡ cond (is_at (nat_cmp r) q) None (tree_get nat_cmp c.lookups q))
         → ((n limit : ℕ) (v : Moment K) → v.latch.words ≡ words → IsInHand o n (Some lk) (get v.lookups r) → c.events ≡ v.events → LoadsOn {O = O} o n limit v r most before after (Ends x) count)
-        → ReadsOn o c w r most before after (Some x) (record c { lookups = ds; events = count })
-    reads_end x e loads = reads (Ends x) (Some x) refl e loads
+        → ReadsOn o c w r most before after (Some (ToNote x)) (record c { lookups = ds; events = count })
+    reads_end x e loads = reads (Ends x) (Some (ToNote x)) refl e loads

@@ -1,12 +1,15 @@
 -- Runs one after another, and what a recorder keeps of them.
-use Rattle.std.proofs.Common.{◌≡◌, ℕ, ◌+◌, ◌-◌, ◌<◌, Bool, true, false, cond, List, [], ◌∷◌, ◌++◌, length, take, get_or, Option, refl, sym, ◌∙◌, ap, subst, ⊎_elim, arith, append_assoc, append-nil, length-append}
+use Rattle.std.proofs.Common.{◌≡◌, ℕ, ◌+◌, ◌-◌, ◌<◌, Bool, true, false, cond, List, [], ◌∷◌, ◌++◌, length, take, get_or, Option, Some, None, Result, Ok, Err, refl, sym, ◌∙◌, ap, subst, ⊎_elim, arith, append_assoc, append-nil, length-append}
+use Rattle.std.specs.Prelude.{is_some, OnOk}
 use Rattle.std.specs.List.{cons_option}
 use Rattle.std.proofs.lemmas.List.{take_more}
 use Rattle.std.proofs.lemmas.List.Elements.{filter_map-append}
+use Rattle.order_laws.specs.declared.refusals.Refusal.{Refusal}
 use Rattle.order_laws.specs.Orders.{Order}
 use Rattle.word_arena.specs.declared.layouts.Layout.{Layout}
 use Rattle.word_arena.specs.Layouts.{capacity_of, limit_of}
 use Rattle.word_arena.specs.Words.{at}
+use Rattle.latch_core.specs.Latches.{Hand}
 use Rattle.latch_steps.specs.declared.events.Event.{Event}
 use Rattle.latch_steps.specs.declared.events.Event.TheVariants.{Begin, Write, Start, Read}
 use Rattle.latch_steps.specs.declared.commands.Command.{Command}
@@ -19,8 +22,8 @@ use Rattle.latch_steps.specs.Traces.{IsTraceOf}
 use Rattle.latch_steps.specs.Runs.{Moment, Run, opening, last_of, note_of, notes_of}
 use Rattle.latch_steps.specs.Shows.{Shows, Does, MayDo, Steps, layout_in}
 use Rattle.latch_steps.specs.GivesUp.{gives_up}
-use Rattle.latch_steps.specs.Records.{Records, Obeys}
-use Rattle.latch_steps.specs.Expands.{event_of, most_of, ends, Repeats, Expand}
+use Rattle.latch_steps.specs.Records.{Records, Obeys, IsWriting}
+use Rattle.latch_steps.specs.Expands.{event_of, most_of, writes_within, ends, Repeats, Expand}
 
 module _ {K : Type 0} where
   pub last_append : (w : Moment K) (ws vs : List (Moment K)) → last_of w (ws ++ vs) ≡ last_of (last_of w ws) vs
@@ -188,6 +191,20 @@ module _ {O K : Type 0} (o : Order K) (c : Command K) (old : Recorder O K) where
       one.1,
       repeats_ended c h.es h.rs h.ws most r one.0 h.unended (let t = h.turns in omega arith) (sym tested ∙ holds),
     )
+
+-- with an update in hand the writer makes as many steps as it is asked for, and with none it makes none
+pub within_some : (h : Option Hand) (most : ℕ) → is_some h ≡ true → most ≡ writes_within h most
+within_some None most e = absurd (cc)
+within_some (Some h) most e = refl
+
+pub within_none : (h : Option Hand) (most : ℕ) → is_some h ≡ false → 0 ≡ writes_within h most
+within_none None most e = refl
+within_none (Some h) most e = absurd (cc)
+
+-- the writer's steps, as this command asks for them
+pub obeyed_writing : {O K A : Type 0} (o : Order K) (old new : Recorder O K) (result : Result A Refusal) (to_flip : Bool) (most : ℕ) (c d : Command K) → c ≡ d → IsWriting to_flip d → ((w : Moment K) → Shows o old.world w → most ≡ most_of w d) → OnOk result ((x : Command K) → IsWriting to_flip x → (w : Moment K) → Shows o old.world w → Obeys o x old new w most) → OnOk result ((w : Moment K) → Shows o old.world w → Obeys o c old new w (most_of w c))
+obeyed_writing o old new (Ok x) to_flip most c d same is count obeys = λ w s. subst (λ y. Obeys o y old new w (most_of w y)) (sym same) (subst (Obeys o d old new w) (count w s) (obeys d is w s))
+obeyed_writing o old new (Err e) to_flip most c d same is count obeys = tt
 
 -- from the opening on
 pub trace_of : {O K : Type 0} (o : Order K) (l : Layout) (start : ℕ) (r0 r1 : Recorder O K) (t : Trace O K) (es : List (Event K)) (rs : List (Reply K)) (ws : List (Moment K)) → layout_in r0.world ≡ l → r0.events.items ≡ [] → r0.notes.items ≡ [] → Records o r0 (opening (capacity_of l) start) r1 es rs ws → t.events.items ≡ r1.events.items → t.notes.items ≡ r1.notes.items → ((w : Moment K) → Shows o r1.world w → t.sequence ≡ at w.latch.words 0) → (t.events.items ≡ es) × IsTraceOf o l start t rs ws

@@ -1,13 +1,15 @@
 -- What a recorder keeps of a run.
-use Rattle.std.specs.Prelude.{◌≡◌, ℕ, List, ◌++◌}
+use Rattle.std.specs.Prelude.{◌≡◌, ℕ, Bool, ◌&&◌, ◌||◌, is_none, List, ◌++◌}
 use Rattle.order_laws.specs.Orders.{Order}
 use Rattle.word_arena.specs.Layouts.{capacity_of, limit_of}
 use Rattle.latch_steps.specs.declared.events.Event.{Event}
+use Rattle.latch_steps.specs.declared.events.Event.TheVariants.{Write}
 use Rattle.latch_steps.specs.declared.commands.Command.{Command}
 use Rattle.latch_steps.specs.declared.replies.Reply.{Reply}
 use Rattle.latch_steps.specs.declared.traces.Recorder.{Recorder}
 use Rattle.latch_steps.specs.Runs.{Moment, Run, last_of, notes_of}
-use Rattle.latch_steps.specs.Expands.{Repeats}
+use Rattle.latch_steps.specs.Quiet.{is_flip}
+use Rattle.latch_steps.specs.Expands.{event_of, ends, Repeats}
 use Rattle.latch_steps.specs.Shows.{Shows, layout_in}
 
 -- from a moment that its world shows, a recorder did a run of these events and noted its replies
@@ -17,6 +19,14 @@ pub record Records {O K : Type 0} (o : Order K) (old : Recorder O K) (w : Moment
   pub events : new.events.items ≡ old.events.items ++ es
   pub notes : new.notes.items ≡ old.notes.items ++ notes_of rs
   pub shows : Shows o new.world (last_of w ws)
+
+-- whether this step of the writer, with the moment after it, is its last one for now
+abbrev pub ends_writing : {K : Type 0} → Bool → Reply K → Moment K → Bool
+ends_writing to_flip reply w = (to_flip && is_flip reply) || is_none w.latch.hand
+
+-- a command that asks for such steps
+abbrev pub IsWriting : {K : Type 0} → Bool → Command K → Type 0
+IsWriting {K} to_flip c = (event_of c ≡ Write) × ((reply : Reply K) (w : Moment K) → ends c reply w ≡ ends_writing to_flip reply w)
 
 -- it did a command's event so often at most
 abbrev pub Obeys : {O K : Type 0} → Order K → Command K → Recorder O K → Recorder O K → Moment K → ℕ → Type 0

@@ -1,6 +1,6 @@
 //! Whole runs, and what they leave.
 
-ghost use Rattle.std.specs.Prelude.{◌≡◌, ◌<◌, ◌^◌, ◌⊎◌, ◌++◌, ◌∷◌, [], List, length, IfOk, IfErr, OnOk, is_some, true};
+ghost use Rattle.std.specs.Prelude.{◌≡◌, ◌<◌, ◌^◌, ◌⊎◌, ◌∷◌, [], length, IfOk, IfErr, OnOk};
 ghost use Rattle.std.specs.FinMap.{get};
 ghost use Rattle.word_arena.specs.Layouts.{capacity_of, limit_of};
 ghost use Rattle.latch_core.specs.Writers.{MayOpen};
@@ -8,7 +8,7 @@ ghost use Rattle.latch_steps.specs.declared.events.Event.{Event};
 ghost use Rattle.latch_steps.specs.declared.replies.Reply.{Reply};
 ghost use Rattle.latch_steps.specs.Runs.{Moment, opening, note_of};
 ghost use Rattle.latch_steps.specs.GivesUp.{gives_up, is_out_of_memory};
-ghost use Rattle.latch_steps.specs.Expands.{ends, most_of, event_of, is_return, Repeats};
+ghost use Rattle.latch_steps.specs.Expands.{most_of, reads_within};
 ghost use Rattle.latch_steps.specs.Quiet.{is_flip};
 ghost use Rattle.word_arena.specs.Words.{at};
 
@@ -70,17 +70,6 @@ fn gives_up<K: Copy>(reply: &Reply<K>) -> bool
     }
 }
 
-/// Appends to a list.
-fn push<T: Drop>(list: &mut Vec<T>, x: T) -> Result<(), Refusal>
-    ensures ok { OnOk result (list.new.items ≡ list.old.items ++ x ∷ []) }
-    ensures err { IfErr result (λ e. e ≡ Refusal.OutOfMemory) }
-{
-    match list.push(x) {
-        Ok(()) => Ok(()),
-        Err(_) => Err(Refusal::OutOfMemory),
-    }
-}
-
 /// Whether a reply is a flip of the sequence.
 fn is_flip<K: Copy>(reply: &Reply<K>) -> bool
     ensures { result ≡ is_flip reply.now }
@@ -91,31 +80,9 @@ fn is_flip<K: Copy>(reply: &Reply<K>) -> bool
     }
 }
 
-/// Whether a reply is a lookup's return.
-fn is_return<K: Copy>(reply: &Reply<K>) -> bool
-    ensures { result ≡ is_return reply.now }
-{
-    match reply {
-        Reply::Returned(_) => true,
-        _ => false,
-    }
-}
-
-/// The event that a command repeats.
-fn event_of<K: Copy>(command: &Command<K>) -> Event<K>
-    ensures { result ≡ event_of command.now }
-{
-    match command {
-        Command::Begin(update) => Event::Begin(*update),
-        Command::Write(_) | Command::WriteFlip | Command::WriteEnd => Event::Write,
-        Command::Start(reader, key) => Event::Start(*reader, *key),
-        Command::Read(reader, _) => Event::Read(*reader),
-    }
-}
-
 impl<O: TreeOrder> Recorder<O> {
     ghost use Rattle.latch_steps.specs.Shows.{Shows, layout_in};
-    ghost use Rattle.latch_steps.specs.Records.{Records, Obeys};
+    ghost use Rattle.latch_steps.specs.Records.{Records, Obeys, IsWriting, ends_writing};
 
     /// A world before any event, with nothing recorded.
     pub(crate) fn open(alloc: Global, l: Layout, start: u64) -> Result<Self, Refusal>
@@ -142,47 +109,11 @@ impl<O: TreeOrder> Recorder<O> {
         if gives_up(&reply) {
             return Err(Refusal::OutOfMemory);
         }
-        push(&mut self.events, event)?;
+        self.events.push(event)?;
         if let Some(note) = note_of(&reply) {
-            push(&mut self.notes, note)?;
+            self.notes.push(note)?;
         }
         Ok(reply)
-    }
-
-    /// Whether a reply ends a command before it has repeated its event as often as it may.
-    fn ends(&self, command: &Command<O::Key>, reply: &Reply<O::Key>) -> bool
-        ensures { (w : Moment O.Key) → Shows O.order self.now.world w → result ≡ ends command.now reply.now w }
-    {
-        match command {
-            Command::Write(_) | Command::WriteEnd => !self.world.is_writing(),
-            Command::WriteFlip => is_flip(reply) || !self.world.is_writing(),
-            Command::Read(_, _) => is_return(reply),
-            Command::Begin(_) | Command::Start(_, _) => false,
-        }
-    }
-
-    /// How often a command repeats its event at most.
-    fn most_of(&self, command: &Command<O::Key>) -> u64
-        ensures { (w : Moment O.Key) → Shows O.order self.now.world w → result ≡ most_of w command.now }
-    {
-        match command {
-            Command::Begin(_) | Command::Start(_, _) => 1,
-            Command::Write(most) => {
-                if self.world.is_writing() {
-                    *most as u64
-                } else {
-                    0
-                }
-            }
-            Command::WriteFlip | Command::WriteEnd => self.world.writes_left(),
-            Command::Read(reader, most) => {
-                if self.world.is_reading(*reader) {
-                    *most as u64
-                } else {
-                    1
-                }
-            }
-        }
     }
 
     /// Does the events of a command.
@@ -190,37 +121,63 @@ impl<O: TreeOrder> Recorder<O> {
         ensures obeyed { OnOk result ((w : Moment O.Key) → Shows O.order self.old.world w → Obeys O.order command.now self.old self.new w (most_of w command.now)) }
         ensures refusal { IfErr result (λ e. e ≡ Refusal.OutOfMemory) }
     {
-        if let Command::Read(reader, most) = command {
-            if self.world.is_reading(*reader) {
-                return self.read_on(*reader, *most);
+        match command {
+            Command::Begin(update) => {
+                let _ = self.record(Event::Begin(*update))?;
+                Ok(())
             }
+            Command::Write(most) => {
+                let most = if self.world.is_writing() {
+                    *most as u64
+                } else {
+                    0
+                };
+                self.write_on(most, false)
+            }
+            Command::WriteFlip => {
+                let left = self.world.writes_left();
+                self.write_on(left, true)
+            }
+            Command::WriteEnd => {
+                let left = self.world.writes_left();
+                self.write_on(left, false)
+            }
+            Command::Start(reader, key) => {
+                let _ = self.record(Event::Start(*reader, *key))?;
+                Ok(())
+            }
+            Command::Read(reader, most) => self.read_on(*reader, *most),
         }
-        self.repeat(command)
     }
 
-    /// Loads of a reader that has a lookup in hand, at most so many and up to its return.
-    fn read_on(&mut self, reader: u32, most: u32) -> Result<(), Refusal>
-        ensures read { OnOk result ((w : Moment O.Key) → Shows O.order self.old.world w → is_some (get w.lookups reader) ≡ true → Obeys O.order (Command.Read reader most) self.old self.new w most) }
+    /// Steps of the writer, at most so many and up to the end of the update in hand; where `to_flip`, up to the next flip.
+    fn write_on(&mut self, most: u64, to_flip: bool) -> Result<(), Refusal>
+        ensures written { OnOk result ((c : Command O.Key) → IsWriting to_flip c → (w : Moment O.Key) → Shows O.order self.old.world w → Obeys O.order c self.old self.new w most) }
         ensures refusal { IfErr result (λ e. e ≡ Refusal.OutOfMemory) }
     {
-        match self.world.read_on(reader, most, &mut self.events) {
-            Ok(None) => Ok(()),
-            Ok(Some(returned)) => push(&mut self.notes, Note::Returned(returned)),
-            Err(_) => Err(Refusal::OutOfMemory),
-        }
-    }
-
-    /// Does a command's event again and again.
-    fn repeat(&mut self, command: &Command<O::Key>) -> Result<(), Refusal>
-        ensures obeyed { OnOk result ((w : Moment O.Key) → Shows O.order self.old.world w → Obeys O.order command.now self.old self.new w (most_of w command.now)) }
-        ensures refusal { IfErr result (λ e. e ≡ Refusal.OutOfMemory) }
-    {
-        let event = event_of(command);
-        for _turn in 0..self.most_of(command) {
-            let reply = self.record(event)?;
-            if self.ends(command, &reply) {
+        for _turn in 0..most {
+            let reply = self.record(Event::Write)?;
+            if self.ends(&reply, to_flip) {
                 break;
             }
+        }
+        Ok(())
+    }
+
+    /// Whether the writer's steps end with this one.
+    fn ends(&self, reply: &Reply<O::Key>, to_flip: bool) -> bool
+        ensures { (w : Moment O.Key) → Shows O.order self.now.world w → result ≡ ends_writing to_flip reply.now w }
+    {
+        (to_flip && is_flip(reply)) || !self.world.is_writing()
+    }
+
+    /// Loads of a reader, at most so many and up to the return of its lookup. One without a lookup in hand is refused once.
+    fn read_on(&mut self, reader: u32, most: u32) -> Result<(), Refusal>
+        ensures read { OnOk result ((w : Moment O.Key) → Shows O.order self.old.world w → Obeys O.order (Command.Read reader most) self.old self.new w (reads_within (get w.lookups reader) most)) }
+        ensures refusal { IfErr result (λ e. e ≡ Refusal.OutOfMemory) }
+    {
+        if let Some(note) = self.world.read_on(reader, most, &mut self.events)? {
+            self.notes.push(note)?;
         }
         Ok(())
     }

@@ -1,7 +1,6 @@
 //! The words, their writer and the lookups in hand, one step at a time.
 
-ghost use Rattle.std.specs.Prelude.{◌≡◌, ℕ, ◌<◌, ◌⊎◌, List, [], ◌++◌, length, IfOk, IfErr, IfSome, IfNone, OnSome, is_some, true};
-ghost use Rattle.std.specs.FinMap.{get};
+ghost use Rattle.std.specs.Prelude.{◌≡◌, ℕ, ◌<◌, ◌⊎◌, List, [], ◌++◌, length, IfOk, IfErr, IfSome, IfNone, OnSome, is_some};
 ghost use Rattle.word_arena.specs.Words.{at};
 ghost use Rattle.word_arena.specs.Layouts.{capacity_of};
 ghost use Rattle.latch_core.specs.Writers.{MayOpen};
@@ -12,7 +11,7 @@ ghost use Rattle.latch_steps.specs.Expands.{writes_left};
 
 use crate::events::Event;
 use crate::lookups::{Held, Loaded, Lookup};
-use crate::replies::{Reply, Returned};
+use crate::replies::{Note, Reply, Returned};
 use crate::words::{opening_words, put, word_at};
 use latch_core::{Update, WriterCore};
 use order_laws::{Refusal, TreeOrder};
@@ -204,19 +203,22 @@ impl<O: TreeOrder> World<O> {
         Err(Refusal::ReaderBusy)
     }
 
-    /// Loads of a reader, at most so many and up to the return of its lookup, which is answered. `done` takes in each of
-    /// them. The lookup is looked up once and held apart while they run.
+    /// Loads of a reader, at most so many and up to the return of its lookup; a reader without a lookup in hand is refused
+    /// once. Answers what is to be noted, and `done` takes in each of the events. The lookup is looked up once and held apart
+    /// while its loads run.
     pub(crate) fn read_on(
         &mut self,
         reader: u32,
         most: u32,
         done: &mut Vec<Event<O::Key>>,
-    ) -> Result<Option<Returned<O::Key>>, AllocError>
+    ) -> Result<Option<Note<O::Key>>, AllocError>
         ensures layout { layout_in self.new ≡ layout_in self.old }
-        ensures reads { IfOk result (λ x. (w : Moment O.Key) → Shows O.order self.old w → is_some (get w.lookups reader) ≡ true → ReadsOn O.order self.old w reader most done.old.items done.new.items x self.new) }
+        ensures reads { IfOk result (λ note. (w : Moment O.Key) → Shows O.order self.old w → ReadsOn O.order self.old w reader most done.old.items done.new.items note self.new) }
     {
         let Some(lookup) = self.lookups.get_mut(&reader) else {
-            return Ok(None);
+            done.push(Event::Read(reader))?;
+            self.events = self.events.saturating_add(1);
+            return Ok(Some(Note::Refused(Refusal::ReaderIdle)));
         };
         let (held, events) = lookup.load_on(
             self.words.as_slice(),
@@ -233,7 +235,7 @@ impl<O: TreeOrder> World<O> {
             }
             Held::Returned(returned) => {
                 let _ = self.lookups.remove(&reader);
-                Ok(Some(returned))
+                Ok(Some(Note::Returned(returned)))
             }
         }
     }
@@ -250,13 +252,6 @@ impl<O: TreeOrder> World<O> {
         ensures { (w : Moment O.Key) → Shows O.order self.now w → result ≡ writes_left w.latch.hand }
     {
         self.writer.remaining()
-    }
-
-    /// Whether a reader has a lookup in hand.
-    pub(crate) fn is_reading(&self, reader: u32) -> bool
-        ensures { (w : Moment O.Key) → Shows O.order self.now w → result ≡ is_some (get w.lookups reader) }
-    {
-        self.lookups.contains_key(&reader)
     }
 
     /// The sequence, which is word 0.

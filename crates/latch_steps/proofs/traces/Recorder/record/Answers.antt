@@ -17,9 +17,9 @@ returns-clause-recorded g c =
     let goes = λ (new : Recorder g.row.O.Denot g.row.O-Key.Denot). (w : Moment g.row.O-Key.Denot) → Shows o old.world w → (next : Moment g.row.O-Key.Denot) × Records o old w new (e ∷ []) (r ∷ []) (next ∷ []) in
     elim c.match-note_of.branch [
       | in-Some+in_ok-push-2 w ↦ subst goes (sym w.self-is)
-          (recorded o old _ e r c.step-reply.ensures.steps kept c.step-reply.ensures.layout c.in_ok-push.ensures.ok
-          (noted r old.notes.items _ (Some w.in-Some.note) (sym c.note_of.ensures ∙ w.in-Some.is) w.in_ok-push-2.ensures.ok))
+          (recorded o old _ e r c.step-reply.ensures.steps kept c.step-reply.ensures.layout c.in_ok-push.ensures.items
+          (noted r old.notes.items _ (Some w.in-Some.note) (sym c.note_of.ensures ∙ w.in-Some.is) w.in_ok-push-2.ensures.items))
       | in_default w ↦ subst goes (sym w.self-is)
-          (recorded o old _ e r c.step-reply.ensures.steps kept c.step-reply.ensures.layout c.in_ok-push.ensures.ok
+          (recorded o old _ e r c.step-reply.ensures.steps kept c.step-reply.ensures.layout c.in_ok-push.ensures.items
           (noted r old.notes.items _ None (sym c.note_of.ensures ∙ w.in_default.is) (sym (append-nil old.notes.items))))
     ]

@@ -1,15 +1,23 @@
-use Rattle.std.proofs.Common.{subst, refl}
+use Rattle.std.proofs.Common.{◌∙◌, ap, sym, subst, refl}
 use Rattle.std.specs.Prelude.{IsSome}
 use Rattle.std.specs.Ordering.{nat_cmp}
-use Rattle.std.specs.BTreeMap.{is_at}
+use Rattle.std.specs.BTreeMap.{get as tree_get, is_at}
+use Rattle.std.specs.Option.{option_copied_mut}
 use Rattle.latch_steps.specs.declared.lookups.Held.{Held}
 use Rattle.latch_steps.specs.Held.{LoadsOn}
-use Rattle.latch_steps.proofs.Showing.{removed}
-use Rattle.latch_steps.proofs.HeldLoads.{reads_hold, reads_end}
+use Rattle.latch_steps.proofs.Showing.{idle, removed}
+use Rattle.latch_steps.proofs.HeldLoads.{idle_reads, reads_hold, reads_end}
 use Rattle.latch_steps.proofs.worlds.World.read_on.Goals as goal
 
+pub returns-in_default-clause-reads : goal.returns-in_default-clause-reads
+returns-in_default-clause-reads g c =
+    let o = g.O.TreeOrder.order in
+    let free = sym c.get_mut.ensures.value ∙ ap option_copied_mut c.in_default.is in
+    idle_reads o c.args.self.now c.args.reader c.args.most c.args.done.now.items c.push.new.self.items _ free c.in_ok-push.ensures.items
+    (idle o c.args.self.now c.args.reader _ _ free (λ q. ap (λ m. tree_get nat_cmp m q) c.get_mut.follows.holds-at-none) c.saturating_add-self.ensures)
+
 pub returns-in-Going-clause-reads : goal.returns-in-Going-clause-reads
-returns-in-Going-clause-reads g c = λ w s there.
+returns-in-Going-clause-reads g c = λ w s.
     let o = g.O.TreeOrder.order in
     let before = c.args.done.now.items in
     let after = c.load_on.new.done.items in
@@ -18,7 +26,7 @@ returns-in-Going-clause-reads g c = λ w s there.
     (λ n limit v words is e. subst (λ (h : Held g.row.O.Denot g.row.O-Key.Denot). LoadsOn o n limit v c.args.reader c.args.most before after h c.in_ok-held.events) c.in-Going.is (c.in_ok-held.ensures n limit v words is e))
 
 pub returns-in-Returned-clause-reads : goal.returns-in-Returned-clause-reads
-returns-in-Returned-clause-reads g c = λ w s there.
+returns-in-Returned-clause-reads g c = λ w s.
     let o = g.O.TreeOrder.order in
     let before = c.args.done.now.items in
     let after = c.load_on.new.done.items in
