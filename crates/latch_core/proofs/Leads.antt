@@ -1,13 +1,13 @@
 -- One value leads a reader's core on.
-use Rattle.std.proofs.Common.{◌≡◌, ◌≢◌, ℕ, suc, zero, ◌+◌, ◌-◌, ◌*◌, ◌<◌, ◌≤◌, true, false, List, [], ◌∷◌, ◌++◌, length, Some, None, refl, sym, ◌∙◌, ap, arith}
+use Rattle.std.proofs.Common.{◌≡◌, ◌≢◌, ℕ, suc, zero, ◌+◌, ◌-◌, ◌*◌, ◌≤◌, true, false, List, [], ◌∷◌, ◌++◌, length, Some, None, refl, sym, ◌∙◌, ap, arith}
 use Rattle.std.specs.Prelude.{◌==◌, nat_lt}
-use Rattle.std.proofs.lemmas.Bool.{lt-ltb, eq-eqb, ne_eqb, le-ltb}
+use Rattle.std.proofs.lemmas.Bool.{lt-ltb, eq-eqb, ne_eqb}
 use Rattle.std.specs.declared.cmp.Ordering.{Ordering}
 use Rattle.std.specs.declared.cmp.Ordering.TheVariants.{Less, Equal, Greater}
 use Rattle.order_laws.specs.declared.items.Item.{Item}
 use Rattle.order_laws.specs.Orders.{Order}
 use Rattle.latch_core.specs.Sequences.{gen}
-use Rattle.latch_core.specs.Attempts.{Answer, Again, Reading, Load, Item_found, No_item, Stuck, outcome, turn, visit, walk, closing, attempt, rest_after}
+use Rattle.latch_core.specs.Attempts.{Answer, Again, Reading, Load, Item_found, No_item, outcome, turn, visit, walk, attempt, rest_after}
 use Rattle.latch_core.specs.declared.readers.ReaderCore.{ReaderCore}
 use Rattle.latch_core.specs.declared.spots.Place.{Place}
 use Rattle.latch_core.specs.declared.spots.Place.TheVariants.{First, Root, WordA, WordB, Tag, Left as Go_left, Right as Go_right, Found as At_item, Missing as At_none, Stuck as At_stuck}
@@ -58,16 +58,6 @@ walk_visits o n k s (suc left) (suc i) a b c =
     let f : suc left - 1 ≡ left = omega arith in
     let within : nat_lt i n ≡ true = lt-ltb i n (omega arith) in
     rw (e, f, within) refl
-
-pub walk_is_stuck : {K : Type 0} (o : Order K) (n : ℕ) (k : K) (s left link : ℕ) → link ≢ 0 → left ≡ 0 → closing s Stuck ≡ walk o n k s left link
-walk_is_stuck o n k s left zero a e = absurd (a refl)
-walk_is_stuck o n k s zero (suc i) a e = refl
-walk_is_stuck o n k s (suc left) (suc i) a e = absurd (omega arith)
-
-pub walk_is_lost : {K : Type 0} (o : Order K) (n : ℕ) (k : K) (s left link : ℕ) → n < link → closing s Stuck ≡ walk o n k s left link
-walk_is_lost o n k s left zero a = absurd (omega arith)
-walk_is_lost o n k s zero (suc i) a = refl
-walk_is_lost o n k s (suc left) (suc i) a = let past : nat_lt i n ≡ false = le-ltb i n (omega arith) in rw past refl
 
 -- the outcome, by whether the two readings of the sequence are equal
 pub answers : (s t g : ℕ) (x : Item) → s ≡ t → g ≡ gen t → outcome s t (Item_found x) ≡ Answer (Some x) g

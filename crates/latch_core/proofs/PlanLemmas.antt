@@ -3,7 +3,7 @@ use Rattle.std.proofs.Common.{◌≡◌, ℕ, suc, zero, ◌+◌, ◌-◌, true,
 use Rattle.std.specs.Prelude.{◌==◌, slice_get}
 use Rattle.std.proofs.lemmas.Bool.{eqb-true}
 use Rattle.word_arena.specs.declared.stores.Store.{Store}
-use Rattle.latch_core.specs.Latches.{Hand, Latch, MayStep, stepped}
+use Rattle.latch_core.specs.Latches.{Hand, Latch, stepped}
 use Rattle.latch_core.specs.Plans.{IsPlan}
 
 pub drop_more : {X : Type 0} (i : ℕ) (xs : List X) → drop (i + 1) xs ≡ drop 1 (drop i xs)
@@ -22,9 +22,6 @@ plan_step n l h s xs plan hand is =
     let p = subst (IsPlan n l) (first_and_rest xs s is) plan in
     let same : p.0 ≡ h = (let e = p.1 in cc) in
     subst (λ g. IsPlan n (stepped l g s) (drop 1 xs)) same p.3
-
-pub plan_may : (n : ℕ) (l : Latch) (s : Store) (xs : List Store) → IsPlan n l xs → slice_get xs 0 ≡ Some s → (h : Hand) × (l.hand ≡ Some h) × MayStep n l h s
-plan_may n l s xs plan is = let p = subst (IsPlan n l) (first_and_rest xs s is) plan in (p.0, p.1, p.2)
 
 -- how many steps are left, by what is in hand after one
 at_last : (left : ℕ) (g : Hand) → cond (left == 1) None (Some g) ≡ None → left ≡ 1

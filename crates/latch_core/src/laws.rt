@@ -1,6 +1,6 @@
 //! What holds of every attempt and of every step of a writer, as contracts of functions that do nothing.
 
-ghost use Rattle.std.specs.Prelude.{◌≡◌, ℕ, ◌+◌, ◌*◌, ◌<◌, ◌≤◌, ◌⊎◌, false, List, [], ◌∷◌, ◌++◌, length, Option, Some, None};
+ghost use Rattle.std.specs.Prelude.{◌≡◌, ℕ, ◌+◌, ◌*◌, ◌<◌, ◌≤◌, ◌⊎◌, false, List, [], ◌∷◌, ◌++◌, length, Some, None};
 ghost use Rattle.order_laws.specs.declared.items.Item.{Item};
 ghost use Rattle.order_laws.specs.Tables.{IsTable, look};
 ghost use Rattle.word_arena.specs.declared.stores.Store.{Store};

@@ -1,6 +1,6 @@
 //! The nodes that no copy has.
 
-ghost use Rattle.std.specs.Prelude.{◌≡◌, ◌≤◌, IfOk, vec_len, vec_capacity};
+ghost use Rattle.std.specs.Prelude.{◌≤◌, IfOk, vec_capacity};
 ghost use Rattle.latch_core.specs.FreeNodes.{AreAllNodes};
 
 use std::alloc::{AllocError, Global};

@@ -1,11 +1,12 @@
 //! The definitions of updates and histories as plain, slow programs, to compare with.
 
-ghost use Rattle.std.specs.Prelude.{◌≡◌, ◌+◌, [], IfOk, nat_lt};
+ghost use Rattle.std.specs.Prelude.{◌≡◌, [], IfOk};
 ghost use Rattle.order_laws.specs.Tables.{has, meets};
 ghost use Rattle.word_arena.specs.Layouts.{capacity_of, limit_of};
 ghost use Rattle.latch_core.specs.Updates.{refuses, after};
 ghost use Rattle.latch_core.specs.Histories.{replay};
 
+use crate::sequences::is_spent;
 use crate::updates::Update;
 use order_laws::tables::{with_item, without};
 use order_laws::{Item, Refusal, TreeOrder};
@@ -47,13 +48,6 @@ pub fn refuses<O: TreeOrder>(
         return Some(Refusal::SequenceSpent);
     }
     None
-}
-
-/// Whether two flips more would pass the layout's greatest sequence.
-pub fn is_spent(l: Layout, sequence: u64) -> bool
-    ensures { result ≡ nat_lt (limit_of l) (sequence + 2) }
-{
-    sequence > l.limit() - 2
 }
 
 /// Whether some item of the list has this first word.

@@ -1,9 +1,9 @@
 //! A reader of the latched tree, which is given one value of one word at a time.
 
-ghost use Rattle.std.specs.Prelude.{◌≡◌, ℕ, ◌+◌, ◌*◌, ◌<◌, ◌≤◌, List, [], ◌∷◌, ◌++◌, Some, length};
+ghost use Rattle.std.specs.Prelude.{◌≡◌, ◌+◌, ◌*◌, ◌<◌, ◌≤◌, [], Some};
 ghost use Rattle.word_arena.specs.Layouts.{capacity_of};
 ghost use Rattle.word_arena.specs.Words.{words_for};
-ghost use Rattle.latch_core.specs.Attempts.{attempt, walk, rest_after, Reading, Load};
+ghost use Rattle.latch_core.specs.Attempts.{attempt, walk};
 
 use crate::sequences::{generation, stable_copy};
 use crate::spots::{Place, Spot};

@@ -1,10 +1,11 @@
 //! What the sequence of a latch says (Documentation/locking/seqlock.rst, latch sequence counters).
 
-ghost use Rattle.std.specs.Prelude.{◌≡◌};
+ghost use Rattle.std.specs.Prelude.{◌≡◌, ◌+◌, nat_lt};
 ghost use Rattle.word_arena.specs.Copies.{copy_number};
+ghost use Rattle.word_arena.specs.Layouts.{limit_of};
 ghost use Rattle.latch_core.specs.Sequences.{gen, stable};
 
-use word_arena::TreeCopy;
+use word_arena::{Layout, TreeCopy};
 
 /// The generation that a sequence names: half of it, since an update adds 1 twice.
 pub fn generation(sequence: u64) -> u64
@@ -22,4 +23,11 @@ pub fn stable_copy(sequence: u64) -> TreeCopy
     } else {
         TreeCopy::One
     }
+}
+
+/// Whether two flips more would pass the layout's greatest sequence.
+pub fn is_spent(l: Layout, sequence: u64) -> bool
+    ensures { result ≡ nat_lt (limit_of l) (sequence + 2) }
+{
+    sequence > l.limit() - 2
 }

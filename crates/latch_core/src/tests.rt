@@ -91,6 +91,11 @@ impl<O: TreeOrder> Latch<O> {
         }
     }
 
+    /// The generation that word 0 names.
+    fn generation(&self) -> u64 {
+        self.words.first().copied().map_or(0, generation)
+    }
+
     /// One whole update.
     fn carry_out(&mut self, rt: &impl Abort, u: Update) -> Result<(), Refusal> {
         let left = self.writer.begin(u)?;
@@ -257,11 +262,52 @@ fn each_refusal_and_none_beside_an_update_in_hand(rt: HostRuntime) -> Result<(),
     Ok(())
 }
 
+const KEYS: [u64; 9] = [
+    0, 0x500, 0x1000, 0x17ff, 0x1fff, 0x2000, 0x3000, 0x3fff, 0x4000,
+];
+
+// Each key is found as it lies in the table after so many of the updates, and under that generation.
+fn finds_all(
+    rt: &impl Abort,
+    alloc: Global,
+    latch: &Latch<Ranges>,
+    updates: &[Update],
+    done: usize,
+) -> Result<(), Fail> {
+    let table = plain::replay::<Ranges>(alloc, updates.get(..done).ok_or("too many")?)?;
+    for key in KEYS {
+        let (found, at, _) = latch.find(rt, latch.writer.layout(), Address(key));
+        assert_eq!(rt; found, look_through::<Ranges>(&table, Address(key)));
+        assert_eq!(rt; at as usize, done);
+    }
+    Ok(())
+}
+
+// Carries the update out that comes after so many others, and looks the keys up at each of its stops.
+fn carry_out_by_stops(
+    rt: &impl Abort,
+    alloc: Global,
+    latch: &mut Latch<Ranges>,
+    updates: &[Update],
+    count: usize,
+) -> Result<(), Fail> {
+    let update = updates.get(count).ok_or("too few")?;
+    let left = latch.writer.begin(*update)?;
+    for _ in 0..left {
+        latch.write(rt, 1);
+        let done = latch.generation() as usize;
+        assert!(rt; done == count || Some(done) == count.checked_add(1));
+        finds_all(rt, alloc, latch, updates, done)?;
+    }
+    assert_eq!(rt; latch.writer.remaining(), 0);
+    assert_eq!(rt; Some(latch.generation() as usize), count.checked_add(1));
+    Ok(())
+}
+
 // At each stop of each update, a lookup answers for the old table before the second flip and for the new one from it on.
 #[test]
 fn an_order_whose_key_is_a_struct(rt: HostRuntime) -> Result<(), Fail> {
-    let l = Layout::new(4)?;
-    let mut latch = Latch::<Ranges>::open(&rt, rt.alloc(), l, 0)?;
+    let mut latch = Latch::<Ranges>::open(&rt, rt.alloc(), Layout::new(4)?, 0)?;
     let updates = [
         Update::Insert(item(0x3000, 0x4000, 9)),
         Update::Insert(item(0x1000, 0x2000, 7)),
@@ -270,26 +316,8 @@ fn an_order_whose_key_is_a_struct(rt: HostRuntime) -> Result<(), Fail> {
         Update::Insert(item(0x500, 0x1800, 6)),
         Update::Erase(0x3000),
     ];
-    for (count, u) in updates.iter().enumerate() {
-        let left = latch.writer.begin(*u)?;
-        for _ in 0..left {
-            latch.write(&rt, 1);
-            assert!(rt; !latch.words.is_empty());
-            let done = generation(latch.words[0]) as usize;
-            assert!(rt; done == count || Some(done) == count.checked_add(1));
-            let table = plain::replay::<Ranges>(
-                rt.alloc(),
-                updates.get(..done).ok_or("too many")?,
-            )?;
-            for key in [
-                0, 0x500, 0x1000, 0x17ff, 0x1fff, 0x2000, 0x3000, 0x3fff, 0x4000,
-            ] {
-                let (found, at, _) = latch.find(&rt, l, Address(key));
-                assert_eq!(rt; found, look_through::<Ranges>(&table, Address(key)));
-                assert_eq!(rt; at as usize, done);
-            }
-        }
-        assert_eq!(rt; latch.writer.remaining(), 0);
+    for count in 0..updates.len() {
+        carry_out_by_stops(&rt, rt.alloc(), &mut latch, &updates, count)?;
     }
     assert_eq!(rt; latch.writer.len(), 2);
     assert_eq!(rt; stable_copy(13), TreeCopy::One);

@@ -1,20 +1,18 @@
 //! The writer of a latched tree, which hands out one store at a time.
 
-ghost use Rattle.std.specs.Prelude.{◌≡◌, ◌↔◌, ◌⊎◌, ◌+◌, ◌*◌, ◌<◌, ◌≤◌, [], Some, None, IsTrue, IsSome, IfSome, IfOk, IfErr, OnOk, OnErr, is_some, MatchOption, length, vec_len, vec_capacity};
+ghost use Rattle.std.specs.Prelude.{◌≡◌, ◌↔◌, ◌+◌, ◌*◌, ◌<◌, ◌≤◌, [], Some, None, IsTrue, IsSome, IfSome, IfOk, IfErr, OnOk, OnErr, length, vec_len, vec_capacity};
 ghost use Rattle.order_laws.specs.Tables.{has};
 ghost use Rattle.word_arena.specs.declared.stores.Store.{Store};
 ghost use Rattle.word_arena.specs.Layouts.{capacity_of, limit_of};
 ghost use Rattle.word_arena.specs.Words.{at, words_for};
 ghost use Rattle.rb_words.specs.Pictures.{IsPicture};
 ghost use Rattle.latch_core.specs.Sequences.{gen};
-ghost use Rattle.latch_core.specs.Updates.{refuses};
-ghost use Rattle.latch_core.specs.Latches.{Latch, Hand, MayStep, stepped, opening_latch};
+ghost use Rattle.latch_core.specs.Latches.{Latch, Hand, stepped, opening_latch};
 ghost use Rattle.latch_core.specs.Writers.{next_store, why_refused, IsRefusedBy, RefusesAsPictured, MayOpen, IsOpeningRefused, Pictures, MayBeNext, LeadsFrom, HasBegun, opening_writer, stepped_writer};
 
 use crate::nodes::all_nodes;
-use crate::plain::is_spent;
 use crate::plans::Plan;
-use crate::sequences::generation;
+use crate::sequences::{generation, is_spent};
 use crate::updates::Update;
 use order_laws::{Item, Refusal, TreeOrder};
 use rb_words::{STORES, Shape};

@@ -1,8 +1,8 @@
 //! Whole runs, of a list of events or of a list of commands.
 
-ghost use Rattle.std.specs.Prelude.{◌≡◌, ◌⊎◌, List, IfOk, IfErr};
+ghost use Rattle.std.specs.Prelude.{◌≡◌, List, IfOk, IfErr};
 ghost use Rattle.word_arena.specs.Layouts.{capacity_of};
-ghost use Rattle.latch_core.specs.Writers.{MayOpen};
+ghost use Rattle.latch_core.specs.Writers.{MayOpen, IsOpeningRefused};
 ghost use Rattle.latch_steps.specs.declared.replies.Reply.{Reply};
 ghost use Rattle.latch_steps.specs.Runs.{Moment, opening};
 ghost use Rattle.latch_steps.specs.Safe.{IsSafe};
@@ -36,7 +36,7 @@ pub fn run<O: TreeOrder>(
     ensures safe { IfOk result (λ t. (rs : List (Reply O.Key)) (ws : List (Moment O.Key)) → IsTraceOf O.order l start t rs ws → IsSafe O.order (capacity_of l) start t.events.items rs ws) }
     ensures quiet { IfOk result (λ t. (rs : List (Reply O.Key)) (ws : List (Moment O.Key)) → IsTraceOf O.order l start t rs ws → IsQuiet O.order start t.events.items rs ws) }
     ensures may { IfOk result (λ t. MayOpen l start) }
-    ensures refusal { IfErr result (λ e. ((e ≡ Refusal.BadCapacity) × (MayOpen l start → ⊥)) ⊎ ((e ≡ Refusal.OutOfMemory) × MayOpen l start)) }
+    ensures refusal { IfErr result (IsOpeningRefused l start) }
 {
     let mut recorder = Recorder::<O>::open(alloc, l, start)?;
     for event in events {
@@ -59,7 +59,7 @@ pub fn drive<O: TreeOrder>(
     ensures safe { IfOk result (λ t. (rs : List (Reply O.Key)) (ws : List (Moment O.Key)) → IsTraceOf O.order l start t rs ws → IsSafe O.order (capacity_of l) start t.events.items rs ws) }
     ensures quiet { IfOk result (λ t. (rs : List (Reply O.Key)) (ws : List (Moment O.Key)) → IsTraceOf O.order l start t rs ws → IsQuiet O.order start t.events.items rs ws) }
     ensures may { IfOk result (λ t. MayOpen l start) }
-    ensures refusal { IfErr result (λ e. ((e ≡ Refusal.BadCapacity) × (MayOpen l start → ⊥)) ⊎ ((e ≡ Refusal.OutOfMemory) × MayOpen l start)) }
+    ensures refusal { IfErr result (IsOpeningRefused l start) }
 {
     let mut recorder = Recorder::<O>::open(alloc, l, start)?;
     for command in commands {

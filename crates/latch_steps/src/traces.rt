@@ -1,9 +1,9 @@
 //! Whole runs, and what they leave.
 
-ghost use Rattle.std.specs.Prelude.{◌≡◌, ◌<◌, ◌^◌, ◌⊎◌, ◌∷◌, [], length, IfOk, IfErr, OnOk};
+ghost use Rattle.std.specs.Prelude.{◌≡◌, ◌<◌, ◌^◌, ◌∷◌, [], length, IfOk, IfErr, OnOk};
 ghost use Rattle.std.specs.FinMap.{get};
-ghost use Rattle.word_arena.specs.Layouts.{capacity_of, limit_of};
-ghost use Rattle.latch_core.specs.Writers.{MayOpen};
+ghost use Rattle.word_arena.specs.Layouts.{capacity_of};
+ghost use Rattle.latch_core.specs.Writers.{MayOpen, IsOpeningRefused};
 ghost use Rattle.latch_steps.specs.declared.events.Event.{Event};
 ghost use Rattle.latch_steps.specs.declared.replies.Reply.{Reply};
 ghost use Rattle.latch_steps.specs.Runs.{Moment, opening, note_of};
@@ -90,7 +90,7 @@ impl<O: TreeOrder> Recorder<O> {
         ensures shows { IfOk result (λ r. Shows O.order r.world (opening (capacity_of l) start)) }
         ensures none { IfOk result (λ r. (r.events.items ≡ []) × (r.notes.items ≡ [])) }
         ensures may { IfOk result (λ r. MayOpen l start) }
-        ensures refusal { IfErr result (λ e. ((e ≡ Refusal.BadCapacity) × (MayOpen l start → ⊥)) ⊎ ((e ≡ Refusal.OutOfMemory) × MayOpen l start)) }
+        ensures refusal { IfErr result (IsOpeningRefused l start) }
     {
         let world = World::open(alloc, l, start)?;
         Ok(Recorder {

@@ -1,9 +1,9 @@
 //! The words, their writer and the lookups in hand, one step at a time.
 
-ghost use Rattle.std.specs.Prelude.{◌≡◌, ℕ, ◌<◌, ◌⊎◌, List, [], ◌++◌, length, IfOk, IfErr, IfSome, IfNone, OnSome, is_some};
+ghost use Rattle.std.specs.Prelude.{◌≡◌, ℕ, ◌<◌, List, [], ◌++◌, length, IfOk, IfErr, IfSome, IfNone, OnSome, is_some};
 ghost use Rattle.word_arena.specs.Words.{at};
 ghost use Rattle.word_arena.specs.Layouts.{capacity_of};
-ghost use Rattle.latch_core.specs.Writers.{MayOpen};
+ghost use Rattle.latch_core.specs.Writers.{MayOpen, IsOpeningRefused};
 ghost use Rattle.latch_core.specs.declared.updates.Update.{Update};
 ghost use Rattle.latch_steps.specs.declared.events.Event.TheVariants.{Begin, Write, Start, Read};
 ghost use Rattle.latch_steps.specs.Runs.{Moment, accepted, opening};
@@ -47,7 +47,7 @@ impl<O: TreeOrder> World<O> {
         ensures shows { IfOk result (λ w. Shows O.order w (opening (capacity_of l) start)) }
         ensures may { IfOk result (λ w. MayOpen l start) }
         ensures after { IfOk result (λ w. IsAfter O.order start [] w) }
-        ensures refusal { IfErr result (λ e. ((e ≡ Refusal.BadCapacity) × (MayOpen l start → ⊥)) ⊎ ((e ≡ Refusal.OutOfMemory) × MayOpen l start)) }
+        ensures refusal { IfErr result (IsOpeningRefused l start) }
     {
         let writer = WriterCore::open(alloc, l, start)?;
         let Ok(words) = opening_words(alloc, l, start) else {

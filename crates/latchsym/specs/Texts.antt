@@ -1,10 +1,9 @@
 -- The lines that a trace writes.
-use Rattle.std.specs.Prelude.{ℕ, List, ◌++◌, Option, codes, decimal}
+use Rattle.std.specs.Prelude.{ℕ, ◌/◌, List, ◌++◌, Option, codes, decimal}
 use Rattle.std.specs.Option.{option_map_or}
 use Rattle.devices.specs.Exact.{hexadecimal}
 use Rattle.order_laws.specs.declared.items.Item.{Item}
 use Rattle.order_laws.specs.Refusals.{number_of}
-use Rattle.latch_core.specs.Sequences.{gen}
 use Rattle.latch_steps.specs.declared.replies.Note.{Note}
 use Rattle.latch_steps.specs.declared.replies.Note.TheVariants.{Returned as Gave, Refused}
 use Rattle.latch_steps.specs.declared.replies.Returned.{Returned}
@@ -31,6 +30,6 @@ abbrev pub note_text : Note ℕ → List ℕ
 note_text (Gave returned) = returned_text returned
 note_text (Refused refusal) = refused_text (number_of refusal)
 
--- the last line
+-- the last line: the sequence, and the generation, which is half of it
 abbrev pub end_text : ℕ → List ℕ
-end_text sequence = codes "seq " ++ decimal sequence ++ codes " gen " ++ decimal (gen sequence) ++ codes "\n"
+end_text sequence = codes "seq " ++ decimal sequence ++ codes " gen " ++ decimal (sequence / 2) ++ codes "\n"

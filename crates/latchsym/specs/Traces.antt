@@ -1,12 +1,11 @@
 -- What is written for a trace that is read.
-use Rattle.std.specs.Prelude.{◌≡◌, ℕ, ◌<◌, ◌≤◌, List, ◌++◌, Bool, true, false, Option, Result, Ok, Err, IfSome, flat_map}
+use Rattle.std.specs.Prelude.{◌≡◌, ℕ, ◌%◌, ◌<◌, ◌≤◌, List, ◌++◌, Bool, true, false, Option, Result, Ok, Err, IfSome, flat_map}
 use Rattle.std.specs.Io.KnownBytes.{Appends}
 use Rattle.devices.specs.declared.counted.Counted.{Counted}
 use Rattle.devices.specs.Counted.{Rose, device_of, failures_of}
 use Rattle.order_laws.specs.Orders.{Order, closed, half_open}
 use Rattle.order_laws.specs.declared.refusals.Refusal.TheVariants as refusal
 use Rattle.word_arena.specs.Words.{at}
-use Rattle.latch_core.specs.Sequences.{stable}
 use Rattle.latch_steps.specs.declared.events.Event.{Event}
 use Rattle.latch_steps.specs.declared.replies.Reply.{Reply}
 use Rattle.latch_steps.specs.Runs.{Moment, Run, last_of, notes_of, opening}
@@ -26,7 +25,7 @@ limit = 4294967294
 pub record MayOpen (h : Header) : Type 0 where
   pub some : 0 < h.capacity
   pub most : h.capacity ≤ 65536
-  pub even : stable h.start ≡ 0
+  pub even : h.start % 2 ≡ 0
   pub within : h.start ≤ limit
 
 abbrev pub MayNotOpen : Header → Type 0

@@ -1,5 +1,5 @@
 //! The lines that a trace writes, byte for byte, with no memory taken.
-ghost use Rattle.std.specs.Prelude.{◌++◌, codes, decimal, flat_map};
+ghost use Rattle.std.specs.Prelude.{decimal, flat_map};
 ghost use Rattle.devices.specs.Exact.{Wrote};
 ghost use Rattle.order_laws.specs.Refusals.{number_of};
 ghost use Rattle.latchsym.specs.Texts.{counts_text, end_text, found_text, note_text, refused_text, returned_text, tag_text};

@@ -1,7 +1,6 @@
 //! The header of a trace.
 ghost use Rattle.std.specs.Prelude.{◌≡◌, map};
 ghost use Rattle.listing.specs.Header.{header_of, header_of_words, header_with, is_closed_of};
-ghost use Rattle.listing.specs.Lines.{words_of};
 
 use crate::lines::{LONGEST_LINE, words_in};
 use crate::numbers::{number, short_number};

@@ -1,6 +1,6 @@
 //! The lines of a text and the words of a line.
-ghost use Rattle.std.specs.Prelude.{◌≡◌, ◌<◌, ◌∷◌, [], ◌↔◌, length, map, IfSome, IfNone, IsTrue, MatchOption};
-ghost use Rattle.listing.specs.Lines.{lines_of, words_of, longest_line};
+ghost use Rattle.std.specs.Prelude.{◌≡◌, ◌<◌, ◌∷◌, [], length, map, IfSome, IfNone, MatchOption};
+ghost use Rattle.listing.specs.Lines.{lines_of, words_of};
 
 use arrayvec::ArrayVec;
 use memchr::memchr;

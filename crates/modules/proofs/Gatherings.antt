@@ -1,5 +1,5 @@
 -- One more symbol line.
-use Rattle.std.proofs.Common.{◌≡◌, ℕ, ◌+◌, Bool, true, false, ◌||◌, not, cond, List, [], ◌∷◌, ◌++◌, length, get_or, map, refl, sym, ap, ◌∙◌, ⊎_elim, arith}
+use Rattle.std.proofs.Common.{◌≡◌, ◌+◌, Bool, true, false, ◌||◌, not, cond, List, [], ◌∷◌, ◌++◌, length, get_or, map, refl, sym, ap, ◌∙◌, ⊎_elim, arith}
 use Rattle.std.specs.Prelude.{filter, count_by, sum_by}
 use Rattle.std.specs.Global.{Vec}
 use Rattle.std.specs.List.{list_any}
@@ -10,7 +10,7 @@ use Rattle.std.proofs.lemmas.List.Sums.{sum_by-append}
 use Rattle.std.proofs.lemmas.List.Folds.{list_any_at, list_any_none}
 use Rattle.modules.specs.Accepted.{Accepted}
 use Rattle.modules.specs.Entries.{SymbolEntry}
-use Rattle.modules.specs.Gathering.{IsHome, HasRoom, Keeps, Gathers, IsEmptyFor}
+use Rattle.modules.specs.Gathering.{IsHome, Keeps, Gathers}
 use Rattle.modules.specs.Kept.{belongs, is_built_in, is_kept, symbols_that, entry_of}
 use Rattle.modules.specs.Listed.{ListedModule, ListedSymbol}
 use Rattle.modules.specs.declared.gathering.Gathered.{Gathered}
@@ -78,22 +78,7 @@ Gathers-more a xs x g h Stray before is keeps =
       stray = keeps.3 ∙ ap (λ n. n + 1) before.stray ∙ sym (count_yes (λ s. not (is_kept a s)) xs x (not_of (is_kept a x) false kept));
     }
 
-pub Gathers-none : (a : Accepted) (g : Gathered) (n : ℕ) → IsEmptyFor n g → n ≡ length a.lines → Gathers a [] g
-Gathers-none a g n empty same =
-    record {
-      built_in = empty.built_in;
-      lists = empty.lists ∙ same;
-      each = λ j d m lt. empty.each j d (omega arith);
-      kept = empty.kept;
-      stray = empty.stray;
-    }
-
 pub counts_more : (home : Home) (e : SymbolEntry) (g h : Gathered) → Keeps home e g h → h.kept + h.stray ≡ (g.kept + g.stray) + 1
 counts_more BuiltIn e g h keeps = omega (arith, keeps.2, keeps.3)
 counts_more (Module place) e g h keeps = omega (arith, keeps.4, keeps.5)
 counts_more Stray e g h keeps = omega (arith, keeps.2, keeps.3)
-
-pub room_from_home : (a : Accepted) (x : ListedSymbol) (g : Gathered) (home : Home) → length g.modules.items ≡ length a.lines → IsHome a x home → HasRoom g home
-room_from_home a x g BuiltIn same is = tt
-room_from_home a x g (Module place) same is = omega (arith, g.modules.ok.0, is.1)
-room_from_home a x g Stray same is = tt

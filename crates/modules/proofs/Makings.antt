@@ -54,7 +54,7 @@ all_fit lines all = λ k d lt.
 abbrev pub entries : Option ModuleEntry → List ModuleEntry → CatalogEntries
 entries built_in modules = record { built_in = built_in; modules = modules }
 
--- what the stages made is the catalog of the lines
+-- what the steps made is the catalog of the lines
 pub catalog_from : (n : Admission) (g : Gathered) (modules : List ListedModule) (symbols : List ListedSymbol) (built_in : Option ModuleEntry) (made : List ModuleEntry) → shown n ≡ accepted_of (built_in_region symbols) modules → Gathers (shown n) symbols g → built_in ≡ built_in_with n.built_in g.built_in.items → AreModules n.lines.items g.modules.items made → entries built_in made ≡ catalog_of modules symbols
 catalog_from n g modules symbols built_in made is gathers first others =
     let region : n.built_in ≡ built_in_region symbols = ap (λ (a : Accepted). a.built_in) is ∙ built_in_kept (none_yet (built_in_region symbols)) modules in
@@ -65,7 +65,7 @@ catalog_from n g modules symbols built_in made is gathers first others =
 abbrev pub counts : ℕ → Accepted → ℕ → ℕ → BuildCounts
 counts n a kept stray = record { modules = n; double = a.double; overlap = a.overlap; symbols = kept; stray = stray }
 
--- what the stages counted are the counts of the lines
+-- what the steps counted are the counts of the lines
 pub counts_from : (n : Admission) (g : Gathered) (modules : List ListedModule) (symbols : List ListedSymbol) (len : ℕ) → shown n ≡ accepted_of (built_in_region symbols) modules → Gathers (shown n) symbols g → len ≡ vec_len n.lines → counts len (shown n) g.kept g.stray ≡ counts_of modules symbols
 counts_from n g modules symbols len is gathers length_is =
     let all : len ≡ length (shown n).lines = length_is ∙ n.lines.ok.0 ∙ sym (length-map n.lines.items (λ (l : Bor ListedModule). l.now)) in

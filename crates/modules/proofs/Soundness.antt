@@ -36,9 +36,6 @@ fits_parts base size h = (grind (arith, nat_tests), grind (arith, nat_tests))
 pub valid_region : (l : ListedModule) → fits l ≡ true → (region_of l).0 < (region_of l).1
 valid_region l h = (fits_parts l.base l.size h).0
 
-pub region_fits : (l : ListedModule) → fits l ≡ true → l.base + l.size < 2 ^ 64
-region_fits l h = (fits_parts l.base l.size h).1
-
 pub AreApart-push : (regions : List (ℕ × ℕ)) (r : ℕ × ℕ) → AreApart regions → r.0 < r.1 → list_all (is_apart r) regions ≡ true → AreApart (regions ++ r ∷ [])
 AreApart-push regions r apart valid beside =
     record {

@@ -1,6 +1,6 @@
 //! Which lines of the listing of modules are accepted.
 
-ghost use Rattle.std.specs.Prelude.{◌≡◌, ◌+◌, ◌<◌, ◌^◌, ℕ, true, All, IfSome, IfOk, OnOk};
+ghost use Rattle.std.specs.Prelude.{◌≡◌, ◌+◌, ◌<◌, ◌^◌, true, All, IfSome, IfOk, OnOk};
 ghost use Rattle.modules.specs.Lines.{fits};
 ghost use Rattle.modules.specs.Accepted.{none_yet, after_line, accepted_of};
 ghost use Rattle.modules.specs.Admissions.{shown, IsTied};

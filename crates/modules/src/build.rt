@@ -1,4 +1,4 @@
-//! How a catalog is built, stage by stage.
+//! How a catalog is built, step by step.
 
 ghost use Rattle.std.specs.Prelude.{◌≡◌, true, All, length, IfOk};
 ghost use Rattle.modules.specs.Lines.{fits};

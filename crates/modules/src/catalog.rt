@@ -1,6 +1,6 @@
 //! The modules that may be loaded, and what a load or an unload changes.
 
-ghost use Rattle.std.specs.Prelude.{◌≡◌, ◌+◌, ◌<◌, ◌^◌, true, All, length, map, IfOk, IfErr};
+ghost use Rattle.std.specs.Prelude.{◌≡◌, ◌+◌, ◌<◌, true, All, length, IfOk, IfErr};
 ghost use Rattle.std.specs.Option.{option_copied};
 ghost use Rattle.modules.specs.Lines.{fits};
 ghost use Rattle.modules.specs.Catalogs.{catalog_of, counts_of, IsSound, module_of, number_of, regions_of, load_of, unload_of};

@@ -1,7 +1,6 @@
 //! Which symbol lines are kept, and in which module.
 
-ghost use Rattle.std.specs.Prelude.{◌≡◌, ◌+◌, ◌<◌, ◌^◌, length, IfOk, OnOk};
-ghost use Rattle.std.specs.Vec.{vec_len};
+ghost use Rattle.std.specs.Prelude.{◌≡◌, ◌+◌, ◌<◌, ◌^◌, IfOk, OnOk};
 ghost use Rattle.modules.specs.Accepted.{names_of};
 ghost use Rattle.modules.specs.Admissions.{shown, IsTied};
 ghost use Rattle.modules.specs.Kept.{AreDistinct, entry_of};

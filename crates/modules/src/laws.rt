@@ -1,7 +1,6 @@
 //! What follows from the definitions, as contracts of functions that do nothing.
 
 ghost use Rattle.std.specs.Prelude.{◌≡◌, ◌+◌, true, All, List, length, sum_by};
-ghost use Rattle.std.specs.Option.{option_to_list};
 ghost use Rattle.modules.specs.Catalogs.{catalog_of, counts_of, entries_of, IsSound};
 ghost use Rattle.modules.specs.Lines.{fits};
 ghost use Rattle.modules.specs.Listed.{ListedModule, ListedSymbol};

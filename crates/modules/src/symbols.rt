@@ -11,6 +11,7 @@ use std::marker::Model;
 /// An address that has a name.
 #[derive(Debug, Drop)]
 pub struct Symbol {
+    /// Where the symbol begins.
     pub addr: u64,
     /// Any bytes.
     pub name: Vec<u8>,

@@ -26,7 +26,7 @@ pub all_at : {X : Type 0} (P : X → Type 0) (xs : List X) (x : X) → AllByRecu
 all_at P xs x h is = All-contains P xs x (All-from_recursion P xs h) is
 
 -- a member of a list is its head or of its rest
-one_member : {X : Type 0} (x y : X) → Contains (x ∷ []) y → x ≡ y
+pub one_member : {X : Type 0} (x y : X) → Contains (x ∷ []) y → x ≡ y
 one_member x y (zero, lt, e) = e
 one_member x y (suc k, lt, e) = absurd (omega arith)
 
@@ -171,10 +171,6 @@ without_table o a (x ∷ xs) t =
       | true ↦ without_table o a xs t.2
       | false ↦ (t.0, all_filtered (Precedes o x) (λ y. not (y.a == a)) xs t.1, without_table o a xs t.2)
     ]
-
--- an item that is valid and apart from each item of a list
-pub IsFree : {K : Type 0} → Order K → Item → List Item → Type 0
-IsFree o i xs = AllByRecursion (λ x. o.apart x i ≡ true) xs
 
 module _ {K : Type 0} (o : Order K) (law : IsLawful o) where
   precedes_all : (i x : Item) (xs : List Item) → o.valid i ≡ true → o.less i x ≡ true → AllByRecursion (λ y. o.apart y i ≡ true) xs → AllByRecursion (Precedes o x) xs → AllByRecursion (Precedes o i) xs

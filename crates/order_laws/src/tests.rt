@@ -1,4 +1,3 @@
-ghost use Rattle.std.specs.Prelude.{ℕ};
 ghost use Rattle.order_laws.specs.Orders.{half_open, half_open_lawful};
 
 use super::*;

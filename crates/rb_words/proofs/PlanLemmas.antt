@@ -36,9 +36,6 @@ listed_remove rs p = listed_chain (remove rs p) ∙ map-remove (λ r. r.node) rs
 as_many_rows : (rs : List Record) → length (listed (chain_tree rs)) ≡ length (items_of rs)
 as_many_rows rs = ap length (listed_chain rs) ∙ length-map rs (λ r. r.node) ∙ sym (length-map rs (λ r. r.item))
 
-as_many_listed : (rs : List Record) → length (listed (chain_tree rs)) ≡ length rs
-as_many_listed rs = ap length (listed_chain rs) ∙ length-map rs (λ r. r.node)
-
 module _ {K : Type 0} (o : Order K) (law : IsLawful o) (n c : ℕ) where
   -- a picture of records, whatever the room
   module _ (rows : Rows) (is : IsPicture o (picture_of n c rows)) (x : Record) (lt : x.node < n) (free : Contains (listed (chain_tree rows.list)) x.node → ⊥) (valid : o.valid x.item ≡ true) (apart : meets o x.item (items_of rows.list) ≡ false) where

@@ -3,7 +3,7 @@
 //! The tree is a chain for now: the root is the least item, each right link leads to the next item, each left link is 0. No
 //! public clause tells so.
 
-ghost use Rattle.std.specs.Prelude.{◌≡◌, ◌↔◌, ◌+◌, ◌*◌, ◌<◌, ◌≤◌, ◌++◌, ◌∷◌, [], map, true, false, List, IsTrue, IfOk, IfErr, Contains, length, take, drop, vec_len, vec_capacity};
+ghost use Rattle.std.specs.Prelude.{◌≡◌, ◌↔◌, ◌+◌, ◌*◌, ◌<◌, ◌≤◌, ◌++◌, [], map, true, false, List, IsTrue, IfOk, IfErr, Contains, length, take, drop, vec_len, vec_capacity};
 ghost use Rattle.order_laws.specs.Tables.{has, meets, without_all, place_for, place_of};
 ghost use Rattle.word_arena.specs.declared.stores.Store.{Store};
 ghost use Rattle.word_arena.specs.Layouts.{capacity_of};

@@ -1,6 +1,6 @@
 //! The text of an answer.
 
-ghost use Rattle.std.specs.Prelude.{◌≤◌, ◌<◌};
+ghost use Rattle.std.specs.Prelude.{◌<◌};
 ghost use Rattle.devices.specs.Exact.{Wrote};
 ghost use Rattle.symbols.specs.Answers.{answer_text, held_text, symbol_text, module_text};
 

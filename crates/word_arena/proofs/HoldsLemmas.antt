@@ -50,9 +50,6 @@ holds_on m m' n copy table same (t, h) = (t, tree_on m m' n copy table t same h)
 pub tree_agree : (m m' : List ℕ) (n copy : ℕ) (table : List Item) (t : Nodes) → Agree (IsCopyWord copy) m m' → Holds m n copy table t → Holds m' n copy table t
 tree_agree m m' n copy table t same h = tree_on m m' n copy table t (λ w u. same w (in_copy m n copy w u)) h
 
-pub holds_agree : (m m' : List ℕ) (n copy : ℕ) (table : List Item) → Agree (IsCopyWord copy) m m' → HoldsTable m n copy table → HoldsTable m' n copy table
-holds_agree m m' n copy table same (t, h) = (t, tree_agree m m' n copy table t same h)
-
 -- stores of words that are not in use in a copy leave its tree and its table
 pub tree_untouched : (m : List ℕ) (n copy : ℕ) (table : List Item) (t : Nodes) (ss : List Store) → AllByRecursion (λ (s : Store). InUse m n copy s.word → ⊥) ss → Holds m n copy table t → Holds (words_after_all m ss) n copy table t
 tree_untouched m n copy table t ss away h = tree_on m (words_after_all m ss) n copy table t (untouched (InUse m n copy) m ss away) h

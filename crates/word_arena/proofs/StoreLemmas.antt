@@ -27,18 +27,6 @@ at_stored m i v lt = get_or-set_same m i v 0 lt
 pub at_other : (m : List ℕ) (i v w : ℕ) → w ≢ i → at (slice_set m i v) w ≡ at m w
 at_other m i v w ne = get_or-set_other m i w v 0 ne
 
--- a store of what the word holds changes nothing that is read
-pub at_same : (m : List ℕ) (i v w : ℕ) → at m i ≡ v → at (slice_set m i v) w ≡ at m w
-at_same m i v w e =
-    ⊎_elim
-    (λ same.
-    ⊎_elim
-    (λ lt. ap (at (slice_set m i v)) same ∙ at_stored m i v lt ∙ sym e ∙ sym (ap (at m) same))
-    (λ ge. ap (λ l. at l w) (set_past m i v ge))
-    (cases_lt i (length m)))
-    (λ ne. at_other m i v w ne)
-    (cases_eq w i)
-
 -- stores elsewhere change nothing; the same stores on words that agree leave words that agree
 pub untouched : (P : ℕ → Type 0) (m : List ℕ) (ss : List Store) → AllByRecursion (λ (s : Store). P s.word → ⊥) ss → Agree P m (words_after_all m ss)
 untouched P m [] h w p = refl

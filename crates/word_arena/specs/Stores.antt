@@ -21,9 +21,6 @@ IsItemWord i w = (w ≡ a_word i) ⊎ (w ≡ b_word i) ⊎ (w ≡ tag_word i)
 abbrev pub IsLinkWord : ℕ → ℕ → ℕ → Type 0
 IsLinkWord n copy w = (w ≡ root_word copy) ⊎ ((i : ℕ) × (i < n) × ((w ≡ left_word copy i) ⊎ (w ≡ right_word copy i)))
 
--- stores of one copy's root and links; stores of one node's item words
+-- stores of one copy's root and links
 abbrev pub AreLinkStores : ℕ → ℕ → List Store → Type 0
 AreLinkStores n copy ss = AllByRecursion (λ s. IsLinkWord n copy s.word) ss
-
-abbrev pub AreItemStores : ℕ → List Store → Type 0
-AreItemStores node ss = AllByRecursion (λ s. IsItemWord node s.word) ss
