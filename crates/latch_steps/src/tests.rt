@@ -57,130 +57,105 @@ fn drives(
 }
 
 #[test]
-fn lookups_between_the_steps_of_an_insert(rt: HostRuntime) -> Result<(), Fail> {
-    let seven = insert(0x1000, 0x2000, 7);
-    // inside the first half
-    drives(
-        &rt,
-        rt.alloc(),
-        4,
-        [
-            seven,
-            Command::WriteFlip,
-            Command::Start(1, 0x1000),
-            Command::Read(1, 3),
-        ]
-        .as_slice(),
-        [(1, 0x1000, None, 0, 3, 1)].as_slice(),
-        1,
-    )?;
-    // inside the second half, copy 1 still old
-    drives(
-        &rt,
-        rt.alloc(),
-        4,
-        [
-            seven,
-            Command::WriteFlip,
-            Command::WriteFlip,
-            Command::Start(1, 0x1000),
-            Command::Read(1, 6),
-        ]
-        .as_slice(),
-        [(1, 0x1000, Some(7), 1, 6, 1)].as_slice(),
-        2,
-    )?;
-    // the reader slept through a whole update
-    drives(
-        &rt,
-        rt.alloc(),
-        4,
-        [
-            Command::Start(1, 0x1000),
-            Command::Read(1, 1),
-            seven,
-            Command::WriteEnd,
-            Command::Read(1, 11),
-        ]
-        .as_slice(),
-        [(1, 0x1000, Some(7), 1, 12, 2)].as_slice(),
-        2,
-    )?;
-    // the second attempt still finds the old table
-    drives(
-        &rt,
-        rt.alloc(),
-        4,
-        [
-            Command::Start(1, 0x1000),
-            Command::Read(1, 2),
-            seven,
-            Command::WriteFlip,
-            Command::Read(1, 4),
-        ]
-        .as_slice(),
-        [(1, 0x1000, None, 0, 6, 2)].as_slice(),
-        1,
-    )
+fn a_lookup_in_the_first_half_of_an_insert(rt: HostRuntime) -> Result<(), Fail> {
+    let commands = [
+        insert(0x1000, 0x2000, 7),
+        Command::WriteFlip,
+        Command::Start(1, 0x1000),
+        Command::Read(1, 3),
+    ];
+    let lines = [(1, 0x1000, None, 0, 3, 1)];
+    drives(&rt, rt.alloc(), 4, &commands, &lines, 1)
+}
+
+// Copy 1 is still the old one.
+#[test]
+fn a_lookup_in_the_second_half_of_an_insert(rt: HostRuntime) -> Result<(), Fail> {
+    let commands = [
+        insert(0x1000, 0x2000, 7),
+        Command::WriteFlip,
+        Command::WriteFlip,
+        Command::Start(1, 0x1000),
+        Command::Read(1, 6),
+    ];
+    let lines = [(1, 0x1000, Some(7), 1, 6, 1)];
+    drives(&rt, rt.alloc(), 4, &commands, &lines, 2)
 }
 
 #[test]
-fn refusals_are_noted_in_their_order(rt: HostRuntime) -> Result<(), Fail> {
-    let refused = |number: u64| (0, number, None, 0, 0, 0);
-    // a second update while one is in hand
-    drives(
-        &rt,
-        rt.alloc(),
-        4,
-        [
-            insert(0x10, 0x20, 1),
-            Command::WriteFlip,
-            insert(0x30, 0x40, 2),
-            Command::WriteEnd,
-            Command::Start(1, 0x10),
-            Command::Read(1, 6),
-        ]
-        .as_slice(),
-        [refused(5), (1, 0x10, Some(1), 1, 6, 1)].as_slice(),
-        2,
-    )?;
-    // a busy and an idle reader
-    drives(
-        &rt,
-        rt.alloc(),
-        4,
-        [
-            Command::Start(1, 0x10),
-            Command::Start(1, 0x20),
-            Command::Read(2, 1),
-            Command::Read(1, 9),
-            Command::Read(1, 1),
-        ]
-        .as_slice(),
-        [refused(8), refused(9), (1, 0x10, None, 0, 3, 1), refused(9)].as_slice(),
-        0,
-    )?;
-    // words of two items mixed: the attempt is made again
-    drives(
-        &rt,
-        rt.alloc(),
-        1,
-        [
-            Command::Begin(Update::Erase(0x99)),
-            insert(0x10, 0x20, 1),
-            Command::WriteEnd,
-            Command::Start(1, 0x28),
-            Command::Read(1, 3),
-            Command::Begin(Update::Erase(0x10)),
-            Command::WriteEnd,
-            insert(0x30, 0x40, 2),
-            Command::Write(4294967295),
-            Command::Read(1, 10),
-        ]
-        .as_slice(),
-        [refused(3), (1, 0x28, None, 3, 13, 2)].as_slice(),
-        6,
-    )
+fn a_reader_sleeps_through_an_update(rt: HostRuntime) -> Result<(), Fail> {
+    let commands = [
+        Command::Start(1, 0x1000),
+        Command::Read(1, 1),
+        insert(0x1000, 0x2000, 7),
+        Command::WriteEnd,
+        Command::Read(1, 11),
+    ];
+    let lines = [(1, 0x1000, Some(7), 1, 12, 2)];
+    drives(&rt, rt.alloc(), 4, &commands, &lines, 2)
+}
+
+#[test]
+fn a_second_attempt_finds_the_old_table(rt: HostRuntime) -> Result<(), Fail> {
+    let commands = [
+        Command::Start(1, 0x1000),
+        Command::Read(1, 2),
+        insert(0x1000, 0x2000, 7),
+        Command::WriteFlip,
+        Command::Read(1, 4),
+    ];
+    let lines = [(1, 0x1000, None, 0, 6, 2)];
+    drives(&rt, rt.alloc(), 4, &commands, &lines, 1)
+}
+
+/// The line of a refusal of this number.
+fn refused(number: u64) -> Line {
+    (0, number, None, 0, 0, 0)
+}
+
+#[test]
+fn a_second_update_while_one_is_in_hand(rt: HostRuntime) -> Result<(), Fail> {
+    let commands = [
+        insert(0x10, 0x20, 1),
+        Command::WriteFlip,
+        insert(0x30, 0x40, 2),
+        Command::WriteEnd,
+        Command::Start(1, 0x10),
+        Command::Read(1, 6),
+    ];
+    let lines = [refused(5), (1, 0x10, Some(1), 1, 6, 1)];
+    drives(&rt, rt.alloc(), 4, &commands, &lines, 2)
+}
+
+#[test]
+fn a_busy_and_an_idle_reader(rt: HostRuntime) -> Result<(), Fail> {
+    let commands = [
+        Command::Start(1, 0x10),
+        Command::Start(1, 0x20),
+        Command::Read(2, 1),
+        Command::Read(1, 9),
+        Command::Read(1, 1),
+    ];
+    let lines = [refused(8), refused(9), (1, 0x10, None, 0, 3, 1), refused(9)];
+    drives(&rt, rt.alloc(), 4, &commands, &lines, 0)
+}
+
+#[test]
+fn words_of_two_items_are_not_answered(rt: HostRuntime) -> Result<(), Fail> {
+    let commands = [
+        Command::Begin(Update::Erase(0x99)),
+        insert(0x10, 0x20, 1),
+        Command::WriteEnd,
+        Command::Start(1, 0x28),
+        Command::Read(1, 3),
+        Command::Begin(Update::Erase(0x10)),
+        Command::WriteEnd,
+        insert(0x30, 0x40, 2),
+        Command::Write(4294967295),
+        Command::Read(1, 10),
+    ];
+    let lines = [refused(3), (1, 0x28, None, 3, 13, 2)];
+    drives(&rt, rt.alloc(), 1, &commands, &lines, 6)
 }
 
 #[test]
@@ -367,40 +342,36 @@ fn loop_over(
     Ok(())
 }
 
-#[test]
-fn lookups_at_every_step_of_inserts_and_erasures(rt: HostRuntime) -> Result<(), Fail> {
-    let mut world = World::<HalfOpen>::open(rt.alloc(), Layout::new(64)?, 0)?;
+/// Inserts 64 adjacent items in a scattered order.
+fn inserts(rt: &impl Abort, world: &mut World<HalfOpen>) -> Result<(), Fail> {
     for i in 0..64u64 {
         let j = 37 * i % 64;
         let update = Update::Insert(item(16 * j, 16 * j + 16, j));
         let old = if 0 < i { Some(0) } else { None };
-        steps_through(
-            &rt,
-            &mut world,
-            update,
-            16 * j,
-            (None, Some(j)),
-            old,
-            (i, i + 1),
-        )?;
-    }
-    let mut items: u64 = 64;
-    for i in 0..64u64 {
-        let j = 37 * i % 64;
-        if j % 2 == 0 {
-            let old = if j == 0 { Some(1) } else { Some(63) };
-            let fewer = items.saturating_sub(1);
-            steps_through(
-                &rt,
-                &mut world,
-                Update::Erase(16 * j),
-                16 * j,
-                (Some(j), None),
-                old,
-                (items, fewer),
-            )?;
-            items = fewer;
-        }
+        let tags = (None, Some(j));
+        steps_through(rt, world, update, 16 * j, tags, old, (i, i + 1))?;
     }
     Ok(())
+}
+
+/// Erases every other of them, in that order.
+fn erases(rt: &impl Abort, world: &mut World<HalfOpen>) -> Result<(), Fail> {
+    let mut items: u64 = 64;
+    for i in 0..32u64 {
+        let j = 74 * i % 64;
+        let old = if j == 0 { Some(1) } else { Some(63) };
+        let fewer = items.saturating_sub(1);
+        let update = Update::Erase(16 * j);
+        let tags = (Some(j), None);
+        steps_through(rt, world, update, 16 * j, tags, old, (items, fewer))?;
+        items = fewer;
+    }
+    Ok(())
+}
+
+#[test]
+fn lookups_at_every_step_of_inserts_and_erasures(rt: HostRuntime) -> Result<(), Fail> {
+    let mut world = World::<HalfOpen>::open(rt.alloc(), Layout::new(64)?, 0)?;
+    inserts(&rt, &mut world)?;
+    erases(&rt, &mut world)
 }
