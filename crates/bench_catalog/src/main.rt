@@ -14,14 +14,16 @@ use std::time::{Clock, Instant};
 use std::{env, io};
 use symbols::symbol_of;
 
-/// Where the kernel itself and the first module begin.
+/// Where the kernel itself begins.
 const KERNEL: u64 = 0xffff_ffff_8100_0000;
 
+/// Where the first module begins.
 const MODULES: u64 = 0xffff_ffff_c000_0000;
 
-/// How many bytes lie between the first addresses of two modules, and how many a module has.
+/// How many bytes lie between the first addresses of two modules.
 const STEP: u64 = 0x10_0000;
 
+/// How many bytes a module has.
 const SIZE: u64 = 0x0f_0000;
 
 /// At most so many modules, so that all of them have addresses.
@@ -48,17 +50,16 @@ fn module_lines(alloc: Global, count: u32) -> Result<Vec<ModuleLine>, AllocError
     Ok(lines)
 }
 
-fn symbol_lines(
+/// Appends the symbols of the kernel itself, `_stext` first and `_end` last.
+fn push_kernel_lines(
     alloc: Global,
-    modules: &[ModuleLine],
+    lines: &mut Vec<SymbolLine>,
     count: u32,
-) -> Result<Vec<SymbolLine>, AllocError> {
-    let mut lines = Vec::new(alloc);
-    let own = count - count / 3;
-    for i in 0..own {
+) -> Result<(), AllocError> {
+    for i in 0..count {
         let name = match i {
             0 => Vec::from_slice(alloc, b"_stext")?,
-            _ if i + 1 == own => Vec::from_slice(alloc, b"_end")?,
+            _ if i + 1 == count => Vec::from_slice(alloc, b"_end")?,
             _ => name(alloc, "symbol", u64::from(i))?,
         };
         lines.push(SymbolLine {
@@ -68,20 +69,41 @@ fn symbol_lines(
             module: None,
         })?;
     }
+    Ok(())
+}
+
+/// Appends so many symbols of a module, in no order.
+fn push_module_lines(
+    alloc: Global,
+    lines: &mut Vec<SymbolLine>,
+    module: &ModuleLine,
+    count: usize,
+) -> Result<(), AllocError> {
+    for i in 0..count {
+        let number = i as u64;
+        lines.push(SymbolLine {
+            addr: module.base.wrapping_add(spread(number) % SIZE),
+            letter: b't',
+            name: name(alloc, "symbol", number)?,
+            module: Some(module.name.clone()?),
+        })?;
+    }
+    Ok(())
+}
+
+fn symbol_lines(
+    alloc: Global,
+    modules: &[ModuleLine],
+    count: u32,
+) -> Result<Vec<SymbolLine>, AllocError> {
+    let mut lines = Vec::new(alloc);
+    push_kernel_lines(alloc, &mut lines, count - count / 3)?;
     if modules.is_empty() {
         return Ok(lines);
     }
     let each = (count / 3) as usize / modules.len();
     for module in modules {
-        for i in 0..each {
-            let number = i as u64;
-            lines.push(SymbolLine {
-                addr: module.base.wrapping_add(spread(number) % SIZE),
-                letter: b't',
-                name: name(alloc, "symbol", number)?,
-                module: Some(module.name.clone()?),
-            })?;
-        }
+        push_module_lines(alloc, &mut lines, module, each)?;
     }
     Ok(lines)
 }

@@ -4,6 +4,8 @@
 //! address up beside. It writes how many events were done and how many of them are noted.
 #![tactic(auto)]
 
+ghost use Rattle.std.specs.Prelude.{◌<◌};
+
 use latch_core::Update;
 use latch_steps::{Command, Trace, drive};
 use order_laws::{HalfOpen, Item, Refusal};
@@ -11,9 +13,10 @@ use std::alloc::{AllocError, Global};
 use std::{env, io};
 use word_arena::Layout;
 
-/// Where the ranges lie apart, and how long each is.
+/// How far the first addresses of two ranges lie apart.
 const STEP: u64 = 32;
 
+/// How long a range is.
 const LENGTH: u64 = 24;
 
 fn insert(place: u64) -> Command<u64> {
@@ -25,7 +28,23 @@ fn insert(place: u64) -> Command<u64> {
     }))
 }
 
-/// The commands of so many rounds at so many ranges.
+/// Appends the commands of so many rounds at so many ranges.
+fn push_rounds(commands: &mut Vec<Command<u64>>, items: u32, rounds: u32) -> Result<(), AllocError>
+    requires { 0 < items }
+{
+    for round in 0..rounds {
+        let place = round as u64 * 40503 % items as u64;
+        commands.push(Command::Start(1, (items as u64 - 1 - place) * STEP))?;
+        commands.push(Command::Begin(Update::Erase(place * STEP)))?;
+        commands.push(Command::WriteEnd)?;
+        commands.push(insert(place))?;
+        commands.push(Command::WriteEnd)?;
+        commands.push(Command::Read(1, 4294967295))?;
+    }
+    Ok(())
+}
+
+/// The commands that insert so many ranges, and those of so many rounds.
 fn commands(alloc: Global, items: u32, rounds: u32) -> Result<Vec<Command<u64>>, AllocError> {
     let mut commands = Vec::new(alloc);
     for place in 0..items {
@@ -33,25 +52,16 @@ fn commands(alloc: Global, items: u32, rounds: u32) -> Result<Vec<Command<u64>>,
         commands.push(Command::WriteEnd)?;
     }
     if items > 0 {
-        for round in 0..rounds {
-            let place = round as u64 * 40503 % items as u64;
-            commands.push(Command::Start(1, (items as u64 - 1 - place) * STEP))?;
-            commands.push(Command::Begin(Update::Erase(place * STEP)))?;
-            commands.push(Command::WriteEnd)?;
-            commands.push(insert(place))?;
-            commands.push(Command::WriteEnd)?;
-            commands.push(Command::Read(1, 4294967295))?;
-        }
+        push_rounds(&mut commands, items, rounds)?;
     }
     Ok(commands)
 }
 
 /// Drives the step machine through the rounds.
 fn rounds(alloc: Global, items: u32, rounds: u32) -> Result<Trace<HalfOpen>, Refusal> {
-    let Ok(commands) = commands(alloc, items, rounds) else {
-        return Err(Refusal::OutOfMemory);
-    };
-    drive::<HalfOpen>(alloc, Layout::new(items)?, 0, commands.as_slice())
+    let layout = Layout::new(items)?;
+    let commands = commands(alloc, items, rounds)?;
+    drive::<HalfOpen>(alloc, layout, 0, commands.as_slice())
 }
 
 fn main(rt: HostRuntime) -> io::Result<()> {

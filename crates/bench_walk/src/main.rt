@@ -15,9 +15,10 @@ use std::io::Print;
 use std::{env, io};
 use word_arena::{Layout, apply};
 
-/// Where the ranges lie apart, and how long each is.
+/// How far the first addresses of two ranges lie apart.
 const STEP: u64 = 32;
 
+/// How long a range is.
 const LENGTH: u64 = 24;
 
 /// The words of a table of `items` ranges, inserted in rising order.

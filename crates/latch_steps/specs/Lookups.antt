@@ -2,6 +2,7 @@
 use Rattle.std.specs.Prelude.{◌≡◌, ℕ, List, [], Option, Some, None}
 use Rattle.std.specs.FinMap.{insert, remove}
 use Rattle.order_laws.specs.Orders.{Order}
+use Rattle.latch_core.specs.declared.readers.ReaderCore.{ReaderCore}
 use Rattle.latch_core.specs.Cores.{capacity_of_core, key_of_core, LeadsTo}
 use Rattle.latch_steps.specs.declared.lookups.Lookup.{Lookup}
 use Rattle.latch_steps.specs.declared.lookups.Loaded.{Loaded}
@@ -27,6 +28,10 @@ IsInHand o n _ _ = ⊥
 -- a lookup that has loaded nothing
 abbrev pub started : {K : Type 0} → K → ℕ → LookupInHand K
 started k first = record { key = k; first = first; loads = 0; tries = 1; values = [] }
+
+-- the lookup as it goes on with this core and these counts
+abbrev pub gone_on : {O K : Type 0} → Lookup O K → ReaderCore O K → ℕ → ℕ → Lookup O K
+gone_on c core loads tries = record { core = core; first = c.first; loads = loads; tries = tries }
 
 -- one load of the lookup that this reader has in hand, from these words, as event number `last`
 abbrev pub LoadsTo : {O K : Type 0} → Order K → ℕ → List ℕ → ℕ → ℕ → LookupInHand K → Loaded O K → Type 0

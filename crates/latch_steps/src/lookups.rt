@@ -41,7 +41,7 @@ pub(crate) enum Held<O: TreeOrder> {
 }
 
 impl<O: TreeOrder> Lookup<O> {
-    ghost use Rattle.latch_steps.specs.Lookups.{IsInHand, IsLookupOf, LoadsTo, started};
+    ghost use Rattle.latch_steps.specs.Lookups.{IsInHand, IsLookupOf, LoadsTo, started, gone_on};
     ghost use Rattle.latch_steps.specs.Held.{LoadsOn};
 
     /// A lookup that has loaded nothing, begun by event number `first`.
@@ -60,12 +60,7 @@ impl<O: TreeOrder> Lookup<O> {
     fn copy(&self) -> Self
         ensures { result ≡ self.now }
     {
-        Lookup {
-            core: self.core.copy(),
-            first: self.first,
-            loads: self.loads,
-            tries: self.tries,
-        }
+        self.with(self.core.copy(), self.loads, self.tries)
     }
 
     /// Loads of the reader, at most so many and up to its return, after `events` events. `done` takes in each of them.
@@ -98,42 +93,34 @@ impl<O: TreeOrder> Lookup<O> {
     {
         let value = word_at(words, self.core.wanted());
         let loads = self.loads.saturating_add(1);
-        let first = self.first;
-        let tries = self.tries;
-        let key = self.core.key();
         match self.core.copy().take(value) {
-            Taken::Going(core) => {
-                let next = Lookup {
-                    core,
-                    first,
-                    loads,
-                    tries,
-                };
-                Loaded::Going(next)
-            }
+            Taken::Going(core) => Loaded::Going(self.with(core, loads, self.tries)),
             Taken::Retrying(core) => {
-                let tries = tries.saturating_add(1);
-                let next = Lookup {
-                    core,
-                    first,
-                    loads,
-                    tries,
-                };
-                Loaded::Retrying(next)
+                let tries = self.tries.saturating_add(1);
+                Loaded::Retrying(self.with(core, loads, tries))
             }
-            Taken::Returned(answer, generation) => {
-                let returned = Returned {
-                    reader,
-                    key,
-                    answer,
-                    generation,
-                    first,
-                    last,
-                    loads,
-                    tries,
-                };
-                Loaded::Returned(returned)
-            }
+            Taken::Returned(answer, generation) => Loaded::Returned(Returned {
+                reader,
+                key: self.core.key(),
+                answer,
+                generation,
+                first: self.first,
+                last,
+                loads,
+                tries: self.tries,
+            }),
+        }
+    }
+
+    /// The lookup as it goes on with this core and these counts.
+    fn with(&self, core: ReaderCore<O>, loads: u64, tries: u64) -> Self
+        ensures { result ≡ gone_on self.now core loads tries }
+    {
+        Lookup {
+            core,
+            first: self.first,
+            loads,
+            tries,
         }
     }
 }

@@ -43,20 +43,27 @@ fn build(
     Catalog::build(alloc, modules, symbols)
 }
 
-#[test]
-fn a_module_and_the_kernel(rt: HostRuntime) -> Result<(), Fail> {
-    let alloc = rt.alloc();
-    let ext4 = b"ext4".as_slice();
-    let modules = [module(alloc, ext4, 0xffff_ffff_c000_0000, 4096)?];
+const EXT4: &[u8] = b"ext4";
+
+const FIRST: u64 = 0xffff_ffff_c000_0000;
+
+/// The kernel itself and one module, of which the first symbol line is stray.
+fn a_module_and_the_kernel(rt: &impl Abort, alloc: Global) -> Result<(Catalog, BuildCounts), Fail> {
+    let modules = [module(alloc, EXT4, FIRST, 4096)?];
     let symbols = [
-        symbol(alloc, 0xffff_ffff_c000_0010, b"ext4_a", Some(ext4))?,
-        symbol(alloc, 0xffff_ffff_c000_0010, b"ext4_b", Some(ext4))?,
-        symbol(alloc, 0xffff_ffff_c000_0040, b"ext4_c", Some(ext4))?,
+        symbol(alloc, 0xffff_ffff_c000_0010, b"ext4_a", Some(EXT4))?,
+        symbol(alloc, 0xffff_ffff_c000_0010, b"ext4_b", Some(EXT4))?,
+        symbol(alloc, 0xffff_ffff_c000_0040, b"ext4_c", Some(EXT4))?,
         symbol(alloc, 0xffff_ffff_8100_0000, b"_stext", None)?,
         symbol(alloc, 0xffff_ffff_8100_0100, b"do_one", None)?,
         symbol(alloc, 0xffff_ffff_8100_2000, b"_end", None)?,
     ];
-    let (catalog, counts) = build(&rt, alloc, &modules, &symbols)?;
+    Ok(build(rt, alloc, &modules, &symbols)?)
+}
+
+#[test]
+fn lines_are_counted(rt: HostRuntime) -> Result<(), Fail> {
+    let (catalog, counts) = a_module_and_the_kernel(&rt, rt.alloc())?;
     let expected = BuildCounts {
         modules: 1,
         double: 0,
@@ -66,27 +73,45 @@ fn a_module_and_the_kernel(rt: HostRuntime) -> Result<(), Fail> {
     };
     assert_eq!(rt; counts, expected);
     assert_eq!(rt; catalog.regions(), 2);
+    Ok(())
+}
 
+#[test]
+fn loads_and_unloads(rt: HostRuntime) -> Result<(), Fail> {
+    let (catalog, _) = a_module_and_the_kernel(&rt, rt.alloc())?;
     let insert = |a, b, tag| Ok(Update::Insert(Item { a, b, tag }));
-    let first = 0xffff_ffff_c000_0000;
     assert_eq!(rt;
         catalog.load(1, false),
-        insert(first, 0xffff_ffff_c000_1000, 1)
+        insert(FIRST, 0xffff_ffff_c000_1000, 1)
     );
     assert_eq!(rt; catalog.load(1, true), Err(Refusal::AlreadyLoaded));
-    assert_eq!(rt; catalog.unload(1, true), Ok(Update::Erase(first)));
+    assert_eq!(rt; catalog.unload(1, true), Ok(Update::Erase(FIRST)));
     assert_eq!(rt; catalog.unload(1, false), Err(Refusal::NotLoaded));
     let kernel = insert(0xffff_ffff_8100_0000, 0xffff_ffff_8100_2000, 0);
     assert_eq!(rt; catalog.load(0, false), kernel);
     assert_eq!(rt; catalog.load(9, true), Err(Refusal::UnknownModule));
     assert_eq!(rt; catalog.unload(2, true), Err(Refusal::UnknownModule));
-    assert_eq!(rt; catalog.number_of(b"-"), Some(0));
-    assert_eq!(rt; catalog.number_of(ext4), Some(1));
-    assert_eq!(rt; catalog.number_of(b"nfs"), None);
+    Ok(())
+}
 
+#[test]
+fn numbers_and_names(rt: HostRuntime) -> Result<(), Fail> {
+    let (catalog, _) = a_module_and_the_kernel(&rt, rt.alloc())?;
+    assert_eq!(rt; catalog.number_of(b"-"), Some(0));
+    assert_eq!(rt; catalog.number_of(EXT4), Some(1));
+    assert_eq!(rt; catalog.number_of(b"nfs"), None);
+    let kernel = catalog.module(0).ok_or("no module 0")?;
+    assert_eq!(rt; kernel.name(), b"-".as_slice());
+    assert_eq!(rt; catalog.module(1).ok_or("no module 1")?.name(), EXT4);
+    assert!(rt; catalog.module(2).is_none());
+    Ok(())
+}
+
+#[test]
+fn the_parts_of_a_module(rt: HostRuntime) -> Result<(), Fail> {
+    let (catalog, _) = a_module_and_the_kernel(&rt, rt.alloc())?;
     let ext4 = catalog.module(1).ok_or("no module 1")?;
-    assert_eq!(rt; ext4.name(), b"ext4".as_slice());
-    assert_eq!(rt; ext4.regions(), [(first, 0xffff_ffff_c000_1000)].as_slice());
+    assert_eq!(rt; ext4.regions(), [(FIRST, 0xffff_ffff_c000_1000)].as_slice());
     assert_eq!(rt; ext4.symbols().len(), 3);
     let second = &ext4.symbols()[1];
     assert_eq!(rt; second.name.as_slice(), b"ext4_b".as_slice());
@@ -94,8 +119,6 @@ fn a_module_and_the_kernel(rt: HostRuntime) -> Result<(), Fail> {
     let below = below.ok_or("no symbol")?;
     assert_eq!(rt; below.name.as_slice(), b"ext4_a".as_slice());
     assert_eq!(rt; above, Some(0xffff_ffff_c000_0040));
-    let kernel = catalog.module(0).ok_or("no module 0")?;
-    assert_eq!(rt; kernel.name(), b"-".as_slice());
     Ok(())
 }
 
@@ -146,12 +169,11 @@ fn no_lines(rt: HostRuntime) -> Result<(), Fail> {
     Ok(())
 }
 
+// A module that meets the kernel, one that is named as the kernel, one that ends at the greatest address.
 #[test]
 fn the_edges_of_the_kernel(rt: HostRuntime) -> Result<(), Fail> {
     let alloc = rt.alloc();
     let own = b"own".as_slice();
-
-    // A module that meets the kernel, one that is named as the kernel, one that ends at the greatest address.
     let modules = [
         module(alloc, b"meets", 0x1ff0, 0x20)?,
         module(alloc, b"-", 0x2000, 0x10)?,
@@ -176,22 +198,32 @@ fn the_edges_of_the_kernel(rt: HostRuntime) -> Result<(), Fail> {
     };
     assert_eq!(rt; counts, expected);
     assert_eq!(rt; catalog.number_of(b"-"), Some(0));
-    assert_eq!(rt;
-        catalog.module(1).ok_or("no module 1")?.name(),
-        b"-".as_slice()
-    );
+    let dash = catalog.module(1).ok_or("no module 1")?;
+    assert_eq!(rt; dash.name(), b"-".as_slice());
     assert_eq!(rt; catalog.module(2).ok_or("no module 2")?.symbols().len(), 1);
+    Ok(())
+}
 
-    // `_end` is not above `_stext`, or `_stext` is of a module alone.
-    let turned = [
+#[test]
+fn no_kernel_where_its_end_is_not_above_its_start(rt: HostRuntime) -> Result<(), Fail> {
+    let alloc = rt.alloc();
+    let symbols = [
         symbol(alloc, 0x1000, b"_end", None)?,
         symbol(alloc, 0x1000, b"_stext", None)?,
     ];
-    assert_eq!(rt; build(&rt, alloc, &[], &turned)?.0.regions(), 0);
-    let owned = [
-        symbol(alloc, 0x1000, b"_stext", Some(own))?,
+    let (catalog, _) = build(&rt, alloc, &[], &symbols)?;
+    assert_eq!(rt; catalog.regions(), 0);
+    Ok(())
+}
+
+#[test]
+fn no_kernel_where_its_start_is_of_a_module(rt: HostRuntime) -> Result<(), Fail> {
+    let alloc = rt.alloc();
+    let symbols = [
+        symbol(alloc, 0x1000, b"_stext", Some(b"own"))?,
         symbol(alloc, 0x2000, b"_end", None)?,
     ];
-    assert_eq!(rt; build(&rt, alloc, &[], &owned)?.0.regions(), 0);
+    let (catalog, _) = build(&rt, alloc, &[], &symbols)?;
+    assert_eq!(rt; catalog.regions(), 0);
     Ok(())
 }
