@@ -234,7 +234,7 @@ module _ {O K : Type 0} (o : Order K) (law : IsLawful o) (old : World O K) (r : 
   not_begun new why reply may e start' us h =
       ⊎_elim
       (λ does. let d = does h.moment h.shows in by (get h.moment.lookups r) refl d.0 d.1 d.2)
-      (λ up. inl ((let f = up.0 in cc), up.1 h.moment h.shows))
+      (λ up. let kept = up.1 h.moment h.shows in inl ((let f = up.0 in cc), kept.0, kept.1))
       may
     where
       by : (found : Option (LookupInHand K)) → get h.moment.lookups r ≡ found → (w' : Moment K) → Starts h.moment r k found reply w' → Shows o new w' → IsNotBegun o h r why new

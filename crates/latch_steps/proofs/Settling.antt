@@ -104,13 +104,13 @@ module _ {O K : Type 0} (o : Order K) (law : IsLawful o) (old new : World O K) (
         sound = subst (λ l. IsSound o (capacity_of l) start (us ++ accepted e r) d.0.latch) (sym lay) (step_sound o (capacity_of (layout_in old)) start us h.moment h.sound law (limit_of (layout_in old)) e r d.0 d.1);
       }
 
-  gives_after : (r : Reply K) → GivesUp o old r new → IsAfter o start us new
-  gives_after r up = record { moment = h.moment; shows = up.1 h.moment h.shows; sound = subst (λ l. IsSound o (capacity_of l) start us h.moment.latch) (sym lay) h.sound }
+  gives_after : (e : Event K) (r : Reply K) → GivesUp o old e r new → IsAfter o start us new
+  gives_after e r up = record { moment = h.moment; shows = (up.1 h.moment h.shows).1; sound = subst (λ l. IsSound o (capacity_of l) start us h.moment.latch) (sym lay) h.sound }
 
-  refused_after : (e : Event K) (r : Reply K) → accepted e (Refused OutOfMemory) ≡ [] → GivesUp o old r new → IsAfter o start (us ++ accepted e r) new
+  refused_after : (e : Event K) (r : Reply K) → accepted e (Refused OutOfMemory) ≡ [] → GivesUp o old e r new → IsAfter o start (us ++ accepted e r) new
   refused_after e r none up =
       let same : us ++ accepted e r ≡ us = ap (λ q. us ++ accepted e q) up.0 ∙ ap (λ vs. us ++ vs) none ∙ append-nil us in
-      subst (λ vs. IsAfter o start vs new) (sym same) (gives_after r up)
+      subst (λ vs. IsAfter o start vs new) (sym same) (gives_after e r up)
 
   pub step_after : (e : Event K) (r : Reply K) → Steps o old e r new → IsAfter o start (us ++ accepted e r) new
   step_after (Begin u) r s = ⊎_elim (does_after (Begin u) r) (refused_after (Begin u) r refl) s

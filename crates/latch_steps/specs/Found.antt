@@ -61,6 +61,6 @@ pub record Finds {O K : Type 0} (o : Order K) (old : World O K) (w : Moment K) (
   pub run : Run o (capacity_of (layout_in old)) (limit_of (layout_in old)) w (Start r k ∷ es) (Started ∷ rs ++ Gave x ∷ []) ws
   pub shows : Shows o new (last_of w ws)
 
--- a lookup that was not begun: for want of memory, with nothing changed; or since the reader has one in hand
+-- a lookup that was not begun: for want of memory, where the reader has none in hand, with nothing changed; or since it has
 abbrev pub IsNotBegun : {O K : Type 0} (o : Order K) {start' : ℕ} {us : List Update} {c : World O K} → IsAfter o start' us c → ℕ → Refusal → World O K → Type 0
-IsNotBegun o h r why new = ((why ≡ OutOfMemory) × Shows o new h.moment) ⊎ ((why ≡ ReaderBusy) × (is_some (get h.moment.lookups r) ≡ true) × Shows o new (counted h.moment))
+IsNotBegun o h r why new = ((why ≡ OutOfMemory) × (get h.moment.lookups r ≡ None) × Shows o new h.moment) ⊎ ((why ≡ ReaderBusy) × (is_some (get h.moment.lookups r) ≡ true) × Shows o new (counted h.moment))

@@ -1,5 +1,5 @@
 -- When a world of the code shows a moment of the definitions, and what its methods do then.
-use Rattle.std.specs.Prelude.{◌≡◌, ℕ, ◌⊎◌, Option, None}
+use Rattle.std.specs.Prelude.{◌≡◌, ℕ, ◌⊎◌, Option, None, is_some}
 use Rattle.std.specs.Ordering.{nat_cmp}
 use Rattle.std.specs.BTreeMap.{get as tree_get}
 use Rattle.std.specs.FinMap.{FinMap, get}
@@ -7,6 +7,8 @@ use Rattle.order_laws.specs.declared.refusals.Refusal.TheVariants.{OutOfMemory}
 use Rattle.order_laws.specs.Orders.{Order}
 use Rattle.word_arena.specs.declared.layouts.Layout.{Layout}
 use Rattle.word_arena.specs.Layouts.{capacity_of, limit_of}
+use Rattle.word_arena.specs.Words.{at}
+use Rattle.latch_core.specs.Updates.{refuses}
 use Rattle.latch_core.specs.Writers.{Pictures}
 use Rattle.latch_steps.specs.declared.events.Event.{Event}
 use Rattle.latch_steps.specs.declared.events.Event.TheVariants.{Begin, Write, Start, Read}
@@ -43,12 +45,20 @@ abbrev pub Does : {O K : Type 0} → Order K → World O K → Event K → Reply
 Does {O} {K} o old e reply new =
     (w : Moment K) → Shows o old w → (next : Moment K) × Step o (capacity_of (layout_in old)) (limit_of (layout_in old)) w e reply next × Shows o new next
 
--- it is refused for want of memory, and nothing has changed
-abbrev pub GivesUp : {O K : Type 0} → Order K → World O K → Reply K → World O K → Type 0
-GivesUp {O} {K} o old reply new = (reply ≡ Refused OutOfMemory) × ((w : Moment K) → Shows o old w → Shows o new w)
+-- nothing stands against the event but want of memory, which only these two may lack
+abbrev pub IsUnopposed : {K : Type 0} → Order K → ℕ → ℕ → Moment K → Event K → Type 0
+IsUnopposed o n limit w (Begin u) = refuses o n limit (is_some w.latch.hand) w.latch.table (at w.latch.words 0) u ≡ None
+IsUnopposed o n limit w (Start r k) = get w.lookups r ≡ None
+IsUnopposed o n limit w _ = ⊥
+
+-- it is refused for want of memory, where nothing else stands against it, and nothing has changed
+abbrev pub GivesUp : {O K : Type 0} → Order K → World O K → Event K → Reply K → World O K → Type 0
+GivesUp {O} {K} o old e reply new =
+    (reply ≡ Refused OutOfMemory)
+    × ((w : Moment K) → Shows o old w → IsUnopposed o (capacity_of (layout_in old)) (limit_of (layout_in old)) w e × Shows o new w)
 
 abbrev pub MayDo : {O K : Type 0} → Order K → World O K → Event K → Reply K → World O K → Type 0
-MayDo o old e reply new = Does o old e reply new ⊎ GivesUp o old reply new
+MayDo o old e reply new = Does o old e reply new ⊎ GivesUp o old e reply new
 
 -- one event: only the two that take memory may be given up
 abbrev pub Steps : {O K : Type 0} → Order K → World O K → Event K → Reply K → World O K → Type 0

@@ -226,40 +226,117 @@ fn was_current(
     Ok(current && look(table.as_slice(), x.key) == x.answer)
 }
 
-/// A list of events with three readers: each lookup that returned is compared with the plain replay of the history, and
-/// all notes with those of a run of the whole list.
-fn interrupts(rt: &impl Abort, alloc: Global, seed: u64, start: u64) -> Result<(), Fail> {
-    let mut state = seed;
-    let mut world = World::<HalfOpen>::open(alloc, Layout::new(8)?, start)?;
-    let mut events = Vec::new(alloc);
-    let mut notes = Vec::new(alloc);
-    let mut updates = Vec::new(alloc);
-    let mut sequences = vec![in alloc; start]?;
-    let mut returned: u64 = 0;
-    for _ in 0..2500 {
-        let event = some_event(&mut state);
-        let reply = world.step(event);
-        events.push(event)?;
-        sequences.push(world.sequence())?;
-        if let Event::Begin(update) = event
-            && let Reply::Begun(_) = reply
-        {
-            updates.push(update)?;
+/// A world beside a plain account of what was done to it.
+#[derive(Drop)]
+struct Account {
+    layout: Layout,
+    start: u64,
+    world: World<HalfOpen>,
+    events: Vec<Event<u64>>,
+    notes: Vec<Note<u64>>,
+    /// The accepted updates, and how many steps the last one has left.
+    updates: Vec<Update>,
+    left: u64,
+    /// The sequence before the first event and after each.
+    sequences: Vec<u64>,
+    /// Whether each of three readers has a lookup in hand.
+    busy: [bool; 3],
+    returned: u64,
+}
+
+impl Account {
+    fn open(alloc: Global, layout: Layout, start: u64) -> Result<Self, Fail> {
+        Ok(Account {
+            layout,
+            start,
+            world: World::open(alloc, layout, start)?,
+            events: Vec::new(alloc),
+            notes: Vec::new(alloc),
+            updates: Vec::new(alloc),
+            left: 0,
+            sequences: vec![in alloc; start]?,
+            busy: [false; 3],
+            returned: 0,
+        })
+    }
+
+    fn is_busy(&self, reader: u32) -> bool {
+        self.busy.get(reader as usize).copied() == Some(true)
+    }
+
+    /// Why an event is refused, by the plain programs.
+    fn refuses(&self, alloc: Global, event: Event<u64>) -> Result<Option<Refusal>, Fail> {
+        let why = match event {
+            Event::Begin(update) => {
+                let table = plain::replay::<HalfOpen>(alloc, &self.updates)?;
+                let sequence = self.world.sequence();
+                plain::refuses::<HalfOpen>(self.layout, self.left > 0, &table, sequence, update)
+            }
+            Event::Start(reader, _) if self.is_busy(reader) => Some(Refusal::ReaderBusy),
+            Event::Read(reader) if !self.is_busy(reader) => Some(Refusal::ReaderIdle),
+            _ => None,
+        };
+        Ok(why)
+    }
+
+    /// Takes in what an event came to.
+    fn follow(&mut self, event: Event<u64>, reply: Reply<u64>) -> Result<(), Fail> {
+        match (event, reply) {
+            (Event::Begin(update), Reply::Begun(left)) => {
+                self.updates.push(update)?;
+                self.left = left;
+            }
+            (Event::Write, Reply::Wrote(_)) => self.left = self.left.saturating_sub(1),
+            (Event::Start(reader, _), Reply::Started) => self.set_busy(reader, true),
+            (Event::Read(reader), Reply::Returned(_)) => self.set_busy(reader, false),
+            _ => {}
         }
-        if let Reply::Returned(x) = reply {
-            assert!(rt; was_current(alloc, &x, start, sequences.as_slice(), updates.as_slice())?);
-            notes.push(Note::Returned(x))?;
-            returned = returned.saturating_add(1);
-        }
-        if let Reply::Refused(why) = reply {
-            notes.push(Note::Refused(why))?;
+        self.events.push(event)?;
+        self.sequences.push(self.world.sequence())?;
+        Ok(())
+    }
+
+    fn set_busy(&mut self, reader: u32, busy: bool) {
+        if let Some(entry) = self.busy.get_mut(reader as usize) {
+            *entry = busy;
         }
     }
-    assert!(rt; 20 < returned);
-    let trace = run::<HalfOpen>(alloc, Layout::new(8)?, start, events.as_slice())?;
-    assert!(rt; trace.events.as_slice() == events.as_slice());
-    assert!(rt; trace.notes.as_slice() == notes.as_slice());
-    assert_eq!(rt; trace.sequence, world.sequence());
+
+    /// Does an event, and compares what it comes to with the plain account.
+    fn step(&mut self, rt: &impl Abort, alloc: Global, event: Event<u64>) -> Result<(), Fail> {
+        let refused = self.refuses(alloc, event)?;
+        let reply = self.world.step(event);
+        self.follow(event, reply)?;
+        match reply {
+            Reply::Refused(why) => {
+                assert_eq!(rt; Some(why), refused);
+                self.notes.push(Note::Refused(why))?;
+            }
+            Reply::Returned(x) => {
+                assert!(rt; was_current(alloc, &x, self.start, &self.sequences, &self.updates)?);
+                self.returned = self.returned.saturating_add(1);
+                self.notes.push(Note::Returned(x))?;
+            }
+            _ => assert_eq!(rt; refused, None),
+        }
+        Ok(())
+    }
+}
+
+/// A list of events with three readers: each reply is compared with the plain replay of the history, and all notes with
+/// those of a run of the whole list.
+fn interrupts(rt: &impl Abort, alloc: Global, seed: u64, start: u64) -> Result<(), Fail> {
+    let layout = Layout::new(8)?;
+    let mut state = seed;
+    let mut account = Account::open(alloc, layout, start)?;
+    for _ in 0..2500 {
+        account.step(rt, alloc, some_event(&mut state))?;
+    }
+    assert!(rt; 20 < account.returned);
+    let trace = run::<HalfOpen>(alloc, layout, start, &account.events)?;
+    assert!(rt; trace.events.as_slice() == account.events.as_slice());
+    assert!(rt; trace.notes.as_slice() == account.notes.as_slice());
+    assert_eq!(rt; trace.sequence, account.world.sequence());
     Ok(())
 }
 

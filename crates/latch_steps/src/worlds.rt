@@ -22,8 +22,8 @@ use word_arena::{Layout, Store};
 /// The words of a latched tree with their writer, the lookups in hand by reader, and the count of events, which stays at
 /// the greatest `u64`.
 ///
-/// Its methods do one event each. A refused event is counted too, unless it was refused for want of memory, which changes
-/// nothing.
+/// `step` does one event, `settle` and `find_now` as many as they need. A refused event is counted too, unless it was refused
+/// for want of memory, which changes nothing.
 #[derive(Drop)]
 pub struct World<O: TreeOrder> {
     layout: Layout,
@@ -64,7 +64,8 @@ impl<O: TreeOrder> World<O> {
 
     /// Does one event.
     ///
-    /// Begin and Start may be refused by [`Refusal::OutOfMemory`], and nothing has changed then.
+    /// Begin and Start may be refused by [`Refusal::OutOfMemory`] where nothing else stands against them, and nothing has changed
+    /// then.
     pub fn step(&mut self, event: Event<O::Key>) -> Reply<O::Key>
         ensures layout { layout_in self.new ≡ layout_in self.old }
         ensures steps { Steps O.order self.old event result self.new }
@@ -184,7 +185,7 @@ impl<O: TreeOrder> World<O> {
     ///
     /// No step of the writer comes between, so the lookup returns at its first attempt within `4n + 3` loads at a table of
     /// `n` items, also where the writer stands inside an update. Refused by [`Refusal::ReaderBusy`] where the reader has a
-    /// lookup in hand, and by [`Refusal::OutOfMemory`].
+    /// lookup in hand, else perhaps by [`Refusal::OutOfMemory`].
     pub fn find_now(&mut self, reader: u32, key: O::Key) -> Result<Returned<O::Key>, Refusal>
         ensures layout { layout_in self.new ≡ layout_in self.old }
         ensures finds { IfOk result (λ x. (w : Moment O.Key) → Shows O.order self.old w → Finds O.order self.old w reader key x self.new) }

@@ -16,7 +16,7 @@ returns-after-why-clause-steps g c =
     let err = c.in-Err.ensures in
     elim c.match-why.branch [
       | in-OutOfMemory w ↦ subst (MayDo o c.args.self.now (Begin c.args.update) (Refused c.in-Err.why)) (sym w.self-is)
-          (given_up o c.args.self.now c.args.update c.in-Err.why c.begin.new.self err.unchanged w.in-OutOfMemory.is)
+          (given_up o c.args.self.now c.args.update c.in-Err.why c.begin.new.self err.unchanged err.refusal w.in-OutOfMemory.is)
       | in_default w ↦ subst (MayDo o c.args.self.now (Begin c.args.update) (Refused c.in-Err.why)) (sym w.self-is)
           (refused o c.args.self.now c.args.update c.in-Err.why _ c.begin.new.self err.unchanged err.refusal w.in_default.not-OutOfMemory w.saturating_add-self-in_default.ensures)
     ]
