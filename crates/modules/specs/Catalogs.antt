@@ -1,5 +1,5 @@
 -- The catalog of two listings, and what is asked of it.
-use Rattle.std.specs.Prelude.{◌≡◌, ℕ, ◌+◌, zero, suc, Bool, not, if◌then◌else◌, List, [], ◌∷◌, ◌++◌, length, slice_index_or, slice_get, map, count_by, codes, All, Option, Result, Ok, Err}
+use Rattle.std.specs.Prelude.{◌≡◌, ℕ, ◌+◌, zero, suc, Bool, not, if◌then◌else◌, List, ◌++◌, length, slice_index_or, slice_get, map, count_by, codes, All, Option, Result, Ok, Err}
 use Rattle.std.specs.List.{flat_map, position_from}
 use Rattle.std.specs.Option.{option_map, option_map_or, option_to_list}
 use Rattle.std.specs.Str.{bytes_eq}
@@ -8,9 +8,10 @@ use Rattle.latch_core.specs.declared.updates.Update.TheVariants.{Insert, Erase}
 use Rattle.order_laws.specs.declared.refusals.Refusal.{Refusal}
 use Rattle.order_laws.specs.declared.refusals.Refusal.TheVariants.{UnknownModule, AlreadyLoaded, NotLoaded}
 use Rattle.modules.specs.Accepted.{accepted_of}
+use Rattle.modules.specs.Building.{built_in_with, module_with}
 use Rattle.modules.specs.Entries.{CatalogEntries, ModuleEntry}
 use Rattle.modules.specs.Kept.{AreDistinct, belongs, is_built_in, is_kept, symbols_that}
-use Rattle.modules.specs.Lines.{built_in_region, region_of}
+use Rattle.modules.specs.Lines.{built_in_region}
 use Rattle.modules.specs.Listed.{ListedModule, ListedSymbol}
 use Rattle.modules.specs.Names.{names_in}
 use Rattle.modules.specs.Regions.{AreApart}
@@ -18,11 +19,11 @@ use Rattle.modules.specs.declared.catalog.BuildCounts.{BuildCounts}
 
 -- the kernel itself, with the symbols that have no module and lie in its region
 abbrev pub built_in_of : Option (ℕ × ℕ) → List ListedSymbol → Option ModuleEntry
-built_in_of built_in symbols = option_map (λ region. record { name = codes "-"; regions = region ∷ []; symbols = symbols_that (is_built_in built_in) symbols }) built_in
+built_in_of built_in symbols = built_in_with built_in (symbols_that (is_built_in built_in) symbols)
 
 -- the module of an accepted line, with the symbols that belong to it
 abbrev pub entry_for : List ListedSymbol → ListedModule → ModuleEntry
-entry_for symbols line = record { name = line.name; regions = region_of line ∷ []; symbols = symbols_that (belongs line) symbols }
+entry_for symbols line = module_with line (symbols_that (belongs line) symbols)
 
 -- the kernel itself where it has a region, and a module for each accepted line
 abbrev pub catalog_of : List ListedModule → List ListedSymbol → CatalogEntries

@@ -70,10 +70,7 @@ impl Catalog {
         ensures sound { IfOk result (λ r. IsSound r.0) }
         ensures refused { IfErr result (λ e. e ≡ Refusal.OutOfMemory) }
     {
-        match assemble(alloc, modules, symbols) {
-            Ok(built) => Ok(built),
-            Err(_) => Err(Refusal::OutOfMemory),
-        }
+        Ok(assemble(alloc, modules, symbols)?)
     }
 
     /// The module of a number.
