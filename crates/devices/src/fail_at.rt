@@ -9,8 +9,8 @@ use std::io::{ErrorKind, Read, Write};
 
 /// A reader or a writer over memory that fails at one of its calls, and at no other.
 ///
-/// Reads, writes and flushes are its calls. The call that fails has an error of the kind `Other`,
-/// and leaves the memory as it was. A writer's memory may also be refused, by the kind `OutOfMemory`.
+/// Reads, writes and flushes are its calls. The call that fails has an error of the kind
+/// `Interrupted`, which loops of std would pass over, and leaves the memory as it was. A writer's memory may also be refused, by the kind `OutOfMemory`.
 #[derive(Drop)]
 pub struct FailAt<D> {
     memory: D,
@@ -63,7 +63,7 @@ impl Read for FailAt<&[u8]> {
         ensures countdown { calls_to_failure self.new ≡ calls_to_failure self.old - 1 }
     {
         if self.is_due() {
-            return Err(io::Error::from(ErrorKind::Other));
+            return Err(io::Error::from(ErrorKind::Interrupted));
         }
         self.memory.read(buf)
     }
@@ -79,12 +79,12 @@ impl Write for FailAt<Vec<u8>> {
         ensures bytes { WriteAppends (Some (memory_of self.old).items) (Some (memory_of self.new).items) result buf.now }
         ensures whole { IfOk result (λ n. n ≡ length buf.now) }
 
-        ensures fails { calls_to_failure self.old ≡ 1 → IsErrAnd result (λ e. error_kind e ≡ ErrorKind.Other) }
+        ensures fails { calls_to_failure self.old ≡ 1 → IsErrAnd result (λ e. error_kind e ≡ ErrorKind.Interrupted) }
         ensures no_memory { calls_to_failure self.old ≢ 1 → IfErr result (λ e. error_kind e ≡ ErrorKind.OutOfMemory) }
         ensures countdown { calls_to_failure self.new ≡ calls_to_failure self.old - 1 }
     {
         if self.is_due() {
-            return Err(io::Error::from(ErrorKind::Other));
+            return Err(io::Error::from(ErrorKind::Interrupted));
         }
         self.memory.write(buf)
     }
@@ -96,7 +96,7 @@ impl Write for FailAt<Vec<u8>> {
         ensures countdown { calls_to_failure self.new ≡ calls_to_failure self.old - 1 }
     {
         if self.is_due() {
-            return Err(io::Error::from(ErrorKind::Other));
+            return Err(io::Error::from(ErrorKind::Interrupted));
         }
         self.memory.flush()
     }

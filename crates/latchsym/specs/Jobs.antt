@@ -31,7 +31,7 @@ AnswersMatches entered result = AnswersFile (traced_file entered) result
 
 -- a parse that failed by this error
 abbrev pub IsFaultOf : Error → JobFault → Type 0
-IsFaultOf error OutOfMemory = Unit {0}
+IsFaultOf error OutOfMemory = kind_of error ≡ kind.OutOfMemory
 IsFaultOf error (CommandLine e) = (e ≡ error) × (kind_of e ≢ kind.OutOfMemory)
 IsFaultOf error NoJob = ⊥
 
