@@ -6,8 +6,7 @@ set -eu
 modules=${1:-200}
 symbols=${2:-2000000}
 lookups=${3:-10000000}
-top=$(cd "$(dirname "$0")/.." && pwd)
-program=$top/crates/bench_catalog/out/bench_catalog
-[ -x "$program" ] || (cd "$top/crates/bench_catalog" && rt run >/dev/null)
+. "$(dirname "$0")/../tests/program.sh"
+build bench_catalog
 
 /usr/bin/time -f 'most memory: %M kB' "$program" "$modules" "$symbols" "$lookups"

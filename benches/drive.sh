@@ -4,8 +4,7 @@
 set -eu
 items=${1:-1000}
 rounds=${2:-500}
-top=$(cd "$(dirname "$0")/.." && pwd)
-program=$top/crates/bench_drive/out/bench_drive
-[ -x "$program" ] || (cd "$top/crates/bench_drive" && rt run >/dev/null)
+. "$(dirname "$0")/../tests/program.sh"
+build bench_drive
 
 /usr/bin/time -f '%e s, most memory: %M kB' "$program" "$items" "$rounds"

@@ -1,7 +1,8 @@
 #!/usr/bin/env bash
-# How long the program takes over long traces, beside `wc -l` of the same file. The program is built where it is missing.
+# How long the program takes over long traces, beside `wc -l` of the same file.
 set -eu
 . "$(dirname "$0")/../tests/program.sh"
+build latchsym
 
 # trace LINES: a small table, one update in every thousand lines, and lookups of 4 readers
 trace() {

@@ -3,12 +3,8 @@
 # counts them. COUNT lookups each, a million if none is given.
 set -eu
 count=${1:-1000000}
-top=$(cd "$(dirname "$0")/.." && pwd)
-program=$top/crates/bench_walk/out/bench_walk
-[ -x "$program" ] || (cd "$top/crates/bench_walk" && rt run >/dev/null)
-
-work=$(mktemp -d)
-trap 'rm -rf "$work"' EXIT
+. "$(dirname "$0")/../tests/program.sh"
+build bench_walk
 
 # instructions COUNT ITEMS: of the whole program; its output is kept
 instructions() {

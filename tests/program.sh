@@ -1,10 +1,13 @@
-# Read by the scripts that run the program: `top` is the repository, `program` the program, which is built where it is missing
-# or older than a source, and `work` a folder that is gone when the script ends.
+# Read by the scripts that run a program: `top` is the repository, and `work` a folder that is gone when the script ends.
 top=$(cd "$(dirname "${BASH_SOURCE[0]}")/.." && pwd)
-program=$top/crates/latchsym/out/latchsym
-if [ ! -x "$program" ] || [ -n "$(find "$top"/crates/*/src "$top/crates.txt" -newer "$program" -print -quit)" ]; then
-    (cd "$top/crates/latchsym" && rt run -- --help >/dev/null)
-fi
 
 work=$(mktemp -d)
 trap 'rm -rf "$work"' EXIT
+
+# build CRATE: makes the crate's program `program`, and builds it where it is missing or older than a source
+build() {
+    program=$top/crates/$1/out/$1
+    if [ ! -x "$program" ] || [ -n "$(find "$top"/crates/*/src "$top/crates.txt" -newer "$program" -print -quit)" ]; then
+        (cd "$top/crates/$1" && rt run -- --help >"$work/build" 2>&1) || cat "$work/build" >&2
+    fi
+}

@@ -3,9 +3,9 @@
 # gives with ample memory, or nothing on standard output, `latchsym: refused 7` on standard error and status 1.
 #
 # The program is linked to the C library dynamically, so a library in front of it can refuse a request. Needs a C compiler.
-# The program is built where it is missing.
 set -eu
 . "$(dirname "$0")/program.sh"
+build latchsym
 cat >"$work/refuse.c" <<'C'
 #include <errno.h>
 #include <fcntl.h>

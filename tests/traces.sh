@@ -5,6 +5,7 @@
 # table after it from there on.
 set -eu
 . "$(dirname "$0")/program.sh"
+build latchsym
 cd "$top/examples/traces"
 failed=0
 
