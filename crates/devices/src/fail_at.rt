@@ -10,7 +10,8 @@ use std::io::{ErrorKind, Read, Write};
 /// A reader or a writer over memory that fails at one of its calls, and at no other.
 ///
 /// Reads, writes and flushes are its calls. The call that fails has an error of the kind
-/// `Interrupted`, which loops of std would pass over, and leaves the memory as it was. A writer's memory may also be refused, by the kind `OutOfMemory`.
+/// `Interrupted`, which loops of std would pass over, and leaves the memory as it was. A writer's
+/// memory may also be refused, by the kind `OutOfMemory`.
 #[derive(Drop)]
 pub struct FailAt<D> {
     memory: D,
