@@ -68,6 +68,16 @@ impl Fault {
     }
 }
 
+impl From<Refusal> for Fault {
+    ghost use Rattle.latchsym.specs.declared.fault.Fault.TheVariants.{Refused};
+
+    ghost from_gives = { λ refusal fault. fault ≡ Refused refusal };
+
+    fn from(refusal: Refusal) -> Fault {
+        Fault::Refused(refusal)
+    }
+}
+
 /// Writes the line that says why the job failed, and answers the program's status. Where the writer
 /// fails too, the status is all that there is to tell.
 pub fn report<W: Write>(fault: &Fault, job: &Job<'_>, writer: &mut Counted<W>) -> u8

@@ -57,14 +57,8 @@ fn run_in<O: TreeOrder<Key = u64>, W: Write>(
 ) -> Result<u8, Fault>
     ensures { AnswersIn O.order W.contents (contents_of trace.now) writer.old writer.new result }
 {
-    let layout = match Layout::new(trace.header.capacity) {
-        Ok(layout) => layout,
-        Err(refusal) => return Err(Fault::Refused(refusal)),
-    };
-    let run = match drive::<O>(alloc, layout, trace.header.start, &trace.commands) {
-        Ok(run) => run,
-        Err(refusal) => return Err(Fault::Refused(refusal)),
-    };
+    let layout = Layout::new(trace.header.capacity)?;
+    let run = drive::<O>(alloc, layout, trace.header.start, &trace.commands)?;
     match put_trace(writer, &run.notes, run.sequence) {
         Ok(()) => Ok(0),
         Err(_) => Err(Fault::Write),
