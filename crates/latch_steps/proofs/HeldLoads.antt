@@ -1,9 +1,7 @@
 -- Loads of a lookup that is held apart.
-use Rattle.std.proofs.Common.{◌≡◌, ◌≢◌, ℕ, ◌+◌, ◌<◌, true, false, cond, List, [], ◌∷◌, ◌++◌, length, Option, Some, None, refl, sym, ◌∙◌, ap, subst, ⊎_elim, arith, length-append, append_assoc, append-nil}
-use Rattle.std.specs.Ordering.{nat_cmp, eq_by_cmp}
-use Rattle.std.specs.Cmp.{nat_cmp_total}
-use Rattle.std.specs.FinMap.{FinMap, get, insert, remove, get-remove}
-use Rattle.std.proofs.lemmas.Bool.Decides.{nat_tests}
+use Rattle.std.proofs.Common.{◌≡◌, ◌≢◌, ℕ, ◌+◌, ◌<◌, cond, List, [], ◌∷◌, ◌++◌, length, Option, Some, None, refl, sym, ◌∙◌, ap, subst, arith, length-append, append_assoc, append-nil}
+use Rattle.std.specs.Ordering.{nat_cmp}
+use Rattle.std.specs.FinMap.{get, insert, remove}
 use Rattle.order_laws.specs.declared.refusals.Refusal.TheVariants.{ReaderIdle}
 use Rattle.order_laws.specs.Orders.{Order}
 use Rattle.latch_steps.specs.declared.events.Event.{Event}
@@ -20,23 +18,19 @@ use Rattle.latch_steps.specs.declared.lookups.Held.TheVariants.{Going as Holds, 
 use Rattle.latch_steps.specs.Runs.{LookupInHand, Moment, more, with_lookups, Reads, Run, last_of, notes_of}
 use Rattle.latch_steps.specs.Lookups.{IsInHand, IsLookupOf, LoadsTo}
 use Rattle.latch_steps.specs.Held.{lookup_of, notes_of_held, IsHolding, LoadsOn}
-use Rattle.latch_steps.proofs.Undisturbed.{get_insert_same, get_insert_other, get_remove_other}
+use Rattle.latch_steps.proofs.Readers.{get_insert_same, get_insert_other, get_remove_same, get_remove_other, in_hand_at}
 use Rattle.latch_core.specs.Latches.{Latch}
 use Rattle.latch_core.specs.Writers.{Pictures}
 use Rattle.word_arena.specs.Layouts.{capacity_of, limit_of}
 use Rattle.std.specs.List.{cons_option}
 use Rattle.std.specs.BTreeMap.{BTreeMap, get as tree_get, is_at}
-use Rattle.std.proofs.lemmas.Bool.{cases_eq}
 use Rattle.latch_steps.specs.declared.worlds.World.{World}
 use Rattle.latch_steps.specs.declared.lookups.Held.{Held}
-use Rattle.latch_steps.specs.Shows.{AreInHand, Shows, Does}
+use Rattle.latch_steps.specs.Shows.{Shows, Does}
 use Rattle.latch_steps.specs.Expands.{reads_within, Repeats}
 use Rattle.latch_steps.specs.HeldReads.{ReadsOn}
 use Rattle.latch_steps.proofs.Showing.{shown, shown_none}
 use Rattle.latch_steps.proofs.Recording.{run_append, last_append, notes_append, Unended, unended_push, repeats_full, repeats_ended}
-
-get_remove_same : {X : Type 0} (m : FinMap nat_cmp X) (r : ℕ) → get (remove m r) r ≡ None
-get_remove_same m r = let same : eq_by_cmp nat_cmp r r ≡ true = grind (arith, nat_tests) in get-remove nat_cmp_total m r r ∙ ap (λ b. cond b None (get m r)) same
 
 -- loads so far, none of which returned
 pub record Loading {O K : Type 0} (o : Order K) (n limit : ℕ) (w : Moment K) (r : ℕ) (most turn : ℕ) (before now : List (Event K)) (c : Lookup O K) (count : ℕ) : Type 0 where
@@ -130,19 +124,6 @@ module _ {O K : Type 0} (o : Order K) (n limit : ℕ) (w : Moment K) (r most : �
 
 -- the lookup is put back, or taken out
 module _ {O K : Type 0} (o : Order K) (c : World O K) (r : ℕ) where
-  in_hand_at : (n : ℕ) (cs ds : ℕ → Option (Lookup O K)) (ls ms : FinMap nat_cmp (LookupInHand K)) (left : Option (Lookup O K)) → AreInHand o n cs ls → ((q : ℕ) → ds q ≡ cond (is_at (nat_cmp r) q) left (cs q)) → IsInHand o n left (get ms r) → ((q : ℕ) → q ≢ r → get ms q ≡ get ls q) → AreInHand o n ds ms
-  in_hand_at n cs ds ls ms left h e is others q =
-      ⊎_elim
-      (λ same.
-      let here : is_at (nat_cmp r) r ≡ true = grind (arith, nat_tests) in
-      let f : ds r ≡ left = e r ∙ ap (λ b. cond b left (cs r)) here in
-      subst (λ j. IsInHand {O = O} o n (ds j) (get ms j)) (sym same) (subst (λ x. IsInHand {O = O} o n x (get ms r)) (sym f) is))
-      (λ ne.
-      let there : is_at (nat_cmp r) q ≡ false = grind (arith, nat_tests) in
-      let f : ds q ≡ cs q = e q ∙ ap (λ b. cond b left (cs q)) there in
-      subst (λ x. IsInHand {O = O} o n x (get ms q)) (sym f) (subst (λ x. IsInHand {O = O} o n (cs q) x) (sym (others q ne)) (h q)))
-      (cases_eq q r)
-
   held_shows : (w v : Moment K) (left : Option (Lookup O K)) (ds : BTreeMap ℕ (Lookup O K)) (count : ℕ) → Shows o c w → IsHolding o (capacity_of c.layout) w v r left count → ((q : ℕ) → tree_get nat_cmp ds q ≡ cond (is_at (nat_cmp r) q) left (tree_get nat_cmp c.lookups q)) → Shows o (record c { lookups = ds; events = count }) v
   held_shows w v left ds count s h e =
       record {
@@ -150,7 +131,7 @@ module _ {O K : Type 0} (o : Order K) (c : World O K) (r : ℕ) where
         limit = s.limit;
         words = s.words ∙ ap (λ (l : Latch). l.words) (sym h.latch);
         writer = subst (Pictures c.writer) (sym h.latch) s.writer;
-        lookups = in_hand_at (capacity_of c.layout) (tree_get nat_cmp c.lookups) (tree_get nat_cmp ds) w.lookups v.lookups left s.lookups e h.lookup h.others;
+        lookups = in_hand_at o (capacity_of c.layout) (tree_get nat_cmp c.lookups) (tree_get nat_cmp ds) w.lookups v.lookups r left s.lookups e h.lookup h.others;
         events = h.events;
       }
 

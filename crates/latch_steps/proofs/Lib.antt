@@ -1,4 +1,5 @@
 mod Moments
+mod Readers
 mod SafeRuns
 mod Latched
 mod Undisturbed

@@ -26,7 +26,7 @@ use Rattle.latch_steps.specs.declared.worlds.World.{World}
 use Rattle.latch_steps.specs.Runs.{LookupInHand, Moment, more, wanted, Gets, Reads, Starts, Run, last_of, history}
 use Rattle.latch_steps.specs.Shows.{Shows, Does, MayDo, layout_in}
 use Rattle.latch_steps.specs.Found.{IsAfter, IsFound, Finds, IsNotBegun}
-use Rattle.latch_steps.proofs.Undisturbed.{get_insert_same}
+use Rattle.latch_steps.proofs.Readers.{get_insert_same}
 use Rattle.latch_steps.proofs.Recording.{run_append, last_append}
 use Rattle.latch_steps.proofs.Settling.{run_sound, none_accepted, all_push}
 

@@ -2,11 +2,9 @@
 use Rattle.std.proofs.Common.{◌≡◌, ◌≢◌, ℕ, ◌+◌, ◌<◌, ◌≤◌, Bool, true, false, cond, List, [], ◌∷◌, length, Option, Some, None, refl, sym, ◌∙◌, ap, subst, inl, inr, ⊎_elim, arith, Vec, Global}
 use Rattle.std.specs.Prelude.{◌⊎◌, is_some, nat_lt, not, ◌==◌}
 use Rattle.std.proofs.lemmas.Bool.{lt-ltb}
-use Rattle.std.specs.Ordering.{nat_cmp, eq_by_cmp}
-use Rattle.std.specs.Cmp.{nat_cmp_total}
+use Rattle.std.specs.Ordering.{nat_cmp}
 use Rattle.std.specs.BTreeMap.{BTreeMap, get as tree_get, is_at}
-use Rattle.std.specs.FinMap.{FinMap, get, insert, remove, empty, get-insert, get-remove, get-empty}
-use Rattle.std.proofs.lemmas.Bool.Decides.{nat_tests}
+use Rattle.std.specs.FinMap.{FinMap, get, insert, remove, empty, get-empty}
 use Rattle.order_laws.specs.declared.refusals.Refusal.{Refusal}
 use Rattle.order_laws.specs.declared.refusals.Refusal.TheVariants.{OutOfMemory, ReaderBusy, ReaderIdle, BadItem, Overlap, NoSuchItem, Full, SequenceSpent}
 use Rattle.order_laws.specs.declared.items.Item.{Item}
@@ -32,6 +30,7 @@ use Rattle.latch_steps.specs.declared.worlds.World.{World}
 use Rattle.latch_steps.specs.Runs.{LookupInHand, Moment, more, counted, with_latch, with_lookups, Begins, Writes, Starts, Reads}
 use Rattle.latch_steps.specs.Expands.{writes_left}
 use Rattle.latch_steps.specs.Lookups.{IsInHand, IsLookupOf, LoadsTo, started}
+use Rattle.latch_steps.proofs.Readers.{in_hand_set, in_hand_remove}
 use Rattle.latch_steps.specs.Shows.{AreInHand, Shows, Does, MayDo, IsAtRest}
 
 -- the lookup in hand that is shown
@@ -50,23 +49,6 @@ module _ {O K : Type 0} (o : Order K) (n : ℕ) where
   shown_some None m e h = absurd (cc)
   shown_some (Some k) None e h = absurd h
   shown_some (Some k) (Some l) e h = (l, refl)
-
-  -- lookups that are changed at one reader
-  pub in_hand_set : (cs ds : ℕ → Option (Lookup O K)) (ls : FinMap nat_cmp (LookupInHand K)) (r : ℕ) (new : Lookup O K) (l : LookupInHand K) → AreInHand o n cs ls → ((q : ℕ) → ds q ≡ cond (is_at (nat_cmp r) q) (Some new) (cs q)) → IsLookupOf o n new l → AreInHand o n ds (insert ls r l)
-  in_hand_set cs ds ls r new l h e is q =
-      let turn : eq_by_cmp nat_cmp q r ≡ is_at (nat_cmp r) q = grind (arith, nat_tests) in
-      let f : get (insert ls r l) q ≡ cond (is_at (nat_cmp r) q) (Some l) (get ls q) = get-insert nat_cmp_total ls r l q ∙ ap (λ b. cond b (Some l) (get ls q)) turn in
-      let both : IsInHand {O = O} o n (cond (is_at (nat_cmp r) q) (Some new) (cs q)) (cond (is_at (nat_cmp r) q) (Some l) (get ls q)) =
-      elim (is_at (nat_cmp r) q) as (λ b. IsInHand {O = O} o n (cond b (Some new) (cs q)) (cond b (Some l) (get ls q))) [ true ↦ is | false ↦ h q ] in
-      subst (λ x. IsInHand {O = O} o n x (get (insert ls r l) q)) (sym (e q)) (subst (IsInHand o n (cond (is_at (nat_cmp r) q) (Some new) (cs q))) (sym f) both)
-
-  pub in_hand_remove : (cs ds : ℕ → Option (Lookup O K)) (ls : FinMap nat_cmp (LookupInHand K)) (r : ℕ) → AreInHand o n cs ls → ((q : ℕ) → ds q ≡ cond (is_at (nat_cmp r) q) None (cs q)) → AreInHand o n ds (remove ls r)
-  in_hand_remove cs ds ls r h e q =
-      let turn : eq_by_cmp nat_cmp q r ≡ is_at (nat_cmp r) q = grind (arith, nat_tests) in
-      let f : get (remove ls r) q ≡ cond (is_at (nat_cmp r) q) None (get ls q) = get-remove nat_cmp_total ls r q ∙ ap (λ b. cond b None (get ls q)) turn in
-      let both : IsInHand {O = O} o n (cond (is_at (nat_cmp r) q) None (cs q)) (cond (is_at (nat_cmp r) q) None (get ls q)) =
-      elim (is_at (nat_cmp r) q) as (λ b. IsInHand {O = O} o n (cond b None (cs q)) (cond b None (get ls q))) [ true ↦ tt | false ↦ h q ] in
-      subst (λ x. IsInHand {O = O} o n x (get (remove ls r) q)) (sym (e q)) (subst (IsInHand o n (cond (is_at (nat_cmp r) q) None (cs q))) (sym f) both)
 
 -- want of memory is no test of an update
 module _ {K : Type 0} (o : Order K) (n limit : ℕ) where

@@ -1,11 +1,8 @@
 -- A lookup that the writer leaves alone returns at its first attempt, and each other attempt needs a flip.
-use Rattle.std.proofs.Common.{◌≡◌, ◌≢◌, ℕ, ◌+◌, ◌-◌, ◌*◌, ◌^◌, ◌<◌, ◌≤◌, true, false, cond, List, [], ◌∷◌, ◌++◌, length, take, Option, Some, None, refl, sym, ◌∙◌, ap, subst, arith, length-append, append_assoc}
+use Rattle.std.proofs.Common.{◌≡◌, ◌≢◌, ℕ, ◌+◌, ◌-◌, ◌*◌, ◌^◌, ◌<◌, ◌≤◌, true, false, List, [], ◌∷◌, ◌++◌, length, take, Option, Some, None, refl, sym, ◌∙◌, ap, subst, arith, length-append, append_assoc}
 use Rattle.std.specs.Prelude.{◌==◌, MatchBool}
-use Rattle.std.specs.Ordering.{nat_cmp, eq_by_cmp}
-use Rattle.std.specs.Cmp.{nat_cmp_total}
-use Rattle.std.specs.FinMap.{FinMap, get, insert, remove, get-insert, get-remove}
+use Rattle.std.specs.FinMap.{get}
 use Rattle.std.proofs.lemmas.Bool.{eqb-true, eqb-false}
-use Rattle.std.proofs.lemmas.Bool.Decides.{nat_tests}
 use Rattle.order_laws.specs.declared.items.Item.{Item}
 use Rattle.latch_core.specs.declared.updates.Update.{Update}
 use Rattle.order_laws.specs.declared.refusals.Refusal.{Refusal}
@@ -25,25 +22,9 @@ use Rattle.latch_steps.specs.Quiet.{Undisturbed, UnlessWrote, Returning, FromSta
 use Rattle.std.proofs.lemmas.List.{take-append-le}
 use Rattle.latch_core.proofs.Readings.{rest_push, stand_push}
 use Rattle.latch_steps.proofs.Moments.{IsWorld, step_leads}
+use Rattle.latch_steps.proofs.Readers.{get_insert_same, get_insert_other, get_remove_other}
 use Rattle.latch_steps.proofs.SafeRuns.{gen_within}
 use Rattle.latch_core.proofs.Walks.{attempt_answers, attempt_below}
-
--- a map at a key, after a change at another and at this one
-apart_keys : (q r : ℕ) → q ≢ r → eq_by_cmp nat_cmp q r ≡ false
-apart_keys q r ne = grind (arith, nat_tests)
-
-one_key : (r : ℕ) → eq_by_cmp nat_cmp r r ≡ true
-one_key r = grind (arith, nat_tests)
-
-module _ {X : Type 0} where
-  pub get_insert_same : (m : FinMap nat_cmp X) (r : ℕ) (x : X) → get (insert m r x) r ≡ Some x
-  get_insert_same m r x = get-insert nat_cmp_total m r x r ∙ ap (λ b. cond b (Some x) (get m r)) (one_key r)
-
-  pub get_insert_other : (m : FinMap nat_cmp X) (q r : ℕ) (x : X) → q ≢ r → get (insert m r x) q ≡ get m q
-  get_insert_other m q r x ne = get-insert nat_cmp_total m r x q ∙ ap (λ b. cond b (Some x) (get m q)) (apart_keys q r ne)
-
-  pub get_remove_other : (m : FinMap nat_cmp X) (q r : ℕ) → q ≢ r → get (remove m r) q ≡ get m q
-  get_remove_other m q r ne = get-remove nat_cmp_total m r q ∙ ap (λ b. cond b None (get m q)) (apart_keys q r ne)
 
 -- a lookup whose values all stand in this memory
 record IsCalm {K : Type 0} (o : Order K) (n : ℕ) (m : List ℕ) (w : Moment K) (r : ℕ) : Type 0 where

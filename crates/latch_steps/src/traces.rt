@@ -7,7 +7,7 @@ ghost use Rattle.latch_core.specs.Writers.{MayOpen, IsOpeningRefused};
 ghost use Rattle.latch_steps.specs.declared.events.Event.{Event};
 ghost use Rattle.latch_steps.specs.declared.replies.Reply.{Reply};
 ghost use Rattle.latch_steps.specs.Runs.{Moment, opening, note_of};
-ghost use Rattle.latch_steps.specs.GivesUp.{gives_up, is_out_of_memory};
+ghost use Rattle.latch_steps.specs.GivesUp.{gives_up};
 ghost use Rattle.latch_steps.specs.Expands.{most_of, reads_within};
 ghost use Rattle.latch_steps.specs.Quiet.{is_flip};
 ghost use Rattle.word_arena.specs.Words.{at};
@@ -50,22 +50,12 @@ fn note_of<K: Copy>(reply: &Reply<K>) -> Option<Note<K>>
     }
 }
 
-/// Whether a refusal is for want of memory.
-fn is_out_of_memory(why: Refusal) -> bool
-    ensures { result ≡ is_out_of_memory why }
-{
-    match why {
-        Refusal::OutOfMemory => true,
-        _ => false,
-    }
-}
-
 /// Whether a reply is for want of memory.
 fn gives_up<K: Copy>(reply: &Reply<K>) -> bool
     ensures { result ≡ gives_up reply.now }
 {
     match reply {
-        Reply::Refused(why) => is_out_of_memory(*why),
+        Reply::Refused(Refusal::OutOfMemory) => true,
         _ => false,
     }
 }

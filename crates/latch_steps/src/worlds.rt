@@ -50,9 +50,7 @@ impl<O: TreeOrder> World<O> {
         ensures refusal { IfErr result (IsOpeningRefused l start) }
     {
         let writer = WriterCore::open(alloc, l, start)?;
-        let Ok(words) = opening_words(alloc, l, start) else {
-            return Err(Refusal::OutOfMemory);
-        };
+        let words = opening_words(alloc, l, start)?;
         Ok(World {
             layout: l,
             words,

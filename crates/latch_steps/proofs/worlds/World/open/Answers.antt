@@ -12,7 +12,7 @@ returns-clause-shows g c =
     record {
       capacity = ap (λ (v : WriterView). v.capacity) ok.opened;
       limit = ap (λ (v : WriterView). v.limit) ok.opened;
-      words = c.in-Ok.ensures;
+      words = c.in_ok-words.ensures;
       writer = ok.pictures;
       lookups = none_in_hand g.O.TreeOrder.order (capacity_of c.args.l) c.new.result c.new.ensures.empty;
       events = refl;
@@ -26,7 +26,7 @@ returns-clause-after g c =
       shows = record {
         capacity = ap (λ (v : WriterView). v.capacity) ok.opened;
         limit = ap (λ (v : WriterView). v.limit) ok.opened;
-        words = c.in-Ok.ensures;
+        words = c.in_ok-words.ensures;
         writer = ok.pictures;
         lookups = none_in_hand g.O.TreeOrder.order (capacity_of c.args.l) c.new.result c.new.ensures.empty;
         events = refl;
