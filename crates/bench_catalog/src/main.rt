@@ -6,7 +6,7 @@
 #![tactic(auto)]
 
 use latch_core::Update;
-use modules::{Catalog, ModuleLine, SymbolLine};
+use modules::{Catalog, ModuleLine, SymbolLine, SymbolLines};
 use order_laws::Item;
 use std::alloc::{AllocError, Global};
 use std::io::{Eprint, Print};
@@ -34,36 +34,49 @@ fn spread(i: u64) -> u64 {
     i.wrapping_mul(0x9e37_79b9_7f4a_7c15) >> 20
 }
 
-fn name(alloc: Global, kind: &str, number: u64) -> Result<Vec<u8>, AllocError> {
-    Ok(format!(in alloc; "{kind}_{number}")?.into_bytes())
+/// So many names of one kind, each of them a line.
+fn names(alloc: Global, kind: &str, count: u32) -> Result<Vec<u8>, AllocError> {
+    let mut text = Vec::new(alloc);
+    for i in 0..count {
+        let name = format!(in alloc; "{kind}_{i}\n")?;
+        text.extend_from_slice(name.as_bytes())?;
+    }
+    Ok(text)
 }
 
-fn module_lines(alloc: Global, count: u32) -> Result<Vec<ModuleLine>, AllocError> {
+/// The lines of a text.
+fn lines_of(alloc: Global, text: &[u8]) -> Result<Vec<&[u8]>, AllocError> {
+    text.split(|byte| *byte == b'\n')
+        .filter(|line| !line.is_empty())
+        .collect(alloc)
+}
+
+fn module_lines<'a>(alloc: Global, names: &[&'a [u8]]) -> Result<Vec<ModuleLine<'a>>, AllocError> {
     let mut lines = Vec::new(alloc);
-    for i in 0..count.min(MOST) {
+    for name in names {
+        let base = MODULES.wrapping_add((lines.len() as u64).wrapping_mul(STEP));
         lines.push(ModuleLine {
-            name: name(alloc, "module", u64::from(i))?,
-            base: MODULES + u64::from(i) * STEP,
+            name: *name,
+            base,
             size: SIZE,
         })?;
     }
     Ok(lines)
 }
 
-/// Appends the symbols of the kernel itself, `_stext` first and `_end` last.
-fn push_kernel_lines(
-    alloc: Global,
-    lines: &mut Vec<SymbolLine>,
-    count: u32,
+/// Puts down the symbols of the kernel itself, `_stext` first and `_end` last.
+fn push_kernel_lines<'a>(
+    lines: &mut SymbolLines<'a>,
+    names: &[&'a [u8]],
 ) -> Result<(), AllocError> {
-    for i in 0..count {
+    for (i, name) in names.iter().enumerate() {
         let name = match i {
-            0 => Vec::from_slice(alloc, b"_stext")?,
-            _ if i + 1 == count => Vec::from_slice(alloc, b"_end")?,
-            _ => name(alloc, "symbol", u64::from(i))?,
+            0 => b"_stext".as_slice(),
+            _ if i == names.len() - 1 => b"_end".as_slice(),
+            _ => *name,
         };
         lines.push(SymbolLine {
-            addr: KERNEL.wrapping_add(u64::from(i) * 16),
+            addr: KERNEL.wrapping_add((i as u64).wrapping_mul(16)),
             letter: b'T',
             name,
             module: None,
@@ -72,38 +85,37 @@ fn push_kernel_lines(
     Ok(())
 }
 
-/// Appends so many symbols of a module, in no order.
-fn push_module_lines(
-    alloc: Global,
-    lines: &mut Vec<SymbolLine>,
-    module: &ModuleLine,
-    count: usize,
+/// Puts down the symbols of a module, in no order.
+fn push_module_lines<'a>(
+    lines: &mut SymbolLines<'a>,
+    module: &ModuleLine<'a>,
+    names: &[&'a [u8]],
 ) -> Result<(), AllocError> {
-    for i in 0..count {
-        let number = i as u64;
+    for (i, name) in names.iter().enumerate() {
         lines.push(SymbolLine {
-            addr: module.base.wrapping_add(spread(number) % SIZE),
+            addr: module.base.wrapping_add(spread(i as u64) % SIZE),
             letter: b't',
-            name: name(alloc, "symbol", number)?,
-            module: Some(module.name.clone()?),
+            name: *name,
+            module: Some(module.name),
         })?;
     }
     Ok(())
 }
 
-fn symbol_lines(
+/// Lines of symbols of these names, a third of them in modules.
+fn symbol_lines<'a>(
     alloc: Global,
-    modules: &[ModuleLine],
-    count: u32,
-) -> Result<Vec<SymbolLine>, AllocError> {
-    let mut lines = Vec::new(alloc);
-    push_kernel_lines(alloc, &mut lines, count - count / 3)?;
-    if modules.is_empty() {
+    modules: &[ModuleLine<'a>],
+    names: &[&'a [u8]],
+) -> Result<SymbolLines<'a>, AllocError> {
+    let mut lines = SymbolLines::new(alloc);
+    let (own, others) = names.split_at(names.len() / 3);
+    push_kernel_lines(&mut lines, others)?;
+    if modules.is_empty() || own.len() < modules.len() {
         return Ok(lines);
     }
-    let each = (count / 3) as usize / modules.len();
-    for module in modules {
-        push_module_lines(alloc, &mut lines, module, each)?;
+    for (module, names) in modules.iter().zip(own.chunks(own.len() / modules.len())) {
+        push_module_lines(&mut lines, module, names)?;
     }
     Ok(lines)
 }
@@ -147,8 +159,10 @@ fn run<R: Print + Eprint + Clock>(
     symbols: u32,
     lookups: u32,
 ) -> io::Result<()> {
-    let module_lines = module_lines(alloc, modules)?;
-    let symbol_lines = symbol_lines(alloc, &module_lines, symbols)?;
+    let module_names = names(alloc, "module", modules.min(MOST))?;
+    let symbol_names = names(alloc, "symbol", symbols)?;
+    let module_lines = module_lines(alloc, &lines_of(alloc, &module_names)?)?;
+    let symbol_lines = symbol_lines(alloc, &module_lines, &lines_of(alloc, &symbol_names)?)?;
     if !module_lines.iter().all(|line| line.fits()) {
         return eprintln!(rt; "a module has no region");
     }

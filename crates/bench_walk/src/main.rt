@@ -1,39 +1,38 @@
 //! Lookups in words that nobody changes, for a measure of a reader's steps.
 //!
-//! `bench_walk COUNT ITEMS..` makes, for each number of items, a table of so many ranges, looks COUNT addresses up in it by
-//! one load at a time, and writes how many lay in a range and how many nodes were visited.
+//! `bench_walk ITEMS ROUNDS` inserts so many ranges in shuffled order, looks 4096 random addresses up so many times, and writes
+//! how many lay in a range, how many loads were made and the sum of the tags that were found. `bench_walk ITEMS` alone writes
+//! the words, one on each line.
 #![tactic(auto)]
 
 ghost use Rattle.std.specs.Prelude.{◌≡◌, IfOk, length};
 ghost use Rattle.word_arena.specs.Layouts.{capacity_of};
 ghost use Rattle.word_arena.specs.Words.{words_for};
 
-use latch_core::{ReaderCore, Taken, Update, WriterCore};
+use bench_ranges::{Random, addresses, ranges, shuffle};
+use latch_core::{Attempted, Update, WriterCore, attempt_in};
 use order_laws::{HalfOpen, Item, Refusal};
 use std::alloc::Global;
 use std::io::Print;
 use std::{env, io};
 use word_arena::{Layout, apply};
 
-/// How far the first addresses of two ranges lie apart.
-const STEP: u64 = 32;
+/// What the random numbers of the ranges and of the addresses begin with.
+const SEED_OF_RANGES: u64 = 12345;
 
-/// How long a range is.
-const LENGTH: u64 = 24;
+const SEED_OF_ADDRESSES: u64 = 7;
 
-/// The words of a table of `items` ranges, inserted in rising order.
-fn table(alloc: Global, l: Layout) -> Result<Vec<u64>, Refusal>
+/// How many addresses are looked up in a round.
+const ADDRESSES: u32 = 4096;
+
+/// The words of a table of these ranges, inserted in this order.
+fn table(alloc: Global, l: Layout, ranges: &[Item]) -> Result<Vec<u64>, Refusal>
     ensures { IfOk result (λ words. length words.items ≡ words_for (capacity_of l)) }
 {
     let mut writer = WriterCore::<HalfOpen>::open(alloc, l, 0)?;
     let mut words = vec![in alloc; 0; l.words()]?;
-    for i in 0..l.capacity() {
-        let a = i as u64 * STEP;
-        writer.begin(Update::Insert(Item {
-            a,
-            b: a + LENGTH,
-            tag: i as u64,
-        }))?;
+    for range in ranges {
+        writer.begin(Update::Insert(*range))?;
         write_to_end(&mut words, &mut writer);
     }
     Ok(words)
@@ -50,51 +49,62 @@ fn write_to_end(words: &mut [u64], writer: &mut WriterCore<HalfOpen>)
     }
 }
 
-/// Whether an address lies in a range of the table, and how many nodes were visited.
-fn look_up(words: &[u64], l: Layout, key: u64) -> (bool, u32)
+/// What lookups came to.
+#[derive(Drop)]
+struct Tally {
+    found: u64,
+    loads: u64,
+    tags: u64,
+}
+
+/// Looks each address up, and adds to the tally.
+fn look_up_all(tally: &mut Tally, words: &[u64], l: Layout, addresses: &[u64])
     requires { length words.now ≡ words_for (capacity_of l) }
 {
-    let mut core = ReaderCore::<HalfOpen>::start(l, key);
-    let mut loads = 0;
-    loop {
-        let value = words[core.wanted()];
-        loads += 1;
-        match core.take(value) {
-            Taken::Going(next) => core = next,
-            Taken::Retrying(_) => return (false, loads / 4),
-            Taken::Returned(answer, _) => return (answer.is_some(), loads / 4),
+    for address in addresses {
+        let (came_to, loads) = attempt_in::<HalfOpen>(words, l, *address);
+        tally.loads = tally.loads.wrapping_add(loads as u64);
+        if let Attempted::Answered(Some(item), _generation) = came_to {
+            tally.found = tally.found.wrapping_add(1);
+            tally.tags = tally.tags.wrapping_add(item.tag);
         }
     }
 }
 
-/// Looks `count` addresses up, and answers how many lay in a range and how many nodes were visited.
-fn look_up_all(words: &[u64], l: Layout, count: u32) -> (u32, u64)
-    requires { length words.now ≡ words_for (capacity_of l) }
+/// A table of so many ranges, with its layout.
+fn prepare(alloc: Global, items: u32) -> Result<(Layout, Vec<u64>), Refusal>
+    ensures { IfOk result (λ made. length made.1.items ≡ words_for (capacity_of made.0)) }
 {
-    let span = l.capacity() as u64 * STEP;
-    let mut found = 0u32;
-    let mut visited = 0u64;
-    for i in 0..count {
-        let (is_found, nodes) = look_up(words, l, i as u64 * 40503 % span);
-        found = found.saturating_add(is_found as u32);
-        visited = visited.saturating_add(nodes as u64);
-    }
-    (found, visited)
+    let layout = Layout::new(items)?;
+    let mut random = Random(SEED_OF_RANGES);
+    let mut order = ranges(alloc, &mut random, items)?;
+    shuffle(&mut random, &mut order);
+    let words = table(alloc, layout, &order)?;
+    Ok((layout, words))
 }
 
-/// Builds a table, looks up in it, and writes one line.
-fn run(rt: &impl Print, alloc: Global, items: u32, count: u32) -> io::Result<()> {
-    let words = match Layout::new(items) {
-        Ok(l) => table(alloc, l).map(|words| (l, words)),
-        Err(refusal) => Err(refusal),
+/// Looks the addresses up so many times, and writes one line.
+fn run(rt: &impl Print, alloc: Global, l: Layout, words: &[u64], rounds: u32) -> io::Result<()>
+    requires { length words.now ≡ words_for (capacity_of l) }
+{
+    let mut random = Random(SEED_OF_ADDRESSES);
+    let addresses = addresses(alloc, &mut random, l.capacity(), ADDRESSES)?;
+    let mut tally = Tally {
+        found: 0,
+        loads: 0,
+        tags: 0,
     };
-    match words {
-        Ok((l, words)) => {
-            let (found, visited) = look_up_all(&words, l, count);
-            println!(rt; "items {items} lookups {count} found {found} visited {visited}")
-        }
-        Err(refusal) => println!(rt; "items {items} refused {}", refusal.number()),
+    for _round in 0..rounds {
+        look_up_all(&mut tally, words, l, &addresses);
     }
+    let lookups = rounds as u64 * ADDRESSES as u64;
+    println!(rt;
+        "items {} lookups {lookups} found {} loads {} tags {}",
+        l.capacity(),
+        tally.found,
+        tally.loads,
+        tally.tags
+    )
 }
 
 fn main(rt: HostRuntime) -> io::Result<()> {
@@ -102,14 +112,22 @@ fn main(rt: HostRuntime) -> io::Result<()> {
     for word in env::args(&rt)?.skip(1) {
         match word.parse::<u32>() {
             Ok(number) => numbers.push(number)?,
-            Err(_) => return eprintln!(rt; "usage: bench_walk COUNT ITEMS.."),
+            Err(_) => return eprintln!(rt; "usage: bench_walk ITEMS [ROUNDS]"),
         }
     }
-    let [count, sizes @ ..] = numbers.as_slice() else {
-        return eprintln!(rt; "usage: bench_walk COUNT ITEMS..");
+    let [items, rounds @ ..] = numbers.as_slice() else {
+        return eprintln!(rt; "usage: bench_walk ITEMS [ROUNDS]");
     };
-    for items in sizes {
-        run(&rt, rt.alloc(), *items, *count)?;
+    match prepare(rt.alloc(), *items) {
+        Ok((l, words)) => match rounds {
+            [rounds, ..] => run(&rt, rt.alloc(), l, &words, *rounds),
+            [] => {
+                for word in &words {
+                    println!(rt; "{word}")?;
+                }
+                Ok(())
+            }
+        },
+        Err(refusal) => println!(rt; "items {items} refused {}", refusal.number()),
     }
-    Ok(())
 }

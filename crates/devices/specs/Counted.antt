@@ -24,6 +24,10 @@ abbrev pub after_write : {E : Type 0} → ℕ → Result ℕ E → List ℕ → 
 after_write n (Ok taken) bytes = if nat_eq taken 0 && nat_lt 0 (length bytes) then one_more n else n
 after_write n (Err _) bytes = one_more n
 
+-- no call failed between the two
+abbrev pub NoneFailed : {D : Type 0} → Counted D → Counted D → Type 0
+NoneFailed old new = failures_of new ≡ failures_of old
+
 -- a failed call was counted between the two, or no more can be counted
 abbrev pub Rose : ℕ → ℕ → Type 0
 Rose before after = (before < after) ⊎ (after ≡ 2 ^ 64 - 1)

@@ -38,7 +38,7 @@ pub fn put_hexadecimal<W: Write>(writer: &mut Counted<W>, n: u64) -> io::Result<
 }
 
 /// Writes the hexadecimal digits of a number at the end of the buffer, and answers where they begin.
-fn write_digits(n: u64, buffer: &mut [u8; 16]) -> usize
+pub(crate) fn write_digits(n: u64, buffer: &mut [u8; 16]) -> usize
     ensures start { result < 16 }
     ensures written { drop result buffer.new ≡ digits 16 false n }
 {

@@ -9,10 +9,12 @@
 mod counted;
 mod exact;
 mod fail_at;
+mod gathered;
 
 pub use counted::Counted;
 pub use exact::{put, put_hexadecimal};
 pub use fail_at::FailAt;
+pub use gathered::{LONGEST_HEXADECIMAL, append, append_hexadecimal};
 
 #[cfg(test)]
 mod tests;

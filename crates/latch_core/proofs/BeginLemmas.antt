@@ -14,6 +14,7 @@ use Rattle.word_arena.specs.Words.{at, words_for, Nodes, Holds, IsUnreached, lis
 use Rattle.word_arena.specs.Stores.{words_after_all, IsLinkWord, AreLinkStores}
 use Rattle.word_arena.proofs.WordLemmas.{link_place, item_place}
 use Rattle.word_arena.proofs.StoreLemmas.{after_append}
+use Rattle.rb_trees.specs.Trees.{CanBeRedBlack}
 use Rattle.rb_words.specs.Pictures.{Picture, IsPictured}
 use Rattle.rb_words.specs.Plans.{Inserts, Erases, LeadsWithItem, LeadsByLinks, AreLinks, item_stores}
 use Rattle.latch_core.specs.declared.updates.Update.{Update}
@@ -112,7 +113,7 @@ items_in_range n node i lt =
     All-from_recursion (λ (s : Store). s.word < words_for n) (item_stores node i)
     ((item_place n node _ lt (inl refl)).1, ((item_place n node _ lt (inr (inl refl))).1, ((item_place n node _ lt (inr (inr refl))).1, tt)))
 
-links_of : (n copy : ℕ) (p : Picture) (links : List Store) → p.capacity ≡ n → p.copy ≡ copy → AreLinks p links → AreLinkStores n copy links
+pub links_of : (n copy : ℕ) (p : Picture) (links : List Store) → p.capacity ≡ n → p.copy ≡ copy → AreLinks p links → AreLinkStores n copy links
 links_of n copy p links ec ek are = subst (λ k. AreLinkStores k copy links) ec (subst (λ c. AreLinkStores p.capacity c links) ek are.words)
 
 links_in_range : (n copy : ℕ) (links : List Store) → copy ≤ 1 → AreLinkStores n copy links → All (λ (s : Store). s.word < words_for n) links
@@ -174,8 +175,8 @@ module _ {K : Type 0} (o : Order K) (n : ℕ) (zero one zero' one' : Picture) (r
             (links_of n 1 (with_room one s) links1 step.one_capacity step.one_copy one_leads.links_only);
       }
 
-  pub leading_insert : (free : List ℕ) (left : List Store) → AreInStep n zero one free left → (m : List ℕ) → length m ≡ words_for n → stable (at m 0) ≡ 0 → Holds m n 0 zero.table zero.tree → Holds m n 1 zero.table one.tree → node < n → IsUnreached m n node → Leading n zero.table (with_item o item zero.table) m (item_stores node item) links0 links1 zero'.tree one'.tree
-  leading_insert free left step m sized even holds0 holds1 lt unreached =
+  pub leading_insert : (free : List ℕ) (left : List Store) → AreInStep n zero one free left → (m : List ℕ) → length m ≡ words_for n → stable (at m 0) ≡ 0 → Holds m n 0 zero.table zero.tree → Holds m n 1 zero.table one.tree → node < n → IsUnreached m n node → CanBeRedBlack zero.tree × CanBeRedBlack one.tree × CanBeRedBlack zero'.tree → Leading n zero.table (with_item o item zero.table) m (item_stores node item) links0 links1 zero'.tree one'.tree
+  leading_insert free left step m sized even holds0 holds1 lt unreached red =
       let then0 = zero_leads.leads m (pictured m n 0 r zero sized step.zero_capacity step.zero_copy holds0) in
       let then1 = one_leads.leads m (pictured m n 1 s one sized step.one_capacity step.one_copy (subst (λ t. Holds m n 1 t one.tree) (sym step.same_table) holds1)) in
       let new0 = unpictured (words_after_all m (item_stores node item ++ links0)) n 0 (with_item o item zero.table) zero' (zero_inserts.capacity ∙ step.zero_capacity) (zero_inserts.copy ∙ step.zero_copy) zero_inserts.table then0 in
@@ -184,6 +185,8 @@ module _ {K : Type 0} (o : Order K) (n : ℕ) (zero one zero' one' : Picture) (r
         sized = sized;
         even = even;
         both_old = ((zero.tree, holds0), (one.tree, holds1));
+        old_trees = (zero.tree, one.tree, holds0, holds1, red.0, red.1);
+        new_tree = red.2;
         items_free = ((node, lt, unreached, inl refl), ((node, lt, unreached, inr (inl refl)), ((node, lt, unreached, inr (inr refl)), tt)));
         links_zero = links_of n 0 (with_room zero r) links0 step.zero_capacity step.zero_copy zero_leads.links_only;
         links_one = links_of n 1 (with_room one s) links1 step.one_capacity step.one_copy one_leads.links_only;
@@ -221,14 +224,16 @@ module _ (n : ℕ) (zero one zero' one' : Picture) (r s a node other : ℕ) (lin
       let within : place_of a zero.table < length (listed zero.tree) = slice_get_within (listed zero.tree) (place_of a zero.table) node zero_erases.at_place in
       omega (arith, length-append free (listed zero.tree), step.nodes.as_many)
 
-  pub leading_erase : (free : List ℕ) (left : List Store) → AreInStep n zero one free left → (m : List ℕ) → length m ≡ words_for n → stable (at m 0) ≡ 0 → Holds m n 0 zero.table zero.tree → Holds m n 1 zero.table one.tree → Leading n zero.table (without a zero.table) m [] links0 links1 zero'.tree one'.tree
-  leading_erase free left step m sized even holds0 holds1 =
+  pub leading_erase : (free : List ℕ) (left : List Store) → AreInStep n zero one free left → (m : List ℕ) → length m ≡ words_for n → stable (at m 0) ≡ 0 → Holds m n 0 zero.table zero.tree → Holds m n 1 zero.table one.tree → CanBeRedBlack zero.tree × CanBeRedBlack one.tree × CanBeRedBlack zero'.tree → Leading n zero.table (without a zero.table) m [] links0 links1 zero'.tree one'.tree
+  leading_erase free left step m sized even holds0 holds1 red =
       let then0 = zero_leads.leads m (pictured m n 0 r zero sized step.zero_capacity step.zero_copy holds0) in
       let then1 = one_leads.leads m (pictured m n 1 s one sized step.one_capacity step.one_copy (subst (λ t. Holds m n 1 t one.tree) (sym step.same_table) holds1)) in
       record {
         sized = sized;
         even = even;
         both_old = ((zero.tree, holds0), (one.tree, holds1));
+        old_trees = (zero.tree, one.tree, holds0, holds1, red.0, red.1);
+        new_tree = red.2;
         items_free = tt;
         links_zero = links_of n 0 (with_room zero r) links0 step.zero_capacity step.zero_copy zero_leads.links_only;
         links_one = links_of n 1 (with_room one s) links1 step.one_capacity step.one_copy one_leads.links_only;

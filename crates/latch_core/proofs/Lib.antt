@@ -1,5 +1,7 @@
 pub mod Readings
 pub mod Walks
+pub mod Walking
+pub mod Going
 pub mod Steps
 pub mod Sound
 pub mod Planned
@@ -8,3 +10,4 @@ pub mod PlanLemmas
 pub mod NodeLemmas
 pub mod WriterLemmas
 pub mod BeginLemmas
+pub mod Shallow

@@ -11,6 +11,7 @@ use Rattle.word_arena.specs.Stores.{IsItemWord, words_after, words_after_all, Is
 use Rattle.word_arena.proofs.WordLemmas.{IsCopyWord, in_copy, one_item, link_no_item, link_no_other, link_place, item_place, item_not_zero, item_not_root, item_not_left, item_not_right, copy_not_zero, unused_item}
 use Rattle.word_arena.proofs.StoreLemmas.{Agree, length_after, after_append, untouched, agree_after}
 use Rattle.word_arena.proofs.HoldsLemmas.{holds_untouched, tree_agree}
+use Rattle.rb_trees.specs.Trees.{CanBeRedBlack}
 use Rattle.latch_core.specs.Sequences.{stable}
 use Rattle.latch_core.specs.Latches.{Hand, BothHold, IsHidden, IsFirstFlip, IsSecondFlip, flips_after}
 use Rattle.latch_core.specs.Plans.{IsPlan, flip_to, update_stores}
@@ -128,27 +129,29 @@ pub record Leading (n : ℕ) (old new : List Item) (m : List ℕ) (item_stores l
   pub links_one : AreLinkStores n 1 links1
   pub leads_zero : Holds (words_after_all (words_after_all m item_stores) links0) n 0 new zero
   pub leads_one : Holds (words_after_all (words_after_all m item_stores) links1) n 1 new one
+  pub old_trees : (t0 : Nodes) × (t1 : Nodes) × Holds m n 0 old t0 × Holds m n 1 old t1 × CanBeRedBlack t0 × CanBeRedBlack t1
+  pub new_tree : CanBeRedBlack zero
 
 -- stores of free nodes and of links keep away from word 0 and from what is in use
-items_not_zero : (m : List ℕ) (n : ℕ) (ss : List Store) → AreFreeStores m n ss → AllByRecursion (λ (s : Store). s.word ≢ 0) ss
+pub items_not_zero : (m : List ℕ) (n : ℕ) (ss : List Store) → AreFreeStores m n ss → AllByRecursion (λ (s : Store). s.word ≢ 0) ss
 items_not_zero m n ss are = all_weaker (IsFreeStore m n) (λ (s : Store). s.word ≢ 0) (λ s a. item_not_zero a.0 s.word a.3) ss are
 
-links_not_zero : (n copy : ℕ) (ss : List Store) → copy ≤ 1 → AreLinkStores n copy ss → AllByRecursion (λ (s : Store). s.word ≢ 0) ss
+pub links_not_zero : (n copy : ℕ) (ss : List Store) → copy ≤ 1 → AreLinkStores n copy ss → AllByRecursion (λ (s : Store). s.word ≢ 0) ss
 links_not_zero n copy ss c are = all_weaker (λ (s : Store). IsLinkWord n copy s.word) (λ (s : Store). s.word ≢ 0) (λ s a. (link_place n copy s.word c a).0) ss are
 
-items_unused : (m : List ℕ) (n : ℕ) (ss : List Store) → AreFreeStores m n ss → AllByRecursion (λ (s : Store). InUse m n 0 s.word → ⊥) ss × AllByRecursion (λ (s : Store). InUse m n 1 s.word → ⊥) ss
+pub items_unused : (m : List ℕ) (n : ℕ) (ss : List Store) → AreFreeStores m n ss → AllByRecursion (λ (s : Store). InUse m n 0 s.word → ⊥) ss × AllByRecursion (λ (s : Store). InUse m n 1 s.word → ⊥) ss
 items_unused m n ss are = (
   all_weaker (IsFreeStore m n) (λ (s : Store). InUse m n 0 s.word → ⊥) (λ s a. unused_item m n 0 a.0 s.word (omega arith) a.2.0 a.3) ss are,
   all_weaker (IsFreeStore m n) (λ (s : Store). InUse m n 1 s.word → ⊥) (λ s a. unused_item m n 1 a.0 s.word (omega arith) a.2.1 a.3) ss are,
 )
 
-links_elsewhere : (n copy other : ℕ) (ss : List Store) → copy + other ≡ 1 → AreLinkStores n copy ss → AllByRecursion (λ (s : Store). IsCopyWord other s.word → ⊥) ss
+pub links_elsewhere : (n copy other : ℕ) (ss : List Store) → copy + other ≡ 1 → AreLinkStores n copy ss → AllByRecursion (λ (s : Store). IsCopyWord other s.word → ⊥) ss
 links_elsewhere n copy other ss c are = all_weaker (λ (s : Store). IsLinkWord n copy s.word) (λ (s : Store). IsCopyWord other s.word → ⊥) (λ s a. link_no_other n copy other s.word c a) ss are
 
-zero_kept : (m : List ℕ) (ss : List Store) → AllByRecursion (λ (s : Store). s.word ≢ 0) ss → at (words_after_all m ss) 0 ≡ at m 0
+pub zero_kept : (m : List ℕ) (ss : List Store) → AllByRecursion (λ (s : Store). s.word ≢ 0) ss → at (words_after_all m ss) 0 ≡ at m 0
 zero_kept m ss away = untouched (λ w. w ≡ 0) m ss away 0 refl
 
-flip_far : (copy : ℕ) (m : List ℕ) (seq : ℕ) → Agree (IsCopyWord copy) m (words_after m (flip_to seq))
+pub flip_far : (copy : ℕ) (m : List ℕ) (seq : ℕ) → Agree (IsCopyWord copy) m (words_after m (flip_to seq))
 flip_far copy m seq w p = get_or-set_other m 0 w seq 0 (λ e. copy_not_zero copy w p e)
 
 module _ (n : ℕ) (old new : List Item) (m : List ℕ) (items ls0 ls1 : List Store) (t0 t1 : Nodes) (is : Leading n old new m items ls0 ls1 t0 t1) where
@@ -172,7 +175,7 @@ module _ (n : ℕ) (old new : List Item) (m : List ℕ) (items ls0 ls1 : List St
   sized1 : length m1 ≡ words_for n
   sized1 = length_after m items ∙ is.sized
 
-  sized2 : length m2 ≡ words_for n
+  pub sized2 : length m2 ≡ words_for n
   sized2 = length-set m1 0 (at m 0 + 1) ∙ sized1
 
   sized3 : length m3 ≡ words_for n
@@ -184,7 +187,7 @@ module _ (n : ℕ) (old new : List Item) (m : List ℕ) (items ls0 ls1 : List St
   seq1 : at m1 0 ≡ at m 0
   seq1 = zero_kept m items (items_not_zero m n items is.items_free)
 
-  seq2 : at m2 0 ≡ at m 0 + 1
+  pub seq2 : at m2 0 ≡ at m 0 + 1
   seq2 = flip_adds m1 (flip_to (at m 0 + 1)) (omega (arith, sized1)) refl (ap (λ q. q + 1) (sym seq1)) ∙ ap (λ q. q + 1) seq1
 
   seq3 : at m3 0 ≡ at m 0 + 1
@@ -199,13 +202,13 @@ module _ (n : ℕ) (old new : List Item) (m : List ℕ) (items ls0 ls1 : List St
   seq5 : at m5 0 ≡ at m 0 + 2
   seq5 = zero_kept m4 ls1 (links_not_zero n 1 ls1 (omega arith) is.links_one) ∙ seq4
 
-  odd2 : stable (at m2 0) ≡ 1
+  pub odd2 : stable (at m2 0) ≡ 1
   odd2 = let e : at m 0 % 2 ≡ 0 = is.even in omega (arith, seq2)
 
   odd3 : stable (at m3 0) ≡ 1
   odd3 = let e : at m 0 % 2 ≡ 0 = is.even in omega (arith, seq3)
 
-  even4 : stable (at m4 0) ≡ 0
+  pub even4 : stable (at m4 0) ≡ 0
   even4 = let e : at m 0 % 2 ≡ 0 = is.even in omega (arith, seq4)
 
   -- what the copies hold
@@ -217,7 +220,7 @@ module _ (n : ℕ) (old new : List Item) (m : List ℕ) (items ls0 ls1 : List St
   new0_3 : Holds m3 n 0 new t0
   new0_3 = tree_agree (words_after_all m1 ls0) m3 n 0 new t0 (agree_after (IsCopyWord 0) m1 m2 ls0 (sized2 ∙ sym sized1) (flip_far 0 m1 (at m 0 + 1))) is.leads_zero
 
-  new0_4 : Holds m4 n 0 new t0
+  pub new0_4 : Holds m4 n 0 new t0
   new0_4 = tree_agree m3 m4 n 0 new t0 (flip_far 0 m3 (at m 0 + 2)) new0_3
 
   new0_5 : Holds m5 n 0 new t0
@@ -266,7 +269,7 @@ module _ (n : ℕ) (old new : List Item) (m : List ℕ) (items ls0 ls1 : List St
     links_kinds n old new m m4 2 1 0 refl ls1 is.links_one even4 sized4,
   )
 
-  words_front : words_after_all m (items ++ flips0) ≡ m3
+  pub words_front : words_after_all m (items ++ flips0) ≡ m3
   words_front = after_append m items flips0
 
   kinds_front : Kinds n old new m 0 m (items ++ flips0)

@@ -2,15 +2,7 @@
 use Rattle.std.proofs.Common.{◌≡◌, ℕ, suc, zero, ◌<◌, ◌≤◌, List, [], ◌∷◌, ◌++◌, length, Some, refl, sym, ◌∙◌, ap, subst, arith}
 use Rattle.word_arena.specs.Words.{at}
 use Rattle.latch_core.specs.Attempts.{Outcome, Reading, Load, Ends, rest_after, Stand}
-
--- how it ends, and after how many loads, where each value comes from one memory
-abbrev pub ends_in : List ℕ → Reading → Outcome
-ends_in m (Load w go) = ends_in m (go (at m w))
-ends_in m (Ends out) = out
-
-abbrev pub loads_in : List ℕ → Reading → ℕ
-loads_in m (Load w go) = suc (loads_in m (go (at m w)))
-loads_in m (Ends out) = 0
+use Rattle.latch_core.specs.Whole.{ran, loads_in}
 
 -- each word that it loads there is such a word
 abbrev pub AllLoads : List ℕ → (ℕ → Type 0) → Reading → Type 0
@@ -23,12 +15,12 @@ Within b (Ends out) = Unit {0}
 Within zero (Load w go) = ⊥
 Within (suc b) (Load w go) = (x : ℕ) → Within b (go x)
 
-pub ends_as : (m : List ℕ) (r : Reading) (v : List ℕ) (out : Outcome) → Stand m r v → rest_after r v ≡ Some (Ends out) → (out ≡ ends_in m r) × (length v ≡ loads_in m r)
+pub ends_as : (m : List ℕ) (r : Reading) (v : List ℕ) (out : Outcome) → Stand m r v → rest_after r v ≡ Some (Ends out) → (out ≡ ran m r) × (length v ≡ loads_in m r)
 ends_as m (Load w go) [] out st e = absurd (cc)
 ends_as m (Ends o) [] out st e = (cc, refl)
 ends_as m (Load w go) (x ∷ v) out st e =
     let h = ends_as m (go x) v out st.1 e in
-    (h.0 ∙ ap (λ y. ends_in m (go y)) (sym st.0), ap suc (h.1 ∙ ap (λ y. loads_in m (go y)) (sym st.0)))
+    (h.0 ∙ ap (λ y. ran m (go y)) (sym st.0), ap suc (h.1 ∙ ap (λ y. loads_in m (go y)) (sym st.0)))
 ends_as m (Ends o) (x ∷ v) out st e = absurd st
 
 pub loads_so_far : (m : List ℕ) (r : Reading) (v : List ℕ) → Stand m r v → length v ≤ loads_in m r

@@ -8,7 +8,7 @@ use Rattle.latch_core.specs.declared.updates.Update.{Update}
 use Rattle.order_laws.specs.Orders.{Order, IsLawful}
 use Rattle.order_laws.specs.Tables.{IsTable}
 use Rattle.latch_core.specs.Updates.{after, refuses}
-use Rattle.latch_core.specs.Histories.{replay, table_at}
+use Rattle.latch_core.specs.Histories.{replay, table_at, current_table}
 use Rattle.word_arena.specs.Words.{at, root_word, none, HoldsTable}
 use Rattle.latch_core.specs.Sequences.{gen, stable}
 use Rattle.latch_core.specs.Latches.{Hand, Latch, MayStep, flips_after, stepped, begun, opening_latch}
@@ -21,7 +21,7 @@ use Rattle.latch_core.proofs.Steps.{hidden_same, flip_same, flip_adds, tables_pu
 record Left {K : Type 0} (o : Order K) (n start : ℕ) (us : List Update) (l : Latch) (h : Hand) (s : Store) : Type 0 where
   sequence : at (words_after l.words s) 0 + h.flips ≡ at l.words 0 + flips_after h.flips s
   flips : flips_after h.flips s ≤ 2
-  current : HoldsTable (words_after l.words s) n (stable (at (words_after l.words s) 0)) (table_at o start us (gen (at (words_after l.words s) 0)))
+  current : HoldsTable (words_after l.words s) n (stable (at (words_after l.words s) 0)) (current_table o start us (words_after l.words s))
 
 pub flips_of_flip : (f : ℕ) (s : Store) → s.word ≡ 0 → flips_after f s ≡ f + 1
 flips_of_flip f s z = let e : (s.word == 0) ≡ true = eq-eqb s.word 0 z in rw e refl
@@ -35,7 +35,7 @@ left_by o n start us l h s ok hand may =
     (λ hid.
     let same : at (words_after l.words s) 0 ≡ at l.words 0 = hidden_same n l.words h.began s hid 0 (inl refl) in
     let none_made : flips_after h.flips s ≡ h.flips = flips_of_store h.flips s hid.not_sequence in
-    let still = holds_on l.words (words_after l.words s) n (stable (at l.words 0)) (table_at o start us (gen (at l.words 0))) (λ w u. hidden_same n l.words h.began s hid w (inr u)) ok.current in
+    let still = holds_on l.words (words_after l.words s) n (stable (at l.words 0)) (current_table o start us l.words) (λ w u. hidden_same n l.words h.began s hid w (inr u)) ok.current in
     record {
       sequence = omega (arith, same, none_made);
       flips = omega (arith, none_made, hand.flips);
@@ -108,7 +108,7 @@ sound_begin o law n limit start us l u left ok free e =
     (let k : length (us ++ u ∷ []) - 1 ≡ length us = omega arith in
     ap (λ j. take j (us ++ u ∷ [])) k ∙ take-append-le (length us) us (u ∷ []) (omega arith) ∙ take_all (length us) us (omega arith)) in
     let g : gen (at l.words 0) - gen start ≤ length us = (let ev : start % 2 ≡ 0 = ok.even in omega arith) in
-    let same : table_at o start (us ++ u ∷ []) (gen (at l.words 0)) ≡ table_at o start us (gen (at l.words 0)) = ap (replay o []) (take-append-le (gen (at l.words 0) - gen start) us (u ∷ []) g) in
+    let same : table_at o start (us ++ u ∷ []) (gen (at l.words 0)) ≡ current_table o start us l.words = ap (replay o []) (take-append-le (gen (at l.words 0) - gen start) us (u ∷ []) g) in
     record {
       even = ok.even;
       sized = ok.sized;

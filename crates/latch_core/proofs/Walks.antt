@@ -1,5 +1,5 @@
 -- Attempts in one memory: they look the key up in the table that the stable copy holds.
-use Rattle.std.proofs.Common.{◌≡◌, ℕ, suc, zero, ◌+◌, ◌*◌, ◌<◌, ◌≤◌, true, false, cond, List, length, Option, Some, None, refl, sym, ◌∙◌, ap, subst, inl, inr, arith}
+use Rattle.std.proofs.Common.{◌≡◌, ℕ, suc, zero, ◌+◌, ◌*◌, ◌^◌, ◌<◌, ◌≤◌, true, false, cond, List, length, Option, Some, None, refl, sym, ◌∙◌, ap, subst, inl, inr, arith}
 use Rattle.std.specs.Prelude.{◌⊎◌, ◌==◌, nat_lt}
 use Rattle.std.specs.declared.cmp.Ordering.TheVariants.{Less, Equal, Greater}
 use Rattle.std.proofs.lemmas.Bool.{lt-ltb, ltb-true, eq-eqb}
@@ -9,9 +9,13 @@ use Rattle.order_laws.specs.Tables.{IsTable, look}
 use Rattle.word_arena.specs.Words.{at, root_word, left_word, right_word, item_at, Nodes, none, fork, items, Leads, Holds, Reaches, by_left, by_right, InUse}
 use Rattle.latch_core.specs.Sequences.{gen, stable}
 use Rattle.latch_core.specs.Attempts.{Outcome, Answer, Reading, Load, Ends, Found, Item_found, No_item, Stuck, outcome, closing, turn, visit, walk, attempt, rest_after, Stand, IsAttempt}
-use Rattle.word_arena.proofs.HoldsLemmas.{size, size_items}
+use Rattle.word_arena.proofs.HoldsLemmas.{size, size_items, size_listed}
+use Rattle.word_arena.specs.Words.{listed}
+use Rattle.rb_trees.specs.Trees.{CanBeRedBlack, depth}
+use Rattle.rb_trees.proofs.DepthLemmas.{shallow}
 use Rattle.order_laws.proofs.TableLemmas.{parted, look_less, look_greater, look_equal}
-use Rattle.latch_core.proofs.Readings.{ends_in, loads_in, AllLoads, Within, ends_as, loads_so_far, loads_below, within_length, within_below}
+use Rattle.latch_core.specs.Whole.{ran, loads_in}
+use Rattle.latch_core.proofs.Readings.{AllLoads, Within, ends_as, loads_so_far, loads_below, within_length, within_below}
 
 -- how a walk ended, by what was looked up
 abbrev pub found_of : Option Item → Found
@@ -20,15 +24,15 @@ found_of (Some x) = Item_found x
 
 module _ {K : Type 0} (o : Order K) (law : IsLawful o) (m : List ℕ) (n : ℕ) (k : K) (s : ℕ) where
   -- a walk down a tree
-  pub walk_ends : (t : Nodes) (left link : ℕ) → Leads m n (stable s) link t → IsTable o (items m t) → size t ≤ left → ends_in m (walk o n k s left link) ≡ outcome s (at m 0) (found_of (look o k (items m t)))
-  walk_ends none left link leads table fits = subst (λ p. ends_in m (walk o n k s left p) ≡ outcome s (at m 0) No_item) (sym leads) refl
+  pub walk_ends : (t : Nodes) (left link : ℕ) → Leads m n (stable s) link t → IsTable o (items m t) → size t ≤ left → ran m (walk o n k s left link) ≡ outcome s (at m 0) (found_of (look o k (items m t)))
+  walk_ends none left link leads table fits = subst (λ p. ran m (walk o n k s left p) ≡ outcome s (at m 0) No_item) (sym leads) refl
   walk_ends (fork l i r) zero link leads table fits = absurd (omega arith)
   walk_ends (fork l i r) (suc left) link leads table fits =
-      subst (λ p. ends_in m (walk o n k s (suc left) p) ≡ outcome s (at m 0) (found_of (look o k (items m (fork l i r))))) (sym leads.0)
+      subst (λ p. ran m (walk o n k s (suc left) p) ≡ outcome s (at m 0) (found_of (look o k (items m (fork l i r))))) (sym leads.0)
       (let below : nat_lt i n ≡ true = lt-ltb i n leads.1 in
       let p = parted o (items m l) (item_at m i) (items m r) table in
       rw below
-      (elim (o.comp k (item_at m i)) as (λ c. o.comp k (item_at m i) ≡ c → ends_in m (turn s i (item_at m i) (walk o n k s left) c) ≡ outcome s (at m 0) (found_of (look o k (items m (fork l i r))))) [
+      (elim (o.comp k (item_at m i)) as (λ c. o.comp k (item_at m i) ≡ c → ran m (turn s i (item_at m i) (walk o n k s left) c) ≡ outcome s (at m 0) (found_of (look o k (items m (fork l i r))))) [
         | Less ↦ λ e. walk_ends l left (at m (left_word (stable s) i)) leads.2 p.left (omega arith) ∙ ap (λ x. outcome s (at m 0) (found_of x)) (sym (look_less o law k (items m l) (item_at m i) (items m r) table e))
         | Equal ↦ λ e. ap (λ x. outcome s (at m 0) (found_of x)) (sym (look_equal o law k (items m l) (item_at m i) (items m r) table e))
         | Greater ↦ λ e. walk_ends r left (at m (right_word (stable s) i)) leads.3 p.right (omega arith) ∙ ap (λ x. outcome s (at m 0) (found_of x)) (sym (look_greater o law k (items m l) (item_at m i) (items m r) table e))
@@ -47,6 +51,20 @@ module _ {K : Type 0} (o : Order K) (m : List ℕ) (n : ℕ) (k : K) (s : ℕ) w
         | Less ↦ omega (arith, walk_loads l left (at m (left_word (stable s) i)) leads.2 (omega arith))
         | Equal ↦ omega arith
         | Greater ↦ omega (arith, walk_loads r left (at m (right_word (stable s) i)) leads.3 (omega arith))
+      ]))
+
+  -- and four for each node on the longest way down
+  pub walk_depth : (t : Nodes) (left link : ℕ) → Leads m n (stable s) link t → size t ≤ left → loads_in m (walk o n k s left link) ≤ 4 * depth t + 1
+  walk_depth none left link leads fits = subst (λ p. loads_in m (walk o n k s left p) ≤ 1) (sym leads) (omega arith)
+  walk_depth (fork l i r) zero link leads fits = absurd (omega arith)
+  walk_depth (fork l i r) (suc left) link leads fits =
+      subst (λ p. loads_in m (walk o n k s (suc left) p) ≤ 4 * depth (fork l i r) + 1) (sym leads.0)
+      (let below : nat_lt i n ≡ true = lt-ltb i n leads.1 in
+      rw below
+      (elim (o.comp k (item_at m i)) as (λ c. suc (suc (suc (loads_in m (turn s i (item_at m i) (walk o n k s left) c)))) ≤ 4 * depth (fork l i r) + 1) [
+        | Less ↦ omega (arith, walk_depth l left (at m (left_word (stable s) i)) leads.2 (omega arith))
+        | Equal ↦ omega arith
+        | Greater ↦ omega (arith, walk_depth r left (at m (right_word (stable s) i)) leads.3 (omega arith))
       ]))
 
   -- the words that it loads are word 0 and words in use
@@ -119,18 +137,29 @@ module _ {K : Type 0} (o : Order K) (law : IsLawful o) (m : List ℕ) (n : ℕ) 
   sorted_items : IsTable o (items m t)
   sorted_items = subst (IsTable o) (sym holds.listed_items) is_table
 
-  -- an attempt whose values all stand in one memory answers what the key finds in the table
-  pub attempt_answers : (v : List ℕ) (out : Outcome) → Stand m (attempt o n k) v → IsAttempt o n k v out → out ≡ Answer (look o k table) (gen (at m 0))
-  attempt_answers v out st e =
+  -- an attempt in this memory answers what the key finds in the table
+  answered : (r : Option Item) (seq : ℕ) → outcome seq seq (found_of r) ≡ Answer r (gen seq)
+  answered None seq = let e : (seq == seq) ≡ true = eq-eqb seq seq refl in rw e refl
+  answered (Some x) seq = let e : (seq == seq) ≡ true = eq-eqb seq seq refl in rw e refl
+
+  pub attempt_ran : ran m (attempt o n k) ≡ Answer (look o k table) (gen (at m 0))
+  attempt_ran =
       let seq = at m 0 in
-      (ends_as m (attempt o n k) v out st e).0
-      ∙ walk_ends o law m n k seq t n (at m (root_word (stable seq))) holds.leads sorted_items small
+      walk_ends o law m n k seq t n (at m (root_word (stable seq))) holds.leads sorted_items small
       ∙ ap (λ xs. outcome seq seq (found_of (look o k xs))) holds.listed_items
       ∙ answered (look o k table) seq
-    where
-      answered : (r : Option Item) (seq : ℕ) → outcome seq seq (found_of r) ≡ Answer r (gen seq)
-      answered None seq = let e : (seq == seq) ≡ true = eq-eqb seq seq refl in rw e refl
-      answered (Some x) seq = let e : (seq == seq) ≡ true = eq-eqb seq seq refl in rw e refl
+
+  -- after four loads at most for each item, and for each node on the longest way down, and three
+  pub attempt_count : loads_in m (attempt o n k) ≤ 4 * length table + 3
+  attempt_count =
+      omega (arith, walk_loads o m n k (at m 0) t n (at m (root_word (stable (at m 0)))) holds.leads small, size_items m t, ap length holds.listed_items)
+
+  pub attempt_depth_count : loads_in m (attempt o n k) ≤ 4 * depth t + 3
+  attempt_depth_count = omega (arith, walk_depth o m n k (at m 0) t n (at m (root_word (stable (at m 0)))) holds.leads small)
+
+  -- so does one whose values all stand in it
+  pub attempt_answers : (v : List ℕ) (out : Outcome) → Stand m (attempt o n k) v → IsAttempt o n k v out → out ≡ Answer (look o k table) (gen (at m 0))
+  attempt_answers v out st e = (ends_as m (attempt o n k) v out st e).0 ∙ attempt_ran
 
   pub attempt_loads : (v : List ℕ) → Stand m (attempt o n k) v → length v ≤ 4 * length table + 3
   attempt_loads v st =
@@ -139,3 +168,17 @@ module _ {K : Type 0} (o : Order K) (law : IsLawful o) (m : List ℕ) (n : ℕ) 
   pub attempt_below : (v : List ℕ) (w : ℕ) (go : ℕ → Reading) → Stand m (attempt o n k) v → rest_after (attempt o n k) v ≡ Some (Load w go) → length v < 4 * length table + 3
   attempt_below v w go st e =
       omega (arith, loads_below m (attempt o n k) v w go st e, walk_loads o m n k (at m 0) t n (at m (root_word (stable (at m 0)))) holds.leads small, size_items m t, ap length holds.listed_items)
+
+  pub attempt_depth : (v : List ℕ) → Stand m (attempt o n k) v → length v ≤ 4 * depth t + 3
+  attempt_depth v st =
+      omega (arith, loads_so_far m (attempt o n k) v st, walk_depth o m n k (at m 0) t n (at m (root_word (stable (at m 0)))) holds.leads small)
+
+  pub attempt_below_depth : (v : List ℕ) (w : ℕ) (go : ℕ → Reading) → Stand m (attempt o n k) v → rest_after (attempt o n k) v ≡ Some (Load w go) → length v < 4 * depth t + 3
+  attempt_below_depth v w go st e =
+      omega (arith, loads_below m (attempt o n k) v w go st e, walk_depth o m n k (at m 0) t n (at m (root_word (stable (at m 0)))) holds.leads small)
+
+-- a copy that holds a table in a red-black tree
+pub few_deep_any : (m : List ℕ) (n : ℕ) (table : List Item) (t : Nodes) → Holds m n (stable (at m 0)) table t → CanBeRedBlack t → 2 ^ depth t ≤ (length table + 1) * (length table + 1)
+few_deep_any m n table t holds good =
+    let same : length (listed t) ≡ length table = omega (arith, size_listed t, size_items m t, ap length holds.listed_items) in
+    subst (λ q. 2 ^ depth t ≤ (q + 1) * (q + 1)) same (shallow t good)

@@ -1,8 +1,11 @@
 -- What the writer's core pictures, from one call to the next.
-use Rattle.std.proofs.Common.{◌≡◌, ℕ, suc, ◌%◌, ◌<◌, true, false, cond, List, [], ◌∷◌, length, drop, Some, None, sym, ◌∙◌, ap, subst, ⊎_elim, arith, get_or-set_other, get_or-set_same}
+use Rattle.std.proofs.Common.{◌≡◌, ℕ, suc, ◌+◌, ◌*◌, ◌%◌, ◌<◌, true, false, cond, List, [], ◌∷◌, length, drop, Some, None, refl, sym, ◌∙◌, ap, subst, ⊎_elim, arith, get_or-set_other, get_or-set_same}
 use Rattle.std.specs.Prelude.{◌==◌, MatchOption, is_some, nat_lt, slice_get, Contains, slice_set}
 use Rattle.std.proofs.lemmas.Bool.{lt-ltb, cases_eq, eq-eqb, ne_eqb}
 use Rattle.order_laws.specs.Orders.{Order}
+use Rattle.std.proofs.lemmas.List.{get_or-replicate, length-replicate}
+use Rattle.word_arena.specs.declared.layouts.Layout.{Layout}
+use Rattle.word_arena.specs.Layouts.{capacity_of}
 use Rattle.word_arena.specs.declared.stores.Store.{Store}
 use Rattle.word_arena.specs.Words.{at, words_for, Holds, IsUnreached, listed}
 use Rattle.word_arena.specs.Stores.{words_after, words_after_all}
@@ -11,11 +14,12 @@ use Rattle.word_arena.proofs.ReachLemmas.{reached_listed}
 use Rattle.latch_core.specs.declared.updates.Update.{Update}
 use Rattle.latch_core.specs.Sequences.{stable}
 use Rattle.latch_core.specs.Updates.{refuses, after}
-use Rattle.latch_core.specs.Latches.{Hand, Latch, MayStep, stepped, begun}
+use Rattle.latch_core.specs.Latches.{Hand, Latch, MayStep, stepped, begun, opening_latch}
 use Rattle.latch_core.specs.Plans.{IsPlan, update_stores}
 use Rattle.latch_core.specs.WriterViews.{WriterView}
-use Rattle.latch_core.specs.Writers.{AtRest, Pictures, next_store, why_refused, sequence_after, stepped_writer}
+use Rattle.latch_core.specs.Writers.{AtRest, StaysShallow, Pictures, next_store, why_refused, sequence_after, stepped_writer, opening_writer}
 use Rattle.latch_core.proofs.Planned.{Leading, update_plan, update_zero, update_one, update_sequence}
+use Rattle.latch_core.proofs.Shallow.{update_shallow, opening_shallow}
 use Rattle.latch_core.proofs.PlanLemmas.{first_and_rest, plan_step, plan_left}
 
 -- the next store, and whether there is an update in hand
@@ -62,6 +66,7 @@ did_pictures w l h s p hand is =
       };
       table = p.table;
       sequence = sequence_stored l.words w.sequence s (omega (arith, sized)) p.sequence;
+      shallow = (subst (StaysShallow w.capacity l.words) (first_and_rest w.left s is) p.shallow).1;
     }
 
 pub remaining_pictured : (w : WriterView) (l : Latch) (h : Hand) → Pictures w l → l.hand ≡ Some h → h.left ≡ length w.left
@@ -93,6 +98,7 @@ module _ {K : Type 0} (o : Order K) (w : WriterView) (u : Update) (items links0 
         };
         table = ap (λ t. after o t u) p.table;
         sequence = p.sequence;
+        shallow = subst (StaysShallow n m) same (update_shallow n w.table after_u m items links0 links1 new.zero_tree new.one_tree leading);
       }
 
   pub begun_pictures : (l : Latch) → Pictures w l → w.left ≡ [] → Leading w.capacity w.table (after o w.table u) l.words items links0 links1 new.zero_tree new.one_tree → Pictures new (begun o l u (length new.left))
@@ -108,3 +114,23 @@ unlisted w m node rest same free = (
 -- a latch at rest
 pub rest_now : (w : WriterView) (l : Latch) → Pictures w l → w.left ≡ [] → AtRest w l.words
 rest_now w l p idle = subst (λ ss. AtRest w (words_after_all l.words ss)) idle p.at_rest
+
+-- a core that has made nothing pictures the opening
+pub opening_pictures : (l : Layout) (start : ℕ) → stable start ≡ 0 → Pictures (opening_writer l start) (opening_latch (capacity_of l) start)
+opening_pictures l start even =
+    let n = capacity_of l in
+    let m = (opening_latch n start).words in
+    let first : at m 1 ≡ 0 = get_or-replicate (7 * n + 2) 0 0 0 (omega arith) in
+    let second : at m 2 ≡ 0 = get_or-replicate (7 * n + 2) 1 0 0 (omega arith) in
+    record {
+      plan = refl;
+      at_rest = record {
+        sized = omega (arith, length-replicate {A = ℕ} (7 * n + 2) 0);
+        even = even;
+        zero = record { leads = first; listed_items = refl };
+        one = record { leads = second; listed_items = refl };
+      };
+      table = refl;
+      sequence = refl;
+      shallow = opening_shallow n start even [] refl;
+    }

@@ -3,7 +3,7 @@ use Rattle.std.specs.Prelude.{◌≡◌, ℕ, ◌+◌, ◌-◌, ◌*◌, ◌<◌
 use Rattle.latch_core.specs.declared.updates.Update.{Update}
 use Rattle.order_laws.specs.Orders.{Order}
 use Rattle.order_laws.specs.Tables.{IsTable}
-use Rattle.latch_core.specs.Histories.{replay, table_at}
+use Rattle.latch_core.specs.Histories.{replay, current_table}
 use Rattle.word_arena.specs.Words.{at, HoldsTable}
 use Rattle.latch_core.specs.Sequences.{gen, stable}
 use Rattle.latch_core.specs.Attempts.{Reading, Stand}
@@ -37,4 +37,4 @@ pub record IsSound {K : Type 0} (o : Order K) (n start : ℕ) (us : List Update)
   pub tables : AreTables o n us
   pub table_is : l.table ≡ replay o [] us
   pub in_hand : IsInHand o start (at l.words 0) us l.hand
-  pub current : HoldsTable l.words n (stable (at l.words 0)) (table_at o start us (gen (at l.words 0)))
+  pub current : HoldsTable l.words n (stable (at l.words 0)) (current_table o start us l.words)

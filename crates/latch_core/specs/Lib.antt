@@ -1,12 +1,27 @@
+-- The definitions of this crate, in the order in which to read them.
+-- the sequence of a latch (Documentation/locking/seqlock.rst, latch sequence counters)
 pub mod Sequences
+-- updates of a table
 pub mod Updates
+-- the table after a list of updates
 pub mod Histories
+-- how a reader looks a key up
 pub mod Attempts
+-- the writer of a latched tree
 pub mod Latches
-pub mod Plans
-pub mod PlanViews
-pub mod FreeNodes
-pub mod WriterViews
-pub mod Writers
+-- what stays true at every step
 pub mod Invariants
+-- lists of stores that the writer plans, and when they carry an update out
+pub mod Plans
+-- the nodes of a memory, shared out between the free ones and those of the trees
+pub mod FreeNodes
+-- what a writer's core knows of the words, and when it accepts an update
+pub mod Writers
+-- what a reader's core has still to do, and how the values that it takes lead it on
 pub mod Cores
+-- whole attempts
+pub mod Whole
+-- what a writer's core shows
+pub mod WriterViews
+-- what a writer's list of stores shows
+pub mod PlanViews

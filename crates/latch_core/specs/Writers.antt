@@ -1,13 +1,15 @@
 -- What a writer's core knows of the words, and when it accepts an update.
-use Rattle.std.specs.Prelude.{◌≡◌, ◌⊎◌, ℕ, ◌<◌, ◌≤◌, Bool, List, [], ◌++◌, length, Option, Some, None, is_some, MatchOption, All, nat_lt, slice_get, drop, if◌then◌else◌, ◌==◌}
+use Rattle.std.specs.Prelude.{◌≡◌, ◌⊎◌, ℕ, ◌<◌, ◌≤◌, Bool, List, [], ◌∷◌, ◌++◌, length, Option, Some, None, is_some, MatchOption, All, nat_lt, slice_get, drop, if◌then◌else◌, ◌==◌}
 use Rattle.order_laws.specs.declared.refusals.Refusal.{Refusal}
 use Rattle.order_laws.specs.declared.refusals.Refusal.TheVariants.{BadCapacity, OutOfMemory}
 use Rattle.order_laws.specs.Orders.{Order}
 use Rattle.word_arena.specs.declared.layouts.Layout.{Layout}
 use Rattle.word_arena.specs.declared.stores.Store.{Store}
 use Rattle.word_arena.specs.Layouts.{capacity_of, limit_of}
-use Rattle.word_arena.specs.Words.{at, words_for, none, listed, Holds}
-use Rattle.word_arena.specs.Stores.{words_after_all}
+use Rattle.word_arena.specs.Words.{at, words_for, Nodes, none, listed, Holds}
+use Rattle.word_arena.specs.Stores.{words_after, words_after_all}
+use Rattle.order_laws.specs.declared.items.Item.{Item}
+use Rattle.rb_trees.specs.Trees.{CanBeRedBlack}
 use Rattle.rb_words.specs.Pictures.{Picture}
 use Rattle.latch_core.specs.declared.updates.Update.{Update}
 use Rattle.latch_core.specs.Sequences.{stable}
@@ -36,12 +38,22 @@ pub record AtRest (w : WriterView) (m : List ℕ) : Type 0 where
   pub zero : Holds m w.capacity 0 w.table w.zero_tree
   pub one : Holds m w.capacity 1 w.table w.one_tree
 
+-- the stable copy holds a table in a red-black tree
+abbrev pub IsShallow : ℕ → List ℕ → Type 0
+IsShallow n m = (table : List Item) × (tree : Nodes) × Holds m n (stable (at m 0)) table tree × CanBeRedBlack tree
+
+-- now, and after each of these stores
+abbrev pub StaysShallow : ℕ → List ℕ → List Store → Type 0
+StaysShallow n m [] = IsShallow n m
+StaysShallow n m (s ∷ ss) = IsShallow n m × StaysShallow n (words_after m s) ss
+
 -- the core pictures a latch: the stores that are left carry the update in hand to its end, and then the memory is at rest
 pub record Pictures (w : WriterView) (l : Latch) : Type 0 where
   pub plan : IsPlan w.capacity l w.left
   pub at_rest : AtRest w (words_after_all l.words w.left)
   pub table : l.table ≡ w.table
   pub sequence : at l.words 0 ≡ w.sequence
+  pub shallow : StaysShallow w.capacity l.words w.left
 
 -- a store that may be made next: on each latch that the core pictures it is a step of the update in hand, and with none
 -- left no update is in hand

@@ -1,12 +1,13 @@
 //! What holds of every attempt and of every step of a writer, as contracts of functions that do nothing.
 
-ghost use Rattle.std.specs.Prelude.{◌≡◌, ℕ, ◌+◌, ◌*◌, ◌<◌, ◌≤◌, ◌⊎◌, false, List, [], ◌∷◌, ◌++◌, length, Some, None};
+ghost use Rattle.std.specs.Prelude.{◌≡◌, ℕ, ◌+◌, ◌*◌, ◌^◌, ◌<◌, ◌≤◌, ◌⊎◌, false, List, [], ◌∷◌, ◌++◌, length, Some, None};
 ghost use Rattle.order_laws.specs.declared.items.Item.{Item};
 ghost use Rattle.order_laws.specs.Tables.{IsTable, look};
 ghost use Rattle.word_arena.specs.declared.stores.Store.{Store};
 ghost use Rattle.word_arena.specs.Words.{at, Nodes, Holds};
 ghost use Rattle.word_arena.specs.Stores.{words_after};
 ghost use Rattle.latch_core.specs.declared.updates.Update.{Update};
+ghost use Rattle.rb_trees.specs.Trees.{CanBeRedBlack, depth};
 ghost use Rattle.latch_core.specs.Sequences.{gen, stable};
 ghost use Rattle.latch_core.specs.Updates.{refuses};
 ghost use Rattle.latch_core.specs.Attempts.{Reading, Load, Outcome, Answer, attempt, rest_after, IsAttempt, Stand};
@@ -30,6 +31,21 @@ pub fn attempt_is_short<O: TreeOrder>()
         → Holds m n (stable (at m 0)) table tree → IsTable O.order table → length table ≤ n
         → Stand m (attempt O.order n k) values → rest_after (attempt O.order n k) values ≡ Some (Load word go)
         → length values < 4 * length table + 3 }
+{}
+
+/// Where the stable copy's tree is red-black, an attempt takes at most four loads for each node on a way down and three, and no
+/// way down is longer than twice the binary logarithm of the number of items and one.
+pub fn attempt_is_shallow<O: TreeOrder>()
+    ensures deep { (m : List ℕ) (n : ℕ) (table : List Item) (tree : Nodes)
+        → Holds m n (stable (at m 0)) table tree → CanBeRedBlack tree
+        → 2 ^ depth tree ≤ (length table + 1) * (length table + 1) }
+    ensures whole { (m : List ℕ) (n : ℕ) (k : O.Key) (table : List Item) (tree : Nodes) (values : List ℕ)
+        → Holds m n (stable (at m 0)) table tree → IsTable O.order table → length table ≤ n
+        → Stand m (attempt O.order n k) values → length values ≤ 4 * depth tree + 3 }
+    ensures part { (m : List ℕ) (n : ℕ) (k : O.Key) (table : List Item) (tree : Nodes) (values : List ℕ) (word : ℕ) (go : ℕ → Reading)
+        → Holds m n (stable (at m 0)) table tree → IsTable O.order table → length table ≤ n
+        → Stand m (attempt O.order n k) values → rest_after (attempt O.order n k) values ≡ Some (Load word go)
+        → length values < 4 * depth tree + 3 }
 {}
 
 /// Whatever values an attempt takes, it ends: after at most four loads for each node and three.

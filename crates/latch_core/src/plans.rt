@@ -1,11 +1,15 @@
 //! The stores of an update, in the order in which they are made.
 
-ghost use Rattle.std.specs.Prelude.{◌≡◌, ◌+◌, ◌-◌, ◌^◌, ◌<◌, ◌≤◌, ◌++◌, [], IsSome, OnOk, take, drop, length, slice_get, vec_len, vec_capacity};
+ghost use Rattle.std.specs.Prelude.{◌≡◌, ◌+◌, ◌-◌, ◌*◌, ◌^◌, ◌<◌, ◌≤◌, ◌++◌, [], Some, IsSome, OnOk, take, drop, length, slice_get, vec_len, vec_capacity};
+ghost use Rattle.word_arena.specs.Layouts.{capacity_of};
+ghost use Rattle.word_arena.specs.Stores.{AreLinkStores};
+ghost use Rattle.rb_words.specs.Mirrors.{mirror};
 ghost use Rattle.latch_core.specs.Plans.{update_stores};
 
+use rb_words::mirrored;
 use std::alloc::{AllocError, Global};
 use std::marker::Model;
-use word_arena::Store;
+use word_arena::{Layout, Store};
 
 /// The stores of an update, and how many of them were made.
 #[derive(Drop)]
@@ -46,21 +50,26 @@ impl Plan {
     }
 
     /// The store to be made next.
+    #[inline(always)]
     pub fn next(&self) -> Option<Store>
         ensures { result ≡ slice_get self.now.left 0 }
     {
         self.stores.get(self.made).copied()
     }
 
-    /// The next store was made.
-    pub fn advance(&mut self)
+    /// The next store was made; answers which it was.
+    #[inline(always)]
+    pub fn advance(&mut self) -> Store
         requires { IsSome (slice_get self.old.left 0) }
-        ensures { self.new.left ≡ drop 1 self.old.left }
+        ensures was { slice_get self.old.left 0 ≡ Some result }
+        ensures left { self.new.left ≡ drop 1 self.old.left }
     {
+        let store = self.stores[self.made];
         self.made += 1;
+        store
     }
 
-    /// Makes room for the stores of an update, after the last one.
+    /// Makes room for the stores of an update, where none are left.
     pub fn reserve(&mut self, count: usize) -> Result<(), AllocError>
         requires { self.old.left ≡ [] }
         ensures left { self.new.left ≡ [] }
@@ -71,24 +80,25 @@ impl Plan {
         self.stores.reserve(count)
     }
 
-    /// Takes in the stores of an update, from what was planned for copy 0 and for copy 1: those of items, with which both
-    /// begin and which are made once, the first flip, the links of copy 0, the second flip, the links of copy 1.
+    /// Takes in the stores of an update, from what was planned for copy 0: those of items, with which it begins and which
+    /// are made once, the first flip, the links of copy 0, the second flip, the same links in copy 1.
     ///
     /// Takes no memory.
-    pub fn fill(&mut self, sequence: u64, first: &[Store], second: &[Store], items: usize)
+    pub fn fill(&mut self, l: Layout, sequence: u64, planned: &[Store], items: usize)
         requires none_left { self.old.left ≡ [] }
-        requires first_items { items ≤ length first.now }
-        requires second_items { items ≤ length second.now }
-        requires room { length first.now + length second.now + 2 ≤ self.old.room }
+        requires items_first { items ≤ length planned.now }
+        requires then_links { AreLinkStores (capacity_of l) 0 (drop items planned.now) }
+        requires room { 2 * length planned.now + 2 ≤ self.old.room }
         requires counts { sequence + 2 < 2 ^ 64 }
-        ensures { self.new.left
-            ≡ update_stores sequence (take items first.now) (drop items first.now) (drop items second.now) }
+        ensures { self.new.left ≡ update_stores sequence (take items planned.now)
+            (drop items planned.now) (mirror (drop items planned.now)) }
     {
-        append(&mut self.stores, &first[..items]);
+        let links = &planned[items..];
+        append(&mut self.stores, &planned[..items]);
         self.stores.push_reserved(flip_to(sequence + 1));
-        append(&mut self.stores, &first[items..]);
+        append(&mut self.stores, links);
         self.stores.push_reserved(flip_to(sequence + 2));
-        append(&mut self.stores, &second[items..]);
+        mirrored(l, links, &mut self.stores);
     }
 }
 
@@ -107,7 +117,9 @@ fn append(stores: &mut Vec<Store>, more: &[Store])
     requires { vec_len stores.old + length more.now ≤ vec_capacity stores.old }
     ensures items { stores.new.items ≡ stores.old.items ++ more.now }
     ensures len { vec_len stores.new ≡ vec_len stores.old + length more.now }
-    ensures capacity { vec_capacity stores.old ≤ vec_capacity stores.new }
+    ensures capacity { vec_capacity stores.new ≡ vec_capacity stores.old }
 {
-    stores.extend_from_slice(more).unwrap();
+    for store in more {
+        stores.push_reserved(*store);
+    }
 }

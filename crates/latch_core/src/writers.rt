@@ -26,22 +26,24 @@ const ITEM_STORES: usize = 3;
 /// The writer's side of a latch (`latch_tree_insert`, `latch_tree_erase` and `raw_write_seqcount_latch` of
 /// include/linux/rbtree_latch.h and include/linux/seqlock.h).
 ///
-/// An update flips the sequence, changes copy 0, flips again and changes copy 1. All of its stores are planned when it
-/// begins, and all memory is taken then; after that [`next`](WriterCore::next) tells one store and
-/// [`did`](WriterCore::did) is told that it was made. One update is in hand at a time.
+/// An update flips the sequence, changes copy 0, flips again and changes copy 1 in the same way, so one picture serves both
+/// copies. All stores are planned when the update begins, and all memory is taken then; after that
+/// [`next`](WriterCore::next) tells one store and [`did`](WriterCore::did) is told that it was made. One update is in hand at
+/// a time.
 #[derive(Drop)]
 pub struct WriterCore<O: TreeOrder> {
     layout: Layout,
     sequence: u64,
-    zero: Shape<O>,
-    one: Shape<O>,
+    shape: Shape<O>,
     free: Vec<u32>,
+    planned: Vec<Store>,
     plan: Plan,
 }
 
 impl<O: TreeOrder> Model for WriterCore<O> {
     ghost use Rattle.std.specs.Prelude.{◌≤◌, vec_capacity};
     ghost use Rattle.word_arena.specs.Layouts.{capacity_of, limit_of};
+    ghost use Rattle.rb_words.specs.Mirrors.{second};
     ghost use Rattle.latch_core.specs.WriterViews.{WriterView, writer_code};
     ghost use Rattle.latch_core.specs.Writers.{AreInStep};
 
@@ -53,13 +55,13 @@ impl<O: TreeOrder> Model for WriterCore<O> {
       capacity = capacity_of w.layout;
       limit = limit_of w.layout;
       sequence = w.sequence;
-      table = w.zero.table;
-      zero_tree = w.zero.tree;
-      one_tree = w.one.tree;
+      table = w.shape.table;
+      zero_tree = w.shape.tree;
+      one_tree = w.shape.tree;
       left = w.plan.left;
     } };
 
-    ghost invariant = { λ w. AreInStep (capacity_of w.layout) w.zero w.one w.free.items w.plan.left
+    ghost invariant = { λ w. AreInStep (capacity_of w.layout) w.shape (second w.shape) w.free.items w.plan.left
         × (capacity_of w.layout ≤ vec_capacity w.free) };
 }
 
@@ -80,9 +82,9 @@ impl<O: TreeOrder> WriterCore<O> {
         Ok(WriterCore {
             layout: l,
             sequence: start,
-            zero: Shape::new(alloc, l, TreeCopy::Zero),
-            one: Shape::new(alloc, l, TreeCopy::One),
+            shape: Shape::new(alloc, l, TreeCopy::Zero),
             free: all_nodes(alloc, l.capacity())?,
+            planned: Vec::new(alloc),
             plan: Plan::new(alloc),
         })
     }
@@ -123,15 +125,15 @@ impl<O: TreeOrder> WriterCore<O> {
                 if !O::valid(item) {
                     return Some(Refusal::BadItem);
                 }
-                if self.zero.meets(item, &[]) {
+                if self.shape.meets(item, &[]) {
                     return Some(Refusal::Overlap);
                 }
-                if self.zero.len() == self.layout.capacity() {
+                if self.shape.len() == self.layout.capacity() {
                     return Some(Refusal::Full);
                 }
             }
             Update::Erase(a) => {
-                if !self.zero.has(*a) {
+                if !self.shape.has(*a) {
                     return Some(Refusal::NoSuchItem);
                 }
             }
@@ -149,14 +151,14 @@ impl<O: TreeOrder> WriterCore<O> {
         ensures refusal { IfErr result (λ e. e ≡ Refusal.OutOfMemory) }
         ensures unchanged { OnErr result (self.new ≡ self.old) }
     {
-        let (mut first, mut second) = reserve(&mut self.zero, &mut self.one, &mut self.plan)?;
+        reserve(&mut self.shape, &mut self.planned, &mut self.plan)?;
         let Some(node) = self.free.pop() else {
             unreachable!()
         };
-        self.zero.plan_insert(&mut first, node, item);
-        self.one.plan_insert(&mut second, node, item);
+        self.shape.plan_insert(&mut self.planned, node, item);
         // The node's words serve both copies, so they are stored once, before copy 1 links the node.
-        self.plan.fill(self.sequence, &first, &second, ITEM_STORES);
+        self.plan
+            .fill(self.layout, self.sequence, &self.planned, ITEM_STORES);
         Ok(())
     }
 
@@ -167,17 +169,17 @@ impl<O: TreeOrder> WriterCore<O> {
         ensures refusal { IfErr result (λ e. e ≡ Refusal.OutOfMemory) }
         ensures unchanged { OnErr result (self.new ≡ self.old) }
     {
-        let (mut first, mut second) = reserve(&mut self.zero, &mut self.one, &mut self.plan)?;
-        let node = self.zero.plan_erase(&mut first, a);
-        let _ = self.one.plan_erase(&mut second, a);
+        reserve(&mut self.shape, &mut self.planned, &mut self.plan)?;
+        let node = self.shape.plan_erase(&mut self.planned, a);
         self.free.push_reserved(node);
-        self.plan.fill(self.sequence, &first, &second, 0);
+        self.plan.fill(self.layout, self.sequence, &self.planned, 0);
         Ok(())
     }
 
     /// The store to be made next; none where no update is in hand.
     ///
     /// Its word lies in the memory. On any words that the core pictures it is a step that a writer may make.
+    #[inline(always)]
     pub fn next(&self) -> Option<Store>
         ensures which { result ≡ next_store self.now }
         ensures some { IsSome result ↔ (0 < length self.now.left) }
@@ -188,6 +190,7 @@ impl<O: TreeOrder> WriterCore<O> {
     }
 
     /// The store that [`next`](WriterCore::next) told was made.
+    #[inline(always)]
     pub fn did(&mut self)
         requires { IsSome (next_store self.old) }
         ensures same { (self.new.capacity ≡ self.old.capacity) × (self.new.limit ≡ self.old.limit)
@@ -200,6 +203,7 @@ impl<O: TreeOrder> WriterCore<O> {
     }
 
     /// Leaves the next store behind, and keeps the sequence that it makes.
+    #[inline(always)]
     fn step_on(&mut self)
         requires { IsSome (next_store self.old) }
         ensures same { (self.new.capacity ≡ self.old.capacity) × (self.new.limit ≡ self.old.limit)
@@ -207,12 +211,10 @@ impl<O: TreeOrder> WriterCore<O> {
         ensures left { length self.new.left + 1 ≡ length self.old.left }
         ensures stepped { (s : Store) → next_store self.old ≡ Some s → self.new ≡ stepped_writer self.old s }
     {
-        if let Some(store) = self.plan.next() {
-            if store.word == 0 {
-                self.sequence = store.value;
-            }
+        let store = self.plan.advance();
+        if store.word == 0 {
+            self.sequence = store.value;
         }
-        self.plan.advance();
     }
 
     /// How many stores are left until the update in hand is at its end; 0 where none is in hand.
@@ -236,7 +238,7 @@ impl<O: TreeOrder> WriterCore<O> {
         ensures is { result ≡ has a self.now.table }
         ensures pictured { (l : Latch) → Pictures self.now l → result ≡ has a l.table }
     {
-        self.zero.has(a)
+        self.shape.has(a)
     }
 
     /// How many items the table after all accepted updates has.
@@ -244,7 +246,7 @@ impl<O: TreeOrder> WriterCore<O> {
         ensures is { result ≡ length self.now.table }
         ensures pictured { (l : Latch) → Pictures self.now l → result ≡ length l.table }
     {
-        self.zero.len()
+        self.shape.len()
     }
 
     /// Whether the table after all accepted updates has no item.
@@ -263,27 +265,26 @@ impl<O: TreeOrder> WriterCore<O> {
     }
 }
 
-/// Makes room for an update of one item: in the pictures of both copies, in a list of stores for each, which it hands out, and
-/// in the plan.
+/// Makes room for an update of one item: in the picture, in the list of what is planned for copy 0, which it empties, and in
+/// the plan.
 fn reserve<O: TreeOrder>(
-    zero: &mut Shape<O>,
-    one: &mut Shape<O>,
+    shape: &mut Shape<O>,
+    planned: &mut Vec<Store>,
     plan: &mut Plan,
-) -> Result<(Vec<Store>, Vec<Store>), Refusal>
+) -> Result<(), Refusal>
     requires { plan.old.left ≡ [] }
-    ensures zero_kept { zero.new ≡ record zero.old { room = zero.new.room } }
-    ensures one_kept { one.new ≡ record one.old { room = one.new.room } }
+    ensures kept { shape.new ≡ record shape.old { room = shape.new.room } }
     ensures plan_kept { plan.new.left ≡ [] }
-    ensures zero_room { IfOk result (λ lists.
-        (0 < zero.new.room) × (lists.0.items ≡ []) × (vec_len lists.0 ≡ 0) × (STORES ≤ vec_capacity lists.0)) }
-    ensures one_room { IfOk result (λ lists.
-        (0 < one.new.room) × (lists.1.items ≡ []) × (vec_len lists.1 ≡ 0) × (STORES ≤ vec_capacity lists.1)) }
-    ensures plan_room { IfOk result (λ lists. 2 * STORES + 2 ≤ plan.new.room) }
+    ensures emptied { planned.new.items ≡ [] }
+    ensures none_planned { vec_len planned.new ≡ 0 }
+    ensures room { OnOk result (0 < shape.new.room) }
+    ensures list_room { OnOk result (STORES ≤ vec_capacity planned.new) }
+    ensures plan_room { OnOk result (2 * STORES + 2 ≤ plan.new.room) }
     ensures refusal { IfErr result (λ e. e ≡ Refusal.OutOfMemory) }
-    ensures sound { IsPicture O.order zero.new }
+    ensures sound { IsPicture O.order shape.new }
 {
-    let first = zero.reserve(1)?;
-    let second = one.reserve(1)?;
+    planned.clear();
+    shape.reserve_in(1, planned)?;
     plan.reserve(2 * STORES + 2)?;
-    Ok((first, second))
+    Ok(())
 }

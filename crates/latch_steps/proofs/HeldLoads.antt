@@ -1,11 +1,11 @@
 -- Loads of a lookup that is held apart.
-use Rattle.std.proofs.Common.{◌≡◌, ◌≢◌, ℕ, ◌+◌, ◌<◌, cond, List, [], ◌∷◌, ◌++◌, length, Option, Some, None, refl, sym, ◌∙◌, ap, subst, arith, length-append, append_assoc, append-nil}
+use Rattle.std.proofs.Common.{◌≡◌, ◌≢◌, ℕ, ◌+◌, ◌<◌, Bool, false, cond, List, [], ◌∷◌, ◌++◌, length, replicate, Option, Some, None, refl, sym, ◌∙◌, ap, subst, arith, length-append}
 use Rattle.std.specs.Ordering.{nat_cmp}
 use Rattle.std.specs.FinMap.{get, insert, remove}
 use Rattle.order_laws.specs.declared.refusals.Refusal.TheVariants.{ReaderIdle}
 use Rattle.order_laws.specs.Orders.{Order}
-use Rattle.latch_steps.specs.declared.events.Event.{Event}
 use Rattle.latch_steps.specs.declared.events.Event.TheVariants.{Read}
+use Rattle.latch_steps.specs.declared.commands.Command.{Command}
 use Rattle.latch_steps.specs.declared.commands.Command.TheVariants.{Read as ToRead}
 use Rattle.latch_steps.specs.declared.replies.Returned.{Returned}
 use Rattle.latch_steps.specs.declared.replies.Reply.{Reply}
@@ -15,9 +15,11 @@ use Rattle.latch_steps.specs.declared.replies.Reply.TheVariants.{Loaded, Retried
 use Rattle.latch_steps.specs.declared.lookups.Lookup.{Lookup}
 use Rattle.latch_steps.specs.declared.lookups.Loaded.TheVariants.{Going, Retrying, Returned as Ended}
 use Rattle.latch_steps.specs.declared.lookups.Held.TheVariants.{Going as Holds, Returned as Ends}
-use Rattle.latch_steps.specs.Runs.{LookupInHand, Moment, more, with_lookups, Reads, Run, last_of, notes_of}
+use Rattle.latch_steps.specs.Runs.{LookupInHand, Moment, Done, did, last_of}
+use Rattle.latch_steps.specs.Steps.{more, with_lookups, after_load, load_done, read_done, Run}
+use Rattle.latch_steps.specs.Traces.{kept, events_of, note_of, notes_of}
 use Rattle.latch_steps.specs.Lookups.{IsInHand, IsLookupOf, LoadsTo}
-use Rattle.latch_steps.specs.Held.{lookup_of, notes_of_held, IsHolding, LoadsOn}
+use Rattle.latch_steps.specs.HeldLookups.{lookup_of, notes_of_held, IsHolding, LoadsOn, LoadsFrom, ReadsOn}
 use Rattle.latch_steps.proofs.Readers.{get_insert_same, get_insert_other, get_remove_same, get_remove_other, in_hand_at}
 use Rattle.latch_core.specs.Latches.{Latch}
 use Rattle.latch_core.specs.Writers.{Pictures}
@@ -26,33 +28,29 @@ use Rattle.std.specs.List.{cons_option}
 use Rattle.std.specs.BTreeMap.{BTreeMap, get as tree_get, is_at}
 use Rattle.latch_steps.specs.declared.worlds.World.{World}
 use Rattle.latch_steps.specs.declared.lookups.Held.{Held}
-use Rattle.latch_steps.specs.Shows.{Shows, Does}
-use Rattle.latch_steps.specs.Expands.{reads_within, Repeats}
-use Rattle.latch_steps.specs.HeldReads.{ReadsOn}
+use Rattle.latch_steps.specs.Worlds.{Shows, layout_in}
+use Rattle.latch_steps.specs.Recorders.{Obeys}
+use Rattle.latch_steps.specs.declared.traces.Recorder.{Recorder}
+use Rattle.latch_steps.specs.WorldSteps.{Does}
+use Rattle.latch_steps.specs.Expands.{event_of, reads_within, ends, Repeats}
 use Rattle.latch_steps.proofs.Showing.{shown, shown_none}
-use Rattle.latch_steps.proofs.Recording.{run_append, last_append, notes_append, Unended, unended_push, repeats_full, repeats_ended}
+use Rattle.latch_steps.proofs.Recording.{run_append, last_append, notes_append, Unended, unended_push, repeats_full, repeats_ended, reads_shallow, shows_shallow}
 
 -- loads so far, none of which returned
-pub record Loading {O K : Type 0} (o : Order K) (n limit : ℕ) (w : Moment K) (r : ℕ) (most turn : ℕ) (before now : List (Event K)) (c : Lookup O K) (count : ℕ) : Type 0 where
-  pub es : List (Event K)
-  pub rs : List (Reply K)
-  pub ws : List (Moment K)
-  pub done : now ≡ before ++ es
-  pub run : Run o n limit w es rs ws
-  pub unended : Unended (ToRead r most) es rs ws
-  pub turns : length es ≡ turn
-  pub notes : notes_of rs ≡ []
-  pub holding : IsHolding o n w (last_of w ws) r (Some c) count
+pub record Loading {O K : Type 0} (o : Order K) (n limit : ℕ) (w : Moment K) (r : ℕ) (most turn : ℕ) (c : Lookup O K) (count : ℕ) : Type 0 where
+  pub run : List (Done K)
+  pub steps : Run o n limit w run
+  pub unended : Unended (ToRead r most) run
+  pub turns : length run ≡ turn
+  pub notes : notes_of run ≡ []
+  pub holding : IsHolding o n w (last_of w run) r (Some c) count
 
-module _ {O K : Type 0} (o : Order K) (n limit : ℕ) (w : Moment K) (r most : ℕ) (before : List (Event K)) where
-  pub no_loads : (c : Lookup O K) (count : ℕ) → IsInHand o n (Some c) (get w.lookups r) → count ≡ w.events → Loading o n limit w r most 0 before before c count
+module _ {O K : Type 0} (o : Order K) (n limit : ℕ) (w : Moment K) (r most : ℕ) where
+  pub no_loads : (c : Lookup O K) (count : ℕ) → IsInHand o n (Some c) (get w.lookups r) → count ≡ w.events → Loading o n limit w r most 0 c count
   no_loads c count is e =
       record {
-        es = [];
-        rs = [];
-        ws = [];
-        done = sym (append-nil before);
-        run = tt;
+        run = [];
+        steps = tt;
         unended = tt;
         turns = refl;
         notes = refl;
@@ -60,67 +58,59 @@ module _ {O K : Type 0} (o : Order K) (n limit : ℕ) (w : Moment K) (r most : �
       }
 
   -- the next load, by the reply and the moment that it leads to
-  module _ (now new : List (Event K)) (c : Lookup O K) (count next : ℕ) (turn : ℕ) (h : Loading o n limit w r most turn before now c count) (pushed : new ≡ now ++ Read r ∷ []) (counts : next ≡ more count) where
+  module _ (c : Lookup O K) (count next : ℕ) (turn : ℕ) (h : Loading o n limit w r most turn c count) (counts : next ≡ more count) where
     abbrev v : Moment K
-    v = last_of w h.ws
+    v = last_of w h.run
 
     in_hand : (l : LookupInHand K) × (get v.lookups r ≡ Some l) × IsLookupOf o n c l
     in_hand = shown o n (Some c) (get v.lookups r) c refl h.holding.lookup
 
-    done_now : new ≡ before ++ (h.es ++ Read r ∷ [])
-    done_now = pushed ∙ ap (λ xs. xs ++ Read r ∷ []) h.done ∙ append_assoc before h.es (Read r ∷ [])
+    run_on : (reply : Reply K) (v' : Moment K) → load_done v r (after_load o n v r in_hand.0) ≡ (reply, v') → Run o n limit w (h.run ++ did (Read r) reply v' ∷ [])
+    run_on reply v' reads = run_append o n limit w h.run (did (Read r) reply v' ∷ []) h.steps (ap (read_done o n v r) in_hand.1 ∙ reads, tt)
 
-    run_on : (reply : Reply K) (v' : Moment K) → Reads o n v r (Some in_hand.0) reply v' → Run o n limit w (h.es ++ Read r ∷ []) (h.rs ++ reply ∷ []) (h.ws ++ v' ∷ [])
-    run_on reply v' reads = run_append o n limit w h.es (Read r ∷ []) h.rs (reply ∷ []) h.ws (v' ∷ []) h.run (subst (λ f. Reads o n v r f reply v') (sym in_hand.1) reads, tt)
-
-    holds_on : (c' : Option (Lookup O K)) (v' : Moment K) → v'.latch ≡ v.latch → IsInHand o n c' (get v'.lookups r) → ((q : ℕ) → q ≢ r → get v'.lookups q ≡ get v.lookups q) → v'.events ≡ more v.events → IsHolding o n w (last_of w (h.ws ++ v' ∷ [])) r c' next
-    holds_on c' v' el is others ee =
-        subst (λ x. IsHolding o n w x r c' next) (sym (last_append w h.ws (v' ∷ [])))
+    holds_on : (c' : Option (Lookup O K)) (reply : Reply K) (v' : Moment K) → v'.latch ≡ v.latch → IsInHand o n c' (get v'.lookups r) → ((q : ℕ) → q ≢ r → get v'.lookups q ≡ get v.lookups q) → v'.events ≡ more v.events → IsHolding o n w (last_of w (h.run ++ did (Read r) reply v' ∷ [])) r c' next
+    holds_on c' reply v' el is others ee =
+        subst (λ x. IsHolding o n w x r c' next) (sym (last_append w h.run (did (Read r) reply v' ∷ [])))
         (record { latch = el ∙ h.holding.latch; lookup = is; others = λ q ne. others q ne ∙ h.holding.others q ne; events = counts ∙ ap more h.holding.events ∙ sym ee })
 
-    loads_more : (c' : Lookup O K) (reply : Reply K) (l' : LookupInHand K) → IsLookupOf o n c' l' → Reads o n v r (Some in_hand.0) reply (with_lookups v (insert v.lookups r l')) → (notes_of (reply ∷ []) ≡ []) → ((x : Moment K) → Unended (ToRead r most) (Read r ∷ []) (reply ∷ []) (x ∷ [])) → Loading o n limit w r most (turn + 1) before new c' next
+    loads_more : (c' : Lookup O K) (reply : Reply K) (l' : LookupInHand K) → IsLookupOf o n c' l' → load_done v r (after_load o n v r in_hand.0) ≡ (reply, with_lookups v (insert v.lookups r l')) → (note_of reply ≡ None) → ((x : Moment K) → ends (ToRead r most) reply x ≡ false) → Loading o n limit w r most (turn + 1) c' next
     loads_more c' reply l' is reads quiet goes =
         let v' = with_lookups v (insert v.lookups r l') in
         record {
-          es = h.es ++ Read r ∷ [];
-          rs = h.rs ++ reply ∷ [];
-          ws = h.ws ++ v' ∷ [];
-          done = done_now;
-          run = run_on reply v' reads;
-          unended = unended_push (ToRead r most) h.es h.rs h.ws reply v' h.unended (goes v').1;
-          turns = length-append h.es (Read r ∷ []) ∙ ap (λ j. j + 1) h.turns;
-          notes = notes_append h.rs (reply ∷ []) ∙ ap (λ xs. xs ++ notes_of (reply ∷ [])) h.notes ∙ quiet;
-          holding = holds_on (Some c') v' refl (subst (IsInHand o n (Some c')) (sym (get_insert_same v.lookups r l')) is) (λ q ne. get_insert_other v.lookups q r l' ne) refl;
+          run = h.run ++ did (Read r) reply v' ∷ [];
+          steps = run_on reply v' reads;
+          unended = unended_push (ToRead r most) h.run (did (Read r) reply v') h.unended refl (goes v');
+          turns = length-append h.run (did (Read r) reply v' ∷ []) ∙ ap (λ j. j + 1) h.turns;
+          notes = notes_append h.run (did (Read r) reply v' ∷ []) ∙ ap (λ xs. xs ++ notes_of (did (Read r) reply v' ∷ [])) h.notes ∙ ap (λ f. cons_option f []) quiet;
+          holding = holds_on (Some c') reply v' refl (subst (IsInHand o n (Some c')) (sym (get_insert_same v.lookups r l')) is) (λ q ne. get_insert_other v.lookups q r l' ne) refl;
         }
 
-    pub load_goes : (words : List ℕ) → w.latch.words ≡ words → (c' : Lookup O K) → ((l : LookupInHand K) → IsLookupOf o n c l → LoadsTo o n words r next l (Going c')) → Loading o n limit w r most (turn + 1) before new c' next
+    pub load_goes : (words : List ℕ) → w.latch.words ≡ words → (c' : Lookup O K) → ((l : LookupInHand K) → IsLookupOf o n c l → LoadsTo o n words r next l (Going c')) → Loading o n limit w r most (turn + 1) c' next
     load_goes words same c' loads =
         let g = loads in_hand.0 in_hand.2 in
-        loads_more c' Loaded g.0 g.1 (g.2 v (ap (λ l. l.words) h.holding.latch ∙ same)) refl (λ x. (refl, refl, tt))
+        loads_more c' Loaded g.0 g.1 (ap (load_done v r) (g.2 v (ap (λ l. l.words) h.holding.latch ∙ same))) refl (λ x. refl)
 
-    pub load_retries : (words : List ℕ) → w.latch.words ≡ words → (c' : Lookup O K) → ((l : LookupInHand K) → IsLookupOf o n c l → LoadsTo o n words r next l (Retrying c')) → Loading o n limit w r most (turn + 1) before new c' next
+    pub load_retries : (words : List ℕ) → w.latch.words ≡ words → (c' : Lookup O K) → ((l : LookupInHand K) → IsLookupOf o n c l → LoadsTo o n words r next l (Retrying c')) → Loading o n limit w r most (turn + 1) c' next
     load_retries words same c' loads =
         let g = loads in_hand.0 in_hand.2 in
-        loads_more c' Retried g.0 g.1 (g.2 v (ap (λ l. l.words) h.holding.latch ∙ same)) refl (λ x. (refl, refl, tt))
+        loads_more c' Retried g.0 g.1 (ap (load_done v r) (g.2 v (ap (λ l. l.words) h.holding.latch ∙ same))) refl (λ x. refl)
 
-    pub load_ends : (words : List ℕ) → w.latch.words ≡ words → (x : Returned K) → turn < most → ((l : LookupInHand K) → IsLookupOf o n c l → LoadsTo {O = O} o n words r next l (Ended x)) → LoadsOn {O = O} o n limit w r most before new (Ends x) next
+    pub load_ends : (words : List ℕ) → w.latch.words ≡ words → (x : Returned K) → turn < most → ((l : LookupInHand K) → IsLookupOf o n c l → LoadsTo {O = O} o n words r next l (Ended x)) → LoadsOn {O = O} o n limit w r most (Ends x) (turn + 1) next
     load_ends words same x lt loads =
         let v' = with_lookups v (remove v.lookups r) in
-        let reads = loads in_hand.0 in_hand.2 v (ap (λ l. l.words) h.holding.latch ∙ same) (ap more (sym h.holding.events) ∙ sym counts) in
+        let reads = ap (load_done v r) (loads in_hand.0 in_hand.2 v (ap (λ l. l.words) h.holding.latch ∙ same) (ap more (sym h.holding.events) ∙ sym counts)) in
         record {
-          es = h.es ++ Read r ∷ [];
-          rs = h.rs ++ Gave x ∷ [];
-          ws = h.ws ++ v' ∷ [];
-          done = done_now;
-          run = run_on (Gave x) v' reads;
-          repeats = repeats_ended (ToRead r most) h.es h.rs h.ws most (Gave x) v' h.unended (let t = h.turns in omega arith) refl;
-          notes = notes_append h.rs (Gave x ∷ []) ∙ ap (λ xs. xs ++ notes_of (Gave x ∷ [])) h.notes;
-          holding = holds_on None v' refl (subst (IsInHand {O = O} o n None) (sym (get_remove_same v.lookups r)) tt) (λ q ne. get_remove_other v.lookups q r ne) refl;
+          run = h.run ++ did (Read r) (Gave x) v' ∷ [];
+          made = length-append h.run (did (Read r) (Gave x) v' ∷ []) ∙ ap (λ j. j + 1) h.turns;
+          steps = run_on (Gave x) v' reads;
+          repeats = repeats_ended (ToRead r most) h.run most (did (Read r) (Gave x) v') h.unended (let t = h.turns in omega arith) refl refl;
+          notes = notes_append h.run (did (Read r) (Gave x) v' ∷ []) ∙ ap (λ xs. xs ++ notes_of (did (Read r) (Gave x) v' ∷ [])) h.notes;
+          holding = holds_on None (Gave x) v' refl (subst (IsInHand {O = O} o n None) (sym (get_remove_same v.lookups r)) tt) (λ q ne. get_remove_other v.lookups q r ne) refl;
         }
 
-  pub all_loaded : (now : List (Event K)) (c : Lookup O K) (count turn : ℕ) → Loading o n limit w r most turn before now c count → turn ≡ most → LoadsOn o n limit w r most before now (Holds c) count
-  all_loaded now c count turn h e =
-      record { es = h.es; rs = h.rs; ws = h.ws; done = h.done; run = h.run; repeats = repeats_full (ToRead r most) h.es h.rs h.ws most h.unended (h.turns ∙ e); notes = h.notes; holding = h.holding }
+  pub all_loaded : (c : Lookup O K) (count turn : ℕ) → Loading o n limit w r most turn c count → turn ≡ most → LoadsOn o n limit w r most (Holds c) most count
+  all_loaded c count turn h e =
+      record { run = h.run; made = h.turns ∙ e; steps = h.steps; repeats = repeats_full (ToRead r most) h.run most h.unended (h.turns ∙ e); notes = h.notes; holding = h.holding }
 
 -- the lookup is put back, or taken out
 module _ {O K : Type 0} (o : Order K) (c : World O K) (r : ℕ) where
@@ -136,38 +126,61 @@ module _ {O K : Type 0} (o : Order K) (c : World O K) (r : ℕ) where
       }
 
   -- a reader without a lookup is refused once
-  pub idle_reads : (most : ℕ) (before after : List (Event K)) (new : World O K) → tree_get nat_cmp c.lookups r ≡ None → after ≡ before ++ Read r ∷ [] → Does o c (Read r) (Refused ReaderIdle) new → (w : Moment K) → Shows o c w → ReadsOn o c w r most before after (Some (ToRefuse ReaderIdle)) new
-  idle_reads most before after new free pushed does w s =
+  pub idle_reads : (most : ℕ) (new : World O K) → tree_get nat_cmp c.lookups r ≡ None → Does o c (Read r) (Refused ReaderIdle) new → (w : Moment K) → Shows o c w → ReadsOn o c w r most 1 (Some (ToRefuse ReaderIdle)) new
+  idle_reads most new free does w s =
       let d = does w s in
       let none_there : get w.lookups r ≡ None = shown_none o (capacity_of c.layout) (tree_get nat_cmp c.lookups r) (get w.lookups r) free (s.lookups r) in
-      let once : Repeats (ToRead r most) 1 (Read r ∷ []) (Refused ReaderIdle ∷ []) (d.0 ∷ []) = (omega arith, refl, refl) in
+      let run : List (Done K) = did (Read r) (Refused ReaderIdle) d.0 ∷ [] in
+      let once : Repeats (ToRead r most) 1 run = (omega arith, refl, refl) in
       record {
-        es = Read r ∷ [];
-        rs = Refused ReaderIdle ∷ [];
-        ws = d.0 ∷ [];
-        done = pushed;
-        run = (d.1, tt);
-        repeats = subst (λ f. Repeats (ToRead r most) (reads_within f most) (Read r ∷ []) (Refused ReaderIdle ∷ []) (d.0 ∷ [])) (sym none_there) once;
+        run = run;
+        made = refl;
+        steps = (d.1, tt);
+        repeats = subst (λ f. Repeats (ToRead r most) (reads_within f most) run) (sym none_there) once;
         notes = refl;
         shows = d.2;
       }
 
-  module _ (lk : Lookup O K) (there : Some lk ≡ tree_get nat_cmp c.lookups r) (words : List ℕ) (same : words ≡ c.words.items) (most count : ℕ) (before after : List (Event K)) (ds : BTreeMap ℕ (Lookup O K)) (w : Moment K) (s : Shows o c w) where
+  module _ (lk : Lookup O K) (there : Some lk ≡ tree_get nat_cmp c.lookups r) (words : List ℕ) (same : words ≡ c.words.items) (most loads count : ℕ) (ds : BTreeMap ℕ (Lookup O K)) (w : Moment K) (s : Shows o c w) where
     reads : (h : Held O K) (found : Option (Note K)) → notes_of_held h ≡ cons_option found [] → ((q : ℕ) → tree_get nat_cmp ds q ≡ cond (is_at (nat_cmp r) q) (lookup_of h) (tree_get nat_cmp c.lookups q))
-        → ((n limit : ℕ) (v : Moment K) → v.latch.words ≡ words → IsInHand o n (Some lk) (get v.lookups r) → c.events ≡ v.events → LoadsOn o n limit v r most before after h count)
-        → ReadsOn o c w r most before after found (record c { lookups = ds; events = count })
-    reads h found quiet e loads =
+        → LoadsFrom o words lk r most c.events h loads count
+        → ReadsOn o c w r most loads found (record c { lookups = ds; events = count })
+    reads h found quiet e made =
         let here = shown o (capacity_of c.layout) (tree_get nat_cmp c.lookups r) (get w.lookups r) lk there (s.lookups r) in
         let within : most ≡ reads_within (get w.lookups r) most = ap (λ f. reads_within f most) (sym here.1) in
-        let l = loads (capacity_of c.layout) (limit_of c.layout) w (sym s.words ∙ sym same) (subst (λ q. IsInHand o (capacity_of c.layout) q (get w.lookups r)) (sym there) (s.lookups r)) s.events in
-        record { es = l.es; rs = l.rs; ws = l.ws; done = l.done; run = l.run; repeats = subst (λ m. Repeats (ToRead r most) m l.es l.rs l.ws) within l.repeats; notes = l.notes ∙ quiet; shows = held_shows w (last_of w l.ws) (lookup_of h) ds count s l.holding e }
+        let l = made (capacity_of c.layout) (limit_of c.layout) w (sym s.words ∙ sym same) (subst (λ q. IsInHand o (capacity_of c.layout) q (get w.lookups r)) (sym there) (s.lookups r)) s.events in
+        record { run = l.run; made = l.made; steps = l.steps; repeats = subst (λ m. Repeats (ToRead r most) m l.run) within l.repeats; notes = l.notes ∙ quiet; shows = held_shows w (last_of w l.run) (lookup_of h) ds count s l.holding e }
 
     pub reads_hold : (next : Lookup O K) → ((q : ℕ) → tree_get nat_cmp ds q ≡ cond (is_at (nat_cmp r) q) (Some next) (tree_get nat_cmp c.lookups q))
-        → ((n limit : ℕ) (v : Moment K) → v.latch.words ≡ words → IsInHand o n (Some lk) (get v.lookups r) → c.events ≡ v.events → LoadsOn o n limit v r most before after (Holds next) count)
-        → ReadsOn o c w r most before after None (record c { lookups = ds; events = count })
-    reads_hold next e loads = reads (Holds next) None refl e loads
+        → LoadsFrom o words lk r most c.events (Holds next) loads count
+        → ReadsOn o c w r most loads None (record c { lookups = ds; events = count })
+    reads_hold next e made = reads (Holds next) None refl e made
 
     pub reads_end : (x : Returned K) → ((q : ℕ) → tree_get nat_cmp ds q ≡ cond (is_at (nat_cmp r) q) None (tree_get nat_cmp c.lookups q))
-        → ((n limit : ℕ) (v : Moment K) → v.latch.words ≡ words → IsInHand o n (Some lk) (get v.lookups r) → c.events ≡ v.events → LoadsOn {O = O} o n limit v r most before after (Ends x) count)
-        → ReadsOn o c w r most before after (Some (ToNote x)) (record c { lookups = ds; events = count })
-    reads_end x e loads = reads (Ends x) (Some (ToNote x)) refl e loads
+        → LoadsFrom {O = O} o words lk r most c.events (Ends x) loads count
+        → ReadsOn o c w r most loads (Some (ToNote x)) (record c { lookups = ds; events = count })
+    reads_end x e made = reads (Ends x) (Some (ToNote x)) refl e made
+
+-- the events of a command's run are its own again and again
+events_repeat : {K : Type 0} (c : Command K) (run : List (Done K)) (most : ℕ) → Repeats c most run → events_of run ≡ replicate (length run) (event_of c)
+events_repeat c [] most h = refl
+events_repeat c (d ∷ run) most h = ap (λ e. e ∷ events_of run) h.1 ∙ ap (λ es. event_of c ∷ es) (events_repeat c run _ h.2)
+
+-- a recorder takes a reader's loads in as its command asks for them
+pub reads_recorded : {O K : Type 0} (o : Order K) (keeps : Bool) (old new : Recorder O K) (w : Moment K) (r most loads : ℕ) (note : Option (Note K)) → Shows o old.world w → ReadsOn o old.world w r most loads note new.world → layout_in new.world ≡ layout_in old.world → new.events.items ≡ old.events.items ++ kept keeps (replicate loads (Read r)) → new.notes.items ≡ old.notes.items ++ cons_option note [] → Obeys o keeps (ToRead r most) old new w (reads_within (get w.lookups r) most)
+reads_recorded {K = K} o keeps old new w r most loads note s h lay logged noted =
+    let c : Command K = ToRead r most in
+    let left = reads_within (get w.lookups r) most in
+    let low = reads_shallow o (capacity_of (layout_in old.world)) (limit_of (layout_in old.world)) r most h.run w left h.steps h.repeats (shows_shallow old.world w s) in
+    let done : replicate loads (event_of c) ≡ events_of h.run = ap (λ n. replicate n (event_of c)) (sym h.made) ∙ sym (events_repeat c h.run left h.repeats) in (
+      h.run,
+      record {
+        layout = lay;
+        steps = h.steps;
+        events = logged ∙ ap (λ es. old.events.items ++ kept keeps es) done;
+        notes = noted ∙ ap (λ xs. old.notes.items ++ xs) (sym h.notes);
+        shows = h.shows;
+        shallow = low;
+      },
+      h.repeats,
+    )

@@ -1,3 +1,5 @@
+mod AttemptLemmas
+mod LoadCases
 mod Moments
 mod Readers
 mod SafeRuns
@@ -6,7 +8,8 @@ mod Undisturbed
 mod Patient
 mod Loading
 mod Showing
+mod Counting
 mod Recording
 mod HeldLoads
 mod Settling
-mod Searching
+mod Finding

@@ -1,18 +1,18 @@
 -- One load of a lookup.
-use Rattle.std.proofs.Common.{◌≡◌, ℕ, List, [], ◌∷◌, ◌++◌, Option, Some, refl, sym, ◌∙◌, ap, subst}
-use Rattle.std.specs.FinMap.{insert}
+use Rattle.std.proofs.Common.{◌≡◌, ℕ, List, [], ◌∷◌, ◌++◌, Option, Some, sym, ◌∙◌, ap}
+use Rattle.order_laws.specs.declared.items.Item.{Item}
 use Rattle.order_laws.specs.Orders.{Order}
 use Rattle.word_arena.specs.Words.{at}
-use Rattle.latch_core.specs.Attempts.{Reading, Load, Ends, Again, attempt, rest_after}
+use Rattle.latch_core.specs.Attempts.{Reading, Load, Ends, Again, Answer, attempt, rest_after}
 use Rattle.latch_core.specs.declared.readers.ReaderCore.{ReaderCore}
-use Rattle.latch_core.specs.declared.readers.Taken.TheVariants.{Going, Retrying}
+use Rattle.latch_core.specs.declared.readers.Taken.TheVariants.{Going, Retrying, Returned}
 use Rattle.latch_core.specs.Cores.{capacity_of_core, key_of_core, remaining, LeadsTo, LeadsOn}
 use Rattle.latch_core.proofs.Leads.{core_loads}
-use Rattle.latch_steps.specs.declared.replies.Reply.{Reply}
-use Rattle.latch_steps.specs.declared.replies.Reply.TheVariants.{Loaded, Retried}
+use Rattle.latch_core.proofs.Readings.{rest_push}
 use Rattle.latch_steps.specs.declared.lookups.Lookup.{Lookup}
-use Rattle.latch_steps.specs.declared.lookups.Loaded.TheVariants.{Going as Goes, Retrying as Retries}
-use Rattle.latch_steps.specs.Runs.{LookupInHand, Moment, more, with_lookups, wanted, Gets, Reads}
+use Rattle.latch_steps.specs.declared.lookups.Loaded.TheVariants.{Going as ThenGoing, Retrying as ThenRetrying, Returned as ThenReturned}
+use Rattle.latch_steps.specs.Runs.{LookupInHand, Moment}
+use Rattle.latch_steps.specs.Steps.{more, with_value, next_attempt, Returns, after_value, load_left, after_load}
 use Rattle.latch_steps.specs.Lookups.{IsLookupOf, LoadsTo}
 
 module _ {O K : Type 0} (o : Order K) (n : ℕ) (c : Lookup O K) (l : LookupInHand K) (is : IsLookupOf o n c l) (words : List ℕ) (word value : ℕ)
@@ -21,38 +21,55 @@ module _ {O K : Type 0} (o : Order K) (n : ℕ) (c : Lookup O K) (l : LookupInHa
   same_attempt : attempt o (capacity_of_core c.core) (key_of_core c.core) ≡ attempt o n l.key
   same_attempt = λ i. attempt o (is.capacity i) (is.key i)
 
-  -- what is read is the value that the core was given
-  gets_reads : (next : Option Reading) → rest_after (attempt o n l.key) (l.values ++ value ∷ []) ≡ next → (w w' : Moment K) (r : ℕ) (reply : Reply K) → w.latch.words ≡ words → Gets w r l (l.values ++ value ∷ []) next reply w' → Reads o n w r (Some l) reply w'
-  gets_reads next left w w' r reply same gets =
+  -- what the load leads to, by what is left of the attempt with the value that the core was given
+  leads_to : (next : Reading) → rest_after (attempt o n l.key) (l.values ++ value ∷ []) ≡ Some next
+      → (w : Moment K) (r : ℕ) → w.latch.words ≡ words
+      → after_load o n w r l ≡ after_value w r l value next
+  leads_to next left w r same =
       let g = wants l.values is.leads in
-      let asks : wanted (rest_after (attempt o n l.key) l.values) ≡ word = ap (λ a. wanted (rest_after a l.values)) (sym same_attempt) ∙ ap wanted g.1 in
-      let there : at w.latch.words (wanted (rest_after (attempt o n l.key) l.values)) ≡ value = ap (at w.latch.words) asks ∙ ap (λ ws. at ws word) same ∙ sym got in
-      subst (λ x. Gets w r l (l.values ++ x ∷ []) (rest_after (attempt o n l.key) (l.values ++ x ∷ [])) reply w') (sym there)
-      (subst (λ p. Gets w r l (l.values ++ value ∷ []) p reply w') (sym left) gets)
+      let asks : rest_after (attempt o n l.key) l.values ≡ Some (Load word g.0) = ap (λ a. rest_after a l.values) (sym same_attempt) ∙ g.1 in
+      let gives : at w.latch.words word ≡ value = ap (λ ws. at ws word) same ∙ sym got in
+      let both : Some (g.0 value) ≡ Some next = sym (rest_push (attempt o n l.key) l.values word g.0 value asks) ∙ left in
+      let after_it : g.0 value ≡ next = cc in
+      ap (load_left w r l) asks ∙ ap (λ x. after_value w r l x (g.0 x)) gives ∙ ap (after_value w r l value) after_it
 
   -- what the next core has before it is what the attempt has
-  left_after : (next : ReaderCore O K) → capacity_of_core next ≡ capacity_of_core c.core → key_of_core next ≡ key_of_core c.core → (values : List ℕ) → LeadsTo o values next → rest_after (attempt o n l.key) values ≡ Some (remaining o next)
+  left_after : (next : ReaderCore O K) → capacity_of_core next ≡ capacity_of_core c.core
+      → key_of_core next ≡ key_of_core c.core → (values : List ℕ) → LeadsTo o values next
+      → rest_after (attempt o n l.key) values ≡ Some (remaining o next)
   left_after next ec ek values leads =
       let same : attempt o (capacity_of_core next) (key_of_core next) ≡ attempt o n l.key = (λ i. attempt o ((ec ∙ is.capacity) i) ((ek ∙ is.key) i)) in
       ap (λ a. rest_after a values) (sym same) ∙ leads
 
-  pub goes : (core : ReaderCore O K) (x r last : ℕ) → LeadsOn o (capacity_of_core c.core) (key_of_core c.core) (l.values ++ value ∷ []) (Going core) → x ≡ more c.loads → LoadsTo o n words r last l (Goes (record { core = core; first = c.first; loads = x; tries = c.tries }))
+  pub goes : (core : ReaderCore O K) (x r last : ℕ) → LeadsOn o (capacity_of_core c.core)
+      (key_of_core c.core) (l.values ++ value ∷ []) (Going core) → x ≡ more c.loads
+      → LoadsTo o n words r last l (ThenGoing (record { core = core; first = c.first; loads = x; tries = c.tries }))
   goes core x r last leads ex =
       let values = l.values ++ value ∷ [] in
-      let next : LookupInHand K = record { key = l.key; first = l.first; loads = more l.loads; tries = l.tries; values = values } in
       let asks = core_loads o core in
       let left : rest_after (attempt o n l.key) values ≡ Some (Load asks.0 asks.1) = left_after core leads.0 leads.1 values leads.2 ∙ ap Some asks.2 in (
-        next,
+        with_value l value,
         record { capacity = leads.0 ∙ is.capacity; key = leads.1 ∙ is.key; leads = leads.2; first = is.first; loads = ex ∙ ap more is.loads; tries = is.tries },
-        λ w same. gets_reads (Some (Load asks.0 asks.1)) left w (with_lookups w (insert w.lookups r next)) r Loaded same (refl, refl),
+        λ w same. leads_to (Load asks.0 asks.1) left w r same,
       )
 
-  pub retries : (core : ReaderCore O K) (x y r last : ℕ) → LeadsOn o (capacity_of_core c.core) (key_of_core c.core) (l.values ++ value ∷ []) (Retrying core) → x ≡ more c.loads → y ≡ more c.tries → LoadsTo o n words r last l (Retries (record { core = core; first = c.first; loads = x; tries = y }))
+  pub retries : (core : ReaderCore O K) (x y r last : ℕ) → LeadsOn o (capacity_of_core c.core)
+      (key_of_core c.core) (l.values ++ value ∷ []) (Retrying core) → x ≡ more c.loads
+      → y ≡ more c.tries
+      → LoadsTo o n words r last l (ThenRetrying (record { core = core; first = c.first; loads = x; tries = y }))
   retries core x y r last leads ex ey =
       let values = l.values ++ value ∷ [] in
-      let next : LookupInHand K = record { key = l.key; first = l.first; loads = more l.loads; tries = more l.tries; values = [] } in
       let left : rest_after (attempt o n l.key) values ≡ Some (Ends Again) = ap (λ a. rest_after a values) (sym same_attempt) ∙ leads.2 in (
-        next,
+        next_attempt l,
         record { capacity = leads.0 ∙ is.capacity; key = leads.1 ∙ is.key; leads = leads.3; first = is.first; loads = ex ∙ ap more is.loads; tries = ey ∙ ap more is.tries },
-        λ w same. gets_reads (Some (Ends Again)) left w (with_lookups w (insert w.lookups r next)) r Retried same (refl, refl),
+        λ w same. leads_to (Ends Again) left w r same,
       )
+
+  pub ends : (k : K) (x : Option Item) (g loads r last : ℕ) → k ≡ key_of_core c.core → LeadsOn {O = O} o (capacity_of_core c.core) (key_of_core c.core) (l.values ++ value ∷ []) (Returned x g) → loads ≡ more c.loads → LoadsTo {O = O} o n words r last l (ThenReturned (record { reader = r; key = k; answer = x; generation = g; first = c.first; last = last; loads = loads; tries = c.tries }))
+  ends k x g loads r last ek whole e = λ w same now.
+      let values = l.values ++ value ∷ [] in
+      let left : rest_after (attempt o n l.key) values ≡ Some (Ends (Answer x g)) = ap (λ a. rest_after a values) (sym same_attempt) ∙ whole in
+      let same_key : l.key ≡ k = sym is.key ∙ sym ek in
+      let count : more l.loads ≡ loads = ap more (sym is.loads) ∙ sym e in
+      leads_to (Ends (Answer x g)) left w r same
+      ∙ (λ i. Returns (record { reader = r; key = same_key i; answer = x; generation = g; first = sym is.first i; last = now i; loads = count i; tries = sym is.tries i }))

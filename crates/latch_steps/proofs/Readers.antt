@@ -10,7 +10,7 @@ use Rattle.order_laws.specs.Orders.{Order}
 use Rattle.latch_steps.specs.declared.lookups.Lookup.{Lookup}
 use Rattle.latch_steps.specs.Runs.{LookupInHand}
 use Rattle.latch_steps.specs.Lookups.{IsInHand, IsLookupOf}
-use Rattle.latch_steps.specs.Shows.{AreInHand}
+use Rattle.latch_steps.specs.Worlds.{AreInHand}
 
 -- a map at a key, after a change at another and at this one
 apart_keys : (q r : ℕ) → q ≢ r → eq_by_cmp nat_cmp q r ≡ false
@@ -23,7 +23,8 @@ module _ {X : Type 0} where
   pub get_insert_same : (m : FinMap nat_cmp X) (r : ℕ) (x : X) → get (insert m r x) r ≡ Some x
   get_insert_same m r x = get-insert nat_cmp_total m r x r ∙ ap (λ b. cond b (Some x) (get m r)) (one_key r)
 
-  pub get_insert_other : (m : FinMap nat_cmp X) (q r : ℕ) (x : X) → q ≢ r → get (insert m r x) q ≡ get m q
+  pub get_insert_other : (m : FinMap nat_cmp X) (q r : ℕ) (x : X) → q ≢ r
+      → get (insert m r x) q ≡ get m q
   get_insert_other m q r x ne = get-insert nat_cmp_total m r x q ∙ ap (λ b. cond b (Some x) (get m q)) (apart_keys q r ne)
 
   pub get_remove_other : (m : FinMap nat_cmp X) (q r : ℕ) → q ≢ r → get (remove m r) q ≡ get m q
@@ -34,7 +35,10 @@ module _ {X : Type 0} where
 
 -- the code's map and that of a moment, changed at one reader alone
 module _ {O K : Type 0} (o : Order K) (n : ℕ) where
-  pub in_hand_at : (cs ds : ℕ → Option (Lookup O K)) (ls ms : FinMap nat_cmp (LookupInHand K)) (r : ℕ) (left : Option (Lookup O K)) → AreInHand o n cs ls → ((q : ℕ) → ds q ≡ cond (is_at (nat_cmp r) q) left (cs q)) → IsInHand o n left (get ms r) → ((q : ℕ) → q ≢ r → get ms q ≡ get ls q) → AreInHand o n ds ms
+  pub in_hand_at : (cs ds : ℕ → Option (Lookup O K)) (ls ms : FinMap nat_cmp (LookupInHand K))
+      (r : ℕ) (left : Option (Lookup O K)) → AreInHand o n cs ls
+      → ((q : ℕ) → ds q ≡ cond (is_at (nat_cmp r) q) left (cs q)) → IsInHand o n left (get ms r)
+      → ((q : ℕ) → q ≢ r → get ms q ≡ get ls q) → AreInHand o n ds ms
   in_hand_at cs ds ls ms r left h e is others q =
       ⊎_elim
       (λ same.
@@ -47,10 +51,15 @@ module _ {O K : Type 0} (o : Order K) (n : ℕ) where
       subst (λ x. IsInHand {O = O} o n x (get ms q)) (sym f) (subst (λ x. IsInHand {O = O} o n (cs q) x) (sym (others q ne)) (h q)))
       (cases_eq q r)
 
-  pub in_hand_set : (cs ds : ℕ → Option (Lookup O K)) (ls : FinMap nat_cmp (LookupInHand K)) (r : ℕ) (new : Lookup O K) (l : LookupInHand K) → AreInHand o n cs ls → ((q : ℕ) → ds q ≡ cond (is_at (nat_cmp r) q) (Some new) (cs q)) → IsLookupOf o n new l → AreInHand o n ds (insert ls r l)
+  pub in_hand_set : (cs ds : ℕ → Option (Lookup O K)) (ls : FinMap nat_cmp (LookupInHand K)) (r : ℕ)
+      (new : Lookup O K) (l : LookupInHand K) → AreInHand o n cs ls
+      → ((q : ℕ) → ds q ≡ cond (is_at (nat_cmp r) q) (Some new) (cs q)) → IsLookupOf o n new l
+      → AreInHand o n ds (insert ls r l)
   in_hand_set cs ds ls r new l h e is =
       in_hand_at cs ds ls (insert ls r l) r (Some new) h e (subst (IsInHand o n (Some new)) (sym (get_insert_same ls r l)) is) (λ q ne. get_insert_other ls q r l ne)
 
-  pub in_hand_remove : (cs ds : ℕ → Option (Lookup O K)) (ls : FinMap nat_cmp (LookupInHand K)) (r : ℕ) → AreInHand o n cs ls → ((q : ℕ) → ds q ≡ cond (is_at (nat_cmp r) q) None (cs q)) → AreInHand o n ds (remove ls r)
+  pub in_hand_remove : (cs ds : ℕ → Option (Lookup O K)) (ls : FinMap nat_cmp (LookupInHand K))
+      (r : ℕ) → AreInHand o n cs ls → ((q : ℕ) → ds q ≡ cond (is_at (nat_cmp r) q) None (cs q))
+      → AreInHand o n ds (remove ls r)
   in_hand_remove cs ds ls r h e =
       in_hand_at cs ds ls (remove ls r) r None h e (subst (IsInHand {O = O} o n None) (sym (get_remove_same ls r)) tt) (λ q ne. get_remove_other ls q r ne)

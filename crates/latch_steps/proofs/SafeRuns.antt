@@ -1,75 +1,98 @@
 -- Whole runs.
-use Rattle.std.proofs.Common.{◌≡◌, ℕ, ◌+◌, ◌-◌, ◌%◌, ◌^◌, ◌<◌, ◌≤◌, List, [], ◌∷◌, ◌++◌, length, take, Option, Some, None, refl, sym, ◌∙◌, ap, arith, length-append, append_assoc}
-use Rattle.std.specs.Prelude.{slice_index_or}
+use Rattle.std.proofs.Common.{◌≡◌, ℕ, suc, ◌+◌, ◌-◌, ◌%◌, ◌^◌, ◌<◌, ◌≤◌, List, [], ◌∷◌, ◌++◌, length, take, Option, Some, None, refl, sym, ◌∙◌, ap, arith, append_assoc}
 use Rattle.std.specs.List.{AllByRecursion}
 use Rattle.std.specs.FinMap.{get, get-empty}
 use Rattle.std.specs.Ordering.{nat_cmp}
-use Rattle.std.proofs.Math.Seq.{get_or-append_seam}
 use Rattle.std.proofs.lemmas.List.{take-append-le}
 use Rattle.latch_core.specs.declared.updates.Update.{Update}
-use Rattle.latch_steps.specs.declared.events.Event.{Event}
 use Rattle.latch_steps.specs.declared.replies.Reply.{Reply}
 use Rattle.latch_steps.specs.declared.replies.Reply.TheVariants.{Returned as Gave}
 use Rattle.order_laws.specs.Orders.{Order, IsLawful}
 use Rattle.order_laws.specs.Tables.{look}
-use Rattle.latch_core.specs.Histories.{replay, table_at}
+use Rattle.latch_core.specs.Histories.{replay, current_table}
 use Rattle.word_arena.specs.Words.{at}
 use Rattle.latch_core.specs.Sequences.{gen, stable}
 use Rattle.latch_core.specs.Latches.{Hand, Latch}
-use Rattle.latch_steps.specs.Runs.{Moment, opening, Run, accepted, history}
+use Rattle.latch_steps.specs.Runs.{Moment, Done, opening, accepted, history, moment_at}
+use Rattle.latch_steps.specs.Steps.{Run}
 use Rattle.latch_steps.specs.Safe.{IsSafeReply, IsSafe}
 use Rattle.latch_core.specs.Invariants.{IsInHand, IsSound}
 use Rattle.latch_core.proofs.Sound.{sound_opening}
 use Rattle.latch_steps.proofs.Moments.{IsWorld, IsRight, step_leads}
 
 -- the sequence names no more updates than were accepted
-pub gen_within : {K : Type 0} (o : Order K) (n start : ℕ) (us : List Update) (l : Latch) → IsSound o n start us l → gen (at l.words 0) - gen start ≤ length us
+pub gen_within : {K : Type 0} (o : Order K) (n start : ℕ) (us : List Update) (l : Latch)
+    → IsSound o n start us l → gen (at l.words 0) - gen start ≤ length us
 gen_within o n start us l ok = by l.hand ok.in_hand
   where
-    by : (h : Option Hand) → IsInHand o start (at l.words 0) us h → gen (at l.words 0) - gen start ≤ length us
+    by : (h : Option Hand) → IsInHand o start (at l.words 0) us h
+        → gen (at l.words 0) - gen start ≤ length us
     by None e = let ev : start % 2 ≡ 0 = ok.even in omega arith
     by (Some h) e = let ev : start % 2 ≡ 0 = ok.even in let c = e.count in let f = e.flips in let p = e.last in omega arith
 
-safe_reply : {K : Type 0} (o : Order K) (start : ℕ) (us whole rest : List Update) (c : ℕ) (w0 w : Moment K) (all : List (Moment K)) → whole ≡ us ++ rest → gen (at w.latch.words 0) - gen start ≤ length us → c ≤ length all → slice_index_or (w0 ∷ all) c w0 ≡ w → (r : Reply K) → IsRight o start us c w r → IsSafeReply o start whole w0 all r
+-- what is left of a whole run after so many of its events, from the moment that it came to
+pub record IsLeft {K : Type 0} (w0 : Moment K) (all : List (Done K)) (c : ℕ) (w : Moment K)
+    (run : List (Done K)) : Type 0 where
+  pub moments : (j : ℕ) → moment_at w0 all (c + j) ≡ moment_at w run j
+  pub count : length all ≡ c + length run
+
+module _ {K : Type 0} (w0 : Moment K) (all : List (Done K)) where
+  pub all_left : IsLeft w0 all 0 w0 all
+  all_left = record { moments = λ j. ap (moment_at w0 all) (let f : 0 + j ≡ j = omega arith in f); count = omega arith }
+
+  pub left_next : (c : ℕ) (w : Moment K) (d : Done K) (run : List (Done K))
+      → IsLeft w0 all c w (d ∷ run) → IsLeft w0 all (c + 1) d.after run
+  left_next c w d run h =
+      let n = h.count in
+      record { moments = λ j. ap (moment_at w0 all) (let f : c + 1 + j ≡ c + suc j = omega arith in f) ∙ h.moments (suc j); count = omega arith }
+
+  pub moment_there : (c : ℕ) (w : Moment K) (run : List (Done K)) → IsLeft w0 all c w run
+      → moment_at w0 all c ≡ w
+  moment_there c w run h = ap (moment_at w0 all) (let f : c ≡ c + 0 = omega arith in f) ∙ h.moments 0
+
+safe_reply : {K : Type 0} (o : Order K) (start : ℕ) (us whole rest : List Update) (c : ℕ)
+    (w0 w : Moment K) (all : List (Done K)) → whole ≡ us ++ rest
+    → gen (at w.latch.words 0) - gen start ≤ length us → c ≤ length all → moment_at w0 all c ≡ w
+    → (r : Reply K) → IsRight o start us c w r → IsSafeReply o start whole w0 all r
 safe_reply o start us whole rest c w0 w all e within in_run there (Gave x) h =
-    let seq : at (slice_index_or (w0 ∷ all) c w0).latch.words 0 ≡ at w.latch.words 0 = ap (λ v. at v.latch.words 0) there in
-    let same : table_at o start whole (gen (at w.latch.words 0)) ≡ table_at o start us (gen (at w.latch.words 0)) =
+    let same : current_table o start whole w.latch.words ≡ current_table o start us w.latch.words =
     ap (replay o []) (ap (take (gen (at w.latch.words 0) - gen start)) e ∙ take-append-le (gen (at w.latch.words 0) - gen start) us rest within) in
     record {
-      moment = c;
+      events = c;
       not_before = h.first;
       not_after = (let l = h.last in omega arith);
       in_run = in_run;
-      generation_is = h.generation ∙ ap gen (sym seq);
-      answer_is = h.answer ∙ ap (look o x.key) (sym same) ∙ ap (λ q. look o x.key (table_at o start whole (gen q))) (sym seq);
+      generation_is = h.generation ∙ ap (λ v. gen (at v.latch.words 0)) (sym there);
+      answer_is = h.answer ∙ ap (look o x.key) (sym same) ∙ ap (λ v. look o x.key (current_table o start whole v.latch.words)) (sym there);
     }
 safe_reply o start us whole rest c w0 w all e within in_run there _ h = tt
 
-safe_run : {K : Type 0} (o : Order K) → IsLawful o → (n limit start : ℕ) (whole : List Update) (w0 : Moment K) (all : List (Moment K)) (es : List (Event K)) (rs : List (Reply K)) (ws : List (Moment K)) (us : List Update) (c : ℕ) (w : Moment K) (before : List (Moment K)) → length before ≡ c → w0 ∷ all ≡ before ++ w ∷ ws → IsWorld o n start us c w → c + length es < 2 ^ 64 → Run o n limit w es rs ws → whole ≡ us ++ history es rs → AllByRecursion (IsSafeReply o start whole w0 all) rs
-safe_run o law n limit start whole w0 all [] [] ws us c w before lb eq ok room run e = tt
-safe_run o law n limit start whole w0 all [] (r ∷ rs) ws us c w before lb eq ok room run e = absurd run
-safe_run o law n limit start whole w0 all (ev ∷ es) [] ws us c w before lb eq ok room run e = tt
-safe_run o law n limit start whole w0 all (ev ∷ es) (r ∷ rs) [] us c w before lb eq ok room run e = absurd run
-safe_run o law n limit start whole w0 all (ev ∷ es) (r ∷ rs) (w' ∷ ws) us c w before lb eq ok room run e =
-    let leads = step_leads o law n limit start us c w ok (omega arith) ev r w' run.0 in
-    let us' = us ++ accepted ev r in
-    let e' : whole ≡ us' ++ history es rs = e ∙ sym (append_assoc us (accepted ev r) (history es rs)) in
-    let eq' : w0 ∷ all ≡ (before ++ w ∷ []) ++ w' ∷ ws = eq ∙ sym (append_assoc before (w ∷ []) (w' ∷ ws)) in
-    let lb' : length (before ++ w ∷ []) ≡ c + 1 = omega (arith, length-append before (w ∷ [])) in
-    let there : slice_index_or (w0 ∷ all) (c + 1) w0 ≡ w' =
-    ap (λ xs. slice_index_or xs (c + 1) w0) eq' ∙ ap (λ i. slice_index_or ((before ++ w ∷ []) ++ w' ∷ ws) i w0) (sym lb') ∙ get_or-append_seam (before ++ w ∷ []) w' ws w0 in
-    let in_run : c + 1 ≤ length all = omega (arith, ap length eq', length-append (before ++ w ∷ []) (w' ∷ ws)) in (
-      safe_reply o start us' whole (history es rs) (c + 1) w0 w' all e' (gen_within o n start us' w'.latch leads.world.latch) in_run there r leads.right,
-      safe_run o law n limit start whole w0 all es rs ws us' (c + 1) w' (before ++ w ∷ []) lb' eq' leads.world (omega arith) run.1 e',
+safe_run : {K : Type 0} (o : Order K) → IsLawful o → (n limit start : ℕ) (whole : List Update)
+    (w0 : Moment K) (all run : List (Done K)) (us : List Update) (c : ℕ) (w : Moment K)
+    → IsLeft w0 all c w run → IsWorld o n start us c w → c + length run < 2 ^ 64
+    → Run o n limit w run → whole ≡ us ++ history run
+    → AllByRecursion (λ (d : Done K). IsSafeReply o start whole w0 all d.reply) run
+safe_run o law n limit start whole w0 all [] us c w left ok room steps e = tt
+safe_run o law n limit start whole w0 all (d ∷ run) us c w left ok room steps e =
+    let leads = step_leads o law n limit start us c w ok (omega arith) d.event d.reply d.after steps.0 in
+    let us' = us ++ accepted d.event d.reply in
+    let e' : whole ≡ us' ++ history run = e ∙ sym (append_assoc us (accepted d.event d.reply) (history run)) in
+    let left' = left_next w0 all c w d run left in
+    let count = left'.count in (
+      safe_reply o start us' whole (history run) (c + 1) w0 d.after all e' (gen_within o n start us' d.after.latch leads.world.latch) (omega arith) (moment_there w0 all (c + 1) d.after run left') d.reply leads.right,
+      safe_run o law n limit start whole w0 all run us' (c + 1) d.after left' leads.world (omega arith) steps.1 e',
     )
 
-pub opening_world : {K : Type 0} (o : Order K) (n start : ℕ) → stable start ≡ 0 → IsWorld o n start [] 0 (opening n start)
+pub opening_world : {K : Type 0} (o : Order K) (n start : ℕ) → stable start ≡ 0
+    → IsWorld o n start [] 0 (opening n start)
 opening_world {K = K} o n start even =
     let w0 : Moment K = opening n start in
     record { latch = sound_opening {K = K} o n start even; lookups = λ q l e. (let no : get w0.lookups q ≡ None = get-empty nat_cmp q in absurd (cc)); events = refl }
 
 -- every run from the opening is safe
-pub safe : {K : Type 0} (o : Order K) → IsLawful o → (n limit start : ℕ) → stable start ≡ 0 → (es : List (Event K)) (rs : List (Reply K)) (ws : List (Moment K)) → length es < 2 ^ 64 → Run o n limit (opening n start) es rs ws → IsSafe o n start es rs ws
-safe {K = K} o law n limit start even es rs ws room run =
+pub safe : {K : Type 0} (o : Order K) → IsLawful o → (n limit start : ℕ) → stable start ≡ 0
+    → (run : List (Done K)) → length run < 2 ^ 64 → Run o n limit (opening n start) run
+    → IsSafe o n start run
+safe {K = K} o law n limit start even run room steps =
     let w0 : Moment K = opening n start in
-    safe_run o law n limit start (history es rs) w0 ws es rs ws [] 0 w0 [] refl refl (opening_world o n start even) (omega arith) run refl
+    safe_run o law n limit start (history run) w0 run run [] 0 w0 (all_left w0 run) (opening_world o n start even) (omega arith) steps refl

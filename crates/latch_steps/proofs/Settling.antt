@@ -9,7 +9,7 @@ use Rattle.word_arena.specs.Words.{at}
 use Rattle.latch_core.specs.declared.updates.Update.{Update}
 use Rattle.latch_core.specs.Latches.{Latch}
 use Rattle.latch_core.specs.Sequences.{gen}
-use Rattle.latch_core.specs.Histories.{replay, table_at}
+use Rattle.latch_core.specs.Histories.{replay, current_table}
 use Rattle.latch_core.specs.Invariants.{IsSound, IsInHand}
 use Rattle.latch_steps.specs.declared.events.Event.{Event}
 use Rattle.latch_steps.specs.declared.events.Event.TheVariants.{Begin, Write, Start, Read}
@@ -17,35 +17,37 @@ use Rattle.latch_steps.specs.declared.replies.Reply.{Reply}
 use Rattle.latch_steps.specs.declared.replies.Reply.TheVariants.{Wrote, Refused}
 use Rattle.order_laws.specs.declared.refusals.Refusal.TheVariants.{OutOfMemory}
 use Rattle.latch_steps.specs.declared.worlds.World.{World}
-use Rattle.latch_steps.specs.Runs.{Moment, Run, last_of, accepted, history}
-use Rattle.latch_steps.specs.Shows.{Shows, Does, GivesUp, Steps, IsAtRest, layout_in}
-use Rattle.latch_steps.specs.Found.{IsAfter, IsSettled, Settles}
+use Rattle.latch_steps.specs.Runs.{Moment, Done, did, last_of, accepted, history}
+use Rattle.latch_steps.specs.Steps.{Run}
+use Rattle.latch_steps.specs.Worlds.{Shows, IsAtRest, layout_in, IsAfter}
+use Rattle.latch_steps.specs.WorldSteps.{Does, GivesUp, Steps}
+use Rattle.latch_steps.specs.AtOnce.{IsSettled, Settles}
 use Rattle.latch_steps.proofs.Latched.{step_sound}
 use Rattle.latch_steps.proofs.Recording.{run_append, last_append}
 
 -- a run keeps the latch sound
-pub run_sound : {K : Type 0} (o : Order K) → IsLawful o → (n limit start : ℕ) (us : List Update) (w : Moment K) (es : List (Event K)) (rs : List (Reply K)) (ws : List (Moment K)) → IsSound o n start us w.latch → Run o n limit w es rs ws → IsSound o n start (us ++ history es rs) (last_of w ws).latch
-run_sound o law n limit start us w [] [] [] ok run = subst (λ vs. IsSound o n start vs w.latch) (sym (append-nil us)) ok
-run_sound o law n limit start us w [] [] (x ∷ ws) ok run = absurd run
-run_sound o law n limit start us w [] (r ∷ rs) ws ok run = absurd run
-run_sound o law n limit start us w (e ∷ es) [] ws ok run = absurd run
-run_sound o law n limit start us w (e ∷ es) (r ∷ rs) [] ok run = absurd run
-run_sound o law n limit start us w (e ∷ es) (r ∷ rs) (w' ∷ ws) ok run =
-    subst (λ vs. IsSound o n start vs (last_of w' ws).latch) (append_assoc us (accepted e r) (history es rs))
-    (run_sound o law n limit start (us ++ accepted e r) w' es rs ws (step_sound o n start us w ok law limit e r w' run.0) run.1)
+pub run_sound : {K : Type 0} (o : Order K) → IsLawful o → (n limit start : ℕ) (us : List Update)
+    (w : Moment K) (run : List (Done K)) → IsSound o n start us w.latch → Run o n limit w run
+    → IsSound o n start (us ++ history run) (last_of w run).latch
+run_sound o law n limit start us w [] ok steps = subst (λ vs. IsSound o n start vs w.latch) (sym (append-nil us)) ok
+run_sound o law n limit start us w (d ∷ run) ok steps =
+    subst (λ vs. IsSound o n start vs (last_of d.after run).latch) (append_assoc us (accepted d.event d.reply) (history run))
+    (run_sound o law n limit start (us ++ accepted d.event d.reply) d.after run (step_sound o n start us w ok law limit d.event d.reply d.after steps.0) steps.1)
 
 -- events of one kind that accept no update
-pub none_accepted : {K : Type 0} (f : Event K) → ((r : Reply K) → accepted f r ≡ []) → (es : List (Event K)) (rs : List (Reply K)) → AllByRecursion (λ e. e ≡ f) es → history es rs ≡ []
-none_accepted f without [] rs h = refl
-none_accepted f without (e ∷ es) [] h = refl
-none_accepted f without (e ∷ es) (r ∷ rs) h = ap (λ us. us ++ history es rs) (ap (λ x. accepted x r) h.0 ∙ without r) ∙ none_accepted f without es rs h.1
+pub none_accepted : {K : Type 0} (f : Event K) → ((r : Reply K) → accepted f r ≡ [])
+    → (run : List (Done K)) → AllByRecursion (λ d. d.event ≡ f) run → history run ≡ []
+none_accepted f without [] h = refl
+none_accepted f without (d ∷ run) h = ap (λ us. us ++ history run) (ap (λ x. accepted x d.reply) h.0 ∙ without d.reply) ∙ none_accepted f without run h.1
 
-pub all_push : {X : Type 0} (P : X → Type 0) (xs : List X) (x : X) → AllByRecursion P xs → P x → AllByRecursion P (xs ++ x ∷ [])
+pub all_push : {X : Type 0} (P : X → Type 0) (xs : List X) (x : X) → AllByRecursion P xs → P x
+    → AllByRecursion P (xs ++ x ∷ [])
 all_push P [] x h p = (p, tt)
 all_push P (y ∷ xs) x h p = (h.0, all_push P xs x h.1 p)
 
 -- with nothing in hand the sequence names all accepted updates
-pub rest_is_current : {K : Type 0} (o : Order K) (n start : ℕ) (us : List Update) (l : Latch) → IsSound o n start us l → l.hand ≡ None → table_at o start us (gen (at l.words 0)) ≡ l.table
+pub rest_is_current : {K : Type 0} (o : Order K) (n start : ℕ) (us : List Update) (l : Latch)
+    → IsSound o n start us l → l.hand ≡ None → current_table o start us l.words ≡ l.table
 rest_is_current o n start us l ok rest =
     let seq : at l.words 0 ≡ start + 2 * length us = subst (IsInHand o start (at l.words 0) us) rest ok.in_hand in
     let all : length us ≤ gen (at l.words 0) - gen start = (let ev : start % 2 ≡ 0 = ok.even in omega arith) in
@@ -53,49 +55,51 @@ rest_is_current o n start us l ok rest =
 
 -- writes so far
 pub record Writing {O K : Type 0} (o : Order K) (old now : World O K) (w : Moment K) : Type 0 where
-  pub es : List (Event K)
-  pub rs : List (Reply K)
-  pub ws : List (Moment K)
-  pub writes : AllByRecursion (λ e. e ≡ Write) es
-  pub run : Run o (capacity_of (layout_in old)) (limit_of (layout_in old)) w es rs ws
-  pub shows : Shows o now (last_of w ws)
+  pub run : List (Done K)
+  pub writes : AllByRecursion (λ d. d.event ≡ Write) run
+  pub steps : Run o (capacity_of (layout_in old)) (limit_of (layout_in old)) w run
+  pub shows : Shows o now (last_of w run)
 
 module _ {O K : Type 0} (o : Order K) (old : World O K) where
   pub no_writes : (w : Moment K) → Shows o old w → Writing o old old w
-  no_writes w s = record { es = []; rs = []; ws = []; writes = tt; run = tt; shows = s }
+  no_writes w s = record { run = []; writes = tt; steps = tt; shows = s }
 
-  pub one_write : (now new : World O K) (s : Store) (w : Moment K) → Writing o old now w → layout_in now ≡ layout_in old → Does o now Write (Wrote s) new → Writing o old new w
+  pub one_write : (now new : World O K) (s : Store) (w : Moment K) → Writing o old now w
+      → layout_in now ≡ layout_in old → Does o now Write (Wrote s) new → Writing o old new w
   one_write now new s w h lay does =
-      let d = does (last_of w h.ws) h.shows in
-      let step = subst (λ l. Run o (capacity_of l) (limit_of l) (last_of w h.ws) (Write ∷ []) (Wrote s ∷ []) (d.0 ∷ [])) lay (d.1, tt) in
+      let d = does (last_of w h.run) h.shows in
+      let one : Done K = did Write (Wrote s) d.0 in
+      let step = subst (λ l. Run o (capacity_of l) (limit_of l) (last_of w h.run) (one ∷ [])) lay (d.1, tt) in
       record {
-        es = h.es ++ Write ∷ [];
-        rs = h.rs ++ Wrote s ∷ [];
-        ws = h.ws ++ d.0 ∷ [];
-        writes = all_push (λ e. e ≡ Write) h.es Write h.writes refl;
-        run = run_append o (capacity_of (layout_in old)) (limit_of (layout_in old)) w h.es (Write ∷ []) h.rs (Wrote s ∷ []) h.ws (d.0 ∷ []) h.run step;
-        shows = subst (Shows o new) (sym (last_append w h.ws (d.0 ∷ []))) d.2;
+        run = h.run ++ one ∷ [];
+        writes = all_push (λ (x : Done K). x.event ≡ Write) h.run one h.writes refl;
+        steps = run_append o (capacity_of (layout_in old)) (limit_of (layout_in old)) w h.run (one ∷ []) h.steps step;
+        shows = subst (Shows o new) (sym (last_append w h.run (one ∷ []))) d.2;
       }
 
-  pub all_written : (now new : World O K) (w : Moment K) → Writing o old now w → IsAtRest o now → new ≡ now → Settles o old w new
+  pub all_written : (now new : World O K) (w : Moment K) → Writing o old now w → IsAtRest o now
+      → new ≡ now → Settles o old w new
   all_written now new w h rest same =
-      record { es = h.es; rs = h.rs; ws = h.ws; writes = h.writes; run = h.run; shows = subst (λ c. Shows o c (last_of w h.ws)) (sym same) h.shows; rest = rest (last_of w h.ws) h.shows }
+      record { run = h.run; writes = h.writes; steps = h.steps; shows = subst (λ c. Shows o c (last_of w h.run)) (sym same) h.shows; rest = rest (last_of w h.run) h.shows }
 
-  pub is_settled : IsLawful o → (new : World O K) (start : ℕ) (us : List Update) → layout_in new ≡ layout_in old → ((w : Moment K) → Shows o old w → Settles o old w new) → IsAfter o start us old → IsSettled o start us new
+  pub is_settled : IsLawful o → (new : World O K) (start : ℕ) (us : List Update)
+      → layout_in new ≡ layout_in old → ((w : Moment K) → Shows o old w → Settles o old w new)
+      → IsAfter o start us old → IsSettled o start us new
   is_settled law new start us lay settles h =
       let d = settles h.moment h.shows in
-      let sound = run_sound o law (capacity_of (layout_in old)) (limit_of (layout_in old)) start us h.moment d.es d.rs d.ws h.sound d.run in
-      let none : us ++ history d.es d.rs ≡ us = ap (λ vs. us ++ vs) (none_accepted Write (λ r. refl) d.es d.rs d.writes) ∙ append-nil us in
-      let same = subst (λ vs. IsSound o (capacity_of (layout_in old)) start vs (last_of h.moment d.ws).latch) none sound in
+      let sound = run_sound o law (capacity_of (layout_in old)) (limit_of (layout_in old)) start us h.moment d.run h.sound d.steps in
+      let none : us ++ history d.run ≡ us = ap (λ vs. us ++ vs) (none_accepted Write (λ r. refl) d.run d.writes) ∙ append-nil us in
+      let same = subst (λ vs. IsSound o (capacity_of (layout_in old)) start vs (last_of h.moment d.run).latch) none sound in
       record {
-        after = record { moment = last_of h.moment d.ws; shows = d.shows; sound = subst (λ l. IsSound o (capacity_of l) start us (last_of h.moment d.ws).latch) (sym lay) same };
+        after = record { moment = last_of h.moment d.run; shows = d.shows; sound = subst (λ l. IsSound o (capacity_of l) start us (last_of h.moment d.run).latch) (sym lay) same };
         rest = d.rest;
-        current = rest_is_current o (capacity_of (layout_in old)) start us (last_of h.moment d.ws).latch same d.rest;
+        current = rest_is_current o (capacity_of (layout_in old)) start us (last_of h.moment d.run).latch same d.rest;
       }
 
 -- one event, of which an accepted update is the last of the history
 module _ {O K : Type 0} (o : Order K) (law : IsLawful o) (old new : World O K) (lay : layout_in new ≡ layout_in old) (start : ℕ) (us : List Update) (h : IsAfter o start us old) where
-  does_after : (e : Event K) (r : Reply K) → Does o old e r new → IsAfter o start (us ++ accepted e r) new
+  does_after : (e : Event K) (r : Reply K) → Does o old e r new
+      → IsAfter o start (us ++ accepted e r) new
   does_after e r does =
       let d = does h.moment h.shows in
       record {
@@ -107,12 +111,14 @@ module _ {O K : Type 0} (o : Order K) (law : IsLawful o) (old new : World O K) (
   gives_after : (e : Event K) (r : Reply K) → GivesUp o old e r new → IsAfter o start us new
   gives_after e r up = record { moment = h.moment; shows = (up.1 h.moment h.shows).1; sound = subst (λ l. IsSound o (capacity_of l) start us h.moment.latch) (sym lay) h.sound }
 
-  refused_after : (e : Event K) (r : Reply K) → accepted e (Refused OutOfMemory) ≡ [] → GivesUp o old e r new → IsAfter o start (us ++ accepted e r) new
+  refused_after : (e : Event K) (r : Reply K) → accepted e (Refused OutOfMemory) ≡ []
+      → GivesUp o old e r new → IsAfter o start (us ++ accepted e r) new
   refused_after e r none up =
       let same : us ++ accepted e r ≡ us = ap (λ q. us ++ accepted e q) up.0 ∙ ap (λ vs. us ++ vs) none ∙ append-nil us in
       subst (λ vs. IsAfter o start vs new) (sym same) (gives_after e r up)
 
-  pub step_after : (e : Event K) (r : Reply K) → Steps o old e r new → IsAfter o start (us ++ accepted e r) new
+  pub step_after : (e : Event K) (r : Reply K) → Steps o old e r new
+      → IsAfter o start (us ++ accepted e r) new
   step_after (Begin u) r s = ⊎_elim (does_after (Begin u) r) (refused_after (Begin u) r refl) s
   step_after Write r s = does_after Write r s
   step_after (Start q k) r s = ⊎_elim (does_after (Start q k) r) (refused_after (Start q k) r refl) s

@@ -23,29 +23,35 @@ use Rattle.latch_core.specs.Plans.{IsPlan}
 use Rattle.latch_core.specs.Writers.{Pictures, HasBegun, in_hand, why_refused, stepped_writer}
 use Rattle.latch_steps.specs.declared.events.Event.TheVariants.{Begin, Write, Start, Read}
 use Rattle.latch_steps.specs.declared.replies.Returned.{Returned}
+use Rattle.latch_steps.specs.declared.replies.Reply.{Reply}
 use Rattle.latch_steps.specs.declared.replies.Reply.TheVariants.{Begun, Wrote, Idle, Started, Loaded, Retried, Returned as Gave, Refused}
 use Rattle.latch_steps.specs.declared.lookups.Lookup.{Lookup}
 use Rattle.latch_steps.specs.declared.lookups.Loaded.TheVariants.{Going, Retrying, Returned as Ended}
 use Rattle.latch_steps.specs.declared.worlds.World.{World}
-use Rattle.latch_steps.specs.Runs.{LookupInHand, Moment, more, counted, with_latch, with_lookups, Begins, Writes, Starts, Reads}
+use Rattle.latch_steps.specs.Runs.{LookupInHand, Moment}
+use Rattle.latch_steps.specs.Steps.{more, counted, new_lookup, with_latch, with_lookups, Begins, Writes, after_load, start_done, load_done, read_done}
 use Rattle.latch_steps.specs.Expands.{writes_left}
-use Rattle.latch_steps.specs.Lookups.{IsInHand, IsLookupOf, LoadsTo, started}
+use Rattle.latch_steps.specs.Lookups.{IsInHand, IsLookupOf, LoadsTo}
 use Rattle.latch_steps.proofs.Readers.{in_hand_set, in_hand_remove}
-use Rattle.latch_steps.specs.Shows.{AreInHand, Shows, Does, MayDo, IsAtRest}
+use Rattle.latch_steps.specs.Worlds.{AreInHand, Shows, IsAtRest}
+use Rattle.latch_steps.specs.WorldSteps.{Does, MayDo}
 
 -- the lookup in hand that is shown
 module _ {O K : Type 0} (o : Order K) (n : ℕ) where
-  pub shown : (c : Option (Lookup O K)) (m : Option (LookupInHand K)) (lk : Lookup O K) → Some lk ≡ c → IsInHand o n c m → (l : LookupInHand K) × (m ≡ Some l) × IsLookupOf o n lk l
+  pub shown : (c : Option (Lookup O K)) (m : Option (LookupInHand K)) (lk : Lookup O K)
+      → Some lk ≡ c → IsInHand o n c m → (l : LookupInHand K) × (m ≡ Some l) × IsLookupOf o n lk l
   shown None m lk e h = absurd (cc)
   shown (Some k) None lk e h = absurd h
   shown (Some k) (Some l) lk e h = let same : k ≡ lk = cc in (l, refl, subst (λ (x : Lookup O K). IsLookupOf o n x l) same h)
 
-  pub shown_none : (c : Option (Lookup O K)) (m : Option (LookupInHand K)) → c ≡ None → IsInHand o n c m → m ≡ None
+  pub shown_none : (c : Option (Lookup O K)) (m : Option (LookupInHand K)) → c ≡ None
+      → IsInHand o n c m → m ≡ None
   shown_none None None e h = refl
   shown_none None (Some l) e h = absurd h
   shown_none (Some k) m e h = absurd (cc)
 
-  pub shown_some : (c : Option (Lookup O K)) (m : Option (LookupInHand K)) → is_some c ≡ true → IsInHand o n c m → (l : LookupInHand K) × (m ≡ Some l)
+  pub shown_some : (c : Option (Lookup O K)) (m : Option (LookupInHand K)) → is_some c ≡ true
+      → IsInHand o n c m → (l : LookupInHand K) × (m ≡ Some l)
   shown_some None m e h = absurd (cc)
   shown_some (Some k) None e h = absurd h
   shown_some (Some k) (Some l) e h = (l, refl)
@@ -55,7 +61,8 @@ module _ {K : Type 0} (o : Order K) (n limit : ℕ) where
   spent_by_sequence : (seq : ℕ) → spent limit seq ≡ Some OutOfMemory → ⊥
   spent_by_sequence seq e = elim (nat_lt limit (seq + 2)) as (λ b. cond b (Some SequenceSpent) None ≡ Some OutOfMemory → ⊥) [ true ↦ λ f. absurd (cc) | false ↦ λ f. absurd (cc) ] e
 
-  no_such_test : (busy : Bool) (table : List Item) (seq : ℕ) (u : Update) → refuses o n limit busy table seq u ≡ Some OutOfMemory → ⊥
+  no_such_test : (busy : Bool) (table : List Item) (seq : ℕ) (u : Update)
+      → refuses o n limit busy table seq u ≡ Some OutOfMemory → ⊥
   no_such_test true table seq u e = absurd (cc)
   no_such_test false table seq (Insert i) e =
       let last = cond (length table == n) (Some Full) (spent limit seq) in
@@ -70,18 +77,23 @@ module _ {K : Type 0} (o : Order K) (n limit : ℕ) where
 
 -- the writer
 module _ {O K : Type 0} (o : Order K) (c : World O K) where
-  pub counts : (w : Moment K) (y : ℕ) → Shows o c w → y ≡ more c.events → Shows o (record c { events = y }) (counted w)
+  pub counts : (w : Moment K) (y : ℕ) → Shows o c w → y ≡ more c.events
+      → Shows o (record c { events = y }) (counted w)
   counts w y s e = record { capacity = s.capacity; limit = s.limit; words = s.words; writer = s.writer; lookups = s.lookups; events = e ∙ ap more s.events }
 
   -- stores are left just where an update is in hand, and as many as it has steps left
-  pub hand_shown : (w : Moment K) → Shows o c w → nat_lt 0 (length c.writer.left) ≡ is_some w.latch.hand
+  pub hand_shown : (w : Moment K) → Shows o c w
+      → nat_lt 0 (length c.writer.left) ≡ is_some w.latch.hand
   hand_shown w s = busy_plan c.writer.left w.latch s.writer.plan
     where
-      busy_plan : (left : List Store) (l : Latch) → IsPlan c.writer.capacity l left → nat_lt 0 (length left) ≡ is_some l.hand
+      busy_plan : (left : List Store) (l : Latch) → IsPlan c.writer.capacity l left
+          → nat_lt 0 (length left) ≡ is_some l.hand
       busy_plan [] l plan = ap is_some (sym plan)
       busy_plan (t ∷ ts) l plan = (let some : nat_lt 0 (length (t ∷ ts)) ≡ true = lt-ltb 0 (length (t ∷ ts)) (omega arith) in some) ∙ ap is_some (sym plan.1)
 
-  pub left_shown : (w : Moment K) → Shows o c w → (n : ℕ) → n ≡ length c.writer.left → ((l : Latch) (h : Hand) → Pictures c.writer l → l.hand ≡ Some h → h.left ≡ n) → n ≡ writes_left w.latch.hand
+  pub left_shown : (w : Moment K) → Shows o c w → (n : ℕ) → n ≡ length c.writer.left
+      → ((l : Latch) (h : Hand) → Pictures c.writer l → l.hand ≡ Some h → h.left ≡ n)
+      → n ≡ writes_left w.latch.hand
   left_shown w s n count left = by w.latch.hand refl
     where
       none_left : (left : List Store) → nat_lt 0 (length left) ≡ false → length left ≡ 0
@@ -93,12 +105,16 @@ module _ {O K : Type 0} (o : Order K) (c : World O K) where
       by (Some h) e = sym (left w.latch h s.writer e)
 
   -- what the writer says of an update is what the definitions say
-  pub says : (u : Update) (why : Option Refusal) (w : Moment K) → Shows o c w → why_refused o c.writer u ≡ why → refuses o (capacity_of c.layout) (limit_of c.layout) (is_some w.latch.hand) w.latch.table (at w.latch.words 0) u ≡ why
+  pub says : (u : Update) (why : Option Refusal) (w : Moment K) → Shows o c w
+      → why_refused o c.writer u ≡ why → refuses o (capacity_of c.layout) (limit_of c.layout)
+      (is_some w.latch.hand) w.latch.table (at w.latch.words 0) u ≡ why
   says u why w s e =
       let hand : in_hand c.writer ≡ is_some w.latch.hand = hand_shown w s in
       (λ i. refuses o (sym s.capacity i) (sym s.limit i) (sym hand i) (s.writer.table i) (s.writer.sequence i) u) ∙ e
 
-  pub begins : (u : Update) (left y : ℕ) (wr : WriterView) → why_refused o c.writer u ≡ None → left ≡ length wr.left → HasBegun o c.writer u wr → y ≡ more c.events → MayDo o c (Begin u) (Begun left) (record c { writer = wr; events = y })
+  pub begins : (u : Update) (left y : ℕ) (wr : WriterView) → why_refused o c.writer u ≡ None
+      → left ≡ length wr.left → HasBegun o c.writer u wr → y ≡ more c.events → MayDo o c (Begin u)
+      (Begun left) (record c { writer = wr; events = y })
   begins u left y wr accepted count h e =
       inl (λ w s.
       let next = with_latch w (begun o w.latch u left) in
@@ -115,7 +131,10 @@ module _ {O K : Type 0} (o : Order K) (c : World O K) where
         },
       ))
 
-  pub refused : (u : Update) (why : Refusal) (y : ℕ) (wr : WriterView) → wr ≡ c.writer → (why_refused o c.writer u ≡ Some why) ⊎ ((why_refused o c.writer u ≡ None) × (why ≡ OutOfMemory)) → why ≢ OutOfMemory → y ≡ more c.events → MayDo o c (Begin u) (Refused why) (record c { writer = wr; events = y })
+  pub refused : (u : Update) (why : Refusal) (y : ℕ) (wr : WriterView) → wr ≡ c.writer
+      → (why_refused o c.writer u ≡ Some why) ⊎ ((why_refused o c.writer u ≡ None) × (why ≡ OutOfMemory))
+      → why ≢ OutOfMemory → y ≡ more c.events → MayDo o c (Begin u) (Refused why)
+      (record c { writer = wr; events = y })
   refused u why y wr same err other e =
       subst (λ (v : WriterView). MayDo o c (Begin u) (Refused why) (record c { writer = v; events = y })) (sym same)
       (⊎_elim
@@ -128,7 +147,9 @@ module _ {O K : Type 0} (o : Order K) (c : World O K) where
       (λ out. absurd (other out.1))
       err)
 
-  pub given_up : (u : Update) (why : Refusal) (wr : WriterView) → wr ≡ c.writer → (why_refused o c.writer u ≡ Some why) ⊎ ((why_refused o c.writer u ≡ None) × (why ≡ OutOfMemory)) → why ≡ OutOfMemory → MayDo o c (Begin u) (Refused why) (record c { writer = wr })
+  pub given_up : (u : Update) (why : Refusal) (wr : WriterView) → wr ≡ c.writer
+      → (why_refused o c.writer u ≡ Some why) ⊎ ((why_refused o c.writer u ≡ None) × (why ≡ OutOfMemory))
+      → why ≡ OutOfMemory → MayDo o c (Begin u) (Refused why) (record c { writer = wr })
   given_up u why wr same err out =
       let free : why_refused o c.writer u ≡ None =
       ⊎_elim
@@ -137,7 +158,8 @@ module _ {O K : Type 0} (o : Order K) (c : World O K) where
       err in
       inr (ap Refused out, λ w s. (says u None w s free, subst (λ (v : WriterView). Shows o (record c { writer = v }) w) (sym same) s))
 
-  pub makes : (store : Store) (y : ℕ) (words : Vec ℕ Global) (wr : WriterView) → wr ≡ stepped_writer c.writer store
+  pub makes : (store : Store) (y : ℕ) (words : Vec ℕ Global) (wr : WriterView)
+      → wr ≡ stepped_writer c.writer store
       → ((l : Latch) → Pictures c.writer l → (h : Hand) × (l.hand ≡ Some h) × MayStep c.writer.capacity l h store)
       → ((l : Latch) (h : Hand) → Pictures c.writer l → l.hand ≡ Some h → Pictures wr (stepped l h store))
       → words.items ≡ words_after c.words.items store → y ≡ more c.events
@@ -158,7 +180,8 @@ module _ {O K : Type 0} (o : Order K) (c : World O K) where
         },
       )
 
-  pub idles : (y : ℕ) → IsAtRest o c → y ≡ more c.events → Does o c Write Idle (record c { events = y })
+  pub idles : (y : ℕ) → IsAtRest o c → y ≡ more c.events
+      → Does o c Write Idle (record c { events = y })
   idles y rests e = λ w s. (
     counted w,
     subst (λ hand. Writes (capacity_of c.layout) w hand Idle (counted w)) (sym (rests w s)) (refl, refl),
@@ -166,39 +189,46 @@ module _ {O K : Type 0} (o : Order K) (c : World O K) where
   )
 
   -- the readers
-  pub busy : (r y : ℕ) (k : K) → is_some (tree_get nat_cmp c.lookups r) ≡ true → y ≡ more c.events → MayDo o c (Start r k) (Refused ReaderBusy) (record c { events = y })
+  pub busy : (r y : ℕ) (k : K) → is_some (tree_get nat_cmp c.lookups r) ≡ true → y ≡ more c.events
+      → MayDo o c (Start r k) (Refused ReaderBusy) (record c { events = y })
   busy r y k there e =
       inl (λ w s.
       let l = shown_some o (capacity_of c.layout) (tree_get nat_cmp c.lookups r) (get w.lookups r) there (s.lookups r) in (
         counted w,
-        subst (λ f. Starts w r k f (Refused ReaderBusy) (counted w)) (sym l.1) (refl, refl),
+        ap (start_done w r k) l.1,
         counts w y s e,
       ))
 
-  pub starts : (r y : ℕ) (k : K) (new : Lookup O K) (ds : BTreeMap ℕ (Lookup O K)) → tree_get nat_cmp c.lookups r ≡ None → IsLookupOf o (capacity_of c.layout) new (started k y) → ((q : ℕ) → tree_get nat_cmp ds q ≡ cond (is_at (nat_cmp r) q) (Some new) (tree_get nat_cmp c.lookups q)) → y ≡ more c.events → MayDo o c (Start r k) Started (record c { lookups = ds; events = y })
+  pub starts : (r y : ℕ) (k : K) (new : Lookup O K) (ds : BTreeMap ℕ (Lookup O K))
+      → tree_get nat_cmp c.lookups r ≡ None
+      → IsLookupOf o (capacity_of c.layout) new (new_lookup k y)
+      → ((q : ℕ) → tree_get nat_cmp ds q ≡ cond (is_at (nat_cmp r) q) (Some new) (tree_get nat_cmp c.lookups q))
+      → y ≡ more c.events → MayDo o c (Start r k) Started (record c { lookups = ds; events = y })
   starts r y k new ds free is e ey =
       inl (λ w s.
       let none_there : get w.lookups r ≡ None = shown_none o (capacity_of c.layout) (tree_get nat_cmp c.lookups r) (get w.lookups r) free (s.lookups r) in
       let count : y ≡ more w.events = ey ∙ ap more s.events in
-      let l : LookupInHand K = started k (more w.events) in
+      let l : LookupInHand K = new_lookup k (more w.events) in
       let next = with_lookups w (insert w.lookups r l) in (
         next,
-        subst (λ f. Starts w r k f Started next) (sym none_there) (refl, refl),
+        ap (start_done w r k) none_there,
         record {
           capacity = s.capacity;
           limit = s.limit;
           words = s.words;
           writer = s.writer;
-          lookups = in_hand_set o (capacity_of c.layout) (tree_get nat_cmp c.lookups) (tree_get nat_cmp ds) w.lookups r new l s.lookups e (subst (λ j. IsLookupOf o (capacity_of c.layout) new (started k j)) count is);
+          lookups = in_hand_set o (capacity_of c.layout) (tree_get nat_cmp c.lookups) (tree_get nat_cmp ds) w.lookups r new l s.lookups e (subst (λ j. IsLookupOf o (capacity_of c.layout) new (new_lookup k j)) count is);
           events = count;
         },
       ))
 
-  pub idle : (r y : ℕ) (ds : BTreeMap ℕ (Lookup O K)) → tree_get nat_cmp c.lookups r ≡ None → ((q : ℕ) → tree_get nat_cmp ds q ≡ tree_get nat_cmp c.lookups q) → y ≡ more c.events → Does o c (Read r) (Refused ReaderIdle) (record c { lookups = ds; events = y })
+  pub idle : (r y : ℕ) (ds : BTreeMap ℕ (Lookup O K)) → tree_get nat_cmp c.lookups r ≡ None
+      → ((q : ℕ) → tree_get nat_cmp ds q ≡ tree_get nat_cmp c.lookups q) → y ≡ more c.events
+      → Does o c (Read r) (Refused ReaderIdle) (record c { lookups = ds; events = y })
   idle r y ds free e ey = λ w s.
       let none_there : get w.lookups r ≡ None = shown_none o (capacity_of c.layout) (tree_get nat_cmp c.lookups r) (get w.lookups r) free (s.lookups r) in (
         counted w,
-        subst (λ f. Reads o (capacity_of c.layout) w r f (Refused ReaderIdle) (counted w)) (sym none_there) (refl, refl),
+        ap (read_done o (capacity_of c.layout) w r) none_there,
         record {
           capacity = s.capacity;
           limit = s.limit;
@@ -209,49 +239,52 @@ module _ {O K : Type 0} (o : Order K) (c : World O K) where
         },
       )
 
-  pub goes_on : (r y : ℕ) (lk new : Lookup O K) (ds : BTreeMap ℕ (Lookup O K)) (words : List ℕ) → Some lk ≡ tree_get nat_cmp c.lookups r → words ≡ c.words.items
+  -- a load after which the lookup is in hand
+  stays : (r y : ℕ) (reply : Reply K) (lk new : Lookup O K) (ds : BTreeMap ℕ (Lookup O K))
+      (words : List ℕ) → Some lk ≡ tree_get nat_cmp c.lookups r → words ≡ c.words.items
+      → ((l : LookupInHand K) → IsLookupOf o (capacity_of c.layout) lk l → (next : LookupInHand K) × IsLookupOf o (capacity_of c.layout) new next
+      × ((w : Moment K) → w.latch.words ≡ words → load_done w r (after_load o (capacity_of c.layout) w r l) ≡ (reply, with_lookups w (insert w.lookups r next))))
+      → ((q : ℕ) → tree_get nat_cmp ds q ≡ cond (is_at (nat_cmp r) q) (Some new) (tree_get nat_cmp c.lookups q))
+      → y ≡ more c.events
+      → Does o c (Read r) reply (record c { lookups = ds; events = y })
+  stays r y reply lk new ds words there ew loads e ey = λ w s.
+      let m = shown o (capacity_of c.layout) (tree_get nat_cmp c.lookups r) (get w.lookups r) lk there (s.lookups r) in
+      let g = loads m.0 m.2 in (
+        with_lookups w (insert w.lookups r g.0),
+        ap (read_done o (capacity_of c.layout) w r) m.1 ∙ g.2 w (sym s.words ∙ sym ew),
+        record {
+          capacity = s.capacity;
+          limit = s.limit;
+          words = s.words;
+          writer = s.writer;
+          lookups = in_hand_set o (capacity_of c.layout) (tree_get nat_cmp c.lookups) (tree_get nat_cmp ds) w.lookups r new g.0 s.lookups e g.1;
+          events = ey ∙ ap more s.events;
+        },
+      )
+
+  pub goes_on : (r y : ℕ) (lk new : Lookup O K) (ds : BTreeMap ℕ (Lookup O K)) (words : List ℕ)
+      → Some lk ≡ tree_get nat_cmp c.lookups r → words ≡ c.words.items
       → ((l : LookupInHand K) → IsLookupOf o (capacity_of c.layout) lk l → LoadsTo o (capacity_of c.layout) words r y l (Going new))
-      → ((q : ℕ) → tree_get nat_cmp ds q ≡ cond (is_at (nat_cmp r) q) (Some new) (tree_get nat_cmp c.lookups q)) → y ≡ more c.events
+      → ((q : ℕ) → tree_get nat_cmp ds q ≡ cond (is_at (nat_cmp r) q) (Some new) (tree_get nat_cmp c.lookups q))
+      → y ≡ more c.events
       → Does o c (Read r) Loaded (record c { lookups = ds; events = y })
-  goes_on r y lk new ds words there ew loads e ey = λ w s.
-      let m = shown o (capacity_of c.layout) (tree_get nat_cmp c.lookups r) (get w.lookups r) lk there (s.lookups r) in
-      let g = loads m.0 m.2 in
-      let next = with_lookups w (insert w.lookups r g.0) in (
-        next,
-        subst (λ f. Reads o (capacity_of c.layout) w r f Loaded next) (sym m.1) (g.2 w (sym s.words ∙ sym ew)),
-        record {
-          capacity = s.capacity;
-          limit = s.limit;
-          words = s.words;
-          writer = s.writer;
-          lookups = in_hand_set o (capacity_of c.layout) (tree_get nat_cmp c.lookups) (tree_get nat_cmp ds) w.lookups r new g.0 s.lookups e g.1;
-          events = ey ∙ ap more s.events;
-        },
-      )
+  goes_on r y lk new ds words there ew loads e ey =
+      stays r y Loaded lk new ds words there ew (λ l is. let g = loads l is in (g.0, g.1, λ w same. ap (load_done w r) (g.2 w same))) e ey
 
-  pub tries_again : (r y : ℕ) (lk new : Lookup O K) (ds : BTreeMap ℕ (Lookup O K)) (words : List ℕ) → Some lk ≡ tree_get nat_cmp c.lookups r → words ≡ c.words.items
+  pub tries_again : (r y : ℕ) (lk new : Lookup O K) (ds : BTreeMap ℕ (Lookup O K)) (words : List ℕ)
+      → Some lk ≡ tree_get nat_cmp c.lookups r → words ≡ c.words.items
       → ((l : LookupInHand K) → IsLookupOf o (capacity_of c.layout) lk l → LoadsTo o (capacity_of c.layout) words r y l (Retrying new))
-      → ((q : ℕ) → tree_get nat_cmp ds q ≡ cond (is_at (nat_cmp r) q) (Some new) (tree_get nat_cmp c.lookups q)) → y ≡ more c.events
+      → ((q : ℕ) → tree_get nat_cmp ds q ≡ cond (is_at (nat_cmp r) q) (Some new) (tree_get nat_cmp c.lookups q))
+      → y ≡ more c.events
       → Does o c (Read r) Retried (record c { lookups = ds; events = y })
-  tries_again r y lk new ds words there ew loads e ey = λ w s.
-      let m = shown o (capacity_of c.layout) (tree_get nat_cmp c.lookups r) (get w.lookups r) lk there (s.lookups r) in
-      let g = loads m.0 m.2 in
-      let next = with_lookups w (insert w.lookups r g.0) in (
-        next,
-        subst (λ f. Reads o (capacity_of c.layout) w r f Retried next) (sym m.1) (g.2 w (sym s.words ∙ sym ew)),
-        record {
-          capacity = s.capacity;
-          limit = s.limit;
-          words = s.words;
-          writer = s.writer;
-          lookups = in_hand_set o (capacity_of c.layout) (tree_get nat_cmp c.lookups) (tree_get nat_cmp ds) w.lookups r new g.0 s.lookups e g.1;
-          events = ey ∙ ap more s.events;
-        },
-      )
+  tries_again r y lk new ds words there ew loads e ey =
+      stays r y Retried lk new ds words there ew (λ l is. let g = loads l is in (g.0, g.1, λ w same. ap (load_done w r) (g.2 w same))) e ey
 
-  pub returns : (r y : ℕ) (lk : Lookup O K) (x : Returned K) (ds : BTreeMap ℕ (Lookup O K)) (words : List ℕ) → Some lk ≡ tree_get nat_cmp c.lookups r → words ≡ c.words.items
+  pub returns : (r y : ℕ) (lk : Lookup O K) (x : Returned K) (ds : BTreeMap ℕ (Lookup O K))
+      (words : List ℕ) → Some lk ≡ tree_get nat_cmp c.lookups r → words ≡ c.words.items
       → ((l : LookupInHand K) → IsLookupOf o (capacity_of c.layout) lk l → LoadsTo {O = O} o (capacity_of c.layout) words r y l (Ended x))
-      → ((q : ℕ) → tree_get nat_cmp ds q ≡ cond (is_at (nat_cmp r) q) None (tree_get nat_cmp c.lookups q)) → y ≡ more c.events
+      → ((q : ℕ) → tree_get nat_cmp ds q ≡ cond (is_at (nat_cmp r) q) None (tree_get nat_cmp c.lookups q))
+      → y ≡ more c.events
       → Does o c (Read r) (Gave x) (record c { lookups = ds; events = y })
   returns r y lk x ds words there ew loads e ey = λ w s.
       let m = shown o (capacity_of c.layout) (tree_get nat_cmp c.lookups r) (get w.lookups r) lk there (s.lookups r) in
@@ -259,7 +292,7 @@ module _ {O K : Type 0} (o : Order K) (c : World O K) where
       let g = loads m.0 m.2 w (sym s.words ∙ sym ew) (sym count) in
       let next = with_lookups w (remove w.lookups r) in (
         next,
-        subst (λ f. Reads o (capacity_of c.layout) w r f (Gave x) next) (sym m.1) g,
+        ap (read_done o (capacity_of c.layout) w r) m.1 ∙ ap (load_done w r) g,
         record {
           capacity = s.capacity;
           limit = s.limit;
@@ -271,14 +304,16 @@ module _ {O K : Type 0} (o : Order K) (c : World O K) where
       )
 
 -- nobody has a lookup in hand at the opening
-pub none_in_hand : {O K : Type 0} (o : Order K) (n : ℕ) (m : BTreeMap ℕ (Lookup O K)) → m.entries ≡ [] → AreInHand o n (tree_get nat_cmp m) empty
+pub none_in_hand : {O K : Type 0} (o : Order K) (n : ℕ) (m : BTreeMap ℕ (Lookup O K))
+    → m.entries ≡ [] → AreInHand o n (tree_get nat_cmp m) empty
 none_in_hand {O} {K} o n m e r =
     let no : FinMap nat_cmp (LookupInHand K) = empty in
     let free : tree_get nat_cmp m r ≡ None = rw e refl in
     subst (λ x. IsInHand {O = O} o n x (get no r)) (sym free) (subst (IsInHand {O = O} o n None) (sym (get-empty nat_cmp r)) tt)
 
 -- a map that took a key out
-pub removed : {X : Type 0} (b : Bool) (x y z : Option X) → x ≡ cond b None y → (u : Option X) → y ≡ cond b u z → x ≡ cond b None z
+pub removed : {X : Type 0} (b : Bool) (x y z : Option X) → x ≡ cond b None y → (u : Option X)
+    → y ≡ cond b u z → x ≡ cond b None z
 removed true x y z e u f = e
 removed false x y z e u f = e ∙ f
 

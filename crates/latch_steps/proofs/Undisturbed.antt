@@ -1,30 +1,36 @@
 -- A lookup that the writer leaves alone returns at its first attempt, and each other attempt needs a flip.
-use Rattle.std.proofs.Common.{◌≡◌, ◌≢◌, ℕ, ◌+◌, ◌-◌, ◌*◌, ◌^◌, ◌<◌, ◌≤◌, true, false, List, [], ◌∷◌, ◌++◌, length, take, Option, Some, None, refl, sym, ◌∙◌, ap, subst, arith, length-append, append_assoc}
-use Rattle.std.specs.Prelude.{◌==◌, MatchBool}
+use Rattle.std.proofs.Common.{◌≡◌, ◌≢◌, ℕ, ◌+◌, ◌-◌, ◌*◌, ◌^◌, ◌<◌, ◌≤◌, true, false, cond, List, [], ◌∷◌, ◌++◌, length, take, Option, Some, None, refl, sym, ◌∙◌, ap, subst, arith, length-append, append_assoc}
+use Rattle.std.specs.Prelude.{◌==◌}
 use Rattle.std.specs.FinMap.{get}
 use Rattle.std.proofs.lemmas.Bool.{eqb-true, eqb-false}
 use Rattle.order_laws.specs.declared.items.Item.{Item}
 use Rattle.latch_core.specs.declared.updates.Update.{Update}
 use Rattle.order_laws.specs.declared.refusals.Refusal.{Refusal}
+use Rattle.order_laws.specs.declared.refusals.Refusal.TheVariants.{ReaderBusy}
 use Rattle.latch_steps.specs.declared.events.Event.{Event}
 use Rattle.latch_steps.specs.declared.events.Event.TheVariants.{Begin, Write, Start, Read}
 use Rattle.latch_steps.specs.declared.replies.Reply.{Reply}
-use Rattle.latch_steps.specs.declared.replies.Reply.TheVariants.{Started, Loaded, Returned as Gave}
+use Rattle.latch_steps.specs.declared.replies.Reply.TheVariants.{Started, Loaded, Returned as Gave, Refused}
 use Rattle.order_laws.specs.Orders.{Order, IsLawful}
-use Rattle.order_laws.specs.Tables.{IsTable, look}
-use Rattle.latch_core.specs.Histories.{replay, table_at}
+use Rattle.order_laws.specs.Tables.{IsTable}
+use Rattle.latch_core.specs.Histories.{replay, current_table}
 use Rattle.word_arena.specs.Words.{at, Nodes, Holds}
 use Rattle.latch_core.specs.Sequences.{gen, stable}
-use Rattle.latch_core.specs.Attempts.{Answer, Again, Reading, Load, Ends, attempt, rest_after, Stand, IsAttempt}
+use Rattle.latch_core.specs.Attempts.{Reading, Load, attempt, rest_after, Stand}
 use Rattle.latch_core.specs.Latches.{Hand}
-use Rattle.latch_steps.specs.Runs.{LookupInHand, Moment, more, counted, Begins, Writes, Starts, wanted, Gets, Reads, Step, Run, accepted, history}
-use Rattle.latch_steps.specs.Quiet.{Undisturbed, UnlessWrote, Returning, FromStart, AreUndisturbed}
+use Rattle.latch_steps.specs.Runs.{LookupInHand, Moment, Done, did, accepted, history}
+use Rattle.latch_steps.specs.Steps.{more, counted, new_lookup, with_value, Begins, Writes, AfterLoad, Goes, Retries, Returns, after_load, start_done, load_done, read_done, Step, Run}
+use Rattle.latch_steps.specs.Quiet.{is_step, is_load_of, up_to_next_step, replies_to, ReturnsWithin, ReturnsFromStart, AreUndisturbed}
 use Rattle.std.proofs.lemmas.List.{take-append-le}
-use Rattle.latch_core.proofs.Readings.{rest_push, stand_push}
+use Rattle.latch_steps.proofs.LoadCases.{IsGoing, none_loaded, by_load}
+use Rattle.latch_steps.proofs.Latched.{KeepsLatch, read_keeps, start_keeps}
 use Rattle.latch_steps.proofs.Moments.{IsWorld, step_leads}
 use Rattle.latch_steps.proofs.Readers.{get_insert_same, get_insert_other, get_remove_other}
 use Rattle.latch_steps.proofs.SafeRuns.{gen_within}
-use Rattle.latch_core.proofs.Walks.{attempt_answers, attempt_below}
+use Rattle.latch_core.proofs.Walks.{attempt_below, attempt_below_depth, few_deep_any}
+use Rattle.latch_core.proofs.Shallow.{shallow_tree}
+use Rattle.rb_trees.specs.Trees.{depth}
+use Rattle.latch_steps.specs.Near.{AreShallow, IsDepth, AreNear}
 
 -- a lookup whose values all stand in this memory
 record IsCalm {K : Type 0} (o : Order K) (n : ℕ) (m : List ℕ) (w : Moment K) (r : ℕ) : Type 0 where
@@ -33,151 +39,205 @@ record IsCalm {K : Type 0} (o : Order K) (n : ℕ) (m : List ℕ) (w : Moment K)
   in_hand : get w.lookups r ≡ Some l
   first : l.tries ≡ 1
   stand : Stand m (attempt o n l.key) l.values
-  word : ℕ
-  go : ℕ → Reading
-  going : rest_after (attempt o n l.key) l.values ≡ Some (Load word go)
+  asks : IsGoing o n m l
 
-module _ {K : Type 0} (o : Order K) (law : IsLawful o) (n limit : ℕ) (m : List ℕ) (table : List Item) (t : Nodes) (holds : Holds m n (stable (at m 0)) table t) (is_table : IsTable o table) (fits : length table ≤ n) (r : ℕ) where
+module _ {K : Type 0} (o : Order K) (law : IsLawful o) (n limit : ℕ) (m : List ℕ) (table : List Item) (t : Nodes) (holds : Holds m n (stable (at m 0)) table t) (is_table : IsTable o table) (fits : length table ≤ n)
+    (most : ℕ) (below : (k : K) (v : List ℕ) (word : ℕ) (go : ℕ → Reading) → Stand m (attempt o n k) v → rest_after (attempt o n k) v ≡ Some (Load word go) → length v < most) (r : ℕ) where
   -- the same lookup in another world
-  kept : (w w' : Moment K) → w'.latch.words ≡ w.latch.words → get w'.lookups r ≡ get w.lookups r → (c : IsCalm o n m w r) → (c' : IsCalm o n m w' r) × (length c'.l.values ≡ length c.l.values)
-  kept w w' ew eg c = (record { words = ew ∙ c.words; l = c.l; in_hand = eg ∙ c.in_hand; first = c.first; stand = c.stand; word = c.word; go = c.go; going = c.going }, refl)
+  kept : (w w' : Moment K) → w'.latch.words ≡ w.latch.words → get w'.lookups r ≡ get w.lookups r
+      → (c : IsCalm o n m w r) → (c' : IsCalm o n m w' r) × (length c'.l.values ≡ length c.l.values)
+  kept w w' ew eg c = (record { words = ew ∙ c.words; l = c.l; in_hand = eg ∙ c.in_hand; first = c.first; stand = c.stand; asks = c.asks }, refl)
 
-  begin_calm : (w : Moment K) (u : Update) (why : Option Refusal) (reply : Reply K) (w' : Moment K) → Begins o n w u why reply w' → (c : IsCalm o n m w r) → (c' : IsCalm o n m w' r) × (length c'.l.values ≡ length c.l.values)
+  begin_calm : (w : Moment K) (u : Update) (why : Option Refusal) (reply : Reply K) (w' : Moment K)
+      → Begins o n w u why reply w' → (c : IsCalm o n m w r)
+      → (c' : IsCalm o n m w' r) × (length c'.l.values ≡ length c.l.values)
   begin_calm w u (Some why) reply w' (er, ew) c = kept w w' (ap (λ v. v.latch.words) ew) (ap (λ v. get v.lookups r) ew) c
   begin_calm w u None reply w' (left, some, bound, er, ew) c = kept w w' (ap (λ v. v.latch.words) ew) (ap (λ v. get v.lookups r) ew) c
 
-  start_calm : (w : Moment K) (q : ℕ) (k : K) (found : Option (LookupInHand K)) → get w.lookups q ≡ found → (reply : Reply K) (w' : Moment K) → Starts w q k found reply w' → (c : IsCalm o n m w r) → (c' : IsCalm o n m w' r) × (length c'.l.values ≡ length c.l.values)
-  start_calm w q k (Some l) e reply w' (er, ew) c = kept w w' (ap (λ v. v.latch.words) ew) (ap (λ v. get v.lookups r) ew) c
-  start_calm w q k None e reply w' (er, ew) c =
+  abbrev Kept : ℕ → Reply K × Moment K → Type 0
+  Kept count done = (c' : IsCalm o n m done.1 r) × (length c'.l.values ≡ count)
+
+  start_calm : (w : Moment K) (q : ℕ) (k : K) (found : Option (LookupInHand K))
+      → get w.lookups q ≡ found → (c : IsCalm o n m w r) → Kept (length c.l.values)
+      (start_done w q k found)
+  start_calm w q k (Some l) e c = kept w (counted w) refl refl c
+  start_calm w q k None e c =
       let ne : r ≢ q = (λ same. let f : get w.lookups r ≡ None = ap (get w.lookups) same ∙ e in let g = c.in_hand in absurd (cc)) in
-      kept w w' (ap (λ v. v.latch.words) ew) (ap (λ v. get v.lookups r) ew ∙ get_insert_other w.lookups r q _ ne) c
+      kept w _ refl (get_insert_other w.lookups r q _ ne) c
 
-  gets_calm : (w : Moment K) (q : ℕ) (l : LookupInHand K) (values : List ℕ) (next : Option Reading) (reply : Reply K) (w' : Moment K) → r ≢ q → Gets w q l values next reply w' → (c : IsCalm o n m w r) → (c' : IsCalm o n m w' r) × (length c'.l.values ≡ length c.l.values)
-  gets_calm w q l values None reply w' ne g c = absurd g
-  gets_calm w q l values (Some (Load word go)) reply w' ne (er, ew) c = kept w w' (ap (λ v. v.latch.words) ew) (ap (λ v. get v.lookups r) ew ∙ get_insert_other w.lookups r q _ ne) c
-  gets_calm w q l values (Some (Ends Again)) reply w' ne (er, ew) c = kept w w' (ap (λ v. v.latch.words) ew) (ap (λ v. get v.lookups r) ew ∙ get_insert_other w.lookups r q _ ne) c
-  gets_calm w q l values (Some (Ends (Answer x g))) reply w' ne (er, ew) c = kept w w' (ap (λ v. v.latch.words) ew) (ap (λ v. get v.lookups r) ew ∙ get_remove_other w.lookups r q ne) c
+  load_calm : (w : Moment K) (q : ℕ) → r ≢ q → (x : AfterLoad K) (c : IsCalm o n m w r)
+      → Kept (length c.l.values) (load_done w q x)
+  load_calm w q ne (Goes l) c = kept w _ refl (get_insert_other w.lookups r q l ne) c
+  load_calm w q ne (Retries l) c = kept w _ refl (get_insert_other w.lookups r q l ne) c
+  load_calm w q ne (Returns x) c = kept w _ refl (get_remove_other w.lookups r q ne) c
 
-  other_calm : (w : Moment K) (q : ℕ) (found : Option (LookupInHand K)) (reply : Reply K) (w' : Moment K) → r ≢ q → Reads o n w q found reply w' → (c : IsCalm o n m w r) → (c' : IsCalm o n m w' r) × (length c'.l.values ≡ length c.l.values)
-  other_calm w q None reply w' ne (er, ew) c = kept w w' (ap (λ v. v.latch.words) ew) (ap (λ v. get v.lookups r) ew) c
-  other_calm w q (Some l) reply w' ne g c = gets_calm w q l _ _ reply w' ne g c
+  other_calm : (w : Moment K) (q : ℕ) → r ≢ q → (found : Option (LookupInHand K))
+      (c : IsCalm o n m w r) → Kept (length c.l.values) (read_done o n w q found)
+  other_calm w q ne None c = kept w (counted w) refl refl c
+  other_calm w q ne (Some l) c = load_calm w q ne (after_load o n w q l) c
 
   -- the reader's own load
   abbrev Next_calm : ℕ → Reply K → Moment K → Type 0
   Next_calm left (Gave x) w' = x.tries ≡ 1
-  Next_calm left Loaded w' = (1 < left) × ((c' : IsCalm o n m w' r) × (length c'.l.values + (left - 1) ≡ 4 * length table + 3))
+  Next_calm left Loaded w' = (1 < left) × ((c' : IsCalm o n m w' r) × (length c'.l.values + (left - 1) ≡ most))
   Next_calm left _ w' = ⊥
 
-  own_gets : (w : Moment K) (left : ℕ) (c : IsCalm o n m w r) → length c.l.values + left ≡ 4 * length table + 3 → (next : Reading) → c.go (at m c.word) ≡ next → (reply : Reply K) (w' : Moment K) → Gets w r c.l (c.l.values ++ at m c.word ∷ []) (Some next) reply w' → Next_calm left reply w'
-  own_gets w left c total (Load word go) e reply w' (er, ew) =
-      let values = c.l.values ++ at m c.word ∷ [] in
-      let a = attempt o n c.l.key in
-      let st : Stand m a values = stand_push m a c.l.values c.word c.go (at m c.word) c.going c.stand refl in
-      let going : rest_after a values ≡ Some (Load word go) = rest_push a c.l.values c.word c.go (at m c.word) c.going ∙ ap Some e in
-      let below = attempt_below o law m n c.l.key table t holds is_table fits values word go st going in
-      let one = length-append c.l.values (at m c.word ∷ []) in
-      subst (λ x. Next_calm left x w') (sym er) (
+  own_load : (w : Moment K) (left : ℕ) (c : IsCalm o n m w r) → length c.l.values + left ≡ most → (let done = read_done o n w r (get w.lookups r) in Next_calm left done.0 done.1)
+  own_load w left c total =
+      subst (λ found. (let done = read_done o n w r found in Next_calm left done.0 done.1)) (sym c.in_hand)
+      (by_load o law n m table t holds is_table fits w c.words r c.l c.asks (λ x. (let done = load_done w r x in Next_calm left done.0 done.1))
+      (λ asks push.
+      let short = below c.l.key _ asks.word asks.go (push c.stand) asks.left in
+      let one = length-append c.l.values (at m c.asks.word ∷ []) in (
         omega arith,
         (
           record {
-            words = ap (λ v. v.latch.words) ew ∙ c.words;
-            l = record { key = c.l.key; first = c.l.first; loads = more c.l.loads; tries = c.l.tries; values = values };
-            in_hand = ap (λ v. get v.lookups r) ew ∙ get_insert_same w.lookups r _;
+            words = c.words;
+            l = with_value c.l (at m c.asks.word);
+            in_hand = get_insert_same w.lookups r _;
             first = c.first;
-            stand = st;
-            word = word;
-            go = go;
-            going = going;
+            stand = push c.stand;
+            asks = asks;
           },
           omega arith,
         ),
-      )
-  own_gets w left c total (Ends Again) e reply w' (er, ew) =
-      let values = c.l.values ++ at m c.word ∷ [] in
-      let a = attempt o n c.l.key in
-      let st : Stand m a values = stand_push m a c.l.values c.word c.go (at m c.word) c.going c.stand refl in
-      let whole : IsAttempt o n c.l.key values Again = rest_push a c.l.values c.word c.go (at m c.word) c.going ∙ ap Some e in
-      let answers : Again ≡ Answer (look o c.l.key table) (gen (at m 0)) = attempt_answers o law m n c.l.key table t holds is_table fits values Again st whole in
-      absurd (cc)
-  own_gets w left c total (Ends (Answer x g)) e reply w' (er, ew) = subst (λ y. Next_calm left y w') (sym er) c.first
+      ))
+      (λ moved. absurd (moved c.stand))
+      (λ st. c.first))
 
-  own_reads : (w : Moment K) (left : ℕ) (c : IsCalm o n m w r) → length c.l.values + left ≡ 4 * length table + 3 → (reply : Reply K) (w' : Moment K) → Reads o n w r (get w.lookups r) reply w' → Next_calm left reply w'
-  own_reads w left c total reply w' reads =
-      let a = attempt o n c.l.key in
-      let found : Reads o n w r (Some c.l) reply w' = subst (λ f. Reads o n w r f reply w') c.in_hand reads in
-      let at_words : Gets w r c.l (c.l.values ++ at m (wanted (rest_after a c.l.values)) ∷ []) (rest_after a (c.l.values ++ at m (wanted (rest_after a c.l.values)) ∷ [])) reply w' =
-      subst (λ ws. Gets w r c.l (c.l.values ++ at ws (wanted (rest_after a c.l.values)) ∷ []) (rest_after a (c.l.values ++ at ws (wanted (rest_after a c.l.values)) ∷ [])) reply w') c.words found in
-      let at_word = subst (λ p. Gets w r c.l (c.l.values ++ at m (wanted p) ∷ []) (rest_after a (c.l.values ++ at m (wanted p) ∷ [])) reply w') c.going at_words in
-      let next = subst (λ p. Gets w r c.l (c.l.values ++ at m c.word ∷ []) p reply w') (rest_push a c.l.values c.word c.go (at m c.word) c.going) at_word in
-      own_gets w left c total (c.go (at m c.word)) refl reply w' next
+  -- a step that is neither a load of this reader nor a step of the writer says nothing of the lookup
+  passes : (left : ℕ) (d : Done K) (run : List (Done K)) → is_step d.reply ≡ false
+      → is_load_of r d.event ≡ false → ReturnsWithin left (replies_to r (up_to_next_step run))
+      → ReturnsWithin left (replies_to r (up_to_next_step (d ∷ run)))
+  passes left d run no_step no_load h =
+      subst (λ b. ReturnsWithin left (replies_to r (cond b [] (d ∷ up_to_next_step run)))) (sym no_step)
+      (subst (λ b. ReturnsWithin left (cond b (d.reply ∷ replies_to r (up_to_next_step run)) (replies_to r (up_to_next_step run)))) (sym no_load) h)
 
-  returning : (left : ℕ) (reply : Reply K) (w' : Moment K) (rest : Type 0) → Next_calm left reply w' → (((c' : IsCalm o n m w' r) × (length c'.l.values + (left - 1) ≡ 4 * length table + 3)) → rest) → Returning left reply rest
-  returning left (Gave x) w' rest h go = h
-  returning left Loaded w' rest h go = (h.0, go h.1)
-  returning left _ w' rest h go = h
-
-  undisturbed : (es : List (Event K)) (rs : List (Reply K)) (ws : List (Moment K)) (w : Moment K) (left : ℕ) (c : IsCalm o n m w r) → length c.l.values + left ≡ 4 * length table + 3 → Run o n limit w es rs ws → Undisturbed r left es rs
-  undisturbed [] rs ws w left c total run = tt
-  undisturbed (e ∷ es) [] ws w left c total run = tt
-  undisturbed (e ∷ es) (reply ∷ rs) [] w left c total run = absurd run
-  undisturbed (Begin u ∷ es) (reply ∷ rs) (w' ∷ ws) w left c total run =
-      let k = begin_calm w u _ reply w' run.0 c in
-      undisturbed es rs ws w' left k.0 (omega (arith, k.1)) run.1
-  undisturbed (Start q k ∷ es) (reply ∷ rs) (w' ∷ ws) w left c total run =
-      let k = start_calm w q k _ refl reply w' run.0 c in
-      undisturbed es rs ws w' left k.0 (omega (arith, k.1)) run.1
-  undisturbed (Write ∷ es) (reply ∷ rs) (w' ∷ ws) w left c total run =
-      by w.latch.hand run.0 (λ ew. let k = kept w w' (ap (λ v. v.latch.words) ew) (ap (λ v. get v.lookups r) ew) c in undisturbed es rs ws w' left k.0 (omega (arith, k.1)) run.1)
+  loads : (left : ℕ) (d : Done K) (run : List (Done K)) → is_load_of r d.event ≡ true
+      → Next_calm left d.reply d.after
+      → ((c : IsCalm o n m d.after r) → length c.l.values + (left - 1) ≡ most → ReturnsWithin (left - 1) (replies_to r (up_to_next_step run)))
+      → ReturnsWithin left (replies_to r (up_to_next_step (d ∷ run)))
+  loads left d run is_load next go = by d.reply next
     where
-      by : (hand : Option Hand) → Writes n w hand reply w' → (w' ≡ counted w → Undisturbed r left es rs) → UnlessWrote reply (Undisturbed r left es rs)
-      by None (er, ew) go = subst (λ x. UnlessWrote x (Undisturbed r left es rs)) (sym er) (go ew)
-      by (Some h) (s, may, er, ew) go = subst (λ x. UnlessWrote x (Undisturbed r left es rs)) (sym er) tt
-  undisturbed (Read q ∷ es) (reply ∷ rs) (w' ∷ ws) w left c total run =
-      elim (q == r) as (λ b. (q == r) ≡ b → MatchBool b (Returning left reply (Undisturbed r (left - 1) es rs)) (Undisturbed r left es rs)) [
-        | true ↦ λ e.
-            let own : Reads o n w r (get w.lookups r) reply w' = subst (λ p. Reads o n w p (get w.lookups p) reply w') (eqb-true q r e) run.0 in
-            returning left reply w' _ (own_reads w left c total reply w' own) (λ k. undisturbed es rs ws w' (left - 1) k.0 k.1 run.1)
-        | false ↦ λ e.
-            let k = other_calm w q _ reply w' (λ same. eqb-false q r e (sym same)) run.0 c in
-            undisturbed es rs ws w' left k.0 (omega (arith, k.1)) run.1
-      ] refl
+      by : (reply : Reply K) → Next_calm left reply d.after
+          → ReturnsWithin left (replies_to r (up_to_next_step (did d.event reply d.after ∷ run)))
+      by (Gave x) h = subst (λ b. ReturnsWithin left (cond b (Gave x ∷ replies_to r (up_to_next_step run)) (replies_to r (up_to_next_step run)))) (sym is_load) h
+      by Loaded h = subst (λ b. ReturnsWithin left (cond b (Loaded ∷ replies_to r (up_to_next_step run)) (replies_to r (up_to_next_step run)))) (sym is_load) (h.0, go h.1.0 h.1.1)
+      by _ h = absurd h
+
+  begin_passes : (w : Moment K) (u : Update) (why : Option Refusal) (reply : Reply K)
+      (w' : Moment K) → Begins o n w u why reply w' → is_step reply ≡ false
+  begin_passes w u (Some why) reply w' (er, ew) = ap is_step er
+  begin_passes w u None reply w' (left, some, bound, er, ew) = ap is_step er
+
+  undisturbed : (run : List (Done K)) (w : Moment K) (left : ℕ) (c : IsCalm o n m w r)
+      → length c.l.values + left ≡ most → Run o n limit w run
+      → ReturnsWithin left (replies_to r (up_to_next_step run))
+  undisturbed [] w left c total steps = tt
+  undisturbed (d ∷ run) w left c total steps = by d.event d.reply steps.0 (λ left' c' e. undisturbed run d.after left' c' e steps.1)
+    where
+      by : (e : Event K) (reply : Reply K) → Step o n limit w e reply d.after
+          → ((left' : ℕ) (c' : IsCalm o n m d.after r) → length c'.l.values + left' ≡ most → ReturnsWithin left' (replies_to r (up_to_next_step run)))
+          → ReturnsWithin left (replies_to r (up_to_next_step (did e reply d.after ∷ run)))
+      by (Begin u) reply step go =
+          let k = begin_calm w u _ reply d.after step c in
+          passes left (did (Begin u) reply d.after) run (begin_passes w u _ reply d.after step) refl (go left k.0 (omega (arith, k.1)))
+      by (Start q k) reply step go =
+          let k' = subst (Kept (length c.l.values)) step (start_calm w q k _ refl c) in
+          passes left (did (Start q k) reply d.after) run (subst (KeepsLatch w) step (start_keeps w q k (get w.lookups q))).1 refl (go left k'.0 (omega (arith, k'.1)))
+      by Write reply step go = writes w.latch.hand step
+        where
+          writes : (hand : Option Hand) → Writes n w hand reply d.after
+              → ReturnsWithin left (replies_to r (up_to_next_step (did Write reply d.after ∷ run)))
+          writes None (er, ew) =
+              let k = kept w d.after (ap (λ v. v.latch.words) ew) (ap (λ v. get v.lookups r) ew) c in
+              passes left (did Write reply d.after) run (ap is_step er) refl (go left k.0 (omega (arith, k.1)))
+          writes (Some h) (s, may, er, ew) = subst (λ x. ReturnsWithin left (replies_to r (up_to_next_step (did Write x d.after ∷ run)))) (sym er) tt
+      by (Read q) reply step go =
+          elim (q == r) as (λ b. (q == r) ≡ b → ReturnsWithin left (replies_to r (up_to_next_step (did (Read q) reply d.after ∷ run)))) [
+            | true ↦ λ e.
+                let own : read_done o n w r (get w.lookups r) ≡ (reply, d.after) = subst (λ p. read_done o n w p (get w.lookups p) ≡ (reply, d.after)) (eqb-true q r e) step in
+                loads left (did (Read q) reply d.after) run e (subst (λ done. Next_calm left done.0 done.1) own (own_load w left c total)) (go (left - 1))
+            | false ↦ λ e.
+                let k = subst (Kept (length c.l.values)) step (other_calm w q (λ same. eqb-false q r e (sym same)) (get w.lookups q) c) in
+                passes left (did (Read q) reply d.after) run (subst (KeepsLatch w) step (read_keeps o n w q (get w.lookups q))).1 e (go left k.0 (omega (arith, k.1)))
+          ] refl
 
 -- from a start on
 module _ {K : Type 0} (o : Order K) (law : IsLawful o) (n limit start : ℕ) (whole : List Update) where
-  from_start : (es : List (Event K)) (rs : List (Reply K)) (ws : List (Moment K)) (us rest : List Update) (c : ℕ) (w w' : Moment K) (e : Event K) (reply : Reply K) → whole ≡ us ++ rest → IsWorld o n start us c w' → Step o n limit w e reply w' → Run o n limit w' es rs ws → FromStart (length (table_at o start whole (gen (at w'.latch.words 0)))) e reply es rs
-  from_start es rs ws us rest c w w' (Start r k) Started split ok step run =
-      by (get w.lookups r) step
+  -- no attempt whose values stand in the words of this moment has so many before its last load
+  abbrev Below : Moment K → ℕ → Type 0
+  Below w most = (k : K) (v : List ℕ) (word : ℕ) (go : ℕ → Reading) → Stand w.latch.words (attempt o n k) v → rest_after (attempt o n k) v ≡ Some (Load word go) → length v < most
+
+  from_start : (run : List (Done K)) (us : List Update) (c : ℕ) (w w' : Moment K) (e : Event K)
+      (reply : Reply K) (most : ℕ) → Below w' most → 0 < most → IsWorld o n start us c w'
+      → Step o n limit w e reply w' → Run o n limit w' run → ReturnsFromStart most e reply run
+  from_start run us c w w' (Start r k) Started most below some ok step steps = by (get w.lookups r) step
     where
-      by : (found : Option (LookupInHand K)) → Starts w r k found Started w' → Undisturbed r (4 * length (table_at o start whole (gen (at w'.latch.words 0))) + 3) es rs
-      by (Some l) (er, ew) = absurd (cc)
-      by None (er, ew) =
-          let seq = at w'.latch.words 0 in
-          let same : table_at o start whole (gen seq) ≡ table_at o start us (gen seq) =
-          ap (replay o []) (ap (take (gen seq - gen start)) split ∙ take-append-le (gen seq - gen start) us rest (gen_within o n start us w'.latch ok.latch)) in
-          let tables = ok.latch.tables (gen seq - gen start) in
-          let calm : IsCalm o n w'.latch.words w' r =
+      by : (found : Option (LookupInHand K)) → start_done w r k found ≡ (Started, w')
+          → ReturnsWithin most (replies_to r (up_to_next_step run))
+      by (Some l) e = (let f : Refused ReaderBusy ≡ Started = ap (λ done. done.0) e in absurd (cc))
+      by None e =
+          let m = w'.latch.words in
+          let tables = ok.latch.tables (gen (at m 0) - gen start) in
+          let calm : IsCalm o n m w' r =
           record {
             words = refl;
-            l = record { key = k; first = more w.events; loads = 0; tries = 1; values = [] };
-            in_hand = ap (λ v. get v.lookups r) ew ∙ get_insert_same w.lookups r _;
+            l = new_lookup k (more w.events);
+            in_hand = ap (λ done. get done.1.lookups r) (sym e) ∙ get_insert_same w.lookups r _;
             first = refl;
             stand = tt;
-            word = 0;
-            go = _;
-            going = refl;
+            asks = none_loaded o n m _ refl;
           } in
-          let there = undisturbed o law n limit w'.latch.words (table_at o start us (gen seq)) ok.latch.current.0 ok.latch.current.1 tables.0 tables.1 r es rs ws w' (4 * length (table_at o start us (gen seq)) + 3) calm (omega arith) run in
-          subst (λ xs. Undisturbed r (4 * length xs + 3) es rs) (sym same) there
-  from_start es rs ws us rest c w w' _ _ split ok step run = tt
+          undisturbed o law n limit m (current_table o start us m) ok.latch.current.0 ok.latch.current.1 tables.0 tables.1 most below r run w' most calm (omega arith) steps
+  from_start run us c w w' _ _ most below some ok step steps = tt
 
-  pub quiet_run : (es : List (Event K)) (rs : List (Reply K)) (ws : List (Moment K)) (us : List Update) (c : ℕ) (w : Moment K) → IsWorld o n start us c w → c + length es < 2 ^ 64 → Run o n limit w es rs ws → whole ≡ us ++ history es rs → AreUndisturbed o start whole es rs ws
-  quiet_run [] rs ws us c w ok room run e = tt
-  quiet_run (ev ∷ es) [] ws us c w ok room run e = tt
-  quiet_run (ev ∷ es) (r ∷ rs) [] us c w ok room run e = tt
-  quiet_run (ev ∷ es) (r ∷ rs) (w' ∷ ws) us c w ok room run e =
-      let leads = step_leads o law n limit start us c w ok (omega arith) ev r w' run.0 in
-      let us' = us ++ accepted ev r in
-      let e' : whole ≡ us' ++ history es rs = e ∙ sym (append_assoc us (accepted ev r) (history es rs)) in (
-        from_start es rs ws us' (history es rs) (c + 1) w w' ev r e' leads.world run.0 run.1,
-        quiet_run es rs ws us' (c + 1) w' leads.world (omega arith) run.1 e',
+  -- the current table is that of the updates so far
+  still_current : (us rest : List Update) (c : ℕ) (w : Moment K) → whole ≡ us ++ rest
+      → IsWorld o n start us c w
+      → current_table o start us w.latch.words ≡ current_table o start whole w.latch.words
+  still_current us rest c w split ok =
+      let g = gen (at w.latch.words 0) - gen start in
+      sym (ap (replay o []) (ap (take g) split ∙ take-append-le g us rest (gen_within o n start us w.latch ok.latch)))
+
+  pub quiet_run : (run : List (Done K)) (us : List Update) (c : ℕ) (w : Moment K)
+      → IsWorld o n start us c w → c + length run < 2 ^ 64 → Run o n limit w run
+      → whole ≡ us ++ history run → AreUndisturbed o start whole run
+  quiet_run [] us c w ok room steps e = tt
+  quiet_run (d ∷ run) us c w ok room steps e =
+      let leads = step_leads o law n limit start us c w ok (omega arith) d.event d.reply d.after steps.0 in
+      let us' = us ++ accepted d.event d.reply in
+      let e' : whole ≡ us' ++ history run = e ∙ sym (append_assoc us (accepted d.event d.reply) (history run)) in
+      let latch = leads.world.latch in
+      let m = d.after.latch.words in
+      let ts = latch.tables (gen (at m 0) - gen start) in
+      let below : Below d.after (4 * length (current_table o start us' m) + 3) =
+      λ k v word go st left. attempt_below o law m n k (current_table o start us' m) latch.current.0 latch.current.1 ts.0 ts.1 v word go st left in (
+        subst (λ xs. ReturnsFromStart (4 * length xs + 3) d.event d.reply run) (still_current us' (history run) (c + 1) d.after e' leads.world)
+            (from_start run us' (c + 1) w d.after d.event d.reply (4 * length (current_table o start us' m) + 3) below (omega arith) leads.world steps.0 steps.1),
+        quiet_run run us' (c + 1) d.after leads.world (omega arith) steps.1 e',
+      )
+
+  -- and near, where each of its moments has its stable copy in a red-black tree
+  pub near_run : (run : List (Done K)) (us : List Update) (c : ℕ) (w : Moment K)
+      → IsWorld o n start us c w → c + length run < 2 ^ 64 → Run o n limit w run → AreShallow n run
+      → whole ≡ us ++ history run → AreNear o start whole run
+  near_run [] us c w ok room steps low e = tt
+  near_run (d ∷ run) us c w ok room steps low e =
+      let leads = step_leads o law n limit start us c w ok (omega arith) d.event d.reply d.after steps.0 in
+      let us' = us ++ accepted d.event d.reply in
+      let e' : whole ≡ us' ++ history run = e ∙ sym (append_assoc us (accepted d.event d.reply) (history run)) in
+      let latch = leads.world.latch in
+      let m = d.after.latch.words in
+      let table = current_table o start us' m in
+      let t = latch.current.0 in
+      let holds = latch.current.1 in
+      let ts = latch.tables (gen (at m 0) - gen start) in
+      let below : Below d.after (4 * depth t + 3) = λ k v word go st left. attempt_below_depth o law m n k table t holds ts.0 ts.1 v word go st left in (
+        (
+          depth t,
+          subst (λ xs. IsDepth (length xs) (depth t)) (still_current us' (history run) (c + 1) d.after e' leads.world) (few_deep_any m n table t holds (shallow_tree n m table t holds low.0)),
+          from_start run us' (c + 1) w d.after d.event d.reply (4 * depth t + 3) below (omega arith) leads.world steps.0 steps.1,
+        ),
+        near_run run us' (c + 1) d.after leads.world (omega arith) steps.1 low.1 e',
       )

@@ -8,7 +8,7 @@ use Rattle.latch_steps.specs.declared.commands.Command.TheVariants.{Begin as ToB
 use Rattle.latch_steps.specs.declared.replies.Reply.{Reply}
 use Rattle.latch_steps.specs.declared.replies.Reply.TheVariants.{Returned as Gave}
 use Rattle.latch_core.specs.Latches.{Hand}
-use Rattle.latch_steps.specs.Runs.{LookupInHand, Moment, last_of}
+use Rattle.latch_steps.specs.Runs.{LookupInHand, Moment, Done, last_of}
 use Rattle.latch_steps.specs.Quiet.{is_flip}
 
 -- a command repeats one event
@@ -56,16 +56,17 @@ ends WriteEnd reply w = is_none w.latch.hand
 ends (ToRead r most) reply w = is_return reply
 ends _ reply w = false
 
--- the command's event again and again, up to the first that ends it, or so many where that takes more
-abbrev pub Repeats : {K : Type 0} → Command K → ℕ → List (Event K) → List (Reply K) → List (Moment K) → Type 0
-Repeats c most [] [] [] = most ≡ 0
-Repeats c most (e ∷ es) (r ∷ rs) (w ∷ ws) = (0 < most) × (e ≡ event_of c) × Repeats c (if ends c r w then 0 else most - 1) es rs ws
-Repeats c most _ _ _ = ⊥
+-- the command's event again and again, up to the first that ends it, or so many where that takes
+-- more
+abbrev pub Repeats : {K : Type 0} → Command K → ℕ → List (Done K) → Type 0
+Repeats c most [] = most ≡ 0
+Repeats c most (d ∷ run) =
+    (0 < most) × (d.event ≡ event_of c)
+    × Repeats c (if ends c d.reply d.after then 0 else most - 1) run
 
--- one group of events for each command
-abbrev pub Expand : {K : Type 0} → Moment K → List (Command K) → List (Event K) → List (Reply K) → List (Moment K) → Type 0
-Expand w [] es rs ws = (es ≡ []) × (rs ≡ []) × (ws ≡ [])
-Expand {K} w (c ∷ cs) es rs ws =
-    (es1 : List (Event K)) × (es2 : List (Event K)) × (rs1 : List (Reply K)) × (rs2 : List (Reply K)) × (ws1 : List (Moment K)) × (ws2 : List (Moment K))
-    × (es ≡ es1 ++ es2) × (rs ≡ rs1 ++ rs2) × (ws ≡ ws1 ++ ws2)
-    × Repeats c (most_of w c) es1 rs1 ws1 × Expand (last_of w ws1) cs es2 rs2 ws2
+-- one part of the run for each command
+abbrev pub Expand : {K : Type 0} → Moment K → List (Command K) → List (Done K) → Type 0
+Expand w [] run = run ≡ []
+Expand {K} w (c ∷ cs) run =
+    (mine : List (Done K)) × (rest : List (Done K)) × (run ≡ mine ++ rest)
+    × Repeats c (most_of w c) mine × Expand (last_of w mine) cs rest

@@ -1,12 +1,31 @@
+-- Who wants to believe what run and drive promise reads these, in this order.
+-- what is promised of a trace: the words that the clauses cite
+pub mod Promises
+-- what was done from the opening on, and what it came to
 pub mod Runs
+-- each lookup that returned gives what was current
 pub mod Safe
+-- a lookup that the writer leaves alone returns at its first attempt, soon
 pub mod Quiet
-pub mod Expands
-pub mod Lookups
-pub mod Held
-pub mod Shows
-pub mod HeldReads
-pub mod Found
-pub mod GivesUp
-pub mod Records
+-- the same within fewer loads, since the writer's trees are red-black
+pub mod Near
+-- Who wants to know which steps there are goes on with these.
+-- the single steps of the writer and of a reader
+pub mod Steps
+-- what a trace says of its run
 pub mod Traces
+-- the run that a list of commands stands for
+pub mod Expands
+-- What the code stands for: a lookup, a world, and what one event and a whole call do to it.
+-- a lookup of the code
+pub mod Lookups
+-- a world, and one after a history of accepted updates
+pub mod Worlds
+-- one event, and want of memory
+pub mod WorldSteps
+-- an update settled, and a key found, at once
+pub mod AtOnce
+-- a lookup held apart while its loads run
+pub mod HeldLookups
+-- what a recorder keeps of a run
+pub mod Recorders

@@ -1,16 +1,50 @@
--- What the trace of a run says.
-use Rattle.std.specs.Prelude.{◌≡◌, ℕ, List}
+-- What a trace says of the run that it is of.
+use Rattle.std.specs.Prelude.{◌≡◌, ℕ, Bool, true, false, List, [], ◌∷◌, Option, Some, None, filter_map}
+use Rattle.latch_steps.specs.declared.events.Event.{Event}
+use Rattle.latch_steps.specs.declared.replies.Reply.{Reply}
+use Rattle.latch_steps.specs.declared.replies.Reply.TheVariants.{Returned as Gave, Refused}
+use Rattle.latch_steps.specs.declared.replies.Note.{Note}
+use Rattle.latch_steps.specs.declared.replies.Note.TheVariants.{Returned as ToNote, Refused as ToRefuse}
 use Rattle.order_laws.specs.Orders.{Order}
+use Rattle.word_arena.specs.Words.{at}
 use Rattle.word_arena.specs.declared.layouts.Layout.{Layout}
 use Rattle.word_arena.specs.Layouts.{capacity_of, limit_of}
-use Rattle.word_arena.specs.Words.{at}
-use Rattle.latch_steps.specs.declared.replies.Reply.{Reply}
+use Rattle.latch_steps.specs.Runs.{Done, last_of, opening}
+use Rattle.latch_steps.specs.Steps.{Run}
 use Rattle.latch_steps.specs.declared.traces.Trace.{Trace}
-use Rattle.latch_steps.specs.Runs.{Moment, Run, opening, last_of, notes_of}
+use Rattle.latch_steps.specs.declared.traces.Notes.{Notes}
 
--- the trace of a run from the opening, with these replies and moments: its events, all of its notes in order, and its last
--- sequence
-pub record IsTraceOf {O K : Type 0} (o : Order K) (l : Layout) (start : ℕ) (t : Trace O K) (rs : List (Reply K)) (ws : List (Moment K)) : Type 0 where
-  pub run : Run o (capacity_of l) (limit_of l) (opening (capacity_of l) start) t.events.items rs ws
-  pub notes : t.notes.items ≡ notes_of rs
-  pub sequence : t.sequence ≡ at (last_of (opening (capacity_of l) start) ws).latch.words 0
+-- the events of a run, in order
+abbrev pub events_of : {K : Type 0} → List (Done K) → List (Event K)
+events_of [] = []
+events_of (d ∷ run) = d.event ∷ events_of run
+
+-- a list where it is kept, and else nothing
+abbrev pub kept : {X : Type 0} → Bool → List X → List X
+kept true xs = xs
+kept false xs = []
+
+-- what a reply is noted as: a lookup that returned, or a refusal
+abbrev pub note_of : {K : Type 0} → Reply K → Option (Note K)
+note_of (Gave x) = Some (ToNote x)
+note_of (Refused why) = Some (ToRefuse why)
+note_of _ = None
+
+-- and the notes of a run, in order
+abbrev pub notes_of : {K : Type 0} → List (Done K) → List (Note K)
+notes_of run = filter_map (λ d. note_of d.reply) run
+
+-- the trace of this run from the opening: its events and its notes in order, and its last sequence
+pub record IsTraceOf {O K : Type 0} (o : Order K) (l : Layout) (start : ℕ) (t : Trace O K)
+    (run : List (Done K)) : Type 0 where
+  pub steps : Run o (capacity_of l) (limit_of l) (opening (capacity_of l) start) run
+  pub events : t.events.items ≡ events_of run
+  pub notes : t.notes.items ≡ notes_of run
+  pub sequence : t.sequence ≡ at (last_of (opening (capacity_of l) start) run).latch.words 0
+
+-- the notes of this run from the opening, in order, and its last sequence
+pub record AreNotesOf {O K : Type 0} (o : Order K) (l : Layout) (start : ℕ) (t : Notes O K)
+    (run : List (Done K)) : Type 0 where
+  pub steps : Run o (capacity_of l) (limit_of l) (opening (capacity_of l) start) run
+  pub notes : t.notes.items ≡ notes_of run
+  pub sequence : t.sequence ≡ at (last_of (opening (capacity_of l) start) run).latch.words 0

@@ -18,9 +18,11 @@ pub use commands::Command;
 pub use events::Event;
 pub use laws::{every_run_is_quiet, every_run_is_safe};
 pub use replies::{Note, Reply, Returned};
-pub use runs::{drive, run};
-pub use traces::Trace;
+pub use runs::{drive, drive_notes, run};
+pub use traces::{Notes, Trace};
 pub use worlds::World;
 
+#[cfg(test)]
+mod row_tests;
 #[cfg(test)]
 mod tests;

@@ -1,16 +1,14 @@
 //! A lookup in hand, and what one load makes of it.
 
-ghost use Rattle.std.specs.Prelude.{◌≡◌, ℕ, Some, IfOk};
+ghost use Rattle.std.specs.Prelude.{◌≡◌, ℕ};
 ghost use Rattle.word_arena.specs.Layouts.{capacity_of};
-ghost use Rattle.latch_steps.specs.Runs.{LookupInHand, Moment};
-ghost use Rattle.std.specs.FinMap.{get};
+ghost use Rattle.latch_steps.specs.Runs.{LookupInHand};
+ghost use Rattle.latch_steps.specs.Steps.{new_lookup};
 
-use crate::events::Event;
 use crate::replies::Returned;
 use crate::words::word_at;
 use latch_core::{ReaderCore, Taken};
 use order_laws::TreeOrder;
-use std::alloc::AllocError;
 use word_arena::Layout;
 
 /// A lookup in hand: the reader's core, the number of the event that started it, and the loads and attempts so far.
@@ -41,12 +39,12 @@ pub(crate) enum Held<O: TreeOrder> {
 }
 
 impl<O: TreeOrder> Lookup<O> {
-    ghost use Rattle.latch_steps.specs.Lookups.{IsInHand, IsLookupOf, LoadsTo, started, gone_on};
-    ghost use Rattle.latch_steps.specs.Held.{LoadsOn};
+    ghost use Rattle.latch_steps.specs.Lookups.{IsInHand, IsLookupOf, LoadsTo, gone_on};
+    ghost use Rattle.latch_steps.specs.HeldLookups.{LoadsFrom};
 
     /// A lookup that has loaded nothing, begun by event number `first`.
     pub(crate) fn start(l: Layout, key: O::Key, first: u64) -> Self
-        ensures { IsLookupOf O.order (capacity_of l) result (started key first) }
+        ensures { IsLookupOf O.order (capacity_of l) result (new_lookup key first) }
     {
         Lookup {
             core: ReaderCore::start(l, key),
@@ -63,28 +61,27 @@ impl<O: TreeOrder> Lookup<O> {
         self.with(self.core.copy(), self.loads, self.tries)
     }
 
-    /// Loads of the reader, at most so many and up to its return, after `events` events. `done` takes in each of them.
+    /// Loads of the reader, at most so many and up to its return, after `events` events. Answers what they make of the
+    /// lookup, how many they are, and how many events there are then.
     pub(crate) fn load_on(
         &self,
         words: &[u64],
         reader: u32,
         most: u32,
         mut events: u64,
-        done: &mut Vec<Event<O::Key>>,
-    ) -> Result<(Held<O>, u64), AllocError>
-        ensures { IfOk result (λ p. (n limit : ℕ) (w : Moment O.Key) → w.latch.words ≡ words.now → IsInHand O.order n (Some self.now) (get w.lookups reader) → events ≡ w.events → LoadsOn O.order n limit w reader most done.old.items done.new.items p.0 p.1) }
+    ) -> (Held<O>, u32, u64)
+        ensures { LoadsFrom O.order words.now self.now reader most events result.0 result.1 result.2 }
     {
         let mut lookup = self.copy();
-        for _turn in 0..most {
-            done.push(Event::Read(reader))?;
+        for turn in 0..most {
             events = events.saturating_add(1);
             match lookup.load(words, reader, events) {
                 Loaded::Going(next) => lookup = next,
                 Loaded::Retrying(next) => lookup = next,
-                Loaded::Returned(returned) => return Ok((Held::Returned(returned), events)),
+                Loaded::Returned(returned) => return (Held::Returned(returned), turn + 1, events),
             }
         }
-        Ok((Held::Going(lookup), events))
+        (Held::Going(lookup), most, events)
     }
 
     /// One load of the reader, which is event number `last`.

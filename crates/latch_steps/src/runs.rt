@@ -1,18 +1,12 @@
 //! Whole runs, of a list of events or of a list of commands.
 
-ghost use Rattle.std.specs.Prelude.{◌≡◌, List, IfOk, IfErr};
-ghost use Rattle.word_arena.specs.Layouts.{capacity_of};
+ghost use Rattle.std.specs.Prelude.{◌≡◌, IfOk, IfErr};
 ghost use Rattle.latch_core.specs.Writers.{MayOpen, IsOpeningRefused};
-ghost use Rattle.latch_steps.specs.declared.replies.Reply.{Reply};
-ghost use Rattle.latch_steps.specs.Runs.{Moment, opening};
-ghost use Rattle.latch_steps.specs.Safe.{IsSafe};
-ghost use Rattle.latch_steps.specs.Quiet.{IsQuiet};
-ghost use Rattle.latch_steps.specs.Expands.{Expand};
-ghost use Rattle.latch_steps.specs.Traces.{IsTraceOf};
+ghost use Rattle.latch_steps.specs.Promises.{IsTrace, IsTraceOfCommands, IsSafeTrace, IsQuietTrace, IsNearTrace, AreNotesOfCommands};
 
 use crate::commands::Command;
 use crate::events::Event;
-use crate::traces::{Recorder, Trace};
+use crate::traces::{Notes, Recorder, Trace};
 use order_laws::{Refusal, TreeOrder};
 use std::alloc::Global;
 use word_arena::Layout;
@@ -21,7 +15,8 @@ use word_arena::Layout;
 ///
 /// Each lookup that returns gives the lookup of the table after some whole number of accepted updates, which was current
 /// at a moment between its first and its last step; and a lookup whose steps meet no writer step returns at its first
-/// attempt within `4n + 3` loads at a table of `n` items, even where the writer stands inside an update.
+/// attempt within `4n + 3` loads at a table of `n` items, even where the writer stands inside an update. These loads are also
+/// at most `4d + 3` for a `d` with 2 to the power `d` at most the square of `n + 1`.
 ///
 /// Refused by [`Refusal::BadCapacity`] where the start is odd or above the layout's limit, and by
 /// [`Refusal::OutOfMemory`], which gives up the whole run.
@@ -32,15 +27,16 @@ pub fn run<O: TreeOrder>(
     events: &[Event<O::Key>],
 ) -> Result<Trace<O>, Refusal>
     ensures events { IfOk result (λ t. t.events.items ≡ events.now) }
-    ensures traces { IfOk result (λ t. (rs : List (Reply O.Key)) × (ws : List (Moment O.Key)) × IsTraceOf O.order l start t rs ws) }
-    ensures safe { IfOk result (λ t. (rs : List (Reply O.Key)) (ws : List (Moment O.Key)) → IsTraceOf O.order l start t rs ws → IsSafe O.order (capacity_of l) start t.events.items rs ws) }
-    ensures quiet { IfOk result (λ t. (rs : List (Reply O.Key)) (ws : List (Moment O.Key)) → IsTraceOf O.order l start t rs ws → IsQuiet O.order start t.events.items rs ws) }
+    ensures traces { IfOk result (IsTrace O.order l start) }
+    ensures safe { IfOk result (IsSafeTrace O.order l start) }
+    ensures quiet { IfOk result (IsQuietTrace O.order l start) }
+    ensures near { IfOk result (IsNearTrace O.order l start) }
     ensures may { IfOk result (λ t. MayOpen l start) }
     ensures refusal { IfErr result (IsOpeningRefused l start) }
 {
     let mut recorder = Recorder::<O>::open(alloc, l, start)?;
     for event in events {
-        let _ = recorder.record(*event)?;
+        let _ = recorder.record::<true>(*event)?;
     }
     Ok(recorder.finish())
 }
@@ -55,15 +51,38 @@ pub fn drive<O: TreeOrder>(
     start: u64,
     commands: &[Command<O::Key>],
 ) -> Result<Trace<O>, Refusal>
-    ensures expands { IfOk result (λ t. (rs : List (Reply O.Key)) × (ws : List (Moment O.Key)) × IsTraceOf O.order l start t rs ws × Expand (opening (capacity_of l) start) commands.now t.events.items rs ws) }
-    ensures safe { IfOk result (λ t. (rs : List (Reply O.Key)) (ws : List (Moment O.Key)) → IsTraceOf O.order l start t rs ws → IsSafe O.order (capacity_of l) start t.events.items rs ws) }
-    ensures quiet { IfOk result (λ t. (rs : List (Reply O.Key)) (ws : List (Moment O.Key)) → IsTraceOf O.order l start t rs ws → IsQuiet O.order start t.events.items rs ws) }
+    ensures expands { IfOk result (IsTraceOfCommands O.order l start commands.now) }
+    ensures safe { IfOk result (IsSafeTrace O.order l start) }
+    ensures quiet { IfOk result (IsQuietTrace O.order l start) }
+    ensures near { IfOk result (IsNearTrace O.order l start) }
     ensures may { IfOk result (λ t. MayOpen l start) }
     ensures refusal { IfErr result (IsOpeningRefused l start) }
 {
     let mut recorder = Recorder::<O>::open(alloc, l, start)?;
     for command in commands {
-        recorder.obey(command)?;
+        recorder.obey::<true>(command)?;
     }
     Ok(recorder.finish())
+}
+
+/// Does the events of these commands as [`drive`] does, and keeps no list of them.
+///
+/// The notes and the sequence are those of a run of the events that the commands stand for, under the same promise as that
+/// of [`run`]. A run of 2 to the power 64 events is refused as too large.
+pub fn drive_notes<O: TreeOrder>(
+    alloc: Global,
+    l: Layout,
+    start: u64,
+    commands: &[Command<O::Key>],
+) -> Result<Notes<O>, Refusal>
+    ensures notes { IfOk result (AreNotesOfCommands O.order l start commands.now) }
+    ensures may { IfOk result (λ t. MayOpen l start) }
+    ensures refusal { IfErr result (IsOpeningRefused l start) }
+{
+    let mut recorder = Recorder::<O>::open(alloc, l, start)?;
+    for command in commands {
+        recorder.obey::<false>(command)?;
+    }
+    let notes = recorder.finish_notes()?;
+    Ok(notes)
 }

@@ -1,13 +1,14 @@
 //! Whole runs, and what they leave.
 
-ghost use Rattle.std.specs.Prelude.{◌≡◌, ◌<◌, ◌^◌, ◌∷◌, [], length, IfOk, IfErr, OnOk};
+ghost use Rattle.std.specs.Prelude.{◌≡◌, ◌<◌, ◌-◌, ◌^◌, ◌∷◌, ◌++◌, [], length, replicate, IfOk, IfErr, OnOk};
 ghost use Rattle.std.specs.FinMap.{get};
 ghost use Rattle.word_arena.specs.Layouts.{capacity_of};
 ghost use Rattle.latch_core.specs.Writers.{MayOpen, IsOpeningRefused};
 ghost use Rattle.latch_steps.specs.declared.events.Event.{Event};
 ghost use Rattle.latch_steps.specs.declared.replies.Reply.{Reply};
-ghost use Rattle.latch_steps.specs.Runs.{Moment, opening, note_of};
-ghost use Rattle.latch_steps.specs.GivesUp.{gives_up};
+ghost use Rattle.latch_steps.specs.Runs.{Moment, did, opening};
+ghost use Rattle.latch_steps.specs.Traces.{kept, note_of};
+ghost use Rattle.latch_steps.specs.WorldSteps.{gives_up};
 ghost use Rattle.latch_steps.specs.Expands.{most_of, reads_within};
 ghost use Rattle.latch_steps.specs.Quiet.{is_flip};
 ghost use Rattle.word_arena.specs.Words.{at};
@@ -17,7 +18,7 @@ use crate::events::Event;
 use crate::replies::{Note, Reply};
 use crate::worlds::World;
 use order_laws::{Refusal, TreeOrder};
-use std::alloc::Global;
+use std::alloc::{AllocError, Global};
 use word_arena::Layout;
 
 /// What a run leaves.
@@ -31,7 +32,16 @@ pub struct Trace<O: TreeOrder> {
     pub sequence: u64,
 }
 
-/// A world, with the events that it did and what they are noted as.
+/// What a run leaves where its events are not kept.
+#[derive(Drop)]
+pub struct Notes<O: TreeOrder> {
+    /// The lookups that returned and the refusals, in the order of events.
+    pub notes: Vec<Note<O::Key>>,
+    /// The sequence after the last event.
+    pub sequence: u64,
+}
+
+/// A world, with the events that it did, where these are kept, and what they are noted as.
 #[derive(Drop)]
 pub(crate) struct Recorder<O: TreeOrder> {
     world: World<O>,
@@ -70,9 +80,25 @@ fn is_flip<K: Copy>(reply: &Reply<K>) -> bool
     }
 }
 
+/// Appends an event that was done so many times, where events are kept.
+fn keep<K: Copy, const KEEPS_EVENTS: bool>(
+    events: &mut Vec<Event<K>>,
+    event: Event<K>,
+    times: u32,
+) -> Result<(), AllocError>
+    ensures { OnOk result (events.new.items ≡ events.old.items ++ kept KEEPS_EVENTS (replicate times event)) }
+{
+    if KEEPS_EVENTS {
+        for _time in 0..times {
+            events.push(event)?;
+        }
+    }
+    Ok(())
+}
+
 impl<O: TreeOrder> Recorder<O> {
-    ghost use Rattle.latch_steps.specs.Shows.{Shows, layout_in};
-    ghost use Rattle.latch_steps.specs.Records.{Records, Obeys, IsWriting, ends_writing};
+    ghost use Rattle.latch_steps.specs.Worlds.{Shows, layout_in};
+    ghost use Rattle.latch_steps.specs.Recorders.{Records, Obeys, IsWriting, ends_writing};
 
     /// A world before any event, with nothing recorded.
     pub(crate) fn open(alloc: Global, l: Layout, start: u64) -> Result<Self, Refusal>
@@ -91,15 +117,18 @@ impl<O: TreeOrder> Recorder<O> {
     }
 
     /// Does one event and records it.
-    pub(crate) fn record(&mut self, event: Event<O::Key>) -> Result<Reply<O::Key>, Refusal>
-        ensures recorded { IfOk result (λ reply. (w : Moment O.Key) → Shows O.order self.old.world w → (next : Moment O.Key) × Records O.order self.old w self.new (event ∷ []) (reply ∷ []) (next ∷ [])) }
+    pub(crate) fn record<const KEEPS_EVENTS: bool>(
+        &mut self,
+        event: Event<O::Key>,
+    ) -> Result<Reply<O::Key>, Refusal>
+        ensures recorded { IfOk result (λ reply. (w : Moment O.Key) → Shows O.order self.old.world w → (next : Moment O.Key) × Records O.order KEEPS_EVENTS self.old w self.new (did event reply next ∷ [])) }
         ensures refusal { IfErr result (λ e. e ≡ Refusal.OutOfMemory) }
     {
         let reply = self.world.step(event);
         if gives_up(&reply) {
             return Err(Refusal::OutOfMemory);
         }
-        self.events.push(event)?;
+        keep::<O::Key, KEEPS_EVENTS>(&mut self.events, event, 1)?;
         if let Some(note) = note_of(&reply) {
             self.notes.push(note)?;
         }
@@ -107,13 +136,16 @@ impl<O: TreeOrder> Recorder<O> {
     }
 
     /// Does the events of a command.
-    pub(crate) fn obey(&mut self, command: &Command<O::Key>) -> Result<(), Refusal>
-        ensures obeyed { OnOk result ((w : Moment O.Key) → Shows O.order self.old.world w → Obeys O.order command.now self.old self.new w (most_of w command.now)) }
+    pub(crate) fn obey<const KEEPS_EVENTS: bool>(
+        &mut self,
+        command: &Command<O::Key>,
+    ) -> Result<(), Refusal>
+        ensures obeyed { OnOk result ((w : Moment O.Key) → Shows O.order self.old.world w → Obeys O.order KEEPS_EVENTS command.now self.old self.new w (most_of w command.now)) }
         ensures refusal { IfErr result (λ e. e ≡ Refusal.OutOfMemory) }
     {
         match command {
             Command::Begin(update) => {
-                let _ = self.record(Event::Begin(*update))?;
+                let _ = self.record::<KEEPS_EVENTS>(Event::Begin(*update))?;
                 Ok(())
             }
             Command::Write(most) => {
@@ -122,31 +154,35 @@ impl<O: TreeOrder> Recorder<O> {
                 } else {
                     0
                 };
-                self.write_on(most, false)
+                self.write_on::<KEEPS_EVENTS>(most, false)
             }
             Command::WriteFlip => {
                 let left = self.world.writes_left();
-                self.write_on(left, true)
+                self.write_on::<KEEPS_EVENTS>(left, true)
             }
             Command::WriteEnd => {
                 let left = self.world.writes_left();
-                self.write_on(left, false)
+                self.write_on::<KEEPS_EVENTS>(left, false)
             }
             Command::Start(reader, key) => {
-                let _ = self.record(Event::Start(*reader, *key))?;
+                let _ = self.record::<KEEPS_EVENTS>(Event::Start(*reader, *key))?;
                 Ok(())
             }
-            Command::Read(reader, most) => self.read_on(*reader, *most),
+            Command::Read(reader, most) => self.read_on::<KEEPS_EVENTS>(*reader, *most),
         }
     }
 
     /// Steps of the writer, at most so many and up to the end of the update in hand; where `to_flip`, up to the next flip.
-    fn write_on(&mut self, most: u64, to_flip: bool) -> Result<(), Refusal>
-        ensures written { OnOk result ((c : Command O.Key) → IsWriting to_flip c → (w : Moment O.Key) → Shows O.order self.old.world w → Obeys O.order c self.old self.new w most) }
+    fn write_on<const KEEPS_EVENTS: bool>(
+        &mut self,
+        most: u64,
+        to_flip: bool,
+    ) -> Result<(), Refusal>
+        ensures written { OnOk result ((c : Command O.Key) → IsWriting to_flip c → (w : Moment O.Key) → Shows O.order self.old.world w → Obeys O.order KEEPS_EVENTS c self.old self.new w most) }
         ensures refusal { IfErr result (λ e. e ≡ Refusal.OutOfMemory) }
     {
         for _turn in 0..most {
-            let reply = self.record(Event::Write)?;
+            let reply = self.record::<KEEPS_EVENTS>(Event::Write)?;
             if self.ends(&reply, to_flip) {
                 break;
             }
@@ -162,11 +198,13 @@ impl<O: TreeOrder> Recorder<O> {
     }
 
     /// Loads of a reader, at most so many and up to the return of its lookup. One without a lookup in hand is refused once.
-    fn read_on(&mut self, reader: u32, most: u32) -> Result<(), Refusal>
-        ensures read { OnOk result ((w : Moment O.Key) → Shows O.order self.old.world w → Obeys O.order (Command.Read reader most) self.old self.new w (reads_within (get w.lookups reader) most)) }
+    fn read_on<const KEEPS_EVENTS: bool>(&mut self, reader: u32, most: u32) -> Result<(), Refusal>
+        ensures read { OnOk result ((w : Moment O.Key) → Shows O.order self.old.world w → Obeys O.order KEEPS_EVENTS (Command.Read reader most) self.old self.new w (reads_within (get w.lookups reader) most)) }
         ensures refusal { IfErr result (λ e. e ≡ Refusal.OutOfMemory) }
     {
-        if let Some(note) = self.world.read_on(reader, most, &mut self.events)? {
+        let (loads, note) = self.world.read_on(reader, most);
+        keep::<O::Key, KEEPS_EVENTS>(&mut self.events, Event::Read(reader), loads)?;
+        if let Some(note) = note {
             self.notes.push(note)?;
         }
         Ok(())
@@ -185,5 +223,22 @@ impl<O: TreeOrder> Recorder<O> {
             notes: self.notes,
             sequence,
         }
+    }
+
+    /// What was noted, with the sequence as it is now. A run of 2 to the power 64 events is refused as too large.
+    pub(crate) fn finish_notes(self) -> Result<Notes<O>, Refusal>
+        ensures few { IfOk result (λ t. (w : Moment O.Key) → Shows O.order self.world w → w.events < 2 ^ 64 - 1) }
+        ensures notes { IfOk result (λ t. t.notes.items ≡ self.notes.items) }
+        ensures sequence { IfOk result (λ t. (w : Moment O.Key) → Shows O.order self.world w → t.sequence ≡ at w.latch.words 0) }
+        ensures refusal { IfErr result (λ e. e ≡ Refusal.OutOfMemory) }
+    {
+        if !self.world.is_counting() {
+            return Err(Refusal::OutOfMemory);
+        }
+        let sequence = self.world.sequence();
+        Ok(Notes {
+            notes: self.notes,
+            sequence,
+        })
     }
 }

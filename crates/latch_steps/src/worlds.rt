@@ -1,6 +1,6 @@
 //! The words, their writer and the lookups in hand, one step at a time.
 
-ghost use Rattle.std.specs.Prelude.{◌≡◌, ℕ, ◌<◌, List, [], ◌++◌, length, IfOk, IfErr, IfSome, IfNone, OnSome, is_some};
+ghost use Rattle.std.specs.Prelude.{◌≡◌, ℕ, ◌-◌, ◌^◌, ◌<◌, true, List, [], ◌++◌, length, IfOk, IfErr, IfSome, IfNone, OnSome, is_some};
 ghost use Rattle.word_arena.specs.Words.{at};
 ghost use Rattle.word_arena.specs.Layouts.{capacity_of};
 ghost use Rattle.latch_core.specs.Writers.{MayOpen, IsOpeningRefused};
@@ -13,9 +13,9 @@ use crate::events::Event;
 use crate::lookups::{Held, Loaded, Lookup};
 use crate::replies::{Note, Reply, Returned};
 use crate::words::{opening_words, put, word_at};
-use latch_core::{Update, WriterCore};
-use order_laws::{Refusal, TreeOrder};
-use std::alloc::{AllocError, Global};
+use latch_core::{Attempted, Update, WriterCore, attempt_in};
+use order_laws::{Item, Refusal, TreeOrder};
+use std::alloc::Global;
 use std::collections::BTreeMap;
 use word_arena::{Layout, Store};
 
@@ -34,9 +34,10 @@ pub struct World<O: TreeOrder> {
 }
 
 impl<O: TreeOrder> World<O> {
-    ghost use Rattle.latch_steps.specs.Shows.{Shows, Does, MayDo, Steps, IsAtRest, layout_in};
-    ghost use Rattle.latch_steps.specs.HeldReads.{ReadsOn};
-    ghost use Rattle.latch_steps.specs.Found.{IsAfter, IsSettled, Settles, IsFound, Finds, IsNotBegun};
+    ghost use Rattle.latch_steps.specs.Worlds.{Shows, IsAtRest, layout_in, IsAfter};
+    ghost use Rattle.latch_steps.specs.WorldSteps.{Does, MayDo, Steps};
+    ghost use Rattle.latch_steps.specs.HeldLookups.{ReadsOn};
+    ghost use Rattle.latch_steps.specs.AtOnce.{IsSettled, Settles, IsFound, IsNear, Finds, IsNotBegun, LooksUp, NeverLooksUp};
 
     /// A world before any event, with its sequence at `start`.
     ///
@@ -179,62 +180,86 @@ impl<O: TreeOrder> World<O> {
         while let Some(_) = self.make() {}
     }
 
-    /// Looks a key up at once: starts a lookup and makes its loads up to its return.
+    /// Looks a key up at once, as a lookup from its start to its return.
     ///
     /// No step of the writer comes between, so the lookup returns at its first attempt within `4n + 3` loads at a table of
-    /// `n` items, also where the writer stands inside an update. Refused by [`Refusal::ReaderBusy`] where the reader has a
-    /// lookup in hand, else perhaps by [`Refusal::OutOfMemory`].
+    /// `n` items, and within `4d + 3` where 2 to the power d is at most the square of `n + 1`, also where the writer stands
+    /// inside an update. Takes no memory. Refused by [`Refusal::ReaderBusy`] where the reader has a lookup in hand.
     pub fn find_now(&mut self, reader: u32, key: O::Key) -> Result<Returned<O::Key>, Refusal>
         ensures layout { layout_in self.new ≡ layout_in self.old }
         ensures finds { IfOk result (λ x. (w : Moment O.Key) → Shows O.order self.old w → Finds O.order self.old w reader key x self.new) }
         ensures found { IfOk result (λ x. (start : ℕ) (us : List Update) (h : IsAfter O.order start us self.old) → IsFound O.order start us (at h.moment.latch.words 0) reader key x) }
+        ensures near { IfOk result (λ x. (start : ℕ) (us : List Update) (h : IsAfter O.order start us self.old) → IsNear O.order start us (at h.moment.latch.words 0) x) }
         ensures after { IfOk result (λ x. (start : ℕ) (us : List Update) → IsAfter O.order start us self.old → IsAfter O.order start us self.new) }
         ensures refusal { (start : ℕ) (us : List Update) (h : IsAfter O.order start us self.old) → IfErr result (λ e. IsNotBegun O.order h reader e self.new) }
     {
-        if let Reply::Refused(why) = self.start(reader, key) {
-            return Err(why);
+        let is_busy = self.lookups.contains_key(&reader);
+        if is_busy {
+            self.events = self.events.saturating_add(1);
+            return Err(Refusal::ReaderBusy);
         }
-        for _turn in 0..u64::MAX {
-            if let Reply::Returned(returned) = self.read(reader) {
-                return Ok(returned);
+        let Some((answer, generation, loads)) = self.look_up(key) else {
+            // Never so in words that a writer made.
+            return Err(Refusal::ReaderBusy);
+        };
+        let first = self.events.saturating_add(1);
+        self.events = first.saturating_add(loads);
+        Ok(Returned {
+            reader,
+            key,
+            answer,
+            generation,
+            first,
+            last: self.events,
+            loads,
+            tries: 1,
+        })
+    }
+
+    /// The answer of an attempt, its generation and the count of its loads.
+    fn look_up(&self, key: O::Key) -> Option<(Option<Item>, u64, u64)>
+        ensures found { IfSome result (λ found. LooksUp O.order self.now key found.0 found.1 found.2) }
+        ensures fits { IfSome result (λ found. found.2 < 2 ^ 64) }
+        ensures none { IfNone result (NeverLooksUp O.order self.now key) }
+    {
+        let words = self.words.as_slice();
+        if words.len() != self.layout.words() {
+            return None;
+        }
+        match attempt_in::<O>(words, self.layout, key) {
+            (Attempted::Answered(answer, generation), loads) => {
+                Some((answer, generation, loads as u64))
             }
+            (Attempted::Failed, _) => None,
         }
-        Err(Refusal::ReaderBusy)
     }
 
     /// Loads of a reader, at most so many and up to the return of its lookup; a reader without a lookup in hand is refused
-    /// once. Answers what is to be noted, and `done` takes in each of the events. The lookup is looked up once and held apart
-    /// while its loads run.
-    pub(crate) fn read_on(
-        &mut self,
-        reader: u32,
-        most: u32,
-        done: &mut Vec<Event<O::Key>>,
-    ) -> Result<Option<Note<O::Key>>, AllocError>
+    /// once. Answers how many events these are, and what is to be noted. The lookup is looked up once and held apart while
+    /// its loads run.
+    pub(crate) fn read_on(&mut self, reader: u32, most: u32) -> (u32, Option<Note<O::Key>>)
         ensures layout { layout_in self.new ≡ layout_in self.old }
-        ensures reads { IfOk result (λ note. (w : Moment O.Key) → Shows O.order self.old w → ReadsOn O.order self.old w reader most done.old.items done.new.items note self.new) }
+        ensures reads { (w : Moment O.Key) → Shows O.order self.old w → ReadsOn O.order self.old w reader most result.0 result.1 self.new }
     {
         let Some(lookup) = self.lookups.get_mut(&reader) else {
-            done.push(Event::Read(reader))?;
             self.events = self.events.saturating_add(1);
-            return Ok(Some(Note::Refused(Refusal::ReaderIdle)));
+            return (1, Some(Note::Refused(Refusal::ReaderIdle)));
         };
-        let (held, events) = lookup.load_on(
+        let (held, loads, events) = lookup.load_on(
             self.words.as_slice(),
             reader,
             most,
             self.events,
-            done,
-        )?;
+        );
         self.events = events;
         match held {
             Held::Going(next) => {
                 *lookup = next;
-                Ok(None)
+                (loads, None)
             }
             Held::Returned(returned) => {
                 let _ = self.lookups.remove(&reader);
-                Ok(Some(Note::Returned(returned)))
+                (loads, Some(Note::Returned(returned)))
             }
         }
     }
@@ -251,6 +276,13 @@ impl<O: TreeOrder> World<O> {
         ensures { (w : Moment O.Key) → Shows O.order self.now w → result ≡ writes_left w.latch.hand }
     {
         self.writer.remaining()
+    }
+
+    /// Whether the count of events is still below the greatest.
+    pub(crate) fn is_counting(&self) -> bool
+        ensures { (w : Moment O.Key) → Shows O.order self.now w → result ≡ true → w.events < 2 ^ 64 - 1 }
+    {
+        self.events < u64::MAX
     }
 
     /// The sequence, which is word 0.

@@ -1,2 +1,3 @@
 mod ParseLemmas
 mod Writing
+mod Gathering

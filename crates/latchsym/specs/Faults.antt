@@ -1,5 +1,5 @@
 -- Why a run of the program failed, and the line that says so.
-use Rattle.std.specs.Prelude.{ℕ, List, [], ◌++◌, ◌≤◌, ◌⊎◌, Option, Some, None, codes, decimal, option_and_then, slice_get, unwrap_or}
+use Rattle.std.specs.Prelude.{◌≡◌, ℕ, List, [], ◌++◌, ◌≤◌, ◌⊎◌, Option, Some, None, Result, Ok, Err, codes, decimal, option_and_then, slice_get, unwrap_or}
 use Rattle.std.specs.Io.KnownBytes.{Appends}
 use Rattle.clap.specs.Words.{Text}
 use Rattle.devices.specs.declared.counted.Counted.{Counted}
@@ -55,3 +55,10 @@ file_of job fault = unwrap_or (option_and_then (slice_get (files_of job)) (place
 pub record Reported {D : Type 0} (contents : D → Option (List ℕ)) (old new : Counted D) (line : List ℕ) : Type 0 where
   pub outcome : Appends (contents (device_of old)) (contents (device_of new)) line ⊎ Rose (failures_of old) (failures_of new)
   pub never_falls : failures_of old ≤ failures_of new
+
+-- The program's status after a job with this outcome, and what it has said of it: nothing of a success.
+abbrev pub Concluded : {D : Type 0} → (D → Option (List ℕ)) → Job → Counted D → Counted D
+    → Result (Unit {0}) Fault → ℕ → Type 0
+Concluded contents job old new (Ok _) status = (status ≡ 0) × (new ≡ old)
+Concluded contents job old new (Err fault) status =
+    (status ≡ 1) × Reported contents old new (fault_text (file_of job fault) fault)

@@ -1,5 +1,13 @@
+-- The definitions of this crate, in the order in which to read them.
+-- the program's command line, as `clap` reads it
 pub mod CommandLine
-pub mod Faults
+-- the job that the words of a command line ask for
 pub mod Jobs
+-- the lines that a trace writes
 pub mod Texts
+-- text that is gathered in a block of memory, and written when the block is full
+pub mod Blocks
+-- what is written for a trace that is read
 pub mod Traces
+-- why a run of the program failed, and the line that says so
+pub mod Faults

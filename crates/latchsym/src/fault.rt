@@ -1,15 +1,19 @@
 //! Why a run of the program fails, and the line that says so.
 ghost use Rattle.std.specs.Prelude.{◌≡◌, []};
 ghost use Rattle.devices.specs.Exact.{Wrote};
-ghost use Rattle.latchsym.specs.Faults.{Reported, bad_line_text, fault_text, file_of, line_of, message_text, number_of, place_of, unread_text};
+ghost use Rattle.latchsym.specs.Faults.{Concluded, Reported, bad_line_text, fault_text, file_of, line_of, message_text, number_of, place_of, unread_text};
 
 use crate::command_line::Job;
 use crate::texts::{put_decimal, put_refused};
 use devices::{Counted, put};
 use order_laws::Refusal;
+use std::alloc::AllocError;
 use std::io;
 use std::io::Write;
 use thiserror::Error;
+
+/// The program's status where it did what it was asked.
+pub const SUCCEEDED: u8 = 0;
 
 /// The program's status where a run failed.
 pub const FAILED: u8 = 1;
@@ -75,6 +79,28 @@ impl From<Refusal> for Fault {
 
     fn from(refusal: Refusal) -> Fault {
         Fault::Refused(refusal)
+    }
+}
+
+impl From<AllocError> for Fault {
+    ghost use Rattle.latchsym.specs.declared.fault.Fault.TheVariants.{Refused};
+    ghost use Rattle.order_laws.specs.declared.refusals.Refusal.TheVariants.{OutOfMemory};
+
+    ghost from_gives = { λ _ fault. fault ≡ Refused OutOfMemory };
+
+    fn from(_error: AllocError) -> Fault {
+        Fault::Refused(Refusal::OutOfMemory)
+    }
+}
+
+/// Ends a job: answers the program's status, 0 where the job succeeded. Where it failed, writes the
+/// line that says why.
+pub fn conclude<W: Write>(outcome: Result<(), Fault>, job: &Job<'_>, writer: &mut Counted<W>) -> u8
+    ensures { Concluded W.contents job.now writer.old writer.new outcome result }
+{
+    match outcome {
+        Ok(()) => SUCCEEDED,
+        Err(fault) => report(&fault, job, writer),
     }
 }
 

@@ -13,7 +13,7 @@ mod trace;
 use clap::Error;
 use command_line::{Job, JobFault, job_of};
 use devices::{Counted, put};
-use fault::{Fault, report, report_before_job};
+use fault::{Fault, conclude, report_before_job};
 use order_laws::Refusal;
 use std::io::{BufWriter, ErrorKind, Stderr};
 use std::process::ExitCode;
@@ -49,14 +49,11 @@ fn run(rt: &HostRuntime, job: &Job<'_>, errors: &mut Counted<Stderr>) -> u8 {
     let outcome = match job {
         Job::Trace { file } => run_trace(rt, file),
     };
-    match outcome {
-        Ok(status) => status,
-        Err(fault) => report(&fault, job, errors),
-    }
+    conclude(outcome, job, errors)
 }
 
 /// Runs the trace in a file. The buffer for the output is there before anything is read.
-fn run_trace(rt: &HostRuntime, file: &str) -> Result<u8, Fault> {
+fn run_trace(rt: &HostRuntime, file: &str) -> Result<(), Fault> {
     let mut writer = match BufWriter::new(rt.alloc(), rt.stdout()) {
         Ok(buffer) => Counted::new(buffer),
         Err(_) => return Err(Fault::Refused(Refusal::OutOfMemory)),

@@ -1,4 +1,5 @@
 //! The engine over readers and writers in memory.
+mod at_size;
 mod bad_input;
 mod devices_that_fail;
 mod rows;
@@ -11,7 +12,7 @@ use devices::Counted;
 use std::alloc::Global;
 
 /// What the engine answers for a trace, and what it writes.
-fn traced(alloc: Global, trace: &[u8]) -> (Result<u8, Fault>, Vec<u8>) {
+fn traced(alloc: Global, trace: &[u8]) -> (Result<(), Fault>, Vec<u8>) {
     let mut reader = Counted::new(trace);
     let mut writer = Counted::new(Vec::new(alloc));
     let answer = trace_engine(alloc, &mut reader, &mut writer);

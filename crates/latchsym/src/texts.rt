@@ -1,83 +1,140 @@
 //! The lines that a trace writes, byte for byte, with no memory taken.
-ghost use Rattle.std.specs.Prelude.{decimal, flat_map};
+//!
+//! Lines are gathered in a block of memory that the caller gives, which goes to the writer whenever the next line might
+//! not fit: a call of the writer costs as much as a whole line.
+ghost use Rattle.std.specs.Prelude.{◌≡◌, ◌+◌, ◌≤◌, ◌++◌, [], OnOk, decimal, flat_map, vec_len, vec_capacity};
 ghost use Rattle.devices.specs.Exact.{Wrote};
 ghost use Rattle.order_laws.specs.Refusals.{number_of};
 ghost use Rattle.latchsym.specs.Texts.{counts_text, end_text, found_text, note_text, refused_text, returned_text, tag_text};
+ghost use Rattle.latchsym.specs.Blocks.{Gathered, Appended};
 
-use devices::{Counted, put, put_hexadecimal};
+use devices::{Counted, append, append_hexadecimal, put};
 use itoa::Buffer;
 use latch_steps::{Note, Returned};
 use order_laws::{Item, Refusal};
 use std::io;
 use std::io::Write;
 
-/// Writes the line of each note, in order.
-pub fn put_notes<W: Write>(writer: &mut Counted<W>, notes: &[Note<u64>]) -> io::Result<()>
-    ensures { Wrote W.contents writer.old writer.new result (flat_map note_text notes.now) }
+/// The most bytes that a number takes in decimal.
+const LONGEST_DECIMAL: usize = 20;
+
+/// The most bytes that a line takes.
+pub const LONGEST_LINE: usize = 160;
+
+/// Gathers the line of each note, in order, and writes the block whenever it is full.
+pub fn put_notes<W: Write>(
+    writer: &mut Counted<W>,
+    block: &mut Vec<u8>,
+    notes: &[Note<u64>],
+) -> io::Result<()>
+    requires { LONGEST_LINE ≤ vec_capacity block.old }
+    ensures capacity { LONGEST_LINE ≤ vec_capacity block.new }
+    ensures gathered { Gathered W.contents writer.old writer.new block.old.items block.new.items result (flat_map note_text notes.now) }
 {
     for note in notes {
-        put_note(writer, note)?;
+        make_room(writer, block)?;
+        append_note(block, note);
     }
     Ok(())
 }
 
-fn put_note<W: Write>(writer: &mut Counted<W>, note: &Note<u64>) -> io::Result<()>
-    ensures { Wrote W.contents writer.old writer.new result (note_text note.now) }
+/// Writes the block where the next line might not fit in it.
+fn make_room<W: Write>(writer: &mut Counted<W>, block: &mut Vec<u8>) -> io::Result<()>
+    requires { LONGEST_LINE ≤ vec_capacity block.old }
+    ensures capacity { LONGEST_LINE ≤ vec_capacity block.new }
+    ensures room { OnOk result (vec_len block.new + LONGEST_LINE ≤ vec_capacity block.new) }
+    ensures gathered { Gathered W.contents writer.old writer.new block.old.items block.new.items result [] }
+{
+    if block.capacity() - block.len() < LONGEST_LINE {
+        put(writer, block)?;
+        block.clear();
+    }
+    Ok(())
+}
+
+fn append_note(line: &mut Vec<u8>, note: &Note<u64>)
+    requires { vec_len line.old + LONGEST_LINE ≤ vec_capacity line.old }
+    ensures { Appended line.old line.new LONGEST_LINE (note_text note.now) }
 {
     match note {
-        Note::Returned(returned) => put_returned(writer, returned),
-        Note::Refused(refusal) => put_refused(writer, *refusal),
+        Note::Returned(returned) => append_returned(line, returned),
+        Note::Refused(refusal) => append_refused(line, *refusal),
     }
 }
 
-/// Writes `R ADDR -> TAG gen J loads S tries T` and a line's end: reader, key, the item's tag or
+/// Appends `R ADDR -> TAG gen J loads S tries T` and a line's end: reader, key, the item's tag or
 /// `-`, the generation of the answer, how many loads and attempts it took.
-fn put_returned<W: Write>(writer: &mut Counted<W>, returned: &Returned<u64>) -> io::Result<()>
-    ensures { Wrote W.contents writer.old writer.new result (returned_text returned.now) }
+fn append_returned(line: &mut Vec<u8>, returned: &Returned<u64>)
+    requires { vec_len line.old + LONGEST_LINE ≤ vec_capacity line.old }
+    ensures { Appended line.old line.new LONGEST_LINE (returned_text returned.now) }
 {
-    put_found(writer, returned.reader, returned.key, returned.answer)?;
-    put_counts(writer, returned.generation, returned.loads, returned.tries)?;
-    put(writer, b"\n")
+    append_found(line, returned.reader, returned.key, returned.answer);
+    append_counts(line, returned.generation, returned.loads, returned.tries);
+    append(line, b"\n");
 }
 
-fn put_found<W: Write>(
-    writer: &mut Counted<W>,
-    reader: u32,
-    key: u64,
-    answer: Option<Item>,
-) -> io::Result<()>
-    ensures { Wrote W.contents writer.old writer.new result (found_text reader key answer) }
+fn append_found(line: &mut Vec<u8>, reader: u32, key: u64, answer: Option<Item>)
+    requires { vec_len line.old + 64 ≤ vec_capacity line.old }
+    ensures { Appended line.old line.new 64 (found_text reader key answer) }
 {
-    put_decimal(writer, u64::from(reader))?;
-    put(writer, b" ")?;
-    put_hexadecimal(writer, key)?;
-    put(writer, b" -> ")?;
-    put_tag(writer, answer)
+    append_decimal(line, u64::from(reader));
+    append(line, b" ");
+    append_hexadecimal(line, key);
+    append(line, b" -> ");
+    append_tag(line, answer);
 }
 
-fn put_tag<W: Write>(writer: &mut Counted<W>, answer: Option<Item>) -> io::Result<()>
-    ensures { Wrote W.contents writer.old writer.new result (tag_text answer) }
+fn append_tag(line: &mut Vec<u8>, answer: Option<Item>)
+    requires { vec_len line.old + LONGEST_DECIMAL ≤ vec_capacity line.old }
+    ensures { Appended line.old line.new LONGEST_DECIMAL (tag_text answer) }
 {
     match answer {
-        Some(item) => put_decimal(writer, item.tag),
-        None => put(writer, b"-"),
+        Some(item) => append_decimal(line, item.tag),
+        None => append(line, b"-"),
     }
 }
 
-fn put_counts<W: Write>(
-    writer: &mut Counted<W>,
-    generation: u64,
-    loads: u64,
-    tries: u64,
-) -> io::Result<()>
-    ensures { Wrote W.contents writer.old writer.new result (counts_text generation loads tries) }
+fn append_counts(line: &mut Vec<u8>, generation: u64, loads: u64, tries: u64)
+    requires { vec_len line.old + 80 ≤ vec_capacity line.old }
+    ensures { Appended line.old line.new 80 (counts_text generation loads tries) }
 {
-    put(writer, b" gen ")?;
-    put_decimal(writer, generation)?;
-    put(writer, b" loads ")?;
-    put_decimal(writer, loads)?;
-    put(writer, b" tries ")?;
-    put_decimal(writer, tries)
+    append(line, b" gen ");
+    append_decimal(line, generation);
+    append(line, b" loads ");
+    append_decimal(line, loads);
+    append(line, b" tries ");
+    append_decimal(line, tries);
+}
+
+/// Appends `refused N` and a line's end.
+fn append_refused(line: &mut Vec<u8>, refusal: Refusal)
+    requires { vec_len line.old + LONGEST_LINE ≤ vec_capacity line.old }
+    ensures { Appended line.old line.new LONGEST_LINE (refused_text (number_of refusal)) }
+{
+    append(line, b"refused ");
+    append_decimal(line, u64::from(refusal.number()));
+    append(line, b"\n");
+}
+
+/// Appends `seq K gen J` and a line's end: the sequence, and the generation that it names.
+pub fn append_end(line: &mut Vec<u8>, sequence: u64)
+    requires { vec_len line.old + LONGEST_LINE ≤ vec_capacity line.old }
+    ensures { Appended line.old line.new LONGEST_LINE (end_text sequence) }
+{
+    append(line, b"seq ");
+    append_decimal(line, sequence);
+    append(line, b" gen ");
+    append_decimal(line, sequence / 2);
+    append(line, b"\n");
+}
+
+/// Appends a number in decimal, without leading zeros.
+fn append_decimal(line: &mut Vec<u8>, n: u64)
+    requires { vec_len line.old + LONGEST_DECIMAL ≤ vec_capacity line.old }
+    ensures { Appended line.old line.new LONGEST_DECIMAL (decimal n) }
+{
+    let mut buffer = Buffer::new();
+    append(line, buffer.format(n).as_bytes());
 }
 
 /// Writes `refused N` and a line's end.
@@ -86,17 +143,6 @@ pub fn put_refused<W: Write>(writer: &mut Counted<W>, refusal: Refusal) -> io::R
 {
     put(writer, b"refused ")?;
     put_decimal(writer, u64::from(refusal.number()))?;
-    put(writer, b"\n")
-}
-
-/// Writes `seq K gen J` and a line's end: the sequence, and the generation that it names.
-pub fn put_end<W: Write>(writer: &mut Counted<W>, sequence: u64) -> io::Result<()>
-    ensures { Wrote W.contents writer.old writer.new result (end_text sequence) }
-{
-    put(writer, b"seq ")?;
-    put_decimal(writer, sequence)?;
-    put(writer, b" gen ")?;
-    put_decimal(writer, sequence / 2)?;
     put(writer, b"\n")
 }
 

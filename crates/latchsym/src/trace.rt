@@ -1,14 +1,14 @@
 //! From the bytes of a trace to the lines that it writes.
-ghost use Rattle.std.specs.Prelude.{◌++◌, flat_map};
+ghost use Rattle.std.specs.Prelude.{◌≡◌, ◌≤◌, ◌++◌, [], flat_map, vec_capacity};
 ghost use Rattle.devices.specs.Exact.{Wrote};
 ghost use Rattle.listing.specs.Trace.{contents_of};
 ghost use Rattle.latchsym.specs.Texts.{end_text, note_text};
 ghost use Rattle.latchsym.specs.Traces.{Answers, AnswersIn, IsInputFault};
 
 use crate::fault::Fault;
-use crate::texts::{put_end, put_notes};
-use devices::Counted;
-use latch_steps::{Note, drive};
+use crate::texts::{append_end, put_notes};
+use devices::{Counted, put};
+use latch_steps::{Note, drive_notes};
 use listing::{LineFault, TraceFile, read_trace};
 use order_laws::{Closed, HalfOpen, Refusal, TreeOrder};
 use std::alloc::Global;
@@ -16,8 +16,11 @@ use std::io;
 use std::io::{Read, Write};
 use word_arena::Layout;
 
+/// How many bytes of lines go to the writer at once.
+const BLOCK: usize = 65536;
+
 /// Runs a trace, and writes a line for each lookup that returned and for each refusal, and the line
-/// of the last sequence. Answers the program's status, 0.
+/// of the last sequence.
 ///
 /// The trace is read whole and run to its end before the first byte is written, so every fault but
 /// a failed write leaves the writer as it was. docs/FORMATS.md has the grammar and the lines.
@@ -25,13 +28,10 @@ pub fn trace_engine<R: Read, W: Write>(
     alloc: Global,
     reader: &mut Counted<R>,
     writer: &mut Counted<W>,
-) -> Result<u8, Fault>
+) -> Result<(), Fault>
     ensures { Answers R.remaining W.contents reader.old reader.new writer.old writer.new result }
 {
-    let trace = match read_trace(alloc, reader) {
-        Ok(trace) => trace,
-        Err(fault) => return Err(input_fault(fault)),
-    };
+    let trace = read_trace(alloc, reader).map_err(input_fault)?;
     if trace.header.closed {
         run_in::<Closed, W>(alloc, &trace, writer)
     } else {
@@ -54,26 +54,30 @@ fn run_in<O: TreeOrder<Key = u64>, W: Write>(
     alloc: Global,
     trace: &TraceFile,
     writer: &mut Counted<W>,
-) -> Result<u8, Fault>
+) -> Result<(), Fault>
     ensures { AnswersIn O.order W.contents (contents_of trace.now) writer.old writer.new result }
 {
     let layout = Layout::new(trace.header.capacity)?;
-    let run = drive::<O>(alloc, layout, trace.header.start, &trace.commands)?;
-    match put_trace(writer, &run.notes, run.sequence) {
-        Ok(()) => Ok(0),
-        Err(_) => Err(Fault::Write),
-    }
+    let run = drive_notes::<O>(alloc, layout, trace.header.start, &trace.commands)?;
+    let mut block = Vec::with_capacity(alloc, BLOCK)?;
+    put_trace(writer, &mut block, &run.notes, run.sequence).map_err(|_| Fault::Write)
 }
 
 /// Writes the lines of a run, and lets the writer keep nothing back.
 fn put_trace<W: Write>(
     writer: &mut Counted<W>,
+    block: &mut Vec<u8>,
     notes: &[Note<u64>],
     sequence: u64,
 ) -> io::Result<()>
+    requires empty { block.old.items ≡ [] }
+    requires room { BLOCK ≤ vec_capacity block.old }
     ensures { Wrote W.contents writer.old writer.new result (flat_map note_text notes.now ++ end_text sequence) }
 {
-    put_notes(writer, notes)?;
-    put_end(writer, sequence)?;
+    put_notes(writer, block, notes)?;
+    put(writer, block)?;
+    block.clear();
+    append_end(block, sequence);
+    put(writer, block)?;
     writer.flush()
 }

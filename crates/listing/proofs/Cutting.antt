@@ -1,6 +1,8 @@
 -- What the first place of a byte says of lines and of words.
-use Rattle.std.proofs.Common.{cond, ◌≡◌, ℕ, zero, suc, ◌+◌, ◌<◌, Bool, true, false, List, [], ◌∷◌, length, take, drop, refl, ap, ◌∙◌, arith, ◌==◌}
+use Rattle.std.proofs.Common.{cond, ◌≡◌, ℕ, zero, suc, ◌+◌, ◌<◌, Bool, true, false, List, [], ◌∷◌, length, take, drop, Some, None, refl, ap, ◌∙◌, arith, ◌==◌}
 use Rattle.std.specs.List.{slice_split, onto_first}
+use Rattle.std.specs.Option.{option_map}
+use Rattle.listing.specs.SymbolListing.{cut_at}
 use Rattle.std.proofs.lemmas.List.Splits.{slice_split-cons_yes, slice_split-cons_no}
 use Rattle.memchr.specs.Find.{Nowhere, Passes, is_byte}
 use Rattle.listing.specs.Lines.{lines_of, words_of}
@@ -48,6 +50,22 @@ line_nowhere (x ∷ []) h none = ap (λ b. cond b ([] ∷ []) ((x ∷ []) ∷ []
 line_nowhere (x ∷ y ∷ ys) h none =
     ap (λ b. cond b ([] ∷ lines_of (y ∷ ys)) (onto_first x (lines_of (y ∷ ys)))) (first_fails (is_byte 10) x (y ∷ ys) (length (x ∷ y ∷ ys)) (omega arith) none)
     ∙ ap (onto_first x) (line_nowhere (y ∷ ys) (omega arith) (later (is_byte 10) x (y ∷ ys) (length (y ∷ ys)) none))
+
+-- The same for a text that is cut once.
+pub cut_here : (b : ℕ) (xs : List ℕ) (k : ℕ) → k < length xs → Passes (is_byte b) xs k → Nowhere (Passes (is_byte b) xs) 0 k → cut_at b xs ≡ Some (take k xs, drop (k + 1) xs)
+cut_here b [] k h passes none = absurd (omega arith)
+cut_here b (x ∷ xs) zero h passes none = ap (λ t. cond t (Some ([], xs)) (option_map (λ p. (x ∷ p.0, p.1)) (cut_at b xs))) passes
+cut_here b (x ∷ xs) (suc k) h passes none =
+    let shift : suc (k + 1) ≡ suc k + 1 = omega arith in
+    ap (λ t. cond t (Some ([], xs)) (option_map (λ p. (x ∷ p.0, p.1)) (cut_at b xs))) (first_fails (is_byte b) x xs (suc k) (omega arith) none)
+    ∙ ap (option_map (λ p. (x ∷ p.0, p.1))) (cut_here b xs k (omega arith) passes (later (is_byte b) x xs k none))
+    ∙ ap (λ n. Some (x ∷ take k xs, drop n (x ∷ xs))) shift
+
+pub cut_nowhere : (b : ℕ) (xs : List ℕ) → Nowhere (Passes (is_byte b) xs) 0 (length xs) → cut_at b xs ≡ None
+cut_nowhere b [] none = refl
+cut_nowhere b (x ∷ xs) none =
+    ap (λ t. cond t (Some ([], xs)) (option_map (λ p. (x ∷ p.0, p.1)) (cut_at b xs))) (first_fails (is_byte b) x xs (length (x ∷ xs)) (omega arith) none)
+    ∙ ap (option_map (λ p. (x ∷ p.0, p.1))) (cut_nowhere b xs (later (is_byte b) x xs (length xs) none))
 
 -- There is a first word, if only an empty one.
 pub first_word : (line : List ℕ) → (word : List ℕ) × (words : List (List ℕ)) × (words_of line ≡ word ∷ words)

@@ -1,4 +1,9 @@
 pub mod Cutting
+pub mod WordRuns
+pub mod Addresses
+pub mod LineCounts
+pub mod ModuleLines
+pub mod SymbolLines
 pub mod Values
 pub mod Forms
 pub mod Steps

@@ -6,8 +6,8 @@ use Rattle.listing.specs.declared.trace.TraceFile.{TraceFile}
 use Rattle.listing.specs.declared.commands.Said.TheVariants.{Nothing, One, Bad}
 use Rattle.listing.specs.declared.faults.LineFault.{LineFault}
 use Rattle.listing.specs.declared.faults.LineFault.TheVariants as line
-use Rattle.listing.specs.declared.faults.GrammarFault.{GrammarFault}
-use Rattle.listing.specs.declared.faults.GrammarFault.TheVariants as grammar
+use Rattle.listing.specs.declared.faults.ReadFault.{ReadFault}
+use Rattle.listing.specs.declared.faults.ReadFault.TheVariants as read
 use Rattle.listing.specs.Lines.{lines_of}
 use Rattle.listing.specs.Commands.{said_of}
 use Rattle.listing.specs.Header.{header_of}
@@ -60,10 +60,17 @@ abbrev pub Gives : {V C : Type 0} → (V → C) → Result V LineFault → Resul
 Gives view (Ok v) said = said ≡ Ok (view v)
 Gives view (Err fault) said = Faults fault said
 
-abbrev pub FaultsInGrammar : {C : Type 0} → GrammarFault → Result C ℕ → Type 0
-FaultsInGrammar grammar.OutOfMemory said = Unit {0}
-FaultsInGrammar (grammar.BadLine n) said = said ≡ Err n
+-- what is said of a text that was not read
+abbrev pub unread : ReadFault → LineFault
+unread read.OutOfMemory = line.OutOfMemory
+unread read.Read = line.Read
 
-abbrev pub GivesInGrammar : {V C : Type 0} → (V → C) → Result V GrammarFault → Result C ℕ → Type 0
+-- The same of a call that is given the bytes, so that no reader can fail.
+abbrev pub FaultsInGrammar : {C : Type 0} → LineFault → Result C ℕ → Type 0
+FaultsInGrammar line.OutOfMemory said = Unit {0}
+FaultsInGrammar line.Read said = ⊥
+FaultsInGrammar (line.BadLine n) said = said ≡ Err n
+
+abbrev pub GivesInGrammar : {V C : Type 0} → (V → C) → Result V LineFault → Result C ℕ → Type 0
 GivesInGrammar view (Ok v) said = said ≡ Ok (view v)
 GivesInGrammar view (Err fault) said = FaultsInGrammar fault said

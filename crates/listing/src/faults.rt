@@ -1,4 +1,7 @@
 //! Why a text was not read.
+ghost use Rattle.std.specs.Prelude.{◌≡◌};
+
+use std::alloc::{AllocError, AllocFailed};
 
 /// Why the bytes of a text were not read.
 #[derive(Clone, Copy, Debug, PartialEq, Eq)]
@@ -20,9 +23,35 @@ pub enum LineFault {
     BadLine(u64),
 }
 
-/// Why bytes that were read are no text of a grammar.
-#[derive(Clone, Copy, Debug, PartialEq, Eq)]
-pub(crate) enum GrammarFault {
-    OutOfMemory,
-    BadLine(u64),
+impl From<ReadFault> for LineFault {
+    ghost use Rattle.listing.specs.Trace.{unread};
+
+    ghost from_gives = { λ unread_by fault. fault ≡ unread unread_by };
+
+    fn from(fault: ReadFault) -> LineFault {
+        match fault {
+            ReadFault::OutOfMemory => LineFault::OutOfMemory,
+            ReadFault::Read => LineFault::Read,
+        }
+    }
+}
+
+impl<T: Drop> From<AllocFailed<T>> for LineFault {
+    ghost use Rattle.listing.specs.declared.faults.LineFault.TheVariants.{OutOfMemory};
+
+    ghost from_gives = { λ _ fault. fault ≡ OutOfMemory };
+
+    fn from(_failed: AllocFailed<T>) -> LineFault {
+        LineFault::OutOfMemory
+    }
+}
+
+impl From<AllocError> for ReadFault {
+    ghost use Rattle.listing.specs.declared.faults.ReadFault.TheVariants.{OutOfMemory};
+
+    ghost from_gives = { λ _ fault. fault ≡ OutOfMemory };
+
+    fn from(_error: AllocError) -> ReadFault {
+        ReadFault::OutOfMemory
+    }
 }

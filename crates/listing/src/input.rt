@@ -20,9 +20,7 @@ pub fn read_whole<R: Read>(alloc: Global, reader: &mut Counted<R>) -> Result<Vec
 {
     let mut bytes = Vec::new(alloc);
     let mut room = Vec::new(alloc);
-    if room.resize(BLOCK, 0).is_err() {
-        return Err(ReadFault::OutOfMemory);
-    }
+    room.resize(BLOCK, 0)?;
     let block = room.as_mut_slice();
     loop {
         let count = match reader.read(block) {
@@ -32,8 +30,6 @@ pub fn read_whole<R: Read>(alloc: Global, reader: &mut Counted<R>) -> Result<Vec
         if count == 0 {
             return Ok(bytes);
         }
-        if bytes.extend_from_slice(&block[..count]).is_err() {
-            return Err(ReadFault::OutOfMemory);
-        }
+        bytes.extend_from_slice(&block[..count])?;
     }
 }

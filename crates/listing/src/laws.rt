@@ -1,6 +1,8 @@
-//! What follows from the grammar of a trace, as a contract of a function that does nothing.
-ghost use Rattle.std.specs.Prelude.{ℕ, List, MatchResult};
+//! What follows from the grammars, as contracts of functions that do nothing.
+ghost use Rattle.std.specs.Prelude.{◌≡◌, ℕ, ◌+◌, List, length, MatchResult};
 ghost use Rattle.listing.specs.Lines.{lines_of};
+ghost use Rattle.listing.specs.ModuleListing.{module_counts, modules_in, modules_skipped};
+ghost use Rattle.listing.specs.SymbolListing.{symbol_counts, symbols_in, symbols_skipped};
 ghost use Rattle.listing.specs.Trace.{trace_of};
 ghost use Rattle.listing.specs.Understood.{IsSaidBy, IsFirstBad};
 
@@ -8,4 +10,10 @@ ghost use Rattle.listing.specs.Understood.{IsSaidBy, IsFirstBad};
 /// those of its lines, in their order; otherwise the line that is named is the first one that is not.
 pub fn trace_by_its_lines()
     ensures { (bytes : List ℕ) → MatchResult (trace_of bytes) (IsSaidBy (lines_of bytes)) (IsFirstBad (lines_of bytes)) }
+{}
+
+/// Each line of a listing is taken, or is counted for one cause for which it is skipped.
+pub fn each_listed_line_is_counted_once()
+    ensures modules { (text : List ℕ) → let lines = lines_of text in length (modules_in lines) + modules_skipped (module_counts lines) ≡ length lines }
+    ensures symbols { (text : List ℕ) → let lines = lines_of text in length (symbols_in lines) + symbols_skipped (symbol_counts lines) ≡ length lines }
 {}

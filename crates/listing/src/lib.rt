@@ -5,20 +5,27 @@
 
 mod commands;
 mod faults;
+mod gaps;
 mod header;
 mod input;
 mod laws;
 mod lines;
+mod module_listing;
 mod numbers;
+mod symbol_listing;
 mod trace;
 
 pub use faults::{LineFault, ReadFault};
 pub use header::Header;
 pub use input::read_whole;
-pub use laws::trace_by_its_lines;
+pub use laws::{each_listed_line_is_counted_once, trace_by_its_lines};
 pub use lines::LONGEST_LINE;
+pub use module_listing::{ModuleCounts, SkippedModule, read_modules};
 pub use numbers::number;
+pub use symbol_listing::{SkippedSymbol, SymbolCounts, read_kallsyms};
 pub use trace::{TraceFile, read_trace};
 
+#[cfg(test)]
+mod listing_tests;
 #[cfg(test)]
 mod tests;

@@ -1,5 +1,5 @@
 //! The numbers that words are.
-ghost use Rattle.std.specs.Prelude.{◌≡◌, ◌≤◌};
+ghost use Rattle.std.specs.Prelude.{◌≡◌};
 ghost use Rattle.std.specs.Char.{digit_value};
 ghost use Rattle.listing.specs.Numbers.{numeral, number_of, short_number_of, count_of};
 
@@ -9,9 +9,9 @@ pub fn number(word: &[u8]) -> Option<u64>
     ensures { result ≡ number_of word.now }
 {
     if word.starts_with(b"0x") {
-        digits(&word[2..], 16, 16)
+        hexadecimal(&word[2..])
     } else {
-        digits(word, 10, 20)
+        decimal(word)
     }
 }
 
@@ -32,31 +32,61 @@ pub(crate) fn count(word: &[u8]) -> Option<u32>
     }
 }
 
-/// The number that 1 to `most` digits write, where it is below 2 ^ 64.
-fn digits(text: &[u8], radix: u64, most: usize) -> Option<u64>
-    requires { 2 ≤ radix }
-    ensures { result ≡ numeral radix most text.now }
+/// The most digits of a decimal number.
+const DECIMAL_DIGITS: usize = 20;
+
+/// The most digits of a hexadecimal number. So many fit 64 bits, whatever they are.
+const HEXADECIMAL_DIGITS: usize = 16;
+
+/// The number that 1 to 20 decimal digits write, where it is below 2 ^ 64.
+pub(crate) fn decimal(text: &[u8]) -> Option<u64>
+    ensures { result ≡ numeral 10 20 text.now }
 {
-    if text.is_empty() || text.len() > most {
+    if text.is_empty() || text.len() > DECIMAL_DIGITS {
         return None;
     }
     let mut value = 0u64;
     for byte in text {
         let digit = digit_of(*byte);
-        if digit >= radix {
+        if digit >= 10 {
             return None;
         }
-        value = value.checked_mul(radix)?.checked_add(digit)?;
+        value = value.checked_mul(10)?.checked_add(digit)?;
     }
     Some(value)
 }
 
-/// The digits that the bytes from `0` to `z` are, with 36 for a byte that is none.
-static DIGITS: [u8; 75] = [
+/// The number that 1 to 16 hexadecimal digits of either case write.
+pub(crate) fn hexadecimal(text: &[u8]) -> Option<u64>
+    ensures { result ≡ numeral 16 16 text.now }
+{
+    if text.is_empty() || text.len() > HEXADECIMAL_DIGITS {
+        return None;
+    }
+    let mut value = 0u64;
+    for byte in text {
+        let digit = digit_of(*byte);
+        if digit >= 16 {
+            return None;
+        }
+        value = value * 16 + digit;
+    }
+    Some(value)
+}
+
+/// The digit that each byte is, with 36 for a byte that is none.
+static DIGITS: [u8; 256] = [
+    36, 36, 36, 36, 36, 36, 36, 36, 36, 36, 36, 36, 36, 36, 36, 36, 36, 36, 36, 36, 36, 36, 36, 36,
+    36, 36, 36, 36, 36, 36, 36, 36, 36, 36, 36, 36, 36, 36, 36, 36, 36, 36, 36, 36, 36, 36, 36, 36,
     0, 1, 2, 3, 4, 5, 6, 7, 8, 9, 36, 36, 36, 36, 36, 36, 36, 10, 11, 12, 13, 14, 15, 16, 17, 18,
     19, 20, 21, 22, 23, 24, 25, 26, 27, 28, 29, 30, 31, 32, 33, 34, 35, 36, 36, 36, 36, 36, 36, 10,
     11, 12, 13, 14, 15, 16, 17, 18, 19, 20, 21, 22, 23, 24, 25, 26, 27, 28, 29, 30, 31, 32, 33, 34,
-    35,
+    35, 36, 36, 36, 36, 36, 36, 36, 36, 36, 36, 36, 36, 36, 36, 36, 36, 36, 36, 36, 36, 36, 36, 36,
+    36, 36, 36, 36, 36, 36, 36, 36, 36, 36, 36, 36, 36, 36, 36, 36, 36, 36, 36, 36, 36, 36, 36, 36,
+    36, 36, 36, 36, 36, 36, 36, 36, 36, 36, 36, 36, 36, 36, 36, 36, 36, 36, 36, 36, 36, 36, 36, 36,
+    36, 36, 36, 36, 36, 36, 36, 36, 36, 36, 36, 36, 36, 36, 36, 36, 36, 36, 36, 36, 36, 36, 36, 36,
+    36, 36, 36, 36, 36, 36, 36, 36, 36, 36, 36, 36, 36, 36, 36, 36, 36, 36, 36, 36, 36, 36, 36, 36,
+    36, 36, 36, 36, 36, 36, 36, 36, 36, 36, 36, 36, 36, 36,
 ];
 
 /// The digit that a byte is in a radix of up to 36, or 36.
@@ -66,8 +96,5 @@ static DIGITS: [u8; 75] = [
 fn digit_of(byte: u8) -> u64
     ensures { result ≡ digit_value byte }
 {
-    if byte < b'0' || byte > b'z' {
-        return 36;
-    }
-    u64::from(DIGITS[usize::from(byte - b'0')])
+    u64::from(DIGITS[usize::from(byte)])
 }

@@ -5,10 +5,9 @@ ghost use Rattle.listing.specs.Lines.{lines_of};
 ghost use Rattle.listing.specs.Trace.{commands_from, trace_of, contents_of, Gives, GivesInGrammar};
 
 use crate::commands::{Said, said_by};
-use crate::faults::GrammarFault;
 use crate::header::{Header, header_in};
 use crate::lines::cut_line;
-use crate::{LineFault, ReadFault, read_whole};
+use crate::{LineFault, read_whole};
 use devices::Counted;
 use latch_steps::Command;
 use std::alloc::Global;
@@ -37,37 +36,27 @@ pub fn read_trace<R: Read>(alloc: Global, reader: &mut Counted<R>) -> Result<Tra
     ensures none_failed { result ≢ Err LineFault.Read → failures_of reader.new ≡ failures_of reader.old }
     ensures never_falls { failures_of reader.old ≤ failures_of reader.new }
 {
-    let bytes = match read_whole(alloc, reader) {
-        Ok(bytes) => bytes,
-        Err(ReadFault::OutOfMemory) => return Err(LineFault::OutOfMemory),
-        Err(ReadFault::Read) => return Err(LineFault::Read),
-    };
-    match trace_in(alloc, &bytes) {
-        Ok(trace) => Ok(trace),
-        Err(GrammarFault::OutOfMemory) => Err(LineFault::OutOfMemory),
-        Err(GrammarFault::BadLine(line)) => Err(LineFault::BadLine(line)),
-    }
+    let bytes = read_whole(alloc, reader)?;
+    trace_in(alloc, &bytes)
 }
 
 /// The trace that bytes are.
-fn trace_in(alloc: Global, bytes: &[u8]) -> Result<TraceFile, GrammarFault>
+fn trace_in(alloc: Global, bytes: &[u8]) -> Result<TraceFile, LineFault>
     ensures { GivesInGrammar contents_of result (trace_of bytes.now) }
 {
     if bytes.is_empty() {
-        return Err(GrammarFault::BadLine(1));
+        return Err(LineFault::BadLine(1));
     }
     let (line, rest) = cut_line(bytes);
     let Some(header) = header_in(line) else {
-        return Err(GrammarFault::BadLine(1));
+        return Err(LineFault::BadLine(1));
     };
-    match commands_in(alloc, rest) {
-        Ok(commands) => Ok(TraceFile { header, commands }),
-        Err(fault) => Err(fault),
-    }
+    let commands = commands_in(alloc, rest)?;
+    Ok(TraceFile { header, commands })
 }
 
 /// The commands that the lines behind the header are.
-fn commands_in(alloc: Global, bytes: &[u8]) -> Result<Vec<Command<u64>>, GrammarFault>
+fn commands_in(alloc: Global, bytes: &[u8]) -> Result<Vec<Command<u64>>, LineFault>
     ensures { GivesInGrammar (λ commands. commands.items) result (commands_from 2 (lines_of bytes.now)) }
 {
     let mut commands = Vec::new(alloc);
@@ -77,12 +66,8 @@ fn commands_in(alloc: Global, bytes: &[u8]) -> Result<Vec<Command<u64>>, Grammar
         let (line, after) = cut_line(rest);
         match said_by(line) {
             Said::Nothing => {}
-            Said::One(command) => {
-                if commands.push(command).is_err() {
-                    return Err(GrammarFault::OutOfMemory);
-                }
-            }
-            Said::Bad => return Err(GrammarFault::BadLine(number)),
+            Said::One(command) => commands.push(command)?,
+            Said::Bad => return Err(LineFault::BadLine(number)),
         }
         rest = after;
         number += 1;

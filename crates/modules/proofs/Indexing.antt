@@ -115,22 +115,22 @@ IsSplit-from_partition index addr split bound point =
 
 -- ---- the symbol that is not above an address
 
-nearest_test : (a b q : ℕ) → (a ≤ b) ⊎ (q < a) → (nat_le a b || nat_lt q a) ≡ true
+pub nearest_test : (a b q : ℕ) → (a ≤ b) ⊎ (q < a) → (nat_le a b || nat_lt q a) ≡ true
 nearest_test a b q h = ⊎_elim (λ le. grind (arith, nat_tests)) (λ lt. grind (arith, nat_tests)) h
 
-below_nearest : (a b q : ℕ) → (nat_le a b || nat_lt q a) ≡ true → a ≤ q → a ≤ b
+pub below_nearest : (a b q : ℕ) → (nat_le a b || nat_lt q a) ≡ true → a ≤ q → a ≤ b
 below_nearest a b q h le = grind (arith, nat_tests)
 
-and_parts : (a b : Bool) → (a && b) ≡ true → (a ≡ true) × (b ≡ true)
+pub and_parts : (a b : Bool) → (a && b) ≡ true → (a ≡ true) × (b ≡ true)
 and_parts true true h = (refl, refl)
 and_parts true false h = absurd (cc)
 and_parts false true h = absurd (cc)
 and_parts false false h = absurd (cc)
 
-le_is_true : (a b : ℕ) → a ≤ b → nat_le a b ≡ true
+pub le_is_true : (a b : ℕ) → a ≤ b → nat_le a b ≡ true
 le_is_true a b h = grind (arith, nat_tests)
 
-le_is_false : (a b : ℕ) → b < a → nat_le a b ≡ false
+pub le_is_false : (a b : ℕ) → b < a → nat_le a b ≡ false
 le_is_false a b h = grind (arith, nat_tests)
 
 pub none_below : (symbols : List SymbolEntry) (index : List IndexEntry) → IsIndex symbols index → (addr : ℕ) → IsSplit index addr 0 → symbol_below symbols addr ≡ None
@@ -168,19 +168,19 @@ last_below symbols index is addr split parts some e at s =
 
 -- ---- the least address above an address
 
-next_test : (a b q : ℕ) → (b ≤ q) ⊎ (a ≤ b) → (nat_le b q || nat_le a b) ≡ true
+pub next_test : (a b q : ℕ) → (b ≤ q) ⊎ (a ≤ b) → (nat_le b q || nat_le a b) ≡ true
 next_test a b q h = ⊎_elim (λ le. grind (arith, nat_tests)) (λ le. grind (arith, nat_tests)) h
 
-above_next : (a b q : ℕ) → (nat_le b q || nat_le a b) ≡ true → q < b → a ≤ b
+pub above_next : (a b q : ℕ) → (nat_le b q || nat_le a b) ≡ true → q < b → a ≤ b
 above_next a b q h lt = grind (arith, nat_tests)
 
-lt_is_true : (a b : ℕ) → a < b → nat_lt a b ≡ true
+pub lt_is_true : (a b : ℕ) → a < b → nat_lt a b ≡ true
 lt_is_true a b h = grind (arith, nat_tests)
 
-lt_is_false : (a b : ℕ) → b ≤ a → nat_lt a b ≡ false
+pub lt_is_false : (a b : ℕ) → b ≤ a → nat_lt a b ≡ false
 lt_is_false a b h = grind (arith, nat_tests)
 
-lt_from_ltb : (a b : ℕ) → nat_lt a b ≡ true → a < b
+pub lt_from_ltb : (a b : ℕ) → nat_lt a b ≡ true → a < b
 lt_from_ltb a b h = grind (arith, nat_tests)
 
 pub none_above : (symbols : List SymbolEntry) (index : List IndexEntry) → IsIndex symbols index → (addr split : ℕ) → IsSplit index addr split → length index ≤ split → address_above symbols addr ≡ None

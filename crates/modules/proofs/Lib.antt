@@ -1,7 +1,10 @@
 pub mod Spreading
 pub mod Admitting
 pub mod Indexing
+pub mod Rising
+pub mod Running
 pub mod Keeping
+pub mod Homes
 pub mod Gatherings
 pub mod Naming
 pub mod Soundness

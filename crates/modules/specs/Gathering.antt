@@ -1,14 +1,21 @@
 -- Symbols that are put where they are kept.
-use Rattle.std.specs.Prelude.{◌≡◌, ◌≢◌, ℕ, ◌+◌, ◌<◌, true, false, not, List, [], ◌∷◌, ◌++◌, length, slice_index_or, count_by}
+use Rattle.std.specs.Prelude.{◌≡◌, ◌≢◌, ℕ, ◌+◌, ◌<◌, true, false, not, List, [], ◌∷◌, ◌++◌, length, slice_index_or, slice_get, count_by, Option, Some, None, if◌then◌else◌}
 use Rattle.std.specs.Vec.{vec_len}
 use Rattle.std.specs.Global.{Vec}
-use Rattle.modules.specs.Accepted.{Accepted}
+use Rattle.std.specs.List.{position_from}
+use Rattle.std.specs.Option.{option_map_or}
+use Rattle.std.specs.Str.{bytes_eq}
+use Rattle.modules.specs.Accepted.{Accepted, names_of}
 use Rattle.modules.specs.Entries.{SymbolEntry}
 use Rattle.modules.specs.Kept.{belongs, is_built_in, is_kept, symbols_that}
+use Rattle.modules.specs.Lines.{region_of}
 use Rattle.modules.specs.Listed.{ListedModule, ListedSymbol}
+use Rattle.modules.specs.Regions.{holds}
 use Rattle.modules.specs.declared.gathering.Gathered.{Gathered}
 use Rattle.modules.specs.declared.gathering.Home.{Home}
 use Rattle.modules.specs.declared.gathering.Home.TheVariants.{BuiltIn, Module, Stray}
+use Rattle.modules.specs.declared.gathering.Owner.{Owner}
+use Rattle.modules.specs.declared.gathering.Owner.TheVariants as owner
 
 -- the symbol belongs to no accepted module other than that at this place
 abbrev pub BelongsOnlyAt : Accepted → ListedSymbol → ℕ → Type 0
@@ -18,6 +25,17 @@ abbrev pub IsHome : Accepted → ListedSymbol → Home → Type 0
 IsHome a s BuiltIn = (is_built_in a.built_in s ≡ true) × ((j : ℕ) (m : ListedModule) → j < length a.lines → belongs (slice_index_or a.lines j m) s ≡ false)
 IsHome a s (Module place) = (is_built_in a.built_in s ≡ false) × (place < length a.lines) × ((m : ListedModule) → belongs (slice_index_or a.lines place m) s ≡ true) × BelongsOnlyAt a s place
 IsHome a s Stray = (is_built_in a.built_in s ≡ false) × ((j : ℕ) (m : ListedModule) → j < length a.lines → belongs (slice_index_or a.lines j m) s ≡ false)
+
+-- whose symbols the lines of a module of this name are
+abbrev pub owner_for : Accepted → Option (List ℕ) → Owner
+owner_for a None = owner.BuiltIn
+owner_for a (Some name) = option_map_or (λ place. owner.Module place) (position_from (bytes_eq name) 0 (names_of a.lines)) owner.Nobody
+
+-- where a symbol of this owner and this address is kept
+abbrev pub home_for : Accepted → Owner → ℕ → Home
+home_for a owner.BuiltIn addr = if option_map_or (λ r. holds r addr) a.built_in false then BuiltIn else Stray
+home_for a (owner.Module place) addr = if option_map_or (λ l. holds (region_of l) addr) (slice_get a.lines place) false then Module place else Stray
+home_for a owner.Nobody addr = Stray
 
 -- there is a list for the module
 abbrev pub HasRoom : Gathered → Home → Type 0

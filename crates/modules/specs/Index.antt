@@ -1,7 +1,7 @@
 -- Symbols by rising address.
 use Rattle.std.specs.Prelude.{ℕ, ◌<◌, ◌≤◌, Bool, ◌&&◌, ◌||◌, nat_lt, nat_eq, List, length, slice_index_or, map, IsPermutation}
 use Rattle.std.specs.List.{enumerate_from}
-use Rattle.std.specs.List.Sorted.{IsSortedBy}
+use Rattle.std.specs.List.Sorted.{IsSortedBy, IsNonDecreasingBy}
 use Rattle.modules.specs.Entries.{SymbolEntry}
 use Rattle.modules.specs.declared.symbols.IndexEntry.{IndexEntry}
 
@@ -23,3 +23,19 @@ pub record IsSplit (index : List IndexEntry) (addr place : ℕ) : Type 0 where
   pub bound : place ≤ length index
   pub below : (k : ℕ) (d : IndexEntry) → k < place → (slice_index_or index k d).addr ≤ addr
   pub above : (k : ℕ) (d : IndexEntry) → place ≤ k → k < length index → addr < (slice_index_or index k d).addr
+
+-- the symbols stand by rising address
+abbrev pub IsRising : List SymbolEntry → Type 0
+IsRising symbols = IsNonDecreasingBy (λ s. s.addr) symbols
+
+-- the symbols below the place are not above the address, and the others are
+pub record IsSplitOf (symbols : List SymbolEntry) (addr place : ℕ) : Type 0 where
+  pub bound : place ≤ length symbols
+  pub below : (k : ℕ) (d : SymbolEntry) → k < place → (slice_index_or symbols k d).addr ≤ addr
+  pub above : (k : ℕ) (d : SymbolEntry) → place ≤ k → k < length symbols → addr < (slice_index_or symbols k d).addr
+
+-- the symbols below the place are below the address, and the others are not
+pub record IsFirstOf (symbols : List SymbolEntry) (addr place : ℕ) : Type 0 where
+  pub bound : place ≤ length symbols
+  pub below : (k : ℕ) (d : SymbolEntry) → k < place → (slice_index_or symbols k d).addr < addr
+  pub others : (k : ℕ) (d : SymbolEntry) → place ≤ k → k < length symbols → addr ≤ (slice_index_or symbols k d).addr

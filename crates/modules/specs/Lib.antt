@@ -1,16 +1,35 @@
+-- The definitions of this crate, in the order in which to read them.
+-- what the lines of the listings say
 pub mod Listed
+-- what the lines of the listings stand for
 pub mod Lines
+-- lines of symbols that have the name of their module by the number of a run
+pub mod Runs
+-- regions of addresses, from a first address up to an end that is excluded
 pub mod Regions
+-- regions in the order of their first addresses
 pub mod Spread
+-- which lines of the listing of modules are accepted
 pub mod Accepted
+-- what the lines accepted so far stand for
 pub mod Admissions
+-- what a catalog holds
 pub mod Entries
+-- the symbols around an address, in a list that is in no order
 pub mod Around
+-- symbols by rising address
 pub mod Index
+-- what a module holds
 pub mod Modules
+-- which symbols are kept, and in which module
 pub mod Kept
+-- symbols that are put where they are kept
 pub mod Gathering
+-- modules by name
 pub mod Names
+-- modules made of accepted lines and lists of symbols
 pub mod Building
+-- the catalog of two listings, and what is asked of it
 pub mod Catalogs
+-- what a catalog keeps
 pub mod Sound

@@ -12,11 +12,11 @@ use std::collections::BTreeMap;
 
 /// The lines accepted so far, and how many were not.
 #[derive(Drop)]
-pub(crate) struct Admission<'a> {
+pub(crate) struct Admission<'l, 'a> {
     /// The region of the kernel itself.
     pub(crate) built_in: Option<(u64, u64)>,
     /// The accepted lines in their order.
-    pub(crate) lines: Vec<&'a ModuleLine>,
+    pub(crate) lines: Vec<&'l ModuleLine<'a>>,
     /// The place of each name among the accepted lines.
     pub(crate) places: BTreeMap<&'a [u8], usize>,
     /// The regions that a further line is to lie apart from.
@@ -27,8 +27,8 @@ pub(crate) struct Admission<'a> {
     pub(crate) overlap: u64,
 }
 
-impl<'a> Admission<'a> {
-    fn new(alloc: Global, built_in: Option<(u64, u64)>) -> Result<Admission<'a>, AllocError>
+impl<'l, 'a> Admission<'l, 'a> {
+    fn new(alloc: Global, built_in: Option<(u64, u64)>) -> Result<Admission<'l, 'a>, AllocError>
         requires { IfSome built_in (λ r. r.0 < r.1) }
         ensures none { IfOk result (λ a. shown a ≡ none_yet built_in) }
         ensures tied { IfOk result IsTied }
@@ -48,14 +48,14 @@ impl<'a> Admission<'a> {
     }
 
     /// Accepts the line, or counts why it is not accepted.
-    fn take_line(&mut self, line: &'a ModuleLine) -> Result<(), AllocError>
+    fn take_line(&mut self, line: &'l ModuleLine<'a>) -> Result<(), AllocError>
         requires fits { fits line.now ≡ true }
         requires tied { IsTied self.old }
         requires counts { self.old.double + self.old.overlap + 1 < 2 ^ 64 }
         ensures after { OnOk result (shown self.new ≡ after_line (shown self.old) line.now) }
         ensures tied { OnOk result (IsTied self.new) }
     {
-        let name = line.name.as_slice();
+        let name = line.name;
         if self.places.contains_key(name) {
             self.double += 1;
             return Ok(());
@@ -73,11 +73,11 @@ impl<'a> Admission<'a> {
 }
 
 /// Goes through the lines in their order.
-pub(crate) fn admit<'a>(
+pub(crate) fn admit<'l, 'a>(
     alloc: Global,
     built_in: Option<(u64, u64)>,
-    lines: &'a [ModuleLine],
-) -> Result<Admission<'a>, AllocError>
+    lines: &'l [ModuleLine<'a>],
+) -> Result<Admission<'l, 'a>, AllocError>
     requires fit { All (λ l. fits l ≡ true) lines.now }
     requires region { IfSome built_in (λ r. r.0 < r.1) }
     ensures admitted { IfOk result (λ a. shown a ≡ accepted_of built_in lines.now) }

@@ -6,9 +6,10 @@ ghost use Rattle.modules.specs.Lines.{fits};
 ghost use Rattle.modules.specs.Catalogs.{catalog_of, counts_of, IsSound, module_of, number_of, regions_of, load_of, unload_of};
 
 use crate::build::assemble;
-use crate::lines::{ModuleLine, SymbolLine};
+use crate::lines::ModuleLine;
 use crate::module::Module;
 use crate::names::place_of;
+use crate::symbol_lines::SymbolLines;
 use latch_core::Update;
 use order_laws::{Item, Refusal};
 use std::alloc::Global;
@@ -32,13 +33,13 @@ pub struct BuildCounts {
 /// The kernel itself as number 0, where the listing of symbols has its region, and the accepted modules from number 1
 /// on in the order of their lines. Their regions lie apart and no two of the modules have one name. It does not change.
 #[derive(Drop)]
-pub struct Catalog {
-    pub(crate) built_in: Option<Module>,
-    pub(crate) modules: Vec<Module>,
+pub struct Catalog<'a> {
+    pub(crate) built_in: Option<Module<'a>>,
+    pub(crate) modules: Vec<Module<'a>>,
     pub(crate) by_name: Vec<usize>,
 }
 
-impl Model for Catalog {
+impl<'a> Model for Catalog<'a> {
     ghost use Rattle.modules.specs.Entries.{CatalogEntries};
 
     ghost Value = { CatalogEntries };
@@ -50,7 +51,7 @@ impl Model for Catalog {
     ghost invariant = { IsWhole };
 }
 
-impl Catalog {
+impl<'a> Catalog<'a> {
     /// Builds the catalog of two listings, of which each module line has a region ([`ModuleLine::fits`]).
     ///
     /// A module line is skipped as double where a line accepted before has its name, else as overlap where its region
@@ -61,9 +62,9 @@ impl Catalog {
     /// Refused by [`Refusal::OutOfMemory`] alone.
     pub fn build(
         alloc: Global,
-        modules: &[ModuleLine],
-        symbols: &[SymbolLine],
-    ) -> Result<(Catalog, BuildCounts), Refusal>
+        modules: &[ModuleLine<'a>],
+        symbols: &SymbolLines<'a>,
+    ) -> Result<(Catalog<'a>, BuildCounts), Refusal>
         requires { All (λ l. fits l ≡ true) modules.now }
         ensures built { IfOk result (λ r. r.0 ≡ catalog_of modules.now symbols.now) }
         ensures counted { IfOk result (λ r. r.1 ≡ counts_of modules.now symbols.now) }
@@ -74,7 +75,7 @@ impl Catalog {
     }
 
     /// The module of a number.
-    pub fn module(&self, number: u64) -> Option<&Module>
+    pub fn module(&self, number: u64) -> Option<&Module<'a>>
         ensures { option_copied result ≡ module_of self.now number }
     {
         if number == 0 {

@@ -10,11 +10,13 @@ pub mod lines;
 pub mod module;
 mod names;
 mod regions;
+pub mod symbol_lines;
 pub mod symbols;
 
 pub use catalog::{BuildCounts, Catalog};
 pub use lines::{ModuleLine, SymbolLine};
 pub use module::Module;
+pub use symbol_lines::SymbolLines;
 pub use symbols::Symbol;
 
 #[cfg(test)]

@@ -1,31 +1,31 @@
 //! The lines of the two listings that a catalog is built from.
 
 ghost use Rattle.std.specs.Prelude.{◌≡◌};
-ghost use Rattle.modules.specs.Lines.{fits, first_address, built_in_region, region_of};
+ghost use Rattle.modules.specs.Lines.{fits, region_of};
 ghost use Rattle.modules.specs.Regions.{holds};
 
 use std::marker::Model;
 
 /// A line of the listing of modules, in the form of /proc/modules: a module, and where it lies.
 #[derive(Debug, Drop)]
-pub struct ModuleLine {
-    /// The module's name, any bytes.
-    pub name: Vec<u8>,
+pub struct ModuleLine<'a> {
+    /// The module's name, any bytes of the text that was read.
+    pub name: &'a [u8],
     /// The first address of its region.
     pub base: u64,
     /// How many bytes its region has.
     pub size: u64,
 }
 
-impl Model for ModuleLine {
+impl<'a> Model for ModuleLine<'a> {
     ghost use Rattle.modules.specs.Listed.{ListedModule};
 
     ghost Value = { ListedModule };
 
-    ghost view = { λ l. record { name = l.name.items; base = l.base; size = l.size } };
+    ghost view = { λ l. record { name = l.name.now; base = l.base; size = l.size } };
 }
 
-impl ModuleLine {
+impl<'a> ModuleLine<'a> {
     /// Whether the line stands for a region: the base is not 0, the size is not 0, and the base plus the size is at
     /// most the greatest `u64`.
     pub fn fits(&self) -> bool
@@ -44,46 +44,23 @@ impl ModuleLine {
 
 /// A line of the listing of symbols, in the form of /proc/kallsyms.
 #[derive(Debug, Drop)]
-pub struct SymbolLine {
+pub struct SymbolLine<'a> {
     /// The symbol's address.
     pub addr: u64,
     /// The letter of its type, as `nm` prints it.
     pub letter: u8,
-    /// The symbol's name, any bytes.
-    pub name: Vec<u8>,
+    /// The symbol's name, any bytes of the text that was read.
+    pub name: &'a [u8],
     /// The name of its module; none for a symbol of the kernel itself.
-    pub module: Option<Vec<u8>>,
+    pub module: Option<&'a [u8]>,
 }
 
-impl Model for SymbolLine {
+impl<'a> Model for SymbolLine<'a> {
     ghost use Rattle.std.specs.Prelude.{Option};
-    ghost use Rattle.std.specs.Option.{option_map};
+    ghost use Rattle.std.specs.Option.{option_copied};
     ghost use Rattle.modules.specs.Listed.{ListedSymbol};
 
     ghost Value = { ListedSymbol };
 
-    ghost view = { λ l. record { addr = l.addr; letter = l.letter; name = l.name.items; owner = option_map (λ m. m.items) l.module } };
-}
-
-/// The address of the first line without a module that has this name.
-fn first_address(lines: &[SymbolLine], name: &[u8]) -> Option<u64>
-    ensures { result ≡ first_address name.now lines.now }
-{
-    lines
-        .iter()
-        .find(|line| line.module.is_none() && line.name.as_slice() == name)
-        .map(|line| line.addr)
-}
-
-/// The region of the kernel itself, from `_stext` up to `_end`.
-pub(crate) fn built_in_region(lines: &[SymbolLine]) -> Option<(u64, u64)>
-    ensures { result ≡ built_in_region lines.now }
-{
-    let start = first_address(lines, b"_stext")?;
-    let end = first_address(lines, b"_end")?;
-    if start < end {
-        Some((start, end))
-    } else {
-        None
-    }
+    ghost view = { λ l. record { addr = l.addr; letter = l.letter; name = l.name.now; owner = option_copied l.module } };
 }

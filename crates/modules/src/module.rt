@@ -3,8 +3,11 @@
 ghost use Rattle.std.specs.Prelude.{◌≡◌, ◌<◌, [], ◌∷◌, length, IfOk};
 ghost use Rattle.std.specs.Option.{option_copied};
 ghost use Rattle.modules.specs.Around.{symbol_below, address_above};
+ghost use Rattle.modules.specs.Modules.{IsOrdered};
 
-use crate::symbols::{IndexEntry, Symbol, address_at, by_address, split_at};
+use crate::symbols::{
+    IndexEntry, Symbol, around_as_listed, around_in_index, by_address, is_rising,
+};
 use arrayvec::ArrayVec;
 use std::alloc::{AllocError, Global};
 use std::marker::Model;
@@ -14,14 +17,15 @@ pub const MOST_REGIONS: usize = 7;
 
 /// A module of the kernel, or the kernel itself.
 #[derive(Drop)]
-pub struct Module {
-    name: Vec<u8>,
+pub struct Module<'a> {
+    name: &'a [u8],
     regions: ArrayVec<(u64, u64), MOST_REGIONS>,
-    symbols: Vec<Symbol>,
-    by_address: Vec<IndexEntry>,
+    symbols: Vec<Symbol<'a>>,
+    /// An index of the symbols, where they are not listed by rising address.
+    by_address: Option<Vec<IndexEntry>>,
 }
 
-impl Model for Module {
+impl<'a> Model for Module<'a> {
     ghost use Rattle.modules.specs.Entries.{ModuleEntry};
 
     ghost Value = { ModuleEntry };
@@ -33,20 +37,31 @@ impl Model for Module {
     ghost invariant = { IsWhole };
 }
 
-impl Module {
+/// An index of the symbols, where they are not listed by rising address.
+fn index_of(alloc: Global, symbols: &[Symbol]) -> Result<Option<Vec<IndexEntry>>, AllocError>
+    ensures { IfOk result (IsOrdered symbols.now) }
+{
+    if is_rising(symbols) {
+        Ok(None)
+    } else {
+        Ok(Some(by_address(alloc, symbols)?))
+    }
+}
+
+impl<'a> Module<'a> {
     pub(crate) fn new(
         alloc: Global,
-        name: &[u8],
+        name: &'a [u8],
         region: (u64, u64),
-        symbols: Vec<Symbol>,
-    ) -> Result<Module, AllocError>
-        ensures { IfOk result (λ m. m ≡ record { name = name.now; regions = region ∷ []; symbols = symbols.items }) }
+        symbols: Vec<Symbol<'a>>,
+    ) -> Result<Module<'a>, AllocError>
+        ensures { IfOk result (λ m. m ≡ record { name = name.now; regions = region ∷ []; symbols = symbols.entry.items }) }
     {
-        let by_address = by_address(alloc, symbols.as_slice())?;
+        let by_address = index_of(alloc, symbols.as_slice())?;
         let mut regions = ArrayVec::new();
         regions.push(region);
         Ok(Module {
-            name: Vec::from_slice(alloc, name)?,
+            name,
             regions,
             symbols,
             by_address,
@@ -54,10 +69,10 @@ impl Module {
     }
 
     /// The module's name; `-` for the kernel itself.
-    pub fn name(&self) -> &[u8]
+    pub fn name(&self) -> &'a [u8]
         ensures { result.now ≡ self.now.name }
     {
-        self.name.as_slice()
+        self.name
     }
 
     /// The first address and the excluded end of each region. For now a module has one.
@@ -69,7 +84,7 @@ impl Module {
     }
 
     /// The symbols that lie in the regions, in the order listed.
-    pub fn symbols(&self) -> &[Symbol]
+    pub fn symbols(&self) -> &[Symbol<'a>]
         ensures { result.now ≡ self.now.symbols }
     {
         self.symbols.as_slice()
@@ -77,16 +92,13 @@ impl Module {
 
     /// The symbol of the greatest address that is not above `addr`, the first listed among equal addresses; and the
     /// least address of a symbol above `addr`.
-    pub fn around(&self, addr: u64) -> (Option<&Symbol>, Option<u64>)
+    pub fn around(&self, addr: u64) -> (Option<&Symbol<'a>>, Option<u64>)
         ensures below { option_copied result.0 ≡ symbol_below self.now.symbols addr }
         ensures above { result.1 ≡ address_above self.now.symbols addr }
     {
-        let split = split_at(self.by_address.as_slice(), addr);
-        let above = address_at(self.by_address.as_slice(), split);
-        if split == 0 {
-            return (None, above);
+        match &self.by_address {
+            None => around_as_listed(self.symbols.as_slice(), addr),
+            Some(index) => around_in_index(self.symbols.as_slice(), index.as_slice(), addr),
         }
-        let entry = self.by_address[split - 1];
-        (Some(&self.symbols[entry.place]), above)
     }
 }

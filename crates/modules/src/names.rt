@@ -13,7 +13,7 @@ use std::alloc::{AllocError, Global};
 use std::cmp::Ordering;
 
 /// The name of the module at a place, or no bytes where there is none.
-fn name_at(modules: &[Module], place: usize) -> &[u8]
+fn name_at<'a>(modules: &[Module<'a>], place: usize) -> &'a [u8]
     ensures { result.now ≡ slice_index_or (names_in modules.now) place [] }
 {
     match modules.get(place) {

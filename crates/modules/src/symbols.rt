@@ -1,28 +1,40 @@
-//! Symbols in the order of a listing, and an index of them by address.
+//! Symbols in the order of a listing, and how one is found by its address.
+//!
+//! A listing mostly has the symbols of the kernel itself by rising address, and then they are
+//! searched as they stand. Those of a module come in the order of its symbol table, and get an
+//! index, in which of equal addresses the one that is listed first stands last:
+//!
+//! ```text
+//! symbols:  40 c    10 a    10 b    20 d
+//! index:    10 at 2, 10 at 1, 20 at 3, 40 at 0
+//! ```
+//!
+//! So the last entry that is not above an address is that of the symbol to be found.
 
-ghost use Rattle.std.specs.Prelude.{◌≡◌, IfOk, slice_get};
+ghost use Rattle.std.specs.Prelude.{◌≡◌, true, IfOk, slice_get};
 ghost use Rattle.std.specs.List.Sorted.{IsNonDecreasingBy};
-ghost use Rattle.std.specs.Option.{option_map};
-ghost use Rattle.modules.specs.Index.{entries_of, IsIndex, IsSplit};
+ghost use Rattle.std.specs.Option.{option_copied, option_map};
+ghost use Rattle.modules.specs.Around.{symbol_below, address_above};
+ghost use Rattle.modules.specs.Index.{entries_of, IsIndex, IsSplit, IsRising, IsSplitOf, IsFirstOf};
 
 use std::alloc::{AllocError, Global};
 use std::marker::Model;
 
 /// An address that has a name.
 #[derive(Debug, Drop)]
-pub struct Symbol {
+pub struct Symbol<'a> {
     /// Where the symbol begins.
     pub addr: u64,
     /// Any bytes.
-    pub name: Vec<u8>,
+    pub name: &'a [u8],
 }
 
-impl Model for Symbol {
+impl<'a> Model for Symbol<'a> {
     ghost use Rattle.modules.specs.Entries.{SymbolEntry};
 
     ghost Value = { SymbolEntry };
 
-    ghost view = { λ s. record { addr = s.addr; name = s.name.items } };
+    ghost view = { λ s. record { addr = s.addr; name = s.name.now } };
 }
 
 /// Where the symbol of an address stands in the order of the listing.
@@ -69,4 +81,79 @@ pub(crate) fn address_at(index: &[IndexEntry], place: usize) -> Option<u64>
     ensures { result ≡ option_map (λ e. e.addr) (slice_get index.now place) }
 {
     index.get(place).map(|entry| entry.addr)
+}
+
+/// The symbol at a place, if there is one.
+fn symbol_at<'s, 'a>(symbols: &'s [Symbol<'a>], place: usize) -> Option<&'s Symbol<'a>>
+    ensures { option_copied result ≡ slice_get symbols.now place }
+{
+    symbols.get(place)
+}
+
+/// The symbols around an address, as an index has them.
+pub(crate) fn around_in_index<'s, 'a>(
+    symbols: &'s [Symbol<'a>],
+    index: &[IndexEntry],
+    addr: u64,
+) -> (Option<&'s Symbol<'a>>, Option<u64>)
+    requires { IsIndex symbols.now index.now }
+    ensures below { option_copied result.0 ≡ symbol_below symbols.now addr }
+    ensures above { result.1 ≡ address_above symbols.now addr }
+{
+    let split = split_at(index, addr);
+    let above = address_at(index, split);
+    if split == 0 {
+        return (None, above);
+    }
+    let entry = index[split - 1];
+    (symbol_at(symbols, entry.place), above)
+}
+
+/// How many symbols, of those that stand by rising address, are not above the address.
+fn listed_split_at(symbols: &[Symbol], addr: u64) -> usize
+    requires { IsRising symbols.now }
+    ensures { IsSplitOf symbols.now addr result }
+{
+    symbols.partition_point(|symbol| symbol.addr <= addr)
+}
+
+/// How many symbols, of those that stand by rising address, are below the address.
+fn listed_below(symbols: &[Symbol], addr: u64) -> usize
+    requires { IsRising symbols.now }
+    ensures { IsFirstOf symbols.now addr result }
+{
+    symbols.partition_point(|symbol| symbol.addr < addr)
+}
+
+/// The address of the symbol at a place, if there is one.
+fn listed_address_at(symbols: &[Symbol], place: usize) -> Option<u64>
+    ensures { result ≡ option_map (λ s. s.addr) (slice_get symbols.now place) }
+{
+    symbols.get(place).map(|symbol| symbol.addr)
+}
+
+/// The symbols around an address, where they stand by rising address.
+pub(crate) fn around_as_listed<'s, 'a>(
+    symbols: &'s [Symbol<'a>],
+    addr: u64,
+) -> (Option<&'s Symbol<'a>>, Option<u64>)
+    requires { IsRising symbols.now }
+    ensures below { option_copied result.0 ≡ symbol_below symbols.now addr }
+    ensures above { result.1 ≡ address_above symbols.now addr }
+{
+    let split = listed_split_at(symbols, addr);
+    let above = listed_address_at(symbols, split);
+    if split == 0 {
+        return (None, above);
+    }
+    let last = &symbols[split - 1];
+    let first = listed_below(symbols, last.addr);
+    (symbol_at(symbols, first), above)
+}
+
+/// Whether the symbols stand by rising address.
+pub(crate) fn is_rising(symbols: &[Symbol]) -> bool
+    ensures { result ≡ true → IsRising symbols.now }
+{
+    symbols.is_sorted_by(|x, y| x.addr <= y.addr)
 }

@@ -1,46 +1,40 @@
 //! Catalogs of small listings.
 
-use crate::{BuildCounts, Catalog, ModuleLine, SymbolLine};
+use crate::{BuildCounts, Catalog, ModuleLine, SymbolLine, SymbolLines};
 use latch_core::Update;
 use order_laws::{Item, Refusal};
 use std::alloc::{AllocError, Global};
 use std::process::Abort;
 use std::test::Fail;
 
-fn module(alloc: Global, name: &[u8], base: u64, size: u64) -> Result<ModuleLine, AllocError> {
-    Ok(ModuleLine {
-        name: Vec::from_slice(alloc, name)?,
-        base,
-        size,
-    })
+fn module(name: &[u8], base: u64, size: u64) -> ModuleLine<'_> {
+    ModuleLine { name, base, size }
 }
 
-fn symbol(
-    alloc: Global,
-    addr: u64,
-    name: &[u8],
-    module: Option<&[u8]>,
-) -> Result<SymbolLine, AllocError> {
-    let module = match module {
-        Some(module) => Some(Vec::from_slice(alloc, module)?),
-        None => None,
-    };
-    Ok(SymbolLine {
-        addr,
-        letter: b't',
-        name: Vec::from_slice(alloc, name)?,
-        module,
-    })
+/// An address, its name, and the name of its module.
+type Listed<'a> = (u64, &'a [u8], Option<&'a [u8]>);
+
+fn lines<'a>(alloc: Global, symbols: &[Listed<'a>]) -> Result<SymbolLines<'a>, AllocError> {
+    let mut lines = SymbolLines::new(alloc);
+    for (addr, name, module) in symbols {
+        lines.push(SymbolLine {
+            addr: *addr,
+            letter: b't',
+            name: *name,
+            module: *module,
+        })?;
+    }
+    Ok(lines)
 }
 
-fn build(
+fn build<'a>(
     rt: &impl Abort,
     alloc: Global,
-    modules: &[ModuleLine],
-    symbols: &[SymbolLine],
-) -> Result<(Catalog, BuildCounts), Refusal> {
+    modules: &[ModuleLine<'a>],
+    symbols: &[Listed<'a>],
+) -> Result<(Catalog<'a>, BuildCounts), Refusal> {
     assert!(rt; modules.iter().all(|line| line.fits()));
-    Catalog::build(alloc, modules, symbols)
+    Catalog::build(alloc, modules, &lines(alloc, symbols)?)
 }
 
 const EXT4: &[u8] = b"ext4";
@@ -48,15 +42,18 @@ const EXT4: &[u8] = b"ext4";
 const FIRST: u64 = 0xffff_ffff_c000_0000;
 
 /// The kernel itself and one module, of which the first symbol line is stray.
-fn a_module_and_the_kernel(rt: &impl Abort, alloc: Global) -> Result<(Catalog, BuildCounts), Fail> {
-    let modules = [module(alloc, EXT4, FIRST, 4096)?];
+fn a_module_and_the_kernel(
+    rt: &impl Abort,
+    alloc: Global,
+) -> Result<(Catalog<'static>, BuildCounts), Fail> {
+    let modules = [module(EXT4, FIRST, 4096)];
     let symbols = [
-        symbol(alloc, 0xffff_ffff_c000_0010, b"ext4_a", Some(EXT4))?,
-        symbol(alloc, 0xffff_ffff_c000_0010, b"ext4_b", Some(EXT4))?,
-        symbol(alloc, 0xffff_ffff_c000_0040, b"ext4_c", Some(EXT4))?,
-        symbol(alloc, 0xffff_ffff_8100_0000, b"_stext", None)?,
-        symbol(alloc, 0xffff_ffff_8100_0100, b"do_one", None)?,
-        symbol(alloc, 0xffff_ffff_8100_2000, b"_end", None)?,
+        (0xffff_ffff_c000_0010, b"ext4_a".as_slice(), Some(EXT4)),
+        (0xffff_ffff_c000_0010, b"ext4_b".as_slice(), Some(EXT4)),
+        (0xffff_ffff_c000_0040, b"ext4_c".as_slice(), Some(EXT4)),
+        (0xffff_ffff_8100_0000, b"_stext".as_slice(), None),
+        (0xffff_ffff_8100_0100, b"do_one".as_slice(), None),
+        (0xffff_ffff_8100_2000, b"_end".as_slice(), None),
     ];
     Ok(build(rt, alloc, &modules, &symbols)?)
 }
@@ -114,10 +111,10 @@ fn the_parts_of_a_module(rt: HostRuntime) -> Result<(), Fail> {
     assert_eq!(rt; ext4.regions(), [(FIRST, 0xffff_ffff_c000_1000)].as_slice());
     assert_eq!(rt; ext4.symbols().len(), 3);
     let second = &ext4.symbols()[1];
-    assert_eq!(rt; second.name.as_slice(), b"ext4_b".as_slice());
+    assert_eq!(rt; second.name, b"ext4_b".as_slice());
     let (below, above) = ext4.around(0xffff_ffff_c000_0018);
     let below = below.ok_or("no symbol")?;
-    assert_eq!(rt; below.name.as_slice(), b"ext4_a".as_slice());
+    assert_eq!(rt; below.name, b"ext4_a".as_slice());
     assert_eq!(rt; above, Some(0xffff_ffff_c000_0040));
     Ok(())
 }
@@ -126,16 +123,32 @@ fn the_parts_of_a_module(rt: HostRuntime) -> Result<(), Fail> {
 fn lines_that_are_not_accepted(rt: HostRuntime) -> Result<(), Fail> {
     let alloc = rt.alloc();
     let modules = [
-        module(alloc, b"b", 0xffff_ffff_c010_0000, 8192)?,
-        module(alloc, b"b", 0xffff_ffff_c020_0000, 4096)?,
-        module(alloc, b"d", 0xffff_ffff_c010_1000, 4096)?,
-        module(alloc, b"g", 0xffff_ffff_c010_2000, 16)?,
+        module(b"b", 0xffff_ffff_c010_0000, 8192),
+        module(b"b", 0xffff_ffff_c020_0000, 4096),
+        module(b"d", 0xffff_ffff_c010_1000, 4096),
+        module(b"g", 0xffff_ffff_c010_2000, 16),
     ];
     let symbols = [
-        symbol(alloc, 0xffff_ffff_c010_0010, b"b_run", Some(b"b"))?,
-        symbol(alloc, 0xffff_ffff_c050_0000, b"bpf_prog_6d", Some(b"bpf"))?,
-        symbol(alloc, 0xffff_ffff_c020_0000, b"b_far", Some(b"b"))?,
-        symbol(alloc, 0xffff_ffff_c010_2004, b"g_data", Some(b"g"))?,
+        (
+            0xffff_ffff_c010_0010,
+            b"b_run".as_slice(),
+            Some(b"b".as_slice()),
+        ),
+        (
+            0xffff_ffff_c050_0000,
+            b"bpf_prog_6d".as_slice(),
+            Some(b"bpf".as_slice()),
+        ),
+        (
+            0xffff_ffff_c020_0000,
+            b"b_far".as_slice(),
+            Some(b"b".as_slice()),
+        ),
+        (
+            0xffff_ffff_c010_2004,
+            b"g_data".as_slice(),
+            Some(b"g".as_slice()),
+        ),
     ];
     let (catalog, counts) = build(&rt, alloc, &modules, &symbols)?;
     let expected = BuildCounts {
@@ -175,18 +188,18 @@ fn the_edges_of_the_kernel(rt: HostRuntime) -> Result<(), Fail> {
     let alloc = rt.alloc();
     let own = b"own".as_slice();
     let modules = [
-        module(alloc, b"meets", 0x1ff0, 0x20)?,
-        module(alloc, b"-", 0x2000, 0x10)?,
-        module(alloc, own, u64::MAX - 0x10, 0x10)?,
+        module(b"meets", 0x1ff0, 0x20),
+        module(b"-", 0x2000, 0x10),
+        module(own, u64::MAX - 0x10, 0x10),
     ];
     let symbols = [
-        symbol(alloc, 0x500, b"_stext", Some(own))?,
-        symbol(alloc, 0x1000, b"_stext", None)?,
-        symbol(alloc, 0x2000, b"_end", None)?,
-        symbol(alloc, 0x3000, b"_end", None)?,
-        symbol(alloc, 0x2008, b"dash", Some(b"-"))?,
-        symbol(alloc, u64::MAX - 1, b"last", Some(own))?,
-        symbol(alloc, u64::MAX, b"past", Some(own))?,
+        (0x500, b"_stext".as_slice(), Some(own)),
+        (0x1000, b"_stext".as_slice(), None),
+        (0x2000, b"_end".as_slice(), None),
+        (0x3000, b"_end".as_slice(), None),
+        (0x2008, b"dash".as_slice(), Some(b"-".as_slice())),
+        (u64::MAX - 1, b"last".as_slice(), Some(own)),
+        (u64::MAX, b"past".as_slice(), Some(own)),
     ];
     let (catalog, counts) = build(&rt, alloc, &modules, &symbols)?;
     let expected = BuildCounts {
@@ -208,8 +221,8 @@ fn the_edges_of_the_kernel(rt: HostRuntime) -> Result<(), Fail> {
 fn no_kernel_where_its_end_is_not_above_its_start(rt: HostRuntime) -> Result<(), Fail> {
     let alloc = rt.alloc();
     let symbols = [
-        symbol(alloc, 0x1000, b"_end", None)?,
-        symbol(alloc, 0x1000, b"_stext", None)?,
+        (0x1000, b"_end".as_slice(), None),
+        (0x1000, b"_stext".as_slice(), None),
     ];
     let (catalog, _) = build(&rt, alloc, &[], &symbols)?;
     assert_eq!(rt; catalog.regions(), 0);
@@ -220,8 +233,8 @@ fn no_kernel_where_its_end_is_not_above_its_start(rt: HostRuntime) -> Result<(),
 fn no_kernel_where_its_start_is_of_a_module(rt: HostRuntime) -> Result<(), Fail> {
     let alloc = rt.alloc();
     let symbols = [
-        symbol(alloc, 0x1000, b"_stext", Some(b"own"))?,
-        symbol(alloc, 0x2000, b"_end", None)?,
+        (0x1000, b"_stext".as_slice(), Some(b"own".as_slice())),
+        (0x2000, b"_end".as_slice(), None),
     ];
     let (catalog, _) = build(&rt, alloc, &[], &symbols)?;
     assert_eq!(rt; catalog.regions(), 0);

@@ -1,3 +1,7 @@
+-- The definitions of this crate, in the order in which to read them.
+-- how items are ordered, and where a key lies among them
 pub mod Orders
+-- tables of items, and what a key finds in one
 pub mod Tables
+-- the numbers of the refusals
 pub mod Refusals

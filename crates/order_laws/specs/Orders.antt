@@ -1,5 +1,5 @@
 -- How items are ordered, and where a key lies among them.
-use Rattle.std.specs.Prelude.{◌≡◌, ◌≢◌, ◌↔◌, ℕ, Bool, true, false, not, ◌||◌, nat_lt, nat_le, if◌then◌else◌}
+use Rattle.std.specs.Prelude.{◌≡◌, ◌≢◌, ◌↔◌, ◌<◌, ℕ, Bool, true, false, not, ◌||◌, nat_lt, nat_le, if◌then◌else◌}
 use Rattle.std.specs.declared.cmp.Ordering.{Ordering}
 use Rattle.std.specs.declared.cmp.Ordering.TheVariants.{Less, Equal, Greater}
 use Rattle.std.proofs.Common.{arith}
@@ -38,6 +38,13 @@ pub record IsLawful {K : Type 0} (o : Order K) : Type 0 where
   pub in_greater : (k : K) (x y : Item) → Precedes o x y → o.comp k y ≡ Equal → o.comp k x ≡ Greater
   pub symmetric : (x y : Item) → o.apart x y ≡ o.apart y x
   pub own_first_word : (x y : Item) → o.valid x ≡ true → o.valid y ≡ true → o.apart x y ≡ true → x.a ≢ y.a
+
+-- what an order may offer beyond its laws: its items lie side by side, as ranges on a line do
+pub record IsInLine {K : Type 0} (o : Order K) : Type 0 where
+  -- of two items in order the first has the lesser first word
+  pub first_words_rise : (x y : Item) → Precedes o x y → x.a < y.a
+  -- items with one between them are apart
+  pub apart_beyond : (x y z : Item) → Precedes o x y → Precedes o y z → o.apart x z ≡ true
 
 -- ranges without their end, and with it
 abbrev pub half_open : Order ℕ
@@ -92,4 +99,26 @@ closed_lawful =
       in_greater = λ k x y b c. grind (arith, nat_tests);
       symmetric = λ x y. grind (arith, nat_tests);
       own_first_word = λ x y vx vy ap e. grind (arith, nat_tests);
+    }
+
+pub half_open_in_line : IsInLine half_open
+half_open_in_line =
+    record {
+      first_words_rise = λ x y p. let l = p.is_less in grind (arith, nat_tests);
+      apart_beyond = λ x y z p q.
+          let a = p.is_apart in let b = q.is_apart in
+          let u = p.first_valid in let v = p.second_valid in let w = q.second_valid in
+          let l = p.is_less in let m = q.is_less in
+          grind (arith, nat_tests);
+    }
+
+pub closed_in_line : IsInLine closed
+closed_in_line =
+    record {
+      first_words_rise = λ x y p. let l = p.is_less in grind (arith, nat_tests);
+      apart_beyond = λ x y z p q.
+          let a = p.is_apart in let b = q.is_apart in
+          let u = p.first_valid in let v = p.second_valid in let w = q.second_valid in
+          let l = p.is_less in let m = q.is_less in
+          grind (arith, nat_tests);
     }

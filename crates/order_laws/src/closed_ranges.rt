@@ -1,6 +1,6 @@
 //! Ranges of addresses with their end.
 
-ghost use Rattle.order_laws.specs.Orders.{closed, closed_lawful};
+ghost use Rattle.order_laws.specs.Orders.{closed, closed_in_line, closed_lawful};
 
 use crate::items::Item;
 use crate::orders::TreeOrder;
@@ -23,14 +23,17 @@ impl TreeOrder for Closed {
         i.a <= i.b
     }
 
+    #[inline(always)]
     fn apart(x: &Item, y: &Item) -> bool {
         x.b < y.a || y.b < x.a
     }
 
+    #[inline(always)]
     fn less(x: &Item, y: &Item) -> bool {
         x.a < y.a
     }
 
+    #[inline(always)]
     fn comp(k: u64, i: &Item) -> Ordering {
         if k < i.a {
             Ordering::Less
@@ -39,6 +42,10 @@ impl TreeOrder for Closed {
         } else {
             Ordering::Equal
         }
+    }
+
+    fn in_line() -> bool {
+        true
     }
 
     ghost lawful = { closed_lawful };

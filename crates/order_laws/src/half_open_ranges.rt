@@ -1,6 +1,6 @@
 //! Ranges of addresses without their end.
 
-ghost use Rattle.order_laws.specs.Orders.{half_open, half_open_lawful};
+ghost use Rattle.order_laws.specs.Orders.{half_open, half_open_in_line, half_open_lawful};
 
 use crate::items::Item;
 use crate::orders::TreeOrder;
@@ -23,14 +23,17 @@ impl TreeOrder for HalfOpen {
         i.a < i.b
     }
 
+    #[inline(always)]
     fn apart(x: &Item, y: &Item) -> bool {
         x.b <= y.a || y.b <= x.a
     }
 
+    #[inline(always)]
     fn less(x: &Item, y: &Item) -> bool {
         x.a < y.a
     }
 
+    #[inline(always)]
     fn comp(k: u64, i: &Item) -> Ordering {
         if k < i.a {
             Ordering::Less
@@ -39,6 +42,10 @@ impl TreeOrder for HalfOpen {
         } else {
             Ordering::Equal
         }
+    }
+
+    fn in_line() -> bool {
+        true
     }
 
     ghost lawful = { half_open_lawful };

@@ -1,5 +1,3 @@
 pub mod ListLemmas
-pub mod RowLemmas
-pub mod ScanLemmas
-pub mod ChainLemmas
 pub mod PlanLemmas
+pub mod MirrorLemmas

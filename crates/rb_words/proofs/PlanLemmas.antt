@@ -1,84 +1,108 @@
 -- What planned changes make of the picture, and that the plan's stores lead a copy there.
-use Rattle.std.proofs.Common.{◌≡◌, ◌≢◌, ℕ, suc, ◌+◌, ◌<◌, ◌≤◌, true, false, List, [], ◌∷◌, ◌++◌, length, take, drop, Some, refl, sym, ◌∙◌, ap, subst, inl, inr, ⊎_elim, arith, length-set}
-use Rattle.std.specs.Prelude.{Contains, insert, remove, slice_get, slice_set}
+use Rattle.std.proofs.Common.{◌≡◌, ◌≢◌, ℕ, suc, zero, ◌+◌, ◌*◌, ◌^◌, ◌<◌, ◌≤◌, true, false, List}
+use Rattle.std.proofs.Common.{[], ◌∷◌, ◌++◌, length, map, Some, refl, sym, ◌∙◌, ap}
+use Rattle.std.proofs.Common.{subst, inl, inr, ⊎_elim, arith, length-set, length-append}
+use Rattle.std.specs.Prelude.{◌↔◌, ◌==◌, ◌||◌, Bool, Contains, insert, remove, slice_get}
+use Rattle.std.specs.Prelude.{slice_set, is_some}
 use Rattle.std.specs.Option.{option_map}
-use Rattle.std.proofs.lemmas.Option.{slice_get-map, slice_get_within, get_or_from_slice_get}
+use Rattle.std.specs.declared.vec.Vec.{Vec}
+use Rattle.std.specs.declared.cmp.Ordering.{Ordering}
 use Rattle.std.specs.List.{AllByRecursion}
-use Rattle.std.proofs.lemmas.List.{take-append-drop, drop_all, length-map}
+use Rattle.std.proofs.Math.Nat.{pow-le-pow_right, mul-le-mul}
+use Rattle.std.proofs.lemmas.Option.{slice_get-map}
+use Rattle.std.proofs.lemmas.List.{length-map}
+use Rattle.std.proofs.lemmas.Bool.{eqb-true, eq-eqb, or_cases, cases_lt}
+use Rattle.std.proofs.lemmas.List.Elements.{Contains-append_left, Contains-append_right}
+use Rattle.std.proofs.lemmas.List.Elements.{Contains-append_cases}
 use Rattle.order_laws.specs.declared.items.Item.{Item}
 use Rattle.order_laws.specs.Orders.{Order, IsLawful}
 use Rattle.order_laws.specs.Tables.{IsTable, with_item, without, place_for, place_of, has, meets}
-use Rattle.order_laws.proofs.TableLemmas.{members, with_item_table, without_table}
-use Rattle.order_laws.proofs.PlaceLemmas.{with_place, without_place, place_for_fits, place_of_fits, not_meeting, place_of_has}
+use Rattle.order_laws.proofs.TableLemmas.{all_left, all_right, all_weaker, members, member_more}
+use Rattle.order_laws.proofs.TableLemmas.{with_item_table, without_table}
+use Rattle.order_laws.proofs.PlaceLemmas.{with_place, without_place, not_meeting, place_of_has}
+use Rattle.order_laws.proofs.PlaceLemmas.{place_of_fits}
 use Rattle.word_arena.specs.declared.stores.Store.{Store}
-use Rattle.word_arena.specs.Words.{words_for, at, root_word, a_word, b_word, tag_word, item_at, listed, Leads, Reaches, InUse}
-use Rattle.word_arena.specs.Stores.{words_after_all}
-use Rattle.word_arena.proofs.WordLemmas.{unused_item}
+use Rattle.word_arena.specs.Words.{Nodes, none, fork, words_for, a_word, b_word}
+use Rattle.word_arena.specs.Words.{tag_word, item_at, listed, Reaches, InUse}
+use Rattle.word_arena.specs.Stores.{words_after_all, IsItemWord, IsLinkWord, AreLinkStores}
+use Rattle.word_arena.proofs.WordLemmas.{unused_item, link_no_item}
 use Rattle.word_arena.proofs.StoreLemmas.{length_after, after_append, at_stored, at_other}
+use Rattle.word_arena.proofs.StoreLemmas.{untouched}
 use Rattle.word_arena.proofs.HoldsLemmas.{tree_untouched}
 use Rattle.word_arena.proofs.ReachLemmas.{reached_listed}
-use Rattle.rb_words.specs.declared.records.Record.{Record}
-use Rattle.rb_words.specs.Rows.{Rows, AreDistinct}
+use Rattle.rb_trees.specs.declared.Record.{Record}
+use Rattle.rb_trees.specs.Trees.{Branches, tip, branch, blackened, shape, rows, depth, IsRedBlack}
+use Rattle.rb_trees.specs.Turns.{link, relink_root}
+use Rattle.rb_trees.specs.Inserted.{inserted, insert_links}
+use Rattle.rb_trees.specs.Erased.{erase_links, found}
+use Rattle.rb_trees.specs.Sought.{Sought}
+use Rattle.rb_trees.specs.Linked.{Among, IsSeparate}
+use Rattle.rb_trees.specs.Found.{items_of, has_node}
+use Rattle.rb_trees.proofs.RowLemmas.{rows_blackened}
+use Rattle.rb_trees.proofs.InsertLemmas.{inserted_red_black}
+use Rattle.rb_trees.proofs.DepthLemmas.{shallow}
+use Rattle.rb_trees.proofs.EraseLemmas.{erased_red_black}
+use Rattle.rb_trees.proofs.PlaceRows.{rows_inserted}
+use Rattle.rb_trees.proofs.RelinkLemmas.{Relinks}
+use Rattle.rb_trees.proofs.InsertLinks.{shape_blackened, With, insert_relinks}
+use Rattle.rb_trees.proofs.EraseLinks.{erase_relinks}
+use Rattle.rb_trees.proofs.InsertCounts.{inserted_counted, nine_links, with_root_link}
+use Rattle.rb_trees.proofs.EraseCounts.{erased_lost}
+use Rattle.rb_trees.proofs.LeadsLemmas.{root_links, root_values, root_leads, listed_rows, all_among}
+use Rattle.rb_trees.proofs.LeadsLemmas.{among_listed, Stored, stored_items, items_stored}
+use Rattle.rb_words.specs.Rows.{AreDistinct}
 use Rattle.rb_words.specs.Pictures.{Picture, IsPicture, IsPictured}
-use Rattle.rb_words.specs.Plans.{AreLinks, Inserts, LeadsWithItem, Erases, LeadsByLinks, item_stores}
-use Rattle.rb_words.specs.ChainTrees.{chain_tree, insert_links, erase_links, picture_of}
-use Rattle.rb_words.proofs.ListLemmas.{all_insert, all_remove, all_take, all_drop, all_get, distinct_insert, distinct_remove, map-insert, map-remove, member_insert, insert_member, member_remove, remove_member, parted_at, away_of_absent, distinct_fit}
-use Rattle.rb_words.proofs.ScanLemmas.{items_of, drop_at}
-use Rattle.rb_words.proofs.ChainLemmas.{listed_chain, ApartRows, all_nodes, apart_rows, root_off, before_link, link_within, insert_leads, erase_leads, Stored, stored_items, items_stored, stored_kept, adds_node, drops_node}
+use Rattle.rb_words.specs.Plans.{AreLinks, Inserts, LeadsWithItem, Erases, LeadsByLinks}
+use Rattle.rb_words.specs.Plans.{item_stores}
+use Rattle.rb_words.specs.TreePictures.{picture_of, tree_with, links_with, tree_without}
+use Rattle.rb_words.specs.TreePictures.{links_without, TakesOut}
+use Rattle.rb_words.proofs.ListLemmas.{all_insert, all_remove, all_get, distinct_insert}
+use Rattle.rb_words.proofs.ListLemmas.{distinct_remove, map-insert, map-remove, member_insert}
+use Rattle.rb_words.proofs.ListLemmas.{insert_member, member_remove, remove_member, away_of_absent}
+use Rattle.rb_words.proofs.ListLemmas.{distinct_fit}
 
--- the nodes in the order of the items, after a change
-listed_insert : (rs : List Record) (p : ℕ) (x : Record) → listed (chain_tree (insert rs p x)) ≡ insert (listed (chain_tree rs)) p x.node
-listed_insert rs p x = listed_chain (insert rs p x) ∙ map-insert (λ r. r.node) rs p x ∙ ap (λ xs. insert xs p x.node) (sym (listed_chain rs))
+-- distinct nodes, by the tree
+distinct_parts : (xs ys : List ℕ) → AreDistinct (xs ++ ys) →
+    AreDistinct xs × AreDistinct ys × AllByRecursion (λ x. AllByRecursion (λ y. x ≢ y) ys) xs
+distinct_parts [] ys h = (tt, h, tt)
+distinct_parts (x ∷ xs) ys h =
+    let i = distinct_parts xs ys h.1 in
+    ((all_left (λ y. x ≢ y) xs ys h.0, i.0), i.1, (all_right (λ y. x ≢ y) xs ys h.0, i.2))
 
-listed_remove : (rs : List Record) (p : ℕ) → listed (chain_tree (remove rs p)) ≡ remove (listed (chain_tree rs)) p
-listed_remove rs p = listed_chain (remove rs p) ∙ map-remove (λ r. r.node) rs p ∙ ap (λ xs. remove xs p) (sym (listed_chain rs))
+separate : (t : Nodes) → AreDistinct (listed t) → IsSeparate t
+separate none h = tt
+separate (fork l i r) h =
+    let d = distinct_parts (listed l) (i ∷ listed r) h in
+    let cross : (j : ℕ) → Among l j → AllByRecursion (λ y. j ≢ y) (i ∷ listed r) =
+    all_among (λ j. AllByRecursion (λ y. j ≢ y) (i ∷ listed r)) l d.2 in
+    let right : AllByRecursion (λ y. i ≢ y) (listed r) = d.1.0 in (
+      (λ a. (cross i a).0 refl),
+      (λ a. all_among (λ y. i ≢ y) r right i a refl),
+      (λ j a b. all_among (λ y. j ≢ y) r (cross j a).1 j b refl),
+      separate l d.0,
+      separate r d.1.1,
+    )
 
-as_many_rows : (rs : List Record) → length (listed (chain_tree rs)) ≡ length (items_of rs)
-as_many_rows rs = ap length (listed_chain rs) ∙ length-map rs (λ r. r.node) ∙ sym (length-map rs (λ r. r.item))
+-- links leave the items
+item_kept : (m : List ℕ) (n c : ℕ) (links : List Store) (i : ℕ) → c ≤ 1 → AreLinkStores n c links →
+    item_at (words_after_all m links) i ≡ item_at m i
+item_kept m n c links i small are =
+    let away = all_weaker (λ (s : Store). IsLinkWord n c s.word) (λ s. IsItemWord i s.word → ⊥)
+    (λ s l. link_no_item n c i s.word small l) links are in
+    let ea = untouched (IsItemWord i) m links away (a_word i) (inl refl) in
+    let eb = untouched (IsItemWord i) m links away (b_word i) (inr (inl refl)) in
+    let et = untouched (IsItemWord i) m links away (tag_word i) (inr (inr refl)) in
+    λ d. record { a = ea d; b = eb d; tag = et d }
 
-module _ {K : Type 0} (o : Order K) (law : IsLawful o) (n c : ℕ) where
-  -- a picture of records, whatever the room
-  module _ (rows : Rows) (is : IsPicture o (picture_of n c rows)) (x : Record) (lt : x.node < n) (free : Contains (listed (chain_tree rows.list)) x.node → ⊥) (valid : o.valid x.item ≡ true) (apart : meets o x.item (items_of rows.list) ≡ false) where
-    items_after : (p : ℕ) → p ≡ place_for o x.item (items_of rows.list) → items_of (insert rows.list p x) ≡ with_item o x.item (items_of rows.list)
-    items_after p e = map-insert (λ r. r.item) rows.list p x ∙ ap (λ k. insert (items_of rows.list) k x.item) e ∙ sym (with_place o x.item (items_of rows.list))
-
-    nodes_away : AllByRecursion (λ y. y ≢ x.node) (listed (chain_tree rows.list))
-    nodes_away = away_of_absent (listed (chain_tree rows.list)) x.node free
-
-    pub inserted_picture : (room p : ℕ) → p ≡ place_for o x.item (items_of rows.list) → IsPicture o (picture_of n c (record { list = insert rows.list p x; room = room }))
-    inserted_picture room p e =
-        let listed_new = listed_insert rows.list p x in
-        let below_new : AllByRecursion (λ i. i < n) (listed (chain_tree (insert rows.list p x))) =
-        subst (AllByRecursion (λ i. i < n)) (sym listed_new) (all_insert (λ i. i < n) (listed (chain_tree rows.list)) p x.node is.below lt) in
-        let distinct_new : AreDistinct (listed (chain_tree (insert rows.list p x))) =
-        subst AreDistinct (sym listed_new) (distinct_insert (listed (chain_tree rows.list)) p x.node is.distinct nodes_away) in
-        let many = as_many_rows (insert rows.list p x) in
-        record {
-          one_copy = is.one_copy;
-          is_table = subst (IsTable o) (sym (items_after p e)) (with_item_table o law x.item (items_of rows.list) valid (not_meeting o x.item (items_of rows.list) apart) is.is_table);
-          below = below_new;
-          distinct = distinct_new;
-          as_many = many;
-          fits = omega (arith, many, distinct_fit (listed (chain_tree (insert rows.list p x))) n distinct_new below_new);
-        }
-
-    pub inserted : (room p : ℕ) → p ≡ place_for o x.item (items_of rows.list) → room + 1 ≡ rows.room → Inserts o (picture_of n c rows) (picture_of n c (record { list = insert rows.list p x; room = room })) x.node x.item
-    inserted room p e more =
-        let listed_new = listed_insert rows.list p x in
-        record {
-          capacity = refl;
-          copy = refl;
-          table = items_after p e;
-          nodes = λ i. (
-            (λ h. member_insert (listed (chain_tree rows.list)) p x.node i (subst (λ xs. Contains xs i) listed_new h)),
-            (λ h. subst (λ xs. Contains xs i) (sym listed_new) (insert_member (listed (chain_tree rows.list)) p x.node i h)),
-          );
-          in_order = listed_new ∙ ap (λ k. insert (listed (chain_tree rows.list)) k x.node) e;
-          room = more;
-        }
+stored_kept : (m : List ℕ) (n c : ℕ) (links : List Store) (rs : List Record) → c ≤ 1 →
+    AreLinkStores n c links → Stored m rs → Stored (words_after_all m links) rs
+stored_kept m n c links [] small are h = tt
+stored_kept m n c links (r ∷ rs) small are h =
+    (item_kept m n c links r.node small are ∙ h.0, stored_kept m n c links rs small are h.1)
 
 -- the words of an item in a node
-item_put : (m : List ℕ) (n node : ℕ) (i : Item) → node < n → length m ≡ words_for n → item_at (words_after_all m (item_stores node i)) node ≡ i
+item_put : (m : List ℕ) (n node : ℕ) (i : Item) → node < n → length m ≡ words_for n →
+    item_at (words_after_all m (item_stores node i)) node ≡ i
 item_put m n node i lt sized =
     let wa = a_word node in
     let wb = b_word node in
@@ -87,212 +111,452 @@ item_put m n node i lt sized =
     let m2 = slice_set m1 wb i.b in
     let len1 : length m1 ≡ words_for n = length-set m wa i.a ∙ sized in
     let len2 : length m2 ≡ words_for n = length-set m1 wb i.b ∙ len1 in
-    let ea = at_other m2 wt i.tag wa (λ e. absurd (omega arith)) ∙ at_other m1 wb i.b wa (λ e. absurd (omega arith)) ∙ at_stored m wa i.a (omega (arith, sized)) in
-    let eb = at_other m2 wt i.tag wb (λ e. absurd (omega arith)) ∙ at_stored m1 wb i.b (omega (arith, len1)) in
+    let ea = at_other m2 wt i.tag wa (λ e. absurd (omega arith))
+    ∙ at_other m1 wb i.b wa (λ e. absurd (omega arith))
+    ∙ at_stored m wa i.a (omega (arith, sized)) in
+    let eb = at_other m2 wt i.tag wb (λ e. absurd (omega arith))
+    ∙ at_stored m1 wb i.b (omega (arith, len1)) in
     let et = at_stored m2 wt i.tag (omega (arith, len2)) in
     λ d. record { a = ea d; b = eb d; tag = et d }
 
-module _ (n c : ℕ) (small : c ≤ 1) (rows : Rows) (below : AllByRecursion (λ i. i < n) (listed (chain_tree rows.list))) where
-  rows_below : AllByRecursion (λ (r : Record). r.node < n) rows.list
-  rows_below = all_nodes (λ i. i < n) rows.list (subst (AllByRecursion (λ i. i < n)) (listed_chain rows.list) below)
+as_many_rows : (t : Branches) → length (listed (shape t)) ≡ length (items_of (rows t))
+as_many_rows t = ap length (listed_rows t) ∙ length-map (rows t) (λ r. r.node)
+    ∙ sym (length-map (rows t) (λ r. r.item))
 
-  module _ (x : Record) (lt : x.node < n) (free : Contains (listed (chain_tree rows.list)) x.node → ⊥) (p room : ℕ) (distinct : AreDistinct (listed (chain_tree (insert rows.list p x)))) where
-    flipped : (rs : List Record) → AllByRecursion (λ r. r.node ≢ x.node) rs → AllByRecursion (λ r. x.node ≢ r.node) rs
-    flipped [] h = tt
-    flipped (r ∷ rs) h = ((λ e. h.0 (sym e)), flipped rs h.1)
+-- a record more
+module _ {K : Type 0} (o : Order K) (law : IsLawful o) (n c : ℕ) (t : Branches) (old room : ℕ)
+    (more : room + 1 ≡ old) (is : IsPicture o (picture_of n c t old)) (good : IsRedBlack t)
+    (x : Record) (lt : x.node < n) (free : Contains (listed (shape t)) x.node → ⊥)
+    (valid : o.valid x.item ≡ true) (apart : meets o x.item (items_of (rows t)) ≡ false) where
+  rows_with : rows (tree_with o x t) ≡ insert (rows t) (place_for o x.item (items_of (rows t))) x
+  rows_with = rows_blackened (inserted o.less x t) ∙ rows_inserted o law x t is.is_table
 
-    away : AllByRecursion (λ (r : Record). x.node ≢ r.node) rows.list
-    away = flipped rows.list (all_nodes (λ y. y ≢ x.node) rows.list (subst (AllByRecursion (λ y. y ≢ x.node)) (listed_chain rows.list) (away_of_absent (listed (chain_tree rows.list)) x.node free)))
+  items_with : items_of (rows (tree_with o x t)) ≡ with_item o x.item (items_of (rows t))
+  items_with = ap items_of rows_with
+      ∙ map-insert (λ r. r.item) (rows t) (place_for o x.item (items_of (rows t))) x
+      ∙ sym (with_place o x.item (items_of (rows t)))
 
-    pub insert_are_links : AreLinks (picture_of n c rows) (insert_links c (take p rows.list) x (drop p rows.list))
-    insert_are_links =
-        let before = all_take (λ r. r.node < n) rows.list p rows_below in
-        let behind = all_drop (λ r. r.node < n) rows.list p rows_below in
-        record {
-          words = (inr (x.node, lt, inl refl), (inr (x.node, lt, inr refl), (before_link n c (root_word c) (take p rows.list) (inl refl) before, tt)));
-          values = (omega arith, (link_within n (drop p rows.list) behind, (omega (arith, lt), tt)));
-        }
+  listed_with : listed (shape (tree_with o x t))
+      ≡ insert (listed (shape t)) (place_for o x.item (items_of (rows t))) x.node
+  listed_with =
+      let p = place_for o x.item (items_of (rows t)) in
+      listed_rows (tree_with o x t) ∙ ap (map (λ r. r.node)) rows_with
+      ∙ map-insert (λ r. r.node) (rows t) p x
+      ∙ ap (λ xs. insert xs p x.node) (sym (listed_rows t))
 
-    insert_alone : (m : List ℕ) → IsPictured m (picture_of n c rows) → item_at m x.node ≡ x.item → IsPictured (words_after_all m (insert_links c (take p rows.list) x (drop p rows.list))) (picture_of n c (record { list = insert rows.list p x; room = room }))
-    insert_alone m is has_item =
-        let xs = take p rows.list in
-        let ys = drop p rows.list in
-        let links = insert_links c xs x ys in
-        let m' = words_after_all m links in
-        let whole : xs ++ ys ≡ rows.list = take-append-drop p rows.list in
-        let apart : ApartRows (xs ++ x ∷ ys) = apart_rows (insert rows.list p x) (subst AreDistinct (listed_chain (insert rows.list p x)) distinct) in
-        let adds = adds_node m n c small is.sized xs ys x lt (all_take (λ r. r.node < n) rows.list p rows_below) (all_take (λ r. x.node ≢ r.node) rows.list p away) in
-        let old_leads : Leads m n c (at m (root_word c)) (chain_tree (xs ++ ys)) = subst (λ rs. Leads m n c (at m (root_word c)) (chain_tree rs)) (sym whole) is.holds.leads in
-        let stored : Stored m (insert rows.list p x) = all_insert (λ r. item_at m r.node ≡ r.item) rows.list p x (items_stored m rows.list is.holds.listed_items) has_item in
-        record {
-          sized = length_after m links ∙ is.sized;
-          holds = record {
-            leads = insert_leads m m' n c xs ys x (root_word c) apart (root_off c (xs ++ x ∷ ys)) lt adds old_leads;
-            listed_items = stored_items m' (insert rows.list p x) (stored_kept m n c links (insert rows.list p x) small insert_are_links.words stored);
-          };
-        }
+  low_with : (i : ℕ) → With n c is.one_copy x.node (shape t) i → i < n
+  low_with i h = ⊎_elim (λ e. subst (λ j. j < n) (sym e) lt)
+      (λ a. all_among (λ j. j < n) (shape t) is.below i a) h
 
-    insert_with_words : (m : List ℕ) → IsPictured m (picture_of n c rows) → IsPictured (words_after_all m (item_stores x.node x.item ++ insert_links c (take p rows.list) x (drop p rows.list))) (picture_of n c (record { list = insert rows.list p x; room = room }))
-    insert_with_words m is =
-        let stores = item_stores x.node x.item in
-        let links = insert_links c (take p rows.list) x (drop p rows.list) in
-        let m1 = words_after_all m stores in
-        let unreached : Reaches m n c x.node → ⊥ = λ r. free (reached_listed m n c (chain_tree rows.list) is.holds.leads x.node r) in
-        let unused : AllByRecursion (λ (s : Store). InUse m n c s.word → ⊥) stores = (
-          unused_item m n c x.node (a_word x.node) small unreached (inl refl),
-          (
-            unused_item m n c x.node (b_word x.node) small unreached (inr (inl refl)),
-            (unused_item m n c x.node (tag_word x.node) small unreached (inr (inr refl)), tt),
-          ),
-        ) in
-        let put : IsPictured m1 (picture_of n c rows) =
-        record { sized = length_after m stores ∙ is.sized; holds = tree_untouched m n c (items_of rows.list) (chain_tree rows.list) stores unused is.holds } in
-        subst (λ w. IsPictured w (picture_of n c (record { list = insert rows.list p x; room = room }))) (sym (after_append m stores links)) (insert_alone m1 put (item_put m n x.node x.item lt is.sized))
+  relinks_with : Relinks n c (With n c is.one_copy x.node (shape t)) (shape t)
+      (shape (tree_with o x t)) (insert_links c o.less x t)
+  relinks_with =
+      subst (λ s. Relinks n c (With n c is.one_copy x.node (shape t)) (shape t) s
+      (insert_links c o.less x t)) (sym (shape_blackened (inserted o.less x t)))
+      (insert_relinks n c is.one_copy o.less x lt t (all_among (λ j. j < n) (shape t) is.below)
+      (λ a. free (among_listed (shape t) x.node a)) (separate (shape t) is.distinct))
 
-    pub inserted_leads : LeadsWithItem (picture_of n c rows) (picture_of n c (record { list = insert rows.list p x; room = room })) x.node x.item (insert_links c (take p rows.list) x (drop p rows.list))
-    inserted_leads = record { links_only = insert_are_links; leads = insert_with_words; leads_alone = insert_alone }
-
-  -- the record at a place goes
-  module _ (x : Record) (p room : ℕ) (at_p : slice_get rows.list p ≡ Some x) (distinct : AreDistinct (listed (chain_tree rows.list))) where
-    pub erase_are_links : AreLinks (picture_of n c rows) (erase_links c (take p rows.list) (drop (suc p) rows.list))
-    erase_are_links =
-        let before = all_take (λ r. r.node < n) rows.list p rows_below in
-        let behind = all_drop (λ r. r.node < n) rows.list (suc p) rows_below in
-        record {
-          words = (before_link n c (root_word c) (take p rows.list) (inl refl) before, tt);
-          values = (link_within n (drop (suc p) rows.list) behind, tt);
-        }
-
-    erase_alone : (m : List ℕ) → IsPictured m (picture_of n c rows) → IsPictured (words_after_all m (erase_links c (take p rows.list) (drop (suc p) rows.list))) (picture_of n c (record { list = remove rows.list p; room = room }))
-    erase_alone m is =
-        let xs = take p rows.list in
-        let ys = drop (suc p) rows.list in
-        let links = erase_links c xs ys in
-        let m' = words_after_all m links in
-        let whole : rows.list ≡ xs ++ x ∷ ys = parted_at rows.list p x at_p in
-        let apart : ApartRows (xs ++ x ∷ ys) = subst ApartRows whole (apart_rows rows.list (subst AreDistinct (listed_chain rows.list) distinct)) in
-        let drops = drops_node m n c small is.sized xs ys (all_take (λ r. r.node < n) rows.list p rows_below) in
-        let old_leads : Leads m n c (at m (root_word c)) (chain_tree (xs ++ x ∷ ys)) = subst (λ rs. Leads m n c (at m (root_word c)) (chain_tree rs)) whole is.holds.leads in
-        let stored : Stored m (remove rows.list p) = all_remove (λ r. item_at m r.node ≡ r.item) rows.list p (items_stored m rows.list is.holds.listed_items) in
-        record {
-          sized = length_after m links ∙ is.sized;
-          holds = record {
-            leads = erase_leads m m' n c xs ys x (root_word c) apart (root_off c (xs ++ x ∷ ys)) drops old_leads;
-            listed_items = stored_items m' (remove rows.list p) (stored_kept m n c links (remove rows.list p) small erase_are_links.words stored);
-          };
-        }
-
-    pub erased_leads : LeadsByLinks (picture_of n c rows) (picture_of n c (record { list = remove rows.list p; room = room })) (erase_links c (take p rows.list) (drop (suc p) rows.list))
-    erased_leads = record { links_only = erase_are_links; leads = erase_alone }
-
-module _ {K : Type 0} (o : Order K) (law : IsLawful o) (n c : ℕ) (rows : Rows) (is : IsPicture o (picture_of n c rows)) (a : ℕ) (there : has a (items_of rows.list) ≡ true) where
-  rest_after : (p : ℕ) → p ≡ place_of a (items_of rows.list) → items_of (remove rows.list p) ≡ without a (items_of rows.list)
-  rest_after p e = map-remove (λ r. r.item) rows.list p ∙ ap (λ k. remove (items_of rows.list) k) e ∙ sym (without_place o law a (items_of rows.list) is.is_table there)
-
-  pub erased_picture : (room p : ℕ) → p ≡ place_of a (items_of rows.list) → IsPicture o (picture_of n c (record { list = remove rows.list p; room = room }))
-  erased_picture room p e =
-      let listed_new = listed_remove rows.list p in
-      let below_new : AllByRecursion (λ i. i < n) (listed (chain_tree (remove rows.list p))) =
-      subst (AllByRecursion (λ i. i < n)) (sym listed_new) (all_remove (λ i. i < n) (listed (chain_tree rows.list)) p is.below) in
-      let distinct_new : AreDistinct (listed (chain_tree (remove rows.list p))) =
-      subst AreDistinct (sym listed_new) (distinct_remove (listed (chain_tree rows.list)) p is.distinct) in
-      let many = as_many_rows (remove rows.list p) in
+  pub picture_with : IsPicture o (picture_of n c (tree_with o x t) room)
+  picture_with =
+      let u = tree_with o x t in
+      let p = place_for o x.item (items_of (rows t)) in
+      let below_new : AllByRecursion (λ i. i < n) (listed (shape u)) =
+      subst (AllByRecursion (λ i. i < n)) (sym listed_with)
+      (all_insert (λ i. i < n) (listed (shape t)) p x.node is.below lt) in
+      let distinct_new : AreDistinct (listed (shape u)) =
+      subst AreDistinct (sym listed_with)
+      (distinct_insert (listed (shape t)) p x.node is.distinct
+      (away_of_absent (listed (shape t)) x.node free)) in
+      let many = as_many_rows u in
       record {
         one_copy = is.one_copy;
-        is_table = subst (IsTable o) (sym (rest_after p e)) (without_table o a (items_of rows.list) is.is_table);
+        is_table = subst (IsTable o) (sym items_with)
+            (with_item_table o law x.item (items_of (rows t)) valid
+            (not_meeting o x.item (items_of (rows t)) apart) is.is_table);
         below = below_new;
         distinct = distinct_new;
         as_many = many;
-        fits = omega (arith, many, distinct_fit (listed (chain_tree (remove rows.list p))) n distinct_new below_new);
+        fits = omega (arith, many, distinct_fit (listed (shape u)) n distinct_new below_new);
+        balanced = (u, inserted_red_black o.less x t good, refl);
       }
 
-  pub erased : (room p : ℕ) (x : Record) → p ≡ place_of a (items_of rows.list) → slice_get rows.list p ≡ Some x → room ≡ rows.room + 1 → Erases (picture_of n c rows) (picture_of n c (record { list = remove rows.list p; room = room })) a x.node
-  erased room p x e at_p more =
-      let listed_new = listed_remove rows.list p in
-      let node_at : slice_get (listed (chain_tree rows.list)) p ≡ Some x.node =
-      ap (λ xs. slice_get xs p) (listed_chain rows.list) ∙ slice_get-map (λ (r : Record). r.node) rows.list p ∙ ap (option_map (λ (r : Record). r.node)) at_p in
-      let item_there : slice_get (items_of rows.list) (place_of a (items_of rows.list)) ≡ Some x.item =
-      ap (slice_get (items_of rows.list)) (sym e) ∙ slice_get-map (λ (r : Record). r.item) rows.list p ∙ ap (option_map (λ (r : Record). r.item)) at_p in
-      let is_a : x.item.a ≡ a = place_of_has a (items_of rows.list) x.item there item_there in
+  pub inserts_with : Inserts o (picture_of n c t old) (picture_of n c (tree_with o x t) room) x.node
+      x.item
+  inserts_with =
+      let p = place_for o x.item (items_of (rows t)) in
       record {
         capacity = refl;
         copy = refl;
-        table = rest_after p e;
+        table = items_with;
         nodes = λ i. (
-          (λ h. member_remove (listed (chain_tree rows.list)) p x.node i is.distinct node_at (subst (λ xs. Contains xs i) listed_new h)),
-          (λ h. subst (λ xs. Contains xs i) (sym listed_new) (remove_member (listed (chain_tree rows.list)) p x.node i node_at h)),
+          (λ h. member_insert (listed (shape t)) p x.node i
+              (subst (λ xs. Contains xs i) listed_with h)),
+          (λ h. subst (λ xs. Contains xs i) (sym listed_with)
+              (insert_member (listed (shape t)) p x.node i h)),
         );
-        in_order = listed_new ∙ ap (remove (listed (chain_tree rows.list))) e;
-        at_place = ap (slice_get (listed (chain_tree rows.list))) (sym e) ∙ node_at;
-        had_item = λ m held. ap (λ (i : Item). i.a) (all_get (λ r. item_at m r.node ≡ r.item) rows.list p x (items_stored m rows.list held.holds.listed_items) at_p) ∙ is_a;
+        in_order = listed_with;
         room = more;
       }
 
+  links_are_with : AreLinks (picture_of n c t old) (links_with c o x t)
+  links_are_with = record {
+    words = root_links n c is.one_copy (With n c is.one_copy x.node (shape t)) low_with (shape t)
+        (shape (tree_with o x t)) (insert_links c o.less x t) relinks_with;
+    values = root_values n c is.one_copy (With n c is.one_copy x.node (shape t)) low_with (shape t)
+        (shape (tree_with o x t)) (insert_links c o.less x t) relinks_with;
+  }
+
+  alone_with : (m : List ℕ) → IsPictured m (picture_of n c t old) → item_at m x.node ≡ x.item →
+      IsPictured (words_after_all m (links_with c o x t)) (picture_of n c (tree_with o x t) room)
+  alone_with m shown has_item =
+      let u = tree_with o x t in
+      let links = links_with c o x t in
+      let p = place_for o x.item (items_of (rows t)) in
+      let stored : Stored m (rows u) =
+      subst (Stored m) (sym rows_with)
+      (all_insert (λ r. item_at m r.node ≡ r.item) (rows t) p x
+      (items_stored m t shown.holds.listed_items) has_item) in
+      record {
+        sized = length_after m links ∙ shown.sized;
+        holds = record {
+          leads = root_leads n c is.one_copy (With n c is.one_copy x.node (shape t)) low_with
+              (shape t) (shape u) (insert_links c o.less x t) relinks_with m shown.sized
+              shown.holds.leads;
+          listed_items = stored_items (words_after_all m links) u
+              (stored_kept m n c links (rows u) is.one_copy links_are_with.words stored);
+        };
+      }
+
+  words_with : (m : List ℕ) → IsPictured m (picture_of n c t old) →
+      IsPictured (words_after_all m (item_stores x.node x.item ++ links_with c o x t))
+      (picture_of n c (tree_with o x t) room)
+  words_with m shown =
+      let stores = item_stores x.node x.item in
+      let links = links_with c o x t in
+      let m1 = words_after_all m stores in
+      let unreached : Reaches m n c x.node → ⊥ =
+      λ r. free (reached_listed m n c (shape t) shown.holds.leads x.node r) in
+      let unused : AllByRecursion (λ (s : Store). InUse m n c s.word → ⊥) stores = (
+        unused_item m n c x.node (a_word x.node) is.one_copy unreached (inl refl),
+        (
+          unused_item m n c x.node (b_word x.node) is.one_copy unreached (inr (inl refl)),
+          (unused_item m n c x.node (tag_word x.node) is.one_copy unreached (inr (inr refl)), tt),
+        ),
+      ) in
+      let put : IsPictured m1 (picture_of n c t old) =
+      record {
+        sized = length_after m stores ∙ shown.sized;
+        holds =
+            tree_untouched m n c (items_of (rows t)) (shape t) stores unused shown.holds;
+      } in
+      subst (λ w. IsPictured w (picture_of n c (tree_with o x t) room))
+      (sym (after_append m stores links))
+      (alone_with m1 put (item_put m n x.node x.item lt shown.sized))
+
+  pub leads_with : LeadsWithItem (picture_of n c t old) (picture_of n c (tree_with o x t) room)
+      x.node x.item (links_with c o x t)
+  leads_with = record { links_only = links_are_with; leads = words_with; leads_alone = alone_with }
+
+-- nine links at most, with the root's
+pub few_with : {K : Type 0} (o : Order K) (c : ℕ) (t : Branches) (x : Record) → IsRedBlack t →
+    length (links_with c o x t) ≤ 9
+few_with o c t x good =
+    let ss = insert_links c o.less x t in
+    let v = inserted o.less x t in
+    let k = nine_links t v (length ss) (inserted_counted c o.less x t good.calm good.even) in
+    let same : link (shape (blackened v)) ≡ link (shape v) = ap link (shape_blackened v) in
+    let root = with_root_link c (link (shape t)) (link (shape (blackened v))) (length ss) 8 k.0
+    (λ ne. k.1 (λ e. ne (same ∙ e))) in
+    omega (
+      arith,
+      length-append ss (relink_root c (link (shape t)) (link (shape (blackened v)))),
+      root,
+    )
+
+pub few_with_row : {K : Type 0} (o : Order K) (c : ℕ) (t u : Branches) (x : Record) → u ≡ t →
+    IsRedBlack t → length (links_with c o x u) ≤ 9
+few_with_row o c t u x e good = few_with o c u x (subst IsRedBlack (sym e) good)
+
+-- a record less
+module _ {K : Type 0} (o : Order K) (law : IsLawful o) (n c : ℕ) (t : Branches) (old room : ℕ)
+    (more : room ≡ old + 1) (is : IsPicture o (picture_of n c t old)) (good : IsRedBlack t) (a : ℕ)
+    (seen : Record → Ordering) (sought : Sought a seen t) (there : has a (items_of (rows t)) ≡ true)
+  where
+    rows_without : rows (tree_without seen t) ≡ remove (rows t) (place_of a (items_of (rows t)))
+    rows_without = sought.erases
+
+    items_without : items_of (rows (tree_without seen t)) ≡ without a (items_of (rows t))
+    items_without = ap items_of rows_without
+        ∙ map-remove (λ r. r.item) (rows t) (place_of a (items_of (rows t)))
+        ∙ sym (without_place o law a (items_of (rows t)) is.is_table there)
+
+    listed_without : listed (shape (tree_without seen t))
+        ≡ remove (listed (shape t)) (place_of a (items_of (rows t)))
+    listed_without =
+        let p = place_of a (items_of (rows t)) in
+        listed_rows (tree_without seen t) ∙ ap (map (λ r. r.node)) rows_without
+        ∙ map-remove (λ r. r.node) (rows t) p ∙ ap (λ xs. remove xs p) (sym (listed_rows t))
+
+    relinks_without : Relinks n c (Among (shape t)) (shape t) (shape (tree_without seen t))
+        (erase_links c seen t)
+    relinks_without = erase_relinks n c is.one_copy seen t (all_among (λ j. j < n) (shape t) is.below)
+        (separate (shape t) is.distinct)
+
+    pub picture_without : IsPicture o (picture_of n c (tree_without seen t) room)
+    picture_without =
+        let u = tree_without seen t in
+        let p = place_of a (items_of (rows t)) in
+        let below_new : AllByRecursion (λ i. i < n) (listed (shape u)) =
+        subst (AllByRecursion (λ i. i < n)) (sym listed_without)
+        (all_remove (λ i. i < n) (listed (shape t)) p is.below) in
+        let distinct_new : AreDistinct (listed (shape u)) =
+        subst AreDistinct (sym listed_without) (distinct_remove (listed (shape t)) p is.distinct)
+        in
+        let many = as_many_rows u in
+        record {
+          one_copy = is.one_copy;
+          is_table = subst (IsTable o) (sym items_without)
+              (without_table o a (items_of (rows t)) is.is_table);
+          below = below_new;
+          distinct = distinct_new;
+          as_many = many;
+          fits = omega (arith, many, distinct_fit (listed (shape u)) n distinct_new below_new);
+          balanced = (u, erased_red_black seen t good, refl);
+        }
+
+    links_are_without : AreLinks (picture_of n c t old) (links_without c seen t)
+    links_are_without = record {
+      words = root_links n c is.one_copy (Among (shape t)) (all_among (λ j. j < n) (shape t) is.below)
+          (shape t) (shape (tree_without seen t)) (erase_links c seen t) relinks_without;
+      values = root_values n c is.one_copy (Among (shape t))
+          (all_among (λ j. j < n) (shape t) is.below) (shape t) (shape (tree_without seen t))
+          (erase_links c seen t) relinks_without;
+    }
+
+    alone_without : (m : List ℕ) → IsPictured m (picture_of n c t old) →
+        IsPictured (words_after_all m (links_without c seen t))
+        (picture_of n c (tree_without seen t) room)
+    alone_without m shown =
+        let u = tree_without seen t in
+        let links = links_without c seen t in
+        let p = place_of a (items_of (rows t)) in
+        let stored : Stored m (rows u) =
+        subst (Stored m) (sym rows_without)
+        (all_remove (λ r. item_at m r.node ≡ r.item) (rows t) p
+        (items_stored m t shown.holds.listed_items)) in
+        record {
+          sized = length_after m links ∙ shown.sized;
+          holds = record {
+            leads = root_leads n c is.one_copy (Among (shape t))
+                (all_among (λ j. j < n) (shape t) is.below) (shape t) (shape u) (erase_links c seen t)
+                relinks_without m shown.sized shown.holds.leads;
+            listed_items = stored_items (words_after_all m links) u
+                (stored_kept m n c links (rows u) is.one_copy links_are_without.words stored);
+          };
+        }
+
+    pub leads_without : LeadsByLinks (picture_of n c t old)
+        (picture_of n c (tree_without seen t) room) (links_without c seen t)
+    leads_without = record { links_only = links_are_without; leads = alone_without }
+
+    pub erases_without : (x : Record) → found seen t ≡ Some x →
+        Erases (picture_of n c t old) (picture_of n c (tree_without seen t) room) a x.node
+    erases_without x is_x =
+        let p = place_of a (items_of (rows t)) in
+        let at_p : slice_get (rows t) p ≡ Some x = sym sought.finds ∙ is_x in
+        let node_at : slice_get (listed (shape t)) p ≡ Some x.node =
+        ap (λ xs. slice_get xs p) (listed_rows t) ∙ slice_get-map (λ (r : Record). r.node) (rows t) p
+        ∙ ap (option_map (λ (r : Record). r.node)) at_p in
+        let item_there : slice_get (items_of (rows t)) p ≡ Some x.item =
+        slice_get-map (λ (r : Record). r.item) (rows t) p
+        ∙ ap (option_map (λ (r : Record). r.item)) at_p in
+        let is_a : x.item.a ≡ a = place_of_has a (items_of (rows t)) x.item there item_there in
+        record {
+          capacity = refl;
+          copy = refl;
+          table = items_without;
+          nodes = λ i. (
+            (λ h. member_remove (listed (shape t)) p x.node i is.distinct node_at
+                (subst (λ xs. Contains xs i) listed_without h)),
+            (λ h. subst (λ xs. Contains xs i) (sym listed_without)
+                (remove_member (listed (shape t)) p x.node i node_at h)),
+          );
+          in_order = listed_without;
+          at_place = node_at;
+          had_item = λ m held. ap (λ (i : Item). i.a)
+              (all_get (λ r. item_at m r.node ≡ r.item) (rows t) p x
+              (items_stored m t held.holds.listed_items) at_p) ∙ is_a;
+          room = more;
+        }
+
+-- thirteen links at most, with the root's
+pub few_without : (c : ℕ) (seen : Record → Ordering) (t : Branches) →
+    length (links_without c seen t) ≤ 13
+few_without c seen t =
+    let ss = erase_links c seen t in
+    let u = tree_without seen t in
+    let k = erased_lost c seen t in
+    let root = with_root_link c (link (shape t)) (link (shape u)) (length ss) 12 k.all k.moved in
+    omega (arith, length-append ss (relink_root c (link (shape t)) (link (shape u))), root)
+
+-- the walk over all nodes
+reach_listed : (i : ℕ) (t : Branches) → has_node i t ≡ true → Contains (listed (shape t)) i
+reach_listed i tip e = absurd (cc)
+reach_listed i (branch red l y r) e =
+    ⊎_elim
+    (λ h. Contains-append_right (listed (shape l)) (y.node ∷ listed (shape r)) i
+    (0, omega arith, eqb-true y.node i h))
+    (λ h.
+    ⊎_elim
+    (λ b. Contains-append_left (listed (shape l)) (y.node ∷ listed (shape r)) i
+    (reach_listed i l b))
+    (λ b. Contains-append_right (listed (shape l)) (y.node ∷ listed (shape r)) i
+    (member_more y.node i (listed (shape r)) (reach_listed i r b)))
+    (or_cases (has_node i l) (has_node i r) h))
+    (or_cases (y.node == i) (has_node i l || has_node i r) e)
+
+or_second : (a b : Bool) → b ≡ true → (a || b) ≡ true
+or_second a b e = elim a as (λ v. (v || b) ≡ true) [ true ↦ refl | false ↦ e ]
+
+or_first : (a b : Bool) → a ≡ true → (a || b) ≡ true
+or_first a b e = rw e refl
+
+listed_reach : (i : ℕ) (t : Branches) → Contains (listed (shape t)) i → has_node i t ≡ true
+listed_reach i tip is = let n = is.1 in absurd (omega (arith, n))
+listed_reach i (branch red l y r) is =
+    ⊎_elim
+    (λ b. or_second (y.node == i) (has_node i l || has_node i r)
+    (or_first (has_node i l) (has_node i r) (listed_reach i l b)))
+    (λ b.
+    ⊎_elim
+    (λ e. or_first (y.node == i) (has_node i l || has_node i r) (eq-eqb y.node i e))
+    (λ d. or_second (y.node == i) (has_node i l || has_node i r)
+    (or_second (has_node i l) (has_node i r) (listed_reach i r d)))
+    (members y.node i (listed (shape r)) b))
+    (Contains-append_cases (listed (shape l)) (y.node ∷ listed (shape r)) i is)
+
+pub reaches_shown : (i : ℕ) (t : Branches) → (has_node i t ≡ true) ↔ Contains (listed (shape t)) i
+reaches_shown i t = (reach_listed i t, listed_reach i t)
+
+length_insert : {X : Type 0} (xs : List X) (i : ℕ) (x : X) →
+    length (insert xs i x) ≡ suc (length xs)
+length_insert xs zero x = refl
+length_insert [] (suc i) x = refl
+length_insert (y ∷ xs) (suc i) x = ap suc (length_insert xs i x)
+
+length_removed : {X : Type 0} (xs : List X) (i : ℕ) (x : X) → slice_get xs i ≡ Some x →
+    suc (length (remove xs i)) ≡ length xs
+length_removed [] i x e = absurd (cc)
+length_removed (y ∷ xs) zero x e = refl
+length_removed (y ∷ xs) (suc i) x e = ap suc (length_removed xs i x e)
+
 -- the whole of a planned insert, as a shape shows it
-module _ {K : Type 0} (o : Order K) (law : IsLawful o) (n c : ℕ) (rows new : Rows) (x : Record) (p : ℕ) (place : p ≡ place_for o x.item (items_of rows.list)) (list : new.list ≡ insert rows.list p x) (more : new.room + 1 ≡ rows.room) (is : IsPicture o (picture_of n c rows)) where
-  abbrev AfterInsert : Picture → Type 0
-  AfterInsert shown =
-      IsPicture o (picture_of n c new) × Inserts o shown (picture_of n c new) x.node x.item × LeadsWithItem shown (picture_of n c new) x.node x.item (insert_links c (take p rows.list) x (drop p rows.list))
+module _ {K : Type 0} (o : Order K) (law : IsLawful o) (n c : ℕ) (t u : Branches) (old room : ℕ)
+    (x : Record) (is_u : u ≡ tree_with o x t) (more : room + 1 ≡ old)
+    (is : IsPicture o (picture_of n c t old)) (good : IsRedBlack t) where
+  pub record AfterInsert (shown : Picture) : Type 0 where
+    pub picture : IsPicture o (picture_of n c u room)
+    pub balanced : IsRedBlack u
+    pub count : length (rows u) ≡ suc (length (rows t))
+    pub inserts : Inserts o shown (picture_of n c u room) x.node x.item
+    pub leads : LeadsWithItem shown (picture_of n c u room) x.node x.item (links_with c o x t)
 
-  abbrev CanInsert : Picture → Type 0
-  CanInsert shown = (x.node < shown.capacity) × (Contains (listed shown.tree) x.node → ⊥) × (o.valid x.item ≡ true) × (meets o x.item shown.table ≡ false)
+  abbrev pub CanInsert : Picture → Type 0
+  CanInsert shown = (x.node < shown.capacity) × (Contains (listed shown.tree) x.node → ⊥)
+      × (o.valid x.item ≡ true) × (meets o x.item shown.table ≡ false)
 
-  whole_insert : CanInsert (picture_of n c rows) → AfterInsert (picture_of n c rows)
-  whole_insert can =
-      let fresh : Rows = record { list = insert rows.list p x; room = new.room } in
-      let picture = inserted_picture o law n c rows is x can.0 can.1 can.2 can.3 new.room p place in
-      let inserts = inserted o law n c rows is x can.0 can.1 can.2 can.3 new.room p place more in
-      let leads = inserted_leads n c is.one_copy rows is.below x can.0 can.1 p new.room picture.distinct in
-      subst
-      (λ l. IsPicture o (picture_of n c (record { list = l; room = new.room })) × Inserts o (picture_of n c rows) (picture_of n c (record { list = l; room = new.room })) x.node x.item
-      × LeadsWithItem (picture_of n c rows) (picture_of n c (record { list = l; room = new.room })) x.node x.item (insert_links c (take p rows.list) x (drop p rows.list)))
-      (sym list) (picture, inserts, leads)
-
-  pub shown_insert : (shown : Picture) → picture_of n c rows ≡ shown → CanInsert shown → AfterInsert shown
-  shown_insert shown view = subst (λ q. CanInsert q → AfterInsert q) view whole_insert
+  pub shown_insert : (shown : Picture) → picture_of n c t old ≡ shown → CanInsert shown →
+      AfterInsert shown
+  shown_insert shown view can0 =
+      let can : CanInsert (picture_of n c t old) = subst CanInsert (sym view) can0 in
+      let v = tree_with o x t in
+      let count_v : length (rows v) ≡ suc (length (rows t)) =
+      ap length (rows_with o law n c t old room more is good x can.0 can.1 can.2 can.3)
+      ∙ length_insert (rows t) (place_for o x.item (items_of (rows t))) x in
+      record {
+        picture = subst (λ w. IsPicture o (picture_of n c w room)) (sym is_u)
+            (picture_with o law n c t old room more is good x can.0 can.1 can.2 can.3);
+        balanced = subst IsRedBlack (sym is_u) (inserted_red_black o.less x t good);
+        count = ap (λ w. length (rows w)) is_u ∙ count_v;
+        inserts = subst (λ s. Inserts o s (picture_of n c u room) x.node x.item) view
+            (subst (λ w. Inserts o (picture_of n c t old) (picture_of n c w room) x.node x.item)
+            (sym is_u) (inserts_with o law n c t old room more is good x can.0 can.1 can.2 can.3));
+        leads = subst (λ s. LeadsWithItem s (picture_of n c u room) x.node x.item
+            (links_with c o x t)) view (subst
+            (λ w. LeadsWithItem (picture_of n c t old) (picture_of n c w room) x.node x.item
+            (links_with c o x t)) (sym is_u)
+            (leads_with o law n c t old room more is good x can.0 can.1 can.2 can.3));
+      }
 
 -- and of a planned erase
-module _ {K : Type 0} (o : Order K) (law : IsLawful o) (n c : ℕ) (rows new : Rows) (a p : ℕ) (x : Record) (place : p ≡ place_of a (items_of rows.list)) (at_p : slice_get rows.list p ≡ Some x) (list : new.list ≡ remove rows.list p) (more : new.room ≡ rows.room + 1) (is : IsPicture o (picture_of n c rows)) where
-  abbrev AfterErase : Picture → Type 0
-  AfterErase shown =
-      IsPicture o (picture_of n c new) × Erases shown (picture_of n c new) a x.node × LeadsByLinks shown (picture_of n c new) (erase_links c (take p rows.list) (drop (p + 1) rows.list))
+module _ {K Z : Type 0} (o : Order K) (law : IsLawful o) (n c : ℕ) (t u : Branches)
+    (old room a node : ℕ) (from to : Vec Store Z) (takes : TakesOut c a t u node from to)
+    (more : room ≡ old + 1) (is : IsPicture o (picture_of n c t old)) (good : IsRedBlack t) where
+  pub record AfterErase (shown : Picture) : Type 0 where
+    pub picture : IsPicture o (picture_of n c u room)
+    pub balanced : IsRedBlack u
+    pub count : suc (length (rows u)) ≡ length (rows t)
+    pub erases : Erases shown (picture_of n c u room) a node
+    pub leads : LeadsByLinks shown (picture_of n c u room) (links_without c takes.seen t)
 
-  whole_erase : has a (items_of rows.list) ≡ true → AfterErase (picture_of n c rows)
-  whole_erase there =
-      let next : suc p ≡ p + 1 = omega arith in
-      let picture = erased_picture o law n c rows is a there new.room p place in
-      let erases = erased o law n c rows is a there new.room p x place at_p more in
-      let leads = subst (λ k. LeadsByLinks (picture_of n c rows) (picture_of n c (record { list = remove rows.list p; room = new.room })) (erase_links c (take p rows.list) (drop k rows.list))) next (erased_leads n c is.one_copy rows is.below x p new.room at_p is.distinct) in
-      subst
-      (λ l. IsPicture o (picture_of n c (record { list = l; room = new.room })) × Erases (picture_of n c rows) (picture_of n c (record { list = l; room = new.room })) a x.node
-      × LeadsByLinks (picture_of n c rows) (picture_of n c (record { list = l; room = new.room })) (erase_links c (take p rows.list) (drop (p + 1) rows.list)))
-      (sym list) (picture, erases, leads)
+  pub shown_erase : (shown : Picture) → picture_of n c t old ≡ shown → has a shown.table ≡ true →
+      AfterErase shown
+  shown_erase shown view there0 =
+      let there : has a (items_of (rows t)) ≡ true =
+      subst (λ s. has a s.table ≡ true) (sym view) there0 in
+      let seen = takes.seen in
+      let x = takes.row in
+      let before = picture_of n c t old in
+      let at_p : slice_get (rows t) (place_of a (items_of (rows t))) ≡ Some x =
+      sym takes.sought.finds ∙ takes.finds in
+      let count_v : suc (length (rows (tree_without seen t))) ≡ length (rows t) =
+      ap (λ xs. suc (length xs)) takes.sought.erases
+      ∙ length_removed (rows t) (place_of a (items_of (rows t))) x at_p in
+      let erases : Erases before (picture_of n c u room) a x.node =
+      subst (λ w. Erases before (picture_of n c w room) a x.node) (sym takes.tree)
+      (erases_without o law n c t old room more is good a seen takes.sought there x takes.finds)
+      in
+      let leads : LeadsByLinks before (picture_of n c u room) (links_without c seen t) =
+      subst (λ w. LeadsByLinks before (picture_of n c w room) (links_without c seen t))
+      (sym takes.tree)
+      (leads_without o law n c t old room more is good a seen takes.sought there) in
+      record {
+        picture = subst (λ w. IsPicture o (picture_of n c w room)) (sym takes.tree)
+            (picture_without o law n c t old room more is good a seen takes.sought there);
+        balanced = subst IsRedBlack (sym takes.tree) (erased_red_black seen t good);
+        count = ap (λ w. suc (length (rows w))) takes.tree ∙ count_v;
+        erases = subst (λ s. Erases s (picture_of n c u room) a node) view
+            (subst (Erases before (picture_of n c u room) a) takes.number erases);
+        leads = subst (λ s. LeadsByLinks s (picture_of n c u room) (links_without c seen t)) view
+            leads;
+      }
 
-  pub shown_erase : (shown : Picture) → picture_of n c rows ≡ shown → has a shown.table ≡ true → AfterErase shown
-  shown_erase shown view = subst (λ q. has a q.table ≡ true → AfterErase q) view whole_erase
+-- a way down has so few nodes that a cursor has a step for each
+pub few_steps : {K : Type 0} (o : Order K) (n c : ℕ) (t : Branches) (room : ℕ) → n ≤ 65536 →
+    IsPicture o (picture_of n c t room) → depth (shape t) ≤ 64
+few_steps o n c t room small is =
+    let d = depth (shape t) in
+    let k = length (listed (shape t)) in
+    let most : k + 1 ≤ 65537 = omega (arith, small, is.as_many, is.fits) in
+    let square : (k + 1) * (k + 1) ≤ 65537 * 65537 = mul-le-mul most most in
+    ⊎_elim
+    (λ deep. let power : 2 ^ 65 ≤ 2 ^ d = pow-le-pow_right (omega arith) deep in
+    absurd (omega (arith, power, square, shallow (shape t) is.balanced)))
+    (λ le. le)
+    (cases_lt 64 d)
 
--- where an erase finds its record
-pub erase_within : (n c a : ℕ) (rows : Rows) (shown : Picture) → picture_of n c rows ≡ shown → has a shown.table ≡ true → place_of a (items_of rows.list) < length rows.list
-erase_within n c a rows shown view there =
-    omega (arith, place_of_fits a (items_of rows.list) (ap (λ q. has a q.table) view ∙ there), length-map rows.list (λ (r : Record). r.item))
+get_some : {X : Type 0} (xs : List X) (i : ℕ) → i < length xs → is_some (slice_get xs i) ≡ true
+get_some [] i lt = absurd (omega (arith, lt))
+get_some (x ∷ xs) zero lt = refl
+get_some (x ∷ xs) (suc i) lt = get_some xs i (omega (arith, lt))
 
-pub insert_within : {K : Type 0} (o : Order K) (item : Item) (rows : Rows) → place_for o item (items_of rows.list) ≤ length rows.list
-insert_within o item rows = omega (arith, place_for_fits o item (items_of rows.list), length-map rows.list (λ (r : Record). r.item))
-
--- a walk over the records finds the nodes of the tree
-pub reached_here : (rows : List Record) (i node : ℕ) (r : Record) → slice_get rows i ≡ Some r → r.node ≡ node → Contains (listed (chain_tree rows)) node
-reached_here rows i node r at_i e =
-    let found : slice_get (listed (chain_tree rows)) i ≡ Some node =
-    ap (λ xs. slice_get xs i) (listed_chain rows) ∙ slice_get-map (λ (s : Record). s.node) rows i ∙ ap (option_map (λ (s : Record). s.node)) at_i ∙ ap Some e in
-    (i, slice_get_within (listed (chain_tree rows)) i node found, get_or_from_slice_get (listed (chain_tree rows)) i node node found)
-
-pub reached_past : (rows : List Record) (i node : ℕ) (r : Record) → slice_get rows i ≡ Some r → r.node ≢ node → Contains (listed (chain_tree (drop i rows))) node → Contains (listed (chain_tree (drop (i + 1) rows))) node
-reached_past rows i node r at_i differs is =
-    ⊎_elim (λ e. absurd (differs e)) (λ rest. rest)
-    (members r.node node (listed (chain_tree (drop (i + 1) rows))) (subst (λ rs. Contains (listed (chain_tree rs)) node) (drop_at rows i r at_i) is))
-
-pub reached_none : (rows : List Record) (i node : ℕ) → length rows ≤ i → Contains (listed (chain_tree (drop i rows))) node → ⊥
-reached_none rows i node past is =
-    let empty : drop i rows ≡ [] = drop_all i rows past in
-    let n = is.1 in
-    omega (arith, n, ap (λ rs. length (listed (chain_tree rs))) empty)
+-- a record that was found is there
+pub found_there : (a : ℕ) (seen : Record → Ordering) (t : Branches) → Sought a seen t →
+    has a (items_of (rows t)) ≡ true → is_some (found seen t) ≡ true
+found_there a seen t sought there =
+    ap is_some sought.finds ∙ get_some (rows t) (place_of a (items_of (rows t)))
+    (omega (
+      arith,
+      place_of_fits a (items_of (rows t)) there,
+      length-map (rows t) (λ r. r.item),
+    ))

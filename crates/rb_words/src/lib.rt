@@ -6,9 +6,12 @@
 //! and then links; an erase stores links alone, since a node's item words serve both copies.
 #![tactic(auto)]
 
-mod records;
+pub mod mirrors;
+#[cfg(test)]
+mod run_tests;
 pub mod shapes;
 #[cfg(test)]
 mod tests;
 
+pub use mirrors::mirrored;
 pub use shapes::{STORES, Shape};

@@ -1,23 +1,35 @@
 //! A copy as its writer sees it, and the plans of its changes.
 //!
-//! The tree is a chain for now: the root is the least item, each right link leads to the next item, each left link is 0. No
-//! public clause tells so.
+//! The tree is red-black: colours stand in the writer's nodes alone, so a change of colours stores
+//! nothing.
 
-ghost use Rattle.std.specs.Prelude.{◌≡◌, ◌↔◌, ◌+◌, ◌*◌, ◌<◌, ◌≤◌, ◌++◌, [], map, true, false, List, IsTrue, IfOk, IfErr, Contains, length, take, drop, vec_len, vec_capacity};
-ghost use Rattle.order_laws.specs.Tables.{has, meets, without_all, place_for, place_of};
+ghost use Rattle.std.specs.Prelude.{◌≡◌, ◌↔◌, ◌+◌, ◌*◌, ◌<◌, ◌≤◌, ◌++◌, [], true, false, List, IsTrue};
+ghost use Rattle.std.specs.Prelude.{IfOk, IfErr, OnOk, IsSome, Some, Contains, length, vec_len, vec_capacity};
+ghost use Rattle.order_laws.specs.Tables.{IsTable, has, meets, without_all, place_for, place_of};
 ghost use Rattle.word_arena.specs.declared.stores.Store.{Store};
 ghost use Rattle.word_arena.specs.Layouts.{capacity_of};
 ghost use Rattle.word_arena.specs.Copies.{copy_number};
 ghost use Rattle.word_arena.specs.Words.{none, listed, root_word};
 ghost use Rattle.rb_words.specs.Pictures.{IsPicture};
 ghost use Rattle.rb_words.specs.Plans.{item_stores, Inserts, LeadsWithItem, Erases, LeadsByLinks};
-ghost use Rattle.rb_words.specs.ChainTrees.{link_to, word_before, insert_links, erase_links};
+ghost use Rattle.rb_words.specs.TreePictures.{zipper_with, links_with, zipper_without, links_without};
+ghost use Rattle.rb_words.specs.TreePictures.{Grows, TakesOut};
+ghost use Rattle.rb_cursor.specs.Stores.{Fits, Adds};
+ghost use Rattle.rb_trees.specs.Trees.{IsCalm, shape, depth, rows};
+ghost use Rattle.rb_trees.specs.Erased.{found};
+ghost use Rattle.rb_trees.specs.Found.{items_of};
 
-use crate::records::{Record, Records};
 use order_laws::{Item, Refusal, TreeOrder};
+use rb_cursor::Cursor;
+use rb_cursor::erases::erase;
+use rb_cursor::inserts::insert;
+use rb_cursor::probes::{ItemProbe, Probe, WordProbe};
+use rb_cursor::relinks::relink_root;
+use rb_cursor::searches::{find_any, has, meets, meets_any, reaches};
+use rb_trees::Record;
 use std::alloc::Global;
 use std::marker::{Model, PhantomData};
-use word_arena::places::{a_of, b_of, left_of, right_of, root_of, tag_of};
+use word_arena::places::{a_of, b_of, tag_of};
 use word_arena::{Layout, Store, TreeCopy};
 
 /// A plan has at most so many stores for each item, whatever the table.
@@ -31,7 +43,8 @@ pub const STORES: usize = 16;
 pub struct Shape<O: TreeOrder> {
     layout: Layout,
     copy: TreeCopy,
-    records: Records,
+    cursor: Cursor,
+    count: u32,
     alloc: Global,
     order: PhantomData<O>,
 }
@@ -40,15 +53,21 @@ impl<O: TreeOrder> Model for Shape<O> {
     ghost use Rattle.word_arena.specs.Layouts.{capacity_of};
     ghost use Rattle.word_arena.specs.Copies.{copy_number};
     ghost use Rattle.rb_words.specs.Pictures.{Picture, picture_code, IsPicture};
-    ghost use Rattle.rb_words.specs.ChainTrees.{picture_of};
+    ghost use Rattle.rb_words.specs.TreePictures.{picture_of};
+    ghost use Rattle.rb_trees.specs.Trees.{rows, IsRedBlack};
+    ghost use Rattle.std.specs.Prelude.{◌≡◌, [], length};
 
     ghost Value = { Picture };
 
     ghost coded = { picture_code };
 
-    ghost view = { λ s. picture_of (capacity_of s.layout) (copy_number s.copy) s.records };
+    ghost view = { λ s. picture_of (capacity_of s.layout) (copy_number s.copy) s.cursor.tree s.cursor.room };
 
-    ghost invariant = { λ s. IsPicture O.order (picture_of (capacity_of s.layout) (copy_number s.copy) s.records) };
+    ghost invariant = { λ s.
+        IsPicture O.order (picture_of (capacity_of s.layout) (copy_number s.copy) s.cursor.tree s.cursor.room)
+        × IsRedBlack s.cursor.tree
+        × (s.count ≡ length (rows s.cursor.tree))
+        × (s.cursor.path ≡ []) };
 }
 
 impl<O: TreeOrder> Shape<O> {
@@ -60,7 +79,8 @@ impl<O: TreeOrder> Shape<O> {
         Shape {
             layout: l,
             copy,
-            records: Records::new(alloc),
+            cursor: Cursor::new(alloc),
+            count: 0,
             alloc,
             order: PhantomData,
         }
@@ -71,44 +91,36 @@ impl<O: TreeOrder> Shape<O> {
         ensures count { result ≡ length self.now.table }
         ensures sound { IsPicture O.order self.now }
     {
-        self.records.len() as u32
+        self.count
     }
 
     /// Whether some item has this first word.
     pub fn has(&self, a: u64) -> bool
         ensures { result ≡ has a self.now.table }
     {
-        for place in 0..self.records.len() {
-            if self.records.at(place).item.a == a {
-                return true;
-            }
+        if O::in_line() {
+            has(&self.cursor.tree(), a)
+        } else {
+            find_any(&self.cursor.tree(), a).is_some()
         }
-        false
     }
 
     /// Whether the node is one of the pictured tree.
     pub fn reaches(&self, node: u32) -> bool
         ensures { IsTrue result ↔ Contains (listed self.now.tree) node }
     {
-        for place in 0..self.records.len() {
-            if self.records.at(place).node == node {
-                return true;
-            }
-        }
-        false
+        reaches(&self.cursor.tree(), node)
     }
 
     /// Whether some item, those with one of the first words `but` left out, is not apart from this one.
     pub fn meets(&self, item: &Item, but: &[u64]) -> bool
         ensures { result ≡ meets O.order item.now (without_all but.now self.now.table) }
     {
-        for place in 0..self.records.len() {
-            let other = self.records.at(place).item;
-            if !but.contains(&other.a) && !O::apart(&other, item) {
-                return true;
-            }
+        if O::in_line() && O::valid(item) {
+            meets::<O>(&self.cursor.tree(), item, but)
+        } else {
+            meets_any::<O>(&self.cursor.tree(), item, but)
         }
-        false
     }
 
     /// Makes room for `k` items, and hands out an empty list with room for `k` plans.
@@ -122,8 +134,26 @@ impl<O: TreeOrder> Shape<O> {
         ensures refusal { IfErr result (λ e. e ≡ Refusal.OutOfMemory) }
         ensures sound { IsPicture O.order self.new }
     {
-        self.records.reserve(k as usize)?;
+        self.cursor.reserve(k as usize)?;
         Ok(Vec::with_capacity(self.alloc, k as usize * STORES)?)
+    }
+
+    /// Makes room for `k` items, and in a list that is there already for `k` plans more: for a
+    /// writer that keeps its list from update to update.
+    ///
+    /// What is pictured and what is listed stay, also where memory is refused by
+    /// [`Refusal::OutOfMemory`].
+    pub fn reserve_in(&mut self, k: u32, out: &mut Vec<Store>) -> Result<(), Refusal>
+        ensures kept { self.new ≡ record self.old { room = self.new.room } }
+        ensures grown { self.old.room ≤ self.new.room }
+        ensures room { OnOk result (k ≤ self.new.room) }
+        ensures listed { out.new.items ≡ out.old.items }
+        ensures list { OnOk result (vec_len out.new + k * STORES ≤ vec_capacity out.new) }
+        ensures refusal { IfErr result (λ e. e ≡ Refusal.OutOfMemory) }
+        ensures sound { IsPicture O.order self.new }
+    {
+        self.cursor.reserve(k as usize)?;
+        Ok(out.reserve(k as usize * STORES)?)
     }
 
     /// Plans to insert an item in a free node, and pictures the copy with it.
@@ -144,12 +174,10 @@ impl<O: TreeOrder> Shape<O> {
         ensures was_sound { IsPicture O.order self.old }
         ensures sound { IsPicture O.order self.new }
     {
-        let place = place_for::<O>(&self.records, &item);
-        let record = Record { node, item };
-        let links = insert_links(&self.records, self.copy, place, record);
+        let _most = self.layout.capacity();
         append(out, &item_stores(node, item));
-        append(out, &links);
-        self.records.insert(place, record);
+        with_record::<O>(out, self.copy, &mut self.cursor, Record { node, item });
+        self.count += 1;
     }
 
     /// Plans to erase the item of this first word, and pictures the copy without it. Answers the node that is free then.
@@ -166,66 +194,86 @@ impl<O: TreeOrder> Shape<O> {
         ensures was_sound { IsPicture O.order self.old }
         ensures sound { IsPicture O.order self.new }
     {
-        let place = place_of(&self.records, a);
-        append(out, &erase_links(&self.records, self.copy, place));
-        self.records.remove(place).node
+        let _most = self.layout.capacity();
+        self.count -= 1;
+        without_word::<O>(out, self.copy, &mut self.cursor, a)
     }
 }
 
-// Where the item comes in the order.
-fn place_for<O: TreeOrder>(records: &Records, item: &Item) -> usize
-    ensures { result ≡ place_for O.order item.now (map (λ r. r.item) records.now.list) }
+// Puts a record into the tree, and appends the stores of links.
+fn with_record<O: TreeOrder>(
+    out: &mut Vec<Store>,
+    copy: TreeCopy,
+    cursor: &mut Cursor,
+    added: Record,
+)
+    requires whole { cursor.old.path ≡ [] }
+    requires calm { IsCalm cursor.old.tree }
+    requires steps { depth (shape cursor.old.tree) ≤ 64 }
+    requires room { 0 < cursor.old.room }
+    requires list { Fits out.old (links_with (copy_number copy) O.order added cursor.old.tree) }
+    ensures cursor { cursor.new ≡ zipper_with O.order added cursor.old }
+    ensures items { Adds out.old (links_with (copy_number copy) O.order added cursor.old.tree) out.new }
+    ensures len { Grows out.old (links_with (copy_number copy) O.order added cursor.old.tree) out.new }
+    ensures capacity { vec_capacity out.new ≡ vec_capacity out.old }
 {
-    for place in 0..records.len() {
-        if O::less(item, &records.at(place).item) {
-            return place;
-        }
-    }
-    records.len()
+    let before = cursor.link();
+    insert::<O>(out, copy, cursor, added);
+    cursor.blacken();
+    relink_root(out, copy, before, cursor.link());
 }
 
-// Where the item of this first word is, or the number of records.
-fn place_of(records: &Records, a: u64) -> usize
-    ensures { result ≡ place_of a (map (λ r. r.item) records.now.list) }
+// Takes the record of a first word out of the tree, and appends the stores of links. Answers its
+// node. An order that is in no line has the item looked for among all first, since first words say
+// nothing there of where it stands.
+fn without_word<O: TreeOrder>(
+    out: &mut Vec<Store>,
+    copy: TreeCopy,
+    cursor: &mut Cursor,
+    a: u64,
+) -> u32
+    requires whole { cursor.old.path ≡ [] }
+    requires steps { depth (shape cursor.old.tree) ≤ 64 }
+    requires list { vec_len out.old + STORES ≤ vec_capacity out.old }
+    requires table { IsTable O.order (items_of (rows cursor.old.tree)) }
+    requires there { has a (items_of (rows cursor.old.tree)) ≡ true }
+    ensures gone { TakesOut (copy_number copy) a cursor.old.tree cursor.new.tree result out.old out.new }
+    ensures path { cursor.new.path ≡ [] }
+    ensures room { cursor.new.room ≡ cursor.old.room + 1 }
+    ensures few { vec_len out.new ≤ vec_len out.old + STORES }
+    ensures capacity { vec_capacity out.new ≡ vec_capacity out.old }
 {
-    for place in 0..records.len() {
-        if records.at(place).item.a == a {
-            return place;
-        }
+    if O::in_line() {
+        return without_sought(out, copy, cursor, &WordProbe(a)).node;
     }
-    records.len()
+    let Some(item) = find_any(&cursor.tree(), a) else {
+        unreachable!()
+    };
+    let order = PhantomData;
+    without_sought(out, copy, cursor, &ItemProbe::<O> { item, order }).node
 }
 
-// The link to the record at a place, 0 behind the last.
-fn link_at(records: &Records, place: usize) -> u64
-    ensures { result ≡ link_to (drop place records.now.list) }
+// Takes the record that is sought out of the tree, and appends the stores of links. Answers it.
+fn without_sought<P: Probe>(
+    out: &mut Vec<Store>,
+    copy: TreeCopy,
+    cursor: &mut Cursor,
+    sought: &P,
+) -> Record
+    requires whole { cursor.old.path ≡ [] }
+    requires steps { depth (shape cursor.old.tree) ≤ 64 }
+    requires list { Fits out.old (links_without (copy_number copy) (P.seen sought.now) cursor.old.tree) }
+    requires there { IsSome (found (P.seen sought.now) cursor.old.tree) }
+    ensures row { found (P.seen sought.now) cursor.old.tree ≡ Some result }
+    ensures cursor { cursor.new ≡ zipper_without (P.seen sought.now) cursor.old }
+    ensures items { Adds out.old (links_without (copy_number copy) (P.seen sought.now) cursor.old.tree) out.new }
+    ensures len { Grows out.old (links_without (copy_number copy) (P.seen sought.now) cursor.old.tree) out.new }
+    ensures capacity { vec_capacity out.new ≡ vec_capacity out.old }
 {
-    if place >= records.len() {
-        return 0;
-    }
-    records.at(place).node as u64 + 1
-}
-
-// The link to what comes behind the record at a place.
-fn link_behind(records: &Records, place: usize) -> u64
-    requires { place < length records.now.list }
-    ensures { result ≡ link_to (drop (place + 1) records.now.list) }
-{
-    if records.len() - place == 1 {
-        return 0;
-    }
-    link_at(records, place + 1)
-}
-
-// The word whose link leads to the record at a place.
-fn word_at(records: &Records, copy: TreeCopy, place: usize) -> usize
-    requires { place ≤ length records.now.list }
-    ensures { result ≡ word_before (copy_number copy) (root_word (copy_number copy)) (take place records.now.list) }
-{
-    if place == 0 {
-        return root_of(copy);
-    }
-    right_of(copy, records.at(place - 1).node)
+    let before = cursor.link();
+    let row = erase(out, copy, cursor, sought);
+    relink_root(out, copy, before, cursor.link());
+    row
 }
 
 // The stores of an item's words.
@@ -246,38 +294,6 @@ fn item_stores(node: u32, item: Item) -> [Store; 3]
             value: item.tag,
         },
     ]
-}
-
-// The stores that link a node in at a place: its own links first, so that no reader could come to it before they stand.
-fn insert_links(records: &Records, copy: TreeCopy, place: usize, added: Record) -> [Store; 3]
-    requires { place ≤ length records.now.list }
-    ensures { result ≡ insert_links (copy_number copy) (take place records.now.list) added (drop place records.now.list) }
-{
-    [
-        Store {
-            word: left_of(copy, added.node),
-            value: 0,
-        },
-        Store {
-            word: right_of(copy, added.node),
-            value: link_at(records, place),
-        },
-        Store {
-            word: word_at(records, copy, place),
-            value: added.node as u64 + 1,
-        },
-    ]
-}
-
-// The store that links what comes behind a place to what comes before it.
-fn erase_links(records: &Records, copy: TreeCopy, place: usize) -> [Store; 1]
-    requires { place < length records.now.list }
-    ensures { result ≡ erase_links (copy_number copy) (take place records.now.list) (drop (place + 1) records.now.list) }
-{
-    [Store {
-        word: word_at(records, copy, place),
-        value: link_behind(records, place),
-    }]
 }
 
 // Appends stores, for which there is room.

@@ -21,7 +21,7 @@ fn write_symbol<W: Write>(
 ) -> io::Result<()>
     ensures { Wrote W.contents writer.old writer.new result (symbol_text symbol.now offset size) }
 {
-    put(writer, symbol.name.as_slice())?;
+    put(writer, symbol.name)?;
     put(writer, b"+")?;
     put_hexadecimal(writer, offset)?;
     put(writer, b"/")?;

@@ -9,7 +9,11 @@ use order_laws::Item;
 
 /// The symbol of a module's region at an address, how far the address lies above it, and how many bytes it reaches,
 /// to the next address of a symbol or to the region's end. Of symbols at one address it is the one listed first.
-pub(crate) fn symbol_in(owner: &Module, end: u64, addr: u64) -> Option<(&Symbol, u64, u64)>
+pub(crate) fn symbol_in<'c, 'a>(
+    owner: &'c Module<'a>,
+    end: u64,
+    addr: u64,
+) -> Option<(&'c Symbol<'a>, u64, u64)>
     requires { addr < end }
     ensures { option_map seen result ≡ found_in owner.now.symbols end addr }
 {
@@ -25,7 +29,11 @@ pub(crate) fn symbol_in(owner: &Module, end: u64, addr: u64) -> Option<(&Symbol,
 /// It is the kept symbol of the item's module with the greatest address that is not above `addr`, the first listed
 /// among equal addresses. Its size reaches to the next greater address of such a symbol, or to the item's end. There is
 /// none where no symbol is at or below the address, or where the item's tag is the number of no module.
-pub fn symbol_of(catalog: &Catalog, item: Item, addr: u64) -> Option<(&Symbol, u64, u64)>
+pub fn symbol_of<'c, 'a>(
+    catalog: &'c Catalog<'a>,
+    item: Item,
+    addr: u64,
+) -> Option<(&'c Symbol<'a>, u64, u64)>
     requires from { item.a ≤ addr }
     requires below { addr < item.b }
     ensures { option_map seen result ≡ symbol_at catalog.now item addr }

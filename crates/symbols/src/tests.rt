@@ -2,9 +2,9 @@
 
 use crate::{symbol_of, write_answer};
 use devices::{Counted, FailAt};
-use modules::{Catalog, ModuleLine, SymbolLine};
+use modules::{Catalog, ModuleLine, SymbolLine, SymbolLines};
 use order_laws::Item;
-use std::alloc::{AllocError, Global};
+use std::alloc::Global;
 use std::process::Abort;
 use std::test::Fail;
 
@@ -20,41 +20,36 @@ const KERNEL: Item = Item {
     tag: 0,
 };
 
-fn symbol(
-    alloc: Global,
-    addr: u64,
-    name: &[u8],
-    module: Option<&[u8]>,
-) -> Result<SymbolLine, AllocError> {
-    let module = match module {
-        Some(module) => Some(Vec::from_slice(alloc, module)?),
-        None => None,
-    };
-    Ok(SymbolLine {
+fn symbol<'a>(addr: u64, name: &'a [u8], module: Option<&'a [u8]>) -> SymbolLine<'a> {
+    SymbolLine {
         addr,
         letter: b't',
-        name: Vec::from_slice(alloc, name)?,
+        name,
         module,
-    })
+    }
 }
 
-fn small_catalog(rt: &impl Abort, alloc: Global) -> Result<Catalog, Fail> {
+fn small_catalog(rt: &impl Abort, alloc: Global) -> Result<Catalog<'static>, Fail> {
     let ext4 = b"ext4".as_slice();
     let modules = [ModuleLine {
-        name: Vec::from_slice(alloc, ext4)?,
+        name: ext4,
         base: EXT4.a,
         size: 4096,
     }];
     let symbols = [
-        symbol(alloc, 0xffff_ffff_c000_0010, b"ext4_a", Some(ext4))?,
-        symbol(alloc, 0xffff_ffff_c000_0010, b"ext4_b", Some(ext4))?,
-        symbol(alloc, 0xffff_ffff_c000_0040, b"ext4_c", Some(ext4))?,
-        symbol(alloc, 0xffff_ffff_8100_0000, b"_stext", None)?,
-        symbol(alloc, 0xffff_ffff_8100_0100, b"do_one", None)?,
-        symbol(alloc, 0xffff_ffff_8100_2000, b"_end", None)?,
+        symbol(0xffff_ffff_c000_0010, b"ext4_a", Some(ext4)),
+        symbol(0xffff_ffff_c000_0010, b"ext4_b", Some(ext4)),
+        symbol(0xffff_ffff_c000_0040, b"ext4_c", Some(ext4)),
+        symbol(0xffff_ffff_8100_0000, b"_stext", None),
+        symbol(0xffff_ffff_8100_0100, b"do_one", None),
+        symbol(0xffff_ffff_8100_2000, b"_end", None),
     ];
     assert!(rt; modules.iter().all(|line| line.fits()));
-    let (catalog, _) = Catalog::build(alloc, &modules, &symbols)?;
+    let mut lines = SymbolLines::new(alloc);
+    for line in symbols {
+        lines.push(line)?;
+    }
+    let (catalog, _) = Catalog::build(alloc, &modules, &lines)?;
     Ok(catalog)
 }
 
@@ -99,7 +94,7 @@ fn symbols_of_addresses(rt: HostRuntime) -> Result<(), Fail> {
     let (symbol, offset, size) = symbol_of(&catalog, EXT4, 0xffff_ffff_c000_0018).ok_or(
         "no symbol",
     )?;
-    assert_eq!(rt; symbol.name.as_slice(), b"ext4_a".as_slice());
+    assert_eq!(rt; symbol.name, b"ext4_a".as_slice());
     assert_eq!(rt; (offset, size), (0x8, 0x30));
     assert!(rt; symbol_of(&catalog, EXT4, 0xffff_ffff_c000_0008).is_none());
     Ok(())

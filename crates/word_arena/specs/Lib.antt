@@ -1,5 +1,11 @@
+-- The definitions of this crate, in the order in which to read them.
+-- what a layout shows
 pub mod Layouts
+-- the two copies of the tree
 pub mod Copies
+-- a memory is a list of words
 pub mod Words
+-- stores
 pub mod Stores
+-- a tree of node numbers as a list, from which it is built again
 pub mod NodesCode

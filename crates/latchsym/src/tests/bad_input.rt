@@ -48,7 +48,7 @@ fn a_table_that_may_not_be_opened_is_refused(rt: HostRuntime) {
         assert!(rt; written.is_empty());
     }
     let (answer, written) = traced(rt.alloc(), b"latchtrace 1 halfopen 65536 4294967294");
-    assert!(rt; answer == Ok(0));
+    assert!(rt; answer == Ok(()));
     assert!(rt; written.as_slice() == b"seq 4294967294 gen 2147483647\n".as_slice());
 }
 
@@ -66,7 +66,7 @@ fn with_comment(alloc: Global, length: usize) -> Result<Vec<u8>, AllocError> {
 fn a_line_has_at_most_4096_bytes(rt: HostRuntime) -> Result<(), Fail> {
     let trace = with_comment(rt.alloc(), 4096)?;
     let (answer, written) = traced(rt.alloc(), &trace);
-    assert_eq!(rt; answer, Ok(0));
+    assert_eq!(rt; answer, Ok(()));
     assert!(rt;
         written.as_slice() == b"1 0x10 -> - gen 0 loads 3 tries 1\nseq 0 gen 0\n".as_slice()
     );
@@ -89,7 +89,7 @@ fn a_row_cut_anywhere_is_run_or_has_a_bad_line(rt: HostRuntime) {
             let breaks = cut.iter().filter(|b| **b == b'\n').count() as u64;
             let (answer, written) = traced(rt.alloc(), cut);
             match answer {
-                Ok(status) => assert!(rt; status == 0 && !written.is_empty(), "{} {end}", row.name),
+                Ok(()) => assert!(rt; !written.is_empty(), "{} {end}", row.name),
                 Err(Fault::BadLine { line, .. }) => {
                     assert!(rt;
                         line == breaks + 1 && written.is_empty(),

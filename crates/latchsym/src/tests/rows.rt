@@ -235,7 +235,7 @@ fn is_hit(loads: &str, items: u64) -> bool {
 fn each_row_has_its_lines(rt: HostRuntime) -> Result<(), Fail> {
     for row in &ROWS {
         let (answer, written) = traced(rt.alloc(), row.trace.as_bytes());
-        assert_eq!(rt; answer, Ok(0), "{}", row.name);
+        assert_eq!(rt; answer, Ok(()), "{}", row.name);
         assert!(rt;
             has_lines(std::str::from_utf8(&written)?, row),
             "{}",

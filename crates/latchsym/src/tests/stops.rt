@@ -47,7 +47,7 @@ fn loads_of(line: &str, answer: &str) -> Option<u64> {
 #[test]
 fn every_stop_has_one_table(rt: HostRuntime) -> Result<(), Fail> {
     let (answer, written) = traced(rt.alloc(), &stopped_trace(rt.alloc())?);
-    assert_eq!(rt; answer, Ok(0));
+    assert_eq!(rt; answer, Ok(()));
     let mut generation = 1u64;
     let mut lookups = 0u64;
     let mut old = 0u64;

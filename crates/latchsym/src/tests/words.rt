@@ -5,6 +5,7 @@ use clap::error::ErrorKind;
 use devices::Counted;
 use order_laws::Refusal;
 use std::alloc::Global;
+use std::test::Fail;
 
 /// The kind of what is wrong with a command line, if something is.
 fn fault_in(alloc: Global, words: &[&str]) -> Option<ErrorKind> {
@@ -67,4 +68,22 @@ fn a_fault_has_its_line(rt: HostRuntime) {
     let mut writer = Counted::new(Vec::new(alloc));
     assert!(rt; report_before_job(&Fault::Refused(Refusal::OutOfMemory), &mut writer) == 1);
     assert!(rt; writer.into_inner().as_slice() == b"latchsym: refused 7\n".as_slice());
+}
+
+/// As an error of other programs a fault names no file; its text is that of its line.
+#[test]
+fn a_fault_has_its_text(rt: HostRuntime) -> Result<(), Fail> {
+    let alloc = rt.alloc();
+    for (fault, text) in [
+        (Fault::Refused(Refusal::BadCapacity), "refused 10"),
+        (
+            Fault::BadLine { place: 0, line: 12 },
+            "line 12 is not understood",
+        ),
+        (Fault::Read { place: 0 }, "cannot be read"),
+        (Fault::Write, "cannot write"),
+    ] {
+        assert_eq!(rt; format!(in alloc; "{fault}")?.as_str(), text);
+    }
+    Ok(())
 }

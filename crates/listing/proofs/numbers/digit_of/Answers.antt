@@ -6,5 +6,5 @@ use Rattle.listing.proofs.numbers.digit_of.Goals as goal
 
 pub returns : goal.returns
 returns c =
-    let place : 48 + c.from.result ≡ c.args.byte = omega arith in
-    c.from-2.ensures ∙ digit_at DIGITS 48 c.from.result refl (omega arith) ∙ ap digit_value place
+    let place : 0 + c.from.result ≡ c.args.byte = omega arith in
+    c.from-2.ensures ∙ digit_at DIGITS 0 c.from.result refl (omega arith) ∙ ap digit_value place

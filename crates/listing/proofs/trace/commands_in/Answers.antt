@@ -3,7 +3,7 @@ use Rattle.std.proofs.lemmas.Grind.{common_steps}
 use Rattle.listing.specs.Lines.{lines_of}
 use Rattle.listing.specs.Trace.{commands_from, after_front}
 use Rattle.listing.proofs.Steps.{passed, taken}
-use Rattle.listing.proofs.trace.commands_in.Goals.{in-Nothing, in-One+else-is_err}
+use Rattle.listing.proofs.trace.commands_in.Goals.{in-Nothing, in-One+in_ok-push-in-One}
 use Rattle.listing.proofs.trace.commands_in.Goals as goal
 
 pub loop-rest-preserved : goal.loop-rest-preserved
@@ -18,7 +18,7 @@ loop-rest-preserved c =
       told = elim c.match-said_by.branch [
         | in-Nothing w ↦
             ap (λ v. after_front v.items (commands_from (n + 1) lines)) w.commands-is ∙ ap (after_front front) (sym (passed n line lines (sym w.in-Nothing.ensures))) ∙ before
-        | in-One+else-is_err w ↦
+        | in-One+in_ok-push-in-One w ↦
             let pushed : w.push.new.self.items ≡ front ++ w.in-One.command ∷ [] = grind (arith, common_steps) in
             ap (λ v. after_front v.items (commands_from (n + 1) lines)) w.commands-is ∙ ap (λ xs. after_front xs (commands_from (n + 1) lines)) pushed
             ∙ sym (taken n line lines front w.in-One.command (sym w.in-One.ensures)) ∙ before

@@ -16,7 +16,6 @@ loop-symbols-preserved c =
     let within : length done < length c.args.lines.now = omega (arith, ap length i.gone, length-append done (into_iter_items c.loop-symbols.symbols-iterator), ap length c.in-Some.ensures.steps.0, c.requires.same) in
     let made : (l : Bor ListedModule) → c.in_ok-new.field-0 ≡ module_with (get_or c.args.lines.now (length done) l).now c.in-Some.symbols.items = λ l.
     c.in_ok-new.ensures
-    ∙ ap (λ (n : List ℕ). named n) c.as_slice.ensures.value
     ∙ ap (λ (x : ListedModule). module_with x c.in-Some.symbols.items) c.line.view_is
     ∙ ap (λ (x : Bor ListedModule). module_with x.now c.in-Some.symbols.items) (c.index-lines-len.is ∙ ap (λ n. get_or c.args.lines.now n c.index-lines-len.result) place ∙ get_or_default c.args.lines.now (length done) c.index-lines-len.result l within) in
     record {

@@ -3,5 +3,5 @@ use Rattle.latch_core.specs.PlanViews.{PlanView}
 use Rattle.latch_core.proofs.PlanLemmas.{drop_more}
 use Rattle.latch_core.proofs.plans.Plan.advance.Goals as goal
 
-pub returns : goal.returns
-returns c = drop_more c.self.inside.made c.self.inside.stores.items ∙ ap (λ (p : PlanView). drop 1 p.left) c.self.view_is
+pub returns-clause-left : goal.returns-clause-left
+returns-clause-left c = drop_more c.self.inside.made c.self.inside.stores.items ∙ ap (λ (p : PlanView). drop 1 p.left) c.self.view_is

@@ -17,7 +17,7 @@ returns-then-meets g c =
     let i = c.in-Insert.item in
     let seen = sym c.self.view_is in
     let idle = ap (λ (v : WriterView). length v.left) seen ∙ (let none_left = c.if-remaining-gt0.false in omega (arith, c.remaining.ensures)) in
-    let met = ap (λ (v : WriterView). meets o i v.table) seen ∙ ap (meets o i) (sym (without_none c.self.inside.zero.table)) ∙ sym c.meets.ensures ∙ c.if-meets.true in
+    let met = ap (λ (v : WriterView). meets o i v.table) seen ∙ ap (meets o i) (sym (without_none c.self.inside.shape.table)) ∙ sym c.meets.ensures ∙ c.if-meets.true in
     why_overlap o w idle i (sym c.if-not-valid.ensures) met ∙ ap (why_refused o w) (sym c.in-Insert.is)
 
 pub returns-then-len-capacity : goal.returns-then-len-capacity
@@ -27,7 +27,7 @@ returns-then-len-capacity g c =
     let i = c.in-Insert.item in
     let seen = sym c.self.view_is in
     let idle = ap (λ (v : WriterView). length v.left) seen ∙ (let none_left = c.if-remaining-gt0.false in omega (arith, c.remaining.ensures)) in
-    let apart = ap (λ (v : WriterView). meets o i v.table) seen ∙ ap (meets o i) (sym (without_none c.self.inside.zero.table)) ∙ sym c.meets.ensures ∙ c.if-meets.false in
+    let apart = ap (λ (v : WriterView). meets o i v.table) seen ∙ ap (meets o i) (sym (without_none c.self.inside.shape.table)) ∙ sym c.meets.ensures ∙ c.if-meets.false in
     let full = ap (λ (v : WriterView). length v.table) seen ∙ sym c.len.ensures.count ∙ c.if-len-capacity.true ∙ c.capacity.ensures.is ∙ ap (λ (v : WriterView). v.capacity) c.self.view_is in
     why_full o w idle i (sym c.if-not-valid.ensures) apart full ∙ ap (why_refused o w) (sym c.in-Insert.is)
 
@@ -41,7 +41,7 @@ returns-then-is_spent g c =
     (elim c.match-u.branch [
       | in-Insert+else-not-valid+else-meets+else-len-capacity b ↦
           let i = b.in-Insert.item in
-          let apart = ap (λ (v : WriterView). meets o i v.table) seen ∙ ap (meets o i) (sym (without_none c.self.inside.zero.table)) ∙ sym b.meets.ensures ∙ b.if-meets.false in
+          let apart = ap (λ (v : WriterView). meets o i v.table) seen ∙ ap (meets o i) (sym (without_none c.self.inside.shape.table)) ∙ sym b.meets.ensures ∙ b.if-meets.false in
           let room = λ (full : length w.table ≡ w.capacity). b.if-len-capacity.false (b.len.ensures.count ∙ ap (λ (v : WriterView). length v.table) c.self.view_is ∙ full ∙ ap (λ (v : WriterView). v.capacity) seen ∙ sym b.capacity.ensures.is) in
           insert_spent o w idle i (sym b.if-not-valid.ensures) apart room ∙ ap (why_refused o w) (sym b.in-Insert.is)
       | in-Erase+else-not-has b ↦
@@ -62,7 +62,7 @@ returns g c =
     (elim c.match-u.branch [
       | in-Insert+else-not-valid+else-meets+else-len-capacity b ↦
           let i = b.in-Insert.item in
-          let apart = ap (λ (v : WriterView). meets o i v.table) seen ∙ ap (meets o i) (sym (without_none c.self.inside.zero.table)) ∙ sym b.meets.ensures ∙ b.if-meets.false in
+          let apart = ap (λ (v : WriterView). meets o i v.table) seen ∙ ap (meets o i) (sym (without_none c.self.inside.shape.table)) ∙ sym b.meets.ensures ∙ b.if-meets.false in
           let room = λ (full : length w.table ≡ w.capacity). b.if-len-capacity.false (b.len.ensures.count ∙ ap (λ (v : WriterView). length v.table) c.self.view_is ∙ full ∙ ap (λ (v : WriterView). v.capacity) seen ∙ sym b.capacity.ensures.is) in
           insert_spent o w idle i (sym b.if-not-valid.ensures) apart room ∙ ap (why_refused o w) (sym b.in-Insert.is)
       | in-Erase+else-not-has b ↦

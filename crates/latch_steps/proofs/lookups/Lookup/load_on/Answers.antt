@@ -7,32 +7,29 @@ use Rattle.latch_steps.proofs.lookups.Lookup.load_on.Goals as goal
 use Rattle.latch_steps.proofs.lookups.Lookup.load_on.Goals.{in-Going, in-Retrying}
 
 pub loop-turn-init : goal.loop-turn-init
-loop-turn-init g c = λ n limit w words is e. no_loads g.O.TreeOrder.order n limit w c.args.reader c.args.most c.args.done.now.items c.copy-lookup.result c.args.events is e
+loop-turn-init g c = λ n limit w words is e. no_loads g.O.TreeOrder.order n limit w c.args.reader c.args.most c.copy-lookup.result c.args.events is e
 
 pub loop-turn-preserved : goal.loop-turn-preserved
 loop-turn-preserved g c = λ n limit w words is e.
     let o = g.O.TreeOrder.order in
-    let before = c.args.done.now.items in
-    let now = c.loop-turn.done.items in
-    let new = c.push.new.self.items in
     let old = c.loop-turn.lookup in
     let next = c.saturating_add-events.result in
     let h = c.loop-turn.invariant n limit w words is e in
-    let made = λ (lk : Lookup g.row.O.Denot g.row.O-Key.Denot). Loading o n limit w c.args.reader c.args.most (c.loop-turn._turn + 1) before new lk next in
+    let made = λ (lk : Lookup g.row.O.Denot g.row.O-Key.Denot). Loading o n limit w c.args.reader c.args.most (c.loop-turn.turn + 1) lk next in
     elim c.match-load.branch [
       | in-Going x ↦ subst made (sym x.lookup-is)
-          (load_goes o n limit w c.args.reader c.args.most before now new old c.loop-turn.events next c.loop-turn._turn h c.in_ok-push.ensures.items c.saturating_add-events.ensures c.args.words.now words x.in-Going.next (x.in-Going.ensures n))
+          (load_goes o n limit w c.args.reader c.args.most old c.loop-turn.events next c.loop-turn.turn h c.saturating_add-events.ensures c.args.words.now words x.in-Going.next (x.in-Going.ensures n))
       | in-Retrying x ↦ subst made (sym x.lookup-is)
-          (load_retries o n limit w c.args.reader c.args.most before now new old c.loop-turn.events next c.loop-turn._turn h c.in_ok-push.ensures.items c.saturating_add-events.ensures c.args.words.now words x.in-Retrying.next (x.in-Retrying.ensures n))
+          (load_retries o n limit w c.args.reader c.args.most old c.loop-turn.events next c.loop-turn.turn h c.saturating_add-events.ensures c.args.words.now words x.in-Retrying.next (x.in-Retrying.ensures n))
     ]
 
 pub returns-in-Returned : goal.returns-in-Returned
 returns-in-Returned g c = λ n limit w words is e.
     let is' = subst (λ lk. IsInHand g.O.TreeOrder.order n (Some lk) (get w.lookups c.args.reader)) (sym c.copy-lookup.ensures) is in
-    load_ends g.O.TreeOrder.order n limit w c.args.reader c.args.most c.args.done.now.items c.loop-turn.done.items c.push.new.self.items c.loop-turn.lookup c.loop-turn.events c.saturating_add-events.result c.loop-turn._turn
-    (c.loop-turn.invariant n limit w words is' e) c.in_ok-push.ensures.items c.saturating_add-events.ensures c.args.words.now words c.in-Returned.returned (omega arith) (c.in-Returned.ensures n)
+    load_ends g.O.TreeOrder.order n limit w c.args.reader c.args.most c.loop-turn.lookup c.loop-turn.events c.saturating_add-events.result c.loop-turn.turn
+    (c.loop-turn.invariant n limit w words is' e) c.saturating_add-events.ensures c.args.words.now words c.in-Returned.returned (omega arith) (c.in-Returned.ensures n)
 
 pub returns : goal.returns
 returns g c = λ n limit w words is e.
     let is' = subst (λ lk. IsInHand g.O.TreeOrder.order n (Some lk) (get w.lookups c.args.reader)) (sym c.copy-lookup.ensures) is in
-    all_loaded g.O.TreeOrder.order n limit w c.args.reader c.args.most c.args.done.now.items c.loop-turn.done.items c.loop-turn.lookup c.loop-turn.events c.loop-turn._turn (c.loop-turn.invariant n limit w words is' e) (omega arith)
+    all_loaded g.O.TreeOrder.order n limit w c.args.reader c.args.most c.loop-turn.lookup c.loop-turn.events c.loop-turn.turn (c.loop-turn.invariant n limit w words is' e) (omega arith)

@@ -1,60 +1,33 @@
-use Rattle.std.proofs.Common.{◌∙◌}
-use Rattle.latch_steps.specs.Runs.{Moment}
-use Rattle.latch_steps.specs.Shows.{Shows}
-use Rattle.latch_steps.proofs.Searching.{search_started, search_more, search_ended, search_found, after_found, not_begun, never_spent, no_return}
+use Rattle.std.proofs.Common.{◌∙◌, refl, sym, arith}
+use Rattle.latch_steps.proofs.Showing.{no_lookup}
+use Rattle.latch_steps.proofs.Finding.{look_found, look_right, look_near, look_never, after_found}
 use Rattle.latch_steps.proofs.worlds.World.find_now.Goals as goal
 
-pub loop-turn-init : goal.loop-turn-init
-loop-turn-init g c =
-    record {
-      layout = c.start.ensures.layout;
-      searching = search_started g.O.TreeOrder.order g.met.O.TreeOrder.lawful c.args.self.now c.args.reader c.args.key c.start.new.self c.start.result c.start.ensures.steps c.in_default.not-Refused;
-    }
+pub returns-in_default-clause-refusal : goal.returns-in_default-clause-refusal
+returns-in_default-clause-refusal g c = λ start us h.
+    absurd (look_never g.O.TreeOrder.order g.met.O.TreeOrder.lawful c.args.self.now c.args.reader c.args.key start us h c.in_default.ensures.none)
 
-pub loop-turn-preserved : goal.loop-turn-preserved
-loop-turn-preserved g c =
-    let kept = c.loop-turn.invariant in
-    record {
-      layout = c.read.ensures.layout ∙ kept.layout;
-      searching = λ w s. search_more g.O.TreeOrder.order g.met.O.TreeOrder.lawful c.args.self.now c.args.reader c.args.key c.loop-turn.self c.read.new.self c.read.result c.loop-turn._turn w (kept.searching w s) kept.layout c.read.ensures.steps (no_return c.read.result c.in_default-read.not-Returned);
-    }
+pub returns-clause-finds : goal.returns-clause-finds
+returns-clause-finds g c =
+    let free = no_lookup _ (sym c.contains_key-is_busy.ensures ∙ c.if-is_busy.false) in
+    let fits = c.in-Some.ensures.fits in
+    look_found g.O.TreeOrder.order g.met.O.TreeOrder.lawful c.args.self.now c.args.reader c.args.key
+    c.in-Some.answer c.in-Some.generation c.in-Some.loads c.saturating_add-first.result c.saturating_add-self-2.result
+    (omega arith) free c.in-Some.ensures.found c.saturating_add-first.ensures c.saturating_add-self-2.ensures
 
-pub returns-in-Returned : goal.returns-in-Returned
-returns-in-Returned g c =
-    let o = g.O.TreeOrder.order in
-    let law = g.met.O.TreeOrder.lawful in
-    let kept = c.loop-turn.invariant in
-    let old = c.args.self.now in
-    let x = c.in-Returned.returned in
-    let steps = c.in-Returned.ensures.steps in
-    let lay = c.in-Returned.ensures.layout ∙ kept.layout in
-    let finds = λ (w : Moment g.row.O-Key.Denot) (s : Shows o old w). search_ended o law old c.args.reader c.args.key c.loop-turn.self c.read.new.self x c.loop-turn._turn w (kept.searching w s) kept.layout steps in
-    record {
-      layout = lay;
-      finds = finds;
-      found = λ start us h. search_found o law old c.args.reader c.args.key c.loop-turn.self c.read.new.self x c.loop-turn._turn start us h (kept.searching h.moment h.shows) kept.layout steps;
-      after = after_found o law old c.args.reader c.args.key c.read.new.self x finds lay;
-      refusal = λ start us h. tt;
-    }
+pub returns-clause-found : goal.returns-clause-found
+returns-clause-found g c = λ start us h.
+    look_right g.O.TreeOrder.order g.met.O.TreeOrder.lawful c.args.self.now c.args.reader c.args.key start us h c.in-Some.answer c.in-Some.generation c.in-Some.loads c.saturating_add-first.result c.saturating_add-self-2.result c.in-Some.ensures.found
 
-pub returns-in-Refused : goal.returns-in-Refused
-returns-in-Refused g c =
-    record {
-      layout = c.start.ensures.layout;
-      finds = tt;
-      found = tt;
-      after = tt;
-      refusal = not_begun g.O.TreeOrder.order g.met.O.TreeOrder.lawful c.args.self.now c.args.reader c.args.key c.start.new.self c.in-Refused.why c.start.result c.start.ensures.steps c.in-Refused.is;
-    }
+pub returns-clause-near : goal.returns-clause-near
+returns-clause-near g c = λ start us h.
+    look_near g.O.TreeOrder.order g.met.O.TreeOrder.lawful c.args.self.now c.args.reader c.args.key start us h c.in-Some.answer c.in-Some.generation c.in-Some.loads c.saturating_add-first.result c.saturating_add-self-2.result c.in-Some.ensures.found
 
-pub returns : goal.returns
-returns g c =
-    let kept = c.loop-turn.invariant in
-    let small = c.args.self.now.layout.most in
-    record {
-      layout = kept.layout;
-      finds = tt;
-      found = tt;
-      after = tt;
-      refusal = λ start us h. absurd (never_spent g.O.TreeOrder.order g.met.O.TreeOrder.lawful c.args.self.now c.args.reader c.args.key c.loop-turn.self c.loop-turn._turn start us h (kept.searching h.moment h.shows) small c.loop-turn-test.false);
-    }
+pub returns-clause-after : goal.returns-clause-after
+returns-clause-after g c =
+    let free = no_lookup _ (sym c.contains_key-is_busy.ensures ∙ c.if-is_busy.false) in
+    let fits = c.in-Some.ensures.fits in
+    let finds = look_found g.O.TreeOrder.order g.met.O.TreeOrder.lawful c.args.self.now c.args.reader c.args.key
+    c.in-Some.answer c.in-Some.generation c.in-Some.loads c.saturating_add-first.result c.saturating_add-self-2.result
+    (omega arith) free c.in-Some.ensures.found c.saturating_add-first.ensures c.saturating_add-self-2.ensures in
+    after_found g.O.TreeOrder.order g.met.O.TreeOrder.lawful c.args.self.now c.args.reader c.args.key _ _ finds refl

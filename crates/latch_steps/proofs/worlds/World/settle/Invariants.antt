@@ -1,6 +1,6 @@
 use Rattle.std.proofs.Common.{◌≡◌, length}
 use Rattle.latch_steps.specs.Runs.{Moment}
-use Rattle.latch_steps.specs.Shows.{Shows, layout_in}
+use Rattle.latch_steps.specs.Worlds.{Shows, layout_in}
 use Rattle.latch_steps.proofs.Settling.{Writing}
 use Rattle.latch_steps.proofs.worlds.World.settle.Given as goal
 

@@ -1,6 +1,6 @@
 use Rattle.std.proofs.Common.{sym, subst}
 use Rattle.latch_steps.specs.declared.events.Event.{Event}
-use Rattle.latch_steps.specs.Shows.{Steps}
+use Rattle.latch_steps.specs.WorldSteps.{Steps}
 use Rattle.latch_steps.proofs.Settling.{step_after}
 use Rattle.latch_steps.proofs.worlds.World.step.Goals as goal
 

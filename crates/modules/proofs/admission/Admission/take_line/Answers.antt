@@ -16,14 +16,14 @@ pub returns-then-contains_key-clause-after : goal.returns-then-contains_key-clau
 returns-then-contains_key-clause-after c =
     let a = c.args.self.now in
     let line = c.args.line.now in
-    let found = found_in a c.requires.tied line.name c.as_slice-name.result.now c.contains_key.result c.contains_key.ensures (c.as_slice-name.ensures.value ∙ ap (λ (l : ListedModule). l.name) c.line.view_is) in
+    let found = found_in a c.requires.tied line.name c.line.inside.name.now c.contains_key.result c.contains_key.ensures (ap (λ (l : ListedModule). l.name) c.line.view_is) in
     sym (after_double (shown a) line (found ∙ c.if-contains_key.true))
 
 pub returns-then-not-is_apart-clause-after : goal.returns-then-not-is_apart-clause-after
 returns-then-not-is_apart-clause-after c =
     let a = c.args.self.now in
     let line = c.args.line.now in
-    let found = found_in a c.requires.tied line.name c.as_slice-name.result.now c.contains_key.result c.contains_key.ensures (c.as_slice-name.ensures.value ∙ ap (λ (l : ListedModule). l.name) c.line.view_is) in
+    let found = found_in a c.requires.tied line.name c.line.inside.name.now c.contains_key.result c.contains_key.ensures (ap (λ (l : ListedModule). l.name) c.line.view_is) in
     let free = free_in a c.requires.tied (region_of line) (c.line.inside.base, c.line.inside.base + c.line.inside.size) c.is_apart.result c.is_apart.ensures (ap region_of c.line.view_is) in
     sym (after_overlap (shown a) line (found ∙ c.if-contains_key.false) (free ∙ c.if-not-is_apart.true))
 
@@ -31,7 +31,7 @@ pub returns-clause-after : goal.returns-clause-after
 returns-clause-after c =
     let a = c.args.self.now in
     let line = c.args.line.now in
-    let found = found_in a c.requires.tied line.name c.as_slice-name.result.now c.contains_key.result c.contains_key.ensures (c.as_slice-name.ensures.value ∙ ap (λ (l : ListedModule). l.name) c.line.view_is) in
+    let found = found_in a c.requires.tied line.name c.line.inside.name.now c.contains_key.result c.contains_key.ensures (ap (λ (l : ListedModule). l.name) c.line.view_is) in
     let free = free_in a c.requires.tied (region_of line) (c.line.inside.base, c.line.inside.base + c.line.inside.size) c.is_apart.result c.is_apart.ensures (ap region_of c.line.view_is) in
     let joined : map (λ (l : Bor ListedModule). l.now) c.push.new.self.items ≡ (shown a).lines ++ line ∷ [] = ap (map (λ (l : Bor ListedModule). l.now)) c.in_ok-push.ensures.items ∙ map-append (λ (l : Bor ListedModule). l.now) a.lines.items (c.args.line ∷ []) in
     ap (λ (ls : List ListedModule). record (shown a) { lines = ls }) joined ∙ sym (after_accepted (shown a) line (found ∙ c.if-contains_key.false) (free ∙ c.if-not-is_apart.false))
@@ -40,13 +40,13 @@ pub returns-clause-tied : goal.returns-clause-tied
 returns-clause-tied c =
     let a = c.args.self.now in
     let line = c.args.line.now in
-    let name_is : c.as_slice-name.result.now ≡ line.name = c.as_slice-name.ensures.value ∙ ap (λ (l : ListedModule). l.name) c.line.view_is in
-    let found = found_in a c.requires.tied line.name c.as_slice-name.result.now c.contains_key.result c.contains_key.ensures name_is in
+    let name_is : c.line.inside.name.now ≡ line.name = ap (λ (l : ListedModule). l.name) c.line.view_is in
+    let found = found_in a c.requires.tied line.name c.line.inside.name.now c.contains_key.result c.contains_key.ensures name_is in
     let joined : map (λ (l : Bor ListedModule). l.now) c.push.new.self.items ≡ (shown a).lines ++ line ∷ [] = ap (map (λ (l : Bor ListedModule). l.now)) c.in_ok-push.ensures.items ∙ map-append (λ (l : Bor ListedModule). l.now) a.lines.items (c.args.line ∷ []) in
     IsTied-accepted a line c.requires.tied _
     (ap (λ (ls : List ListedModule). record (shown a) { lines = ls }) joined)
     (found ∙ c.if-contains_key.false)
     c.len.result
     (c.len.ensures ∙ a.lines.ok.0 ∙ sym (length-map a.lines.items (λ (l : Bor ListedModule). l.now)))
-    (λ name. btree_map_updates_str c.as_slice-name.result.now a.places c.insert.new.self _ c.in_ok-insert.ensures.updates name ∙ ap (λ (w : List ℕ). cond (bytes_eq w name) (Some c.len.result) (get_by (λ q. slice_cmp nat_cmp name q.now) a.places)) name_is)
+    (λ name. btree_map_updates_str c.line.inside.name.now a.places c.insert.new.self _ c.in_ok-insert.ensures.updates name ∙ ap (λ (w : List ℕ). cond (bytes_eq w name) (Some c.len.result) (get_by (λ q. slice_cmp nat_cmp name q.now) a.places)) name_is)
     (λ p. c.in_ok-insert-2.ensures p ∙ ap (λ r. p r && list_all p a.taken) (ap region_of c.line.view_is))

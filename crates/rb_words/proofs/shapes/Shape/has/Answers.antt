@@ -1,13 +1,23 @@
-use Rattle.std.proofs.Common.{◌∙◌, sym, ap}
+use Rattle.std.proofs.Common.{◌∙◌, ap}
+use Rattle.std.specs.Prelude.{is_some}
 use Rattle.order_laws.specs.Tables.{has}
-use Rattle.rb_words.proofs.ScanLemmas.{has_here, has_past}
+use Rattle.rb_trees.specs.Erased.{first_word_at, found}
+use Rattle.rb_trees.specs.Found.{any_with}
+use Rattle.rb_trees.proofs.SoughtRows.{found_by_word, any_has}
 use Rattle.rb_words.proofs.shapes.Shape.has.Goals as goal
 
-pub returns-then-at-a : goal.returns-then-at-a
-returns-then-at-a g c =
-    sym (has_here c.self.inside.records.list c.loop-place.place c.at.result c.at.ensures c.args.a c.if-at-a.true)
-    ∙ c.loop-place.invariant ∙ ap (λ p. has c.args.a p.table) c.self.view_is
+pub returns-then-in_line : goal.returns-then-in_line
+returns-then-in_line g c =
+    c.has.ensures
+    ∙ ap (λ t. is_some (found (first_word_at c.args.a) t)) c.tree.ensures
+    ∙ found_by_word g.O.TreeOrder.order (c.in_line.ensures c.if-in_line.true) c.args.a
+    c.self.inside.cursor.tree c.self.invariant.0.is_table
+    ∙ ap (λ p. has c.args.a p.table) c.self.view_is
 
-pub loop-place-preserved : goal.loop-place-preserved
-loop-place-preserved g c =
-    has_past c.self.inside.records.list c.loop-place.place c.at.result c.at.ensures c.args.a c.if-at-a.false ∙ c.loop-place.invariant
+pub returns-else-in_line : goal.returns-else-in_line
+returns-else-in_line g c =
+    c.is_some.ensures
+    ∙ ap is_some c.find_any.ensures
+    ∙ ap (λ t. is_some (any_with c.args.a t)) c.tree-else-in_line.ensures
+    ∙ any_has c.args.a c.self.inside.cursor.tree
+    ∙ ap (λ p. has c.args.a p.table) c.self.view_is

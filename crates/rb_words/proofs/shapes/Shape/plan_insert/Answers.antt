@@ -1,41 +1,92 @@
-use Rattle.std.proofs.Common.{◌≡◌, ◌∙◌, ◌++◌, take, drop, ap, append_assoc, arith, rules}
+use Rattle.std.proofs.Common.{◌≡◌, ◌∙◌, ◌++◌, List, length, ap, append_assoc, arith}
+use Rattle.std.proofs.Common.{rules}
 use Rattle.word_arena.specs.Layouts.{capacity_of}
 use Rattle.word_arena.specs.Copies.{copy_number}
-use Rattle.rb_words.specs.declared.records.Record.{Record}
+use Rattle.word_arena.specs.declared.stores.Store.{Store}
+use Rattle.rb_trees.specs.declared.Record.{Record}
+use Rattle.rb_cursor.specs.Zippers.{Zipper}
+use Rattle.rb_words.specs.Pictures.{Picture}
 use Rattle.rb_words.specs.Plans.{item_stores}
-use Rattle.rb_words.specs.ChainTrees.{insert_links}
-use Rattle.rb_words.proofs.PlanLemmas.{shown_insert, insert_within}
+use Rattle.rb_words.specs.TreePictures.{links_with}
+use Rattle.rb_words.proofs.PlanLemmas.{shown_insert, few_with, few_steps}
 use Rattle.rb_words.proofs.shapes.Shape.plan_insert.Goals as goal
 
-pub insert_links-links-requires : goal.insert_links-links-requires
-insert_links-links-requires g c = omega (arith, c.place_for-place.ensures, insert_within g.O.TreeOrder.order c.args.item c.self.inside.records)
+pub with_record-requires-clause-steps : goal.with_record-requires-clause-steps
+with_record-requires-clause-steps g c =
+    few_steps g.O.TreeOrder.order (capacity_of c.self.inside.layout)
+    (copy_number c.self.inside.copy) c.self.inside.cursor.tree c.self.inside.cursor.room
+    (omega (arith, c.capacity-most.ensures.most, c.capacity-most.ensures.is)) c.self.invariant.0
 
-pub insert-requires-clause-within : goal.insert-requires-clause-within
-insert-requires-clause-within g c = omega (arith, c.place_for-place.ensures, insert_within g.O.TreeOrder.order c.args.item c.self.inside.records)
+pub with_record-requires-clause-list : goal.with_record-requires-clause-list
+with_record-requires-clause-list g c =
+    let x : Record = record { node = c.args.node; item = c.args.item } in
+    omega (
+      arith,
+      c.requires.list,
+      c.append.ensures.len,
+      c.append.ensures.capacity,
+      ap length c.item_stores.ensures,
+      few_with g.O.TreeOrder.order (copy_number c.self.inside.copy) c.self.inside.cursor.tree x
+          c.self.invariant.1,
+    )
 
 pub invariant_of-self : goal.invariant_of-self
 invariant_of-self g c =
-    let added : Record = record { node = c.args.node; item = c.args.item } in
-    (shown_insert g.O.TreeOrder.order g.met.O.TreeOrder.lawful (capacity_of c.self.inside.layout) (copy_number c.self.inside.copy) c.self.inside.records c.insert.new.self added c.place_for-place.result c.place_for-place.ensures c.insert.ensures.list c.insert.ensures.room c.self.invariant
-    c.args.self.now c.self.view_is (c.requires.in_range, c.requires.free, c.requires.valid, c.requires.apart)).0
+    let x : Record = record { node = c.args.node; item = c.args.item } in
+    let after = shown_insert g.O.TreeOrder.order g.met.O.TreeOrder.lawful
+    (capacity_of c.self.inside.layout) (copy_number c.self.inside.copy)
+    c.self.inside.cursor.tree c.with_record.new.cursor.tree c.self.inside.cursor.room
+    c.with_record.new.cursor.room x
+    (ap (λ (z : Zipper). z.tree) c.with_record.ensures.cursor)
+    (omega (
+      arith,
+      ap (λ (z : Zipper). z.room) c.with_record.ensures.cursor,
+      ap (λ (p : Picture). p.room) c.self.view_is,
+      c.requires.room,
+    ))
+    c.self.invariant.0 c.self.invariant.1 c.args.self.now c.self.view_is
+    (c.requires.in_range, c.requires.free, c.requires.valid, c.requires.apart) in (
+      after.picture,
+      after.balanced,
+      omega (arith, after.count, c.self.invariant.2),
+      ap (λ (z : Zipper). z.path) c.with_record.ensures.cursor,
+    )
 
 pub returns : goal.returns
 returns g c =
-    let added : Record = record { node = c.args.node; item = c.args.item } in
-    let links = insert_links (copy_number c.self.inside.copy) (take c.place_for-place.result c.self.inside.records.list) added (drop c.place_for-place.result c.self.inside.records.list) in
-    let after = shown_insert g.O.TreeOrder.order g.met.O.TreeOrder.lawful (capacity_of c.self.inside.layout) (copy_number c.self.inside.copy) c.self.inside.records c.insert.new.self added c.place_for-place.result c.place_for-place.ensures c.insert.ensures.list c.insert.ensures.room c.self.invariant
-    c.args.self.now c.self.view_is (c.requires.in_range, c.requires.free, c.requires.valid, c.requires.apart) in
-    let appended : c.append-2.new.out.items ≡ c.args.out.now.items ++ (item_stores c.args.node c.args.item ++ links) =
-    c.append-2.ensures.items
-    ∙ ap (λ xs. xs ++ c.insert_links-links.result) c.append.ensures.items
-    ∙ ap (λ xs. (c.args.out.now.items ++ xs) ++ c.insert_links-links.result) c.item_stores.ensures
-    ∙ append_assoc c.args.out.now.items (item_stores c.args.node c.args.item) c.insert_links-links.result
-    ∙ ap (λ xs. c.args.out.now.items ++ (item_stores c.args.node c.args.item ++ xs)) c.insert_links-links.ensures in
+    let x : Record = record { node = c.args.node; item = c.args.item } in
+    let order = g.O.TreeOrder.order in
+    let copy = copy_number c.self.inside.copy in
+    let after = shown_insert order g.met.O.TreeOrder.lawful (capacity_of c.self.inside.layout) copy
+    c.self.inside.cursor.tree c.with_record.new.cursor.tree c.self.inside.cursor.room
+    c.with_record.new.cursor.room x
+    (ap (λ (z : Zipper). z.tree) c.with_record.ensures.cursor)
+    (omega (
+      arith,
+      ap (λ (z : Zipper). z.room) c.with_record.ensures.cursor,
+      ap (λ (p : Picture). p.room) c.self.view_is,
+      c.requires.room,
+    ))
+    c.self.invariant.0 c.self.invariant.1 c.args.self.now c.self.view_is
+    (c.requires.in_range, c.requires.free, c.requires.valid, c.requires.apart) in
+    let links : List Store = links_with copy order x c.self.inside.cursor.tree in
+    let appended : c.with_record.new.out.items ≡ c.args.out.now.items
+    ++ (item_stores c.args.node c.args.item ++ links) =
+    c.with_record.ensures.items
+    ∙ ap (λ xs. xs ++ links) c.append.ensures.items
+    ∙ ap (λ xs. (c.args.out.now.items ++ xs) ++ links) c.item_stores.ensures
+    ∙ append_assoc c.args.out.now.items (item_stores c.args.node c.args.item) links in
     record {
-      pictures = after.1;
-      plan = (links, appended, after.2);
-      few = search rules;
+      pictures = after.inserts;
+      plan = (links, appended, after.leads);
+      few = omega (
+        arith,
+        c.with_record.ensures.len,
+        c.append.ensures.len,
+        ap length c.item_stores.ensures,
+        few_with order copy c.self.inside.cursor.tree x c.self.invariant.1,
+      );
       capacity = search rules;
       was_sound = search rules;
-      sound = after.0;
+      sound = after.picture;
     }

@@ -1,0 +1,92 @@
+//! What the measuring programs look up and change: ranges in slots, random numbers, and shuffled order.
+#![tactic(auto)]
+
+ghost use Rattle.std.specs.Prelude.{◌≡◌, ◌<◌, ◌≤◌, IfOk, length};
+
+use order_laws::Item;
+use std::alloc::{AllocError, Global};
+
+/// Where the slots begin.
+const BASE: u64 = 0x1000_0000_0000;
+
+/// How far the first addresses of two slots lie apart.
+const SLOT: u64 = 8192;
+
+/// How long a range is.
+const LENGTH: u64 = 4096;
+
+/// Random numbers of a linear congruential generator, from a seed on.
+#[derive(Drop)]
+pub struct Random(pub u64);
+
+impl Random {
+    /// The next random number below this one: the high half of their product, in two steps that fit 64 bits.
+    pub fn below(&mut self, most: u32) -> u32
+        requires some { 0 < most }
+        requires few { most ≤ 65536 }
+        ensures { result < most }
+    {
+        self.0 = self
+            .0
+            .wrapping_mul(6364136223846793005)
+            .wrapping_add(1442695040888963407);
+        let most = most as u64;
+        let low = self.0 % 4294967296 * most / 4294967296;
+        ((self.0 / 4294967296 * most + low) / 4294967296) as u32
+    }
+}
+
+/// A range somewhere in each of so many slots, tagged by the slot's number from 1 on.
+pub fn ranges(alloc: Global, random: &mut Random, slots: u32) -> Result<Vec<Item>, AllocError>
+    requires { slots ≤ 65536 }
+    ensures { IfOk result (λ all. length all.items ≡ slots) }
+{
+    let mut all = Vec::new(alloc);
+    for slot in 0..slots {
+        let a = BASE + slot as u64 * SLOT + random.below(LENGTH as u32) as u64;
+        all.push(Item {
+            a,
+            b: a + LENGTH,
+            tag: slot as u64 + 1,
+        })?;
+    }
+    Ok(all)
+}
+
+/// Puts the ranges in random order.
+pub fn shuffle(random: &mut Random, ranges: &mut [Item])
+    requires { length ranges.old ≤ 65536 }
+{
+    for last in (1..ranges.len()).rev() {
+        let other = random.below(last as u32 + 1) as usize;
+        ranges.swap(last, other);
+    }
+}
+
+/// So many addresses anywhere in the slots, half of them in a range.
+pub fn addresses(
+    alloc: Global,
+    random: &mut Random,
+    slots: u32,
+    count: u32,
+) -> Result<Vec<u64>, AllocError>
+    requires some { 0 < slots }
+    requires few { slots ≤ 65536 }
+    ensures { IfOk result (λ all. length all.items ≡ count) }
+{
+    let mut all = Vec::new(alloc);
+    for _address in 0..count {
+        let slot = random.below(slots) as u64;
+        all.push(BASE + slot * SLOT + random.below(SLOT as u32) as u64)?;
+    }
+    Ok(all)
+}
+
+/// A number that depends on each word and on its place.
+pub fn checksum(words: &[u64]) -> u64 {
+    let mut sum: u64 = 0;
+    for word in words {
+        sum = sum.wrapping_mul(31).wrapping_add(*word);
+    }
+    sum
+}

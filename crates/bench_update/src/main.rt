@@ -1,0 +1,119 @@
+//! Updates of a table in random places, for a measure of a writer's steps.
+//!
+//! `bench_update ITEMS PAIRS` inserts so many ranges in shuffled order; then so many times it erases the range of a random
+//! slot and inserts it again, each update from its beginning to its last store. It writes how many stores were made and a
+//! checksum of the words.
+#![tactic(auto)]
+
+ghost use Rattle.std.specs.Prelude.{◌≡◌, ◌<◌, ◌≤◌, IfOk, length};
+ghost use Rattle.word_arena.specs.Words.{words_for};
+
+use bench_ranges::{Random, checksum, ranges, shuffle};
+use latch_core::{Update, WriterCore};
+use order_laws::{HalfOpen, Item, Refusal};
+use std::alloc::Global;
+use std::{env, io};
+use word_arena::{Layout, apply};
+
+/// What the random numbers of the ranges and of the updates begin with.
+const SEED_OF_RANGES: u64 = 12345;
+
+const SEED_OF_UPDATES: u64 = 7;
+
+/// A table with the words that it is kept in, and how many stores were made.
+#[derive(Drop)]
+struct Table {
+    writer: WriterCore<HalfOpen>,
+    words: Vec<u64>,
+    stores: u64,
+}
+
+impl Table {
+    /// A table with no items.
+    fn open(alloc: Global, l: Layout) -> Result<Table, Refusal>
+        ensures { IfOk result (λ t. length t.words.items ≡ words_for t.writer.capacity) }
+    {
+        let writer = WriterCore::<HalfOpen>::open(alloc, l, 0)?;
+        let words = vec![in alloc; 0; l.words()]?;
+        Ok(Table {
+            writer,
+            words,
+            stores: 0,
+        })
+    }
+
+    /// Carries an update out, from its beginning to its last store.
+    fn update(&mut self, update: Update) -> Result<(), Refusal>
+        requires { length self.old.words.items ≡ words_for self.old.writer.capacity }
+        ensures { length self.new.words.items ≡ words_for self.new.writer.capacity }
+    {
+        let _ = self.writer.begin(update)?;
+        while let Some(store) = self.writer.next() {
+            apply(&mut self.words, store);
+            self.writer.did();
+            self.stores = self.stores.wrapping_add(1);
+        }
+        Ok(())
+    }
+}
+
+/// Inserts the ranges.
+fn insert_all(table: &mut Table, ranges: &[Item]) -> Result<(), Refusal>
+    requires { length table.old.words.items ≡ words_for table.old.writer.capacity }
+    ensures { length table.new.words.items ≡ words_for table.new.writer.capacity }
+{
+    for range in ranges {
+        table.update(Update::Insert(*range))?;
+    }
+    Ok(())
+}
+
+/// Erases the range of a random slot and inserts it again, so many times.
+fn exchange(table: &mut Table, ranges: &[Item], pairs: u32) -> Result<(), Refusal>
+    requires sized { length table.old.words.items ≡ words_for table.old.writer.capacity }
+    requires some { 0 < length ranges.now }
+    requires few { length ranges.now ≤ 65536 }
+    ensures { length table.new.words.items ≡ words_for table.new.writer.capacity }
+{
+    let mut random = Random(SEED_OF_UPDATES);
+    for _pair in 0..pairs {
+        let range = ranges[random.below(ranges.len() as u32) as usize];
+        table.update(Update::Erase(range.a))?;
+        table.update(Update::Insert(range))?;
+    }
+    Ok(())
+}
+
+/// A table of so many ranges after so many exchanges.
+fn run(alloc: Global, items: u32, pairs: u32) -> Result<Table, Refusal> {
+    let layout = Layout::new(items)?;
+    let mut random = Random(SEED_OF_RANGES);
+    let ranges = ranges(alloc, &mut random, items)?;
+    let mut order = ranges.to_vec(alloc)?;
+    shuffle(&mut random, &mut order);
+    let mut table = Table::open(alloc, layout)?;
+    insert_all(&mut table, &order)?;
+    exchange(&mut table, &ranges, pairs)?;
+    Ok(table)
+}
+
+fn main(rt: HostRuntime) -> io::Result<()> {
+    let mut numbers = Vec::new(rt.alloc());
+    for word in env::args(&rt)?.skip(1) {
+        match word.parse::<u32>() {
+            Ok(number) => numbers.push(number)?,
+            Err(_) => return eprintln!(rt; "usage: bench_update ITEMS PAIRS"),
+        }
+    }
+    let [items, pairs] = numbers.as_slice() else {
+        return eprintln!(rt; "usage: bench_update ITEMS PAIRS");
+    };
+    match run(rt.alloc(), *items, *pairs) {
+        Ok(table) => println!(rt;
+            "items {items} pairs {pairs} stores {} words {}",
+            table.stores,
+            checksum(&table.words)
+        ),
+        Err(refusal) => println!(rt; "items {items} refused {}", refusal.number()),
+    }
+}

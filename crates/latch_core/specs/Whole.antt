@@ -1,0 +1,34 @@
+-- Whole attempts: what one comes to, and after how many loads.
+use Rattle.std.specs.Prelude.{◌≡◌, ℕ, suc, List, Option, Some}
+use Rattle.order_laws.specs.Orders.{Order}
+use Rattle.word_arena.specs.Words.{at}
+use Rattle.latch_core.specs.Attempts.{Outcome, Answer, Again, Reading, Load, Ends, Found, Item_found, No_item, Stuck, attempt, rest_after}
+use Rattle.latch_core.specs.declared.attempts.Attempted.{Attempted}
+use Rattle.latch_core.specs.declared.attempts.Attempted.TheVariants.{Answered, Failed}
+use Rattle.latch_core.specs.declared.loaders.Walked.{Walked}
+use Rattle.latch_core.specs.declared.loaders.Walked.TheVariants.{At, Nowhere, Lost}
+
+-- what it comes to in words that stand still, where each load gives what its word holds
+abbrev pub ran : List ℕ → Reading → Outcome
+ran m (Load w go) = ran m (go (at m w))
+ran m (Ends out) = out
+
+-- and after how many loads
+abbrev pub loads_in : List ℕ → Reading → ℕ
+loads_in m (Load w go) = suc (loads_in m (go (at m w)))
+loads_in m (Ends out) = 0
+
+-- what a whole attempt answers, as an outcome
+abbrev pub outcome_of : Attempted → Outcome
+outcome_of (Answered answer g) = Answer answer g
+outcome_of Failed = Again
+
+-- an attempt that loaded these values goes on with a load of this word
+abbrev pub Wants : {K : Type 0} → Order K → ℕ → K → List ℕ → ℕ → Type 0
+Wants o n k values word = (go : ℕ → Reading) × (rest_after (attempt o n k) values ≡ Some (Load word go))
+
+-- how a walk ended
+abbrev pub found_by : Walked → Found
+found_by (At item) = Item_found item
+found_by Nowhere = No_item
+found_by Lost = Stuck

@@ -1,0 +1,226 @@
+-- A lookup from its start to its return, with no step of the writer between.
+use Rattle.std.proofs.Common.{◌≡◌, ◌≢◌, ℕ, zero, suc, ◌+◌, ◌-◌, ◌*◌, ◌≤◌, List, [], ◌∷◌, ◌++◌, length, Option, Some, None, refl, sym, ◌∙◌, ap, subst, inl, inr, ⊎_elim, arith, append-nil}
+use Rattle.std.specs.Prelude.{is_some, min}
+use Rattle.std.specs.List.{AllByRecursion}
+use Rattle.std.specs.Ordering.{nat_cmp}
+use Rattle.std.specs.BTreeMap.{get as tree_get}
+use Rattle.std.specs.FinMap.{get, insert, remove}
+use Rattle.std.proofs.lemmas.Bool.{cases_eq}
+use Rattle.order_laws.specs.declared.items.Item.{Item}
+use Rattle.order_laws.specs.declared.refusals.Refusal.{Refusal}
+use Rattle.order_laws.specs.declared.refusals.Refusal.TheVariants.{ReaderBusy}
+use Rattle.order_laws.specs.Orders.{Order, IsLawful}
+use Rattle.order_laws.specs.Tables.{look}
+use Rattle.word_arena.specs.Layouts.{capacity_of, limit_of}
+use Rattle.word_arena.specs.Words.{at, words_for}
+use Rattle.word_arena.proofs.StoreLemmas.{length_after}
+use Rattle.latch_core.specs.declared.updates.Update.{Update}
+use Rattle.latch_core.specs.Sequences.{gen}
+use Rattle.latch_core.specs.Histories.{current_table}
+use Rattle.latch_core.specs.Invariants.{IsSound}
+use Rattle.latch_core.specs.Attempts.{Answer, Reading, Load, Ends, attempt, rest_after}
+use Rattle.latch_core.specs.Whole.{ran, loads_in}
+use Rattle.latch_core.specs.Writers.{Pictures, IsShallow}
+use Rattle.latch_core.proofs.Readings.{rest_push}
+use Rattle.latch_core.proofs.Walks.{attempt_ran, attempt_count, attempt_depth_count, few_deep_any}
+use Rattle.latch_core.proofs.Shallow.{shallow_tree, stays_now}
+use Rattle.rb_trees.specs.Trees.{depth}
+use Rattle.latch_steps.specs.declared.events.Event.TheVariants.{Start, Read}
+use Rattle.latch_steps.specs.declared.replies.Returned.{Returned}
+use Rattle.latch_steps.specs.declared.replies.Reply.{Reply}
+use Rattle.latch_steps.specs.declared.replies.Reply.TheVariants.{Started, Loaded, Returned as Gave, Refused}
+use Rattle.latch_steps.specs.declared.worlds.World.{World}
+use Rattle.latch_steps.specs.Runs.{LookupInHand, Moment, Done, did, last_of, history}
+use Rattle.latch_steps.specs.Steps.{more, with_lookups, new_lookup, with_value, after_value, load_left, start_done, load_done, read_done, Run}
+use Rattle.latch_steps.specs.Lookups.{IsInHand}
+use Rattle.latch_steps.specs.Worlds.{Shows, layout_in, IsAfter}
+use Rattle.latch_steps.specs.WorldSteps.{MayDo}
+use Rattle.latch_steps.specs.AtOnce.{IsFound, IsNear, Finds, IsNotBegun, LooksUp, NeverLooksUp}
+use Rattle.latch_steps.proofs.Readers.{get_insert_same, get_insert_other, get_remove_same, get_remove_other}
+use Rattle.latch_steps.proofs.Showing.{shown_none}
+use Rattle.latch_steps.proofs.Settling.{run_sound, none_accepted, all_push}
+use Rattle.latch_steps.proofs.Recording.{last_append}
+
+-- a count after so many steps
+abbrev pub later : ℕ → ℕ → ℕ
+later zero count = count
+later (suc steps) count = later steps (more count)
+
+pub later_is : (steps count : ℕ) → count ≤ 18446744073709551615
+    → later steps count ≡ min (count + steps) 18446744073709551615
+later_is zero count most = omega arith
+later_is (suc steps) count most = later_is steps (more count) (omega arith) ∙ (omega arith)
+
+-- what a lookup in hand returns with so many loads more
+abbrev pub returned_after : {K : Type 0} → ℕ → Moment K → LookupInHand K → Option Item → ℕ → ℕ
+    → Returned K
+returned_after r w l answer g loads =
+    record { reader = r; key = l.key; answer = answer; generation = g; first = l.first; last = later loads w.events; loads = later loads l.loads; tries = l.tries }
+
+-- so many loads of a reader lead from a moment, where this lookup is in hand, to its return
+pub record Ending {K : Type 0} (o : Order K) (n limit : ℕ) (r : ℕ) (w : Moment K)
+    (l : LookupInHand K) (answer : Option Item) (g loads : ℕ) : Type 0 where
+  pub run : List (Done K)
+  pub done : Moment K
+  pub reads : AllByRecursion (λ d. d.event ≡ Read r) run
+  pub steps : Run o n limit w (run ++ did (Read r) (Gave (returned_after r w l answer g loads)) done ∷ [])
+  pub latch : done.latch ≡ w.latch
+  pub events : done.events ≡ later loads w.events
+  pub gone : get done.lookups r ≡ None
+  pub others : (q : ℕ) → q ≢ r → get done.lookups q ≡ get w.lookups q
+
+module _ {K : Type 0} (o : Order K) (n limit : ℕ) (m : List ℕ) (r : ℕ) where
+  -- one load of the word that the attempt wants
+  read_step : (w : Moment K) (l : LookupInHand K) (word : ℕ) (go : ℕ → Reading) (next : Reading)
+      → w.latch.words ≡ m → get w.lookups r ≡ Some l
+      → rest_after (attempt o n l.key) l.values ≡ Some (Load word go) → go (at m word) ≡ next
+      → read_done o n w r (get w.lookups r) ≡ load_done w r (after_value w r l (at m word) next)
+  read_step w l word go next words there going is =
+      ap (read_done o n w r) there
+      ∙ ap (load_done w r) (ap (load_left w r l) going ∙ ap (λ ws. after_value w r l (at ws word) (go (at ws word))) words ∙ ap (after_value w r l (at m word)) is)
+
+  -- the rest of the attempt, load by load
+  pub ending : (rest : Reading) (w : Moment K) (l : LookupInHand K) (word : ℕ) (go : ℕ → Reading)
+      (answer : Option Item) (g : ℕ) → w.latch.words ≡ m → get w.lookups r ≡ Some l
+      → rest_after (attempt o n l.key) l.values ≡ Some (Load word go) → go (at m word) ≡ rest
+      → ran m rest ≡ Answer answer g → Ending o n limit r w l answer g (suc (loads_in m rest))
+  ending (Ends out) w l word go answer g words there going is comes =
+      record {
+        run = [];
+        done = with_lookups w (remove w.lookups r);
+        reads = tt;
+        steps = (read_step w l word go (Ends (Answer answer g)) words there going (is ∙ ap Ends comes), tt);
+        latch = refl;
+        events = refl;
+        gone = get_remove_same w.lookups r;
+        others = λ q ne. get_remove_other w.lookups q r ne;
+      }
+  ending (Load word' go') w l word go answer g words there going is comes =
+      let l' : LookupInHand K = with_value l (at m word) in
+      let w' = with_lookups w (insert w.lookups r l') in
+      let left = rest_push (attempt o n l.key) l.values word go (at m word) going ∙ ap Some is in
+      let h = ending (go' (at m word')) w' l' word' go' answer g words (get_insert_same w.lookups r l') left refl comes in
+      record {
+        run = did (Read r) Loaded w' ∷ h.run;
+        done = h.done;
+        reads = (refl, h.reads);
+        steps = (read_step w l word go (Load word' go') words there going is, h.steps);
+        latch = h.latch;
+        events = h.events;
+        gone = h.gone;
+        others = λ q ne. h.others q ne ∙ get_insert_other w.lookups q r l' ne;
+      }
+
+module _ {O K : Type 0} (o : Order K) (law : IsLawful o) (old : World O K) (r : ℕ) (k : K) where
+  -- the whole lookup, where the reader has none in hand
+  pub look_found : (answer : Option Item) (g loads first last : ℕ) → loads ≤ 18446744073709551615
+      → tree_get nat_cmp old.lookups r ≡ None → LooksUp o old k answer g loads
+      → first ≡ more old.events → last ≡ min (first + loads) 18446744073709551615
+      → (w : Moment K) → Shows o old w
+      → Finds o old w r k (record { reader = r; key = k; answer = answer; generation = g; first = first; last = last; loads = loads; tries = 1 })
+      (record old { events = last })
+  look_found answer g loads first last most free found ef el w s =
+      let n = capacity_of old.layout in
+      let m = old.words.items in
+      let none_there : get w.lookups r ≡ None = shown_none o n (tree_get nat_cmp old.lookups r) (get w.lookups r) free (s.lookups r) in
+      let l : LookupInHand K = new_lookup k (more w.events) in
+      let w' = with_lookups w (insert w.lookups r l) in
+      let h = ending o n (limit_of old.layout) m r _ w' l 0 _ answer g (sym s.words) (get_insert_same w.lookups r l) refl refl found.comes_to in
+      let count : first ≡ more w.events = ef ∙ ap more s.events in
+      let few : later (loads_in m (attempt o n k)) 0 ≡ loads = later_is (loads_in m (attempt o n k)) 0 (omega arith) ∙ (let c = found.counts in omega arith) in
+      let end : later (loads_in m (attempt o n k)) (more w.events) ≡ last = later_is (loads_in m (attempt o n k)) (more w.events) (omega arith) ∙ (let c = found.counts in omega arith) in
+      record {
+        begun = w';
+        run = h.run;
+        done = h.done;
+        reads = h.reads;
+        steps = (
+          ap (start_done w r k) none_there,
+          subst (λ x. Run o n (limit_of old.layout) w' (h.run ++ did (Read r) (Gave x) h.done ∷ [])) (λ i. record { reader = r; key = k; answer = answer; generation = g; first = sym count i; last = end i; loads = few i; tries = 1 }) h.steps,
+        );
+        shows = record {
+          capacity = s.capacity;
+          limit = s.limit;
+          words = s.words ∙ sym (ap (λ v. v.words) h.latch);
+          writer = subst (λ v. Pictures old.writer v) (sym h.latch) s.writer;
+          lookups = λ q.
+              ⊎_elim
+              (λ same. subst (λ j. IsInHand {O = O} o n (tree_get nat_cmp old.lookups j) (get h.done.lookups j)) (sym same)
+              (subst (λ x. IsInHand {O = O} o n x (get h.done.lookups r)) (sym free) (subst (IsInHand {O = O} o n None) (sym h.gone) tt)))
+              (λ ne. subst (λ x. IsInHand {O = O} o n (tree_get nat_cmp old.lookups q) x) (sym (h.others q ne ∙ get_insert_other w.lookups q r l ne)) (s.lookups q))
+              (cases_eq q r);
+          events = sym end ∙ sym h.events;
+        };
+      }
+
+  -- what it finds is the lookup of the current table
+  module _ (start' : ℕ) (us : List Update) (h : IsAfter o start' us old) where
+    pub right_answer : ran old.words.items (attempt o (capacity_of old.layout) k) ≡ Answer (look o k (current_table o start' us h.moment.latch.words)) (gen (at h.moment.latch.words 0))
+    right_answer =
+        let ts = h.sound.tables (gen (at h.moment.latch.words 0) - gen start') in
+        ap (λ m. ran m (attempt o (capacity_of old.layout) k)) h.shows.words
+        ∙ attempt_ran o law h.moment.latch.words (capacity_of old.layout) k _ h.sound.current.0 h.sound.current.1 ts.0 ts.1
+
+    pub few_loads : (answer : Option Item) (g loads : ℕ) → LooksUp o old k answer g loads
+        → loads ≤ 4 * length (current_table o start' us h.moment.latch.words) + 3
+    few_loads answer g loads found =
+        let ts = h.sound.tables (gen (at h.moment.latch.words 0) - gen start') in
+        let e = sym found.counts ∙ ap (λ m. loads_in m (attempt o (capacity_of old.layout) k)) h.shows.words in
+        omega (arith, attempt_count o law h.moment.latch.words (capacity_of old.layout) k (current_table o start' us h.moment.latch.words) h.sound.current.0 h.sound.current.1 ts.0 ts.1)
+
+    pub look_right : (answer : Option Item) (g loads first last : ℕ)
+        → LooksUp o old k answer g loads
+        → IsFound o start' us (at h.moment.latch.words 0) r k (record { reader = r; key = k; answer = answer; generation = g; first = first; last = last; loads = loads; tries = 1 })
+    look_right answer g loads first last found =
+        let same = sym found.comes_to ∙ right_answer in
+        record { reader = refl; key = refl; answer = cc; generation = cc; tries = refl; loads = few_loads answer g loads found }
+
+    pub look_near : (answer : Option Item) (g loads first last : ℕ) → LooksUp o old k answer g loads
+        → IsNear o start' us (at h.moment.latch.words 0)
+        (record { reader = r; key = k; answer = answer; generation = g; first = first; last = last; loads = loads; tries = 1 })
+    look_near answer g loads first last found =
+        let n = capacity_of old.layout in
+        let m = h.moment.latch.words in
+        let table = current_table o start' us m in
+        let ts = h.sound.tables (gen (at m 0) - gen start') in
+        let t = h.sound.current.0 in
+        let holds = h.sound.current.1 in
+        let low : IsShallow n m = subst (λ q. IsShallow q m) h.shows.capacity (stays_now old.writer.capacity m old.writer.left h.shows.writer.shallow) in
+        let e = sym found.counts ∙ ap (λ v. loads_in v (attempt o n k)) h.shows.words in
+        (depth t, few_deep_any m n table t holds (shallow_tree n m table t holds low), omega (arith, attempt_depth_count o law m n k table t holds ts.0 ts.1))
+
+    -- there is always an answer
+    pub look_never : NeverLooksUp o old k → ⊥
+    look_never none =
+        ⊎_elim
+        (λ short. short (ap length h.shows.words ∙ sym (length_after h.moment.latch.words old.writer.left) ∙ h.shows.writer.at_rest.sized ∙ ap words_for h.shows.capacity))
+        (λ again. let f = sym again ∙ right_answer in cc)
+        none
+
+  pub after_found : (new : World O K) (x : Returned K)
+      → ((w : Moment K) → Shows o old w → Finds o old w r k x new) → layout_in new ≡ layout_in old
+      → (start' : ℕ) (us : List Update) → IsAfter o start' us old → IsAfter o start' us new
+  after_found new x finds lay start' us h =
+      let f = finds h.moment h.shows in
+      let n = capacity_of (layout_in old) in
+      let one : Done K = did (Read r) (Gave x) f.done in
+      let run : List (Done K) = f.run ++ one ∷ [] in
+      let ends : last_of f.begun run ≡ f.done = last_append f.begun f.run (one ∷ []) in
+      let sound = run_sound o law n (limit_of (layout_in old)) start' us h.moment (did (Start r k) Started f.begun ∷ run) h.sound f.steps in
+      let none : us ++ history run ≡ us = ap (λ vs. us ++ vs) (none_accepted (Read r) (λ q. refl) run (all_push (λ (d : Done K). d.event ≡ Read r) f.run one f.reads refl)) ∙ append-nil us in
+      let same = subst (λ v. IsSound o n start' us v.latch) ends (subst (λ vs. IsSound o n start' vs (last_of f.begun run).latch) none sound) in
+      record { moment = f.done; shows = f.shows; sound = subst (λ l. IsSound o (capacity_of l) start' us f.done.latch) (sym lay) same }
+
+  pub not_begun : (new : World O K) (why : Refusal) (reply : Reply K)
+      → MayDo o old (Start r k) reply new → reply ≡ Refused why → (start' : ℕ) (us : List Update)
+      (h : IsAfter o start' us old) → IsNotBegun o h r why new
+  not_begun new why reply may e start' us h =
+      ⊎_elim
+      (λ does. let d = does h.moment h.shows in by (get h.moment.lookups r) refl d.0 d.1 d.2)
+      (λ up. let kept = up.1 h.moment h.shows in inl ((let f = up.0 in cc), kept.0, kept.1))
+      may
+    where
+      by : (found : Option (LookupInHand K)) → get h.moment.lookups r ≡ found → (w' : Moment K)
+          → start_done h.moment r k found ≡ (reply, w') → Shows o new w' → IsNotBegun o h r why new
+      by None there w' s shows = (let f : Started ≡ Refused why = ap (λ done. done.0) s ∙ e in absurd (cc))
+      by (Some l) there w' s shows = inr ((let f : Refused ReaderBusy ≡ Refused why = ap (λ done. done.0) s ∙ e in cc), ap is_some there, subst (Shows o new) (ap (λ done. done.1) (sym s)) shows)

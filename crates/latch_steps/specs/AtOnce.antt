@@ -1,0 +1,90 @@
+-- What a world does at once: the writer's steps up to the end of an update, and a lookup from its
+-- start to its return.
+use Rattle.std.specs.Prelude.{◌≡◌, ℕ, ◌+◌, ◌≤◌, List, [], ◌∷◌, ◌++◌, Option, None, is_some, ◌⊎◌, true, ◌≢◌, ◌*◌, ◌^◌, length}
+use Rattle.std.specs.FinMap.{get}
+use Rattle.latch_core.specs.declared.updates.Update.{Update}
+use Rattle.order_laws.specs.declared.items.Item.{Item}
+use Rattle.order_laws.specs.declared.refusals.Refusal.{Refusal}
+use Rattle.order_laws.specs.declared.refusals.Refusal.TheVariants.{ReaderBusy, OutOfMemory}
+use Rattle.latch_steps.specs.declared.events.Event.TheVariants.{Write, Start, Read}
+use Rattle.latch_steps.specs.declared.replies.Returned.{Returned}
+use Rattle.latch_steps.specs.declared.replies.Reply.TheVariants.{Started, Returned as Gave}
+use Rattle.order_laws.specs.Orders.{Order}
+use Rattle.word_arena.specs.Words.{words_for}
+use Rattle.latch_core.specs.Attempts.{Answer, Again, attempt}
+use Rattle.word_arena.specs.Layouts.{capacity_of, limit_of}
+use Rattle.latch_steps.specs.declared.worlds.World.{World}
+use Rattle.latch_steps.specs.Runs.{Moment, Done, did, last_of}
+use Rattle.latch_steps.specs.Steps.{Run, counted}
+use Rattle.std.specs.List.{AllByRecursion}
+use Rattle.order_laws.specs.Tables.{look}
+use Rattle.latch_core.specs.Sequences.{gen}
+use Rattle.latch_core.specs.Histories.{table_at, current_table}
+use Rattle.latch_core.specs.Whole.{ran, loads_in}
+use Rattle.latch_steps.specs.Worlds.{Shows, layout_in, IsAfter}
+
+-- nothing is in hand, and the current table is the one after all of them
+pub record IsSettled {O K : Type 0} (o : Order K) (start' : ℕ) (us : List Update)
+    (c : World O K) : Type 0 where
+  pub after : IsAfter o start' us c
+  pub rest : after.moment.latch.hand ≡ None
+  pub current : current_table o start' us after.moment.latch.words ≡ after.moment.latch.table
+
+-- writes lead from each moment that the old world shows to one with nothing in hand
+pub record Settles {O K : Type 0} (o : Order K) (old : World O K) (w : Moment K)
+    (new : World O K) : Type 0 where
+  pub run : List (Done K)
+  pub writes : AllByRecursion (λ d. d.event ≡ Write) run
+  pub steps : Run o (capacity_of (layout_in old)) (limit_of (layout_in old)) w run
+  pub shows : Shows o new (last_of w run)
+  pub rest : (last_of w run).latch.hand ≡ None
+
+-- what a lookup returns that no step of the writer meets: after these updates, at this sequence
+pub record IsFound {K : Type 0} (o : Order K) (start' : ℕ) (us : List Update) (seq r : ℕ) (k : K)
+    (x : Returned K) : Type 0 where
+  pub reader : x.reader ≡ r
+  pub key : x.key ≡ k
+  pub answer : x.answer ≡ look o k (table_at o start' us (gen seq))
+  pub generation : x.generation ≡ gen seq
+  pub tries : x.tries ≡ 1
+  pub loads : x.loads ≤ 4 * length (table_at o start' us (gen seq)) + 3
+
+-- and its loads are four for each node on a way down at most, and three; no way down is longer than
+-- twice the binary logarithm of the number of items and one
+abbrev pub IsNear : {K : Type 0} → Order K → ℕ → List Update → ℕ → Returned K → Type 0
+IsNear o start' us seq x =
+    let q = length (table_at o start' us (gen seq)) in
+    (d : ℕ) × (2 ^ d ≤ (q + 1) * (q + 1)) × (x.loads ≤ 4 * d + 3)
+
+-- a start and reads lead from a moment to the return of the lookup
+pub record Finds {O K : Type 0} (o : Order K) (old : World O K) (w : Moment K) (r : ℕ) (k : K)
+    (x : Returned K) (new : World O K) : Type 0 where
+  pub begun : Moment K
+  pub run : List (Done K)
+  pub done : Moment K
+  pub reads : AllByRecursion (λ d. d.event ≡ Read r) run
+  pub steps :
+      Run o (capacity_of (layout_in old)) (limit_of (layout_in old)) w
+      (did (Start r k) Started begun ∷ run ++ did (Read r) (Gave x) done ∷ [])
+  pub shows : Shows o new done
+
+-- a lookup that was not begun: for want of memory, where the reader has none in hand, with nothing
+-- changed; or since it has
+abbrev pub IsNotBegun : {O K : Type 0} (o : Order K) {start' : ℕ} {us : List Update} {c : World O K}
+    → IsAfter o start' us c → ℕ → Refusal → World O K → Type 0
+IsNotBegun o h r why new =
+    ((why ≡ OutOfMemory) × (get h.moment.lookups r ≡ None) × Shows o new h.moment)
+    ⊎ ((why ≡ ReaderBusy) × (is_some (get h.moment.lookups r) ≡ true)
+    × Shows o new (counted h.moment))
+
+-- an attempt in the world's words answers this, of this generation, after so many loads
+pub record LooksUp {O K : Type 0} (o : Order K) (c : World O K) (k : K) (answer : Option Item)
+    (g loads : ℕ) : Type 0 where
+  pub comes_to : ran c.words.items (attempt o (capacity_of (layout_in c)) k) ≡ Answer answer g
+  pub counts : loads_in c.words.items (attempt o (capacity_of (layout_in c)) k) ≡ loads
+
+-- the words are not those of its layout, or no attempt in them answers
+abbrev pub NeverLooksUp : {O K : Type 0} → Order K → World O K → K → Type 0
+NeverLooksUp o c k =
+    (length c.words.items ≢ words_for (capacity_of (layout_in c)))
+    ⊎ (ran c.words.items (attempt o (capacity_of (layout_in c)) k) ≡ Again)

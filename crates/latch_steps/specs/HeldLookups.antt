@@ -1,0 +1,64 @@
+-- A reader's lookup that is held apart while its loads run, and these loads as one command asks for them.
+use Rattle.std.specs.Prelude.{◌≡◌, ℕ, List, [], ◌∷◌, length, Option, Some, None, ◌≢◌}
+use Rattle.std.specs.FinMap.{get}
+use Rattle.latch_steps.specs.declared.replies.Note.{Note}
+use Rattle.latch_steps.specs.declared.replies.Note.TheVariants.{Returned as ToNote}
+use Rattle.order_laws.specs.Orders.{Order}
+use Rattle.word_arena.specs.Layouts.{capacity_of, limit_of}
+use Rattle.latch_steps.specs.declared.lookups.Lookup.{Lookup}
+use Rattle.latch_steps.specs.declared.worlds.World.{World}
+use Rattle.latch_steps.specs.Runs.{Moment, Done, last_of}
+use Rattle.latch_steps.specs.Steps.{Run}
+use Rattle.latch_steps.specs.Lookups.{IsInHand}
+use Rattle.std.specs.List.{cons_option}
+use Rattle.latch_steps.specs.Worlds.{Shows, layout_in}
+use Rattle.latch_steps.specs.declared.commands.Command.TheVariants.{Read as ToRead}
+use Rattle.latch_steps.specs.declared.lookups.Held.{Held}
+use Rattle.latch_steps.specs.declared.lookups.Held.TheVariants.{Going, Returned}
+use Rattle.latch_steps.specs.Traces.{notes_of}
+use Rattle.latch_steps.specs.Expands.{Repeats, reads_within}
+
+-- the lookup that is left in hand
+abbrev pub lookup_of : {O K : Type 0} → Held O K → Option (Lookup O K)
+lookup_of (Going c) = Some c
+lookup_of (Returned x) = None
+
+-- what its end is noted as
+abbrev pub notes_of_held : {O K : Type 0} → Held O K → List (Note K)
+notes_of_held (Going c) = []
+notes_of_held (Returned x) = ToNote x ∷ []
+
+-- a moment differs from an earlier one in this reader's lookup and in the count of events alone
+pub record IsHolding {O K : Type 0} (o : Order K) (n : ℕ) (w v : Moment K) (r : ℕ) (c : Option (Lookup O K)) (count : ℕ) : Type 0 where
+  pub latch : v.latch ≡ w.latch
+  pub lookup : IsInHand o n c (get v.lookups r)
+  pub others : (q : ℕ) → q ≢ r → get v.lookups q ≡ get w.lookups q
+  pub events : count ≡ v.events
+
+-- so many loads of the reader from a moment, as one command asks for them
+pub record LoadsOn {O K : Type 0} (o : Order K) (n limit : ℕ) (w : Moment K) (r most : ℕ)
+    (h : Held O K) (loads count : ℕ) : Type 0 where
+  pub run : List (Done K)
+  pub made : length run ≡ loads
+  pub steps : Run o n limit w run
+  pub repeats : Repeats (ToRead r most) most run
+  pub notes : notes_of run ≡ notes_of_held h
+  pub holding : IsHolding o n w (last_of w run) r (lookup_of h) count
+
+-- they are made so from each moment of these words that has this lookup in hand, after so many events
+abbrev pub LoadsFrom : {O K : Type 0} → Order K → List ℕ → Lookup O K → ℕ → ℕ → ℕ
+    → Held O K → ℕ → ℕ → Type 0
+LoadsFrom {O} {K} o words c r most events h loads count =
+    (n limit : ℕ) (w : Moment K) → w.latch.words ≡ words
+    → IsInHand o n (Some c) (get w.lookups r) → events ≡ w.events
+    → LoadsOn o n limit w r most h loads count
+
+-- the same of a whole world, from a moment that it shows
+pub record ReadsOn {O K : Type 0} (o : Order K) (old : World O K) (w : Moment K) (r most : ℕ)
+    (loads : ℕ) (note : Option (Note K)) (new : World O K) : Type 0 where
+  pub run : List (Done K)
+  pub made : length run ≡ loads
+  pub steps : Run o (capacity_of (layout_in old)) (limit_of (layout_in old)) w run
+  pub repeats : Repeats (ToRead r most) (reads_within (get w.lookups r) most) run
+  pub notes : notes_of run ≡ cons_option note []
+  pub shows : Shows o new (last_of w run)

@@ -1,0 +1,69 @@
+-- What is promised of a trace, and of every run: each word has the run inside.
+use Rattle.std.specs.Prelude.{◌≡◌, ℕ, ◌<◌, ◌^◌, List, length}
+use Rattle.order_laws.specs.Orders.{Order}
+use Rattle.word_arena.specs.declared.layouts.Layout.{Layout}
+use Rattle.word_arena.specs.Layouts.{capacity_of}
+use Rattle.latch_core.specs.Sequences.{stable}
+use Rattle.latch_steps.specs.declared.commands.Command.{Command}
+use Rattle.latch_steps.specs.declared.traces.Trace.{Trace}
+use Rattle.latch_steps.specs.declared.traces.Notes.{Notes}
+use Rattle.latch_steps.specs.Runs.{Done, opening, history}
+use Rattle.latch_steps.specs.Steps.{Run}
+use Rattle.latch_steps.specs.Safe.{IsSafe}
+use Rattle.latch_steps.specs.Quiet.{IsQuiet}
+use Rattle.latch_steps.specs.Near.{AreNear}
+use Rattle.latch_steps.specs.Expands.{Expand}
+use Rattle.latch_steps.specs.Traces.{IsTraceOf, AreNotesOf}
+
+-- some run from the opening has this trace
+abbrev pub IsTrace : {O K : Type 0} → Order K → Layout → ℕ → Trace O K → Type 0
+IsTrace {O} {K} o l start t = (run : List (Done K)) × IsTraceOf o l start t run
+
+-- some run that carries out these commands has it
+abbrev pub IsTraceOfCommands :
+    {O K : Type 0} → Order K → Layout → ℕ → List (Command K) → Trace O K → Type 0
+IsTraceOfCommands {O} {K} o l start commands t =
+    (run : List (Done K)) × IsTraceOf o l start t run
+    × Expand (opening (capacity_of l) start) commands run
+
+-- whatever run has this trace, each lookup of it that returned is right
+abbrev pub IsSafeTrace : {O K : Type 0} → Order K → Layout → ℕ → Trace O K → Type 0
+IsSafeTrace {O} {K} o l start t =
+    (run : List (Done K)) → IsTraceOf o l start t run → IsSafe o (capacity_of l) start run
+
+-- whatever run has this trace, each lookup of it that the writer leaves alone returns at its first
+-- attempt, within 4n + 3 loads
+abbrev pub IsQuietTrace : {O K : Type 0} → Order K → Layout → ℕ → Trace O K → Type 0
+IsQuietTrace {O} {K} o l start t =
+    (run : List (Done K)) → IsTraceOf o l start t run → IsQuiet o start run
+
+-- and some run has it in which these lookups return within 4d + 3 loads, where 2^d is at most the square
+-- of n + 1
+abbrev pub IsNearTrace : {O K : Type 0} → Order K → Layout → ℕ → Trace O K → Type 0
+IsNearTrace {O} {K} o l start t =
+    (run : List (Done K)) × IsTraceOf o l start t run × AreNear o start (history run) run
+
+-- some run that carries out these commands has these notes and this last sequence, is safe and quiet, and
+-- its lookups that the writer leaves alone return so
+pub record AreNotesOfCommands {O K : Type 0} (o : Order K) (l : Layout) (start : ℕ)
+    (commands : List (Command K)) (t : Notes O K) : Type 0 where
+  pub run : List (Done K)
+  pub notes : AreNotesOf o l start t run
+  pub expands : Expand (opening (capacity_of l) start) commands run
+  pub safe : IsSafe o (capacity_of l) start run
+  pub quiet : IsQuiet o start run
+  pub near : AreNear o start (history run) run
+
+-- this is so of every run from an even sequence, of fewer than 2^64 steps, at any capacity and limit
+abbrev pub AllRunsAre : {K : Type 0} → Order K → (ℕ → ℕ → List (Done K) → Type 0) → Type 0
+AllRunsAre {K} o Right =
+    (n limit start : ℕ) (run : List (Done K)) → stable start ≡ 0 → length run < 2 ^ 64
+    → Run o n limit (opening n start) run → Right n start run
+
+-- every such run is safe
+abbrev pub AllRunsAreSafe : {K : Type 0} → Order K → Type 0
+AllRunsAreSafe o = AllRunsAre o (λ n start run. IsSafe o n start run)
+
+-- and quiet
+abbrev pub AllRunsAreQuiet : {K : Type 0} → Order K → Type 0
+AllRunsAreQuiet o = AllRunsAre o (λ n start run. IsQuiet o start run)

@@ -1,0 +1,40 @@
+-- What a recorder keeps of a run.
+use Rattle.std.specs.Prelude.{◌≡◌, ℕ, List, ◌++◌, Bool, ◌&&◌, ◌||◌, is_none}
+use Rattle.latch_steps.specs.declared.events.Event.TheVariants.{Write}
+use Rattle.latch_steps.specs.declared.replies.Reply.{Reply}
+use Rattle.order_laws.specs.Orders.{Order}
+use Rattle.word_arena.specs.Layouts.{capacity_of, limit_of}
+use Rattle.latch_steps.specs.Runs.{Moment, Done, last_of}
+use Rattle.latch_steps.specs.Steps.{Run}
+use Rattle.latch_steps.specs.Worlds.{Shows, layout_in}
+use Rattle.latch_steps.specs.Traces.{kept, events_of, notes_of}
+use Rattle.latch_steps.specs.Expands.{Repeats, event_of, ends}
+use Rattle.latch_steps.specs.declared.commands.Command.{Command}
+use Rattle.latch_steps.specs.declared.traces.Recorder.{Recorder}
+use Rattle.latch_steps.specs.Quiet.{is_flip}
+use Rattle.latch_steps.specs.Near.{AreShallow}
+
+-- from a moment that its world shows, a recorder did this run, over red-black trees, kept its events where
+-- it keeps them, and noted its replies
+pub record Records {O K : Type 0} (o : Order K) (keeps : Bool) (old : Recorder O K)
+    (w : Moment K) (new : Recorder O K) (run : List (Done K)) : Type 0 where
+  pub layout : layout_in new.world ≡ layout_in old.world
+  pub steps : Run o (capacity_of (layout_in old.world)) (limit_of (layout_in old.world)) w run
+  pub events : new.events.items ≡ old.events.items ++ kept keeps (events_of run)
+  pub notes : new.notes.items ≡ old.notes.items ++ notes_of run
+  pub shows : Shows o new.world (last_of w run)
+  pub shallow : AreShallow (capacity_of (layout_in old.world)) run
+
+-- whether this step of the writer, with the moment after it, is its last one for now
+abbrev pub ends_writing : {K : Type 0} → Bool → Reply K → Moment K → Bool
+ends_writing to_flip reply w = (to_flip && is_flip reply) || is_none w.latch.hand
+
+-- a command that asks for such steps
+abbrev pub IsWriting : {K : Type 0} → Bool → Command K → Type 0
+IsWriting {K} to_flip c = (event_of c ≡ Write) × ((reply : Reply K) (w : Moment K) → ends c reply w ≡ ends_writing to_flip reply w)
+
+-- it did a command's event so often at most
+abbrev pub Obeys : {O K : Type 0} → Order K → Bool → Command K → Recorder O K → Recorder O K
+    → Moment K → ℕ → Type 0
+Obeys {O} {K} o keeps c old new w most =
+    (run : List (Done K)) × Records o keeps old w new run × Repeats c most run

@@ -1,0 +1,55 @@
+-- What one event does to a world, and when it may be given up for want of memory.
+use Rattle.std.specs.Prelude.{◌≡◌, ℕ, None, is_some, ◌⊎◌, Bool, true, false}
+use Rattle.std.specs.FinMap.{get}
+use Rattle.order_laws.specs.declared.refusals.Refusal.TheVariants.{OutOfMemory}
+use Rattle.latch_steps.specs.declared.events.Event.{Event}
+use Rattle.latch_steps.specs.declared.events.Event.TheVariants.{Begin, Write, Start, Read}
+use Rattle.latch_steps.specs.declared.replies.Reply.{Reply}
+use Rattle.latch_steps.specs.declared.replies.Reply.TheVariants.{Refused}
+use Rattle.order_laws.specs.Orders.{Order}
+use Rattle.latch_core.specs.Updates.{refuses}
+use Rattle.word_arena.specs.Words.{at}
+use Rattle.word_arena.specs.Layouts.{capacity_of, limit_of}
+use Rattle.latch_steps.specs.declared.worlds.World.{World}
+use Rattle.latch_steps.specs.Runs.{Moment}
+use Rattle.latch_steps.specs.Steps.{Step}
+use Rattle.latch_steps.specs.Worlds.{Shows, layout_in}
+
+-- from each moment that the old world shows, the event leads by a step of the definitions to one
+-- that the new world shows
+abbrev pub Does : {O K : Type 0} → Order K → World O K → Event K → Reply K → World O K → Type 0
+Does {O} {K} o old e reply new =
+    (w : Moment K) → Shows o old w
+    → (next : Moment K)
+    × Step o (capacity_of (layout_in old)) (limit_of (layout_in old)) w e reply next
+    × Shows o new next
+
+-- nothing stands against the event but want of memory, which only these two may lack
+abbrev pub IsUnopposed : {K : Type 0} → Order K → ℕ → ℕ → Moment K → Event K → Type 0
+IsUnopposed o n limit w (Begin u) =
+    let l = w.latch in refuses o n limit (is_some l.hand) l.table (at l.words 0) u ≡ None
+IsUnopposed o n limit w (Start r k) = get w.lookups r ≡ None
+IsUnopposed o n limit w _ = ⊥
+
+-- a reply that is for want of memory
+abbrev pub gives_up : {K : Type 0} → Reply K → Bool
+gives_up (Refused OutOfMemory) = true
+gives_up _ = false
+
+-- it is refused for want of memory, where nothing else stands against it, and nothing has changed
+abbrev pub GivesUp : {O K : Type 0} → Order K → World O K → Event K → Reply K → World O K → Type 0
+GivesUp {O} {K} o old e reply new =
+    (reply ≡ Refused OutOfMemory)
+    × ((w : Moment K) → Shows o old w
+    → IsUnopposed o (capacity_of (layout_in old)) (limit_of (layout_in old)) w e × Shows o new w)
+
+-- it does the event, or gives it up
+abbrev pub MayDo : {O K : Type 0} → Order K → World O K → Event K → Reply K → World O K → Type 0
+MayDo o old e reply new = Does o old e reply new ⊎ GivesUp o old e reply new
+
+-- one event: only the two that take memory may be given up
+abbrev pub Steps : {O K : Type 0} → Order K → World O K → Event K → Reply K → World O K → Type 0
+Steps o old (Begin u) reply new = MayDo o old (Begin u) reply new
+Steps o old Write reply new = Does o old Write reply new
+Steps o old (Start r k) reply new = MayDo o old (Start r k) reply new
+Steps o old (Read r) reply new = Does o old (Read r) reply new

@@ -1,0 +1,45 @@
+-- What a world of the code stands for: a moment of the definitions, and one after a history of
+-- accepted updates.
+use Rattle.std.specs.Prelude.{◌≡◌, ℕ, List, Option, None}
+use Rattle.std.specs.Ordering.{nat_cmp}
+use Rattle.std.specs.FinMap.{FinMap, get}
+use Rattle.latch_core.specs.declared.updates.Update.{Update}
+use Rattle.order_laws.specs.Orders.{Order}
+use Rattle.std.specs.BTreeMap.{get as tree_get}
+use Rattle.word_arena.specs.declared.layouts.Layout.{Layout}
+use Rattle.word_arena.specs.Layouts.{capacity_of, limit_of}
+use Rattle.latch_core.specs.Writers.{Pictures}
+use Rattle.latch_steps.specs.declared.lookups.Lookup.{Lookup}
+use Rattle.latch_steps.specs.declared.worlds.World.{World}
+use Rattle.latch_steps.specs.Runs.{LookupInHand, Moment}
+use Rattle.latch_steps.specs.Lookups.{IsInHand}
+use Rattle.latch_core.specs.Invariants.{IsSound}
+
+-- the layout of a world
+abbrev pub layout_in : {O K : Type 0} → World O K → Layout
+layout_in c = c.layout
+
+-- each reader has the lookup in hand that the moment has
+abbrev pub AreInHand : {O K : Type 0} → Order K → ℕ → (ℕ → Option (Lookup O K))
+    → FinMap nat_cmp (LookupInHand K) → Type 0
+AreInHand o n cs ls = (r : ℕ) → IsInHand o n (cs r) (get ls r)
+
+-- the world has the moment's words, update in hand, lookups in hand and count
+pub record Shows {O K : Type 0} (o : Order K) (c : World O K) (w : Moment K) : Type 0 where
+  pub capacity : c.writer.capacity ≡ capacity_of c.layout
+  pub limit : c.writer.limit ≡ limit_of c.layout
+  pub words : c.words.items ≡ w.latch.words
+  pub writer : Pictures c.writer w.latch
+  pub lookups : AreInHand o (capacity_of c.layout) (tree_get nat_cmp c.lookups) w.lookups
+  pub events : c.events ≡ w.events
+
+-- no moment that it shows has an update in hand
+abbrev pub IsAtRest : {O K : Type 0} → Order K → World O K → Type 0
+IsAtRest {O} {K} o c = (w : Moment K) → Shows o c w → w.latch.hand ≡ None
+
+-- the world shows a moment after these accepted updates, from this opening sequence on
+pub record IsAfter {O K : Type 0} (o : Order K) (start' : ℕ) (us : List Update)
+    (c : World O K) : Type 0 where
+  pub moment : Moment K
+  pub shows : Shows o c moment
+  pub sound : IsSound o (capacity_of (layout_in c)) start' us moment.latch

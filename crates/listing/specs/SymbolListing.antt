@@ -1,0 +1,91 @@
+-- The lines of a listing of symbols, in the form of /proc/kallsyms.
+use Rattle.std.specs.Prelude.{ℕ, ◌+◌, ◌-◌, Bool, true, false, not, ◌&&◌, ◌==◌, nat_lt, if◌then◌else◌, List, [], ◌∷◌, length, slice_index, slice_range, Option, Some, None, Result, Ok, Err}
+use Rattle.std.specs.List.{list_any}
+use Rattle.std.specs.Option.{option_map, option_and_then}
+use Rattle.modules.specs.Listed.{ListedSymbol}
+use Rattle.listing.specs.Lines.{longest_line}
+use Rattle.listing.specs.ModuleListing.{is_gap}
+use Rattle.listing.specs.Numbers.{numeral}
+use Rattle.listing.specs.Skipping.{one_more, skipped_by, taken_by}
+use Rattle.listing.specs.declared.symbol_listing.SymbolCounts.{SymbolCounts}
+use Rattle.listing.specs.declared.symbol_listing.SkippedSymbol.{SkippedSymbol}
+use Rattle.listing.specs.declared.symbol_listing.SkippedSymbol.TheVariants.{Long, Malformed, Hidden}
+
+-- what stands before the first such byte, and what stands behind it
+abbrev pub cut_at : ℕ → List ℕ → Option (List ℕ × List ℕ)
+cut_at b [] = None
+cut_at b (x ∷ xs) = if x == b then Some ([], xs) else option_map (λ p. (x ∷ p.0, p.1)) (cut_at b xs)
+
+-- the name in `[NAME]`: at least one byte, and no tab
+abbrev pub bracketed : List ℕ → Option (List ℕ)
+bracketed text =
+    let last = length text - 1 in
+    let name = slice_range text 1 last in
+    if nat_lt 2 (length text) && slice_index text 0 == 91 && slice_index text last == 93 && not (list_any (λ b. b == 9) name)
+    then Some name
+    else None
+
+-- a symbol at an address, of `LETTER NAME`
+abbrev pub symbol_with : Option (List ℕ) → List ℕ → ℕ → Option ListedSymbol
+symbol_with owner (letter ∷ blank ∷ first ∷ name) addr =
+    if not (is_gap letter) && blank == 32
+    then Some (record { addr = addr; letter = letter; name = first ∷ name; owner = owner })
+    else None
+symbol_with owner _ addr = None
+
+-- the address that a text begins with, and what stands behind the blank after it
+abbrev pub address_in : List ℕ → Option (ℕ × List ℕ)
+address_in text = option_and_then (λ p. option_map (λ addr. (addr, p.1)) (numeral 16 16 p.0)) (cut_at 32 text)
+
+-- `ADDRESS LETTER NAME`
+abbrev pub symbol_named : Option (List ℕ) → List ℕ → Option ListedSymbol
+symbol_named owner text = option_and_then (λ p. symbol_with owner p.1 p.0) (address_in text)
+
+-- `ADDRESS LETTER NAME` before a tab, and `[MODULE]` behind it
+abbrev pub symbol_in_module : List ℕ × List ℕ → Option ListedSymbol
+symbol_in_module p = option_and_then (λ owner. symbol_named (Some owner) p.0) (bracketed p.1)
+
+abbrev pub symbol_before : Option (List ℕ × List ℕ) → List ℕ → Option ListedSymbol
+symbol_before None line = symbol_named None line
+symbol_before (Some parts) line = symbol_in_module parts
+
+-- a symbol whose address is shown
+abbrev pub formed : Option ListedSymbol → Result ListedSymbol SkippedSymbol
+formed None = Err Malformed
+formed (Some s) = if s.addr == 0 then Err Hidden else Ok s
+
+-- the symbol that a line is, or the first cause for which it is skipped
+abbrev pub symbol_of : List ℕ → Result ListedSymbol SkippedSymbol
+symbol_of line = if nat_lt longest_line (length line) then Err Long else formed (symbol_before (cut_at 9 line) line)
+
+abbrev pub is_skipped : SkippedSymbol → Result ListedSymbol SkippedSymbol → Bool
+is_skipped Long (Err Long) = true
+is_skipped Malformed (Err Malformed) = true
+is_skipped Hidden (Err Hidden) = true
+is_skipped cause said = false
+
+-- the symbols that the lines are, in their order
+abbrev pub symbols_in : List (List ℕ) → List ListedSymbol
+symbols_in lines = taken_by symbol_of lines
+
+-- how many lines are skipped, by cause
+abbrev pub symbol_counts : List (List ℕ) → SymbolCounts
+symbol_counts lines =
+    record {
+      hidden = skipped_by (is_skipped Hidden) symbol_of lines;
+      long = skipped_by (is_skipped Long) symbol_of lines;
+      malformed = skipped_by (is_skipped Malformed) symbol_of lines;
+    }
+
+-- the counts after one more line
+abbrev pub counts_after : SymbolCounts → Result ListedSymbol SkippedSymbol → SymbolCounts
+counts_after n said =
+    record {
+      hidden = one_more (is_skipped Hidden said) n.hidden;
+      long = one_more (is_skipped Long said) n.long;
+      malformed = one_more (is_skipped Malformed said) n.malformed;
+    }
+
+-- how many lines are skipped for any cause
+abbrev pub symbols_skipped : SymbolCounts → ℕ
+symbols_skipped n = n.hidden + n.long + n.malformed

@@ -1,0 +1,234 @@
+//! Listings of modules and of symbols.
+
+use crate::{LONGEST_LINE, ModuleCounts, SymbolCounts, read_kallsyms, read_modules};
+use modules::{BuildCounts, Catalog};
+use std::alloc::{AllocError, Global};
+use std::process::Abort;
+use std::test::Fail;
+
+const NO_MODULES_SKIPPED: ModuleCounts = ModuleCounts {
+    hidden: 0,
+    empty: 0,
+    wraps: 0,
+    long: 0,
+    malformed: 0,
+};
+
+const NO_SYMBOLS_SKIPPED: SymbolCounts = SymbolCounts {
+    hidden: 0,
+    long: 0,
+    malformed: 0,
+};
+
+/// Every cause for which a line of modules is skipped, but for its length.
+const MODULES: &[u8] = b"a 4096 0 - Live 0x0000000000000000\n\
+    b 8192 1 c, Live 0xffffffffc0100000 (OE)\n\
+    b 4096 0 - Live 0xffffffffc0200000\n\
+    c 0 0 - Live 0xffffffffc0300000\n\
+    d 4096 - - Live 0xffffffffc0101000\n\
+    e 4096 0 - Live 0xfffffffffffff000\n\
+    f 4096 0 -\n\
+    g 16 0 - Live 0xffffffffc0102000";
+
+/// Every cause for which a line of symbols is skipped, but for its length.
+const SYMBOLS: &[u8] = b"0000000000000000 A fixed_percpu_data\n\
+    ffffffffc0100010 t b_run\t[b]\n\
+    ffffffffc0500000 t bpf_prog_6d\t[bpf]\n\
+    ffffffffc0200000 t b_far\t[b]\n\
+    nonsense\n\
+    ffffffffc0102004 d g_data\t[g]";
+
+#[test]
+fn modules_are_skipped_by_cause(rt: HostRuntime) -> Result<(), Fail> {
+    let (modules, counts) = read_modules(rt.alloc(), MODULES)?;
+    let expected = ModuleCounts {
+        hidden: 1,
+        empty: 1,
+        wraps: 1,
+        long: 0,
+        malformed: 1,
+    };
+    assert_eq!(rt; counts, expected);
+    assert_eq!(rt; modules.len(), 4);
+    assert_eq!(rt; modules[0].name, b"b".as_slice());
+    assert_eq!(rt; modules[0].base, 0xffff_ffff_c010_0000);
+    assert_eq!(rt; modules[0].size, 8192);
+    assert_eq!(rt; modules[3].name, b"g".as_slice());
+    assert_eq!(rt; modules[3].size, 16);
+    Ok(())
+}
+
+#[test]
+fn symbols_are_skipped_by_cause(rt: HostRuntime) -> Result<(), Fail> {
+    let (symbols, counts) = read_kallsyms(rt.alloc(), SYMBOLS)?;
+    let expected = SymbolCounts {
+        hidden: 1,
+        long: 0,
+        malformed: 1,
+    };
+    assert_eq!(rt; counts, expected);
+    assert_eq!(rt; symbols.len(), 4);
+    Ok(())
+}
+
+#[test]
+fn a_catalog_of_two_listings(rt: HostRuntime) -> Result<(), Fail> {
+    let (modules, _) = read_modules(rt.alloc(), MODULES)?;
+    let (symbols, _) = read_kallsyms(rt.alloc(), SYMBOLS)?;
+    let (catalog, counts) = Catalog::build(rt.alloc(), &modules, &symbols)?;
+    let expected = BuildCounts {
+        modules: 2,
+        double: 1,
+        overlap: 1,
+        symbols: 2,
+        stray: 2,
+    };
+    assert_eq!(rt; counts, expected);
+    let module = catalog.module(2).ok_or("no module 2")?;
+    assert_eq!(rt; module.name(), b"g".as_slice());
+    assert_eq!(rt; module.symbols().len(), 1);
+    let symbol = &module.symbols()[0];
+    assert_eq!(rt; symbol.name, b"g_data".as_slice());
+    assert_eq!(rt; symbol.addr, 0xffff_ffff_c010_2004);
+    Ok(())
+}
+
+/// A text of one line of this many bytes, which begins as given and is filled up.
+fn line_of(alloc: Global, begin: &[u8], length: usize) -> Result<Vec<u8>, AllocError> {
+    let mut text = Vec::from_slice(alloc, begin)?;
+    for _ in begin.len()..length {
+        text.push(b'x')?;
+    }
+    text.push(b'\n')?;
+    Ok(text)
+}
+
+#[test]
+fn the_longest_lines(rt: HostRuntime) -> Result<(), Fail> {
+    let alloc = rt.alloc();
+    for (length, long) in [(LONGEST_LINE, 0), (LONGEST_LINE + 1, 1)] {
+        let text = line_of(alloc, b"a 1 0 - Live 0x1 ", length)?;
+        let (modules, counts) = read_modules(alloc, &text)?;
+        assert_eq!(rt;
+            counts,
+            ModuleCounts {
+                long,
+                ..NO_MODULES_SKIPPED
+            }
+        );
+        assert_eq!(rt; modules.len() as u64 + long, 1);
+        let text = line_of(alloc, b"1 t ", length)?;
+        let (symbols, counts) = read_kallsyms(alloc, &text)?;
+        assert_eq!(rt;
+            counts,
+            SymbolCounts {
+                long,
+                ..NO_SYMBOLS_SKIPPED
+            }
+        );
+        assert_eq!(rt; symbols.len() as u64 + long, 1);
+    }
+    Ok(())
+}
+
+#[test]
+fn lines_just_inside_and_outside_the_form_of_modules(rt: HostRuntime) -> Result<(), Fail> {
+    let cases: [(&[u8], bool); 12] = [
+        (b"a 1 0 - Live 0x1", true),
+        (b"\ta\t 1  0 - Live\t0xFFFFffffFFFFfff0 ", true),
+        (b"a 00000000000000000001 0 - Live 0x1", true),
+        (b"a 000000000000000000001 0 - Live 0x1", false),
+        (b"a 18446744073709551616 0 - Live 0x1", false),
+        (b"a 1 0 - Live 0x0000000000000001", true),
+        (b"a 1 0 - Live 0x00000000000000001", false),
+        (b"a 1 0 - Live 0x", false),
+        (b"a 1 0 - Live 0X1", false),
+        (b"a 1 0 - Live 1", false),
+        (b"a 1 0 - Live 0x1\r", false),
+        (b"", false),
+    ];
+    for (line, is_read) in cases {
+        let mut text = Vec::from_slice(rt.alloc(), line)?;
+        text.push(b'\n')?;
+        let (modules, counts) = read_modules(rt.alloc(), &text)?;
+        assert_eq!(rt; modules.len() == 1, is_read);
+        assert_eq!(rt; counts.malformed == 0, is_read);
+    }
+    Ok(())
+}
+
+#[test]
+fn lines_just_inside_and_outside_the_form_of_symbols(rt: HostRuntime) -> Result<(), Fail> {
+    let cases: [(&[u8], bool); 16] = [
+        (b"1 t a", true),
+        (b"FFFFffffFFFFffff \x00 \xff", true),
+        (b"00000000000000001 t a", false),
+        (b" t a", false),
+        (b"1  t a", false),
+        (b"1 t a b [c]\r", true),
+        (b"1 t  ", true),
+        (b"1 t ", false),
+        (b"1 t", false),
+        (b"1 tt a", false),
+        (b"1 \t a", false),
+        (b"1 t a\t[b]", true),
+        (b"1 t a\t[b[] ]", true),
+        (b"1 t a\t[]", false),
+        (b"1 t a\t[b]\r", false),
+        (b"1 t a\t[b\tc]", false),
+    ];
+    for (line, is_read) in cases {
+        let (symbols, counts) = read_kallsyms(rt.alloc(), line)?;
+        assert_eq!(rt; symbols.len() == 1, is_read);
+        assert_eq!(rt; counts.malformed == 0, is_read);
+    }
+    Ok(())
+}
+
+/// How many lines the first bytes of a text are.
+fn line_count(text: &[u8], length: usize) -> u64 {
+    let mut count = 0u64;
+    let mut is_inside = false;
+    for byte in text.iter().take(length) {
+        if !is_inside {
+            count = count.saturating_add(1);
+        }
+        is_inside = *byte != b'\n';
+    }
+    count
+}
+
+fn check_cut_after(rt: &impl Abort, alloc: Global, text: &[u8], length: usize) -> Result<(), Fail> {
+    let (front, _) = text.split_at(length.min(text.len()));
+    let lines = line_count(text, length);
+    let (modules, counts) = read_modules(alloc, front)?;
+    let skipped = [
+        counts.hidden,
+        counts.empty,
+        counts.wraps,
+        counts.long,
+        counts.malformed,
+    ];
+    let skipped = skipped
+        .iter()
+        .fold(0u64, |sum, count| sum.saturating_add(*count));
+    assert_eq!(rt; skipped.saturating_add(modules.len() as u64), lines);
+    let (symbols, counts) = read_kallsyms(alloc, front)?;
+    let skipped = counts
+        .hidden
+        .saturating_add(counts.long)
+        .saturating_add(counts.malformed);
+    assert_eq!(rt; skipped.saturating_add(symbols.len() as u64), lines);
+    Ok(())
+}
+
+#[test]
+fn listings_that_are_cut_after_each_byte(rt: HostRuntime) -> Result<(), Fail> {
+    for length in 0..=MODULES.len() {
+        check_cut_after(&rt, rt.alloc(), MODULES, length)?;
+    }
+    for length in 0..=SYMBOLS.len() {
+        check_cut_after(&rt, rt.alloc(), SYMBOLS, length)?;
+    }
+    Ok(())
+}

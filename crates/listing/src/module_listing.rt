@@ -1,0 +1,155 @@
+//! Listings of modules, in the form of /proc/modules.
+//!
+//! Each line is a module, or is skipped for the first cause that holds of it:
+//!
+//! ```text
+//! ext4 1200128 1 - Live 0xffffffffc0c00000 (E)
+//! NAME SIZE    not      BASE               not looked at
+//!              looked at
+//! ```
+ghost use Rattle.std.specs.Prelude.{◌≡◌, ◌+◌, ◌<◌, ◌^◌, true, All, Err, map, IfOk};
+ghost use Rattle.listing.specs.Lines.{lines_of};
+ghost use Rattle.listing.specs.Numbers.{numeral};
+ghost use Rattle.listing.specs.ModuleListing.{base_of, counts_after, module_counts, module_of, module_of_words, module_with, modules_in, modules_skipped};
+ghost use Rattle.modules.specs.Lines.{fits};
+
+use crate::gaps::first_words;
+use crate::lines::{LONGEST_LINE, cut_line};
+use crate::numbers::{decimal, hexadecimal};
+use modules::ModuleLine;
+use std::alloc::{AllocError, Global};
+
+/// Why a line of a listing of modules is skipped: the first cause that holds.
+#[derive(Clone, Copy, Debug, PartialEq, Eq, Drop)]
+pub enum SkippedModule {
+    /// It has more than 4096 bytes.
+    Long,
+    /// It has fewer than six words, or its size or its base is no number of the form.
+    Malformed,
+    /// Its base is 0, as it is shown to a reader without privileges.
+    Hidden,
+    /// Its size is 0.
+    Empty,
+    /// Its region goes past the greatest address.
+    Wraps,
+}
+
+/// How many lines of a listing of modules were skipped, by cause.
+#[derive(Clone, Copy, Debug, PartialEq, Eq, Drop)]
+pub struct ModuleCounts {
+    /// Lines whose base is 0.
+    pub hidden: u64,
+    /// Others whose size is 0.
+    pub empty: u64,
+    /// Others whose base plus size is above the greatest `u64`.
+    pub wraps: u64,
+    /// Lines of more than 4096 bytes.
+    pub long: u64,
+    /// Other lines that are not of the form.
+    pub malformed: u64,
+}
+
+impl ModuleCounts {
+    fn count(&mut self, cause: SkippedModule)
+        requires { modules_skipped self.old + 1 < 2 ^ 64 }
+        ensures { self.new ≡ counts_after self.old (Err cause) }
+    {
+        match cause {
+            SkippedModule::Long => self.long += 1,
+            SkippedModule::Malformed => self.malformed += 1,
+            SkippedModule::Hidden => self.hidden += 1,
+            SkippedModule::Empty => self.empty += 1,
+            SkippedModule::Wraps => self.wraps += 1,
+        }
+    }
+}
+
+/// The base of a module: `0x` and 1 to 16 hexadecimal digits.
+fn base(word: &[u8]) -> Option<u64>
+    ensures { result ≡ base_of word.now }
+{
+    if word.starts_with(b"0x") {
+        hexadecimal(&word[2..])
+    } else {
+        None
+    }
+}
+
+/// The module of this name, where its size and its base are numbers.
+fn make_module<'a>(name: &'a [u8], size: &[u8], start: &[u8]) -> Option<ModuleLine<'a>>
+    ensures { result ≡ module_with name.now (numeral 10 20 size.now) (base_of start.now) }
+{
+    Some(ModuleLine {
+        name,
+        size: decimal(size)?,
+        base: base(start)?,
+    })
+}
+
+/// The module that these words are.
+fn module_in_words<'a>(words: &[&'a [u8]]) -> Option<ModuleLine<'a>>
+    ensures { result ≡ module_of_words (map (λ w. w.now) words.now) }
+{
+    match words {
+        [name, size, _, _, _, start, ..] => make_module(name, size, start),
+        _ => None,
+    }
+}
+
+/// The module that a line is, or the first cause for which it is skipped.
+#[tactic(auto, using(crate::proofs::WordRuns::six_words))]
+fn module_in<'a>(line: &'a [u8]) -> Result<ModuleLine<'a>, SkippedModule>
+    ensures { result ≡ module_of line.now }
+{
+    if line.len() > LONGEST_LINE {
+        return Err(SkippedModule::Long);
+    }
+    let Some(module) = module_in_words(&first_words::<6>(line)) else {
+        return Err(SkippedModule::Malformed);
+    };
+    if module.base == 0 {
+        Err(SkippedModule::Hidden)
+    } else if module.size == 0 {
+        Err(SkippedModule::Empty)
+    } else if module.size > u64::MAX - module.base {
+        Err(SkippedModule::Wraps)
+    } else {
+        Ok(module)
+    }
+}
+
+/// The modules of a listing in the form of /proc/modules, and how many of its lines were skipped.
+///
+/// Words are parted by blanks and tabs, any number of them. A line is skipped as long where it has
+/// more than [`LONGEST_LINE`](crate::LONGEST_LINE) bytes, else as malformed where it has fewer than
+/// six words, or the second is not 1 to 20 decimal digits of a 64-bit number (the size) or the sixth
+/// not `0x` and 1 to 16 hexadecimal digits (the base), else as hidden where the base is 0, as empty
+/// where the size is 0, and as one that wraps where the region goes past the greatest address. The
+/// names are those of the text.
+pub fn read_modules<'a>(
+    alloc: Global,
+    text: &'a [u8],
+) -> Result<(Vec<ModuleLine<'a>>, ModuleCounts), AllocError>
+    ensures modules { IfOk result (λ r. r.0.items ≡ modules_in (lines_of text.now)) }
+    ensures counts { IfOk result (λ r. r.1 ≡ module_counts (lines_of text.now)) }
+    ensures fit { IfOk result (λ r. All (λ m. fits m ≡ true) r.0.items) }
+{
+    let mut modules = Vec::new(alloc);
+    let mut counts = ModuleCounts {
+        hidden: 0,
+        empty: 0,
+        wraps: 0,
+        long: 0,
+        malformed: 0,
+    };
+    let mut rest = text;
+    while !rest.is_empty() {
+        let (line, after) = cut_line(rest);
+        match module_in(line) {
+            Ok(module) => modules.push(module)?,
+            Err(cause) => counts.count(cause),
+        }
+        rest = after;
+    }
+    Ok((modules, counts))
+}

@@ -1,0 +1,169 @@
+//! Listings of symbols, in the form of /proc/kallsyms.
+//!
+//! Each line is a symbol, or is skipped for the first cause that holds of it:
+//!
+//! ```text
+//! ffffffff81000000 T _stext
+//! ffffffffc0c00010 t ext4_a<tab>[ext4]
+//! ADDRESS          L NAME        MODULE
+//! ```
+//!
+//! The parts have exactly one blank between them, and names any bytes but a tab.
+ghost use Rattle.std.specs.Prelude.{◌≡◌, ◌+◌, ◌<◌, ◌^◌, Err, IfOk};
+ghost use Rattle.std.specs.Option.{option_copied, option_map};
+ghost use Rattle.listing.specs.Lines.{lines_of};
+ghost use Rattle.listing.specs.SymbolListing.{address_in, bracketed, counts_after, cut_at, symbol_before, symbol_counts, symbol_named, symbol_of, symbols_in, symbols_skipped};
+
+use crate::lines::{LONGEST_LINE, cut_line};
+use crate::numbers::hexadecimal;
+use memchr::memchr;
+use modules::{SymbolLine, SymbolLines};
+use std::alloc::{AllocError, Global};
+
+/// Why a line of a listing of symbols is skipped: the first cause that holds.
+#[derive(Clone, Copy, Debug, PartialEq, Eq, Drop)]
+pub enum SkippedSymbol {
+    /// It has more than 4096 bytes.
+    Long,
+    /// It is not of the form.
+    Malformed,
+    /// Its address is 0, as it is shown to a reader without privileges.
+    Hidden,
+}
+
+/// How many lines of a listing of symbols were skipped, by cause.
+#[derive(Clone, Copy, Debug, PartialEq, Eq, Drop)]
+pub struct SymbolCounts {
+    /// Lines whose address is 0.
+    pub hidden: u64,
+    /// Lines of more than 4096 bytes.
+    pub long: u64,
+    /// Other lines that are not of the form.
+    pub malformed: u64,
+}
+
+impl SymbolCounts {
+    fn count(&mut self, cause: SkippedSymbol)
+        requires { symbols_skipped self.old + 1 < 2 ^ 64 }
+        ensures { self.new ≡ counts_after self.old (Err cause) }
+    {
+        match cause {
+            SkippedSymbol::Long => self.long += 1,
+            SkippedSymbol::Malformed => self.malformed += 1,
+            SkippedSymbol::Hidden => self.hidden += 1,
+        }
+    }
+}
+
+/// What stands before the first such byte, and what stands behind it.
+fn cut(text: &[u8], byte: u8) -> Option<(&[u8], &[u8])>
+    ensures { option_map (λ p. (p.0.now, p.1.now)) result ≡ cut_at byte text.now }
+{
+    let end = memchr(byte, text)?;
+    Some((&text[..end], &text[end + 1..]))
+}
+
+/// The name in `[NAME]`.
+fn name_in_brackets(text: &[u8]) -> Option<&[u8]>
+    ensures { option_copied result ≡ bracketed text.now }
+{
+    if text.len() < 3 || text[0] != b'[' || text[text.len() - 1] != b']' {
+        return None;
+    }
+    let name = &text[1..text.len() - 1];
+    if name.contains(&b'\t') {
+        None
+    } else {
+        Some(name)
+    }
+}
+
+/// The address that a text begins with, and what stands behind the blank after it. Most addresses
+/// have all sixteen digits, and then the blank need not be sought.
+fn cut_address(text: &[u8]) -> Option<(u64, &[u8])>
+    ensures { option_map (λ p. (p.0, p.1.now)) result ≡ address_in text.now }
+{
+    if text.len() > 16 && text[16] == b' ' {
+        if let Some(addr) = hexadecimal(&text[..16]) {
+            return Some((addr, &text[17..]));
+        }
+    }
+    let (digits, rest) = cut(text, b' ')?;
+    Some((hexadecimal(digits)?, rest))
+}
+
+/// The symbol that `ADDRESS LETTER NAME` is.
+fn named_symbol<'a>(text: &'a [u8], owner: Option<&'a [u8]>) -> Option<SymbolLine<'a>>
+    ensures { result ≡ symbol_named (option_copied owner.entry) text.now }
+{
+    let (addr, rest) = cut_address(text)?;
+    match rest {
+        [letter, b' ', name @ ..] if *letter != b' ' && *letter != b'\t' && !name.is_empty() => {
+            Some(SymbolLine {
+                addr,
+                letter: *letter,
+                name,
+                module: owner,
+            })
+        }
+        _ => None,
+    }
+}
+
+/// The symbol that a line is, if it is of the form.
+fn symbol_in_form<'a>(line: &'a [u8]) -> Option<SymbolLine<'a>>
+    ensures { result ≡ symbol_before (cut_at 9 line.now) line.now }
+{
+    match cut(line, b'\t') {
+        None => named_symbol(line, None),
+        Some((text, owner)) => named_symbol(text, Some(name_in_brackets(owner)?)),
+    }
+}
+
+/// The symbol that a line is, or the first cause for which it is skipped.
+fn symbol_in<'a>(line: &'a [u8]) -> Result<SymbolLine<'a>, SkippedSymbol>
+    ensures { result ≡ symbol_of line.now }
+{
+    if line.len() > LONGEST_LINE {
+        return Err(SkippedSymbol::Long);
+    }
+    let Some(symbol) = symbol_in_form(line) else {
+        return Err(SkippedSymbol::Malformed);
+    };
+    if symbol.addr == 0 {
+        Err(SkippedSymbol::Hidden)
+    } else {
+        Ok(symbol)
+    }
+}
+
+/// The symbols of a listing in the form of /proc/kallsyms, and how many of its lines were skipped.
+///
+/// A line is 1 to 16 hexadecimal digits, a blank, a letter, a blank and a name, and where the
+/// symbol is one of a module, a tab and the module's name in brackets. A line is skipped as long
+/// where it has more than [`LONGEST_LINE`](crate::LONGEST_LINE) bytes, else as malformed where it
+/// is not of that form, else as hidden where its address is 0. The names are those of the text.
+pub fn read_kallsyms<'a>(
+    alloc: Global,
+    text: &'a [u8],
+) -> Result<(SymbolLines<'a>, SymbolCounts), AllocError>
+    ensures symbols { IfOk result (λ r. r.0 ≡ symbols_in (lines_of text.now)) }
+    ensures counts { IfOk result (λ r. r.1 ≡ symbol_counts (lines_of text.now)) }
+{
+    let mut symbols = SymbolLines::new(alloc);
+    let mut counts = SymbolCounts {
+        hidden: 0,
+        long: 0,
+        malformed: 0,
+    };
+    let mut rest = text;
+    while !rest.is_empty() {
+        let (line, after) = cut_line(rest);
+        match symbol_in(line) {
+            Ok(symbol) => symbols.push(symbol)?,
+            Err(cause) => counts.count(cause),
+        }
+        rest = after;
+    }
+    Ok((symbols, counts))
+}

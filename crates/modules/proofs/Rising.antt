@@ -1,0 +1,108 @@
+-- Symbols that are listed by rising address.
+use Rattle.std.proofs.Common.{◌≡◌, ℕ, ◌-◌, ◌+◌, ◌<◌, ◌≤◌, ◌⊎◌, Bool, true, false, ◌||◌, nat_lt, nat_le, nat_eq, List, length, get_or, Some, None, refl, sym, ap, subst, ◌∙◌, inl, inr, ⊎_elim, arith}
+use Rattle.std.specs.Prelude.{slice_get}
+use Rattle.std.specs.Option.{option_map}
+use Rattle.std.specs.List.Sorted.{IsPartitionPoint}
+use Rattle.std.proofs.lemmas.Bool.{cases_lt, false_from_ne_true}
+use Rattle.std.proofs.lemmas.Bool.Decides.{nat_tests}
+use Rattle.std.proofs.lemmas.List.{get_or_default}
+use Rattle.std.proofs.lemmas.List.Sums.{AllPass-from_list_all, list_all-from_AllPass}
+use Rattle.std.proofs.lemmas.Option.{slice_get_cases}
+use Rattle.modules.specs.Around.{is_nearest, symbol_below, is_next, address_above}
+use Rattle.modules.specs.Entries.{SymbolEntry}
+use Rattle.modules.specs.Index.{IsRising, IsSplitOf, IsFirstOf}
+use Rattle.modules.proofs.Indexing.{find_first, find_none, le_from_leb, lt_from_leb, lt_from_ltb, nearest_test, below_nearest, and_parts, le_is_true, le_is_false, next_test, above_next, lt_is_true, lt_is_false}
+
+pub IsSplitOf-from_partition : (symbols : List SymbolEntry) (addr split : ℕ) → split ≤ length symbols → IsPartitionPoint (λ s. nat_le s.addr addr ≡ true) (λ s. nat_le s.addr addr ≡ false) symbols split → IsSplitOf symbols addr split
+IsSplitOf-from_partition symbols addr split bound point =
+    record {
+      bound = bound;
+      below = λ k d lt. le_from_leb (get_or symbols k d).addr addr (point.0 k d (omega arith) lt);
+      above = λ k d le lt. lt_from_leb (get_or symbols k d).addr addr (point.1 k d le lt);
+    }
+
+le_from_ltb : (a b : ℕ) → nat_lt a b ≡ false → b ≤ a
+le_from_ltb a b h = grind (arith, nat_tests)
+
+pub IsFirstOf-from_partition : (symbols : List SymbolEntry) (addr split : ℕ) → split ≤ length symbols → IsPartitionPoint (λ s. nat_lt s.addr addr ≡ true) (λ s. nat_lt s.addr addr ≡ false) symbols split → IsFirstOf symbols addr split
+IsFirstOf-from_partition symbols addr split bound point =
+    record {
+      bound = bound;
+      below = λ k d lt. lt_from_ltb (get_or symbols k d).addr addr (point.0 k d (omega arith) lt);
+      others = λ k d le lt. le_from_ltb (get_or symbols k d).addr addr (point.1 k d le lt);
+    }
+
+-- ---- the symbol that is not above an address
+
+pub none_below : (symbols : List SymbolEntry) (addr : ℕ) → IsSplitOf symbols addr 0 → symbol_below symbols addr ≡ None
+none_below symbols addr split =
+    find_none (is_nearest symbols addr) symbols (λ j s lt.
+    let over : addr < (get_or symbols j s).addr = split.above j s (omega arith) lt in
+    rw (le_is_false (get_or symbols j s).addr addr over))
+
+-- the first of those that have the address of the last one below
+record IsFound (symbols : List SymbolEntry) (addr split first : ℕ) (s : SymbolEntry) : Type 0 where
+  pub within : first < length symbols
+  pub lower : first < split
+  pub same : (get_or symbols first s).addr ≡ (get_or symbols (split - 1) s).addr
+
+first_found : (symbols : List SymbolEntry) (addr split first : ℕ) (s : SymbolEntry) → IsRising symbols → IsSplitOf symbols addr split → 0 < split → IsFirstOf symbols (get_or symbols (split - 1) s).addr first → IsFound symbols addr split first s
+first_found symbols addr split first s rising parts some is =
+    let bound = parts.bound in
+    let lower : first < split = ⊎_elim (λ lt. lt) (λ le. let low : (get_or symbols (split - 1) s).addr < (get_or symbols (split - 1) s).addr = is.below (split - 1) s (omega arith) in absurd (omega arith)) (cases_lt first split) in
+    let within : first < length symbols = omega arith in
+    let up : (get_or symbols first s).addr ≤ (get_or symbols (split - 1) s).addr = rising first (split - 1) s (omega arith) (omega arith) in
+    let down : (get_or symbols (split - 1) s).addr ≤ (get_or symbols first s).addr = is.others first s (omega arith) within in
+    record { within = within; lower = lower; same = omega arith }
+
+pub first_within : (symbols : List SymbolEntry) (addr split first : ℕ) (s : SymbolEntry) → IsRising symbols → IsSplitOf symbols addr split → 0 < split → IsFirstOf symbols (get_or symbols (split - 1) s).addr first → first < length symbols
+first_within symbols addr split first s rising parts some is = (first_found symbols addr split first s rising parts some is).within
+
+pub first_below : (symbols : List SymbolEntry) (addr split first : ℕ) (s : SymbolEntry) → IsRising symbols → IsSplitOf symbols addr split → 0 < split → IsFirstOf symbols (get_or symbols (split - 1) s).addr first → symbol_below symbols addr ≡ Some (get_or symbols first s)
+first_below symbols addr split first s rising parts some is =
+    let found = first_found symbols addr split first s rising parts some is in
+    let a : ℕ = (get_or symbols (split - 1) s).addr in
+    let its : (get_or symbols first s).addr ≡ a = found.same in
+    let low : a ≤ addr = parts.below (split - 1) s (omega arith) in
+    let bound = parts.bound in
+    let near : (j : ℕ) (t : SymbolEntry) → j < length symbols → ((get_or symbols j t).addr ≤ a) ⊎ (addr < (get_or symbols j t).addr) = λ j t lt. ⊎_elim
+    (λ before. inl (subst (λ (x : SymbolEntry). (get_or symbols j t).addr ≤ x.addr) (get_or_default symbols (split - 1) t s (omega arith)) (rising j (split - 1) t (omega arith) (omega arith))))
+    (λ after. inr (parts.above j t after lt))
+    (cases_lt j split) in
+    find_first (is_nearest symbols addr) symbols first s found.within
+    (let le : nat_le (get_or symbols first s).addr addr ≡ true = rw its (le_is_true a addr low) in
+    rw le (list_all-from_AllPass (λ (t : SymbolEntry). nat_le t.addr (get_or symbols first s).addr || nat_lt addr t.addr) symbols (λ j t lt. rw its (nearest_test (get_or symbols j t).addr a addr (near j t lt)))))
+    (λ k less. false_from_ne_true (is_nearest symbols addr (get_or symbols k s)) (λ yes.
+    let both = and_parts (nat_le (get_or symbols k s).addr addr) _ yes in
+    let test = AllPass-from_list_all (λ (t : SymbolEntry). nat_le t.addr (get_or symbols k s).addr || nat_lt addr t.addr) symbols both.1 (split - 1) s (omega arith) in
+    let upper : a ≤ (get_or symbols k s).addr = below_nearest a (get_or symbols k s).addr addr test low in
+    let under : (get_or symbols k s).addr < a = is.below k s less in
+    absurd (omega arith)))
+
+-- ---- the least address above an address
+
+first_above : (symbols : List SymbolEntry) (addr split : ℕ) → IsRising symbols → IsSplitOf symbols addr split → (s : SymbolEntry) → split < length symbols → address_above symbols addr ≡ Some (get_or symbols split s).addr
+first_above symbols addr split rising parts s within =
+    let high : addr < (get_or symbols split s).addr = parts.above split s (omega arith) within in
+    ap (option_map (λ (t : SymbolEntry). t.addr)) (find_first (is_next symbols addr) symbols split s within
+    (let lt : nat_lt addr (get_or symbols split s).addr ≡ true = lt_is_true addr (get_or symbols split s).addr high in
+    rw lt (list_all-from_AllPass (λ (t : SymbolEntry). nat_le t.addr addr || nat_le (get_or symbols split s).addr t.addr) symbols (λ j t l. next_test (get_or symbols split s).addr (get_or symbols j t).addr addr (⊎_elim
+    (λ before. inl (parts.below j t before))
+    (λ after. inr (subst (λ (x : SymbolEntry). x.addr ≤ (get_or symbols j t).addr) (get_or_default symbols split t s within) (rising split j t after l)))
+    (cases_lt j split)))))
+    (λ k less.
+    let under : (get_or symbols k s).addr ≤ addr = parts.below k s less in
+    rw (lt_is_false addr (get_or symbols k s).addr under)))
+
+none_above : (symbols : List SymbolEntry) (addr split : ℕ) → IsSplitOf symbols addr split → length symbols ≤ split → address_above symbols addr ≡ None
+none_above symbols addr split parts all =
+    ap (option_map (λ (s : SymbolEntry). s.addr)) (find_none (is_next symbols addr) symbols (λ j s lt.
+    let under : (get_or symbols j s).addr ≤ addr = parts.below j s (omega arith) in
+    rw (lt_is_false addr (get_or symbols j s).addr under)))
+
+pub above_in : (symbols : List SymbolEntry) (addr split : ℕ) → IsRising symbols → IsSplitOf symbols addr split → option_map (λ s. s.addr) (slice_get symbols split) ≡ address_above symbols addr
+above_in symbols addr split rising parts =
+    ⊎_elim
+    (λ (s, within, got, at). ap (option_map (λ (x : SymbolEntry). x.addr)) got ∙ ap (λ (x : SymbolEntry). Some x.addr) (sym at) ∙ sym (first_above symbols addr split rising parts s within))
+    (λ (past, got). ap (option_map (λ (x : SymbolEntry). x.addr)) got ∙ sym (none_above symbols addr split parts past))
+    (slice_get_cases symbols split).1

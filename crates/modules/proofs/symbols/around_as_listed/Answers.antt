@@ -1,0 +1,30 @@
+use Rattle.std.proofs.Common.{◌≡◌, ℕ, ◌<◌, ◌-◌, [], length, get_or, Some, arith, sym, subst, ap, ◌∙◌}
+use Rattle.std.proofs.lemmas.List.{get_or_default}
+use Rattle.std.proofs.lemmas.Option.{slice_get-get_or}
+use Rattle.modules.specs.Entries.{SymbolEntry}
+use Rattle.modules.specs.Index.{IsSplitOf, IsFirstOf}
+use Rattle.modules.proofs.Rising.{none_below, first_within, first_below, above_in}
+use Rattle.modules.proofs.symbols.around_as_listed.Goals as goal
+
+pub returns-then-split-eq0-clause-below : goal.returns-then-split-eq0-clause-below
+returns-then-split-eq0-clause-below c =
+    let parts = subst (λ n. IsSplitOf c.args.symbols.now c.args.addr n) c.if-split-eq0.true c.listed_split_at-split.ensures in
+    sym (none_below c.args.symbols.now c.args.addr parts)
+
+pub returns-then-split-eq0-clause-above : goal.returns-then-split-eq0-clause-above
+returns-then-split-eq0-clause-above c = c.listed_address_at-above.ensures ∙ above_in c.args.symbols.now c.args.addr c.listed_split_at-split.result c.requires c.listed_split_at-split.ensures
+
+pub returns-clause-below : goal.returns-clause-below
+returns-clause-below c =
+    let symbols = c.args.symbols.now in
+    let split : ℕ = c.listed_split_at-split.result in
+    let first : ℕ = c.listed_below-first.result in
+    let parts = c.listed_split_at-split.ensures in
+    let some : 0 < split = omega arith in
+    let s : SymbolEntry = c.index-symbols-split.result in
+    let addr_is : c.last.inside.addr ≡ (get_or symbols (split - 1) s).addr = ap (λ (e : SymbolEntry). e.addr) (c.last.view_is ∙ c.index-symbols-split.is) in
+    let is = subst (λ a. IsFirstOf symbols a first) addr_is c.listed_below-first.ensures in
+    c.symbol_at.ensures ∙ slice_get-get_or symbols first s (first_within symbols c.args.addr split first s c.requires parts some is) ∙ sym (first_below symbols c.args.addr split first s c.requires parts some is)
+
+pub returns-clause-above : goal.returns-clause-above
+returns-clause-above c = c.listed_address_at-above.ensures ∙ above_in c.args.symbols.now c.args.addr c.listed_split_at-split.result c.requires c.listed_split_at-split.ensures

@@ -1,0 +1,333 @@
+-- Blank nodes: one is planted, one comes back, one more is put into the slab.
+use Rattle.std.proofs.Common.{◌≡◌, ℕ, suc, ◌+◌, ◌-◌, ◌^◌, ◌<◌, ◌≤◌, Bool, true, false}
+use Rattle.std.proofs.Common.{List, [], ◌∷◌, length, if◌then◌else◌, Some, None}
+use Rattle.std.proofs.Common.{inl, inr, refl, sym, ap, subst, ◌∙◌, arith}
+use Rattle.std.specs.Prelude.{◌==◌, Result, Ok, Err, OnErr}
+use Rattle.std.proofs.lemmas.Bool.{cases_eq}
+use Rattle.std.proofs.lemmas.Bool.Decides.{nat_tests}
+use Rattle.slab.specs.Slab.{Slab, get, slab_len, with_value, Updates}
+use Rattle.slab.proofs.SlabLemmas.{Updates-with_value}
+use Rattle.rb_trees.specs.declared.Record.{Record}
+use Rattle.rb_trees.specs.Trees.{Branches, tip, branch}
+use Rattle.rb_cursor.specs.declared.nodes.Node.{Node}
+use Rattle.rb_cursor.specs.declared.cursors.Cursor.TheInside.{Inside}
+use Rattle.rb_cursor.specs.Zippers.{Zipper}
+use Rattle.rb_cursor.specs.Opening.{weight}
+use Rattle.rb_cursor.specs.Tops.{IsThin, only_subtree}
+use Rattle.rb_cursor.specs.Keyed.{Keyed, nil, keyed, Level, link_of, link_to, plain}
+use Rattle.rb_cursor.specs.Keyed.{plain_path, size, at_key, uses, path_uses, list_uses}
+use Rattle.rb_cursor.specs.Keyed.{node_with, node_of, IsLinked}
+use Rattle.rb_cursor.specs.Keyed.{IsChain}
+use Rattle.rb_cursor.specs.Writes.{led}
+use Rattle.rb_cursor.specs.Places.{IsPlace}
+use Rattle.rb_cursor.proofs.KeyedLemmas.{at_same, at_apart, at_most, linked_kept, path_kept}
+use Rattle.rb_cursor.proofs.KeyedLemmas.{chain_kept, linked_beside, path_beside, chain_beside}
+use Rattle.rb_cursor.proofs.KeyedLemmas.{linked_vacant, path_vacant, chain_vacant}
+use Rattle.rb_cursor.proofs.KeyedLemmas.{same_len}
+use Rattle.rb_cursor.proofs.HeldLemmas.{Is, show, Held, Moved, held, shut}
+use Rattle.rb_cursor.proofs.TurnLemmas.{IsLoose, tightened}
+
+-- a tree without nodes
+nil_by : (t : Keyed) → plain t ≡ tip → t ≡ nil
+nil_by nil e = refl
+nil_by (keyed red l k x r) e = absurd (omega (arith, ap weight e))
+
+-- a blank node is there, at the end of its link
+chain_leads : (s : Slab Node) (blank room : ℕ) (blanks : List ℕ) → IsChain s blanks →
+    blank ≡ link_to blanks → room ≡ length blanks → 0 < room → 0 < blank
+chain_leads s blank room [] h link many some = absurd (omega arith)
+chain_leads s blank room (k ∷ ks) h link many some = omega arith
+
+pub blank_leads : (i : Inside) (now : Zipper) → Is i → show i ≡ now → 0 < now.room → 0 < i.blank
+blank_leads i now f is some =
+    let e = ap (λ (z : Zipper). z.room) (held i now f is).shows in
+    chain_leads i.nodes i.blank i.room f.blanks f.place.chained f.blank_link f.room_is (omega arith)
+
+chain_there : (s : Slab Node) (blank key : ℕ) (blanks : List ℕ) → IsChain s blanks →
+    blank ≡ link_to blanks → blank ≡ suc key → get s key ≡ None → ⊥
+chain_there s blank key [] h link some none = omega arith
+chain_there s blank key (k ∷ ks) h link some none =
+    let same : k ≡ key = omega arith in
+    let here = h.0.1 in let there = ap (get s) same in cc
+
+pub blank_there : (i : Inside) (key : ℕ) → Is i → i.blank ≡ suc key → get i.nodes key ≡ None → ⊥
+blank_there i key f some none =
+    chain_there i.nodes i.blank key f.blanks f.place.chained f.blank_link some none
+
+-- a blank node becomes a red leaf
+plants_by : (i : Inside) (u : Slab Node) (now : Zipper) (path : List Level) (blanks : List ℕ)
+    (key : ℕ) (row : Record) (n : Node) → Held i now nil path blanks → i.blank ≡ suc key →
+    get i.nodes key ≡ Some n →
+    u ≡ led (with_value i.nodes key (node_with true row 0 0)) i.steps i.depth i.blank →
+    Moved (record i { nodes = u; tree = i.blank; blank = n.left; room = i.room - 1 })
+    (record { tree = branch true tip row tip; path = now.path; room = now.room - 1 })
+plants_by i u now path [] key row n h some found is = let e = h.blank_link in absurd (omega arith)
+plants_by i u now path (k ∷ ks) key row n h some found is =
+    let same : k ≡ key = let e = h.blank_link in omega arith in
+    let g : Held i now nil path (key ∷ ks) =
+    subst (λ (e : ℕ). Held i now nil path (e ∷ ks)) same h in
+    let p = g.place in
+    let s = i.nodes in
+    let new : Node = node_with true row 0 0 in
+    let hand : Keyed = keyed true nil key row nil in
+    let old = p.chained.0 in
+    let node : old.0 ≡ n = let there = old.1 in cc in
+    let w = Updates-with_value s key new (rw found refl) in
+    let z = with_value s key new in
+    let once = at_same key in let most = p.apart key in
+    let len = same_len s key n new found in
+    let loose : IsLoose z hand 0 path ks = record {
+      hand_linked = (w.changed, tt, tt);
+      path_linked = path_beside s z key 0 path w.others (omega arith) p.path_linked;
+      chained = chain_beside s z key ks w.others (omega arith) p.chained.1;
+      apart = λ e. (let all = p.apart e in omega arith);
+      counted = omega (arith, p.counted);
+      fits = omega (arith, p.fits);
+      small = omega (arith, p.small);
+    } in
+    let j : Inside = record i { nodes = u; tree = i.blank; blank = n.left; room = i.room - 1 } in
+    let new' : Zipper =
+    record { tree = branch true tip row tip; path = now.path; room = now.room - 1 } in
+    shut j new' hand path ks (record {
+      place = tightened z u i.steps i.depth 0 i.blank hand path ks is some loose g.path_steps;
+      tree_link = some;
+      path_steps = g.path_steps;
+      blank_link = ap (λ (m : Node). m.left) (sym node) ∙ old.2;
+      room_is = omega (arith, g.room_is);
+      few = g.few;
+      shows = ap (λ (q : Zipper). record {
+        tree = branch true tip row tip;
+        path = q.path;
+        room =
+            q.room - 1;
+      }) g.shows;
+    })
+
+pub plants : (i : Inside) (u : Slab Node) (now : Zipper) (key : ℕ) (row : Record) (n : Node) →
+    Is i → show i ≡ now → now.tree ≡ tip → i.blank ≡ suc key → get i.nodes key ≡ Some n →
+    u ≡ led (with_value i.nodes key (node_with true row 0 0)) i.steps i.depth i.blank →
+    Moved (record i { nodes = u; tree = i.blank; blank = n.left; room = i.room - 1 })
+    (record { tree = branch true tip row tip; path = now.path; room = now.room - 1 })
+plants i u now key row n f shows leaf some found is =
+    let h = held i now f shows in
+    let none : f.hand ≡ nil = nil_by f.hand (sym (ap (λ (z : Zipper). z.tree) h.shows) ∙ leaf) in
+    plants_by i u now f.path f.blanks key row n
+    (subst (λ (t : Keyed). Held i now t f.path f.blanks) none h) some found is
+
+-- a node becomes blank, and its only subtree takes its place
+thin_by : (i : Inside) (now : Zipper) (hand : Keyed) (path : List Level) (blanks : List ℕ) →
+    Held i now hand path blanks → IsThin now.tree → 0 < i.tree
+thin_by i now nil path blanks h thin = absurd (subst (λ (z : Zipper). IsThin z.tree) h.shows thin)
+thin_by i now (keyed red l k x r) path blanks h thin = let e = h.tree_link in omega arith
+
+pub thin_leads : (i : Inside) (now : Zipper) → Is i → show i ≡ now → IsThin now.tree → 0 < i.tree
+thin_leads i now f is thin = thin_by i now f.hand f.path f.blanks (held i now f is) thin
+
+room_by : (i : Inside) (now : Zipper) (hand : Keyed) (path : List Level) (blanks : List ℕ) →
+    Held i now hand path blanks → 0 < i.tree → i.room + 1 < 2 ^ 32
+room_by i now nil path blanks h some = let e = h.tree_link in absurd (omega arith)
+room_by i now (keyed red l k x r) path blanks h some =
+    omega (arith, h.room_is, h.place.counted, h.place.small)
+
+pub room_fits : (i : Inside) (now : Zipper) → Is i → show i ≡ now → 0 < i.tree → i.room + 1 < 2 ^ 32
+room_fits i now f is some = room_by i now f.hand f.path f.blanks (held i now f is) some
+
+-- with a subtree of the node, which both the tree and the links tell
+record IsOnly (red : Bool) (l : Keyed) (x : Record) (r : Keyed) (only : Keyed) : Type 0 where
+  pub tree : only_subtree (branch red (plain l) x (plain r)) ≡ plain only
+  pub link : (if link_of l == 0 then link_of r else link_of l) ≡ link_of only
+  pub linked : (s : Slab Node) → IsLinked s l → IsLinked s r → IsLinked s only
+  pub size_is : size only ≡ size l + size r
+  pub uses_is : (i : ℕ) → uses i only ≡ uses i l + uses i r
+
+some_link : (k a b : ℕ) → (if suc k == 0 then a else b) ≡ b
+some_link k a b = grind (arith, nat_tests)
+
+only_by : (red : Bool) (l : Keyed) (x : Record) (r : Keyed) →
+    IsThin (branch red (plain l) x (plain r)) → (only : Keyed) × IsOnly red l x r only
+only_by red nil x r thin = (
+  r,
+  record {
+    tree = refl;
+    link = refl;
+    linked = λ s a b. b;
+    size_is = omega arith;
+    uses_is =
+        λ i. omega arith;
+  },
+)
+only_by red (keyed hue a k y b) x r thin =
+    let none : r ≡ nil = nil_by r thin in
+    let l : Keyed = keyed hue a k y b in (
+      l,
+      record {
+        tree = refl;
+        link = some_link k (link_of r) (suc k);
+        linked = λ s g h. g;
+        size_is = (let e = ap size none in omega arith);
+        uses_is = λ i. (let e = ap (uses i) none in omega arith);
+      },
+    )
+
+takes_by : (i : Inside) (u : Slab Node) (now : Zipper) (hand : Keyed) (path : List Level)
+    (blanks : List ℕ) (key subtree : ℕ) (n : Node) → Held i now hand path blanks → IsThin now.tree →
+    i.tree ≡ suc key → get i.nodes key ≡ Some n →
+    subtree ≡ (if n.left == 0 then n.right else n.left) →
+    u ≡ led (with_value i.nodes key (record n { left = i.blank })) i.steps i.depth subtree →
+    Moved (record i { nodes = u; tree = subtree; blank = i.tree; room = i.room + 1 })
+    (record { tree = only_subtree now.tree; path = now.path; room = now.room + 1 })
+takes_by i u now nil path blanks key subtree n h thin some found sub is = let e = h.tree_link in
+    absurd (omega arith)
+takes_by i u now (keyed red l k x r) path blanks key subtree n h thin some found sub is =
+    let same : k ≡ key = let e = h.tree_link in omega arith in
+    let g : Held i now (keyed red l key x r) path blanks =
+    subst (λ (e : ℕ). Held i now (keyed red l e x r) path blanks) same h in
+    let p = g.place in
+    let s = i.nodes in
+    let pair = only_by red l x r (subst (λ (z : Zipper). IsThin z.tree) h.shows thin) in
+    let only = pair.0 in let o = pair.1 in
+    let node : node_of red l x r ≡ n = let there = p.hand_linked.0 in cc in
+    let link : subtree ≡ link_of only = sub
+    ∙ sym (ap (λ (m : Node). if m.left == 0 then m.right else m.left) node) ∙ o.link in
+    let new : Node = record n { left = i.blank } in
+    let w = Updates-with_value s key new (rw found refl) in
+    let z = with_value s key new in
+    let once = at_same key in let most = p.apart key in
+    let here = o.uses_is key in
+    let len = same_len s key n new found in
+    let loose : IsLoose z only (suc key) path (key ∷ blanks) = record {
+      hand_linked =
+          linked_beside s z key only w.others (omega arith)
+          (o.linked s p.hand_linked.1 p.hand_linked.2);
+      path_linked = path_beside s z key (suc key) path w.others (omega arith) p.path_linked;
+      chained = (
+        (new, w.changed, g.blank_link),
+        chain_beside s z key blanks w.others (omega arith) p.chained,
+      );
+      apart = λ e. (let all = p.apart e in let there = o.uses_is e in omega arith);
+      counted = omega (arith, p.counted, o.size_is);
+      fits = omega (arith, p.fits);
+      small = omega (arith, p.small);
+    } in
+    let j : Inside = record i { nodes = u; tree = subtree; blank = i.tree; room = i.room + 1 } in
+    let new' : Zipper =
+    record { tree = only_subtree now.tree; path = now.path; room = now.room + 1 } in
+    shut j new' only path (key ∷ blanks) (record {
+      place = tightened z u i.steps i.depth (suc key) subtree only path (key ∷ blanks) is link loose
+          g.path_steps;
+      tree_link = link;
+      path_steps = g.path_steps;
+      blank_link = some;
+      room_is = omega (arith, g.room_is);
+      few = g.few;
+      shows = ap (λ (q : Zipper). record {
+        tree = only_subtree q.tree;
+        path = q.path;
+        room =
+            q.room + 1;
+      }) g.shows
+          ∙ ap (λ (t : Branches). record { tree = t; path = plain_path path; room = i.room + 1 })
+          o.tree;
+    })
+
+pub takes : (i : Inside) (u : Slab Node) (now : Zipper) (key subtree : ℕ) (n : Node) → Is i →
+    show i ≡ now → IsThin now.tree → i.tree ≡ suc key → get i.nodes key ≡ Some n →
+    subtree ≡ (if n.left == 0 then n.right else n.left) →
+    u ≡ led (with_value i.nodes key (record n { left = i.blank })) i.steps i.depth subtree →
+    Moved (record i { nodes = u; tree = subtree; blank = i.tree; room = i.room + 1 })
+    (record { tree = only_subtree now.tree; path = now.path; room = now.room + 1 })
+takes i u now key subtree n f shows thin some found sub is =
+    takes_by i u now f.hand f.path f.blanks key subtree n (held i now f shows) thin some found sub
+    is
+
+-- the slab has grown
+pub grows : (i : Inside) (u : Slab Node) (now : Zipper) → Is i → show i ≡ now →
+    u ≡ record i.nodes { capacity = u.capacity } → i.nodes.capacity ≤ u.capacity →
+    Moved (record i { nodes = u }) now
+grows i u now f shows is more =
+    let h = held i now f shows in
+    let p = h.place in
+    let v : Slab Node = record i.nodes { capacity = u.capacity } in
+    let place : IsPlace v f.hand f.path f.blanks = record {
+      hand_linked = linked_kept i.nodes v f.hand (λ k used. refl) p.hand_linked;
+      path_linked = path_kept i.nodes v (link_of f.hand) f.path (λ k used. refl) p.path_linked;
+      chained = chain_kept i.nodes v f.blanks (λ k used. refl) p.chained;
+      apart = p.apart;
+      counted = p.counted;
+      fits = omega (arith, p.fits);
+      small = p.small;
+    } in
+    shut (record i { nodes = u }) now f.hand f.path f.blanks (record {
+      place = subst (λ (z : Slab Node). IsPlace z f.hand f.path f.blanks) (sym is) place;
+      tree_link = h.tree_link;
+      path_steps = h.path_steps;
+      blank_link = h.blank_link;
+      room_is = h.room_is;
+      few = h.few;
+      shows = h.shows;
+    })
+
+-- a blank node
+abbrev pub blank_node : ℕ → Node
+blank_node link =
+    record {
+      item = record { a = 0; b = 0; tag = 0 };
+      node = 0;
+      left = link;
+      right = 0;
+      red =
+          false;
+    }
+
+-- one blank node more
+pub blanked : (i : Inside) (v u : Slab Node) (now : Zipper) (key : ℕ) (n : Node) → Is i →
+    show i ≡ now → v ≡ record i.nodes { capacity = v.capacity } → i.nodes.capacity ≤ v.capacity →
+    slab_len v + 1 ≤ v.capacity → slab_len v + 1 < 2 ^ 32 → get v key ≡ None →
+    Updates v u key (Some n) → n.left ≡ i.blank → slab_len u ≡ slab_len v + 1 →
+    u.capacity ≡ v.capacity →
+    Moved (record i { nodes = u; blank = key + 1; room = i.room + 1 })
+    (record now { room = now.room + 1 })
+blanked i v u now key n f shows grown more room small vacant w left len capacity =
+    let g = grows i v now f shows grown more in
+    let h = held (record i { nodes = v }) now g.is g.shows in
+    let hand = g.is.hand in let path = g.is.path in let blanks = g.is.blanks in
+    let p = h.place in
+    let a = linked_vacant v key hand vacant p.hand_linked in
+    let b = path_vacant v key (link_of hand) path vacant p.path_linked in
+    let c = chain_vacant v key blanks vacant p.chained in
+    let once : (e : ℕ) →
+    uses e hand + (path_uses e path + (at_key e key + list_uses e blanks)) ≤ 1 = λ e.
+    elim (cases_eq e key) [
+      | inl same ↦
+          let x = ap (λ (k : ℕ). uses k hand) same in
+          let y = ap (λ (k : ℕ). path_uses k path) same in
+          let z = ap (λ (k : ℕ). list_uses k blanks) same in let most = at_most e key in omega arith
+      | inr differs ↦ let other = at_apart e key differs in let all = p.apart e in omega arith
+    ] in
+    let place : IsPlace u hand path (key ∷ blanks) = record {
+      hand_linked = linked_beside v u key hand w.others a p.hand_linked;
+      path_linked = path_beside v u key (link_of hand) path w.others b p.path_linked;
+      chained = (
+        (n, w.changed, left ∙ h.blank_link),
+        chain_beside v u key blanks w.others c p.chained,
+      );
+      apart = once;
+      counted = omega (arith, p.counted);
+      fits = omega arith;
+      small = omega arith;
+    } in
+    shut (record i { nodes = u; blank = key + 1; room = i.room + 1 })
+    (record now { room = now.room + 1 }) hand path (key ∷ blanks) (record {
+      place = place;
+      tree_link = h.tree_link;
+      path_steps = h.path_steps;
+      blank_link = omega arith;
+      room_is = omega (arith, h.room_is);
+      few = h.few;
+      shows = ap (λ (q : Zipper). record q { room = q.room + 1 }) h.shows;
+    })
+
+-- what holds anyhow holds after a failure
+pub at_failure : {T E : Type 0} (r : Result T E) {P : Type 0} → P → OnErr r P
+at_failure (Ok x) p = tt
+at_failure (Err e) p = p

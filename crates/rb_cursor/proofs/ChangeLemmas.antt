@@ -1,0 +1,320 @@
+-- Going up from the tree in hand, and writes of the node in hand.
+use Rattle.std.proofs.Common.{◌≡◌, ℕ, suc, ◌-◌, ◌<◌, ◌≤◌, Bool, true, false}
+use Rattle.std.proofs.Common.{List, [], ◌∷◌, length, if◌then◌else◌, Some, None}
+use Rattle.std.proofs.Common.{inl, inr, refl, sym, ap, subst, ◌∙◌, arith}
+use Rattle.std.specs.Prelude.{nat_lt}
+use Rattle.std.proofs.lemmas.Bool.{cases_eq}
+use Rattle.std.proofs.lemmas.Bool.Decides.{nat_tests}
+use Rattle.slab.specs.Slab.{Slab, get, with_value}
+use Rattle.slab.proofs.SlabLemmas.{Updates-with_value}
+use Rattle.rb_trees.specs.declared.Record.{Record}
+use Rattle.rb_trees.specs.Trees.{Branches, branch}
+use Rattle.rb_cursor.specs.declared.nodes.Node.{Node}
+use Rattle.rb_cursor.specs.declared.nodes.Step.{Step}
+use Rattle.rb_trees.specs.declared.Side.{Side}
+use Rattle.rb_trees.specs.declared.Side.TheVariants.{Left, Right}
+use Rattle.rb_cursor.specs.declared.cursors.Cursor.TheInside.{Inside}
+use Rattle.rb_trees.specs.Paths.{Above}
+use Rattle.rb_cursor.specs.Zippers.{Zipper}
+use Rattle.rb_trees.specs.Paths.{sided, joined, plugged}
+use Rattle.rb_cursor.specs.Closing.{closed, closed_to}
+use Rattle.rb_cursor.specs.Opening.{IsNearest}
+use Rattle.rb_cursor.specs.Keyed.{Keyed, nil, keyed, Level, link_of, plain, plain_level}
+use Rattle.rb_cursor.specs.Keyed.{plain_path}
+use Rattle.rb_cursor.specs.Keyed.{node_with, node_of, sided_node, record_of}
+use Rattle.rb_cursor.specs.Writes.{step_at}
+use Rattle.rb_cursor.specs.Places.{IsPlace}
+use Rattle.rb_cursor.proofs.KeyedLemmas.{at_same}
+use Rattle.rb_cursor.proofs.KeyedLemmas.{linked_beside, path_beside, chain_beside}
+use Rattle.rb_cursor.proofs.KeyedLemmas.{steps_length}
+use Rattle.rb_cursor.proofs.KeyedLemmas.{plain_length, same_len}
+use Rattle.rb_cursor.proofs.HeldLemmas.{Is, show, Held, Moved, held, shut, joined_keyed, back}
+use Rattle.rb_cursor.proofs.HeldLemmas.{gone_back, without_step}
+
+-- the node in hand is written anew, with the same subtrees
+pub record Rewritten (i : Inside) (now : Zipper) (key : ℕ) (red : Bool) (row : Record) (n : Node) :
+    Type 0 where
+  pub left : Branches
+  pub right : Branches
+  pub was : now.tree ≡ branch n.red left (record_of n) right
+  pub moved : Moved (record i { nodes = with_value i.nodes key (node_with red row n.left n.right) })
+      (record now { tree = branch red left row right })
+
+rewrites_by : (i : Inside) (now : Zipper) (hand : Keyed) (path : List Level) (blanks : List ℕ)
+    (key : ℕ) (red : Bool) (row : Record) (n : Node) → Held i now hand path blanks →
+    i.tree ≡ suc key → get i.nodes key ≡ Some n → Rewritten i now key red row n
+rewrites_by i now nil path blanks key red row n h some found = let e = h.tree_link in
+    absurd (omega arith)
+rewrites_by i now (keyed hue l k x r) path blanks key red row n h some found =
+    let same : k ≡ key = let e = h.tree_link in omega arith in
+    let g : Held i now (keyed hue l key x r) path blanks =
+    subst (λ (e : ℕ). Held i now (keyed hue l e x r) path blanks) same h in
+    let p = g.place in
+    let here = p.hand_linked.0 in
+    let node : node_of hue l x r ≡ n = cc in
+    let s = i.nodes in
+    let new : Node = node_of red l row r in
+    let w = Updates-with_value s key new (rw here refl) in
+    let u = with_value s key new in
+    let once = at_same key in
+    let most = p.apart key in
+    let len = same_len s key (node_of hue l x r) new here in
+    let place : IsPlace u (keyed red l key row r) path blanks = record {
+      hand_linked = (
+        w.changed,
+        linked_beside s u key l w.others (omega arith) p.hand_linked.1,
+        linked_beside s u key r w.others (omega arith) p.hand_linked.2,
+      );
+      path_linked = path_beside s u key (suc key) path w.others (omega arith) p.path_linked;
+      chained = chain_beside s u key blanks w.others (omega arith) p.chained;
+      apart = p.apart;
+      counted = omega (arith, p.counted);
+      fits = omega (arith, p.fits);
+      small = omega (arith, p.small);
+    } in
+    let nodes : u ≡ with_value s key (node_with red row n.left n.right) =
+    ap (λ (z : Node). with_value s key (node_with red row z.left z.right)) node in
+    let now' : Zipper = record now { tree = branch red (plain l) row (plain r) } in
+    let j : Inside = record i { nodes = with_value s key (node_with red row n.left n.right) } in
+    record {
+      left = plain l;
+      right = plain r;
+      was = ap (λ (z : Zipper). z.tree) g.shows
+          ∙ ap (λ (z : Node). branch z.red (plain l) (record_of z) (plain r)) node;
+      moved = shut j now' (keyed red l key row r) path blanks (record {
+        place = subst (λ (z : Slab Node). IsPlace z (keyed red l key row r) path blanks) nodes
+            place;
+        tree_link = some;
+        path_steps = g.path_steps;
+        blank_link = g.blank_link;
+        room_is = g.room_is;
+        few = g.few;
+        shows = ap (λ (z : Zipper). record z { tree = branch red (plain l) row (plain r) }) g.shows;
+      });
+    }
+
+pub rewrites : (i : Inside) (now : Zipper) (key : ℕ) (red : Bool) (row : Record) (n : Node) → Is i →
+    show i ≡ now → i.tree ≡ suc key → get i.nodes key ≡ Some n → Rewritten i now key red row n
+rewrites i now key red row n f is some found =
+    rewrites_by i now f.hand f.path f.blanks key red row n (held i now f is) some found
+
+-- the nearest node above
+pub record LastIs (i : Inside) (now : Zipper) (hand : Keyed) (blanks : List ℕ) : Type 0 where
+  pub level : Level
+  pub rest : List Level
+  pub held : Held i now hand (level ∷ rest) blanks
+
+last_by : (i : Inside) (now : Zipper) (hand : Keyed) (path : List Level) (blanks : List ℕ) →
+    Held i now hand path blanks → 0 < i.depth → LastIs i now hand blanks
+last_by i now hand [] blanks h some = let e = h.path_steps in absurd (omega arith)
+last_by i now hand (a ∷ path) blanks h some = record { level = a; rest = path; held = h }
+
+pub last_is : (i : Inside) (now : Zipper) (f : Is i) → show i ≡ now → 0 < i.depth →
+    LastIs i now f.hand f.blanks
+last_is i now f is some = last_by i now f.hand f.path f.blanks (held i now f is) some
+
+-- the last step, and the key of its node
+last_step : (i : Inside) (now : Zipper) (hand : Keyed) (a : Level) (path : List Level)
+    (blanks : List ℕ) → Held i now hand (a ∷ path) blanks →
+    step_at i.steps (i.depth - 1) ≡ record { link = suc a.key; side = a.side }
+last_step i now hand a path blanks h =
+    let d : i.depth - 1 ≡ length path = omega (arith, h.path_steps.0) in
+    ap (step_at i.steps) d ∙ h.path_steps.1
+
+pub last_leads : (i : Inside) (now : Zipper) → Is i → show i ≡ now → 0 < i.depth → (step : Step) →
+    step_at i.steps (i.depth - 1) ≡ step → 0 < step.link
+last_leads i now f is some step at =
+    let t = last_is i now f is some in
+    let e = ap (λ (z : Step). z.link) (sym at
+    ∙ last_step i now f.hand t.level t.rest f.blanks t.held) in
+    omega arith
+
+pub last_there : (i : Inside) (now : Zipper) → Is i → show i ≡ now → 0 < i.depth →
+    (step : Step) (key : ℕ) → step_at i.steps (i.depth - 1) ≡ step → step.link ≡ suc key →
+    get i.nodes key ≡ None → ⊥
+last_there i now f is some step key at link none =
+    let t = last_is i now f is some in
+    let e = ap (λ (z : Step). z.link) (sym at
+    ∙ last_step i now f.hand t.level t.rest f.blanks t.held) in
+    let same : t.level.key ≡ key = omega arith in
+    let here = t.held.place.path_linked.0 in let there = ap (get i.nodes) same in
+    cc
+
+-- what is read of it
+nearest_by : (side : Side) (red : Bool) (row : Record) (link other : ℕ) (n : Node) →
+    sided_node side red row link other ≡ n → (red ≡ n.red) × (row ≡ record_of n)
+nearest_by Left red row link other n e =
+    (ap (λ (z : Node). z.red) e, ap (λ (z : Node). record_of z) e)
+nearest_by Right red row link other n e =
+    (ap (λ (z : Node). z.red) e, ap (λ (z : Node). record_of z) e)
+
+pub nearest_is : (i : Inside) (now : Zipper) → Is i → show i ≡ now → 0 < i.depth →
+    (step : Step) (key : ℕ) (n : Node) → step_at i.steps (i.depth - 1) ≡ step →
+    step.link ≡ suc key → get i.nodes key ≡ Some n →
+    IsNearest now.path (record { side = step.side; red = n.red; node = n.node })
+nearest_is i now f is some step key n at link found =
+    let t = last_is i now f is some in
+    let a = t.level in
+    let last = sym at ∙ last_step i now f.hand a t.rest f.blanks t.held in
+    let e = ap (λ (z : Step). z.link) last in
+    let side : step.side ≡ a.side = ap (λ (z : Step). z.side) last in
+    let same : a.key ≡ key = omega arith in
+    let here = t.held.place.path_linked.0 in let there = ap (get i.nodes) same in
+    let node : sided_node a.side a.red a.row (link_of f.hand) (link_of a.other) ≡ n = cc in
+    let parts = nearest_by a.side a.red a.row (link_of f.hand) (link_of a.other) n node in
+    record {
+      row = a.row;
+      other = plain a.other;
+      rest = plain_path t.rest;
+      node = sym (ap (λ (z : Record). z.node) parts.1);
+      was = ap (λ (z : Zipper). z.path) t.held.shows
+          ∙ ap (λ (z : Side). record {
+            side = z;
+            red = a.red;
+            row = a.row;
+            other =
+                plain a.other;
+          } ∷ plain_path t.rest) (sym side)
+          ∙ ap (λ (z : Bool). record {
+            side = step.side;
+            red = z;
+            row = a.row;
+            other =
+                plain a.other;
+          } ∷ plain_path t.rest) parts.0;
+    }
+
+pub no_path : (i : Inside) (now : Zipper) → Is i → show i ≡ now → i.depth ≡ 0 → now.path ≡ []
+no_path i now f is none = none_by f.hand f.path f.blanks (held i now f is)
+  where
+    none_by : (hand : Keyed) (path : List Level) (blanks : List ℕ) → Held i now hand path blanks →
+        now.path ≡ []
+    none_by hand [] blanks h = ap (λ (z : Zipper). z.path) h.shows
+    none_by hand (a ∷ path) blanks h = let e = h.path_steps.0 in absurd (omega arith)
+
+-- one step up, in a colour
+plain-back : (side : Side) (red : Bool) (t : Keyed) (k : ℕ) (x : Record) (other : Keyed) →
+    plain (joined_keyed side red t k x other) ≡ sided side red (plain t) x (plain other)
+plain-back Left red t k x other = refl
+plain-back Right red t k x other = refl
+
+repainted : (side : Side) (hue red : Bool) (t : Branches) (x : Record) (o : Branches) (hue' : Bool)
+    (l : Branches) (y : Record) (r : Branches) → sided side hue t x o ≡ branch hue' l y r →
+    branch red l y r ≡ sided side red t x o
+repainted Left hue red t x o hue' l y r e = cc
+repainted Right hue red t x o hue' l y r e = cc
+
+pub closes : (i : Inside) (now : Zipper) (step : Step) (key : ℕ) (red : Bool) (n : Node) → Is i →
+    show i ≡ now → 0 < i.depth → step_at i.steps (i.depth - 1) ≡ step → step.link ≡ suc key →
+    get i.nodes key ≡ Some n →
+    Moved (record i {
+      nodes = with_value i.nodes key (record n { red = red });
+      tree =
+          step.link;
+      depth = i.depth - 1;
+    }) (closed red now.tree now.path now.room)
+closes i now step key red n f is some at link found =
+    let t = last_is i now f is some in
+    let a = t.level in
+    let last = sym at ∙ last_step i now f.hand a t.rest f.blanks t.held in
+    let e = ap (λ (z : Step). z.link) last in
+    let g = gone_back i now f.hand a t.rest f.blanks step.link t.held e in
+    let mid : Zipper =
+    record { tree = plain (back a f.hand); path = plain_path t.rest; room = i.room } in
+    let r = rewrites_by (without_step i step.link) mid (back a f.hand) t.rest f.blanks key red
+    (record_of n) n g link found in
+    let tree = repainted a.side a.red red (plain f.hand) a.row (plain a.other) n.red r.left
+    (record_of n) r.right (sym (plain-back a.side a.red f.hand a.key a.row a.other) ∙ r.was) in
+    record {
+      is = r.moved.is;
+      shows = r.moved.shows
+          ∙ ap (λ (z : Branches). record { tree = z; path = plain_path t.rest; room = i.room }) tree
+          ∙ sym (ap (λ (z : Zipper). closed red z.tree z.path z.room) t.held.shows);
+    }
+
+pub not_closed : (red : Bool) (now : Zipper) → now.path ≡ [] →
+    now ≡ closed red now.tree now.path now.room
+not_closed red now e =
+    ap (λ (p : List Above). record { tree = now.tree; path = p; room = now.room }) e
+    ∙ sym (ap (λ (p : List Above). closed red now.tree p now.room) e)
+
+-- up to some node
+not_below : (m d : ℕ) → d ≤ m → nat_lt m d ≡ false
+not_below m d h = grind (arith, nat_tests)
+
+below : (m d : ℕ) → m < d → nat_lt m d ≡ true
+below m d h = grind (arith, nat_tests)
+
+pub stays_closed : (d : ℕ) (t : Branches) (p : List Above) (room : ℕ) → length p ≤ d →
+    closed_to d t p room ≡ record { tree = t; path = p; room = room }
+stays_closed d t [] room h = refl
+stays_closed d t (a ∷ p) room h =
+    ap (λ (b : Bool). if b then record { tree = t; path = a ∷ p; room = room }
+    else closed_to d (joined a a.red t) p room) (below (length p) d (omega arith))
+
+goes_up : (d : ℕ) (t : Branches) (a : Above) (p : List Above) (room : ℕ) → d ≤ length p →
+    closed_to d t (a ∷ p) room ≡ closed_to d (joined a a.red t) p room
+goes_up d t a p room h =
+    ap (λ (b : Bool). if b then record { tree = t; path = a ∷ p; room = room }
+    else closed_to d (joined a a.red t) p room) (not_below (length p) d h)
+
+pub closed_to_none : (t : Branches) (p : List Above) (room : ℕ) →
+    closed_to 0 t p room ≡ record { tree = plugged p t; path = []; room = room }
+closed_to_none t [] room = refl
+closed_to_none t (a ∷ p) room = goes_up 0 t a p room (omega arith)
+    ∙ closed_to_none (joined a a.red t) p room
+
+closes_to_by : (i : Inside) (now : Zipper) (hand : Keyed) (path : List Level) (blanks : List ℕ)
+    (d : ℕ) → Held i now hand path blanks → d < length path →
+    Moved (record i { tree = (step_at i.steps d).link; depth = d })
+    (closed_to d (plain hand) (plain_path path) i.room)
+closes_to_by i now hand [] blanks d h some = absurd (omega arith)
+closes_to_by i now hand (a ∷ path) blanks d h some =
+    let long = plain_length path in
+    let t : Branches = plain (back a hand) in
+    let up : closed_to d (plain hand) (plain_path (a ∷ path)) i.room ≡ closed_to d t
+    (plain_path path) i.room =
+    goes_up d (plain hand) (plain_level a) (plain_path path) i.room (omega arith)
+    ∙ sym (ap (λ (z : Branches). closed_to d z (plain_path path) i.room)
+    (plain-back a.side a.red hand a.key a.row a.other)) in
+    let j : Inside = record i { tree = (step_at i.steps d).link; depth = d } in
+    let mid : Zipper = record { tree = t; path = plain_path path; room = i.room } in
+    let there : Moved j (closed_to d t (plain_path path) i.room) = elim (cases_eq d (length path)) [
+      | inl same ↦
+          let link : (step_at i.steps d).link ≡ suc a.key =
+          ap (λ (k : ℕ). (step_at i.steps k).link) same
+          ∙ ap (λ (z : Step). z.link) h.path_steps.1 in
+          let g = gone_back i now hand a path blanks (step_at i.steps d).link h link in
+          let depth : i.depth - 1 ≡ d = omega (arith, h.path_steps.0) in
+          let m : Moved (record i { tree = (step_at i.steps d).link; depth = i.depth - 1 }) mid =
+          shut (without_step i (step_at i.steps d).link) mid (back a hand) path blanks g in
+          let e = stays_closed d t (plain_path path) i.room (omega arith) in
+          subst (λ (z : Zipper). Moved j z) (sym e)
+          (subst (λ (z : ℕ). Moved (record i { tree = (step_at i.steps d).link; depth = z }) mid)
+          depth m)
+      | inr differs ↦
+          closes_to_by (without_step i (suc a.key)) mid (back a hand) path blanks d
+          (gone_back i now hand a path blanks (suc a.key) h refl) (omega arith)
+    ] in
+    subst (λ (z : Zipper). Moved j z) (sym up) there
+
+pub closes_to : (i : Inside) (now : Zipper) (d : ℕ) (step : Step) → Is i → show i ≡ now →
+    d < i.depth → step_at i.steps d ≡ step →
+    Moved (record i { tree = step.link; depth = d }) (closed_to d now.tree now.path now.room)
+closes_to i now d step f is some at =
+    let h = held i now f is in
+    let m = closes_to_by i now f.hand f.path f.blanks d h
+    (omega (arith, steps_length i.steps i.depth f.path h.path_steps)) in
+    let e : closed_to d (plain f.hand) (plain_path f.path) i.room ≡ closed_to d now.tree now.path
+    now.room = sym (ap (λ (z : Zipper). closed_to d z.tree z.path z.room) h.shows) in
+    subst (λ (x : Step). Moved (record i { tree = x.link; depth = d })
+    (closed_to d now.tree now.path now.room)) at
+    (subst (λ (z : Zipper). Moved (record i { tree = (step_at i.steps d).link; depth = d }) z) e m)
+
+pub not_closed_to : (i : Inside) (now : Zipper) (d : ℕ) → Is i → show i ≡ now → i.depth ≤ d →
+    now ≡ closed_to d now.tree now.path now.room
+not_closed_to i now d f is h =
+    let g = held i now f is in
+    let e = ap (λ (z : Zipper). length z.path) g.shows in
+    sym (stays_closed d now.tree now.path now.room
+    (omega (arith, steps_length i.steps i.depth f.path g.path_steps, plain_length f.path)))

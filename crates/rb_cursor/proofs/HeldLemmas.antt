@@ -1,0 +1,421 @@
+-- What the fields of a cursor hold, and what the calls that go down and up make of it.
+use Rattle.std.proofs.Common.{◌≡◌, ℕ, suc, ◌+◌, ◌-◌, ◌<◌, ◌≤◌, Bool}
+use Rattle.std.proofs.Common.{List, [], ◌∷◌, length, Option, Some, None, is_some}
+use Rattle.std.proofs.Common.{count_by, set, refl, sym, ap, subst, ◌∙◌, arith}
+use Rattle.std.proofs.lemmas.List.{get_or-set_same, set-get_or}
+use Rattle.slab.specs.Slab.{Slab, get, slab_len, ContainsKey, with_value}
+use Rattle.rb_trees.specs.declared.Record.{Record}
+use Rattle.rb_trees.specs.Trees.{Branches, tip, branch}
+use Rattle.rb_cursor.specs.declared.nodes.Node.{Node}
+use Rattle.rb_cursor.specs.declared.nodes.Step.{Step}
+use Rattle.rb_trees.specs.declared.Side.{Side}
+use Rattle.rb_trees.specs.declared.Side.TheVariants.{Left, Right}
+use Rattle.rb_cursor.specs.declared.cursors.Cursor.TheInside.{Inside}
+use Rattle.rb_trees.specs.Paths.{Above}
+use Rattle.rb_cursor.specs.Zippers.{Zipper}
+use Rattle.rb_trees.specs.Paths.{sided}
+use Rattle.rb_cursor.specs.Opening.{weight, OpensLeft, OpensRight}
+use Rattle.rb_cursor.specs.Keyed.{Keyed, nil, keyed, Level, link_of, link_to, plain, plain_level}
+use Rattle.rb_cursor.specs.Keyed.{plain_path}
+use Rattle.rb_cursor.specs.Keyed.{node_of, record_of, IsLinked}
+use Rattle.rb_cursor.specs.Keyed.{tree_from}
+use Rattle.rb_cursor.specs.Writes.{no_step, step_at}
+use Rattle.rb_cursor.specs.Places.{IsPlace, AreSteps, IsCursor, path_from, shown}
+use Rattle.rb_cursor.proofs.KeyedLemmas.{tree_is}
+use Rattle.rb_cursor.proofs.KeyedLemmas.{path_is, steps_kept, steps_length, plain_length}
+
+abbrev pub Is : Inside → Type 0
+Is i = IsCursor i.nodes i.tree i.steps i.depth i.blank i.room
+
+abbrev pub show : Inside → Zipper
+show i = shown i.nodes i.tree i.steps i.depth i.room
+
+-- what the fields hold, with the trees at their keys
+pub record Held (i : Inside) (now : Zipper) (hand : Keyed) (path : List Level) (blanks : List ℕ) :
+    Type 0 where
+  pub place : IsPlace i.nodes hand path blanks
+  pub tree_link : i.tree ≡ link_of hand
+  pub path_steps : AreSteps i.steps i.depth path
+  pub blank_link : i.blank ≡ link_to blanks
+  pub room_is : i.room ≡ length blanks
+  pub few : i.depth ≤ 64
+  pub shows : now ≡ record { tree = plain hand; path = plain_path path; room = i.room }
+
+-- the fields are those of a cursor that shows this
+pub record Moved (i : Inside) (now : Zipper) : Type 0 where
+  pub is : Is i
+  pub shows : show i ≡ now
+
+pub shown_is : (i : Inside) (hand : Keyed) (path : List Level) (blanks : List ℕ) →
+    IsPlace i.nodes hand path blanks → i.tree ≡ link_of hand → AreSteps i.steps i.depth path →
+    show i ≡ record { tree = plain hand; path = plain_path path; room = i.room }
+unfolding shown
+shown_is i hand path blanks p link steps =
+    let fuel : ℕ = i.nodes.capacity in
+    let a : tree_from i.nodes fuel i.tree ≡ plain hand = ap (tree_from i.nodes fuel) link
+    ∙ tree_is i.nodes hand fuel p.hand_linked (omega (arith, p.counted, p.fits)) in
+    let b : path_from i.nodes fuel i.steps i.depth ≡ plain_path path =
+    path_is i.nodes i.steps i.depth (link_of hand) path fuel p.path_linked steps
+    (omega (arith, p.counted, p.fits)) in
+    ap (λ (t : Branches). record {
+      tree = t;
+      path = path_from i.nodes fuel i.steps i.depth;
+      room =
+          i.room;
+    }) a
+    ∙ ap (λ (q : List Above). record { tree = plain hand; path = q; room = i.room }) b
+
+pub held : (i : Inside) (now : Zipper) (f : Is i) → show i ≡ now → Held i now f.hand f.path f.blanks
+held i now f is = record {
+  place = f.place;
+  tree_link = f.tree_link;
+  path_steps = f.path_steps;
+  blank_link = f.blank_link;
+  room_is = f.room_is;
+  few = f.few;
+  shows = sym is ∙ shown_is i f.hand f.path f.blanks f.place f.tree_link f.path_steps;
+}
+
+pub shut : (i : Inside) (now : Zipper) (hand : Keyed) (path : List Level) (blanks : List ℕ) →
+    Held i now hand path blanks → Moved i now
+shut i now hand path blanks h = record {
+  is = record {
+    hand = hand;
+    path = path;
+    blanks = blanks;
+    place = h.place;
+    tree_link = h.tree_link;
+    path_steps = h.path_steps;
+    blank_link = h.blank_link;
+    room_is = h.room_is;
+    few = h.few;
+  };
+  shows = shown_is i hand path blanks h.place h.tree_link h.path_steps ∙ sym h.shows;
+}
+
+-- the first cursor
+pub first : (i : Inside) → i.nodes.slots ≡ [] → i.tree ≡ 0 → i.depth ≡ 0 → i.blank ≡ 0 →
+    i.room ≡ 0 → Moved i (record { tree = tip; path = []; room = 0 })
+first i empty tree depth blank room =
+    let len : slab_len i.nodes ≡ 0 = ap (λ (z : List (Option Node)). count_by is_some z) empty in
+    shut i (record { tree = tip; path = []; room = 0 }) nil [] [] (record {
+      place = record {
+        hand_linked = tt;
+        path_linked = tt;
+        chained = tt;
+        apart = λ k. omega arith;
+        counted = sym len;
+        fits = omega arith;
+        small = omega arith;
+      };
+      tree_link = tree;
+      path_steps = depth;
+      blank_link = blank;
+      room_is = room;
+      few = omega arith;
+      shows = ap (λ (r : ℕ). record { tree = tip; path = []; room = r }) (sym room);
+    })
+
+-- how many nodes are above, and how many more fit
+pub depth_is : (i : Inside) (now : Zipper) → Is i → show i ≡ now → i.depth ≡ length now.path
+depth_is i now f is =
+    let h = held i now f is in
+    steps_length i.steps i.depth f.path h.path_steps ∙ sym (plain_length f.path)
+    ∙ sym (ap (λ (z : Zipper). length z.path) h.shows)
+
+pub room_is : (i : Inside) (now : Zipper) → Is i → show i ≡ now → i.room ≡ now.room
+room_is i now f is = sym (ap (λ (z : Zipper). z.room) (held i now f is).shows)
+
+-- no link, no tree
+none_by : (i : Inside) (now : Zipper) (hand : Keyed) (path : List Level) (blanks : List ℕ) →
+    Held i now hand path blanks → i.tree ≡ 0 → now.tree ≡ tip
+none_by i now nil path blanks h none = ap (λ (z : Zipper). z.tree) h.shows
+none_by i now (keyed red l k x r) path blanks h none = let e = h.tree_link in absurd (omega arith)
+
+pub none_there : (i : Inside) (now : Zipper) → Is i → show i ≡ now → i.tree ≡ 0 → now.tree ≡ tip
+none_there i now f is none = none_by i now f.hand f.path f.blanks (held i now f is) none
+
+some_by : (s : Slab Node) (link key : ℕ) (t : Keyed) → IsLinked s t → link ≡ link_of t →
+    link ≡ suc key → get s key ≡ None → ⊥
+some_by s link key nil h a some none = omega arith
+some_by s link key (keyed red l k x r) h a some none =
+    let same : k ≡ key = omega arith in
+    let here = ap (get s) same in let there = h.0 in cc
+
+pub some_there : (i : Inside) (key : ℕ) → Is i → i.tree ≡ suc key → get i.nodes key ≡ None → ⊥
+some_there i key f some none =
+    some_by i.nodes i.tree key f.hand f.place.hand_linked f.tree_link some none
+
+-- going down to the left
+abbrev pub with_step : Inside → Side → ℕ → Inside
+with_step i side link =
+    record i {
+      tree = link;
+      steps = set i.steps i.depth (record { link = i.tree; side = side });
+      depth = i.depth + 1;
+    }
+
+pub record LeftOpened (i : Inside) (now : Zipper) (n : Node) : Type 0 where
+  pub is : Is (with_step i Left n.left)
+  pub opens : OpensLeft now (show (with_step i Left n.left)) (record { red = n.red; node = n.node })
+  pub row_is : opens.row ≡ record_of n
+
+-- the steps with one more
+steps_more : (i : Inside) (side : Side) (key : ℕ) (path : List Level) (red : Bool) (row : Record)
+    (other : Keyed) → i.tree ≡ suc key → AreSteps i.steps i.depth path → i.depth < length i.steps →
+    AreSteps (set i.steps i.depth (record { link = i.tree; side = side })) (i.depth + 1)
+    (record { side = side; red = red; key = key; row = row; other = other } ∷ path)
+steps_more i side key path red row other some steps within =
+    let step : Step = record { link = i.tree; side = side } in
+    let d = steps_length i.steps i.depth path steps in
+    let last : step_at (set i.steps i.depth step) (length path) ≡ record {
+      link = suc key;
+      side =
+          side;
+    } =
+    ap (step_at (set i.steps i.depth step)) (sym d)
+    ∙ get_or-set_same i.steps i.depth step no_step within
+    ∙ ap (λ (l : ℕ). record { link = l; side = side }) some in
+    let kept : AreSteps (set i.steps i.depth step) (length path) path =
+    subst (λ (e : ℕ). AreSteps (set i.steps i.depth step) e path) d
+    (steps_kept i.steps i.depth i.depth step path (omega arith) steps) in
+    (omega arith, last, kept)
+
+left_by : (i : Inside) (now : Zipper) (hand : Keyed) (path : List Level) (blanks : List ℕ) (key : ℕ)
+    (n : Node) → Held i now hand path blanks → i.tree ≡ suc key → get i.nodes key ≡ Some n →
+    i.depth < 64 → i.depth < length i.steps → LeftOpened i now n
+left_by i now nil path blanks key n h some found room within = let e = h.tree_link in
+    absurd (omega arith)
+left_by i now (keyed red l k x r) path blanks key n h some found room within =
+    let same : k ≡ key = let e = h.tree_link in omega arith in
+    let p = h.place in
+    let here = p.hand_linked.0 in let there = ap (get i.nodes) same in
+    let node : node_of red l x r ≡ n = cc in
+    let a : Level = record { side = Left; red = red; key = k; row = x; other = r } in
+    let j : Inside = with_step i Left n.left in
+    let new : Zipper =
+    record { tree = plain l; path = plain_level a ∷ plain_path path; room = i.room } in
+    let m : Moved j new = shut j new l (a ∷ path) blanks (record {
+      place = record {
+        hand_linked = p.hand_linked.1;
+        path_linked = (p.hand_linked.0, p.hand_linked.2, p.path_linked);
+        chained = p.chained;
+        apart = λ e. (let all = p.apart e in omega arith);
+        counted = omega (arith, p.counted);
+        fits = p.fits;
+        small = p.small;
+      };
+      tree_link = sym (ap (λ (z : Node). z.left) node);
+      path_steps = steps_more i Left k path red x r h.tree_link h.path_steps within;
+      blank_link = h.blank_link;
+      room_is = h.room_is;
+      few = omega arith;
+      shows = refl;
+    }) in
+    let e : now.tree ≡ branch n.red (plain l) x (plain r) =
+    ap (λ (z : Zipper). z.tree) h.shows
+    ∙ ap (λ (z : Node). branch z.red (plain l) x (plain r)) node in
+    let heavy = ap weight e in
+    let light = ap (λ (z : Zipper). weight z.tree) m.shows in
+    record {
+      is = m.is;
+      opens = record {
+        row = x;
+        right = plain r;
+        node = sym (ap (λ (z : Node). z.node) node);
+        was = e ∙ sym (ap (λ (z : Zipper). branch n.red z.tree x (plain r)) m.shows);
+        path = ap (λ (z : Zipper). z.path) m.shows
+            ∙ ap (λ (z : Node). record {
+              side = Left;
+              red = z.red;
+              row = x;
+              other =
+                  plain r;
+            } ∷ plain_path path) node
+            ∙ sym (ap (λ (z : Zipper). record {
+              side = Left;
+              red = n.red;
+              row = x;
+              other =
+                  plain r;
+            } ∷ z.path) h.shows);
+        room = ap (λ (z : Zipper). z.room) m.shows ∙ sym (ap (λ (z : Zipper). z.room) h.shows);
+        less = omega arith;
+      };
+      row_is = ap (λ (z : Node). record_of z) node;
+    }
+
+pub left_opened : (i : Inside) (now : Zipper) (key : ℕ) (n : Node) → Is i → show i ≡ now →
+    i.tree ≡ suc key → get i.nodes key ≡ Some n → i.depth < 64 → i.depth < length i.steps →
+    LeftOpened i now n
+left_opened i now key n f is some found room within =
+    left_by i now f.hand f.path f.blanks key n (held i now f is) some found room within
+
+-- going down to the right
+pub record RightOpened (i : Inside) (now : Zipper) (n : Node) : Type 0 where
+  pub is : Is (with_step i Right n.right)
+  pub opens : OpensRight now (show (with_step i Right n.right))
+      (record { red = n.red; node = n.node })
+  pub row_is : opens.row ≡ record_of n
+
+right_by : (i : Inside) (now : Zipper) (hand : Keyed) (path : List Level) (blanks : List ℕ)
+    (key : ℕ) (n : Node) → Held i now hand path blanks → i.tree ≡ suc key →
+    get i.nodes key ≡ Some n → i.depth < 64 → i.depth < length i.steps → RightOpened i now n
+right_by i now nil path blanks key n h some found room within = let e = h.tree_link in
+    absurd (omega arith)
+right_by i now (keyed red l k x r) path blanks key n h some found room within =
+    let same : k ≡ key = let e = h.tree_link in omega arith in
+    let p = h.place in
+    let here = p.hand_linked.0 in let there = ap (get i.nodes) same in
+    let node : node_of red l x r ≡ n = cc in
+    let a : Level = record { side = Right; red = red; key = k; row = x; other = l } in
+    let j : Inside = with_step i Right n.right in
+    let new : Zipper =
+    record { tree = plain r; path = plain_level a ∷ plain_path path; room = i.room } in
+    let m : Moved j new = shut j new r (a ∷ path) blanks (record {
+      place = record {
+        hand_linked = p.hand_linked.2;
+        path_linked = (p.hand_linked.0, p.hand_linked.1, p.path_linked);
+        chained = p.chained;
+        apart = λ e. (let all = p.apart e in omega arith);
+        counted = omega (arith, p.counted);
+        fits = p.fits;
+        small = p.small;
+      };
+      tree_link = sym (ap (λ (z : Node). z.right) node);
+      path_steps = steps_more i Right k path red x l h.tree_link h.path_steps within;
+      blank_link = h.blank_link;
+      room_is = h.room_is;
+      few = omega arith;
+      shows = refl;
+    }) in
+    let e : now.tree ≡ branch n.red (plain l) x (plain r) =
+    ap (λ (z : Zipper). z.tree) h.shows
+    ∙ ap (λ (z : Node). branch z.red (plain l) x (plain r)) node in
+    let heavy = ap weight e in
+    let light = ap (λ (z : Zipper). weight z.tree) m.shows in
+    record {
+      is = m.is;
+      opens = record {
+        row = x;
+        left = plain l;
+        node = sym (ap (λ (z : Node). z.node) node);
+        was = e ∙ sym (ap (λ (z : Zipper). branch n.red (plain l) x z.tree) m.shows);
+        path = ap (λ (z : Zipper). z.path) m.shows
+            ∙ ap (λ (z : Node). record {
+              side = Right;
+              red = z.red;
+              row = x;
+              other =
+                  plain l;
+            } ∷ plain_path path) node
+            ∙ sym (ap (λ (z : Zipper). record {
+              side = Right;
+              red = n.red;
+              row = x;
+              other =
+                  plain l;
+            } ∷ z.path) h.shows);
+        room = ap (λ (z : Zipper). z.room) m.shows ∙ sym (ap (λ (z : Zipper). z.room) h.shows);
+        less = omega arith;
+      };
+      row_is = ap (λ (z : Node). record_of z) node;
+    }
+
+pub right_opened : (i : Inside) (now : Zipper) (key : ℕ) (n : Node) → Is i → show i ≡ now →
+    i.tree ≡ suc key → get i.nodes key ≡ Some n → i.depth < 64 → i.depth < length i.steps →
+    RightOpened i now n
+right_opened i now key n f is some found room within =
+    right_by i now f.hand f.path f.blanks key n (held i now f is) some found room within
+
+-- going up with nothing written
+abbrev pub joined_keyed : Side → Bool → Keyed → ℕ → Record → Keyed → Keyed
+joined_keyed Left red t k x other = keyed red t k x other
+joined_keyed Right red t k x other = keyed red other k x t
+
+abbrev pub back : Level → Keyed → Keyed
+back a t = joined_keyed a.side a.red t a.key a.row a.other
+
+plain-back : (side : Side) (red : Bool) (t : Keyed) (k : ℕ) (x : Record) (other : Keyed) →
+    plain (joined_keyed side red t k x other) ≡ sided side red (plain t) x (plain other)
+plain-back Left red t k x other = refl
+plain-back Right red t k x other = refl
+
+link-back : (side : Side) (red : Bool) (t : Keyed) (k : ℕ) (x : Record) (other : Keyed) →
+    link_of (joined_keyed side red t k x other) ≡ suc k
+link-back Left red t k x other = refl
+link-back Right red t k x other = refl
+
+place_by : (s : Slab Node) (hand : Keyed) (side : Side) (red : Bool) (k : ℕ) (x : Record)
+    (other : Keyed) (path : List Level) (blanks : List ℕ) →
+    IsPlace s hand (record { side = side; red = red; key = k; row = x; other = other } ∷ path)
+    blanks → IsPlace s (joined_keyed side red hand k x other) path blanks
+place_by s hand Left red k x other path blanks p = record {
+  hand_linked = (p.path_linked.0, p.hand_linked, p.path_linked.1);
+  path_linked = p.path_linked.2;
+  chained = p.chained;
+  apart = λ e. (let all = p.apart e in omega arith);
+  counted = omega (arith, p.counted);
+  fits = p.fits;
+  small = p.small;
+}
+place_by s hand Right red k x other path blanks p = record {
+  hand_linked = (p.path_linked.0, p.path_linked.1, p.hand_linked);
+  path_linked = p.path_linked.2;
+  chained = p.chained;
+  apart = λ e. (let all = p.apart e in omega arith);
+  counted = omega (arith, p.counted);
+  fits = p.fits;
+  small = p.small;
+}
+
+pub place_back : (s : Slab Node) (hand : Keyed) (a : Level) (path : List Level) (blanks : List ℕ) →
+    IsPlace s hand (a ∷ path) blanks → IsPlace s (back a hand) path blanks
+place_back s hand a path blanks p = place_by s hand a.side a.red a.key a.row a.other path blanks p
+
+-- one step up, with nothing written
+abbrev pub without_step : Inside → ℕ → Inside
+without_step i link = record i { tree = link; depth = i.depth - 1 }
+
+pub gone_back : (i : Inside) (now : Zipper) (hand : Keyed) (a : Level) (path : List Level)
+    (blanks : List ℕ) (link : ℕ) → Held i now hand (a ∷ path) blanks → link ≡ suc a.key →
+    Held (without_step i link)
+    (record { tree = plain (back a hand); path = plain_path path; room = i.room }) (back a hand)
+    path blanks
+gone_back i now hand a path blanks link h e = record {
+  place = place_back i.nodes hand a path blanks h.place;
+  tree_link = e ∙ sym (link-back a.side a.red hand a.key a.row a.other);
+  path_steps = let d : length path ≡ i.depth - 1 = omega (arith, h.path_steps.0) in
+      subst (λ (e : ℕ). AreSteps i.steps e path) d h.path_steps.2;
+  blank_link = h.blank_link;
+  room_is = h.room_is;
+  few = omega (arith, h.few);
+  shows = refl;
+}
+
+-- the node in hand is there
+present_by : (s : Slab Node) (link key : ℕ) (t : Keyed) → IsLinked s t → link ≡ link_of t →
+    link ≡ suc key → ContainsKey s key
+present_by s link key nil h a some = absurd (omega arith)
+present_by s link key (keyed red l k x r) h a some =
+    let same : k ≡ key = omega arith in
+    rw (sym (ap (get s) same) ∙ h.0) refl
+
+pub top_present : (i : Inside) (key : ℕ) → Is i → i.tree ≡ suc key → ContainsKey i.nodes key
+top_present i key f some =
+    present_by i.nodes i.tree key f.hand f.place.hand_linked f.tree_link some
+
+-- a value written back is no change
+pub same_value : (s : Slab Node) (key : ℕ) (n : Node) → get s key ≡ Some n →
+    with_value s key n ≡ s
+same_value s key n found =
+    ap (λ (o : Option Node). record s { slots = set s.slots key o }) (sym found)
+    ∙ ap (λ (z : List (Option Node)). record s { slots = z }) (set-get_or s.slots key None)
+
+abbrev pub written_back : Inside → ℕ → Node → Inside
+written_back i key n = record i { nodes = with_value i.nodes key n }
+
+pub written_is : (i : Inside) (key : ℕ) (n : Node) → get i.nodes key ≡ Some n → Is i →
+    Is (written_back i key n)
+written_is i key n found f =
+    subst (λ (z : Slab Node). Is (record i { nodes = z })) (sym (same_value i.nodes key n found)) f

@@ -1,0 +1,13 @@
+pub mod KeyedLemmas
+pub mod HeldLemmas
+pub mod ChangeLemmas
+pub mod ReadLemmas
+pub mod TurnLemmas
+pub mod BlankLemmas
+pub mod SeekLemmas
+pub mod Stepping
+pub mod InsertSteps
+pub mod EraseSteps
+pub mod FirstSteps
+pub mod NextSteps
+pub mod PlaceSteps

@@ -1,0 +1,303 @@
+-- Going down by fields alone: what a seek has come to leads to the same place as where it began.
+use Rattle.std.proofs.Common.{◌≡◌, ℕ, suc, ◌+◌, ◌<◌, ◌≤◌, Bool, true, false, List, ◌∷◌, ◌≢◌}
+use Rattle.std.proofs.Common.{length, if◌then◌else◌, Some, refl, sym, ap, subst, ◌∙◌}
+use Rattle.std.proofs.Common.{arith}
+use Rattle.std.proofs.Common.{length-set}
+use Rattle.slab.specs.Slab.{Slab, get}
+use Rattle.rb_trees.specs.declared.Record.{Record}
+use Rattle.std.specs.Ordering.{is_eq, is_lt}
+use Rattle.std.specs.declared.cmp.Ordering.{Ordering}
+use Rattle.std.specs.declared.cmp.Ordering.TheVariants.{Less, Equal, Greater}
+use Rattle.std.specs.Prelude.{nat_lt, ◌==◌}
+use Rattle.std.proofs.lemmas.Bool.Decides.{nat_tests}
+use Rattle.rb_trees.specs.Trees.{Branches, branch, shape, depth}
+use Rattle.rb_cursor.specs.declared.nodes.Node.{Node}
+use Rattle.rb_trees.specs.declared.Side.{Side}
+use Rattle.rb_trees.specs.declared.Side.TheVariants.{Left, Right}
+use Rattle.rb_cursor.specs.declared.cursors.Cursor.TheInside.{Inside}
+use Rattle.rb_trees.specs.Paths.{Above}
+use Rattle.rb_cursor.specs.Zippers.{Zipper}
+use Rattle.rb_cursor.specs.Opening.{weight}
+use Rattle.rb_cursor.specs.Keyed.{record_of}
+use Rattle.rb_cursor.specs.Children.{child_at, side_by}
+use Rattle.order_laws.specs.declared.items.Item.{Item}
+use Rattle.rb_trees.specs.Paths.{past_left, past_right, way_by, place_at, place_from, way_at}
+use Rattle.rb_trees.specs.Paths.{way_from}
+use Rattle.rb_cursor.proofs.ChangeLemmas.{rewrites}
+use Rattle.rb_cursor.proofs.HeldLemmas.{same_value, written_back}
+use Rattle.rb_cursor.proofs.HeldLemmas.{Is, show, with_step, depth_is, left_opened, right_opened}
+use Rattle.rb_cursor.proofs.HeldLemmas.{none_there}
+
+-- the fields lead by W where this zipper leads
+pub record Sought {X : Type 0} (W : Branches → List Above →
+    X) (i : Inside) (start : Zipper) : Type 0 where
+  pub is : Is i
+  pub way : W (show i).tree (show i).path ≡ W start.tree start.path
+  pub fits : depth (shape (show i).tree) + length (show i).path ≤ 64
+  pub room : (show i).room ≡ start.room
+  pub long : length i.steps ≡ 64
+
+pub begins : {X : Type 0} (W : Branches → List Above → X) (i : Inside) (start : Zipper) → Is i →
+    show i ≡ start → depth (shape start.tree) + length start.path ≤ 64 → length i.steps ≡ 64 →
+    Sought W i start
+begins W i start f is fits len = record {
+  is = f;
+  way = ap (λ (z : Zipper). W z.tree z.path) is;
+  fits = (let a = ap (λ (z : Zipper). depth (shape z.tree) + length z.path) is in omega arith);
+  room = ap (λ (z : Zipper). z.room) is;
+  long = len;
+}
+
+-- where a node is in hand, one more step fits
+step_fits_by : (d : ℕ) (now : Zipper) → d ≡ length now.path →
+    (l : Branches) (red : Bool) (x : Record) (r : Branches) → now.tree ≡ branch red l x r →
+    depth (shape now.tree) + length now.path ≤ 64 → d < 64
+step_fits_by d now e l red x r was fits = let a = ap (λ (t : Branches). depth (shape t)) was in
+    omega arith
+
+pub step_fits : {X : Type 0} (W : Branches → List Above →
+    X) (i : Inside) (start : Zipper) (key : ℕ) (n : Node) → Sought W i start → i.tree ≡ suc key →
+    get i.nodes key ≡ Some n → i.depth < 64
+step_fits W i start key n s some found =
+    let r = rewrites i (show i) key n.red (record_of n) n s.is refl some found in
+    step_fits_by i.depth (show i) (depth_is i (show i) s.is refl) r.left n.red (record_of n) r.right
+    r.was s.fits
+
+pub record WentLeft {X : Type 0} (W : Branches → List Above →
+    X) (i : Inside) (start : Zipper) (n : Node) : Type 0 where
+  pub sought : Sought W (with_step i Left n.left) start
+  pub less : weight (show (with_step i Left n.left)).tree < weight (show i).tree
+
+pub goes_left : {X : Type 0} (W : Branches → List Above →
+    X) (i : Inside) (start : Zipper) (key : ℕ) (n : Node) → Sought W i start → i.tree ≡ suc key →
+    get i.nodes key ≡ Some n → i.depth < 64 →
+    ((red : Bool) (l r : Branches) (p : List Above) →
+    W (branch red l (record_of n) r) p ≡ W l (past_left red (record_of n) r ∷ p)) →
+    WentLeft W i start n
+goes_left W i start key n s some found few turn =
+    let o = left_opened i (show i) key n s.is refl some found few (omega (arith, s.long)) in
+    let j : Inside = with_step i Left n.left in
+    let p = (show i).path in
+    let t = (show j).tree in
+    let deep = ap (λ (z : Branches). depth (shape z)) o.opens.was in
+    let long = ap (λ (z : List Above). length z) o.opens.path in
+    record {
+      sought = record {
+        is = o.is;
+        way = ap (W t) o.opens.path
+            ∙ ap (λ (y : Record). W t (past_left n.red y o.opens.right ∷ p)) o.row_is
+            ∙ sym (turn n.red t o.opens.right p)
+            ∙ sym (ap (λ (y : Record). W (branch n.red t y o.opens.right) p) o.row_is)
+            ∙ sym (ap (λ (z : Branches). W z p) o.opens.was) ∙ s.way;
+        fits = (let a = s.fits in omega arith);
+        room = o.opens.room ∙ s.room;
+        long = length-set i.steps i.depth (record { link = i.tree; side = Left }) ∙ s.long;
+      };
+      less = o.opens.less;
+    }
+
+pub record WentRight {X : Type 0} (W : Branches → List Above →
+    X) (i : Inside) (start : Zipper) (n : Node) : Type 0 where
+  pub sought : Sought W (with_step i Right n.right) start
+  pub less : weight (show (with_step i Right n.right)).tree < weight (show i).tree
+
+pub goes_right : {X : Type 0} (W : Branches → List Above →
+    X) (i : Inside) (start : Zipper) (key : ℕ) (n : Node) → Sought W i start → i.tree ≡ suc key →
+    get i.nodes key ≡ Some n → i.depth < 64 →
+    ((red : Bool) (l r : Branches) (p : List Above) →
+    W (branch red l (record_of n) r) p ≡ W r (past_right red l (record_of n) ∷ p)) →
+    WentRight W i start n
+goes_right W i start key n s some found few turn =
+    let o = right_opened i (show i) key n s.is refl some found few (omega (arith, s.long)) in
+    let j : Inside = with_step i Right n.right in
+    let p = (show i).path in
+    let t = (show j).tree in
+    let deep = ap (λ (z : Branches). depth (shape z)) o.opens.was in
+    let long = ap (λ (z : List Above). length z) o.opens.path in
+    record {
+      sought = record {
+        is = o.is;
+        way = ap (W t) o.opens.path
+            ∙ ap (λ (y : Record). W t (past_right n.red o.opens.left y ∷ p)) o.row_is
+            ∙ sym (turn n.red o.opens.left t p)
+            ∙ sym (ap (λ (y : Record). W (branch n.red o.opens.left y t) p) o.row_is)
+            ∙ sym (ap (λ (z : Branches). W z p) o.opens.was) ∙ s.way;
+        fits = (let a = s.fits in omega arith);
+        room = o.opens.room ∙ s.room;
+        long = length-set i.steps i.depth (record { link = i.tree; side = Right }) ∙ s.long;
+      };
+      less = o.opens.less;
+    }
+
+-- the turns of the way of an item
+pub way_left : (less : Item → Item → Bool) (x : Item) (n : Node) → less x n.item ≡ true →
+    (red : Bool) (l r : Branches) (p : List Above) →
+    way_by less x (branch red l (record_of n) r) p ≡ way_by less x l
+    (past_left red (record_of n) r ∷ p)
+way_left less x n e red l r p =
+    ap (λ (b : Bool). if b then way_by less x l (past_left red (record_of n) r ∷ p)
+    else way_by less x r (past_right red l (record_of n) ∷ p)) e
+
+pub way_right : (less : Item → Item → Bool) (x : Item) (n : Node) → less x n.item ≡ false →
+    (red : Bool) (l r : Branches) (p : List Above) →
+    way_by less x (branch red l (record_of n) r) p ≡ way_by less x r
+    (past_right red l (record_of n) ∷ p)
+way_right less x n e red l r p =
+    ap (λ (b : Bool). if b then way_by less x l (past_left red (record_of n) r ∷ p)
+    else way_by less x r (past_right red l (record_of n) ∷ p)) e
+
+-- where no node is in hand the way is behind
+pub way_ends : (less : Item → Item → Bool) (x : Item) (i : Inside) (start : Zipper) →
+    Sought (way_by less x) i start → i.tree ≡ 0 →
+    (show i).path ≡ way_by less x start.tree start.path
+way_ends less x i start s none =
+    sym (ap (λ (t : Branches). way_by less x t (show i).path)
+    (none_there i (show i) s.is refl none)) ∙ s.way
+
+-- the way of what is sought: the place where it ends, and the path up from there
+abbrev pub seen_way : (Record → Ordering) → Branches → List Above → Branches × List Above
+seen_way seen t p = (place_at seen t, way_at seen t p)
+
+-- its turns
+abbrev turn_at : (Record → Ordering) → Bool → Branches → Record → Branches → List Above → Ordering →
+    Branches × List Above
+turn_at seen red l y r p o = (
+  place_from o (place_at seen l) (branch red l y r) (place_at seen r),
+  way_from o (way_at seen l (past_left red y r ∷ p)) p (way_at seen r (past_right red l y ∷ p)),
+)
+
+module _ (seen : Record → Ordering) where
+  pub seen_left : (n : Node) → seen (record_of n) ≡ Less →
+      (red : Bool) (l r : Branches) (p : List Above) →
+      seen_way seen (branch red l (record_of n) r) p
+      ≡ seen_way seen l (past_left red (record_of n) r ∷ p)
+  seen_left n less red l r p = ap (turn_at seen red l (record_of n) r p) less
+
+  pub seen_right : (n : Node) → seen (record_of n) ≡ Greater →
+      (red : Bool) (l r : Branches) (p : List Above) →
+      seen_way seen (branch red l (record_of n) r) p
+      ≡ seen_way seen r (past_right red l (record_of n) ∷ p)
+  seen_right n more red l r p = ap (turn_at seen red l (record_of n) r p) more
+
+  seen_stays : (t : Branches) (p : List Above) (red : Bool) (l : Branches) (y : Record)
+      (r : Branches) → t ≡ branch red l y r → seen y ≡ Equal → seen_way seen t p ≡ (t, p)
+  seen_stays t p red l y r is same =
+      ap (λ (z : Branches). seen_way seen z p) is ∙ ap (turn_at seen red l y r p) same
+      ∙ sym (ap (λ (z : Branches). (z, p)) is)
+
+  -- it ends at its node, or where there is none
+  seen_found : (i : Inside) (start : Zipper) (key : ℕ) (n : Node) →
+      Sought (seen_way seen) i start → i.tree ≡ suc key → get i.nodes key ≡ Some n →
+      seen (record_of n) ≡ Equal → ((show i).tree, (show i).path)
+      ≡ seen_way seen start.tree start.path
+  seen_found i start key n s some found same =
+      let r = rewrites i (show i) key n.red (record_of n) n s.is refl some found in
+      sym (seen_stays (show i).tree (show i).path n.red r.left (record_of n) r.right r.was same)
+      ∙ s.way
+
+  -- the node that was read stands there again
+  pub seen_ends : (i : Inside) (start : Zipper) (key : ℕ) (n : Node) →
+      Sought (seen_way seen) i start → i.tree ≡ suc key → get i.nodes key ≡ Some n →
+      seen (record_of n) ≡ Equal →
+      ((show (written_back i key n)).tree, (show (written_back i key n)).path)
+      ≡ seen_way seen start.tree start.path
+  seen_ends i start key n s some found same =
+      subst (λ (z : Slab Node). (
+        (show (record i { nodes = z })).tree,
+        (show (record i { nodes = z })).path,
+      ) ≡ seen_way seen start.tree start.path)
+      (sym (same_value i.nodes key n found)) (seen_found i start key n s some found same)
+
+  pub seen_misses : (i : Inside) (start : Zipper) → Sought (seen_way seen) i start → i.tree ≡ 0 →
+      ((show i).tree, (show i).path) ≡ seen_way seen start.tree start.path
+  seen_misses i start s none =
+      let e = none_there i (show i) s.is refl none in
+      ap (λ (t : Branches). (t, (show i).path)) e
+      ∙ sym (ap (λ (t : Branches). seen_way seen t (show i).path) e) ∙ s.way
+
+-- a step down on a side, where the node was written back
+pub record Went {X : Type 0} (W : Branches → List Above → X) (i : Inside) (start : Zipper)
+    (key : ℕ) (n : Node) (side : Side) (link : ℕ) : Type 0 where
+  pub sought : Sought W (with_step (written_back i key n) side link) start
+  pub less : weight (show (with_step (written_back i key n) side link)).tree < weight (show i).tree
+
+record Steps {X : Type 0} (W : Branches → List Above → X) (i now : Inside) (start : Zipper) :
+    Type 0 where
+  pub sought : Sought W now start
+  pub less : weight (show now).tree < weight (show i).tree
+
+went : {X : Type 0} (W : Branches → List Above → X) (i : Inside) (start : Zipper) (key : ℕ)
+    (n : Node) (left : Bool) (side : Side) (link : ℕ) → get i.nodes key ≡ Some n →
+    side ≡ side_by left → link ≡ child_at side n →
+    Steps W i (with_step i (side_by left) (child_at (side_by left) n)) start →
+    Went W i start key n side link
+went W i start key n left side link found here there g =
+    let a = subst (λ (z : Side). Steps W i (with_step i z (child_at z n)) start) (sym here) g in
+    let b = subst (λ (l : ℕ). Steps W i (with_step i side l) start) (sym there) a in
+    let c = subst (λ (z : Slab Node).
+    Steps W i (with_step (record i { nodes = z }) side link) start)
+    (sym (same_value i.nodes key n found)) b in
+    record { sought = c.sought; less = c.less }
+
+-- a step of the way of an item
+item_by : (less : Item → Item → Bool) (x : Item) (i : Inside) (start : Zipper) (key : ℕ)
+    (n : Node) (left : Bool) → Sought (way_by less x) i start → i.tree ≡ suc key →
+    get i.nodes key ≡ Some n → i.depth < 64 → left ≡ less x n.item →
+    Steps (way_by less x) i (with_step i (side_by left) (child_at (side_by left) n)) start
+item_by less x i start key n true s some found few test =
+    let turn = way_left less x n (sym test) in
+    let g = goes_left (way_by less x) i start key n s some found few turn in
+    record { sought = g.sought; less = g.less }
+item_by less x i start key n false s some found few test =
+    let turn = way_right less x n (sym test) in
+    let g = goes_right (way_by less x) i start key n s some found few turn in
+    record { sought = g.sought; less = g.less }
+
+pub item_goes : (less : Item → Item → Bool) (x : Item) (i : Inside) (start : Zipper) (key : ℕ)
+    (n : Node) (left : Bool) (side : Side) (link : ℕ) → Sought (way_by less x) i start →
+    i.tree ≡ suc key → get i.nodes key ≡ Some n → left ≡ less x n.item → side ≡ side_by left →
+    link ≡ child_at side n → Went (way_by less x) i start key n side link
+item_goes less x i start key n left side link s some found test here there =
+    let few = step_fits (way_by less x) i start key n s some found in
+    went (way_by less x) i start key n left side link found here there
+    (item_by less x i start key n left s some found few test)
+
+-- a step of the way of what is sought
+is_before : (o : Ordering) → is_eq o ≡ false → is_lt o ≡ true → o ≡ Less
+is_before Less other test = refl
+is_before Equal other test = absurd (cc)
+is_before Greater other test = absurd (cc)
+
+is_behind : (o : Ordering) → is_eq o ≡ false → is_lt o ≡ false → o ≡ Greater
+is_behind Less other test = absurd (cc)
+is_behind Equal other test = absurd (cc)
+is_behind Greater other test = refl
+
+pub is_at : (o : Ordering) → is_eq o ≡ true → o ≡ Equal
+is_at Less test = absurd (cc)
+is_at Equal test = refl
+is_at Greater test = absurd (cc)
+
+seen_by : (seen : Record → Ordering) (i : Inside) (start : Zipper) (key : ℕ) (n : Node)
+    (left : Bool) → Sought (seen_way seen) i start → i.tree ≡ suc key →
+    get i.nodes key ≡ Some n → i.depth < 64 → is_eq (seen (record_of n)) ≡ false →
+    left ≡ is_lt (seen (record_of n)) →
+    Steps (seen_way seen) i (with_step i (side_by left) (child_at (side_by left) n)) start
+seen_by seen i start key n true s some found few other test =
+    let turn = seen_left seen n (is_before (seen (record_of n)) other (sym test)) in
+    let g = goes_left (seen_way seen) i start key n s some found few turn in
+    record { sought = g.sought; less = g.less }
+seen_by seen i start key n false s some found few other test =
+    let turn = seen_right seen n (is_behind (seen (record_of n)) other (sym test)) in
+    let g = goes_right (seen_way seen) i start key n s some found few turn in
+    record { sought = g.sought; less = g.less }
+
+pub seen_goes : (seen : Record → Ordering) (i : Inside) (start : Zipper) (key : ℕ) (n : Node)
+    (left : Bool) (side : Side) (link : ℕ) → Sought (seen_way seen) i start → i.tree ≡ suc key →
+    get i.nodes key ≡ Some n → is_eq (seen (record_of n)) ≡ false →
+    left ≡ is_lt (seen (record_of n)) → side ≡ side_by left → link ≡ child_at side n →
+    Went (seen_way seen) i start key n side link
+seen_goes seen i start key n left side link s some found other test here there =
+    let few = step_fits (seen_way seen) i start key n s some found in
+    went (seen_way seen) i start key n left side link found here there
+    (seen_by seen i start key n left s some found few other test)

@@ -1,0 +1,43 @@
+use Rattle.std.proofs.Common.{◌-◌, refl, sym, ap, ◌∙◌, arith}
+use Rattle.rb_cursor.proofs.ChangeLemmas.{closes, not_closed, no_path, last_leads, last_there}
+use Rattle.rb_cursor.specs.Writes.{step_at}
+use Rattle.std.specs.Option.{option_copied_mut}
+use Rattle.rb_cursor.proofs.cursors.Cursor.close.Goals as goal
+
+pub returns-then-self-eq0 : goal.returns-then-self-eq0
+returns-then-self-eq0 c =
+    not_closed c.args.red c.args.self.now
+    (no_path c.self.inside c.args.self.now c.self.invariant c.self.view_is c.if-self-eq0.true)
+
+pub overflow_sub-link : goal.overflow_sub-link
+overflow_sub-link c =
+    last_leads c.self.inside c.args.self.now c.self.invariant c.self.view_is
+    (omega (arith, c.if-self-eq0.false)) (step_at c.self.inside.steps (c.self.inside.depth - 1))
+    refl
+
+pub unreachable-requires : goal.unreachable-requires
+unreachable-requires c =
+    let step = step_at c.self.inside.steps (c.self.inside.depth - 1) in
+    let some = last_leads c.self.inside c.args.self.now c.self.invariant c.self.view_is
+    (omega (arith, c.if-self-eq0.false)) step refl in
+    last_there c.self.inside c.args.self.now c.self.invariant c.self.view_is
+    (omega (arith, c.if-self-eq0.false)) step (step.link - 1) refl (omega arith)
+    (sym c.get_mut.ensures.value ∙ ap option_copied_mut c.in_default.is)
+
+pub invariant_of-self : goal.invariant_of-self
+invariant_of-self c =
+    let step = step_at c.self.inside.steps (c.self.inside.depth - 1) in
+    let some = last_leads c.self.inside c.args.self.now c.self.invariant c.self.view_is
+    (omega (arith, c.if-self-eq0.false)) step refl in
+    (closes c.self.inside c.args.self.now step (step.link - 1) c.args.red c.in-Some.node.now
+    c.self.invariant c.self.view_is
+    (omega (arith, c.if-self-eq0.false)) refl (omega arith) (sym c.in-Some.ensures.value)).is
+
+pub returns : goal.returns
+returns c =
+    let step = step_at c.self.inside.steps (c.self.inside.depth - 1) in
+    let some = last_leads c.self.inside c.args.self.now c.self.invariant c.self.view_is
+    (omega (arith, c.if-self-eq0.false)) step refl in
+    (closes c.self.inside c.args.self.now step (step.link - 1) c.args.red c.in-Some.node.now
+    c.self.invariant c.self.view_is
+    (omega (arith, c.if-self-eq0.false)) refl (omega arith) (sym c.in-Some.ensures.value)).shows

@@ -1,0 +1,5 @@
+use Rattle.rb_cursor.proofs.HeldLemmas.{depth_is}
+use Rattle.rb_cursor.proofs.cursors.Cursor.depth.Goals as goal
+
+pub returns : goal.returns
+returns c = depth_is c.self.inside c.args.self.now c.self.invariant c.self.view_is

@@ -1,0 +1,44 @@
+use Rattle.std.proofs.Common.{◌-◌, sym, ap, ◌∙◌, arith}
+use Rattle.rb_cursor.proofs.HeldLemmas.{room_is}
+use Rattle.rb_cursor.proofs.BlankLemmas.{blank_leads, blank_there, plants}
+use Rattle.rb_cursor.proofs.TurnLemmas.{leads_on}
+use Rattle.std.specs.Option.{option_copied_mut}
+use Rattle.rb_cursor.proofs.cursors.Cursor.plant.Goals as goal
+
+pub overflow_sub-link : goal.overflow_sub-link
+overflow_sub-link c =
+    blank_leads c.self.inside c.args.self.now c.self.invariant c.self.view_is c.requires.room
+
+pub unreachable-requires : goal.unreachable-requires
+unreachable-requires c =
+    let some = blank_leads c.self.inside c.args.self.now c.self.invariant c.self.view_is
+    c.requires.room in
+    blank_there c.self.inside (c.self.inside.blank - 1) c.self.invariant (omega arith)
+    (sym c.get_mut.ensures.value ∙ ap option_copied_mut c.in_default.is)
+
+pub overflow_sub-self : goal.overflow_sub-self
+overflow_sub-self c =
+    omega (
+      arith,
+      room_is c.self.inside c.args.self.now c.self.invariant c.self.view_is,
+      c.requires.room,
+    )
+
+pub lead-requires-clause-leads : goal.lead-requires-clause-leads
+lead-requires-clause-leads c = leads_on c.self.inside c.self.invariant
+
+pub invariant_of-self : goal.invariant_of-self
+invariant_of-self c =
+    let some = blank_leads c.self.inside c.args.self.now c.self.invariant c.self.view_is
+    c.requires.room in
+    (plants c.self.inside c.lead.new.nodes c.args.self.now (c.self.inside.blank - 1) c.args.row
+    c.in-Some.node.now c.self.invariant c.self.view_is c.requires.leaf (omega arith)
+    (sym c.in-Some.ensures.value) c.lead.ensures).is
+
+pub returns : goal.returns
+returns c =
+    let some = blank_leads c.self.inside c.args.self.now c.self.invariant c.self.view_is
+    c.requires.room in
+    (plants c.self.inside c.lead.new.nodes c.args.self.now (c.self.inside.blank - 1) c.args.row
+    c.in-Some.node.now c.self.invariant c.self.view_is c.requires.leaf (omega arith)
+    (sym c.in-Some.ensures.value) c.lead.ensures).shows

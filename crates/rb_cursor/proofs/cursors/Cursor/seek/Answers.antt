@@ -1,0 +1,70 @@
+use Rattle.std.proofs.Common.{◌-◌, List, sym, ap, ◌∙◌, arith}
+use Rattle.rb_trees.specs.Trees.{Branches}
+use Rattle.rb_trees.specs.Paths.{Above}
+use Rattle.rb_cursor.specs.Keyed.{record_of}
+use Rattle.rb_cursor.proofs.SeekLemmas.{step_fits, seen_way, seen_goes, seen_ends, seen_misses}
+use Rattle.rb_cursor.proofs.SeekLemmas.{is_at}
+use Rattle.rb_cursor.proofs.cursors.Cursor.seek.Goals as goal
+
+pub bounds-self-inside-depth : goal.bounds-self-inside-depth
+bounds-self-inside-depth g c =
+    step_fits (seen_way (g.P.Probe.seen c.args.sought.now))
+    (record c.loop-link.self-inside { tree = c.loop-link.link; depth = c.loop-link.depth })
+    c.args.self.now (c.loop-link.link - 1) c.index_mut-node.result.now
+    c.loop-link.invariant (omega (arith, c.loop-link-test.true)) c.index_mut-node.ensures.value
+
+pub loop-link-smaller : goal.loop-link-smaller
+loop-link-smaller g c =
+    (seen_goes (g.P.Probe.seen c.args.sought.now)
+    (record c.loop-link.self-inside { tree = c.loop-link.link; depth = c.loop-link.depth })
+    c.args.self.now (c.loop-link.link - 1) c.index_mut-node.result.now c.is_before.result c.side_by-side.result
+    c.child-link.result
+    c.loop-link.invariant (omega (arith, c.loop-link-test.true)) c.index_mut-node.ensures.value
+    (sym (c.is_at.ensures c.index_mut-node.result.now.node) ∙ c.if-is_at.false)
+    (c.is_before.ensures c.index_mut-node.result.now.node) c.side_by-side.ensures
+    c.child-link.ensures).less
+
+pub loop-link-preserved : goal.loop-link-preserved
+loop-link-preserved g c =
+    (seen_goes (g.P.Probe.seen c.args.sought.now)
+    (record c.loop-link.self-inside { tree = c.loop-link.link; depth = c.loop-link.depth })
+    c.args.self.now (c.loop-link.link - 1) c.index_mut-node.result.now c.is_before.result c.side_by-side.result
+    c.child-link.result
+    c.loop-link.invariant (omega (arith, c.loop-link-test.true)) c.index_mut-node.ensures.value
+    (sym (c.is_at.ensures c.index_mut-node.result.now.node) ∙ c.if-is_at.false)
+    (c.is_before.ensures c.index_mut-node.result.now.node) c.side_by-side.ensures
+    c.child-link.ensures).sought
+
+pub returns-then-is_at-clause-tree : goal.returns-then-is_at-clause-tree
+returns-then-is_at-clause-tree g c =
+    ap (λ (z : Branches × List Above). z.0)
+    (seen_ends (g.P.Probe.seen c.args.sought.now)
+    (record c.loop-link.self-inside { tree = c.loop-link.link; depth = c.loop-link.depth })
+    c.args.self.now (c.loop-link.link - 1) c.index_mut-node.result.now
+    c.loop-link.invariant (omega (arith, c.loop-link-test.true)) c.index_mut-node.ensures.value
+    (is_at (g.P.Probe.seen c.args.sought.now (record_of c.index_mut-node.result.now))
+    (sym (c.is_at.ensures c.index_mut-node.result.now.node) ∙ c.if-is_at.true)))
+
+pub returns-then-is_at-clause-path : goal.returns-then-is_at-clause-path
+returns-then-is_at-clause-path g c =
+    ap (λ (z : Branches × List Above). z.1)
+    (seen_ends (g.P.Probe.seen c.args.sought.now)
+    (record c.loop-link.self-inside { tree = c.loop-link.link; depth = c.loop-link.depth })
+    c.args.self.now (c.loop-link.link - 1) c.index_mut-node.result.now
+    c.loop-link.invariant (omega (arith, c.loop-link-test.true)) c.index_mut-node.ensures.value
+    (is_at (g.P.Probe.seen c.args.sought.now (record_of c.index_mut-node.result.now))
+    (sym (c.is_at.ensures c.index_mut-node.result.now.node) ∙ c.if-is_at.true)))
+
+pub returns-clause-tree : goal.returns-clause-tree
+returns-clause-tree g c =
+    ap (λ (z : Branches × List Above). z.0)
+    (seen_misses (g.P.Probe.seen c.args.sought.now)
+    (record c.loop-link.self-inside { tree = c.loop-link.link; depth = c.loop-link.depth })
+    c.args.self.now c.loop-link.invariant c.loop-link-test.false)
+
+pub returns-clause-path : goal.returns-clause-path
+returns-clause-path g c =
+    ap (λ (z : Branches × List Above). z.1)
+    (seen_misses (g.P.Probe.seen c.args.sought.now)
+    (record c.loop-link.self-inside { tree = c.loop-link.link; depth = c.loop-link.depth })
+    c.args.self.now c.loop-link.invariant c.loop-link-test.false)

@@ -1,0 +1,16 @@
+use Rattle.std.proofs.Common.{◌≡◌, ◌+◌, ◌≤◌, length}
+use Rattle.rb_trees.specs.Trees.{shape, depth}
+use Rattle.rb_trees.specs.Paths.{first_place, first_way}
+use Rattle.rb_cursor.specs.Opening.{weight}
+use Rattle.rb_cursor.proofs.cursors.Cursor.seek_first.Given as goal
+
+abbrev pub invariant-loop-fork : goal.invariant-loop-fork
+invariant-loop-fork l = record {
+  place : first_place l.self.tree ≡ first_place l.initial.self.tree;
+  way : first_way l.self.tree l.self.path ≡ first_way l.initial.self.tree l.initial.self.path;
+  fits : depth (shape l.self.tree) + length l.self.path ≤ 64;
+  room : l.self.room ≡ l.initial.self.room;
+}
+
+abbrev pub decreases-loop-fork : goal.decreases-loop-fork
+decreases-loop-fork l = weight l.self.tree

@@ -1,0 +1,43 @@
+use Rattle.std.proofs.Common.{◌≡◌, ℕ, ◌-◌, ◌+◌, ◌≤◌, ◌<◌, List, refl, sym, ap, ◌∙◌, arith, length}
+use Rattle.rb_trees.specs.Paths.{way_by}
+use Rattle.rb_cursor.proofs.HeldLemmas.{none_there, show}
+use Rattle.rb_cursor.proofs.SeekLemmas.{step_fits, item_goes, way_ends}
+use Rattle.rb_cursor.proofs.cursors.Cursor.seek_leaf.Goals as goal
+
+pub bounds-self-inside-depth : goal.bounds-self-inside-depth
+bounds-self-inside-depth g c =
+    step_fits (way_by g.O.TreeOrder.order.less c.args.item.now)
+    (record c.loop-link.self-inside { tree = c.loop-link.link; depth = c.loop-link.depth })
+    c.args.self.now (c.loop-link.link - 1) c.index_mut-node.result.now c.loop-link.invariant
+    (omega (arith, c.loop-link-test.true)) c.index_mut-node.ensures.value
+
+pub loop-link-smaller : goal.loop-link-smaller
+loop-link-smaller g c =
+    (item_goes g.O.TreeOrder.order.less c.args.item.now
+    (record c.loop-link.self-inside { tree = c.loop-link.link; depth = c.loop-link.depth })
+    c.args.self.now (c.loop-link.link - 1) c.index_mut-node.result.now c.less.result
+    c.side_by-side.result c.child-link.result
+    c.loop-link.invariant (omega (arith, c.loop-link-test.true)) c.index_mut-node.ensures.value
+    c.less.ensures c.side_by-side.ensures c.child-link.ensures).less
+
+pub loop-link-preserved : goal.loop-link-preserved
+loop-link-preserved g c =
+    (item_goes g.O.TreeOrder.order.less c.args.item.now
+    (record c.loop-link.self-inside { tree = c.loop-link.link; depth = c.loop-link.depth })
+    c.args.self.now (c.loop-link.link - 1) c.index_mut-node.result.now c.less.result
+    c.side_by-side.result c.child-link.result
+    c.loop-link.invariant (omega (arith, c.loop-link-test.true)) c.index_mut-node.ensures.value
+    c.less.ensures c.side_by-side.ensures c.child-link.ensures).sought
+
+pub returns-clause-tree : goal.returns-clause-tree
+returns-clause-tree g c =
+    none_there (record c.loop-link.self-inside
+    { tree = c.loop-link.link; depth = c.loop-link.depth })
+    (show (record c.loop-link.self-inside { tree = c.loop-link.link; depth = c.loop-link.depth }))
+    c.loop-link.invariant.is refl c.loop-link-test.false
+
+pub returns-clause-path : goal.returns-clause-path
+returns-clause-path g c =
+    way_ends g.O.TreeOrder.order.less c.args.item.now
+    (record c.loop-link.self-inside { tree = c.loop-link.link; depth = c.loop-link.depth })
+    c.args.self.now c.loop-link.invariant c.loop-link-test.false

@@ -1,0 +1,77 @@
+-- The way up from the first node's place: the facts of FirstSteps at the values of the calls.
+use Rattle.std.proofs.Common.{◌≡◌, ℕ, ◌+◌, ◌≤◌, ◌<◌, List, ◌++◌, Some, None, Option, refl, sym, ◌∙◌, ap, arith, length}
+use Rattle.word_arena.specs.Copies.{copy_number}
+use Rattle.rb_trees.specs.Trees.{Branches, shape}
+use Rattle.rb_trees.specs.Turns.{link}
+use Rattle.rb_trees.specs.Erased.{without_first, first_links}
+use Rattle.rb_trees.specs.Paths.{Above, first_place, first_way}
+use Rattle.rb_trees.specs.EraseClimb.{remaining, first_erased}
+use Rattle.rb_cursor.specs.Zippers.{Zipper}
+use Rattle.rb_cursor.specs.Tops.{row_of}
+use Rattle.rb_cursor.proofs.FirstSteps.{row_link, first_some, first_thin, first_lost, first_few, first_climbed, first_stores, first_path}
+use Rattle.rb_cursor.proofs.erases.take_first.Goals as goal
+
+pub unreachable-requires : goal.unreachable-requires
+unreachable-requires c =
+    first_some c.args.cursor.now.tree c.requires.fork
+    (sym (c.row.ensures ∙ ap row_of c.seek_first.ensures.tree) ∙ c.in_default.is)
+
+pub take_top-requires : goal.take_top-requires
+take_top-requires c = first_thin c.args.cursor.now.tree c.requires.fork c.seek_first.ensures.tree
+
+pub climb-short-requires-clause-steps : goal.climb-short-requires-clause-steps
+climb-short-requires-clause-steps c =
+    first_few c.args.cursor.now.tree c.requires.fork c.args.cursor.now.path
+    (ap (λ z. z.path) (c.lower-short.ensures.cursor) ∙ ap (λ z. z.path) c.take_top.ensures ∙ c.seek_first.ensures.path)
+    c.requires.steps
+
+pub climb-short-requires-clause-list : goal.climb-short-requires-clause-list
+climb-short-requires-clause-list c =
+    let t = c.args.cursor.now.tree in
+    let goes : c.lower-short.new.cursor.path ≡ first_way t c.args.cursor.now.path =
+    ap (λ z. z.path) c.lower-short.ensures.cursor ∙ ap (λ z. z.path) c.take_top.ensures ∙ c.seek_first.ensures.path in
+    let lost : remaining c.lower-short.new.cursor.tree c.lower-short.result ≡ first_erased (first_place t) =
+    first_lost t c.requires.fork c.seek_first.ensures.tree c.is_red-red.ensures (ap (λ z. z.tree) c.take_top.ensures) (ap (λ z. z.tree) c.lower-short.ensures.cursor) c.lower-short.ensures.short in
+    let linked : c.in-Some.row.node + 1 ≡ link (shape (first_place t)) =
+    row_link (first_place t) c.in-Some.row (sym (c.in-Some.ensures ∙ ap row_of c.seek_first.ensures.tree)) in
+    let e = first_stores t c.args.cursor.now.path c.depth-depth.ensures goes lost (copy_number c.args.copy) linked in
+    omega (arith, ap length e, c.requires.list)
+
+-- the way up makes what is left of the tree without its first node
+made : (c : goal.After-climb-short)
+    → (remaining c.climb-short.new.cursor.tree c.climb-short.result ≡ without_first c.args.cursor.now.tree)
+    × (c.climb-short.new.cursor.path ≡ c.args.cursor.now.path)
+    × (c.climb-short.new.out.items ≡ c.args.out.now.items ++ first_links (copy_number c.args.copy) c.args.cursor.now.tree)
+made c =
+    let t = c.args.cursor.now.tree in
+    let goes : c.lower-short.new.cursor.path ≡ first_way t c.args.cursor.now.path =
+    ap (λ z. z.path) c.lower-short.ensures.cursor ∙ ap (λ z. z.path) c.take_top.ensures ∙ c.seek_first.ensures.path in
+    let lost : remaining c.lower-short.new.cursor.tree c.lower-short.result ≡ first_erased (first_place t) =
+    first_lost t c.requires.fork c.seek_first.ensures.tree c.is_red-red.ensures (ap (λ z. z.tree) c.take_top.ensures) (ap (λ z. z.tree) c.lower-short.ensures.cursor) c.lower-short.ensures.short in
+    let linked : c.in-Some.row.node + 1 ≡ link (shape (first_place t)) =
+    row_link (first_place t) c.in-Some.row (sym (c.in-Some.ensures ∙ ap row_of c.seek_first.ensures.tree)) in (
+      ap (λ v. remaining v c.climb-short.result) c.climb-short.ensures.tree
+          ∙ ap (remaining _) c.climb-short.ensures.short
+          ∙ first_climbed t c.args.cursor.now.path c.depth-depth.ensures goes lost,
+      c.climb-short.ensures.path ∙ first_path t c.args.cursor.now.path c.depth-depth.ensures goes lost,
+      c.climb-short.ensures.items
+          ∙ ap (λ ss. c.args.out.now.items ++ ss) (first_stores t c.args.cursor.now.path c.depth-depth.ensures goes lost (copy_number c.args.copy) linked),
+    )
+
+pub returns-clause-short : goal.returns-clause-short
+returns-clause-short c = ap (λ r. r.short) (made c).0
+
+abbrev placed : Branches → List Above → ℕ → Zipper
+placed t path room = record { tree = t; path = path; room = room }
+
+pub returns-clause-cursor : goal.returns-clause-cursor
+returns-clause-cursor c =
+    let z = c.climb-short.new.cursor in
+    ap (λ r. placed r.tree z.path z.room) (made c).0
+    ∙ ap (λ p. placed (without_first c.args.cursor.now.tree).tree p z.room) (made c).1
+    ∙ ap (placed (without_first c.args.cursor.now.tree).tree c.args.cursor.now.path)
+    (c.climb-short.ensures.room ∙ ap (λ y. y.room) c.lower-short.ensures.cursor ∙ ap (λ y. y.room) c.take_top.ensures
+    ∙ ap (λ n. n + 1) c.seek_first.ensures.room)
+
+pub returns-clause-items : goal.returns-clause-items
+returns-clause-items c = (made c).2

@@ -1,0 +1,5 @@
+use Rattle.rb_cursor.specs.Opening.{weight}
+use Rattle.rb_cursor.proofs.searches.+reaches.Given as goal
+
+abbrev pub decreases-reaches : goal.decreases-reaches
+decreases-reaches l = weight l.tree.now

@@ -1,0 +1,15 @@
+-- The side on which a way goes on, and the link there.
+use Rattle.std.specs.Prelude.{ℕ, Bool, true, false}
+use Rattle.rb_trees.specs.declared.Side.{Side}
+use Rattle.rb_trees.specs.declared.Side.TheVariants.{Left, Right}
+use Rattle.rb_cursor.specs.declared.nodes.Node.{Node}
+
+-- the left side, or else the right one
+abbrev pub side_by : Bool → Side
+side_by true = Left
+side_by false = Right
+
+-- the link to the subtree on a side
+abbrev pub child_at : Side → Node → ℕ
+child_at Left n = n.left
+child_at Right n = n.right

@@ -1,0 +1,42 @@
+-- A step up on whichever side, and what is stored and mended there.
+use Rattle.std.specs.Prelude.{ℕ, ◌+◌, Bool, List, [], ◌∷◌}
+use Rattle.word_arena.specs.declared.stores.Store.{Store}
+use Rattle.rb_trees.specs.declared.Side.{Side}
+use Rattle.rb_trees.specs.Trees.{Branches}
+use Rattle.rb_trees.specs.Erased.{Rest}
+use Rattle.rb_trees.specs.EraseClimb.{remaining, filled_on, erase_climbed, erase_climb}
+use Rattle.rb_trees.specs.Paths.{Above, joined}
+use Rattle.rb_trees.specs.InsertClimb.{insert_climbed}
+use Rattle.rb_cursor.specs.Zippers.{Zipper}
+
+-- one step up, the node above in the colour that it has
+abbrev pub risen_from : Branches → List Above → ℕ → Zipper
+risen_from t [] room = record { tree = t; path = []; room = room }
+risen_from t (a ∷ path) room = record { tree = joined a a.red t; path = path; room = room }
+
+abbrev pub risen : Zipper → Zipper
+risen z = risen_from z.tree z.path z.room
+
+-- the tree in hand with its subtree on this side filled
+abbrev pub filled_at : Side → Bool → Branches → Branches
+filled_at side short t = (filled_on side short t).tree
+
+-- a tree in hand with nothing above it
+abbrev pub at_root : Branches → ℕ → Zipper
+at_root t room = record { tree = t; path = []; room = room }
+
+-- all the way up in an insert
+abbrev pub insert_topped : Zipper → Zipper
+insert_topped z = at_root (insert_climbed z.path z.tree) z.room
+
+-- what is left of the tree in hand when it lost a node
+abbrev pub left_with : Rest → Zipper → Zipper
+left_with rest z = record z { tree = rest.tree; room = z.room + 1 }
+
+-- the way up to a depth in an erase, from a tree in hand that may be short
+abbrev pub erase_rest : ℕ → Bool → Zipper → Rest
+erase_rest d short z = erase_climbed d z.path (remaining z.tree short)
+
+-- its stores, where the link to the tree in hand was this before
+abbrev pub erase_stores : ℕ → ℕ → ℕ → Bool → Zipper → List Store
+erase_stores copy d before short z = erase_climb copy d z.path before (remaining z.tree short)

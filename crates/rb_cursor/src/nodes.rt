@@ -1,0 +1,72 @@
+//! Nodes as the slab has them, and what a cursor tells of one.
+
+ghost use Rattle.std.specs.Prelude.{◌≡◌};
+ghost use Rattle.rb_cursor.specs.Children.{child_at, side_by};
+
+use order_laws::Item;
+use rb_trees::Side;
+
+/// A record with its colour and the links to its two subtrees: 0, or one more than a key.
+#[derive(Clone, Copy, Debug, PartialEq, Eq, Drop)]
+pub struct Node {
+    /// The item.
+    pub item: Item,
+    /// The number of the node in its copy.
+    pub node: u32,
+    /// The link to the left subtree.
+    pub left: u32,
+    /// The link to the right subtree.
+    pub right: u32,
+    /// Whether it is red.
+    pub red: bool,
+}
+
+impl Node {
+    /// The link to the subtree on a side.
+    #[inline(always)]
+    pub(crate) fn child(&self, side: Side) -> u32
+        ensures { result ≡ child_at side self.now }
+    {
+        match side {
+            Side::Left => self.left,
+            Side::Right => self.right,
+        }
+    }
+}
+
+/// The left side, or else the right one.
+#[inline(always)]
+pub(crate) fn side_by(left: bool) -> Side
+    ensures { result ≡ side_by left }
+{
+    if left { Side::Left } else { Side::Right }
+}
+
+/// A step down: the link to the node that was opened, and the side on which the way goes on.
+#[derive(Clone, Copy, Debug, PartialEq, Eq, Drop)]
+pub struct Step {
+    /// The link to the node.
+    pub link: u32,
+    /// The side.
+    pub side: Side,
+}
+
+/// The colour and the number of the node in hand.
+#[derive(Clone, Copy, Debug, PartialEq, Eq, Drop)]
+pub struct Top {
+    /// Whether it is red.
+    pub red: bool,
+    /// The number of the node in its copy.
+    pub node: u32,
+}
+
+/// The nearest node above the tree in hand.
+#[derive(Clone, Copy, Debug, PartialEq, Eq, Drop)]
+pub struct Nearest {
+    /// On which side of it the tree in hand stands.
+    pub side: Side,
+    /// Whether it is red.
+    pub red: bool,
+    /// The number of the node in its copy.
+    pub node: u32,
+}

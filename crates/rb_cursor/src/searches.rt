@@ -1,0 +1,89 @@
+//! Searches.
+
+ghost use Rattle.std.specs.Prelude.{◌≡◌, is_some};
+ghost use Rattle.rb_trees.specs.Erased.{first_word_at, found};
+ghost use Rattle.rb_trees.specs.Found.{any_with, has_node, met_any, met};
+
+use crate::readings::Reading;
+use order_laws::{Item, TreeOrder};
+
+/// Whether some item has this first word, in a tree in the order of first words.
+#[inline]
+pub fn has(tree: &Reading<'_>, a: u64) -> bool
+    ensures { result ≡ is_some (found (first_word_at a) tree.now) }
+{
+    let mut rest = tree.again();
+    while let Some(fork) = rest.open() {
+        let here = fork.node.item.a;
+        if a == here {
+            return true;
+        }
+        rest = if a < here { fork.left } else { fork.right };
+    }
+    false
+}
+
+/// An item of this first word; goes through all.
+pub fn find_any(tree: &Reading<'_>, a: u64) -> Option<Item>
+    ensures { result ≡ any_with a tree.now }
+{
+    match tree.open() {
+        None => None,
+        Some(fork) => {
+            if fork.node.item.a == a {
+                return Some(fork.node.item);
+            }
+            match find_any(&fork.left, a) {
+                Some(item) => Some(item),
+                None => find_any(&fork.right, a),
+            }
+        }
+    }
+}
+
+/// Whether some item, those with one of the first words `but` left out, is not apart from this one,
+/// where no item beyond one that is apart can meet the item.
+pub fn meets<O: TreeOrder>(tree: &Reading<'_>, item: &Item, but: &[u64]) -> bool
+    ensures { result ≡ met O.order item.now but.now tree.now }
+{
+    let mut rest = tree.again();
+    while let Some(fork) = rest.open() {
+        if !O::apart(&fork.node.item, item) {
+            return !but.contains(&fork.node.item.a)
+                || meets::<O>(&fork.left, item, but)
+                || meets::<O>(&fork.right, item, but);
+        }
+        rest = if O::less(item, &fork.node.item) {
+            fork.left
+        } else {
+            fork.right
+        };
+    }
+    false
+}
+
+/// Whether a record has this node; goes through all.
+pub fn reaches(tree: &Reading<'_>, number: u32) -> bool
+    ensures { result ≡ has_node number tree.now }
+{
+    match tree.open() {
+        None => false,
+        Some(fork) => {
+            fork.node.node == number || reaches(&fork.left, number) || reaches(&fork.right, number)
+        }
+    }
+}
+
+/// Whether some item, those with one of the first words `but` left out, is not apart from this one;
+/// goes through all.
+pub fn meets_any<O: TreeOrder>(tree: &Reading<'_>, item: &Item, but: &[u64]) -> bool
+    ensures { result ≡ met_any O.order item.now but.now tree.now }
+{
+    match tree.open() {
+        None => false,
+        Some(fork) => {
+            let here = !but.contains(&fork.node.item.a) && !O::apart(&fork.node.item, item);
+            here || meets_any::<O>(&fork.left, item, but) || meets_any::<O>(&fork.right, item, but)
+        }
+    }
+}

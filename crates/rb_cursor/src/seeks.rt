@@ -1,0 +1,80 @@
+//! Ways down from the tree in hand.
+
+ghost use Rattle.std.specs.Prelude.{◌≡◌, ◌+◌, ◌≤◌, length};
+ghost use Rattle.rb_trees.specs.Trees.{tip, shape, depth};
+ghost use Rattle.rb_trees.specs.Paths.{way_by, place_at, way_at, first_place, first_way};
+
+use crate::cursors::Cursor;
+use crate::nodes::{Step, side_by};
+use crate::probes::Probe;
+use order_laws::{Item, TreeOrder};
+
+impl Cursor {
+    /// Goes down to where an item belongs: behind those that are not greater, in a tree that is in
+    /// order. No node is in hand then.
+    #[inline]
+    pub fn seek_leaf<O: TreeOrder>(&mut self, item: &Item)
+        requires { depth (shape self.old.tree) + length self.old.path ≤ 64 }
+        ensures tree { self.new.tree ≡ tip }
+        ensures path { self.new.path ≡ way_by O.order.less item.now self.old.tree self.old.path }
+        ensures room { self.new.room ≡ self.old.room }
+    {
+        let mut link = self.tree;
+        let mut depth = self.depth;
+        while link != 0 {
+            // By a `&mut`, since that tests no range.
+            let node = &mut self.nodes[link as usize - 1];
+            let side = side_by(O::less(item, &node.item));
+            self.steps[depth] = Step { link, side };
+            depth += 1;
+            link = node.child(side);
+        }
+        self.tree = link;
+        self.depth = depth;
+    }
+
+    /// Goes down to the node of what is sought. No node is in hand then where there is none.
+    #[inline]
+    pub fn seek<P: Probe>(&mut self, sought: &P)
+        requires { depth (shape self.old.tree) + length self.old.path ≤ 64 }
+        ensures tree { self.new.tree ≡ place_at (P.seen sought.now) self.old.tree }
+        ensures path { self.new.path ≡ way_at (P.seen sought.now) self.old.tree self.old.path }
+        ensures room { self.new.room ≡ self.old.room }
+    {
+        let mut link = self.tree;
+        let mut depth = self.depth;
+        while link != 0 {
+            // By a `&mut`, since that tests no range.
+            let node = &mut self.nodes[link as usize - 1];
+            if sought.is_at(&node.item) {
+                self.tree = link;
+                self.depth = depth;
+                return;
+            }
+            let side = side_by(sought.is_before(&node.item));
+            self.steps[depth] = Step { link, side };
+            depth += 1;
+            link = node.child(side);
+        }
+        self.tree = link;
+        self.depth = depth;
+    }
+
+    /// Goes down to the first node.
+    #[inline]
+    pub fn seek_first(&mut self)
+        requires { depth (shape self.old.tree) + length self.old.path ≤ 64 }
+        ensures tree { self.new.tree ≡ first_place self.old.tree }
+        ensures path { self.new.path ≡ first_way self.old.tree self.old.path }
+        ensures room { self.new.room ≡ self.old.room }
+    {
+        while let Some(fork) = self.tree().open() {
+            if fork.left.is_empty() {
+                return;
+            }
+            let Some(_) = self.open_left() else {
+                unreachable!()
+            };
+        }
+    }
+}

@@ -1,0 +1,17 @@
+pub mod RowLemmas
+pub mod InsertLemmas
+pub mod EraseLemmas
+pub mod DepthLemmas
+pub mod RelinkLemmas
+pub mod InsertLinks
+pub mod EraseLinks
+pub mod PlaceRows
+pub mod SoughtRows
+pub mod MeetRows
+pub mod InsertCounts
+pub mod EraseCounts
+pub mod LeadsLemmas
+pub mod ListLemmas
+pub mod PathLemmas
+pub mod InsertClimbLemmas
+pub mod EraseClimbLemmas

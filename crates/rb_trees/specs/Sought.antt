@@ -1,0 +1,14 @@
+-- A search by comparisons that comes to the record of a first word.
+use Rattle.std.specs.Prelude.{◌≡◌, ℕ, remove, slice_get}
+use Rattle.std.specs.declared.cmp.Ordering.{Ordering}
+use Rattle.order_laws.specs.Tables.{place_of}
+use Rattle.rb_trees.specs.declared.Record.{Record}
+use Rattle.rb_trees.specs.Trees.{Branches, rows}
+use Rattle.rb_trees.specs.Erased.{erased, found}
+use Rattle.rb_trees.specs.Found.{items_of}
+
+-- the comparison finds the record at the place of this first word, and an erase by it takes that
+-- one alone
+pub record Sought (a : ℕ) (seen : Record → Ordering) (t : Branches) : Type 0 where
+  pub erases : rows (erased seen t).tree ≡ remove (rows t) (place_of a (items_of (rows t)))
+  pub finds : found seen t ≡ slice_get (rows t) (place_of a (items_of (rows t)))

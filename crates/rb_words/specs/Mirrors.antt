@@ -1,0 +1,47 @@
+-- The second copy beside the first: the same tree, in the words of copy 1.
+use Rattle.std.specs.Prelude.{◌≡◌, ℕ, ◌+◌, ◌==◌, if◌then◌else◌, List, map}
+use Rattle.order_laws.specs.declared.items.Item.{Item}
+use Rattle.order_laws.specs.Orders.{Order}
+use Rattle.word_arena.specs.declared.stores.Store.{Store}
+use Rattle.word_arena.specs.Words.{root_word}
+use Rattle.rb_words.specs.Pictures.{Picture}
+use Rattle.rb_words.specs.Plans.{Inserts, LeadsWithItem, Erases, LeadsByLinks}
+
+-- the word of copy 1 for the root or a link of copy 0: a node's links in copy 1 stand two words
+-- beyond those in copy 0
+abbrev pub mirror_word : ℕ → ℕ
+mirror_word w = if w == root_word 0 then root_word 1 else w + 2
+
+-- the store of the same value in copy 1
+abbrev pub mirror_store : Store → Store
+mirror_store s = record { word = mirror_word s.word; value = s.value }
+
+-- the stores in copy 1 for some in copy 0
+abbrev pub mirror : List Store → List Store
+mirror links = map mirror_store links
+
+-- the same picture, of copy 1
+abbrev pub second : Picture → Picture
+second p = record p { copy = 1 }
+
+-- the same insert goes on in the second picture
+abbrev pub AreInsertsMirrored : {K : Type 0} → Order K → Picture → Picture → Type 0
+AreInsertsMirrored o old new = (node : ℕ) (item : Item) →
+    Inserts o old new node item → Inserts o (second old) (second new) node item
+
+-- and its plan, mirrored, leads copy 1
+abbrev pub ArePlansWithItemMirrored : {K : Type 0} → Order K → Picture → Picture → Type 0
+ArePlansWithItemMirrored o old new = (node : ℕ) (item : Item) (links : List Store) →
+    old.copy ≡ 0 → Inserts o old new node item → LeadsWithItem old new node item links →
+    LeadsWithItem (second old) (second new) node item (mirror links)
+
+-- the same erase goes on in the second picture
+abbrev pub AreErasesMirrored : Picture → Picture → Type 0
+AreErasesMirrored old new = (a node : ℕ) →
+    old.copy ≡ 0 → Erases old new a node → Erases (second old) (second new) a node
+
+-- and its plan, mirrored, leads copy 1
+abbrev pub ArePlansByLinksMirrored : Picture → Picture → Type 0
+ArePlansByLinksMirrored old new = (a node : ℕ) (links : List Store) →
+    old.copy ≡ 0 → Erases old new a node → LeadsByLinks old new links →
+    LeadsByLinks (second old) (second new) (mirror links)

@@ -1,0 +1,438 @@
+//! Whole runs of plans, made in the words of both copies and compared with a plain set.
+
+ghost use Rattle.std.specs.Prelude.{◌≡◌, ◌≤◌, ◌⊎◌, ℕ, Contains};
+ghost use Rattle.order_laws.specs.Orders.{half_open, half_open_lawful};
+ghost use Rattle.word_arena.specs.Layouts.{capacity_of};
+ghost use Rattle.word_arena.specs.Words.{none, listed};
+
+use super::*;
+use order_laws::{HalfOpen, Item, TreeOrder};
+use std::alloc::Global;
+use std::cmp::Ordering;
+use std::process::Abort;
+use std::test::Fail;
+use word_arena::held::held_in;
+use word_arena::places::{left_of, right_of, root_of};
+use word_arena::{Layout, Store, TreeCopy, apply};
+
+// Half-open ranges in an order that offers nothing beyond its laws.
+struct Plain;
+
+impl TreeOrder for Plain {
+    type Key = u64;
+
+    ghost order = { half_open };
+
+    fn key_of(i: &Item) -> u64 {
+        HalfOpen::key_of(i)
+    }
+
+    fn valid(i: &Item) -> bool {
+        HalfOpen::valid(i)
+    }
+
+    fn apart(x: &Item, y: &Item) -> bool {
+        HalfOpen::apart(x, y)
+    }
+
+    fn less(x: &Item, y: &Item) -> bool {
+        HalfOpen::less(x, y)
+    }
+
+    fn comp(k: u64, i: &Item) -> Ordering {
+        HalfOpen::comp(k, i)
+    }
+
+    ghost lawful = { half_open_lawful };
+}
+
+// The words of both copies, which slots have an item, and the lists of the plans.
+#[derive(Drop)]
+struct Copies {
+    words: Vec<u64>,
+    inside: Vec<bool>,
+    plan: Vec<Store>,
+    second: Vec<Store>,
+}
+
+fn empty_copies(alloc: Global, l: Layout) -> Result<Copies, Fail> {
+    let mut words = Vec::new(alloc);
+    for _ in 0..l.words() {
+        words.push(0)?;
+    }
+    let mut inside = Vec::new(alloc);
+    for _ in 0..l.capacity() {
+        inside.push(false)?;
+    }
+    Ok(Copies {
+        words,
+        inside,
+        plan: Vec::new(alloc),
+        second: Vec::new(alloc),
+    })
+}
+
+// Slot i has the item of the addresses 10 i to 10 i + 7, in node i.
+fn item_of(slot: u32) -> Item {
+    let a = 10 * slot as u64;
+    Item {
+        a,
+        b: a + 7,
+        tag: slot as u64,
+    }
+}
+
+// The addresses between a slot's item and the next one's.
+fn gap_behind(slot: u32) -> Item {
+    let a = 10 * slot as u64 + 7;
+    Item {
+        a,
+        b: a + 3,
+        tag: 0,
+    }
+}
+
+// Makes the stores, each of a word that there is.
+fn make(rt: &impl Abort, words: &mut Vec<u64>, stores: &[Store]) {
+    for store in stores {
+        assert!(rt; store.word < words.len());
+        apply(words, *store);
+    }
+}
+
+// Inserts the item of a slot, whose node is free, by one plan for both copies.
+#[tactic(auto, using(order_laws::proofs::PlaceLemmas::without_none))]
+fn insert_free<O: TreeOrder>(
+    rt: &impl Abort,
+    l: Layout,
+    shape: &mut Shape<O>,
+    c: &mut Copies,
+    slot: u32,
+) -> Result<(), Fail>
+    requires capacity { shape.old.capacity ≡ capacity_of l }
+    requires copy { shape.old.copy ≡ 0 }
+    requires free { Contains (listed shape.old.tree) slot → ⊥ }
+    ensures capacity { shape.new.capacity ≡ capacity_of l }
+    ensures copy { shape.new.copy ≡ 0 }
+    ensures nodes { (i : ℕ) → Contains (listed shape.new.tree) i → (i ≡ slot) ⊎ Contains (listed shape.old.tree) i }
+{
+    let x = item_of(slot);
+    assert!(rt; slot < l.capacity());
+    assert!(rt; O::valid(&x));
+    assert!(rt; !shape.meets(&x, &[]));
+    c.plan.clear();
+    c.second.clear();
+    shape.reserve_in(1, &mut c.plan)?;
+    c.second.reserve(STORES)?;
+    shape.plan_insert(&mut c.plan, slot, x);
+    mirrored(l, &c.plan[3..], &mut c.second);
+    assert!(rt; c.plan.len() <= STORES);
+    make(rt, &mut c.words, &c.plan);
+    make(rt, &mut c.words, &c.second);
+    put(rt, &mut c.inside, slot, true);
+    Ok(())
+}
+
+// The same, where it is seen at run time that the node is free.
+fn insert<O: TreeOrder>(
+    rt: &impl Abort,
+    l: Layout,
+    shape: &mut Shape<O>,
+    c: &mut Copies,
+    slot: u32,
+) -> Result<(), Fail>
+    requires capacity { shape.old.capacity ≡ capacity_of l }
+    requires copy { shape.old.copy ≡ 0 }
+    ensures capacity { shape.new.capacity ≡ capacity_of l }
+    ensures copy { shape.new.copy ≡ 0 }
+{
+    assert!(rt; !shape.reaches(slot));
+    insert_free(rt, l, shape, c, slot)
+}
+
+// Erases the item of a slot that has one, by one plan for both copies.
+fn erase<O: TreeOrder>(
+    rt: &impl Abort,
+    l: Layout,
+    shape: &mut Shape<O>,
+    c: &mut Copies,
+    slot: u32,
+) -> Result<(), Fail>
+    requires capacity { shape.old.capacity ≡ capacity_of l }
+    requires copy { shape.old.copy ≡ 0 }
+    ensures capacity { shape.new.capacity ≡ capacity_of l }
+    ensures copy { shape.new.copy ≡ 0 }
+{
+    let a = item_of(slot).a;
+    assert!(rt; shape.has(a));
+    c.plan.clear();
+    c.second.clear();
+    shape.reserve_in(1, &mut c.plan)?;
+    c.second.reserve(STORES)?;
+    let node = shape.plan_erase(&mut c.plan, a);
+    assert_eq!(rt; node, slot);
+    mirrored(l, &c.plan, &mut c.second);
+    assert!(rt; c.plan.len() <= STORES);
+    make(rt, &mut c.words, &c.plan);
+    make(rt, &mut c.words, &c.second);
+    put(rt, &mut c.inside, slot, false);
+    Ok(())
+}
+
+fn put(rt: &impl Abort, inside: &mut Vec<bool>, slot: u32, is: bool) {
+    assert!(rt; (slot as usize) < inside.len());
+    inside[slot as usize] = is;
+}
+
+// The lengths of the shortest and of the longest way from a link down to a link 0. A tree can be coloured red and black
+// just where no node has a longest way of more than twice the shortest.
+fn ways(rt: &impl Abort, copy: TreeCopy, words: &[u64], link: u64, left: u32) -> (u32, u32)
+    ensures shortest { result.0 ≤ left }
+    ensures longest { result.1 ≤ left }
+{
+    if link == 0 {
+        return (0, 0);
+    }
+    assert!(rt; left > 0 && link < 65537);
+    let node = (link - 1) as u32;
+    assert!(rt; right_of(copy, node) < words.len());
+    let (less, more) = ways(rt, copy, words, words[left_of(copy, node)], left - 1);
+    let (short, long) = ways(rt, copy, words, words[right_of(copy, node)], left - 1);
+    let shortest = less.min(short) + 1;
+    let longest = more.max(long) + 1;
+    assert!(rt; longest as u64 <= 2 * shortest as u64);
+    (shortest, longest)
+}
+
+// The items of the slots that have one.
+fn table_of(rt: &impl Abort, alloc: Global, inside: &[bool]) -> Result<Vec<Item>, Fail> {
+    let mut table = Vec::new(alloc);
+    for (slot, is) in inside.iter().enumerate() {
+        assert!(rt; slot < 65536);
+        if *is {
+            table.push(item_of(slot as u32))?;
+        }
+    }
+    Ok(table)
+}
+
+// Both copies hold the items that are inside, in red-black trees of the height that so many items allow.
+fn holds(rt: &impl Abort, alloc: Global, l: Layout, c: &Copies) -> Result<(), Fail> {
+    let table = table_of(rt, alloc, &c.inside)?;
+    let most = (table.len() as u128 + 1) * (table.len() as u128 + 1);
+    assert_eq!(rt; c.words.len(), l.words());
+    for copy in [TreeCopy::Zero, TreeCopy::One] {
+        let held = held_in(alloc, l, copy, &c.words)?.ok_or("no tree")?;
+        assert_eq!(rt; held.as_slice(), table.as_slice());
+        let (_, height) = ways(rt, copy, &c.words, c.words[root_of(copy)], 40);
+        assert!(rt; 1u128 << height <= most);
+    }
+    Ok(())
+}
+
+// What the shape answers of each slot, its item and the gap behind it.
+fn answers<O: TreeOrder>(rt: &impl Abort, shape: &Shape<O>, inside: &[bool]) {
+    for (slot, is) in inside.iter().enumerate() {
+        assert!(rt; slot < 65536);
+        let x = item_of(slot as u32);
+        assert_eq!(rt; shape.has(x.a), *is);
+        assert_eq!(rt; shape.has(x.b), false);
+        assert_eq!(rt; shape.meets(&x, &[]), *is);
+        assert_eq!(rt; shape.meets(&x, &[x.a]), false);
+        assert_eq!(rt; shape.meets(&gap_behind(slot as u32), &[]), false);
+    }
+}
+
+#[test]
+fn rising_rows(rt: HostRuntime) -> Result<(), Fail> {
+    for n in [7, 15, 63, 1000] {
+        let l = Layout::new(n)?;
+        let mut shape = Shape::<HalfOpen>::new(rt.alloc(), l, TreeCopy::Zero);
+        let mut c = empty_copies(rt.alloc(), l)?;
+        for slot in 0..n {
+            insert(&rt, l, &mut shape, &mut c, slot)?;
+        }
+        holds(&rt, rt.alloc(), l, &c)?;
+        answers(&rt, &shape, &c.inside);
+    }
+    Ok(())
+}
+
+// Inserts the items of all slots, in rising order.
+fn fill(rt: &impl Abort, l: Layout, shape: &mut Shape<HalfOpen>, c: &mut Copies) -> Result<(), Fail>
+    requires capacity { shape.old.capacity ≡ capacity_of l }
+    requires copy { shape.old.copy ≡ 0 }
+    requires empty { shape.old.tree ≡ none }
+    ensures capacity { shape.new.capacity ≡ capacity_of l }
+    ensures copy { shape.new.copy ≡ 0 }
+{
+    for slot in 0..l.capacity() {
+        insert_free(rt, l, shape, c, slot)?;
+    }
+    Ok(())
+}
+
+#[test]
+fn filled_and_emptied(rt: HostRuntime) -> Result<(), Fail> {
+    let l = Layout::new(65536)?;
+    let mut shape = Shape::new(rt.alloc(), l, TreeCopy::Zero);
+    let mut c = empty_copies(rt.alloc(), l)?;
+    fill(&rt, l, &mut shape, &mut c)?;
+    assert_eq!(rt; shape.len(), 65536);
+    holds(&rt, rt.alloc(), l, &c)?;
+    answers(&rt, &shape, &c.inside);
+    for step in 0..65536 {
+        erase(&rt, l, &mut shape, &mut c, step * 7 % 65536)?;
+        if step % 8192 == 4095 {
+            holds(&rt, rt.alloc(), l, &c)?;
+        }
+    }
+    assert_eq!(rt; shape.len(), 0);
+    holds(&rt, rt.alloc(), l, &c)
+}
+
+// The order of the numbers 0 to 4 that has this number, 0 to 119.
+fn order_of_five(number: usize) -> [u32; 5] {
+    let mut order = [0, 1, 2, 3, 4];
+    let mut rest = number;
+    for place in 0..4 {
+        let ways = 5 - place;
+        order.swap(place, place + rest % ways);
+        rest /= ways;
+    }
+    order
+}
+
+// Inserts the items of five slots; all is compared after each.
+fn insert_five<O: TreeOrder>(
+    rt: &impl Abort,
+    alloc: Global,
+    l: Layout,
+    shape: &mut Shape<O>,
+    c: &mut Copies,
+    slots: [u32; 5],
+) -> Result<(), Fail>
+    requires capacity { shape.old.capacity ≡ capacity_of l }
+    requires copy { shape.old.copy ≡ 0 }
+    ensures capacity { shape.new.capacity ≡ capacity_of l }
+    ensures copy { shape.new.copy ≡ 0 }
+{
+    for slot in slots {
+        insert(rt, l, shape, c, slot)?;
+        holds(rt, alloc, l, c)?;
+        answers(rt, shape, &c.inside);
+    }
+    Ok(())
+}
+
+// Erases the items of five slots; all is compared after each.
+fn erase_five<O: TreeOrder>(
+    rt: &impl Abort,
+    alloc: Global,
+    l: Layout,
+    shape: &mut Shape<O>,
+    c: &mut Copies,
+    slots: [u32; 5],
+) -> Result<(), Fail>
+    requires capacity { shape.old.capacity ≡ capacity_of l }
+    requires copy { shape.old.copy ≡ 0 }
+{
+    for slot in slots {
+        erase(rt, l, shape, c, slot)?;
+        holds(rt, alloc, l, c)?;
+        answers(rt, shape, &c.inside);
+    }
+    Ok(())
+}
+
+// Five items in one order in, and in another out.
+fn in_and_out<O: TreeOrder>(
+    rt: &impl Abort,
+    alloc: Global,
+    entry: [u32; 5],
+    exit: [u32; 5],
+) -> Result<(), Fail> {
+    let l = Layout::new(5)?;
+    let mut shape = Shape::<O>::new(alloc, l, TreeCopy::Zero);
+    let mut c = empty_copies(alloc, l)?;
+    insert_five(rt, alloc, l, &mut shape, &mut c, entry)?;
+    erase_five(rt, alloc, l, &mut shape, &mut c, exit)
+}
+
+#[test]
+fn all_orders_of_five(rt: HostRuntime) -> Result<(), Fail> {
+    for entry in 0..120 {
+        for exit in 0..120 {
+            in_and_out::<HalfOpen>(&rt, rt.alloc(), order_of_five(entry), order_of_five(exit))?;
+        }
+        in_and_out::<Plain>(
+            &rt,
+            rt.alloc(),
+            order_of_five(entry),
+            order_of_five(119 - entry),
+        )?;
+    }
+    Ok(())
+}
+
+// The next of a row of random numbers (xorshift).
+fn next_random(x: u64) -> u64 {
+    let mut x = x;
+    x ^= x << 13;
+    x ^= x >> 7;
+    x ^= x << 17;
+    x
+}
+
+// Random inserts and erases, which fill the table and empty it by turns; all is compared every so many updates.
+fn random_run<O: TreeOrder>(
+    rt: &impl Abort,
+    alloc: Global,
+    n: u32,
+    updates: u32,
+    every: u32,
+) -> Result<(), Fail> {
+    assert!(rt; every > 0);
+    let l = Layout::new(n)?;
+    let mut shape = Shape::<O>::new(alloc, l, TreeCopy::Zero);
+    let mut c = empty_copies(alloc, l)?;
+    let mut random = 88172645463325252;
+    let mut made = 0;
+    for step in 0..u32::MAX {
+        if made >= updates {
+            break;
+        }
+        random = next_random(random);
+        let slot = ((random >> 11) % n as u64) as u32;
+        let fills = step / n % 4 < 2;
+        let is = shape.has(item_of(slot).a);
+        if (random >> 40) % 4 == 0 || fills != is {
+            if is {
+                erase(rt, l, &mut shape, &mut c, slot)?;
+            } else {
+                insert(rt, l, &mut shape, &mut c, slot)?;
+            }
+            made += 1;
+            if made % every == 0 {
+                holds(rt, alloc, l, &c)?;
+                answers(rt, &shape, &c.inside);
+            }
+        }
+    }
+    assert_eq!(rt; made, updates);
+    Ok(())
+}
+
+#[test]
+fn random_runs(rt: HostRuntime) -> Result<(), Fail> {
+    for (n, updates, every) in [
+        (1, 10000, 1),
+        (2, 10000, 1),
+        (7, 30000, 1),
+        (64, 30000, 16),
+        (1000, 30000, 500),
+    ] {
+        random_run::<HalfOpen>(&rt, rt.alloc(), n, updates, every)?;
+    }
+    random_run::<Plain>(&rt, rt.alloc(), 64, 5000, 16)
+}
