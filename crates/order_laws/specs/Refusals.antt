@@ -1,7 +1,7 @@
 -- The numbers of the refusals.
 use Rattle.std.specs.Prelude.{ℕ}
 use Rattle.order_laws.specs.declared.refusals.Refusal.{Refusal}
-use Rattle.order_laws.specs.declared.refusals.Refusal.TheVariants.{BadItem, Overlap, NoSuchItem, Full, UpdateInHand, SequenceSpent, OutOfMemory, ReaderBusy, ReaderIdle, BadCapacity, UnknownModule, AlreadyLoaded, NotLoaded, TooManyRegions}
+use Rattle.order_laws.specs.declared.refusals.Refusal.TheVariants.{BadItem, Overlap, NoSuchItem, Full, UpdateInHand, SequenceSpent, OutOfMemory, ReaderBusy, ReaderIdle, BadCapacity, UnknownModule, AlreadyLoaded, NotLoaded, TooManyRegions, NoInit}
 
 -- the number that is printed for a refusal
 abbrev pub number_of : Refusal → ℕ
@@ -19,3 +19,4 @@ number_of UnknownModule = 11
 number_of AlreadyLoaded = 12
 number_of NotLoaded = 13
 number_of TooManyRegions = 14
+number_of NoInit = 17

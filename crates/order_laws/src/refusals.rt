@@ -36,13 +36,16 @@ pub enum Refusal {
     NotLoaded,
     /// 14: a module has more regions than it may have.
     TooManyRegions,
+    /// 17: the module has no init regions in the table.
+    NoInit,
 }
 
 impl Refusal {
     ghost use Rattle.std.specs.Prelude.{◌≡◌};
     ghost use Rattle.order_laws.specs.Refusals.{number_of};
 
-    /// The number that stands for the refusal in texts, 1 to 14.
+    /// The number that stands for the refusal in texts: 1 to 14, and 17. (15 and 16 are those of bad lines and of failed
+    /// devices, which no table refuses by.)
     pub fn number(self) -> u32
         ensures { result ≡ number_of self }
     {
@@ -61,6 +64,7 @@ impl Refusal {
             Refusal::AlreadyLoaded => 12,
             Refusal::NotLoaded => 13,
             Refusal::TooManyRegions => 14,
+            Refusal::NoInit => 17,
         }
     }
 }

@@ -51,4 +51,5 @@ fn refusals_by_number(rt: HostRuntime) {
     assert_eq!(rt; Refusal::from(std::alloc::AllocError).number(), 7);
     assert_eq!(rt; Refusal::BadCapacity.number(), 10);
     assert_eq!(rt; Refusal::TooManyRegions.number(), 14);
+    assert_eq!(rt; Refusal::NoInit.number(), 17);
 }

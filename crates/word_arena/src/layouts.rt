@@ -10,6 +10,9 @@ pub const MOST_NODES: u32 = 65536;
 /// The greatest sequence of a 32-bit layout: the last even number, so that the sequence never wraps round.
 pub const GREATEST_SEQUENCE: u64 = 4294967294;
 
+/// The greatest sequence of a 64-bit layout: the last even number again.
+pub const GREATEST_WIDE_SEQUENCE: u64 = 18446744073709551614;
+
 /// The number of nodes of a table, and the greatest sequence that it may come to.
 #[derive(Clone, Copy, Debug, PartialEq, Eq, Drop)]
 pub struct Layout {
@@ -33,12 +36,34 @@ impl Layout {
         ensures refused { IsErr result ↔ ((n ≡ 0) ⊎ (65536 < n)) }
         ensures refusal { IfErr result (λ e. e ≡ Refusal.BadCapacity) }
     {
+        Layout::up_to(n, GREATEST_SEQUENCE)
+    }
+
+    /// A layout of `n` nodes with 64-bit sequences. Refused by [`Refusal::BadCapacity`] outside 1 to 65536.
+    pub fn wide(n: u32) -> Result<Layout, Refusal>
+        ensures capacity { IfOk result (λ l. capacity_of l ≡ n) }
+        ensures limit { IfOk result (λ l. limit_of l ≡ 18446744073709551614) }
+        ensures refused { IsErr result ↔ ((n ≡ 0) ⊎ (65536 < n)) }
+        ensures refusal { IfErr result (λ e. e ≡ Refusal.BadCapacity) }
+    {
+        Layout::up_to(n, GREATEST_WIDE_SEQUENCE)
+    }
+
+    /// A layout of `n` nodes whose sequences end at `limit`.
+    fn up_to(n: u32, limit: u64) -> Result<Layout, Refusal>
+        requires room { 2 ≤ limit }
+        requires counts { limit + 1 < 2 ^ 64 }
+        ensures capacity { IfOk result (λ l. capacity_of l ≡ n) }
+        ensures limit { IfOk result (λ l. limit_of l ≡ limit) }
+        ensures refused { IsErr result ↔ ((n ≡ 0) ⊎ (65536 < n)) }
+        ensures refusal { IfErr result (λ e. e ≡ Refusal.BadCapacity) }
+    {
         if n == 0 || n > MOST_NODES {
             return Err(Refusal::BadCapacity);
         }
         Ok(Layout {
             capacity: n,
-            limit: GREATEST_SEQUENCE,
+            limit,
         })
     }
 

@@ -30,6 +30,16 @@ fn capacities_that_are_refused(rt: HostRuntime) {
     assert_eq!(rt; Layout::new(65537), Err(Refusal::BadCapacity));
     assert!(rt; Layout::new(65536).is_ok());
     assert!(rt; Layout::new(1).is_ok());
+    assert_eq!(rt; Layout::wide(0), Err(Refusal::BadCapacity));
+    assert_eq!(rt; Layout::wide(65537), Err(Refusal::BadCapacity));
+}
+
+#[test]
+fn greatest_sequences(rt: HostRuntime) -> Result<(), Fail> {
+    assert_eq!(rt; Layout::new(65536)?.limit(), 4294967294);
+    assert_eq!(rt; Layout::wide(65536)?.limit(), 18446744073709551614);
+    assert_eq!(rt; Layout::wide(1)?.words(), Layout::new(1)?.words());
+    Ok(())
 }
 
 #[test]
