@@ -61,10 +61,7 @@ impl Layout {
         if n == 0 || n > MOST_NODES {
             return Err(Refusal::BadCapacity);
         }
-        Ok(Layout {
-            capacity: n,
-            limit,
-        })
+        Ok(Layout { capacity: n, limit })
     }
 
     /// The number of nodes, 1 to 65536.
