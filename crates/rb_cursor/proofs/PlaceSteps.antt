@@ -26,9 +26,6 @@ found_there seen (branch red l y r) =
       | Greater ↦ found_there seen r
     ]
 
-pub some_there : {o : Option Record} → IsSome o → o ≡ None → ⊥
-some_there is none = let e : false ≡ true = subst IsSome none is in absurd (cc)
-
 deep : (t : Branches) (x : Record) → row_of t ≡ Some x → 1 ≤ depth (shape t)
 deep tip x e = absurd (cc)
 deep (branch red l y r) x e = omega arith
