@@ -95,9 +95,6 @@ module _ {copy d : ℕ} {start : Zipper} {begun : Rest} {from : ℕ} {first : Li
       let k = length-append first (erase_climb copy d start.path from begun) in
       omega (arith, ap length on.items, l, m, n, k, room)
 
-  pub erase_shorter : suc (length near.rest) ≡ length here.path
-  erase_shorter = sym (shorter here up near)
-
   pub erase_there : {z : Zipper} → z ≡ risen here → z ≡ there
   erase_there rises = rises ∙ risen_there here up near
 

@@ -31,10 +31,6 @@ at_apart i k = grind (arith, nat_tests)
 pub at_most : (i k : ℕ) → at_key i k ≤ 1
 at_most i k = grind (arith, nat_tests)
 
-pub key_is : (n : ℕ) → n - 1 ≡ key_of n
-key_is zero = refl
-key_is (suc k) = omega arith
-
 -- as long as the nodes at the keys in use stay, a tree, a path and a chain stay
 pub linked_kept : (s u : Slab Node) (t : Keyed) → ((i : ℕ) → 0 < uses i t → get u i ≡ get s i) →
     IsLinked s t → IsLinked u t

@@ -12,6 +12,7 @@ use Rattle.std.specs.Prelude.{nat_lt, ◌==◌}
 use Rattle.std.proofs.lemmas.Bool.Decides.{nat_tests}
 use Rattle.rb_trees.specs.Trees.{Branches, tip, branch, shape, depth}
 use Rattle.rb_cursor.specs.declared.nodes.Node.{Node}
+use Rattle.rb_cursor.specs.declared.nodes.Step.{Step}
 use Rattle.rb_trees.specs.declared.Side.{Side}
 use Rattle.rb_trees.specs.declared.Side.TheVariants.{Left, Right}
 use Rattle.rb_cursor.specs.declared.cursors.Cursor.TheInside.{Inside}
@@ -217,11 +218,12 @@ module _ (seen : Record → Ordering) where
       ap (λ (t : Branches). (t, (show i).path)) e
       ∙ sym (ap (λ (t : Branches). seen_way seen t (show i).path) e) ∙ s.way
 
--- a step down on a side, where the node was written back
+-- a step down on a side, where the node was written back and the step was written
 pub record Went {X : Type 0} (W : Branches → List Above → X) (i : Inside) (start : Zipper)
-    (key : ℕ) (n : Node) (side : Side) (link : ℕ) : Type 0 where
-  pub sought : Sought W (with_step (written_back i key n) side link) start
-  pub less : weight (show (with_step (written_back i key n) side link)).tree < weight (show i).tree
+    (key : ℕ) (n : Node) (side : Side) (link : ℕ) (steps : List Step) : Type 0 where
+  pub sought : Sought W (record (with_step (written_back i key n) side link) { steps = steps }) start
+  pub less : weight (show (record (with_step (written_back i key n) side link) { steps = steps })).tree
+      < weight (show i).tree
 
 record Steps {X : Type 0} (W : Branches → List Above → X) (i now : Inside) (start : Zipper) :
     Type 0 where
@@ -229,17 +231,21 @@ record Steps {X : Type 0} (W : Branches → List Above → X) (i now : Inside) (
   pub less : weight (show now).tree < weight (show i).tree
 
 went : {X : Type 0} (W : Branches → List Above → X) (i : Inside) (start : Zipper) (key : ℕ)
-    (n : Node) (left : Bool) (side : Side) (link : ℕ) → get i.nodes key ≡ Some n →
-    side ≡ side_by left → link ≡ child_at side n →
+    (n : Node) (left : Bool) (side : Side) (link : ℕ) (steps : List Step) →
+    get i.nodes key ≡ Some n → side ≡ side_by left → link ≡ child_at side n →
+    steps ≡ (with_step i side link).steps →
     Steps W i (with_step i (side_by left) (child_at (side_by left) n)) start →
-    Went W i start key n side link
-went W i start key n left side link found here there g =
+    Went W i start key n side link steps
+went W i start key n left side link steps found here there written g =
     let a = subst (λ (z : Side). Steps W i (with_step i z (child_at z n)) start) (sym here) g in
     let b = subst (λ (l : ℕ). Steps W i (with_step i side l) start) (sym there) a in
     let c = subst (λ (z : Slab Node).
     Steps W i (with_step (record i { nodes = z }) side link) start)
     (sym (same_value i.nodes key n found)) b in
-    record { sought = c.sought; less = c.less }
+    let d = subst (λ (z : List Step).
+    Steps W i (record (with_step (written_back i key n) side link) { steps = z }) start)
+    (sym written) c in
+    record { sought = d.sought; less = d.less }
 
 -- a step of the way of an item
 item_by : (less : Item → Item → Bool) (x : Item) (i : Inside) (start : Zipper) (key : ℕ)
@@ -256,12 +262,13 @@ item_by less x i start key n false s some found few test =
     record { sought = g.sought; less = g.less }
 
 pub item_goes : (less : Item → Item → Bool) (x : Item) (i : Inside) (start : Zipper) (key : ℕ)
-    (n : Node) (left : Bool) (side : Side) (link : ℕ) → Sought (way_by less x) i start →
+    (n : Node) (left : Bool) (side : Side) (link : ℕ) (steps : List Step) → Sought (way_by less x) i start →
     i.tree ≡ suc key → get i.nodes key ≡ Some n → left ≡ less x n.item → side ≡ side_by left →
-    link ≡ child_at side n → Went (way_by less x) i start key n side link
-item_goes less x i start key n left side link s some found test here there =
+    link ≡ child_at side n →
+    steps ≡ (with_step i side link).steps → Went (way_by less x) i start key n side link steps
+item_goes less x i start key n left side link steps s some found test here there written =
     let few = step_fits (way_by less x) i start key n s some found in
-    went (way_by less x) i start key n left side link found here there
+    went (way_by less x) i start key n left side link steps found here there written
     (item_by less x i start key n left s some found few test)
 
 -- a step of the way of what is sought
@@ -295,13 +302,14 @@ seen_by seen i start key n false s some found few other test =
     record { sought = g.sought; less = g.less }
 
 pub seen_goes : (seen : Record → Ordering) (i : Inside) (start : Zipper) (key : ℕ) (n : Node)
-    (left : Bool) (side : Side) (link : ℕ) → Sought (seen_way seen) i start → i.tree ≡ suc key →
+    (left : Bool) (side : Side) (link : ℕ) (steps : List Step) → Sought (seen_way seen) i start → i.tree ≡ suc key →
     get i.nodes key ≡ Some n → is_eq (seen (record_of n)) ≡ false →
     left ≡ is_lt (seen (record_of n)) → side ≡ side_by left → link ≡ child_at side n →
-    Went (seen_way seen) i start key n side link
-seen_goes seen i start key n left side link s some found other test here there =
+    steps ≡ (with_step i side link).steps →
+    Went (seen_way seen) i start key n side link steps
+seen_goes seen i start key n left side link steps s some found other test here there written =
     let few = step_fits (seen_way seen) i start key n s some found in
-    went (seen_way seen) i start key n left side link found here there
+    went (seen_way seen) i start key n left side link steps found here there written
     (seen_by seen i start key n left s some found few other test)
 
 -- the way of an item that meets none: whether it meets one, the path up from its place, and the
@@ -339,13 +347,14 @@ module _ {K : Type 0} (o : Order K) (x : Item) where
       record { sought = g.sought; less = g.less }
 
   pub apart_goes : (i : Inside) (start : Zipper) (key : ℕ) (n : Node) (left : Bool) (side : Side)
-      (link : ℕ) → Sought (apart_way o x) i start → i.tree ≡ suc key →
+      (link : ℕ) (steps : List Step) → Sought (apart_way o x) i start → i.tree ≡ suc key →
       get i.nodes key ≡ Some n → o.apart n.item x ≡ true → left ≡ o.less x n.item →
       side ≡ side_by left → link ≡ child_at side n →
-      Went (apart_way o x) i start key n side link
-  apart_goes i start key n left side link s some found apart test here there =
+      steps ≡ (with_step i side link).steps →
+      Went (apart_way o x) i start key n side link steps
+  apart_goes i start key n left side link steps s some found apart test here there written =
       let few = step_fits (apart_way o x) i start key n s some found in
-      went (apart_way o x) i start key n left side link found here there
+      went (apart_way o x) i start key n left side link steps found here there written
       (apart_by i start key n left s some found few apart test)
 
   -- it ends where no node is in hand

@@ -134,6 +134,7 @@ fn take_first(out: &mut Vec<Store>, copy: TreeCopy, cursor: &mut Cursor) -> Take
 
 // Goes up until `depth` nodes are above, from a subtree that may be short and to which the link was
 // `before`. Answers whether what is in hand then is short.
+#[inline(always)]
 fn climb(
     out: &mut Vec<Store>,
     copy: TreeCopy,

@@ -5,8 +5,8 @@ ghost use Rattle.rb_trees.specs.Trees.{tip, shape, depth};
 ghost use Rattle.rb_trees.specs.Found.{met};
 ghost use Rattle.rb_trees.specs.Paths.{plugged, way_by, place_at, way_at, first_place, first_way};
 
-use crate::cursors::Cursor;
-use crate::nodes::{Step, side_by};
+use crate::cursors::{Cursor, set_step};
+use crate::nodes::side_by;
 use crate::probes::Probe;
 use order_laws::{Item, TreeOrder};
 
@@ -26,7 +26,7 @@ impl Cursor {
             // By a `&mut`, since that tests no range.
             let node = &mut self.nodes[link as usize - 1];
             let side = side_by(O::less(item, &node.item));
-            self.steps[depth] = Step { link, side };
+            set_step(&mut self.steps, depth, link, side);
             depth += 1;
             link = node.child(side);
         }
@@ -56,7 +56,7 @@ impl Cursor {
                 return true;
             }
             let side = side_by(O::less(item, &node.item));
-            self.steps[depth] = Step { link, side };
+            set_step(&mut self.steps, depth, link, side);
             depth += 1;
             link = node.child(side);
         }
@@ -84,7 +84,7 @@ impl Cursor {
                 return;
             }
             let side = side_by(sought.is_before(&node.item));
-            self.steps[depth] = Step { link, side };
+            set_step(&mut self.steps, depth, link, side);
             depth += 1;
             link = node.child(side);
         }

@@ -6,6 +6,7 @@
 ghost use Rattle.std.specs.Prelude.{◌≡◌, ◌↔◌, ◌+◌, ◌*◌, ◌<◌, ◌≤◌, ◌++◌, [], true, false, List, IsTrue};
 ghost use Rattle.std.specs.Prelude.{IfOk, IfErr, OnOk, IfSome, IsSome, is_some, Some, None, Contains, length};
 ghost use Rattle.std.specs.Prelude.{vec_len, vec_capacity};
+ghost use Rattle.std.specs.List.Sorted.{IsNonDecreasing};
 ghost use Rattle.order_laws.specs.Tables.{IsTable, has, meets, without_all, place_for, place_of};
 ghost use Rattle.word_arena.specs.declared.stores.Store.{Store};
 ghost use Rattle.word_arena.specs.Layouts.{capacity_of};
@@ -31,7 +32,7 @@ use rb_trees::Record;
 use std::alloc::Global;
 use std::marker::{Model, PhantomData};
 use word_arena::places::{a_of, b_of, tag_of};
-use word_arena::{Layout, Store, TreeCopy};
+use word_arena::{Layout, Store, TreeCopy, append};
 
 /// A plan has at most so many stores for each item, whatever the table.
 pub const STORES: usize = 16;
@@ -117,10 +118,27 @@ impl<O: TreeOrder> Shape<O> {
     pub fn meets(&self, item: &Item, but: &[u64]) -> bool
         ensures { result ≡ meets O.order item.now (without_all but.now self.now.table) }
     {
+        self.meets_with(item, but, false)
+    }
+
+    /// The same where the first words that are left out rise: each item that is met costs a search by halves among them, so
+    /// k of them cost O((k + 1) log n + k log k) where items lie in line ([`TreeOrder::in_line`]).
+    pub fn meets_rising(&self, item: &Item, but: &[u64]) -> bool
+        requires { IsNonDecreasing but.now }
+        ensures { result ≡ meets O.order item.now (without_all but.now self.now.table) }
+    {
+        self.meets_with(item, but, true)
+    }
+
+    // Either.
+    fn meets_with(&self, item: &Item, but: &[u64], rising: bool) -> bool
+        requires { IsTrue rising → IsNonDecreasing but.now }
+        ensures { result ≡ meets O.order item.now (without_all but.now self.now.table) }
+    {
         if O::in_line() && O::valid(item) {
-            meets::<O>(&self.cursor.tree(), item, but)
+            meets::<O>(&self.cursor.tree(), item, but, rising)
         } else {
-            meets_any::<O>(&self.cursor.tree(), item, but)
+            meets_any::<O>(&self.cursor.tree(), item, but, rising)
         }
     }
 
@@ -135,8 +153,9 @@ impl<O: TreeOrder> Shape<O> {
         ensures refusal { IfErr result (λ e. e ≡ Refusal.OutOfMemory) }
         ensures sound { IsPicture O.order self.new }
     {
-        self.cursor.reserve(k as usize)?;
-        Ok(Vec::with_capacity(self.alloc, k as usize * STORES)?)
+        let mut out = Vec::new(self.alloc);
+        self.reserve_in(k, &mut out)?;
+        Ok(out)
     }
 
     /// Makes room for `k` items, and in a list that is there already for `k` plans more: for a
@@ -144,6 +163,7 @@ impl<O: TreeOrder> Shape<O> {
     ///
     /// What is pictured and what is listed stay, also where memory is refused by
     /// [`Refusal::OutOfMemory`].
+    #[inline(always)]
     pub fn reserve_in(&mut self, k: u32, out: &mut Vec<Store>) -> Result<(), Refusal>
         ensures kept { self.new ≡ record self.old { room = self.new.room } }
         ensures grown { self.old.room ≤ self.new.room }
@@ -211,7 +231,8 @@ impl<O: TreeOrder> Shape<O> {
             return false;
         }
         let listed = out.len();
-        append(out, &item_stores(node, item));
+        let words = item_stores(node, item);
+        append(out, &words);
         if with_record_apart::<O>(out, self.copy, &mut self.cursor, Record { node, item }) {
             out.truncate(listed);
             return true;
@@ -391,16 +412,4 @@ fn item_stores(node: u32, item: Item) -> [Store; 3]
             value: item.tag,
         },
     ]
-}
-
-// Appends stores, for which there is room.
-fn append(out: &mut Vec<Store>, stores: &[Store])
-    requires { vec_len out.old + length stores.now ≤ vec_capacity out.old }
-    ensures items { out.new.items ≡ out.old.items ++ stores.now }
-    ensures len { vec_len out.new ≡ vec_len out.old + length stores.now }
-    ensures capacity { vec_capacity out.new ≡ vec_capacity out.old }
-{
-    for store in stores {
-        out.push_reserved(*store);
-    }
 }

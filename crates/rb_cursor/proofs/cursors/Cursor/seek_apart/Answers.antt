@@ -5,8 +5,8 @@ use Rattle.rb_cursor.proofs.HeldLemmas.{none_there, show}
 use Rattle.rb_cursor.proofs.SeekLemmas.{step_fits, apart_way, apart_goes, apart_ends, apart_meets}
 use Rattle.rb_cursor.proofs.cursors.Cursor.seek_apart.Goals as goal
 
-pub bounds-self-inside-depth : goal.bounds-self-inside-depth
-bounds-self-inside-depth g c =
+pub set_step-requires : goal.set_step-requires
+set_step-requires g c =
     step_fits (apart_way g.O.TreeOrder.order c.args.item.now)
     (record c.loop-link.self-inside { tree = c.loop-link.link; depth = c.loop-link.depth })
     c.args.self.now (c.loop-link.link - 1) c.index_mut-node.result.now c.loop-link.invariant
@@ -17,20 +17,20 @@ loop-link-smaller g c =
     (apart_goes g.O.TreeOrder.order c.args.item.now
     (record c.loop-link.self-inside { tree = c.loop-link.link; depth = c.loop-link.depth })
     c.args.self.now (c.loop-link.link - 1) c.index_mut-node.result.now c.less.result
-    c.side_by-side.result c.child-link.result
+    c.side_by-side.result c.child-link.result c.set_step.new.steps
     c.loop-link.invariant (omega (arith, c.loop-link-test.true)) c.index_mut-node.ensures.value
     (sym c.apart.ensures ∙ c.if-not-apart.false)
-    c.less.ensures c.side_by-side.ensures c.child-link.ensures).less
+    c.less.ensures c.side_by-side.ensures c.child-link.ensures c.set_step.ensures).less
 
 pub loop-link-preserved : goal.loop-link-preserved
 loop-link-preserved g c =
     (apart_goes g.O.TreeOrder.order c.args.item.now
     (record c.loop-link.self-inside { tree = c.loop-link.link; depth = c.loop-link.depth })
     c.args.self.now (c.loop-link.link - 1) c.index_mut-node.result.now c.less.result
-    c.side_by-side.result c.child-link.result
+    c.side_by-side.result c.child-link.result c.set_step.new.steps
     c.loop-link.invariant (omega (arith, c.loop-link-test.true)) c.index_mut-node.ensures.value
     (sym c.apart.ensures ∙ c.if-not-apart.false)
-    c.less.ensures c.side_by-side.ensures c.child-link.ensures).sought
+    c.less.ensures c.side_by-side.ensures c.child-link.ensures c.set_step.ensures).sought
 
 pub returns-then-not-apart-clause-met : goal.returns-then-not-apart-clause-met
 returns-then-not-apart-clause-met g c =

@@ -42,7 +42,7 @@ with_record_apart-requires-clause-list g c =
       c.requires.list,
       c.append.ensures.len,
       c.append.ensures.capacity,
-      ap length c.item_stores.ensures,
+      ap length c.item_stores-words.ensures,
       few_with g.O.TreeOrder.order (copy_number c.self.inside.copy) c.self.inside.cursor.tree x
           c.self.invariant.1,
     )
@@ -130,7 +130,7 @@ returns-clause-plan g c = λ _.
     ++ (item_stores c.args.node c.args.item ++ links) =
     c.with_record_apart.ensures.items c.if-with_record_apart.false
     ∙ ap (λ xs. xs ++ links) c.append.ensures.items
-    ∙ ap (λ xs. (c.args.out.now.items ++ xs) ++ links) c.item_stores.ensures
+    ∙ ap (λ xs. (c.args.out.now.items ++ xs) ++ links) c.item_stores-words.ensures
     ∙ append_assoc c.args.out.now.items (item_stores c.args.node c.args.item) links in
     (links, appended, after.leads)
 
@@ -141,7 +141,7 @@ returns-clause-few g c =
       arith,
       c.with_record_apart.ensures.len c.if-with_record_apart.false,
       c.append.ensures.len,
-      ap length c.item_stores.ensures,
+      ap length c.item_stores-words.ensures,
       few_with g.O.TreeOrder.order (copy_number c.self.inside.copy) c.self.inside.cursor.tree x
           c.self.invariant.1,
     )

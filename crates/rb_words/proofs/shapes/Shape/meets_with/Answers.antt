@@ -2,7 +2,7 @@ use Rattle.std.proofs.Common.{◌∙◌, sym, ap}
 use Rattle.order_laws.specs.Tables.{meets, without_all}
 use Rattle.rb_trees.specs.Found.{met, met_any}
 use Rattle.rb_trees.proofs.MeetRows.{met_meets, met_any_meets}
-use Rattle.rb_words.proofs.shapes.Shape.meets.Goals as goal
+use Rattle.rb_words.proofs.shapes.Shape.meets_with.Goals as goal
 
 pub returns-then-valid : goal.returns-then-valid
 returns-then-valid g c =
