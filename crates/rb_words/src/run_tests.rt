@@ -1,6 +1,6 @@
 //! Whole runs of plans, made in the words of both copies and compared with a plain set.
 
-ghost use Rattle.std.specs.Prelude.{◌≡◌, ◌≤◌, ◌⊎◌, ℕ, Contains};
+ghost use Rattle.std.specs.Prelude.{◌≡◌, ◌<◌, ◌≤◌, ◌⊎◌, ℕ, Contains};
 ghost use Rattle.order_laws.specs.Orders.{half_open, half_open_lawful};
 ghost use Rattle.word_arena.specs.Layouts.{capacity_of};
 ghost use Rattle.word_arena.specs.Words.{none, listed};
@@ -230,30 +230,50 @@ fn holds(rt: &impl Abort, alloc: Global, l: Layout, c: &Copies) -> Result<(), Fa
     Ok(())
 }
 
-// What the shape answers of each slot, its item and the gap behind it.
+// What the shape answers of a slot that has its item or has not, of the item and of the gap behind it.
+fn answers_of<O: TreeOrder>(rt: &impl Abort, shape: &Shape<O>, slot: u32, is: bool) {
+    let x = item_of(slot);
+    assert!(rt; shape.has(x.a) == is);
+    assert!(rt; !shape.has(x.b));
+    assert!(rt; shape.meets(&x, &[]) == is);
+    assert!(rt; !shape.meets(&x, &[x.a]));
+    assert!(rt; !shape.meets(&gap_behind(slot), &[]));
+}
+
+// The same of each slot.
 fn answers<O: TreeOrder>(rt: &impl Abort, shape: &Shape<O>, inside: &[bool]) {
     for (slot, is) in inside.iter().enumerate() {
         assert!(rt; slot < 65536);
-        let x = item_of(slot as u32);
-        assert_eq!(rt; shape.has(x.a), *is);
-        assert_eq!(rt; shape.has(x.b), false);
-        assert_eq!(rt; shape.meets(&x, &[]), *is);
-        assert_eq!(rt; shape.meets(&x, &[x.a]), false);
-        assert_eq!(rt; shape.meets(&gap_behind(slot as u32), &[]), false);
+        answers_of(rt, shape, slot as u32, *is);
     }
+}
+
+// Both copies hold what is inside, and the shape answers so.
+fn compare<O: TreeOrder>(
+    rt: &impl Abort,
+    alloc: Global,
+    l: Layout,
+    shape: &Shape<O>,
+    c: &Copies,
+) -> Result<(), Fail> {
+    holds(rt, alloc, l, c)?;
+    answers(rt, shape, &c.inside);
+    Ok(())
+}
+
+// Rows of n items in rising order.
+fn rising_row(rt: &impl Abort, alloc: Global, n: u32) -> Result<(), Fail> {
+    let l = Layout::new(n)?;
+    let mut shape = Shape::<HalfOpen>::new(alloc, l, TreeCopy::Zero);
+    let mut c = empty_copies(alloc, l)?;
+    fill(rt, l, &mut shape, &mut c)?;
+    compare(rt, alloc, l, &shape, &c)
 }
 
 #[test]
 fn rising_rows(rt: HostRuntime) -> Result<(), Fail> {
     for n in [7, 15, 63, 1000] {
-        let l = Layout::new(n)?;
-        let mut shape = Shape::<HalfOpen>::new(rt.alloc(), l, TreeCopy::Zero);
-        let mut c = empty_copies(rt.alloc(), l)?;
-        for slot in 0..n {
-            insert(&rt, l, &mut shape, &mut c, slot)?;
-        }
-        holds(&rt, rt.alloc(), l, &c)?;
-        answers(&rt, &shape, &c.inside);
+        rising_row(&rt, rt.alloc(), n)?;
     }
     Ok(())
 }
@@ -272,22 +292,36 @@ fn fill(rt: &impl Abort, l: Layout, shape: &mut Shape<HalfOpen>, c: &mut Copies)
     Ok(())
 }
 
+// Erases the items of all 65536 slots, in steps of 7; all is compared now and then.
+fn empty(
+    rt: &impl Abort,
+    alloc: Global,
+    l: Layout,
+    shape: &mut Shape<HalfOpen>,
+    c: &mut Copies,
+) -> Result<(), Fail>
+    requires capacity { shape.old.capacity ≡ capacity_of l }
+    requires copy { shape.old.copy ≡ 0 }
+{
+    for step in 0..65536 {
+        erase(rt, l, shape, c, step * 7 % 65536)?;
+        if step % 8192 == 4095 {
+            holds(rt, alloc, l, c)?;
+        }
+    }
+    Ok(())
+}
+
 #[test]
 fn filled_and_emptied(rt: HostRuntime) -> Result<(), Fail> {
     let l = Layout::new(65536)?;
     let mut shape = Shape::new(rt.alloc(), l, TreeCopy::Zero);
     let mut c = empty_copies(rt.alloc(), l)?;
     fill(&rt, l, &mut shape, &mut c)?;
-    assert_eq!(rt; shape.len(), 65536);
-    holds(&rt, rt.alloc(), l, &c)?;
-    answers(&rt, &shape, &c.inside);
-    for step in 0..65536 {
-        erase(&rt, l, &mut shape, &mut c, step * 7 % 65536)?;
-        if step % 8192 == 4095 {
-            holds(&rt, rt.alloc(), l, &c)?;
-        }
-    }
-    assert_eq!(rt; shape.len(), 0);
+    assert!(rt; shape.len() == 65536);
+    compare(&rt, rt.alloc(), l, &shape, &c)?;
+    empty(&rt, rt.alloc(), l, &mut shape, &mut c)?;
+    assert!(rt; shape.len() == 0);
     holds(&rt, rt.alloc(), l, &c)
 }
 
@@ -303,8 +337,28 @@ fn order_of_five(number: usize) -> [u32; 5] {
     order
 }
 
-// Inserts the items of five slots; all is compared after each.
-fn insert_five<O: TreeOrder>(
+// Inserts the item of a slot that has none, or erases that of one that has.
+fn update<O: TreeOrder>(
+    rt: &impl Abort,
+    l: Layout,
+    shape: &mut Shape<O>,
+    c: &mut Copies,
+    slot: u32,
+) -> Result<(), Fail>
+    requires capacity { shape.old.capacity ≡ capacity_of l }
+    requires copy { shape.old.copy ≡ 0 }
+    ensures capacity { shape.new.capacity ≡ capacity_of l }
+    ensures copy { shape.new.copy ≡ 0 }
+{
+    if shape.has(item_of(slot).a) {
+        erase(rt, l, shape, c, slot)
+    } else {
+        insert(rt, l, shape, c, slot)
+    }
+}
+
+// Updates five slots; all is compared after each.
+fn update_five<O: TreeOrder>(
     rt: &impl Abort,
     alloc: Global,
     l: Layout,
@@ -318,29 +372,8 @@ fn insert_five<O: TreeOrder>(
     ensures copy { shape.new.copy ≡ 0 }
 {
     for slot in slots {
-        insert(rt, l, shape, c, slot)?;
-        holds(rt, alloc, l, c)?;
-        answers(rt, shape, &c.inside);
-    }
-    Ok(())
-}
-
-// Erases the items of five slots; all is compared after each.
-fn erase_five<O: TreeOrder>(
-    rt: &impl Abort,
-    alloc: Global,
-    l: Layout,
-    shape: &mut Shape<O>,
-    c: &mut Copies,
-    slots: [u32; 5],
-) -> Result<(), Fail>
-    requires capacity { shape.old.capacity ≡ capacity_of l }
-    requires copy { shape.old.copy ≡ 0 }
-{
-    for slot in slots {
-        erase(rt, l, shape, c, slot)?;
-        holds(rt, alloc, l, c)?;
-        answers(rt, shape, &c.inside);
+        update(rt, l, shape, c, slot)?;
+        compare(rt, alloc, l, shape, c)?;
     }
     Ok(())
 }
@@ -355,8 +388,11 @@ fn in_and_out<O: TreeOrder>(
     let l = Layout::new(5)?;
     let mut shape = Shape::<O>::new(alloc, l, TreeCopy::Zero);
     let mut c = empty_copies(alloc, l)?;
-    insert_five(rt, alloc, l, &mut shape, &mut c, entry)?;
-    erase_five(rt, alloc, l, &mut shape, &mut c, exit)
+    update_five(rt, alloc, l, &mut shape, &mut c, entry)?;
+    assert!(rt; shape.len() == 5);
+    update_five(rt, alloc, l, &mut shape, &mut c, exit)?;
+    assert!(rt; shape.len() == 0);
+    Ok(())
 }
 
 #[test]
@@ -384,7 +420,16 @@ fn next_random(x: u64) -> u64 {
     x
 }
 
-// Random inserts and erases, which fill the table and empty it by turns; all is compared every so many updates.
+// Whether a slot that has its item or has not is updated at a step: the table is filled and emptied by turns, with some
+// updates the other way.
+fn is_updated(random: u64, step: u32, n: u32, is: bool) -> bool
+    requires { 0 < n }
+{
+    let fills = step / n % 4 < 2;
+    (random >> 40) % 4 == 0 || fills != is
+}
+
+// Random inserts and erases; all is compared every so many updates.
 fn random_run<O: TreeOrder>(
     rt: &impl Abort,
     alloc: Global,
@@ -404,22 +449,15 @@ fn random_run<O: TreeOrder>(
         }
         random = next_random(random);
         let slot = ((random >> 11) % n as u64) as u32;
-        let fills = step / n % 4 < 2;
-        let is = shape.has(item_of(slot).a);
-        if (random >> 40) % 4 == 0 || fills != is {
-            if is {
-                erase(rt, l, &mut shape, &mut c, slot)?;
-            } else {
-                insert(rt, l, &mut shape, &mut c, slot)?;
-            }
+        if is_updated(random, step, n, shape.has(item_of(slot).a)) {
+            update(rt, l, &mut shape, &mut c, slot)?;
             made += 1;
             if made % every == 0 {
-                holds(rt, alloc, l, &c)?;
-                answers(rt, &shape, &c.inside);
+                compare(rt, alloc, l, &shape, &c)?;
             }
         }
     }
-    assert_eq!(rt; made, updates);
+    assert!(rt; made == updates);
     Ok(())
 }
 
