@@ -164,7 +164,7 @@ fn climb(
         if !short {
             break;
         }
-        short = fill(out, copy, cursor, above.side, short);
+        short = fill(out, copy, cursor, above.side);
         before = above.node as u64 + 1;
         after = cursor.link();
     }
