@@ -1,11 +1,9 @@
 -- The way up of an insert, as the calls of a cursor show it.
-use Rattle.std.proofs.Common.{◌≡◌, ℕ, suc, ◌+◌, ◌≤◌, ◌<◌, Bool, true, false, List, [], ◌∷◌, ◌++◌}
-use Rattle.std.proofs.Common.{refl, sym, ◌∙◌, ap, subst, arith, length, length-append, append-nil}
+use Rattle.std.proofs.Common.{◌≡◌, ℕ, suc, ◌+◌, ◌≤◌, Bool, true, false, List, [], ◌∷◌, ◌++◌}
+use Rattle.std.proofs.Common.{sym, ◌∙◌, ap, subst, arith, length, length-append, append-nil}
 use Rattle.word_arena.specs.declared.stores.Store.{Store}
 use Rattle.order_laws.specs.declared.items.Item.{Item}
 use Rattle.rb_trees.specs.declared.Record.{Record}
-use Rattle.rb_trees.specs.declared.Side.{Side}
-use Rattle.rb_trees.specs.declared.Clash.{Clash}
 use Rattle.rb_trees.specs.declared.Clash.TheVariants.{Nowhere}
 use Rattle.rb_trees.specs.Trees.{Branches, tip, branch, is_red, shape, IsCalm, depth}
 use Rattle.rb_trees.specs.Turns.{link, set_left, set_right}
@@ -18,7 +16,7 @@ use Rattle.rb_trees.proofs.PathLemmas.{plugged_by, short_by}
 use Rattle.rb_trees.proofs.InsertClimbLemmas.{insert_climbed_by, insert_climb_by, calm_path}
 use Rattle.rb_trees.proofs.InsertClimbLemmas.{IsStill, still_above, still_climbed, still_climb, still_black}
 use Rattle.rb_trees.proofs.InsertClimbLemmas.{mended_kept, mend_nothing, mended_clear}
-use Rattle.rb_trees.proofs.InsertClimbLemmas.{red_sided, link_sided}
+use Rattle.rb_trees.proofs.InsertClimbLemmas.{link_sided}
 use Rattle.rb_cursor.specs.declared.nodes.Nearest.{Nearest}
 use Rattle.rb_cursor.specs.Zippers.{Zipper, altered}
 use Rattle.rb_cursor.specs.Opening.{IsNearest}

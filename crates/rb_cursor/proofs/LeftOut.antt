@@ -1,5 +1,5 @@
 -- A search by halves among first words that do not fall tells whether one is there.
-use Rattle.std.proofs.Common.{◌≡◌, ℕ, ◌<◌, ◌≤◌, true, false, List, Ok, Err, sym, length, arith}
+use Rattle.std.proofs.Common.{◌≡◌, ℕ, List, Ok, Err, sym, arith}
 use Rattle.std.specs.Prelude.{◌==◌, is_ok, Result}
 use Rattle.std.specs.List.{list_any}
 use Rattle.std.specs.List.Sorted.{IsNonDecreasing, IsBinarySearchResult}
@@ -9,7 +9,7 @@ use Rattle.std.proofs.lemmas.Bool.{eq-eqb, ne_eqb, cases_lt}
 use Rattle.std.proofs.lemmas.Grind.{get_or_default_zero}
 use Rattle.std.proofs.lemmas.List.Folds.{list_any_at, list_any_none}
 use Rattle.std.proofs.lemmas.List.Sorted.{searched}
-use Rattle.std.proofs.Common.{ap, ⊎_elim, ◌∙◌}
+use Rattle.std.proofs.Common.{⊎_elim}
 
 pub told_by_halves : (xs : List ℕ) (a : ℕ) (r : Result ℕ ℕ) →
     IsBinarySearchResult (λ y. nat_cmp y a) xs r → IsNonDecreasing xs →

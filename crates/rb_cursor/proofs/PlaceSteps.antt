@@ -1,10 +1,8 @@
 -- How the node of a first word is taken out, from the way down to it, as the calls of a cursor show it.
-use Rattle.std.specs.Prelude.{IsSome}
-use Rattle.std.proofs.Common.{◌≡◌, ℕ, suc, ◌+◌, ◌≤◌, ◌<◌, Bool, true, false, cond, List, [], ◌∷◌, ◌++◌, refl, sym, ◌∙◌, ap, subst, arith, length, append-nil, Option, Some, None}
+use Rattle.std.proofs.Common.{◌≡◌, ℕ, ◌+◌, ◌≤◌, ◌<◌, cond, List, [], ◌∷◌, ◌++◌, refl, ◌∙◌, ap, arith, length, append-nil, Some}
 use Rattle.std.proofs.lemmas.Bool.{le-ltb}
 use Rattle.std.specs.declared.cmp.Ordering.{Ordering}
 use Rattle.std.specs.declared.cmp.Ordering.TheVariants.{Less, Equal, Greater}
-use Rattle.word_arena.specs.declared.stores.Store.{Store}
 use Rattle.rb_trees.specs.declared.Record.{Record}
 use Rattle.rb_trees.specs.Trees.{Branches, tip, branch, shape, depth}
 use Rattle.rb_trees.specs.Turns.{link}

@@ -1,7 +1,6 @@
 -- One step up, as the calls of a cursor show it.
-use Rattle.std.proofs.Common.{◌≡◌, ℕ, suc, ◌+◌, ◌≤◌, ◌<◌, Bool, true, false, cond, List, [], ◌∷◌, refl, sym, ◌∙◌, ap, length, arith, ◌≤◌, ◌+◌}
+use Rattle.std.proofs.Common.{◌≡◌, ℕ, suc, ◌≤◌, true, false, cond, List, [], ◌∷◌, refl, sym, ◌∙◌, ap, length, arith, ◌≤◌}
 use Rattle.std.specs.Prelude.{nat_lt}
-use Rattle.rb_trees.specs.declared.Side.{Side}
 use Rattle.rb_trees.specs.Trees.{Branches}
 use Rattle.rb_trees.specs.Paths.{Above, joined, plugged, plugged_to, path_to}
 use Rattle.rb_cursor.specs.declared.nodes.Nearest.{Nearest}

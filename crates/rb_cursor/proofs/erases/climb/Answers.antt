@@ -1,11 +1,11 @@
 -- Each goal of the loop is one of the facts of EraseSteps at the values of the step.
-use Rattle.std.proofs.Common.{◌≡◌, ℕ, ◌+◌, ◌≤◌, ◌<◌, ◌++◌, refl, sym, ◌∙◌, ap, subst, arith, length, length-append, vec_capacity}
+use Rattle.std.proofs.Common.{◌≤◌, ◌<◌, ◌++◌, sym, ◌∙◌, ap, subst, arith, length, length-append, vec_capacity}
 use Rattle.word_arena.specs.Copies.{copy_number}
 use Rattle.rb_trees.specs.EraseClimb.{remaining, fill_on, filled_on}
 use Rattle.rb_cursor.specs.Zippers.{altered}
 use Rattle.rb_cursor.specs.Rising.{filled_at}
 use Rattle.rb_cursor.proofs.Stepping.{closed_parts}
-use Rattle.rb_cursor.proofs.EraseSteps.{EraseClimbs, EraseEnds, erase_fits, erase_there, erase_filled}
+use Rattle.rb_cursor.proofs.EraseSteps.{EraseEnds, erase_fits, erase_there, erase_filled}
 use Rattle.rb_cursor.proofs.EraseSteps.{erase_stays, erase_arrived}
 use Rattle.rb_cursor.proofs.erases.climb.Goals as goal
 use Rattle.rb_cursor.proofs.erases.climb.Goals.{else-loop-copy-test, then-loop-copy-test+in-Some+then-not-short}

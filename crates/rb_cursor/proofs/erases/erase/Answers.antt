@@ -1,5 +1,5 @@
 -- The way up from the node's place is the whole erase: the facts of PlaceSteps at the values of the calls.
-use Rattle.std.proofs.Common.{◌≡◌, ℕ, ◌+◌, ◌≤◌, ◌<◌, List, [], ◌++◌, Some, None, Option, refl, sym, ◌∙◌, ap, arith, length, length-append, append_assoc}
+use Rattle.std.proofs.Common.{◌≡◌, ℕ, ◌+◌, [], ◌++◌, refl, sym, ◌∙◌, ap, arith, length, length-append, append_assoc}
 use Rattle.word_arena.specs.Copies.{copy_number}
 use Rattle.rb_trees.specs.Trees.{Branches, shape, depth}
 use Rattle.rb_trees.specs.Turns.{link}

@@ -1,8 +1,7 @@
-use Rattle.std.proofs.Common.{◌-◌, sym, ap, ◌∙◌, arith}
+use Rattle.std.proofs.Common.{◌-◌, arith}
 use Rattle.rb_cursor.proofs.HeldLemmas.{room_is, filled}
 use Rattle.rb_cursor.proofs.BlankLemmas.{blank_leads, blank_there, plants}
 use Rattle.rb_cursor.proofs.TurnLemmas.{leads_on}
-use Rattle.std.specs.Option.{option_copied_mut}
 use Rattle.rb_cursor.proofs.cursors.Cursor.plant.Goals as goal
 
 pub overflow_sub-link : goal.overflow_sub-link

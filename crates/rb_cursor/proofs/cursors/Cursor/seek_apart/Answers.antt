@@ -1,4 +1,4 @@
-use Rattle.std.proofs.Common.{ℕ, ◌-◌, ◌+◌, Bool, List, refl, sym, ap, ◌∙◌, arith}
+use Rattle.std.proofs.Common.{◌-◌, Bool, List, refl, sym, ap, ◌∙◌, arith}
 use Rattle.rb_trees.specs.Trees.{Branches}
 use Rattle.rb_trees.specs.Paths.{Above}
 use Rattle.rb_cursor.proofs.HeldLemmas.{none_there, show}

@@ -1,4 +1,4 @@
-use Rattle.std.proofs.Common.{◌≡◌, ℕ, ◌-◌, ◌+◌, ◌≤◌, ◌<◌, List, refl, sym, ap, ◌∙◌, arith, length}
+use Rattle.std.proofs.Common.{◌-◌, refl, arith}
 use Rattle.rb_trees.specs.Paths.{way_by}
 use Rattle.rb_cursor.proofs.HeldLemmas.{none_there, show}
 use Rattle.rb_cursor.proofs.SeekLemmas.{step_fits, item_goes, way_ends}

@@ -1,8 +1,7 @@
-use Rattle.std.proofs.Common.{◌-◌, sym, ap, ◌∙◌, arith}
+use Rattle.std.proofs.Common.{◌-◌, arith}
 use Rattle.rb_cursor.proofs.HeldLemmas.{top_present}
 use Rattle.rb_cursor.proofs.BlankLemmas.{thin_leads, room_fits, takes}
 use Rattle.rb_cursor.proofs.TurnLemmas.{leads_on}
-use Rattle.std.specs.Option.{option_copied_mut}
 use Rattle.rb_cursor.proofs.cursors.Cursor.take_top.Goals as goal
 
 pub overflow_sub-link : goal.overflow_sub-link
