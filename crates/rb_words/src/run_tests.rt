@@ -101,7 +101,6 @@ fn make(rt: &impl Abort, words: &mut Vec<u64>, stores: &[Store]) {
 }
 
 // Inserts the item of a slot, whose node is free, by one plan for both copies.
-#[tactic(auto, using(order_laws::proofs::PlaceLemmas::without_none))]
 fn insert_free<O: TreeOrder>(
     rt: &impl Abort,
     l: Layout,
@@ -119,12 +118,13 @@ fn insert_free<O: TreeOrder>(
     let x = item_of(slot);
     assert!(rt; slot < l.capacity());
     assert!(rt; O::valid(&x));
-    assert!(rt; !shape.meets(&x, &[]));
     c.plan.clear();
     c.second.clear();
     shape.reserve_in(1, &mut c.plan)?;
     c.second.reserve(STORES)?;
-    shape.plan_insert(&mut c.plan, slot, x);
+    if shape.plan_insert_apart(&mut c.plan, slot, x) {
+        return Err(Fail::from("the item meets one"));
+    }
     mirrored(l, &c.plan[3..], &mut c.second);
     assert!(rt; c.plan.len() <= STORES);
     make(rt, &mut c.words, &c.plan);
@@ -170,7 +170,7 @@ fn erase<O: TreeOrder>(
     shape.reserve_in(1, &mut c.plan)?;
     c.second.reserve(STORES)?;
     let node = shape.plan_erase(&mut c.plan, a);
-    assert_eq!(rt; node, slot);
+    assert!(rt; node == slot);
     mirrored(l, &c.plan, &mut c.second);
     assert!(rt; c.plan.len() <= STORES);
     make(rt, &mut c.words, &c.plan);
@@ -220,10 +220,10 @@ fn table_of(rt: &impl Abort, alloc: Global, inside: &[bool]) -> Result<Vec<Item>
 fn holds(rt: &impl Abort, alloc: Global, l: Layout, c: &Copies) -> Result<(), Fail> {
     let table = table_of(rt, alloc, &c.inside)?;
     let most = (table.len() as u128 + 1) * (table.len() as u128 + 1);
-    assert_eq!(rt; c.words.len(), l.words());
+    assert!(rt; c.words.len() == l.words());
     for copy in [TreeCopy::Zero, TreeCopy::One] {
         let held = held_in(alloc, l, copy, &c.words)?.ok_or("no tree")?;
-        assert_eq!(rt; held.as_slice(), table.as_slice());
+        assert!(rt; held.as_slice() == table.as_slice());
         let (_, height) = ways(rt, copy, &c.words, c.words[root_of(copy)], 40);
         assert!(rt; 1u128 << height <= most);
     }
@@ -312,17 +312,32 @@ fn empty(
     Ok(())
 }
 
+// Fills an empty table and empties it again.
+fn fill_and_empty(
+    rt: &impl Abort,
+    alloc: Global,
+    l: Layout,
+    shape: &mut Shape<HalfOpen>,
+    c: &mut Copies,
+) -> Result<(), Fail>
+    requires capacity { shape.old.capacity ≡ capacity_of l }
+    requires copy { shape.old.copy ≡ 0 }
+    requires empty { shape.old.tree ≡ none }
+{
+    fill(rt, l, shape, c)?;
+    assert!(rt; shape.len() == l.capacity());
+    compare(rt, alloc, l, shape, c)?;
+    empty(rt, alloc, l, shape, c)?;
+    assert!(rt; shape.len() == 0);
+    holds(rt, alloc, l, c)
+}
+
 #[test]
 fn filled_and_emptied(rt: HostRuntime) -> Result<(), Fail> {
     let l = Layout::new(65536)?;
     let mut shape = Shape::new(rt.alloc(), l, TreeCopy::Zero);
     let mut c = empty_copies(rt.alloc(), l)?;
-    fill(&rt, l, &mut shape, &mut c)?;
-    assert!(rt; shape.len() == 65536);
-    compare(&rt, rt.alloc(), l, &shape, &c)?;
-    empty(&rt, rt.alloc(), l, &mut shape, &mut c)?;
-    assert!(rt; shape.len() == 0);
-    holds(&rt, rt.alloc(), l, &c)
+    fill_and_empty(&rt, rt.alloc(), l, &mut shape, &mut c)
 }
 
 // The order of the numbers 0 to 4 that has this number, 0 to 119.
@@ -379,34 +394,44 @@ fn update_five<O: TreeOrder>(
 }
 
 // Five items in one order in, and in another out.
+fn fill_and_empty_five<O: TreeOrder>(
+    rt: &impl Abort,
+    alloc: Global,
+    l: Layout,
+    shape: &mut Shape<O>,
+    c: &mut Copies,
+    orders: ([u32; 5], [u32; 5]),
+) -> Result<(), Fail>
+    requires capacity { shape.old.capacity ≡ capacity_of l }
+    requires copy { shape.old.copy ≡ 0 }
+{
+    update_five(rt, alloc, l, shape, c, orders.0)?;
+    assert!(rt; shape.len() == 5);
+    update_five(rt, alloc, l, shape, c, orders.1)?;
+    assert!(rt; shape.len() == 0);
+    Ok(())
+}
+
 fn in_and_out<O: TreeOrder>(
     rt: &impl Abort,
     alloc: Global,
-    entry: [u32; 5],
-    exit: [u32; 5],
+    orders: ([u32; 5], [u32; 5]),
 ) -> Result<(), Fail> {
     let l = Layout::new(5)?;
     let mut shape = Shape::<O>::new(alloc, l, TreeCopy::Zero);
     let mut c = empty_copies(alloc, l)?;
-    update_five(rt, alloc, l, &mut shape, &mut c, entry)?;
-    assert!(rt; shape.len() == 5);
-    update_five(rt, alloc, l, &mut shape, &mut c, exit)?;
-    assert!(rt; shape.len() == 0);
-    Ok(())
+    fill_and_empty_five(rt, alloc, l, &mut shape, &mut c, orders)
 }
 
 #[test]
 fn all_orders_of_five(rt: HostRuntime) -> Result<(), Fail> {
     for entry in 0..120 {
         for exit in 0..120 {
-            in_and_out::<HalfOpen>(&rt, rt.alloc(), order_of_five(entry), order_of_five(exit))?;
+            let orders = (order_of_five(entry), order_of_five(exit));
+            in_and_out::<HalfOpen>(&rt, rt.alloc(), orders)?;
         }
-        in_and_out::<Plain>(
-            &rt,
-            rt.alloc(),
-            order_of_five(entry),
-            order_of_five(119 - entry),
-        )?;
+        let orders = (order_of_five(entry), order_of_five(119 - entry));
+        in_and_out::<Plain>(&rt, rt.alloc(), orders)?;
     }
     Ok(())
 }
@@ -430,17 +455,20 @@ fn is_updated(random: u64, step: u32, n: u32, is: bool) -> bool
 }
 
 // Random inserts and erases; all is compared every so many updates.
-fn random_run<O: TreeOrder>(
+fn update_at_random<O: TreeOrder>(
     rt: &impl Abort,
     alloc: Global,
-    n: u32,
+    l: Layout,
+    shape: &mut Shape<O>,
+    c: &mut Copies,
     updates: u32,
     every: u32,
-) -> Result<(), Fail> {
-    assert!(rt; every > 0);
-    let l = Layout::new(n)?;
-    let mut shape = Shape::<O>::new(alloc, l, TreeCopy::Zero);
-    let mut c = empty_copies(alloc, l)?;
+) -> Result<(), Fail>
+    requires every { 0 < every }
+    requires capacity { shape.old.capacity ≡ capacity_of l }
+    requires copy { shape.old.copy ≡ 0 }
+{
+    let n = l.capacity();
     let mut random = 88172645463325252;
     let mut made = 0;
     for step in 0..u32::MAX {
@@ -450,10 +478,10 @@ fn random_run<O: TreeOrder>(
         random = next_random(random);
         let slot = ((random >> 11) % n as u64) as u32;
         if is_updated(random, step, n, shape.has(item_of(slot).a)) {
-            update(rt, l, &mut shape, &mut c, slot)?;
+            update(rt, l, shape, c, slot)?;
             made += 1;
             if made % every == 0 {
-                compare(rt, alloc, l, &shape, &c)?;
+                compare(rt, alloc, l, shape, c)?;
             }
         }
     }
@@ -461,16 +489,28 @@ fn random_run<O: TreeOrder>(
     Ok(())
 }
 
+// So many of them in a table of n nodes that is empty at first.
+fn random_run<O: TreeOrder>(
+    rt: &impl Abort,
+    alloc: Global,
+    n: u32,
+    updates: u32,
+    every: u32,
+) -> Result<(), Fail>
+    requires { 0 < every }
+{
+    let l = Layout::new(n)?;
+    let mut shape = Shape::<O>::new(alloc, l, TreeCopy::Zero);
+    let mut c = empty_copies(alloc, l)?;
+    update_at_random(rt, alloc, l, &mut shape, &mut c, updates, every)
+}
+
 #[test]
 fn random_runs(rt: HostRuntime) -> Result<(), Fail> {
-    for (n, updates, every) in [
-        (1, 10000, 1),
-        (2, 10000, 1),
-        (7, 30000, 1),
-        (64, 30000, 16),
-        (1000, 30000, 500),
-    ] {
-        random_run::<HalfOpen>(&rt, rt.alloc(), n, updates, every)?;
-    }
+    random_run::<HalfOpen>(&rt, rt.alloc(), 1, 10000, 1)?;
+    random_run::<HalfOpen>(&rt, rt.alloc(), 2, 10000, 1)?;
+    random_run::<HalfOpen>(&rt, rt.alloc(), 7, 30000, 1)?;
+    random_run::<HalfOpen>(&rt, rt.alloc(), 64, 30000, 16)?;
+    random_run::<HalfOpen>(&rt, rt.alloc(), 1000, 30000, 500)?;
     random_run::<Plain>(&rt, rt.alloc(), 64, 5000, 16)
 }

@@ -1,6 +1,6 @@
 use Rattle.std.proofs.Common.{◌≡◌}
 use Rattle.word_arena.specs.Layouts.{capacity_of}
-use Rattle.rb_words.proofs.run_tests.random_run.Given as goal
+use Rattle.rb_words.proofs.run_tests.update_at_random.Given as goal
 
 -- a picture of copy 0 of this layout
 abbrev pub invariant-loop-step : goal.invariant-loop-step
