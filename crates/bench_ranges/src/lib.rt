@@ -1,10 +1,12 @@
-//! What the measuring programs look up and change: ranges in slots, random numbers, and shuffled order.
+//! What the measuring programs look up and change: ranges in slots, random numbers, and shuffled order; and the numbers that
+//! they are given.
 #![tactic(auto)]
 
 ghost use Rattle.std.specs.Prelude.{◌≡◌, ◌<◌, ◌≤◌, IfOk, length};
 
 use order_laws::Item;
 use std::alloc::{AllocError, Global};
+use std::{env, io};
 
 /// Where the slots begin.
 const BASE: u64 = 0x1000_0000_0000;
@@ -89,4 +91,16 @@ pub fn checksum(words: &[u64]) -> u64 {
         sum = sum.wrapping_mul(31).wrapping_add(*word);
     }
     sum
+}
+
+/// The numbers that the program was given as arguments; none at all where one is no number.
+pub fn numbers(rt: &HostRuntime) -> io::Result<Vec<u32>> {
+    let mut numbers = Vec::new(rt.alloc());
+    for word in env::args(rt)?.skip(1) {
+        match word.parse::<u32>() {
+            Ok(number) => numbers.push(number)?,
+            Err(_) => return Ok(Vec::new(rt.alloc())),
+        }
+    }
+    Ok(numbers)
 }

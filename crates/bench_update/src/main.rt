@@ -8,11 +8,11 @@
 ghost use Rattle.std.specs.Prelude.{◌≡◌, ◌<◌, ◌≤◌, IfOk, length};
 ghost use Rattle.word_arena.specs.Words.{words_for};
 
-use bench_ranges::{Random, checksum, ranges, shuffle};
+use bench_ranges::{Random, checksum, numbers, ranges, shuffle};
 use latch_core::{Update, WriterCore};
 use order_laws::{HalfOpen, Item, Refusal};
 use std::alloc::Global;
-use std::{env, io};
+use std::io;
 use word_arena::{Layout, apply};
 
 /// What the random numbers of the ranges and of the updates begin with.
@@ -20,7 +20,7 @@ const SEED_OF_RANGES: u64 = 12345;
 
 const SEED_OF_UPDATES: u64 = 7;
 
-/// A table with the words that it is kept in, and how many stores were made.
+/// A table with the words that it is kept in, and how many stores its updates took.
 #[derive(Drop)]
 struct Table {
     writer: WriterCore<HalfOpen>,
@@ -47,13 +47,21 @@ impl Table {
         requires { length self.old.words.items ≡ words_for self.old.writer.capacity }
         ensures { length self.new.words.items ≡ words_for self.new.writer.capacity }
     {
-        let _ = self.writer.begin(update)?;
-        while let Some(store) = self.writer.next() {
-            apply(&mut self.words, store);
-            self.writer.did();
-            self.stores = self.stores.wrapping_add(1);
-        }
+        let stores = self.writer.begin(update)?;
+        carry_out(&mut self.writer, &mut self.words);
+        self.stores = self.stores.wrapping_add(stores);
         Ok(())
+    }
+}
+
+/// Makes the stores of the update in hand.
+fn carry_out(writer: &mut WriterCore<HalfOpen>, words: &mut [u64])
+    requires { length words.old ≡ words_for writer.old.capacity }
+    ensures sized { length words.new ≡ words_for writer.new.capacity }
+{
+    while let Some(store) = writer.next() {
+        apply(words, store);
+        writer.did();
     }
 }
 
@@ -98,13 +106,7 @@ fn run(alloc: Global, items: u32, pairs: u32) -> Result<Table, Refusal> {
 }
 
 fn main(rt: HostRuntime) -> io::Result<()> {
-    let mut numbers = Vec::new(rt.alloc());
-    for word in env::args(&rt)?.skip(1) {
-        match word.parse::<u32>() {
-            Ok(number) => numbers.push(number)?,
-            Err(_) => return eprintln!(rt; "usage: bench_update ITEMS PAIRS"),
-        }
-    }
+    let numbers = numbers(&rt)?;
     let [items, pairs] = numbers.as_slice() else {
         return eprintln!(rt; "usage: bench_update ITEMS PAIRS");
     };

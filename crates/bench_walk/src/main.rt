@@ -9,12 +9,12 @@ ghost use Rattle.std.specs.Prelude.{◌≡◌, IfOk, length};
 ghost use Rattle.word_arena.specs.Layouts.{capacity_of};
 ghost use Rattle.word_arena.specs.Words.{words_for};
 
-use bench_ranges::{Random, addresses, ranges, shuffle};
+use bench_ranges::{Random, addresses, numbers, ranges, shuffle};
 use latch_core::{Attempted, Update, WriterCore, attempt_in};
 use order_laws::{HalfOpen, Item, Refusal};
 use std::alloc::Global;
+use std::io;
 use std::io::Print;
-use std::{env, io};
 use word_arena::{Layout, apply};
 
 /// What the random numbers of the ranges and of the addresses begin with.
@@ -108,13 +108,7 @@ fn run(rt: &impl Print, alloc: Global, l: Layout, words: &[u64], rounds: u32) ->
 }
 
 fn main(rt: HostRuntime) -> io::Result<()> {
-    let mut numbers = Vec::new(rt.alloc());
-    for word in env::args(&rt)?.skip(1) {
-        match word.parse::<u32>() {
-            Ok(number) => numbers.push(number)?,
-            Err(_) => return eprintln!(rt; "usage: bench_walk ITEMS [ROUNDS]"),
-        }
-    }
+    let numbers = numbers(&rt)?;
     let [items, rounds @ ..] = numbers.as_slice() else {
         return eprintln!(rt; "usage: bench_walk ITEMS [ROUNDS]");
     };

@@ -1,12 +1,11 @@
 -- The way up of an erase, as the calls of a cursor show it.
-use Rattle.std.proofs.Common.{◌≡◌, ℕ, suc, ◌+◌, ◌≤◌, ◌<◌, Bool, true, false, List, [], ◌∷◌, ◌++◌}
-use Rattle.std.proofs.Common.{refl, sym, ◌∙◌, ap, subst, arith, length, length-append, append-nil}
+use Rattle.std.proofs.Common.{◌≡◌, ℕ, suc, ◌+◌, ◌≤◌, ◌<◌, Bool, false, List, [], ◌++◌}
+use Rattle.std.proofs.Common.{sym, ◌∙◌, ap, subst, arith, length, length-append, append-nil}
 use Rattle.word_arena.specs.declared.stores.Store.{Store}
-use Rattle.rb_trees.specs.declared.Side.{Side}
-use Rattle.rb_trees.specs.Trees.{Branches, shape}
+use Rattle.rb_trees.specs.Trees.{shape}
 use Rattle.rb_trees.specs.Turns.{link}
 use Rattle.rb_trees.specs.Erased.{Rest}
-use Rattle.rb_trees.specs.Paths.{Above, joined, path_to, plugged_to}
+use Rattle.rb_trees.specs.Paths.{joined, path_to, plugged_to}
 use Rattle.rb_trees.specs.InsertClimb.{relink_on}
 use Rattle.rb_trees.specs.EraseClimb.{remaining, filled_on, fill_on, erase_step}
 use Rattle.rb_trees.specs.EraseClimb.{erase_climbed, erase_climb}
@@ -94,9 +93,6 @@ module _ {copy d : ℕ} {start : Zipper} {begun : Rest} {from : ℕ} {first : Li
       let n = length-append now relinked in
       let k = length-append first (erase_climb copy d start.path from begun) in
       omega (arith, ap length on.items, l, m, n, k, room)
-
-  pub erase_shorter : suc (length near.rest) ≡ length here.path
-  erase_shorter = sym (shorter here up near)
 
   pub erase_there : {z : Zipper} → z ≡ risen here → z ≡ there
   erase_there rises = rises ∙ risen_there here up near

@@ -1,6 +1,5 @@
 -- How the first node of a tree is taken out, as the calls of a cursor show it.
-use Rattle.std.proofs.Common.{◌≡◌, ℕ, suc, ◌+◌, ◌≤◌, ◌<◌, Bool, true, false, List, [], ◌∷◌, ◌++◌, refl, sym, ◌∙◌, ap, subst, arith, length, append-nil, Option, Some, None}
-use Rattle.word_arena.specs.declared.stores.Store.{Store}
+use Rattle.std.proofs.Common.{◌≡◌, ℕ, suc, ◌+◌, ◌≤◌, ◌<◌, Bool, true, List, ◌++◌, refl, sym, ◌∙◌, ap, subst, arith, length, append-nil, Some, None}
 use Rattle.rb_trees.specs.declared.Record.{Record}
 use Rattle.rb_trees.specs.Trees.{Branches, tip, branch, is_red, shape, depth}
 use Rattle.rb_trees.specs.Turns.{link}

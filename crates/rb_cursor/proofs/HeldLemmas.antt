@@ -3,6 +3,7 @@ use Rattle.std.proofs.Common.{◌≡◌, ℕ, suc, ◌+◌, ◌-◌, ◌<◌, �
 use Rattle.std.proofs.Common.{List, [], ◌∷◌, length, Option, Some, None, is_some}
 use Rattle.std.proofs.Common.{count_by, set, refl, sym, ap, subst, ◌∙◌, arith}
 use Rattle.std.proofs.lemmas.List.{get_or-set_same, set-get_or}
+use Rattle.std.specs.Prelude.{IsSome}
 use Rattle.slab.specs.Slab.{Slab, get, slab_len, ContainsKey, with_value}
 use Rattle.rb_trees.specs.declared.Record.{Record}
 use Rattle.rb_trees.specs.Trees.{Branches, tip, branch}
@@ -405,6 +406,10 @@ pub top_present : (i : Inside) (key : ℕ) → Is i → i.tree ≡ suc key → C
 top_present i key f some =
     present_by i.nodes i.tree key f.hand f.place.hand_linked f.tree_link some
 
+pub filled : {X : Type 0} {o : Option X} → (o ≡ None → ⊥) → IsSome o
+filled {o = None} h = absurd (h refl)
+filled {o = Some x} h = refl
+
 -- a value written back is no change
 pub same_value : (s : Slab Node) (key : ℕ) (n : Node) → get s key ≡ Some n →
     with_value s key n ≡ s
@@ -414,8 +419,3 @@ same_value s key n found =
 
 abbrev pub written_back : Inside → ℕ → Node → Inside
 written_back i key n = record i { nodes = with_value i.nodes key n }
-
-pub written_is : (i : Inside) (key : ℕ) (n : Node) → get i.nodes key ≡ Some n → Is i →
-    Is (written_back i key n)
-written_is i key n found f =
-    subst (λ (z : Slab Node). Is (record i { nodes = z })) (sym (same_value i.nodes key n found)) f

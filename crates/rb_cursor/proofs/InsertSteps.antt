@@ -1,11 +1,9 @@
 -- The way up of an insert, as the calls of a cursor show it.
-use Rattle.std.proofs.Common.{◌≡◌, ℕ, suc, ◌+◌, ◌≤◌, ◌<◌, Bool, true, false, List, [], ◌∷◌, ◌++◌}
-use Rattle.std.proofs.Common.{refl, sym, ◌∙◌, ap, subst, arith, length, length-append, append-nil}
+use Rattle.std.proofs.Common.{◌≡◌, ℕ, suc, ◌+◌, ◌≤◌, Bool, true, false, List, [], ◌∷◌, ◌++◌}
+use Rattle.std.proofs.Common.{sym, ◌∙◌, ap, subst, arith, length, length-append, append-nil}
 use Rattle.word_arena.specs.declared.stores.Store.{Store}
 use Rattle.order_laws.specs.declared.items.Item.{Item}
 use Rattle.rb_trees.specs.declared.Record.{Record}
-use Rattle.rb_trees.specs.declared.Side.{Side}
-use Rattle.rb_trees.specs.declared.Clash.{Clash}
 use Rattle.rb_trees.specs.declared.Clash.TheVariants.{Nowhere}
 use Rattle.rb_trees.specs.Trees.{Branches, tip, branch, is_red, shape, IsCalm, depth}
 use Rattle.rb_trees.specs.Turns.{link, set_left, set_right}
@@ -17,8 +15,8 @@ use Rattle.rb_trees.proofs.ListLemmas.{regrouped}
 use Rattle.rb_trees.proofs.PathLemmas.{plugged_by, short_by}
 use Rattle.rb_trees.proofs.InsertClimbLemmas.{insert_climbed_by, insert_climb_by, calm_path}
 use Rattle.rb_trees.proofs.InsertClimbLemmas.{IsStill, still_above, still_climbed, still_climb, still_black}
-use Rattle.rb_trees.proofs.InsertClimbLemmas.{mended_kept, mend_nothing, mended_red, mend_red, mended_clear}
-use Rattle.rb_trees.proofs.InsertClimbLemmas.{red_sided, link_sided}
+use Rattle.rb_trees.proofs.InsertClimbLemmas.{mended_kept, mend_nothing, mended_clear}
+use Rattle.rb_trees.proofs.InsertClimbLemmas.{link_sided}
 use Rattle.rb_cursor.specs.declared.nodes.Nearest.{Nearest}
 use Rattle.rb_cursor.specs.Zippers.{Zipper, altered}
 use Rattle.rb_cursor.specs.Opening.{IsNearest}
@@ -97,9 +95,6 @@ module _ {copy : ℕ} {start : Zipper} {first : List Store}
       let k = length-append first (insert_climb copy start.path 0 start.tree) in
       omega (arith, ap length on.items, l, m, n, k, room)
 
-  pub insert_shorter : suc (length near.rest) ≡ length here.path
-  insert_shorter = sym (shorter here up near)
-
   pub insert_there : {z : Zipper} → z ≡ risen here → z ≡ there
   insert_there rises = rises ∙ risen_there here up near
 
@@ -126,29 +121,6 @@ module _ {copy : ℕ} {start : Zipper} {first : List Store}
   passed same none {now1 = now1} relinks =
       insert_mended (ap (λ t. record there { tree = t }) (sym same)) relinks
       (sym (ap (λ ss. now1 ++ ss) none ∙ append-nil now1))
-
-  -- a red node is not mended
-  pub insert_red : up.red ≡ true → {z : Zipper} → z ≡ there → {now1 : List Store} → now1 ≡ now ++ relinked
-      → InsertClimbs copy start first z (up.node + 1) now1
-      × InsertKnows z (up.node + 1) true true
-  insert_red reds zs {now1 = now1} relinks =
-      let next : up.node + 1 ≡ suc up.node = omega arith in
-      let a = above_of up near in
-      let same : mended_on up.side there.tree ≡ there.tree =
-      subst (λ r. mended_on up.side (joined a r here.tree) ≡ joined a r here.tree) (sym reds)
-      (mended_red up.side here.tree near.row near.other) in
-      let none : mends ≡ [] =
-      subst (λ r. mend_on up.side copy (joined a r here.tree) ≡ []) (sym reds)
-      (mend_red up.side copy here.tree near.row near.other) in
-      let climbs = passed same none relinks in
-      let known : InsertKnows there (up.node + 1) true true = record {
-        linked = next ∙ ap suc near.node ∙ sym (link_sided up.side up.red here.tree near.row near.other);
-        red_is = sym reds ∙ sym (red_sided up.side up.red here.tree near.row near.other);
-        clear = λ e. absurd (cc);
-      } in (
-        subst (λ y. InsertClimbs copy start first y (up.node + 1) now1) (sym zs) climbs,
-        subst (λ y. InsertKnows y (up.node + 1) true true) (sym zs) known,
-      )
 
   -- from a black node, or a red one without a red child below a black one, nothing above changes
   pub insert_settled : IsStill here.path here.tree → {z : Zipper} → z ≡ there → {now1 : List Store}

@@ -1,6 +1,6 @@
 -- Trees, paths and chains at keys: what a write of other nodes leaves as it is, and what is read
 -- back.
-use Rattle.std.proofs.Common.{◌≡◌, ◌≢◌, ℕ, zero, suc, ◌-◌, ◌<◌, ◌≤◌, Bool, List}
+use Rattle.std.proofs.Common.{◌≡◌, ◌≢◌, ℕ, zero, suc, ◌<◌, ◌≤◌, Bool, List}
 use Rattle.std.proofs.Common.{[], ◌∷◌, length, Option, Some, None, is_some}
 use Rattle.std.proofs.Common.{get_or, set, cond, refl, ap, ◌∙◌, arith}
 use Rattle.std.proofs.lemmas.Bool.Decides.{nat_tests}
@@ -19,7 +19,7 @@ use Rattle.rb_cursor.specs.Keyed.{Keyed, nil, keyed, Level, link_of, plain, plai
 use Rattle.rb_cursor.specs.Keyed.{plain_path, size, path_size, at_key, uses, path_uses, list_uses}
 use Rattle.rb_cursor.specs.Keyed.{sided_node, IsLinked, IsPath, IsChain, tree_below}
 use Rattle.rb_cursor.specs.Keyed.{tree_from}
-use Rattle.rb_cursor.specs.Writes.{key_of, no_step}
+use Rattle.rb_cursor.specs.Writes.{no_step}
 use Rattle.rb_cursor.specs.Places.{AreSteps, above_with, node_or, above_at, path_from}
 
 pub at_same : (k : ℕ) → at_key k k ≡ 1
@@ -30,10 +30,6 @@ at_apart i k = grind (arith, nat_tests)
 
 pub at_most : (i k : ℕ) → at_key i k ≤ 1
 at_most i k = grind (arith, nat_tests)
-
-pub key_is : (n : ℕ) → n - 1 ≡ key_of n
-key_is zero = refl
-key_is (suc k) = omega arith
 
 -- as long as the nodes at the keys in use stay, a tree, a path and a chain stay
 pub linked_kept : (s u : Slab Node) (t : Keyed) → ((i : ℕ) → 0 < uses i t → get u i ≡ get s i) →

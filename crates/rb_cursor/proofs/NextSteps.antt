@@ -1,11 +1,11 @@
 -- How the next node in order takes the place of a node, as the calls of a cursor show it.
 use Rattle.std.specs.Prelude.{not}
-use Rattle.std.proofs.Common.{◌≡◌, ℕ, suc, ◌+◌, Bool, true, false, List, [], ◌∷◌, ◌++◌, refl, sym, ◌∙◌, ap, subst, arith, Option, Some, None}
+use Rattle.std.proofs.Common.{◌≡◌, ℕ, ◌+◌, Bool, true, false, List, [], ◌∷◌, ◌++◌, refl, sym, ◌∙◌, ap, Some}
 use Rattle.word_arena.specs.declared.stores.Store.{Store}
 use Rattle.rb_trees.specs.declared.Record.{Record}
 use Rattle.rb_trees.specs.Trees.{Branches, tip, branch, shape}
 use Rattle.rb_trees.specs.Turns.{link, set_left, set_right}
-use Rattle.rb_trees.specs.Erased.{Rest, first_row, without_first, first_links, right_if, right_fill_if}
+use Rattle.rb_trees.specs.Erased.{first_row, without_first, first_links, right_if, right_fill_if}
 use Rattle.rb_trees.specs.Paths.{Above, first_place}
 use Rattle.rb_trees.specs.EraseClimb.{top_erased, top_erase}
 use Rattle.rb_trees.proofs.EraseClimbLemmas.{first_there}

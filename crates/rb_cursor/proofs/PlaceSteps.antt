@@ -1,10 +1,8 @@
 -- How the node of a first word is taken out, from the way down to it, as the calls of a cursor show it.
-use Rattle.std.specs.Prelude.{IsSome}
-use Rattle.std.proofs.Common.{◌≡◌, ℕ, suc, ◌+◌, ◌≤◌, ◌<◌, Bool, true, false, cond, List, [], ◌∷◌, ◌++◌, refl, sym, ◌∙◌, ap, subst, arith, length, append-nil, Option, Some, None}
+use Rattle.std.proofs.Common.{◌≡◌, ℕ, ◌+◌, ◌≤◌, ◌<◌, cond, List, [], ◌∷◌, ◌++◌, refl, ◌∙◌, ap, arith, length, append-nil, Some}
 use Rattle.std.proofs.lemmas.Bool.{le-ltb}
 use Rattle.std.specs.declared.cmp.Ordering.{Ordering}
 use Rattle.std.specs.declared.cmp.Ordering.TheVariants.{Less, Equal, Greater}
-use Rattle.word_arena.specs.declared.stores.Store.{Store}
 use Rattle.rb_trees.specs.declared.Record.{Record}
 use Rattle.rb_trees.specs.Trees.{Branches, tip, branch, shape, depth}
 use Rattle.rb_trees.specs.Turns.{link}
@@ -25,9 +23,6 @@ found_there seen (branch red l y r) =
       | Equal ↦ refl
       | Greater ↦ found_there seen r
     ]
-
-pub some_there : {o : Option Record} → IsSome o → o ≡ None → ⊥
-some_there is none = let e : false ≡ true = subst IsSome none is in absurd (cc)
 
 deep : (t : Branches) (x : Record) → row_of t ≡ Some x → 1 ≤ depth (shape t)
 deep tip x e = absurd (cc)

@@ -1,5 +1,5 @@
 -- Going down by fields alone: what a seek has come to leads to the same place as where it began.
-use Rattle.std.proofs.Common.{◌≡◌, ℕ, suc, ◌+◌, ◌<◌, ◌≤◌, Bool, true, false, List, ◌∷◌, ◌≢◌}
+use Rattle.std.proofs.Common.{◌≡◌, ℕ, suc, ◌+◌, ◌<◌, ◌≤◌, Bool, true, false, List, [], ◌∷◌}
 use Rattle.std.proofs.Common.{length, if◌then◌else◌, Some, refl, sym, ap, subst, ◌∙◌}
 use Rattle.std.proofs.Common.{arith}
 use Rattle.std.proofs.Common.{length-set}
@@ -8,10 +8,9 @@ use Rattle.rb_trees.specs.declared.Record.{Record}
 use Rattle.std.specs.Ordering.{is_eq, is_lt}
 use Rattle.std.specs.declared.cmp.Ordering.{Ordering}
 use Rattle.std.specs.declared.cmp.Ordering.TheVariants.{Less, Equal, Greater}
-use Rattle.std.specs.Prelude.{nat_lt, ◌==◌}
-use Rattle.std.proofs.lemmas.Bool.Decides.{nat_tests}
-use Rattle.rb_trees.specs.Trees.{Branches, branch, shape, depth}
+use Rattle.rb_trees.specs.Trees.{Branches, tip, branch, shape, depth}
 use Rattle.rb_cursor.specs.declared.nodes.Node.{Node}
+use Rattle.rb_cursor.specs.declared.nodes.Step.{Step}
 use Rattle.rb_trees.specs.declared.Side.{Side}
 use Rattle.rb_trees.specs.declared.Side.TheVariants.{Left, Right}
 use Rattle.rb_cursor.specs.declared.cursors.Cursor.TheInside.{Inside}
@@ -22,7 +21,9 @@ use Rattle.rb_cursor.specs.Keyed.{record_of}
 use Rattle.rb_cursor.specs.Children.{child_at, side_by}
 use Rattle.order_laws.specs.declared.items.Item.{Item}
 use Rattle.rb_trees.specs.Paths.{past_left, past_right, way_by, place_at, place_from, way_at}
-use Rattle.rb_trees.specs.Paths.{way_from}
+use Rattle.rb_trees.specs.Paths.{way_from, plugged}
+use Rattle.rb_trees.specs.Found.{met}
+use Rattle.order_laws.specs.Orders.{Order}
 use Rattle.rb_cursor.proofs.ChangeLemmas.{rewrites}
 use Rattle.rb_cursor.proofs.HeldLemmas.{same_value, written_back}
 use Rattle.rb_cursor.proofs.HeldLemmas.{Is, show, with_step, depth_is, left_opened, right_opened}
@@ -215,11 +216,12 @@ module _ (seen : Record → Ordering) where
       ap (λ (t : Branches). (t, (show i).path)) e
       ∙ sym (ap (λ (t : Branches). seen_way seen t (show i).path) e) ∙ s.way
 
--- a step down on a side, where the node was written back
+-- a step down on a side, where the node was written back and the step was written
 pub record Went {X : Type 0} (W : Branches → List Above → X) (i : Inside) (start : Zipper)
-    (key : ℕ) (n : Node) (side : Side) (link : ℕ) : Type 0 where
-  pub sought : Sought W (with_step (written_back i key n) side link) start
-  pub less : weight (show (with_step (written_back i key n) side link)).tree < weight (show i).tree
+    (key : ℕ) (n : Node) (side : Side) (link : ℕ) (steps : List Step) : Type 0 where
+  pub sought : Sought W (record (with_step (written_back i key n) side link) { steps = steps }) start
+  pub less : weight (show (record (with_step (written_back i key n) side link) { steps = steps })).tree
+      < weight (show i).tree
 
 record Steps {X : Type 0} (W : Branches → List Above → X) (i now : Inside) (start : Zipper) :
     Type 0 where
@@ -227,17 +229,21 @@ record Steps {X : Type 0} (W : Branches → List Above → X) (i now : Inside) (
   pub less : weight (show now).tree < weight (show i).tree
 
 went : {X : Type 0} (W : Branches → List Above → X) (i : Inside) (start : Zipper) (key : ℕ)
-    (n : Node) (left : Bool) (side : Side) (link : ℕ) → get i.nodes key ≡ Some n →
-    side ≡ side_by left → link ≡ child_at side n →
+    (n : Node) (left : Bool) (side : Side) (link : ℕ) (steps : List Step) →
+    get i.nodes key ≡ Some n → side ≡ side_by left → link ≡ child_at side n →
+    steps ≡ (with_step i side link).steps →
     Steps W i (with_step i (side_by left) (child_at (side_by left) n)) start →
-    Went W i start key n side link
-went W i start key n left side link found here there g =
+    Went W i start key n side link steps
+went W i start key n left side link steps found here there written g =
     let a = subst (λ (z : Side). Steps W i (with_step i z (child_at z n)) start) (sym here) g in
     let b = subst (λ (l : ℕ). Steps W i (with_step i side l) start) (sym there) a in
     let c = subst (λ (z : Slab Node).
     Steps W i (with_step (record i { nodes = z }) side link) start)
     (sym (same_value i.nodes key n found)) b in
-    record { sought = c.sought; less = c.less }
+    let d = subst (λ (z : List Step).
+    Steps W i (record (with_step (written_back i key n) side link) { steps = z }) start)
+    (sym written) c in
+    record { sought = d.sought; less = d.less }
 
 -- a step of the way of an item
 item_by : (less : Item → Item → Bool) (x : Item) (i : Inside) (start : Zipper) (key : ℕ)
@@ -254,12 +260,13 @@ item_by less x i start key n false s some found few test =
     record { sought = g.sought; less = g.less }
 
 pub item_goes : (less : Item → Item → Bool) (x : Item) (i : Inside) (start : Zipper) (key : ℕ)
-    (n : Node) (left : Bool) (side : Side) (link : ℕ) → Sought (way_by less x) i start →
+    (n : Node) (left : Bool) (side : Side) (link : ℕ) (steps : List Step) → Sought (way_by less x) i start →
     i.tree ≡ suc key → get i.nodes key ≡ Some n → left ≡ less x n.item → side ≡ side_by left →
-    link ≡ child_at side n → Went (way_by less x) i start key n side link
-item_goes less x i start key n left side link s some found test here there =
+    link ≡ child_at side n →
+    steps ≡ (with_step i side link).steps → Went (way_by less x) i start key n side link steps
+item_goes less x i start key n left side link steps s some found test here there written =
     let few = step_fits (way_by less x) i start key n s some found in
-    went (way_by less x) i start key n left side link found here there
+    went (way_by less x) i start key n left side link steps found here there written
     (item_by less x i start key n left s some found few test)
 
 -- a step of the way of what is sought
@@ -293,11 +300,97 @@ seen_by seen i start key n false s some found few other test =
     record { sought = g.sought; less = g.less }
 
 pub seen_goes : (seen : Record → Ordering) (i : Inside) (start : Zipper) (key : ℕ) (n : Node)
-    (left : Bool) (side : Side) (link : ℕ) → Sought (seen_way seen) i start → i.tree ≡ suc key →
+    (left : Bool) (side : Side) (link : ℕ) (steps : List Step) → Sought (seen_way seen) i start → i.tree ≡ suc key →
     get i.nodes key ≡ Some n → is_eq (seen (record_of n)) ≡ false →
     left ≡ is_lt (seen (record_of n)) → side ≡ side_by left → link ≡ child_at side n →
-    Went (seen_way seen) i start key n side link
-seen_goes seen i start key n left side link s some found other test here there =
+    steps ≡ (with_step i side link).steps →
+    Went (seen_way seen) i start key n side link steps
+seen_goes seen i start key n left side link steps s some found other test here there written =
     let few = step_fits (seen_way seen) i start key n s some found in
-    went (seen_way seen) i start key n left side link found here there
+    went (seen_way seen) i start key n left side link steps found here there written
     (seen_by seen i start key n left s some found few other test)
+
+-- the way of an item that meets none: whether it meets one, the path up from its place, and the
+-- whole tree
+abbrev pub apart_way : {K : Type 0} → Order K → Item → Branches → List Above →
+    Bool × (List Above × Branches)
+apart_way o x t p = (met o x [] t, (way_by o.less x t p, plugged p t))
+
+module _ {K : Type 0} (o : Order K) (x : Item) where
+  -- its turns
+  apart_left : (n : Node) → o.apart n.item x ≡ true → o.less x n.item ≡ true →
+      (red : Bool) (l r : Branches) (p : List Above) →
+      apart_way o x (branch red l (record_of n) r) p
+      ≡ apart_way o x l (past_left red (record_of n) r ∷ p)
+  apart_left n a e red l r p = rw a (rw e refl)
+
+  apart_right : (n : Node) → o.apart n.item x ≡ true → o.less x n.item ≡ false →
+      (red : Bool) (l r : Branches) (p : List Above) →
+      apart_way o x (branch red l (record_of n) r) p
+      ≡ apart_way o x r (past_right red l (record_of n) ∷ p)
+  apart_right n a e red l r p = rw a (rw e refl)
+
+  -- a step of it
+  apart_by : (i : Inside) (start : Zipper) (key : ℕ) (n : Node) (left : Bool) →
+      Sought (apart_way o x) i start → i.tree ≡ suc key → get i.nodes key ≡ Some n →
+      i.depth < 64 → o.apart n.item x ≡ true → left ≡ o.less x n.item →
+      Steps (apart_way o x) i (with_step i (side_by left) (child_at (side_by left) n)) start
+  apart_by i start key n true s some found few apart test =
+      let turn = apart_left n apart (sym test) in
+      let g = goes_left (apart_way o x) i start key n s some found few turn in
+      record { sought = g.sought; less = g.less }
+  apart_by i start key n false s some found few apart test =
+      let turn = apart_right n apart (sym test) in
+      let g = goes_right (apart_way o x) i start key n s some found few turn in
+      record { sought = g.sought; less = g.less }
+
+  pub apart_goes : (i : Inside) (start : Zipper) (key : ℕ) (n : Node) (left : Bool) (side : Side)
+      (link : ℕ) (steps : List Step) → Sought (apart_way o x) i start → i.tree ≡ suc key →
+      get i.nodes key ≡ Some n → o.apart n.item x ≡ true → left ≡ o.less x n.item →
+      side ≡ side_by left → link ≡ child_at side n →
+      steps ≡ (with_step i side link).steps →
+      Went (apart_way o x) i start key n side link steps
+  apart_goes i start key n left side link steps s some found apart test here there written =
+      let few = step_fits (apart_way o x) i start key n s some found in
+      went (apart_way o x) i start key n left side link steps found here there written
+      (apart_by i start key n left s some found few apart test)
+
+  -- it ends where no node is in hand
+  pub apart_ends : (i : Inside) (start : Zipper) → Sought (apart_way o x) i start → i.tree ≡ 0 →
+      apart_way o x tip (show i).path ≡ apart_way o x start.tree start.path
+  apart_ends i start s none =
+      sym (ap (λ (t : Branches). apart_way o x t (show i).path)
+      (none_there i (show i) s.is refl none)) ∙ s.way
+
+  -- whether an item is met, and the tree when all is closed
+  abbrev Ending : Type 0
+  Ending = Bool × Branches
+
+  abbrev ending : Branches → List Above → Ending
+  ending t p = (met o x [] t, plugged p t)
+
+  abbrev meeting : Zipper → Ending
+  meeting z = (true, plugged z.path z.tree)
+
+  met_here : (t : Branches) (red : Bool) (l : Branches) (y : Record) (r : Branches) →
+      t ≡ branch red l y r → o.apart y.item x ≡ false → met o x [] t ≡ true
+  met_here t red l y r is a = ap (met o x []) is ∙ rw a refl
+
+  meets_at : (i : Inside) (start : Zipper) (key : ℕ) (n : Node) → Sought (apart_way o x) i start →
+      i.tree ≡ suc key → get i.nodes key ≡ Some n → o.apart n.item x ≡ false →
+      meeting (show i) ≡ ending start.tree start.path
+  meets_at i start key n s some found a =
+      let r = rewrites i (show i) key n.red (record_of n) n s.is refl some found in
+      ap (λ (b : Bool). let e : Ending = (b, plugged (show i).path (show i).tree) in e)
+      (sym (met_here (show i).tree n.red r.left (record_of n) r.right r.was a))
+      ∙ ap (λ (w : Bool × (List Above × Branches)). let e : Ending = (w.0, w.1.1) in e) s.way
+
+  -- or at a node that is not apart, which stands there again
+  pub apart_meets : (i : Inside) (start : Zipper) (key : ℕ) (n : Node) →
+      Sought (apart_way o x) i start → i.tree ≡ suc key → get i.nodes key ≡ Some n →
+      o.apart n.item x ≡ false →
+      meeting (show (written_back i key n)) ≡ ending start.tree start.path
+  apart_meets i start key n s some found a =
+      subst (λ (z : Slab Node). meeting (show (record i { nodes = z }))
+      ≡ ending start.tree start.path)
+      (sym (same_value i.nodes key n found)) (meets_at i start key n s some found a)

@@ -1,25 +1,19 @@
 -- One step up, as the calls of a cursor show it.
-use Rattle.std.proofs.Common.{◌≡◌, ℕ, suc, ◌+◌, ◌≤◌, ◌<◌, Bool, true, false, cond, List, [], ◌∷◌, refl, ◌∙◌, ap, length, arith, ◌≤◌, ◌+◌}
+use Rattle.std.proofs.Common.{◌≡◌, ℕ, suc, ◌≤◌, true, false, cond, List, [], ◌∷◌, refl, sym, ◌∙◌, ap, length, arith, ◌≤◌}
 use Rattle.std.specs.Prelude.{nat_lt}
-use Rattle.rb_trees.specs.declared.Side.{Side}
 use Rattle.rb_trees.specs.Trees.{Branches}
-use Rattle.rb_trees.specs.Paths.{Above, joined, plugged_to, path_to}
+use Rattle.rb_trees.specs.Paths.{Above, joined, plugged, plugged_to, path_to}
 use Rattle.rb_cursor.specs.declared.nodes.Nearest.{Nearest}
 use Rattle.rb_cursor.specs.Zippers.{Zipper}
 use Rattle.rb_cursor.specs.Opening.{IsNearest}
 use Rattle.rb_trees.proofs.EraseClimbLemmas.{plugged_ended, path_ended}
 use Rattle.std.proofs.lemmas.Bool.{le-ltb}
-use Rattle.rb_cursor.specs.Rising.{risen_from, risen}
-use Rattle.rb_cursor.specs.Closing.{closed, closed_to}
+use Rattle.rb_cursor.specs.Rising.{risen_from, risen, at_root}
+use Rattle.rb_cursor.specs.Closing.{closed_to, all_closed}
 
 -- the nearest node above, as the path has it
 abbrev pub above_of : {path : List Above} (up : Nearest) → IsNearest path up → Above
 above_of up near = record { side = up.side; red = up.red; row = near.row; other = near.other }
-
-pub closed_there : (here : Zipper) (up : Nearest) (near : IsNearest here.path up)
-    → closed up.red here.tree here.path here.room
-    ≡ record { tree = joined (above_of up near) up.red here.tree; path = near.rest; room = here.room }
-closed_there here up near = ap (λ p. closed up.red here.tree p here.room) near.was
 
 pub shorter : (here : Zipper) (up : Nearest) (near : IsNearest here.path up) → length here.path ≡ suc (length near.rest)
 shorter here up near = ap length near.was
@@ -56,3 +50,13 @@ risen_by d t (a ∷ path) room e =
 pub risen_there : (here : Zipper) (up : Nearest) (near : IsNearest here.path up)
     → risen here ≡ record { tree = joined (above_of up near) up.red here.tree; path = near.rest; room = here.room }
 risen_there here up near = ap (λ p. risen_from here.tree p here.room) near.was
+
+-- closed all the way up from a place of the same tree, a cursor is where it was
+pub all_back : (start here new : Zipper) → start.path ≡ [] →
+    plugged here.path here.tree ≡ plugged start.path start.tree → here.room ≡ start.room →
+    new ≡ all_closed here → new ≡ start
+all_back start here new root whole room closes =
+    closes
+    ∙ ap (λ t. at_root t here.room) (whole ∙ ap (λ p. plugged p start.tree) root)
+    ∙ ap (at_root start.tree) room
+    ∙ ap (λ p. record start { path = p }) (sym root)

@@ -1,12 +1,14 @@
 -- A step up on whichever side, and what is stored and mended there.
-use Rattle.std.specs.Prelude.{ℕ, ◌+◌, Bool, List, [], ◌∷◌}
+use Rattle.std.specs.Prelude.{ℕ, ◌+◌, Bool, true, List, [], ◌∷◌}
 use Rattle.word_arena.specs.declared.stores.Store.{Store}
 use Rattle.rb_trees.specs.declared.Side.{Side}
-use Rattle.rb_trees.specs.Trees.{Branches}
+use Rattle.rb_trees.specs.declared.Record.{Record}
+use Rattle.rb_trees.specs.Trees.{Branches, tip, branch}
+use Rattle.rb_trees.specs.Turns.{set_left, set_right}
 use Rattle.rb_trees.specs.Erased.{Rest}
 use Rattle.rb_trees.specs.EraseClimb.{remaining, filled_on, erase_climbed, erase_climb}
 use Rattle.rb_trees.specs.Paths.{Above, joined}
-use Rattle.rb_trees.specs.InsertClimb.{insert_climbed}
+use Rattle.rb_trees.specs.InsertClimb.{insert_climbed, insert_climb}
 use Rattle.rb_cursor.specs.Zippers.{Zipper}
 
 -- one step up, the node above in the colour that it has
@@ -28,6 +30,15 @@ at_root t room = record { tree = t; path = []; room = room }
 -- all the way up in an insert
 abbrev pub insert_topped : Zipper → Zipper
 insert_topped z = at_root (insert_climbed z.path z.tree) z.room
+
+-- all the way up from a new red leaf below this path, and its stores
+abbrev pub grown : Record → List Above → Branches
+grown x path = insert_climbed path (branch true tip x tip)
+
+abbrev pub grown_links : ℕ → Record → List Above → List Store
+grown_links copy x path =
+    set_left copy x.node 0 ∷ set_right copy x.node 0
+    ∷ insert_climb copy path 0 (branch true tip x tip)
 
 -- what is left of the tree in hand when it lost a node
 abbrev pub left_with : Rest → Zipper → Zipper

@@ -15,7 +15,7 @@
 //! Where another node takes the place of the top of the tree in hand, `lead` writes the link of the
 //! nearest node above.
 
-ghost use Rattle.std.specs.Prelude.{◌≡◌, ◌+◌, ◌<◌, ◌≤◌, ◌==◌, [], length};
+ghost use Rattle.std.specs.Prelude.{◌≡◌, ◌+◌, ◌<◌, ◌≤◌, ◌==◌, [], length, slice_set};
 ghost use Rattle.std.specs.Prelude.{OnOk, OnErr, true, if◌then◌else◌};
 ghost use Rattle.rb_trees.specs.Trees.{tip, is_red, blackened, shape};
 ghost use Rattle.rb_trees.specs.Inserted.{clash};
@@ -97,6 +97,7 @@ impl Cursor {
     /// Makes sure that `more` nodes can be planted. It fails where there is no memory, or where a
     /// key would not fit a link: then there may be more room than before, and nothing else has
     /// changed.
+    #[inline(always)]
     pub fn reserve(&mut self, more: usize) -> Result<(), AllocError>
         ensures tree { self.new.tree ≡ self.old.tree }
         ensures path { self.new.path ≡ self.old.path }
@@ -110,6 +111,7 @@ impl Cursor {
     }
 
     // Puts a blank node more into the slab.
+    #[inline(never)]
     fn add_blank(&mut self) -> Result<(), AllocError>
         ensures more { OnOk result (self.new ≡ record self.old { room = self.old.room + 1 }) }
         ensures unchanged { OnErr result (self.new ≡ self.old) }
@@ -311,9 +313,7 @@ impl Cursor {
         if self.tree == 0 {
             return;
         }
-        let Some(node) = self.nodes.get_mut(self.tree as usize - 1) else {
-            unreachable!()
-        };
+        let node = &mut self.nodes[self.tree as usize - 1];
         node.red = false;
     }
 
@@ -325,9 +325,7 @@ impl Cursor {
         if self.tree == 0 {
             return;
         }
-        let Some(node) = self.nodes.get_mut(self.tree as usize - 1) else {
-            unreachable!()
-        };
+        let node = &mut self.nodes[self.tree as usize - 1];
         node.red = true;
     }
 
@@ -353,9 +351,7 @@ impl Cursor {
         ensures { self.new ≡ planted row self.old }
     {
         let link = self.blank;
-        let Some(node) = self.nodes.get_mut(link as usize - 1) else {
-            unreachable!()
-        };
+        let node = &mut self.nodes[link as usize - 1];
         self.blank = node.left;
         *node = Node {
             item: row.item,
@@ -375,9 +371,7 @@ impl Cursor {
         ensures { self.new ≡ thinned self.old }
     {
         let link = self.tree;
-        let Some(node) = self.nodes.get_mut(link as usize - 1) else {
-            unreachable!()
-        };
+        let node = &mut self.nodes[link as usize - 1];
         let subtree = only_link(node.left, node.right);
         node.left = self.blank;
         self.blank = link;
@@ -403,15 +397,11 @@ impl Cursor {
         if child == 0 {
             return;
         }
-        let Some(lower) = self.nodes.get_mut(child as usize - 1) else {
-            unreachable!()
-        };
+        let lower = &mut self.nodes[child as usize - 1];
         let middle = lower.right;
         lower.right = link;
         lower.red = child_red;
-        let Some(upper) = self.nodes.get_mut(link as usize - 1) else {
-            unreachable!()
-        };
+        let upper = &mut self.nodes[link as usize - 1];
         upper.left = middle;
         upper.red = node_red;
         self.tree = child;
@@ -435,20 +425,27 @@ impl Cursor {
         if child == 0 {
             return;
         }
-        let Some(lower) = self.nodes.get_mut(child as usize - 1) else {
-            unreachable!()
-        };
+        let lower = &mut self.nodes[child as usize - 1];
         let middle = lower.left;
         lower.left = link;
         lower.red = child_red;
-        let Some(upper) = self.nodes.get_mut(link as usize - 1) else {
-            unreachable!()
-        };
+        let upper = &mut self.nodes[link as usize - 1];
         upper.right = middle;
         upper.red = node_red;
         self.tree = child;
         lead(&mut self.nodes, &self.steps, self.depth, child);
     }
+}
+
+// Writes a step, field by field: a whole one would be written with its padding.
+#[inline(always)]
+pub(crate) fn set_step(steps: &mut [Step; 64], depth: usize, link: u32, side: Side)
+    requires { depth < 64 }
+    ensures { steps.new ≡ slice_set steps.old depth (record { link = link; side = side }) }
+{
+    let step = &mut steps[depth];
+    step.link = link;
+    step.side = side;
 }
 
 // The link of a node that is not 0, where one of them is.

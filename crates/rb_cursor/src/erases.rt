@@ -17,7 +17,7 @@
 //! (A star marks a red node.) Of 50 the next node is 60, red, so nothing is short: 70 stores its left link, which the jump up
 //! to 50 follows; 60 stores both of its new links; and the root's link is left to the caller.
 
-ghost use Rattle.std.specs.Prelude.{◌≡◌, ◌+◌, ◌<◌, ◌≤◌, [], true, Some, IsSome, length, vec_capacity};
+ghost use Rattle.std.specs.Prelude.{◌≡◌, ◌+◌, ◌<◌, ◌≤◌, [], true, Some, None, IsSome, length, vec_capacity};
 ghost use Rattle.rb_trees.specs.Trees.{shape, depth};
 ghost use Rattle.rb_trees.specs.Paths.{first_place, path_to};
 ghost use Rattle.rb_trees.specs.Erased.{without_first, first_links};
@@ -36,29 +36,33 @@ use rb_trees::Record;
 use word_arena::places::{left_of, right_of};
 use word_arena::{Store, TreeCopy};
 
-/// Takes the record that is sought out. Answers it.
+/// Takes the record that is sought out, if it is there. Answers it; with none, nothing changes.
+#[inline]
 pub fn erase<P: Probe>(
     out: &mut Vec<Store>,
     copy: TreeCopy,
     cursor: &mut Cursor,
     sought: &P,
-) -> Record
+) -> Option<Record>
     requires whole { cursor.old.path ≡ [] }
-    requires there { IsSome (found (P.seen sought.now) cursor.old.tree) }
     requires steps { depth (shape cursor.old.tree) ≤ 64 }
     requires list { Fits out.old (erase_links (copy_number copy) (P.seen sought.now) cursor.old.tree) }
-    ensures row { found (P.seen sought.now) cursor.old.tree ≡ Some result }
-    ensures cursor { cursor.new ≡ at_root (erased (P.seen sought.now) cursor.old.tree).tree (cursor.old.room + 1) }
-    ensures items { Adds out.old (erase_links (copy_number copy) (P.seen sought.now) cursor.old.tree) out.new }
+    ensures row { found (P.seen sought.now) cursor.old.tree ≡ result }
+    ensures unchanged { result ≡ None → (cursor.new ≡ cursor.old) × (out.new.items ≡ out.old.items) }
+    ensures cursor { IsSome result →
+        cursor.new ≡ at_root (erased (P.seen sought.now) cursor.old.tree).tree (cursor.old.room + 1) }
+    ensures items { IsSome result →
+        Adds out.old (erase_links (copy_number copy) (P.seen sought.now) cursor.old.tree) out.new }
     ensures capacity { vec_capacity out.new ≡ vec_capacity out.old }
 {
     cursor.seek(sought);
     let Some(row) = cursor.row() else {
-        unreachable!()
+        cursor.close_all();
+        return None;
     };
     let short = take_node(out, copy, cursor);
     climb(out, copy, cursor, 0, row.node as u64 + 1, short);
-    row
+    Some(row)
 }
 
 // Takes the node in hand out: the next node in order takes its place. Answers whether what stands there is short.
@@ -130,6 +134,7 @@ fn take_first(out: &mut Vec<Store>, copy: TreeCopy, cursor: &mut Cursor) -> Take
 
 // Goes up until `depth` nodes are above, from a subtree that may be short and to which the link was
 // `before`. Answers whether what is in hand then is short.
+#[inline(always)]
 fn climb(
     out: &mut Vec<Store>,
     copy: TreeCopy,
@@ -159,7 +164,7 @@ fn climb(
         if !short {
             break;
         }
-        short = fill(out, copy, cursor, above.side, short);
+        short = fill(out, copy, cursor, above.side);
         before = above.node as u64 + 1;
         after = cursor.link();
     }

@@ -15,11 +15,12 @@
 //! (A star marks a red node.) The leaf 5 is planted and linked to 10; at 20 the two red nodes 10 and 5 in line are mended; at
 //! 50, which is black, 20 is as good as it was, and the way ends there. Were 50 red, its parent would mend 50 and 20.
 
-ghost use Rattle.std.specs.Prelude.{◌≡◌, ◌+◌, ◌-◌, ◌<◌, ◌≤◌, [], true, length, vec_capacity};
+ghost use Rattle.std.specs.Prelude.{◌≡◌, ◌+◌, ◌-◌, ◌<◌, ◌≤◌, [], true, false, length, vec_capacity};
 ghost use Rattle.rb_trees.specs.Trees.{tip, branch, IsCalm, shape, depth};
+ghost use Rattle.rb_trees.specs.Found.{met};
 ghost use Rattle.rb_trees.specs.Inserted.{inserted, insert_links};
 ghost use Rattle.rb_trees.specs.InsertClimb.{IsCalmPath, insert_climb};
-ghost use Rattle.rb_cursor.specs.Rising.{at_root, insert_topped};
+ghost use Rattle.rb_cursor.specs.Rising.{at_root, insert_topped, grown, grown_links};
 ghost use Rattle.rb_cursor.specs.Stores.{Fits, Adds};
 ghost use Rattle.word_arena.specs.Copies.{copy_number};
 
@@ -47,6 +48,51 @@ pub fn insert<O: TreeOrder>(
     ensures capacity { vec_capacity out.new ≡ vec_capacity out.old }
 {
     cursor.seek_leaf::<O>(&added.item);
+    grow(out, copy, cursor, added);
+}
+
+/// As [`insert`] puts it, unless its item meets one of the tree: then nothing changes. Answers
+/// whether it does. In the tree no item beyond one that is apart from the item can meet it.
+#[inline]
+pub fn insert_apart<O: TreeOrder>(
+    out: &mut Vec<Store>,
+    copy: TreeCopy,
+    cursor: &mut Cursor,
+    added: Record,
+) -> bool
+    requires whole { cursor.old.path ≡ [] }
+    requires calm { IsCalm cursor.old.tree }
+    requires steps { depth (shape cursor.old.tree) ≤ 64 }
+    requires room { 0 < cursor.old.room }
+    requires list { Fits out.old (insert_links (copy_number copy) O.order.less added cursor.old.tree) }
+    ensures met { result ≡ met O.order added.item [] cursor.old.tree }
+    ensures unchanged { result ≡ true → (cursor.new ≡ cursor.old) × (out.new.items ≡ out.old.items) }
+    ensures cursor { result ≡ false →
+        cursor.new ≡ at_root (inserted O.order.less added cursor.old.tree) (cursor.old.room - 1) }
+    ensures items { result ≡ false →
+        Adds out.old (insert_links (copy_number copy) O.order.less added cursor.old.tree) out.new }
+    ensures capacity { vec_capacity out.new ≡ vec_capacity out.old }
+{
+    if cursor.seek_apart::<O>(&added.item) {
+        cursor.close_all();
+        return true;
+    }
+    grow(out, copy, cursor, added);
+    false
+}
+
+// Plants a record where no node is in hand, and goes all the way up.
+#[inline]
+fn grow(out: &mut Vec<Store>, copy: TreeCopy, cursor: &mut Cursor, added: Record)
+    requires leaf { cursor.old.tree ≡ tip }
+    requires calm { IsCalmPath cursor.old.path }
+    requires steps { length cursor.old.path ≤ 64 }
+    requires room { 0 < cursor.old.room }
+    requires list { Fits out.old (grown_links (copy_number copy) added cursor.old.path) }
+    ensures cursor { cursor.new ≡ at_root (grown added cursor.old.path) (cursor.old.room - 1) }
+    ensures items { Adds out.old (grown_links (copy_number copy) added cursor.old.path) out.new }
+    ensures capacity { vec_capacity out.new ≡ vec_capacity out.old }
+{
     cursor.plant(added);
     out.push_reserved(Store {
         word: left_of(copy, added.node),

@@ -1,6 +1,6 @@
 //! A step up on whichever side: the step, the store of the link above, and what is mended there.
 
-ghost use Rattle.std.specs.Prelude.{◌≡◌, ◌+◌, ◌<◌, ◌≤◌, vec_capacity, length};
+ghost use Rattle.std.specs.Prelude.{◌≡◌, ◌+◌, ◌<◌, ◌≤◌, true, vec_capacity, length};
 ghost use Rattle.rb_trees.specs.InsertClimb.{relink_on, mended_on, mend_on};
 ghost use Rattle.rb_trees.specs.EraseClimb.{filled_on, fill_on};
 ghost use Rattle.rb_cursor.specs.Zippers.{altered};
@@ -61,25 +61,19 @@ pub(crate) fn mend(out: &mut Vec<Store>, copy: TreeCopy, cursor: &mut Cursor, si
     }
 }
 
-/// Mends the node in hand, whose subtree on a side may be one black node short. Answers whether the
+/// Mends the node in hand, whose subtree on a side is one black node short. Answers whether the
 /// whole is one black node short then.
 #[inline(always)]
-pub(crate) fn fill(
-    out: &mut Vec<Store>,
-    copy: TreeCopy,
-    cursor: &mut Cursor,
-    side: Side,
-    short: bool,
-) -> bool
+pub(crate) fn fill(out: &mut Vec<Store>, copy: TreeCopy, cursor: &mut Cursor, side: Side) -> bool
     requires steps { length cursor.old.path + 1 < 64 }
-    requires list { Fits out.old (fill_on side (copy_number copy) short cursor.old.tree) }
-    ensures short { result ≡ (filled_on side short cursor.old.tree).short }
-    ensures cursor { cursor.new ≡ altered (filled_at side short) cursor.old }
-    ensures items { Adds out.old (fill_on side (copy_number copy) short cursor.old.tree) out.new }
+    requires list { Fits out.old (fill_on side (copy_number copy) true cursor.old.tree) }
+    ensures short { result ≡ (filled_on side true cursor.old.tree).short }
+    ensures cursor { cursor.new ≡ altered (filled_at side true) cursor.old }
+    ensures items { Adds out.old (fill_on side (copy_number copy) true cursor.old.tree) out.new }
     ensures capacity { vec_capacity out.new ≡ vec_capacity out.old }
 {
     match side {
-        Side::Left => fill_left_if(out, copy, cursor, short),
-        Side::Right => fill_right_if(out, copy, cursor, short),
+        Side::Left => fill_left_if(out, copy, cursor, true),
+        Side::Right => fill_right_if(out, copy, cursor, true),
     }
 }

@@ -1,6 +1,8 @@
 //! Searches.
 
-ghost use Rattle.std.specs.Prelude.{◌≡◌, is_some};
+ghost use Rattle.std.specs.Prelude.{◌≡◌, ◌==◌, IsTrue, is_some};
+ghost use Rattle.std.specs.List.{list_any};
+ghost use Rattle.std.specs.List.Sorted.{IsNonDecreasing};
 ghost use Rattle.rb_trees.specs.Erased.{first_word_at, found};
 ghost use Rattle.rb_trees.specs.Found.{any_with, has_node, met_any, met};
 
@@ -41,17 +43,31 @@ pub fn find_any(tree: &Reading<'_>, a: u64) -> Option<Item>
     }
 }
 
+// Whether a first word is among these, by halves where they are known to rise.
+fn is_left_out(a: u64, but: &[u64], rising: bool) -> bool
+    requires { IsTrue rising → IsNonDecreasing but.now }
+    ensures { result ≡ list_any (λ x. x == a) but.now }
+{
+    if rising {
+        but.binary_search(&a).is_ok()
+    } else {
+        but.contains(&a)
+    }
+}
+
 /// Whether some item, those with one of the first words `but` left out, is not apart from this one,
-/// where no item beyond one that is apart can meet the item.
-pub fn meets<O: TreeOrder>(tree: &Reading<'_>, item: &Item, but: &[u64]) -> bool
+/// where no item beyond one that is apart can meet the item. Where the words are `rising`, each of
+/// the items that is met costs a search by halves among them.
+pub fn meets<O: TreeOrder>(tree: &Reading<'_>, item: &Item, but: &[u64], rising: bool) -> bool
+    requires { IsTrue rising → IsNonDecreasing but.now }
     ensures { result ≡ met O.order item.now but.now tree.now }
 {
     let mut rest = tree.again();
     while let Some(fork) = rest.open() {
         if !O::apart(&fork.node.item, item) {
-            return !but.contains(&fork.node.item.a)
-                || meets::<O>(&fork.left, item, but)
-                || meets::<O>(&fork.right, item, but);
+            return !is_left_out(fork.node.item.a, but, rising)
+                || meets::<O>(&fork.left, item, but, rising)
+                || meets::<O>(&fork.right, item, but, rising);
         }
         rest = if O::less(item, &fork.node.item) {
             fork.left
@@ -76,14 +92,17 @@ pub fn reaches(tree: &Reading<'_>, number: u32) -> bool
 
 /// Whether some item, those with one of the first words `but` left out, is not apart from this one;
 /// goes through all.
-pub fn meets_any<O: TreeOrder>(tree: &Reading<'_>, item: &Item, but: &[u64]) -> bool
+pub fn meets_any<O: TreeOrder>(tree: &Reading<'_>, item: &Item, but: &[u64], rising: bool) -> bool
+    requires { IsTrue rising → IsNonDecreasing but.now }
     ensures { result ≡ met_any O.order item.now but.now tree.now }
 {
     match tree.open() {
         None => false,
         Some(fork) => {
-            let here = !but.contains(&fork.node.item.a) && !O::apart(&fork.node.item, item);
-            here || meets_any::<O>(&fork.left, item, but) || meets_any::<O>(&fork.right, item, but)
+            let here = !is_left_out(fork.node.item.a, but, rising)
+                && !O::apart(&fork.node.item, item);
+            here || meets_any::<O>(&fork.left, item, but, rising)
+                || meets_any::<O>(&fork.right, item, but, rising)
         }
     }
 }

@@ -1,11 +1,12 @@
 //! Ways down from the tree in hand.
 
-ghost use Rattle.std.specs.Prelude.{◌≡◌, ◌+◌, ◌≤◌, length};
+ghost use Rattle.std.specs.Prelude.{◌≡◌, ◌+◌, ◌≤◌, [], false, length};
 ghost use Rattle.rb_trees.specs.Trees.{tip, shape, depth};
-ghost use Rattle.rb_trees.specs.Paths.{way_by, place_at, way_at, first_place, first_way};
+ghost use Rattle.rb_trees.specs.Found.{met};
+ghost use Rattle.rb_trees.specs.Paths.{plugged, way_by, place_at, way_at, first_place, first_way};
 
-use crate::cursors::Cursor;
-use crate::nodes::{Step, side_by};
+use crate::cursors::{Cursor, set_step};
+use crate::nodes::side_by;
 use crate::probes::Probe;
 use order_laws::{Item, TreeOrder};
 
@@ -25,12 +26,43 @@ impl Cursor {
             // By a `&mut`, since that tests no range.
             let node = &mut self.nodes[link as usize - 1];
             let side = side_by(O::less(item, &node.item));
-            self.steps[depth] = Step { link, side };
+            set_step(&mut self.steps, depth, link, side);
             depth += 1;
             link = node.child(side);
         }
         self.tree = link;
         self.depth = depth;
+    }
+
+    /// Goes down to where an item belongs, unless it meets one on the way: then that one is in hand.
+    /// Answers whether it does, in a tree where no item beyond one that is apart can meet it.
+    #[inline]
+    pub fn seek_apart<O: TreeOrder>(&mut self, item: &Item) -> bool
+        requires { depth (shape self.old.tree) + length self.old.path ≤ 64 }
+        ensures met { result ≡ met O.order item.now [] self.old.tree }
+        ensures tree { result ≡ false → self.new.tree ≡ tip }
+        ensures path { result ≡ false → self.new.path ≡ way_by O.order.less item.now self.old.tree self.old.path }
+        ensures whole { plugged self.new.path self.new.tree ≡ plugged self.old.path self.old.tree }
+        ensures room { self.new.room ≡ self.old.room }
+    {
+        let mut link = self.tree;
+        let mut depth = self.depth;
+        while link != 0 {
+            // By a `&mut`, since that tests no range.
+            let node = &mut self.nodes[link as usize - 1];
+            if !O::apart(&node.item, item) {
+                self.tree = link;
+                self.depth = depth;
+                return true;
+            }
+            let side = side_by(O::less(item, &node.item));
+            set_step(&mut self.steps, depth, link, side);
+            depth += 1;
+            link = node.child(side);
+        }
+        self.tree = link;
+        self.depth = depth;
+        false
     }
 
     /// Goes down to the node of what is sought. No node is in hand then where there is none.
@@ -52,7 +84,7 @@ impl Cursor {
                 return;
             }
             let side = side_by(sought.is_before(&node.item));
-            self.steps[depth] = Step { link, side };
+            set_step(&mut self.steps, depth, link, side);
             depth += 1;
             link = node.child(side);
         }

@@ -104,17 +104,6 @@ contrary : (v w : Bool) → (v ≡ true → w ≡ false) → w ≡ true → v �
 contrary true w f e = let g : w ≡ false = f refl in absurd (cc)
 contrary false w f e = refl
 
--- a red node over any tree is as it was
-pub mended_red : (s : Side) (t : Branches) (y : Record) (other : Branches)
-    → mended_on s (sided s true t y other) ≡ sided s true t y other
-mended_red Left t y other = refl
-mended_red Right t y other = refl
-
-pub mend_red : (s : Side) (copy : ℕ) (t : Branches) (y : Record) (other : Branches)
-    → mend_on s copy (sided s true t y other) ≡ []
-mend_red Left copy t y other = refl
-mend_red Right copy t y other = refl
-
 -- a tree and a path without two red nodes in line but those that the path alone does not show
 pub record IsStill (path : List Above) (t : Branches) : Type 0 where
   pub calm : IsCalmPath path
@@ -151,16 +140,6 @@ still_climb copy (a ∷ path) t is =
 pub still_black : (path : List Above) (t : Branches) → IsCalmPath path → is_red t ≡ false → IsStill path t
 still_black path t calm black =
     record { calm = calm; inside = clash_black t black; between = λ e. absurd (let f : true ≡ false = sym e ∙ black in cc) }
-
--- from a black node with the link that it had, the rest of the way changes nothing
-pub settled : (path : List Above) (t : Branches) → IsCalmPath path → is_red t ≡ false → insert_climbed path t ≡ plugged path t
-settled path t calm black = still_climbed path t (still_black path t calm black)
-
--- and stores nothing
-pub settled_links : (copy : ℕ) (path : List Above) (before : ℕ) (t : Branches)
-    → IsCalmPath path → before ≡ link (shape t) → is_red t ≡ false → insert_climb copy path before t ≡ []
-settled_links copy path before t calm same black =
-    ap (λ n. insert_climb copy path n t) same ∙ still_climb copy path t (still_black path t calm black)
 
 calm_sided : (s : Side) (red : Bool) (t : Branches) (y : Record) (other : Branches) → IsCalm (sided s red t y other)
     → IsCalm t × (red ≡ true → (is_red other ≡ false) × (is_red t ≡ false))

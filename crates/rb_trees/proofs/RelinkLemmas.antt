@@ -77,9 +77,6 @@ module _ (n c : ℕ) (small : c ≤ 1) where
   pub same : (P : ℕ → Type 0) (t : Nodes) → ((i : ℕ) → Among t i → P i) → IsSeparate t → Relinks n c P t t []
   same P t within separate = record { within = within; separate = separate; owns = tt; leads = λ m sized is. is }
 
-  pub weaken : (P Q : ℕ → Type 0) → ((i : ℕ) → P i → Q i) → (t u : Nodes) (ss : List Store) → Relinks n c P t u ss → Relinks n c Q t u ss
-  weaken P Q w t u ss r = record { within = λ i a. w i (r.within i a); separate = r.separate; owns = owns_weaker n c P Q w ss r.owns; leads = r.leads }
-
   pub then : (P : ℕ → Type 0) (t u v : Nodes) (ss ts : List Store) → Relinks n c P t u ss → Relinks n c P u v ts → Relinks n c P t v (ss ++ ts)
   then P t u v ss ts r q = record {
     within = q.within;

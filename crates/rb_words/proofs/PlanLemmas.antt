@@ -15,12 +15,12 @@ use Rattle.std.proofs.lemmas.Bool.{eqb-true, eq-eqb, or_cases, cases_lt}
 use Rattle.std.proofs.lemmas.List.Elements.{Contains-append_left, Contains-append_right}
 use Rattle.std.proofs.lemmas.List.Elements.{Contains-append_cases}
 use Rattle.order_laws.specs.declared.items.Item.{Item}
-use Rattle.order_laws.specs.Orders.{Order, IsLawful}
+use Rattle.order_laws.specs.Orders.{Order, IsLawful, IsInLine}
 use Rattle.order_laws.specs.Tables.{IsTable, with_item, without, place_for, place_of, has, meets}
 use Rattle.order_laws.proofs.TableLemmas.{all_left, all_right, all_weaker, members, member_more}
 use Rattle.order_laws.proofs.TableLemmas.{with_item_table, without_table}
 use Rattle.order_laws.proofs.PlaceLemmas.{with_place, without_place, not_meeting, place_of_has}
-use Rattle.order_laws.proofs.PlaceLemmas.{place_of_fits}
+use Rattle.order_laws.proofs.PlaceLemmas.{place_of_fits, without_none}
 use Rattle.word_arena.specs.declared.stores.Store.{Store}
 use Rattle.word_arena.specs.Words.{Nodes, none, fork, words_for, a_word, b_word}
 use Rattle.word_arena.specs.Words.{tag_word, item_at, listed, Reaches, InUse}
@@ -37,7 +37,8 @@ use Rattle.rb_trees.specs.Inserted.{inserted, insert_links}
 use Rattle.rb_trees.specs.Erased.{erase_links, found}
 use Rattle.rb_trees.specs.Sought.{Sought}
 use Rattle.rb_trees.specs.Linked.{Among, IsSeparate}
-use Rattle.rb_trees.specs.Found.{items_of, has_node}
+use Rattle.rb_trees.specs.Found.{items_of, has_node, met}
+use Rattle.rb_trees.proofs.MeetRows.{met_meets}
 use Rattle.rb_trees.proofs.RowLemmas.{rows_blackened}
 use Rattle.rb_trees.proofs.InsertLemmas.{inserted_red_black}
 use Rattle.rb_trees.proofs.DepthLemmas.{shallow}
@@ -273,10 +274,6 @@ few_with o c t x good =
       root,
     )
 
-pub few_with_row : {K : Type 0} (o : Order K) (c : ℕ) (t u : Branches) (x : Record) → u ≡ t →
-    IsRedBlack t → length (links_with c o x u) ≤ 9
-few_with_row o c t u x e good = few_with o c u x (subst IsRedBlack (sym e) good)
-
 -- a record less
 module _ {K : Type 0} (o : Order K) (law : IsLawful o) (n c : ℕ) (t : Branches) (old room : ℕ)
     (more : room ≡ old + 1) (is : IsPicture o (picture_of n c t old)) (good : IsRedBlack t) (a : ℕ)
@@ -449,6 +446,14 @@ length_removed : {X : Type 0} (xs : List X) (i : ℕ) (x : X) → slice_get xs i
 length_removed [] i x e = absurd (cc)
 length_removed (y ∷ xs) zero x e = refl
 length_removed (y ∷ xs) (suc i) x e = ap suc (length_removed xs i x e)
+
+-- the search on the one way down tells of the pictured table
+pub met_none : {K : Type 0} (o : Order K) → IsLawful o → IsInLine o → {i : Item} →
+    o.valid i ≡ true → (t : Branches) → IsTable o (items_of (rows t)) → {n c room : ℕ} →
+    {shown : Picture} → picture_of n c t room ≡ shown → met o i [] t ≡ meets o i shown.table
+met_none o law line {i = i} valid t is view =
+    met_meets o i [] law line valid t is ∙ ap (meets o i) (without_none (items_of (rows t)))
+    ∙ ap (λ (p : Picture). meets o i p.table) view
 
 -- the whole of a planned insert, as a shape shows it
 module _ {K : Type 0} (o : Order K) (law : IsLawful o) (n c : ℕ) (t u : Branches) (old room : ℕ)

@@ -1,6 +1,6 @@
 //! Whole runs of plans, made in the words of both copies and compared with a plain set.
 
-ghost use Rattle.std.specs.Prelude.{◌≡◌, ◌≤◌, ◌⊎◌, ℕ, Contains};
+ghost use Rattle.std.specs.Prelude.{◌≡◌, ◌<◌, ◌≤◌, ◌⊎◌, ℕ, Contains};
 ghost use Rattle.order_laws.specs.Orders.{half_open, half_open_lawful};
 ghost use Rattle.word_arena.specs.Layouts.{capacity_of};
 ghost use Rattle.word_arena.specs.Words.{none, listed};
@@ -101,7 +101,6 @@ fn make(rt: &impl Abort, words: &mut Vec<u64>, stores: &[Store]) {
 }
 
 // Inserts the item of a slot, whose node is free, by one plan for both copies.
-#[tactic(auto, using(order_laws::proofs::PlaceLemmas::without_none))]
 fn insert_free<O: TreeOrder>(
     rt: &impl Abort,
     l: Layout,
@@ -119,12 +118,13 @@ fn insert_free<O: TreeOrder>(
     let x = item_of(slot);
     assert!(rt; slot < l.capacity());
     assert!(rt; O::valid(&x));
-    assert!(rt; !shape.meets(&x, &[]));
     c.plan.clear();
     c.second.clear();
     shape.reserve_in(1, &mut c.plan)?;
     c.second.reserve(STORES)?;
-    shape.plan_insert(&mut c.plan, slot, x);
+    if shape.plan_insert_apart(&mut c.plan, slot, x) {
+        return Err(Fail::from("the item meets one"));
+    }
     mirrored(l, &c.plan[3..], &mut c.second);
     assert!(rt; c.plan.len() <= STORES);
     make(rt, &mut c.words, &c.plan);
@@ -170,7 +170,7 @@ fn erase<O: TreeOrder>(
     shape.reserve_in(1, &mut c.plan)?;
     c.second.reserve(STORES)?;
     let node = shape.plan_erase(&mut c.plan, a);
-    assert_eq!(rt; node, slot);
+    assert!(rt; node == slot);
     mirrored(l, &c.plan, &mut c.second);
     assert!(rt; c.plan.len() <= STORES);
     make(rt, &mut c.words, &c.plan);
@@ -220,40 +220,60 @@ fn table_of(rt: &impl Abort, alloc: Global, inside: &[bool]) -> Result<Vec<Item>
 fn holds(rt: &impl Abort, alloc: Global, l: Layout, c: &Copies) -> Result<(), Fail> {
     let table = table_of(rt, alloc, &c.inside)?;
     let most = (table.len() as u128 + 1) * (table.len() as u128 + 1);
-    assert_eq!(rt; c.words.len(), l.words());
+    assert!(rt; c.words.len() == l.words());
     for copy in [TreeCopy::Zero, TreeCopy::One] {
         let held = held_in(alloc, l, copy, &c.words)?.ok_or("no tree")?;
-        assert_eq!(rt; held.as_slice(), table.as_slice());
+        assert!(rt; held.as_slice() == table.as_slice());
         let (_, height) = ways(rt, copy, &c.words, c.words[root_of(copy)], 40);
         assert!(rt; 1u128 << height <= most);
     }
     Ok(())
 }
 
-// What the shape answers of each slot, its item and the gap behind it.
+// What the shape answers of a slot that has its item or has not, of the item and of the gap behind it.
+fn answers_of<O: TreeOrder>(rt: &impl Abort, shape: &Shape<O>, slot: u32, is: bool) {
+    let x = item_of(slot);
+    assert!(rt; shape.has(x.a) == is);
+    assert!(rt; !shape.has(x.b));
+    assert!(rt; shape.meets(&x, &[]) == is);
+    assert!(rt; !shape.meets(&x, &[x.a]));
+    assert!(rt; !shape.meets(&gap_behind(slot), &[]));
+}
+
+// The same of each slot.
 fn answers<O: TreeOrder>(rt: &impl Abort, shape: &Shape<O>, inside: &[bool]) {
     for (slot, is) in inside.iter().enumerate() {
         assert!(rt; slot < 65536);
-        let x = item_of(slot as u32);
-        assert_eq!(rt; shape.has(x.a), *is);
-        assert_eq!(rt; shape.has(x.b), false);
-        assert_eq!(rt; shape.meets(&x, &[]), *is);
-        assert_eq!(rt; shape.meets(&x, &[x.a]), false);
-        assert_eq!(rt; shape.meets(&gap_behind(slot as u32), &[]), false);
+        answers_of(rt, shape, slot as u32, *is);
     }
+}
+
+// Both copies hold what is inside, and the shape answers so.
+fn compare<O: TreeOrder>(
+    rt: &impl Abort,
+    alloc: Global,
+    l: Layout,
+    shape: &Shape<O>,
+    c: &Copies,
+) -> Result<(), Fail> {
+    holds(rt, alloc, l, c)?;
+    answers(rt, shape, &c.inside);
+    Ok(())
+}
+
+// Rows of n items in rising order.
+fn rising_row(rt: &impl Abort, alloc: Global, n: u32) -> Result<(), Fail> {
+    let l = Layout::new(n)?;
+    let mut shape = Shape::<HalfOpen>::new(alloc, l, TreeCopy::Zero);
+    let mut c = empty_copies(alloc, l)?;
+    fill(rt, l, &mut shape, &mut c)?;
+    compare(rt, alloc, l, &shape, &c)
 }
 
 #[test]
 fn rising_rows(rt: HostRuntime) -> Result<(), Fail> {
     for n in [7, 15, 63, 1000] {
-        let l = Layout::new(n)?;
-        let mut shape = Shape::<HalfOpen>::new(rt.alloc(), l, TreeCopy::Zero);
-        let mut c = empty_copies(rt.alloc(), l)?;
-        for slot in 0..n {
-            insert(&rt, l, &mut shape, &mut c, slot)?;
-        }
-        holds(&rt, rt.alloc(), l, &c)?;
-        answers(&rt, &shape, &c.inside);
+        rising_row(&rt, rt.alloc(), n)?;
     }
     Ok(())
 }
@@ -272,23 +292,52 @@ fn fill(rt: &impl Abort, l: Layout, shape: &mut Shape<HalfOpen>, c: &mut Copies)
     Ok(())
 }
 
+// Erases the items of all 65536 slots, in steps of 7; all is compared now and then.
+fn empty(
+    rt: &impl Abort,
+    alloc: Global,
+    l: Layout,
+    shape: &mut Shape<HalfOpen>,
+    c: &mut Copies,
+) -> Result<(), Fail>
+    requires capacity { shape.old.capacity ≡ capacity_of l }
+    requires copy { shape.old.copy ≡ 0 }
+{
+    for step in 0..65536 {
+        erase(rt, l, shape, c, step * 7 % 65536)?;
+        if step % 8192 == 4095 {
+            holds(rt, alloc, l, c)?;
+        }
+    }
+    Ok(())
+}
+
+// Fills an empty table and empties it again.
+fn fill_and_empty(
+    rt: &impl Abort,
+    alloc: Global,
+    l: Layout,
+    shape: &mut Shape<HalfOpen>,
+    c: &mut Copies,
+) -> Result<(), Fail>
+    requires capacity { shape.old.capacity ≡ capacity_of l }
+    requires copy { shape.old.copy ≡ 0 }
+    requires empty { shape.old.tree ≡ none }
+{
+    fill(rt, l, shape, c)?;
+    assert!(rt; shape.len() == l.capacity());
+    compare(rt, alloc, l, shape, c)?;
+    empty(rt, alloc, l, shape, c)?;
+    assert!(rt; shape.len() == 0);
+    holds(rt, alloc, l, c)
+}
+
 #[test]
 fn filled_and_emptied(rt: HostRuntime) -> Result<(), Fail> {
     let l = Layout::new(65536)?;
     let mut shape = Shape::new(rt.alloc(), l, TreeCopy::Zero);
     let mut c = empty_copies(rt.alloc(), l)?;
-    fill(&rt, l, &mut shape, &mut c)?;
-    assert_eq!(rt; shape.len(), 65536);
-    holds(&rt, rt.alloc(), l, &c)?;
-    answers(&rt, &shape, &c.inside);
-    for step in 0..65536 {
-        erase(&rt, l, &mut shape, &mut c, step * 7 % 65536)?;
-        if step % 8192 == 4095 {
-            holds(&rt, rt.alloc(), l, &c)?;
-        }
-    }
-    assert_eq!(rt; shape.len(), 0);
-    holds(&rt, rt.alloc(), l, &c)
+    fill_and_empty(&rt, rt.alloc(), l, &mut shape, &mut c)
 }
 
 // The order of the numbers 0 to 4 that has this number, 0 to 119.
@@ -303,8 +352,28 @@ fn order_of_five(number: usize) -> [u32; 5] {
     order
 }
 
-// Inserts the items of five slots; all is compared after each.
-fn insert_five<O: TreeOrder>(
+// Inserts the item of a slot that has none, or erases that of one that has.
+fn update<O: TreeOrder>(
+    rt: &impl Abort,
+    l: Layout,
+    shape: &mut Shape<O>,
+    c: &mut Copies,
+    slot: u32,
+) -> Result<(), Fail>
+    requires capacity { shape.old.capacity ≡ capacity_of l }
+    requires copy { shape.old.copy ≡ 0 }
+    ensures capacity { shape.new.capacity ≡ capacity_of l }
+    ensures copy { shape.new.copy ≡ 0 }
+{
+    if shape.has(item_of(slot).a) {
+        erase(rt, l, shape, c, slot)
+    } else {
+        insert(rt, l, shape, c, slot)
+    }
+}
+
+// Updates five slots; all is compared after each.
+fn update_five<O: TreeOrder>(
     rt: &impl Abort,
     alloc: Global,
     l: Layout,
@@ -318,59 +387,51 @@ fn insert_five<O: TreeOrder>(
     ensures copy { shape.new.copy ≡ 0 }
 {
     for slot in slots {
-        insert(rt, l, shape, c, slot)?;
-        holds(rt, alloc, l, c)?;
-        answers(rt, shape, &c.inside);
-    }
-    Ok(())
-}
-
-// Erases the items of five slots; all is compared after each.
-fn erase_five<O: TreeOrder>(
-    rt: &impl Abort,
-    alloc: Global,
-    l: Layout,
-    shape: &mut Shape<O>,
-    c: &mut Copies,
-    slots: [u32; 5],
-) -> Result<(), Fail>
-    requires capacity { shape.old.capacity ≡ capacity_of l }
-    requires copy { shape.old.copy ≡ 0 }
-{
-    for slot in slots {
-        erase(rt, l, shape, c, slot)?;
-        holds(rt, alloc, l, c)?;
-        answers(rt, shape, &c.inside);
+        update(rt, l, shape, c, slot)?;
+        compare(rt, alloc, l, shape, c)?;
     }
     Ok(())
 }
 
 // Five items in one order in, and in another out.
+fn fill_and_empty_five<O: TreeOrder>(
+    rt: &impl Abort,
+    alloc: Global,
+    l: Layout,
+    shape: &mut Shape<O>,
+    c: &mut Copies,
+    orders: ([u32; 5], [u32; 5]),
+) -> Result<(), Fail>
+    requires capacity { shape.old.capacity ≡ capacity_of l }
+    requires copy { shape.old.copy ≡ 0 }
+{
+    update_five(rt, alloc, l, shape, c, orders.0)?;
+    assert!(rt; shape.len() == 5);
+    update_five(rt, alloc, l, shape, c, orders.1)?;
+    assert!(rt; shape.len() == 0);
+    Ok(())
+}
+
 fn in_and_out<O: TreeOrder>(
     rt: &impl Abort,
     alloc: Global,
-    entry: [u32; 5],
-    exit: [u32; 5],
+    orders: ([u32; 5], [u32; 5]),
 ) -> Result<(), Fail> {
     let l = Layout::new(5)?;
     let mut shape = Shape::<O>::new(alloc, l, TreeCopy::Zero);
     let mut c = empty_copies(alloc, l)?;
-    insert_five(rt, alloc, l, &mut shape, &mut c, entry)?;
-    erase_five(rt, alloc, l, &mut shape, &mut c, exit)
+    fill_and_empty_five(rt, alloc, l, &mut shape, &mut c, orders)
 }
 
 #[test]
 fn all_orders_of_five(rt: HostRuntime) -> Result<(), Fail> {
     for entry in 0..120 {
         for exit in 0..120 {
-            in_and_out::<HalfOpen>(&rt, rt.alloc(), order_of_five(entry), order_of_five(exit))?;
+            let orders = (order_of_five(entry), order_of_five(exit));
+            in_and_out::<HalfOpen>(&rt, rt.alloc(), orders)?;
         }
-        in_and_out::<Plain>(
-            &rt,
-            rt.alloc(),
-            order_of_five(entry),
-            order_of_five(119 - entry),
-        )?;
+        let orders = (order_of_five(entry), order_of_five(119 - entry));
+        in_and_out::<Plain>(&rt, rt.alloc(), orders)?;
     }
     Ok(())
 }
@@ -384,18 +445,30 @@ fn next_random(x: u64) -> u64 {
     x
 }
 
-// Random inserts and erases, which fill the table and empty it by turns; all is compared every so many updates.
-fn random_run<O: TreeOrder>(
+// Whether a slot that has its item or has not is updated at a step: the table is filled and emptied by turns, with some
+// updates the other way.
+fn is_updated(random: u64, step: u32, n: u32, is: bool) -> bool
+    requires { 0 < n }
+{
+    let fills = step / n % 4 < 2;
+    (random >> 40) % 4 == 0 || fills != is
+}
+
+// Random inserts and erases; all is compared every so many updates.
+fn update_at_random<O: TreeOrder>(
     rt: &impl Abort,
     alloc: Global,
-    n: u32,
+    l: Layout,
+    shape: &mut Shape<O>,
+    c: &mut Copies,
     updates: u32,
     every: u32,
-) -> Result<(), Fail> {
-    assert!(rt; every > 0);
-    let l = Layout::new(n)?;
-    let mut shape = Shape::<O>::new(alloc, l, TreeCopy::Zero);
-    let mut c = empty_copies(alloc, l)?;
+) -> Result<(), Fail>
+    requires every { 0 < every }
+    requires capacity { shape.old.capacity ≡ capacity_of l }
+    requires copy { shape.old.copy ≡ 0 }
+{
+    let n = l.capacity();
     let mut random = 88172645463325252;
     let mut made = 0;
     for step in 0..u32::MAX {
@@ -404,35 +477,40 @@ fn random_run<O: TreeOrder>(
         }
         random = next_random(random);
         let slot = ((random >> 11) % n as u64) as u32;
-        let fills = step / n % 4 < 2;
-        let is = shape.has(item_of(slot).a);
-        if (random >> 40) % 4 == 0 || fills != is {
-            if is {
-                erase(rt, l, &mut shape, &mut c, slot)?;
-            } else {
-                insert(rt, l, &mut shape, &mut c, slot)?;
-            }
+        if is_updated(random, step, n, shape.has(item_of(slot).a)) {
+            update(rt, l, shape, c, slot)?;
             made += 1;
             if made % every == 0 {
-                holds(rt, alloc, l, &c)?;
-                answers(rt, &shape, &c.inside);
+                compare(rt, alloc, l, shape, c)?;
             }
         }
     }
-    assert_eq!(rt; made, updates);
+    assert!(rt; made == updates);
     Ok(())
+}
+
+// So many of them in a table of n nodes that is empty at first.
+fn random_run<O: TreeOrder>(
+    rt: &impl Abort,
+    alloc: Global,
+    n: u32,
+    updates: u32,
+    every: u32,
+) -> Result<(), Fail>
+    requires { 0 < every }
+{
+    let l = Layout::new(n)?;
+    let mut shape = Shape::<O>::new(alloc, l, TreeCopy::Zero);
+    let mut c = empty_copies(alloc, l)?;
+    update_at_random(rt, alloc, l, &mut shape, &mut c, updates, every)
 }
 
 #[test]
 fn random_runs(rt: HostRuntime) -> Result<(), Fail> {
-    for (n, updates, every) in [
-        (1, 10000, 1),
-        (2, 10000, 1),
-        (7, 30000, 1),
-        (64, 30000, 16),
-        (1000, 30000, 500),
-    ] {
-        random_run::<HalfOpen>(&rt, rt.alloc(), n, updates, every)?;
-    }
+    random_run::<HalfOpen>(&rt, rt.alloc(), 1, 10000, 1)?;
+    random_run::<HalfOpen>(&rt, rt.alloc(), 2, 10000, 1)?;
+    random_run::<HalfOpen>(&rt, rt.alloc(), 7, 30000, 1)?;
+    random_run::<HalfOpen>(&rt, rt.alloc(), 64, 30000, 16)?;
+    random_run::<HalfOpen>(&rt, rt.alloc(), 1000, 30000, 500)?;
     random_run::<Plain>(&rt, rt.alloc(), 64, 5000, 16)
 }

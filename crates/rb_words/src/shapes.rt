@@ -4,7 +4,9 @@
 //! nothing.
 
 ghost use Rattle.std.specs.Prelude.{◌≡◌, ◌↔◌, ◌+◌, ◌*◌, ◌<◌, ◌≤◌, ◌++◌, [], true, false, List, IsTrue};
-ghost use Rattle.std.specs.Prelude.{IfOk, IfErr, OnOk, IsSome, Some, Contains, length, vec_len, vec_capacity};
+ghost use Rattle.std.specs.Prelude.{IfOk, IfErr, OnOk, IfSome, IsSome, is_some, Some, None, Contains, length};
+ghost use Rattle.std.specs.Prelude.{vec_len, vec_capacity};
+ghost use Rattle.std.specs.List.Sorted.{IsNonDecreasing};
 ghost use Rattle.order_laws.specs.Tables.{IsTable, has, meets, without_all, place_for, place_of};
 ghost use Rattle.word_arena.specs.declared.stores.Store.{Store};
 ghost use Rattle.word_arena.specs.Layouts.{capacity_of};
@@ -17,12 +19,12 @@ ghost use Rattle.rb_words.specs.TreePictures.{Grows, TakesOut};
 ghost use Rattle.rb_cursor.specs.Stores.{Fits, Adds};
 ghost use Rattle.rb_trees.specs.Trees.{IsCalm, shape, depth, rows};
 ghost use Rattle.rb_trees.specs.Erased.{found};
-ghost use Rattle.rb_trees.specs.Found.{items_of};
+ghost use Rattle.rb_trees.specs.Found.{items_of, met};
 
 use order_laws::{Item, Refusal, TreeOrder};
 use rb_cursor::Cursor;
 use rb_cursor::erases::erase;
-use rb_cursor::inserts::insert;
+use rb_cursor::inserts::{insert, insert_apart};
 use rb_cursor::probes::{ItemProbe, Probe, WordProbe};
 use rb_cursor::relinks::relink_root;
 use rb_cursor::searches::{find_any, has, meets, meets_any, reaches};
@@ -30,7 +32,7 @@ use rb_trees::Record;
 use std::alloc::Global;
 use std::marker::{Model, PhantomData};
 use word_arena::places::{a_of, b_of, tag_of};
-use word_arena::{Layout, Store, TreeCopy};
+use word_arena::{Layout, Store, TreeCopy, append};
 
 /// A plan has at most so many stores for each item, whatever the table.
 pub const STORES: usize = 16;
@@ -116,10 +118,27 @@ impl<O: TreeOrder> Shape<O> {
     pub fn meets(&self, item: &Item, but: &[u64]) -> bool
         ensures { result ≡ meets O.order item.now (without_all but.now self.now.table) }
     {
+        self.meets_with(item, but, false)
+    }
+
+    /// The same where the first words that are left out rise: each item that is met costs a search by halves among them, so
+    /// k of them cost O((k + 1) log n + k log k) where items lie in line ([`TreeOrder::in_line`]).
+    pub fn meets_rising(&self, item: &Item, but: &[u64]) -> bool
+        requires { IsNonDecreasing but.now }
+        ensures { result ≡ meets O.order item.now (without_all but.now self.now.table) }
+    {
+        self.meets_with(item, but, true)
+    }
+
+    // Either.
+    fn meets_with(&self, item: &Item, but: &[u64], rising: bool) -> bool
+        requires { IsTrue rising → IsNonDecreasing but.now }
+        ensures { result ≡ meets O.order item.now (without_all but.now self.now.table) }
+    {
         if O::in_line() && O::valid(item) {
-            meets::<O>(&self.cursor.tree(), item, but)
+            meets::<O>(&self.cursor.tree(), item, but, rising)
         } else {
-            meets_any::<O>(&self.cursor.tree(), item, but)
+            meets_any::<O>(&self.cursor.tree(), item, but, rising)
         }
     }
 
@@ -134,8 +153,9 @@ impl<O: TreeOrder> Shape<O> {
         ensures refusal { IfErr result (λ e. e ≡ Refusal.OutOfMemory) }
         ensures sound { IsPicture O.order self.new }
     {
-        self.cursor.reserve(k as usize)?;
-        Ok(Vec::with_capacity(self.alloc, k as usize * STORES)?)
+        let mut out = Vec::new(self.alloc);
+        self.reserve_in(k, &mut out)?;
+        Ok(out)
     }
 
     /// Makes room for `k` items, and in a list that is there already for `k` plans more: for a
@@ -143,6 +163,7 @@ impl<O: TreeOrder> Shape<O> {
     ///
     /// What is pictured and what is listed stay, also where memory is refused by
     /// [`Refusal::OutOfMemory`].
+    #[inline(always)]
     pub fn reserve_in(&mut self, k: u32, out: &mut Vec<Store>) -> Result<(), Refusal>
         ensures kept { self.new ≡ record self.old { room = self.new.room } }
         ensures grown { self.old.room ≤ self.new.room }
@@ -180,6 +201,46 @@ impl<O: TreeOrder> Shape<O> {
         self.count += 1;
     }
 
+    /// Plans to insert an item in a free node, unless it meets one of the table. Answers whether it does.
+    ///
+    /// Where it meets none, it has planned what [`Shape::plan_insert`] does; where it meets one, what is pictured and what is
+    /// listed stay. Takes no memory. There must be room for one item and for [`STORES`] stores, and the item must be valid.
+    /// Where items lie in line ([`TreeOrder::in_line`]), it goes down once.
+    pub fn plan_insert_apart(&mut self, out: &mut Vec<Store>, node: u32, item: Item) -> bool
+        requires room { 0 < self.old.room }
+        requires list { vec_len out.old + STORES ≤ vec_capacity out.old }
+        requires in_range { node < self.old.capacity }
+        requires free { Contains (listed self.old.tree) node → ⊥ }
+        requires valid { O.order.valid item ≡ true }
+        ensures met { result ≡ meets O.order item self.old.table }
+        ensures unchanged { result ≡ true → (self.new ≡ self.old) × (out.new.items ≡ out.old.items) }
+        ensures pictures { result ≡ false → Inserts O.order self.old self.new node item }
+        ensures plan { result ≡ false → (links : List Store) × (out.new.items ≡ out.old.items ++ (item_stores node item ++ links))
+            × LeadsWithItem self.old self.new node item links }
+        ensures few { vec_len out.new ≤ vec_len out.old + STORES }
+        ensures capacity { vec_capacity out.new ≡ vec_capacity out.old }
+        ensures was_sound { IsPicture O.order self.old }
+        ensures sound { IsPicture O.order self.new }
+    {
+        let _most = self.layout.capacity();
+        if !O::in_line() {
+            if self.meets(&item, &[]) {
+                return true;
+            }
+            self.plan_insert(out, node, item);
+            return false;
+        }
+        let listed = out.len();
+        let words = item_stores(node, item);
+        append(out, &words);
+        if with_record_apart::<O>(out, self.copy, &mut self.cursor, Record { node, item }) {
+            out.truncate(listed);
+            return true;
+        }
+        self.count += 1;
+        false
+    }
+
     /// Plans to erase the item of this first word, and pictures the copy without it. Answers the node that is free then.
     ///
     /// Appends stores of links alone, since the words of the item serve both copies. Takes no memory. There must be room for
@@ -194,9 +255,33 @@ impl<O: TreeOrder> Shape<O> {
         ensures was_sound { IsPicture O.order self.old }
         ensures sound { IsPicture O.order self.new }
     {
+        let Some(node) = self.plan_erase_found(out, a) else {
+            unreachable!()
+        };
+        node
+    }
+
+    /// Plans to erase the item of this first word, if there is one: then it answers the node that is free then, and has
+    /// planned what [`Shape::plan_erase`] does. With none, what is pictured and what is listed stay.
+    ///
+    /// Takes no memory. There must be room for [`STORES`] stores. Where first words lead ([`TreeOrder::in_line`]), it goes
+    /// down once.
+    pub fn plan_erase_found(&mut self, out: &mut Vec<Store>, a: u64) -> Option<u32>
+        requires list { vec_len out.old + STORES ≤ vec_capacity out.old }
+        ensures found { is_some result ≡ has a self.old.table }
+        ensures unchanged { result ≡ None → (self.new ≡ self.old) × (out.new.items ≡ out.old.items) }
+        ensures pictures { IfSome result (Erases self.old self.new a) }
+        ensures plan { IsSome result →
+            (links : List Store) × (out.new.items ≡ out.old.items ++ links) × LeadsByLinks self.old self.new links }
+        ensures few { vec_len out.new ≤ vec_len out.old + STORES }
+        ensures capacity { vec_capacity out.new ≡ vec_capacity out.old }
+        ensures was_sound { IsPicture O.order self.old }
+        ensures sound { IsPicture O.order self.new }
+    {
         let _most = self.layout.capacity();
+        let node = without_word::<O>(out, self.copy, &mut self.cursor, a)?;
         self.count -= 1;
-        without_word::<O>(out, self.copy, &mut self.cursor, a)
+        Some(node)
     }
 }
 
@@ -223,57 +308,90 @@ fn with_record<O: TreeOrder>(
     relink_root(out, copy, before, cursor.link());
 }
 
-// Takes the record of a first word out of the tree, and appends the stores of links. Answers its
-// node. An order that is in no line has the item looked for among all first, since first words say
-// nothing there of where it stands.
+// Puts a record into the tree, and appends the stores of links, unless its item meets one of the
+// tree. Answers whether it does.
+fn with_record_apart<O: TreeOrder>(
+    out: &mut Vec<Store>,
+    copy: TreeCopy,
+    cursor: &mut Cursor,
+    added: Record,
+) -> bool
+    requires whole { cursor.old.path ≡ [] }
+    requires calm { IsCalm cursor.old.tree }
+    requires steps { depth (shape cursor.old.tree) ≤ 64 }
+    requires room { 0 < cursor.old.room }
+    requires list { Fits out.old (links_with (copy_number copy) O.order added cursor.old.tree) }
+    ensures met { result ≡ met O.order added.item [] cursor.old.tree }
+    ensures unchanged { result ≡ true → (cursor.new ≡ cursor.old) × (out.new.items ≡ out.old.items) }
+    ensures cursor { result ≡ false → cursor.new ≡ zipper_with O.order added cursor.old }
+    ensures items { result ≡ false →
+        Adds out.old (links_with (copy_number copy) O.order added cursor.old.tree) out.new }
+    ensures len { result ≡ false →
+        Grows out.old (links_with (copy_number copy) O.order added cursor.old.tree) out.new }
+    ensures capacity { vec_capacity out.new ≡ vec_capacity out.old }
+{
+    let before = cursor.link();
+    if insert_apart::<O>(out, copy, cursor, added) {
+        return true;
+    }
+    cursor.blacken();
+    relink_root(out, copy, before, cursor.link());
+    false
+}
+
+// Takes the record of a first word out of the tree, if there is one, and appends the stores of
+// links. Answers its node. An order that is in no line has the item looked for among all first,
+// since first words say nothing there of where it stands.
 fn without_word<O: TreeOrder>(
     out: &mut Vec<Store>,
     copy: TreeCopy,
     cursor: &mut Cursor,
     a: u64,
-) -> u32
+) -> Option<u32>
     requires whole { cursor.old.path ≡ [] }
     requires steps { depth (shape cursor.old.tree) ≤ 64 }
     requires list { vec_len out.old + STORES ≤ vec_capacity out.old }
     requires table { IsTable O.order (items_of (rows cursor.old.tree)) }
-    requires there { has a (items_of (rows cursor.old.tree)) ≡ true }
-    ensures gone { TakesOut (copy_number copy) a cursor.old.tree cursor.new.tree result out.old out.new }
+    ensures found { is_some result ≡ has a (items_of (rows cursor.old.tree)) }
+    ensures unchanged { result ≡ None → (cursor.new ≡ cursor.old) × (out.new.items ≡ out.old.items) }
+    ensures gone { IfSome result (λ node. TakesOut (copy_number copy) a cursor.old.tree cursor.new.tree node out.old out.new) }
     ensures path { cursor.new.path ≡ [] }
-    ensures room { cursor.new.room ≡ cursor.old.room + 1 }
+    ensures room { IsSome result → cursor.new.room ≡ cursor.old.room + 1 }
     ensures few { vec_len out.new ≤ vec_len out.old + STORES }
     ensures capacity { vec_capacity out.new ≡ vec_capacity out.old }
 {
     if O::in_line() {
-        return without_sought(out, copy, cursor, &WordProbe(a)).node;
+        let row = without_sought(out, copy, cursor, &WordProbe(a))?;
+        return Some(row.node);
     }
-    let Some(item) = find_any(&cursor.tree(), a) else {
-        unreachable!()
-    };
+    let item = find_any(&cursor.tree(), a)?;
     let order = PhantomData;
-    without_sought(out, copy, cursor, &ItemProbe::<O> { item, order }).node
+    let row = without_sought(out, copy, cursor, &ItemProbe::<O> { item, order })?;
+    Some(row.node)
 }
 
-// Takes the record that is sought out of the tree, and appends the stores of links. Answers it.
+// Takes the record that is sought out of the tree, if it is there, and appends the stores of links.
+// Answers it.
 fn without_sought<P: Probe>(
     out: &mut Vec<Store>,
     copy: TreeCopy,
     cursor: &mut Cursor,
     sought: &P,
-) -> Record
+) -> Option<Record>
     requires whole { cursor.old.path ≡ [] }
     requires steps { depth (shape cursor.old.tree) ≤ 64 }
     requires list { Fits out.old (links_without (copy_number copy) (P.seen sought.now) cursor.old.tree) }
-    requires there { IsSome (found (P.seen sought.now) cursor.old.tree) }
-    ensures row { found (P.seen sought.now) cursor.old.tree ≡ Some result }
-    ensures cursor { cursor.new ≡ zipper_without (P.seen sought.now) cursor.old }
-    ensures items { Adds out.old (links_without (copy_number copy) (P.seen sought.now) cursor.old.tree) out.new }
-    ensures len { Grows out.old (links_without (copy_number copy) (P.seen sought.now) cursor.old.tree) out.new }
+    ensures row { found (P.seen sought.now) cursor.old.tree ≡ result }
+    ensures unchanged { result ≡ None → (cursor.new ≡ cursor.old) × (out.new.items ≡ out.old.items) }
+    ensures cursor { IsSome result → cursor.new ≡ zipper_without (P.seen sought.now) cursor.old }
+    ensures items { IsSome result →
+        Adds out.old (links_without (copy_number copy) (P.seen sought.now) cursor.old.tree) out.new }
     ensures capacity { vec_capacity out.new ≡ vec_capacity out.old }
 {
     let before = cursor.link();
-    let row = erase(out, copy, cursor, sought);
+    let row = erase(out, copy, cursor, sought)?;
     relink_root(out, copy, before, cursor.link());
-    row
+    Some(row)
 }
 
 // The stores of an item's words.
@@ -294,16 +412,4 @@ fn item_stores(node: u32, item: Item) -> [Store; 3]
             value: item.tag,
         },
     ]
-}
-
-// Appends stores, for which there is room.
-fn append(out: &mut Vec<Store>, stores: &[Store])
-    requires { vec_len out.old + length stores.now ≤ vec_capacity out.old }
-    ensures items { out.new.items ≡ out.old.items ++ stores.now }
-    ensures len { vec_len out.new ≡ vec_len out.old + length stores.now }
-    ensures capacity { vec_capacity out.new ≡ vec_capacity out.old }
-{
-    for store in stores {
-        out.push_reserved(*store);
-    }
 }

@@ -15,4 +15,4 @@ mod tests;
 
 pub use layouts::Layout;
 pub use places::TreeCopy;
-pub use stores::{Store, apply};
+pub use stores::{Store, append, apply};

@@ -1,11 +1,11 @@
 -- Each goal of the loop is one of the facts of EraseSteps at the values of the step.
-use Rattle.std.proofs.Common.{◌≡◌, ℕ, ◌+◌, ◌≤◌, ◌<◌, ◌++◌, refl, sym, ◌∙◌, ap, subst, arith, length, length-append, vec_capacity}
+use Rattle.std.proofs.Common.{◌≤◌, ◌<◌, ◌++◌, sym, ◌∙◌, ap, subst, arith, length, length-append, vec_capacity}
 use Rattle.word_arena.specs.Copies.{copy_number}
 use Rattle.rb_trees.specs.EraseClimb.{remaining, fill_on, filled_on}
 use Rattle.rb_cursor.specs.Zippers.{altered}
 use Rattle.rb_cursor.specs.Rising.{filled_at}
 use Rattle.rb_cursor.proofs.Stepping.{closed_parts}
-use Rattle.rb_cursor.proofs.EraseSteps.{EraseClimbs, EraseEnds, erase_fits, erase_there, erase_filled}
+use Rattle.rb_cursor.proofs.EraseSteps.{EraseEnds, erase_fits, erase_there, erase_filled}
 use Rattle.rb_cursor.proofs.EraseSteps.{erase_stays, erase_arrived}
 use Rattle.rb_cursor.proofs.erases.climb.Goals as goal
 use Rattle.rb_cursor.proofs.erases.climb.Goals.{else-loop-copy-test, then-loop-copy-test+in-Some+then-not-short}
@@ -25,9 +25,12 @@ fill-short-requires-clause-list c =
     let fits = erase_fits inv.0 more c.in-Some.ensures inv.1
     (vec_capacity c.args.out.now) (omega (arith, c.requires.list, c.args.out.now.ok.0)) in
     let longer = simp length-append at (ap length c.relink.ensures.items) in
-    let same = ap (λ z. length (fill_on c.in-Some.above.side (copy_number c.args.copy) c.loop-copy.short z.tree))
+    let side = c.in-Some.above.side in
+    let copy = copy_number c.args.copy in
+    let filled = ap (λ v. length (fill_on side copy v c.rise.new.cursor.tree)) c.if-not-short.false in
+    let same = ap (λ z. length (fill_on side copy c.loop-copy.short z.tree))
     (erase_there inv.0 more c.in-Some.ensures inv.1 c.rise.ensures) in
-    omega (arith, c.relink.new.out.ok.0, c.relink.ensures.capacity, inv.2, longer, fits, same)
+    omega (arith, c.relink.new.out.ok.0, c.relink.ensures.capacity, inv.2, longer, fits, filled, same)
 
 pub loop-copy-preserved : goal.loop-copy-preserved
 loop-copy-preserved c =
@@ -36,12 +39,18 @@ loop-copy-preserved c =
     let more : c.args.depth < length c.loop-copy.cursor.path = omega (arith, c.loop-copy-test.true, c.depth.ensures) in
     let there = erase_there inv.0 more near inv.1 c.rise.ensures in
     let side = c.in-Some.above.side in
-    let short = c.loop-copy.short in (
+    let copy = copy_number c.args.copy in
+    let short = c.loop-copy.short in
+    let full = sym c.if-not-short.false in
+    let here = c.rise.new.cursor in (
       erase_filled inv.0 more near inv.1
-          (c.fill-short.ensures.cursor ∙ ap (altered (filled_at side short)) there)
-          (c.fill-short.ensures.short ∙ ap (λ z. (filled_on side short z.tree).short) there)
+          (c.fill-short.ensures.cursor ∙ ap (λ v. altered (filled_at side v) here) full
+          ∙ ap (altered (filled_at side short)) there)
+          (c.fill-short.ensures.short ∙ ap (λ v. (filled_on side v here.tree).short) full
+          ∙ ap (λ z. (filled_on side short z.tree).short) there)
           c.relink.ensures.items
-          (c.fill-short.ensures.items ∙ ap (λ z. c.relink.new.out.items ++ fill_on side (copy_number c.args.copy) short z.tree) there),
+          (c.fill-short.ensures.items ∙ ap (λ v. c.relink.new.out.items ++ fill_on side copy v here.tree) full
+          ∙ ap (λ z. c.relink.new.out.items ++ fill_on side copy short z.tree) there),
       c.link-after-in-loop-copy.ensures,
       c.fill-short.ensures.capacity ∙ c.relink.ensures.capacity ∙ inv.2,
     )

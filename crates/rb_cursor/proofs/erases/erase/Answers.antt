@@ -1,21 +1,18 @@
 -- The way up from the node's place is the whole erase: the facts of PlaceSteps at the values of the calls.
-use Rattle.std.proofs.Common.{◌≡◌, ℕ, ◌+◌, ◌≤◌, ◌<◌, List, [], ◌++◌, Some, None, Option, refl, sym, ◌∙◌, ap, arith, length, length-append, append_assoc}
+use Rattle.std.proofs.Common.{◌≡◌, ℕ, ◌+◌, [], ◌++◌, refl, sym, ◌∙◌, ap, arith, length, length-append, append_assoc}
 use Rattle.word_arena.specs.Copies.{copy_number}
 use Rattle.rb_trees.specs.Trees.{Branches, shape, depth}
 use Rattle.rb_trees.specs.Turns.{link}
 use Rattle.rb_trees.specs.Erased.{erased, erase_links}
-use Rattle.rb_trees.specs.Paths.{place_at, way_at}
+use Rattle.rb_trees.specs.Paths.{plugged, place_at, way_at}
 use Rattle.rb_trees.specs.EraseClimb.{remaining, top_erased, top_erase, erase_climb}
 use Rattle.rb_cursor.specs.Zippers.{Zipper}
 use Rattle.rb_cursor.specs.Tops.{row_of}
 use Rattle.rb_cursor.proofs.FirstSteps.{row_link}
-use Rattle.rb_cursor.proofs.PlaceSteps.{found_there, some_there, place_few, place_fewer, place_top, place_climbed, place_stores}
+use Rattle.rb_cursor.proofs.PlaceSteps.{found_there, place_few, place_fewer, place_top, place_climbed, place_stores}
+use Rattle.rb_trees.proofs.PathLemmas.{plugged_to}
+use Rattle.rb_cursor.proofs.Stepping.{all_back}
 use Rattle.rb_cursor.proofs.erases.erase.Goals as goal
-
-pub unreachable-requires : goal.unreachable-requires
-unreachable-requires g c =
-    some_there c.requires.there
-    (found_there (g.P.Probe.seen c.args.sought.now) c.args.cursor.now.tree ∙ sym (c.row.ensures ∙ ap row_of c.seek.ensures.tree) ∙ c.in_default.is)
 
 pub take_node-short-requires-clause-steps : goal.take_node-short-requires-clause-steps
 take_node-short-requires-clause-steps g c =
@@ -66,11 +63,22 @@ climb-requires-clause-list g c =
 pub returns-clause-row : goal.returns-clause-row
 returns-clause-row g c = found_there (g.P.Probe.seen c.args.sought.now) c.args.cursor.now.tree ∙ sym (c.in-Some.ensures ∙ ap row_of c.seek.ensures.tree)
 
+pub returns-in_default-clause-row : goal.returns-in_default-clause-row
+returns-in_default-clause-row g c = found_there (g.P.Probe.seen c.args.sought.now) c.args.cursor.now.tree ∙ sym (c.row.ensures ∙ ap row_of c.seek.ensures.tree) ∙ c.in_default.is
+
+pub returns-in_default-clause-unchanged : goal.returns-in_default-clause-unchanged
+returns-in_default-clause-unchanged g c =
+    let seen = g.P.Probe.seen c.args.sought.now in
+    let z = c.args.cursor.now in
+    let whole = ap (plugged c.seek.new.self.path) c.seek.ensures.tree
+    ∙ ap (λ p. plugged p (place_at seen z.tree)) c.seek.ensures.path ∙ plugged_to seen z.tree z.path in
+    λ _. (all_back z c.seek.new.self c.close_all.new.self c.requires.whole whole c.seek.ensures.room c.close_all.ensures, refl)
+
 abbrev alone : Branches → ℕ → Zipper
 alone t room = record { tree = t; path = []; room = room }
 
 pub returns-clause-cursor : goal.returns-clause-cursor
-returns-clause-cursor g c =
+returns-clause-cursor g c = λ _.
     -- the path is that of the way down
     let goes : c.take_node-short.new.cursor.path ≡ way_at (g.P.Probe.seen c.args.sought.now) c.args.cursor.now.tree c.args.cursor.now.path =
     ap (λ (z : Zipper). z.path) c.take_node-short.ensures.cursor ∙ c.seek.ensures.path in
@@ -92,7 +100,7 @@ returns-clause-cursor g c =
     ∙ ap (alone (erased seen t).tree) room
 
 pub returns-clause-items : goal.returns-clause-items
-returns-clause-items g c =
+returns-clause-items g c = λ _.
     -- the path is that of the way down
     let goes : c.take_node-short.new.cursor.path ≡ way_at (g.P.Probe.seen c.args.sought.now) c.args.cursor.now.tree c.args.cursor.now.path =
     ap (λ (z : Zipper). z.path) c.take_node-short.ensures.cursor ∙ c.seek.ensures.path in

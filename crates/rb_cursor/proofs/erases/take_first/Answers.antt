@@ -1,5 +1,5 @@
 -- The way up from the first node's place: the facts of FirstSteps at the values of the calls.
-use Rattle.std.proofs.Common.{◌≡◌, ℕ, ◌+◌, ◌≤◌, ◌<◌, List, ◌++◌, Some, None, Option, refl, sym, ◌∙◌, ap, arith, length}
+use Rattle.std.proofs.Common.{◌≡◌, ℕ, ◌+◌, List, ◌++◌, sym, ◌∙◌, ap, arith, length}
 use Rattle.word_arena.specs.Copies.{copy_number}
 use Rattle.rb_trees.specs.Trees.{Branches, shape}
 use Rattle.rb_trees.specs.Turns.{link}

@@ -1,10 +1,10 @@
 -- Each goal of the loop is one of the facts of InsertSteps at the values of the step.
-use Rattle.std.proofs.Common.{◌≡◌, ℕ, ◌+◌, ◌≤◌, ◌++◌, refl, sym, ◌∙◌, ap, subst, arith, length, length-append, vec_capacity}
+use Rattle.std.proofs.Common.{◌++◌, sym, ◌∙◌, ap, subst, arith, length, length-append, vec_capacity}
 use Rattle.word_arena.specs.Copies.{copy_number}
 use Rattle.rb_trees.specs.InsertClimb.{mended_on, mend_on}
 use Rattle.rb_cursor.specs.Zippers.{altered}
 use Rattle.rb_cursor.specs.Rising.{at_root}
-use Rattle.rb_cursor.proofs.InsertSteps.{InsertClimbs, InsertKnows, InsertEnds, insert_fits, insert_there, insert_mended}
+use Rattle.rb_cursor.proofs.InsertSteps.{InsertEnds, insert_fits, insert_there, insert_mended}
 use Rattle.rb_cursor.proofs.InsertSteps.{insert_clear, insert_settled, insert_still_black, insert_still_below_black}
 use Rattle.rb_cursor.proofs.InsertSteps.{insert_topmost}
 use Rattle.rb_cursor.proofs.inserts.climb.Goals as goal

@@ -1,4 +1,4 @@
-use Rattle.std.proofs.Common.{◌≡◌, ℕ, suc, ◌+◌, ◌-◌, ◌∙◌, arith, length}
+use Rattle.std.proofs.Common.{◌-◌, ◌∙◌, arith}
 use Rattle.rb_cursor.proofs.Stepping.{risen_by}
 use Rattle.rb_cursor.proofs.rises.rise.Goals as goal
 

@@ -16,12 +16,12 @@ returns-then-self-eq0 c =
 pub invariant_of-self : goal.invariant_of-self
 invariant_of-self c =
     (rewrites c.self.inside c.args.self.now (c.self.inside.tree - 1) false
-    (record_of c.in-Some.node.now) c.in-Some.node.now c.self.invariant c.self.view_is
-    (omega (arith, c.if-self-eq0.false)) (sym c.in-Some.ensures.value)).moved.is
+    (record_of c.index_mut-node.result.now) c.index_mut-node.result.now c.self.invariant c.self.view_is
+    (omega (arith, c.if-self-eq0.false)) c.index_mut-node.ensures.value).moved.is
 
 pub returns : goal.returns
 returns c =
     let r = rewrites c.self.inside c.args.self.now (c.self.inside.tree - 1) false
-    (record_of c.in-Some.node.now) c.in-Some.node.now c.self.invariant c.self.view_is
-    (omega (arith, c.if-self-eq0.false)) (sym c.in-Some.ensures.value) in
+    (record_of c.index_mut-node.result.now) c.index_mut-node.result.now c.self.invariant c.self.view_is
+    (omega (arith, c.if-self-eq0.false)) c.index_mut-node.ensures.value in
     r.moved.shows ∙ sym (ap (λ (t : Branches). record c.args.self.now { tree = blackened t }) r.was)

@@ -1,20 +1,18 @@
-use Rattle.std.proofs.Common.{◌-◌, sym, ap, ◌∙◌, arith}
-use Rattle.rb_cursor.proofs.HeldLemmas.{room_is}
+use Rattle.std.proofs.Common.{◌-◌, arith}
+use Rattle.rb_cursor.proofs.HeldLemmas.{room_is, filled}
 use Rattle.rb_cursor.proofs.BlankLemmas.{blank_leads, blank_there, plants}
 use Rattle.rb_cursor.proofs.TurnLemmas.{leads_on}
-use Rattle.std.specs.Option.{option_copied_mut}
 use Rattle.rb_cursor.proofs.cursors.Cursor.plant.Goals as goal
 
 pub overflow_sub-link : goal.overflow_sub-link
 overflow_sub-link c =
     blank_leads c.self.inside c.args.self.now c.self.invariant c.self.view_is c.requires.room
 
-pub unreachable-requires : goal.unreachable-requires
-unreachable-requires c =
+pub index_mut-node-requires : goal.index_mut-node-requires
+index_mut-node-requires c =
     let some = blank_leads c.self.inside c.args.self.now c.self.invariant c.self.view_is
     c.requires.room in
-    blank_there c.self.inside (c.self.inside.blank - 1) c.self.invariant (omega arith)
-    (sym c.get_mut.ensures.value ∙ ap option_copied_mut c.in_default.is)
+    filled (λ none. blank_there c.self.inside (c.self.inside.blank - 1) c.self.invariant (omega arith) none)
 
 pub overflow_sub-self : goal.overflow_sub-self
 overflow_sub-self c =
@@ -32,13 +30,13 @@ invariant_of-self c =
     let some = blank_leads c.self.inside c.args.self.now c.self.invariant c.self.view_is
     c.requires.room in
     (plants c.self.inside c.lead.new.nodes c.args.self.now (c.self.inside.blank - 1) c.args.row
-    c.in-Some.node.now c.self.invariant c.self.view_is c.requires.leaf (omega arith)
-    (sym c.in-Some.ensures.value) c.lead.ensures).is
+    c.index_mut-node.result.now c.self.invariant c.self.view_is c.requires.leaf (omega arith)
+    c.index_mut-node.ensures.value c.lead.ensures).is
 
 pub returns : goal.returns
 returns c =
     let some = blank_leads c.self.inside c.args.self.now c.self.invariant c.self.view_is
     c.requires.room in
     (plants c.self.inside c.lead.new.nodes c.args.self.now (c.self.inside.blank - 1) c.args.row
-    c.in-Some.node.now c.self.invariant c.self.view_is c.requires.leaf (omega arith)
-    (sym c.in-Some.ensures.value) c.lead.ensures).shows
+    c.index_mut-node.result.now c.self.invariant c.self.view_is c.requires.leaf (omega arith)
+    c.index_mut-node.ensures.value c.lead.ensures).shows

@@ -6,8 +6,8 @@ use Rattle.rb_cursor.proofs.SeekLemmas.{step_fits, seen_way, seen_goes, seen_end
 use Rattle.rb_cursor.proofs.SeekLemmas.{is_at}
 use Rattle.rb_cursor.proofs.cursors.Cursor.seek.Goals as goal
 
-pub bounds-self-inside-depth : goal.bounds-self-inside-depth
-bounds-self-inside-depth g c =
+pub set_step-requires : goal.set_step-requires
+set_step-requires g c =
     step_fits (seen_way (g.P.Probe.seen c.args.sought.now))
     (record c.loop-link.self-inside { tree = c.loop-link.link; depth = c.loop-link.depth })
     c.args.self.now (c.loop-link.link - 1) c.index_mut-node.result.now
@@ -18,22 +18,22 @@ loop-link-smaller g c =
     (seen_goes (g.P.Probe.seen c.args.sought.now)
     (record c.loop-link.self-inside { tree = c.loop-link.link; depth = c.loop-link.depth })
     c.args.self.now (c.loop-link.link - 1) c.index_mut-node.result.now c.is_before.result c.side_by-side.result
-    c.child-link.result
+    c.child-link.result c.set_step.new.steps
     c.loop-link.invariant (omega (arith, c.loop-link-test.true)) c.index_mut-node.ensures.value
     (sym (c.is_at.ensures c.index_mut-node.result.now.node) ∙ c.if-is_at.false)
     (c.is_before.ensures c.index_mut-node.result.now.node) c.side_by-side.ensures
-    c.child-link.ensures).less
+    c.child-link.ensures c.set_step.ensures).less
 
 pub loop-link-preserved : goal.loop-link-preserved
 loop-link-preserved g c =
     (seen_goes (g.P.Probe.seen c.args.sought.now)
     (record c.loop-link.self-inside { tree = c.loop-link.link; depth = c.loop-link.depth })
     c.args.self.now (c.loop-link.link - 1) c.index_mut-node.result.now c.is_before.result c.side_by-side.result
-    c.child-link.result
+    c.child-link.result c.set_step.new.steps
     c.loop-link.invariant (omega (arith, c.loop-link-test.true)) c.index_mut-node.ensures.value
     (sym (c.is_at.ensures c.index_mut-node.result.now.node) ∙ c.if-is_at.false)
     (c.is_before.ensures c.index_mut-node.result.now.node) c.side_by-side.ensures
-    c.child-link.ensures).sought
+    c.child-link.ensures c.set_step.ensures).sought
 
 pub returns-then-is_at-clause-tree : goal.returns-then-is_at-clause-tree
 returns-then-is_at-clause-tree g c =

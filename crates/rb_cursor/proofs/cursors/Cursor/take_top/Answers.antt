@@ -1,20 +1,18 @@
-use Rattle.std.proofs.Common.{◌-◌, sym, ap, ◌∙◌, arith}
-use Rattle.rb_cursor.proofs.HeldLemmas.{some_there}
+use Rattle.std.proofs.Common.{◌-◌, arith}
+use Rattle.rb_cursor.proofs.HeldLemmas.{top_present}
 use Rattle.rb_cursor.proofs.BlankLemmas.{thin_leads, room_fits, takes}
 use Rattle.rb_cursor.proofs.TurnLemmas.{leads_on}
-use Rattle.std.specs.Option.{option_copied_mut}
 use Rattle.rb_cursor.proofs.cursors.Cursor.take_top.Goals as goal
 
 pub overflow_sub-link : goal.overflow_sub-link
 overflow_sub-link c =
     thin_leads c.self.inside c.args.self.now c.self.invariant c.self.view_is c.requires
 
-pub unreachable-requires : goal.unreachable-requires
-unreachable-requires c =
+pub index_mut-node-requires : goal.index_mut-node-requires
+index_mut-node-requires c =
     let some = thin_leads c.self.inside c.args.self.now c.self.invariant c.self.view_is
     c.requires in
-    some_there c.self.inside (c.self.inside.tree - 1) c.self.invariant (omega arith)
-    (sym c.get_mut.ensures.value ∙ ap option_copied_mut c.in_default.is)
+    top_present c.self.inside (c.self.inside.tree - 1) c.self.invariant (omega arith)
 
 pub overflow_add-self : goal.overflow_add-self
 overflow_add-self c =
@@ -32,15 +30,15 @@ invariant_of-self c =
     let some = thin_leads c.self.inside c.args.self.now c.self.invariant c.self.view_is
     c.requires in
     (takes c.self.inside c.lead.new.nodes c.args.self.now (c.self.inside.tree - 1)
-    c.only_link-subtree.result c.in-Some.node.now c.self.invariant c.self.view_is c.requires
+    c.only_link-subtree.result c.index_mut-node.result.now c.self.invariant c.self.view_is c.requires
     (omega arith)
-    (sym c.in-Some.ensures.value) c.only_link-subtree.ensures c.lead.ensures).is
+    c.index_mut-node.ensures.value c.only_link-subtree.ensures c.lead.ensures).is
 
 pub returns : goal.returns
 returns c =
     let some = thin_leads c.self.inside c.args.self.now c.self.invariant c.self.view_is
     c.requires in
     (takes c.self.inside c.lead.new.nodes c.args.self.now (c.self.inside.tree - 1)
-    c.only_link-subtree.result c.in-Some.node.now c.self.invariant c.self.view_is c.requires
+    c.only_link-subtree.result c.index_mut-node.result.now c.self.invariant c.self.view_is c.requires
     (omega arith)
-    (sym c.in-Some.ensures.value) c.only_link-subtree.ensures c.lead.ensures).shows
+    c.index_mut-node.ensures.value c.only_link-subtree.ensures c.lead.ensures).shows

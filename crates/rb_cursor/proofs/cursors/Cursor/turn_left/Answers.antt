@@ -21,14 +21,14 @@ pub invariant_of-self : goal.invariant_of-self
 invariant_of-self c =
     (turns_left c.self.inside c.lead.new.nodes c.args.self.now (c.self.inside.tree - 1)
     (c.in-Some.node.now.right - 1) c.args.child_red c.args.node_red
-    c.in-Some.node.now c.in-Some-get_mut.lower.now c.in-Some-get_mut-2.upper.now c.self.invariant
+    c.in-Some.node.now c.index_mut-lower.result.now c.index_mut-upper.result.now c.self.invariant
     c.self.view_is
     (record {
       tree = omega (arith, c.if-link-eq0.false);
       here = sym c.in-Some.ensures;
       child = omega (arith, c.if-child-eq0.false);
-      there = sym c.in-Some-get_mut.ensures.value;
-      again = sym c.in-Some-get_mut-2.ensures.value;
+      there = c.index_mut-lower.ensures.value;
+      again = c.index_mut-upper.ensures.value;
       leaves = c.lead.ensures;
     })).is
 
@@ -36,13 +36,13 @@ pub returns : goal.returns
 returns c =
     (turns_left c.self.inside c.lead.new.nodes c.args.self.now (c.self.inside.tree - 1)
     (c.in-Some.node.now.right - 1) c.args.child_red c.args.node_red
-    c.in-Some.node.now c.in-Some-get_mut.lower.now c.in-Some-get_mut-2.upper.now c.self.invariant
+    c.in-Some.node.now c.index_mut-lower.result.now c.index_mut-upper.result.now c.self.invariant
     c.self.view_is
     (record {
       tree = omega (arith, c.if-link-eq0.false);
       here = sym c.in-Some.ensures;
       child = omega (arith, c.if-child-eq0.false);
-      there = sym c.in-Some-get_mut.ensures.value;
-      again = sym c.in-Some-get_mut-2.ensures.value;
+      there = c.index_mut-lower.ensures.value;
+      again = c.index_mut-upper.ensures.value;
       leaves = c.lead.ensures;
     })).shows

@@ -1,9 +1,0 @@
-use Rattle.std.proofs.Common.{◌≡◌, length}
-use Rattle.word_arena.specs.Words.{words_for}
-use Rattle.bench_update.proofs.Table.update.Given as goal
-
-abbrev pub invariant-loop-store : goal.invariant-loop-store
-invariant-loop-store l = length l.self.words.items ≡ words_for l.self.writer.capacity
-
-abbrev pub decreases-loop-store : goal.decreases-loop-store
-decreases-loop-store l = length l.self.writer.left
