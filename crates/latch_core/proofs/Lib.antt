@@ -11,6 +11,7 @@ pub mod Leads
 pub mod PlanLemmas
 pub mod NodeLemmas
 pub mod ChangeLemmas
+pub mod ClashLemmas
 pub mod WriterLemmas
 pub mod BeginLemmas
 pub mod BatchBegins

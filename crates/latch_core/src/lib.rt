@@ -37,8 +37,11 @@
 #![tactic(auto)]
 
 pub mod attempts;
+#[cfg(test)]
+mod batch_tests;
 pub mod batches;
 mod changes;
+mod clashes;
 pub mod laws;
 #[cfg(test)]
 mod loader_tests;

@@ -1,6 +1,6 @@
 //! The writer of a latched tree, which hands out one store at a time.
 
-ghost use Rattle.std.specs.Prelude.{◌≡◌, ◌↔◌, ◌+◌, ◌*◌, ◌<◌, ◌≤◌, [], Some, None, ◌||◌, IsTrue, IsSome, IfSome, IfOk, IfErr, OnOk, OnErr, length, vec_len, vec_capacity};
+ghost use Rattle.std.specs.Prelude.{◌≡◌, false, ◌↔◌, ◌+◌, ◌*◌, ◌<◌, ◌≤◌, [], Some, None, ◌||◌, IsTrue, IsSome, IfSome, IfOk, IfErr, OnOk, OnErr, length, vec_len, vec_capacity};
 ghost use Rattle.order_laws.specs.Tables.{has, without_all};
 ghost use Rattle.word_arena.specs.declared.stores.Store.{Store};
 ghost use Rattle.word_arena.specs.Layouts.{capacity_of, limit_of};
@@ -12,8 +12,9 @@ ghost use Rattle.latch_core.specs.Latches.{Latch, Hand, stepped, opening_latch};
 ghost use Rattle.latch_core.specs.Writers.{next_store, why_refused, IsRefusedBy, RefusesAsPictured, MayOpen, IsOpeningRefused, Pictures, MayBeNext, LeadsFrom, HasBegun, opening_writer, stepped_writer};
 
 use crate::changes::{plan_erases, plan_inserts};
+use crate::clashes::{some_overlap, some_twice};
 use crate::nodes::all_nodes;
-use crate::plain::{some_invalid, some_overlap, some_twice};
+use crate::plain::some_invalid;
 use crate::plans::{ITEM_STORES, Plan};
 use crate::sequences::{generation, is_spent};
 use crate::updates::Update;
@@ -188,15 +189,16 @@ impl<O: TreeOrder> WriterCore<O> {
     fn cannot_erase(&self, erase: &[u64]) -> bool
         ensures { result ≡ (some_missing erase.now self.now.table || some_twice erase.now) }
     {
-        self.some_missing(erase) || some_twice(erase)
+        self.some_missing(erase) || some_twice(*self.free.allocator(), erase)
     }
 
-    /// Whether two of the items are not apart, or one of them and an item of the table that stays.
+    /// Whether two of some valid items are not apart, or one of them and an item of the table that stays.
     fn cannot_insert(&self, erase: &[u64], insert: &[Item]) -> bool
+        requires valid { some_invalid O.order insert.now ≡ false }
         ensures { result ≡ (some_overlap O.order insert.now
             || some_meet O.order insert.now (without_all erase.now self.now.table)) }
     {
-        some_overlap::<O>(insert) || self.some_meet(erase, insert)
+        some_overlap::<O>(*self.free.allocator(), insert) || self.some_meet(erase, insert)
     }
 
     /// Whether some first word is in no item of the table.
