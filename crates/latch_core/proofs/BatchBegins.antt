@@ -1,11 +1,10 @@
 -- A batch that begins: the nodes that its items take, and the stores that were planned.
 use Rattle.std.proofs.Common.{◌≡◌, ◌≢◌, ℕ, ◌+◌, ◌*◌, ◌<◌, ◌≤◌, false, List, [], ◌∷◌, ◌++◌, length, take, None, refl, sym, ◌∙◌, ap, subst, inl, inr, arith, length-set}
-use Rattle.std.specs.Prelude.{All, Contains, map, nat_lt, ◌||◌}
+use Rattle.std.specs.Prelude.{Contains, map, nat_lt}
 use Rattle.std.specs.List.{AllByRecursion}
 use Rattle.std.proofs.lemmas.Bool.{ltb-false}
 use Rattle.std.proofs.lemmas.List.{take-append-le, take_all, length-map}
 use Rattle.std.proofs.lemmas.List.Elements.{All-from_recursion}
-use Rattle.std.proofs.Math.Nat.{mul-le-mul_right}
 use Rattle.order_laws.specs.declared.items.Item.{Item}
 use Rattle.order_laws.specs.Orders.{Order}
 use Rattle.order_laws.specs.Tables.{without_all}
@@ -17,7 +16,7 @@ use Rattle.word_arena.proofs.WordLemmas.{one_item, item_place}
 use Rattle.word_arena.proofs.StoreLemmas.{length_after, untouched, at_stored, at_other}
 use Rattle.word_arena.proofs.HoldsLemmas.{tree_untouched}
 use Rattle.rb_trees.specs.Trees.{CanBeRedBlack}
-use Rattle.rb_words.specs.Pictures.{Picture, IsPictured}
+use Rattle.rb_words.specs.Pictures.{Picture}
 use Rattle.rb_words.specs.Plans.{item_stores}
 use Rattle.rb_words.specs.Mirrors.{mirror, mirror_store, second}
 use Rattle.rb_words.specs.Rows.{AreDistinct}
@@ -88,8 +87,7 @@ pub all_placed : (m : List ℕ) (n : ℕ) (placed : Placed) → length m ≡ wor
 all_placed m n [] sized lt d = tt
 all_placed m n (p ∷ rest) sized lt d =
     let m1 = words_after_all m (item_stores p.0 p.1) in
-    let s1 : length m1 ≡ words_for n = length_after m (item_stores p.0 p.1) ∙ sized in
-    (
+    let s1 : length m1 ≡ words_for n = length_after m (item_stores p.0 p.1) ∙ sized in (
       same_item m1 (words_after_all m1 (placing_stores rest)) p.0 (untouched (IsItemWord p.0) m1 (placing_stores rest) (others_away p.0 rest d.0)) ∙ one_placed m n p.0 p.1 sized lt.0,
       all_placed m1 n rest s1 lt.1 d.1,
     )
@@ -184,13 +182,6 @@ batch_plan o n zero z0 z1 z2 r erase insert placed xs ys free free1 free2 left s
       nodes = subst (λ k. AreAllNodes k (free2 ++ listed z2.tree)) same_capacity inserts.nodes;
     }
 
--- the steps of a batch are few
-few_steps : (n size k : ℕ) → k ≤ 32 * size + 2 → k ≤ 64 * (n + 1) * (size + 1)
-few_steps n size k le =
-    let one : 64 ≤ 64 * (n + 1) = omega arith in
-    let more : 64 * (size + 1) ≤ 64 * (n + 1) * (size + 1) = mul-le-mul_right (size + 1) one in
-    omega (arith, le, more)
-
 -- the core has the batch in hand
 pub batch_begun : {K : Type 0} (o : Order K) (w : WriterView) (zero new : Picture) (r : ℕ) (erase : List ℕ) (insert : List Item) (placed : Placed) (links : List Store) (free rest : List ℕ)
     → w.left ≡ [] → w.table ≡ zero.table → w.zero_tree ≡ zero.tree → w.one_tree ≡ zero.tree
@@ -203,13 +194,13 @@ batch_begun o w zero new r erase insert placed links free rest idle et e0 e1 ste
     let table = ap (λ t. with_items o insert (without_all erase t)) et in
     let copied = length-map links mirror_store in
     has_begun o w (Batch erase insert) (placing_stores placed) links (mirror links) new.table new.tree new.tree (plan.table ∙ sym table) idle
-    (few_steps n (length erase + length insert) (length (placing_stores placed) + length links + length (mirror links) + 2) (omega (arith, few, copied)))
+    (omega (arith, few, copied))
     (λ l p at_rest.
     let holds0 = subst (λ t. Holds l.words n 0 zero.table t) e0 (subst (λ t. Holds l.words n 0 t w.zero_tree) et at_rest.zero) in
     let holds1 = subst (λ t. Holds l.words n 1 zero.table t) e1 (subst (λ t. Holds l.words n 1 t w.one_tree) et at_rest.one) in
     let same : listed w.one_tree ≡ listed w.zero_tree = ap listed (e1 ∙ sym e0) in
     let unreached = all_both (λ (q : ℕ × Item). q.0 < n) (λ (q : ℕ × Item). Contains (listed zero.tree) q.0 → ⊥) (λ (q : ℕ × Item). (q.0 < n) × IsUnreached l.words n q.0)
-        (λ q lt off. (lt, unlisted w l.words q.0 at_rest same (λ c. off (subst (λ t. Contains (listed t) q.0) e0 c)))) placed plan.within plan.unlisted_yet in
+    (λ q lt off. (lt, unlisted w l.words q.0 at_rest same (λ c. off (subst (λ t. Contains (listed t) q.0) e0 c)))) placed plan.within plan.unlisted_yet in
     subst (λ t. Leading n t (with_items o insert (without_all erase w.table)) l.words (placing_stores placed) links (mirror links) new.tree new.tree) (sym et)
     (leading_batch n zero new r placed links plan.both plan.within (with_items o insert (without_all erase w.table)) (plan.table ∙ sym table) free w.left step plan.distinct
     l.words at_rest.sized at_rest.even holds0 holds1 unreached red))

@@ -1,9 +1,9 @@
 -- An update that begins: what was tested, the node that it takes or frees, and the stores that were planned.
-use Rattle.std.proofs.Common.{◌≡◌, ◌≢◌, ℕ, suc, ◌+◌, ◌<◌, ◌≤◌, true, false, List, [], ◌∷◌, ◌++◌, length, None, refl, sym, ◌∙◌, ap, subst, inl, inr, arith, length-append}
+use Rattle.std.proofs.Common.{◌≡◌, ◌≢◌, ℕ, suc, ◌+◌, ◌*◌, ◌<◌, ◌≤◌, true, false, List, [], ◌∷◌, ◌++◌, length, None, refl, sym, ◌∙◌, ap, subst, inl, inr, arith, length-append}
 use Rattle.std.specs.Prelude.{All, nat_lt, insert, remove, Contains}
 use Rattle.std.proofs.lemmas.Bool.{eqb-false, ltb-false, lt-ltb}
 use Rattle.std.proofs.lemmas.List.Elements.{All-append, All-cons, All-nil, All-from_recursion}
-use Rattle.std.proofs.lemmas.Option.{slice_get_within}
+use Rattle.std.proofs.Math.Nat.{mul-le-mul_right}
 use Rattle.order_laws.specs.declared.items.Item.{Item}
 use Rattle.order_laws.specs.Orders.{Order}
 use Rattle.order_laws.specs.Tables.{place_for, place_of, with_item, without, has, meets}
@@ -19,7 +19,7 @@ use Rattle.rb_words.specs.Plans.{Inserts, Erases, LeadsWithItem, LeadsByLinks, A
 use Rattle.latch_core.specs.declared.updates.Update.{Update}
 use Rattle.latch_core.specs.declared.updates.Update.TheVariants.{Insert, Erase}
 use Rattle.latch_core.specs.Sequences.{stable}
-use Rattle.latch_core.specs.Updates.{after, most_steps}
+use Rattle.latch_core.specs.Updates.{after, size_of}
 use Rattle.latch_core.specs.Latches.{Latch}
 use Rattle.latch_core.specs.Plans.{flip_to, update_stores}
 use Rattle.latch_core.specs.FreeNodes.{AreAllNodes}
@@ -178,12 +178,6 @@ module _ (n : ℕ) (zero one zero' one' : Picture) (r s a node other : ℕ) (lin
             (links_of n 1 (with_room one s) links1 step.one_capacity step.one_copy one_leads.links_only);
       }
 
-  -- there is a place for the node among the free ones
-  pub place_to_free : (free : List ℕ) (left : List Store) → AreInStep n zero one free left → length free < n
-  place_to_free free left step =
-      let within : place_of a zero.table < length (listed zero.tree) = slice_get_within (listed zero.tree) (place_of a zero.table) node zero_erases.at_place in
-      omega (arith, length-append free (listed zero.tree), step.nodes.as_many)
-
   pub leading_erase : (free : List ℕ) (left : List Store) → AreInStep n zero one free left → (m : List ℕ) → length m ≡ words_for n → stable (at m 0) ≡ 0 → Holds m n 0 zero.table zero.tree → Holds m n 1 zero.table one.tree → CanBeRedBlack zero.tree × CanBeRedBlack one.tree × CanBeRedBlack zero'.tree → Leading n zero.table (without a zero.table) m [] links0 links1 zero'.tree one'.tree
   leading_erase free left step m sized even holds0 holds1 red =
       let then0 = zero_leads.leads m (pictured m n 0 r zero sized step.zero_capacity step.zero_copy holds0) in
@@ -201,10 +195,17 @@ module _ (n : ℕ) (zero one zero' one' : Picture) (r s a node other : ℕ) (lin
         leads_one = unpictured (words_after_all m links1) n 1 (without a zero.table) one' (one_erases.capacity ∙ step.one_capacity) (one_erases.copy ∙ step.one_copy) (one_erases.table ∙ ap (without a) step.same_table) then1;
       }
 
+-- the steps of an update are few
+few_steps : (n size k : ℕ) → k ≤ 2 * (16 * size) + 2 → k ≤ 64 * (n + 1) * (size + 1)
+few_steps n size k le =
+    let one : 64 ≤ 64 * (n + 1) = omega arith in
+    let more : 64 * (size + 1) ≤ 64 * (n + 1) * (size + 1) = mul-le-mul_right (size + 1) one in
+    omega (arith, le, more)
+
 -- the core with an update in hand
 pub has_begun : {K : Type 0} (o : Order K) (w : WriterView) (u : Update) (items links0 links1 : List Store) (table : List Item) (zero one : Nodes)
     → table ≡ after o w.table u → w.left ≡ []
-    → length items + length links0 + length links1 + 2 ≤ most_steps w.capacity u
+    → length items + length links0 + length links1 + 2 ≤ 2 * (16 * size_of u) + 2
     → ((l : Latch) → Pictures w l → AtRest w l.words → Leading w.capacity w.table (after o w.table u) l.words items links0 links1 zero one)
     → HasBegun o w u (record w { table = table; zero_tree = zero; one_tree = one; left = update_stores w.sequence items links0 links1 })
 has_begun o w u items links0 links1 table zero one et idle few leading =
@@ -213,6 +214,7 @@ has_begun o w u items links0 links1 table zero one et idle few leading =
     record {
       rest = rest;
       some = omega (arith, update_length w.sequence items links0 links1);
-      few = omega (arith, update_length w.sequence items links0 links1);
+      few = few_steps w.capacity (size_of u) (length (update_stores w.sequence items links0 links1)) (omega (arith, few, update_length w.sequence items links0 links1));
+      short = omega (arith, few, update_length w.sequence items links0 links1);
       pictures = λ l p. begun_pictures o w u items links0 links1 new rest l p idle (leading l p (rest_now w l p idle));
     }

@@ -1,6 +1,6 @@
 -- Several changes of both copies, one after another.
-use Rattle.std.proofs.Common.{◌≡◌, ◌≢◌, ℕ, suc, ◌+◌, ◌-◌, ◌<◌, ◌≤◌, true, false, cond, List, [], ◌∷◌, ◌++◌, length, take, drop, get_or, zero, refl, sym, ◌∙◌, ap, subst, inl, inr, ⊎_elim, arith, length-append, append_assoc}
-use Rattle.std.specs.Prelude.{not, ◌||◌, ◌==◌, map, Contains, insert, remove, slice_set, slice_index_or}
+use Rattle.std.proofs.Common.{◌≡◌, ◌≢◌, ℕ, suc, ◌+◌, ◌-◌, ◌<◌, ◌≤◌, true, false, cond, List, [], ◌∷◌, ◌++◌, length, take, drop, get_or, zero, refl, sym, ◌∙◌, ap, subst, inl, inr, ⊎_elim, arith, append_assoc}
+use Rattle.std.specs.Prelude.{not, ◌||◌, ◌==◌, map, Contains, insert, slice_set, slice_index_or}
 use Rattle.std.specs.List.{AllByRecursion, list_any, swap_remove}
 use Rattle.std.proofs.lemmas.List.Elements.{All-contains_itself, recursion_from_All}
 use Rattle.std.proofs.lemmas.Bool.{eq-eqb, ne_eqb, eqb-true, cases_eq}
@@ -12,10 +12,10 @@ use Rattle.order_laws.specs.Tables.{without, without_all, with_item, has, place_
 use Rattle.order_laws.proofs.TableLemmas.{all_weaker, all_left, all_right, length_without}
 use Rattle.order_laws.proofs.PlaceLemmas.{without_none}
 use Rattle.word_arena.specs.declared.stores.Store.{Store}
-use Rattle.word_arena.specs.Words.{at, words_for, item_at, listed, a_word, b_word, tag_word}
-use Rattle.word_arena.specs.Stores.{words_after, words_after_all, AreLinkStores, IsLinkWord, IsItemWord}
-use Rattle.word_arena.proofs.WordLemmas.{link_no_item, item_place, one_item}
-use Rattle.word_arena.proofs.StoreLemmas.{Agree, length_after, after_append, untouched, at_stored, at_other}
+use Rattle.word_arena.specs.Words.{item_at, listed, a_word, b_word, tag_word}
+use Rattle.word_arena.specs.Stores.{words_after_all, AreLinkStores, IsLinkWord, IsItemWord}
+use Rattle.word_arena.proofs.WordLemmas.{link_no_item}
+use Rattle.word_arena.proofs.StoreLemmas.{Agree, after_append, untouched}
 use Rattle.rb_words.specs.Pictures.{Picture, IsPictured}
 use Rattle.rb_words.specs.Plans.{Inserts, Erases, LeadsWithItem, LeadsByLinks, item_stores}
 use Rattle.rb_words.specs.Mirrors.{mirror, mirror_store, second}
@@ -116,6 +116,7 @@ without_more gone a (x ∷ xs) =
         (λ same. ap (λ b. b || false) (eq-eqb c w same) ∙ sym (eq-eqb w c (sym same)))
         (λ differ. ap (λ b. b || false) (ne_eqb c w differ) ∙ sym (ne_eqb w c (λ e. differ (sym e))))
         (cases_eq c w)
+
     any_more : (gone : List ℕ) (w : ℕ) → list_any (λ b. b == w) (gone ++ a ∷ []) ≡ (list_any (λ b. b == w) gone || (w == a))
     any_more [] w = flipped a w
     any_more (b ∷ rest) w =

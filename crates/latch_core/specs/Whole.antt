@@ -27,6 +27,10 @@ outcome_of Failed = Again
 abbrev pub Wants : {K : Type 0} → Order K → ℕ → K → List ℕ → ℕ → Type 0
 Wants o n k values word = (go : ℕ → Reading) × (rest_after (attempt o n k) values ≡ Some (Load word go))
 
+-- or is not at its end yet
+abbrev pub GoesOn : {K : Type 0} → Order K → ℕ → K → List ℕ → Type 0
+GoesOn o n k values = (word : ℕ) × Wants o n k values word
+
 -- how a walk ended
 abbrev pub found_by : Walked → Found
 found_by (At item) = Item_found item

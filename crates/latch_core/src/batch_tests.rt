@@ -1,3 +1,4 @@
+use crate::attempts::Attempted;
 use crate::sequences::generation;
 use crate::{Update, WriterCore, attempt_in, plain};
 use order_laws::{Closed, HalfOpen, Item, Refusal, TreeOrder};
@@ -5,8 +6,6 @@ use std::alloc::Global;
 use std::process::Abort;
 use std::test::Fail;
 use word_arena::{Layout, apply};
-
-use crate::attempts::Attempted;
 
 fn item(a: u64, b: u64, tag: u64) -> Item {
     Item { a, b, tag }
@@ -149,7 +148,11 @@ fn all_or_none<O: TreeOrder<Key = u64>>(
 ) {
     let old = table.generation();
     for _ in 0..=table.writer.remaining() {
-        let now = if table.generation() == old { before } else { after };
+        let now = if table.generation() == old {
+            before
+        } else {
+            after
+        };
         for key in keys {
             let found = order_laws::laws::look_through::<O>(now, *key);
             assert_eq!(rt; table.find(rt, *key), (found, table.generation()));
@@ -164,11 +167,18 @@ fn a_stop_at_each_step_of_a_batch(rt: HostRuntime) -> Result<(), Fail> {
     let alloc = rt.alloc();
     let mut table = Table::<HalfOpen>::open(&rt, alloc, Layout::new(16)?, 0)?;
     let seven: [Item; 7] = [
-        in_row(3), in_row(0), in_row(6), in_row(1), in_row(5), in_row(2), in_row(4),
+        in_row(3),
+        in_row(0),
+        in_row(6),
+        in_row(1),
+        in_row(5),
+        in_row(2),
+        in_row(4),
     ];
     let four = [in_row(9), in_row(8), item(0x200, 0x280, 11), in_row(7)];
     let keys = [
-        0, 0x100, 0x1ff, 0x200, 0x2c0, 0x3ff, 0x400, 0x500, 0x600, 0x7ff, 0x800, 0x900, 0xa80, 0xb00,
+        0, 0x100, 0x1ff, 0x200, 0x2c0, 0x3ff, 0x400, 0x500, 0x600, 0x7ff, 0x800, 0x900, 0xa80,
+        0xb00,
     ];
     let updates = [
         batch(alloc, &[], &seven)?,

@@ -405,7 +405,6 @@ fn reserve_all<O: TreeOrder>(
     ensures refusal { IfErr result (λ e. e ≡ Refusal.OutOfMemory) }
     ensures sound { IsPicture O.order shape.new }
 {
-    planned.clear();
     shape.reserve_in(1, planned)?;
     plan.reserve(2 * (size * STORES) + 2)?;
     shape.reserve(size as u32)

@@ -1,4 +1,4 @@
-use Rattle.std.proofs.Common.{◌≡◌, ◌≤◌, ◌+◌, ◌*◌, length, vec_len, vec_capacity}
+use Rattle.std.proofs.Common.{◌≡◌, ◌≤◌, ◌+◌, ◌*◌, vec_len, vec_capacity}
 use Rattle.rb_words.specs.declared.shapes.TheConstants.{STORES}
 use Rattle.rb_words.specs.Pictures.{IsPicture}
 use Rattle.latch_core.proofs.ChangeLemmas.{Erasing}

@@ -1,4 +1,4 @@
-use Rattle.std.proofs.Common.{◌≡◌, ◌<◌, ◌≤◌, ◌+◌, ◌-◌, ◌*◌, ◌++◌, List, length, take, drop, get_or, true, refl, sym, ◌∙◌, ap, subst, arith, length-append}
+use Rattle.std.proofs.Common.{◌≡◌, ◌<◌, ◌-◌, ◌++◌, length, take, drop, get_or, true, refl, sym, ◌∙◌, ap, subst, arith, length-append}
 use Rattle.std.specs.List.{AllByRecursion}
 use Rattle.std.proofs.lemmas.List.{take_all}
 use Rattle.order_laws.specs.declared.items.Item.{Item}
@@ -124,8 +124,7 @@ loop-taken-preserved g c =
 pub returns-clause-plan : goal.returns-clause-plan
 returns-clause-plan g c =
     let state = c.loop-taken.invariant.state in
-    let whole = take_all c.loop-taken.taken c.args.insert.now c.loop-taken-test.false in
-    (
+    let whole = take_all c.loop-taken.taken c.args.insert.now c.loop-taken-test.false in (
       state.placed,
       state.more,
       state.planned,

@@ -1,4 +1,4 @@
-use Rattle.std.proofs.Common.{◌≤◌, ◌+◌, arith}
+use Rattle.std.proofs.Common.{arith}
 use Rattle.latch_core.proofs.ClashLemmas.{twice_on}
 use Rattle.latch_core.proofs.clashes.has_equal_neighbours.Goals as goal
 

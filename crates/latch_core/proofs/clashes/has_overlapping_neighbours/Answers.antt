@@ -1,4 +1,4 @@
-use Rattle.std.proofs.Common.{◌≡◌, ◌≤◌, ◌+◌, ◌-◌, length, sym, ◌∙◌, arith}
+use Rattle.std.proofs.Common.{◌≤◌, ◌+◌, ◌-◌, length, sym, ◌∙◌, arith}
 use Rattle.order_laws.specs.declared.items.Item.{Item}
 use Rattle.latch_core.proofs.BatchLemmas.{all_valid}
 use Rattle.latch_core.proofs.ClashLemmas.{overlap_on, none_left}

@@ -66,8 +66,7 @@ invariant_of-self-2 g c =
     let plan = batch_plan o n s.shape c.reserve_all.new.shape z1 z2 room erase insert i.0 e.0 i.1 s.free.items free1 free2 s.plan.left c.self.invariant.0 kept e.2 inserts in
     let listed_links : c.deref.result.now ≡ links = c.deref.ensures.value ∙ i.3 ∙ ap (λ xs. xs ++ i.1) (e.1 ∙ ap (λ xs. xs ++ e.0) c.in_ok-links.ensures.links.0) in
     let items : c.plan_inserts.new.plan.left ≡ placing_stores i.0 = i.2 ∙ ap (λ xs. xs ++ placing_stores i.0) c.reserve_all.ensures.plan_kept in
-    let filled : c.close.new.self.left ≡ update_stores s.sequence (placing_stores i.0) links (mirror links) = c.close.ensures ∙ (λ k. update_stores s.sequence (items k) (listed_links k) (mirror (listed_links k))) in
-    (
+    let filled : c.close.new.self.left ≡ update_stores s.sequence (placing_stores i.0) links (mirror links) = c.close.ensures ∙ (λ k. update_stores s.sequence (items k) (listed_links k) (mirror (listed_links k))) in (
       subst (λ ss. AreInStep n z2 (second z2) free2 ss) (sym filled) (step_batch n s.shape z2 room i.0 links plan.both plan.within s.free.items free2 s.plan.left s.sequence c.self.invariant.0 plan.nodes),
       omega (arith, c.plan_inserts.ensures.free_capacity, c.plan_erases.ensures.free_capacity, c.self.invariant.1),
     )
