@@ -1,11 +1,10 @@
 -- An update that begins: what was tested, the node that it takes or frees, and the stores that were planned.
-use Rattle.std.proofs.Common.{◌≡◌, ◌≢◌, ℕ, suc, ◌+◌, ◌<◌, ◌≤◌, true, false, cond, List, [], ◌∷◌, ◌++◌, length, Some, None, refl, sym, ◌∙◌, ap, subst, inl, inr, arith, length-append}
-use Rattle.std.specs.Prelude.{◌==◌, All, nat_lt, insert, remove, Contains, not}
-use Rattle.std.proofs.lemmas.Bool.{eqb-false, eq-eqb, ne_eqb, ltb-false, lt-ltb}
+use Rattle.std.proofs.Common.{◌≡◌, ◌≢◌, ℕ, suc, ◌+◌, ◌*◌, ◌<◌, ◌≤◌, true, false, List, [], ◌∷◌, ◌++◌, length, None, refl, sym, ◌∙◌, ap, subst, inl, inr, arith, length-append}
+use Rattle.std.specs.Prelude.{All, nat_lt, insert, remove, Contains}
+use Rattle.std.proofs.lemmas.Bool.{eqb-false, ltb-false, lt-ltb}
 use Rattle.std.proofs.lemmas.List.Elements.{All-append, All-cons, All-nil, All-from_recursion}
-use Rattle.std.proofs.lemmas.Option.{slice_get_within}
+use Rattle.std.proofs.Math.Nat.{mul-le-mul_right}
 use Rattle.order_laws.specs.declared.items.Item.{Item}
-use Rattle.order_laws.specs.declared.refusals.Refusal.TheVariants.{BadItem, Overlap, NoSuchItem, Full, UpdateInHand, SequenceSpent}
 use Rattle.order_laws.specs.Orders.{Order}
 use Rattle.order_laws.specs.Tables.{place_for, place_of, with_item, without, has, meets}
 use Rattle.order_laws.proofs.TableLemmas.{all_weaker}
@@ -20,86 +19,47 @@ use Rattle.rb_words.specs.Plans.{Inserts, Erases, LeadsWithItem, LeadsByLinks, A
 use Rattle.latch_core.specs.declared.updates.Update.{Update}
 use Rattle.latch_core.specs.declared.updates.Update.TheVariants.{Insert, Erase}
 use Rattle.latch_core.specs.Sequences.{stable}
-use Rattle.latch_core.specs.Updates.{refuses, after, spent, most_steps}
+use Rattle.latch_core.specs.Updates.{after, size_of}
 use Rattle.latch_core.specs.Latches.{Latch}
 use Rattle.latch_core.specs.Plans.{flip_to, update_stores}
 use Rattle.latch_core.specs.FreeNodes.{AreAllNodes}
 use Rattle.latch_core.specs.WriterViews.{WriterView}
 use Rattle.latch_core.specs.Writers.{AtRest, Pictures, HasBegun, why_refused, AreInStep}
+use Rattle.latch_core.proofs.TestLemmas.{NoneHolds, all_tests, none_holds}
+use Rattle.latch_core.proofs.BatchLemmas.{not_false}
 use Rattle.latch_core.proofs.Planned.{Leading}
 use Rattle.latch_core.proofs.NodeLemmas.{last_is_free, node_taken, node_freed}
 use Rattle.latch_core.proofs.WriterLemmas.{begun_pictures, rest_now}
 
-no_length : (xs : List Store) → length xs ≡ 0 → xs ≡ []
-no_length [] e = refl
-no_length (x ∷ xs) e = absurd (omega arith)
-
--- with nothing in hand, the tests tell why an update is refused
-module _ {K : Type 0} (o : Order K) (w : WriterView) (idle : length w.left ≡ 0) where
-  none_in_hand : (u : Update) → why_refused o w u ≡ refuses o w.capacity w.limit false w.table w.sequence u
-  none_in_hand u = ap (λ xs. refuses o w.capacity w.limit (nat_lt 0 (length xs)) w.table w.sequence u) (no_length w.left idle)
-
-  after_valid : (i : Item) → o.valid i ≡ true → why_refused o w (Insert i) ≡ cond (meets o i w.table) (Some Overlap) (cond (length w.table == w.capacity) (Some Full) (spent w.limit w.sequence))
-  after_valid i v = none_in_hand (Insert i) ∙ ap (λ b. cond (not b) (Some BadItem) (cond (meets o i w.table) (Some Overlap) (cond (length w.table == w.capacity) (Some Full) (spent w.limit w.sequence)))) v
-
-  pub why_overlap : (i : Item) → o.valid i ≡ true → meets o i w.table ≡ true → Some Overlap ≡ why_refused o w (Insert i)
-  why_overlap i v m = sym (after_valid i v ∙ ap (λ b. cond b (Some Overlap) (cond (length w.table == w.capacity) (Some Full) (spent w.limit w.sequence))) m)
-
-  after_apart : (i : Item) → o.valid i ≡ true → meets o i w.table ≡ false → why_refused o w (Insert i) ≡ cond (length w.table == w.capacity) (Some Full) (spent w.limit w.sequence)
-  after_apart i v m = after_valid i v ∙ ap (λ b. cond b (Some Overlap) (cond (length w.table == w.capacity) (Some Full) (spent w.limit w.sequence))) m
-
-  pub why_full : (i : Item) → o.valid i ≡ true → meets o i w.table ≡ false → length w.table ≡ w.capacity → Some Full ≡ why_refused o w (Insert i)
-  why_full i v m full = sym (after_apart i v m ∙ ap (λ b. cond b (Some Full) (spent w.limit w.sequence)) (eq-eqb (length w.table) w.capacity full))
-
-  pub insert_spent : (i : Item) → o.valid i ≡ true → meets o i w.table ≡ false → length w.table ≢ w.capacity → spent w.limit w.sequence ≡ why_refused o w (Insert i)
-  insert_spent i v m room = sym (after_apart i v m ∙ ap (λ b. cond b (Some Full) (spent w.limit w.sequence)) (ne_eqb (length w.table) w.capacity room))
-
-  pub erase_spent : (a : ℕ) → has a w.table ≡ true → spent w.limit w.sequence ≡ why_refused o w (Erase a)
-  erase_spent a h = sym (none_in_hand (Erase a) ∙ ap (λ b. cond (not b) (Some NoSuchItem) (spent w.limit w.sequence)) h)
+pub idle_by : (xs : List Store) → length xs ≤ 0 → nat_lt 0 (length xs) ≡ false
+idle_by [] e = refl
+idle_by (x ∷ xs) e = absurd (omega arith)
 
 -- what an accepted update has passed
 pub record Accepted (w : WriterView) : Type 0 where
   pub idle : w.left ≡ []
   pub counts : w.sequence + 2 ≤ w.limit
 
-not_spent : (limit seq : ℕ) → spent limit seq ≡ None → seq + 2 ≤ limit
-not_spent limit seq e =
-    elim (nat_lt limit (seq + 2)) as (λ b. nat_lt limit (seq + 2) ≡ b → cond b (Some SequenceSpent) None ≡ None → seq + 2 ≤ limit) [
-      | true ↦ λ is f. absurd (cc)
-      | false ↦ λ is f. ltb-false limit (seq + 2) is
-    ] refl e
+idle_from : (xs : List Store) → nat_lt 0 (length xs) ≡ false → xs ≡ []
+idle_from [] e = refl
+idle_from (x ∷ xs) e =
+    absurd (let more : nat_lt 0 (suc (length xs)) ≡ true = lt-ltb 0 (suc (length xs)) (omega arith) in let f : true ≡ false = sym more ∙ e in cc)
 
-idle_from : {K : Type 0} (o : Order K) (n limit seq : ℕ) (table : List Item) (u : Update) (xs : List Store) → refuses o n limit (nat_lt 0 (length xs)) table seq u ≡ None → xs ≡ []
-idle_from o n limit seq table u [] e = refl
-idle_from o n limit seq table u (x ∷ xs) e =
-    let more : nat_lt 0 (suc (length xs)) ≡ true = lt-ltb 0 (suc (length xs)) (omega arith) in
-    absurd (let f : Some UpdateInHand ≡ None = ap (λ b. refuses o n limit b table seq u) (sym more) ∙ e in cc)
+pub accepted_by : (w : WriterView) → nat_lt 0 (length w.left) ≡ false → nat_lt w.limit (w.sequence + 2) ≡ false → Accepted w
+accepted_by w busy spent =
+    record { idle = idle_from w.left busy; counts = ltb-false w.limit (w.sequence + 2) spent }
 
 pub accepted_insert : {K : Type 0} (o : Order K) (w : WriterView) (i : Item) → why_refused o w (Insert i) ≡ None → Accepted w × (o.valid i ≡ true) × (meets o i w.table ≡ false) × (length w.table ≢ w.capacity)
 accepted_insert o w i e =
-    let idle = idle_from o w.capacity w.limit w.sequence w.table (Insert i) w.left e in
-    let f : refuses o w.capacity w.limit false w.table w.sequence (Insert i) ≡ None = ap (λ xs. refuses o w.capacity w.limit (nat_lt 0 (length xs)) w.table w.sequence (Insert i)) (sym idle) ∙ e in
-    elim (o.valid i) as (λ b. o.valid i ≡ b → cond (not b) (Some BadItem) (cond (meets o i w.table) (Some Overlap) (cond (length w.table == w.capacity) (Some Full) (spent w.limit w.sequence))) ≡ None → Accepted w × (o.valid i ≡ true) × (meets o i w.table ≡ false) × (length w.table ≢ w.capacity)) [
-      | false ↦ λ v g. absurd (cc)
-      | true ↦ λ v.
-          elim (meets o i w.table) as (λ b. meets o i w.table ≡ b → cond b (Some Overlap) (cond (length w.table == w.capacity) (Some Full) (spent w.limit w.sequence)) ≡ None → Accepted w × (o.valid i ≡ true) × (meets o i w.table ≡ false) × (length w.table ≢ w.capacity)) [
-            | true ↦ λ m g. absurd (cc)
-            | false ↦ λ m.
-                elim (length w.table == w.capacity) as (λ b. (length w.table == w.capacity) ≡ b → cond b (Some Full) (spent w.limit w.sequence) ≡ None → Accepted w × (o.valid i ≡ true) × (meets o i w.table ≡ false) × (length w.table ≢ w.capacity)) [
-                  | true ↦ λ r g. absurd (cc)
-                  | false ↦ λ r g. (record { idle = idle; counts = not_spent w.limit w.sequence g }, v, m, eqb-false (length w.table) w.capacity r)
-                ] refl
-          ] refl
-    ] refl f
+    let tests = all_tests o w.capacity w.limit (nat_lt 0 (length w.left)) w.table w.sequence (Insert i) in
+    let h : NoneHolds tests = none_holds tests e in
+    (accepted_by w h.0 h.1.1.1.1.0, not_false (o.valid i) h.1.0, h.1.1.0, eqb-false (length w.table) w.capacity h.1.1.1.0)
 
 pub accepted_erase : {K : Type 0} (o : Order K) (w : WriterView) (a : ℕ) → why_refused o w (Erase a) ≡ None → Accepted w × (has a w.table ≡ true)
 accepted_erase o w a e =
-    let idle = idle_from o w.capacity w.limit w.sequence w.table (Erase a) w.left e in
-    let f : refuses o w.capacity w.limit false w.table w.sequence (Erase a) ≡ None = ap (λ xs. refuses o w.capacity w.limit (nat_lt 0 (length xs)) w.table w.sequence (Erase a)) (sym idle) ∙ e in
-    elim (has a w.table) as (λ b. has a w.table ≡ b → cond (not b) (Some NoSuchItem) (spent w.limit w.sequence) ≡ None → Accepted w × (has a w.table ≡ true)) [
-      | false ↦ λ h g. absurd (cc)
-      | true ↦ λ h g. (record { idle = idle; counts = not_spent w.limit w.sequence g }, h)
-    ] refl f
+    let tests = all_tests o w.capacity w.limit (nat_lt 0 (length w.left)) w.table w.sequence (Erase a) in
+    let h : NoneHolds tests = none_holds tests e in
+    (accepted_by w h.0 h.1.1.0, not_false (has a w.table) h.1.0)
 
 -- the free node that an insert takes
 pub taken_node : (n : ℕ) (zero one : Picture) (free rest : List ℕ) (node : ℕ) (left : List Store) → AreInStep n zero one free left → free ≡ rest ++ node ∷ [] → (node < n) × (Contains (listed zero.tree) node → ⊥) × (Contains (listed one.tree) node → ⊥)
@@ -124,7 +84,7 @@ links_in_range n copy links one are =
 flip_in_range : (n seq : ℕ) (links : List Store) → All (λ (s : Store). s.word < words_for n) links → All (λ (s : Store). s.word < words_for n) (flip_to seq ∷ links)
 flip_in_range n seq links all = All-cons (λ (s : Store). s.word < words_for n) (flip_to seq) links (omega arith) all
 
-update_in_range : (n seq : ℕ) (items links0 links1 : List Store) → All (λ (s : Store). s.word < words_for n) items → AreLinkStores n 0 links0 → AreLinkStores n 1 links1 → All (λ (s : Store). s.word < words_for n) (update_stores seq items links0 links1)
+pub update_in_range : (n seq : ℕ) (items links0 links1 : List Store) → All (λ (s : Store). s.word < words_for n) items → AreLinkStores n 0 links0 → AreLinkStores n 1 links1 → All (λ (s : Store). s.word < words_for n) (update_stores seq items links0 links1)
 update_in_range n seq items links0 links1 all zero one =
     let P : Store → Type 0 = λ s. s.word < words_for n in
     let f0 = flip_in_range n (seq + 1) links0 (links_in_range n 0 links0 (omega arith) zero) in
@@ -140,14 +100,14 @@ update_length seq items links0 links1 =
 abbrev pub with_room : Picture → ℕ → Picture
 with_room p r = record p { room = r }
 
-pictured : (m : List ℕ) (n copy r : ℕ) (p : Picture) → length m ≡ words_for n → p.capacity ≡ n → p.copy ≡ copy → Holds m n copy p.table p.tree → IsPictured m (with_room p r)
+pub pictured : (m : List ℕ) (n copy r : ℕ) (p : Picture) → length m ≡ words_for n → p.capacity ≡ n → p.copy ≡ copy → Holds m n copy p.table p.tree → IsPictured m (with_room p r)
 pictured m n copy r p sized ec ek holds =
     record {
       sized = sized ∙ ap words_for (sym ec);
       holds = subst (λ k. Holds m k p.copy p.table p.tree) (sym ec) (subst (λ c. Holds m n c p.table p.tree) (sym ek) holds);
     }
 
-unpictured : (m : List ℕ) (n copy : ℕ) (table : List Item) (p : Picture) → p.capacity ≡ n → p.copy ≡ copy → p.table ≡ table → IsPictured m p → Holds m n copy table p.tree
+pub unpictured : (m : List ℕ) (n copy : ℕ) (table : List Item) (p : Picture) → p.capacity ≡ n → p.copy ≡ copy → p.table ≡ table → IsPictured m p → Holds m n copy table p.tree
 unpictured m n copy table p ec ek et is =
     subst (λ k. Holds m k copy table p.tree) ec (subst (λ c. Holds m p.capacity c table p.tree) ek (subst (λ t. Holds m p.capacity p.copy t p.tree) et is.holds))
 
@@ -218,12 +178,6 @@ module _ (n : ℕ) (zero one zero' one' : Picture) (r s a node other : ℕ) (lin
             (links_of n 1 (with_room one s) links1 step.one_capacity step.one_copy one_leads.links_only);
       }
 
-  -- there is a place for the node among the free ones
-  pub place_to_free : (free : List ℕ) (left : List Store) → AreInStep n zero one free left → length free < n
-  place_to_free free left step =
-      let within : place_of a zero.table < length (listed zero.tree) = slice_get_within (listed zero.tree) (place_of a zero.table) node zero_erases.at_place in
-      omega (arith, length-append free (listed zero.tree), step.nodes.as_many)
-
   pub leading_erase : (free : List ℕ) (left : List Store) → AreInStep n zero one free left → (m : List ℕ) → length m ≡ words_for n → stable (at m 0) ≡ 0 → Holds m n 0 zero.table zero.tree → Holds m n 1 zero.table one.tree → CanBeRedBlack zero.tree × CanBeRedBlack one.tree × CanBeRedBlack zero'.tree → Leading n zero.table (without a zero.table) m [] links0 links1 zero'.tree one'.tree
   leading_erase free left step m sized even holds0 holds1 red =
       let then0 = zero_leads.leads m (pictured m n 0 r zero sized step.zero_capacity step.zero_copy holds0) in
@@ -241,10 +195,17 @@ module _ (n : ℕ) (zero one zero' one' : Picture) (r s a node other : ℕ) (lin
         leads_one = unpictured (words_after_all m links1) n 1 (without a zero.table) one' (one_erases.capacity ∙ step.one_capacity) (one_erases.copy ∙ step.one_copy) (one_erases.table ∙ ap (without a) step.same_table) then1;
       }
 
+-- the steps of an update are few
+few_steps : (n size k : ℕ) → k ≤ 2 * (16 * size) + 2 → k ≤ 64 * (n + 1) * (size + 1)
+few_steps n size k le =
+    let one : 64 ≤ 64 * (n + 1) = omega arith in
+    let more : 64 * (size + 1) ≤ 64 * (n + 1) * (size + 1) = mul-le-mul_right (size + 1) one in
+    omega (arith, le, more)
+
 -- the core with an update in hand
 pub has_begun : {K : Type 0} (o : Order K) (w : WriterView) (u : Update) (items links0 links1 : List Store) (table : List Item) (zero one : Nodes)
     → table ≡ after o w.table u → w.left ≡ []
-    → length items + length links0 + length links1 + 2 ≤ most_steps w.capacity u
+    → length items + length links0 + length links1 + 2 ≤ 2 * (16 * size_of u) + 2
     → ((l : Latch) → Pictures w l → AtRest w l.words → Leading w.capacity w.table (after o w.table u) l.words items links0 links1 zero one)
     → HasBegun o w u (record w { table = table; zero_tree = zero; one_tree = one; left = update_stores w.sequence items links0 links1 })
 has_begun o w u items links0 links1 table zero one et idle few leading =
@@ -253,6 +214,7 @@ has_begun o w u items links0 links1 table zero one et idle few leading =
     record {
       rest = rest;
       some = omega (arith, update_length w.sequence items links0 links1);
-      few = omega (arith, update_length w.sequence items links0 links1);
+      few = few_steps w.capacity (size_of u) (length (update_stores w.sequence items links0 links1)) (omega (arith, few, update_length w.sequence items links0 links1));
+      short = omega (arith, few, update_length w.sequence items links0 links1);
       pictures = λ l p. begun_pictures o w u items links0 links1 new rest l p idle (leading l p (rest_now w l p idle));
     }

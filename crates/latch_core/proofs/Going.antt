@@ -1,16 +1,14 @@
 -- A walk over words that are loaded one at a time, load by load.
-use Rattle.std.proofs.Common.{◌≡◌, ◌≢◌, ℕ, ◌+◌, ◌-◌, ◌*◌, ◌<◌, ◌≤◌, ◌⊎◌, inl, inr, List, [], ◌∷◌, ◌++◌, length, Some, refl, sym, ◌∙◌, ap, subst, ⊎_elim, arith, length-append}
+use Rattle.std.proofs.Common.{◌≡◌, ◌≢◌, ℕ, ◌+◌, ◌-◌, ◌*◌, ◌<◌, ◌≤◌, List, [], ◌∷◌, ◌++◌, length, Some, sym, ◌∙◌, ap, subst, arith, length-append}
 use Rattle.std.specs.declared.cmp.Ordering.{Ordering}
-use Rattle.std.specs.declared.cmp.Ordering.TheVariants.{Less, Equal, Greater}
 use Rattle.order_laws.specs.declared.items.Item.{Item}
 use Rattle.order_laws.specs.Orders.{Order}
-use Rattle.word_arena.specs.Words.{root_word, a_word, b_word, tag_word, left_word, right_word}
+use Rattle.word_arena.specs.Words.{root_word}
 use Rattle.latch_core.specs.Sequences.{stable}
-use Rattle.latch_core.specs.Attempts.{Reading, Load, Item_found, No_item, Stuck, closing, turn, visit, walk, attempt, rest_after}
+use Rattle.latch_core.specs.Attempts.{Reading, Load, turn, visit, walk, attempt, rest_after}
 use Rattle.latch_core.specs.Whole.{Wants}
 use Rattle.latch_core.proofs.Readings.{rest_push}
 use Rattle.latch_core.proofs.Leads.{walk_visits}
-use Rattle.latch_core.proofs.Walking.{item_of, stuck_at}
 
 -- these values led to a link, with as many visits left as four loads each leave
 pub record IsGoing {K : Type 0} (o : Order K) (n : ℕ) (k : K) (s : ℕ) (values : List ℕ) (loads link : ℕ) : Type 0 where
@@ -56,14 +54,6 @@ module _ {K : Type 0} (o : Order K) (n : ℕ) (k : K) (s : ℕ) where
   goes_on values new loads link next w some room h =
       let f = w.few in
       record { left = w.left - 1; few = omega arith; counted = h.counted; rest = h.rest }
-
-  pub goes_nowhere : (values : List ℕ) (loads : ℕ) → IsGoing o n k s values loads 0 → rest_after (attempt o n k) values ≡ Some (closing s No_item)
-  goes_nowhere values loads w = w.rest
-
-  pub goes_astray : (values : List ℕ) (loads link : ℕ) → IsGoing o n k s values loads link → link ≢ 0 → (n < link) ⊎ (4 * n + 2 ≤ loads) → rest_after (attempt o n k) values ≡ Some (closing s Stuck)
-  goes_astray values loads link w some out =
-      let g = w.few in
-      w.rest ∙ ap Some (stuck_at o n k s w.left link some (⊎_elim (λ h. inl h) (λ h. inr (omega arith)) out))
 
   pub wants_in : (n' : ℕ) (values : List ℕ) (word : ℕ) → n' ≡ n → Wants o n k values word → Wants o n' k values word
   wants_in n' values word e h = subst (λ q. Wants o q k values word) (sym e) h

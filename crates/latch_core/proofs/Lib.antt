@@ -2,12 +2,17 @@ pub mod Readings
 pub mod Walks
 pub mod Walking
 pub mod Going
+pub mod TestLemmas
+pub mod BatchLemmas
 pub mod Steps
 pub mod Sound
 pub mod Planned
 pub mod Leads
 pub mod PlanLemmas
 pub mod NodeLemmas
+pub mod ChangeLemmas
+pub mod ClashLemmas
 pub mod WriterLemmas
 pub mod BeginLemmas
+pub mod BatchBegins
 pub mod Shallow

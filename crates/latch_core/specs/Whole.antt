@@ -1,5 +1,5 @@
 -- Whole attempts: what one comes to, and after how many loads.
-use Rattle.std.specs.Prelude.{◌≡◌, ℕ, suc, List, Option, Some}
+use Rattle.std.specs.Prelude.{◌≡◌, ℕ, suc, List, Some}
 use Rattle.order_laws.specs.Orders.{Order}
 use Rattle.word_arena.specs.Words.{at}
 use Rattle.latch_core.specs.Attempts.{Outcome, Answer, Again, Reading, Load, Ends, Found, Item_found, No_item, Stuck, attempt, rest_after}
@@ -26,6 +26,10 @@ outcome_of Failed = Again
 -- an attempt that loaded these values goes on with a load of this word
 abbrev pub Wants : {K : Type 0} → Order K → ℕ → K → List ℕ → ℕ → Type 0
 Wants o n k values word = (go : ℕ → Reading) × (rest_after (attempt o n k) values ≡ Some (Load word go))
+
+-- or is not at its end yet
+abbrev pub GoesOn : {K : Type 0} → Order K → ℕ → K → List ℕ → Type 0
+GoesOn o n k values = (word : ℕ) × Wants o n k values word
 
 -- how a walk ended
 abbrev pub found_by : Walked → Found

@@ -1,5 +1,5 @@
 -- What a writer's core knows of the words, and when it accepts an update.
-use Rattle.std.specs.Prelude.{◌≡◌, ◌⊎◌, ℕ, ◌<◌, ◌≤◌, Bool, List, [], ◌∷◌, ◌++◌, length, Option, Some, None, is_some, MatchOption, All, nat_lt, slice_get, drop, if◌then◌else◌, ◌==◌}
+use Rattle.std.specs.Prelude.{◌≡◌, ◌⊎◌, ℕ, ◌+◌, ◌*◌, ◌<◌, ◌≤◌, Bool, List, [], ◌∷◌, ◌++◌, length, Option, Some, None, is_some, MatchOption, All, nat_lt, slice_get, drop, if◌then◌else◌, ◌==◌}
 use Rattle.order_laws.specs.declared.refusals.Refusal.{Refusal}
 use Rattle.order_laws.specs.declared.refusals.Refusal.TheVariants.{BadCapacity, OutOfMemory}
 use Rattle.order_laws.specs.Orders.{Order}
@@ -13,7 +13,7 @@ use Rattle.rb_trees.specs.Trees.{CanBeRedBlack}
 use Rattle.rb_words.specs.Pictures.{Picture}
 use Rattle.latch_core.specs.declared.updates.Update.{Update}
 use Rattle.latch_core.specs.Sequences.{stable}
-use Rattle.latch_core.specs.Updates.{refuses, after, most_steps}
+use Rattle.latch_core.specs.Updates.{refuses, after, size_of, most_steps}
 use Rattle.latch_core.specs.Latches.{Latch, Hand, MayStep, stepped, begun}
 use Rattle.latch_core.specs.Plans.{IsPlan}
 use Rattle.latch_core.specs.FreeNodes.{AreAllNodes}
@@ -114,4 +114,6 @@ pub record HasBegun {K : Type 0} (o : Order K) (old : WriterView) (u : Update) (
   pub rest : new ≡ record old { table = after o old.table u; zero_tree = new.zero_tree; one_tree = new.one_tree; left = new.left }
   pub some : 0 < length new.left
   pub few : length new.left ≤ most_steps old.capacity u
+  -- at most 16 for each item in each copy, and two flips
+  pub short : length new.left ≤ 2 * (16 * size_of u) + 2
   pub pictures : (l : Latch) → Pictures old l → Pictures new (begun o l u (length new.left))

@@ -11,6 +11,7 @@ ghost use Rattle.rb_trees.specs.Trees.{CanBeRedBlack, depth};
 ghost use Rattle.latch_core.specs.Sequences.{gen, stable};
 ghost use Rattle.latch_core.specs.Updates.{refuses};
 ghost use Rattle.latch_core.specs.Attempts.{Reading, Load, Outcome, Answer, attempt, rest_after, IsAttempt, Stand};
+ghost use Rattle.latch_core.specs.Whole.{GoesOn};
 ghost use Rattle.latch_core.specs.Latches.{Latch, Hand, MayStep, stepped, begun, opening_latch};
 ghost use Rattle.latch_core.specs.Invariants.{IsStanding, IsSound};
 
@@ -42,9 +43,9 @@ pub fn attempt_is_shallow<O: TreeOrder>()
     ensures whole { (m : List ℕ) (n : ℕ) (k : O.Key) (table : List Item) (tree : Nodes) (values : List ℕ)
         → Holds m n (stable (at m 0)) table tree → IsTable O.order table → length table ≤ n
         → Stand m (attempt O.order n k) values → length values ≤ 4 * depth tree + 3 }
-    ensures part { (m : List ℕ) (n : ℕ) (k : O.Key) (table : List Item) (tree : Nodes) (values : List ℕ) (word : ℕ) (go : ℕ → Reading)
+    ensures part { (m : List ℕ) (n : ℕ) (k : O.Key) (table : List Item) (tree : Nodes) (values : List ℕ)
         → Holds m n (stable (at m 0)) table tree → IsTable O.order table → length table ≤ n
-        → Stand m (attempt O.order n k) values → rest_after (attempt O.order n k) values ≡ Some (Load word go)
+        → Stand m (attempt O.order n k) values → GoesOn O.order n k values
         → length values < 4 * depth tree + 3 }
 {}
 

@@ -37,6 +37,11 @@
 #![tactic(auto)]
 
 pub mod attempts;
+#[cfg(test)]
+mod batch_tests;
+pub mod batches;
+mod changes;
+mod clashes;
 pub mod laws;
 #[cfg(test)]
 mod loader_tests;
@@ -53,6 +58,7 @@ pub mod updates;
 pub mod writers;
 
 pub use attempts::{Attempted, attempt_in};
+pub use batches::Entries;
 pub use loaders::{Loader, Walked, attempt_by};
 pub use readers::{ReaderCore, Taken};
 pub use updates::Update;

@@ -1,17 +1,21 @@
 //! The writer of a latched tree, which hands out one store at a time.
 
-ghost use Rattle.std.specs.Prelude.{◌≡◌, ◌↔◌, ◌+◌, ◌*◌, ◌<◌, ◌≤◌, [], Some, None, IsTrue, IsSome, IfSome, IfOk, IfErr, OnOk, OnErr, length, vec_len, vec_capacity};
-ghost use Rattle.order_laws.specs.Tables.{has};
+ghost use Rattle.std.specs.Prelude.{◌≡◌, false, ◌↔◌, ◌+◌, ◌*◌, ◌<◌, ◌≤◌, [], Some, None, ◌||◌, IsTrue, IsSome, IfSome, IfOk, IfErr, OnOk, OnErr, length, vec_len, vec_capacity};
+ghost use Rattle.order_laws.specs.Tables.{has, without_all};
 ghost use Rattle.word_arena.specs.declared.stores.Store.{Store};
 ghost use Rattle.word_arena.specs.Layouts.{capacity_of, limit_of};
 ghost use Rattle.word_arena.specs.Words.{at, words_for};
 ghost use Rattle.rb_words.specs.Pictures.{IsPicture};
 ghost use Rattle.latch_core.specs.Sequences.{gen};
+ghost use Rattle.latch_core.specs.Updates.{first_that_holds, tests_of, some_invalid, some_missing, some_twice, some_overlap, some_meet};
 ghost use Rattle.latch_core.specs.Latches.{Latch, Hand, stepped, opening_latch};
 ghost use Rattle.latch_core.specs.Writers.{next_store, why_refused, IsRefusedBy, RefusesAsPictured, MayOpen, IsOpeningRefused, Pictures, MayBeNext, LeadsFrom, HasBegun, opening_writer, stepped_writer};
 
+use crate::changes::{plan_erases, plan_inserts};
+use crate::clashes::{some_overlap, some_twice};
 use crate::nodes::all_nodes;
-use crate::plans::Plan;
+use crate::plain::some_invalid;
+use crate::plans::{ITEM_STORES, Plan};
 use crate::sequences::{generation, is_spent};
 use crate::updates::Update;
 use order_laws::{Item, Refusal, TreeOrder};
@@ -19,9 +23,6 @@ use rb_words::{STORES, Shape};
 use std::alloc::Global;
 use std::marker::Model;
 use word_arena::{Layout, Store, TreeCopy};
-
-/// How many stores an item's words take.
-const ITEM_STORES: usize = 3;
 
 /// The writer's side of a latch (`latch_tree_insert`, `latch_tree_erase` and `raw_write_seqcount_latch` of
 /// include/linux/rbtree_latch.h and include/linux/seqlock.h).
@@ -109,6 +110,7 @@ impl<O: TreeOrder> WriterCore<O> {
         match u {
             Update::Insert(item) => self.insert(item)?,
             Update::Erase(a) => self.erase(a)?,
+            Update::Batch { erase, insert } => self.batch(erase.as_slice(), insert.as_slice())?,
         }
         Ok(self.plan.remaining())
     }
@@ -120,28 +122,97 @@ impl<O: TreeOrder> WriterCore<O> {
         if self.plan.remaining() > 0 {
             return Some(Refusal::UpdateInHand);
         }
-        match u {
-            Update::Insert(item) => {
-                if !O::valid(item) {
-                    return Some(Refusal::BadItem);
-                }
-                if self.shape.meets(item, &[]) {
-                    return Some(Refusal::Overlap);
-                }
-                if self.shape.len() == self.layout.capacity() {
-                    return Some(Refusal::Full);
-                }
-            }
-            Update::Erase(a) => {
-                if !self.shape.has(*a) {
-                    return Some(Refusal::NoSuchItem);
-                }
-            }
+        if let Some(refusal) = self.failed_test(u) {
+            return Some(refusal);
         }
         if is_spent(self.layout, self.sequence) {
             return Some(Refusal::SequenceSpent);
         }
         None
+    }
+
+    /// The first test of an update of the table that fails, by its refusal.
+    fn failed_test(&self, u: &Update) -> Option<Refusal>
+        ensures { result ≡ first_that_holds (tests_of O.order self.now.capacity self.now.table u.now) }
+    {
+        match u {
+            Update::Insert(item) => self.insert_test(item),
+            Update::Erase(a) => self.erase_test(*a),
+            Update::Batch { erase, insert } => self.batch_test(erase.as_slice(), insert.as_slice()),
+        }
+    }
+
+    /// Why an item is not to be inserted, if it is not.
+    fn insert_test(&self, item: &Item) -> Option<Refusal>
+        ensures { result ≡ first_that_holds (tests_of O.order self.now.capacity self.now.table (Update.Insert item.now)) }
+    {
+        if !O::valid(item) {
+            Some(Refusal::BadItem)
+        } else if self.shape.meets(item, &[]) {
+            Some(Refusal::Overlap)
+        } else if self.shape.len() == self.layout.capacity() {
+            Some(Refusal::Full)
+        } else {
+            None
+        }
+    }
+
+    /// Why a first word is not to be erased, if it is not.
+    fn erase_test(&self, a: u64) -> Option<Refusal>
+        ensures { result ≡ first_that_holds (tests_of O.order self.now.capacity self.now.table (Update.Erase a)) }
+    {
+        if self.shape.has(a) {
+            None
+        } else {
+            Some(Refusal::NoSuchItem)
+        }
+    }
+
+    /// Why a batch is not to be carried out, if it is not.
+    fn batch_test(&self, erase: &[u64], insert: &[Item]) -> Option<Refusal>
+        ensures { result ≡ first_that_holds (tests_of O.order self.now.capacity self.now.table (Update.Batch erase.now insert.now)) }
+    {
+        if some_invalid::<O>(insert) {
+            Some(Refusal::BadItem)
+        } else if self.cannot_erase(erase) {
+            Some(Refusal::NoSuchItem)
+        } else if self.cannot_insert(erase, insert) {
+            Some(Refusal::Overlap)
+        } else if self.shape.len() as usize + insert.len() > self.layout.capacity() as usize {
+            Some(Refusal::Full)
+        } else {
+            None
+        }
+    }
+
+    /// Whether some first word is in no item of the table or stands twice.
+    fn cannot_erase(&self, erase: &[u64]) -> bool
+        ensures { result ≡ (some_missing erase.now self.now.table || some_twice erase.now) }
+    {
+        self.some_missing(erase) || some_twice(*self.free.allocator(), erase)
+    }
+
+    /// Whether two of some valid items are not apart, or one of them and an item of the table that stays.
+    fn cannot_insert(&self, erase: &[u64], insert: &[Item]) -> bool
+        requires valid { some_invalid O.order insert.now ≡ false }
+        ensures { result ≡ (some_overlap O.order insert.now
+            || some_meet O.order insert.now (without_all erase.now self.now.table)) }
+    {
+        some_overlap::<O>(*self.free.allocator(), insert) || self.some_meet(erase, insert)
+    }
+
+    /// Whether some first word is in no item of the table.
+    fn some_missing(&self, words: &[u64]) -> bool
+        ensures { result ≡ some_missing words.now self.now.table }
+    {
+        words.iter().any(|a| !self.shape.has(*a))
+    }
+
+    /// Whether one of the items is not apart from an item of the table that has none of the first words `but`.
+    fn some_meet(&self, but: &[u64], items: &[Item]) -> bool
+        ensures { result ≡ some_meet O.order items.now (without_all but.now self.now.table) }
+    {
+        items.iter().any(|i| self.shape.meets(i, but))
     }
 
     /// Plans to insert an item: it goes into a free node, which both copies then link.
@@ -173,6 +244,32 @@ impl<O: TreeOrder> WriterCore<O> {
         let node = self.shape.plan_erase(&mut self.planned, a);
         self.free.push_reserved(node);
         self.plan.fill(self.layout, self.sequence, &self.planned, 0);
+        Ok(())
+    }
+
+    /// Plans to erase the items of some first words and to insert some items.
+    ///
+    /// The inserted items go into nodes that were free before, so none goes into a node that is erased here.
+    fn batch(&mut self, erase: &[u64], insert: &[Item]) -> Result<(), Refusal>
+        requires accepted { why_refused O.order self.old (Update.Batch erase.now insert.now) ≡ None }
+        ensures begun { OnOk result (HasBegun O.order self.old (Update.Batch erase.now insert.now) self.new) }
+        ensures refusal { IfErr result (λ e. e ≡ Refusal.OutOfMemory) }
+        ensures unchanged { OnErr result (self.new ≡ self.old) }
+    {
+        let size = erase.len() + insert.len();
+        let mut links = reserve_all(&mut self.shape, &mut self.planned, &mut self.plan, size)?;
+        let fresh = self.free.len();
+        plan_erases(&mut self.shape, &mut self.free, &mut links, erase);
+        plan_inserts(
+            &mut self.shape,
+            &mut self.free,
+            fresh,
+            &mut self.planned,
+            &mut self.plan,
+            &mut links,
+            insert,
+        );
+        self.plan.close(self.layout, self.sequence, &links);
         Ok(())
     }
 
@@ -287,4 +384,28 @@ fn reserve<O: TreeOrder>(
     shape.reserve_in(1, planned)?;
     plan.reserve(2 * STORES + 2)?;
     Ok(())
+}
+
+/// Makes room for an update of so many items: in the picture, in the list of what is planned for one of them, and in the
+/// plan. Hands out an empty list with room for all their stores of links.
+fn reserve_all<O: TreeOrder>(
+    shape: &mut Shape<O>,
+    planned: &mut Vec<Store>,
+    plan: &mut Plan,
+    size: usize,
+) -> Result<Vec<Store>, Refusal>
+    requires none_left { plan.old.left ≡ [] }
+    requires size { size ≤ 2 * 65536 }
+    ensures kept { shape.new ≡ record shape.old { room = shape.new.room } }
+    ensures plan_kept { plan.new.left ≡ [] }
+    ensures room { OnOk result (size ≤ shape.new.room) }
+    ensures list_room { OnOk result (STORES ≤ vec_capacity planned.new) }
+    ensures plan_room { OnOk result (2 * (size * STORES) + 2 ≤ plan.new.room) }
+    ensures links { IfOk result (λ links. (links.items ≡ []) × (vec_len links ≡ 0) × (size * STORES ≤ vec_capacity links)) }
+    ensures refusal { IfErr result (λ e. e ≡ Refusal.OutOfMemory) }
+    ensures sound { IsPicture O.order shape.new }
+{
+    shape.reserve_in(1, planned)?;
+    plan.reserve(2 * (size * STORES) + 2)?;
+    shape.reserve(size as u32)
 }

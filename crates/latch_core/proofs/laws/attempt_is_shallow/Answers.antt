@@ -8,5 +8,5 @@ returns g c =
     record {
       deep = λ m n table tree holds good. few_deep_any m n table tree holds good;
       whole = λ m n k table tree values holds is_table fits stands. attempt_depth o law m n k table tree holds is_table fits values stands;
-      part = λ m n k table tree values word go holds is_table fits stands rest. attempt_below_depth o law m n k table tree holds is_table fits values word go stands rest;
+      part = λ m n k table tree values holds is_table fits stands on. attempt_below_depth o law m n k table tree holds is_table fits values on.0 on.1.0 stands on.1.1;
     }

@@ -1,4 +1,4 @@
-use Rattle.std.proofs.Common.{◌≡◌, ◌≤◌, ◌+◌, ◌++◌, ◌∷◌, [], List, length, take, drop, sym, ◌∙◌, ap, subst, arith}
+use Rattle.std.proofs.Common.{◌≡◌, ◌≤◌, ◌+◌, ◌*◌, ◌++◌, ◌∷◌, [], List, length, sym, ◌∙◌, ap, subst, arith}
 use Rattle.std.proofs.lemmas.List.{length-map}
 use Rattle.word_arena.specs.declared.stores.Store.{Store}
 use Rattle.word_arena.specs.Layouts.{capacity_of, limit_of}
@@ -9,7 +9,7 @@ use Rattle.rb_words.specs.Plans.{Erases, LeadsByLinks}
 use Rattle.rb_words.specs.Mirrors.{mirror, mirror_store, second}
 use Rattle.rb_words.proofs.MirrorLemmas.{erases_mirrored, by_links_mirrored}
 use Rattle.latch_core.specs.declared.updates.Update.TheVariants.{Erase}
-use Rattle.latch_core.specs.Updates.{most_steps}
+use Rattle.latch_core.specs.Updates.{size_of}
 use Rattle.latch_core.specs.Plans.{update_stores}
 use Rattle.latch_core.specs.WriterViews.{WriterView}
 use Rattle.latch_core.specs.Writers.{AreInStep, HasBegun}
@@ -69,7 +69,7 @@ returns-clause-begun g c =
     let filled : c.fill.new.self.left ≡ update_stores s.sequence [] p0.0 (mirror p0.0) = c.fill.ensures ∙ (λ i. update_stores s.sequence [] (planned i) (mirror (planned i))) in
     let w : WriterView = record { capacity = n; limit = limit_of s.layout; sequence = s.sequence; table = s.shape.table; zero_tree = s.shape.tree; one_tree = s.shape.tree; left = s.plan.left } in
     let idle : w.left ≡ [] = ap (λ (v : WriterView). v.left) c.self.view_is ∙ (accepted_erase order c.args.self.now a c.requires.accepted).0.idle in
-    let few : length {A = Store} [] + length p0.0 + length (mirror p0.0) + 2 ≤ most_steps n (Erase a) =
+    let few : length {A = Store} [] + length p0.0 + length (mirror p0.0) + 2 ≤ 2 * (16 * size_of (Erase a)) + 2 =
     (let count = ap length planned in
     omega (arith, c.deref.ensures.len, c.plan_erase-node.ensures.few, kept.none_planned, length-map p0.0 mirror_store)) in
     let red = subst (λ (p : Picture). CanBeRedBlack p.tree) kept.kept c.plan_erase-node.ensures.was_sound.balanced in

@@ -1,4 +1,4 @@
-use Rattle.std.proofs.Common.{◌≡◌, ◌≤◌, ◌<◌, ◌+◌, ◌++◌, [], List, length, take, drop, sym, ◌∙◌, ap, subst, arith}
+use Rattle.std.proofs.Common.{◌≡◌, ◌≤◌, ◌<◌, ◌+◌, ◌*◌, ◌++◌, [], List, length, take, drop, sym, ◌∙◌, ap, subst, arith}
 use Rattle.std.specs.Prelude.{Contains}
 use Rattle.std.proofs.lemmas.List.{length-map}
 use Rattle.word_arena.specs.declared.stores.Store.{Store}
@@ -11,7 +11,7 @@ use Rattle.rb_words.specs.Plans.{Inserts, LeadsWithItem, item_stores}
 use Rattle.rb_words.specs.Mirrors.{mirror, mirror_store, second}
 use Rattle.rb_words.proofs.MirrorLemmas.{inserts_mirrored, with_item_mirrored}
 use Rattle.latch_core.specs.declared.updates.Update.TheVariants.{Insert}
-use Rattle.latch_core.specs.Updates.{most_steps}
+use Rattle.latch_core.specs.Updates.{size_of}
 use Rattle.latch_core.specs.Plans.{update_stores}
 use Rattle.latch_core.specs.WriterViews.{WriterView}
 use Rattle.latch_core.specs.Writers.{AreInStep, HasBegun}
@@ -95,7 +95,7 @@ returns-clause-begun g c =
     let w : WriterView = record { capacity = n; limit = limit_of s.layout; sequence = s.sequence; table = s.shape.table; zero_tree = s.shape.tree; one_tree = s.shape.tree; left = s.plan.left } in
     let idle : w.left ≡ [] = ap (λ (v : WriterView). v.left) c.self.view_is ∙ (accepted_insert order c.args.self.now item c.requires.accepted).0.idle in
     let taken = taken_node n s.shape (second s.shape) s.free.items c.pop.new.self.items node s.plan.left c.self.invariant.0 c.in-Some.ensures.items in
-    let few : length (item_stores node item) + length p0.0 + length (mirror p0.0) + 2 ≤ most_steps n (Insert item) =
+    let few : length (item_stores node item) + length p0.0 + length (mirror p0.0) + 2 ≤ 2 * (16 * size_of (Insert item)) + 2 =
     (let count = ap length planned in
     omega (arith, c.deref.ensures.len, c.plan_insert.ensures.few, kept.none_planned, length-map p0.0 mirror_store)) in
     let red = subst (λ (p : Picture). CanBeRedBlack p.tree) kept.kept c.plan_insert.ensures.was_sound.balanced in

@@ -1,0 +1,157 @@
+-- Entries of a batch that stand against each other are neighbours in a sorted list.
+use Rattle.std.proofs.Common.{◌≡◌, ◌≢◌, ℕ, suc, zero, ◌+◌, ◌-◌, ◌<◌, ◌≤◌, true, false, List, [], ◌∷◌, length, drop, get_or, refl, sym, ◌∙◌, ap, subst, ⊎_elim, arith}
+use Rattle.std.specs.Prelude.{Bool, not, ◌||◌, ◌==◌}
+use Rattle.std.specs.List.{AllByRecursion, IsDistinct, list_any}
+use Rattle.std.specs.List.Sorted.{IsPermutation, IsNonDecreasingBy}
+use Rattle.std.proofs.lemmas.Bool.{eq-eqb, ne_eqb, cases_eq}
+use Rattle.std.proofs.lemmas.List.Sorted.{IsPermutation-sym, IsNonDecreasingBy-drop}
+use Rattle.std.proofs.lemmas.Map.Keys.{IsDistinct-IsPermutation}
+use Rattle.order_laws.specs.declared.items.Item.{Item}
+use Rattle.order_laws.specs.Orders.{Order, Precedes, IsLawful, IsInLine}
+use Rattle.order_laws.specs.Tables.{meets}
+use Rattle.order_laws.proofs.TableLemmas.{all_weaker}
+use Rattle.latch_core.specs.Updates.{some_twice, some_overlap}
+use Rattle.rb_words.proofs.ListLemmas.{all_drop}
+use Rattle.latch_core.proofs.BatchLemmas.{neither, none_of, all_apart, no_meeting}
+use Rattle.latch_core.proofs.ChangeLemmas.{drop_here}
+
+-- some entry clashes with one behind it
+abbrev clash : {X : Type 0} → (X → X → Bool) → List X → Bool
+clash e [] = false
+clash e (x ∷ rest) = list_any (e x) rest || clash e rest
+
+clash_distinct : {X : Type 0} (e : X → X → Bool) (xs : List X) → clash e xs ≡ false → IsDistinct e xs
+unfolding IsDistinct
+clash_distinct e [] h = tt
+clash_distinct e (x ∷ rest) h = let two = neither (list_any (e x) rest) (clash e rest) h in (none_of (e x) rest two.0, clash_distinct e rest two.1)
+
+none_any : {X : Type 0} (test : X → Bool) (xs : List X) → AllByRecursion (λ x. test x ≡ false) xs → list_any test xs ≡ false
+none_any test [] h = refl
+none_any test (x ∷ xs) h = ap (λ b. b || list_any test xs) h.0 ∙ none_any test xs h.1
+
+distinct_clash : {X : Type 0} (e : X → X → Bool) (xs : List X) → IsDistinct e xs → clash e xs ≡ false
+unfolding IsDistinct
+distinct_clash e [] h = refl
+distinct_clash e (x ∷ rest) h = ap (λ b. b || clash e rest) (none_any (e x) rest h.0) ∙ distinct_clash e rest h.1
+
+same_bool : (a b : Bool) → (a ≡ false → b ≡ false) → (b ≡ false → a ≡ false) → a ≡ b
+same_bool false b f h = sym (f refl)
+same_bool true true f h = refl
+same_bool true false f h = h refl
+
+clash_moved : {X : Type 0} (e : X → X → Bool) → ((x y : X) → e x y ≡ e y x) → (xs ys : List X) → IsPermutation xs ys → clash e xs ≡ clash e ys
+clash_moved e flips xs ys p =
+    same_bool (clash e xs) (clash e ys)
+    (λ h. distinct_clash e ys (IsDistinct-IsPermutation e flips xs ys p (clash_distinct e xs h)))
+    (λ h. distinct_clash e xs (IsDistinct-IsPermutation e flips ys xs (IsPermutation-sym xs ys p) (clash_distinct e ys h)))
+
+twice_clash : (xs : List ℕ) → some_twice xs ≡ clash (λ a b. b == a) xs
+twice_clash [] = refl
+twice_clash (a ∷ rest) = ap (λ r. list_any (λ b. b == a) rest || r) (twice_clash rest)
+
+overlap_clash : {K : Type 0} (o : Order K) (xs : List Item) → some_overlap o xs ≡ clash (λ i x. not (o.apart x i)) xs
+overlap_clash o [] = refl
+overlap_clash o (i ∷ rest) = ap (λ r. meets o i rest || r) (overlap_clash o rest)
+
+flipped : (a b : ℕ) → (b == a) ≡ (a == b)
+flipped a b =
+    ⊎_elim
+    (λ same. eq-eqb b a (sym same) ∙ sym (eq-eqb a b same))
+    (λ differ. ne_eqb b a (λ e. differ (sym e)) ∙ sym (ne_eqb a b differ))
+    (cases_eq a b)
+
+-- in another order of the list they clash alike
+pub twice_moved : (xs ys : List ℕ) → IsPermutation xs ys → some_twice xs ≡ some_twice ys
+twice_moved xs ys p = twice_clash xs ∙ clash_moved (λ a b. b == a) flipped xs ys p ∙ sym (twice_clash ys)
+
+pub overlap_moved : {K : Type 0} (o : Order K) → IsLawful o → (xs ys : List Item) → IsPermutation xs ys → some_overlap o xs ≡ some_overlap o ys
+overlap_moved o law xs ys p = overlap_clash o xs ∙ clash_moved (λ i x. not (o.apart x i)) (λ i x. ap not (law.symmetric x i)) xs ys p ∙ sym (overlap_clash o ys)
+
+-- what stands behind the first of a sorted list is not below it
+all_from : {X : Type 0} (P : X → Type 0) (xs : List X) → ((j : ℕ) (d : X) → j < length xs → P (get_or xs j d)) → AllByRecursion P xs
+all_from P [] f = tt
+all_from P (x ∷ xs) f = (f zero x (omega arith), all_from P xs (λ j d lt. f (suc j) d (omega (arith, lt))))
+
+not_below : {X : Type 0} (n : X → ℕ) (x : X) (xs : List X) → IsNonDecreasingBy n (x ∷ xs) → AllByRecursion (λ y. n x ≤ n y) xs
+not_below n x xs sorted = all_from (λ y. n x ≤ n y) xs (λ j d lt. sorted zero (suc j) d (omega arith) (omega (arith, lt)))
+
+tail_sorted : {X : Type 0} (n : X → ℕ) (x : X) (xs : List X) → IsNonDecreasingBy n (x ∷ xs) → IsNonDecreasingBy n xs
+tail_sorted n x xs sorted i j d le lt = sorted (suc i) (suc j) d (omega (arith, le)) (omega (arith, lt))
+
+-- a number that is not its neighbour stands nowhere behind it
+pub twice_next : (x y : ℕ) (rest : List ℕ) → IsNonDecreasingBy (λ a. a) (x ∷ y ∷ rest) → y ≢ x → some_twice (x ∷ y ∷ rest) ≡ some_twice (y ∷ rest)
+twice_next x y rest sorted ne =
+    let front = not_below (λ a. a) x (y ∷ rest) sorted in
+    let behind = not_below (λ a. a) y rest (tail_sorted (λ a. a) x (y ∷ rest) sorted) in
+    let le : x ≤ y = front.0 in
+    let none = none_any (λ b. b == x) (y ∷ rest) (ne_eqb y x ne, all_weaker (λ b. y ≤ b) (λ b. (b == x) ≡ false) (λ b l. ne_eqb b x (λ e. absurd (ne (let up : y ≤ b = l in omega (arith, le, up, e))))) rest behind) in
+    ap (λ b. b || some_twice (y ∷ rest)) none
+
+pub twice_here : (x y : ℕ) (rest : List ℕ) → y ≡ x → some_twice (x ∷ y ∷ rest) ≡ true
+twice_here x y rest e = ap (λ b. (b || list_any (λ b. b == x) rest) || some_twice (y ∷ rest)) (eq-eqb y x e)
+
+-- an item that is apart from its neighbour is apart from all behind it, where these are
+module _ {K : Type 0} (o : Order K) (law : IsLawful o) (line : IsInLine o) where
+  precedes : (x y : Item) → o.valid x ≡ true → o.valid y ≡ true → o.apart x y ≡ true → x.a ≤ y.a → Precedes o x y
+  precedes x y vx vy ap' le =
+      elim (o.less y x) as (λ b. o.less y x ≡ b → Precedes o x y) [
+        | true ↦ λ l.
+            let back : Precedes o y x = record { first_valid = vy; second_valid = vx; is_apart = law.symmetric y x ∙ ap'; is_less = l } in
+            absurd (let lt = line.first_words_rise y x back in omega (arith, le, lt))
+        | false ↦ λ l. record { first_valid = vx; second_valid = vy; is_apart = ap'; is_less = law.one_is_less x y vx vy ap' ∙ ap not l }
+      ] refl
+
+  beyond : (x y : Item) (rest : List Item) → Precedes o x y → o.valid y ≡ true → AllByRecursion (λ i. o.valid i ≡ true) rest → AllByRecursion (λ z. y.a ≤ z.a) rest → AllByRecursion (λ z. o.apart z y ≡ true) rest → AllByRecursion (λ z. o.apart z x ≡ true) rest
+  beyond x y [] p vy v l a = tt
+  beyond x y (z ∷ rest) p vy v l a = (
+    law.symmetric z x ∙ line.apart_beyond x y z p (precedes y z vy v.0 (law.symmetric y z ∙ a.0) l.0),
+    beyond x y rest p vy v.1 l.1 a.1,
+  )
+
+  pub overlap_next : (x y : Item) (rest : List Item) → AllByRecursion (λ i. o.valid i ≡ true) (x ∷ y ∷ rest) → IsNonDecreasingBy (λ (i : Item). i.a) (x ∷ y ∷ rest) → o.apart y x ≡ true → some_overlap o (x ∷ y ∷ rest) ≡ some_overlap o (y ∷ rest)
+  overlap_next x y rest valid sorted apart =
+      let front = not_below (λ (i : Item). i.a) x (y ∷ rest) sorted in
+      let behind = not_below (λ (i : Item). i.a) y rest (tail_sorted (λ (i : Item). i.a) x (y ∷ rest) sorted) in
+      elim (some_overlap o (y ∷ rest)) as (λ b. some_overlap o (y ∷ rest) ≡ b → (meets o x (y ∷ rest) || b) ≡ b) [
+        | true ↦ λ e. (elim (meets o x (y ∷ rest)) as (λ b. (b || true) ≡ true) [ true ↦ refl | false ↦ refl ])
+        | false ↦ λ e.
+            let all = all_apart o (y ∷ rest) e in
+            let p = precedes x y valid.0 valid.1.0 (law.symmetric x y ∙ apart) front.0 in
+            ap (λ b. b || false) (no_meeting o x (y ∷ rest) (apart, beyond x y rest p valid.1.0 valid.1.1 behind all.0))
+      ] refl
+
+pub overlap_here : {K : Type 0} (o : Order K) (x y : Item) (rest : List Item) → o.apart y x ≡ false → some_overlap o (x ∷ y ∷ rest) ≡ true
+overlap_here o x y rest e = ap (λ b. (not b || meets o x rest) || some_overlap o (y ∷ rest)) e
+
+-- one place further in a sorted list
+pub twice_on : (words : List ℕ) (p : ℕ) → 1 ≤ p → p < length words → IsNonDecreasingBy (λ a. a) words → get_or words p 0 ≢ get_or words (p - 1) 0 → some_twice (drop (p - 1) words) ≡ some_twice words → some_twice (drop (p + 1 - 1) words) ≡ some_twice words
+twice_on words p some lt sorted ne same =
+    let x = get_or words (p - 1) 0 in
+    let y = get_or words p 0 in
+    let up : p - 1 + 1 ≡ p = omega (arith, some) in
+    let there : p + 1 - 1 ≡ p = omega arith in
+    let here = drop_here words p 0 lt in
+    let pair = drop_here words (p - 1) 0 (omega (arith, lt)) ∙ ap (λ k. x ∷ drop k words) up ∙ ap (λ xs. x ∷ xs) here in
+    ap (λ k. some_twice (drop k words)) there ∙ ap some_twice here
+    ∙ sym (twice_next x y (drop (p + 1) words) (subst (IsNonDecreasingBy (λ a. a)) pair (IsNonDecreasingBy-drop (λ a. a) (p - 1) words sorted)) ne)
+    ∙ sym (ap some_twice pair) ∙ same
+
+pub overlap_on : {K : Type 0} (o : Order K) → IsLawful o → IsInLine o → (items : List Item) (p : ℕ) (d : Item) → 1 ≤ p → p < length items → AllByRecursion (λ i. o.valid i ≡ true) items → IsNonDecreasingBy (λ (i : Item). i.a) items → o.apart (get_or items p d) (get_or items (p - 1) d) ≡ true → some_overlap o (drop (p - 1) items) ≡ some_overlap o items → some_overlap o (drop (p + 1 - 1) items) ≡ some_overlap o items
+overlap_on o law line items p d some lt valid sorted apart same =
+    let x = get_or items (p - 1) d in
+    let y = get_or items p d in
+    let up : p - 1 + 1 ≡ p = omega (arith, some) in
+    let there : p + 1 - 1 ≡ p = omega arith in
+    let here = drop_here items p d lt in
+    let pair = drop_here items (p - 1) d (omega (arith, lt)) ∙ ap (λ k. x ∷ drop k items) up ∙ ap (λ xs. x ∷ xs) here in
+    ap (λ k. some_overlap o (drop k items)) there ∙ ap (some_overlap o) here
+    ∙ sym (overlap_next o law line x y (drop (p + 1) items) (subst (AllByRecursion (λ i. o.valid i ≡ true)) pair (all_drop (λ i. o.valid i ≡ true) items (p - 1) valid)) (subst (IsNonDecreasingBy (λ (i : Item). i.a)) pair (IsNonDecreasingBy-drop (λ (i : Item). i.a) (p - 1) items sorted)) apart)
+    ∙ sym (ap (some_overlap o) pair) ∙ same
+
+-- no two are left
+pub none_left : {K : Type 0} (o : Order K) (items : List Item) (k : ℕ) → length items ≤ k + 1 → some_overlap o (drop k items) ≡ false
+none_left o [] zero le = refl
+none_left o [] (suc k) le = refl
+none_left o (x ∷ []) zero le = refl
+none_left o (x ∷ y ∷ rest) zero le = absurd (omega arith)
+none_left o (x ∷ rest) (suc k) le = none_left o rest k (omega (arith, le))

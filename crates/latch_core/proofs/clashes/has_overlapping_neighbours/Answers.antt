@@ -1,0 +1,21 @@
+use Rattle.std.proofs.Common.{◌≤◌, ◌+◌, ◌-◌, length, sym, ◌∙◌, arith}
+use Rattle.order_laws.specs.declared.items.Item.{Item}
+use Rattle.latch_core.proofs.BatchLemmas.{all_valid}
+use Rattle.latch_core.proofs.ClashLemmas.{overlap_on, none_left}
+use Rattle.latch_core.proofs.clashes.has_overlapping_neighbours.Goals as goal
+
+pub loop-place-preserved : goal.loop-place-preserved
+loop-place-preserved g c =
+    let o = g.O.TreeOrder.order in
+    let none : Item = record { a = 0; b = 0; tag = 0 } in
+    record {
+      some = omega arith;
+      same = overlap_on o g.met.O.TreeOrder.lawful c.requires.in_line c.args.items.now c.loop-place.place none c.loop-place.invariant.some c.loop-place-test.true (all_valid o c.args.items.now c.requires.valid) c.requires.sorted (sym c.apart.ensures ∙ c.if-not-apart.false) c.loop-place.invariant.same;
+    }
+
+pub returns : goal.returns
+returns g c =
+    let some = c.loop-place.invariant.some in
+    let all = c.loop-place-test.false in
+    let most : length c.args.items.now ≤ c.loop-place.place - 1 + 1 = omega (arith, some, all) in
+    sym (none_left g.O.TreeOrder.order c.args.items.now (c.loop-place.place - 1) most) ∙ c.loop-place.invariant.same

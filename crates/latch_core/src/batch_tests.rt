@@ -1,0 +1,222 @@
+use crate::attempts::Attempted;
+use crate::sequences::generation;
+use crate::{Update, WriterCore, attempt_in, plain};
+use order_laws::{Closed, HalfOpen, Item, Refusal, TreeOrder};
+use std::alloc::Global;
+use std::process::Abort;
+use std::test::Fail;
+use word_arena::{Layout, apply};
+
+fn item(a: u64, b: u64, tag: u64) -> Item {
+    Item { a, b, tag }
+}
+
+// Item number i of a row that lies side by side, from 0x100 on.
+fn in_row(i: u64) -> Item {
+    let a = (i % 4096 + 1) * 0x100;
+    item(a, a + 0x100, i)
+}
+
+/// A batch of these first words and items.
+fn batch(alloc: Global, erase: &[u64], insert: &[Item]) -> Result<Update, Fail> {
+    Ok(Update::Batch {
+        erase: erase.to_vec(alloc)?.into(),
+        insert: insert.to_vec(alloc)?.into(),
+    })
+}
+
+/// A writer and its words.
+#[derive(Drop)]
+struct Table<O: TreeOrder> {
+    words: Vec<u64>,
+    writer: WriterCore<O>,
+}
+
+impl<O: TreeOrder> Table<O> {
+    fn open(rt: &impl Abort, alloc: Global, l: Layout, start: u64) -> Result<Self, Fail> {
+        let writer = WriterCore::open(alloc, l, start)?;
+        let mut words = vec![in alloc; 0; l.words()]?;
+        assert!(rt; !words.is_empty());
+        words[0] = start;
+        Ok(Table { words, writer })
+    }
+
+    /// One step of the update in hand; says whether there was one.
+    fn step(&mut self, rt: &impl Abort) -> bool {
+        let Some(store) = self.writer.next() else {
+            return false;
+        };
+        assert!(rt; store.word < self.words.len());
+        apply(self.words.as_mut_slice(), store);
+        self.writer.did();
+        true
+    }
+
+    /// A whole update, and how many steps it took.
+    fn carry_out(&mut self, rt: &impl Abort, u: Update) -> Result<u64, Refusal> {
+        let left = self.writer.begin(u)?;
+        for _ in 0..left {
+            assert!(rt; self.step(rt));
+        }
+        assert!(rt; !self.step(rt));
+        Ok(left)
+    }
+
+    /// What a lookup finds that nobody disturbs, and its generation.
+    fn find(&self, rt: &impl Abort, key: O::Key) -> (Option<Item>, u64) {
+        let l = self.writer.layout();
+        assert_eq!(rt; self.words.len(), l.words());
+        match attempt_in::<O>(&self.words, l, key).0 {
+            Attempted::Answered(found, generation) => (found, generation),
+            Attempted::Failed => (None, u64::MAX),
+        }
+    }
+
+    /// The generation that word 0 names.
+    fn generation(&self) -> u64 {
+        self.words.first().copied().map_or(0, generation)
+    }
+}
+
+// The rows of a batch: two items at once; a batch that would pass the capacity, although it erases; one item for another; and
+// refusals.
+#[test]
+fn rows_of_batches(rt: HostRuntime) -> Result<(), Fail> {
+    let alloc = rt.alloc();
+    let mut table = Table::<HalfOpen>::open(&rt, alloc, Layout::new(4)?, 0)?;
+    let two = [item(0x10, 0x20, 1), item(0x30, 0x40, 2)];
+    table.writer.begin(batch(alloc, &[], &two)?)?;
+    while table.generation() == 0 {
+        assert_eq!(rt; table.find(&rt, 0x10), (None, 0));
+        assert!(rt; table.step(&rt));
+    }
+    assert_eq!(rt; table.find(&rt, 0x10), (Some(two[0]), 1));
+    assert_eq!(rt; table.find(&rt, 0x30), (Some(two[1]), 1));
+    for (capacity, refused) in [(1, Some(Refusal::Full)), (2, None)] {
+        let mut small = Table::<HalfOpen>::open(&rt, alloc, Layout::new(capacity)?, 0)?;
+        small.carry_out(&rt, Update::Insert(item(0x10, 0x20, 1)))?;
+        let renamed = batch(alloc, &[0x10], &[item(0x10, 0x20, 2)])?;
+        assert_eq!(rt; small.carry_out(&rt, renamed).err(), refused);
+        let tag = if refused.is_some() { 1 } else { 2 };
+        assert_eq!(rt; small.find(&rt, 0x10).0, Some(item(0x10, 0x20, tag)));
+        assert_eq!(rt; small.words.first().copied(), Some(2 * tag));
+    }
+    Ok(())
+}
+
+#[test]
+fn refusals_of_batches_and_the_empty_one(rt: HostRuntime) -> Result<(), Fail> {
+    let alloc = rt.alloc();
+    let l = Layout::new(4)?;
+    let mut table = Table::<HalfOpen>::open(&rt, alloc, l, 0)?;
+    let (one, beside, across) = (
+        item(0x10, 0x20, 1),
+        item(0x20, 0x30, 2),
+        item(0x18, 0x28, 3),
+    );
+    let bad = item(5, 5, 4);
+    for (erase, insert, refused) in [
+        ([].as_slice(), [one, across].as_slice(), Refusal::Overlap),
+        (&[0x10], &[], Refusal::NoSuchItem),
+        (&[0x10], &[one, bad], Refusal::BadItem),
+    ] {
+        let u = batch(alloc, erase, insert)?;
+        let why = plain::refuses::<HalfOpen>(l, false, &[], 0, &u);
+        assert_eq!(rt; why, Some(refused));
+        assert_eq!(rt; table.carry_out(&rt, u).err(), why);
+    }
+    assert_eq!(rt; table.carry_out(&rt, batch(alloc, &[], &[])?)?, 2);
+    assert_eq!(rt; (table.generation(), table.writer.len()), (1, 0));
+    table.carry_out(&rt, batch(alloc, &[], &[beside, one])?)?;
+    let twice = batch(alloc, &[0x10, 0x20, 0x10], &[])?;
+    assert_eq!(rt; table.carry_out(&rt, twice), Err(Refusal::NoSuchItem));
+    let half = batch(alloc, &[0x10], &[across])?;
+    assert_eq!(rt; table.carry_out(&rt, half), Err(Refusal::Overlap));
+    table.carry_out(&rt, batch(alloc, &[0x20, 0x10], &[across])?)?;
+    assert_eq!(rt; table.find(&rt, 0x20), (Some(across), 3));
+    assert_eq!(rt; table.find(&rt, 0x10), (None, 3));
+    Ok(())
+}
+
+// At each stop of the update in hand, all keys find what the plain table at the lookup's generation has.
+fn all_or_none<O: TreeOrder<Key = u64>>(
+    rt: &impl Abort,
+    table: &mut Table<O>,
+    before: &[Item],
+    after: &[Item],
+    keys: &[u64],
+) {
+    let old = table.generation();
+    for _ in 0..=table.writer.remaining() {
+        let now = if table.generation() == old {
+            before
+        } else {
+            after
+        };
+        for key in keys {
+            let found = order_laws::laws::look_through::<O>(now, *key);
+            assert_eq!(rt; table.find(rt, *key), (found, table.generation()));
+        }
+        table.step(rt);
+    }
+    assert_eq!(rt; Some(table.generation()), old.checked_add(1));
+}
+
+#[test]
+fn a_stop_at_each_step_of_a_batch(rt: HostRuntime) -> Result<(), Fail> {
+    let alloc = rt.alloc();
+    let mut table = Table::<HalfOpen>::open(&rt, alloc, Layout::new(16)?, 0)?;
+    let seven: [Item; 7] = [
+        in_row(3),
+        in_row(0),
+        in_row(6),
+        in_row(1),
+        in_row(5),
+        in_row(2),
+        in_row(4),
+    ];
+    let four = [in_row(9), in_row(8), item(0x200, 0x280, 11), in_row(7)];
+    let keys = [
+        0, 0x100, 0x1ff, 0x200, 0x2c0, 0x3ff, 0x400, 0x500, 0x600, 0x7ff, 0x800, 0x900, 0xa80,
+        0xb00,
+    ];
+    let updates = [
+        batch(alloc, &[], &seven)?,
+        batch(alloc, &[0x200, 0x700, 0x400], &four)?,
+    ];
+    for (done, u) in updates.iter().enumerate() {
+        let before = plain::replay::<HalfOpen>(alloc, &updates[..done])?;
+        let after = plain::after::<HalfOpen>(alloc, &before, u)?;
+        table.writer.begin(u.copy()?)?;
+        all_or_none(&rt, &mut table, &before, &after, &keys);
+    }
+    assert_eq!(rt; table.writer.len(), 8);
+    Ok(())
+}
+
+// The last sequence of a wide layout, and one more than a narrow one has.
+#[test]
+fn the_wide_sequence(rt: HostRuntime) -> Result<(), Fail> {
+    let l = Layout::wide(4)?;
+    let mut table = Table::<HalfOpen>::open(&rt, rt.alloc(), l, 18446744073709551612)?;
+    let one = item(0x10, 0x20, 1);
+    table.carry_out(&rt, Update::Insert(one))?;
+    for u in [
+        Update::Insert(item(0x30, 0x40, 2)),
+        Update::Erase(0x10),
+        batch(rt.alloc(), &[0x10], &[])?,
+    ] {
+        assert_eq!(rt; table.carry_out(&rt, u), Err(Refusal::SequenceSpent));
+    }
+    assert_eq!(rt; table.find(&rt, 0x10), (Some(one), 9223372036854775807));
+    assert_eq!(rt; table.words.first().copied(), Some(18446744073709551614));
+    let mut beyond = Table::<HalfOpen>::open(&rt, rt.alloc(), l, 4294967292)?;
+    beyond.carry_out(&rt, Update::Insert(one))?;
+    beyond.carry_out(&rt, Update::Erase(0x10))?;
+    assert_eq!(rt; beyond.find(&rt, 0x10), (None, 2147483648));
+    for start in [1, 18446744073709551613, 18446744073709551615] {
+        let opened = WriterCore::<Closed>::open(rt.alloc(), l, start);
+        assert_eq!(rt; opened.err(), Some(Refusal::BadCapacity), "at {start}");
+    }
+    Ok(())
+}

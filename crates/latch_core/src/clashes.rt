@@ -1,0 +1,98 @@
+//! Whether some entries of a batch stand against each other, in few comparisons.
+//!
+//! Entries that clash stand side by side in a sorted copy. Where there is no memory for the copy, and in an order in which
+//! items that clash need not be neighbours, each is compared with each.
+
+ghost use Rattle.std.specs.Prelude.{◌≡◌, false, IfOk};
+ghost use Rattle.std.specs.List.Sorted.{IsPermutation, IsNonDecreasingBy};
+ghost use Rattle.order_laws.specs.declared.items.Item.{Item};
+ghost use Rattle.order_laws.specs.Orders.{IsInLine};
+ghost use Rattle.latch_core.specs.Updates.{some_twice, some_invalid, some_overlap};
+
+use crate::plain;
+use order_laws::{Item, TreeOrder};
+use std::alloc::{AllocError, Global};
+
+/// Whether some number stands twice in the list.
+pub fn some_twice(alloc: Global, words: &[u64]) -> bool
+    ensures { result ≡ some_twice words.now }
+{
+    match in_order(alloc, words) {
+        Ok(sorted) => has_equal_neighbours(sorted.as_slice()),
+        Err(_) => plain::some_twice(words),
+    }
+}
+
+// The same numbers in order.
+fn in_order(alloc: Global, words: &[u64]) -> Result<Vec<u64>, AllocError>
+    ensures permutation { IfOk result (λ sorted. IsPermutation words.now sorted.items) }
+    ensures sorted { IfOk result (λ sorted. IsNonDecreasingBy (λ a. a) sorted.items) }
+{
+    let mut sorted = copied(alloc, words)?;
+    sorted.sort_unstable();
+    Ok(sorted)
+}
+
+fn copied(alloc: Global, words: &[u64]) -> Result<Vec<u64>, AllocError>
+    ensures { IfOk result (λ copy. copy.items ≡ words.now) }
+{
+    words.to_vec(alloc)
+}
+
+// Whether a sorted list has two equal neighbours, as it has where some number stands in it twice.
+fn has_equal_neighbours(words: &[u64]) -> bool
+    requires sorted { IsNonDecreasingBy (λ a. a) words.now }
+    ensures { result ≡ some_twice words.now }
+{
+    for place in 1..words.len() {
+        if words[place] == words[place - 1] {
+            return true;
+        }
+    }
+    false
+}
+
+/// Whether two of some valid items are not apart.
+pub fn some_overlap<O: TreeOrder>(alloc: Global, items: &[Item]) -> bool
+    requires valid { some_invalid O.order items.now ≡ false }
+    ensures { result ≡ some_overlap O.order items.now }
+{
+    if !O::in_line() {
+        return plain::some_overlap::<O>(items);
+    }
+    match by_first_word(alloc, items) {
+        Ok(sorted) => has_overlapping_neighbours::<O>(sorted.as_slice()),
+        Err(_) => plain::some_overlap::<O>(items),
+    }
+}
+
+// The same items in the order of their first words.
+fn by_first_word(alloc: Global, items: &[Item]) -> Result<Vec<Item>, AllocError>
+    ensures permutation { IfOk result (λ sorted. IsPermutation items.now sorted.items) }
+    ensures sorted { IfOk result (λ sorted. IsNonDecreasingBy (λ (i : Item). i.a) sorted.items) }
+{
+    let mut sorted = copied_items(alloc, items)?;
+    sorted.sort_unstable_by_key(|i| i.a);
+    Ok(sorted)
+}
+
+fn copied_items(alloc: Global, items: &[Item]) -> Result<Vec<Item>, AllocError>
+    ensures { IfOk result (λ copy. copy.items ≡ items.now) }
+{
+    items.to_vec(alloc)
+}
+
+// Whether two neighbours are not apart in a list that is sorted by first words, as they are where any two items of it are not.
+fn has_overlapping_neighbours<O: TreeOrder>(items: &[Item]) -> bool
+    requires in_line { IsInLine O.order }
+    requires valid { some_invalid O.order items.now ≡ false }
+    requires sorted { IsNonDecreasingBy (λ (i : Item). i.a) items.now }
+    ensures { result ≡ some_overlap O.order items.now }
+{
+    for place in 1..items.len() {
+        if !O::apart(&items[place], &items[place - 1]) {
+            return true;
+        }
+    }
+    false
+}
