@@ -2,8 +2,6 @@
 use Rattle.std.proofs.Common.{◌≡◌, ◌≢◌, ℕ, zero, suc, ◌+◌, ◌-◌, ◌*◌, ◌≤◌, List, [], ◌∷◌, ◌++◌, length, Option, Some, None, refl, sym, ◌∙◌, ap, subst, inl, inr, ⊎_elim, arith, append-nil}
 use Rattle.std.specs.Prelude.{is_some, min}
 use Rattle.std.specs.List.{AllByRecursion}
-use Rattle.std.specs.Ordering.{nat_cmp}
-use Rattle.std.specs.BTreeMap.{get as tree_get}
 use Rattle.std.specs.FinMap.{get, insert, remove}
 use Rattle.std.proofs.lemmas.Bool.{cases_eq}
 use Rattle.order_laws.specs.declared.items.Item.{Item}
@@ -32,7 +30,7 @@ use Rattle.latch_steps.specs.declared.replies.Reply.TheVariants.{Started, Loaded
 use Rattle.latch_steps.specs.declared.worlds.World.{World}
 use Rattle.latch_steps.specs.Runs.{LookupInHand, Moment, Done, did, last_of, history}
 use Rattle.latch_steps.specs.Steps.{more, with_lookups, new_lookup, with_value, after_value, load_left, start_done, load_done, read_done, Run}
-use Rattle.latch_steps.specs.Lookups.{IsInHand}
+use Rattle.latch_steps.specs.Lookups.{IsInHand, lookup_at}
 use Rattle.latch_steps.specs.Worlds.{Shows, layout_in, IsAfter}
 use Rattle.latch_steps.specs.WorldSteps.{MayDo}
 use Rattle.latch_steps.specs.AtOnce.{IsFound, IsNear, Finds, IsNotBegun, LooksUp, NeverLooksUp}
@@ -114,7 +112,7 @@ module _ {K : Type 0} (o : Order K) (n limit : ℕ) (m : List ℕ) (r : ℕ) whe
 module _ {O K : Type 0} (o : Order K) (law : IsLawful o) (old : World O K) (r : ℕ) (k : K) where
   -- the whole lookup, where the reader has none in hand
   pub look_found : (answer : Option Item) (g loads first last : ℕ) → loads ≤ 18446744073709551615
-      → tree_get nat_cmp old.lookups r ≡ None → LooksUp o old k answer g loads
+      → lookup_at old.lookups r ≡ None → LooksUp o old k answer g loads
       → first ≡ more old.events → last ≡ min (first + loads) 18446744073709551615
       → (w : Moment K) → Shows o old w
       → Finds o old w r k (record { reader = r; key = k; answer = answer; generation = g; first = first; last = last; loads = loads; tries = 1 })
@@ -122,7 +120,7 @@ module _ {O K : Type 0} (o : Order K) (law : IsLawful o) (old : World O K) (r : 
   look_found answer g loads first last most free found ef el w s =
       let n = capacity_of old.layout in
       let m = old.words.items in
-      let none_there : get w.lookups r ≡ None = shown_none o n (tree_get nat_cmp old.lookups r) (get w.lookups r) free (s.lookups r) in
+      let none_there : get w.lookups r ≡ None = shown_none o n (lookup_at old.lookups r) (get w.lookups r) free (s.lookups r) in
       let l : LookupInHand K = new_lookup k (more w.events) in
       let w' = with_lookups w (insert w.lookups r l) in
       let h = ending o n (limit_of old.layout) m r _ w' l 0 _ answer g (sym s.words) (get_insert_same w.lookups r l) refl refl found.comes_to in
@@ -145,9 +143,9 @@ module _ {O K : Type 0} (o : Order K) (law : IsLawful o) (old : World O K) (r : 
           writer = subst (λ v. Pictures old.writer v) (sym h.latch) s.writer;
           lookups = λ q.
               ⊎_elim
-              (λ same. subst (λ j. IsInHand {O = O} o n (tree_get nat_cmp old.lookups j) (get h.done.lookups j)) (sym same)
+              (λ same. subst (λ j. IsInHand {O = O} o n (lookup_at old.lookups j) (get h.done.lookups j)) (sym same)
               (subst (λ x. IsInHand {O = O} o n x (get h.done.lookups r)) (sym free) (subst (IsInHand {O = O} o n None) (sym h.gone) tt)))
-              (λ ne. subst (λ x. IsInHand {O = O} o n (tree_get nat_cmp old.lookups q) x) (sym (h.others q ne ∙ get_insert_other w.lookups q r l ne)) (s.lookups q))
+              (λ ne. subst (λ x. IsInHand {O = O} o n (lookup_at old.lookups q) x) (sym (h.others q ne ∙ get_insert_other w.lookups q r l ne)) (s.lookups q))
               (cases_eq q r);
           events = sym end ∙ sym h.events;
         };

@@ -5,14 +5,13 @@ use Rattle.std.specs.Ordering.{nat_cmp}
 use Rattle.std.specs.FinMap.{FinMap, get}
 use Rattle.latch_core.specs.declared.updates.Update.{Update}
 use Rattle.order_laws.specs.Orders.{Order}
-use Rattle.std.specs.BTreeMap.{get as tree_get}
 use Rattle.word_arena.specs.declared.layouts.Layout.{Layout}
 use Rattle.word_arena.specs.Layouts.{capacity_of, limit_of}
 use Rattle.latch_core.specs.Writers.{Pictures}
 use Rattle.latch_steps.specs.declared.lookups.Lookup.{Lookup}
 use Rattle.latch_steps.specs.declared.worlds.World.{World}
 use Rattle.latch_steps.specs.Runs.{LookupInHand, Moment}
-use Rattle.latch_steps.specs.Lookups.{IsInHand}
+use Rattle.latch_steps.specs.Lookups.{IsInHand, lookup_at}
 use Rattle.latch_core.specs.Invariants.{IsSound}
 
 -- the layout of a world
@@ -30,7 +29,7 @@ pub record Shows {O K : Type 0} (o : Order K) (c : World O K) (w : Moment K) : T
   pub limit : c.writer.limit ≡ limit_of c.layout
   pub words : c.words.items ≡ w.latch.words
   pub writer : Pictures c.writer w.latch
-  pub lookups : AreInHand o (capacity_of c.layout) (tree_get nat_cmp c.lookups) w.lookups
+  pub lookups : AreInHand o (capacity_of c.layout) (lookup_at c.lookups) w.lookups
   pub events : c.events ≡ w.events
 
 -- no moment that it shows has an update in hand

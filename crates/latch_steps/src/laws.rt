@@ -1,6 +1,6 @@
 //! What holds of every run, whatever the events and whatever steps the writer chose.
 
-ghost use Rattle.latch_steps.specs.Promises.{AllRunsAreSafe, AllRunsAreQuiet};
+ghost use Rattle.latch_steps.specs.Promises.{AllRunsAreSafe, AllRunsAreQuiet, AllPlainRunsAreExact, PlainCommandsRunPlainly};
 
 use order_laws::TreeOrder;
 
@@ -14,4 +14,16 @@ pub fn every_run_is_safe<O: TreeOrder>()
 /// three; and no lookup tries again more often than the writer flips between its start and its last load.
 pub fn every_run_is_quiet<O: TreeOrder>()
     ensures { AllRunsAreQuiet O.order }
+{}
+
+/// Where each update is ended at once and each lookup is read to its end at once, each lookup that returns gives the
+/// lookup of the table after all updates accepted before it, with their generation, at its first attempt and within four
+/// loads for each item of that table and three.
+pub fn every_plain_run_is_exact<O: TreeOrder>()
+    ensures { AllPlainRunsAreExact O.order }
+{}
+
+/// Commands that come one after another in this way make such a run.
+pub fn plain_commands_run_plainly<O: TreeOrder>()
+    ensures { PlainCommandsRunPlainly O.order }
 {}

@@ -29,13 +29,14 @@ pub struct World<O: TreeOrder> {
     layout: Layout,
     words: Vec<u64>,
     writer: WriterCore<O>,
-    lookups: BTreeMap<u32, Lookup<O>>,
+    lookups: BTreeMap<u32, Option<Lookup<O>>>,
     events: u64,
 }
 
 impl<O: TreeOrder> World<O> {
     ghost use Rattle.latch_steps.specs.Worlds.{Shows, IsAtRest, layout_in, IsAfter};
     ghost use Rattle.latch_steps.specs.WorldSteps.{Does, MayDo, Steps};
+    ghost use Rattle.latch_steps.specs.Lookups.{lookup_at};
     ghost use Rattle.latch_steps.specs.HeldLookups.{ReadsOn};
     ghost use Rattle.latch_steps.specs.AtOnce.{IsSettled, Settles, IsFound, IsNear, Finds, IsNotBegun, LooksUp, NeverLooksUp};
 
@@ -131,13 +132,13 @@ impl<O: TreeOrder> World<O> {
         ensures layout { layout_in self.new ≡ layout_in self.old }
         ensures steps { MayDo O.order self.old (Start reader key) result self.new }
     {
-        if self.lookups.contains_key(&reader) {
+        if self.is_looking(reader) {
             self.events = self.events.saturating_add(1);
             return Reply::Refused(Refusal::ReaderBusy);
         }
         let first = self.events.saturating_add(1);
         let lookup = Lookup::start(self.layout, key, first);
-        match self.lookups.insert(reader, lookup) {
+        match self.lookups.insert(reader, Some(lookup)) {
             Ok(_) => {
                 self.events = first;
                 Reply::Started
@@ -146,28 +147,35 @@ impl<O: TreeOrder> World<O> {
         }
     }
 
+    /// Whether a reader has a lookup in hand.
+    fn is_looking(&self, reader: u32) -> bool
+        ensures { result ≡ is_some (lookup_at self.now.lookups reader) }
+    {
+        matches!(self.lookups.get(&reader), Some(Some(_)))
+    }
+
     /// A reader makes one load.
     fn read(&mut self, reader: u32) -> Reply<O::Key>
         ensures layout { layout_in self.new ≡ layout_in self.old }
         ensures steps { Does O.order self.old (Read reader) result self.new }
     {
         self.events = self.events.saturating_add(1);
-        let Some(lookup) = self.lookups.get_mut(&reader) else {
+        let Some(place) = self.lookups.get_mut(&reader) else {
+            return Reply::Refused(Refusal::ReaderIdle);
+        };
+        let Some(lookup) = place.take() else {
             return Reply::Refused(Refusal::ReaderIdle);
         };
         match lookup.load(self.words.as_slice(), reader, self.events) {
             Loaded::Going(next) => {
-                *lookup = next;
+                *place = Some(next);
                 Reply::Loaded
             }
             Loaded::Retrying(next) => {
-                *lookup = next;
+                *place = Some(next);
                 Reply::Retried
             }
-            Loaded::Returned(returned) => {
-                let _ = self.lookups.remove(&reader);
-                Reply::Returned(returned)
-            }
+            Loaded::Returned(returned) => Reply::Returned(returned),
         }
     }
 
@@ -193,8 +201,7 @@ impl<O: TreeOrder> World<O> {
         ensures after { IfOk result (λ x. (start : ℕ) (us : List Update) → IsAfter O.order start us self.old → IsAfter O.order start us self.new) }
         ensures refusal { (start : ℕ) (us : List Update) (h : IsAfter O.order start us self.old) → IfErr result (λ e. IsNotBegun O.order h reader e self.new) }
     {
-        let is_busy = self.lookups.contains_key(&reader);
-        if is_busy {
+        if self.is_looking(reader) {
             self.events = self.events.saturating_add(1);
             return Err(Refusal::ReaderBusy);
         }
@@ -241,7 +248,11 @@ impl<O: TreeOrder> World<O> {
         ensures layout { layout_in self.new ≡ layout_in self.old }
         ensures reads { (w : Moment O.Key) → Shows O.order self.old w → ReadsOn O.order self.old w reader most result.0 result.1 self.new }
     {
-        let Some(lookup) = self.lookups.get_mut(&reader) else {
+        let Some(place) = self.lookups.get_mut(&reader) else {
+            self.events = self.events.saturating_add(1);
+            return (1, Some(Note::Refused(Refusal::ReaderIdle)));
+        };
+        let Some(lookup) = place.take() else {
             self.events = self.events.saturating_add(1);
             return (1, Some(Note::Refused(Refusal::ReaderIdle)));
         };
@@ -254,13 +265,10 @@ impl<O: TreeOrder> World<O> {
         self.events = events;
         match held {
             Held::Going(next) => {
-                *lookup = next;
+                *place = Some(next);
                 (loads, None)
             }
-            Held::Returned(returned) => {
-                let _ = self.lookups.remove(&reader);
-                (loads, Some(Note::Returned(returned)))
-            }
+            Held::Returned(returned) => (loads, Some(Note::Returned(returned))),
         }
     }
 

@@ -8,6 +8,7 @@ use Rattle.latch_steps.proofs.Patient.{quiet, near}
 use Rattle.latch_steps.specs.Near.{AreShallow}
 use Rattle.latch_steps.proofs.Recording.{records_none, records_append, notes_of_run, expand_push, one_more_taken}
 use Rattle.latch_steps.proofs.Counting.{few_counted}
+use Rattle.latch_steps.proofs.PlainRuns.{exact_where_plain}
 use Rattle.latch_steps.proofs.runs.drive_notes.Goals as goal
 
 pub loop-command-init : goal.loop-command-init
@@ -48,4 +49,5 @@ returns-clause-notes g c =
       safe = safe o law (capacity_of l) (limit_of l) start even h.0 few noted.steps;
       quiet = quiet o law (capacity_of l) (limit_of l) start even h.0 few noted.steps;
       near = near o law (capacity_of l) (limit_of l) start even h.0 few noted.steps low;
+      plain = exact_where_plain o law (capacity_of l) (limit_of l) start h.0 even noted.steps;
     }
