@@ -78,6 +78,9 @@ impl<O: TreeOrder> Lookup<O> {
     }
 
     /// One load of the reader, which is event number `last`.
+    ///
+    /// It is part of each loop over loads, so that these go on with a lookup that is where it was.
+    #[inline(always)]
     pub(crate) fn load(self, words: &[u64], reader: u32, last: u64) -> Loaded<O>
         ensures { (n : ℕ) (l : LookupInHand O.Key) → IsLookupOf O.order n self l → LoadsTo O.order n words.now reader last l result }
     {
