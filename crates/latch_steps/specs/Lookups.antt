@@ -43,3 +43,8 @@ LoadsTo {O} {K} o n words r last l (Retrying c) =
     × ((w : Moment K) → w.latch.words ≡ words → after_load o n w r l ≡ Retries next)
 LoadsTo {O} {K} o n words r last l (Returned x) =
     (w : Moment K) → w.latch.words ≡ words → more w.events ≡ last → after_load o n w r l ≡ Returns x
+
+-- so from whatever lookup of the definitions the code's is
+abbrev pub LoadsAny : {O K : Type 0} → Order K → Lookup O K → List ℕ → ℕ → ℕ → Loaded O K → Type 0
+LoadsAny {O} {K} o c words r last loaded =
+    (n : ℕ) (l : LookupInHand K) → IsLookupOf o n c l → LoadsTo o n words r last l loaded

@@ -25,8 +25,8 @@ abbrev pub IsPlain : {K : Type 0} → Moment K → List (Done K) → Type 0
 IsPlain w [] = Unit {0}
 IsPlain w (d ∷ run) = IsPlainEvent w d.event × IsPlain d.after run
 
--- and at each command, whose part of the run is plain then: an update that is accepted is followed by
--- writes up to its end, and a start by reads of the same reader that end the lookup
+-- and at each command, whose part of the run is plain then: an update that is accepted is followed
+-- by writes up to its end, and a start by reads of the same reader that end the lookup
 abbrev pub ArePlain : {K : Type 0} → Moment K → List (Command K) → List (Done K) → Type 0
 ArePlain w [] run = run ≡ []
 ArePlain {K} w (c ∷ cs) run =

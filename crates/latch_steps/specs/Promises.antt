@@ -38,19 +38,19 @@ abbrev pub IsQuietTrace : {O K : Type 0} → Order K → Layout → ℕ → Trac
 IsQuietTrace {O} {K} o l start t =
     (run : List (Done K)) → IsTraceOf o l start t run → IsQuiet o start run
 
--- and some run has it in which these lookups return within 4d + 3 loads, where 2^d is at most the square
--- of n + 1
+-- and some run has it in which these lookups return within 4d + 3 loads, where 2^d is at most the
+-- square of n + 1
 abbrev pub IsNearTrace : {O K : Type 0} → Order K → Layout → ℕ → Trace O K → Type 0
 IsNearTrace {O} {K} o l start t =
     (run : List (Done K)) × IsTraceOf o l start t run × AreNear o start (history run) run
 
--- where updates and lookups come one after another, each lookup that returned is that of the table after
--- all updates accepted before it
+-- where updates and lookups come one after another, each lookup that returned is that of the table
+-- after all updates accepted before it
 abbrev pub IsExactWherePlain : {K : Type 0} → Order K → ℕ → ℕ → List (Done K) → Type 0
 IsExactWherePlain o n start run = IsPlain (opening n start) run → AreLooksAfter o start [] run
 
--- some run that carries out these commands has these notes and this last sequence, is safe and quiet, and
--- its lookups that the writer leaves alone return so; and it is exact where it is plain
+-- some run that carries out these commands has these notes and this last sequence, is safe and
+-- quiet, and its lookups that the writer leaves alone return so; and it is exact where it is plain
 pub record AreNotesOfCommands {O K : Type 0} (o : Order K) (l : Layout) (start : ℕ)
     (commands : List (Command K)) (t : Notes O K) : Type 0 where
   pub run : List (Done K)
@@ -61,7 +61,8 @@ pub record AreNotesOfCommands {O K : Type 0} (o : Order K) (l : Layout) (start :
   pub near : AreNear o start (history run) run
   pub plain : IsExactWherePlain o (capacity_of l) start run
 
--- this is so of every run from an even sequence, of fewer than 2^64 steps, at any capacity and limit
+-- this is so of every run from an even sequence, of fewer than 2^64 steps, at any capacity and
+-- limit
 abbrev pub AllRunsAre : {K : Type 0} → Order K → (ℕ → ℕ → List (Done K) → Type 0) → Type 0
 AllRunsAre {K} o Right =
     (n limit start : ℕ) (run : List (Done K)) → stable start ≡ 0 → length run < 2 ^ 64

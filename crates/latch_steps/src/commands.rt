@@ -9,7 +9,8 @@ pub enum Command<K> {
     Begin(Update),
     /// At most this many steps of the writer, up to the end of the update in hand.
     Write(u32),
-    /// Steps of the writer up to and with its next flip; where none remains, up to the end of the update in hand.
+    /// Steps of the writer up to and with its next flip; where none remains, up to the end of the
+    /// update in hand.
     WriteFlip,
     /// Steps of the writer up to the end of the update in hand.
     WriteEnd,

@@ -11,7 +11,8 @@ use latch_core::{ReaderCore, Taken};
 use order_laws::TreeOrder;
 use word_arena::Layout;
 
-/// A lookup in hand: the reader's core, the number of the event that started it, and the loads and attempts so far.
+/// A lookup in hand: the reader's core, the number of the event that started it, and the loads and
+/// attempts so far.
 #[derive(Drop)]
 pub(crate) struct Lookup<O: TreeOrder> {
     core: ReaderCore<O>,
@@ -39,7 +40,7 @@ pub(crate) enum Held<O: TreeOrder> {
 }
 
 impl<O: TreeOrder> Lookup<O> {
-    ghost use Rattle.latch_steps.specs.Lookups.{IsLookupOf, LoadsTo};
+    ghost use Rattle.latch_steps.specs.Lookups.{IsLookupOf, LoadsAny};
     ghost use Rattle.latch_steps.specs.HeldLookups.{LoadsFrom};
 
     /// A lookup that has loaded nothing, begun by event number `first`.
@@ -54,8 +55,8 @@ impl<O: TreeOrder> Lookup<O> {
         }
     }
 
-    /// Loads of the reader, at most so many and up to its return, after `events` events. Answers what they make of the
-    /// lookup, how many they are, and how many events there are then.
+    /// Loads of the reader, at most so many and up to its return, after `events` events. Answers
+    /// what they make of the lookup, how many they are, and how many events there are then.
     pub(crate) fn load_on(
         self,
         words: &[u64],
@@ -82,7 +83,7 @@ impl<O: TreeOrder> Lookup<O> {
     /// It is part of each loop over loads, so that these go on with a lookup that is where it was.
     #[inline(always)]
     pub(crate) fn load(self, words: &[u64], reader: u32, last: u64) -> Loaded<O>
-        ensures { (n : ℕ) (l : LookupInHand O.Key) → IsLookupOf O.order n self l → LoadsTo O.order n words.now reader last l result }
+        ensures { LoadsAny O.order self words.now reader last result }
     {
         let Lookup {
             core,

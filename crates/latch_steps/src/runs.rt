@@ -13,10 +13,11 @@ use word_arena::Layout;
 
 /// Does these events one after another, from an empty table with its sequence at `start`.
 ///
-/// Each lookup that returns gives the lookup of the table after some whole number of accepted updates, which was current
-/// at a moment between its first and its last step; and a lookup whose steps meet no writer step returns at its first
-/// attempt within `4n + 3` loads at a table of `n` items, even where the writer stands inside an update. These loads are also
-/// at most `4d + 3` for a `d` with 2 to the power `d` at most the square of `n + 1`.
+/// Each lookup that returns gives the lookup of the table after some whole number of accepted
+/// updates, which was current at a moment between its first and its last step; and a lookup whose
+/// steps meet no writer step returns at its first attempt within `4n + 3` loads at a table of `n`
+/// items, even where the writer stands inside an update. These loads are also at most `4d + 3` for
+/// a `d` with 2 to the power `d` at most the square of `n + 1`.
 ///
 /// Refused by [`Refusal::BadCapacity`] where the start is odd or above the layout's limit, and by
 /// [`Refusal::OutOfMemory`], which gives up the whole run.
@@ -41,10 +42,11 @@ pub fn run<O: TreeOrder>(
     Ok(recorder.finish())
 }
 
-/// Does the events of these commands one after another, from an empty table with its sequence at `start`.
+/// Does the events of these commands one after another, from an empty table with its sequence at
+/// `start`.
 ///
-/// The trace is a run of its events, under the same promise as that of [`run`], and its events are those that the commands
-/// stand for.
+/// The trace is a run of its events, under the same promise as that of [`run`], and its events are
+/// those that the commands stand for.
 pub fn drive<O: TreeOrder>(
     alloc: Global,
     l: Layout,
@@ -67,8 +69,9 @@ pub fn drive<O: TreeOrder>(
 
 /// Does the events of these commands as [`drive`] does, and keeps no list of them.
 ///
-/// The notes and the sequence are those of a run of the events that the commands stand for, under the same promise as that
-/// of [`run`]. A run of 2 to the power 64 events is refused as too large.
+/// The notes and the sequence are those of a run of the events that the commands stand for, under
+/// the same promise as that of [`run`]. A run of 2 to the power 64 events less one, or of more, is
+/// refused as too large.
 pub fn drive_notes<O: TreeOrder>(
     alloc: Global,
     l: Layout,

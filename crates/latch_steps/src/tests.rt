@@ -205,7 +205,8 @@ fn some_event(state: &mut u64) -> Event<u64> {
     }
 }
 
-/// Whether some moment from the lookup's start to its end had its generation, with the answer of the plain replay.
+/// Whether some moment from the lookup's start to its end had its generation, with the answer of
+/// the plain replay.
 fn was_current(
     alloc: Global,
     x: &Returned<u64>,
@@ -323,8 +324,8 @@ impl Account {
     }
 }
 
-/// A list of events with three readers: each reply is compared with the plain replay of the history, and all notes with
-/// those of a run of the whole list.
+/// A list of events with three readers: each reply is compared with the plain replay of the
+/// history, and all notes with those of a run of the whole list.
 fn interrupts(rt: &impl Abort, alloc: Global, seed: u64, start: u64) -> Result<(), Fail> {
     let layout = Layout::new(8)?;
     let mut state = seed;
@@ -363,7 +364,8 @@ fn finds(
     Ok(())
 }
 
-/// Does an update, with lookups of its own key, of an old one and of one past all at each single step.
+/// Does an update, with lookups of its own key, of an old one and of one past all at each single
+/// step.
 fn steps_through(
     rt: &impl Abort,
     world: &mut World<HalfOpen>,
