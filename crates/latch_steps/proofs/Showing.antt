@@ -1,24 +1,22 @@
 -- What the methods of a world do to the moments that it shows.
-use Rattle.std.proofs.Common.{◌≡◌, ◌≢◌, ℕ, ◌+◌, ◌<◌, ◌≤◌, Bool, true, false, cond, List, [], ◌∷◌, length, Option, Some, None, refl, sym, ◌∙◌, ap, subst, inl, inr, ⊎_elim, arith, Vec, Global}
-use Rattle.std.specs.Prelude.{◌⊎◌, is_some, nat_lt, not, ◌==◌}
+use Rattle.std.proofs.Common.{◌≡◌, ◌≢◌, ℕ, ◌<◌, ◌≤◌, true, false, cond, List, [], ◌∷◌, length, Option, Some, None, refl, sym, ◌∙◌, ap, subst, inl, inr, ⊎_elim, arith, Vec, Global}
+use Rattle.std.specs.Prelude.{◌⊎◌, is_some, nat_lt}
 use Rattle.std.proofs.lemmas.Bool.{lt-ltb}
 use Rattle.std.specs.Ordering.{nat_cmp}
 use Rattle.std.specs.Option.{option_flatten}
 use Rattle.std.specs.BTreeMap.{BTreeMap, get as tree_get, is_at}
 use Rattle.std.specs.FinMap.{FinMap, get, insert, remove, empty, get-empty}
 use Rattle.order_laws.specs.declared.refusals.Refusal.{Refusal}
-use Rattle.order_laws.specs.declared.refusals.Refusal.TheVariants.{OutOfMemory, ReaderBusy, ReaderIdle, BadItem, Overlap, NoSuchItem, Full, SequenceSpent}
-use Rattle.order_laws.specs.declared.items.Item.{Item}
+use Rattle.order_laws.specs.declared.refusals.Refusal.TheVariants.{OutOfMemory, ReaderBusy, ReaderIdle}
 use Rattle.order_laws.specs.Orders.{Order}
-use Rattle.order_laws.specs.Tables.{has, meets}
 use Rattle.word_arena.specs.declared.stores.Store.{Store}
 use Rattle.word_arena.specs.Layouts.{capacity_of, limit_of}
 use Rattle.word_arena.specs.Words.{at}
 use Rattle.word_arena.specs.Stores.{words_after}
 use Rattle.latch_core.specs.declared.updates.Update.{Update}
 use Rattle.latch_core.specs.WriterViews.{WriterView}
-use Rattle.latch_core.specs.declared.updates.Update.TheVariants.{Insert, Erase}
-use Rattle.latch_core.specs.Updates.{refuses, spent, most_steps}
+use Rattle.latch_core.specs.Updates.{refuses, most_steps}
+use Rattle.latch_core.proofs.TestLemmas.{never_for_memory}
 use Rattle.latch_core.specs.Latches.{Hand, Latch, MayStep, stepped, begun}
 use Rattle.latch_core.specs.Plans.{IsPlan}
 use Rattle.latch_core.specs.Writers.{Pictures, HasBegun, in_hand, why_refused, stepped_writer}
@@ -56,25 +54,6 @@ module _ {O K : Type 0} (o : Order K) (n : ℕ) where
   shown_some None m e h = absurd (cc)
   shown_some (Some k) None e h = absurd h
   shown_some (Some k) (Some l) e h = (l, refl)
-
--- want of memory is no test of an update
-module _ {K : Type 0} (o : Order K) (n limit : ℕ) where
-  spent_by_sequence : (seq : ℕ) → spent limit seq ≡ Some OutOfMemory → ⊥
-  spent_by_sequence seq e = elim (nat_lt limit (seq + 2)) as (λ b. cond b (Some SequenceSpent) None ≡ Some OutOfMemory → ⊥) [ true ↦ λ f. absurd (cc) | false ↦ λ f. absurd (cc) ] e
-
-  no_such_test : (busy : Bool) (table : List Item) (seq : ℕ) (u : Update)
-      → refuses o n limit busy table seq u ≡ Some OutOfMemory → ⊥
-  no_such_test true table seq u e = absurd (cc)
-  no_such_test false table seq (Insert i) e =
-      let last = cond (length table == n) (Some Full) (spent limit seq) in
-      let inner = cond (meets o i table) (Some Overlap) last in
-      let third : last ≡ Some OutOfMemory → ⊥ =
-      elim (length table == n) as (λ b. cond b (Some Full) (spent limit seq) ≡ Some OutOfMemory → ⊥) [ true ↦ λ f. absurd (cc) | false ↦ spent_by_sequence seq ] in
-      let second : inner ≡ Some OutOfMemory → ⊥ =
-      elim (meets o i table) as (λ b. cond b (Some Overlap) last ≡ Some OutOfMemory → ⊥) [ true ↦ λ f. absurd (cc) | false ↦ third ] in
-      elim (not (o.valid i)) as (λ b. cond b (Some BadItem) inner ≡ Some OutOfMemory → ⊥) [ true ↦ λ f. absurd (cc) | false ↦ second ] e
-  no_such_test false table seq (Erase a) e =
-      elim (not (has a table)) as (λ b. cond b (Some NoSuchItem) (spent limit seq) ≡ Some OutOfMemory → ⊥) [ true ↦ λ f. absurd (cc) | false ↦ spent_by_sequence seq ] e
 
 -- the writer
 module _ {O K : Type 0} (o : Order K) (c : World O K) where
@@ -154,7 +133,7 @@ module _ {O K : Type 0} (o : Order K) (c : World O K) where
   given_up u why wr same err out =
       let free : why_refused o c.writer u ≡ None =
       ⊎_elim
-      (λ right. absurd (no_such_test o c.writer.capacity c.writer.limit (in_hand c.writer) c.writer.table c.writer.sequence u (right ∙ ap Some out)))
+      (λ right. absurd (never_for_memory o c.writer.capacity c.writer.limit (in_hand c.writer) c.writer.table c.writer.sequence u (right ∙ ap Some out)))
       (λ rest. rest.0)
       err in
       inr (ap Refused out, λ w s. (says u None w s free, subst (λ (v : WriterView). Shows o (record c { writer = v }) w) (sym same) s))

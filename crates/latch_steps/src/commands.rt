@@ -3,7 +3,7 @@
 use latch_core::Update;
 
 /// A group of events of one actor.
-#[derive(Clone, Copy, Debug, PartialEq, Eq, Drop)]
+#[derive(Debug, PartialEq, Eq, Drop)]
 pub enum Command<K> {
     /// The writer takes an update in hand.
     Begin(Update),

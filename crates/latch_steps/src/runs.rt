@@ -25,9 +25,9 @@ pub fn run<O: TreeOrder>(
     alloc: Global,
     l: Layout,
     start: u64,
-    events: &[Event<O::Key>],
+    events: Vec<Event<O::Key>>,
 ) -> Result<Trace<O>, Refusal>
-    ensures events { IfOk result (λ t. t.events.items ≡ events.now) }
+    ensures events { IfOk result (λ t. t.events.items ≡ events.items) }
     ensures traces { IfOk result (IsTrace O.order l start) }
     ensures safe { IfOk result (IsSafeTrace O.order l start) }
     ensures quiet { IfOk result (IsQuietTrace O.order l start) }
@@ -37,7 +37,7 @@ pub fn run<O: TreeOrder>(
 {
     let mut recorder = Recorder::<O>::open(alloc, l, start)?;
     for event in events {
-        let _ = recorder.record::<true>(*event)?;
+        let _ = recorder.record::<true>(event)?;
     }
     Ok(recorder.finish())
 }
@@ -51,9 +51,9 @@ pub fn drive<O: TreeOrder>(
     alloc: Global,
     l: Layout,
     start: u64,
-    commands: &[Command<O::Key>],
+    commands: Vec<Command<O::Key>>,
 ) -> Result<Trace<O>, Refusal>
-    ensures expands { IfOk result (IsTraceOfCommands O.order l start commands.now) }
+    ensures expands { IfOk result (IsTraceOfCommands O.order l start commands.items) }
     ensures safe { IfOk result (IsSafeTrace O.order l start) }
     ensures quiet { IfOk result (IsQuietTrace O.order l start) }
     ensures near { IfOk result (IsNearTrace O.order l start) }
@@ -76,9 +76,9 @@ pub fn drive_notes<O: TreeOrder>(
     alloc: Global,
     l: Layout,
     start: u64,
-    commands: &[Command<O::Key>],
+    commands: Vec<Command<O::Key>>,
 ) -> Result<Notes<O>, Refusal>
-    ensures notes { IfOk result (AreNotesOfCommands O.order l start commands.now) }
+    ensures notes { IfOk result (AreNotesOfCommands O.order l start commands.items) }
     ensures may { IfOk result (λ t. MayOpen l start) }
     ensures refusal { IfErr result (IsOpeningRefused l start) }
 {

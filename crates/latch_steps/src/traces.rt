@@ -14,7 +14,7 @@ use crate::events::Event;
 use crate::replies::{Note, Reply};
 use crate::worlds::World;
 use order_laws::{Refusal, TreeOrder};
-use std::alloc::{AllocError, Global};
+use std::alloc::Global;
 use word_arena::Layout;
 
 /// What a run leaves.
@@ -76,17 +76,19 @@ fn is_flip<K: Copy>(reply: &Reply<K>) -> bool
     }
 }
 
-/// Appends an event that was done so many times, where events are kept.
+/// Appends copies of an event that is done so many times, where events are kept. Refused by
+/// [`Refusal::OutOfMemory`] alone.
 fn keep<K: Copy, const KEEPS: bool>(
     events: &mut Vec<Event<K>>,
-    event: Event<K>,
+    event: &Event<K>,
     times: u32,
-) -> Result<(), AllocError>
-    ensures { OnOk result (KeepsTimes KEEPS event times events.old.items events.new.items) }
+) -> Result<(), Refusal>
+    ensures kept { OnOk result (KeepsTimes KEEPS event.now times events.old.items events.new.items) }
+    ensures refusal { IfErr result (λ e. e ≡ Refusal.OutOfMemory) }
 {
     if KEEPS {
         for _time in 0..times {
-            events.push(event)?;
+            events.push(event.copy()?)?;
         }
     }
     Ok(())
@@ -112,7 +114,7 @@ impl<O: TreeOrder> Recorder<O> {
         })
     }
 
-    /// Does one event and records it.
+    /// Does one event and records it. A copy is made only where events are kept.
     pub(crate) fn record<const KEEPS: bool>(
         &mut self,
         event: Event<O::Key>,
@@ -120,11 +122,11 @@ impl<O: TreeOrder> Recorder<O> {
         ensures recorded { IfOk result (RecordsOne O.order KEEPS event self.old self.new) }
         ensures refusal { IfErr result (λ e. e ≡ Refusal.OutOfMemory) }
     {
+        keep::<O::Key, KEEPS>(&mut self.events, &event, 1)?;
         let reply = self.world.step(event);
         if gives_up(&reply) {
             return Err(Refusal::OutOfMemory);
         }
-        keep::<O::Key, KEEPS>(&mut self.events, event, 1)?;
         if let Some(note) = note_of(&reply) {
             self.notes.push(note)?;
         }
@@ -134,19 +136,19 @@ impl<O: TreeOrder> Recorder<O> {
     /// Does the events of a command.
     pub(crate) fn obey<const KEEPS: bool>(
         &mut self,
-        command: &Command<O::Key>,
+        command: Command<O::Key>,
     ) -> Result<(), Refusal>
-        ensures obeyed { OnOk result (ObeysFromAny O.order KEEPS command.now self.old self.new) }
+        ensures obeyed { OnOk result (ObeysFromAny O.order KEEPS command self.old self.new) }
         ensures refusal { IfErr result (λ e. e ≡ Refusal.OutOfMemory) }
     {
         match command {
             Command::Begin(update) => {
-                let _ = self.record::<KEEPS>(Event::Begin(*update))?;
+                let _ = self.record::<KEEPS>(Event::Begin(update))?;
                 Ok(())
             }
             Command::Write(most) => {
                 let most = if self.world.is_writing() {
-                    *most as u64
+                    most as u64
                 } else {
                     0
                 };
@@ -161,10 +163,10 @@ impl<O: TreeOrder> Recorder<O> {
                 self.write_on::<KEEPS>(left, false)
             }
             Command::Start(reader, key) => {
-                let _ = self.record::<KEEPS>(Event::Start(*reader, *key))?;
+                let _ = self.record::<KEEPS>(Event::Start(reader, key))?;
                 Ok(())
             }
-            Command::Read(reader, most) => self.read_on::<KEEPS>(*reader, *most),
+            Command::Read(reader, most) => self.read_on::<KEEPS>(reader, most),
         }
     }
 
@@ -197,7 +199,7 @@ impl<O: TreeOrder> Recorder<O> {
         ensures refusal { IfErr result (λ e. e ≡ Refusal.OutOfMemory) }
     {
         let (loads, note) = self.world.read_on(reader, most);
-        keep::<O::Key, KEEPS>(&mut self.events, Event::Read(reader), loads)?;
+        keep::<O::Key, KEEPS>(&mut self.events, &Event::Read(reader), loads)?;
         if let Some(note) = note {
             self.notes.push(note)?;
         }
