@@ -1,5 +1,5 @@
 -- Several items at once: what the tests of a batch say, and the table after it.
-use Rattle.std.proofs.Common.{◌≡◌, ℕ, ◌+◌, ◌≤◌, true, false, cond, List, [], ◌∷◌, length, refl, ◌∙◌, arith}
+use Rattle.std.proofs.Common.{◌≡◌, ℕ, ◌+◌, ◌≤◌, true, false, cond, List, [], ◌∷◌, length, refl, ◌∙◌, ap, arith}
 use Rattle.std.specs.Prelude.{Bool, not, ◌||◌, ◌==◌, filter}
 use Rattle.std.specs.List.{AllByRecursion, list_any}
 use Rattle.order_laws.specs.declared.items.Item.{Item}
@@ -44,6 +44,10 @@ pub all_off : {K : Type 0} (o : Order K) (items table : List Item) → some_meet
 all_off o items table e =
     all_weaker (λ i. meets o i table ≡ false) (λ i. AllByRecursion (λ x. o.apart x i ≡ true) table) (λ i f. not_meeting o i table f) items
     (none_of (λ i. meets o i table) items e)
+
+pub no_meeting : {K : Type 0} (o : Order K) (i : Item) (table : List Item) → AllByRecursion (λ x. o.apart x i ≡ true) table → meets o i table ≡ false
+no_meeting o i [] h = refl
+no_meeting o i (x ∷ xs) h = ap (λ b. not b || meets o i xs) h.0 ∙ no_meeting o i xs h.1
 
 all_with_item : {K : Type 0} (o : Order K) (P : Item → Type 0) (i : Item) (xs : List Item) → P i → AllByRecursion P xs → AllByRecursion P (with_item o i xs)
 all_with_item o P i [] p h = (p, tt)
@@ -90,7 +94,7 @@ length_with_items o (i ∷ rest) table = omega (arith, length_with_items o rest 
 
 module _ {K : Type 0} (o : Order K) (law : IsLawful o) where
   -- what is off a table, and apart from one item more, is off the table with that item
-  still_off : (i : Item) (rest table : List Item) → AllByRecursion (λ x. o.apart x i ≡ true) rest → AreOff o rest table → AreOff o rest (with_item o i table)
+  pub still_off : (i : Item) (rest table : List Item) → AllByRecursion (λ x. o.apart x i ≡ true) rest → AreOff o rest table → AreOff o rest (with_item o i table)
   still_off i [] table a h = tt
   still_off i (r ∷ rest) table a h = (
     all_with_item o (λ x. o.apart x r ≡ true) i table (law.symmetric i r ∙ a.0) h.0,

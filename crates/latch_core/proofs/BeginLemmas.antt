@@ -45,7 +45,7 @@ idle_from [] e = refl
 idle_from (x ∷ xs) e =
     absurd (let more : nat_lt 0 (suc (length xs)) ≡ true = lt-ltb 0 (suc (length xs)) (omega arith) in let f : true ≡ false = sym more ∙ e in cc)
 
-accepted_by : (w : WriterView) → nat_lt 0 (length w.left) ≡ false → nat_lt w.limit (w.sequence + 2) ≡ false → Accepted w
+pub accepted_by : (w : WriterView) → nat_lt 0 (length w.left) ≡ false → nat_lt w.limit (w.sequence + 2) ≡ false → Accepted w
 accepted_by w busy spent =
     record { idle = idle_from w.left busy; counts = ltb-false w.limit (w.sequence + 2) spent }
 
@@ -84,7 +84,7 @@ links_in_range n copy links one are =
 flip_in_range : (n seq : ℕ) (links : List Store) → All (λ (s : Store). s.word < words_for n) links → All (λ (s : Store). s.word < words_for n) (flip_to seq ∷ links)
 flip_in_range n seq links all = All-cons (λ (s : Store). s.word < words_for n) (flip_to seq) links (omega arith) all
 
-update_in_range : (n seq : ℕ) (items links0 links1 : List Store) → All (λ (s : Store). s.word < words_for n) items → AreLinkStores n 0 links0 → AreLinkStores n 1 links1 → All (λ (s : Store). s.word < words_for n) (update_stores seq items links0 links1)
+pub update_in_range : (n seq : ℕ) (items links0 links1 : List Store) → All (λ (s : Store). s.word < words_for n) items → AreLinkStores n 0 links0 → AreLinkStores n 1 links1 → All (λ (s : Store). s.word < words_for n) (update_stores seq items links0 links1)
 update_in_range n seq items links0 links1 all zero one =
     let P : Store → Type 0 = λ s. s.word < words_for n in
     let f0 = flip_in_range n (seq + 1) links0 (links_in_range n 0 links0 (omega arith) zero) in
@@ -100,14 +100,14 @@ update_length seq items links0 links1 =
 abbrev pub with_room : Picture → ℕ → Picture
 with_room p r = record p { room = r }
 
-pictured : (m : List ℕ) (n copy r : ℕ) (p : Picture) → length m ≡ words_for n → p.capacity ≡ n → p.copy ≡ copy → Holds m n copy p.table p.tree → IsPictured m (with_room p r)
+pub pictured : (m : List ℕ) (n copy r : ℕ) (p : Picture) → length m ≡ words_for n → p.capacity ≡ n → p.copy ≡ copy → Holds m n copy p.table p.tree → IsPictured m (with_room p r)
 pictured m n copy r p sized ec ek holds =
     record {
       sized = sized ∙ ap words_for (sym ec);
       holds = subst (λ k. Holds m k p.copy p.table p.tree) (sym ec) (subst (λ c. Holds m n c p.table p.tree) (sym ek) holds);
     }
 
-unpictured : (m : List ℕ) (n copy : ℕ) (table : List Item) (p : Picture) → p.capacity ≡ n → p.copy ≡ copy → p.table ≡ table → IsPictured m p → Holds m n copy table p.tree
+pub unpictured : (m : List ℕ) (n copy : ℕ) (table : List Item) (p : Picture) → p.capacity ≡ n → p.copy ≡ copy → p.table ≡ table → IsPictured m p → Holds m n copy table p.tree
 unpictured m n copy table p ec ek et is =
     subst (λ k. Holds m k copy table p.tree) ec (subst (λ c. Holds m p.capacity c table p.tree) ek (subst (λ t. Holds m p.capacity p.copy t p.tree) et is.holds))
 

@@ -10,6 +10,8 @@ pub mod Planned
 pub mod Leads
 pub mod PlanLemmas
 pub mod NodeLemmas
+pub mod ChangeLemmas
 pub mod WriterLemmas
 pub mod BeginLemmas
+pub mod BatchBegins
 pub mod Shallow

@@ -34,7 +34,7 @@ one_node_more i xs are =
     }
 
 -- in another order they are the same
-moved_nodes : (n : ℕ) (xs ys : List ℕ) → IsPermutation xs ys → AreAllNodes n xs → AreAllNodes n ys
+pub moved_nodes : (n : ℕ) (xs ys : List ℕ) → IsPermutation xs ys → AreAllNodes n xs → AreAllNodes n ys
 moved_nodes n xs ys p are =
     record {
       below = All-permutation (λ i. i < n) xs ys p are.below;

@@ -15,6 +15,8 @@ pub mod Invariants
 pub mod Plans
 -- the nodes of a memory, shared out between the free ones and those of the trees
 pub mod FreeNodes
+-- several changes of both copies, planned one after another
+pub mod Changes
 -- what a writer's core knows of the words, and when it accepts an update
 pub mod Writers
 -- what a reader's core has still to do, and how the values that it takes lead it on

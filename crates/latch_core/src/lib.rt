@@ -38,6 +38,7 @@
 
 pub mod attempts;
 pub mod batches;
+mod changes;
 pub mod laws;
 #[cfg(test)]
 mod loader_tests;

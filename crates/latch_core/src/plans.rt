@@ -11,6 +11,9 @@ use std::alloc::{AllocError, Global};
 use std::marker::Model;
 use word_arena::{Layout, Store};
 
+/// How many stores an item's words take.
+pub const ITEM_STORES: usize = 3;
+
 /// The stores of an update, and how many of them were made.
 #[derive(Drop)]
 pub struct Plan {
@@ -93,8 +96,29 @@ impl Plan {
         ensures { self.new.left ≡ update_stores sequence (take items planned.now)
             (drop items planned.now) (mirror (drop items planned.now)) }
     {
-        let links = &planned[items..];
-        append(&mut self.stores, &planned[..items]);
+        self.add(&planned[..items]);
+        self.close(l, sequence, &planned[items..]);
+    }
+
+    /// Takes in stores, for which there is room.
+    #[inline(always)]
+    pub fn add(&mut self, stores: &[Store])
+        requires room { length stores.now ≤ self.old.room }
+        ensures left { self.new.left ≡ self.old.left ++ stores.now }
+        ensures room { self.new.room + length stores.now ≡ self.old.room }
+    {
+        append(&mut self.stores, stores);
+    }
+
+    /// Takes in all that follows the stores of items: the first flip, the links of copy 0, the second flip, the same links in
+    /// copy 1.
+    #[inline(always)]
+    pub fn close(&mut self, l: Layout, sequence: u64, links: &[Store])
+        requires links_only { AreLinkStores (capacity_of l) 0 links.now }
+        requires room { 2 * length links.now + 2 ≤ self.old.room }
+        requires counts { sequence + 2 < 2 ^ 64 }
+        ensures { self.new.left ≡ update_stores sequence self.old.left links.now (mirror links.now) }
+    {
         self.stores.push_reserved(flip_to(sequence + 1));
         append(&mut self.stores, links);
         self.stores.push_reserved(flip_to(sequence + 2));
@@ -113,7 +137,7 @@ fn flip_to(sequence: u64) -> Store
 }
 
 /// Appends stores where there is room for them.
-fn append(stores: &mut Vec<Store>, more: &[Store])
+pub fn append(stores: &mut Vec<Store>, more: &[Store])
     requires { vec_len stores.old + length more.now ≤ vec_capacity stores.old }
     ensures items { stores.new.items ≡ stores.old.items ++ more.now }
     ensures len { vec_len stores.new ≡ vec_len stores.old + length more.now }

@@ -11,9 +11,10 @@ ghost use Rattle.latch_core.specs.Updates.{first_that_holds, tests_of, some_inva
 ghost use Rattle.latch_core.specs.Latches.{Latch, Hand, stepped, opening_latch};
 ghost use Rattle.latch_core.specs.Writers.{next_store, why_refused, IsRefusedBy, RefusesAsPictured, MayOpen, IsOpeningRefused, Pictures, MayBeNext, LeadsFrom, HasBegun, opening_writer, stepped_writer};
 
+use crate::changes::{plan_erases, plan_inserts};
 use crate::nodes::all_nodes;
 use crate::plain::{some_invalid, some_overlap, some_twice};
-use crate::plans::Plan;
+use crate::plans::{ITEM_STORES, Plan};
 use crate::sequences::{generation, is_spent};
 use crate::updates::Update;
 use order_laws::{Item, Refusal, TreeOrder};
@@ -21,9 +22,6 @@ use rb_words::{STORES, Shape};
 use std::alloc::Global;
 use std::marker::Model;
 use word_arena::{Layout, Store, TreeCopy};
-
-/// How many stores an item's words take.
-const ITEM_STORES: usize = 3;
 
 /// The writer's side of a latch (`latch_tree_insert`, `latch_tree_erase` and `raw_write_seqcount_latch` of
 /// include/linux/rbtree_latch.h and include/linux/seqlock.h).
@@ -111,7 +109,7 @@ impl<O: TreeOrder> WriterCore<O> {
         match u {
             Update::Insert(item) => self.insert(item)?,
             Update::Erase(a) => self.erase(a)?,
-            Update::Batch { .. } => return Err(Refusal::OutOfMemory),
+            Update::Batch { erase, insert } => self.batch(erase.as_slice(), insert.as_slice())?,
         }
         Ok(self.plan.remaining())
     }
@@ -247,6 +245,32 @@ impl<O: TreeOrder> WriterCore<O> {
         Ok(())
     }
 
+    /// Plans to erase the items of some first words and to insert some items.
+    ///
+    /// The inserted items go into nodes that were free before, so none goes into a node that is erased here.
+    fn batch(&mut self, erase: &[u64], insert: &[Item]) -> Result<(), Refusal>
+        requires accepted { why_refused O.order self.old (Update.Batch erase.now insert.now) ≡ None }
+        ensures begun { OnOk result (HasBegun O.order self.old (Update.Batch erase.now insert.now) self.new) }
+        ensures refusal { IfErr result (λ e. e ≡ Refusal.OutOfMemory) }
+        ensures unchanged { OnErr result (self.new ≡ self.old) }
+    {
+        let size = erase.len() + insert.len();
+        let mut links = reserve_all(&mut self.shape, &mut self.planned, &mut self.plan, size)?;
+        let fresh = self.free.len();
+        plan_erases(&mut self.shape, &mut self.free, &mut links, erase);
+        plan_inserts(
+            &mut self.shape,
+            &mut self.free,
+            fresh,
+            &mut self.planned,
+            &mut self.plan,
+            &mut links,
+            insert,
+        );
+        self.plan.close(self.layout, self.sequence, &links);
+        Ok(())
+    }
+
     /// The store to be made next; none where no update is in hand.
     ///
     /// Its word lies in the memory. On any words that the core pictures it is a step that a writer may make.
@@ -358,4 +382,29 @@ fn reserve<O: TreeOrder>(
     shape.reserve_in(1, planned)?;
     plan.reserve(2 * STORES + 2)?;
     Ok(())
+}
+
+/// Makes room for an update of so many items: in the picture, in the list of what is planned for one of them, and in the
+/// plan. Hands out an empty list with room for all their stores of links.
+fn reserve_all<O: TreeOrder>(
+    shape: &mut Shape<O>,
+    planned: &mut Vec<Store>,
+    plan: &mut Plan,
+    size: usize,
+) -> Result<Vec<Store>, Refusal>
+    requires none_left { plan.old.left ≡ [] }
+    requires size { size ≤ 2 * 65536 }
+    ensures kept { shape.new ≡ record shape.old { room = shape.new.room } }
+    ensures plan_kept { plan.new.left ≡ [] }
+    ensures room { OnOk result (size ≤ shape.new.room) }
+    ensures list_room { OnOk result (STORES ≤ vec_capacity planned.new) }
+    ensures plan_room { OnOk result (2 * (size * STORES) + 2 ≤ plan.new.room) }
+    ensures links { IfOk result (λ links. (links.items ≡ []) × (vec_len links ≡ 0) × (size * STORES ≤ vec_capacity links)) }
+    ensures refusal { IfErr result (λ e. e ≡ Refusal.OutOfMemory) }
+    ensures sound { IsPicture O.order shape.new }
+{
+    planned.clear();
+    shape.reserve_in(1, planned)?;
+    plan.reserve(2 * (size * STORES) + 2)?;
+    shape.reserve(size as u32)
 }

@@ -1,0 +1,356 @@
+-- Several changes of both copies, one after another.
+use Rattle.std.proofs.Common.{◌≡◌, ◌≢◌, ℕ, suc, ◌+◌, ◌-◌, ◌<◌, ◌≤◌, true, false, cond, List, [], ◌∷◌, ◌++◌, length, take, drop, get_or, zero, refl, sym, ◌∙◌, ap, subst, inl, inr, ⊎_elim, arith, length-append, append_assoc}
+use Rattle.std.specs.Prelude.{not, ◌||◌, ◌==◌, map, Contains, insert, remove, slice_set, slice_index_or}
+use Rattle.std.specs.List.{AllByRecursion, list_any, swap_remove}
+use Rattle.std.proofs.lemmas.List.Elements.{All-contains_itself, recursion_from_All}
+use Rattle.std.proofs.lemmas.Bool.{eq-eqb, ne_eqb, eqb-true, cases_eq}
+use Rattle.std.proofs.lemmas.List.{map-append, take_more, append-nil, take-take, take-set}
+use Rattle.std.proofs.lemmas.List.Sorted.{IsPermutation-trans, IsPermutation-append_left, IsPermutation-append_comm, IsPermutation-swap_remove}
+use Rattle.order_laws.specs.declared.items.Item.{Item}
+use Rattle.order_laws.specs.Orders.{Order, IsLawful}
+use Rattle.order_laws.specs.Tables.{without, without_all, with_item, has, place_for, place_of}
+use Rattle.order_laws.proofs.TableLemmas.{all_weaker, all_left, all_right, length_without}
+use Rattle.order_laws.proofs.PlaceLemmas.{without_none}
+use Rattle.word_arena.specs.declared.stores.Store.{Store}
+use Rattle.word_arena.specs.Words.{at, words_for, item_at, listed, a_word, b_word, tag_word}
+use Rattle.word_arena.specs.Stores.{words_after, words_after_all, AreLinkStores, IsLinkWord, IsItemWord}
+use Rattle.word_arena.proofs.WordLemmas.{link_no_item, item_place, one_item}
+use Rattle.word_arena.proofs.StoreLemmas.{Agree, length_after, after_append, untouched, at_stored, at_other}
+use Rattle.rb_words.specs.Pictures.{Picture, IsPictured}
+use Rattle.rb_words.specs.Plans.{Inserts, Erases, LeadsWithItem, LeadsByLinks, item_stores}
+use Rattle.rb_words.specs.Mirrors.{mirror, mirror_store, second}
+use Rattle.rb_words.specs.Rows.{AreDistinct}
+use Rattle.rb_words.proofs.MirrorLemmas.{inserts_mirrored, with_item_mirrored, erases_mirrored, by_links_mirrored}
+use Rattle.latch_core.specs.Updates.{some_missing, some_twice, some_invalid, some_overlap, some_meet, with_items}
+use Rattle.latch_core.specs.FreeNodes.{AreAllNodes}
+use Rattle.latch_core.specs.Changes.{Placed, placing_stores, HasPlaced, LeadsBeside, LeadsBoth, ErasesAll, InsertsAll}
+use Rattle.latch_core.proofs.BatchLemmas.{neither, none_of, not_false, AreApart, AreOff, all_valid, all_apart, all_off, still_off}
+use Rattle.latch_core.proofs.NodeLemmas.{moved_nodes, node_freed, node_taken, last_is_free}
+
+-- links leave the words of items as they are
+pub same_item : (m m' : List ℕ) (i : ℕ) → Agree (IsItemWord i) m m' → item_at m' i ≡ item_at m i
+same_item m m' i same =
+    λ k. record { a = same (a_word i) (inl refl) k; b = same (b_word i) (inr (inl refl)) k; tag = same (tag_word i) (inr (inr refl)) k }
+
+placed_kept : (m : List ℕ) (n copy : ℕ) (links : List Store) → copy ≤ 1 → AreLinkStores n copy links → (placed : Placed) → HasPlaced m placed → HasPlaced (words_after_all m links) placed
+placed_kept m n copy links c are placed h =
+    all_weaker (λ (p : ℕ × Item). item_at m p.0 ≡ p.1) (λ (p : ℕ × Item). item_at (words_after_all m links) p.0 ≡ p.1)
+    (λ p e. same_item m (words_after_all m links) p.0 (untouched (IsItemWord p.0) m links (all_weaker (λ (s : Store). IsLinkWord n copy s.word) (λ (s : Store). IsItemWord p.0 s.word → ⊥) (λ s l i. link_no_item n copy p.0 s.word c l i) links are)) ∙ e)
+    placed h
+
+pub all_append : {X : Type 0} (P : X → Type 0) (xs ys : List X) → AllByRecursion P xs → AllByRecursion P ys → AllByRecursion P (xs ++ ys)
+all_append P [] ys a b = b
+all_append P (x ∷ xs) ys a b = (a.0, all_append P xs ys a.1 b)
+
+-- one change after another
+pub beside_then : (a b c : Picture) (p q : Placed) (xs ys : List Store) → a.copy ≤ 1 → LeadsBeside a b p xs → LeadsBeside b c q ys → LeadsBeside a c (p ++ q) (xs ++ ys)
+beside_then a b c p q xs ys one first next =
+    record {
+      capacity = next.capacity ∙ first.capacity;
+      copy = next.copy ∙ first.copy;
+      links_only =
+          all_append (λ (s : Store). IsLinkWord a.capacity a.copy s.word) xs ys first.links_only
+          (subst (λ k. AreLinkStores k a.copy ys) first.capacity (subst (λ k. AreLinkStores b.capacity k ys) first.copy next.links_only));
+      leads = λ m is h.
+          subst (λ w. IsPictured w c) (sym (after_append m xs ys))
+          (next.leads (words_after_all m xs) (first.leads m is (all_left (λ (r : ℕ × Item). item_at m r.0 ≡ r.1) p q h))
+          (placed_kept m a.capacity a.copy xs one first.links_only q (all_right (λ (r : ℕ × Item). item_at m r.0 ≡ r.1) p q h)));
+    }
+
+pub both_then : (a b c : Picture) (p q : Placed) (xs ys : List Store) → a.copy ≡ 0 → LeadsBoth a b p xs → LeadsBoth b c q ys → LeadsBoth a c (p ++ q) (xs ++ ys)
+both_then a b c p q xs ys e first next =
+    record {
+      zero = beside_then a b c p q xs ys (omega (arith, e)) first.zero next.zero;
+      one =
+          subst (LeadsBeside (second a) (second c) (p ++ q)) (sym (map-append mirror_store xs ys))
+          (beside_then (second a) (second b) (second c) p q (mirror xs) (mirror ys) (omega arith) first.one next.one);
+    }
+
+-- nothing changes
+beside_none : (a : Picture) → LeadsBeside a a [] []
+beside_none a = record { capacity = refl; copy = refl; links_only = tt; leads = λ m is h. is }
+
+pub both_none : (a : Picture) → LeadsBoth a a [] []
+both_none a = record { zero = beside_none a; one = beside_none (second a) }
+
+-- one insert, and one erase
+beside_insert : {K : Type 0} (o : Order K) (a b : Picture) (node : ℕ) (item : Item) (links : List Store) → Inserts o a b node item → LeadsWithItem a b node item links → LeadsBeside a b ((node, item) ∷ []) links
+beside_insert o a b node item links ins leads =
+    record { capacity = ins.capacity; copy = ins.copy; links_only = leads.links_only.words; leads = λ m is h. leads.leads_alone m is h.0 }
+
+beside_erase : (a b : Picture) (w node : ℕ) (links : List Store) → Erases a b w node → LeadsByLinks a b links → LeadsBeside a b [] links
+beside_erase a b w node links er leads =
+    record { capacity = er.capacity; copy = er.copy; links_only = leads.links_only.words; leads = λ m is h. leads.leads m is }
+
+pub both_insert : {K : Type 0} (o : Order K) (a b : Picture) (node : ℕ) (item : Item) (links : List Store) → a.copy ≡ 0 → Inserts o a b node item → LeadsWithItem a b node item links → LeadsBoth a b ((node, item) ∷ []) links
+both_insert o a b node item links e ins leads =
+    record {
+      zero = beside_insert o a b node item links ins leads;
+      one = beside_insert o (second a) (second b) node item (mirror links) (inserts_mirrored o a b node item ins) (with_item_mirrored a b e ins.capacity ins.copy node item links leads);
+    }
+
+pub both_erase : (a b : Picture) (w node : ℕ) (links : List Store) → a.copy ≡ 0 → Erases a b w node → LeadsByLinks a b links → LeadsBoth a b [] links
+both_erase a b w node links e er leads =
+    record {
+      zero = beside_erase a b w node links er leads;
+      one = beside_erase (second a) (second b) w node (mirror links) (erases_mirrored a b w node e er) (by_links_mirrored a b e er.capacity er.copy links leads);
+    }
+
+-- without one first word more
+without_more : (gone : List ℕ) (a : ℕ) (xs : List Item) → without_all (gone ++ a ∷ []) xs ≡ without a (without_all gone xs)
+without_more gone a [] = refl
+without_more gone a (x ∷ xs) =
+    ap (λ b. cond (not b) (x ∷ without_all (gone ++ a ∷ []) xs) (without_all (gone ++ a ∷ []) xs)) (any_more gone x.a)
+    ∙ (elim (list_any (λ b. b == x.a) gone) as (λ g. cond (not (g || (x.a == a))) (x ∷ without_all (gone ++ a ∷ []) xs) (without_all (gone ++ a ∷ []) xs) ≡ without a (cond (not g) (x ∷ without_all gone xs) (without_all gone xs))) [
+      | true ↦ without_more gone a xs
+      | false ↦
+          elim (x.a == a) as (λ e. cond (not e) (x ∷ without_all (gone ++ a ∷ []) xs) (without_all (gone ++ a ∷ []) xs) ≡ cond (not e) (x ∷ without a (without_all gone xs)) (without a (without_all gone xs))) [
+            | true ↦ without_more gone a xs
+            | false ↦ ap (λ ys. x ∷ ys) (without_more gone a xs)
+          ]
+    ])
+  where
+    flipped : (c w : ℕ) → ((c == w) || false) ≡ (w == c)
+    flipped c w =
+        ⊎_elim
+        (λ same. ap (λ b. b || false) (eq-eqb c w same) ∙ sym (eq-eqb w c (sym same)))
+        (λ differ. ap (λ b. b || false) (ne_eqb c w differ) ∙ sym (ne_eqb w c (λ e. differ (sym e))))
+        (cases_eq c w)
+    any_more : (gone : List ℕ) (w : ℕ) → list_any (λ b. b == w) (gone ++ a ∷ []) ≡ (list_any (λ b. b == w) gone || (w == a))
+    any_more [] w = flipped a w
+    any_more (b ∷ rest) w =
+        elim (b == w) as (λ e. (e || list_any (λ b. b == w) (rest ++ a ∷ [])) ≡ ((e || list_any (λ b. b == w) rest) || (w == a))) [
+          | true ↦ refl
+          | false ↦ any_more rest w
+        ]
+
+-- a table without a first word has the other ones still
+has_without : (a b : ℕ) (xs : List Item) → b ≢ a → has b xs ≡ true → has b (without a xs) ≡ true
+has_without a b [] ne h = absurd (cc)
+has_without a b (x ∷ xs) ne h =
+    elim (x.a == a) as (λ e. (x.a == a) ≡ e → has b (cond (not e) (x ∷ without a xs) (without a xs)) ≡ true) [
+      | true ↦ λ is.
+          let other : (x.a == b) ≡ false = ne_eqb x.a b (λ f. ne (sym f ∙ eqb-true x.a a is)) in
+          has_without a b xs ne (ap (λ c. c || has b xs) (sym other) ∙ h)
+      | false ↦ λ is.
+          elim (x.a == b) as (λ e. (e || has b xs) ≡ true → (e || has b (without a xs)) ≡ true) [
+            | true ↦ λ f. refl
+            | false ↦ λ f. has_without a b xs ne f
+          ] h
+    ] refl
+
+all_has_without : (a : ℕ) (rest : List ℕ) (xs : List Item) → list_any (λ b. b == a) rest ≡ false → AllByRecursion (λ b. has b xs ≡ true) rest → AllByRecursion (λ b. has b (without a xs) ≡ true) rest
+all_has_without a [] xs d h = tt
+all_has_without a (b ∷ rest) xs d h =
+    let both = neither (b == a) (list_any (λ c. c == a) rest) d in
+    (has_without a b xs (λ e. absurd (let f : true ≡ false = sym (eq-eqb b a e) ∙ both.0 in cc)) h.0, all_has_without a rest xs both.1 h.1)
+
+pub all_there : (words : List ℕ) (xs : List Item) → some_missing words xs ≡ false → AllByRecursion (λ b. has b xs ≡ true) words
+all_there words xs e =
+    all_weaker (λ b. not (has b xs) ≡ false) (λ b. has b xs ≡ true) (λ b f. not_false (has b xs) f) words (none_of (λ b. not (has b xs)) words e)
+
+-- as many of the first words are erased
+pub record Erasing (old now : Picture) (erase : List ℕ) (j : ℕ) (out out' : List Store) (free free' : List ℕ) : Type 0 where
+  pub more : List Store
+  pub appended : out' ≡ out ++ more
+  pub done : ErasesAll old now (take j erase) more free free'
+  pub there : AllByRecursion (λ b. has b now.table ≡ true) (drop j erase)
+  pub once : some_twice (drop j erase) ≡ false
+
+pub erasing_none : (old : Picture) (erase : List ℕ) (out : List Store) (free : List ℕ) → some_missing erase old.table ≡ false → some_twice erase ≡ false → AreAllNodes old.capacity (free ++ listed old.tree) → Erasing old old erase 0 out out free free
+erasing_none old erase out free there once nodes =
+    record {
+      more = [];
+      appended = sym (append-nil out);
+      done = record { table = sym (without_none old.table); both = both_none old; freed = []; behind = sym (append-nil free); nodes = nodes };
+      there = all_there erase old.table there;
+      once = once;
+    }
+
+erasing_more : (old now next : Picture) (before : List ℕ) (a : ℕ) (rest : List ℕ) (node : ℕ) (out out' : List Store) (free free' : List ℕ) (links : List Store)
+    → old.copy ≡ 0 → (more : List Store) → out' ≡ out ++ more → ErasesAll old now before more free free'
+    → AllByRecursion (λ b. has b now.table ≡ true) (a ∷ rest) → some_twice (a ∷ rest) ≡ false
+    → Erases now next a node → LeadsByLinks now next links
+    → (out' ++ links ≡ out ++ (more ++ links)) × ErasesAll old next (before ++ a ∷ []) (more ++ links) free (free' ++ node ∷ []) × AllByRecursion (λ b. has b next.table ≡ true) rest × (some_twice rest ≡ false)
+erasing_more old now next before a rest node out out' free free' links first more appended done there once er leads =
+    let two = neither (list_any (λ b. b == a) rest) (some_twice rest) once in
+    let copy : now.copy ≡ 0 = done.both.zero.copy ∙ first in (
+      ap (λ xs. xs ++ links) appended ∙ append_assoc out more links,
+      record {
+        table = er.table ∙ ap (without a) done.table ∙ sym (without_more before a old.table);
+        both = both_then old now next [] [] more links first done.both (both_erase now next a node links copy er leads);
+        freed = done.freed ++ node ∷ [];
+        behind = ap (λ xs. xs ++ node ∷ []) done.behind ∙ append_assoc free done.freed (node ∷ []);
+        nodes = subst (λ ns. AreAllNodes old.capacity ((free' ++ node ∷ []) ++ ns)) (sym er.in_order) (node_freed old.capacity node (place_of a now.table) free' (listed now.tree) er.at_place done.nodes);
+      },
+      subst (λ t. AllByRecursion (λ b. has b t ≡ true) rest) (sym er.table) (all_has_without a rest now.table two.0 there.1),
+      two.1,
+    )
+
+pub drop_here : {X : Type 0} (xs : List X) (j : ℕ) (d : X) → j < length xs → drop j xs ≡ get_or xs j d ∷ drop (j + 1) xs
+drop_here [] j d lt = absurd (omega arith)
+drop_here (x ∷ xs) zero d lt = let one : 0 + 1 ≡ 1 = omega arith in ap (λ k. x ∷ drop k (x ∷ xs)) (sym one)
+drop_here (x ∷ xs) (suc j) d lt =
+    let one : suc j + 1 ≡ suc (j + 1) = omega arith in
+    drop_here xs j d (omega (arith, lt)) ∙ ap (λ k. get_or xs j d ∷ drop k (x ∷ xs)) (sym one)
+
+pub erasing_step : (old now next : Picture) (erase : List ℕ) (j a node : ℕ) (out out' out'' : List Store) (free free' free'' : List ℕ) (links : List Store)
+    → old.copy ≡ 0 → j < length erase → a ≡ get_or erase j 0 → Erasing old now erase j out out' free free'
+    → Erases now next a node → out'' ≡ out' ++ links → LeadsByLinks now next links → free'' ≡ free' ++ node ∷ []
+    → Erasing old next erase (j + 1) out out'' free free''
+erasing_step old now next erase j a node out out' out'' free free' free'' links first lt is state er eo leads ef =
+    let here : drop j erase ≡ a ∷ drop (j + 1) erase = drop_here erase j 0 lt ∙ ap (λ b. b ∷ drop (j + 1) erase) (sym is) in
+    let front : take (j + 1) erase ≡ take j erase ++ a ∷ [] = take_more erase j 0 lt ∙ ap (λ b. take j erase ++ b ∷ []) (sym is) in
+    let s = erasing_more old now next (take j erase) a (drop (j + 1) erase) node out out' free free' links first state.more state.appended state.done (subst (AllByRecursion (λ b. has b now.table ≡ true)) here state.there) (ap some_twice (sym here) ∙ state.once) er leads in
+    record {
+      more = state.more ++ links;
+      appended = eo ∙ s.0;
+      done = subst (λ ws. ErasesAll old next ws (state.more ++ links) free free'') (sym front) (subst (ErasesAll old next (take j erase ++ a ∷ []) (state.more ++ links) free) (sym ef) s.1);
+      there = s.2;
+      once = s.3;
+    }
+
+-- the first of some nodes, when one beyond them was taken out
+take_swapped : (xs : List ℕ) (i d : ℕ) → i < length xs → take i (swap_remove xs i d) ≡ take i xs
+take_swapped xs i d lt =
+    take-take i (length xs - 1) (slice_set xs i (slice_index_or xs (length xs - 1) d)) (omega arith)
+    ∙ take-set xs i (slice_index_or xs (length xs - 1) d)
+
+-- a node that is taken out of the free ones
+pub taken_out : (n : ℕ) (free nodes : List ℕ) (i node : ℕ) → i < length free → node ≡ get_or free i node → AreAllNodes n (free ++ nodes) → AreAllNodes n ((swap_remove free i node ++ node ∷ []) ++ nodes)
+taken_out n free nodes i node lt is are =
+    let rest = swap_remove free i node in
+    let moved = IsPermutation-trans free (node ∷ rest) (rest ++ node ∷ []) (IsPermutation-swap_remove free i node lt is) (IsPermutation-append_comm (node ∷ []) rest) in
+    moved_nodes n (free ++ nodes) ((rest ++ node ∷ []) ++ nodes) (IsPermutation-append_left nodes free (rest ++ node ∷ []) moved) are
+
+distinct_push : (xs : List ℕ) (x : ℕ) → AreDistinct xs → AllByRecursion (λ y. y ≢ x) xs → AreDistinct (xs ++ x ∷ [])
+distinct_push [] x d a = (tt, tt)
+distinct_push (y ∷ ys) x d a = (all_append (λ z. y ≢ z) ys (x ∷ []) d.0 (a.0, tt), distinct_push ys x d.1 a.1)
+
+placing_more : (placed : Placed) (node : ℕ) (item : Item) → placing_stores (placed ++ (node, item) ∷ []) ≡ placing_stores placed ++ item_stores node item
+placing_more [] node item = append-nil (item_stores node item)
+placing_more (p ∷ rest) node item = ap (λ xs. item_stores p.0 p.1 ++ xs) (placing_more rest node item) ∙ sym (append_assoc (item_stores p.0 p.1) (placing_stores rest) (item_stores node item))
+
+with_more : {K : Type 0} (o : Order K) (items : List Item) (i : Item) (table : List Item) → with_items o (items ++ i ∷ []) table ≡ with_item o i (with_items o items table)
+with_more o [] i table = refl
+with_more o (x ∷ items) i table = with_more o items i (with_item o x table)
+
+-- as many of the items are inserted
+pub record Inserting {K : Type 0} (o : Order K) (old now : Picture) (insert : List Item) (j fresh : ℕ) (left left' out out' : List Store) (free free' : List ℕ) : Type 0 where
+  pub placed : Placed
+  pub more : List Store
+  pub planned : left' ≡ left ++ placing_stores placed
+  pub appended : out' ≡ out ++ more
+  pub done : InsertsAll o old now (take j insert) placed more (take fresh free) free'
+  pub valid : AllByRecursion (λ i. o.valid i ≡ true) (drop j insert)
+  pub apart : AreApart o (drop j insert)
+  pub off : AreOff o (drop j insert) now.table
+  pub first : AllByRecursion (λ node. Contains (take fresh free) node) (take (fresh - j) free')
+
+pub inserting_none : {K : Type 0} (o : Order K) (old : Picture) (insert : List Item) (fresh : ℕ) (left out : List Store) (free : List ℕ) → some_invalid o insert ≡ false → some_overlap o insert ≡ false → some_meet o insert old.table ≡ false → AreAllNodes old.capacity (free ++ listed old.tree) → Inserting o old old insert 0 fresh left left out out free free
+inserting_none o old insert fresh left out free valid apart off nodes =
+    record {
+      placed = [];
+      more = [];
+      planned = sym (append-nil left);
+      appended = sym (append-nil out);
+      done = record { table = refl; both = both_none old; in_fresh = tt; in_tree = tt; distinct = tt; nodes = nodes };
+      valid = all_valid o insert valid;
+      apart = all_apart o insert apart;
+      off = all_off o insert old.table off;
+      first = subst (λ k. AllByRecursion (λ node. Contains (take fresh free) node) (take k free)) (let none : fresh ≡ fresh - 0 = omega arith in none) (recursion_from_All (λ node. Contains (take fresh free) node) (take fresh free) (All-contains_itself (take fresh free)));
+    }
+
+-- the node that the next item takes, and what it finds there
+pub record IsFresh (n : ℕ) (free rest : List ℕ) (nodes : List ℕ) (first : List ℕ) (node : ℕ) : Type 0 where
+  pub in_range : node < n
+  pub not_there : Contains nodes node → ⊥
+  pub in_first : Contains first node
+  pub shared : AreAllNodes n ((rest ++ node ∷ []) ++ nodes)
+
+pub next_node : {K : Type 0} (o : Order K) (old now : Picture) (insert : List Item) (j fresh : ℕ) (left left' out out' : List Store) (free free' : List ℕ) (node : ℕ)
+    → Inserting o old now insert j fresh left left' out out' free free' → j < fresh → fresh - 1 - j < length free' → node ≡ get_or free' (fresh - 1 - j) node
+    → IsFresh old.capacity free' (swap_remove free' (fresh - 1 - j) node) (listed now.tree) (take fresh free) node
+next_node o old now insert j fresh left left' out out' free free' node state lt within is =
+    let shared = taken_out old.capacity free' (listed now.tree) (fresh - 1 - j) node within is state.done.nodes in
+    let last = last_is_free old.capacity node (swap_remove free' (fresh - 1 - j) node) (listed now.tree) shared in
+    let same : fresh - j ≡ fresh - 1 - j + 1 = omega arith in
+    let firsts : take (fresh - j) free' ≡ take (fresh - 1 - j) free' ++ node ∷ [] = ap (λ k. take k free') same ∙ take_more free' (fresh - 1 - j) node within ∙ ap (λ x. take (fresh - 1 - j) free' ++ x ∷ []) (sym is) in
+    record {
+      in_range = last.0;
+      not_there = last.1;
+      in_first = (all_right (λ x. Contains (take fresh free) x) (take (fresh - 1 - j) free') (node ∷ []) (subst (AllByRecursion (λ x. Contains (take fresh free) x)) firsts state.first)).0;
+      shared = shared;
+    }
+
+pub inserting_step : {K : Type 0} (o : Order K) → IsLawful o → (old now next : Picture) (insert : List Item) (j fresh : ℕ) (item d : Item) (node : ℕ) (left left' left'' out out' out'' : List Store) (free free' free'' : List ℕ) (links : List Store)
+    → old.copy ≡ 0 → j < length insert → j < fresh → fresh - 1 - j < length free' → item ≡ get_or insert j d → node ≡ get_or free' (fresh - 1 - j) node
+    → Inserting o old now insert j fresh left left' out out' free free'
+    → Inserts o now next node item → LeadsWithItem now next node item links
+    → left'' ≡ left' ++ item_stores node item → out'' ≡ out' ++ links → free'' ≡ swap_remove free' (fresh - 1 - j) node
+    → Inserting o old next insert (j + 1) fresh left left'' out out'' free free''
+inserting_step o law old now next insert j fresh item d node left left' left'' out out' out'' free free' free'' links first lt room within is taken state ins leads el eo ef =
+    let here : drop j insert ≡ item ∷ drop (j + 1) insert = drop_here insert j d lt ∙ ap (λ b. b ∷ drop (j + 1) insert) (sym is) in
+    let front : take (j + 1) insert ≡ take j insert ++ item ∷ [] = take_more insert j d lt ∙ ap (λ b. take j insert ++ b ∷ []) (sym is) in
+    let fresh_node = next_node o old now insert j fresh left left' out out' free free' node state room within taken in
+    let copy : now.copy ≡ 0 = state.done.both.zero.copy ∙ first in
+    let apart = subst (AreApart o) here state.apart in
+    let off = subst (λ xs. AreOff o xs now.table) here state.off in
+    let valid = subst (AllByRecursion (λ i. o.valid i ≡ true)) here state.valid in
+    let placed = state.placed ++ (node, item) ∷ [] in
+    let in_old = all_weaker (λ (p : ℕ × Item). Contains (listed now.tree) p.0) (λ (p : ℕ × Item). Contains (listed next.tree) p.0) (λ p c. (ins.nodes p.0).1 (inr c)) state.placed state.done.in_tree in
+    let others = nodes_differ node state.placed (all_weaker (λ (p : ℕ × Item). Contains (listed now.tree) p.0) (λ (p : ℕ × Item). p.0 ≢ node) (λ p c e. fresh_node.not_there (subst (Contains (listed now.tree)) e c)) state.placed state.done.in_tree) in
+    record {
+      placed = placed;
+      more = state.more ++ links;
+      planned = el ∙ ap (λ xs. xs ++ item_stores node item) state.planned ∙ append_assoc left (placing_stores state.placed) (item_stores node item) ∙ ap (λ xs. left ++ xs) (sym (placing_more state.placed node item));
+      appended = eo ∙ ap (λ xs. xs ++ links) state.appended ∙ append_assoc out state.more links;
+      done =
+          subst (λ ns. InsertsAll o old next (take (j + 1) insert) placed (state.more ++ links) (take fresh free) ns) (sym ef)
+          (subst (λ xs. InsertsAll o old next xs placed (state.more ++ links) (take fresh free) (swap_remove free' (fresh - 1 - j) node)) (sym front)
+          (record {
+            table = ins.table ∙ ap (with_item o item) state.done.table ∙ sym (with_more o (take j insert) item old.table);
+            both = both_then old now next state.placed ((node, item) ∷ []) state.more links first state.done.both (both_insert o now next node item links copy ins leads);
+            in_fresh = all_append (λ (p : ℕ × Item). Contains (take fresh free) p.0) state.placed ((node, item) ∷ []) state.done.in_fresh (fresh_node.in_first, tt);
+            in_tree = all_append (λ (p : ℕ × Item). Contains (listed next.tree) p.0) state.placed ((node, item) ∷ []) in_old ((ins.nodes node).1 (inl refl), tt);
+            distinct = subst AreDistinct (sym (map-append (λ (p : ℕ × Item). p.0) state.placed ((node, item) ∷ []))) (distinct_push (map (λ (p : ℕ × Item). p.0) state.placed) node state.done.distinct others);
+            nodes = subst (λ ns. AreAllNodes old.capacity (swap_remove free' (fresh - 1 - j) node ++ ns)) (sym ins.in_order) (node_taken old.capacity node (place_for o item now.table) (swap_remove free' (fresh - 1 - j) node) (listed now.tree) fresh_node.shared);
+          }));
+      valid = valid.1;
+      apart = apart.1;
+      off = subst (λ t. AreOff o (drop (j + 1) insert) t) (sym ins.table) (still_off o law item (drop (j + 1) insert) now.table apart.0 off.1);
+      first =
+          subst (λ ns. AllByRecursion (λ x. Contains (take fresh free) x) (take (fresh - (j + 1)) ns)) (sym ef)
+          (let same : fresh - (j + 1) ≡ fresh - 1 - j = omega arith in
+          let more : fresh - j ≡ fresh - 1 - j + 1 = omega arith in
+          let firsts : take (fresh - j) free' ≡ take (fresh - 1 - j) free' ++ node ∷ [] = ap (λ k. take k free') more ∙ take_more free' (fresh - 1 - j) node within ∙ ap (λ x. take (fresh - 1 - j) free' ++ x ∷ []) (sym taken) in
+          subst (AllByRecursion (λ x. Contains (take fresh free) x)) (sym (ap (λ k. take k (swap_remove free' (fresh - 1 - j) node)) same ∙ take_swapped free' (fresh - 1 - j) node within))
+          (all_left (λ x. Contains (take fresh free) x) (take (fresh - 1 - j) free') (node ∷ []) (subst (AllByRecursion (λ x. Contains (take fresh free) x)) firsts state.first)));
+    }
+  where
+    nodes_differ : (x : ℕ) (placed : Placed) → AllByRecursion (λ (p : ℕ × Item). p.0 ≢ x) placed → AllByRecursion (λ y. y ≢ x) (map (λ (p : ℕ × Item). p.0) placed)
+    nodes_differ x [] h = tt
+    nodes_differ x (p ∷ rest) h = (h.0, nodes_differ x rest h.1)
+
+-- a free node is one of the memory's and none of the tree's
+pub free_node : (n : ℕ) (free nodes : List ℕ) (node : ℕ) → AreAllNodes n (free ++ nodes) → Contains free node → (node < n) × (Contains nodes node → ⊥)
+free_node n free nodes node are is =
+    last_is_free n node (swap_remove free is.0 node) nodes (taken_out n free nodes is.0 node is.1 (sym is.2) are)
+
+-- as many first words as there are items at most
+length_without_one : (a : ℕ) (xs : List Item) → has a xs ≡ true → length (without a xs) + 1 ≤ length xs
+length_without_one a [] h = absurd (cc)
+length_without_one a (x ∷ xs) h =
+    elim (x.a == a) as (λ e. (e || has a xs) ≡ true → length (cond (not e) (x ∷ without a xs) (without a xs)) + 1 ≤ length (x ∷ xs)) [
+      | true ↦ λ f. omega (arith, length_without a xs)
+      | false ↦ λ f. omega (arith, length_without_one a xs f)
+    ] h
+
+few_there : (words : List ℕ) (xs : List Item) → AllByRecursion (λ b. has b xs ≡ true) words → some_twice words ≡ false → length words ≤ length xs
+few_there [] xs h once = omega arith
+few_there (a ∷ rest) xs h once =
+    let two = neither (list_any (λ b. b == a) rest) (some_twice rest) once in
+    omega (arith, few_there rest (without a xs) (all_has_without a rest xs two.0 h.1) two.1, length_without_one a xs h.0)
+
+pub few_words : (words : List ℕ) (xs : List Item) → some_missing words xs ≡ false → some_twice words ≡ false → length words ≤ length xs
+few_words words xs there once = few_there words xs (all_there words xs there) once

@@ -1,0 +1,56 @@
+-- Several changes of both copies, planned one after another.
+use Rattle.std.specs.Prelude.{◌≡◌, ℕ, List, [], ◌∷◌, ◌++◌, map, Contains}
+use Rattle.std.specs.List.{AllByRecursion}
+use Rattle.order_laws.specs.declared.items.Item.{Item}
+use Rattle.order_laws.specs.Orders.{Order}
+use Rattle.order_laws.specs.Tables.{without_all}
+use Rattle.word_arena.specs.declared.stores.Store.{Store}
+use Rattle.word_arena.specs.Words.{item_at, listed}
+use Rattle.word_arena.specs.Stores.{words_after_all, AreLinkStores}
+use Rattle.rb_words.specs.Pictures.{Picture, IsPictured}
+use Rattle.rb_words.specs.Plans.{item_stores}
+use Rattle.rb_words.specs.Mirrors.{mirror, second}
+use Rattle.rb_words.specs.Rows.{AreDistinct}
+use Rattle.latch_core.specs.Updates.{with_items}
+use Rattle.latch_core.specs.FreeNodes.{AreAllNodes}
+
+-- items, each with the node that it goes into; the stores of their words; and that these stand
+abbrev pub Placed : Type 0
+Placed = List (ℕ × Item)
+
+abbrev pub placing_stores : Placed → List Store
+placing_stores [] = []
+placing_stores (p ∷ rest) = item_stores p.0 p.1 ++ placing_stores rest
+
+abbrev pub HasPlaced : List ℕ → Placed → Type 0
+HasPlaced m placed = AllByRecursion (λ p. item_at m p.0 ≡ p.1) placed
+
+-- where the words of new items stand, these links lead a copy from the old picture to the new
+pub record LeadsBeside (old new : Picture) (placed : Placed) (links : List Store) : Type 0 where
+  pub capacity : new.capacity ≡ old.capacity
+  pub copy : new.copy ≡ old.copy
+  pub links_only : AreLinkStores old.capacity old.copy links
+  pub leads : (m : List ℕ) → IsPictured m old → HasPlaced m placed → IsPictured (words_after_all m links) new
+
+-- and, mirrored, the second copy
+pub record LeadsBoth (old new : Picture) (placed : Placed) (links : List Store) : Type 0 where
+  pub zero : LeadsBeside old new placed links
+  pub one : LeadsBeside (second old) (second new) placed (mirror links)
+
+-- the items of these first words are erased by these links, and their nodes stand behind those that were free
+pub record ErasesAll (old new : Picture) (erase : List ℕ) (links : List Store) (free free' : List ℕ) : Type 0 where
+  pub table : new.table ≡ without_all erase old.table
+  pub both : LeadsBoth old new [] links
+  pub freed : List ℕ
+  pub behind : free' ≡ free ++ freed
+  pub nodes : AreAllNodes old.capacity (free' ++ listed new.tree)
+
+-- these items are inserted by these links, each in one of the fresh nodes, in which it was placed before
+pub record InsertsAll {K : Type 0} (o : Order K) (old new : Picture) (insert : List Item) (placed : Placed) (links : List Store)
+    (fresh free' : List ℕ) : Type 0 where
+  pub table : new.table ≡ with_items o insert old.table
+  pub both : LeadsBoth old new placed links
+  pub in_fresh : AllByRecursion (λ p. Contains fresh p.0) placed
+  pub in_tree : AllByRecursion (λ p. Contains (listed new.tree) p.0) placed
+  pub distinct : AreDistinct (map (λ p. p.0) placed)
+  pub nodes : AreAllNodes old.capacity (free' ++ listed new.tree)

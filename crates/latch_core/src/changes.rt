@@ -1,0 +1,101 @@
+//! Several changes of one update, planned one after another.
+
+ghost use Rattle.std.specs.Prelude.{◌≡◌, ◌+◌, ◌*◌, ◌<◌, ◌≤◌, ◌++◌, [], false, List, length, take, drop, vec_len, vec_capacity};
+ghost use Rattle.order_laws.specs.Orders.{Order};
+ghost use Rattle.word_arena.specs.declared.stores.Store.{Store};
+ghost use Rattle.word_arena.specs.Words.{listed};
+ghost use Rattle.rb_words.specs.Pictures.{IsPicture};
+ghost use Rattle.latch_core.specs.Updates.{some_missing, some_twice, some_invalid, some_overlap, some_meet};
+ghost use Rattle.latch_core.specs.FreeNodes.{AreAllNodes};
+ghost use Rattle.latch_core.specs.Changes.{Placed, placing_stores, ErasesAll, InsertsAll};
+
+use crate::plans::{ITEM_STORES, Plan, append};
+use order_laws::{Item, TreeOrder};
+use rb_words::{STORES, Shape};
+use word_arena::Store;
+
+/// Plans to erase the items of these first words, and puts their nodes behind the free ones.
+pub fn plan_erases<O: TreeOrder>(
+    shape: &mut Shape<O>,
+    free: &mut Vec<u32>,
+    links: &mut Vec<Store>,
+    erase: &[u64],
+)
+    requires there { some_missing erase.now shape.old.table ≡ false }
+    requires once { some_twice erase.now ≡ false }
+    requires room { vec_len links.old + length erase.now * STORES ≤ vec_capacity links.old }
+    requires first_copy { shape.old.copy ≡ 0 }
+    requires nodes { AreAllNodes shape.old.capacity (free.old.items ++ listed shape.old.tree) }
+    requires places { shape.old.capacity ≤ vec_capacity free.old }
+    requires was_sound { IsPicture O.order shape.old }
+    ensures plan { (more : List Store) × (links.new.items ≡ links.old.items ++ more)
+        × ErasesAll shape.old shape.new erase.now more free.old.items free.new.items }
+    ensures few { vec_len links.new ≤ vec_len links.old + length erase.now * STORES }
+    ensures links_capacity { vec_capacity links.new ≡ vec_capacity links.old }
+    ensures free_capacity { vec_capacity free.new ≡ vec_capacity free.old }
+    ensures room_kept { shape.old.room ≤ shape.new.room }
+    ensures sound { IsPicture O.order shape.new }
+{
+    for a in erase {
+        let node = shape.plan_erase(links, *a);
+        free.push_reserved(node);
+    }
+}
+
+/// Plans to insert these items in as many of the first `fresh` free nodes: the stores of their words go into the plan, those
+/// of links into a list of their own.
+///
+/// Nodes that stand behind the fresh ones are not taken.
+pub fn plan_inserts<O: TreeOrder>(
+    shape: &mut Shape<O>,
+    free: &mut Vec<u32>,
+    fresh: usize,
+    planned: &mut Vec<Store>,
+    plan: &mut Plan,
+    links: &mut Vec<Store>,
+    insert: &[Item],
+)
+    requires valid { some_invalid O.order insert.now ≡ false }
+    requires apart { some_overlap O.order insert.now ≡ false }
+    requires off { some_meet O.order insert.now shape.old.table ≡ false }
+    requires shape_room { length insert.now ≤ shape.old.room }
+    requires one_plan { STORES ≤ vec_capacity planned.old }
+    requires plan_room { length insert.now * 3 ≤ plan.old.room }
+    requires links_room { vec_len links.old + length insert.now * STORES ≤ vec_capacity links.old }
+    requires enough { length insert.now ≤ fresh }
+    requires free { fresh ≤ vec_len free.old }
+    requires first_copy { shape.old.copy ≡ 0 }
+    requires nodes { AreAllNodes shape.old.capacity (free.old.items ++ listed shape.old.tree) }
+    requires was_sound { IsPicture O.order shape.old }
+    ensures plan { (placed : Placed) × (more : List Store) × (plan.new.left ≡ plan.old.left ++ placing_stores placed)
+        × (links.new.items ≡ links.old.items ++ more)
+        × InsertsAll O.order shape.old shape.new insert.now placed more (take fresh free.old.items) free.new.items }
+    ensures few { length plan.new.left + vec_len links.new
+        ≤ length plan.old.left + vec_len links.old + length insert.now * STORES }
+    ensures plan_len { length plan.new.left ≡ length plan.old.left + length insert.now * 3 }
+    ensures plan_room_left { plan.new.room + length insert.now * 3 ≡ plan.old.room }
+    ensures free_capacity { vec_capacity free.new ≡ vec_capacity free.old }
+    ensures sound { IsPicture O.order shape.new }
+{
+    for (taken, item) in insert.iter().enumerate() {
+        planned.clear();
+        let node = free.swap_remove(fresh - 1 - taken);
+        shape.plan_insert(planned, node, *item);
+        separate(planned, plan, links);
+    }
+}
+
+// Parts what was planned for an insert: the stores of the item's words go into the plan, those of links into their list.
+fn separate(planned: &[Store], plan: &mut Plan, links: &mut Vec<Store>)
+    requires items_first { 3 ≤ length planned.now }
+    requires plan_room { 3 ≤ plan.old.room }
+    requires links_room { vec_len links.old + length planned.now ≤ vec_capacity links.old + 3 }
+    ensures left { plan.new.left ≡ plan.old.left ++ take 3 planned.now }
+    ensures room { plan.new.room + 3 ≡ plan.old.room }
+    ensures items { links.new.items ≡ links.old.items ++ drop 3 planned.now }
+    ensures len { vec_len links.new + 3 ≡ vec_len links.old + length planned.now }
+    ensures capacity { vec_capacity links.new ≡ vec_capacity links.old }
+{
+    plan.add(&planned[..ITEM_STORES]);
+    append(links, &planned[ITEM_STORES..]);
+}
