@@ -25,6 +25,8 @@ pub use traces::{Notes, Trace};
 pub use worlds::World;
 
 #[cfg(test)]
+mod batch_tests;
+#[cfg(test)]
 mod row_tests;
 #[cfg(test)]
 mod tests;

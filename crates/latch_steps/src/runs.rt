@@ -1,6 +1,6 @@
 //! Whole runs, of a list of events or of a list of commands.
 
-ghost use Rattle.std.specs.Prelude.{◌≡◌, IfOk, IfErr};
+ghost use Rattle.std.specs.Prelude.{◌≡◌, ◌≤◌, IfOk, IfErr, length};
 ghost use Rattle.latch_core.specs.Writers.{MayOpen, IsOpeningRefused};
 ghost use Rattle.latch_steps.specs.Promises.{IsTrace, IsTraceOfCommands, IsSafeTrace, IsQuietTrace, IsNearTrace, AreNotesOfCommands};
 
@@ -35,7 +35,7 @@ pub fn run<O: TreeOrder>(
     ensures may { IfOk result (λ t. MayOpen l start) }
     ensures refusal { IfErr result (IsOpeningRefused l start) }
 {
-    let mut recorder = Recorder::<O>::open(alloc, l, start)?;
+    let mut recorder = Recorder::<O>::open(alloc, l, start, 0)?;
     for event in events {
         let _ = recorder.record::<true>(event)?;
     }
@@ -60,7 +60,7 @@ pub fn drive<O: TreeOrder>(
     ensures may { IfOk result (λ t. MayOpen l start) }
     ensures refusal { IfErr result (IsOpeningRefused l start) }
 {
-    let mut recorder = Recorder::<O>::open(alloc, l, start)?;
+    let mut recorder = Recorder::<O>::open(alloc, l, start, reads_among(&commands))?;
     for command in commands {
         recorder.obey::<true>(command)?;
     }
@@ -82,10 +82,21 @@ pub fn drive_notes<O: TreeOrder>(
     ensures may { IfOk result (λ t. MayOpen l start) }
     ensures refusal { IfErr result (IsOpeningRefused l start) }
 {
-    let mut recorder = Recorder::<O>::open(alloc, l, start)?;
+    let mut recorder = Recorder::<O>::open(alloc, l, start, reads_among(&commands))?;
     for command in commands {
         recorder.obey::<false>(command)?;
     }
     let notes = recorder.finish_notes()?;
     Ok(notes)
+}
+
+/// How many of the commands ask for loads, of which each may return a lookup: a list of notes that has
+/// this room need not move while it grows.
+fn reads_among<K>(commands: &[Command<K>]) -> usize
+    ensures { result ≤ length commands.now }
+{
+    commands
+        .iter()
+        .filter(|command| matches!(command, Command::Read(_, _)))
+        .count()
 }

@@ -1,18 +1,18 @@
 ghost use Rattle.std.specs.Prelude.{◌<◌};
 
 use crate::{Command, Event, Note, Reply, Returned, World, drive, run};
-use latch_core::{Update, plain};
+use latch_core::{Entries, Update, plain};
 use order_laws::{Closed, HalfOpen, Item, Refusal};
 use std::alloc::Global;
 use std::process::Abort;
 use std::test::Fail;
 use word_arena::Layout;
 
-fn item(a: u64, b: u64, tag: u64) -> Item {
+pub(crate) fn item(a: u64, b: u64, tag: u64) -> Item {
     Item { a, b, tag }
 }
 
-fn insert(a: u64, b: u64, tag: u64) -> Command<u64> {
+pub(crate) fn insert(a: u64, b: u64, tag: u64) -> Command<u64> {
     Command::Begin(Update::Insert(item(a, b, tag)))
 }
 
@@ -22,9 +22,9 @@ fn look(table: &[Item], key: u64) -> Option<Item> {
 }
 
 /// A lookup's tag, generation, loads and attempts; a refusal's number.
-type Line = (u32, u64, Option<u64>, u64, u64, u64);
+pub(crate) type Line = (u32, u64, Option<u64>, u64, u64, u64);
 
-fn line_of(note: &Note<u64>) -> Line {
+pub(crate) fn line_of(note: &Note<u64>) -> Line {
     match note {
         Note::Returned(x) => {
             let tag = x.answer.map(|found| found.tag);
@@ -35,7 +35,7 @@ fn line_of(note: &Note<u64>) -> Line {
 }
 
 /// The same events once more.
-fn copies(alloc: Global, events: &[Event<u64>]) -> Result<Vec<Event<u64>>, Fail> {
+pub(crate) fn copies(alloc: Global, events: &[Event<u64>]) -> Result<Vec<Event<u64>>, Fail> {
     let mut list = Vec::with_capacity(alloc, events.len())?;
     for event in events {
         list.push(event.copy()?)?;
@@ -44,7 +44,7 @@ fn copies(alloc: Global, events: &[Event<u64>]) -> Result<Vec<Event<u64>>, Fail>
 }
 
 /// Drives commands from the sequence 0 at four nodes, or as told, and compares what is noted.
-fn drives(
+pub(crate) fn drives(
     rt: &impl Abort,
     alloc: Global,
     capacity: u32,
@@ -119,7 +119,7 @@ fn a_second_attempt_finds_the_old_table(rt: HostRuntime) -> Result<(), Fail> {
 }
 
 /// The line of a refusal of this number.
-fn refused(number: u64) -> Line {
+pub(crate) fn refused(number: u64) -> Line {
     (0, number, None, 0, 0, 0)
 }
 
@@ -207,16 +207,38 @@ fn draw(state: &mut u64, below: u64) -> u64
     (*state >> 33) % below
 }
 
-fn some_event(state: &mut u64) -> Event<u64> {
+fn some_item(state: &mut u64) -> Item {
+    let a = 16 * draw(state, 12);
+    item(a, a + 8 + draw(state, 16), a + 1)
+}
+
+/// A batch of up to two first words and up to three items.
+fn some_batch(alloc: Global, state: &mut u64) -> Result<Update, Fail> {
+    let mut words = Vec::new(alloc);
+    for _ in 0..draw(state, 3) {
+        words.push(16 * draw(state, 12))?;
+    }
+    let mut items = Vec::new(alloc);
+    for _ in 0..draw(state, 4) {
+        items.push(some_item(state))?;
+    }
+    Ok(Update::Batch {
+        erase: Entries::from(words),
+        insert: Entries::from(items),
+    })
+}
+
+fn some_event(alloc: Global, state: &mut u64) -> Result<Event<u64>, Fail> {
     let a = 16 * draw(state, 12);
     let reader = draw(state, 3) as u32;
-    match draw(state, 40) {
-        0 | 1 => Event::Begin(Update::Insert(item(a, a + 8 + draw(state, 16), a + 1))),
-        2 => Event::Begin(Update::Erase(a)),
+    Ok(match draw(state, 40) {
+        0 => Event::Begin(Update::Insert(some_item(state))),
+        1 => Event::Begin(Update::Erase(a)),
+        2 => Event::Begin(some_batch(alloc, state)?),
         3 | 4 | 5 | 6 => Event::Write,
         7 | 8 | 9 | 10 => Event::Start(reader, a + draw(state, 24)),
         _ => Event::Read(reader),
-    }
+    })
 }
 
 /// Whether some moment from the lookup's start to its end had its generation, with the answer of
@@ -345,7 +367,7 @@ fn interrupts(rt: &impl Abort, alloc: Global, seed: u64, start: u64) -> Result<(
     let mut state = seed;
     let mut account = Account::open(alloc, layout, start)?;
     for _ in 0..2500 {
-        account.step(rt, alloc, some_event(&mut state))?;
+        account.step(rt, alloc, some_event(alloc, &mut state)?)?;
     }
     assert!(rt; 20 < account.returned);
     let trace = run::<HalfOpen>(alloc, layout, start, copies(alloc, &account.events)?)?;

@@ -98,8 +98,8 @@ impl<O: TreeOrder> Recorder<O> {
     ghost use Rattle.latch_steps.specs.Worlds.{Shows, layout_in, HasSequence, HasFewEvents};
     ghost use Rattle.latch_steps.specs.Recorders.{RecordsOne, ObeysFromAny, ObeysWriting, ObeysReading, EndsAt};
 
-    /// A world before any event, with nothing recorded.
-    pub(crate) fn open(alloc: Global, l: Layout, start: u64) -> Result<Self, Refusal>
+    /// A world before any event, with nothing recorded, and room for so many notes.
+    pub(crate) fn open(alloc: Global, l: Layout, start: u64, room: usize) -> Result<Self, Refusal>
         ensures layout { IfOk result (λ r. layout_in r.world ≡ l) }
         ensures shows { IfOk result (λ r. Shows O.order r.world (opening (capacity_of l) start)) }
         ensures none { IfOk result (λ r. (r.events.items ≡ []) × (r.notes.items ≡ [])) }
@@ -110,7 +110,7 @@ impl<O: TreeOrder> Recorder<O> {
         Ok(Recorder {
             world,
             events: Vec::new(alloc),
-            notes: Vec::new(alloc),
+            notes: Vec::with_capacity(alloc, room)?,
         })
     }
 
