@@ -1,14 +1,10 @@
 -- A lookup from its start to its return, with no step of the writer between.
-use Rattle.std.proofs.Common.{◌≡◌, ◌≢◌, ℕ, zero, suc, ◌+◌, ◌-◌, ◌*◌, ◌≤◌, List, [], ◌∷◌, ◌++◌, length, Option, Some, None, refl, sym, ◌∙◌, ap, subst, inl, inr, ⊎_elim, arith, append-nil}
-use Rattle.std.specs.Prelude.{is_some, min}
+use Rattle.std.proofs.Common.{◌≡◌, ◌≢◌, ℕ, zero, suc, ◌+◌, ◌-◌, ◌*◌, ◌≤◌, List, [], ◌∷◌, ◌++◌, length, Option, Some, None, refl, sym, ◌∙◌, ap, subst, ⊎_elim, arith, append-nil}
+use Rattle.std.specs.Prelude.{min}
 use Rattle.std.specs.List.{AllByRecursion}
-use Rattle.std.specs.Ordering.{nat_cmp}
-use Rattle.std.specs.BTreeMap.{get as tree_get}
 use Rattle.std.specs.FinMap.{get, insert, remove}
 use Rattle.std.proofs.lemmas.Bool.{cases_eq}
 use Rattle.order_laws.specs.declared.items.Item.{Item}
-use Rattle.order_laws.specs.declared.refusals.Refusal.{Refusal}
-use Rattle.order_laws.specs.declared.refusals.Refusal.TheVariants.{ReaderBusy}
 use Rattle.order_laws.specs.Orders.{Order, IsLawful}
 use Rattle.order_laws.specs.Tables.{look}
 use Rattle.word_arena.specs.Layouts.{capacity_of, limit_of}
@@ -27,15 +23,13 @@ use Rattle.latch_core.proofs.Shallow.{shallow_tree, stays_now}
 use Rattle.rb_trees.specs.Trees.{depth}
 use Rattle.latch_steps.specs.declared.events.Event.TheVariants.{Start, Read}
 use Rattle.latch_steps.specs.declared.replies.Returned.{Returned}
-use Rattle.latch_steps.specs.declared.replies.Reply.{Reply}
-use Rattle.latch_steps.specs.declared.replies.Reply.TheVariants.{Started, Loaded, Returned as Gave, Refused}
+use Rattle.latch_steps.specs.declared.replies.Reply.TheVariants.{Started, Loaded, Returned as Gave}
 use Rattle.latch_steps.specs.declared.worlds.World.{World}
 use Rattle.latch_steps.specs.Runs.{LookupInHand, Moment, Done, did, last_of, history}
 use Rattle.latch_steps.specs.Steps.{more, with_lookups, new_lookup, with_value, after_value, load_left, start_done, load_done, read_done, Run}
-use Rattle.latch_steps.specs.Lookups.{IsInHand}
+use Rattle.latch_steps.specs.Lookups.{IsInHand, lookup_at}
 use Rattle.latch_steps.specs.Worlds.{Shows, layout_in, IsAfter}
-use Rattle.latch_steps.specs.WorldSteps.{MayDo}
-use Rattle.latch_steps.specs.AtOnce.{IsFound, IsNear, Finds, IsNotBegun, LooksUp, NeverLooksUp}
+use Rattle.latch_steps.specs.AtOnce.{IsFound, IsNear, Finds, LooksUp, NeverLooksUp}
 use Rattle.latch_steps.proofs.Readers.{get_insert_same, get_insert_other, get_remove_same, get_remove_other}
 use Rattle.latch_steps.proofs.Showing.{shown_none}
 use Rattle.latch_steps.proofs.Settling.{run_sound, none_accepted, all_push}
@@ -114,7 +108,7 @@ module _ {K : Type 0} (o : Order K) (n limit : ℕ) (m : List ℕ) (r : ℕ) whe
 module _ {O K : Type 0} (o : Order K) (law : IsLawful o) (old : World O K) (r : ℕ) (k : K) where
   -- the whole lookup, where the reader has none in hand
   pub look_found : (answer : Option Item) (g loads first last : ℕ) → loads ≤ 18446744073709551615
-      → tree_get nat_cmp old.lookups r ≡ None → LooksUp o old k answer g loads
+      → lookup_at old.lookups r ≡ None → LooksUp o old k answer g loads
       → first ≡ more old.events → last ≡ min (first + loads) 18446744073709551615
       → (w : Moment K) → Shows o old w
       → Finds o old w r k (record { reader = r; key = k; answer = answer; generation = g; first = first; last = last; loads = loads; tries = 1 })
@@ -122,7 +116,7 @@ module _ {O K : Type 0} (o : Order K) (law : IsLawful o) (old : World O K) (r : 
   look_found answer g loads first last most free found ef el w s =
       let n = capacity_of old.layout in
       let m = old.words.items in
-      let none_there : get w.lookups r ≡ None = shown_none o n (tree_get nat_cmp old.lookups r) (get w.lookups r) free (s.lookups r) in
+      let none_there : get w.lookups r ≡ None = shown_none o n (lookup_at old.lookups r) (get w.lookups r) free (s.lookups r) in
       let l : LookupInHand K = new_lookup k (more w.events) in
       let w' = with_lookups w (insert w.lookups r l) in
       let h = ending o n (limit_of old.layout) m r _ w' l 0 _ answer g (sym s.words) (get_insert_same w.lookups r l) refl refl found.comes_to in
@@ -145,9 +139,9 @@ module _ {O K : Type 0} (o : Order K) (law : IsLawful o) (old : World O K) (r : 
           writer = subst (λ v. Pictures old.writer v) (sym h.latch) s.writer;
           lookups = λ q.
               ⊎_elim
-              (λ same. subst (λ j. IsInHand {O = O} o n (tree_get nat_cmp old.lookups j) (get h.done.lookups j)) (sym same)
+              (λ same. subst (λ j. IsInHand {O = O} o n (lookup_at old.lookups j) (get h.done.lookups j)) (sym same)
               (subst (λ x. IsInHand {O = O} o n x (get h.done.lookups r)) (sym free) (subst (IsInHand {O = O} o n None) (sym h.gone) tt)))
-              (λ ne. subst (λ x. IsInHand {O = O} o n (tree_get nat_cmp old.lookups q) x) (sym (h.others q ne ∙ get_insert_other w.lookups q r l ne)) (s.lookups q))
+              (λ ne. subst (λ x. IsInHand {O = O} o n (lookup_at old.lookups q) x) (sym (h.others q ne ∙ get_insert_other w.lookups q r l ne)) (s.lookups q))
               (cases_eq q r);
           events = sym end ∙ sym h.events;
         };
@@ -210,17 +204,3 @@ module _ {O K : Type 0} (o : Order K) (law : IsLawful o) (old : World O K) (r : 
       let none : us ++ history run ≡ us = ap (λ vs. us ++ vs) (none_accepted (Read r) (λ q. refl) run (all_push (λ (d : Done K). d.event ≡ Read r) f.run one f.reads refl)) ∙ append-nil us in
       let same = subst (λ v. IsSound o n start' us v.latch) ends (subst (λ vs. IsSound o n start' vs (last_of f.begun run).latch) none sound) in
       record { moment = f.done; shows = f.shows; sound = subst (λ l. IsSound o (capacity_of l) start' us f.done.latch) (sym lay) same }
-
-  pub not_begun : (new : World O K) (why : Refusal) (reply : Reply K)
-      → MayDo o old (Start r k) reply new → reply ≡ Refused why → (start' : ℕ) (us : List Update)
-      (h : IsAfter o start' us old) → IsNotBegun o h r why new
-  not_begun new why reply may e start' us h =
-      ⊎_elim
-      (λ does. let d = does h.moment h.shows in by (get h.moment.lookups r) refl d.0 d.1 d.2)
-      (λ up. let kept = up.1 h.moment h.shows in inl ((let f = up.0 in cc), kept.0, kept.1))
-      may
-    where
-      by : (found : Option (LookupInHand K)) → get h.moment.lookups r ≡ found → (w' : Moment K)
-          → start_done h.moment r k found ≡ (reply, w') → Shows o new w' → IsNotBegun o h r why new
-      by None there w' s shows = (let f : Started ≡ Refused why = ap (λ done. done.0) s ∙ e in absurd (cc))
-      by (Some l) there w' s shows = inr ((let f : Refused ReaderBusy ≡ Refused why = ap (λ done. done.0) s ∙ e in cc), ap is_some there, subst (Shows o new) (ap (λ done. done.1) (sym s)) shows)

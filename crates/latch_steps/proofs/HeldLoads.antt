@@ -18,14 +18,14 @@ use Rattle.latch_steps.specs.declared.lookups.Held.TheVariants.{Going as Holds, 
 use Rattle.latch_steps.specs.Runs.{LookupInHand, Moment, Done, did, last_of}
 use Rattle.latch_steps.specs.Steps.{more, with_lookups, after_load, load_done, read_done, Run}
 use Rattle.latch_steps.specs.Traces.{kept, events_of, note_of, notes_of}
-use Rattle.latch_steps.specs.Lookups.{IsInHand, IsLookupOf, LoadsTo}
+use Rattle.latch_steps.specs.Lookups.{IsInHand, IsLookupOf, LoadsTo, lookup_at}
 use Rattle.latch_steps.specs.HeldLookups.{lookup_of, notes_of_held, IsHolding, LoadsOn, LoadsFrom, ReadsOn}
 use Rattle.latch_steps.proofs.Readers.{get_insert_same, get_insert_other, get_remove_same, get_remove_other, in_hand_at}
 use Rattle.latch_core.specs.Latches.{Latch}
 use Rattle.latch_core.specs.Writers.{Pictures}
 use Rattle.word_arena.specs.Layouts.{capacity_of, limit_of}
 use Rattle.std.specs.List.{cons_option}
-use Rattle.std.specs.BTreeMap.{BTreeMap, get as tree_get, is_at}
+use Rattle.std.specs.BTreeMap.{BTreeMap, is_at}
 use Rattle.latch_steps.specs.declared.worlds.World.{World}
 use Rattle.latch_steps.specs.declared.lookups.Held.{Held}
 use Rattle.latch_steps.specs.Worlds.{Shows, layout_in}
@@ -114,22 +114,22 @@ module _ {O K : Type 0} (o : Order K) (n limit : ℕ) (w : Moment K) (r most : �
 
 -- the lookup is put back, or taken out
 module _ {O K : Type 0} (o : Order K) (c : World O K) (r : ℕ) where
-  held_shows : (w v : Moment K) (left : Option (Lookup O K)) (ds : BTreeMap ℕ (Lookup O K)) (count : ℕ) → Shows o c w → IsHolding o (capacity_of c.layout) w v r left count → ((q : ℕ) → tree_get nat_cmp ds q ≡ cond (is_at (nat_cmp r) q) left (tree_get nat_cmp c.lookups q)) → Shows o (record c { lookups = ds; events = count }) v
+  held_shows : (w v : Moment K) (left : Option (Lookup O K)) (ds : BTreeMap ℕ (Option (Lookup O K))) (count : ℕ) → Shows o c w → IsHolding o (capacity_of c.layout) w v r left count → ((q : ℕ) → lookup_at ds q ≡ cond (is_at (nat_cmp r) q) left (lookup_at c.lookups q)) → Shows o (record c { lookups = ds; events = count }) v
   held_shows w v left ds count s h e =
       record {
         capacity = s.capacity;
         limit = s.limit;
         words = s.words ∙ ap (λ (l : Latch). l.words) (sym h.latch);
         writer = subst (Pictures c.writer) (sym h.latch) s.writer;
-        lookups = in_hand_at o (capacity_of c.layout) (tree_get nat_cmp c.lookups) (tree_get nat_cmp ds) w.lookups v.lookups r left s.lookups e h.lookup h.others;
+        lookups = in_hand_at o (capacity_of c.layout) (lookup_at c.lookups) (lookup_at ds) w.lookups v.lookups r left s.lookups e h.lookup h.others;
         events = h.events;
       }
 
   -- a reader without a lookup is refused once
-  pub idle_reads : (most : ℕ) (new : World O K) → tree_get nat_cmp c.lookups r ≡ None → Does o c (Read r) (Refused ReaderIdle) new → (w : Moment K) → Shows o c w → ReadsOn o c w r most 1 (Some (ToRefuse ReaderIdle)) new
+  pub idle_reads : (most : ℕ) (new : World O K) → lookup_at c.lookups r ≡ None → Does o c (Read r) (Refused ReaderIdle) new → (w : Moment K) → Shows o c w → ReadsOn o c w r most 1 (Some (ToRefuse ReaderIdle)) new
   idle_reads most new free does w s =
       let d = does w s in
-      let none_there : get w.lookups r ≡ None = shown_none o (capacity_of c.layout) (tree_get nat_cmp c.lookups r) (get w.lookups r) free (s.lookups r) in
+      let none_there : get w.lookups r ≡ None = shown_none o (capacity_of c.layout) (lookup_at c.lookups r) (get w.lookups r) free (s.lookups r) in
       let run : List (Done K) = did (Read r) (Refused ReaderIdle) d.0 ∷ [] in
       let once : Repeats (ToRead r most) 1 run = (omega arith, refl, refl) in
       record {
@@ -141,22 +141,22 @@ module _ {O K : Type 0} (o : Order K) (c : World O K) (r : ℕ) where
         shows = d.2;
       }
 
-  module _ (lk : Lookup O K) (there : Some lk ≡ tree_get nat_cmp c.lookups r) (words : List ℕ) (same : words ≡ c.words.items) (most loads count : ℕ) (ds : BTreeMap ℕ (Lookup O K)) (w : Moment K) (s : Shows o c w) where
-    reads : (h : Held O K) (found : Option (Note K)) → notes_of_held h ≡ cons_option found [] → ((q : ℕ) → tree_get nat_cmp ds q ≡ cond (is_at (nat_cmp r) q) (lookup_of h) (tree_get nat_cmp c.lookups q))
+  module _ (lk : Lookup O K) (there : Some lk ≡ lookup_at c.lookups r) (words : List ℕ) (same : words ≡ c.words.items) (most loads count : ℕ) (ds : BTreeMap ℕ (Option (Lookup O K))) (w : Moment K) (s : Shows o c w) where
+    reads : (h : Held O K) (found : Option (Note K)) → notes_of_held h ≡ cons_option found [] → ((q : ℕ) → lookup_at ds q ≡ cond (is_at (nat_cmp r) q) (lookup_of h) (lookup_at c.lookups q))
         → LoadsFrom o words lk r most c.events h loads count
         → ReadsOn o c w r most loads found (record c { lookups = ds; events = count })
     reads h found quiet e made =
-        let here = shown o (capacity_of c.layout) (tree_get nat_cmp c.lookups r) (get w.lookups r) lk there (s.lookups r) in
+        let here = shown o (capacity_of c.layout) (lookup_at c.lookups r) (get w.lookups r) lk there (s.lookups r) in
         let within : most ≡ reads_within (get w.lookups r) most = ap (λ f. reads_within f most) (sym here.1) in
         let l = made (capacity_of c.layout) (limit_of c.layout) w (sym s.words ∙ sym same) (subst (λ q. IsInHand o (capacity_of c.layout) q (get w.lookups r)) (sym there) (s.lookups r)) s.events in
         record { run = l.run; made = l.made; steps = l.steps; repeats = subst (λ m. Repeats (ToRead r most) m l.run) within l.repeats; notes = l.notes ∙ quiet; shows = held_shows w (last_of w l.run) (lookup_of h) ds count s l.holding e }
 
-    pub reads_hold : (next : Lookup O K) → ((q : ℕ) → tree_get nat_cmp ds q ≡ cond (is_at (nat_cmp r) q) (Some next) (tree_get nat_cmp c.lookups q))
+    pub reads_hold : (next : Lookup O K) → ((q : ℕ) → lookup_at ds q ≡ cond (is_at (nat_cmp r) q) (Some next) (lookup_at c.lookups q))
         → LoadsFrom o words lk r most c.events (Holds next) loads count
         → ReadsOn o c w r most loads None (record c { lookups = ds; events = count })
     reads_hold next e made = reads (Holds next) None refl e made
 
-    pub reads_end : (x : Returned K) → ((q : ℕ) → tree_get nat_cmp ds q ≡ cond (is_at (nat_cmp r) q) None (tree_get nat_cmp c.lookups q))
+    pub reads_end : (x : Returned K) → ((q : ℕ) → lookup_at ds q ≡ cond (is_at (nat_cmp r) q) None (lookup_at c.lookups q))
         → LoadsFrom {O = O} o words lk r most c.events (Ends x) loads count
         → ReadsOn o c w r most loads (Some (ToNote x)) (record c { lookups = ds; events = count })
     reads_end x e made = reads (Ends x) (Some (ToNote x)) refl e made

@@ -13,3 +13,4 @@ mod Recording
 mod HeldLoads
 mod Settling
 mod Finding
+mod PlainRuns

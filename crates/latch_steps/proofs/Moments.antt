@@ -1,5 +1,5 @@
 -- Every lookup that returns is right.
-use Rattle.std.proofs.Common.{◌≡◌, ℕ, suc, ◌+◌, ◌<◌, ◌≤◌, true, false, cond, List, [], ◌++◌, Option, Some, None, refl, sym, ◌∙◌, ap, subst, arith, append-nil}
+use Rattle.std.proofs.Common.{◌≡◌, ℕ, suc, ◌+◌, ◌<◌, ◌≤◌, true, false, cond, List, ◌++◌, Option, Some, None, refl, sym, ◌∙◌, ap, subst, arith, append-nil}
 use Rattle.std.specs.Prelude.{is_some}
 use Rattle.std.specs.Ordering.{nat_cmp, eq_by_cmp}
 use Rattle.std.specs.Cmp.{nat_cmp_total}
@@ -94,9 +94,6 @@ module _ {K : Type 0} (o : Order K) (law : IsLawful o) (n start : ℕ) (us : Lis
 
   when_counted : IsWorld o n start us (c + 1) (counted w)
   when_counted = record { latch = ok.latch; lookups = all_later o n w.latch.words c w.lookups ok.lookups; events = now }
-
-  nothing_new : us ++ [] ≡ us
-  nothing_new = append-nil us
 
   -- a reply and the moment after it
   abbrev Leads : Reply K × Moment K → Type 0

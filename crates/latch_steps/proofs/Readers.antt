@@ -1,15 +1,16 @@
 -- Lookups in hand by reader, and a change at one reader.
-use Rattle.std.proofs.Common.{◌≡◌, ◌≢◌, ℕ, true, false, cond, Option, Some, None, sym, ◌∙◌, ap, subst, ⊎_elim, arith}
+use Rattle.std.proofs.Common.{◌≡◌, ◌≢◌, ℕ, Bool, true, false, cond, Option, Some, None, refl, sym, ◌∙◌, ap, subst, ⊎_elim, arith}
 use Rattle.std.specs.Ordering.{nat_cmp, eq_by_cmp}
 use Rattle.std.specs.Cmp.{nat_cmp_total}
-use Rattle.std.specs.BTreeMap.{is_at}
+use Rattle.std.specs.Option.{option_flatten}
+use Rattle.std.specs.BTreeMap.{BTreeMap, get as tree_get, is_at}
 use Rattle.std.specs.FinMap.{FinMap, get, insert, remove, get-insert, get-remove}
 use Rattle.std.proofs.lemmas.Bool.{cases_eq}
 use Rattle.std.proofs.lemmas.Bool.Decides.{nat_tests}
 use Rattle.order_laws.specs.Orders.{Order}
 use Rattle.latch_steps.specs.declared.lookups.Lookup.{Lookup}
 use Rattle.latch_steps.specs.Runs.{LookupInHand}
-use Rattle.latch_steps.specs.Lookups.{IsInHand, IsLookupOf}
+use Rattle.latch_steps.specs.Lookups.{IsInHand, IsLookupOf, lookup_at}
 use Rattle.latch_steps.specs.Worlds.{AreInHand}
 
 -- a map at a key, after a change at another and at this one
@@ -63,3 +64,25 @@ module _ {O K : Type 0} (o : Order K) (n : ℕ) where
       → AreInHand o n ds (remove ls r)
   in_hand_remove cs ds ls r h e =
       in_hand_at cs ds ls (remove ls r) r None h e (subst (IsInHand {O = O} o n None) (sym (get_remove_same ls r)) tt) (λ q ne. get_remove_other ls q r ne)
+
+-- the readers' places after a change at one of them
+module _ {O K : Type 0} (old new : BTreeMap ℕ (Option (Lookup O K))) (r : ℕ) (place : Option (Lookup O K)) (e : (q : ℕ) → tree_get nat_cmp new q ≡ cond (is_at (nat_cmp r) q) (Some place) (tree_get nat_cmp old q)) where
+  pub lookup_set : (q : ℕ) → lookup_at new q ≡ cond (is_at (nat_cmp r) q) place (lookup_at old q)
+  lookup_set q = ap option_flatten (e q) ∙ by (is_at (nat_cmp r) q)
+    where
+      by : (b : Bool) → option_flatten (cond b (Some place) (tree_get nat_cmp old q)) ≡ cond b place (lookup_at old q)
+      by true = refl
+      by false = refl
+
+  -- which may be none
+  pub lookup_kept : place ≡ lookup_at old r → (q : ℕ) → lookup_at new q ≡ lookup_at old q
+  lookup_kept same q =
+      lookup_set q
+      ∙ ⊎_elim
+      (λ here. by_place (is_at (nat_cmp r) q) (same ∙ ap (lookup_at old) (sym here)))
+      (λ ne. let there : is_at (nat_cmp r) q ≡ false = grind (arith, nat_tests) in ap (λ b. cond b place (lookup_at old q)) there)
+      (cases_eq q r)
+    where
+      by_place : (b : Bool) → place ≡ lookup_at old q → cond b place (lookup_at old q) ≡ lookup_at old q
+      by_place true f = f
+      by_place false f = refl

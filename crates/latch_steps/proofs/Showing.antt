@@ -1,23 +1,22 @@
 -- What the methods of a world do to the moments that it shows.
-use Rattle.std.proofs.Common.{◌≡◌, ◌≢◌, ℕ, ◌+◌, ◌<◌, ◌≤◌, Bool, true, false, cond, List, [], ◌∷◌, length, Option, Some, None, refl, sym, ◌∙◌, ap, subst, inl, inr, ⊎_elim, arith, Vec, Global}
-use Rattle.std.specs.Prelude.{◌⊎◌, is_some, nat_lt, not, ◌==◌}
+use Rattle.std.proofs.Common.{◌≡◌, ◌≢◌, ℕ, ◌<◌, ◌≤◌, true, false, cond, List, [], ◌∷◌, length, Option, Some, None, refl, sym, ◌∙◌, ap, subst, inl, inr, ⊎_elim, arith, Vec, Global}
+use Rattle.std.specs.Prelude.{◌⊎◌, is_some, nat_lt}
 use Rattle.std.proofs.lemmas.Bool.{lt-ltb}
 use Rattle.std.specs.Ordering.{nat_cmp}
+use Rattle.std.specs.Option.{option_flatten}
 use Rattle.std.specs.BTreeMap.{BTreeMap, get as tree_get, is_at}
 use Rattle.std.specs.FinMap.{FinMap, get, insert, remove, empty, get-empty}
 use Rattle.order_laws.specs.declared.refusals.Refusal.{Refusal}
-use Rattle.order_laws.specs.declared.refusals.Refusal.TheVariants.{OutOfMemory, ReaderBusy, ReaderIdle, BadItem, Overlap, NoSuchItem, Full, SequenceSpent}
-use Rattle.order_laws.specs.declared.items.Item.{Item}
+use Rattle.order_laws.specs.declared.refusals.Refusal.TheVariants.{OutOfMemory, ReaderBusy, ReaderIdle}
 use Rattle.order_laws.specs.Orders.{Order}
-use Rattle.order_laws.specs.Tables.{has, meets}
 use Rattle.word_arena.specs.declared.stores.Store.{Store}
 use Rattle.word_arena.specs.Layouts.{capacity_of, limit_of}
 use Rattle.word_arena.specs.Words.{at}
 use Rattle.word_arena.specs.Stores.{words_after}
 use Rattle.latch_core.specs.declared.updates.Update.{Update}
 use Rattle.latch_core.specs.WriterViews.{WriterView}
-use Rattle.latch_core.specs.declared.updates.Update.TheVariants.{Insert, Erase}
-use Rattle.latch_core.specs.Updates.{refuses, spent, most_steps}
+use Rattle.latch_core.specs.Updates.{refuses, most_steps}
+use Rattle.latch_core.proofs.TestLemmas.{never_for_memory}
 use Rattle.latch_core.specs.Latches.{Hand, Latch, MayStep, stepped, begun}
 use Rattle.latch_core.specs.Plans.{IsPlan}
 use Rattle.latch_core.specs.Writers.{Pictures, HasBegun, in_hand, why_refused, stepped_writer}
@@ -31,7 +30,7 @@ use Rattle.latch_steps.specs.declared.worlds.World.{World}
 use Rattle.latch_steps.specs.Runs.{LookupInHand, Moment}
 use Rattle.latch_steps.specs.Steps.{more, counted, new_lookup, with_latch, with_lookups, Begins, Writes, after_load, start_done, load_done, read_done}
 use Rattle.latch_steps.specs.Expands.{writes_left}
-use Rattle.latch_steps.specs.Lookups.{IsInHand, IsLookupOf, LoadsTo}
+use Rattle.latch_steps.specs.Lookups.{IsInHand, IsLookupOf, LoadsTo, lookup_at}
 use Rattle.latch_steps.proofs.Readers.{in_hand_set, in_hand_remove}
 use Rattle.latch_steps.specs.Worlds.{AreInHand, Shows, IsAtRest}
 use Rattle.latch_steps.specs.WorldSteps.{Does, MayDo}
@@ -55,25 +54,6 @@ module _ {O K : Type 0} (o : Order K) (n : ℕ) where
   shown_some None m e h = absurd (cc)
   shown_some (Some k) None e h = absurd h
   shown_some (Some k) (Some l) e h = (l, refl)
-
--- want of memory is no test of an update
-module _ {K : Type 0} (o : Order K) (n limit : ℕ) where
-  spent_by_sequence : (seq : ℕ) → spent limit seq ≡ Some OutOfMemory → ⊥
-  spent_by_sequence seq e = elim (nat_lt limit (seq + 2)) as (λ b. cond b (Some SequenceSpent) None ≡ Some OutOfMemory → ⊥) [ true ↦ λ f. absurd (cc) | false ↦ λ f. absurd (cc) ] e
-
-  no_such_test : (busy : Bool) (table : List Item) (seq : ℕ) (u : Update)
-      → refuses o n limit busy table seq u ≡ Some OutOfMemory → ⊥
-  no_such_test true table seq u e = absurd (cc)
-  no_such_test false table seq (Insert i) e =
-      let last = cond (length table == n) (Some Full) (spent limit seq) in
-      let inner = cond (meets o i table) (Some Overlap) last in
-      let third : last ≡ Some OutOfMemory → ⊥ =
-      elim (length table == n) as (λ b. cond b (Some Full) (spent limit seq) ≡ Some OutOfMemory → ⊥) [ true ↦ λ f. absurd (cc) | false ↦ spent_by_sequence seq ] in
-      let second : inner ≡ Some OutOfMemory → ⊥ =
-      elim (meets o i table) as (λ b. cond b (Some Overlap) last ≡ Some OutOfMemory → ⊥) [ true ↦ λ f. absurd (cc) | false ↦ third ] in
-      elim (not (o.valid i)) as (λ b. cond b (Some BadItem) inner ≡ Some OutOfMemory → ⊥) [ true ↦ λ f. absurd (cc) | false ↦ second ] e
-  no_such_test false table seq (Erase a) e =
-      elim (not (has a table)) as (λ b. cond b (Some NoSuchItem) (spent limit seq) ≡ Some OutOfMemory → ⊥) [ true ↦ λ f. absurd (cc) | false ↦ spent_by_sequence seq ] e
 
 -- the writer
 module _ {O K : Type 0} (o : Order K) (c : World O K) where
@@ -153,7 +133,7 @@ module _ {O K : Type 0} (o : Order K) (c : World O K) where
   given_up u why wr same err out =
       let free : why_refused o c.writer u ≡ None =
       ⊎_elim
-      (λ right. absurd (no_such_test o c.writer.capacity c.writer.limit (in_hand c.writer) c.writer.table c.writer.sequence u (right ∙ ap Some out)))
+      (λ right. absurd (never_for_memory o c.writer.capacity c.writer.limit (in_hand c.writer) c.writer.table c.writer.sequence u (right ∙ ap Some out)))
       (λ rest. rest.0)
       err in
       inr (ap Refused out, λ w s. (says u None w s free, subst (λ (v : WriterView). Shows o (record c { writer = v }) w) (sym same) s))
@@ -189,24 +169,24 @@ module _ {O K : Type 0} (o : Order K) (c : World O K) where
   )
 
   -- the readers
-  pub busy : (r y : ℕ) (k : K) → is_some (tree_get nat_cmp c.lookups r) ≡ true → y ≡ more c.events
+  pub busy : (r y : ℕ) (k : K) → is_some (lookup_at c.lookups r) ≡ true → y ≡ more c.events
       → MayDo o c (Start r k) (Refused ReaderBusy) (record c { events = y })
   busy r y k there e =
       inl (λ w s.
-      let l = shown_some o (capacity_of c.layout) (tree_get nat_cmp c.lookups r) (get w.lookups r) there (s.lookups r) in (
+      let l = shown_some o (capacity_of c.layout) (lookup_at c.lookups r) (get w.lookups r) there (s.lookups r) in (
         counted w,
         ap (start_done w r k) l.1,
         counts w y s e,
       ))
 
-  pub starts : (r y : ℕ) (k : K) (new : Lookup O K) (ds : BTreeMap ℕ (Lookup O K))
-      → tree_get nat_cmp c.lookups r ≡ None
+  pub starts : (r y : ℕ) (k : K) (new : Lookup O K) (ds : BTreeMap ℕ (Option (Lookup O K)))
+      → lookup_at c.lookups r ≡ None
       → IsLookupOf o (capacity_of c.layout) new (new_lookup k y)
-      → ((q : ℕ) → tree_get nat_cmp ds q ≡ cond (is_at (nat_cmp r) q) (Some new) (tree_get nat_cmp c.lookups q))
+      → ((q : ℕ) → lookup_at ds q ≡ cond (is_at (nat_cmp r) q) (Some new) (lookup_at c.lookups q))
       → y ≡ more c.events → MayDo o c (Start r k) Started (record c { lookups = ds; events = y })
   starts r y k new ds free is e ey =
       inl (λ w s.
-      let none_there : get w.lookups r ≡ None = shown_none o (capacity_of c.layout) (tree_get nat_cmp c.lookups r) (get w.lookups r) free (s.lookups r) in
+      let none_there : get w.lookups r ≡ None = shown_none o (capacity_of c.layout) (lookup_at c.lookups r) (get w.lookups r) free (s.lookups r) in
       let count : y ≡ more w.events = ey ∙ ap more s.events in
       let l : LookupInHand K = new_lookup k (more w.events) in
       let next = with_lookups w (insert w.lookups r l) in (
@@ -217,16 +197,16 @@ module _ {O K : Type 0} (o : Order K) (c : World O K) where
           limit = s.limit;
           words = s.words;
           writer = s.writer;
-          lookups = in_hand_set o (capacity_of c.layout) (tree_get nat_cmp c.lookups) (tree_get nat_cmp ds) w.lookups r new l s.lookups e (subst (λ j. IsLookupOf o (capacity_of c.layout) new (new_lookup k j)) count is);
+          lookups = in_hand_set o (capacity_of c.layout) (lookup_at c.lookups) (lookup_at ds) w.lookups r new l s.lookups e (subst (λ j. IsLookupOf o (capacity_of c.layout) new (new_lookup k j)) count is);
           events = count;
         },
       ))
 
-  pub idle : (r y : ℕ) (ds : BTreeMap ℕ (Lookup O K)) → tree_get nat_cmp c.lookups r ≡ None
-      → ((q : ℕ) → tree_get nat_cmp ds q ≡ tree_get nat_cmp c.lookups q) → y ≡ more c.events
+  pub idle : (r y : ℕ) (ds : BTreeMap ℕ (Option (Lookup O K))) → lookup_at c.lookups r ≡ None
+      → ((q : ℕ) → lookup_at ds q ≡ lookup_at c.lookups q) → y ≡ more c.events
       → Does o c (Read r) (Refused ReaderIdle) (record c { lookups = ds; events = y })
   idle r y ds free e ey = λ w s.
-      let none_there : get w.lookups r ≡ None = shown_none o (capacity_of c.layout) (tree_get nat_cmp c.lookups r) (get w.lookups r) free (s.lookups r) in (
+      let none_there : get w.lookups r ≡ None = shown_none o (capacity_of c.layout) (lookup_at c.lookups r) (get w.lookups r) free (s.lookups r) in (
         counted w,
         ap (read_done o (capacity_of c.layout) w r) none_there,
         record {
@@ -240,15 +220,15 @@ module _ {O K : Type 0} (o : Order K) (c : World O K) where
       )
 
   -- a load after which the lookup is in hand
-  stays : (r y : ℕ) (reply : Reply K) (lk new : Lookup O K) (ds : BTreeMap ℕ (Lookup O K))
-      (words : List ℕ) → Some lk ≡ tree_get nat_cmp c.lookups r → words ≡ c.words.items
+  stays : (r y : ℕ) (reply : Reply K) (lk new : Lookup O K) (ds : BTreeMap ℕ (Option (Lookup O K)))
+      (words : List ℕ) → Some lk ≡ lookup_at c.lookups r → words ≡ c.words.items
       → ((l : LookupInHand K) → IsLookupOf o (capacity_of c.layout) lk l → (next : LookupInHand K) × IsLookupOf o (capacity_of c.layout) new next
       × ((w : Moment K) → w.latch.words ≡ words → load_done w r (after_load o (capacity_of c.layout) w r l) ≡ (reply, with_lookups w (insert w.lookups r next))))
-      → ((q : ℕ) → tree_get nat_cmp ds q ≡ cond (is_at (nat_cmp r) q) (Some new) (tree_get nat_cmp c.lookups q))
+      → ((q : ℕ) → lookup_at ds q ≡ cond (is_at (nat_cmp r) q) (Some new) (lookup_at c.lookups q))
       → y ≡ more c.events
       → Does o c (Read r) reply (record c { lookups = ds; events = y })
   stays r y reply lk new ds words there ew loads e ey = λ w s.
-      let m = shown o (capacity_of c.layout) (tree_get nat_cmp c.lookups r) (get w.lookups r) lk there (s.lookups r) in
+      let m = shown o (capacity_of c.layout) (lookup_at c.lookups r) (get w.lookups r) lk there (s.lookups r) in
       let g = loads m.0 m.2 in (
         with_lookups w (insert w.lookups r g.0),
         ap (read_done o (capacity_of c.layout) w r) m.1 ∙ g.2 w (sym s.words ∙ sym ew),
@@ -257,37 +237,37 @@ module _ {O K : Type 0} (o : Order K) (c : World O K) where
           limit = s.limit;
           words = s.words;
           writer = s.writer;
-          lookups = in_hand_set o (capacity_of c.layout) (tree_get nat_cmp c.lookups) (tree_get nat_cmp ds) w.lookups r new g.0 s.lookups e g.1;
+          lookups = in_hand_set o (capacity_of c.layout) (lookup_at c.lookups) (lookup_at ds) w.lookups r new g.0 s.lookups e g.1;
           events = ey ∙ ap more s.events;
         },
       )
 
-  pub goes_on : (r y : ℕ) (lk new : Lookup O K) (ds : BTreeMap ℕ (Lookup O K)) (words : List ℕ)
-      → Some lk ≡ tree_get nat_cmp c.lookups r → words ≡ c.words.items
+  pub goes_on : (r y : ℕ) (lk new : Lookup O K) (ds : BTreeMap ℕ (Option (Lookup O K))) (words : List ℕ)
+      → Some lk ≡ lookup_at c.lookups r → words ≡ c.words.items
       → ((l : LookupInHand K) → IsLookupOf o (capacity_of c.layout) lk l → LoadsTo o (capacity_of c.layout) words r y l (Going new))
-      → ((q : ℕ) → tree_get nat_cmp ds q ≡ cond (is_at (nat_cmp r) q) (Some new) (tree_get nat_cmp c.lookups q))
+      → ((q : ℕ) → lookup_at ds q ≡ cond (is_at (nat_cmp r) q) (Some new) (lookup_at c.lookups q))
       → y ≡ more c.events
       → Does o c (Read r) Loaded (record c { lookups = ds; events = y })
   goes_on r y lk new ds words there ew loads e ey =
       stays r y Loaded lk new ds words there ew (λ l is. let g = loads l is in (g.0, g.1, λ w same. ap (load_done w r) (g.2 w same))) e ey
 
-  pub tries_again : (r y : ℕ) (lk new : Lookup O K) (ds : BTreeMap ℕ (Lookup O K)) (words : List ℕ)
-      → Some lk ≡ tree_get nat_cmp c.lookups r → words ≡ c.words.items
+  pub tries_again : (r y : ℕ) (lk new : Lookup O K) (ds : BTreeMap ℕ (Option (Lookup O K))) (words : List ℕ)
+      → Some lk ≡ lookup_at c.lookups r → words ≡ c.words.items
       → ((l : LookupInHand K) → IsLookupOf o (capacity_of c.layout) lk l → LoadsTo o (capacity_of c.layout) words r y l (Retrying new))
-      → ((q : ℕ) → tree_get nat_cmp ds q ≡ cond (is_at (nat_cmp r) q) (Some new) (tree_get nat_cmp c.lookups q))
+      → ((q : ℕ) → lookup_at ds q ≡ cond (is_at (nat_cmp r) q) (Some new) (lookup_at c.lookups q))
       → y ≡ more c.events
       → Does o c (Read r) Retried (record c { lookups = ds; events = y })
   tries_again r y lk new ds words there ew loads e ey =
       stays r y Retried lk new ds words there ew (λ l is. let g = loads l is in (g.0, g.1, λ w same. ap (load_done w r) (g.2 w same))) e ey
 
-  pub returns : (r y : ℕ) (lk : Lookup O K) (x : Returned K) (ds : BTreeMap ℕ (Lookup O K))
-      (words : List ℕ) → Some lk ≡ tree_get nat_cmp c.lookups r → words ≡ c.words.items
+  pub returns : (r y : ℕ) (lk : Lookup O K) (x : Returned K) (ds : BTreeMap ℕ (Option (Lookup O K)))
+      (words : List ℕ) → Some lk ≡ lookup_at c.lookups r → words ≡ c.words.items
       → ((l : LookupInHand K) → IsLookupOf o (capacity_of c.layout) lk l → LoadsTo {O = O} o (capacity_of c.layout) words r y l (Ended x))
-      → ((q : ℕ) → tree_get nat_cmp ds q ≡ cond (is_at (nat_cmp r) q) None (tree_get nat_cmp c.lookups q))
+      → ((q : ℕ) → lookup_at ds q ≡ cond (is_at (nat_cmp r) q) None (lookup_at c.lookups q))
       → y ≡ more c.events
       → Does o c (Read r) (Gave x) (record c { lookups = ds; events = y })
   returns r y lk x ds words there ew loads e ey = λ w s.
-      let m = shown o (capacity_of c.layout) (tree_get nat_cmp c.lookups r) (get w.lookups r) lk there (s.lookups r) in
+      let m = shown o (capacity_of c.layout) (lookup_at c.lookups r) (get w.lookups r) lk there (s.lookups r) in
       let count : y ≡ more w.events = ey ∙ ap more s.events in
       let g = loads m.0 m.2 w (sym s.words ∙ sym ew) (sym count) in
       let next = with_lookups w (remove w.lookups r) in (
@@ -298,24 +278,19 @@ module _ {O K : Type 0} (o : Order K) (c : World O K) where
           limit = s.limit;
           words = s.words;
           writer = s.writer;
-          lookups = in_hand_remove o (capacity_of c.layout) (tree_get nat_cmp c.lookups) (tree_get nat_cmp ds) w.lookups r s.lookups e;
+          lookups = in_hand_remove o (capacity_of c.layout) (lookup_at c.lookups) (lookup_at ds) w.lookups r s.lookups e;
           events = count;
         },
       )
 
 -- nobody has a lookup in hand at the opening
-pub none_in_hand : {O K : Type 0} (o : Order K) (n : ℕ) (m : BTreeMap ℕ (Lookup O K))
-    → m.entries ≡ [] → AreInHand o n (tree_get nat_cmp m) empty
+pub none_in_hand : {O K : Type 0} (o : Order K) (n : ℕ) (m : BTreeMap ℕ (Option (Lookup O K)))
+    → m.entries ≡ [] → AreInHand o n (lookup_at m) empty
 none_in_hand {O} {K} o n m e r =
     let no : FinMap nat_cmp (LookupInHand K) = empty in
-    let free : tree_get nat_cmp m r ≡ None = rw e refl in
+    let nowhere : tree_get nat_cmp m r ≡ None = rw e refl in
+    let free : lookup_at m r ≡ None = ap option_flatten nowhere in
     subst (λ x. IsInHand {O = O} o n x (get no r)) (sym free) (subst (IsInHand {O = O} o n None) (sym (get-empty nat_cmp r)) tt)
-
--- a map that took a key out
-pub removed : {X : Type 0} (b : Bool) (x y z : Option X) → x ≡ cond b None y → (u : Option X)
-    → y ≡ cond b u z → x ≡ cond b None z
-removed true x y z e u f = e
-removed false x y z e u f = e ∙ f
 
 pub no_lookup : {X : Type 0} (x : Option X) → is_some x ≡ false → x ≡ None
 no_lookup None e = refl

@@ -1,6 +1,6 @@
 -- What a world does at once: the writer's steps up to the end of an update, and a lookup from its
 -- start to its return.
-use Rattle.std.specs.Prelude.{◌≡◌, ℕ, ◌+◌, ◌≤◌, List, [], ◌∷◌, ◌++◌, Option, None, is_some, ◌⊎◌, true, ◌≢◌, ◌*◌, ◌^◌, length}
+use Rattle.std.specs.Prelude.{◌≡◌, ℕ, ◌+◌, ◌≤◌, List, [], ◌∷◌, ◌++◌, Option, None, Result, IfErr, is_some, ◌⊎◌, true, ◌≢◌, ◌*◌, ◌^◌, length}
 use Rattle.std.specs.FinMap.{get}
 use Rattle.latch_core.specs.declared.updates.Update.{Update}
 use Rattle.order_laws.specs.declared.items.Item.{Item}
@@ -10,7 +10,7 @@ use Rattle.latch_steps.specs.declared.events.Event.TheVariants.{Write, Start, Re
 use Rattle.latch_steps.specs.declared.replies.Returned.{Returned}
 use Rattle.latch_steps.specs.declared.replies.Reply.TheVariants.{Started, Returned as Gave}
 use Rattle.order_laws.specs.Orders.{Order}
-use Rattle.word_arena.specs.Words.{words_for}
+use Rattle.word_arena.specs.Words.{at, words_for}
 use Rattle.latch_core.specs.Attempts.{Answer, Again, attempt}
 use Rattle.word_arena.specs.Layouts.{capacity_of, limit_of}
 use Rattle.latch_steps.specs.declared.worlds.World.{World}
@@ -88,3 +88,36 @@ abbrev pub NeverLooksUp : {O K : Type 0} → Order K → World O K → K → Typ
 NeverLooksUp o c k =
     (length c.words.items ≢ words_for (capacity_of (layout_in c)))
     ⊎ (ran c.words.items (attempt o (capacity_of (layout_in c)) k) ≡ Again)
+
+-- so from each moment that the old world shows
+abbrev pub SettlesFromAny : {O K : Type 0} → Order K → World O K → World O K → Type 0
+SettlesFromAny {O} {K} o old new = (w : Moment K) → Shows o old w → Settles o old w new
+
+abbrev pub FindsFromAny :
+    {O K : Type 0} → Order K → World O K → ℕ → K → World O K → Returned K → Type 0
+FindsFromAny {O} {K} o old r k new x = (w : Moment K) → Shows o old w → Finds o old w r k x new
+
+-- and after whatever updates the old world is
+abbrev pub IsSettledFromAny : {O K : Type 0} → Order K → World O K → World O K → Type 0
+IsSettledFromAny o old new =
+    (start : ℕ) (us : List Update) → IsAfter o start us old → IsSettled o start us new
+
+abbrev pub IsFoundFromAny : {O K : Type 0} → Order K → World O K → ℕ → K → Returned K → Type 0
+IsFoundFromAny o old r k x =
+    (start : ℕ) (us : List Update) (h : IsAfter o start us old)
+    → IsFound o start us (at h.moment.latch.words 0) r k x
+
+abbrev pub IsNearFromAny : {O K : Type 0} → Order K → World O K → Returned K → Type 0
+IsNearFromAny o old x =
+    (start : ℕ) (us : List Update) (h : IsAfter o start us old)
+    → IsNear o start us (at h.moment.latch.words 0) x
+
+abbrev pub KeepsUpdates : {O K : Type 0} → Order K → World O K → World O K → Type 0
+KeepsUpdates o old new =
+    (start : ℕ) (us : List Update) → IsAfter o start us old → IsAfter o start us new
+
+abbrev pub IsNotBegunFromAny :
+    {O K : Type 0} → Order K → World O K → ℕ → World O K → Result (Returned K) Refusal → Type 0
+IsNotBegunFromAny o old r new result =
+    (start : ℕ) (us : List Update) (h : IsAfter o start us old)
+    → IfErr result (λ e. IsNotBegun o h r e new)

@@ -1,4 +1,5 @@
--- A reader's lookup that is held apart while its loads run, and these loads as one command asks for them.
+-- A reader's lookup that is held apart while its loads run, and these loads as one command asks for
+-- them.
 use Rattle.std.specs.Prelude.{◌≡◌, ℕ, List, [], ◌∷◌, length, Option, Some, None, ◌≢◌}
 use Rattle.std.specs.FinMap.{get}
 use Rattle.latch_steps.specs.declared.replies.Note.{Note}
@@ -29,7 +30,8 @@ notes_of_held (Going c) = []
 notes_of_held (Returned x) = ToNote x ∷ []
 
 -- a moment differs from an earlier one in this reader's lookup and in the count of events alone
-pub record IsHolding {O K : Type 0} (o : Order K) (n : ℕ) (w v : Moment K) (r : ℕ) (c : Option (Lookup O K)) (count : ℕ) : Type 0 where
+pub record IsHolding {O K : Type 0} (o : Order K) (n : ℕ) (w v : Moment K) (r : ℕ)
+    (c : Option (Lookup O K)) (count : ℕ) : Type 0 where
   pub latch : v.latch ≡ w.latch
   pub lookup : IsInHand o n c (get v.lookups r)
   pub others : (q : ℕ) → q ≢ r → get v.lookups q ≡ get w.lookups q
@@ -45,7 +47,8 @@ pub record LoadsOn {O K : Type 0} (o : Order K) (n limit : ℕ) (w : Moment K) (
   pub notes : notes_of run ≡ notes_of_held h
   pub holding : IsHolding o n w (last_of w run) r (lookup_of h) count
 
--- they are made so from each moment of these words that has this lookup in hand, after so many events
+-- they are made so from each moment of these words that has this lookup in hand, after so many
+-- events
 abbrev pub LoadsFrom : {O K : Type 0} → Order K → List ℕ → Lookup O K → ℕ → ℕ → ℕ
     → Held O K → ℕ → ℕ → Type 0
 LoadsFrom {O} {K} o words c r most events h loads count =
@@ -62,3 +65,9 @@ pub record ReadsOn {O K : Type 0} (o : Order K) (old : World O K) (w : Moment K)
   pub repeats : Repeats (ToRead r most) (reads_within (get w.lookups r) most) run
   pub notes : notes_of run ≡ cons_option note []
   pub shows : Shows o new (last_of w run)
+
+-- and from each moment that it shows
+abbrev pub ReadsFromAny : {O K : Type 0} → Order K → World O K → ℕ → ℕ → ℕ → Option (Note K)
+    → World O K → Type 0
+ReadsFromAny {O} {K} o old r most loads note new =
+    (w : Moment K) → Shows o old w → ReadsOn o old w r most loads note new

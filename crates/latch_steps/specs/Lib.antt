@@ -9,6 +9,8 @@ pub mod Safe
 pub mod Quiet
 -- the same within fewer loads, since the writer's trees are red-black
 pub mod Near
+-- a run whose updates and lookups come one after another gives what a plain table gives
+pub mod Plain
 -- Who wants to know which steps there are goes on with these.
 -- the single steps of the writer and of a reader
 pub mod Steps

@@ -1,5 +1,5 @@
 -- What is promised of a trace, and of every run: each word has the run inside.
-use Rattle.std.specs.Prelude.{◌≡◌, ℕ, ◌<◌, ◌^◌, List, length}
+use Rattle.std.specs.Prelude.{◌≡◌, ℕ, ◌<◌, ◌^◌, List, [], length}
 use Rattle.order_laws.specs.Orders.{Order}
 use Rattle.word_arena.specs.declared.layouts.Layout.{Layout}
 use Rattle.word_arena.specs.Layouts.{capacity_of}
@@ -12,6 +12,7 @@ use Rattle.latch_steps.specs.Steps.{Run}
 use Rattle.latch_steps.specs.Safe.{IsSafe}
 use Rattle.latch_steps.specs.Quiet.{IsQuiet}
 use Rattle.latch_steps.specs.Near.{AreNear}
+use Rattle.latch_steps.specs.Plain.{IsPlain, ArePlain, AreLooksAfter}
 use Rattle.latch_steps.specs.Expands.{Expand}
 use Rattle.latch_steps.specs.Traces.{IsTraceOf, AreNotesOf}
 
@@ -37,14 +38,19 @@ abbrev pub IsQuietTrace : {O K : Type 0} → Order K → Layout → ℕ → Trac
 IsQuietTrace {O} {K} o l start t =
     (run : List (Done K)) → IsTraceOf o l start t run → IsQuiet o start run
 
--- and some run has it in which these lookups return within 4d + 3 loads, where 2^d is at most the square
--- of n + 1
+-- and some run has it in which these lookups return within 4d + 3 loads, where 2^d is at most the
+-- square of n + 1
 abbrev pub IsNearTrace : {O K : Type 0} → Order K → Layout → ℕ → Trace O K → Type 0
 IsNearTrace {O} {K} o l start t =
     (run : List (Done K)) × IsTraceOf o l start t run × AreNear o start (history run) run
 
--- some run that carries out these commands has these notes and this last sequence, is safe and quiet, and
--- its lookups that the writer leaves alone return so
+-- where updates and lookups come one after another, each lookup that returned is that of the table
+-- after all updates accepted before it
+abbrev pub IsExactWherePlain : {K : Type 0} → Order K → ℕ → ℕ → List (Done K) → Type 0
+IsExactWherePlain o n start run = IsPlain (opening n start) run → AreLooksAfter o start [] run
+
+-- some run that carries out these commands has these notes and this last sequence, is safe and
+-- quiet, and its lookups that the writer leaves alone return so; and it is exact where it is plain
 pub record AreNotesOfCommands {O K : Type 0} (o : Order K) (l : Layout) (start : ℕ)
     (commands : List (Command K)) (t : Notes O K) : Type 0 where
   pub run : List (Done K)
@@ -53,8 +59,10 @@ pub record AreNotesOfCommands {O K : Type 0} (o : Order K) (l : Layout) (start :
   pub safe : IsSafe o (capacity_of l) start run
   pub quiet : IsQuiet o start run
   pub near : AreNear o start (history run) run
+  pub plain : IsExactWherePlain o (capacity_of l) start run
 
--- this is so of every run from an even sequence, of fewer than 2^64 steps, at any capacity and limit
+-- this is so of every run from an even sequence, of fewer than 2^64 steps, at any capacity and
+-- limit
 abbrev pub AllRunsAre : {K : Type 0} → Order K → (ℕ → ℕ → List (Done K) → Type 0) → Type 0
 AllRunsAre {K} o Right =
     (n limit start : ℕ) (run : List (Done K)) → stable start ≡ 0 → length run < 2 ^ 64
@@ -67,3 +75,16 @@ AllRunsAreSafe o = AllRunsAre o (λ n start run. IsSafe o n start run)
 -- and quiet
 abbrev pub AllRunsAreQuiet : {K : Type 0} → Order K → Type 0
 AllRunsAreQuiet o = AllRunsAre o (λ n start run. IsQuiet o start run)
+
+-- and every run from an even sequence, however long, is exact where it is plain
+abbrev pub AllPlainRunsAreExact : {K : Type 0} → Order K → Type 0
+AllPlainRunsAreExact {K} o =
+    (n limit start : ℕ) (run : List (Done K)) → stable start ≡ 0
+    → Run o n limit (opening n start) run → IsExactWherePlain o n start run
+
+-- whatever run carries out plain commands is plain
+abbrev pub PlainCommandsRunPlainly : {K : Type 0} → Order K → Type 0
+PlainCommandsRunPlainly {K} o =
+    (n limit start : ℕ) (commands : List (Command K)) (run : List (Done K))
+    → Run o n limit (opening n start) run → ArePlain (opening n start) commands run
+    → IsPlain (opening n start) run

@@ -1,18 +1,21 @@
 -- What a world of the code stands for: a moment of the definitions, and one after a history of
 -- accepted updates.
-use Rattle.std.specs.Prelude.{◌≡◌, ℕ, List, Option, None}
+use Rattle.std.specs.Prelude.{◌≡◌, ℕ, ◌-◌, ◌^◌, ◌<◌, List, ◌++◌, Option, None}
 use Rattle.std.specs.Ordering.{nat_cmp}
 use Rattle.std.specs.FinMap.{FinMap, get}
 use Rattle.latch_core.specs.declared.updates.Update.{Update}
 use Rattle.order_laws.specs.Orders.{Order}
-use Rattle.std.specs.BTreeMap.{get as tree_get}
+use Rattle.word_arena.specs.Words.{at}
+use Rattle.latch_steps.specs.declared.events.Event.{Event}
+use Rattle.latch_steps.specs.declared.replies.Reply.{Reply}
+use Rattle.latch_steps.specs.Expands.{writes_left}
 use Rattle.word_arena.specs.declared.layouts.Layout.{Layout}
 use Rattle.word_arena.specs.Layouts.{capacity_of, limit_of}
 use Rattle.latch_core.specs.Writers.{Pictures}
 use Rattle.latch_steps.specs.declared.lookups.Lookup.{Lookup}
 use Rattle.latch_steps.specs.declared.worlds.World.{World}
-use Rattle.latch_steps.specs.Runs.{LookupInHand, Moment}
-use Rattle.latch_steps.specs.Lookups.{IsInHand}
+use Rattle.latch_steps.specs.Runs.{LookupInHand, Moment, accepted}
+use Rattle.latch_steps.specs.Lookups.{IsInHand, lookup_at}
 use Rattle.latch_core.specs.Invariants.{IsSound}
 
 -- the layout of a world
@@ -30,7 +33,7 @@ pub record Shows {O K : Type 0} (o : Order K) (c : World O K) (w : Moment K) : T
   pub limit : c.writer.limit ≡ limit_of c.layout
   pub words : c.words.items ≡ w.latch.words
   pub writer : Pictures c.writer w.latch
-  pub lookups : AreInHand o (capacity_of c.layout) (tree_get nat_cmp c.lookups) w.lookups
+  pub lookups : AreInHand o (capacity_of c.layout) (lookup_at c.lookups) w.lookups
   pub events : c.events ≡ w.events
 
 -- no moment that it shows has an update in hand
@@ -43,3 +46,21 @@ pub record IsAfter {O K : Type 0} (o : Order K) (start' : ℕ) (us : List Update
   pub moment : Moment K
   pub shows : Shows o c moment
   pub sound : IsSound o (capacity_of (layout_in c)) start' us moment.latch
+
+-- of whatever moment it shows: the sequence, the steps that are left, and that its count of events
+-- is still below the greatest
+abbrev pub HasSequence : {O K : Type 0} → Order K → World O K → ℕ → Type 0
+HasSequence {O} {K} o c sequence = (w : Moment K) → Shows o c w → sequence ≡ at w.latch.words 0
+
+abbrev pub HasLeft : {O K : Type 0} → Order K → World O K → ℕ → Type 0
+HasLeft {O} {K} o c left = (w : Moment K) → Shows o c w → left ≡ writes_left w.latch.hand
+
+abbrev pub HasFewEvents : {O K : Type 0} → Order K → World O K → Type 0
+HasFewEvents {O} {K} o c = (w : Moment K) → Shows o c w → w.events < 2 ^ 64 - 1
+
+-- an event after these updates is after these and the one that it accepted
+abbrev pub StaysAfter :
+    {O K : Type 0} → Order K → World O K → Event K → Reply K → World O K → Type 0
+StaysAfter o old e reply new =
+    (start : ℕ) (us : List Update) → IsAfter o start us old
+    → IsAfter o start (us ++ accepted e reply) new

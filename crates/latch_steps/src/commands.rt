@@ -3,13 +3,14 @@
 use latch_core::Update;
 
 /// A group of events of one actor.
-#[derive(Clone, Copy, Debug, PartialEq, Eq, Drop)]
+#[derive(Debug, PartialEq, Eq, Drop)]
 pub enum Command<K> {
     /// The writer takes an update in hand.
     Begin(Update),
     /// At most this many steps of the writer, up to the end of the update in hand.
     Write(u32),
-    /// Steps of the writer up to and with its next flip; where none remains, up to the end of the update in hand.
+    /// Steps of the writer up to and with its next flip; where none remains, up to the end of the
+    /// update in hand.
     WriteFlip,
     /// Steps of the writer up to the end of the update in hand.
     WriteEnd,

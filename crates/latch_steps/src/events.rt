@@ -1,9 +1,12 @@
 //! What one actor does in one step.
 
+ghost use Rattle.std.specs.Prelude.{◌≡◌, IfOk, IfErr};
+
 use latch_core::Update;
+use order_laws::Refusal;
 
 /// One step of the writer or of a reader. Readers are told apart by a number.
-#[derive(Clone, Copy, Debug, PartialEq, Eq, Drop)]
+#[derive(Debug, PartialEq, Eq, Drop)]
 pub enum Event<K> {
     /// The writer takes an update in hand. No word changes.
     Begin(Update),
@@ -13,4 +16,19 @@ pub enum Event<K> {
     Start(u32, K),
     /// A reader makes one load.
     Read(u32),
+}
+
+impl<K: Copy> Event<K> {
+    /// The same event once more. Refused by [`Refusal::OutOfMemory`] alone.
+    pub fn copy(&self) -> Result<Event<K>, Refusal>
+        ensures same { IfOk result (λ e. e ≡ self.now) }
+        ensures refusal { IfErr result (λ why. why ≡ Refusal.OutOfMemory) }
+    {
+        Ok(match self {
+            Event::Begin(update) => Event::Begin(update.copy()?),
+            Event::Write => Event::Write,
+            Event::Start(reader, key) => Event::Start(*reader, *key),
+            Event::Read(reader) => Event::Read(*reader),
+        })
+    }
 }

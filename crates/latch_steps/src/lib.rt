@@ -1,7 +1,7 @@
 //! The step machine: one writer and any number of readers, one load or store of one word at a time.
 //!
-//! A list of events is any interleaving of single steps; an interrupt that stops the writer in the middle of an update is
-//! a lookup that stands between two of its steps.
+//! A list of events is any interleaving of single steps; an interrupt that stops the writer in the
+//! middle of an update is a lookup that stands between two of its steps.
 #![tactic(auto)]
 
 pub mod commands;
@@ -16,12 +16,16 @@ pub mod worlds;
 
 pub use commands::Command;
 pub use events::Event;
-pub use laws::{every_run_is_quiet, every_run_is_safe};
+pub use laws::{
+    every_plain_run_is_exact, every_run_is_quiet, every_run_is_safe, plain_commands_run_plainly,
+};
 pub use replies::{Note, Reply, Returned};
 pub use runs::{drive, drive_notes, run};
 pub use traces::{Notes, Trace};
 pub use worlds::World;
 
+#[cfg(test)]
+mod batch_tests;
 #[cfg(test)]
 mod row_tests;
 #[cfg(test)]

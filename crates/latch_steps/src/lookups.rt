@@ -11,7 +11,8 @@ use latch_core::{ReaderCore, Taken};
 use order_laws::TreeOrder;
 use word_arena::Layout;
 
-/// A lookup in hand: the reader's core, the number of the event that started it, and the loads and attempts so far.
+/// A lookup in hand: the reader's core, the number of the event that started it, and the loads and
+/// attempts so far.
 #[derive(Drop)]
 pub(crate) struct Lookup<O: TreeOrder> {
     core: ReaderCore<O>,
@@ -39,7 +40,7 @@ pub(crate) enum Held<O: TreeOrder> {
 }
 
 impl<O: TreeOrder> Lookup<O> {
-    ghost use Rattle.latch_steps.specs.Lookups.{IsInHand, IsLookupOf, LoadsTo, gone_on};
+    ghost use Rattle.latch_steps.specs.Lookups.{IsLookupOf, LoadsAny};
     ghost use Rattle.latch_steps.specs.HeldLookups.{LoadsFrom};
 
     /// A lookup that has loaded nothing, begun by event number `first`.
@@ -54,25 +55,18 @@ impl<O: TreeOrder> Lookup<O> {
         }
     }
 
-    /// The same lookup once more.
-    fn copy(&self) -> Self
-        ensures { result ≡ self.now }
-    {
-        self.with(self.core.copy(), self.loads, self.tries)
-    }
-
-    /// Loads of the reader, at most so many and up to its return, after `events` events. Answers what they make of the
-    /// lookup, how many they are, and how many events there are then.
+    /// Loads of the reader, at most so many and up to its return, after `events` events. Answers
+    /// what they make of the lookup, how many they are, and how many events there are then.
     pub(crate) fn load_on(
-        &self,
+        self,
         words: &[u64],
         reader: u32,
         most: u32,
         mut events: u64,
     ) -> (Held<O>, u32, u64)
-        ensures { LoadsFrom O.order words.now self.now reader most events result.0 result.1 result.2 }
+        ensures { LoadsFrom O.order words.now self reader most events result.0 result.1 result.2 }
     {
-        let mut lookup = self.copy();
+        let mut lookup = self;
         for turn in 0..most {
             events = events.saturating_add(1);
             match lookup.load(words, reader, events) {
@@ -85,39 +79,44 @@ impl<O: TreeOrder> Lookup<O> {
     }
 
     /// One load of the reader, which is event number `last`.
-    pub(crate) fn load(&self, words: &[u64], reader: u32, last: u64) -> Loaded<O>
-        ensures { (n : ℕ) (l : LookupInHand O.Key) → IsLookupOf O.order n self.now l → LoadsTo O.order n words.now reader last l result }
+    ///
+    /// It is part of each loop over loads, so that these go on with a lookup that is where it was.
+    #[inline(always)]
+    pub(crate) fn load(self, words: &[u64], reader: u32, last: u64) -> Loaded<O>
+        ensures { LoadsAny O.order self words.now reader last result }
     {
-        let value = word_at(words, self.core.wanted());
-        let loads = self.loads.saturating_add(1);
-        match self.core.copy().take(value) {
-            Taken::Going(core) => Loaded::Going(self.with(core, loads, self.tries)),
-            Taken::Retrying(core) => {
-                let tries = self.tries.saturating_add(1);
-                Loaded::Retrying(self.with(core, loads, tries))
-            }
-            Taken::Returned(answer, generation) => Loaded::Returned(Returned {
-                reader,
-                key: self.core.key(),
-                answer,
-                generation,
-                first: self.first,
-                last,
-                loads,
-                tries: self.tries,
-            }),
-        }
-    }
-
-    /// The lookup as it goes on with this core and these counts.
-    fn with(&self, core: ReaderCore<O>, loads: u64, tries: u64) -> Self
-        ensures { result ≡ gone_on self.now core loads tries }
-    {
-        Lookup {
+        let Lookup {
             core,
-            first: self.first,
+            first,
             loads,
             tries,
+        } = self;
+        let key = core.key();
+        let value = word_at(words, core.wanted());
+        let loads = loads.saturating_add(1);
+        match core.take(value) {
+            Taken::Going(core) => Loaded::Going(Lookup {
+                core,
+                first,
+                loads,
+                tries,
+            }),
+            Taken::Retrying(core) => Loaded::Retrying(Lookup {
+                core,
+                first,
+                loads,
+                tries: tries.saturating_add(1),
+            }),
+            Taken::Returned(answer, generation) => Loaded::Returned(Returned {
+                reader,
+                key,
+                answer,
+                generation,
+                first,
+                last,
+                loads,
+                tries,
+            }),
         }
     }
 }

@@ -21,8 +21,8 @@ fn item(place: u32) -> Item {
     }
 }
 
-/// Looks an address in each item and in each gap up: those of the first `count` places are found and no other, each within so
-/// many loads.
+/// Looks an address in each item and in each gap up: those of the first `count` places are found
+/// and no other, each within so many loads.
 fn look_all_up(
     rt: &impl Abort,
     world: &mut World<HalfOpen>,

@@ -1,6 +1,6 @@
 //! Whole runs, of a list of events or of a list of commands.
 
-ghost use Rattle.std.specs.Prelude.{◌≡◌, IfOk, IfErr};
+ghost use Rattle.std.specs.Prelude.{◌≡◌, ◌≤◌, IfOk, IfErr, length};
 ghost use Rattle.latch_core.specs.Writers.{MayOpen, IsOpeningRefused};
 ghost use Rattle.latch_steps.specs.Promises.{IsTrace, IsTraceOfCommands, IsSafeTrace, IsQuietTrace, IsNearTrace, AreNotesOfCommands};
 
@@ -13,10 +13,11 @@ use word_arena::Layout;
 
 /// Does these events one after another, from an empty table with its sequence at `start`.
 ///
-/// Each lookup that returns gives the lookup of the table after some whole number of accepted updates, which was current
-/// at a moment between its first and its last step; and a lookup whose steps meet no writer step returns at its first
-/// attempt within `4n + 3` loads at a table of `n` items, even where the writer stands inside an update. These loads are also
-/// at most `4d + 3` for a `d` with 2 to the power `d` at most the square of `n + 1`.
+/// Each lookup that returns gives the lookup of the table after some whole number of accepted
+/// updates, which was current at a moment between its first and its last step; and a lookup whose
+/// steps meet no writer step returns at its first attempt within `4n + 3` loads at a table of `n`
+/// items, even where the writer stands inside an update. These loads are also at most `4d + 3` for
+/// a `d` with 2 to the power `d` at most the square of `n + 1`.
 ///
 /// Refused by [`Refusal::BadCapacity`] where the start is odd or above the layout's limit, and by
 /// [`Refusal::OutOfMemory`], which gives up the whole run.
@@ -24,9 +25,9 @@ pub fn run<O: TreeOrder>(
     alloc: Global,
     l: Layout,
     start: u64,
-    events: &[Event<O::Key>],
+    events: Vec<Event<O::Key>>,
 ) -> Result<Trace<O>, Refusal>
-    ensures events { IfOk result (λ t. t.events.items ≡ events.now) }
+    ensures events { IfOk result (λ t. t.events.items ≡ events.items) }
     ensures traces { IfOk result (IsTrace O.order l start) }
     ensures safe { IfOk result (IsSafeTrace O.order l start) }
     ensures quiet { IfOk result (IsQuietTrace O.order l start) }
@@ -34,31 +35,32 @@ pub fn run<O: TreeOrder>(
     ensures may { IfOk result (λ t. MayOpen l start) }
     ensures refusal { IfErr result (IsOpeningRefused l start) }
 {
-    let mut recorder = Recorder::<O>::open(alloc, l, start)?;
+    let mut recorder = Recorder::<O>::open(alloc, l, start, 0)?;
     for event in events {
-        let _ = recorder.record::<true>(*event)?;
+        let _ = recorder.record::<true>(event)?;
     }
     Ok(recorder.finish())
 }
 
-/// Does the events of these commands one after another, from an empty table with its sequence at `start`.
+/// Does the events of these commands one after another, from an empty table with its sequence at
+/// `start`.
 ///
-/// The trace is a run of its events, under the same promise as that of [`run`], and its events are those that the commands
-/// stand for.
+/// The trace is a run of its events, under the same promise as that of [`run`], and its events are
+/// those that the commands stand for.
 pub fn drive<O: TreeOrder>(
     alloc: Global,
     l: Layout,
     start: u64,
-    commands: &[Command<O::Key>],
+    commands: Vec<Command<O::Key>>,
 ) -> Result<Trace<O>, Refusal>
-    ensures expands { IfOk result (IsTraceOfCommands O.order l start commands.now) }
+    ensures expands { IfOk result (IsTraceOfCommands O.order l start commands.items) }
     ensures safe { IfOk result (IsSafeTrace O.order l start) }
     ensures quiet { IfOk result (IsQuietTrace O.order l start) }
     ensures near { IfOk result (IsNearTrace O.order l start) }
     ensures may { IfOk result (λ t. MayOpen l start) }
     ensures refusal { IfErr result (IsOpeningRefused l start) }
 {
-    let mut recorder = Recorder::<O>::open(alloc, l, start)?;
+    let mut recorder = Recorder::<O>::open(alloc, l, start, reads_among(&commands))?;
     for command in commands {
         recorder.obey::<true>(command)?;
     }
@@ -67,22 +69,34 @@ pub fn drive<O: TreeOrder>(
 
 /// Does the events of these commands as [`drive`] does, and keeps no list of them.
 ///
-/// The notes and the sequence are those of a run of the events that the commands stand for, under the same promise as that
-/// of [`run`]. A run of 2 to the power 64 events is refused as too large.
+/// The notes and the sequence are those of a run of the events that the commands stand for, under
+/// the same promise as that of [`run`]. A run of 2 to the power 64 events less one, or of more, is
+/// refused as too large.
 pub fn drive_notes<O: TreeOrder>(
     alloc: Global,
     l: Layout,
     start: u64,
-    commands: &[Command<O::Key>],
+    commands: Vec<Command<O::Key>>,
 ) -> Result<Notes<O>, Refusal>
-    ensures notes { IfOk result (AreNotesOfCommands O.order l start commands.now) }
+    ensures notes { IfOk result (AreNotesOfCommands O.order l start commands.items) }
     ensures may { IfOk result (λ t. MayOpen l start) }
     ensures refusal { IfErr result (IsOpeningRefused l start) }
 {
-    let mut recorder = Recorder::<O>::open(alloc, l, start)?;
+    let mut recorder = Recorder::<O>::open(alloc, l, start, reads_among(&commands))?;
     for command in commands {
         recorder.obey::<false>(command)?;
     }
     let notes = recorder.finish_notes()?;
     Ok(notes)
+}
+
+/// How many of the commands ask for loads, of which each may return a lookup: a list of notes that has
+/// this room need not move while it grows.
+fn reads_among<K>(commands: &[Command<K>]) -> usize
+    ensures { result ≤ length commands.now }
+{
+    commands
+        .iter()
+        .filter(|command| matches!(command, Command::Read(_, _)))
+        .count()
 }

@@ -1,18 +1,18 @@
 ghost use Rattle.std.specs.Prelude.{◌<◌};
 
 use crate::{Command, Event, Note, Reply, Returned, World, drive, run};
-use latch_core::{Update, plain};
+use latch_core::{Entries, Update, plain};
 use order_laws::{Closed, HalfOpen, Item, Refusal};
 use std::alloc::Global;
 use std::process::Abort;
 use std::test::Fail;
 use word_arena::Layout;
 
-fn item(a: u64, b: u64, tag: u64) -> Item {
+pub(crate) fn item(a: u64, b: u64, tag: u64) -> Item {
     Item { a, b, tag }
 }
 
-fn insert(a: u64, b: u64, tag: u64) -> Command<u64> {
+pub(crate) fn insert(a: u64, b: u64, tag: u64) -> Command<u64> {
     Command::Begin(Update::Insert(item(a, b, tag)))
 }
 
@@ -22,9 +22,9 @@ fn look(table: &[Item], key: u64) -> Option<Item> {
 }
 
 /// A lookup's tag, generation, loads and attempts; a refusal's number.
-type Line = (u32, u64, Option<u64>, u64, u64, u64);
+pub(crate) type Line = (u32, u64, Option<u64>, u64, u64, u64);
 
-fn line_of(note: &Note<u64>) -> Line {
+pub(crate) fn line_of(note: &Note<u64>) -> Line {
     match note {
         Note::Returned(x) => {
             let tag = x.answer.map(|found| found.tag);
@@ -34,12 +34,21 @@ fn line_of(note: &Note<u64>) -> Line {
     }
 }
 
+/// The same events once more.
+pub(crate) fn copies(alloc: Global, events: &[Event<u64>]) -> Result<Vec<Event<u64>>, Fail> {
+    let mut list = Vec::with_capacity(alloc, events.len())?;
+    for event in events {
+        list.push(event.copy()?)?;
+    }
+    Ok(list)
+}
+
 /// Drives commands from the sequence 0 at four nodes, or as told, and compares what is noted.
-fn drives(
+pub(crate) fn drives(
     rt: &impl Abort,
     alloc: Global,
     capacity: u32,
-    commands: &[Command<u64>],
+    commands: Vec<Command<u64>>,
     lines: &[Line],
     sequence: u64,
 ) -> Result<(), Fail> {
@@ -49,7 +58,8 @@ fn drives(
         assert!(rt; line_of(note) == *line);
     }
     assert_eq!(rt; trace.sequence, sequence);
-    let again = run::<HalfOpen>(alloc, Layout::new(capacity)?, 0, trace.events.as_slice())?;
+    let events = copies(alloc, &trace.events)?;
+    let again = run::<HalfOpen>(alloc, Layout::new(capacity)?, 0, events)?;
     assert!(rt; again.events.as_slice() == trace.events.as_slice());
     assert!(rt; again.notes.as_slice() == trace.notes.as_slice());
     assert_eq!(rt; again.sequence, sequence);
@@ -58,91 +68,91 @@ fn drives(
 
 #[test]
 fn a_lookup_in_the_first_half_of_an_insert(rt: HostRuntime) -> Result<(), Fail> {
-    let commands = [
+    let commands = vec![in rt.alloc();
         insert(0x1000, 0x2000, 7),
         Command::WriteFlip,
         Command::Start(1, 0x1000),
         Command::Read(1, 3),
-    ];
+    ]?;
     let lines = [(1, 0x1000, None, 0, 3, 1)];
-    drives(&rt, rt.alloc(), 4, &commands, &lines, 1)
+    drives(&rt, rt.alloc(), 4, commands, &lines, 1)
 }
 
 // Copy 1 is still the old one.
 #[test]
 fn a_lookup_in_the_second_half_of_an_insert(rt: HostRuntime) -> Result<(), Fail> {
-    let commands = [
+    let commands = vec![in rt.alloc();
         insert(0x1000, 0x2000, 7),
         Command::WriteFlip,
         Command::WriteFlip,
         Command::Start(1, 0x1000),
         Command::Read(1, 6),
-    ];
+    ]?;
     let lines = [(1, 0x1000, Some(7), 1, 6, 1)];
-    drives(&rt, rt.alloc(), 4, &commands, &lines, 2)
+    drives(&rt, rt.alloc(), 4, commands, &lines, 2)
 }
 
 #[test]
 fn a_reader_sleeps_through_an_update(rt: HostRuntime) -> Result<(), Fail> {
-    let commands = [
+    let commands = vec![in rt.alloc();
         Command::Start(1, 0x1000),
         Command::Read(1, 1),
         insert(0x1000, 0x2000, 7),
         Command::WriteEnd,
         Command::Read(1, 11),
-    ];
+    ]?;
     let lines = [(1, 0x1000, Some(7), 1, 12, 2)];
-    drives(&rt, rt.alloc(), 4, &commands, &lines, 2)
+    drives(&rt, rt.alloc(), 4, commands, &lines, 2)
 }
 
 #[test]
 fn a_second_attempt_finds_the_old_table(rt: HostRuntime) -> Result<(), Fail> {
-    let commands = [
+    let commands = vec![in rt.alloc();
         Command::Start(1, 0x1000),
         Command::Read(1, 2),
         insert(0x1000, 0x2000, 7),
         Command::WriteFlip,
         Command::Read(1, 4),
-    ];
+    ]?;
     let lines = [(1, 0x1000, None, 0, 6, 2)];
-    drives(&rt, rt.alloc(), 4, &commands, &lines, 1)
+    drives(&rt, rt.alloc(), 4, commands, &lines, 1)
 }
 
 /// The line of a refusal of this number.
-fn refused(number: u64) -> Line {
+pub(crate) fn refused(number: u64) -> Line {
     (0, number, None, 0, 0, 0)
 }
 
 #[test]
 fn a_second_update_while_one_is_in_hand(rt: HostRuntime) -> Result<(), Fail> {
-    let commands = [
+    let commands = vec![in rt.alloc();
         insert(0x10, 0x20, 1),
         Command::WriteFlip,
         insert(0x30, 0x40, 2),
         Command::WriteEnd,
         Command::Start(1, 0x10),
         Command::Read(1, 6),
-    ];
+    ]?;
     let lines = [refused(5), (1, 0x10, Some(1), 1, 6, 1)];
-    drives(&rt, rt.alloc(), 4, &commands, &lines, 2)
+    drives(&rt, rt.alloc(), 4, commands, &lines, 2)
 }
 
 #[test]
 fn a_busy_and_an_idle_reader(rt: HostRuntime) -> Result<(), Fail> {
-    let commands = [
+    let commands = vec![in rt.alloc();
         Command::Start(1, 0x10),
         Command::Start(1, 0x20),
         Command::Read(2, 1),
         Command::Read(1, 9),
         Command::Read(1, 1),
-    ];
+    ]?;
     let lines = [refused(8), refused(9), (1, 0x10, None, 0, 3, 1), refused(9)];
-    drives(&rt, rt.alloc(), 4, &commands, &lines, 0)
+    drives(&rt, rt.alloc(), 4, commands, &lines, 0)
 }
 
 #[test]
 fn words_of_two_items_are_not_answered(rt: HostRuntime) -> Result<(), Fail> {
-    let commands = [
+    let commands = vec![in rt.alloc();
         Command::Begin(Update::Erase(0x99)),
         insert(0x10, 0x20, 1),
         Command::WriteEnd,
@@ -153,28 +163,32 @@ fn words_of_two_items_are_not_answered(rt: HostRuntime) -> Result<(), Fail> {
         insert(0x30, 0x40, 2),
         Command::Write(4294967295),
         Command::Read(1, 10),
-    ];
+    ]?;
     let lines = [refused(3), (1, 0x28, None, 3, 13, 2)];
-    drives(&rt, rt.alloc(), 1, &commands, &lines, 6)
+    drives(&rt, rt.alloc(), 1, commands, &lines, 6)
 }
 
-#[test]
-fn the_last_sequence(rt: HostRuntime) -> Result<(), Fail> {
-    let layout = Layout::new(4)?;
-    let commands = [
+/// Commands of which the second update is past the greatest sequence.
+fn two_updates(alloc: Global) -> Result<Vec<Command<u64>>, Fail> {
+    Ok(vec![in alloc;
         insert(0x10, 0x20, 1),
         Command::WriteEnd,
         insert(0x30, 0x40, 2),
         Command::Start(1, 0x10),
         Command::Read(1, 6),
-    ];
-    let trace = drive::<Closed>(rt.alloc(), layout, 4294967292, commands.as_slice())?;
+    ]?)
+}
+
+#[test]
+fn the_last_sequence(rt: HostRuntime) -> Result<(), Fail> {
+    let layout = Layout::new(4)?;
+    let trace = drive::<Closed>(rt.alloc(), layout, 4294967292, two_updates(rt.alloc())?)?;
     assert_eq!(rt; trace.sequence, 4294967294);
     assert_eq!(rt; trace.notes.len(), 2);
     assert!(rt; line_of(&trace.notes[0]) == (0, 6, None, 0, 0, 0));
     assert!(rt; line_of(&trace.notes[1]) == (1, 0x10, Some(1), 2147483647, 6, 1));
     for start in [1, 4294967296] {
-        match drive::<Closed>(rt.alloc(), layout, start, commands.as_slice()) {
+        match drive::<Closed>(rt.alloc(), layout, start, two_updates(rt.alloc())?) {
             Ok(_) => assert!(rt; false),
             Err(why) => assert_eq!(rt; why, Refusal::BadCapacity),
         }
@@ -193,19 +207,42 @@ fn draw(state: &mut u64, below: u64) -> u64
     (*state >> 33) % below
 }
 
-fn some_event(state: &mut u64) -> Event<u64> {
+fn some_item(state: &mut u64) -> Item {
+    let a = 16 * draw(state, 12);
+    item(a, a + 8 + draw(state, 16), a + 1)
+}
+
+/// A batch of up to two first words and up to three items.
+fn some_batch(alloc: Global, state: &mut u64) -> Result<Update, Fail> {
+    let mut words = Vec::new(alloc);
+    for _ in 0..draw(state, 3) {
+        words.push(16 * draw(state, 12))?;
+    }
+    let mut items = Vec::new(alloc);
+    for _ in 0..draw(state, 4) {
+        items.push(some_item(state))?;
+    }
+    Ok(Update::Batch {
+        erase: Entries::from(words),
+        insert: Entries::from(items),
+    })
+}
+
+fn some_event(alloc: Global, state: &mut u64) -> Result<Event<u64>, Fail> {
     let a = 16 * draw(state, 12);
     let reader = draw(state, 3) as u32;
-    match draw(state, 40) {
-        0 | 1 => Event::Begin(Update::Insert(item(a, a + 8 + draw(state, 16), a + 1))),
-        2 => Event::Begin(Update::Erase(a)),
+    Ok(match draw(state, 40) {
+        0 => Event::Begin(Update::Insert(some_item(state))),
+        1 => Event::Begin(Update::Erase(a)),
+        2 => Event::Begin(some_batch(alloc, state)?),
         3 | 4 | 5 | 6 => Event::Write,
         7 | 8 | 9 | 10 => Event::Start(reader, a + draw(state, 24)),
         _ => Event::Read(reader),
-    }
+    })
 }
 
-/// Whether some moment from the lookup's start to its end had its generation, with the answer of the plain replay.
+/// Whether some moment from the lookup's start to its end had its generation, with the answer of
+/// the plain replay.
 fn was_current(
     alloc: Global,
     x: &Returned<u64>,
@@ -265,15 +302,15 @@ impl Account {
     }
 
     /// Why an event is refused, by the plain programs.
-    fn refuses(&self, alloc: Global, event: Event<u64>) -> Result<Option<Refusal>, Fail> {
+    fn refuses(&self, alloc: Global, event: &Event<u64>) -> Result<Option<Refusal>, Fail> {
         let why = match event {
             Event::Begin(update) => {
                 let table = plain::replay::<HalfOpen>(alloc, &self.updates)?;
                 let sequence = self.world.sequence();
                 plain::refuses::<HalfOpen>(self.layout, self.left > 0, &table, sequence, update)
             }
-            Event::Start(reader, _) if self.is_busy(reader) => Some(Refusal::ReaderBusy),
-            Event::Read(reader) if !self.is_busy(reader) => Some(Refusal::ReaderIdle),
+            Event::Start(reader, _) if self.is_busy(*reader) => Some(Refusal::ReaderBusy),
+            Event::Read(reader) if !self.is_busy(*reader) => Some(Refusal::ReaderIdle),
             _ => None,
         };
         Ok(why)
@@ -281,14 +318,14 @@ impl Account {
 
     /// Takes in what an event came to.
     fn follow(&mut self, event: Event<u64>, reply: Reply<u64>) -> Result<(), Fail> {
-        match (event, reply) {
+        match (&event, reply) {
             (Event::Begin(update), Reply::Begun(left)) => {
-                self.updates.push(update)?;
+                self.updates.push(update.copy()?)?;
                 self.left = left;
             }
             (Event::Write, Reply::Wrote(_)) => self.left = self.left.saturating_sub(1),
-            (Event::Start(reader, _), Reply::Started) => self.set_busy(reader, true),
-            (Event::Read(reader), Reply::Returned(_)) => self.set_busy(reader, false),
+            (Event::Start(reader, _), Reply::Started) => self.set_busy(*reader, true),
+            (Event::Read(reader), Reply::Returned(_)) => self.set_busy(*reader, false),
             _ => {}
         }
         self.events.push(event)?;
@@ -304,8 +341,8 @@ impl Account {
 
     /// Does an event, and compares what it comes to with the plain account.
     fn step(&mut self, rt: &impl Abort, alloc: Global, event: Event<u64>) -> Result<(), Fail> {
-        let refused = self.refuses(alloc, event)?;
-        let reply = self.world.step(event);
+        let refused = self.refuses(alloc, &event)?;
+        let reply = self.world.step(event.copy()?);
         self.follow(event, reply)?;
         match reply {
             Reply::Refused(why) => {
@@ -323,17 +360,17 @@ impl Account {
     }
 }
 
-/// A list of events with three readers: each reply is compared with the plain replay of the history, and all notes with
-/// those of a run of the whole list.
+/// A list of events with three readers: each reply is compared with the plain replay of the
+/// history, and all notes with those of a run of the whole list.
 fn interrupts(rt: &impl Abort, alloc: Global, seed: u64, start: u64) -> Result<(), Fail> {
     let layout = Layout::new(8)?;
     let mut state = seed;
     let mut account = Account::open(alloc, layout, start)?;
     for _ in 0..2500 {
-        account.step(rt, alloc, some_event(&mut state))?;
+        account.step(rt, alloc, some_event(alloc, &mut state)?)?;
     }
     assert!(rt; 20 < account.returned);
-    let trace = run::<HalfOpen>(alloc, layout, start, &account.events)?;
+    let trace = run::<HalfOpen>(alloc, layout, start, copies(alloc, &account.events)?)?;
     assert!(rt; trace.events.as_slice() == account.events.as_slice());
     assert!(rt; trace.notes.as_slice() == account.notes.as_slice());
     assert_eq!(rt; trace.sequence, account.world.sequence());
@@ -363,7 +400,8 @@ fn finds(
     Ok(())
 }
 
-/// Does an update, with lookups of its own key, of an old one and of one past all at each single step.
+/// Does an update, with lookups of its own key, of an old one and of one past all at each single
+/// step.
 fn steps_through(
     rt: &impl Abort,
     world: &mut World<HalfOpen>,

@@ -1,24 +1,20 @@
 //! Whole runs, and what they leave.
 
-ghost use Rattle.std.specs.Prelude.{◌≡◌, ◌<◌, ◌-◌, ◌^◌, ◌∷◌, ◌++◌, [], length, replicate, IfOk, IfErr, OnOk};
-ghost use Rattle.std.specs.FinMap.{get};
+ghost use Rattle.std.specs.Prelude.{◌≡◌, ◌<◌, ◌^◌, [], length, IfOk, IfErr, OnOk};
 ghost use Rattle.word_arena.specs.Layouts.{capacity_of};
 ghost use Rattle.latch_core.specs.Writers.{MayOpen, IsOpeningRefused};
-ghost use Rattle.latch_steps.specs.declared.events.Event.{Event};
-ghost use Rattle.latch_steps.specs.declared.replies.Reply.{Reply};
-ghost use Rattle.latch_steps.specs.Runs.{Moment, did, opening};
-ghost use Rattle.latch_steps.specs.Traces.{kept, note_of};
+ghost use Rattle.latch_steps.specs.Runs.{opening};
+ghost use Rattle.latch_steps.specs.Traces.{note_of};
 ghost use Rattle.latch_steps.specs.WorldSteps.{gives_up};
-ghost use Rattle.latch_steps.specs.Expands.{most_of, reads_within};
+ghost use Rattle.latch_steps.specs.Recorders.{KeepsTimes};
 ghost use Rattle.latch_steps.specs.Quiet.{is_flip};
-ghost use Rattle.word_arena.specs.Words.{at};
 
 use crate::commands::Command;
 use crate::events::Event;
 use crate::replies::{Note, Reply};
 use crate::worlds::World;
 use order_laws::{Refusal, TreeOrder};
-use std::alloc::{AllocError, Global};
+use std::alloc::Global;
 use word_arena::Layout;
 
 /// What a run leaves.
@@ -80,28 +76,30 @@ fn is_flip<K: Copy>(reply: &Reply<K>) -> bool
     }
 }
 
-/// Appends an event that was done so many times, where events are kept.
-fn keep<K: Copy, const KEEPS_EVENTS: bool>(
+/// Appends copies of an event that is done so many times, where events are kept. Refused by
+/// [`Refusal::OutOfMemory`] alone.
+fn keep<K: Copy, const KEEPS: bool>(
     events: &mut Vec<Event<K>>,
-    event: Event<K>,
+    event: &Event<K>,
     times: u32,
-) -> Result<(), AllocError>
-    ensures { OnOk result (events.new.items ≡ events.old.items ++ kept KEEPS_EVENTS (replicate times event)) }
+) -> Result<(), Refusal>
+    ensures kept { OnOk result (KeepsTimes KEEPS event.now times events.old.items events.new.items) }
+    ensures refusal { IfErr result (λ e. e ≡ Refusal.OutOfMemory) }
 {
-    if KEEPS_EVENTS {
+    if KEEPS {
         for _time in 0..times {
-            events.push(event)?;
+            events.push(event.copy()?)?;
         }
     }
     Ok(())
 }
 
 impl<O: TreeOrder> Recorder<O> {
-    ghost use Rattle.latch_steps.specs.Worlds.{Shows, layout_in};
-    ghost use Rattle.latch_steps.specs.Recorders.{Records, Obeys, IsWriting, ends_writing};
+    ghost use Rattle.latch_steps.specs.Worlds.{Shows, layout_in, HasSequence, HasFewEvents};
+    ghost use Rattle.latch_steps.specs.Recorders.{RecordsOne, ObeysFromAny, ObeysWriting, ObeysReading, EndsAt};
 
-    /// A world before any event, with nothing recorded.
-    pub(crate) fn open(alloc: Global, l: Layout, start: u64) -> Result<Self, Refusal>
+    /// A world before any event, with nothing recorded, and room for so many notes.
+    pub(crate) fn open(alloc: Global, l: Layout, start: u64, room: usize) -> Result<Self, Refusal>
         ensures layout { IfOk result (λ r. layout_in r.world ≡ l) }
         ensures shows { IfOk result (λ r. Shows O.order r.world (opening (capacity_of l) start)) }
         ensures none { IfOk result (λ r. (r.events.items ≡ []) × (r.notes.items ≡ [])) }
@@ -112,23 +110,23 @@ impl<O: TreeOrder> Recorder<O> {
         Ok(Recorder {
             world,
             events: Vec::new(alloc),
-            notes: Vec::new(alloc),
+            notes: Vec::with_capacity(alloc, room)?,
         })
     }
 
-    /// Does one event and records it.
-    pub(crate) fn record<const KEEPS_EVENTS: bool>(
+    /// Does one event and records it. A copy is made only where events are kept.
+    pub(crate) fn record<const KEEPS: bool>(
         &mut self,
         event: Event<O::Key>,
     ) -> Result<Reply<O::Key>, Refusal>
-        ensures recorded { IfOk result (λ reply. (w : Moment O.Key) → Shows O.order self.old.world w → (next : Moment O.Key) × Records O.order KEEPS_EVENTS self.old w self.new (did event reply next ∷ [])) }
+        ensures recorded { IfOk result (RecordsOne O.order KEEPS event self.old self.new) }
         ensures refusal { IfErr result (λ e. e ≡ Refusal.OutOfMemory) }
     {
+        keep::<O::Key, KEEPS>(&mut self.events, &event, 1)?;
         let reply = self.world.step(event);
         if gives_up(&reply) {
             return Err(Refusal::OutOfMemory);
         }
-        keep::<O::Key, KEEPS_EVENTS>(&mut self.events, event, 1)?;
         if let Some(note) = note_of(&reply) {
             self.notes.push(note)?;
         }
@@ -136,53 +134,50 @@ impl<O: TreeOrder> Recorder<O> {
     }
 
     /// Does the events of a command.
-    pub(crate) fn obey<const KEEPS_EVENTS: bool>(
+    pub(crate) fn obey<const KEEPS: bool>(
         &mut self,
-        command: &Command<O::Key>,
+        command: Command<O::Key>,
     ) -> Result<(), Refusal>
-        ensures obeyed { OnOk result ((w : Moment O.Key) → Shows O.order self.old.world w → Obeys O.order KEEPS_EVENTS command.now self.old self.new w (most_of w command.now)) }
+        ensures obeyed { OnOk result (ObeysFromAny O.order KEEPS command self.old self.new) }
         ensures refusal { IfErr result (λ e. e ≡ Refusal.OutOfMemory) }
     {
         match command {
             Command::Begin(update) => {
-                let _ = self.record::<KEEPS_EVENTS>(Event::Begin(*update))?;
+                let _ = self.record::<KEEPS>(Event::Begin(update))?;
                 Ok(())
             }
             Command::Write(most) => {
                 let most = if self.world.is_writing() {
-                    *most as u64
+                    most as u64
                 } else {
                     0
                 };
-                self.write_on::<KEEPS_EVENTS>(most, false)
+                self.write_on::<KEEPS>(most, false)
             }
             Command::WriteFlip => {
                 let left = self.world.writes_left();
-                self.write_on::<KEEPS_EVENTS>(left, true)
+                self.write_on::<KEEPS>(left, true)
             }
             Command::WriteEnd => {
                 let left = self.world.writes_left();
-                self.write_on::<KEEPS_EVENTS>(left, false)
+                self.write_on::<KEEPS>(left, false)
             }
             Command::Start(reader, key) => {
-                let _ = self.record::<KEEPS_EVENTS>(Event::Start(*reader, *key))?;
+                let _ = self.record::<KEEPS>(Event::Start(reader, key))?;
                 Ok(())
             }
-            Command::Read(reader, most) => self.read_on::<KEEPS_EVENTS>(*reader, *most),
+            Command::Read(reader, most) => self.read_on::<KEEPS>(reader, most),
         }
     }
 
-    /// Steps of the writer, at most so many and up to the end of the update in hand; where `to_flip`, up to the next flip.
-    fn write_on<const KEEPS_EVENTS: bool>(
-        &mut self,
-        most: u64,
-        to_flip: bool,
-    ) -> Result<(), Refusal>
-        ensures written { OnOk result ((c : Command O.Key) → IsWriting to_flip c → (w : Moment O.Key) → Shows O.order self.old.world w → Obeys O.order KEEPS_EVENTS c self.old self.new w most) }
+    /// Steps of the writer, at most so many and up to the end of the update in hand; where
+    /// `to_flip`, up to the next flip.
+    fn write_on<const KEEPS: bool>(&mut self, most: u64, to_flip: bool) -> Result<(), Refusal>
+        ensures written { OnOk result (ObeysWriting O.order KEEPS to_flip most self.old self.new) }
         ensures refusal { IfErr result (λ e. e ≡ Refusal.OutOfMemory) }
     {
         for _turn in 0..most {
-            let reply = self.record::<KEEPS_EVENTS>(Event::Write)?;
+            let reply = self.record::<KEEPS>(Event::Write)?;
             if self.ends(&reply, to_flip) {
                 break;
             }
@@ -192,18 +187,19 @@ impl<O: TreeOrder> Recorder<O> {
 
     /// Whether the writer's steps end with this one.
     fn ends(&self, reply: &Reply<O::Key>, to_flip: bool) -> bool
-        ensures { (w : Moment O.Key) → Shows O.order self.now.world w → result ≡ ends_writing to_flip reply.now w }
+        ensures { EndsAt O.order self.now to_flip reply.now result }
     {
         (to_flip && is_flip(reply)) || !self.world.is_writing()
     }
 
-    /// Loads of a reader, at most so many and up to the return of its lookup. One without a lookup in hand is refused once.
-    fn read_on<const KEEPS_EVENTS: bool>(&mut self, reader: u32, most: u32) -> Result<(), Refusal>
-        ensures read { OnOk result ((w : Moment O.Key) → Shows O.order self.old.world w → Obeys O.order KEEPS_EVENTS (Command.Read reader most) self.old self.new w (reads_within (get w.lookups reader) most)) }
+    /// Loads of a reader, at most so many and up to the return of its lookup. One without a lookup
+    /// in hand is refused once.
+    fn read_on<const KEEPS: bool>(&mut self, reader: u32, most: u32) -> Result<(), Refusal>
+        ensures read { OnOk result (ObeysReading O.order KEEPS reader most self.old self.new) }
         ensures refusal { IfErr result (λ e. e ≡ Refusal.OutOfMemory) }
     {
         let (loads, note) = self.world.read_on(reader, most);
-        keep::<O::Key, KEEPS_EVENTS>(&mut self.events, Event::Read(reader), loads)?;
+        keep::<O::Key, KEEPS>(&mut self.events, &Event::Read(reader), loads)?;
         if let Some(note) = note {
             self.notes.push(note)?;
         }
@@ -215,7 +211,7 @@ impl<O: TreeOrder> Recorder<O> {
         ensures events { result.events.items ≡ self.events.items }
         ensures few { length result.events.items < 2 ^ 64 }
         ensures notes { result.notes.items ≡ self.notes.items }
-        ensures sequence { (w : Moment O.Key) → Shows O.order self.world w → result.sequence ≡ at w.latch.words 0 }
+        ensures sequence { HasSequence O.order self.world result.sequence }
     {
         let sequence = self.world.sequence();
         Trace {
@@ -225,11 +221,12 @@ impl<O: TreeOrder> Recorder<O> {
         }
     }
 
-    /// What was noted, with the sequence as it is now. A run of 2 to the power 64 events is refused as too large.
+    /// What was noted, with the sequence as it is now. A run of 2 to the power 64
+    /// events less one, or of more, is refused as too large.
     pub(crate) fn finish_notes(self) -> Result<Notes<O>, Refusal>
-        ensures few { IfOk result (λ t. (w : Moment O.Key) → Shows O.order self.world w → w.events < 2 ^ 64 - 1) }
+        ensures few { OnOk result (HasFewEvents O.order self.world) }
         ensures notes { IfOk result (λ t. t.notes.items ≡ self.notes.items) }
-        ensures sequence { IfOk result (λ t. (w : Moment O.Key) → Shows O.order self.world w → t.sequence ≡ at w.latch.words 0) }
+        ensures sequence { IfOk result (λ t. HasSequence O.order self.world t.sequence) }
         ensures refusal { IfErr result (λ e. e ≡ Refusal.OutOfMemory) }
     {
         if !self.world.is_counting() {

@@ -1,13 +1,12 @@
 //! The words, their writer and the lookups in hand, one step at a time.
 
-ghost use Rattle.std.specs.Prelude.{◌≡◌, ℕ, ◌-◌, ◌^◌, ◌<◌, true, List, [], ◌++◌, length, IfOk, IfErr, IfSome, IfNone, OnSome, is_some};
+ghost use Rattle.std.specs.Prelude.{◌≡◌, ℕ, ◌-◌, ◌^◌, ◌<◌, true, List, [], ◌++◌, length, IfOk, IfErr, IfSome, IfNone, OnSome, OnOk, is_some};
 ghost use Rattle.word_arena.specs.Words.{at};
 ghost use Rattle.word_arena.specs.Layouts.{capacity_of};
 ghost use Rattle.latch_core.specs.Writers.{MayOpen, IsOpeningRefused};
 ghost use Rattle.latch_core.specs.declared.updates.Update.{Update};
 ghost use Rattle.latch_steps.specs.declared.events.Event.TheVariants.{Begin, Write, Start, Read};
 ghost use Rattle.latch_steps.specs.Runs.{Moment, accepted, opening};
-ghost use Rattle.latch_steps.specs.Expands.{writes_left};
 
 use crate::events::Event;
 use crate::lookups::{Held, Loaded, Lookup};
@@ -19,30 +18,31 @@ use std::alloc::Global;
 use std::collections::BTreeMap;
 use word_arena::{Layout, Store};
 
-/// The words of a latched tree with their writer, the lookups in hand by reader, and the count of events, which stays at
-/// the greatest `u64`.
+/// The words of a latched tree with their writer, the lookups in hand by reader, and the count of
+/// events, which stays at the greatest `u64`.
 ///
-/// `step` does one event, `settle` and `find_now` as many as they need. A refused event is counted too, unless it was refused
-/// for want of memory, which changes nothing.
+/// `step` does one event, `settle` and `find_now` as many as they need. A refused event is counted
+/// too, unless it was refused for want of memory, which changes nothing.
 #[derive(Drop)]
 pub struct World<O: TreeOrder> {
     layout: Layout,
     words: Vec<u64>,
     writer: WriterCore<O>,
-    lookups: BTreeMap<u32, Lookup<O>>,
+    lookups: BTreeMap<u32, Option<Lookup<O>>>,
     events: u64,
 }
 
 impl<O: TreeOrder> World<O> {
-    ghost use Rattle.latch_steps.specs.Worlds.{Shows, IsAtRest, layout_in, IsAfter};
+    ghost use Rattle.latch_steps.specs.Worlds.{Shows, IsAtRest, layout_in, IsAfter, StaysAfter, HasSequence, HasLeft, HasFewEvents};
     ghost use Rattle.latch_steps.specs.WorldSteps.{Does, MayDo, Steps};
-    ghost use Rattle.latch_steps.specs.HeldLookups.{ReadsOn};
-    ghost use Rattle.latch_steps.specs.AtOnce.{IsSettled, Settles, IsFound, IsNear, Finds, IsNotBegun, LooksUp, NeverLooksUp};
+    ghost use Rattle.latch_steps.specs.Lookups.{lookup_at};
+    ghost use Rattle.latch_steps.specs.HeldLookups.{ReadsFromAny};
+    ghost use Rattle.latch_steps.specs.AtOnce.{SettlesFromAny, IsSettledFromAny, FindsFromAny, IsFoundFromAny, IsNearFromAny, KeepsUpdates, IsNotBegunFromAny, LooksUp, NeverLooksUp};
 
     /// A world before any event, with its sequence at `start`.
     ///
-    /// Refused by [`Refusal::BadCapacity`] where the start is odd or above the layout's limit, and by
-    /// [`Refusal::OutOfMemory`].
+    /// Refused by [`Refusal::BadCapacity`] where the start is odd or above the layout's limit, and
+    /// by [`Refusal::OutOfMemory`].
     pub fn open(alloc: Global, l: Layout, start: u64) -> Result<Self, Refusal>
         ensures layout { IfOk result (λ w. layout_in w ≡ l) }
         ensures shows { IfOk result (λ w. Shows O.order w (opening (capacity_of l) start)) }
@@ -63,12 +63,12 @@ impl<O: TreeOrder> World<O> {
 
     /// Does one event.
     ///
-    /// Begin and Start may be refused by [`Refusal::OutOfMemory`] where nothing else stands against them, and nothing has changed
-    /// then.
+    /// Begin and Start may be refused by [`Refusal::OutOfMemory`] where nothing else stands against
+    /// them, and nothing has changed then.
     pub fn step(&mut self, event: Event<O::Key>) -> Reply<O::Key>
         ensures layout { layout_in self.new ≡ layout_in self.old }
         ensures steps { Steps O.order self.old event result self.new }
-        ensures after { (start : ℕ) (us : List Update) → IsAfter O.order start us self.old → IsAfter O.order start (us ++ accepted event result) self.new }
+        ensures after { StaysAfter O.order self.old event result self.new }
     {
         match event {
             Event::Begin(update) => self.begin(update),
@@ -131,13 +131,13 @@ impl<O: TreeOrder> World<O> {
         ensures layout { layout_in self.new ≡ layout_in self.old }
         ensures steps { MayDo O.order self.old (Start reader key) result self.new }
     {
-        if self.lookups.contains_key(&reader) {
+        if self.is_looking(reader) {
             self.events = self.events.saturating_add(1);
             return Reply::Refused(Refusal::ReaderBusy);
         }
         let first = self.events.saturating_add(1);
         let lookup = Lookup::start(self.layout, key, first);
-        match self.lookups.insert(reader, lookup) {
+        match self.lookups.insert(reader, Some(lookup)) {
             Ok(_) => {
                 self.events = first;
                 Reply::Started
@@ -146,54 +146,62 @@ impl<O: TreeOrder> World<O> {
         }
     }
 
+    /// Whether a reader has a lookup in hand.
+    fn is_looking(&self, reader: u32) -> bool
+        ensures { result ≡ is_some (lookup_at self.now.lookups reader) }
+    {
+        matches!(self.lookups.get(&reader), Some(Some(_)))
+    }
+
     /// A reader makes one load.
     fn read(&mut self, reader: u32) -> Reply<O::Key>
         ensures layout { layout_in self.new ≡ layout_in self.old }
         ensures steps { Does O.order self.old (Read reader) result self.new }
     {
         self.events = self.events.saturating_add(1);
-        let Some(lookup) = self.lookups.get_mut(&reader) else {
+        let Some(place) = self.lookups.get_mut(&reader) else {
+            return Reply::Refused(Refusal::ReaderIdle);
+        };
+        let Some(lookup) = place.take() else {
             return Reply::Refused(Refusal::ReaderIdle);
         };
         match lookup.load(self.words.as_slice(), reader, self.events) {
             Loaded::Going(next) => {
-                *lookup = next;
+                *place = Some(next);
                 Reply::Loaded
             }
             Loaded::Retrying(next) => {
-                *lookup = next;
+                *place = Some(next);
                 Reply::Retried
             }
-            Loaded::Returned(returned) => {
-                let _ = self.lookups.remove(&reader);
-                Reply::Returned(returned)
-            }
+            Loaded::Returned(returned) => Reply::Returned(returned),
         }
     }
 
     /// Makes the writer's steps until nothing is in hand.
     pub fn settle(&mut self)
         ensures layout { layout_in self.new ≡ layout_in self.old }
-        ensures settles { (w : Moment O.Key) → Shows O.order self.old w → Settles O.order self.old w self.new }
-        ensures settled { (start : ℕ) (us : List Update) → IsAfter O.order start us self.old → IsSettled O.order start us self.new }
+        ensures settles { SettlesFromAny O.order self.old self.new }
+        ensures settled { IsSettledFromAny O.order self.old self.new }
     {
         while let Some(_) = self.make() {}
     }
 
     /// Looks a key up at once, as a lookup from its start to its return.
     ///
-    /// No step of the writer comes between, so the lookup returns at its first attempt within `4n + 3` loads at a table of
-    /// `n` items, and within `4d + 3` where 2 to the power d is at most the square of `n + 1`, also where the writer stands
-    /// inside an update. Takes no memory. Refused by [`Refusal::ReaderBusy`] where the reader has a lookup in hand.
+    /// No step of the writer comes between, so the lookup returns at its first attempt within `4n +
+    /// 3` loads at a table of `n` items, and within `4d + 3` where 2 to the power d is at most the
+    /// square of `n + 1`, also where the writer stands inside an update. Refused by
+    /// [`Refusal::ReaderBusy`] where the reader has a lookup in hand.
     pub fn find_now(&mut self, reader: u32, key: O::Key) -> Result<Returned<O::Key>, Refusal>
         ensures layout { layout_in self.new ≡ layout_in self.old }
-        ensures finds { IfOk result (λ x. (w : Moment O.Key) → Shows O.order self.old w → Finds O.order self.old w reader key x self.new) }
-        ensures found { IfOk result (λ x. (start : ℕ) (us : List Update) (h : IsAfter O.order start us self.old) → IsFound O.order start us (at h.moment.latch.words 0) reader key x) }
-        ensures near { IfOk result (λ x. (start : ℕ) (us : List Update) (h : IsAfter O.order start us self.old) → IsNear O.order start us (at h.moment.latch.words 0) x) }
-        ensures after { IfOk result (λ x. (start : ℕ) (us : List Update) → IsAfter O.order start us self.old → IsAfter O.order start us self.new) }
-        ensures refusal { (start : ℕ) (us : List Update) (h : IsAfter O.order start us self.old) → IfErr result (λ e. IsNotBegun O.order h reader e self.new) }
+        ensures finds { IfOk result (FindsFromAny O.order self.old reader key self.new) }
+        ensures found { IfOk result (IsFoundFromAny O.order self.old reader key) }
+        ensures near { IfOk result (IsNearFromAny O.order self.old) }
+        ensures after { OnOk result (KeepsUpdates O.order self.old self.new) }
+        ensures refusal { IsNotBegunFromAny O.order self.old reader self.new result }
     {
-        let is_busy = self.lookups.contains_key(&reader);
+        let is_busy = self.is_looking(reader);
         if is_busy {
             self.events = self.events.saturating_add(1);
             return Err(Refusal::ReaderBusy);
@@ -218,7 +226,7 @@ impl<O: TreeOrder> World<O> {
 
     /// The answer of an attempt, its generation and the count of its loads.
     fn look_up(&self, key: O::Key) -> Option<(Option<Item>, u64, u64)>
-        ensures found { IfSome result (λ found. LooksUp O.order self.now key found.0 found.1 found.2) }
+        ensures found { IfSome result (λ x. LooksUp O.order self.now key x.0 x.1 x.2) }
         ensures fits { IfSome result (λ found. found.2 < 2 ^ 64) }
         ensures none { IfNone result (NeverLooksUp O.order self.now key) }
     {
@@ -234,14 +242,18 @@ impl<O: TreeOrder> World<O> {
         }
     }
 
-    /// Loads of a reader, at most so many and up to the return of its lookup; a reader without a lookup in hand is refused
-    /// once. Answers how many events these are, and what is to be noted. The lookup is looked up once and held apart while
-    /// its loads run.
+    /// Loads of a reader, at most so many and up to the return of its lookup; a reader without a
+    /// lookup in hand is refused once. Answers how many events these are, and what is to be noted.
+    /// The lookup is looked up once and held apart while its loads run.
     pub(crate) fn read_on(&mut self, reader: u32, most: u32) -> (u32, Option<Note<O::Key>>)
         ensures layout { layout_in self.new ≡ layout_in self.old }
-        ensures reads { (w : Moment O.Key) → Shows O.order self.old w → ReadsOn O.order self.old w reader most result.0 result.1 self.new }
+        ensures reads { ReadsFromAny O.order self.old reader most result.0 result.1 self.new }
     {
-        let Some(lookup) = self.lookups.get_mut(&reader) else {
+        let Some(place) = self.lookups.get_mut(&reader) else {
+            self.events = self.events.saturating_add(1);
+            return (1, Some(Note::Refused(Refusal::ReaderIdle)));
+        };
+        let Some(lookup) = place.take() else {
             self.events = self.events.saturating_add(1);
             return (1, Some(Note::Refused(Refusal::ReaderIdle)));
         };
@@ -254,13 +266,10 @@ impl<O: TreeOrder> World<O> {
         self.events = events;
         match held {
             Held::Going(next) => {
-                *lookup = next;
+                *place = Some(next);
                 (loads, None)
             }
-            Held::Returned(returned) => {
-                let _ = self.lookups.remove(&reader);
-                (loads, Some(Note::Returned(returned)))
-            }
+            Held::Returned(returned) => (loads, Some(Note::Returned(returned))),
         }
     }
 
@@ -273,21 +282,21 @@ impl<O: TreeOrder> World<O> {
 
     /// How many steps the update in hand has left; 0 with none in hand.
     pub(crate) fn writes_left(&self) -> u64
-        ensures { (w : Moment O.Key) → Shows O.order self.now w → result ≡ writes_left w.latch.hand }
+        ensures { HasLeft O.order self.now result }
     {
         self.writer.remaining()
     }
 
     /// Whether the count of events is still below the greatest.
     pub(crate) fn is_counting(&self) -> bool
-        ensures { (w : Moment O.Key) → Shows O.order self.now w → result ≡ true → w.events < 2 ^ 64 - 1 }
+        ensures { result ≡ true → HasFewEvents O.order self.now }
     {
         self.events < u64::MAX
     }
 
     /// The sequence, which is word 0.
     pub fn sequence(&self) -> u64
-        ensures { (w : Moment O.Key) → Shows O.order self.now w → result ≡ at w.latch.words 0 }
+        ensures { HasSequence O.order self.now result }
     {
         word_at(self.words.as_slice(), 0)
     }

@@ -13,6 +13,7 @@ use Rattle.latch_steps.specs.Traces.{notes_of}
 use Rattle.latch_steps.specs.Expands.{Expand}
 use Rattle.latch_steps.specs.Safe.{IsSafe}
 use Rattle.latch_steps.specs.Quiet.{IsQuiet}
+use Rattle.latch_steps.specs.Promises.{IsExactWherePlain}
 use Rattle.listing.specs.declared.header.Header.{Header}
 use Rattle.listing.specs.declared.faults.LineFault.{LineFault}
 use Rattle.listing.specs.declared.faults.LineFault.TheVariants as line
@@ -36,13 +37,15 @@ abbrev pub order_by : Bool → Order ℕ
 order_by true = closed
 order_by false = half_open
 
--- what some run of these commands in this order, safe and quiet, writes: its notes and its last sequence
+-- what some run of these commands in this order writes: its notes and its last sequence. The run is
+-- safe and quiet, and where it is plain each lookup is that of one table.
 pub record IsRunText (o : Order ℕ) (said : Contents) (written : List ℕ) : Type 0 where
   pub run : List (Done ℕ)
   pub steps : Run o said.header.capacity GREATEST_SEQUENCE (opening said.header.capacity said.header.start) run
   pub expands : Expand (opening said.header.capacity said.header.start) said.commands run
   pub safe : IsSafe o said.header.capacity said.header.start run
   pub quiet : IsQuiet o said.header.start run
+  pub plain : IsExactWherePlain o said.header.capacity said.header.start run
   pub text : written
       ≡ flat_map note_text (notes_of run)
       ++ end_text (at (last_of (opening said.header.capacity said.header.start) run).latch.words 0)

@@ -1,13 +1,11 @@
-use Rattle.std.proofs.Common.{◌+◌, Some, subst, sym, arith}
-use Rattle.std.specs.FinMap.{get}
+use Rattle.std.proofs.Common.{◌+◌, subst, sym, arith}
 use Rattle.latch_steps.specs.declared.lookups.Lookup.{Lookup}
-use Rattle.latch_steps.specs.Lookups.{IsInHand}
 use Rattle.latch_steps.proofs.HeldLoads.{Loading, no_loads, load_goes, load_retries, load_ends, all_loaded}
 use Rattle.latch_steps.proofs.lookups.Lookup.load_on.Goals as goal
 use Rattle.latch_steps.proofs.lookups.Lookup.load_on.Goals.{in-Going, in-Retrying}
 
 pub loop-turn-init : goal.loop-turn-init
-loop-turn-init g c = λ n limit w words is e. no_loads g.O.TreeOrder.order n limit w c.args.reader c.args.most c.copy-lookup.result c.args.events is e
+loop-turn-init g c = λ n limit w words is e. no_loads g.O.TreeOrder.order n limit w c.args.reader c.args.most c.args.self c.args.events is e
 
 pub loop-turn-preserved : goal.loop-turn-preserved
 loop-turn-preserved g c = λ n limit w words is e.
@@ -25,11 +23,9 @@ loop-turn-preserved g c = λ n limit w words is e.
 
 pub returns-in-Returned : goal.returns-in-Returned
 returns-in-Returned g c = λ n limit w words is e.
-    let is' = subst (λ lk. IsInHand g.O.TreeOrder.order n (Some lk) (get w.lookups c.args.reader)) (sym c.copy-lookup.ensures) is in
     load_ends g.O.TreeOrder.order n limit w c.args.reader c.args.most c.loop-turn.lookup c.loop-turn.events c.saturating_add-events.result c.loop-turn.turn
-    (c.loop-turn.invariant n limit w words is' e) c.saturating_add-events.ensures c.args.words.now words c.in-Returned.returned (omega arith) (c.in-Returned.ensures n)
+    (c.loop-turn.invariant n limit w words is e) c.saturating_add-events.ensures c.args.words.now words c.in-Returned.returned (omega arith) (c.in-Returned.ensures n)
 
 pub returns : goal.returns
 returns g c = λ n limit w words is e.
-    let is' = subst (λ lk. IsInHand g.O.TreeOrder.order n (Some lk) (get w.lookups c.args.reader)) (sym c.copy-lookup.ensures) is in
-    all_loaded g.O.TreeOrder.order n limit w c.args.reader c.args.most c.loop-turn.lookup c.loop-turn.events c.loop-turn.turn (c.loop-turn.invariant n limit w words is' e) (omega arith)
+    all_loaded g.O.TreeOrder.order n limit w c.args.reader c.args.most c.loop-turn.lookup c.loop-turn.events c.loop-turn.turn (c.loop-turn.invariant n limit w words is e) (omega arith)

@@ -1,0 +1,55 @@
+-- Plain runs: each update is ended at once, and each lookup read to its end at once.
+use Rattle.std.specs.Prelude.{◌≡◌, ℕ, ◌+◌, ◌*◌, ◌≤◌, List, [], ◌∷◌, ◌++◌, length, true, is_some}
+use Rattle.std.specs.FinMap.{get}
+use Rattle.order_laws.specs.Orders.{Order}
+use Rattle.order_laws.specs.Tables.{look}
+use Rattle.latch_core.specs.declared.updates.Update.{Update}
+use Rattle.latch_core.specs.Sequences.{gen}
+use Rattle.latch_core.specs.Histories.{replay}
+use Rattle.latch_steps.specs.declared.commands.Command.{Command}
+use Rattle.latch_steps.specs.declared.events.Event.{Event}
+use Rattle.latch_steps.specs.declared.events.Event.TheVariants.{Write, Read}
+use Rattle.latch_steps.specs.declared.replies.Returned.{Returned}
+use Rattle.latch_steps.specs.declared.replies.Reply.{Reply}
+use Rattle.latch_steps.specs.declared.replies.Reply.TheVariants.{Returned as Gave}
+use Rattle.latch_steps.specs.Runs.{Moment, Done, accepted, last_of}
+use Rattle.latch_steps.specs.Expands.{event_of, most_of, Repeats}
+
+-- while an update is in hand only the writer steps, and while a reader has a lookup in hand only it
+pub record IsPlainEvent {K : Type 0} (w : Moment K) (e : Event K) : Type 0 where
+  pub writer : is_some w.latch.hand ≡ true → e ≡ Write
+  pub readers : (r : ℕ) → is_some (get w.lookups r) ≡ true → e ≡ Read r
+
+-- so it is at each event of a run from a moment
+abbrev pub IsPlain : {K : Type 0} → Moment K → List (Done K) → Type 0
+IsPlain w [] = Unit {0}
+IsPlain w (d ∷ run) = IsPlainEvent w d.event × IsPlain d.after run
+
+-- and at each command, whose part of the run is plain then: an update that is accepted is followed
+-- by writes up to its end, and a start by reads of the same reader that end the lookup
+abbrev pub ArePlain : {K : Type 0} → Moment K → List (Command K) → List (Done K) → Type 0
+ArePlain w [] run = run ≡ []
+ArePlain {K} w (c ∷ cs) run =
+    IsPlainEvent w (event_of c)
+    × ((mine : List (Done K)) × (rest : List (Done K)) × (run ≡ mine ++ rest)
+    × Repeats c (most_of w c) mine × ArePlain (last_of w mine) cs rest)
+
+-- a lookup gives that of the table after these updates, with their generation, at its first attempt
+-- and within four loads for each item and three
+pub record IsLookAfter {K : Type 0} (o : Order K) (start : ℕ) (us : List Update)
+    (x : Returned K) : Type 0 where
+  pub answer : x.answer ≡ look o x.key (replay o [] us)
+  pub generation : x.generation ≡ gen start + length us
+  pub tries : x.tries ≡ 1
+  pub loads : x.loads ≤ 4 * length (replay o [] us) + 3
+
+-- nothing is said of other replies
+abbrev pub IsLookReply : {K : Type 0} → Order K → ℕ → List Update → Reply K → Type 0
+IsLookReply o start us (Gave x) = IsLookAfter o start us x
+IsLookReply o start us _ = Unit {0}
+
+-- each lookup that returned is so after all updates that were accepted before it
+abbrev pub AreLooksAfter : {K : Type 0} → Order K → ℕ → List Update → List (Done K) → Type 0
+AreLooksAfter o start us [] = Unit {0}
+AreLooksAfter o start us (d ∷ run) =
+    IsLookReply o start us d.reply × AreLooksAfter o start (us ++ accepted d.event d.reply) run
