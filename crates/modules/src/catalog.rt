@@ -1,14 +1,16 @@
 //! The modules that may be loaded, and what a load or an unload changes.
 
-ghost use Rattle.std.specs.Prelude.{◌≡◌, ◌+◌, ◌<◌, true, All, length, IfOk, IfErr};
+ghost use Rattle.std.specs.Prelude.{◌≡◌, ◌⊎◌, [], true, false, All, length, IfOk, IfErr};
 ghost use Rattle.std.specs.Option.{option_copied};
-ghost use Rattle.modules.specs.Lines.{fits};
-ghost use Rattle.modules.specs.Catalogs.{catalog_of, counts_of, IsSound, module_of, number_of, regions_of, load_of, unload_of};
+ghost use Rattle.modules.specs.Lines.{fits, region_fits, usual_bounds};
+ghost use Rattle.modules.specs.Catalogs.{catalog_of, counts_of, module_of, number_of, regions_of, IsSound};
+ghost use Rattle.modules.specs.Placed.{are_few};
 
 use crate::build::assemble;
-use crate::lines::ModuleLine;
+use crate::lines::{KernelBounds, ModuleLine, RegionLine};
 use crate::module::Module;
 use crate::names::place_of;
+use crate::placing::RegionLines;
 use crate::symbol_lines::SymbolLines;
 use latch_core::Update;
 use order_laws::{Item, Refusal};
@@ -22,8 +24,13 @@ pub struct BuildCounts {
     pub modules: u64,
     /// Lines with the name of a line that was accepted before.
     pub double: u64,
-    /// Other lines whose region is not apart from the region of the kernel itself and those accepted before.
+    /// Other lines of modules whose regions are not all apart from each other, from the region of the kernel itself
+    /// and from those of the modules accepted before.
     pub overlap: u64,
+    /// Lines of the listing of regions that an accepted module has its regions from.
+    pub regions: u64,
+    /// Lines of the listing of regions that no module has a region from.
+    pub stray_regions: u64,
     /// Kept lines of the listing of symbols.
     pub symbols: u64,
     /// Lines of the listing of symbols that are not kept.
@@ -37,6 +44,8 @@ pub struct Catalog<'a> {
     pub(crate) built_in: Option<Module<'a>>,
     pub(crate) modules: Vec<Module<'a>>,
     pub(crate) by_name: Vec<usize>,
+    /// How many regions all of them have.
+    pub(crate) regions: usize,
 }
 
 impl<'a> Model for Catalog<'a> {
@@ -52,12 +61,7 @@ impl<'a> Model for Catalog<'a> {
 }
 
 impl<'a> Catalog<'a> {
-    /// Builds the catalog of two listings, of which each module line has a region ([`ModuleLine::fits`]).
-    ///
-    /// A module line is skipped as double where a line accepted before has its name, else as overlap where its region
-    /// is not apart from that of the kernel itself and those accepted before. The kernel's region is from the first
-    /// symbol `_stext` without a module up to the first `_end`, where both are there in this order. A symbol is kept
-    /// where it lies in the region of its module, or of the kernel itself if it has none, and is stray otherwise.
+    /// Builds the catalog of two listings: that of [`Catalog::build_with`] without region lines.
     ///
     /// Refused by [`Refusal::OutOfMemory`] alone.
     pub fn build(
@@ -66,12 +70,73 @@ impl<'a> Catalog<'a> {
         symbols: &SymbolLines<'a>,
     ) -> Result<(Catalog<'a>, BuildCounts), Refusal>
         requires { All (λ l. fits l ≡ true) modules.now }
-        ensures built { IfOk result (λ r. r.0 ≡ catalog_of modules.now symbols.now) }
-        ensures counted { IfOk result (λ r. r.1 ≡ counts_of modules.now symbols.now) }
+        ensures built { IfOk result (λ r. r.0 ≡ catalog_of usual_bounds modules.now [] symbols.now) }
+        ensures counted { IfOk result (λ r. r.1 ≡ counts_of usual_bounds modules.now [] symbols.now) }
         ensures sound { IfOk result (λ r. IsSound r.0) }
         ensures refused { IfErr result (λ e. e ≡ Refusal.OutOfMemory) }
     {
-        Ok(assemble(alloc, modules, symbols)?)
+        let regions = RegionLines::new(alloc, &[])?;
+        Ok(assemble(
+            alloc,
+            &KernelBounds::usual(),
+            modules,
+            &regions,
+            symbols,
+        )?)
+    }
+
+    /// Builds the catalog of three listings, in which the kernel itself lies from `_stext` up to `_end`: that of
+    /// [`Catalog::build_between`] with these names.
+    pub fn build_with(
+        alloc: Global,
+        modules: &[ModuleLine<'a>],
+        regions: &[RegionLine<'a>],
+        symbols: &SymbolLines<'a>,
+    ) -> Result<(Catalog<'a>, BuildCounts), Refusal>
+        requires fit { All (λ l. fits l ≡ true) modules.now }
+        requires regions_fit { All (λ l. region_fits l ≡ true) regions.now }
+        ensures built { IfOk result (λ r. r.0 ≡ catalog_of usual_bounds modules.now regions.now symbols.now) }
+        ensures counted { IfOk result (λ r. r.1 ≡ counts_of usual_bounds modules.now regions.now symbols.now) }
+        ensures sound { IfOk result (λ r. IsSound r.0) }
+        ensures few { IfOk result (λ _. are_few regions.now ≡ true) }
+        ensures refused { IfErr result (λ e. (e ≡ Refusal.OutOfMemory) ⊎ ((e ≡ Refusal.TooManyRegions) × (are_few regions.now ≡ false))) }
+    {
+        Catalog::build_between(alloc, &KernelBounds::usual(), modules, regions, symbols)
+    }
+
+    /// Builds the catalog of three listings, of which each module line and each region line has a region
+    /// ([`ModuleLine::fits`], [`RegionLine::fits`]).
+    ///
+    /// A module lies in the regions of the region lines of its name, in their order, if one of them is of its core, and
+    /// else in the region of its own line. A module line is skipped as double where a line accepted before has its
+    /// name, else as overlap where its regions are not all apart from each other, from that of the kernel itself and
+    /// from those of the modules accepted before. The kernel's region is from the first symbol without a module of the
+    /// one name of `names` up to the first of the other, where both are there in this order. A symbol is kept where it
+    /// lies in a region of its module, or of the kernel itself if it has none, and is stray otherwise. A region line is
+    /// stray where its module is not accepted, or has no line of a core region.
+    ///
+    /// Refused by [`Refusal::TooManyRegions`] where more than 7 region lines have one name, and by
+    /// [`Refusal::OutOfMemory`].
+    pub fn build_between(
+        alloc: Global,
+        names: &KernelBounds,
+        modules: &[ModuleLine<'a>],
+        regions: &[RegionLine<'a>],
+        symbols: &SymbolLines<'a>,
+    ) -> Result<(Catalog<'a>, BuildCounts), Refusal>
+        requires fit { All (λ l. fits l ≡ true) modules.now }
+        requires regions_fit { All (λ l. region_fits l ≡ true) regions.now }
+        ensures built { IfOk result (λ r. r.0 ≡ catalog_of names.now modules.now regions.now symbols.now) }
+        ensures counted { IfOk result (λ r. r.1 ≡ counts_of names.now modules.now regions.now symbols.now) }
+        ensures sound { IfOk result (λ r. IsSound r.0) }
+        ensures few { IfOk result (λ _. are_few regions.now ≡ true) }
+        ensures refused { IfErr result (λ e. (e ≡ Refusal.OutOfMemory) ⊎ ((e ≡ Refusal.TooManyRegions) × (are_few regions.now ≡ false))) }
+    {
+        let regions = RegionLines::new(alloc, regions)?;
+        if !regions.are_few() {
+            return Err(Refusal::TooManyRegions);
+        }
+        Ok(assemble(alloc, names, modules, &regions, symbols)?)
     }
 
     /// The module of a number.
@@ -106,38 +171,6 @@ impl<'a> Catalog<'a> {
         ensures count { result ≡ length (regions_of self.now) }
         ensures sound { IsSound self.now }
     {
-        usize::from(self.built_in.is_some()) + self.modules.len()
-    }
-
-    /// The update that loads a module, where `held` says whether its first address is in the table.
-    ///
-    /// Refused by [`Refusal::UnknownModule`], else by [`Refusal::AlreadyLoaded`] where it is held.
-    pub fn load(&self, number: u64, held: bool) -> Result<Update, Refusal>
-        ensures { result ≡ load_of self.now number held }
-    {
-        let Some(module) = self.module(number) else {
-            return Err(Refusal::UnknownModule);
-        };
-        if held {
-            return Err(Refusal::AlreadyLoaded);
-        }
-        let (a, b) = module.regions()[0];
-        Ok(Update::Insert(Item { a, b, tag: number }))
-    }
-
-    /// The update that unloads a module, where `held` says whether its first address is in the table.
-    ///
-    /// Refused by [`Refusal::UnknownModule`], else by [`Refusal::NotLoaded`] where it is not held.
-    pub fn unload(&self, number: u64, held: bool) -> Result<Update, Refusal>
-        ensures { result ≡ unload_of self.now number held }
-    {
-        let Some(module) = self.module(number) else {
-            return Err(Refusal::UnknownModule);
-        };
-        if !held {
-            return Err(Refusal::NotLoaded);
-        }
-        let (start, _) = module.regions()[0];
-        Ok(Update::Erase(start))
+        self.regions
     }
 }

@@ -9,15 +9,14 @@ pub mod laws;
 pub mod lines;
 pub mod module;
 mod names;
+mod placing;
 mod regions;
 pub mod symbol_lines;
 pub mod symbols;
 
 pub use catalog::{BuildCounts, Catalog};
-pub use lines::{ModuleLine, SymbolLine};
-pub use module::Module;
+pub use lines::{KernelBounds, ModuleLine, Part, Region, RegionLine, SymbolLine};
+pub use module::{MOST_REGIONS, Module};
 pub use symbol_lines::SymbolLines;
 pub use symbols::Symbol;
 
-#[cfg(test)]
-mod tests;

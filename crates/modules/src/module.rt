@@ -1,10 +1,16 @@
 //! A module: its name, where it lies, and its symbols.
 
-ghost use Rattle.std.specs.Prelude.{◌≡◌, ◌<◌, [], ◌∷◌, length, IfOk};
+ghost use Rattle.std.specs.Prelude.{◌≡◌, ◌≤◌, length, IfOk};
 ghost use Rattle.std.specs.Option.{option_copied};
 ghost use Rattle.modules.specs.Around.{symbol_below, address_above};
-ghost use Rattle.modules.specs.Modules.{IsOrdered};
+ghost use Rattle.modules.specs.Index.{IsOrdered};
+ghost use Rattle.modules.specs.Building.{module_with, place_of};
+ghost use Rattle.modules.specs.Parts.{is_core, is_init};
+ghost use Rattle.modules.specs.Placed.{IsPlaced};
+ghost use Rattle.modules.specs.Starts.{first_start};
 
+use crate::lines::{Part, Region};
+use crate::placing::Placed;
 use crate::symbols::{
     IndexEntry, Symbol, around_as_listed, around_in_index, by_address, is_rising,
 };
@@ -19,7 +25,10 @@ pub const MOST_REGIONS: usize = 7;
 #[derive(Drop)]
 pub struct Module<'a> {
     name: &'a [u8],
-    regions: ArrayVec<(u64, u64), MOST_REGIONS>,
+    /// Its regions in their order.
+    regions: ArrayVec<Region, MOST_REGIONS>,
+    /// The part that each of them is.
+    parts: ArrayVec<Part, MOST_REGIONS>,
     symbols: Vec<Symbol<'a>>,
     /// An index of the symbols, where they are not listed by rising address.
     by_address: Option<Vec<IndexEntry>>,
@@ -48,21 +57,31 @@ fn index_of(alloc: Global, symbols: &[Symbol]) -> Result<Option<Vec<IndexEntry>>
     }
 }
 
+/// The items of a slice, which are few.
+fn copied<T: Copy + Default + Drop>(items: &[T]) -> ArrayVec<T, MOST_REGIONS>
+    requires { length items.now ≤ 7 }
+    ensures { result.items ≡ items.now }
+{
+    match ArrayVec::try_from(items) {
+        Ok(copied) => copied,
+        Err(_) => unreachable!(),
+    }
+}
+
 impl<'a> Module<'a> {
     pub(crate) fn new(
         alloc: Global,
-        name: &'a [u8],
-        region: (u64, u64),
+        placed: &Placed<'a>,
         symbols: Vec<Symbol<'a>>,
     ) -> Result<Module<'a>, AllocError>
-        ensures { IfOk result (λ m. m ≡ record { name = name.now; regions = region ∷ []; symbols = symbols.entry.items }) }
+        requires { IsPlaced placed.now }
+        ensures { IfOk result (λ m. m ≡ module_with placed.now symbols.entry.items) }
     {
         let by_address = index_of(alloc, symbols.as_slice())?;
-        let mut regions = ArrayVec::new();
-        regions.push(region);
         Ok(Module {
-            name,
-            regions,
+            name: placed.name,
+            regions: copied(placed.regions.as_slice()),
+            parts: copied(placed.parts.as_slice()),
             symbols,
             by_address,
         })
@@ -75,12 +94,52 @@ impl<'a> Module<'a> {
         self.name
     }
 
-    /// The first address and the excluded end of each region. For now a module has one.
-    pub fn regions(&self) -> &[(u64, u64)]
+    /// The first address and the excluded end of each of its 1 to 7 regions, in order.
+    pub fn regions(&self) -> &[Region]
         ensures regions { result.now ≡ self.now.regions }
-        ensures one { length result.now ≡ 1 }
+        ensures placed { IsPlaced (place_of self.now) }
     {
         self.regions.as_slice()
+    }
+
+    /// The part that each of its regions is.
+    pub fn parts(&self) -> &[Part]
+        ensures { result.now ≡ self.now.parts }
+    {
+        self.parts.as_slice()
+    }
+
+    /// The first address of its first region of the core, and that of its first init region, if it has one.
+    pub fn starts(&self) -> (u64, Option<u64>)
+        ensures core { Some result.0 ≡ first_start is_core self.now }
+        ensures init { result.1 ≡ first_start is_init self.now }
+    {
+        let Some(core) = self.first_core_start() else {
+            unreachable!();
+        };
+        (core, self.first_init_start())
+    }
+
+    fn first_core_start(&self) -> Option<u64>
+        ensures { result ≡ first_start is_core self.now }
+    {
+        self.regions
+            .as_slice()
+            .iter()
+            .zip(self.parts.as_slice())
+            .find(|(_, part)| part.is_core())
+            .map(|(region, _)| region.0)
+    }
+
+    fn first_init_start(&self) -> Option<u64>
+        ensures { result ≡ first_start is_init self.now }
+    {
+        self.regions
+            .as_slice()
+            .iter()
+            .zip(self.parts.as_slice())
+            .find(|(_, part)| part.is_init())
+            .map(|(region, _)| region.0)
     }
 
     /// The symbols that lie in the regions, in the order listed.
