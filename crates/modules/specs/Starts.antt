@@ -1,7 +1,7 @@
 -- Where the regions of a module begin, by their parts.
-use Rattle.std.specs.Prelude.{ℕ, Bool, List, find, filter, map, Option}
+use Rattle.std.specs.Prelude.{ℕ, Bool, List, filter, map, position, slice_get, Option}
 use Rattle.std.specs.List.{zip}
-use Rattle.std.specs.Option.{option_map}
+use Rattle.std.specs.Option.{option_and_then, option_map}
 use Rattle.modules.specs.Entries.{ModuleEntry}
 use Rattle.modules.specs.declared.lines.Part.{Part}
 
@@ -9,6 +9,13 @@ use Rattle.modules.specs.declared.lines.Part.{Part}
 abbrev pub starts_that : (Part → Bool) → ModuleEntry → List ℕ
 starts_that passes m = map (λ p. p.0.0) (filter (λ p. passes p.1) (zip m.regions m.parts))
 
+-- the first address of the region at a place
+abbrev pub start_at : List (ℕ × ℕ) → ℕ → Option ℕ
+start_at regions place = option_map (λ r. r.0) (slice_get regions place)
+
 -- the first address of the first region whose part passes
+abbrev pub start_where : (Part → Bool) → List (ℕ × ℕ) → List Part → Option ℕ
+start_where passes regions parts = option_and_then (start_at regions) (position passes parts)
+
 abbrev pub first_start : (Part → Bool) → ModuleEntry → Option ℕ
-first_start passes m = option_map (λ p. p.0.0) (find (λ p. passes p.1) (zip m.regions m.parts))
+first_start passes m = start_where passes m.regions m.parts

@@ -38,13 +38,20 @@ fn is_apart(r: Region, s: Region) -> bool
     r.1 <= s.0 || s.1 <= r.0
 }
 
+/// Whether no address lies in the region and in one of the others.
+fn is_apart_from(region: Region, others: &[Region]) -> bool
+    ensures { result ≡ list_all (is_apart region) others.now }
+{
+    others.iter().all(|other| is_apart(region, *other))
+}
+
 /// Whether no two of the regions have an address in common.
 fn lie_apart(regions: &[Region]) -> bool
     ensures { result ≡ lie_apart regions.now }
 {
     match regions {
         [] => true,
-        [first, rest @ ..] => rest.iter().all(|r| is_apart(*first, *r)) && lie_apart(rest),
+        [first, rest @ ..] => is_apart_from(*first, rest) && lie_apart(rest),
     }
 }
 
@@ -58,6 +65,14 @@ fn are_beside(taken: &Regions, regions: &[Region]) -> bool
         .all(|region| taken.is_apart(region.0, region.1))
 }
 
+/// Whether the regions lie apart from each other and from those that are taken.
+fn are_free(taken: &Regions, regions: &[Region]) -> bool
+    requires { All (λ r. r.0 < r.1) regions.now }
+    ensures { result ≡ (lie_apart regions.now && are_beside taken.now regions.now) }
+{
+    lie_apart(regions) && are_beside(taken, regions)
+}
+
 /// Takes the regions in, each after the others.
 fn take_all(taken: &mut Regions, regions: &[Region]) -> Result<(), AllocError>
     requires valid { All (λ r. r.0 < r.1) regions.now }
@@ -65,8 +80,8 @@ fn take_all(taken: &mut Regions, regions: &[Region]) -> Result<(), AllocError>
     requires beside { are_beside taken.old regions.now ≡ true }
     ensures { OnOk result ((p : ℕ × ℕ → Bool) → list_all p taken.new ≡ (list_all p taken.old && list_all p regions.now)) }
 {
-    for (start, end) in regions {
-        taken.insert(*start, *end)?;
+    for region in regions {
+        taken.insert(region.0, region.1)?;
     }
     Ok(())
 }
@@ -104,7 +119,7 @@ impl<'a> Admission<'a> {
             return Ok(());
         }
         let regions = placed.regions.as_slice();
-        if !lie_apart(regions) || !are_beside(&self.taken, regions) {
+        if !are_free(&self.taken, regions) {
             self.overlap += 1;
             return Ok(());
         }

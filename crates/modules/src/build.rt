@@ -1,6 +1,7 @@
 //! How a catalog is built, step by step.
 
-ghost use Rattle.std.specs.Prelude.{◌≡◌, ◌<◌, true, All, length, IfOk, IfSome, count_by};
+ghost use Rattle.std.specs.Prelude.{◌≡◌, ◌+◌, ◌<◌, is_some, true, All, length, IfOk, IfSome, count_by};
+ghost use Rattle.std.specs.Int.{from_bool};
 ghost use Rattle.std.specs.List.{flat_map};
 ghost use Rattle.modules.specs.Admissions.{shown, IsTied};
 ghost use Rattle.modules.specs.Lines.{fits, region_fits};
@@ -12,7 +13,7 @@ ghost use Rattle.modules.specs.Placed.{are_few, IsPlaced};
 use crate::admission::{Admission, admit};
 use crate::catalog::{BuildCounts, Catalog};
 use crate::gathering::gather;
-use crate::lines::{KernelBounds, ModuleLine, Region};
+use crate::lines::{KernelBounds, ModuleLine, Region, RegionLine};
 use crate::module::Module;
 use crate::names::by_name;
 use crate::placing::{Placed, RegionLines};
@@ -53,18 +54,26 @@ fn modules_from<'a>(
     Ok(modules)
 }
 
-/// How many regions the modules have.
-fn regions_in(modules: &[Module]) -> usize
-    ensures { result ≡ length (flat_map (λ m. m.regions) modules.now) }
+/// How many regions the kernel itself and the modules have.
+fn regions_in(built_in: Option<&Module>, modules: &[Module]) -> usize
+    ensures { result ≡ from_bool (is_some built_in.entry) + length (flat_map (λ m. m.regions) modules.now) }
 {
-    let mut count = 0;
+    let mut count = usize::from(built_in.is_some());
     for module in modules {
         count += module.regions().len();
     }
     count
 }
 
-/// How many region lines are those of an accepted module that has a core line.
+/// Whether the line is one of an accepted module that has a core line.
+fn is_used(admission: &Admission, regions: &RegionLines, line: &RegionLine) -> bool
+    requires { IsTied admission.now }
+    ensures { result ≡ is_used (shown admission.now) regions.now line.now }
+{
+    admission.places.contains_key(line.name) && regions.has_core_of(line.name)
+}
+
+/// How many of the region lines are used.
 fn used_in(admission: &Admission, regions: &RegionLines) -> usize
     requires { IsTied admission.now }
     ensures { result ≡ count_by (is_used (shown admission.now) regions.now) regions.now }
@@ -72,9 +81,7 @@ fn used_in(admission: &Admission, regions: &RegionLines) -> usize
     regions
         .listed
         .iter()
-        .filter(|line| {
-            admission.places.contains_key(line.name) && regions.has_core_of(line.name)
-        })
+        .filter(|line| is_used(admission, regions, line))
         .count()
 }
 
@@ -109,7 +116,7 @@ pub(crate) fn assemble<'a>(
     let built_in = built_in_module(alloc, admission.built_in, gathered.built_in)?;
     let modules = modules_from(alloc, admission.modules.as_slice(), gathered.modules)?;
     let by_name = by_name(alloc, modules.as_slice())?;
-    let regions = regions_in(modules.as_slice()) + usize::from(built_in.is_some());
+    let regions = regions_in(built_in.as_ref(), modules.as_slice());
     let catalog = Catalog {
         built_in,
         modules,

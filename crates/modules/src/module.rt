@@ -1,13 +1,13 @@
 //! A module: its name, where it lies, and its symbols.
 
-ghost use Rattle.std.specs.Prelude.{◌≡◌, ◌≤◌, length, IfOk};
+ghost use Rattle.std.specs.Prelude.{◌≡◌, ◌≤◌, length, position, IfOk};
 ghost use Rattle.std.specs.Option.{option_copied};
 ghost use Rattle.modules.specs.Around.{symbol_below, address_above};
 ghost use Rattle.modules.specs.Index.{IsOrdered};
 ghost use Rattle.modules.specs.Building.{module_with, place_of};
 ghost use Rattle.modules.specs.Parts.{is_core, is_init};
 ghost use Rattle.modules.specs.Placed.{IsPlaced};
-ghost use Rattle.modules.specs.Starts.{first_start};
+ghost use Rattle.modules.specs.Starts.{first_start, start_at, start_where};
 
 use crate::lines::{Part, Region};
 use crate::placing::Placed;
@@ -68,6 +68,41 @@ fn copied<T: Copy + Default + Drop>(items: &[T]) -> ArrayVec<T, MOST_REGIONS>
     }
 }
 
+/// The place of the first part of the core.
+fn first_core(parts: &[Part]) -> Option<usize>
+    ensures { result ≡ position is_core parts.now }
+{
+    parts.iter().position(|part| part.is_core())
+}
+
+/// The place of the first init part.
+fn first_init(parts: &[Part]) -> Option<usize>
+    ensures { result ≡ position is_init parts.now }
+{
+    parts.iter().position(|part| part.is_init())
+}
+
+/// The first address of the region at a place.
+fn start_at(regions: &[Region], place: usize) -> Option<u64>
+    ensures { result ≡ start_at regions.now place }
+{
+    regions.get(place).map(|region| region.0)
+}
+
+fn core_start(regions: &[Region], parts: &[Part]) -> Option<u64>
+    ensures { result ≡ start_where is_core regions.now parts.now }
+{
+    let place = first_core(parts)?;
+    start_at(regions, place)
+}
+
+fn init_start(regions: &[Region], parts: &[Part]) -> Option<u64>
+    ensures { result ≡ start_where is_init regions.now parts.now }
+{
+    let place = first_init(parts)?;
+    start_at(regions, place)
+}
+
 impl<'a> Module<'a> {
     pub(crate) fn new(
         alloc: Global,
@@ -114,32 +149,10 @@ impl<'a> Module<'a> {
         ensures core { Some result.0 ≡ first_start is_core self.now }
         ensures init { result.1 ≡ first_start is_init self.now }
     {
-        let Some(core) = self.first_core_start() else {
+        let Some(core) = core_start(self.regions.as_slice(), self.parts.as_slice()) else {
             unreachable!();
         };
-        (core, self.first_init_start())
-    }
-
-    fn first_core_start(&self) -> Option<u64>
-        ensures { result ≡ first_start is_core self.now }
-    {
-        self.regions
-            .as_slice()
-            .iter()
-            .zip(self.parts.as_slice())
-            .find(|(_, part)| part.is_core())
-            .map(|(region, _)| region.0)
-    }
-
-    fn first_init_start(&self) -> Option<u64>
-        ensures { result ≡ first_start is_init self.now }
-    {
-        self.regions
-            .as_slice()
-            .iter()
-            .zip(self.parts.as_slice())
-            .find(|(_, part)| part.is_init())
-            .map(|(region, _)| region.0)
+        (core, init_start(self.regions.as_slice(), self.parts.as_slice()))
     }
 
     /// The symbols that lie in the regions, in the order listed.

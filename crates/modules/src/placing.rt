@@ -8,14 +8,16 @@
 //! sorted:  ext4 core   ext4 init  nfs core
 //! ```
 
-ghost use Rattle.std.specs.Prelude.{◌≡◌, ◌≤◌, true, [], ◌∷◌, length, All, IfOk, map};
+ghost use Rattle.std.specs.Prelude.{◌≡◌, ◌≤◌, nat_le, true, [], ◌∷◌, length, All, IfOk, map};
 ghost use Rattle.std.specs.Cmp.Lexicographic.{slice_cmp};
+ghost use Rattle.std.specs.List.{list_any};
 ghost use Rattle.std.specs.List.Sorted.{IsSortedBy};
 ghost use Rattle.std.specs.Ordering.{is_le, is_lt, nat_cmp};
 ghost use Rattle.modules.specs.Building.{kernel_at};
 ghost use Rattle.modules.specs.Grouped.{comes_first, IsCut, IsGrouped, lines_at};
 ghost use Rattle.modules.specs.Kept.{lies_in};
 ghost use Rattle.modules.specs.Lines.{bounds_of, fits, region_fits};
+ghost use Rattle.modules.specs.Parts.{is_core};
 ghost use Rattle.modules.specs.Placed.{are_few, has_core, lines_named, placed};
 ghost use Rattle.modules.specs.declared.lines.Part.TheVariants.{Core};
 
@@ -142,11 +144,18 @@ fn by_name<'l, 'a>(
     Ok(index)
 }
 
+/// Whether one of the lines that are referred to is of a core region.
+fn any_core(lines: &[&RegionLine]) -> bool
+    ensures { result ≡ list_any (λ l. is_core l.now.part) lines.now }
+{
+    lines.iter().any(|line| line.is_core())
+}
+
 /// Whether one of the lines is of a core region.
 fn has_core(lines: &[&RegionLine]) -> bool
     ensures { result ≡ has_core (lines_at lines.now) }
 {
-    lines.iter().any(|line| line.part.is_core())
+    any_core(lines)
 }
 
 /// The lines of a listing of regions, by name. A contract sees the list of the lines, as it was given.
@@ -186,13 +195,18 @@ impl<'l, 'a> RegionLines<'l, 'a> {
         lines_in(self.by_name.as_slice(), name)
     }
 
+    /// Whether no more lines have the name of this one than a module has regions.
+    fn are_few_of(&self, line: &RegionLine) -> bool
+        ensures { result ≡ nat_le (length (lines_named line.now.name self.now)) 7 }
+    {
+        self.named(line.name).len() <= MOST_REGIONS
+    }
+
     /// Whether no more lines have one name than a module has regions.
     pub(crate) fn are_few(&self) -> bool
         ensures { result ≡ are_few self.now }
     {
-        self.listed
-            .iter()
-            .all(|line| self.named(line.name).len() <= MOST_REGIONS)
+        self.listed.iter().all(|line| self.are_few_of(line))
     }
 
     /// Whether a line of this name is of a core region.
