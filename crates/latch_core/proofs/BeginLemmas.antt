@@ -1,11 +1,10 @@
 -- An update that begins: what was tested, the node that it takes or frees, and the stores that were planned.
-use Rattle.std.proofs.Common.{◌≡◌, ◌≢◌, ℕ, suc, ◌+◌, ◌<◌, ◌≤◌, true, false, cond, List, [], ◌∷◌, ◌++◌, length, Some, None, refl, sym, ◌∙◌, ap, subst, inl, inr, arith, length-append}
-use Rattle.std.specs.Prelude.{◌==◌, All, nat_lt, insert, remove, Contains, not}
-use Rattle.std.proofs.lemmas.Bool.{eqb-false, eq-eqb, ne_eqb, ltb-false, lt-ltb}
+use Rattle.std.proofs.Common.{◌≡◌, ◌≢◌, ℕ, suc, ◌+◌, ◌<◌, ◌≤◌, true, false, List, [], ◌∷◌, ◌++◌, length, None, refl, sym, ◌∙◌, ap, subst, inl, inr, arith, length-append}
+use Rattle.std.specs.Prelude.{All, nat_lt, insert, remove, Contains}
+use Rattle.std.proofs.lemmas.Bool.{eqb-false, ltb-false, lt-ltb}
 use Rattle.std.proofs.lemmas.List.Elements.{All-append, All-cons, All-nil, All-from_recursion}
 use Rattle.std.proofs.lemmas.Option.{slice_get_within}
 use Rattle.order_laws.specs.declared.items.Item.{Item}
-use Rattle.order_laws.specs.declared.refusals.Refusal.TheVariants.{BadItem, Overlap, NoSuchItem, Full, UpdateInHand, SequenceSpent}
 use Rattle.order_laws.specs.Orders.{Order}
 use Rattle.order_laws.specs.Tables.{place_for, place_of, with_item, without, has, meets}
 use Rattle.order_laws.proofs.TableLemmas.{all_weaker}
@@ -20,86 +19,47 @@ use Rattle.rb_words.specs.Plans.{Inserts, Erases, LeadsWithItem, LeadsByLinks, A
 use Rattle.latch_core.specs.declared.updates.Update.{Update}
 use Rattle.latch_core.specs.declared.updates.Update.TheVariants.{Insert, Erase}
 use Rattle.latch_core.specs.Sequences.{stable}
-use Rattle.latch_core.specs.Updates.{refuses, after, spent, most_steps}
+use Rattle.latch_core.specs.Updates.{after, most_steps}
 use Rattle.latch_core.specs.Latches.{Latch}
 use Rattle.latch_core.specs.Plans.{flip_to, update_stores}
 use Rattle.latch_core.specs.FreeNodes.{AreAllNodes}
 use Rattle.latch_core.specs.WriterViews.{WriterView}
 use Rattle.latch_core.specs.Writers.{AtRest, Pictures, HasBegun, why_refused, AreInStep}
+use Rattle.latch_core.proofs.TestLemmas.{NoneHolds, all_tests, none_holds}
+use Rattle.latch_core.proofs.BatchLemmas.{not_false}
 use Rattle.latch_core.proofs.Planned.{Leading}
 use Rattle.latch_core.proofs.NodeLemmas.{last_is_free, node_taken, node_freed}
 use Rattle.latch_core.proofs.WriterLemmas.{begun_pictures, rest_now}
 
-no_length : (xs : List Store) → length xs ≡ 0 → xs ≡ []
-no_length [] e = refl
-no_length (x ∷ xs) e = absurd (omega arith)
-
--- with nothing in hand, the tests tell why an update is refused
-module _ {K : Type 0} (o : Order K) (w : WriterView) (idle : length w.left ≡ 0) where
-  none_in_hand : (u : Update) → why_refused o w u ≡ refuses o w.capacity w.limit false w.table w.sequence u
-  none_in_hand u = ap (λ xs. refuses o w.capacity w.limit (nat_lt 0 (length xs)) w.table w.sequence u) (no_length w.left idle)
-
-  after_valid : (i : Item) → o.valid i ≡ true → why_refused o w (Insert i) ≡ cond (meets o i w.table) (Some Overlap) (cond (length w.table == w.capacity) (Some Full) (spent w.limit w.sequence))
-  after_valid i v = none_in_hand (Insert i) ∙ ap (λ b. cond (not b) (Some BadItem) (cond (meets o i w.table) (Some Overlap) (cond (length w.table == w.capacity) (Some Full) (spent w.limit w.sequence)))) v
-
-  pub why_overlap : (i : Item) → o.valid i ≡ true → meets o i w.table ≡ true → Some Overlap ≡ why_refused o w (Insert i)
-  why_overlap i v m = sym (after_valid i v ∙ ap (λ b. cond b (Some Overlap) (cond (length w.table == w.capacity) (Some Full) (spent w.limit w.sequence))) m)
-
-  after_apart : (i : Item) → o.valid i ≡ true → meets o i w.table ≡ false → why_refused o w (Insert i) ≡ cond (length w.table == w.capacity) (Some Full) (spent w.limit w.sequence)
-  after_apart i v m = after_valid i v ∙ ap (λ b. cond b (Some Overlap) (cond (length w.table == w.capacity) (Some Full) (spent w.limit w.sequence))) m
-
-  pub why_full : (i : Item) → o.valid i ≡ true → meets o i w.table ≡ false → length w.table ≡ w.capacity → Some Full ≡ why_refused o w (Insert i)
-  why_full i v m full = sym (after_apart i v m ∙ ap (λ b. cond b (Some Full) (spent w.limit w.sequence)) (eq-eqb (length w.table) w.capacity full))
-
-  pub insert_spent : (i : Item) → o.valid i ≡ true → meets o i w.table ≡ false → length w.table ≢ w.capacity → spent w.limit w.sequence ≡ why_refused o w (Insert i)
-  insert_spent i v m room = sym (after_apart i v m ∙ ap (λ b. cond b (Some Full) (spent w.limit w.sequence)) (ne_eqb (length w.table) w.capacity room))
-
-  pub erase_spent : (a : ℕ) → has a w.table ≡ true → spent w.limit w.sequence ≡ why_refused o w (Erase a)
-  erase_spent a h = sym (none_in_hand (Erase a) ∙ ap (λ b. cond (not b) (Some NoSuchItem) (spent w.limit w.sequence)) h)
+pub idle_by : (xs : List Store) → length xs ≤ 0 → nat_lt 0 (length xs) ≡ false
+idle_by [] e = refl
+idle_by (x ∷ xs) e = absurd (omega arith)
 
 -- what an accepted update has passed
 pub record Accepted (w : WriterView) : Type 0 where
   pub idle : w.left ≡ []
   pub counts : w.sequence + 2 ≤ w.limit
 
-not_spent : (limit seq : ℕ) → spent limit seq ≡ None → seq + 2 ≤ limit
-not_spent limit seq e =
-    elim (nat_lt limit (seq + 2)) as (λ b. nat_lt limit (seq + 2) ≡ b → cond b (Some SequenceSpent) None ≡ None → seq + 2 ≤ limit) [
-      | true ↦ λ is f. absurd (cc)
-      | false ↦ λ is f. ltb-false limit (seq + 2) is
-    ] refl e
+idle_from : (xs : List Store) → nat_lt 0 (length xs) ≡ false → xs ≡ []
+idle_from [] e = refl
+idle_from (x ∷ xs) e =
+    absurd (let more : nat_lt 0 (suc (length xs)) ≡ true = lt-ltb 0 (suc (length xs)) (omega arith) in let f : true ≡ false = sym more ∙ e in cc)
 
-idle_from : {K : Type 0} (o : Order K) (n limit seq : ℕ) (table : List Item) (u : Update) (xs : List Store) → refuses o n limit (nat_lt 0 (length xs)) table seq u ≡ None → xs ≡ []
-idle_from o n limit seq table u [] e = refl
-idle_from o n limit seq table u (x ∷ xs) e =
-    let more : nat_lt 0 (suc (length xs)) ≡ true = lt-ltb 0 (suc (length xs)) (omega arith) in
-    absurd (let f : Some UpdateInHand ≡ None = ap (λ b. refuses o n limit b table seq u) (sym more) ∙ e in cc)
+accepted_by : (w : WriterView) → nat_lt 0 (length w.left) ≡ false → nat_lt w.limit (w.sequence + 2) ≡ false → Accepted w
+accepted_by w busy spent =
+    record { idle = idle_from w.left busy; counts = ltb-false w.limit (w.sequence + 2) spent }
 
 pub accepted_insert : {K : Type 0} (o : Order K) (w : WriterView) (i : Item) → why_refused o w (Insert i) ≡ None → Accepted w × (o.valid i ≡ true) × (meets o i w.table ≡ false) × (length w.table ≢ w.capacity)
 accepted_insert o w i e =
-    let idle = idle_from o w.capacity w.limit w.sequence w.table (Insert i) w.left e in
-    let f : refuses o w.capacity w.limit false w.table w.sequence (Insert i) ≡ None = ap (λ xs. refuses o w.capacity w.limit (nat_lt 0 (length xs)) w.table w.sequence (Insert i)) (sym idle) ∙ e in
-    elim (o.valid i) as (λ b. o.valid i ≡ b → cond (not b) (Some BadItem) (cond (meets o i w.table) (Some Overlap) (cond (length w.table == w.capacity) (Some Full) (spent w.limit w.sequence))) ≡ None → Accepted w × (o.valid i ≡ true) × (meets o i w.table ≡ false) × (length w.table ≢ w.capacity)) [
-      | false ↦ λ v g. absurd (cc)
-      | true ↦ λ v.
-          elim (meets o i w.table) as (λ b. meets o i w.table ≡ b → cond b (Some Overlap) (cond (length w.table == w.capacity) (Some Full) (spent w.limit w.sequence)) ≡ None → Accepted w × (o.valid i ≡ true) × (meets o i w.table ≡ false) × (length w.table ≢ w.capacity)) [
-            | true ↦ λ m g. absurd (cc)
-            | false ↦ λ m.
-                elim (length w.table == w.capacity) as (λ b. (length w.table == w.capacity) ≡ b → cond b (Some Full) (spent w.limit w.sequence) ≡ None → Accepted w × (o.valid i ≡ true) × (meets o i w.table ≡ false) × (length w.table ≢ w.capacity)) [
-                  | true ↦ λ r g. absurd (cc)
-                  | false ↦ λ r g. (record { idle = idle; counts = not_spent w.limit w.sequence g }, v, m, eqb-false (length w.table) w.capacity r)
-                ] refl
-          ] refl
-    ] refl f
+    let tests = all_tests o w.capacity w.limit (nat_lt 0 (length w.left)) w.table w.sequence (Insert i) in
+    let h : NoneHolds tests = none_holds tests e in
+    (accepted_by w h.0 h.1.1.1.1.0, not_false (o.valid i) h.1.0, h.1.1.0, eqb-false (length w.table) w.capacity h.1.1.1.0)
 
 pub accepted_erase : {K : Type 0} (o : Order K) (w : WriterView) (a : ℕ) → why_refused o w (Erase a) ≡ None → Accepted w × (has a w.table ≡ true)
 accepted_erase o w a e =
-    let idle = idle_from o w.capacity w.limit w.sequence w.table (Erase a) w.left e in
-    let f : refuses o w.capacity w.limit false w.table w.sequence (Erase a) ≡ None = ap (λ xs. refuses o w.capacity w.limit (nat_lt 0 (length xs)) w.table w.sequence (Erase a)) (sym idle) ∙ e in
-    elim (has a w.table) as (λ b. has a w.table ≡ b → cond (not b) (Some NoSuchItem) (spent w.limit w.sequence) ≡ None → Accepted w × (has a w.table ≡ true)) [
-      | false ↦ λ h g. absurd (cc)
-      | true ↦ λ h g. (record { idle = idle; counts = not_spent w.limit w.sequence g }, h)
-    ] refl f
+    let tests = all_tests o w.capacity w.limit (nat_lt 0 (length w.left)) w.table w.sequence (Erase a) in
+    let h : NoneHolds tests = none_holds tests e in
+    (accepted_by w h.0 h.1.1.0, not_false (has a w.table) h.1.0)
 
 -- the free node that an insert takes
 pub taken_node : (n : ℕ) (zero one : Picture) (free rest : List ℕ) (node : ℕ) (left : List Store) → AreInStep n zero one free left → free ≡ rest ++ node ∷ [] → (node < n) × (Contains (listed zero.tree) node → ⊥) × (Contains (listed one.tree) node → ⊥)

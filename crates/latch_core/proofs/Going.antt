@@ -1,16 +1,15 @@
 -- A walk over words that are loaded one at a time, load by load.
-use Rattle.std.proofs.Common.{◌≡◌, ◌≢◌, ℕ, ◌+◌, ◌-◌, ◌*◌, ◌<◌, ◌≤◌, ◌⊎◌, inl, inr, List, [], ◌∷◌, ◌++◌, length, Some, refl, sym, ◌∙◌, ap, subst, ⊎_elim, arith, length-append}
+use Rattle.std.proofs.Common.{◌≡◌, ◌≢◌, ℕ, ◌+◌, ◌-◌, ◌*◌, ◌<◌, ◌≤◌, ◌⊎◌, inl, inr, List, [], ◌∷◌, ◌++◌, length, Some, sym, ◌∙◌, ap, subst, ⊎_elim, arith, length-append}
 use Rattle.std.specs.declared.cmp.Ordering.{Ordering}
-use Rattle.std.specs.declared.cmp.Ordering.TheVariants.{Less, Equal, Greater}
 use Rattle.order_laws.specs.declared.items.Item.{Item}
 use Rattle.order_laws.specs.Orders.{Order}
-use Rattle.word_arena.specs.Words.{root_word, a_word, b_word, tag_word, left_word, right_word}
+use Rattle.word_arena.specs.Words.{root_word}
 use Rattle.latch_core.specs.Sequences.{stable}
-use Rattle.latch_core.specs.Attempts.{Reading, Load, Item_found, No_item, Stuck, closing, turn, visit, walk, attempt, rest_after}
+use Rattle.latch_core.specs.Attempts.{Reading, Load, No_item, Stuck, closing, turn, visit, walk, attempt, rest_after}
 use Rattle.latch_core.specs.Whole.{Wants}
 use Rattle.latch_core.proofs.Readings.{rest_push}
 use Rattle.latch_core.proofs.Leads.{walk_visits}
-use Rattle.latch_core.proofs.Walking.{item_of, stuck_at}
+use Rattle.latch_core.proofs.Walking.{stuck_at}
 
 -- these values led to a link, with as many visits left as four loads each leave
 pub record IsGoing {K : Type 0} (o : Order K) (n : ℕ) (k : K) (s : ℕ) (values : List ℕ) (loads link : ℕ) : Type 0 where

@@ -2,6 +2,8 @@ pub mod Readings
 pub mod Walks
 pub mod Walking
 pub mod Going
+pub mod TestLemmas
+pub mod BatchLemmas
 pub mod Steps
 pub mod Sound
 pub mod Planned

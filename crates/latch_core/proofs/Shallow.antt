@@ -1,5 +1,5 @@
 -- The stable copy stays a red-black tree through all stores of an update.
-use Rattle.std.proofs.Common.{◌≡◌, ◌≢◌, ℕ, suc, ◌+◌, ◌*◌, ◌%◌, ◌<◌, List, [], ◌∷◌, ◌++◌, refl, sym, ◌∙◌, ap, subst, arith}
+use Rattle.std.proofs.Common.{◌≡◌, ◌≢◌, ℕ, ◌+◌, ◌*◌, List, [], ◌∷◌, ◌++◌, refl, sym, ◌∙◌, ap, subst, arith}
 use Rattle.std.specs.List.{AllByRecursion}
 use Rattle.std.proofs.lemmas.List.{get_or-replicate}
 use Rattle.order_laws.specs.declared.items.Item.{Item}
@@ -15,7 +15,7 @@ use Rattle.latch_core.specs.Sequences.{stable}
 use Rattle.latch_core.specs.Latches.{opening_latch}
 use Rattle.latch_core.specs.Plans.{flip_to, update_stores}
 use Rattle.latch_core.specs.Writers.{IsShallow, StaysShallow}
-use Rattle.latch_core.proofs.Planned.{Leading, items_not_zero, links_not_zero, items_unused, links_elsewhere, zero_kept, flip_far, odd2, even4, seq2, sized2, new0_4, words_front}
+use Rattle.latch_core.proofs.Planned.{Leading, items_not_zero, links_not_zero, items_unused, links_elsewhere, zero_kept, flip_far, odd2, even4, new0_4, words_front}
 
 -- before each of these stores
 abbrev pub EachShallow : ℕ → List ℕ → List Store → Type 0

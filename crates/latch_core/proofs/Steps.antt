@@ -1,16 +1,15 @@
 -- What the writer's steps keep.
-use Rattle.std.proofs.Common.{◌≡◌, ◌≢◌, ℕ, ◌+◌, ◌<◌, ◌≤◌, true, false, cond, List, [], ◌∷◌, ◌++◌, length, take, Some, None, refl, sym, ◌∙◌, ap, subst, inl, inr, ⊎_elim, arith, length-append, get_or-set_other, get_or-set_same}
+use Rattle.std.proofs.Common.{◌≡◌, ◌≢◌, ℕ, ◌+◌, ◌<◌, ◌≤◌, false, List, [], ◌∷◌, ◌++◌, length, take, Some, None, refl, sym, ◌∙◌, ap, subst, inl, inr, ⊎_elim, arith, length-append, get_or-set_other, get_or-set_same}
 use Rattle.std.specs.Prelude.{◌⊎◌, ◌==◌, not, slice_set}
-use Rattle.order_laws.specs.declared.refusals.Refusal.TheVariants.{BadItem, Overlap, Full}
-use Rattle.std.proofs.lemmas.Bool.{cases_lt, eqb-false}
+use Rattle.std.proofs.lemmas.Bool.{cases_lt, eqb-false, ltb-false}
 use Rattle.std.proofs.lemmas.List.{take-append-le, take_all}
 use Rattle.order_laws.specs.declared.items.Item.{Item}
 use Rattle.word_arena.specs.declared.stores.Store.{Store}
 use Rattle.latch_core.specs.declared.updates.Update.{Update}
-use Rattle.latch_core.specs.declared.updates.Update.TheVariants.{Insert, Erase}
+use Rattle.latch_core.specs.declared.updates.Update.TheVariants.{Insert, Erase, Batch}
 use Rattle.order_laws.specs.Orders.{Order, IsLawful}
-use Rattle.order_laws.specs.Tables.{IsTable, meets, with_item, without}
-use Rattle.latch_core.specs.Updates.{after, refuses, spent}
+use Rattle.order_laws.specs.Tables.{IsTable, meets, with_item, without, without_all}
+use Rattle.latch_core.specs.Updates.{after, refuses, some_overlap, some_meet}
 use Rattle.latch_core.specs.Histories.{replay}
 use Rattle.word_arena.specs.Words.{at, root_word, by_root, InUse}
 use Rattle.latch_core.specs.Sequences.{stable}
@@ -21,6 +20,8 @@ use Rattle.latch_core.specs.Invariants.{IsStanding, AreTables}
 use Rattle.word_arena.proofs.WordLemmas.{used_not_zero}
 use Rattle.order_laws.proofs.PlaceLemmas.{not_meeting, without_none, without_one}
 use Rattle.order_laws.proofs.TableLemmas.{with_item_table, without_table, length_with_item, length_without}
+use Rattle.latch_core.proofs.TestLemmas.{NoneHolds, all_tests, none_holds}
+use Rattle.latch_core.proofs.BatchLemmas.{neither, not_false, all_valid, all_apart, all_off, with_items_table, without_all_table, length_with_items, length_without_all}
 use Rattle.latch_core.proofs.Readings.{AllLoads, stand_on, stand_push}
 use Rattle.latch_core.proofs.Walks.{walk_uses}
 
@@ -82,25 +83,20 @@ after_erase o table a = without_one a table
 -- the table after an accepted update is one, and fits
 pub accepted_table : {K : Type 0} (o : Order K) → IsLawful o → (n limit : ℕ) (table : List Item) (seq : ℕ) (u : Update) → refuses o n limit false table seq u ≡ None → IsTable o table → length table ≤ n → IsTable o (after o table u) × (length (after o table u) ≤ n)
 accepted_table o law n limit table seq (Insert i) e t fits =
+    let (valid, free, ne) : (not (o.valid i) ≡ false) × (meets o i table ≡ false) × ((length table == n) ≡ false) = (let h : NoneHolds (all_tests o n limit false table seq (Insert i)) = none_holds (all_tests o n limit false table seq (Insert i)) e in (h.1.0, h.1.1.0, h.1.1.1.0)) in
+    let differ : length table ≢ n = eqb-false (length table) n ne in
     subst (λ new. IsTable o new × (length new ≤ n)) (sym (after_insert o table i))
-    (elim (o.valid i) as (λ b. o.valid i ≡ b → cond (not b) (Some BadItem) (cond (meets o i table) (Some Overlap) (cond (length table == n) (Some Full) (spent limit seq))) ≡ None → IsTable o (with_item o i table) × (length (with_item o i table) ≤ n)) [
-      | false ↦ λ v f. absurd (cc)
-      | true ↦ λ v.
-          elim (meets o i table) as (λ b. meets o i table ≡ b → cond b (Some Overlap) (cond (length table == n) (Some Full) (spent limit seq)) ≡ None → IsTable o (with_item o i table) × (length (with_item o i table) ≤ n)) [
-            | true ↦ λ v f. absurd (cc)
-            | false ↦ λ free.
-                elim (length table == n) as (λ b. (length table == n) ≡ b → cond b (Some Full) (spent limit seq) ≡ None → IsTable o (with_item o i table) × (length (with_item o i table) ≤ n)) [
-                  | true ↦ λ v f. absurd (cc)
-                  | false ↦ λ ne f. (
-                    with_item_table o law i table v (not_meeting o i table free) t,
-                    let differ : length table ≢ n = eqb-false (length table) n ne in
-                        omega (arith, length_with_item o i table),
-                  )
-                ] refl
-          ] refl
-    ] refl e)
+    (with_item_table o law i table (not_false (o.valid i) valid) (not_meeting o i table free) t, omega (arith, length_with_item o i table))
 accepted_table o law n limit table seq (Erase a) e t fits =
     subst (λ new. IsTable o new × (length new ≤ n)) (sym (after_erase o table a)) (without_table o a table t, omega (arith, length_without a table))
+accepted_table o law n limit table seq (Batch erase insert) e t fits =
+    let rest = without_all erase table in
+    let h : NoneHolds (all_tests o n limit false table seq (Batch erase insert)) = none_holds (all_tests o n limit false table seq (Batch erase insert)) e in
+    let overlaps = neither (some_overlap o insert) (some_meet o insert rest) h.1.1.1.0 in
+    let full = ltb-false n (length table + length insert) h.1.1.1.1.0 in (
+      with_items_table o law insert rest (all_valid o insert h.1.0) (all_apart o insert overlaps.0) (all_off o insert rest overlaps.1) (without_all_table o erase table t),
+      omega (arith, length_with_items o insert rest, length_without_all erase table),
+    )
 
 pub replay_push : {K : Type 0} (o : Order K) (table : List Item) (us : List Update) (u : Update) → replay o table (us ++ u ∷ []) ≡ after o (replay o table us) u
 replay_push o table [] u = refl

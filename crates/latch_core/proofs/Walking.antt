@@ -1,13 +1,13 @@
 -- A walk in words that stand still, node by node.
-use Rattle.std.proofs.Common.{◌≡◌, ◌≢◌, ℕ, zero, suc, ◌+◌, ◌-◌, ◌*◌, ◌<◌, ◌≤◌, ◌⊎◌, inl, inr, true, false, cond, List, Some, None, refl, sym, ◌∙◌, ap, subst, ⊎_elim, arith, eq-eqb}
-use Rattle.std.specs.Prelude.{nat_lt, ◌==◌}
+use Rattle.std.proofs.Common.{◌≡◌, ◌≢◌, ℕ, zero, suc, ◌+◌, ◌-◌, ◌*◌, ◌<◌, ◌≤◌, ◌⊎◌, inl, inr, false, List, Some, None, refl, sym, ◌∙◌, ap, subst, ⊎_elim, arith}
+use Rattle.std.specs.Prelude.{nat_lt}
 use Rattle.std.specs.declared.cmp.Ordering.TheVariants.{Less, Equal, Greater}
 use Rattle.std.proofs.lemmas.Bool.{le-ltb}
 use Rattle.order_laws.specs.declared.items.Item.{Item}
 use Rattle.order_laws.specs.Orders.{Order}
 use Rattle.word_arena.specs.Words.{at, root_word, left_word, right_word, item_at}
 use Rattle.latch_core.specs.Sequences.{gen, stable}
-use Rattle.latch_core.specs.Attempts.{Outcome, Answer, Again, Reading, Item_found, No_item, Stuck, outcome, closing, turn, visit, walk, attempt}
+use Rattle.latch_core.specs.Attempts.{Outcome, Answer, Again, No_item, Stuck, closing, turn, visit, walk, attempt}
 use Rattle.latch_core.specs.Whole.{ran, loads_in}
 use Rattle.latch_core.proofs.Leads.{walk_visits, answers, answers_none}
 

@@ -5,7 +5,7 @@ use Rattle.order_laws.specs.Orders.{Order}
 use Rattle.order_laws.specs.Tables.{IsTable}
 use Rattle.latch_core.specs.Histories.{replay, current_table}
 use Rattle.word_arena.specs.Words.{at, HoldsTable}
-use Rattle.latch_core.specs.Sequences.{gen, stable}
+use Rattle.latch_core.specs.Sequences.{stable}
 use Rattle.latch_core.specs.Attempts.{Reading, Stand}
 use Rattle.latch_core.specs.Latches.{Hand, Latch}
 

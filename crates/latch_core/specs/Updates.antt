@@ -1,21 +1,24 @@
 -- Updates of a table: what they make of it, and why one is refused.
-use Rattle.std.specs.Prelude.{ℕ, ◌+◌, ◌*◌, Bool, true, false, not, List, [], ◌∷◌, length, Option, Some, None, if◌then◌else◌, ◌==◌, nat_lt}
+use Rattle.std.specs.Prelude.{ℕ, ◌+◌, ◌*◌, Bool, false, not, ◌||◌, List, [], ◌∷◌, ◌++◌, length, Option, Some, None, if◌then◌else◌, ◌==◌, nat_lt}
+use Rattle.std.specs.List.{list_any}
 use Rattle.order_laws.specs.declared.items.Item.{Item}
 use Rattle.order_laws.specs.declared.refusals.Refusal.{Refusal}
 use Rattle.order_laws.specs.declared.refusals.Refusal.TheVariants.{BadItem, Overlap, NoSuchItem, Full, UpdateInHand, SequenceSpent}
 use Rattle.order_laws.specs.Orders.{Order}
 use Rattle.order_laws.specs.Tables.{with_item, without_all, has, meets}
 use Rattle.latch_core.specs.declared.updates.Update.{Update}
-use Rattle.latch_core.specs.declared.updates.Update.TheVariants.{Insert, Erase}
+use Rattle.latch_core.specs.declared.updates.Update.TheVariants.{Insert, Erase, Batch}
 
 -- the first words of the items that an update erases, and the items that it inserts
 abbrev pub erased : Update → List ℕ
 erased (Insert i) = []
 erased (Erase a) = a ∷ []
+erased (Batch erase insert) = erase
 
 abbrev pub inserted : Update → List Item
 inserted (Insert i) = i ∷ []
 inserted (Erase a) = []
+inserted (Batch erase insert) = insert
 
 -- the table with all of these
 abbrev pub with_items : {K : Type 0} → Order K → List Item → List Item → List Item
@@ -33,17 +36,49 @@ size_of u = length (erased u) + length (inserted u)
 abbrev pub most_steps : ℕ → Update → ℕ
 most_steps n u = 64 * (n + 1) * (size_of u + 1)
 
--- two flips more would pass the greatest sequence
-abbrev pub spent : ℕ → ℕ → Option Refusal
-spent limit seq = if nat_lt limit (seq + 2) then Some SequenceSpent else None
+-- some item is not valid
+abbrev pub some_invalid : {K : Type 0} → Order K → List Item → Bool
+some_invalid o items = list_any (λ i. not (o.valid i)) items
+
+-- some first word is in no item of the table, and some stands twice
+abbrev pub some_missing : List ℕ → List Item → Bool
+some_missing words table = list_any (λ a. not (has a table)) words
+
+abbrev pub some_twice : List ℕ → Bool
+some_twice [] = false
+some_twice (a ∷ rest) = list_any (λ b. b == a) rest || some_twice rest
+
+-- two of these items are not apart, and one of them is not apart from an item of the table
+abbrev pub some_overlap : {K : Type 0} → Order K → List Item → Bool
+some_overlap o [] = false
+some_overlap o (i ∷ rest) = meets o i rest || some_overlap o rest
+
+abbrev pub some_meet : {K : Type 0} → Order K → List Item → List Item → Bool
+some_meet o items table = list_any (λ i. meets o i table) items
+
+-- a test, and the refusal that it stands for; the first that holds answers
+abbrev pub Test : Type 0
+Test = Bool × Refusal
+
+abbrev pub first_that_holds : List Test → Option Refusal
+first_that_holds [] = None
+first_that_holds (test ∷ rest) = if test.0 then Some test.1 else first_that_holds rest
+
+-- what is tested of an update at n nodes and this table
+abbrev pub tests_of : {K : Type 0} → Order K → ℕ → List Item → Update → List Test
+tests_of o n table (Insert i) =
+    (not (o.valid i), BadItem) ∷ (meets o i table, Overlap) ∷ (length table == n, Full) ∷ []
+tests_of o n table (Erase a) = (not (has a table), NoSuchItem) ∷ []
+tests_of o n table (Batch erase insert) =
+    (some_invalid o insert, BadItem)
+    ∷ (some_missing erase table || some_twice erase, NoSuchItem)
+    ∷ (some_overlap o insert || some_meet o insert (without_all erase table), Overlap)
+    ∷ (nat_lt n (length table + length insert), Full)
+    ∷ []
 
 -- why an update is refused, or none: at n nodes and a greatest sequence, with an update in hand or not, at this table and
--- this sequence
+-- this sequence, from which two flips more may pass the greatest
 abbrev pub refuses : {K : Type 0} → Order K → ℕ → ℕ → Bool → List Item → ℕ → Update → Option Refusal
-refuses o n limit true table seq u = Some UpdateInHand
-refuses o n limit false table seq (Insert i) =
-    if not (o.valid i) then Some BadItem
-    else if meets o i table then Some Overlap
-    else if length table == n then Some Full
-    else spent limit seq
-refuses o n limit false table seq (Erase a) = if not (has a table) then Some NoSuchItem else spent limit seq
+refuses o n limit busy table seq u =
+    first_that_holds
+    ((busy, UpdateInHand) ∷ tests_of o n table u ++ (nat_lt limit (seq + 2), SequenceSpent) ∷ [])

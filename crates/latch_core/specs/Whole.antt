@@ -1,5 +1,5 @@
 -- Whole attempts: what one comes to, and after how many loads.
-use Rattle.std.specs.Prelude.{◌≡◌, ℕ, suc, List, Option, Some}
+use Rattle.std.specs.Prelude.{◌≡◌, ℕ, suc, List, Some}
 use Rattle.order_laws.specs.Orders.{Order}
 use Rattle.word_arena.specs.Words.{at}
 use Rattle.latch_core.specs.Attempts.{Outcome, Answer, Again, Reading, Load, Ends, Found, Item_found, No_item, Stuck, attempt, rest_after}

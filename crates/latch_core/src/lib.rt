@@ -37,6 +37,7 @@
 #![tactic(auto)]
 
 pub mod attempts;
+pub mod batches;
 pub mod laws;
 #[cfg(test)]
 mod loader_tests;
@@ -53,6 +54,7 @@ pub mod updates;
 pub mod writers;
 
 pub use attempts::{Attempted, attempt_in};
+pub use batches::Entries;
 pub use loaders::{Loader, Walked, attempt_by};
 pub use readers::{ReaderCore, Taken};
 pub use updates::Update;

@@ -1,9 +1,9 @@
 //! The definitions of updates and histories as plain, slow programs, to compare with.
 
-ghost use Rattle.std.specs.Prelude.{◌≡◌, [], IfOk};
-ghost use Rattle.order_laws.specs.Tables.{has, meets};
+ghost use Rattle.std.specs.Prelude.{◌≡◌, ◌||◌, [], None, Some, if◌then◌else◌, IfOk};
+ghost use Rattle.order_laws.specs.Tables.{has, meets, without_all};
 ghost use Rattle.word_arena.specs.Layouts.{capacity_of, limit_of};
-ghost use Rattle.latch_core.specs.Updates.{refuses, after};
+ghost use Rattle.latch_core.specs.Updates.{refuses, tests_of, first_that_holds, some_invalid, some_missing, some_twice, some_overlap, some_meet, with_items, after};
 ghost use Rattle.latch_core.specs.Histories.{replay};
 
 use crate::sequences::is_spent;
@@ -19,35 +19,152 @@ pub fn refuses<O: TreeOrder>(
     in_hand: bool,
     table: &[Item],
     sequence: u64,
-    u: Update,
+    u: &Update,
 ) -> Option<Refusal>
-    ensures { result ≡ refuses O.order (capacity_of l) (limit_of l) in_hand table.now sequence u }
+    ensures { result ≡ refuses O.order (capacity_of l) (limit_of l) in_hand table.now sequence u.now }
 {
     if in_hand {
         return Some(Refusal::UpdateInHand);
     }
-    match u {
-        Update::Insert(item) => {
-            if !O::valid(&item) {
-                return Some(Refusal::BadItem);
-            }
-            if meets::<O>(table, &item) {
-                return Some(Refusal::Overlap);
-            }
-            if table.len() == l.capacity() as usize {
-                return Some(Refusal::Full);
-            }
-        }
-        Update::Erase(a) => {
-            if !has(table, a) {
-                return Some(Refusal::NoSuchItem);
-            }
-        }
+    if let Some(refusal) = failed_test::<O>(l, table, u) {
+        return Some(refusal);
     }
     if is_spent(l, sequence) {
         return Some(Refusal::SequenceSpent);
     }
     None
+}
+
+// The first test of an update of a table that fails, by its refusal.
+fn failed_test<O: TreeOrder>(l: Layout, table: &[Item], u: &Update) -> Option<Refusal>
+    ensures { result ≡ first_that_holds (tests_of O.order (capacity_of l) table.now u.now) }
+{
+    match u {
+        Update::Insert(item) => insert_test::<O>(l, table, item),
+        Update::Erase(a) => erase_test(table, *a),
+        Update::Batch { erase, insert } => {
+            batch_test::<O>(l, table, erase.as_slice(), insert.as_slice())
+        }
+    }
+}
+
+// Why an item is not to be inserted, if it is not.
+fn insert_test<O: TreeOrder>(l: Layout, table: &[Item], item: &Item) -> Option<Refusal>
+    ensures { result ≡ first_that_holds (tests_of O.order (capacity_of l) table.now (Update.Insert item.now)) }
+{
+    if !O::valid(item) {
+        Some(Refusal::BadItem)
+    } else if meets::<O>(table, item) {
+        Some(Refusal::Overlap)
+    } else if table.len() == l.capacity() as usize {
+        Some(Refusal::Full)
+    } else {
+        None
+    }
+}
+
+// Why a first word is not to be erased, if it is not.
+fn erase_test(table: &[Item], a: u64) -> Option<Refusal>
+    ensures { result ≡ if has a table.now then None else Some Refusal.NoSuchItem }
+{
+    if has(table, a) {
+        None
+    } else {
+        Some(Refusal::NoSuchItem)
+    }
+}
+
+// Why a batch is not to be carried out, if it is not.
+fn batch_test<O: TreeOrder>(
+    l: Layout,
+    table: &[Item],
+    erase: &[u64],
+    insert: &[Item],
+) -> Option<Refusal>
+    ensures { result ≡ first_that_holds (tests_of O.order (capacity_of l) table.now (Update.Batch erase.now insert.now)) }
+{
+    if some_invalid::<O>(insert) {
+        Some(Refusal::BadItem)
+    } else if cannot_erase(table, erase) {
+        Some(Refusal::NoSuchItem)
+    } else if cannot_insert::<O>(table, erase, insert) {
+        Some(Refusal::Overlap)
+    } else if table.len() + insert.len() > l.capacity() as usize {
+        Some(Refusal::Full)
+    } else {
+        None
+    }
+}
+
+// Whether some first word is in no item of the table or stands twice.
+fn cannot_erase(table: &[Item], erase: &[u64]) -> bool
+    ensures { result ≡ (some_missing erase.now table.now || some_twice erase.now) }
+{
+    some_missing(table, erase) || some_twice(erase)
+}
+
+// Whether two of the items are not apart, or one of them and an item of the table that stays.
+fn cannot_insert<O: TreeOrder>(table: &[Item], erase: &[u64], insert: &[Item]) -> bool
+    ensures { result ≡ (some_overlap O.order insert.now || some_meet O.order insert.now (without_all erase.now table.now)) }
+{
+    some_overlap::<O>(insert) || some_meet::<O>(table, erase, insert)
+}
+
+/// Whether some item is not valid.
+pub fn some_invalid<O: TreeOrder>(items: &[Item]) -> bool
+    ensures { result ≡ some_invalid O.order items.now }
+{
+    items.iter().any(|i| !O::valid(i))
+}
+
+// Whether some first word is in no item of the table.
+fn some_missing(table: &[Item], words: &[u64]) -> bool
+    ensures { result ≡ some_missing words.now table.now }
+{
+    words.iter().any(|a| !has(table, *a))
+}
+
+/// Whether some number stands twice in the list.
+pub fn some_twice(words: &[u64]) -> bool
+    ensures { result ≡ some_twice words.now }
+{
+    for (place, a) in words.iter().enumerate() {
+        if words[place + 1..].contains(a) {
+            return true;
+        }
+    }
+    false
+}
+
+/// Whether two items of the list are not apart.
+pub fn some_overlap<O: TreeOrder>(items: &[Item]) -> bool
+    ensures { result ≡ some_overlap O.order items.now }
+{
+    for (place, item) in items.iter().enumerate() {
+        if meets::<O>(&items[place + 1..], item) {
+            return true;
+        }
+    }
+    false
+}
+
+// Whether one of the items is not apart from an item of the table that has none of the first words `but`.
+fn some_meet<O: TreeOrder>(table: &[Item], but: &[u64], items: &[Item]) -> bool
+    ensures { result ≡ some_meet O.order items.now (without_all but.now table.now) }
+{
+    items.iter().any(|item| meets_beside::<O>(table, but, item))
+}
+
+// Whether some item that has none of the first words `but` is not apart from this one.
+fn meets_beside<O: TreeOrder>(table: &[Item], but: &[u64], item: &Item) -> bool
+    ensures { result ≡ meets O.order item.now (without_all but.now table.now) }
+{
+    for x in table {
+        if !but.contains(&x.a) && !O::apart(x, item) {
+            return true;
+        }
+    }
+    false
 }
 
 /// Whether some item of the list has this first word.
@@ -73,14 +190,44 @@ pub fn meets<O: TreeOrder>(table: &[Item], item: &Item) -> bool
 pub fn after<O: TreeOrder>(
     alloc: Global,
     table: &[Item],
-    u: Update,
+    u: &Update,
 ) -> Result<Vec<Item>, AllocError>
-    ensures { IfOk result (λ new. new.items ≡ after O.order table.now u) }
+    ensures { IfOk result (λ new. new.items ≡ after O.order table.now u.now) }
 {
     match u {
-        Update::Insert(item) => with_item::<O>(alloc, table, item),
-        Update::Erase(a) => without(alloc, table, a),
+        Update::Insert(item) => with_item::<O>(alloc, table, *item),
+        Update::Erase(a) => without(alloc, table, *a),
+        Update::Batch { erase, insert } => {
+            changed::<O>(alloc, table, erase.as_slice(), insert.as_slice())
+        }
     }
+}
+
+// The table without the items of these first words, and with these items.
+fn changed<O: TreeOrder>(
+    alloc: Global,
+    table: &[Item],
+    erase: &[u64],
+    insert: &[Item],
+) -> Result<Vec<Item>, AllocError>
+    ensures { IfOk result (λ new. new.items ≡ with_items O.order insert.now (without_all erase.now table.now)) }
+{
+    let mut new = without_all(alloc, table, erase)?;
+    for item in insert {
+        new = with_item::<O>(alloc, new.as_slice(), *item)?;
+    }
+    Ok(new)
+}
+
+// The table without the items of these first words.
+fn without_all(alloc: Global, table: &[Item], gone: &[u64]) -> Result<Vec<Item>, AllocError>
+    ensures { IfOk result (λ rest. rest.items ≡ without_all gone.now table.now) }
+{
+    table
+        .iter()
+        .copied()
+        .filter(|x| !gone.contains(&x.a))
+        .collect(alloc)
 }
 
 /// The table after these updates, in order, from the empty table.
@@ -89,7 +236,7 @@ pub fn replay<O: TreeOrder>(alloc: Global, updates: &[Update]) -> Result<Vec<Ite
 {
     let mut table = Vec::new(alloc);
     for u in updates {
-        table = after::<O>(alloc, table.as_slice(), *u)?;
+        table = after::<O>(alloc, table.as_slice(), u)?;
     }
     Ok(table)
 }

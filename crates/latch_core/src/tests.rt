@@ -240,8 +240,11 @@ fn each_refusal_and_none_beside_an_update_in_hand(rt: HostRuntime) -> Result<(),
         Err(Refusal::UpdateInHand)
     );
     latch.write(&rt, 1000);
-    let overlap = Update::Insert(item(0x18, 0x28, 3));
-    assert_eq!(rt; latch.carry_out(&rt, overlap), Err(Refusal::Overlap));
+    let overlap = item(0x18, 0x28, 3);
+    assert_eq!(rt;
+        latch.carry_out(&rt, Update::Insert(overlap)),
+        Err(Refusal::Overlap)
+    );
     assert_eq!(rt;
         latch.carry_out(&rt, Update::Insert(other)),
         Err(Refusal::Full)
@@ -250,14 +253,14 @@ fn each_refusal_and_none_beside_an_update_in_hand(rt: HostRuntime) -> Result<(),
     let table = [one];
     for u in [
         Update::Insert(empty),
-        overlap,
+        Update::Insert(overlap),
         Update::Insert(other),
         Update::Erase(0x30),
     ] {
-        let why = plain::refuses::<HalfOpen>(l, false, &table, 2, u);
+        let why = plain::refuses::<HalfOpen>(l, false, &table, 2, &u);
         assert_eq!(rt; latch.carry_out(&rt, u).err(), why);
     }
-    let busy = plain::refuses::<HalfOpen>(l, true, &table, 2, Update::Erase(0x10));
+    let busy = plain::refuses::<HalfOpen>(l, true, &table, 2, &Update::Erase(0x10));
     assert_eq!(rt; busy, Some(Refusal::UpdateInHand));
     Ok(())
 }
@@ -292,7 +295,7 @@ fn carry_out_by_stops(
     count: usize,
 ) -> Result<(), Fail> {
     let update = updates.get(count).ok_or("too few")?;
-    let left = latch.writer.begin(*update)?;
+    let left = latch.writer.begin(update.copy()?)?;
     for _ in 0..left {
         latch.write(rt, 1);
         let done = latch.generation() as usize;

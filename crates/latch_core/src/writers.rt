@@ -1,16 +1,18 @@
 //! The writer of a latched tree, which hands out one store at a time.
 
-ghost use Rattle.std.specs.Prelude.{◌≡◌, ◌↔◌, ◌+◌, ◌*◌, ◌<◌, ◌≤◌, [], Some, None, IsTrue, IsSome, IfSome, IfOk, IfErr, OnOk, OnErr, length, vec_len, vec_capacity};
-ghost use Rattle.order_laws.specs.Tables.{has};
+ghost use Rattle.std.specs.Prelude.{◌≡◌, ◌↔◌, ◌+◌, ◌*◌, ◌<◌, ◌≤◌, [], Some, None, ◌||◌, IsTrue, IsSome, IfSome, IfOk, IfErr, OnOk, OnErr, length, vec_len, vec_capacity};
+ghost use Rattle.order_laws.specs.Tables.{has, without_all};
 ghost use Rattle.word_arena.specs.declared.stores.Store.{Store};
 ghost use Rattle.word_arena.specs.Layouts.{capacity_of, limit_of};
 ghost use Rattle.word_arena.specs.Words.{at, words_for};
 ghost use Rattle.rb_words.specs.Pictures.{IsPicture};
 ghost use Rattle.latch_core.specs.Sequences.{gen};
+ghost use Rattle.latch_core.specs.Updates.{first_that_holds, tests_of, some_invalid, some_missing, some_twice, some_overlap, some_meet};
 ghost use Rattle.latch_core.specs.Latches.{Latch, Hand, stepped, opening_latch};
 ghost use Rattle.latch_core.specs.Writers.{next_store, why_refused, IsRefusedBy, RefusesAsPictured, MayOpen, IsOpeningRefused, Pictures, MayBeNext, LeadsFrom, HasBegun, opening_writer, stepped_writer};
 
 use crate::nodes::all_nodes;
+use crate::plain::{some_invalid, some_overlap, some_twice};
 use crate::plans::Plan;
 use crate::sequences::{generation, is_spent};
 use crate::updates::Update;
@@ -109,6 +111,7 @@ impl<O: TreeOrder> WriterCore<O> {
         match u {
             Update::Insert(item) => self.insert(item)?,
             Update::Erase(a) => self.erase(a)?,
+            Update::Batch { .. } => return Err(Refusal::OutOfMemory),
         }
         Ok(self.plan.remaining())
     }
@@ -120,28 +123,96 @@ impl<O: TreeOrder> WriterCore<O> {
         if self.plan.remaining() > 0 {
             return Some(Refusal::UpdateInHand);
         }
-        match u {
-            Update::Insert(item) => {
-                if !O::valid(item) {
-                    return Some(Refusal::BadItem);
-                }
-                if self.shape.meets(item, &[]) {
-                    return Some(Refusal::Overlap);
-                }
-                if self.shape.len() == self.layout.capacity() {
-                    return Some(Refusal::Full);
-                }
-            }
-            Update::Erase(a) => {
-                if !self.shape.has(*a) {
-                    return Some(Refusal::NoSuchItem);
-                }
-            }
+        if let Some(refusal) = self.failed_test(u) {
+            return Some(refusal);
         }
         if is_spent(self.layout, self.sequence) {
             return Some(Refusal::SequenceSpent);
         }
         None
+    }
+
+    /// The first test of an update of the table that fails, by its refusal.
+    fn failed_test(&self, u: &Update) -> Option<Refusal>
+        ensures { result ≡ first_that_holds (tests_of O.order self.now.capacity self.now.table u.now) }
+    {
+        match u {
+            Update::Insert(item) => self.insert_test(item),
+            Update::Erase(a) => self.erase_test(*a),
+            Update::Batch { erase, insert } => self.batch_test(erase.as_slice(), insert.as_slice()),
+        }
+    }
+
+    /// Why an item is not to be inserted, if it is not.
+    fn insert_test(&self, item: &Item) -> Option<Refusal>
+        ensures { result ≡ first_that_holds (tests_of O.order self.now.capacity self.now.table (Update.Insert item.now)) }
+    {
+        if !O::valid(item) {
+            Some(Refusal::BadItem)
+        } else if self.shape.meets(item, &[]) {
+            Some(Refusal::Overlap)
+        } else if self.shape.len() == self.layout.capacity() {
+            Some(Refusal::Full)
+        } else {
+            None
+        }
+    }
+
+    /// Why a first word is not to be erased, if it is not.
+    fn erase_test(&self, a: u64) -> Option<Refusal>
+        ensures { result ≡ first_that_holds (tests_of O.order self.now.capacity self.now.table (Update.Erase a)) }
+    {
+        if self.shape.has(a) {
+            None
+        } else {
+            Some(Refusal::NoSuchItem)
+        }
+    }
+
+    /// Why a batch is not to be carried out, if it is not.
+    fn batch_test(&self, erase: &[u64], insert: &[Item]) -> Option<Refusal>
+        ensures { result ≡ first_that_holds (tests_of O.order self.now.capacity self.now.table (Update.Batch erase.now insert.now)) }
+    {
+        if some_invalid::<O>(insert) {
+            Some(Refusal::BadItem)
+        } else if self.cannot_erase(erase) {
+            Some(Refusal::NoSuchItem)
+        } else if self.cannot_insert(erase, insert) {
+            Some(Refusal::Overlap)
+        } else if self.shape.len() as usize + insert.len() > self.layout.capacity() as usize {
+            Some(Refusal::Full)
+        } else {
+            None
+        }
+    }
+
+    /// Whether some first word is in no item of the table or stands twice.
+    fn cannot_erase(&self, erase: &[u64]) -> bool
+        ensures { result ≡ (some_missing erase.now self.now.table || some_twice erase.now) }
+    {
+        self.some_missing(erase) || some_twice(erase)
+    }
+
+    /// Whether two of the items are not apart, or one of them and an item of the table that stays.
+    fn cannot_insert(&self, erase: &[u64], insert: &[Item]) -> bool
+        ensures { result ≡ (some_overlap O.order insert.now
+            || some_meet O.order insert.now (without_all erase.now self.now.table)) }
+    {
+        some_overlap::<O>(insert) || self.some_meet(erase, insert)
+    }
+
+    /// Whether some first word is in no item of the table.
+    fn some_missing(&self, words: &[u64]) -> bool
+        ensures { result ≡ some_missing words.now self.now.table }
+    {
+        words.iter().any(|a| !self.shape.has(*a))
+    }
+
+    /// Whether one of the items is not apart from an item of the table that has none of the first words `but`.
+    fn some_meet(&self, but: &[u64], items: &[Item]) -> bool
+        ensures { result ≡ some_meet O.order items.now (without_all but.now self.now.table) }
+    {
+        items.iter().any(|i| self.shape.meets(i, but))
     }
 
     /// Plans to insert an item: it goes into a free node, which both copies then link.

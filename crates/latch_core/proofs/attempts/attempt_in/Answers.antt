@@ -1,8 +1,8 @@
-use Rattle.std.proofs.Common.{◌≡◌, ◌≢◌, ◌≤◌, ◌<◌, ◌⊎◌, ℕ, ◌+◌, ◌-◌, ◌*◌, arith, refl, sym, ◌∙◌, ap, subst, inl, inr, Some, None}
+use Rattle.std.proofs.Common.{◌≡◌, ◌≢◌, ◌≤◌, ◌<◌, ◌⊎◌, ◌+◌, ◌-◌, ◌*◌, arith, sym, ◌∙◌, ap, subst, inl, inr, Some, None}
 use Rattle.word_arena.specs.Layouts.{capacity_of}
 use Rattle.word_arena.specs.Words.{at, root_word, left_word, right_word, item_at}
 use Rattle.latch_core.specs.Sequences.{gen, stable}
-use Rattle.latch_core.specs.Attempts.{Answer, Again}
+use Rattle.latch_core.specs.Attempts.{Answer}
 use Rattle.latch_core.specs.Whole.{outcome_of}
 use Rattle.latch_core.proofs.Walking.{IsWalking, Comes, item_here, walking_starts, goes_left, goes_right, comes_found, comes_none, comes_again}
 use Rattle.latch_core.proofs.attempts.attempt_in.Given.{Over}

@@ -1,7 +1,7 @@
-use Rattle.std.proofs.Common.{◌≡◌, ◌∷◌, [], ◌++◌, refl, sym, ◌∙◌, ap, subst, Some, None}
+use Rattle.std.proofs.Common.{sym, ◌∙◌, ap, subst, Some}
 use Rattle.word_arena.specs.Layouts.{capacity_of}
 use Rattle.latch_core.specs.Sequences.{gen}
-use Rattle.latch_core.specs.Attempts.{Answer, Ends, attempt, outcome, rest_after}
+use Rattle.latch_core.specs.Attempts.{Ends, attempt, outcome, rest_after}
 use Rattle.latch_core.specs.Whole.{Wants, found_by, outcome_of}
 use Rattle.latch_core.proofs.Readings.{rest_push}
 use Rattle.latch_core.proofs.Leads.{answers, answers_none, again, again_none}

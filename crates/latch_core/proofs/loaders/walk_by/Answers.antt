@@ -1,12 +1,11 @@
-use Rattle.std.proofs.Common.{◌≡◌, ◌≢◌, ◌≤◌, ◌<◌, ◌⊎◌, ℕ, ◌+◌, ◌-◌, ◌*◌, List, arith, refl, sym, ◌∙◌, ap, subst, inl, inr, Some, None}
+use Rattle.std.proofs.Common.{◌≡◌, ◌≢◌, ◌≤◌, ◌<◌, ℕ, ◌+◌, ◌-◌, ◌*◌, arith, sym, ◌∙◌, ap, subst}
 use Rattle.std.specs.declared.cmp.Ordering.TheVariants.{Less, Equal, Greater}
 use Rattle.word_arena.specs.Layouts.{capacity_of}
 use Rattle.word_arena.specs.Words.{a_word, b_word, tag_word, left_word, right_word}
 use Rattle.latch_core.specs.Sequences.{stable}
-use Rattle.latch_core.specs.Attempts.{closing, walk}
-use Rattle.latch_core.specs.Whole.{found_by}
+use Rattle.latch_core.specs.Attempts.{walk}
 use Rattle.latch_core.proofs.Walking.{item_of}
-use Rattle.latch_core.proofs.Going.{wants_root, going_starts, goes_in, wants, in_node, goes_on, goes_nowhere, goes_astray, wants_in, turned, IsIn, IsGoing}
+use Rattle.latch_core.proofs.Going.{wants_root, going_starts, goes_in, wants, in_node, goes_on, wants_in, turned, IsIn}
 use Rattle.latch_core.proofs.loaders.walk_by.Goals as goal
 
 pub load-link-requires-clause-wanted : goal.load-link-requires-clause-wanted
