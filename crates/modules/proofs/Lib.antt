@@ -13,3 +13,4 @@ pub mod Naming
 pub mod Soundness
 pub mod Makings
 pub mod Counting
+pub mod Loading

@@ -39,5 +39,7 @@ pub mod Building
 pub mod Modules
 -- the catalog of the listings, and what is asked of it
 pub mod Catalogs
+-- what a load, an unload, and the end of a module's start change
+pub mod Loads
 -- what a catalog keeps
 pub mod Sound

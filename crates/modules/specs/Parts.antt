@@ -12,3 +12,8 @@ is_core Init = false
 abbrev pub is_init : Part → Bool
 is_init Core = false
 is_init Init = true
+
+-- one of the parts that are asked for
+abbrev pub is_of : Bool → Bool → Part → Bool
+is_of core init Core = core
+is_of core init Init = init

@@ -1,19 +1,21 @@
 //! The modules that may be loaded, and what a load or an unload changes.
 
-ghost use Rattle.std.specs.Prelude.{◌≡◌, ◌⊎◌, [], true, false, All, length, IfOk, IfErr};
+ghost use Rattle.std.specs.Prelude.{◌≡◌, ◌⊎◌, ◌↔◌, IsTrue, [], true, false, All, length, IfOk, IfErr};
 ghost use Rattle.std.specs.Option.{option_copied};
 ghost use Rattle.modules.specs.Lines.{fits, region_fits, usual_bounds};
 ghost use Rattle.modules.specs.Catalogs.{catalog_of, counts_of, module_of, number_of, regions_of, IsSound};
+ghost use Rattle.modules.specs.Loads.{drop_init_of, GivesOrLacksMemory, GivesSome, load_of, unload_of};
 ghost use Rattle.modules.specs.Placed.{are_few};
 
 use crate::build::assemble;
 use crate::lines::{KernelBounds, ModuleLine, RegionLine};
+use crate::loads::{erasing, inserting, is_erasing, is_inserting};
 use crate::module::Module;
 use crate::names::place_of;
 use crate::placing::RegionLines;
 use crate::symbol_lines::SymbolLines;
 use latch_core::Update;
-use order_laws::{Item, Refusal};
+use order_laws::Refusal;
 use std::alloc::Global;
 use std::marker::Model;
 
@@ -35,6 +37,15 @@ pub struct BuildCounts {
     pub symbols: u64,
     /// Lines of the listing of symbols that are not kept.
     pub stray: u64,
+}
+
+/// What of a module a table holds.
+#[derive(Clone, Copy, Debug, PartialEq, Eq, Drop)]
+pub struct Held {
+    /// Whether it holds the first address of the module's first region of its core.
+    pub core: bool,
+    /// Whether it holds the first address of the module's first init region; not where it has none.
+    pub init: bool,
 }
 
 /// The kernel itself as number 0, where the listing of symbols has its region, and the accepted modules from number 1
@@ -76,13 +87,7 @@ impl<'a> Catalog<'a> {
         ensures refused { IfErr result (λ e. e ≡ Refusal.OutOfMemory) }
     {
         let regions = RegionLines::new(alloc, &[])?;
-        Ok(assemble(
-            alloc,
-            &KernelBounds::usual(),
-            modules,
-            &regions,
-            symbols,
-        )?)
+        Ok(assemble(alloc, &KernelBounds::usual(), modules, &regions, symbols)?)
     }
 
     /// Builds the catalog of three listings, in which the kernel itself lies from `_stext` up to `_end`: that of
@@ -172,5 +177,89 @@ impl<'a> Catalog<'a> {
         ensures sound { IsSound self.now }
     {
         self.regions
+    }
+
+    /// The update that loads a module: all its regions are put in, with its number as the tag.
+    ///
+    /// Refused by [`Refusal::UnknownModule`], else by [`Refusal::AlreadyLoaded`] where its core is held, else by
+    /// [`Refusal::OutOfMemory`]. A module of one region takes no memory.
+    pub fn load(&self, number: u64, held: Held) -> Result<Update, Refusal>
+        ensures { GivesOrLacksMemory (load_of self.now number held) result }
+    {
+        let Some(module) = self.module(number) else {
+            return Err(Refusal::UnknownModule);
+        };
+        if held.core {
+            return Err(Refusal::AlreadyLoaded);
+        }
+        inserting(*self.modules.allocator(), module.regions(), number)
+    }
+
+    /// The update that unloads a module: its core regions are taken out, and its init regions where they are held.
+    ///
+    /// Refused by [`Refusal::UnknownModule`], else by [`Refusal::NotLoaded`] where its core is not held, else by
+    /// [`Refusal::OutOfMemory`]. One region takes no memory.
+    pub fn unload(&self, number: u64, held: Held) -> Result<Update, Refusal>
+        ensures { GivesOrLacksMemory (unload_of self.now number held) result }
+    {
+        let Some(module) = self.module(number) else {
+            return Err(Refusal::UnknownModule);
+        };
+        if !held.core {
+            return Err(Refusal::NotLoaded);
+        }
+        let starts = module.starts_of(true, held.init);
+        erasing(*self.modules.allocator(), starts.as_slice())
+    }
+
+    /// The update that ends a module's start: its init regions are taken out.
+    ///
+    /// Refused by [`Refusal::UnknownModule`], else by [`Refusal::NotLoaded`] where its core is not held, else by
+    /// [`Refusal::NoInit`] where no init region of it is, else by [`Refusal::OutOfMemory`]. One region takes no memory.
+    pub fn drop_init(&self, number: u64, held: Held) -> Result<Update, Refusal>
+        ensures { GivesOrLacksMemory (drop_init_of self.now number held) result }
+    {
+        let Some(module) = self.module(number) else {
+            return Err(Refusal::UnknownModule);
+        };
+        if !held.core {
+            return Err(Refusal::NotLoaded);
+        }
+        if !(held.init && module.has_init()) {
+            return Err(Refusal::NoInit);
+        }
+        let starts = module.starts_of(false, true);
+        erasing(*self.modules.allocator(), starts.as_slice())
+    }
+
+    /// Whether [`Catalog::load`] gives this update, whatever is held. It takes no memory.
+    pub fn gives_load(&self, number: u64, update: &Update) -> bool
+        ensures { IsTrue result ↔ GivesSome (load_of self.now number) update.now }
+    {
+        let Some(module) = self.module(number) else {
+            return false;
+        };
+        is_inserting(module.regions(), number, update)
+    }
+
+    /// Whether [`Catalog::unload`] gives this update, whatever is held. It takes no memory.
+    pub fn gives_unload(&self, number: u64, update: &Update) -> bool
+        ensures { IsTrue result ↔ GivesSome (unload_of self.now number) update.now }
+    {
+        let Some(module) = self.module(number) else {
+            return false;
+        };
+        is_erasing(module.starts_of(true, false).as_slice(), update)
+            || is_erasing(module.starts_of(true, true).as_slice(), update)
+    }
+
+    /// Whether [`Catalog::drop_init`] gives this update, whatever is held. It takes no memory.
+    pub fn gives_drop_init(&self, number: u64, update: &Update) -> bool
+        ensures { IsTrue result ↔ GivesSome (drop_init_of self.now number) update.now }
+    {
+        let Some(module) = self.module(number) else {
+            return false;
+        };
+        module.has_init() && is_erasing(module.starts_of(false, true).as_slice(), update)
     }
 }

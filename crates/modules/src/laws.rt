@@ -21,7 +21,7 @@ pub fn each_kept_line_is_in_one_module()
     ensures { (names : BoundNames) (modules : List ListedModule) (regions : List ListedRegion) (symbols : List ListedSymbol)
         → All (λ l. fits l ≡ true) modules → All (λ l. region_fits l ≡ true) regions → are_few regions ≡ true
         → let c = catalog_of names modules regions symbols in
-          sum_by (λ m. length m.symbols) (entries_of c) ≡ (counts_of names modules regions symbols).symbols }
+        sum_by (λ m. length m.symbols) (entries_of c) ≡ (counts_of names modules regions symbols).symbols }
 {}
 
 /// In the catalog of lines that fit, each module has 1 to 7 regions and one of its core, the regions have addresses and

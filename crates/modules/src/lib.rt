@@ -7,6 +7,7 @@ pub mod catalog;
 mod gathering;
 pub mod laws;
 pub mod lines;
+mod loads;
 pub mod module;
 mod names;
 mod placing;
@@ -14,9 +15,8 @@ mod regions;
 pub mod symbol_lines;
 pub mod symbols;
 
-pub use catalog::{BuildCounts, Catalog};
+pub use catalog::{BuildCounts, Catalog, Held};
 pub use lines::{KernelBounds, ModuleLine, Part, Region, RegionLine, SymbolLine};
 pub use module::{MOST_REGIONS, Module};
 pub use symbol_lines::SymbolLines;
 pub use symbols::Symbol;
-

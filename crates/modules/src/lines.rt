@@ -2,7 +2,7 @@
 
 ghost use Rattle.std.specs.Prelude.{◌≡◌, true};
 ghost use Rattle.modules.specs.Lines.{fits, region_of, region_fits, bounds_of, is_region, usual_bounds};
-ghost use Rattle.modules.specs.Parts.{is_core, is_init};
+ghost use Rattle.modules.specs.Parts.{is_core, is_init, is_of};
 
 use std::marker::Model;
 
@@ -75,6 +75,16 @@ impl Part {
         ensures { result ≡ is_init self }
     {
         matches!(self, Part::Init)
+    }
+
+    /// Whether it is one of the parts that are asked for.
+    pub(crate) fn is_of(self, core: bool, init: bool) -> bool
+        ensures { result ≡ is_of core init self }
+    {
+        match self {
+            Part::Core => core,
+            Part::Init => init,
+        }
     }
 }
 

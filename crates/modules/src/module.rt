@@ -1,15 +1,17 @@
 //! A module: its name, where it lies, and its symbols.
 
 ghost use Rattle.std.specs.Prelude.{◌≡◌, ◌≤◌, length, position, IfOk};
+ghost use Rattle.std.specs.List.{list_any};
 ghost use Rattle.std.specs.Option.{option_copied};
 ghost use Rattle.modules.specs.Around.{symbol_below, address_above};
 ghost use Rattle.modules.specs.Index.{IsOrdered};
 ghost use Rattle.modules.specs.Building.{module_with, place_of};
 ghost use Rattle.modules.specs.Parts.{is_core, is_init};
 ghost use Rattle.modules.specs.Placed.{IsPlaced};
-ghost use Rattle.modules.specs.Starts.{first_start, start_at, start_where};
+ghost use Rattle.modules.specs.Starts.{first_start, start_at, start_where, starts_of};
 
 use crate::lines::{Part, Region};
+use crate::loads::starts_of;
 use crate::placing::Placed;
 use crate::symbols::{
     IndexEntry, Symbol, around_as_listed, around_in_index, by_address, is_rising,
@@ -103,6 +105,12 @@ fn init_start(regions: &[Region], parts: &[Part]) -> Option<u64>
     start_at(regions, place)
 }
 
+fn has_init(parts: &[Part]) -> bool
+    ensures { result ≡ list_any is_init parts.now }
+{
+    parts.iter().any(|part| part.is_init())
+}
+
 impl<'a> Module<'a> {
     pub(crate) fn new(
         alloc: Global,
@@ -152,7 +160,24 @@ impl<'a> Module<'a> {
         let Some(core) = core_start(self.regions.as_slice(), self.parts.as_slice()) else {
             unreachable!();
         };
-        (core, init_start(self.regions.as_slice(), self.parts.as_slice()))
+        (
+            core,
+            init_start(self.regions.as_slice(), self.parts.as_slice()),
+        )
+    }
+
+    /// The first addresses of its core regions, where `core` asks for them, and of its init regions, where `init` does.
+    pub(crate) fn starts_of(&self, core: bool, init: bool) -> ArrayVec<u64, MOST_REGIONS>
+        ensures { result.items ≡ starts_of core init self.now.regions self.now.parts }
+    {
+        starts_of(self.regions.as_slice(), self.parts.as_slice(), core, init)
+    }
+
+    /// Whether it has init regions.
+    pub(crate) fn has_init(&self) -> bool
+        ensures { result ≡ list_any is_init self.now.parts }
+    {
+        has_init(self.parts.as_slice())
     }
 
     /// The symbols that lie in the regions, in the order listed.

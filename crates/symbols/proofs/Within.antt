@@ -119,18 +119,16 @@ found_there p (y ∷ ys) x h P all =
     ] h
 
 nearest_parts : (symbols : List SymbolEntry) (addr : ℕ) (s : SymbolEntry) → is_nearest symbols addr s ≡ true → (s.addr ≤ addr) × All (λ t. (nat_le t.addr s.addr || nat_lt addr t.addr) ≡ true) symbols
-nearest_parts symbols addr s h =
-    (
-      le_from s.addr addr (first_of (nat_le s.addr addr) (list_all (λ (t : SymbolEntry). nat_le t.addr s.addr || nat_lt addr t.addr) symbols) h),
-      AllPass-from_list_all (λ (t : SymbolEntry). nat_le t.addr s.addr || nat_lt addr t.addr) symbols (second_of (nat_le s.addr addr) (list_all (λ (t : SymbolEntry). nat_le t.addr s.addr || nat_lt addr t.addr) symbols) h),
-    )
+nearest_parts symbols addr s h = (
+  le_from s.addr addr (first_of (nat_le s.addr addr) (list_all (λ (t : SymbolEntry). nat_le t.addr s.addr || nat_lt addr t.addr) symbols) h),
+  AllPass-from_list_all (λ (t : SymbolEntry). nat_le t.addr s.addr || nat_lt addr t.addr) symbols (second_of (nat_le s.addr addr) (list_all (λ (t : SymbolEntry). nat_le t.addr s.addr || nat_lt addr t.addr) symbols) h),
+)
 
 next_parts : (symbols : List SymbolEntry) (addr : ℕ) (s : SymbolEntry) → is_next symbols addr s ≡ true → (addr < s.addr) × All (λ t. (nat_le t.addr addr || nat_le s.addr t.addr) ≡ true) symbols
-next_parts symbols addr s h =
-    (
-      lt_from addr s.addr (first_of (nat_lt addr s.addr) (list_all (λ (t : SymbolEntry). nat_le t.addr addr || nat_le s.addr t.addr) symbols) h),
-      AllPass-from_list_all (λ (t : SymbolEntry). nat_le t.addr addr || nat_le s.addr t.addr) symbols (second_of (nat_lt addr s.addr) (list_all (λ (t : SymbolEntry). nat_le t.addr addr || nat_le s.addr t.addr) symbols) h),
-    )
+next_parts symbols addr s h = (
+  lt_from addr s.addr (first_of (nat_lt addr s.addr) (list_all (λ (t : SymbolEntry). nat_le t.addr addr || nat_le s.addr t.addr) symbols) h),
+  AllPass-from_list_all (λ (t : SymbolEntry). nat_le t.addr addr || nat_le s.addr t.addr) symbols (second_of (nat_lt addr s.addr) (list_all (λ (t : SymbolEntry). nat_le t.addr addr || nat_le s.addr t.addr) symbols) h),
+)
 
 near_le : (t s addr : ℕ) → (nat_le t s || nat_lt addr t) ≡ true → t ≤ addr → t ≤ s
 near_le t s addr h le = grind (arith, nat_tests)
