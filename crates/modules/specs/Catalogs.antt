@@ -1,8 +1,10 @@
 -- The catalog of the listings, and what is asked of it.
-use Rattle.std.specs.Prelude.{◌≡◌, ℕ, ◌+◌, zero, suc, Bool, not, if◌then◌else◌, List, ◌++◌, [], length, slice_get, map, count_by, codes, All, Option}
+use Rattle.std.specs.Prelude.{◌≡◌, ◌⊎◌, false, ℕ, ◌+◌, zero, suc, Bool, not, if◌then◌else◌, List, ◌++◌, [], length, slice_get, map, count_by, codes, All, Option}
 use Rattle.std.specs.List.{flat_map, position_from}
 use Rattle.std.specs.Option.{option_map, option_to_list}
 use Rattle.std.specs.Str.{bytes_eq}
+use Rattle.order_laws.specs.declared.refusals.Refusal.{Refusal}
+use Rattle.order_laws.specs.declared.refusals.Refusal.TheVariants.{OutOfMemory, TooManyRegions}
 use Rattle.modules.specs.Accepted.{Accepted, accepted_of}
 use Rattle.modules.specs.Building.{built_in_with, module_with, place_of}
 use Rattle.modules.specs.Entries.{CatalogEntries, ModuleEntry}
@@ -10,7 +12,7 @@ use Rattle.modules.specs.Kept.{AreDistinct, belongs, is_built_in, is_kept, is_us
 use Rattle.modules.specs.Lines.{built_in_region}
 use Rattle.modules.specs.Listed.{BoundNames, ListedModule, ListedRegion, ListedSymbol}
 use Rattle.modules.specs.Names.{names_in}
-use Rattle.modules.specs.Placed.{IsPlaced, PlacedModule}
+use Rattle.modules.specs.Placed.{IsPlaced, PlacedModule, are_few}
 use Rattle.modules.specs.Regions.{AreApart}
 use Rattle.modules.specs.declared.catalog.BuildCounts.{BuildCounts}
 
@@ -56,6 +58,11 @@ pub record IsSound (c : CatalogEntries) : Type 0 where
   pub placed : All (λ m. IsPlaced (place_of m)) (entries_of c)
   pub apart : AreApart (regions_of c)
   pub distinct : AreDistinct (names_in c.modules)
+
+-- want of memory, or more than seven region lines of one name
+abbrev pub IsBuildRefusal : List ListedRegion → Refusal → Type 0
+IsBuildRefusal regions e =
+    (e ≡ OutOfMemory) ⊎ ((e ≡ TooManyRegions) × (are_few regions ≡ false))
 
 -- number 0 is the kernel itself, and the others are numbered from 1 on
 abbrev pub module_of : CatalogEntries → ℕ → Option ModuleEntry

@@ -1,9 +1,9 @@
 //! The modules that may be loaded, and what a load or an unload changes.
 
-ghost use Rattle.std.specs.Prelude.{◌≡◌, ◌⊎◌, ◌↔◌, IsTrue, [], true, false, All, length, IfOk, IfErr};
+ghost use Rattle.std.specs.Prelude.{◌≡◌, ◌↔◌, IsTrue, [], true, All, length, IfOk, IfErr};
 ghost use Rattle.std.specs.Option.{option_copied};
 ghost use Rattle.modules.specs.Lines.{fits, region_fits, usual_bounds};
-ghost use Rattle.modules.specs.Catalogs.{catalog_of, counts_of, module_of, number_of, regions_of, IsSound};
+ghost use Rattle.modules.specs.Catalogs.{catalog_of, counts_of, IsBuildRefusal, module_of, number_of, regions_of, IsSound};
 ghost use Rattle.modules.specs.Loads.{drop_init_of, GivesOrLacksMemory, GivesSome, load_of, unload_of};
 ghost use Rattle.modules.specs.Placed.{are_few};
 
@@ -104,7 +104,7 @@ impl<'a> Catalog<'a> {
         ensures counted { IfOk result (λ r. r.1 ≡ counts_of usual_bounds modules.now regions.now symbols.now) }
         ensures sound { IfOk result (λ r. IsSound r.0) }
         ensures few { IfOk result (λ _. are_few regions.now ≡ true) }
-        ensures refused { IfErr result (λ e. (e ≡ Refusal.OutOfMemory) ⊎ ((e ≡ Refusal.TooManyRegions) × (are_few regions.now ≡ false))) }
+        ensures refused { IfErr result (IsBuildRefusal regions.now) }
     {
         Catalog::build_between(alloc, &KernelBounds::usual(), modules, regions, symbols)
     }
@@ -135,7 +135,7 @@ impl<'a> Catalog<'a> {
         ensures counted { IfOk result (λ r. r.1 ≡ counts_of names.now modules.now regions.now symbols.now) }
         ensures sound { IfOk result (λ r. IsSound r.0) }
         ensures few { IfOk result (λ _. are_few regions.now ≡ true) }
-        ensures refused { IfErr result (λ e. (e ≡ Refusal.OutOfMemory) ⊎ ((e ≡ Refusal.TooManyRegions) × (are_few regions.now ≡ false))) }
+        ensures refused { IfErr result (IsBuildRefusal regions.now) }
     {
         let regions = RegionLines::new(alloc, regions)?;
         if !regions.are_few() {

@@ -20,3 +20,6 @@ pub use lines::{KernelBounds, ModuleLine, Part, Region, RegionLine, SymbolLine};
 pub use module::{MOST_REGIONS, Module};
 pub use symbol_lines::SymbolLines;
 pub use symbols::Symbol;
+
+#[cfg(test)]
+mod tests;

@@ -118,38 +118,47 @@ fn module_of_three_regions(rt: &impl Abort, alloc: Global) -> Result<Catalog<'st
     Ok(catalog)
 }
 
+const M_CORE: Item = Item {
+    a: 0xffff_ffff_c040_0000,
+    b: 0xffff_ffff_c040_1000,
+    tag: 1,
+};
+
+const M_DATA: Item = Item {
+    a: 0xffff_ffff_c060_0000,
+    b: 0xffff_ffff_c060_1000,
+    tag: 1,
+};
+
+const M_INIT: Item = Item {
+    a: 0xffff_ffff_c070_0000,
+    b: 0xffff_ffff_c070_1000,
+    tag: 1,
+};
+
 // A symbol reaches no further than its region, and none of another region is below an address.
 #[test]
 fn texts_within_a_region(rt: HostRuntime) -> Result<(), Fail> {
     let catalog = module_of_three_regions(&rt, rt.alloc())?;
     let cases = [
         (
-            0xffff_ffff_c060_0000,
+            M_DATA,
             0xffff_ffff_c060_0104,
             b"m_data+0x4/0xf00 [m]".as_slice(),
         ),
+        (M_DATA, 0xffff_ffff_c060_0000, b"? [m]".as_slice()),
         (
-            0xffff_ffff_c060_0000,
-            0xffff_ffff_c060_0000,
-            b"? [m]".as_slice(),
-        ),
-        (
-            0xffff_ffff_c070_0000,
+            M_INIT,
             0xffff_ffff_c070_0000,
             b"m_init+0x0/0x1000 [m]".as_slice(),
         ),
         (
-            0xffff_ffff_c040_0000,
+            M_CORE,
             0xffff_ffff_c040_0fff,
             b"m_run+0xfff/0x1000 [m]".as_slice(),
         ),
     ];
-    for (start, addr, text) in cases {
-        let item = Item {
-            a: start,
-            b: start + 4096,
-            tag: 1,
-        };
+    for (item, addr, text) in cases {
         let mut writer = Counted::new(Vec::new(rt.alloc()));
         write_answer(&mut writer, &catalog, Some(item), addr)?;
         assert_eq!(rt; writer.into_inner().as_slice(), text);
