@@ -6,7 +6,7 @@
 #![tactic(auto)]
 
 use latch_core::Update;
-use modules::{Catalog, ModuleLine, SymbolLine, SymbolLines};
+use modules::{Catalog, Held, ModuleLine, SymbolLine, SymbolLines};
 use order_laws::Item;
 use std::alloc::{AllocError, Global};
 use std::io::{Eprint, Print};
@@ -123,8 +123,12 @@ fn symbol_lines<'a>(
 /// The items that the catalog's modules are loaded as.
 fn items(alloc: Global, catalog: &Catalog, count: u32) -> Result<Vec<Item>, AllocError> {
     let mut items = Vec::new(alloc);
+    let held = Held {
+        core: false,
+        init: false,
+    };
     for number in 1..=u64::from(count) {
-        if let Ok(Update::Insert(item)) = catalog.load(number, false) {
+        if let Ok(Update::Insert(item)) = catalog.load(number, held) {
             items.push(item)?;
         }
     }

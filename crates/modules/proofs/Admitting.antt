@@ -1,7 +1,7 @@
--- One more line of the listing of modules.
-use Rattle.std.proofs.Common.{◌≡◌, ℕ, ◌+◌, Bool, true, false, ◌&&◌, ◌||◌, cond, List, [], ◌∷◌, ◌++◌, length, Some, None, Option, refl, sym, ap, ◌∙◌, ⊎_elim, arith, length-append, add-zero, map}
+-- One more module.
+use Rattle.std.proofs.Common.{◌≡◌, ℕ, ◌+◌, Bool, true, false, ◌&&◌, ◌||◌, cond, List, [], ◌∷◌, ◌++◌, length, Some, None, Option, refl, sym, ap, ◌∙◌, ⊎_elim, arith, length-append, add-zero, add-one, map, take, drop, drop-cons, get_or, ◌<◌}
 use Rattle.std.specs.Prelude.{is_some}
-use Rattle.std.specs.List.{list_any, list_all, position_from}
+use Rattle.std.specs.List.{flat_map, list_any, list_all, position_from}
 use Rattle.std.specs.Option.{option_to_list}
 use Rattle.std.specs.Str.{bytes_eq}
 use Rattle.std.specs.Cmp.Lexicographic.{bytes_decides, slice_cmp}
@@ -9,22 +9,22 @@ use Rattle.std.proofs.lemmas.Bool.{cases_Bool, false_from_ne_true}
 use Rattle.std.specs.BTreeMap.{get_by}
 use Rattle.std.specs.Ordering.{nat_cmp}
 use Rattle.std.proofs.lemmas.List.{map-append, length-map}
-use Rattle.std.proofs.lemmas.List.Folds.{list_all-append}
-use Rattle.modules.specs.Accepted.{Accepted, after_line, names_of, taken}
-use Rattle.modules.specs.Listed.{ListedModule}
-use Rattle.modules.specs.Lines.{region_of}
-use Rattle.modules.specs.Regions.{is_apart}
+use Rattle.std.proofs.lemmas.List.Folds.{list_all-append, list_all_more}
+use Rattle.modules.specs.Accepted.{Accepted, after_module, names_of, taken}
+use Rattle.modules.specs.Placed.{PlacedModule}
+use Rattle.modules.specs.Regions.{are_beside, is_apart, lie_apart}
 use Rattle.modules.specs.Admissions.{shown, IsTied}
+use Rattle.modules.proofs.Soundness.{and_parts, both, taken_more, turned}
 use Rattle.modules.specs.declared.admission.Admission.{Admission}
 
-pub after_double : (a : Accepted) (line : ListedModule) → list_any (bytes_eq line.name) (names_of a.lines) ≡ true → after_line a line ≡ record a { double = a.double + 1 }
-after_double a line h = rw h
+pub after_double : (a : Accepted) (m : PlacedModule) → list_any (bytes_eq m.name) (names_of a.modules) ≡ true → after_module a m ≡ record a { double = a.double + 1 }
+after_double a m h = rw h
 
-pub after_overlap : (a : Accepted) (line : ListedModule) → list_any (bytes_eq line.name) (names_of a.lines) ≡ false → list_all (is_apart (region_of line)) (taken a) ≡ false → after_line a line ≡ record a { overlap = a.overlap + 1 }
-after_overlap a line h k = rw (h, k)
+pub after_overlap : (a : Accepted) (m : PlacedModule) → list_any (bytes_eq m.name) (names_of a.modules) ≡ false → (lie_apart m.regions && are_beside (taken a) m.regions) ≡ false → after_module a m ≡ record a { overlap = a.overlap + 1 }
+after_overlap a m h k = rw (h, k)
 
-pub after_accepted : (a : Accepted) (line : ListedModule) → list_any (bytes_eq line.name) (names_of a.lines) ≡ false → list_all (is_apart (region_of line)) (taken a) ≡ true → after_line a line ≡ record a { lines = a.lines ++ line ∷ [] }
-after_accepted a line h k = rw (h, k)
+pub after_accepted : (a : Accepted) (m : PlacedModule) → list_any (bytes_eq m.name) (names_of a.modules) ≡ false → (lie_apart m.regions && are_beside (taken a) m.regions) ≡ true → after_module a m ≡ record a { modules = a.modules ++ m ∷ [] }
+after_accepted a m h k = rw (h, k)
 
 -- a place is found exactly where some element passes
 pub is_some-position_from : {A : Type 0} (test : A → Bool) (i : ℕ) (xs : List A) → is_some (position_from test i xs) ≡ list_any test xs
@@ -67,57 +67,86 @@ placed_after names new name n absent last =
     same_place (bytes_eq new name) (bytes_eq name new) n (0 + length names) (position_from (bytes_eq name) 0 names) other back)
     (cases_Bool (bytes_eq new name)))
 
-turned_and : (x y z : Bool) → (z && (x && y)) ≡ (x && (y && (z && true)))
-turned_and true true true = refl
-turned_and true true false = refl
-turned_and true false true = refl
-turned_and true false false = refl
-turned_and false true true = refl
-turned_and false true false = refl
-turned_and false false true = refl
-turned_and false false false = refl
-
--- what all regions that are taken pass, once a line was accepted
-pub list_all-taken_after : (p : ℕ × ℕ → Bool) (a : Accepted) (line : ListedModule) (b : Bool) → b ≡ (p (region_of line) && list_all p (taken a)) → b ≡ list_all p (taken (record a { lines = a.lines ++ line ∷ [] }))
-list_all-taken_after p a line b h =
-    let front = option_to_list a.built_in in
-    let old : list_all p (taken a) ≡ (list_all p front && list_all p (map region_of a.lines)) = list_all-append p front (map region_of a.lines) in
-    let new : list_all p (front ++ (map region_of a.lines ++ region_of line ∷ [])) ≡ (list_all p front && (list_all p (map region_of a.lines) && (p (region_of line) && true))) = list_all-append p front (map region_of a.lines ++ region_of line ∷ []) ∙ ap (λ w. list_all p front && w) (list_all-append p (map region_of a.lines) (region_of line ∷ [])) in
-    let joined : map region_of (a.lines ++ line ∷ []) ≡ map region_of a.lines ++ region_of line ∷ [] = map-append region_of a.lines (line ∷ []) in
-    h ∙ ap (λ w. p (region_of line) && w) old ∙ turned_and (list_all p front) (list_all p (map region_of a.lines)) (p (region_of line)) ∙ sym new ∙ ap (λ w. list_all p (front ++ w)) (sym joined)
+-- what all regions that are taken pass, once a module was accepted
+pub list_all-taken_after : (p : ℕ × ℕ → Bool) (a : Accepted) (m : PlacedModule) → list_all p (taken (record a { modules = a.modules ++ m ∷ [] })) ≡ (list_all p (taken a) && list_all p m.regions)
+list_all-taken_after p a m = ap (list_all p) (taken_more a m) ∙ list_all-append p (taken a) m.regions
 
 -- how many lines were gone through
 abbrev pub total : Accepted → ℕ
-total a = a.double + a.overlap + length a.lines
+total a = a.double + a.overlap + length a.modules
 
-pub total-after_line : (a : Accepted) (line : ListedModule) → total (after_line a line) ≡ total a + 1
-total-after_line a line =
-    elim (list_any (bytes_eq line.name) (names_of a.lines)) as (λ b. total (cond b (record a { double = a.double + 1 }) (cond (list_all (is_apart (region_of line)) (taken a)) (record a { lines = a.lines ++ line ∷ [] }) (record a { overlap = a.overlap + 1 }))) ≡ total a + 1) [
+pub total-after_module : (a : Accepted) (m : PlacedModule) → total (after_module a m) ≡ total a + 1
+total-after_module a m =
+    elim (list_any (bytes_eq m.name) (names_of a.modules)) as (λ b. total (cond b (record a { double = a.double + 1 }) (cond (lie_apart m.regions && are_beside (taken a) m.regions) (record a { modules = a.modules ++ m ∷ [] }) (record a { overlap = a.overlap + 1 }))) ≡ total a + 1) [
       | true ↦ omega arith
-      | false ↦ elim (list_all (is_apart (region_of line)) (taken a)) as (λ b. total (cond b (record a { lines = a.lines ++ line ∷ [] }) (record a { overlap = a.overlap + 1 })) ≡ total a + 1) [
-        | true ↦ omega (arith, length-append a.lines (line ∷ []))
+      | false ↦ elim (lie_apart m.regions && are_beside (taken a) m.regions) as (λ b. total (cond b (record a { modules = a.modules ++ m ∷ [] }) (record a { overlap = a.overlap + 1 })) ≡ total a + 1) [
+        | true ↦ omega (arith, length-append a.modules (m ∷ []))
         | false ↦ omega arith
       ]
     ]
 
--- what the map of names and the regions answer is what the definitions ask
-pub found_in : (a : Admission) → IsTied a → (name query : List ℕ) (r : Bool) → r ≡ is_some (get_by (λ k. slice_cmp nat_cmp query k.now) a.places) → query ≡ name → list_any (bytes_eq name) (names_of (shown a).lines) ≡ r
+-- what the map of names answers is what the definitions ask
+pub found_in : (a : Admission) → IsTied a → (name query : List ℕ) (r : Bool) → r ≡ is_some (get_by (λ k. slice_cmp nat_cmp query k.now) a.places) → query ≡ name → list_any (bytes_eq name) (names_of (shown a).modules) ≡ r
 found_in a tied name query r answers is =
-    sym (is_some-position_from (bytes_eq name) 0 (names_of (shown a).lines)) ∙ sym (ap is_some (tied.placed name)) ∙ ap (λ (w : List ℕ). is_some (get_by (λ k. slice_cmp nat_cmp w k.now) a.places)) (sym is) ∙ sym answers
+    sym (is_some-position_from (bytes_eq name) 0 (names_of (shown a).modules)) ∙ sym (ap is_some (tied.placed name)) ∙ ap (λ (w : List ℕ). is_some (get_by (λ k. slice_cmp nat_cmp w k.now) a.places)) (sym is) ∙ sym answers
 
-pub free_in : (a : Admission) → IsTied a → (region query : ℕ × ℕ) (r : Bool) → r ≡ list_all (is_apart query) a.taken → query ≡ region → list_all (is_apart region) (taken (shown a)) ≡ r
-free_in a tied region query r answers is = sym (tied.free (is_apart region)) ∙ ap (λ w. list_all (is_apart w) a.taken) (sym is) ∙ sym answers
+-- and so do the regions
+beside_as : (p : ℕ × ℕ → ℕ × ℕ → Bool) (xs ys rs : List (ℕ × ℕ)) → ((q : ℕ × ℕ → Bool) → list_all q xs ≡ list_all q ys) → list_all (λ r. list_all (p r) xs) rs ≡ list_all (λ r. list_all (p r) ys) rs
+beside_as p xs ys [] same = refl
+beside_as p xs ys (r ∷ rs) same = ap (λ b. b && list_all (λ x. list_all (p x) xs) rs) (same (p r)) ∙ ap (λ b. list_all (p r) ys && b) (beside_as p xs ys rs same)
 
--- the map of names and the regions once a line was accepted
-pub IsTied-accepted : (a : Admission) (line : ListedModule) → IsTied a → (n : Admission) → shown n ≡ record (shown a) { lines = (shown a).lines ++ line ∷ [] } → list_any (bytes_eq line.name) (names_of (shown a).lines) ≡ false → (k : ℕ) → k ≡ length (shown a).lines
-    → ((name : List ℕ) → get_by (λ q. slice_cmp nat_cmp name q.now) n.places ≡ cond (bytes_eq line.name name) (Some k) (get_by (λ q. slice_cmp nat_cmp name q.now) a.places))
-    → ((p : ℕ × ℕ → Bool) → list_all p n.taken ≡ (p (region_of line) && list_all p a.taken))
+pub free_in : (a : Admission) → IsTied a → (regions : List (ℕ × ℕ)) → are_beside (taken (shown a)) regions ≡ are_beside a.taken regions
+free_in a tied regions = sym (beside_as is_apart a.taken (taken (shown a)) regions tied.free)
+
+-- the map of names and the regions once a module was accepted
+pub IsTied-accepted : (a : Admission) (m : PlacedModule) → IsTied a → (n : Admission) → shown n ≡ record (shown a) { modules = (shown a).modules ++ m ∷ [] } → list_any (bytes_eq m.name) (names_of (shown a).modules) ≡ false → (k : ℕ) → k ≡ length (shown a).modules
+    → ((name : List ℕ) → get_by (λ q. slice_cmp nat_cmp name q.now) n.places ≡ cond (bytes_eq m.name name) (Some k) (get_by (λ q. slice_cmp nat_cmp name q.now) a.places))
+    → ((p : ℕ × ℕ → Bool) → list_all p n.taken ≡ (list_all p a.taken && list_all p m.regions))
     → IsTied n
-IsTied-accepted a line tied n shows absent k last names regions =
+IsTied-accepted a m tied n shows absent k last names regions =
     record {
       placed = λ name.
-          let names_are : names_of (shown n).lines ≡ names_of (shown a).lines ++ line.name ∷ [] = ap (λ (s : Accepted). names_of s.lines) shows ∙ map-append (λ (l : ListedModule). l.name) (shown a).lines (line ∷ []) in
-          names name ∙ ap (λ (o : Option ℕ). cond (bytes_eq line.name name) (Some k) o) (tied.placed name) ∙ placed_after (names_of (shown a).lines) line.name name k absent (last ∙ sym (length-map (shown a).lines (λ (l : ListedModule). l.name))) ∙ ap (position_from (bytes_eq name) 0) (sym names_are);
+          let names_are : names_of (shown n).modules ≡ names_of (shown a).modules ++ m.name ∷ [] = ap (λ (s : Accepted). names_of s.modules) shows ∙ map-append (λ (l : PlacedModule). l.name) (shown a).modules (m ∷ []) in
+          names name ∙ ap (λ (o : Option ℕ). cond (bytes_eq m.name name) (Some k) o) (tied.placed name) ∙ placed_after (names_of (shown a).modules) m.name name k absent (last ∙ sym (length-map (shown a).modules (λ (l : PlacedModule). l.name))) ∙ ap (position_from (bytes_eq name) 0) (sym names_are);
       free = λ p.
-          list_all-taken_after p (shown a) line (list_all p n.taken) (regions p ∙ ap (λ w. p (region_of line) && w) (tied.free p)) ∙ ap (λ s. list_all p (taken s)) (sym shows);
+          regions p ∙ ap (λ w. w && list_all p m.regions) (tied.free p) ∙ sym (list_all-taken_after p (shown a) m) ∙ ap (λ (s : Accepted). list_all p (taken s)) (sym shows);
+    }
+
+-- ---- the regions of a module, taken one after the other
+
+last_first : (x y z : Bool) → (z && (x && y)) ≡ (x && (y && z))
+last_first true true true = refl
+last_first true true false = refl
+last_first true false true = refl
+last_first true false false = refl
+last_first false true true = refl
+last_first false true false = refl
+last_first false false true = refl
+last_first false false false = refl
+
+beside_next : (now next : List (ℕ × ℕ)) (r : ℕ × ℕ) (rs : List (ℕ × ℕ)) → ((p : ℕ × ℕ → Bool) → list_all p next ≡ (p r && list_all p now)) → list_all (is_apart r) rs ≡ true → are_beside now rs ≡ true → are_beside next rs ≡ true
+beside_next now next r [] more apart beside = refl
+beside_next now next r (x ∷ xs) more apart beside =
+    let aparts = and_parts (is_apart r x) (list_all (is_apart r) xs) apart in
+    let besides = and_parts (list_all (is_apart x) now) (are_beside now xs) beside in
+    both (list_all (is_apart x) next) (are_beside next xs)
+    (more (is_apart x) ∙ both (is_apart x r) (list_all (is_apart x) now) (turned r x aparts.0) besides.0)
+    (beside_next now next r xs more aparts.1 besides.1)
+
+pub record IsTaking (old now : List (ℕ × ℕ)) (i : ℕ) (rs : List (ℕ × ℕ)) : Type 0 where
+  pub apart : lie_apart (drop i rs) ≡ true
+  pub beside : are_beside now (drop i rs) ≡ true
+  pub all : (p : ℕ × ℕ → Bool) → list_all p now ≡ (list_all p old && list_all p (take i rs))
+
+pub taking : (old now next : List (ℕ × ℕ)) (i : ℕ) (rs : List (ℕ × ℕ)) (d : ℕ × ℕ) → i < length rs → IsTaking old now i rs → ((p : ℕ × ℕ → Bool) → list_all p next ≡ (p (get_or rs i d) && list_all p now)) → IsTaking old next (i + 1) rs
+taking old now next i rs d lt before more =
+    let r : ℕ × ℕ = get_or rs i d in
+    let rest : List (ℕ × ℕ) = drop (i + 1) rs in
+    let opened : drop i rs ≡ r ∷ rest = rw (add-one) (drop-cons rs i d lt) in
+    let lies = and_parts (list_all (is_apart r) rest) (lie_apart rest) (sym (ap lie_apart opened) ∙ before.apart) in
+    let besides = and_parts (list_all (is_apart r) now) (are_beside now rest) (sym (ap (are_beside now) opened) ∙ before.beside) in
+    record {
+      apart = lies.1;
+      beside = beside_next now next r rest more lies.0 besides.1;
+      all = λ p. more p ∙ ap (λ b. p r && b) (before.all p) ∙ last_first (list_all p old) (list_all p (take i rs)) (p r) ∙ ap (λ b. list_all p old && b) (sym (list_all_more p rs i d lt));
     }

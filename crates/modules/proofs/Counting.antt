@@ -9,22 +9,24 @@ use Rattle.std.proofs.lemmas.Bool.{false_from_ne_true}
 use Rattle.std.proofs.lemmas.List.{length-map, get_or-map}
 use Rattle.std.proofs.lemmas.List.Sums.{sum_by-append}
 use Rattle.std.proofs.lemmas.List.Folds.{list_any_none}
-use Rattle.modules.specs.Accepted.{Accepted, accepted_of, after_line, names_of, none_yet}
+use Rattle.modules.specs.Accepted.{Accepted, accepted_of, after_module, names_of, none_yet}
 use Rattle.modules.specs.Catalogs.{built_in_of, catalog_of, counts_of, entries_of, entry_for}
 use Rattle.modules.specs.Entries.{ModuleEntry}
-use Rattle.modules.specs.Kept.{AreDistinct, belongs, entry_of, is_built_in, is_kept, symbols_that}
-use Rattle.modules.specs.Lines.{built_in_region, fits, region_of}
-use Rattle.modules.specs.Listed.{ListedModule, ListedSymbol}
+use Rattle.modules.specs.Building.{kernel_at}
+use Rattle.modules.specs.Kept.{AreDistinct, belongs, entry_of, is_built_in, is_kept, is_used, lies_in, symbols_that}
+use Rattle.modules.specs.Lines.{built_in_region, fits, region_fits}
+use Rattle.modules.specs.Listed.{BoundNames, ListedModule, ListedRegion, ListedSymbol}
+use Rattle.modules.specs.Placed.{PlacedModule, are_few, placed}
 use Rattle.modules.specs.Regions.{holds}
-use Rattle.modules.proofs.Admitting.{total, total-after_line}
+use Rattle.modules.proofs.Admitting.{total, total-after_module}
 use Rattle.modules.proofs.Soundness.{IsGood, accepted_good, built_in_kept}
 
-pub total-fold : (a : Accepted) (lines : List ListedModule) → total (fold after_line a lines) ≡ total a + length lines
+pub total-fold : (a : Accepted) (ms : List PlacedModule) → total (fold after_module a ms) ≡ total a + length ms
 total-fold a [] = omega arith
-total-fold a (line ∷ lines) = omega (arith, total-fold (after_line a line) lines, total-after_line a line)
+total-fold a (m ∷ ms) = omega (arith, total-fold (after_module a m) ms, total-after_module a m)
 
-pub modules_counted : (modules : List ListedModule) (symbols : List ListedSymbol) → (counts_of modules symbols).modules + (counts_of modules symbols).double + (counts_of modules symbols).overlap ≡ length modules
-modules_counted modules symbols = omega (arith, total-fold (none_yet (built_in_region symbols)) modules)
+pub modules_counted : (names : BoundNames) (modules : List ListedModule) (regions : List ListedRegion) (symbols : List ListedSymbol) → let n = counts_of names modules regions symbols in n.modules + n.double + n.overlap ≡ length modules
+modules_counted names modules regions symbols = omega (arith, total-fold (none_yet (built_in_region names symbols)) (map (placed regions) modules), length-map modules (placed regions))
 
 -- one element more at the front
 pub sum_cons : {A : Type 0} (f : A → ℕ) (x : A) (xs : List A) → sum_by f (x ∷ xs) ≡ f x + sum_by f xs
@@ -38,8 +40,11 @@ pub count_by-both : {A : Type 0} (p : A → Bool) (xs : List A) → count_by p x
 count_by-both p [] = omega arith
 count_by-both p (x ∷ xs) = omega (arith, count_by-both p xs, tested_both (p x), sum_cons (λ y. cond (p y) 1 0) x xs, sum_cons (λ y. cond (not (p y)) 1 0) x xs)
 
-pub symbols_counted : (modules : List ListedModule) (symbols : List ListedSymbol) → (counts_of modules symbols).symbols + (counts_of modules symbols).stray ≡ length symbols
-symbols_counted modules symbols = count_by-both (is_kept (accepted_of (built_in_region symbols) modules)) symbols
+pub symbols_counted : (names : BoundNames) (modules : List ListedModule) (regions : List ListedRegion) (symbols : List ListedSymbol) → let n = counts_of names modules regions symbols in n.symbols + n.stray ≡ length symbols
+symbols_counted names modules regions symbols = count_by-both (is_kept (accepted_of (built_in_region names symbols) regions modules)) symbols
+
+pub regions_counted : (names : BoundNames) (modules : List ListedModule) (regions : List ListedRegion) (symbols : List ListedSymbol) → let n = counts_of names modules regions symbols in n.regions + n.stray_regions ≡ length regions
+regions_counted names modules regions symbols = count_by-both (is_used (accepted_of (built_in_region names symbols) regions modules) regions) regions
 
 -- ---- each kept line is in one module
 
@@ -55,7 +60,7 @@ length-symbols_that : (p : ListedSymbol → Bool) (symbols : List ListedSymbol) 
 length-symbols_that p symbols = length-map (filter p symbols) entry_of ∙ length-filter_by p symbols
 
 -- how many modules a symbol belongs to
-abbrev pub homes : List ListedModule → ListedSymbol → ℕ
+abbrev pub homes : List PlacedModule → ListedSymbol → ℕ
 homes lines s = count_by (λ m. belongs m s) lines
 
 zero_for_all : (xs : List ListedSymbol) → sum_by (homes []) xs ≡ 0
@@ -71,7 +76,7 @@ sum_agree f g [] same = refl
 sum_agree f g (x ∷ xs) same = omega (arith, sum_agree f g xs same, same x, sum_cons f x xs, sum_cons g x xs)
 
 -- the symbols of all modules, counted by symbol
-pub symbols_by_home : (lines : List ListedModule) (symbols : List ListedSymbol) → sum_by (λ m. count_by (belongs m) symbols) lines ≡ sum_by (homes lines) symbols
+pub symbols_by_home : (lines : List PlacedModule) (symbols : List ListedSymbol) → sum_by (λ m. count_by (belongs m) symbols) lines ≡ sum_by (homes lines) symbols
 symbols_by_home [] symbols = sym (zero_for_all symbols)
 symbols_by_home (m ∷ ms) symbols =
     omega (
@@ -94,23 +99,23 @@ named None m n differ h = refl
 named (Some name) m n differ h = false_from_ne_true (bytes_eq name n) (λ same. differ (sym ((bytes_decides name m).0 h) ∙ (bytes_decides name n).0 same))
 
 -- a symbol belongs to modules of one name alone
-other_name : (m n : ListedModule) (s : ListedSymbol) → m.name ≢ n.name → belongs m s ≡ true → belongs n s ≡ false
+other_name : (m n : PlacedModule) (s : ListedSymbol) → m.name ≢ n.name → belongs m s ≡ true → belongs n s ≡ false
 other_name m n s differ h =
-    first_false (option_map_or (λ name. bytes_eq name n.name) s.owner false) (holds (region_of n) s.addr)
-    (named s.owner m.name n.name differ (both_parts (option_map_or (λ name. bytes_eq name m.name) s.owner false) (holds (region_of m) s.addr) h))
+    first_false (option_map_or (λ name. bytes_eq name n.name) s.owner false) (lies_in n s.addr)
+    (named s.owner m.name n.name differ (both_parts (option_map_or (λ name. bytes_eq name m.name) s.owner false) (lies_in m s.addr) h))
 
-no_home_left : (m : ListedModule) (ms : List ListedModule) (s : ListedSymbol) → AreDistinct (names_of (m ∷ ms)) → belongs m s ≡ true → list_any (λ n. belongs n s) ms ≡ false
-no_home_left m ms s distinct h = list_any_none (λ (n : ListedModule). belongs n s) ms (λ k d lt.
-    other_name m (get_or ms k d) s (λ same. distinct 0 (suc k) d.name (omega arith) (let n : length (names_of ms) ≡ length ms = length-map ms (λ (l : ListedModule). l.name) in omega arith) (same ∙ sym (get_or-map (λ (l : ListedModule). l.name) ms k d d.name lt))) h)
+no_home_left : (m : PlacedModule) (ms : List PlacedModule) (s : ListedSymbol) → AreDistinct (names_of (m ∷ ms)) → belongs m s ≡ true → list_any (λ n. belongs n s) ms ≡ false
+no_home_left m ms s distinct h = list_any_none (λ (n : PlacedModule). belongs n s) ms (λ k d lt.
+    other_name m (get_or ms k d) s (λ same. distinct 0 (suc k) d.name (omega arith) (let n : length (names_of ms) ≡ length ms = length-map ms (λ (l : PlacedModule). l.name) in omega arith) (same ∙ sym (get_or-map (λ (l : PlacedModule). l.name) ms k d d.name lt))) h)
 
-distinct_tail : (m : ListedModule) (ms : List ListedModule) → AreDistinct (names_of (m ∷ ms)) → AreDistinct (names_of ms)
+distinct_tail : (m : PlacedModule) (ms : List PlacedModule) → AreDistinct (names_of (m ∷ ms)) → AreDistinct (names_of ms)
 distinct_tail m ms distinct = λ i j d lt within. distinct (suc i) (suc j) d (omega arith) (omega arith)
 
 none_of_both : (a b : Bool) → (a || b) ≡ false → (a ≡ false) × (b ≡ false)
 none_of_both true b h = absurd (cc)
 none_of_both false b h = (refl, h)
 
-count_of_none : (ms : List ListedModule) (s : ListedSymbol) → list_any (λ n. belongs n s) ms ≡ false → homes ms s ≡ 0
+count_of_none : (ms : List PlacedModule) (s : ListedSymbol) → list_any (λ n. belongs n s) ms ≡ false → homes ms s ≡ 0
 count_of_none [] s h = refl
 count_of_none (m ∷ ms) s h =
     let both = none_of_both (belongs m s) (list_any (λ n. belongs n s) ms) h in
@@ -122,16 +127,16 @@ one_or_rest : (a b : Bool) (n : ℕ) → n ≡ cond b 1 0 → (a ≡ true → n 
 one_or_rest true b n rest none = let zero_is : n ≡ 0 = none refl in omega arith
 one_or_rest false b n rest none = omega (arith, rest)
 
-one_home : (lines : List ListedModule) (s : ListedSymbol) → AreDistinct (names_of lines) → homes lines s ≡ cond (list_any (λ m. belongs m s) lines) 1 0
+one_home : (lines : List PlacedModule) (s : ListedSymbol) → AreDistinct (names_of lines) → homes lines s ≡ cond (list_any (λ m. belongs m s) lines) 1 0
 one_home [] s distinct = refl
 one_home (m ∷ ms) s distinct =
     sum_cons (λ n. cond (belongs n s) 1 0) m ms ∙ one_or_rest (belongs m s) (list_any (λ n. belongs n s) ms) (homes ms s) (one_home ms s (distinct_tail m ms distinct)) (λ h. count_of_none ms s (no_home_left m ms s distinct h))
 
 -- a symbol of the kernel itself belongs to no module
-abbrev pub without_owner : Option (List ℕ) → ℕ → ListedModule → Bool
-without_owner owner addr m = option_map_or (λ name. bytes_eq name m.name) owner false && holds (region_of m) addr
+abbrev pub without_owner : Option (List ℕ) → ℕ → PlacedModule → Bool
+without_owner owner addr m = option_map_or (λ name. bytes_eq name m.name) owner false && lies_in m addr
 
-unowned : (owner : Option (List ℕ)) (addr : ℕ) (ms : List ListedModule) → is_none owner ≡ true → list_any (without_owner owner addr) ms ≡ false
+unowned : (owner : Option (List ℕ)) (addr : ℕ) (ms : List PlacedModule) → is_none owner ≡ true → list_any (without_owner owner addr) ms ≡ false
 unowned None addr ms h = list_any_none (without_owner None addr) ms (λ k d lt. refl)
 unowned (Some name) addr ms h = absurd (cc)
 
@@ -142,23 +147,23 @@ kept_one false true h = refl
 kept_one false false h = refl
 
 -- each kept symbol is counted once
-pub kept_by_home : (built_in : Option (ℕ × ℕ)) (a : Accepted) (symbols : List ListedSymbol) → a.built_in ≡ built_in → AreDistinct (names_of a.lines) → count_by (is_built_in built_in) symbols + sum_by (homes a.lines) symbols ≡ count_by (is_kept a) symbols
+pub kept_by_home : (built_in : Option (ℕ × ℕ)) (a : Accepted) (symbols : List ListedSymbol) → a.built_in ≡ built_in → AreDistinct (names_of a.modules) → count_by (is_built_in built_in) symbols + sum_by (homes a.modules) symbols ≡ count_by (is_kept a) symbols
 kept_by_home built_in a [] same distinct = omega arith
 kept_by_home built_in a (s ∷ symbols) same distinct =
-    let one : homes a.lines s ≡ cond (list_any (λ m. belongs m s) a.lines) 1 0 = one_home a.lines s distinct in
-    let apart : is_built_in a.built_in s ≡ true → list_any (λ m. belongs m s) a.lines ≡ false = λ h. unowned s.owner s.addr a.lines (both_parts (is_none s.owner) (option_map_or (λ r. holds r s.addr) a.built_in false) h) in
-    let this : cond (is_built_in built_in s) 1 0 + cond (list_any (λ m. belongs m s) a.lines) 1 0 ≡ cond (is_kept a s) 1 0 = ap (λ (b : Option (ℕ × ℕ)). cond (is_built_in b s) 1 0 + cond (list_any (λ m. belongs m s) a.lines) 1 0) (sym same) ∙ kept_one (is_built_in a.built_in s) (list_any (λ m. belongs m s) a.lines) apart in
+    let one : homes a.modules s ≡ cond (list_any (λ m. belongs m s) a.modules) 1 0 = one_home a.modules s distinct in
+    let apart : is_built_in a.built_in s ≡ true → list_any (λ m. belongs m s) a.modules ≡ false = λ h. unowned s.owner s.addr a.modules (both_parts (is_none s.owner) (option_map_or (λ r. holds r s.addr) a.built_in false) h) in
+    let this : cond (is_built_in built_in s) 1 0 + cond (list_any (λ m. belongs m s) a.modules) 1 0 ≡ cond (is_kept a s) 1 0 = ap (λ (b : Option (ℕ × ℕ)). cond (is_built_in b s) 1 0 + cond (list_any (λ m. belongs m s) a.modules) 1 0) (sym same) ∙ kept_one (is_built_in a.built_in s) (list_any (λ m. belongs m s) a.modules) apart in
     omega (
       arith,
       one,
       this,
       kept_by_home built_in a symbols same distinct,
       sum_cons (λ x. cond (is_built_in built_in x) 1 0) s symbols,
-      sum_cons (homes a.lines) s symbols,
+      sum_cons (homes a.modules) s symbols,
       sum_cons (λ x. cond (is_kept a x) 1 0) s symbols,
     )
 
-sum_of_modules : (symbols : List ListedSymbol) (lines : List ListedModule) → sum_by (λ (m : ModuleEntry). length m.symbols) (map (entry_for symbols) lines) ≡ sum_by (λ m. count_by (belongs m) symbols) lines
+sum_of_modules : (symbols : List ListedSymbol) (lines : List PlacedModule) → sum_by (λ (m : ModuleEntry). length m.symbols) (map (entry_for symbols) lines) ≡ sum_by (λ m. count_by (belongs m) symbols) lines
 sum_of_modules symbols [] = refl
 sum_of_modules symbols (m ∷ ms) = omega (arith, length-symbols_that (belongs m) symbols, sum_of_modules symbols ms, sum_cons (λ (e : ModuleEntry). length e.symbols) (entry_for symbols m) (map (entry_for symbols) ms), sum_cons (λ n. count_by (belongs n) symbols) m ms)
 
@@ -171,15 +176,16 @@ none_built_in [] = refl
 none_built_in (s ∷ symbols) = omega (arith, none_built_in symbols, never_built_in (is_none s.owner), sum_cons (λ x. cond (is_built_in None x) 1 0) s symbols)
 
 abbrev pub kernel : ℕ × ℕ → List ListedSymbol → ModuleEntry
-kernel r symbols = record { name = codes "-"; regions = r ∷ []; symbols = symbols_that (is_built_in (Some r)) symbols }
+kernel r symbols = record { name = codes "-"; regions = r ∷ []; parts = (kernel_at r).parts; symbols = symbols_that (is_built_in (Some r)) symbols }
 
-sum_of_entries : (built_in : Option (ℕ × ℕ)) (symbols : List ListedSymbol) (lines : List ListedModule) → sum_by (λ (m : ModuleEntry). length m.symbols) (option_to_list (built_in_of built_in symbols) ++ map (entry_for symbols) lines) ≡ count_by (is_built_in built_in) symbols + sum_by (λ m. count_by (belongs m) symbols) lines
+sum_of_entries : (built_in : Option (ℕ × ℕ)) (symbols : List ListedSymbol) (lines : List PlacedModule) → sum_by (λ (m : ModuleEntry). length m.symbols) (option_to_list (built_in_of built_in symbols) ++ map (entry_for symbols) lines) ≡ count_by (is_built_in built_in) symbols + sum_by (λ m. count_by (belongs m) symbols) lines
 sum_of_entries None symbols lines = omega (arith, none_built_in symbols, sum_of_modules symbols lines)
 sum_of_entries (Some r) symbols lines = omega (arith, length-symbols_that (is_built_in (Some r)) symbols, sum_of_modules symbols lines, sum_cons (λ (e : ModuleEntry). length e.symbols) (kernel r symbols) (map (entry_for symbols) lines))
 
-pub kept_in_one : (modules : List ListedModule) (symbols : List ListedSymbol) → All (λ l. fits l ≡ true) modules → sum_by (λ m. length m.symbols) (entries_of (catalog_of modules symbols)) ≡ (counts_of modules symbols).symbols
-kept_in_one modules symbols fit =
-    let built_in : Option (ℕ × ℕ) = built_in_region symbols in
-    let a : Accepted = accepted_of built_in modules in
-    let good : IsGood a = accepted_good modules symbols fit in
-    sum_of_entries built_in symbols a.lines ∙ ap (λ n. count_by (is_built_in built_in) symbols + n) (symbols_by_home a.lines symbols) ∙ kept_by_home built_in a symbols (built_in_kept (none_yet built_in) modules) good.distinct
+pub kept_in_one : (names : BoundNames) (modules : List ListedModule) (regions : List ListedRegion) (symbols : List ListedSymbol) → All (λ l. fits l ≡ true) modules → All (λ l. region_fits l ≡ true) regions → are_few regions ≡ true
+    → sum_by (λ m. length m.symbols) (entries_of (catalog_of names modules regions symbols)) ≡ (counts_of names modules regions symbols).symbols
+kept_in_one names modules regions symbols fit regions_fit few =
+    let built_in : Option (ℕ × ℕ) = built_in_region names symbols in
+    let a : Accepted = accepted_of built_in regions modules in
+    let good : IsGood a = accepted_good names modules regions symbols fit regions_fit few in
+    sum_of_entries built_in symbols a.modules ∙ ap (λ n. count_by (is_built_in built_in) symbols + n) (symbols_by_home a.modules symbols) ∙ kept_by_home built_in a symbols (built_in_kept (none_yet built_in) (map (placed regions) modules)) good.distinct

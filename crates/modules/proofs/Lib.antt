@@ -1,5 +1,8 @@
 pub mod Spreading
+pub mod Grouping
+pub mod Lying
 pub mod Admitting
+pub mod Starting
 pub mod Indexing
 pub mod Rising
 pub mod Running
@@ -10,3 +13,4 @@ pub mod Naming
 pub mod Soundness
 pub mod Makings
 pub mod Counting
+pub mod Loading

@@ -1,5 +1,5 @@
--- The accepted lines have distinct names and regions that lie apart.
-use Rattle.std.proofs.Common.{◌≡◌, ◌≢◌, ℕ, ◌+◌, ◌^◌, ◌<◌, ◌≤◌, true, false, ◌&&◌, nat_lt, nat_eq, not, cond, List, [], ◌∷◌, ◌++◌, length, get_or, map, Some, None, Option, refl, sym, ap, ◌∙◌, subst, arith, append_assoc, length-append}
+-- The accepted modules have distinct names and regions that lie apart.
+use Rattle.std.proofs.Common.{◌≡◌, ◌≢◌, ℕ, ◌+◌, ◌^◌, ◌<◌, ◌≤◌, Bool, true, false, ◌&&◌, nat_lt, nat_eq, not, cond, List, [], ◌∷◌, ◌++◌, length, get_or, map, Some, None, Option, refl, sym, ap, ◌∙◌, subst, arith, append_assoc, length-append}
 use Rattle.std.specs.Prelude.{All, IfSome, fold, is_some, codes}
 use Rattle.std.specs.Cmp.Lexicographic.{bytes_decides}
 use Rattle.std.specs.List.{AllPairs, flat_map, list_any, list_all}
@@ -7,34 +7,39 @@ use Rattle.std.specs.Option.{option_to_list, option_and_then}
 use Rattle.std.specs.Int.{from_bool}
 use Rattle.std.specs.Str.{bytes_eq}
 use Rattle.std.proofs.lemmas.Bool.Decides.{nat_tests}
-use Rattle.std.proofs.lemmas.List.{map-append}
+use Rattle.std.proofs.lemmas.List.{append-nil, map-append}
+use Rattle.std.proofs.lemmas.List.Concat.{flat_map-append}
 use Rattle.std.proofs.lemmas.List.Elements.{All-nil, All-push, All-head, All-tail, All-cons}
-use Rattle.std.proofs.lemmas.List.Folds.{list_any_at}
+use Rattle.std.proofs.lemmas.List.Folds.{list_all-append, list_any_at}
 use Rattle.std.proofs.lemmas.List.Quantifiers.{all_pairs_push}
 use Rattle.std.proofs.lemmas.List.Sums.{AllPass-from_list_all}
-use Rattle.modules.specs.Accepted.{Accepted, accepted_of, after_line, names_of, none_yet, taken}
+use Rattle.modules.specs.Accepted.{Accepted, accepted_of, after_module, names_of, none_yet, taken}
+use Rattle.modules.specs.Building.{built_in_with, kernel_at, place_of}
 use Rattle.modules.specs.Catalogs.{IsSound, built_in_of, catalog_of, entry_for, regions_of}
-use Rattle.modules.specs.Entries.{CatalogEntries, ModuleEntry}
+use Rattle.modules.specs.Entries.{CatalogEntries, ModuleEntry, SymbolEntry}
 use Rattle.modules.specs.Kept.{AreDistinct, is_built_in, symbols_that}
-use Rattle.modules.specs.Lines.{fits, first_address, region_of, built_in_region}
-use Rattle.modules.specs.Listed.{ListedModule, ListedSymbol}
+use Rattle.modules.specs.Lines.{fits, region_fits, first_address, built_in_region}
+use Rattle.modules.specs.Listed.{BoundNames, ListedModule, ListedRegion, ListedSymbol}
 use Rattle.modules.specs.Names.{names_in}
-use Rattle.modules.specs.Regions.{AreApart, is_apart}
+use Rattle.modules.specs.Placed.{IsPlaced, PlacedModule, are_few, placed}
+use Rattle.modules.specs.Regions.{AreApart, are_beside, is_apart, lie_apart}
+use Rattle.modules.proofs.Lying.{IsPlaced-placed}
 
--- what the accepted lines keep
+-- what the accepted modules keep
 pub record IsGood (a : Accepted) : Type 0 where
-  pub fit : All (λ l. fits l ≡ true) a.lines
-  pub distinct : AreDistinct (names_of a.lines)
+  pub places : All IsPlaced a.modules
+  pub distinct : AreDistinct (names_of a.modules)
   pub apart : AreApart (taken a)
 
 pub turned : (r s : ℕ × ℕ) → is_apart r s ≡ true → is_apart s r ≡ true
 turned r s h = grind (arith, nat_tests)
 
-fits_parts : (base size : ℕ) → (not (nat_eq base 0) && not (nat_eq size 0) && nat_lt (base + size) (2 ^ 64)) ≡ true → (base < base + size) × (base + size < 2 ^ 64)
-fits_parts base size h = (grind (arith, nat_tests), grind (arith, nat_tests))
+pub and_parts : (a b : Bool) → (a && b) ≡ true → (a ≡ true) × (b ≡ true)
+and_parts true b h = (refl, h)
+and_parts false b h = absurd (cc)
 
-pub valid_region : (l : ListedModule) → fits l ≡ true → (region_of l).0 < (region_of l).1
-valid_region l h = (fits_parts l.base l.size h).0
+pub both : (a b : Bool) → a ≡ true → b ≡ true → (a && b) ≡ true
+both a b h k = rw (h, k)
 
 pub AreApart-push : (regions : List (ℕ × ℕ)) (r : ℕ × ℕ) → AreApart regions → r.0 < r.1 → list_all (is_apart r) regions ≡ true → AreApart (regions ++ r ∷ [])
 AreApart-push regions r apart valid beside =
@@ -49,30 +54,52 @@ AreDistinct-push names n distinct absent =
     let some : list_any (bytes_eq n) names ≡ true = list_any_at (bytes_eq n) names k d lt ((bytes_decides n (get_or names k d)).1 (sym same)) in
     cc)
 
-taken_more : (a : Accepted) (line : ListedModule) → taken (record a { lines = a.lines ++ line ∷ [] }) ≡ taken a ++ region_of line ∷ []
-taken_more a line = ap (λ rs. option_to_list a.built_in ++ rs) (map-append region_of a.lines (line ∷ [])) ∙ sym (append_assoc (option_to_list a.built_in) (map region_of a.lines) (region_of line ∷ []))
+-- regions that lie beside those taken still do once a region that is apart from them is taken too
+pub beside_more : (taken : List (ℕ × ℕ)) (r : ℕ × ℕ) (rs : List (ℕ × ℕ)) → are_beside taken rs ≡ true → list_all (is_apart r) rs ≡ true → are_beside (taken ++ r ∷ []) rs ≡ true
+beside_more taken r [] h k = refl
+beside_more taken r (x ∷ xs) h k =
+    let old = and_parts (list_all (is_apart x) taken) (are_beside taken xs) h in
+    let new = and_parts (is_apart r x) (list_all (is_apart r) xs) k in
+    let first : list_all (is_apart x) (taken ++ r ∷ []) ≡ true = list_all-append (is_apart x) taken (r ∷ []) ∙ both (list_all (is_apart x) taken) (is_apart x r && true) old.0 (both (is_apart x r) true (turned r x new.0) refl) in
+    both (list_all (is_apart x) (taken ++ r ∷ [])) (are_beside (taken ++ r ∷ []) xs) first (beside_more taken r xs old.1 new.1)
 
-names_more : (a : Accepted) (line : ListedModule) → names_of (a.lines ++ line ∷ []) ≡ names_of a.lines ++ line.name ∷ []
-names_more a line = map-append (λ (l : ListedModule). l.name) a.lines (line ∷ [])
+-- regions that lie apart, and beside those taken, are taken too
+pub AreApart-append : (taken rs : List (ℕ × ℕ)) → AreApart taken → All (λ r. r.0 < r.1) rs → lie_apart rs ≡ true → are_beside taken rs ≡ true → AreApart (taken ++ rs)
+AreApart-append taken [] apart valid lie beside = subst AreApart (sym (append-nil taken)) apart
+AreApart-append taken (r ∷ rs) apart valid lie beside =
+    let lies = and_parts (list_all (is_apart r) rs) (lie_apart rs) lie in
+    let besides = and_parts (list_all (is_apart r) taken) (are_beside taken rs) beside in
+    let one = AreApart-push taken r apart (All-head (λ (x : ℕ × ℕ). x.0 < x.1) r rs valid) besides.0 in
+    subst AreApart (append_assoc taken (r ∷ []) rs) (AreApart-append (taken ++ r ∷ []) rs one (All-tail (λ (x : ℕ × ℕ). x.0 < x.1) r rs valid) lies.1 (beside_more taken r rs besides.1 lies.0))
 
-pub IsGood-after_line : (a : Accepted) (line : ListedModule) → IsGood a → fits line ≡ true → IsGood (after_line a line)
-IsGood-after_line a line good fit =
-    elim (list_any (bytes_eq line.name) (names_of a.lines)) as (λ b. list_any (bytes_eq line.name) (names_of a.lines) ≡ b → IsGood (cond b (record a { double = a.double + 1 }) (cond (list_all (is_apart (region_of line)) (taken a)) (record a { lines = a.lines ++ line ∷ [] }) (record a { overlap = a.overlap + 1 })))) [
-      | true ↦ λ _. record { fit = good.fit; distinct = good.distinct; apart = good.apart }
+pub taken_more : (a : Accepted) (m : PlacedModule) → taken (record a { modules = a.modules ++ m ∷ [] }) ≡ taken a ++ m.regions
+taken_more a m =
+    ap (λ rs. option_to_list a.built_in ++ rs) (flat_map-append (λ (n : PlacedModule). n.regions) a.modules (m ∷ []) ∙ ap (λ rs. flat_map (λ (n : PlacedModule). n.regions) a.modules ++ rs) (append-nil m.regions))
+    ∙ sym (append_assoc (option_to_list a.built_in) (flat_map (λ (n : PlacedModule). n.regions) a.modules) m.regions)
+
+names_more : (a : Accepted) (m : PlacedModule) → names_of (a.modules ++ m ∷ []) ≡ names_of a.modules ++ m.name ∷ []
+names_more a m = map-append (λ (n : PlacedModule). n.name) a.modules (m ∷ [])
+
+pub IsGood-after_module : (a : Accepted) (m : PlacedModule) → IsGood a → IsPlaced m → IsGood (after_module a m)
+IsGood-after_module a m good place =
+    elim (list_any (bytes_eq m.name) (names_of a.modules)) as (λ b. list_any (bytes_eq m.name) (names_of a.modules) ≡ b → IsGood (cond b (record a { double = a.double + 1 }) (cond (lie_apart m.regions && are_beside (taken a) m.regions) (record a { modules = a.modules ++ m ∷ [] }) (record a { overlap = a.overlap + 1 })))) [
+      | true ↦ λ _. record { places = good.places; distinct = good.distinct; apart = good.apart }
       | false ↦ λ absent.
-          elim (list_all (is_apart (region_of line)) (taken a)) as (λ b. list_all (is_apart (region_of line)) (taken a) ≡ b → IsGood (cond b (record a { lines = a.lines ++ line ∷ [] }) (record a { overlap = a.overlap + 1 }))) [
-            | true ↦ λ beside. record {
-              fit = All-push (λ (l : ListedModule). fits l ≡ true) a.lines line good.fit fit;
-              distinct = subst AreDistinct (sym (names_more a line)) (AreDistinct-push (names_of a.lines) line.name good.distinct absent);
-              apart = subst AreApart (sym (taken_more a line)) (AreApart-push (taken a) (region_of line) good.apart (valid_region line fit) beside);
-            }
-            | false ↦ λ _. record { fit = good.fit; distinct = good.distinct; apart = good.apart }
+          elim (lie_apart m.regions && are_beside (taken a) m.regions) as (λ b. (lie_apart m.regions && are_beside (taken a) m.regions) ≡ b → IsGood (cond b (record a { modules = a.modules ++ m ∷ [] }) (record a { overlap = a.overlap + 1 }))) [
+            | true ↦ λ free.
+                let parts = and_parts (lie_apart m.regions) (are_beside (taken a) m.regions) free in
+                record {
+                  places = All-push IsPlaced a.modules m good.places place;
+                  distinct = subst AreDistinct (sym (names_more a m)) (AreDistinct-push (names_of a.modules) m.name good.distinct absent);
+                  apart = subst AreApart (sym (taken_more a m)) (AreApart-append (taken a) m.regions good.apart place.valid parts.0 parts.1);
+                }
+            | false ↦ λ _. record { places = good.places; distinct = good.distinct; apart = good.apart }
           ] refl
     ] refl
 
-pub IsGood-fold : (a : Accepted) (lines : List ListedModule) → IsGood a → All (λ l. fits l ≡ true) lines → IsGood (fold after_line a lines)
-IsGood-fold a [] good fit = good
-IsGood-fold a (line ∷ lines) good fit = IsGood-fold (after_line a line) lines (IsGood-after_line a line good (All-head (λ (l : ListedModule). fits l ≡ true) line lines fit)) (All-tail (λ (l : ListedModule). fits l ≡ true) line lines fit)
+pub IsGood-fold : (a : Accepted) (ms : List PlacedModule) → IsGood a → All IsPlaced ms → IsGood (fold after_module a ms)
+IsGood-fold a [] good all = good
+IsGood-fold a (m ∷ ms) good all = IsGood-fold (after_module a m) ms (IsGood-after_module a m good (All-head IsPlaced m ms all)) (All-tail IsPlaced m ms all)
 
 none_pairs : {A : Type 0} (R : A → A → Type 0) (xs : List A) → length xs ≤ 1 → AllPairs R xs
 none_pairs R xs short = λ i j d lt within. absurd (omega arith)
@@ -80,13 +107,13 @@ none_pairs R xs short = λ i j d lt within. absurd (omega arith)
 pub IsGood-none : (built_in : Option (ℕ × ℕ)) → IfSome built_in (λ r. r.0 < r.1) → IsGood (none_yet built_in)
 IsGood-none None valid =
     record {
-      fit = All-nil (λ (l : ListedModule). fits l ≡ true);
+      places = All-nil IsPlaced;
       distinct = none_pairs (λ (x y : List ℕ). x ≢ y) [] (omega arith);
       apart = record { valid = All-nil (λ (x : ℕ × ℕ). x.0 < x.1); apart = none_pairs (λ (x y : ℕ × ℕ). is_apart x y ≡ true) [] (omega arith) };
     }
 IsGood-none (Some r) valid =
     record {
-      fit = All-nil (λ (l : ListedModule). fits l ≡ true);
+      places = All-nil IsPlaced;
       distinct = none_pairs (λ (x y : List ℕ). x ≢ y) [] (omega arith);
       apart = record { valid = All-cons (λ (x : ℕ × ℕ). x.0 < x.1) r [] valid (All-nil (λ (x : ℕ × ℕ). x.0 < x.1)); apart = none_pairs (λ (x y : ℕ × ℕ). is_apart x y ≡ true) (r ∷ []) (omega arith) };
     }
@@ -102,65 +129,73 @@ valid_built_in None end = tt
 valid_built_in (Some s) None = tt
 valid_built_in (Some s) (Some e) = picked s e
 
-pub accepted_good : (modules : List ListedModule) (symbols : List ListedSymbol) → All (λ l. fits l ≡ true) modules → IsGood (accepted_of (built_in_region symbols) modules)
-accepted_good modules symbols fit = IsGood-fold (none_yet (built_in_region symbols)) modules (IsGood-none (built_in_region symbols) (valid_built_in (first_address (codes "_stext") symbols) (first_address (codes "_end") symbols))) fit
+pub all_placed : (regions : List ListedRegion) (modules : List ListedModule) → All (λ l. fits l ≡ true) modules → All (λ l. region_fits l ≡ true) regions → are_few regions ≡ true → All IsPlaced (map (placed regions) modules)
+all_placed regions [] fit regions_fit few = All-nil IsPlaced
+all_placed regions (l ∷ ls) fit regions_fit few =
+    All-cons IsPlaced (placed regions l) (map (placed regions) ls) (IsPlaced-placed regions l (All-head (λ (x : ListedModule). fits x ≡ true) l ls fit) regions_fit few) (all_placed regions ls (All-tail (λ (x : ListedModule). fits x ≡ true) l ls fit) regions_fit few)
+
+pub accepted_good : (names : BoundNames) (modules : List ListedModule) (regions : List ListedRegion) (symbols : List ListedSymbol) → All (λ l. fits l ≡ true) modules → All (λ l. region_fits l ≡ true) regions → are_few regions ≡ true → IsGood (accepted_of (built_in_region names symbols) regions modules)
+accepted_good names modules regions symbols fit regions_fit few = IsGood-fold (none_yet (built_in_region names symbols)) (map (placed regions) modules) (IsGood-none (built_in_region names symbols) (valid_built_in (first_address names.start symbols) (first_address names.end symbols))) (all_placed regions modules fit regions_fit few)
 
 -- ---- of the catalog
 
-built_in_after : (a : Accepted) (line : ListedModule) → (after_line a line).built_in ≡ a.built_in
-built_in_after a line =
-    elim (list_any (bytes_eq line.name) (names_of a.lines)) as (λ b. (cond b (record a { double = a.double + 1 }) (cond (list_all (is_apart (region_of line)) (taken a)) (record a { lines = a.lines ++ line ∷ [] }) (record a { overlap = a.overlap + 1 }))).built_in ≡ a.built_in) [
+built_in_after : (a : Accepted) (m : PlacedModule) → (after_module a m).built_in ≡ a.built_in
+built_in_after a m =
+    elim (list_any (bytes_eq m.name) (names_of a.modules)) as (λ b. (cond b (record a { double = a.double + 1 }) (cond (lie_apart m.regions && are_beside (taken a) m.regions) (record a { modules = a.modules ++ m ∷ [] }) (record a { overlap = a.overlap + 1 }))).built_in ≡ a.built_in) [
       | true ↦ refl
-      | false ↦ elim (list_all (is_apart (region_of line)) (taken a)) as (λ b. (cond b (record a { lines = a.lines ++ line ∷ [] }) (record a { overlap = a.overlap + 1 })).built_in ≡ a.built_in) [ true ↦ refl | false ↦ refl ]
+      | false ↦ elim (lie_apart m.regions && are_beside (taken a) m.regions) as (λ b. (cond b (record a { modules = a.modules ++ m ∷ [] }) (record a { overlap = a.overlap + 1 })).built_in ≡ a.built_in) [ true ↦ refl | false ↦ refl ]
     ]
 
-pub built_in_kept : (a : Accepted) (lines : List ListedModule) → (fold after_line a lines).built_in ≡ a.built_in
+pub built_in_kept : (a : Accepted) (ms : List PlacedModule) → (fold after_module a ms).built_in ≡ a.built_in
 built_in_kept a [] = refl
-built_in_kept a (line ∷ lines) = built_in_kept (after_line a line) lines ∙ built_in_after a line
+built_in_kept a (m ∷ ms) = built_in_kept (after_module a m) ms ∙ built_in_after a m
 
-module_regions : (symbols : List ListedSymbol) (lines : List ListedModule) → flat_map (λ (m : ModuleEntry). m.regions) (map (entry_for symbols) lines) ≡ map region_of lines
+module_regions : (symbols : List ListedSymbol) (ms : List PlacedModule) → flat_map (λ (m : ModuleEntry). m.regions) (map (entry_for symbols) ms) ≡ flat_map (λ (m : PlacedModule). m.regions) ms
 module_regions symbols [] = refl
-module_regions symbols (line ∷ lines) = ap (λ rs. region_of line ∷ rs) (module_regions symbols lines)
+module_regions symbols (m ∷ ms) = ap (λ rs. m.regions ++ rs) (module_regions symbols ms)
 
-all_regions : (built_in : Option (ℕ × ℕ)) (symbols : List ListedSymbol) (lines : List ListedModule) → flat_map (λ (m : ModuleEntry). m.regions) (option_to_list (built_in_of built_in symbols) ++ map (entry_for symbols) lines) ≡ option_to_list built_in ++ map region_of lines
-all_regions None symbols lines = module_regions symbols lines
-all_regions (Some r) symbols lines = ap (λ rs. r ∷ rs) (module_regions symbols lines)
+all_regions : (built_in : Option (ℕ × ℕ)) (symbols : List ListedSymbol) (ms : List PlacedModule) → flat_map (λ (m : ModuleEntry). m.regions) (option_to_list (built_in_of built_in symbols) ++ map (entry_for symbols) ms) ≡ option_to_list built_in ++ flat_map (λ (m : PlacedModule). m.regions) ms
+all_regions None symbols ms = module_regions symbols ms
+all_regions (Some r) symbols ms = ap (λ rs. r ∷ rs) (module_regions symbols ms)
 
-module_names : (symbols : List ListedSymbol) (lines : List ListedModule) → names_in (map (entry_for symbols) lines) ≡ names_of lines
+module_names : (symbols : List ListedSymbol) (ms : List PlacedModule) → names_in (map (entry_for symbols) ms) ≡ names_of ms
 module_names symbols [] = refl
-module_names symbols (line ∷ lines) = ap (λ ns. line.name ∷ ns) (module_names symbols lines)
+module_names symbols (m ∷ ms) = ap (λ ns. m.name ∷ ns) (module_names symbols ms)
 
-modules_one : (symbols : List ListedSymbol) (lines : List ListedModule) → All (λ m. length m.regions ≡ 1) (map (entry_for symbols) lines)
-modules_one symbols [] = All-nil (λ (m : ModuleEntry). length m.regions ≡ 1)
-modules_one symbols (line ∷ lines) = All-cons (λ (m : ModuleEntry). length m.regions ≡ 1) (entry_for symbols line) (map (entry_for symbols) lines) refl (modules_one symbols lines)
+-- the kernel itself lies in its one region
+pub kernel_placed : (r : ℕ × ℕ) → r.0 < r.1 → IsPlaced (kernel_at r)
+kernel_placed r valid = record { few = omega arith; same = refl; some_core = refl; valid = All-cons (λ (x : ℕ × ℕ). x.0 < x.1) r [] valid (All-nil (λ (x : ℕ × ℕ). x.0 < x.1)) }
 
-all_one : (built_in : Option (ℕ × ℕ)) (symbols : List ListedSymbol) (lines : List ListedModule) → All (λ m. length m.regions ≡ 1) (option_to_list (built_in_of built_in symbols) ++ map (entry_for symbols) lines)
-all_one None symbols lines = modules_one symbols lines
-all_one (Some r) symbols lines = All-cons (λ (m : ModuleEntry). length m.regions ≡ 1) (record { name = codes "-"; regions = r ∷ []; symbols = symbols_that (is_built_in (Some r)) symbols }) (map (entry_for symbols) lines) refl (modules_one symbols lines)
+modules_placed : (symbols : List ListedSymbol) (ms : List PlacedModule) → All IsPlaced ms → All (λ m. IsPlaced (place_of m)) (map (entry_for symbols) ms)
+modules_placed symbols [] all = All-nil (λ (m : ModuleEntry). IsPlaced (place_of m))
+modules_placed symbols (m ∷ ms) all = All-cons (λ (x : ModuleEntry). IsPlaced (place_of x)) (entry_for symbols m) (map (entry_for symbols) ms) (All-head IsPlaced m ms all) (modules_placed symbols ms (All-tail IsPlaced m ms all))
 
-pub IsSound-catalog_of : (modules : List ListedModule) (symbols : List ListedSymbol) → All (λ l. fits l ≡ true) modules → IsSound (catalog_of modules symbols)
-IsSound-catalog_of modules symbols fit =
-    let built_in : Option (ℕ × ℕ) = built_in_region symbols in
-    let a : Accepted = accepted_of built_in modules in
-    let good : IsGood a = accepted_good modules symbols fit in
-    let kept : a.built_in ≡ built_in = built_in_kept (none_yet built_in) modules in
+entries_placed : (built_in : Option (ℕ × ℕ)) (symbols : List ListedSymbol) (ms : List PlacedModule) → IfSome built_in (λ r. r.0 < r.1) → All IsPlaced ms → All (λ m. IsPlaced (place_of m)) (option_to_list (built_in_of built_in symbols) ++ map (entry_for symbols) ms)
+entries_placed None symbols ms valid all = modules_placed symbols ms all
+entries_placed (Some r) symbols ms valid all = All-cons (λ (x : ModuleEntry). IsPlaced (place_of x)) (record { name = codes "-"; regions = r ∷ []; parts = (kernel_at r).parts; symbols = symbols_that (is_built_in (Some r)) symbols }) (map (entry_for symbols) ms) (kernel_placed r valid) (modules_placed symbols ms all)
+
+pub IsSound-catalog_of : (names : BoundNames) (modules : List ListedModule) (regions : List ListedRegion) (symbols : List ListedSymbol) → All (λ l. fits l ≡ true) modules → All (λ l. region_fits l ≡ true) regions → are_few regions ≡ true → IsSound (catalog_of names modules regions symbols)
+IsSound-catalog_of names modules regions symbols fit regions_fit few =
+    let built_in : Option (ℕ × ℕ) = built_in_region names symbols in
+    let a : Accepted = accepted_of built_in regions modules in
+    let good : IsGood a = accepted_good names modules regions symbols fit regions_fit few in
+    let kept : a.built_in ≡ built_in = built_in_kept (none_yet built_in) (map (placed regions) modules) in
     record {
-      one_region = all_one built_in symbols a.lines;
-      apart = subst AreApart (ap (λ (b : Option (ℕ × ℕ)). option_to_list b ++ map region_of a.lines) kept ∙ sym (all_regions built_in symbols a.lines)) good.apart;
-      distinct = subst AreDistinct (sym (module_names symbols a.lines)) good.distinct;
+      placed = entries_placed built_in symbols a.modules (valid_built_in (first_address names.start symbols) (first_address names.end symbols)) good.places;
+      apart = subst AreApart (ap (λ (b : Option (ℕ × ℕ)). option_to_list b ++ flat_map (λ (m : PlacedModule). m.regions) a.modules) kept ∙ sym (all_regions built_in symbols a.modules)) good.apart;
+      distinct = subst AreDistinct (sym (module_names symbols a.modules)) good.distinct;
     }
 
--- where each module has one region, there are as many regions as modules
-pub count_of_regions : (modules : List ModuleEntry) → All (λ m. length m.regions ≡ 1) modules → length (flat_map (λ m. m.regions) modules) ≡ length modules
-count_of_regions [] one = refl
-count_of_regions (m ∷ ms) one =
-    let first : length m.regions ≡ 1 = All-head (λ (x : ModuleEntry). length x.regions ≡ 1) m ms one in
-    omega (arith, length-append m.regions (flat_map (λ (x : ModuleEntry). x.regions) ms), count_of_regions ms (All-tail (λ (x : ModuleEntry). length x.regions ≡ 1) m ms one))
+-- how many regions the kernel itself and the modules have
+pub count_of_regions : (built_in : Option ModuleEntry) (modules : List ModuleEntry) → IfSome built_in (λ m. length m.regions ≡ 1) → from_bool (is_some built_in) + length (flat_map (λ m. m.regions) modules) ≡ length (flat_map (λ m. m.regions) (option_to_list built_in ++ modules))
+count_of_regions None modules one = omega arith
+count_of_regions (Some m) modules one = omega (arith, length-append m.regions (flat_map (λ (x : ModuleEntry). x.regions) modules))
 
-from_option : {A : Type 0} (o : Option A) → length (option_to_list o) ≡ from_bool (is_some o)
-from_option None = refl
-from_option (Some x) = refl
+pub kernel_one : (region : Option (ℕ × ℕ)) (symbols : List SymbolEntry) → IfSome (built_in_with region symbols) (λ m. length m.regions ≡ 1)
+kernel_one None symbols = tt
+kernel_one (Some r) symbols = refl
 
-pub length-regions_of : (c : CatalogEntries) → IsSound c → length (regions_of c) ≡ from_bool (is_some c.built_in) + length c.modules
-length-regions_of c sound =
-    count_of_regions (option_to_list c.built_in ++ c.modules) sound.one_region ∙ length-append (option_to_list c.built_in) c.modules ∙ ap (λ n. n + length c.modules) (from_option c.built_in)
+-- each line in turn, at its module, as the modules in turn
+pub fold_placed : (regions : List ListedRegion) (a : Accepted) (lines : List ListedModule) → fold (λ b x. after_module b (placed regions x)) a lines ≡ fold after_module a (map (placed regions) lines)
+fold_placed regions a [] = refl
+fold_placed regions a (l ∷ ls) = fold_placed regions (after_module a (placed regions l)) ls

@@ -1,5 +1,6 @@
 -- Symbols by rising address.
-use Rattle.std.specs.Prelude.{ℕ, ◌<◌, ◌≤◌, Bool, ◌&&◌, ◌||◌, nat_lt, nat_eq, List, length, slice_index_or, map, IsPermutation}
+use Rattle.std.specs.Prelude.{◌≡◌, ℕ, ◌<◌, ◌≤◌, Bool, ◌&&◌, ◌||◌, nat_lt, nat_eq, List, length, slice_index_or, map, IsPermutation, Option, Some, None}
+use Rattle.std.specs.Global.{Vec}
 use Rattle.std.specs.List.{enumerate_from}
 use Rattle.std.specs.List.Sorted.{IsSortedBy, IsNonDecreasingBy}
 use Rattle.modules.specs.Entries.{SymbolEntry}
@@ -39,3 +40,8 @@ pub record IsFirstOf (symbols : List SymbolEntry) (addr place : ℕ) : Type 0 wh
   pub bound : place ≤ length symbols
   pub below : (k : ℕ) (d : SymbolEntry) → k < place → (slice_index_or symbols k d).addr < addr
   pub others : (k : ℕ) (d : SymbolEntry) → place ≤ k → k < length symbols → addr ≤ (slice_index_or symbols k d).addr
+
+-- the symbols are indexed, or stand by rising address as they are listed
+pub record IsOrdered (symbols : List SymbolEntry) (by_address : Option (Vec IndexEntry)) : Type 0 where
+  pub rising : by_address ≡ None → IsRising symbols
+  pub indexed : (v : Vec IndexEntry) → by_address ≡ Some v → IsIndex symbols v.items

@@ -1,12 +1,12 @@
--- Which symbols are kept, and in which module.
+-- Which symbols and region lines are kept, and in which module.
 use Rattle.std.specs.Prelude.{◌≢◌, ℕ, Bool, false, ◌&&◌, ◌||◌, is_none, List, map, filter, Option}
 use Rattle.std.specs.List.{AllPairs, list_any}
 use Rattle.std.specs.Option.{option_map_or}
 use Rattle.std.specs.Str.{bytes_eq}
-use Rattle.modules.specs.Accepted.{Accepted}
+use Rattle.modules.specs.Accepted.{Accepted, names_of}
 use Rattle.modules.specs.Entries.{SymbolEntry}
-use Rattle.modules.specs.Listed.{ListedModule, ListedSymbol}
-use Rattle.modules.specs.Lines.{region_of}
+use Rattle.modules.specs.Listed.{ListedRegion, ListedSymbol}
+use Rattle.modules.specs.Placed.{PlacedModule, has_core, lines_named}
 use Rattle.modules.specs.Regions.{holds}
 
 -- no two names are equal
@@ -21,14 +21,22 @@ entry_of s = record { addr = s.addr; name = s.name }
 abbrev pub is_built_in : Option (ℕ × ℕ) → ListedSymbol → Bool
 is_built_in built_in s = is_none s.owner && option_map_or (λ r. holds r s.addr) built_in false
 
--- a symbol of the module of this name that lies in its region
-abbrev pub belongs : ListedModule → ListedSymbol → Bool
-belongs m s = option_map_or (λ name. bytes_eq name m.name) s.owner false && holds (region_of m) s.addr
+-- the address lies in one of the module's regions
+abbrev pub lies_in : PlacedModule → ℕ → Bool
+lies_in m addr = list_any (λ r. holds r addr) m.regions
+
+-- a symbol of the module of this name that lies in one of its regions
+abbrev pub belongs : PlacedModule → ListedSymbol → Bool
+belongs m s = option_map_or (λ name. bytes_eq name m.name) s.owner false && lies_in m s.addr
 
 -- a symbol of the kernel itself, or of an accepted module
 abbrev pub is_kept : Accepted → ListedSymbol → Bool
-is_kept a s = is_built_in a.built_in s || list_any (λ m. belongs m s) a.lines
+is_kept a s = is_built_in a.built_in s || list_any (λ m. belongs m s) a.modules
 
 -- the symbols that pass a test, in the order listed
 abbrev pub symbols_that : (ListedSymbol → Bool) → List ListedSymbol → List SymbolEntry
 symbols_that passes symbols = map entry_of (filter passes symbols)
+
+-- a region line of an accepted module that has a core line
+abbrev pub is_used : Accepted → List ListedRegion → ListedRegion → Bool
+is_used a regions r = list_any (bytes_eq r.name) (names_of a.modules) && has_core (lines_named r.name regions)

@@ -2,23 +2,38 @@
 use Rattle.std.specs.Prelude.{ℕ, ◌+◌, ◌^◌, Bool, not, ◌&&◌, nat_lt, nat_eq, is_none, if◌then◌else◌, List, find, Option, Some, None, codes}
 use Rattle.std.specs.Option.{option_map, option_and_then}
 use Rattle.std.specs.Str.{bytes_eq}
-use Rattle.modules.specs.Listed.{ListedModule, ListedSymbol}
+use Rattle.modules.specs.Listed.{BoundNames, ListedModule, ListedRegion, ListedSymbol}
 
--- the line stands for a region of at least one byte, not at 0 and not past the greatest address
+-- at least one byte, not at 0 and not past the greatest address
+abbrev pub is_region : ℕ → ℕ → Bool
+is_region base size = not (nat_eq base 0) && not (nat_eq size 0) && nat_lt (base + size) (2 ^ 64)
+
+-- the line of a module stands for a region
 abbrev pub fits : ListedModule → Bool
-fits l = not (nat_eq l.base 0) && not (nat_eq l.size 0) && nat_lt (l.base + l.size) (2 ^ 64)
+fits l = is_region l.base l.size
+
+-- the line of a region stands for one
+abbrev pub region_fits : ListedRegion → Bool
+region_fits l = is_region l.base l.size
+
+-- from the base up to the base plus the size
+abbrev pub region_of : ListedModule → ℕ × ℕ
+region_of l = (l.base, l.base + l.size)
+
+abbrev pub bounds_of : ListedRegion → ℕ × ℕ
+bounds_of l = (l.base, l.base + l.size)
 
 -- the address of the first line without a module that has this name
 abbrev pub first_address : List ℕ → List ListedSymbol → Option ℕ
 first_address name lines = option_map (λ l. l.addr) (find (λ l. is_none l.owner && bytes_eq l.name name) lines)
 
--- from the first `_stext` up to the first `_end`, where both are there in this order
-abbrev pub built_in_region : List ListedSymbol → Option (ℕ × ℕ)
-built_in_region lines =
+-- from the first symbol of the one name up to the first of the other, where both are there in this order
+abbrev pub built_in_region : BoundNames → List ListedSymbol → Option (ℕ × ℕ)
+built_in_region names lines =
     option_and_then
-    (λ start. option_and_then (λ end. if nat_lt start end then Some (start, end) else None) (first_address (codes "_end") lines))
-    (first_address (codes "_stext") lines)
+    (λ start. option_and_then (λ end. if nat_lt start end then Some (start, end) else None) (first_address names.end lines))
+    (first_address names.start lines)
 
--- from the base up to the base plus the size
-abbrev pub region_of : ListedModule → ℕ × ℕ
-region_of l = (l.base, l.base + l.size)
+-- the names where none are given
+abbrev pub usual_bounds : BoundNames
+usual_bounds = record { start = codes "_stext"; end = codes "_end" }

@@ -1,6 +1,6 @@
 -- Regions of addresses, from a first address up to an end that is excluded.
-use Rattle.std.specs.Prelude.{◌≡◌, ℕ, ◌<◌, Bool, true, ◌||◌, ◌&&◌, nat_le, nat_lt, List, All}
-use Rattle.std.specs.List.{AllPairs}
+use Rattle.std.specs.Prelude.{◌≡◌, ℕ, ◌<◌, Bool, true, ◌||◌, ◌&&◌, nat_le, nat_lt, List, [], ◌∷◌, All}
+use Rattle.std.specs.List.{AllPairs, list_all}
 
 -- no address lies in both
 abbrev pub is_apart : ℕ × ℕ → ℕ × ℕ → Bool
@@ -9,6 +9,15 @@ is_apart r s = nat_le r.1 s.0 || nat_le s.1 r.0
 -- the address lies in the region
 abbrev pub holds : ℕ × ℕ → ℕ → Bool
 holds r addr = nat_le r.0 addr && nat_lt addr r.1
+
+-- no two of the regions have an address in common
+abbrev pub lie_apart : List (ℕ × ℕ) → Bool
+lie_apart [] = true
+lie_apart (r ∷ rs) = list_all (is_apart r) rs && lie_apart rs
+
+-- no address lies in one of each
+abbrev pub are_beside : List (ℕ × ℕ) → List (ℕ × ℕ) → Bool
+are_beside taken regions = list_all (λ r. list_all (is_apart r) taken) regions
 
 -- each region has an address, and no two have one in common
 pub record AreApart (regions : List (ℕ × ℕ)) : Type 0 where

@@ -1,5 +1,6 @@
 -- What a catalog keeps.
-use Rattle.modules.specs.Catalogs.{IsSound}
+use Rattle.std.specs.Prelude.{◌≡◌, length}
+use Rattle.modules.specs.Catalogs.{IsSound, regions_of}
 use Rattle.modules.specs.Entries.{CatalogEntries}
 use Rattle.modules.specs.Names.{names_in, IsNameIndex}
 use Rattle.modules.specs.declared.catalog.Catalog.TheInside.{Inside}
@@ -10,3 +11,4 @@ shown c = record { built_in = c.built_in; modules = c.modules.items }
 pub record IsWhole (c : Inside) : Type 0 where
   pub sound : IsSound (shown c)
   pub named : IsNameIndex (names_in c.modules.items) c.by_name.items
+  pub counted : c.regions ≡ length (regions_of (shown c))

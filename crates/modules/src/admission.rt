@@ -1,34 +1,93 @@
 //! Which lines of the listing of modules are accepted.
 
-ghost use Rattle.std.specs.Prelude.{◌≡◌, ◌+◌, ◌<◌, ◌^◌, true, All, IfSome, IfOk, OnOk};
-ghost use Rattle.modules.specs.Lines.{fits};
-ghost use Rattle.modules.specs.Accepted.{none_yet, after_line, accepted_of};
+ghost use Rattle.std.specs.Prelude.{◌≡◌, ℕ, Bool, ◌+◌, ◌<◌, ◌^◌, ◌&&◌, true, All, IfSome, IfOk, OnOk};
+ghost use Rattle.std.specs.List.{list_all};
+ghost use Rattle.modules.specs.Lines.{fits, region_fits};
+ghost use Rattle.modules.specs.Accepted.{none_yet, after_module, accepted_of};
 ghost use Rattle.modules.specs.Admissions.{shown, IsTied};
+ghost use Rattle.modules.specs.Placed.{are_few, IsPlaced};
+ghost use Rattle.modules.specs.Regions.{is_apart, are_beside, lie_apart};
 
-use crate::lines::ModuleLine;
+use crate::lines::{ModuleLine, Region};
+use crate::placing::{Placed, RegionLines};
 use crate::regions::Regions;
 use std::alloc::{AllocError, Global};
 use std::collections::BTreeMap;
 
-/// The lines accepted so far, and how many were not.
+/// The modules accepted so far, and how many lines were not.
 #[derive(Drop)]
-pub(crate) struct Admission<'l, 'a> {
+pub(crate) struct Admission<'a> {
     /// The region of the kernel itself.
-    pub(crate) built_in: Option<(u64, u64)>,
-    /// The accepted lines in their order.
-    pub(crate) lines: Vec<&'l ModuleLine<'a>>,
-    /// The place of each name among the accepted lines.
+    pub(crate) built_in: Option<Region>,
+    /// The accepted modules in the order of their lines.
+    pub(crate) modules: Vec<Placed<'a>>,
+    /// The place of each name among the accepted modules.
     pub(crate) places: BTreeMap<&'a [u8], usize>,
-    /// The regions that a further line is to lie apart from.
+    /// The regions that those of a further module are to lie apart from.
     taken: Regions,
     /// How many lines have the name of an accepted one.
     pub(crate) double: u64,
-    /// How many others are not apart from a region that is taken.
+    /// How many others have regions that meet each other or a region that is taken.
     pub(crate) overlap: u64,
 }
 
-impl<'l, 'a> Admission<'l, 'a> {
-    fn new(alloc: Global, built_in: Option<(u64, u64)>) -> Result<Admission<'l, 'a>, AllocError>
+/// Whether no address lies in both regions.
+fn is_apart(r: Region, s: Region) -> bool
+    ensures { result ≡ is_apart r s }
+{
+    r.1 <= s.0 || s.1 <= r.0
+}
+
+/// Whether no address lies in the region and in one of the others.
+fn is_apart_from(region: Region, others: &[Region]) -> bool
+    ensures { result ≡ list_all (is_apart region) others.now }
+{
+    others.iter().all(|other| is_apart(region, *other))
+}
+
+/// Whether no two of the regions have an address in common.
+fn lie_apart(regions: &[Region]) -> bool
+    ensures { result ≡ lie_apart regions.now }
+{
+    match regions {
+        [] => true,
+        [first, rest @ ..] => is_apart_from(*first, rest) && lie_apart(rest),
+    }
+}
+
+/// Whether no address lies in one of these regions and in one that is taken.
+fn are_beside(taken: &Regions, regions: &[Region]) -> bool
+    requires { All (λ r. r.0 < r.1) regions.now }
+    ensures { result ≡ are_beside taken.now regions.now }
+{
+    regions
+        .iter()
+        .all(|region| taken.is_apart(region.0, region.1))
+}
+
+/// Whether the regions lie apart from each other and from those that are taken.
+fn are_free(taken: &Regions, regions: &[Region]) -> bool
+    requires { All (λ r. r.0 < r.1) regions.now }
+    ensures { result ≡ (lie_apart regions.now && are_beside taken.now regions.now) }
+{
+    lie_apart(regions) && are_beside(taken, regions)
+}
+
+/// Takes the regions in, each after the others.
+fn take_all(taken: &mut Regions, regions: &[Region]) -> Result<(), AllocError>
+    requires valid { All (λ r. r.0 < r.1) regions.now }
+    requires apart { lie_apart regions.now ≡ true }
+    requires beside { are_beside taken.old regions.now ≡ true }
+    ensures { OnOk result ((p : ℕ × ℕ → Bool) → list_all p taken.new ≡ (list_all p taken.old && list_all p regions.now)) }
+{
+    for region in regions {
+        taken.insert(region.0, region.1)?;
+    }
+    Ok(())
+}
+
+impl<'a> Admission<'a> {
+    fn new(alloc: Global, built_in: Option<Region>) -> Result<Admission<'a>, AllocError>
         requires { IfSome built_in (λ r. r.0 < r.1) }
         ensures none { IfOk result (λ a. shown a ≡ none_yet built_in) }
         ensures tied { IfOk result IsTied }
@@ -39,7 +98,7 @@ impl<'l, 'a> Admission<'l, 'a> {
         }
         Ok(Admission {
             built_in,
-            lines: Vec::new(alloc),
+            modules: Vec::new(alloc),
             places: BTreeMap::new(alloc),
             taken,
             double: 0,
@@ -47,45 +106,47 @@ impl<'l, 'a> Admission<'l, 'a> {
         })
     }
 
-    /// Accepts the line, or counts why it is not accepted.
-    fn take_line(&mut self, line: &'l ModuleLine<'a>) -> Result<(), AllocError>
-        requires fits { fits line.now ≡ true }
+    /// Accepts the module, or counts why it is not accepted.
+    fn take_module(&mut self, placed: Placed<'a>) -> Result<(), AllocError>
+        requires placed { IsPlaced placed }
         requires tied { IsTied self.old }
         requires counts { self.old.double + self.old.overlap + 1 < 2 ^ 64 }
-        ensures after { OnOk result (shown self.new ≡ after_line (shown self.old) line.now) }
+        ensures after { OnOk result (shown self.new ≡ after_module (shown self.old) placed.entry) }
         ensures tied { OnOk result (IsTied self.new) }
     {
-        let name = line.name;
-        if self.places.contains_key(name) {
+        if self.places.contains_key(placed.name) {
             self.double += 1;
             return Ok(());
         }
-        let end = line.base + line.size;
-        if !self.taken.is_apart(line.base, end) {
+        let regions = placed.regions.as_slice();
+        if !are_free(&self.taken, regions) {
             self.overlap += 1;
             return Ok(());
         }
-        self.places.insert(name, self.lines.len())?;
-        self.lines.push(line)?;
-        self.taken.insert(line.base, end)?;
+        take_all(&mut self.taken, regions)?;
+        self.places.insert(placed.name, self.modules.len())?;
+        self.modules.push(placed)?;
         Ok(())
     }
 }
 
-/// Goes through the lines in their order.
-pub(crate) fn admit<'l, 'a>(
+/// Goes through the lines in their order, each at the regions of its module.
+pub(crate) fn admit<'a>(
     alloc: Global,
-    built_in: Option<(u64, u64)>,
-    lines: &'l [ModuleLine<'a>],
-) -> Result<Admission<'l, 'a>, AllocError>
+    built_in: Option<Region>,
+    regions: &RegionLines<'_, 'a>,
+    lines: &[ModuleLine<'a>],
+) -> Result<Admission<'a>, AllocError>
     requires fit { All (λ l. fits l ≡ true) lines.now }
+    requires regions_fit { All (λ l. region_fits l ≡ true) regions.now }
+    requires few { are_few regions.now ≡ true }
     requires region { IfSome built_in (λ r. r.0 < r.1) }
-    ensures admitted { IfOk result (λ a. shown a ≡ accepted_of built_in lines.now) }
+    ensures admitted { IfOk result (λ a. shown a ≡ accepted_of built_in regions.now lines.now) }
     ensures tied { IfOk result IsTied }
 {
     let mut admission = Admission::new(alloc, built_in)?;
     for line in lines {
-        admission.take_line(line)?;
+        admission.take_module(regions.place(line))?;
     }
     Ok(admission)
 }

@@ -1,17 +1,21 @@
 //! The modules that may be loaded, and what a load or an unload changes.
 
-ghost use Rattle.std.specs.Prelude.{◌≡◌, ◌+◌, ◌<◌, true, All, length, IfOk, IfErr};
+ghost use Rattle.std.specs.Prelude.{◌≡◌, ◌↔◌, IsTrue, [], true, All, length, IfOk, IfErr};
 ghost use Rattle.std.specs.Option.{option_copied};
-ghost use Rattle.modules.specs.Lines.{fits};
-ghost use Rattle.modules.specs.Catalogs.{catalog_of, counts_of, IsSound, module_of, number_of, regions_of, load_of, unload_of};
+ghost use Rattle.modules.specs.Lines.{fits, region_fits, usual_bounds};
+ghost use Rattle.modules.specs.Catalogs.{catalog_of, counts_of, IsBuildRefusal, module_of, number_of, regions_of, IsSound};
+ghost use Rattle.modules.specs.Loads.{drop_init_of, GivesOrLacksMemory, GivesSome, load_of, unload_of};
+ghost use Rattle.modules.specs.Placed.{are_few};
 
 use crate::build::assemble;
-use crate::lines::ModuleLine;
+use crate::lines::{KernelBounds, ModuleLine, RegionLine};
+use crate::loads::{erasing, inserting, is_erasing, is_inserting};
 use crate::module::Module;
 use crate::names::place_of;
+use crate::placing::RegionLines;
 use crate::symbol_lines::SymbolLines;
 use latch_core::Update;
-use order_laws::{Item, Refusal};
+use order_laws::Refusal;
 use std::alloc::Global;
 use std::marker::Model;
 
@@ -22,12 +26,26 @@ pub struct BuildCounts {
     pub modules: u64,
     /// Lines with the name of a line that was accepted before.
     pub double: u64,
-    /// Other lines whose region is not apart from the region of the kernel itself and those accepted before.
+    /// Other lines of modules whose regions are not all apart from each other, from the region of the kernel itself
+    /// and from those of the modules accepted before.
     pub overlap: u64,
+    /// Lines of the listing of regions that an accepted module has its regions from.
+    pub regions: u64,
+    /// Lines of the listing of regions that no module has a region from.
+    pub stray_regions: u64,
     /// Kept lines of the listing of symbols.
     pub symbols: u64,
     /// Lines of the listing of symbols that are not kept.
     pub stray: u64,
+}
+
+/// What of a module a table holds.
+#[derive(Clone, Copy, Debug, PartialEq, Eq, Drop)]
+pub struct Held {
+    /// Whether it holds the first address of the module's first region of its core.
+    pub core: bool,
+    /// Whether it holds the first address of the module's first init region; not where it has none.
+    pub init: bool,
 }
 
 /// The kernel itself as number 0, where the listing of symbols has its region, and the accepted modules from number 1
@@ -37,6 +55,8 @@ pub struct Catalog<'a> {
     pub(crate) built_in: Option<Module<'a>>,
     pub(crate) modules: Vec<Module<'a>>,
     pub(crate) by_name: Vec<usize>,
+    /// How many regions all of them have.
+    pub(crate) regions: usize,
 }
 
 impl<'a> Model for Catalog<'a> {
@@ -52,12 +72,7 @@ impl<'a> Model for Catalog<'a> {
 }
 
 impl<'a> Catalog<'a> {
-    /// Builds the catalog of two listings, of which each module line has a region ([`ModuleLine::fits`]).
-    ///
-    /// A module line is skipped as double where a line accepted before has its name, else as overlap where its region
-    /// is not apart from that of the kernel itself and those accepted before. The kernel's region is from the first
-    /// symbol `_stext` without a module up to the first `_end`, where both are there in this order. A symbol is kept
-    /// where it lies in the region of its module, or of the kernel itself if it has none, and is stray otherwise.
+    /// Builds the catalog of two listings: that of [`Catalog::build_with`] without region lines.
     ///
     /// Refused by [`Refusal::OutOfMemory`] alone.
     pub fn build(
@@ -66,12 +81,67 @@ impl<'a> Catalog<'a> {
         symbols: &SymbolLines<'a>,
     ) -> Result<(Catalog<'a>, BuildCounts), Refusal>
         requires { All (λ l. fits l ≡ true) modules.now }
-        ensures built { IfOk result (λ r. r.0 ≡ catalog_of modules.now symbols.now) }
-        ensures counted { IfOk result (λ r. r.1 ≡ counts_of modules.now symbols.now) }
+        ensures built { IfOk result (λ r. r.0 ≡ catalog_of usual_bounds modules.now [] symbols.now) }
+        ensures counted { IfOk result (λ r. r.1 ≡ counts_of usual_bounds modules.now [] symbols.now) }
         ensures sound { IfOk result (λ r. IsSound r.0) }
         ensures refused { IfErr result (λ e. e ≡ Refusal.OutOfMemory) }
     {
-        Ok(assemble(alloc, modules, symbols)?)
+        let regions = RegionLines::new(alloc, &[])?;
+        Ok(assemble(alloc, &KernelBounds::usual(), modules, &regions, symbols)?)
+    }
+
+    /// Builds the catalog of three listings, in which the kernel itself lies from `_stext` up to `_end`: that of
+    /// [`Catalog::build_between`] with these names.
+    pub fn build_with(
+        alloc: Global,
+        modules: &[ModuleLine<'a>],
+        regions: &[RegionLine<'a>],
+        symbols: &SymbolLines<'a>,
+    ) -> Result<(Catalog<'a>, BuildCounts), Refusal>
+        requires fit { All (λ l. fits l ≡ true) modules.now }
+        requires regions_fit { All (λ l. region_fits l ≡ true) regions.now }
+        ensures built { IfOk result (λ r. r.0 ≡ catalog_of usual_bounds modules.now regions.now symbols.now) }
+        ensures counted { IfOk result (λ r. r.1 ≡ counts_of usual_bounds modules.now regions.now symbols.now) }
+        ensures sound { IfOk result (λ r. IsSound r.0) }
+        ensures few { IfOk result (λ _. are_few regions.now ≡ true) }
+        ensures refused { IfErr result (IsBuildRefusal regions.now) }
+    {
+        Catalog::build_between(alloc, &KernelBounds::usual(), modules, regions, symbols)
+    }
+
+    /// Builds the catalog of three listings, of which each module line and each region line has a region
+    /// ([`ModuleLine::fits`], [`RegionLine::fits`]).
+    ///
+    /// A module lies in the regions of the region lines of its name, in their order, if one of them is of its core, and
+    /// else in the region of its own line. A module line is skipped as double where a line accepted before has its
+    /// name, else as overlap where its regions are not all apart from each other, from that of the kernel itself and
+    /// from those of the modules accepted before. The kernel's region is from the first symbol without a module of the
+    /// one name of `names` up to the first of the other, where both are there in this order. A symbol is kept where it
+    /// lies in a region of its module, or of the kernel itself if it has none, and is stray otherwise. A region line is
+    /// stray where its module is not accepted, or has no line of a core region.
+    ///
+    /// Refused by [`Refusal::TooManyRegions`] where more than 7 region lines have one name, and by
+    /// [`Refusal::OutOfMemory`].
+    pub fn build_between(
+        alloc: Global,
+        names: &KernelBounds,
+        modules: &[ModuleLine<'a>],
+        regions: &[RegionLine<'a>],
+        symbols: &SymbolLines<'a>,
+    ) -> Result<(Catalog<'a>, BuildCounts), Refusal>
+        requires fit { All (λ l. fits l ≡ true) modules.now }
+        requires regions_fit { All (λ l. region_fits l ≡ true) regions.now }
+        ensures built { IfOk result (λ r. r.0 ≡ catalog_of names.now modules.now regions.now symbols.now) }
+        ensures counted { IfOk result (λ r. r.1 ≡ counts_of names.now modules.now regions.now symbols.now) }
+        ensures sound { IfOk result (λ r. IsSound r.0) }
+        ensures few { IfOk result (λ _. are_few regions.now ≡ true) }
+        ensures refused { IfErr result (IsBuildRefusal regions.now) }
+    {
+        let regions = RegionLines::new(alloc, regions)?;
+        if !regions.are_few() {
+            return Err(Refusal::TooManyRegions);
+        }
+        Ok(assemble(alloc, names, modules, &regions, symbols)?)
     }
 
     /// The module of a number.
@@ -106,38 +176,90 @@ impl<'a> Catalog<'a> {
         ensures count { result ≡ length (regions_of self.now) }
         ensures sound { IsSound self.now }
     {
-        usize::from(self.built_in.is_some()) + self.modules.len()
+        self.regions
     }
 
-    /// The update that loads a module, where `held` says whether its first address is in the table.
+    /// The update that loads a module: all its regions are put in, with its number as the tag.
     ///
-    /// Refused by [`Refusal::UnknownModule`], else by [`Refusal::AlreadyLoaded`] where it is held.
-    pub fn load(&self, number: u64, held: bool) -> Result<Update, Refusal>
-        ensures { result ≡ load_of self.now number held }
+    /// Refused by [`Refusal::UnknownModule`], else by [`Refusal::AlreadyLoaded`] where its core is held, else by
+    /// [`Refusal::OutOfMemory`]. A module of one region takes no memory.
+    pub fn load(&self, number: u64, held: Held) -> Result<Update, Refusal>
+        ensures { GivesOrLacksMemory (load_of self.now number held) result }
     {
         let Some(module) = self.module(number) else {
             return Err(Refusal::UnknownModule);
         };
-        if held {
+        if held.core {
             return Err(Refusal::AlreadyLoaded);
         }
-        let (a, b) = module.regions()[0];
-        Ok(Update::Insert(Item { a, b, tag: number }))
+        inserting(*self.modules.allocator(), module.regions(), number)
     }
 
-    /// The update that unloads a module, where `held` says whether its first address is in the table.
+    /// The update that unloads a module: its core regions are taken out, and its init regions where they are held.
     ///
-    /// Refused by [`Refusal::UnknownModule`], else by [`Refusal::NotLoaded`] where it is not held.
-    pub fn unload(&self, number: u64, held: bool) -> Result<Update, Refusal>
-        ensures { result ≡ unload_of self.now number held }
+    /// Refused by [`Refusal::UnknownModule`], else by [`Refusal::NotLoaded`] where its core is not held, else by
+    /// [`Refusal::OutOfMemory`]. One region takes no memory.
+    pub fn unload(&self, number: u64, held: Held) -> Result<Update, Refusal>
+        ensures { GivesOrLacksMemory (unload_of self.now number held) result }
     {
         let Some(module) = self.module(number) else {
             return Err(Refusal::UnknownModule);
         };
-        if !held {
+        if !held.core {
             return Err(Refusal::NotLoaded);
         }
-        let (start, _) = module.regions()[0];
-        Ok(Update::Erase(start))
+        let starts = module.starts_of(true, held.init);
+        erasing(*self.modules.allocator(), starts.as_slice())
+    }
+
+    /// The update that ends a module's start: its init regions are taken out.
+    ///
+    /// Refused by [`Refusal::UnknownModule`], else by [`Refusal::NotLoaded`] where its core is not held, else by
+    /// [`Refusal::NoInit`] where no init region of it is, else by [`Refusal::OutOfMemory`]. One region takes no memory.
+    pub fn drop_init(&self, number: u64, held: Held) -> Result<Update, Refusal>
+        ensures { GivesOrLacksMemory (drop_init_of self.now number held) result }
+    {
+        let Some(module) = self.module(number) else {
+            return Err(Refusal::UnknownModule);
+        };
+        if !held.core {
+            return Err(Refusal::NotLoaded);
+        }
+        if !(held.init && module.has_init()) {
+            return Err(Refusal::NoInit);
+        }
+        let starts = module.starts_of(false, true);
+        erasing(*self.modules.allocator(), starts.as_slice())
+    }
+
+    /// Whether [`Catalog::load`] gives this update, whatever is held. It takes no memory.
+    pub fn gives_load(&self, number: u64, update: &Update) -> bool
+        ensures { IsTrue result ↔ GivesSome (load_of self.now number) update.now }
+    {
+        let Some(module) = self.module(number) else {
+            return false;
+        };
+        is_inserting(module.regions(), number, update)
+    }
+
+    /// Whether [`Catalog::unload`] gives this update, whatever is held. It takes no memory.
+    pub fn gives_unload(&self, number: u64, update: &Update) -> bool
+        ensures { IsTrue result ↔ GivesSome (unload_of self.now number) update.now }
+    {
+        let Some(module) = self.module(number) else {
+            return false;
+        };
+        is_erasing(module.starts_of(true, false).as_slice(), update)
+            || is_erasing(module.starts_of(true, true).as_slice(), update)
+    }
+
+    /// Whether [`Catalog::drop_init`] gives this update, whatever is held. It takes no memory.
+    pub fn gives_drop_init(&self, number: u64, update: &Update) -> bool
+        ensures { IsTrue result ↔ GivesSome (drop_init_of self.now number) update.now }
+    {
+        let Some(module) = self.module(number) else {
+            return false;
+        };
+        module.has_init() && is_erasing(module.starts_of(false, true).as_slice(), update)
     }
 }

@@ -1,7 +1,7 @@
 //! Which symbol lines are kept, and in which module.
 //!
 //! The name of a module is looked up once for each run of lines. A line is then kept where its
-//! address lies in the region of its run's module, and is stray otherwise:
+//! address lies in a region of its run's module, and is stray otherwise:
 //!
 //! ```text
 //! runs:    none      "ext4"     "bpf"
@@ -29,7 +29,7 @@ use std::alloc::{AllocError, Global};
 enum Owner {
     /// Those of the kernel itself.
     BuiltIn,
-    /// Those of the module at this place among the accepted lines.
+    /// Those of the module at this place among the accepted modules.
     Module(usize),
     /// Those of a module that was not accepted.
     Nobody,
@@ -40,7 +40,7 @@ enum Owner {
 enum Home {
     /// In the kernel itself.
     BuiltIn,
-    /// In the module at this place among the accepted lines.
+    /// In the module at this place among the accepted modules.
     Module(usize),
     /// Nowhere.
     Stray,
@@ -133,8 +133,8 @@ fn home_of(admission: &Admission, owner: Owner, addr: u64) -> Home
             Some((start, end)) if start <= addr && addr < end => Home::BuiltIn,
             _ => Home::Stray,
         },
-        Owner::Module(place) => match admission.lines.get(place) {
-            Some(line) if line.holds(addr) => Home::Module(place),
+        Owner::Module(place) => match admission.modules.get(place) {
+            Some(module) if module.lies_at(addr) => Home::Module(place),
             _ => Home::Stray,
         },
         Owner::Nobody => Home::Stray,
@@ -149,12 +149,12 @@ fn gather_lines<'a>(
     lines: &[RunLine<'a>],
 ) -> Result<Gathered<'a>, AllocError>
     requires tied { IsTied admission.now }
-    requires distinct { AreDistinct (names_of (shown admission.now).lines) }
+    requires distinct { AreDistinct (names_of (shown admission.now).modules) }
     requires numbered { AreNumbered runs.now lines.now }
     ensures { IfOk result (Gathers (shown admission.now) (lines_in runs.now lines.now)) }
 {
     let owners = owners_of(alloc, admission, runs)?;
-    let mut gathered = Gathered::new(alloc, admission.lines.len())?;
+    let mut gathered = Gathered::new(alloc, admission.modules.len())?;
     for line in lines {
         let home = home_of(admission, owners[line.run as usize], line.addr);
         let symbol = Symbol {
@@ -173,7 +173,7 @@ pub(crate) fn gather<'a>(
     symbols: &SymbolLines<'a>,
 ) -> Result<Gathered<'a>, AllocError>
     requires tied { IsTied admission.now }
-    requires distinct { AreDistinct (names_of (shown admission.now).lines) }
+    requires distinct { AreDistinct (names_of (shown admission.now).modules) }
     ensures { IfOk result (Gathers (shown admission.now) symbols.now) }
 {
     gather_lines(

@@ -7,15 +7,17 @@ pub mod catalog;
 mod gathering;
 pub mod laws;
 pub mod lines;
+mod loads;
 pub mod module;
 mod names;
+mod placing;
 mod regions;
 pub mod symbol_lines;
 pub mod symbols;
 
-pub use catalog::{BuildCounts, Catalog};
-pub use lines::{ModuleLine, SymbolLine};
-pub use module::Module;
+pub use catalog::{BuildCounts, Catalog, Held};
+pub use lines::{KernelBounds, ModuleLine, Part, Region, RegionLine, SymbolLine};
+pub use module::{MOST_REGIONS, Module};
 pub use symbol_lines::SymbolLines;
 pub use symbols::Symbol;
 

@@ -1,10 +1,21 @@
-//! The lines of the two listings that a catalog is built from.
+//! The lines of the listings that a catalog is built from.
 
-ghost use Rattle.std.specs.Prelude.{◌≡◌};
-ghost use Rattle.modules.specs.Lines.{fits, region_of};
-ghost use Rattle.modules.specs.Regions.{holds};
+ghost use Rattle.std.specs.Prelude.{◌≡◌, true};
+ghost use Rattle.modules.specs.Lines.{fits, region_of, region_fits, bounds_of, is_region, usual_bounds};
+ghost use Rattle.modules.specs.Parts.{is_core, is_init, is_of};
 
 use std::marker::Model;
+
+/// A region's first address, and its end, which is excluded.
+pub type Region = (u64, u64);
+
+/// Whether there is a region of so many bytes at this address: at least one byte, not at 0, and none past the greatest
+/// `u64`.
+fn is_region(base: u64, size: u64) -> bool
+    ensures { result ≡ is_region base size }
+{
+    base != 0 && size != 0 && size <= u64::MAX - base
+}
 
 /// A line of the listing of modules, in the form of /proc/modules: a module, and where it lies.
 #[derive(Debug, Drop)]
@@ -31,14 +42,95 @@ impl<'a> ModuleLine<'a> {
     pub fn fits(&self) -> bool
         ensures { result ≡ fits self.now }
     {
-        self.base != 0 && self.size != 0 && self.size <= u64::MAX - self.base
+        is_region(self.base, self.size)
     }
 
-    /// Whether the address lies in the line's region.
-    pub(crate) fn holds(&self, addr: u64) -> bool
-        ensures { result ≡ holds (region_of self.now) addr }
+    /// The first address of its region and the excluded end.
+    pub(crate) fn region(&self) -> Region
+        requires { fits self.now ≡ true }
+        ensures { result ≡ region_of self.now }
     {
-        self.base <= addr && addr - self.base < self.size
+        (self.base, self.base + self.size)
+    }
+}
+
+/// A part of a module.
+#[derive(Clone, Copy, Debug, Default, PartialEq, Eq, Drop)]
+pub enum Part {
+    /// What stays while the module is loaded.
+    #[default]
+    Core,
+    /// What its start alone needs.
+    Init,
+}
+
+impl Part {
+    pub(crate) fn is_core(self) -> bool
+        ensures { result ≡ is_core self }
+    {
+        matches!(self, Part::Core)
+    }
+
+    pub(crate) fn is_init(self) -> bool
+        ensures { result ≡ is_init self }
+    {
+        matches!(self, Part::Init)
+    }
+
+    /// Whether it is one of the parts that are asked for.
+    pub(crate) fn is_of(self, core: bool, init: bool) -> bool
+        ensures { result ≡ is_of core init self }
+    {
+        match self {
+            Part::Core => core,
+            Part::Init => init,
+        }
+    }
+}
+
+/// A line of the listing of regions: a region of a module.
+#[derive(Debug, Drop)]
+pub struct RegionLine<'a> {
+    /// The module's name, any bytes of the text that was read.
+    pub name: &'a [u8],
+    /// Which part of the module the region is.
+    pub part: Part,
+    /// The region's first address.
+    pub base: u64,
+    /// How many bytes it has.
+    pub size: u64,
+}
+
+impl<'a> Model for RegionLine<'a> {
+    ghost use Rattle.modules.specs.Listed.{ListedRegion};
+
+    ghost Value = { ListedRegion };
+
+    ghost view = { λ l. record { name = l.name.now; part = l.part; base = l.base; size = l.size } };
+}
+
+impl<'a> RegionLine<'a> {
+    /// Whether the line stands for a region: the base is not 0, the size is not 0, and the base plus the size is at
+    /// most the greatest `u64`.
+    pub fn fits(&self) -> bool
+        ensures { result ≡ region_fits self.now }
+    {
+        is_region(self.base, self.size)
+    }
+
+    /// Whether the region is of the core.
+    pub(crate) fn is_core(&self) -> bool
+        ensures { result ≡ is_core self.now.part }
+    {
+        self.part.is_core()
+    }
+
+    /// The region's first address and the excluded end.
+    pub(crate) fn region(&self) -> Region
+        requires { region_fits self.now ≡ true }
+        ensures { result ≡ bounds_of self.now }
+    {
+        (self.base, self.base + self.size)
     }
 }
 
@@ -63,4 +155,33 @@ impl<'a> Model for SymbolLine<'a> {
     ghost Value = { ListedSymbol };
 
     ghost view = { λ l. record { addr = l.addr; letter = l.letter; name = l.name.now; owner = option_copied l.module } };
+}
+
+/// The names of the two symbols that bound the region of the kernel itself.
+#[derive(Debug, Drop)]
+pub struct KernelBounds<'a> {
+    /// The name of the symbol at its first address.
+    pub start: &'a [u8],
+    /// The name of the symbol at its end, which is excluded.
+    pub end: &'a [u8],
+}
+
+impl<'a> Model for KernelBounds<'a> {
+    ghost use Rattle.modules.specs.Listed.{BoundNames};
+
+    ghost Value = { BoundNames };
+
+    ghost view = { λ n. record { start = n.start.now; end = n.end.now } };
+}
+
+impl KernelBounds<'static> {
+    /// The names that a kernel's own listing has: `_stext` and `_end`.
+    pub fn usual() -> KernelBounds<'static>
+        ensures { result ≡ usual_bounds }
+    {
+        KernelBounds {
+            start: b"_stext",
+            end: b"_end",
+        }
+    }
 }

@@ -1,10 +1,18 @@
 //! A module: its name, where it lies, and its symbols.
 
-ghost use Rattle.std.specs.Prelude.{◌≡◌, ◌<◌, [], ◌∷◌, length, IfOk};
+ghost use Rattle.std.specs.Prelude.{◌≡◌, ◌≤◌, length, position, IfOk};
+ghost use Rattle.std.specs.List.{list_any};
 ghost use Rattle.std.specs.Option.{option_copied};
 ghost use Rattle.modules.specs.Around.{symbol_below, address_above};
-ghost use Rattle.modules.specs.Modules.{IsOrdered};
+ghost use Rattle.modules.specs.Index.{IsOrdered};
+ghost use Rattle.modules.specs.Building.{module_with, place_of};
+ghost use Rattle.modules.specs.Parts.{is_core, is_init};
+ghost use Rattle.modules.specs.Placed.{IsPlaced};
+ghost use Rattle.modules.specs.Starts.{first_start, start_at, start_where, starts_of};
 
+use crate::lines::{Part, Region};
+use crate::loads::starts_of;
+use crate::placing::Placed;
 use crate::symbols::{
     IndexEntry, Symbol, around_as_listed, around_in_index, by_address, is_rising,
 };
@@ -19,7 +27,10 @@ pub const MOST_REGIONS: usize = 7;
 #[derive(Drop)]
 pub struct Module<'a> {
     name: &'a [u8],
-    regions: ArrayVec<(u64, u64), MOST_REGIONS>,
+    /// Its regions in their order.
+    regions: ArrayVec<Region, MOST_REGIONS>,
+    /// The part that each of them is.
+    parts: ArrayVec<Part, MOST_REGIONS>,
     symbols: Vec<Symbol<'a>>,
     /// An index of the symbols, where they are not listed by rising address.
     by_address: Option<Vec<IndexEntry>>,
@@ -48,21 +59,72 @@ fn index_of(alloc: Global, symbols: &[Symbol]) -> Result<Option<Vec<IndexEntry>>
     }
 }
 
+/// The items of a slice, which are few.
+fn copied<T: Copy + Default + Drop>(items: &[T]) -> ArrayVec<T, MOST_REGIONS>
+    requires { length items.now ≤ 7 }
+    ensures { result.items ≡ items.now }
+{
+    match ArrayVec::try_from(items) {
+        Ok(copied) => copied,
+        Err(_) => unreachable!(),
+    }
+}
+
+/// The place of the first part of the core.
+fn first_core(parts: &[Part]) -> Option<usize>
+    ensures { result ≡ position is_core parts.now }
+{
+    parts.iter().position(|part| part.is_core())
+}
+
+/// The place of the first init part.
+fn first_init(parts: &[Part]) -> Option<usize>
+    ensures { result ≡ position is_init parts.now }
+{
+    parts.iter().position(|part| part.is_init())
+}
+
+/// The first address of the region at a place.
+fn start_at(regions: &[Region], place: usize) -> Option<u64>
+    ensures { result ≡ start_at regions.now place }
+{
+    regions.get(place).map(|region| region.0)
+}
+
+fn core_start(regions: &[Region], parts: &[Part]) -> Option<u64>
+    ensures { result ≡ start_where is_core regions.now parts.now }
+{
+    let place = first_core(parts)?;
+    start_at(regions, place)
+}
+
+fn init_start(regions: &[Region], parts: &[Part]) -> Option<u64>
+    ensures { result ≡ start_where is_init regions.now parts.now }
+{
+    let place = first_init(parts)?;
+    start_at(regions, place)
+}
+
+fn has_init(parts: &[Part]) -> bool
+    ensures { result ≡ list_any is_init parts.now }
+{
+    parts.iter().any(|part| part.is_init())
+}
+
 impl<'a> Module<'a> {
     pub(crate) fn new(
         alloc: Global,
-        name: &'a [u8],
-        region: (u64, u64),
+        placed: &Placed<'a>,
         symbols: Vec<Symbol<'a>>,
     ) -> Result<Module<'a>, AllocError>
-        ensures { IfOk result (λ m. m ≡ record { name = name.now; regions = region ∷ []; symbols = symbols.entry.items }) }
+        requires { IsPlaced placed.now }
+        ensures { IfOk result (λ m. m ≡ module_with placed.now symbols.entry.items) }
     {
         let by_address = index_of(alloc, symbols.as_slice())?;
-        let mut regions = ArrayVec::new();
-        regions.push(region);
         Ok(Module {
-            name,
-            regions,
+            name: placed.name,
+            regions: copied(placed.regions.as_slice()),
+            parts: copied(placed.parts.as_slice()),
             symbols,
             by_address,
         })
@@ -75,12 +137,47 @@ impl<'a> Module<'a> {
         self.name
     }
 
-    /// The first address and the excluded end of each region. For now a module has one.
-    pub fn regions(&self) -> &[(u64, u64)]
+    /// The first address and the excluded end of each of its 1 to 7 regions, in order.
+    pub fn regions(&self) -> &[Region]
         ensures regions { result.now ≡ self.now.regions }
-        ensures one { length result.now ≡ 1 }
+        ensures placed { IsPlaced (place_of self.now) }
     {
         self.regions.as_slice()
+    }
+
+    /// The part that each of its regions is.
+    pub fn parts(&self) -> &[Part]
+        ensures { result.now ≡ self.now.parts }
+    {
+        self.parts.as_slice()
+    }
+
+    /// The first address of its first region of the core, and that of its first init region, if it has one.
+    pub fn starts(&self) -> (u64, Option<u64>)
+        ensures core { Some result.0 ≡ first_start is_core self.now }
+        ensures init { result.1 ≡ first_start is_init self.now }
+    {
+        let Some(core) = core_start(self.regions.as_slice(), self.parts.as_slice()) else {
+            unreachable!();
+        };
+        (
+            core,
+            init_start(self.regions.as_slice(), self.parts.as_slice()),
+        )
+    }
+
+    /// The first addresses of its core regions, where `core` asks for them, and of its init regions, where `init` does.
+    pub(crate) fn starts_of(&self, core: bool, init: bool) -> ArrayVec<u64, MOST_REGIONS>
+        ensures { result.items ≡ starts_of core init self.now.regions self.now.parts }
+    {
+        starts_of(self.regions.as_slice(), self.parts.as_slice(), core, init)
+    }
+
+    /// Whether it has init regions.
+    pub(crate) fn has_init(&self) -> bool
+        ensures { result ≡ list_any is_init self.now.parts }
+    {
+        has_init(self.parts.as_slice())
     }
 
     /// The symbols that lie in the regions, in the order listed.

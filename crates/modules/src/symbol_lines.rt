@@ -13,7 +13,7 @@ ghost use Rattle.modules.specs.Lines.{first_address, built_in_region};
 ghost use Rattle.std.specs.Option.{option_copied, option_map};
 ghost use Rattle.modules.specs.Runs.{AreKept, is_named, owner_in};
 
-use crate::lines::SymbolLine;
+use crate::lines::{KernelBounds, Region, SymbolLine};
 use std::alloc::{AllocError, Global};
 use std::marker::Model;
 
@@ -123,12 +123,12 @@ fn first_address(lines: &SymbolLines, name: &[u8]) -> Option<u64>
     first_address_in(lines.runs.as_slice(), lines.lines.as_slice(), name)
 }
 
-/// The region of the kernel itself, from `_stext` up to `_end`.
-pub(crate) fn built_in_region(lines: &SymbolLines) -> Option<(u64, u64)>
-    ensures { result ≡ built_in_region lines.now }
+/// The region of the kernel itself, from the symbol of the one name up to that of the other.
+pub(crate) fn built_in_region(lines: &SymbolLines, names: &KernelBounds) -> Option<Region>
+    ensures { result ≡ built_in_region names.now lines.now }
 {
-    let start = first_address(lines, b"_stext")?;
-    let end = first_address(lines, b"_end")?;
+    let start = first_address(lines, names.start)?;
+    let end = first_address(lines, names.end)?;
     if start < end {
         Some((start, end))
     } else {

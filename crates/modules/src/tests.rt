@@ -1,6 +1,8 @@
 //! Catalogs of small listings.
 
-use crate::{BuildCounts, Catalog, ModuleLine, SymbolLine, SymbolLines};
+use crate::{
+    BuildCounts, Catalog, Held, KernelBounds, ModuleLine, Part, RegionLine, SymbolLine, SymbolLines,
+};
 use latch_core::Update;
 use order_laws::{Item, Refusal};
 use std::alloc::{AllocError, Global};
@@ -37,6 +39,55 @@ fn build<'a>(
     Catalog::build(alloc, modules, &lines(alloc, symbols)?)
 }
 
+fn region(name: &[u8], part: Part, base: u64, size: u64) -> RegionLine<'_> {
+    RegionLine {
+        name,
+        part,
+        base,
+        size,
+    }
+}
+
+fn build_with<'a>(
+    rt: &impl Abort,
+    alloc: Global,
+    modules: &[ModuleLine<'a>],
+    regions: &[RegionLine<'a>],
+    symbols: &[Listed<'a>],
+) -> Result<(Catalog<'a>, BuildCounts), Refusal> {
+    assert!(rt; modules.iter().all(|line| line.fits()));
+    assert!(rt; regions.iter().all(|line| line.fits()));
+    Catalog::build_with(alloc, modules, regions, &lines(alloc, symbols)?)
+}
+
+/// Counts of listings without region lines.
+fn plain_counts(modules: u64, double: u64, overlap: u64, symbols: u64, stray: u64) -> BuildCounts {
+    BuildCounts {
+        modules,
+        double,
+        overlap,
+        regions: 0,
+        stray_regions: 0,
+        symbols,
+        stray,
+    }
+}
+
+const NOTHING: Held = Held {
+    core: false,
+    init: false,
+};
+
+const CORE: Held = Held {
+    core: true,
+    init: false,
+};
+
+const BOTH: Held = Held {
+    core: true,
+    init: true,
+};
+
 const EXT4: &[u8] = b"ext4";
 
 const FIRST: u64 = 0xffff_ffff_c000_0000;
@@ -61,13 +112,7 @@ fn a_module_and_the_kernel(
 #[test]
 fn lines_are_counted(rt: HostRuntime) -> Result<(), Fail> {
     let (catalog, counts) = a_module_and_the_kernel(&rt, rt.alloc())?;
-    let expected = BuildCounts {
-        modules: 1,
-        double: 0,
-        overlap: 0,
-        symbols: 5,
-        stray: 1,
-    };
+    let expected = plain_counts(1, 0, 0, 5, 1);
     assert_eq!(rt; counts, expected);
     assert_eq!(rt; catalog.regions(), 2);
     Ok(())
@@ -78,16 +123,17 @@ fn loads_and_unloads(rt: HostRuntime) -> Result<(), Fail> {
     let (catalog, _) = a_module_and_the_kernel(&rt, rt.alloc())?;
     let insert = |a, b, tag| Ok(Update::Insert(Item { a, b, tag }));
     assert_eq!(rt;
-        catalog.load(1, false),
+        catalog.load(1, NOTHING),
         insert(FIRST, 0xffff_ffff_c000_1000, 1)
     );
-    assert_eq!(rt; catalog.load(1, true), Err(Refusal::AlreadyLoaded));
-    assert_eq!(rt; catalog.unload(1, true), Ok(Update::Erase(FIRST)));
-    assert_eq!(rt; catalog.unload(1, false), Err(Refusal::NotLoaded));
+    assert_eq!(rt; catalog.load(1, CORE), Err(Refusal::AlreadyLoaded));
+    assert_eq!(rt; catalog.unload(1, CORE), Ok(Update::Erase(FIRST)));
+    assert_eq!(rt; catalog.unload(1, NOTHING), Err(Refusal::NotLoaded));
+    assert_eq!(rt; catalog.drop_init(1, CORE), Err(Refusal::NoInit));
     let kernel = insert(0xffff_ffff_8100_0000, 0xffff_ffff_8100_2000, 0);
-    assert_eq!(rt; catalog.load(0, false), kernel);
-    assert_eq!(rt; catalog.load(9, true), Err(Refusal::UnknownModule));
-    assert_eq!(rt; catalog.unload(2, true), Err(Refusal::UnknownModule));
+    assert_eq!(rt; catalog.load(0, NOTHING), kernel);
+    assert_eq!(rt; catalog.load(9, CORE), Err(Refusal::UnknownModule));
+    assert_eq!(rt; catalog.unload(2, CORE), Err(Refusal::UnknownModule));
     Ok(())
 }
 
@@ -151,13 +197,7 @@ fn lines_that_are_not_accepted(rt: HostRuntime) -> Result<(), Fail> {
         ),
     ];
     let (catalog, counts) = build(&rt, alloc, &modules, &symbols)?;
-    let expected = BuildCounts {
-        modules: 2,
-        double: 1,
-        overlap: 1,
-        symbols: 2,
-        stray: 2,
-    };
+    let expected = plain_counts(2, 1, 1, 2, 2);
     assert_eq!(rt; counts, expected);
     assert_eq!(rt; catalog.number_of(b"g"), Some(2));
     assert_eq!(rt; catalog.number_of(b"d"), None);
@@ -169,16 +209,10 @@ fn lines_that_are_not_accepted(rt: HostRuntime) -> Result<(), Fail> {
 #[test]
 fn no_lines(rt: HostRuntime) -> Result<(), Fail> {
     let (catalog, counts) = build(&rt, rt.alloc(), &[], &[])?;
-    let expected = BuildCounts {
-        modules: 0,
-        double: 0,
-        overlap: 0,
-        symbols: 0,
-        stray: 0,
-    };
+    let expected = plain_counts(0, 0, 0, 0, 0);
     assert_eq!(rt; counts, expected);
     assert_eq!(rt; catalog.regions(), 0);
-    assert_eq!(rt; catalog.load(0, false), Err(Refusal::UnknownModule));
+    assert_eq!(rt; catalog.load(0, NOTHING), Err(Refusal::UnknownModule));
     Ok(())
 }
 
@@ -202,13 +236,7 @@ fn the_edges_of_the_kernel(rt: HostRuntime) -> Result<(), Fail> {
         (u64::MAX, b"past".as_slice(), Some(own)),
     ];
     let (catalog, counts) = build(&rt, alloc, &modules, &symbols)?;
-    let expected = BuildCounts {
-        modules: 2,
-        double: 0,
-        overlap: 1,
-        symbols: 3,
-        stray: 4,
-    };
+    let expected = plain_counts(2, 0, 1, 3, 4);
     assert_eq!(rt; counts, expected);
     assert_eq!(rt; catalog.number_of(b"-"), Some(0));
     let dash = catalog.module(1).ok_or("no module 1")?;
@@ -238,5 +266,228 @@ fn no_kernel_where_its_start_is_of_a_module(rt: HostRuntime) -> Result<(), Fail>
     ];
     let (catalog, _) = build(&rt, alloc, &[], &symbols)?;
     assert_eq!(rt; catalog.regions(), 0);
+    Ok(())
+}
+
+const M: &[u8] = b"m";
+
+const M_CORE: u64 = 0xffff_ffff_c040_0000;
+
+const M_DATA: u64 = 0xffff_ffff_c060_0000;
+
+const M_INIT: u64 = 0xffff_ffff_c070_0000;
+
+/// A module of two core regions and one of its start alone, each with a symbol.
+fn a_module_of_three_regions(
+    rt: &impl Abort,
+    alloc: Global,
+) -> Result<(Catalog<'static>, BuildCounts), Fail> {
+    let modules = [module(M, M_CORE, 12288)];
+    let regions = [
+        region(M, Part::Core, M_CORE, 4096),
+        region(M, Part::Core, M_DATA, 4096),
+        region(M, Part::Init, M_INIT, 4096),
+    ];
+    let symbols = [
+        (M_CORE, b"m_run".as_slice(), Some(M)),
+        (M_DATA + 0x100, b"m_data".as_slice(), Some(M)),
+        (M_INIT, b"m_init".as_slice(), Some(M)),
+    ];
+    Ok(build_with(rt, alloc, &modules, &regions, &symbols)?)
+}
+
+#[test]
+fn a_module_of_several_regions(rt: HostRuntime) -> Result<(), Fail> {
+    let (catalog, counts) = a_module_of_three_regions(&rt, rt.alloc())?;
+    let expected = BuildCounts {
+        modules: 1,
+        double: 0,
+        overlap: 0,
+        regions: 3,
+        stray_regions: 0,
+        symbols: 3,
+        stray: 0,
+    };
+    assert_eq!(rt; counts, expected);
+    assert_eq!(rt; catalog.regions(), 3);
+    let m = catalog.module(1).ok_or("no module 1")?;
+    assert_eq!(rt;
+        m.regions(),
+        [
+            (M_CORE, M_CORE + 4096),
+            (M_DATA, M_DATA + 4096),
+            (M_INIT, M_INIT + 4096)
+        ]
+        .as_slice()
+    );
+    assert_eq!(rt; m.parts(), [Part::Core, Part::Core, Part::Init].as_slice());
+    assert_eq!(rt; m.starts(), (M_CORE, Some(M_INIT)));
+    Ok(())
+}
+
+#[test]
+fn several_regions_are_one_update(rt: HostRuntime) -> Result<(), Fail> {
+    let alloc = rt.alloc();
+    let (catalog, _) = a_module_of_three_regions(&rt, alloc)?;
+    let item = |a| Item {
+        a,
+        b: a + 4096,
+        tag: 1,
+    };
+    let load = Update::Batch {
+        erase: Vec::new(alloc).into(),
+        insert: vec![in alloc; item(M_CORE), item(M_DATA), item(M_INIT)]?.into(),
+    };
+    assert_eq!(rt; catalog.load(1, NOTHING)?, load);
+    let both_parts = Update::Batch {
+        erase: vec![in alloc; M_CORE, M_DATA, M_INIT]?.into(),
+        insert: Vec::new(alloc).into(),
+    };
+    assert_eq!(rt; catalog.unload(1, BOTH)?, both_parts);
+    let core_alone = Update::Batch {
+        erase: vec![in alloc; M_CORE, M_DATA]?.into(),
+        insert: Vec::new(alloc).into(),
+    };
+    assert_eq!(rt; catalog.unload(1, CORE)?, core_alone);
+    assert_eq!(rt; catalog.drop_init(1, BOTH)?, Update::Erase(M_INIT));
+    assert_eq!(rt; catalog.drop_init(1, CORE), Err(Refusal::NoInit));
+    assert_eq!(rt; catalog.drop_init(1, NOTHING), Err(Refusal::NotLoaded));
+    assert_eq!(rt; catalog.drop_init(2, BOTH), Err(Refusal::UnknownModule));
+    assert!(rt; catalog.gives_load(1, &load));
+    assert!(rt; catalog.gives_unload(1, &both_parts));
+    assert!(rt; catalog.gives_unload(1, &core_alone));
+    assert!(rt; catalog.gives_drop_init(1, &Update::Erase(M_INIT)));
+    assert!(rt; !catalog.gives_load(1, &core_alone));
+    assert!(rt; !catalog.gives_unload(1, &Update::Erase(M_CORE)));
+    assert!(rt; !catalog.gives_drop_init(2, &Update::Erase(M_INIT)));
+    Ok(())
+}
+
+// Region lines of a module that is not accepted, of none, and of one without a core line.
+#[test]
+fn stray_region_lines(rt: HostRuntime) -> Result<(), Fail> {
+    let modules = [
+        module(M, 0x1000, 0x100),
+        module(b"n", 0x2000, 0x100),
+        module(b"o", 0x3000, 0x100),
+    ];
+    let regions = [
+        region(b"n", Part::Init, 0x5000, 0x10),
+        region(b"gone", Part::Core, 0x6000, 0x10),
+        region(b"o", Part::Core, 0x1080, 0x10),
+        region(M, Part::Core, 0x1080, 0x80),
+    ];
+    let symbols = [
+        (0x1000, b"before".as_slice(), Some(M)),
+        (0x1080, b"first".as_slice(), Some(M)),
+        (0x2000, b"alone".as_slice(), Some(b"n".as_slice())),
+        (0x5000, b"start".as_slice(), Some(b"n".as_slice())),
+    ];
+    let (catalog, counts) = build_with(&rt, rt.alloc(), &modules, &regions, &symbols)?;
+    let expected = BuildCounts {
+        modules: 2,
+        double: 0,
+        overlap: 1,
+        regions: 1,
+        stray_regions: 3,
+        symbols: 2,
+        stray: 2,
+    };
+    assert_eq!(rt; counts, expected);
+    let n = catalog.module(2).ok_or("no module 2")?;
+    assert_eq!(rt; n.regions(), [(0x2000, 0x2100)].as_slice());
+    assert_eq!(rt; n.starts(), (0x2000, None));
+    Ok(())
+}
+
+/// So many region lines of one name, side by side.
+fn lines_side_by_side(alloc: Global, count: u64) -> Result<Vec<RegionLine<'static>>, AllocError> {
+    (0..count)
+        .map(|i| region(M, Part::Core, 0x1000 + i % 64 * 0x10, 0x10))
+        .collect(alloc)
+}
+
+#[test]
+fn seven_regions_and_eight(rt: HostRuntime) -> Result<(), Fail> {
+    let alloc = rt.alloc();
+    let seven = lines_side_by_side(alloc, 7)?;
+    let (catalog, counts) = build_with(&rt, alloc, &[module(M, 0x9000, 1)], &seven, &[])?;
+    assert_eq!(rt; catalog.regions(), 7);
+    assert_eq!(rt; (counts.modules, counts.regions), (1, 7));
+    let eight = lines_side_by_side(alloc, 8)?;
+    let refused = build_with(&rt, alloc, &[module(M, 0x9000, 1)], &eight, &[]);
+    assert_eq!(rt; refused.map(|_| ()), Err(Refusal::TooManyRegions));
+    let of_no_module = build_with(&rt, alloc, &[], &eight, &[]);
+    assert_eq!(rt; of_no_module.map(|_| ()), Err(Refusal::TooManyRegions));
+    Ok(())
+}
+
+#[test]
+fn regions_that_meet_each_other_overlap(rt: HostRuntime) -> Result<(), Fail> {
+    let regions = [
+        region(M, Part::Core, 0x1000, 0x20),
+        region(M, Part::Init, 0x1010, 0x20),
+    ];
+    let (catalog, counts) = build_with(&rt, rt.alloc(), &[module(M, 0x9000, 1)], &regions, &[])?;
+    assert_eq!(rt; catalog.regions(), 0);
+    assert_eq!(rt; (counts.overlap, counts.stray_regions), (1, 2));
+    Ok(())
+}
+
+#[test]
+fn the_kernel_between_named_symbols(rt: HostRuntime) -> Result<(), Fail> {
+    let alloc = rt.alloc();
+    let symbols = [
+        (0x1000, b"_stext".as_slice(), None),
+        (0x1800, b"do_one".as_slice(), None),
+        (0x2000, b"_etext".as_slice(), None),
+    ];
+    let names = KernelBounds {
+        start: b"_stext",
+        end: b"_etext",
+    };
+    let symbols = lines(alloc, &symbols)?;
+    let (catalog, counts) = Catalog::build_between(alloc, &names, &[], &[], &symbols)?;
+    assert_eq!(rt;
+        catalog.module(0).ok_or("no kernel")?.regions(),
+        [(0x1000, 0x2000)].as_slice()
+    );
+    assert_eq!(rt; (counts.symbols, counts.stray), (2, 1));
+    let (usual, _) = Catalog::build(alloc, &[], &symbols)?;
+    assert!(rt; usual.module(0).is_none());
+    Ok(())
+}
+
+/// Catalogs of so many modules, each with as many region lines and symbols, are built at any size.
+fn build_many(rt: &impl Abort, alloc: Global, count: u64) -> Result<(), Fail> {
+    let mut text = Vec::new(alloc);
+    for i in 0..count {
+        text.extend_from_slice(format!(in alloc; "module_{:05}", i % 100_000)?.as_bytes())?;
+    }
+    let names: Vec<&[u8]> = text.as_slice().chunks(12).collect(alloc)?;
+    let mut modules = Vec::new(alloc);
+    let mut regions = Vec::new(alloc);
+    let mut symbols = Vec::new(alloc);
+    for name in names.iter().rev() {
+        let base = 0x1000 + modules.len() as u64 % 100_000 * 0x100;
+        modules.push(module(name, base, 0x10))?;
+        regions.push(region(name, Part::Core, base + 0x20, 0x10))?;
+        symbols.push((base + 0x28, *name, Some(*name)))?;
+    }
+    let (catalog, counts) = build_with(rt, alloc, &modules, &regions, &symbols)?;
+    assert_eq!(rt;
+        (counts.modules, counts.regions, counts.symbols),
+        (count, count, count)
+    );
+    assert_eq!(rt; catalog.regions() as u64, count);
+    Ok(())
+}
+
+#[test]
+fn no_memory_is_wanting_at_size(rt: HostRuntime) -> Result<(), Fail> {
+    let alloc = rt.alloc();
+    for count in [17, 246, 1025, 5001] {
+        build_many(&rt, alloc, count)?;
+    }
     Ok(())
 }

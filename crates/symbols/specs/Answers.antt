@@ -5,7 +5,7 @@ use Rattle.devices.specs.Exact.{hexadecimal}
 use Rattle.order_laws.specs.declared.items.Item.{Item}
 use Rattle.modules.specs.Catalogs.{module_of}
 use Rattle.modules.specs.Entries.{CatalogEntries, ModuleEntry, SymbolEntry}
-use Rattle.symbols.specs.Found.{found_in}
+use Rattle.symbols.specs.Found.{found_in, symbols_from}
 
 -- `NAME+0xOFFSET/0xSIZE`
 unfoldable pub symbol_text : SymbolEntry → ℕ → ℕ → List ℕ
@@ -21,7 +21,11 @@ unknown_text number name = if nat_eq number 0 then codes "-" else codes "?" ++ m
 
 -- of an address in a region of the module
 abbrev pub text_in : ModuleEntry → Item → ℕ → List ℕ
-text_in m item addr = option_map_or (λ f. symbol_text f.symbol f.offset f.size ++ module_text item.tag m.name) (found_in m.symbols item.b addr) (unknown_text item.tag m.name)
+text_in m item addr =
+    option_map_or
+    (λ f. symbol_text f.symbol f.offset f.size ++ module_text item.tag m.name)
+    (found_in (symbols_from m.symbols item.a item.b) item.b addr)
+    (unknown_text item.tag m.name)
 
 -- of an address that the item holds
 abbrev pub held_text : CatalogEntries → Item → ℕ → List ℕ

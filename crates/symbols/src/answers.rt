@@ -1,6 +1,6 @@
 //! The text of an answer.
 
-ghost use Rattle.std.specs.Prelude.{◌<◌};
+ghost use Rattle.std.specs.Prelude.{◌≤◌, ◌<◌};
 ghost use Rattle.devices.specs.Exact.{Wrote};
 ghost use Rattle.symbols.specs.Answers.{answer_text, held_text, symbol_text, module_text};
 
@@ -48,13 +48,14 @@ fn write_held<W: Write>(
     item: Item,
     addr: u64,
 ) -> io::Result<()>
-    requires { addr < item.b }
+    requires from { item.a ≤ addr }
+    requires below { addr < item.b }
     ensures { Wrote W.contents writer.old writer.new result (held_text catalog.now item addr) }
 {
     let Some(module) = catalog.module(item.tag) else {
         return put(writer, b"-");
     };
-    match symbol_in(module, item.b, addr) {
+    match symbol_in(module, item.a, item.b, addr) {
         Some((symbol, offset, size)) => write_symbol(writer, symbol, offset, size)?,
         None if item.tag == 0 => return put(writer, b"-"),
         None => put(writer, b"?")?,

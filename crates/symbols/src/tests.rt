@@ -2,7 +2,7 @@
 
 use crate::{symbol_of, write_answer};
 use devices::{Counted, FailAt};
-use modules::{Catalog, ModuleLine, SymbolLine, SymbolLines};
+use modules::{Catalog, ModuleLine, Part, RegionLine, SymbolLine, SymbolLines};
 use order_laws::Item;
 use std::alloc::Global;
 use std::process::Abort;
@@ -83,6 +83,84 @@ fn texts_of_answers(rt: HostRuntime) -> Result<(), Fail> {
     for (item, addr, text) in cases {
         let mut writer = Counted::new(Vec::new(rt.alloc()));
         write_answer(&mut writer, &catalog, item, addr)?;
+        assert_eq!(rt; writer.into_inner().as_slice(), text);
+    }
+    Ok(())
+}
+
+const M: &[u8] = b"m";
+
+/// A module of three regions, with a symbol in each.
+fn module_of_three_regions(rt: &impl Abort, alloc: Global) -> Result<Catalog<'static>, Fail> {
+    let modules = [ModuleLine {
+        name: M,
+        base: 0xffff_ffff_c040_0000,
+        size: 12288,
+    }];
+    let region = |part, base| RegionLine {
+        name: M,
+        part,
+        base,
+        size: 4096,
+    };
+    let regions = [
+        region(Part::Core, 0xffff_ffff_c040_0000),
+        region(Part::Core, 0xffff_ffff_c060_0000),
+        region(Part::Init, 0xffff_ffff_c070_0000),
+    ];
+    let mut lines = SymbolLines::new(alloc);
+    lines.push(symbol(0xffff_ffff_c040_0000, b"m_run", Some(M)))?;
+    lines.push(symbol(0xffff_ffff_c060_0100, b"m_data", Some(M)))?;
+    lines.push(symbol(0xffff_ffff_c070_0000, b"m_init", Some(M)))?;
+    assert!(rt; modules.iter().all(|line| line.fits()));
+    assert!(rt; regions.iter().all(|line| line.fits()));
+    let (catalog, _) = Catalog::build_with(alloc, &modules, &regions, &lines)?;
+    Ok(catalog)
+}
+
+const M_CORE: Item = Item {
+    a: 0xffff_ffff_c040_0000,
+    b: 0xffff_ffff_c040_1000,
+    tag: 1,
+};
+
+const M_DATA: Item = Item {
+    a: 0xffff_ffff_c060_0000,
+    b: 0xffff_ffff_c060_1000,
+    tag: 1,
+};
+
+const M_INIT: Item = Item {
+    a: 0xffff_ffff_c070_0000,
+    b: 0xffff_ffff_c070_1000,
+    tag: 1,
+};
+
+// A symbol reaches no further than its region, and none of another region is below an address.
+#[test]
+fn texts_within_a_region(rt: HostRuntime) -> Result<(), Fail> {
+    let catalog = module_of_three_regions(&rt, rt.alloc())?;
+    let cases = [
+        (
+            M_DATA,
+            0xffff_ffff_c060_0104,
+            b"m_data+0x4/0xf00 [m]".as_slice(),
+        ),
+        (M_DATA, 0xffff_ffff_c060_0000, b"? [m]".as_slice()),
+        (
+            M_INIT,
+            0xffff_ffff_c070_0000,
+            b"m_init+0x0/0x1000 [m]".as_slice(),
+        ),
+        (
+            M_CORE,
+            0xffff_ffff_c040_0fff,
+            b"m_run+0xfff/0x1000 [m]".as_slice(),
+        ),
+    ];
+    for (item, addr, text) in cases {
+        let mut writer = Counted::new(Vec::new(rt.alloc()));
+        write_answer(&mut writer, &catalog, Some(item), addr)?;
         assert_eq!(rt; writer.into_inner().as_slice(), text);
     }
     Ok(())

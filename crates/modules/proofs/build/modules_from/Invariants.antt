@@ -10,5 +10,5 @@ invariant-loop-symbols l =
       finite : (goal.iterator-loop-symbols).is_finite l.symbols-iterator;
       gone : l.fn.lists.items ≡ l.yielded ++ into_iter_items l.symbols-iterator;
       count : length l.modules.items ≡ length l.yielded;
-      each : EachMade l.lines l.yielded l.modules.items;
+      each : EachMade l.places l.yielded l.modules.items;
     }

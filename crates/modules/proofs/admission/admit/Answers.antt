@@ -1,0 +1,32 @@
+use Rattle.std.proofs.Common.{◌≡◌, ℕ, ◌+◌, List, take, sym, ap, subst, ◌∙◌}
+use Rattle.std.specs.Prelude.{fold}
+use Rattle.std.proofs.lemmas.List.Sums.{fold_more}
+use Rattle.modules.specs.Accepted.{Accepted, after_module, none_yet}
+use Rattle.modules.specs.Admissions.{shown}
+use Rattle.modules.specs.Lines.{fits}
+use Rattle.modules.specs.Listed.{ListedModule}
+use Rattle.modules.specs.Placed.{IsPlaced, PlacedModule, placed}
+use Rattle.modules.proofs.Admitting.{total, total-after_module}
+use Rattle.modules.proofs.Lying.{IsPlaced-placed}
+use Rattle.modules.proofs.Soundness.{fold_placed}
+use Rattle.modules.proofs.admission.admit.Goals as goal
+
+pub take_module-requires-clause-placed : goal.take_module-requires-clause-placed
+take_module-requires-clause-placed c =
+    let line = c.line-item.result in
+    let fit : fits line ≡ _ = ap fits c.line-item.is ∙ c.requires.fit c.loop-line.line-index line c.loop-line-test.true in
+    subst IsPlaced (sym c.place.ensures) (IsPlaced-placed c.args.regions.now line fit c.requires.regions_fit c.requires.few)
+
+pub loop-line-preserved : goal.loop-line-preserved
+loop-line-preserved c =
+    let i = c.loop-line.invariant in
+    let regions = c.args.regions.now in
+    let lines = c.args.lines.now in
+    let line = c.line-item.result in
+    let step : Accepted → ListedModule → Accepted = λ a x. after_module a (placed regions x) in
+    let after : shown c.take_module.new.self ≡ after_module (shown c.loop-line.admission) c.place.result = c.in_ok-take_module.ensures.after in
+    record {
+      shows = after ∙ ap (λ (m : PlacedModule). after_module (shown c.loop-line.admission) m) c.place.ensures ∙ ap (λ (a : Accepted). step a line) i.shows ∙ ap (λ (x : ListedModule). step (fold step (none_yet c.args.built_in) (take c.loop-line.line-index lines)) x) c.line-item.is ∙ sym (fold_more step (none_yet c.args.built_in) lines c.loop-line.line-index line c.loop-line-test.true);
+      tied = c.in_ok-take_module.ensures.tied;
+      counted = ap total after ∙ total-after_module (shown c.loop-line.admission) c.place.result ∙ ap (λ n. n + 1) i.counted;
+    }

@@ -1,0 +1,12 @@
+use Rattle.std.proofs.Common.{◌≡◌, Err, Ok, Result, rules}
+use Rattle.latch_core.specs.declared.updates.Update.{Update}
+use Rattle.order_laws.specs.declared.refusals.Refusal.{Refusal}
+use Rattle.order_laws.specs.declared.refusals.Refusal.TheVariants.{OutOfMemory}
+use Rattle.modules.proofs.Loading.{many_given, many_lacks}
+use Rattle.modules.proofs.loads.inserting_many.Goals as goal
+
+pub returns : goal.returns
+returns c = many_given c.args.number c.args.regions.now c.into.result c.into-2.result c.requires (search rules) (search rules)
+
+pub returns-in_err-items : goal.returns-in_err-items
+returns-in_err-items c = many_lacks c.args.number c.args.regions.now _ c.requires (search rules)

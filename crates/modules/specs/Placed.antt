@@ -1,0 +1,49 @@
+-- Where the modules of the listing lie.
+use Rattle.std.specs.Prelude.{◌≡◌, ℕ, ◌<◌, ◌≤◌, Bool, true, All, List, [], ◌∷◌, length, map, filter, nat_le, if◌then◌else◌}
+use Rattle.std.specs.List.{list_any, list_all}
+use Rattle.std.specs.Str.{bytes_eq}
+use Rattle.modules.specs.Lines.{bounds_of, region_of}
+use Rattle.modules.specs.Listed.{ListedModule, ListedRegion}
+use Rattle.modules.specs.Parts.{is_core}
+use Rattle.modules.specs.declared.lines.Part.{Part}
+use Rattle.modules.specs.declared.lines.Part.TheVariants.{Core}
+
+-- a module, its regions in their order, and the part that each of them is
+pub record PlacedModule : Type 0 where
+  pub name : List ℕ
+  pub regions : List (ℕ × ℕ)
+  pub parts : List Part
+
+-- the region lines of this name
+abbrev pub lines_named : List ℕ → List ListedRegion → List ListedRegion
+lines_named name regions = filter (λ r. bytes_eq r.name name) regions
+
+-- a line of these is of a core region
+abbrev pub has_core : List ListedRegion → Bool
+has_core lines = list_any (λ r. is_core r.part) lines
+
+-- no more than seven region lines have one name
+abbrev pub are_few : List ListedRegion → Bool
+are_few regions = list_all (λ r. nat_le (length (lines_named r.name regions)) 7) regions
+
+-- a module that lies where its own line says
+abbrev pub placed_alone : ListedModule → PlacedModule
+placed_alone line = record { name = line.name; regions = region_of line ∷ []; parts = Core ∷ [] }
+
+-- a module that lies where region lines say
+abbrev pub placed_by : List ListedRegion → ListedModule → PlacedModule
+placed_by lines line = record { name = line.name; regions = map bounds_of lines; parts = map (λ r. r.part) lines }
+
+-- a module lies where the region lines of its name say, if one of them is of a core region
+abbrev pub placed_with : List ListedRegion → ListedModule → PlacedModule
+placed_with lines line = if has_core lines then placed_by lines line else placed_alone line
+
+abbrev pub placed : List ListedRegion → ListedModule → PlacedModule
+placed regions line = placed_with (lines_named line.name regions) line
+
+-- the module has at most seven regions, each with an address, and one of them is a core region
+pub record IsPlaced (m : PlacedModule) : Type 0 where
+  pub few : length m.regions ≤ 7
+  pub same : length m.parts ≡ length m.regions
+  pub some_core : list_any is_core m.parts ≡ true
+  pub valid : All (λ r. r.0 < r.1) m.regions

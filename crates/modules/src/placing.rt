@@ -1,0 +1,233 @@
+//! Where the modules of a listing lie.
+//!
+//! The region lines are sorted by name once, those of one name as they were listed, so that the
+//! lines of a module are found side by side:
+//!
+//! ```text
+//! listed:  ext4 core   nfs core   ext4 init
+//! sorted:  ext4 core   ext4 init  nfs core
+//! ```
+
+ghost use Rattle.std.specs.Prelude.{◌≡◌, ◌≤◌, nat_le, true, [], ◌∷◌, length, All, IfOk, map};
+ghost use Rattle.std.specs.Cmp.Lexicographic.{slice_cmp};
+ghost use Rattle.std.specs.List.{list_any};
+ghost use Rattle.std.specs.List.Sorted.{IsSortedBy};
+ghost use Rattle.std.specs.Ordering.{is_le, is_lt, nat_cmp};
+ghost use Rattle.modules.specs.Building.{kernel_at};
+ghost use Rattle.modules.specs.Grouped.{comes_first, IsCut, IsGrouped, lines_at};
+ghost use Rattle.modules.specs.Kept.{lies_in};
+ghost use Rattle.modules.specs.Lines.{bounds_of, fits, region_fits};
+ghost use Rattle.modules.specs.Parts.{is_core};
+ghost use Rattle.modules.specs.Placed.{are_few, has_core, lines_named, placed};
+ghost use Rattle.modules.specs.declared.lines.Part.TheVariants.{Core};
+
+use crate::lines::{ModuleLine, Part, Region, RegionLine};
+use crate::module::MOST_REGIONS;
+use arrayvec::ArrayVec;
+use std::alloc::{AllocError, Global};
+use std::cmp::Ordering;
+use std::marker::Model;
+
+/// A module and its regions.
+#[derive(Drop)]
+pub(crate) struct Placed<'a> {
+    pub(crate) name: &'a [u8],
+    /// Its regions in their order.
+    pub(crate) regions: ArrayVec<Region, MOST_REGIONS>,
+    /// The part that each of them is.
+    pub(crate) parts: ArrayVec<Part, MOST_REGIONS>,
+}
+
+impl<'a> Model for Placed<'a> {
+    ghost use Rattle.modules.specs.Placed.{PlacedModule};
+
+    ghost Value = { PlacedModule };
+
+    ghost view = { λ p. record { name = p.name.now; regions = p.regions.items; parts = p.parts.items } };
+}
+
+impl<'a> Placed<'a> {
+    /// The kernel itself, in its region.
+    pub(crate) fn kernel(region: Region) -> Placed<'static>
+        ensures { result ≡ kernel_at region }
+    {
+        Placed::in_one(b"-", region)
+    }
+
+    /// Whether the address lies in one of its regions.
+    pub(crate) fn lies_at(&self, addr: u64) -> bool
+        ensures { result ≡ lies_in self.now addr }
+    {
+        self.regions
+            .as_slice()
+            .iter()
+            .any(|(start, end)| *start <= addr && addr < *end)
+    }
+
+    /// A module with one region, of its core.
+    fn in_one(name: &'a [u8], region: Region) -> Placed<'a>
+        ensures { result ≡ record { name = name.now; regions = region ∷ []; parts = Core ∷ [] } }
+    {
+        let mut regions = ArrayVec::new();
+        regions.push(region);
+        let mut parts = ArrayVec::new();
+        parts.push(Part::Core);
+        Placed {
+            name,
+            regions,
+            parts,
+        }
+    }
+
+    /// A module that lies where these region lines say.
+    fn in_lines(name: &'a [u8], lines: &[&RegionLine]) -> Placed<'a>
+        requires few { length lines.now ≤ 7 }
+        requires fit { All (λ l. region_fits l.now ≡ true) lines.now }
+        ensures { result ≡ record { name = name.now; regions = map bounds_of (lines_at lines.now); parts = map (λ l. l.part) (lines_at lines.now) } }
+    {
+        let mut regions = ArrayVec::new();
+        let mut parts = ArrayVec::new();
+        for line in lines {
+            regions.push(line.region());
+            parts.push(line.part);
+        }
+        Placed {
+            name,
+            regions,
+            parts,
+        }
+    }
+}
+
+/// How the name of a line compares to this one.
+fn compare_to(line: &RegionLine, name: &[u8]) -> Ordering
+    ensures { result ≡ slice_cmp nat_cmp line.now.name name.now }
+{
+    line.name.cmp(name)
+}
+
+/// How many lines have a lesser name.
+fn lesser_than(index: &[&RegionLine], name: &[u8]) -> usize
+    requires { IsSortedBy comes_first index.now }
+    ensures { IsCut (λ l. is_lt (slice_cmp nat_cmp l.now.name name.now)) index.now result }
+{
+    index.partition_point(|line| compare_to(line, name).is_lt())
+}
+
+/// How many lines have a name that is not greater.
+fn up_to(index: &[&RegionLine], name: &[u8]) -> usize
+    requires { IsSortedBy comes_first index.now }
+    ensures { IsCut (λ l. is_le (slice_cmp nat_cmp l.now.name name.now)) index.now result }
+{
+    index.partition_point(|line| compare_to(line, name).is_le())
+}
+
+/// The lines of this name, which stand side by side.
+fn lines_in<'i, 'l, 'a>(index: &'i [&'l RegionLine<'a>], name: &[u8]) -> &'i [&'l RegionLine<'a>]
+    requires { IsSortedBy comes_first index.now }
+    ensures { lines_at result.now ≡ lines_named name.now (lines_at index.now) }
+{
+    let start = lesser_than(index, name);
+    let end = up_to(index, name);
+    &index[start..end]
+}
+
+/// The lines in the order of their names, those of one name as they were listed.
+fn by_name<'l, 'a>(
+    alloc: Global,
+    lines: &'l [RegionLine<'a>],
+) -> Result<Vec<&'l RegionLine<'a>>, AllocError>
+    ensures { IfOk result (λ v. IsGrouped lines.now v.items) }
+{
+    let mut index: Vec<&RegionLine> = lines.iter().collect(alloc)?;
+    index.sort_by(|x, y| compare_to(x, y.name))?;
+    Ok(index)
+}
+
+/// Whether one of the lines that are referred to is of a core region.
+fn any_core(lines: &[&RegionLine]) -> bool
+    ensures { result ≡ list_any (λ l. is_core l.now.part) lines.now }
+{
+    lines.iter().any(|line| line.is_core())
+}
+
+/// Whether one of the lines is of a core region.
+fn has_core(lines: &[&RegionLine]) -> bool
+    ensures { result ≡ has_core (lines_at lines.now) }
+{
+    any_core(lines)
+}
+
+/// The lines of a listing of regions, by name. A contract sees the list of the lines, as it was given.
+#[derive(Drop)]
+pub(crate) struct RegionLines<'l, 'a> {
+    pub(crate) listed: &'l [RegionLine<'a>],
+    by_name: Vec<&'l RegionLine<'a>>,
+}
+
+impl<'l, 'a> Model for RegionLines<'l, 'a> {
+    ghost use Rattle.std.specs.Prelude.{List};
+    ghost use Rattle.modules.specs.Grouped.{IsGrouped};
+    ghost use Rattle.modules.specs.Listed.{ListedRegion};
+
+    ghost Value = { List ListedRegion };
+
+    ghost view = { λ r. r.listed.now };
+
+    ghost invariant = { λ r. IsGrouped r.listed.now r.by_name.items };
+}
+
+impl<'l, 'a> RegionLines<'l, 'a> {
+    pub(crate) fn new(
+        alloc: Global,
+        listed: &'l [RegionLine<'a>],
+    ) -> Result<RegionLines<'l, 'a>, AllocError>
+        ensures { IfOk result (λ r. r ≡ listed.now) }
+    {
+        let by_name = by_name(alloc, listed)?;
+        Ok(RegionLines { listed, by_name })
+    }
+
+    /// The lines of this name, in the order listed.
+    pub(crate) fn named(&self, name: &[u8]) -> &[&'l RegionLine<'a>]
+        ensures { lines_at result.now ≡ lines_named name.now self.now }
+    {
+        lines_in(self.by_name.as_slice(), name)
+    }
+
+    /// Whether no more lines have the name of this one than a module has regions.
+    fn are_few_of(&self, line: &RegionLine) -> bool
+        ensures { result ≡ nat_le (length (lines_named line.now.name self.now)) 7 }
+    {
+        self.named(line.name).len() <= MOST_REGIONS
+    }
+
+    /// Whether no more lines have one name than a module has regions.
+    pub(crate) fn are_few(&self) -> bool
+        ensures { result ≡ are_few self.now }
+    {
+        self.listed.iter().all(|line| self.are_few_of(line))
+    }
+
+    /// Whether a line of this name is of a core region.
+    pub(crate) fn has_core_of(&self, name: &[u8]) -> bool
+        ensures { result ≡ has_core (lines_named name.now self.now) }
+    {
+        has_core(self.named(name))
+    }
+
+    /// Where a module lies: in the regions of its lines if one of them is of its core, or else in that of its own line.
+    pub(crate) fn place(&self, line: &ModuleLine<'a>) -> Placed<'a>
+        requires few { are_few self.now ≡ true }
+        requires region_fits { All (λ l. region_fits l ≡ true) self.now }
+        requires fits { fits line.now ≡ true }
+        ensures { result ≡ placed self.now line.now }
+    {
+        let lines = self.named(line.name);
+        if has_core(lines) {
+            Placed::in_lines(line.name, lines)
+        } else {
+            Placed::in_one(line.name, line.region())
+        }
+    }
+}
