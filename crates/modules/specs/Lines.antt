@@ -2,7 +2,7 @@
 use Rattle.std.specs.Prelude.{ℕ, ◌+◌, ◌^◌, Bool, not, ◌&&◌, nat_lt, nat_eq, is_none, if◌then◌else◌, List, find, Option, Some, None, codes}
 use Rattle.std.specs.Option.{option_map, option_and_then}
 use Rattle.std.specs.Str.{bytes_eq}
-use Rattle.modules.specs.Listed.{ListedModule, ListedSymbol}
+use Rattle.modules.specs.Listed.{ListedModule, ListedRegion, ListedSymbol}
 
 -- the line stands for a region of at least one byte, not at 0 and not past the greatest address
 abbrev pub fits : ListedModule → Bool
@@ -22,3 +22,7 @@ built_in_region lines =
 -- from the base up to the base plus the size
 abbrev pub region_of : ListedModule → ℕ × ℕ
 region_of l = (l.base, l.base + l.size)
+
+-- the line of a region stands for one
+abbrev pub region_fits : ListedRegion → Bool
+region_fits l = not (nat_eq l.base 0) && not (nat_eq l.size 0) && nat_lt (l.base + l.size) (2 ^ 64)

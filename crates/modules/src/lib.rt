@@ -14,7 +14,7 @@ pub mod symbol_lines;
 pub mod symbols;
 
 pub use catalog::{BuildCounts, Catalog};
-pub use lines::{ModuleLine, SymbolLine};
+pub use lines::{ModuleLine, Part, RegionLine, SymbolLine};
 pub use module::Module;
 pub use symbol_lines::SymbolLines;
 pub use symbols::Symbol;
