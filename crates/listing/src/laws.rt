@@ -4,12 +4,12 @@ ghost use Rattle.listing.specs.Lines.{lines_of};
 ghost use Rattle.listing.specs.ModuleListing.{module_counts, modules_in, modules_skipped};
 ghost use Rattle.listing.specs.SymbolListing.{symbol_counts, symbols_in, symbols_skipped};
 ghost use Rattle.listing.specs.Trace.{trace_of};
-ghost use Rattle.listing.specs.Understood.{IsSaidBy, IsFirstBad};
+ghost use Rattle.listing.specs.Understood.{IsFirstBad, IsTraceBy};
 
 /// A text is a trace exactly where each of its lines is in the grammar, and its commands are then
 /// those of its lines, in their order; otherwise the line that is named is the first one that is not.
 pub fn trace_by_its_lines()
-    ensures { (bytes : List ℕ) → MatchResult (trace_of bytes) (IsSaidBy (lines_of bytes)) (IsFirstBad (lines_of bytes)) }
+    ensures { (bytes : List ℕ) → MatchResult (trace_of bytes) (IsTraceBy (lines_of bytes)) (IsFirstBad (lines_of bytes)) }
 {}
 
 /// Each line of a listing is taken, or is counted for one cause for which it is skipped.
