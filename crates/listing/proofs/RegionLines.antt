@@ -1,5 +1,5 @@
 -- What a line of a listing of regions is.
-use Rattle.std.proofs.Common.{cond, ◌≡◌, ◌≢◌, ℕ, ◌<◌, slice_index_or, Bool, true, false, nat_lt, List, [], ◌∷◌, length, map, Option, Some, None, Result, Ok, Err, MatchResult, refl, sym, ap, ◌∙◌, subst, arith, Bor}
+use Rattle.std.proofs.Common.{cond, ◌≡◌, ◌≢◌, ℕ, ◌<◌, slice_index_or, Bool, true, false, nat_lt, List, [], ◌∷◌, length, map, Option, Some, None, Result, Ok, Err, MatchResult, inl, inr, refl, sym, ap, ◌∙◌, subst, arith, Bor}
 use Rattle.std.specs.Prelude.{All, IfOk}
 use Rattle.std.specs.Global.{Vec}
 use Rattle.std.specs.List.{filter_map, cons_option}
@@ -13,9 +13,9 @@ use Rattle.listing.specs.declared.said.Said.{Said}
 use Rattle.listing.specs.declared.said.Said.TheVariants.{Nothing, One, Bad}
 use Rattle.listing.specs.Lines.{words_of}
 use Rattle.listing.specs.Numbers.{number_of}
-use Rattle.listing.specs.RegionListing.{part_of, placed, region_by, region_of_parts, region_of_words, region_with}
+use Rattle.listing.specs.RegionListing.{is_regions_header, part_of, placed, regions_of_lines, region_by, region_of_parts, region_of_words, region_with}
 use Rattle.listing.specs.Said.{entries_from, GivesInGrammar, is_passed_over, is_too_long, said_by}
-use Rattle.listing.specs.Understood.{entry_by, AreSaidBy, IsFirstBadFrom}
+use Rattle.listing.specs.Understood.{entry_by, AreSaidBy, IsFirstBadFrom, IsFirstBadRegion, IsRegionListingBy}
 use Rattle.listing.proofs.Understood.{are_entries}
 use Rattle.listing.proofs.Forms.{Words}
 
@@ -122,3 +122,20 @@ pub regions_fit_given : (r : Result (Vec ListedRegion) LineFault) (n : ℕ) (lin
     → IfOk r (λ v. All (λ x. region_fits x ≡ true) v.items)
 regions_fit_given (Ok v) n lines is = regions_fit n lines v.items is
 regions_fit_given (Err fault) n lines is = tt
+
+-- ---- a listing, line by line
+
+with_regions : (first : List ℕ) (lines : List (List ℕ)) → is_regions_header first ≡ true → (r : Result (List ListedRegion) ℕ)
+    → MatchResult r (AreSaidBy region_by lines) (IsFirstBadFrom region_by 2 lines)
+    → MatchResult r (IsRegionListingBy (first ∷ lines)) (IsFirstBadRegion (first ∷ lines))
+with_regions first lines e (Ok regions) all = (e, all)
+with_regions first lines e (Err n) bad = inr (e, bad)
+
+headed_by : (first : List ℕ) (lines : List (List ℕ)) (b : Bool) → is_regions_header first ≡ b
+    → MatchResult (cond b (entries_from region_by 2 lines) (Err 1)) (IsRegionListingBy (first ∷ lines)) (IsFirstBadRegion (first ∷ lines))
+headed_by first lines true e = with_regions first lines e (entries_from region_by 2 lines) (are_entries region_by 2 lines)
+headed_by first lines false e = inl (refl, e)
+
+pub regions_by_lines : (lines : List (List ℕ)) → MatchResult (regions_of_lines lines) (IsRegionListingBy lines) (IsFirstBadRegion lines)
+regions_by_lines [] = refl
+regions_by_lines (first ∷ lines) = headed_by first lines (is_regions_header first) refl

@@ -1,5 +1,5 @@
 -- What a listing of regions says: the regions, or the number of the first line that is not in the grammar.
-use Rattle.std.specs.Prelude.{ℕ, ◌<◌, nat_lt, if◌then◌else◌, List, [], ◌∷◌, length, codes, Option, Some, None, Result, Err}
+use Rattle.std.specs.Prelude.{ℕ, Bool, nat_lt, if◌then◌else◌, List, [], ◌∷◌, length, codes, Option, Some, None, Result, Err}
 use Rattle.std.specs.Str.{bytes_eq}
 use Rattle.modules.specs.Lines.{region_fits}
 use Rattle.modules.specs.Listed.{ListedRegion}
@@ -40,11 +40,14 @@ region_of_words _ = None
 abbrev pub region_by : List ℕ → Option ListedRegion
 region_by line = region_of_words (words_of line)
 
--- line 1 is `latchregions 1`, also where there is no line
+-- the first line of a listing of regions
+abbrev pub is_regions_header : List ℕ → Bool
+is_regions_header line = bytes_eq line (codes "latchregions 1")
+
+-- line 1 is the header, also where there is no line
 abbrev pub regions_of_lines : List (List ℕ) → Result (List ListedRegion) ℕ
 regions_of_lines [] = Err 1
-regions_of_lines (first ∷ lines) =
-    if bytes_eq first (codes "latchregions 1") then entries_from region_by 2 lines else Err 1
+regions_of_lines (first ∷ lines) = if is_regions_header first then entries_from region_by 2 lines else Err 1
 
 abbrev pub regions_of : List ℕ → Result (List ListedRegion) ℕ
 regions_of text = regions_of_lines (lines_of text)

@@ -1,10 +1,12 @@
 -- What a text is, line by line, where each of its lines has to be understood.
-use Rattle.std.specs.Prelude.{◌≡◌, ◌≢◌, ℕ, ◌+◌, ◌<◌, ◌⊎◌, List, [], ◌∷◌, length, slice_index_or, All, Option, Some, None}
+use Rattle.std.specs.Prelude.{◌≡◌, ◌≢◌, ℕ, ◌+◌, ◌<◌, ◌⊎◌, true, false, List, [], ◌∷◌, length, slice_index_or, All, Option, Some, None}
 use Rattle.std.specs.List.{filter_map}
+use Rattle.modules.specs.Listed.{ListedRegion}
 use Rattle.listing.specs.declared.header.Header.{Header}
 use Rattle.listing.specs.declared.said.Said.TheVariants.{Nothing, One, Bad}
 use Rattle.listing.specs.Commands.{command_by}
 use Rattle.listing.specs.Header.{header_of}
+use Rattle.listing.specs.RegionListing.{is_regions_header, region_by}
 use Rattle.listing.specs.Said.{said_by}
 use Rattle.listing.specs.Trace.{Contents}
 
@@ -38,3 +40,15 @@ IsFirstBad [] n = n ≡ 1
 IsFirstBad (first ∷ lines) n =
     ((n ≡ 1) × (header_of first ≡ None))
     ⊎ ((header : Header) × (header_of first ≡ Some header) × IsFirstBadFrom (command_by header.version) 2 lines n)
+
+-- the first line is the header, each later line is in the grammar, and the regions are theirs
+abbrev pub IsRegionListingBy : List (List ℕ) → List ListedRegion → Type 0
+IsRegionListingBy [] regions = ⊥
+IsRegionListingBy (first ∷ lines) regions = (is_regions_header first ≡ true) × AreSaidBy region_by lines regions
+
+-- the line with this number is the first that is not in the grammar; a listing of no lines has a bad line 1
+abbrev pub IsFirstBadRegion : List (List ℕ) → ℕ → Type 0
+IsFirstBadRegion [] n = n ≡ 1
+IsFirstBadRegion (first ∷ lines) n =
+    ((n ≡ 1) × (is_regions_header first ≡ false))
+    ⊎ ((is_regions_header first ≡ true) × IsFirstBadFrom region_by 2 lines n)

@@ -18,7 +18,10 @@ fn addresses_come_in_their_order(rt: HostRuntime) -> Result<(), Fail> {
         # 8\n\
         0x7";
     let expected = [0xffff_ffff_c000_0018, 7, 7];
-    assert_eq!(rt; addresses(rt.alloc(), text)?.as_slice(), expected.as_slice());
+    assert_eq!(rt;
+        addresses(rt.alloc(), text)?.as_slice(),
+        expected.as_slice()
+    );
     assert!(rt; addresses(rt.alloc(), b"")?.is_empty());
     assert!(rt; addresses(rt.alloc(), b"#\n\n")?.is_empty());
     Ok(())

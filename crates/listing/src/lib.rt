@@ -23,7 +23,10 @@ pub use addresses::read_addresses;
 pub use faults::{LineFault, ReadFault};
 pub use header::{Header, Version};
 pub use input::read_whole;
-pub use laws::{each_listed_line_is_counted_once, trace_by_its_lines};
+pub use laws::{
+    addresses_by_their_lines, each_listed_line_is_counted_once, regions_by_their_lines,
+    trace_by_its_lines,
+};
 pub use lines::LONGEST_LINE;
 pub use module_listing::{ModuleCounts, SkippedModule, read_modules};
 pub use numbers::number;

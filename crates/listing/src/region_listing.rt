@@ -40,12 +40,7 @@ fn part_named(word: &[u8]) -> Option<Part>
 }
 
 /// The region of these words, where each of them is one and there is a region there.
-fn make_region<'a>(
-    name: &'a [u8],
-    part: &[u8],
-    base: &[u8],
-    size: &[u8],
-) -> Option<RegionLine<'a>>
+fn make_region<'a>(name: &'a [u8], part: &[u8], base: &[u8], size: &[u8]) -> Option<RegionLine<'a>>
     ensures { result ≡ region_with name.now part.now base.now size.now }
 {
     if name.is_empty() {

@@ -45,8 +45,14 @@ fn the_first_bad_line_is_named(rt: HostRuntime) {
         (b"latchregions 1\nm Core 1 4096".as_slice(), 2),
         (b"latchregions 1\nm core 0 4096".as_slice(), 2),
         (b"latchregions 1\nm core 1 0".as_slice(), 2),
-        (b"latchregions 1\nm core 2 18446744073709551614".as_slice(), 2),
-        (b"latchregions 1\nm core 18446744073709551616 1".as_slice(), 2),
+        (
+            b"latchregions 1\nm core 2 18446744073709551614".as_slice(),
+            2,
+        ),
+        (
+            b"latchregions 1\nm core 18446744073709551616 1".as_slice(),
+            2,
+        ),
         (b"latchregions 1\nm core 1 4096\r\n".as_slice(), 2),
     ];
     for (text, line) in texts {

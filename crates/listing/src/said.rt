@@ -1,9 +1,9 @@
 //! What a line says, of a text of which each line has to be understood.
 
-use crate::lines::LONGEST_LINE;
-
 ghost use Rattle.std.specs.Prelude.{◌≡◌, length};
 ghost use Rattle.listing.specs.Said.{is_passed_over, is_too_long};
+
+use crate::lines::LONGEST_LINE;
 
 /// What a line says.
 #[derive(Debug, Drop)]
