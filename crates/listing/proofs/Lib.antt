@@ -1,11 +1,13 @@
 pub mod Cutting
 pub mod WordRuns
-pub mod Addresses
+pub mod SymbolAddresses
 pub mod LineCounts
 pub mod ModuleLines
 pub mod SymbolLines
 pub mod Values
 pub mod Forms
 pub mod Steps
+pub mod Reading
 pub mod Digits
 pub mod Understood
+pub mod RegionLines

@@ -1,23 +1,33 @@
 -- One line more.
-use Rattle.std.proofs.Common.{◌≡◌, ℕ, ◌+◌, List, [], ◌∷◌, ◌++◌, Ok, Err, Result, refl, sym, ap, ◌∙◌, append_assoc}
-use Rattle.latch_steps.specs.declared.commands.Command.{Command}
-use Rattle.listing.specs.declared.commands.Said.{Said}
-use Rattle.listing.specs.declared.commands.Said.TheVariants.{Nothing, One, Bad}
-use Rattle.listing.specs.Commands.{said_of}
-use Rattle.listing.specs.Trace.{after_front, commands_from}
+use Rattle.std.proofs.Common.{◌≡◌, ℕ, ◌+◌, List, [], ◌∷◌, ◌++◌, Ok, Err, Result, Option, refl, sym, ap, ◌∙◌, append_assoc}
+use Rattle.listing.specs.declared.said.Said.{Said}
+use Rattle.listing.specs.declared.said.Said.TheVariants.{Nothing, One, Bad}
+use Rattle.listing.specs.Said.{after_front, entries_from, said_by}
 
-joined : (xs bs : List (Command ℕ)) (r : Result (List (Command ℕ)) ℕ) → after_front xs (after_front bs r) ≡ after_front (xs ++ bs) r
-joined xs bs (Ok cs) = ap Ok (sym (append_assoc xs bs cs))
-joined xs bs (Err f) = refl
+module _ {T : Type 0} where
+  joined : (xs bs : List T) (r : Result (List T) ℕ) → after_front xs (after_front bs r) ≡ after_front (xs ++ bs) r
+  joined xs bs (Ok cs) = ap Ok (sym (append_assoc xs bs cs))
+  joined xs bs (Err f) = refl
 
-module _ (n : ℕ) (line : List ℕ) (lines : List (List ℕ)) where
-  step : Said → Result (List (Command ℕ)) ℕ
-  step said = elim said [ Nothing ↦ commands_from (n + 1) lines | One c ↦ after_front (c ∷ []) (commands_from (n + 1) lines) | Bad ↦ Err n ]
+module _ {T : Type 0} (form : List ℕ → Option T) (n : ℕ) (line : List ℕ) (lines : List (List ℕ)) where
+  step : Said T → Result (List T) ℕ
+  step said =
+      elim said [
+        | Nothing ↦ entries_from form (n + 1) lines
+        | One entry ↦ after_front (entry ∷ []) (entries_from form (n + 1) lines)
+        | Bad ↦ Err n
+      ]
 
-  pub passed : said_of line ≡ Nothing → commands_from n (line ∷ lines) ≡ commands_from (n + 1) lines
+  pub passed : said_by form line ≡ Nothing → entries_from form n (line ∷ lines) ≡ entries_from form (n + 1) lines
   unfolding step
   passed e = ap step e
 
-  pub taken : (front : List (Command ℕ)) (c : Command ℕ) → said_of line ≡ One c → after_front front (commands_from n (line ∷ lines)) ≡ after_front (front ++ c ∷ []) (commands_from (n + 1) lines)
+  pub taken : (front : List T) (entry : T) → said_by form line ≡ One entry
+      → after_front front (entries_from form n (line ∷ lines)) ≡ after_front (front ++ entry ∷ []) (entries_from form (n + 1) lines)
   unfolding step
-  taken front c e = ap (λ said. after_front front (step said)) e ∙ joined front (c ∷ []) (commands_from (n + 1) lines)
+  taken front entry e =
+      ap (λ said. after_front front (step said)) e ∙ joined front (entry ∷ []) (entries_from form (n + 1) lines)
+
+  pub bad : said_by form line ≡ Bad → entries_from form n (line ∷ lines) ≡ Err n
+  unfolding step
+  bad e = ap step e

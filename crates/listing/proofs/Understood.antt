@@ -1,75 +1,75 @@
--- What the commands of lines say of each of them.
-use Rattle.std.proofs.Common.{◌≡◌, ◌≢◌, ℕ, zero, suc, ◌+◌, ◌<◌, List, [], ◌∷◌, ◌++◌, get_or, Option, Some, None, Result, Ok, Err, MatchResult, refl, sym, ap, ◌∙◌, subst, arith, All, inl, inr, IsSome}
+-- What the entries of lines say of each of them.
+use Rattle.std.proofs.Common.{◌≡◌, ◌≢◌, ℕ, zero, suc, ◌+◌, ◌<◌, List, [], ◌∷◌, ◌++◌, get_or, Option, Some, None, Result, Ok, Err, MatchResult, refl, sym, ap, ◌∙◌, subst, arith, All, inl, inr}
 use Rattle.std.specs.List.{filter_map, cons_option}
-use Rattle.latch_steps.specs.declared.commands.Command.{Command}
-use Rattle.listing.specs.declared.commands.Said.{Said}
-use Rattle.listing.specs.declared.commands.Said.TheVariants.{Nothing, One, Bad}
+use Rattle.listing.specs.declared.said.Said.{Said}
+use Rattle.listing.specs.declared.said.Said.TheVariants.{Nothing, One, Bad}
 use Rattle.listing.specs.declared.header.Header.{Header}
-use Rattle.listing.specs.Commands.{said_of}
+use Rattle.latch_steps.specs.declared.commands.Command.{Command}
+use Rattle.listing.specs.Commands.{command_by}
 use Rattle.listing.specs.Header.{header_of}
-use Rattle.listing.specs.Trace.{after_front, commands_from, headed, trace_of_lines}
-use Rattle.listing.specs.Understood.{command_by, IsSaidBy, IsFirstBad, IsFirstBadAt}
+use Rattle.listing.specs.Said.{after_front, entries_from, said_by}
+use Rattle.listing.specs.Trace.{headed, trace_of_lines, with_header}
+use Rattle.listing.specs.Understood.{entry_by, AreSaidBy, IsFirstBad, IsFirstBadAt, IsFirstBadFrom, IsTraceBy}
 
--- all lines are in the grammar, and these are their commands
-abbrev AllSaid : List (List ℕ) → List (Command ℕ) → Type 0
-AllSaid lines commands = All (λ line. said_of line ≢ Bad) lines × (commands ≡ filter_map command_by lines)
+module _ {T : Type 0} (form : List ℕ → Option T) where
+  abbrev AreEntries : ℕ → List (List ℕ) → Result (List T) ℕ → Type 0
+  AreEntries n lines r = MatchResult r (AreSaidBy form lines) (IsFirstBadFrom form n lines)
 
--- the first bad line, where the first of the lines has the number n
-abbrev FirstBadFrom : ℕ → List (List ℕ) → ℕ → Type 0
-FirstBadFrom n lines number = (place : ℕ) × (number ≡ place + n) × IsFirstBadAt lines place
+  module _ (n : ℕ) (line : List ℕ) (lines : List (List ℕ)) where
+    all_more : said_by form line ≢ Bad → All (λ line. said_by form line ≢ Bad) lines → All (λ line. said_by form line ≢ Bad) (line ∷ lines)
+    all_more good all zero d below = good
+    all_more good all (suc k) d below = all k d (omega arith)
 
-abbrev Said_by : ℕ → List (List ℕ) → Result (List (Command ℕ)) ℕ → Type 0
-Said_by n lines r = MatchResult r (AllSaid lines) (FirstBadFrom n lines)
+    entry_is : Said T → Option T
+    entry_is said = elim said [ Nothing ↦ None | One entry ↦ Some entry | Bad ↦ None ]
 
-module _ (n : ℕ) (line : List ℕ) (lines : List (List ℕ)) where
-  all_more : said_of line ≢ Bad → All (λ line. said_of line ≢ Bad) lines → All (λ line. said_of line ≢ Bad) (line ∷ lines)
-  all_more good all zero d below = good
-  all_more good all (suc k) d below = all k d (omega arith)
+    one_later : said_by form line ≢ Bad → (number : ℕ) → IsFirstBadFrom form (n + 1) lines number → IsFirstBadFrom form n (line ∷ lines) number
+    one_later good number (place, is, first) =
+        let earlier : (k : ℕ) → k < suc place → said_by form (get_or (line ∷ lines) k []) ≢ Bad = before in
+        (suc place, (omega (arith, is)), record { among = omega (arith, first.among); bad = first.bad; before = earlier })
+      where
+        before : (k : ℕ) → k < suc place → said_by form (get_or (line ∷ lines) k []) ≢ Bad
+        before zero below = good
+        before (suc k) below = first.before k (omega arith)
 
-  command_is : Said → Option (Command ℕ)
-  command_is said = elim said [ Nothing ↦ None | One c ↦ Some c | Bad ↦ None ]
+    step : Said T → Result (List T) ℕ
+    step said = elim said [ Nothing ↦ entries_from form (n + 1) lines | One entry ↦ after_front (entry ∷ []) (entries_from form (n + 1) lines) | Bad ↦ Err n ]
 
-  one_later : said_of line ≢ Bad → (number : ℕ) → FirstBadFrom (n + 1) lines number → FirstBadFrom n (line ∷ lines) number
-  one_later good number (place, is, first) =
-      let earlier : (k : ℕ) → k < suc place → said_of (get_or (line ∷ lines) k []) ≢ Bad = before in
-      (suc place, (omega (arith, is)), record { among = omega (arith, first.among); bad = first.bad; before = earlier })
-    where
-      before : (k : ℕ) → k < suc place → said_of (get_or (line ∷ lines) k []) ≢ Bad
-      before zero below = good
-      before (suc k) below = first.before k (omega arith)
+    with_front : (front : List T) → said_by form line ≢ Bad → front ++ filter_map (entry_by form) lines ≡ filter_map (entry_by form) (line ∷ lines)
+        → (r : Result (List T) ℕ) → AreEntries (n + 1) lines r → AreEntries n (line ∷ lines) (after_front front r)
+    with_front front good is (Ok entries) (all, e) = (all_more good all, ap (λ es. front ++ es) e ∙ is)
+    with_front front good is (Err number) bad = one_later good number bad
 
-  step : Said → Result (List (Command ℕ)) ℕ
-  step said = elim said [ Nothing ↦ commands_from (n + 1) lines | One c ↦ after_front (c ∷ []) (commands_from (n + 1) lines) | Bad ↦ Err n ]
+    no_front : (r : Result (List T) ℕ) → after_front [] r ≡ r
+    no_front (Ok es) = refl
+    no_front (Err number) = refl
 
-  with_front : (front : List (Command ℕ)) → said_of line ≢ Bad → front ++ filter_map command_by lines ≡ filter_map command_by (line ∷ lines)
-      → (r : Result (List (Command ℕ)) ℕ) → Said_by (n + 1) lines r → Said_by n (line ∷ lines) (after_front front r)
-  with_front front good is (Ok commands) (all, e) = (all_more good all, ap (λ cs. front ++ cs) e ∙ is)
-  with_front front good is (Err number) bad = one_later good number bad
+    one_more : AreEntries (n + 1) lines (entries_from form (n + 1) lines) → (said : Said T) → said_by form line ≡ said → AreEntries n (line ∷ lines) (step said)
+    unfolding step entry_is
+    one_more later Nothing e =
+        subst (AreEntries n (line ∷ lines)) (no_front (entries_from form (n + 1) lines))
+        (with_front [] (λ bad. cc) (ap (λ s. cons_option (entry_is s) (filter_map (entry_by form) lines)) (sym e)) (entries_from form (n + 1) lines) later)
+    one_more later (One entry) e =
+        with_front (entry ∷ []) (λ bad. cc) (ap (λ s. cons_option (entry_is s) (filter_map (entry_by form) lines)) (sym e)) (entries_from form (n + 1) lines) later
+    one_more later Bad e = (zero, omega arith, record { among = omega arith; bad = e; before = λ k below. absurd (omega arith) })
 
-  no_front : (r : Result (List (Command ℕ)) ℕ) → after_front [] r ≡ r
-  no_front (Ok cs) = refl
-  no_front (Err number) = refl
+  pub are_entries : (n : ℕ) (lines : List (List ℕ)) → AreEntries n lines (entries_from form n lines)
+  unfolding step
+  are_entries n [] = ((λ k d below. absurd (omega arith)), refl)
+  are_entries n (line ∷ lines) = one_more n line lines (are_entries (n + 1) lines) (said_by form line) refl
 
-  one_more : Said_by (n + 1) lines (commands_from (n + 1) lines) → (said : Said) → said_of line ≡ said → Said_by n (line ∷ lines) (step said)
-  unfolding step command_is
-  one_more later Nothing e =
-      subst (Said_by n (line ∷ lines)) (no_front (commands_from (n + 1) lines))
-      (with_front [] (λ bad. cc) (ap (λ s. cons_option (command_is s) (filter_map command_by lines)) (sym e)) (commands_from (n + 1) lines) later)
-  one_more later (One c) e =
-      with_front (c ∷ []) (λ bad. cc) (ap (λ s. cons_option (command_is s) (filter_map command_by lines)) (sym e)) (commands_from (n + 1) lines) later
-  one_more later Bad e = (zero, omega arith, record { among = omega arith; bad = e; before = λ k below. absurd (omega arith) })
+with_commands : (first : List ℕ) (lines : List (List ℕ)) (header : Header) → header_of first ≡ Some header
+    → (r : Result (List (Command ℕ)) ℕ) → AreEntries (command_by header.version) 2 lines r
+    → MatchResult (with_header header r) (IsTraceBy (first ∷ lines)) (IsFirstBad (first ∷ lines))
+with_commands first lines header e (Ok commands) all = (e, all)
+with_commands first lines header e (Err n) bad = inr (header, e, bad)
 
-pub said_from : (n : ℕ) (lines : List (List ℕ)) → Said_by n lines (commands_from n lines)
-unfolding step
-said_from n [] = ((λ k d below. absurd (omega arith)), refl)
-said_from n (line ∷ lines) = one_more n line lines (said_from (n + 1) lines) (said_of line) refl
+headed_by : (first : List ℕ) (lines : List (List ℕ)) (header : Option Header) → header_of first ≡ header
+    → MatchResult (headed header lines) (IsTraceBy (first ∷ lines)) (IsFirstBad (first ∷ lines))
+headed_by first lines None e = inl (refl, e)
+headed_by first lines (Some header) e =
+    with_commands first lines header e (entries_from (command_by header.version) 2 lines) (are_entries (command_by header.version) 2 lines)
 
-headed_by : (first : List ℕ) (lines : List (List ℕ)) (header : Option Header) → header_of first ≡ header → (r : Result (List (Command ℕ)) ℕ) → Said_by 2 lines r
-    → MatchResult (headed header r) (IsSaidBy (first ∷ lines)) (IsFirstBad (first ∷ lines))
-headed_by first lines None e r said = inl (refl, e)
-headed_by first lines (Some header) e (Ok commands) (all, is) = (e, all, is)
-headed_by first lines (Some header) e (Err n) (place, is, bad) = inr (subst IsSome (sym e) refl, (place, is, bad))
-
-pub by_lines : (lines : List (List ℕ)) → MatchResult (trace_of_lines lines) (IsSaidBy lines) (IsFirstBad lines)
-by_lines [] = refl
-by_lines (first ∷ lines) = headed_by first lines (header_of first) refl (commands_from 2 lines) (said_from 2 lines)
+pub trace_by_lines : (lines : List (List ℕ)) → MatchResult (trace_of_lines lines) (IsTraceBy lines) (IsFirstBad lines)
+trace_by_lines [] = refl
+trace_by_lines (first ∷ lines) = headed_by first lines (header_of first) refl

@@ -1,13 +1,12 @@
 -- The commands that lines of a trace are.
-use Rattle.std.specs.Prelude.{ℕ, ◌==◌, nat_lt, Bool, true, List, [], ◌∷◌, length, codes, Option, Some, None, if◌then◌else◌}
-use Rattle.std.specs.Option.{option_map, option_map_or}
+use Rattle.std.specs.Prelude.{ℕ, List, [], ◌∷◌, codes, Option, Some, None, if◌then◌else◌}
+use Rattle.std.specs.Option.{option_map}
 use Rattle.std.specs.Str.{bytes_eq}
 use Rattle.latch_core.specs.declared.updates.Update.TheVariants.{Insert, Erase}
 use Rattle.latch_steps.specs.declared.commands.Command.{Command}
 use Rattle.latch_steps.specs.declared.commands.Command.TheVariants.{Begin, Write, WriteFlip, WriteEnd, Start, Read}
-use Rattle.listing.specs.declared.commands.Said.{Said}
-use Rattle.listing.specs.declared.commands.Said.TheVariants.{Nothing, One, Bad}
-use Rattle.listing.specs.Lines.{longest_line, words_of}
+use Rattle.listing.specs.declared.header.Version.{Version}
+use Rattle.listing.specs.Lines.{words_of}
 use Rattle.listing.specs.Numbers.{number_of, short_number_of, count_of}
 
 -- `insert LO HI TAG`
@@ -61,14 +60,6 @@ command_of (word ∷ words) =
     else if bytes_eq word (codes "read") then read_of words
     else None
 
--- nothing, or a comment: a line whose first byte is #
-abbrev pub is_passed_over : List ℕ → Bool
-is_passed_over [] = true
-is_passed_over (b ∷ line) = b == 35
-
--- what a line behind the header says
-abbrev pub said_of : List ℕ → Said
-said_of line =
-    if nat_lt longest_line (length line) then Bad
-    else if is_passed_over line then Nothing
-    else option_map_or (λ c. One c) (command_of (words_of line)) Bad
+-- the command that a line is, if it is one
+abbrev pub command_by : Version → List ℕ → Option (Command ℕ)
+command_by version line = command_of (words_of line)

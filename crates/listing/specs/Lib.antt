@@ -3,17 +3,25 @@
 pub mod Lines
 -- the numbers that words are
 pub mod Numbers
+-- what lines say, each of which has to be understood
+pub mod Said
 -- the header of a trace, its first line
 pub mod Header
+-- the line `batch` of a trace
+pub mod Batch
 -- the commands that lines of a trace are
 pub mod Commands
 -- what a trace says
 pub mod Trace
+-- what a file of addresses says
+pub mod Addresses
 -- lines that are taken, or skipped for a cause
 pub mod Skipping
 -- the lines of a listing of modules, in the form of /proc/modules
 pub mod ModuleListing
 -- the lines of a listing of symbols, in the form of /proc/kallsyms
 pub mod SymbolListing
--- what a trace is, line by line
+-- what a listing of regions says
+pub mod RegionListing
+-- what a text is, line by line
 pub mod Understood

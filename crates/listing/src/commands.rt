@@ -1,33 +1,25 @@
 //! The commands of a trace.
 ghost use Rattle.std.specs.Prelude.{◌≡◌, map};
 ghost use Rattle.listing.specs.Lines.{words_of};
-ghost use Rattle.listing.specs.Commands.{said_of, command_of, insert_of, erase_of, write_of, start_of, read_of};
+ghost use Rattle.listing.specs.Said.{said_by};
+ghost use Rattle.listing.specs.Commands.{command_by, command_of, insert_of, erase_of, write_of, start_of, read_of};
 
-use crate::lines::{LONGEST_LINE, words_in};
+use crate::header::Version;
+use crate::lines::words_in;
 use crate::numbers::{count, number, short_number};
+use crate::said::{Said, is_passed_over, is_too_long};
 use latch_core::Update;
 use latch_steps::Command;
 use order_laws::Item;
 
-/// What a line behind the header says.
-#[derive(Clone, Copy, Debug, PartialEq, Eq)]
-pub(crate) enum Said {
-    /// The line is empty, or a comment.
-    Nothing,
-    /// The line is this command.
-    One(Command<u64>),
-    /// The line is not in the grammar.
-    Bad,
-}
-
-/// What a line behind the header says.
-pub(crate) fn said_by(line: &[u8]) -> Said
-    ensures { result ≡ said_of line.now }
+/// What a line behind the header says, in a trace of this version.
+pub(crate) fn said_by(version: Version, line: &[u8]) -> Said<Command<u64>>
+    ensures { result ≡ said_by (command_by version) line.now }
 {
-    if line.len() > LONGEST_LINE {
+    if is_too_long(line) {
         return Said::Bad;
     }
-    if line.is_empty() || line[0] == b'#' {
+    if is_passed_over(line) {
         return Said::Nothing;
     }
     match command_in(line) {

@@ -24,7 +24,7 @@ pub enum LineFault {
 }
 
 impl From<ReadFault> for LineFault {
-    ghost use Rattle.listing.specs.Trace.{unread};
+    ghost use Rattle.listing.specs.Said.{unread};
 
     ghost from_gives = { λ unread_by fault. fault ≡ unread unread_by };
 

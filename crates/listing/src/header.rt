@@ -1,15 +1,49 @@
 //! The header of a trace.
 ghost use Rattle.std.specs.Prelude.{◌≡◌, map};
-ghost use Rattle.listing.specs.Header.{header_of, header_of_words, header_with, is_closed_of};
+ghost use Rattle.listing.specs.Header.{has_batches, header_of, header_of_words, header_with, is_closed_of, is_wide, version_of};
 
-use crate::lines::{LONGEST_LINE, words_in};
+use crate::lines::words_in;
 use crate::numbers::{number, short_number};
+use crate::said::is_too_long;
+
+/// The version of a trace's format.
+#[derive(Clone, Copy, Debug, PartialEq, Eq)]
+pub enum Version {
+    /// Insertions and erasures of one item, and the sequence of a narrow table.
+    First,
+    /// The same, and the line `batch`.
+    Second,
+    /// The same as the second, and the sequence of a wide table.
+    Third,
+}
+
+impl Version {
+    /// Whether a trace of this version may have lines `batch`.
+    pub fn has_batches(self) -> bool
+        ensures { result ≡ has_batches self }
+    {
+        match self {
+            Version::First => false,
+            Version::Second | Version::Third => true,
+        }
+    }
+
+    /// Whether a trace of this version is run on a table whose sequence may go up to the wide limit.
+    pub fn is_wide(self) -> bool
+        ensures { result ≡ is_wide self }
+    {
+        match self {
+            Version::First | Version::Second => false,
+            Version::Third => true,
+        }
+    }
+}
 
 /// What the first line of a trace says.
 #[derive(Clone, Copy, Debug, PartialEq, Eq)]
 pub struct Header {
     /// The version of the format.
-    pub version: u32,
+    pub version: Version,
     /// Whether the second word of an item still belongs to its range.
     pub closed: bool,
     /// How many items the table can hold.
@@ -18,12 +52,12 @@ pub struct Header {
     pub start: u64,
 }
 
-/// The header that a line is: `latchtrace 1 ORDER CAPACITY` or `latchtrace 1 ORDER CAPACITY START`.
+/// The header that a line is: `latchtrace VERSION ORDER CAPACITY`, and START behind it or not.
 #[tactic(auto, using(crate::proofs::Forms::header_too_long))]
 pub(crate) fn header_in(line: &[u8]) -> Option<Header>
     ensures { result ≡ header_of line.now }
 {
-    if line.len() > LONGEST_LINE {
+    if is_too_long(line) {
         return None;
     }
     header_in_words(&words_in(line)?)
@@ -52,15 +86,30 @@ fn make_header(
 ) -> Option<Header>
     ensures { result ≡ header_with name.now version.now order.now capacity.now start }
 {
-    if name != b"latchtrace".as_slice() || version != b"1".as_slice() {
+    if name != b"latchtrace".as_slice() {
         return None;
     }
     Some(Header {
-        version: 1,
+        version: version_named(version)?,
         closed: is_closed(order)?,
         capacity: short_number(capacity)?,
         start: start?,
     })
+}
+
+/// The version that a word names.
+fn version_named(word: &[u8]) -> Option<Version>
+    ensures { result ≡ version_of word.now }
+{
+    if word == b"1".as_slice() {
+        Some(Version::First)
+    } else if word == b"2".as_slice() {
+        Some(Version::Second)
+    } else if word == b"3".as_slice() {
+        Some(Version::Third)
+    } else {
+        None
+    }
 }
 
 /// Whether the named order of items is the closed one.

@@ -3,13 +3,28 @@ ghost use Rattle.std.specs.Prelude.{◌≡◌, ℕ, ◌+◌, List, length, Match
 ghost use Rattle.listing.specs.Lines.{lines_of};
 ghost use Rattle.listing.specs.ModuleListing.{module_counts, modules_in, modules_skipped};
 ghost use Rattle.listing.specs.SymbolListing.{symbol_counts, symbols_in, symbols_skipped};
+ghost use Rattle.listing.specs.Addresses.{addresses_of};
+ghost use Rattle.listing.specs.Numbers.{number_of};
+ghost use Rattle.listing.specs.RegionListing.{regions_of};
 ghost use Rattle.listing.specs.Trace.{trace_of};
-ghost use Rattle.listing.specs.Understood.{IsSaidBy, IsFirstBad};
+ghost use Rattle.listing.specs.Understood.{AreSaidBy, IsFirstBad, IsFirstBadFrom, IsFirstBadRegion, IsRegionListingBy, IsTraceBy};
 
 /// A text is a trace exactly where each of its lines is in the grammar, and its commands are then
 /// those of its lines, in their order; otherwise the line that is named is the first one that is not.
 pub fn trace_by_its_lines()
-    ensures { (bytes : List ℕ) → MatchResult (trace_of bytes) (IsSaidBy (lines_of bytes)) (IsFirstBad (lines_of bytes)) }
+    ensures { (bytes : List ℕ) → MatchResult (trace_of bytes) (IsTraceBy (lines_of bytes)) (IsFirstBad (lines_of bytes)) }
+{}
+
+/// A text is a listing of regions exactly where each of its lines is in the grammar, and its regions
+/// are then those of its lines, in their order; otherwise the line that is named is the first one
+/// that is not.
+pub fn regions_by_their_lines()
+    ensures { (text : List ℕ) → MatchResult (regions_of text) (IsRegionListingBy (lines_of text)) (IsFirstBadRegion (lines_of text)) }
+{}
+
+/// The same of a file of addresses.
+pub fn addresses_by_their_lines()
+    ensures { (text : List ℕ) → MatchResult (addresses_of text) (AreSaidBy number_of (lines_of text)) (IsFirstBadFrom number_of 1 (lines_of text)) }
 {}
 
 /// Each line of a listing is taken, or is counted for one cause for which it is skipped.

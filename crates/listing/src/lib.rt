@@ -3,6 +3,8 @@
 //! A text is read whole, then cut into lines, and a line into words, in time linear in its length.
 #![tactic(auto)]
 
+mod addresses;
+mod batch;
 mod commands;
 mod faults;
 mod gaps;
@@ -12,20 +14,31 @@ mod laws;
 mod lines;
 mod module_listing;
 mod numbers;
+mod region_listing;
+mod said;
 mod symbol_listing;
 mod trace;
 
+pub use addresses::read_addresses;
 pub use faults::{LineFault, ReadFault};
-pub use header::Header;
+pub use header::{Header, Version};
 pub use input::read_whole;
-pub use laws::{each_listed_line_is_counted_once, trace_by_its_lines};
+pub use laws::{
+    addresses_by_their_lines, each_listed_line_is_counted_once, regions_by_their_lines,
+    trace_by_its_lines,
+};
 pub use lines::LONGEST_LINE;
 pub use module_listing::{ModuleCounts, SkippedModule, read_modules};
 pub use numbers::number;
+pub use region_listing::read_regions;
 pub use symbol_listing::{SkippedSymbol, SymbolCounts, read_kallsyms};
 pub use trace::{TraceFile, read_trace};
 
 #[cfg(test)]
+mod address_tests;
+#[cfg(test)]
 mod listing_tests;
+#[cfg(test)]
+mod region_tests;
 #[cfg(test)]
 mod tests;

@@ -1,6 +1,8 @@
 //! The numbers that words are.
-ghost use Rattle.std.specs.Prelude.{◌≡◌};
-ghost use Rattle.std.specs.Char.{digit_value};
+ghost use Rattle.std.specs.Prelude.{◌≡◌, ◌<◌, length, nat_lt};
+ghost use Rattle.std.specs.Char.{digit_value, is_digit};
+ghost use Rattle.std.specs.List.{list_all};
+ghost use Rattle.std.specs.Str.Parse.{digits_value};
 ghost use Rattle.listing.specs.Numbers.{numeral, number_of, short_number_of, count_of};
 
 /// The number that a word is: 1 to 20 decimal digits, or `0x` and 1 to 16 hexadecimal digits of
@@ -60,6 +62,9 @@ pub(crate) fn decimal(text: &[u8]) -> Option<u64>
 pub(crate) fn hexadecimal(text: &[u8]) -> Option<u64>
     ensures { result ≡ numeral 16 16 text.now }
 {
+    if text.len() == HEXADECIMAL_DIGITS {
+        return sixteen_digits(text);
+    }
     if text.is_empty() || text.len() > HEXADECIMAL_DIGITS {
         return None;
     }
@@ -72,6 +77,39 @@ pub(crate) fn hexadecimal(text: &[u8]) -> Option<u64>
         value = value * 16 + digit;
     }
     Some(value)
+}
+
+/// The number that 16 hexadecimal digits write: two halves, and one test for all of the digits.
+#[inline]
+pub(crate) fn sixteen_digits(text: &[u8]) -> Option<u64>
+    requires { length text.now ≡ 16 }
+    ensures { result ≡ numeral 16 16 text.now }
+{
+    let (high, low) = text.split_at(8);
+    let (high, greatest_high) = eight_digits(high);
+    let (low, greatest_low) = eight_digits(low);
+    if greatest_high.max(greatest_low) >= 16 {
+        return None;
+    }
+    Some(high * 0x1_0000_0000 + low)
+}
+
+/// What eight bytes write as hexadecimal digits, and the greatest of the digits, which is 16 or more
+/// where a byte is no such digit. No eight of them pass 64 bits.
+#[inline]
+fn eight_digits(text: &[u8]) -> (u64, u64)
+    requires { length text.now ≡ 8 }
+    ensures value { result.0 ≡ digits_value 16 text.now }
+    ensures digits { nat_lt result.1 16 ≡ list_all (λ c. is_digit c 16) text.now }
+{
+    let mut value = 0u64;
+    let mut greatest = 0u64;
+    for byte in text {
+        let digit = digit_of(*byte);
+        greatest = greatest.max(digit);
+        value = value * 16 + digit;
+    }
+    (value, greatest)
 }
 
 /// The digit that each byte is, with 36 for a byte that is none.
@@ -93,8 +131,10 @@ static DIGITS: [u8; 256] = [
 ///
 /// A table costs less than comparisons, since the digits and letters of an address come in no order
 /// that a processor could guess.
+#[inline]
 fn digit_of(byte: u8) -> u64
-    ensures { result ≡ digit_value byte }
+    ensures value { result ≡ digit_value byte }
+    ensures small { result < 256 }
 {
     u64::from(DIGITS[usize::from(byte)])
 }

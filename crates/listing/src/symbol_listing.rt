@@ -15,7 +15,7 @@ ghost use Rattle.listing.specs.Lines.{lines_of};
 ghost use Rattle.listing.specs.SymbolListing.{address_in, bracketed, counts_after, cut_at, symbol_before, symbol_counts, symbol_named, symbol_of, symbols_in, symbols_skipped};
 
 use crate::lines::{LONGEST_LINE, cut_line};
-use crate::numbers::hexadecimal;
+use crate::numbers::{hexadecimal, sixteen_digits};
 use memchr::memchr;
 use modules::{SymbolLine, SymbolLines};
 use std::alloc::{AllocError, Global};
@@ -56,6 +56,7 @@ impl SymbolCounts {
 }
 
 /// What stands before the first such byte, and what stands behind it.
+#[inline]
 fn cut(text: &[u8], byte: u8) -> Option<(&[u8], &[u8])>
     ensures { option_map (λ p. (p.0.now, p.1.now)) result ≡ cut_at byte text.now }
 {
@@ -80,11 +81,12 @@ fn name_in_brackets(text: &[u8]) -> Option<&[u8]>
 
 /// The address that a text begins with, and what stands behind the blank after it. Most addresses
 /// have all sixteen digits, and then the blank need not be sought.
+#[inline]
 fn cut_address(text: &[u8]) -> Option<(u64, &[u8])>
     ensures { option_map (λ p. (p.0, p.1.now)) result ≡ address_in text.now }
 {
     if text.len() > 16 && text[16] == b' ' {
-        if let Some(addr) = hexadecimal(&text[..16]) {
+        if let Some(addr) = sixteen_digits(&text[..16]) {
             return Some((addr, &text[17..]));
         }
     }
@@ -93,6 +95,7 @@ fn cut_address(text: &[u8]) -> Option<(u64, &[u8])>
 }
 
 /// The symbol that `ADDRESS LETTER NAME` is.
+#[inline]
 fn named_symbol<'a>(text: &'a [u8], owner: Option<&'a [u8]>) -> Option<SymbolLine<'a>>
     ensures { result ≡ symbol_named (option_copied owner.entry) text.now }
 {
@@ -111,6 +114,7 @@ fn named_symbol<'a>(text: &'a [u8], owner: Option<&'a [u8]>) -> Option<SymbolLin
 }
 
 /// The symbol that a line is, if it is of the form.
+#[inline]
 fn symbol_in_form<'a>(line: &'a [u8]) -> Option<SymbolLine<'a>>
     ensures { result ≡ symbol_before (cut_at 9 line.now) line.now }
 {
@@ -121,6 +125,7 @@ fn symbol_in_form<'a>(line: &'a [u8]) -> Option<SymbolLine<'a>>
 }
 
 /// The symbol that a line is, or the first cause for which it is skipped.
+#[inline]
 fn symbol_in<'a>(line: &'a [u8]) -> Result<SymbolLine<'a>, SkippedSymbol>
     ensures { result ≡ symbol_of line.now }
 {

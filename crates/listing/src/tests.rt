@@ -1,5 +1,5 @@
 use crate::{
-    Header, LONGEST_LINE, LineFault, ReadFault, TraceFile, number, read_trace, read_whole,
+    Header, LONGEST_LINE, LineFault, ReadFault, TraceFile, Version, number, read_trace, read_whole,
 };
 use devices::{Counted, FailAt};
 use latch_core::Update;
@@ -38,7 +38,7 @@ fn all_commands_are_read(rt: HostRuntime) -> Result<(), Fail> {
         erase 00000000000000000016";
     let trace = trace(rt.alloc(), text)?;
     let header = Header {
-        version: 1,
+        version: Version::First,
         closed: true,
         capacity: 16,
         start: 4294967292,
@@ -70,7 +70,10 @@ fn the_first_bad_line_is_named(rt: HostRuntime) {
         (b"latchtrace 1 halfopen".as_slice(), 1),
         (b"latchtrace 1 halfopen 4294967296".as_slice(), 1),
         (b"latchtrace 1 halfopen 4 0 0".as_slice(), 1),
-        (b"latchtrace 2 halfopen 4".as_slice(), 1),
+        (b"latchtrace 0 halfopen 4".as_slice(), 1),
+        (b"latchtrace 4 halfopen 4".as_slice(), 1),
+        (b"latchtrace 01 halfopen 4".as_slice(), 1),
+        (b"latchtrace 0x1 halfopen 4".as_slice(), 1),
         (b"latchtrace 1 halfopen 4\nwrite 0".as_slice(), 2),
         (b"latchtrace 1 halfopen 4\n# x\nstart  1 0x10".as_slice(), 3),
         (
@@ -100,6 +103,32 @@ fn the_first_bad_line_is_named(rt: HostRuntime) {
         let answer = trace(rt.alloc(), text).map(|trace| trace.commands.len());
         assert_eq!(rt; answer, Err(LineFault::BadLine(line)), "in {text:?}");
     }
+}
+
+#[test]
+fn headers_of_each_version(rt: HostRuntime) -> Result<(), Fail> {
+    let texts = [
+        (b"latchtrace 1 closed 4".as_slice(), Version::First, 0),
+        (b"latchtrace 2 closed 4 2".as_slice(), Version::Second, 2),
+        (
+            b"latchtrace 3 closed 4 18446744073709551615".as_slice(),
+            Version::Third,
+            u64::MAX,
+        ),
+    ];
+    for (text, version, start) in texts {
+        let header = Header {
+            version,
+            closed: true,
+            capacity: 4,
+            start,
+        };
+        assert_eq!(rt; trace(rt.alloc(), text)?.header, header);
+    }
+    assert!(rt; !Version::First.has_batches() && !Version::First.is_wide());
+    assert!(rt; Version::Second.has_batches() && !Version::Second.is_wide());
+    assert!(rt; Version::Third.has_batches() && Version::Third.is_wide());
+    Ok(())
 }
 
 #[test]

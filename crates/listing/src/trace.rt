@@ -2,11 +2,14 @@
 ghost use Rattle.std.specs.Prelude.{◌≡◌, ◌≢◌, ◌≤◌, ◌<◌, Err, IfSome, IsErrOf};
 ghost use Rattle.devices.specs.Counted.{device_of, failures_of, Rose};
 ghost use Rattle.listing.specs.Lines.{lines_of};
-ghost use Rattle.listing.specs.Trace.{commands_from, trace_of, contents_of, Gives, GivesInGrammar};
+ghost use Rattle.listing.specs.Said.{entries_from, Gives, GivesInGrammar};
+ghost use Rattle.listing.specs.Commands.{command_by};
+ghost use Rattle.listing.specs.Trace.{trace_of, contents_of};
 
-use crate::commands::{Said, said_by};
-use crate::header::{Header, header_in};
+use crate::commands::said_by;
+use crate::header::{Header, Version, header_in};
 use crate::lines::cut_line;
+use crate::said::Said;
 use crate::{LineFault, read_whole};
 use devices::Counted;
 use latch_steps::Command;
@@ -24,8 +27,8 @@ pub struct TraceFile {
 
 /// Reads a trace.
 ///
-/// Line 1 is the header, `latchtrace 1 ORDER CAPACITY` or `latchtrace 1 ORDER CAPACITY START`. Each
-/// later line is empty, a comment that begins with `#`, or one of `insert LO HI TAG`, `erase LO`,
+/// Line 1 is the header, `latchtrace VERSION ORDER CAPACITY` with START behind it or not. Each later
+/// line is empty, a comment that begins with `#`, or one of `insert LO HI TAG`, `erase LO`,
 /// `write K`, `write flip`, `write end`, `start R ADDR` and `read R K`, with exactly one blank
 /// between two words. No line, also no comment, has more than [`LONGEST_LINE`](crate::LONGEST_LINE)
 /// bytes. Bytes behind the last line's end are a line too; a trace of no bytes has a bad line 1.
@@ -51,20 +54,24 @@ fn trace_in(alloc: Global, bytes: &[u8]) -> Result<TraceFile, LineFault>
     let Some(header) = header_in(line) else {
         return Err(LineFault::BadLine(1));
     };
-    let commands = commands_in(alloc, rest)?;
+    let commands = commands_in(alloc, header.version, rest)?;
     Ok(TraceFile { header, commands })
 }
 
 /// The commands that the lines behind the header are.
-fn commands_in(alloc: Global, bytes: &[u8]) -> Result<Vec<Command<u64>>, LineFault>
-    ensures { GivesInGrammar (λ commands. commands.items) result (commands_from 2 (lines_of bytes.now)) }
+fn commands_in(
+    alloc: Global,
+    version: Version,
+    bytes: &[u8],
+) -> Result<Vec<Command<u64>>, LineFault>
+    ensures { GivesInGrammar (λ commands. commands.items) result (entries_from (command_by version) 2 (lines_of bytes.now)) }
 {
     let mut commands = Vec::new(alloc);
     let mut rest = bytes;
     let mut number = 2u64;
     while !rest.is_empty() {
         let (line, after) = cut_line(rest);
-        match said_by(line) {
+        match said_by(version, line) {
             Said::Nothing => {}
             Said::One(command) => commands.push(command)?,
             Said::Bad => return Err(LineFault::BadLine(number)),

@@ -4,7 +4,7 @@ use Rattle.listing.specs.declared.numbers.TheConstants.{DIGITS}
 use Rattle.listing.proofs.Digits.{digit_at}
 use Rattle.listing.proofs.numbers.digit_of.Goals as goal
 
-pub returns : goal.returns
-returns c =
+pub returns-clause-value : goal.returns-clause-value
+returns-clause-value c =
     let place : 0 + c.from.result ≡ c.args.byte = omega arith in
     c.from-2.ensures ∙ digit_at DIGITS 0 c.from.result refl (omega arith) ∙ ap digit_value place

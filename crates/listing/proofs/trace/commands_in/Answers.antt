@@ -1,27 +1,31 @@
 use Rattle.std.proofs.Common.{◌≡◌, ◌+◌, ◌∷◌, ◌++◌, [], ap, sym, ◌∙◌, arith}
 use Rattle.std.proofs.lemmas.Grind.{common_steps}
+use Rattle.listing.specs.Commands.{command_by}
 use Rattle.listing.specs.Lines.{lines_of}
-use Rattle.listing.specs.Trace.{commands_from, after_front}
+use Rattle.listing.specs.Said.{entries_from, after_front}
 use Rattle.listing.proofs.Steps.{passed, taken}
 use Rattle.listing.proofs.trace.commands_in.Goals.{in-Nothing, in-One+in_ok-push-in-One}
 use Rattle.listing.proofs.trace.commands_in.Goals as goal
 
 pub loop-rest-preserved : goal.loop-rest-preserved
 loop-rest-preserved c =
+    let form = command_by c.args.version in
     let n = c.loop-rest.number in
     let line = c.cut_line.result.0.now in
     let lines = lines_of c.cut_line.result.1.now in
     let front = c.loop-rest.commands.items in
-    let before : after_front front (commands_from n (line ∷ lines)) ≡ commands_from 2 (lines_of c.args.bytes.now) =
-    ap (λ ls. after_front front (commands_from n ls)) (sym c.cut_line.ensures.line) ∙ c.loop-rest.invariant.told in
+    let before : after_front front (entries_from form n (line ∷ lines)) ≡ entries_from form 2 (lines_of c.args.bytes.now) =
+    ap (λ ls. after_front front (entries_from form n ls)) (sym c.cut_line.ensures.line) ∙ c.loop-rest.invariant.told in
     record {
       told = elim c.match-said_by.branch [
         | in-Nothing w ↦
-            ap (λ v. after_front v.items (commands_from (n + 1) lines)) w.commands-is ∙ ap (after_front front) (sym (passed n line lines (sym w.in-Nothing.ensures))) ∙ before
+            ap (λ v. after_front v.items (entries_from form (n + 1) lines)) w.commands-is
+            ∙ ap (after_front front) (sym (passed form n line lines (sym w.in-Nothing.ensures))) ∙ before
         | in-One+in_ok-push-in-One w ↦
             let pushed : w.push.new.self.items ≡ front ++ w.in-One.command ∷ [] = grind (arith, common_steps) in
-            ap (λ v. after_front v.items (commands_from (n + 1) lines)) w.commands-is ∙ ap (λ xs. after_front xs (commands_from (n + 1) lines)) pushed
-            ∙ sym (taken n line lines front w.in-One.command (sym w.in-One.ensures)) ∙ before
+            ap (λ v. after_front v.items (entries_from form (n + 1) lines)) w.commands-is
+            ∙ ap (λ xs. after_front xs (entries_from form (n + 1) lines)) pushed
+            ∙ sym (taken form n line lines front w.in-One.command (sym w.in-One.ensures)) ∙ before
       ];
       numbered = omega (arith, c.loop-rest.invariant.numbered, c.cut_line.ensures.shorter);
     }

@@ -1,0 +1,7 @@
+use Rattle.listing.specs.Lines.{lines_of}
+use Rattle.listing.proofs.RegionLines.{regions_fit_given}
+use Rattle.listing.proofs.region_listing.read_regions.Goals as goal
+
+pub returns-clause-fit : goal.returns-clause-fit
+returns-clause-fit c =
+    regions_fit_given c.regions_in.result 2 (lines_of c.cut_line.result.1.now) c.regions_in.ensures

@@ -1,0 +1,53 @@
+-- What a listing of regions says: the regions, or the number of the first line that is not in the grammar.
+use Rattle.std.specs.Prelude.{ℕ, Bool, nat_lt, if◌then◌else◌, List, [], ◌∷◌, length, codes, Option, Some, None, Result, Err}
+use Rattle.std.specs.Str.{bytes_eq}
+use Rattle.modules.specs.Lines.{region_fits}
+use Rattle.modules.specs.Listed.{ListedRegion}
+use Rattle.modules.specs.declared.lines.Part.{Part}
+use Rattle.modules.specs.declared.lines.Part.TheVariants.{Core, Init}
+use Rattle.listing.specs.Lines.{lines_of, words_of}
+use Rattle.listing.specs.Numbers.{number_of}
+use Rattle.listing.specs.Said.{entries_from}
+
+-- the part of a module that a word names
+abbrev pub part_of : List ℕ → Option Part
+part_of word =
+    if bytes_eq word (codes "core") then Some Core
+    else if bytes_eq word (codes "init") then Some Init
+    else None
+
+-- a region, where there is one of so many bytes at this address
+abbrev pub placed : ListedRegion → Option ListedRegion
+placed r = if region_fits r then Some r else None
+
+-- the region of this name, where its part, its base and its size are there
+abbrev pub region_of_parts : List ℕ → Option Part → Option ℕ → Option ℕ → Option ListedRegion
+region_of_parts name (Some part) (Some base) (Some size) =
+    placed (record { name = name; part = part; base = base; size = size })
+region_of_parts name _ _ _ = None
+
+-- a name has at least one byte
+abbrev pub region_with : List ℕ → List ℕ → List ℕ → List ℕ → Option ListedRegion
+region_with name part base size =
+    if nat_lt 0 (length name) then region_of_parts name (part_of part) (number_of base) (number_of size) else None
+
+-- `NAME PART BASE SIZE`
+abbrev pub region_of_words : List (List ℕ) → Option ListedRegion
+region_of_words (name ∷ part ∷ base ∷ size ∷ []) = region_with name part base size
+region_of_words _ = None
+
+-- the region that a line behind the first is, if it is one
+abbrev pub region_by : List ℕ → Option ListedRegion
+region_by line = region_of_words (words_of line)
+
+-- the first line of a listing of regions
+abbrev pub is_regions_header : List ℕ → Bool
+is_regions_header line = bytes_eq line (codes "latchregions 1")
+
+-- line 1 is the header, also where there is no line
+abbrev pub regions_of_lines : List (List ℕ) → Result (List ListedRegion) ℕ
+regions_of_lines [] = Err 1
+regions_of_lines (first ∷ lines) = if is_regions_header first then entries_from region_by 2 lines else Err 1
+
+abbrev pub regions_of : List ℕ → Result (List ListedRegion) ℕ
+regions_of text = regions_of_lines (lines_of text)

@@ -1,0 +1,67 @@
+-- What the lines of a text say, where each of them has to be understood.
+use Rattle.std.specs.Prelude.{ℕ, ◌+◌, ◌==◌, nat_lt, Bool, true, if◌then◌else◌, List, [], ◌∷◌, ◌++◌, length, Option, Result, Ok, Err, ◌≡◌}
+use Rattle.std.specs.Option.{option_map_or}
+use Rattle.listing.specs.Lines.{longest_line}
+use Rattle.listing.specs.declared.said.Said.{Said}
+use Rattle.listing.specs.declared.said.Said.TheVariants.{Nothing, One, Bad}
+use Rattle.listing.specs.declared.faults.LineFault.{LineFault}
+use Rattle.listing.specs.declared.faults.LineFault.TheVariants as line
+use Rattle.listing.specs.declared.faults.ReadFault.{ReadFault}
+use Rattle.listing.specs.declared.faults.ReadFault.TheVariants as read
+
+-- more bytes than a line may have
+abbrev pub is_too_long : List ℕ → Bool
+is_too_long line = nat_lt longest_line (length line)
+
+-- nothing, or a comment: a line whose first byte is #
+abbrev pub is_passed_over : List ℕ → Bool
+is_passed_over [] = true
+is_passed_over (b ∷ line) = b == 35
+
+-- what a line says, where `form` gives the entry that a line is, if it is one
+abbrev pub said_by : {T : Type 0} → (List ℕ → Option T) → List ℕ → Said T
+said_by form line =
+    if is_too_long line then Bad
+    else if is_passed_over line then Nothing
+    else option_map_or (λ entry. One entry) (form line) Bad
+
+-- these entries, and then those that are said
+abbrev pub after_front : {T : Type 0} → List T → Result (List T) ℕ → Result (List T) ℕ
+after_front front (Ok rest) = Ok (front ++ rest)
+after_front front (Err n) = Err n
+
+-- the entries of lines of which the first has the number n, or the number of the first bad line
+abbrev pub entries_from : {T : Type 0} → (List ℕ → Option T) → ℕ → List (List ℕ) → Result (List T) ℕ
+entries_from form n [] = Ok []
+entries_from form n (line ∷ lines) =
+    elim (said_by form line) [
+      | Nothing ↦ entries_from form (n + 1) lines
+      | One entry ↦ after_front (entry ∷ []) (entries_from form (n + 1) lines)
+      | Bad ↦ Err n
+    ]
+
+-- what a fault says of the text, where it is one of its lines
+abbrev pub Faults : {C : Type 0} → LineFault → Result C ℕ → Type 0
+Faults line.OutOfMemory said = Unit {0}
+Faults line.Read said = Unit {0}
+Faults (line.BadLine n) said = said ≡ Err n
+
+-- What a call answered is what the text says, unless memory ran out or the reader failed.
+abbrev pub Gives : {V C : Type 0} → (V → C) → Result V LineFault → Result C ℕ → Type 0
+Gives view (Ok v) said = said ≡ Ok (view v)
+Gives view (Err fault) said = Faults fault said
+
+-- what is said of a text that was not read
+abbrev pub unread : ReadFault → LineFault
+unread read.OutOfMemory = line.OutOfMemory
+unread read.Read = line.Read
+
+-- The same of a call that is given the bytes, so that no reader can fail.
+abbrev pub FaultsInGrammar : {C : Type 0} → LineFault → Result C ℕ → Type 0
+FaultsInGrammar line.OutOfMemory said = Unit {0}
+FaultsInGrammar line.Read said = ⊥
+FaultsInGrammar (line.BadLine n) said = said ≡ Err n
+
+abbrev pub GivesInGrammar : {V C : Type 0} → (V → C) → Result V LineFault → Result C ℕ → Type 0
+GivesInGrammar view (Ok v) said = said ≡ Ok (view v)
+GivesInGrammar view (Err fault) said = FaultsInGrammar fault said
