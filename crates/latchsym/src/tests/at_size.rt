@@ -1,4 +1,6 @@
 //! Want of memory is not invented at some size: no contract can rule that out, so these runs do.
+ghost use Rattle.std.specs.Prelude.{◌<◌};
+
 use crate::tests::traced;
 use std::alloc::{AllocError, Global};
 use std::test::Fail;
@@ -7,7 +9,9 @@ use std::test::Fail;
 const ITEMS: u64 = 1000;
 
 /// The reader of a lookup: numbers over the whole range, the greatest among them.
-fn reader_of(item: u64) -> u64 {
+fn reader_of(item: u64) -> u64
+    requires { item < ITEMS }
+{
     4294967295 - (ITEMS - 1 - item) * 4294967
 }
 
@@ -31,7 +35,9 @@ fn large_trace(alloc: Global) -> Result<String, AllocError> {
 }
 
 /// Whether a line is the answer to the lookup of an item in this generation, at the first attempt.
-fn answers(alloc: Global, line: &str, item: u64, generation: u64) -> Result<bool, AllocError> {
+fn answers(alloc: Global, line: &str, item: u64, generation: u64) -> Result<bool, AllocError>
+    requires { item < ITEMS }
+{
     let reader = reader_of(item);
     let low = item * 16;
     let start = format!(in alloc; "{reader} {low:#x} -> {item} gen {generation} loads ")?;
@@ -50,6 +56,7 @@ fn nothing_is_refused_at_size(rt: HostRuntime) -> Result<(), Fail> {
         } else if lines < 2 * ITEMS {
             assert!(rt; answers(alloc, line, lines - ITEMS, ITEMS)?, "{line}");
         } else {
+            assert_eq!(rt; lines, 2 * ITEMS, "{line}");
             assert_eq!(rt; line, "seq 2000 gen 1000");
         }
         lines += 1;
