@@ -1,3 +1,9 @@
 mod ParseLemmas
 mod Writing
 mod Gathering
+mod Worlds
+mod Regions
+mod Loads
+mod Opening
+mod Loading
+mod Inputs

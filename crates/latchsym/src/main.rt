@@ -5,6 +5,9 @@
 
 mod command_line;
 mod fault;
+mod lookup;
+mod lookup_texts;
+mod table;
 #[cfg(test)]
 mod tests;
 mod texts;
