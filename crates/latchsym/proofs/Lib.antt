@@ -7,3 +7,4 @@ mod Loads
 mod Opening
 mod Loading
 mod Inputs
+mod Addresses

@@ -93,5 +93,8 @@ fn look_up(world: &mut World<HalfOpen>, addr: u64) -> Result<Answer, Refusal>
     ensures refusal { (items : List Item) → Holds items world.old → IfErr result (λ e. e ≡ Refusal.OutOfMemory) }
 {
     let found = world.find_now(0, addr)?;
-    Ok(Answer { addr, item: found.answer })
+    Ok(Answer {
+        addr,
+        item: found.answer,
+    })
 }
