@@ -77,6 +77,9 @@ for trace in torn_item both_ends; do
     "$program" trace $trace.trace | cmp - $trace.expected
     try trace $trace.trace
 done
+cd "$top/examples/listings"
+try lookup --modules basic.modules --kallsyms basic.kallsyms 0xffffffffc0000018 0xffffffff81000108
+cd "$top/examples/traces"
 try --help
 try trace cut_short.trace
 try trace no_such.trace

@@ -1,3 +1,10 @@
 mod ParseLemmas
 mod Writing
 mod Gathering
+mod Worlds
+mod Regions
+mod Loads
+mod Opening
+mod Loading
+mod Inputs
+mod Addresses

@@ -1,16 +1,23 @@
 -- What a parse by the program's command answers.
-use Rattle.std.proofs.Common.{◌≡◌, sym, List, [], Result, Ok, Err, true, refl, subst, inl, inr}
-use Rattle.clap.specs.Words.{App, Text, HasKind, HasMatchesOf, IsAmong, fault_of, is_simple, is_simple_and_free, kind_of, subcommand_of, subcommand_rows_of}
+use Rattle.std.proofs.Common.{◌≡◌, ◌∙◌, ◌||◌, ap, sym, List, [], Option, Some, None, Result, Ok, Err, true, false, refl, subst, inl, inr}
+use Rattle.std.specs.Borrow.{Bor}
+use Rattle.std.specs.Prelude.{Box, option_map}
+use Rattle.std.specs.Box.{box_value}
+use Rattle.clap.specs.declared.parser.matches.ArgMatches.TheViews.{out-ArgMatches, out-SubCommand}
+use Rattle.clap.specs.declared.parser.matches.SubCommand.{SubCommand}
+use Rattle.clap.specs.Words.{AddsArg, Row, subcommand_name_of, subcommand_rows, App, Rule, Text, rule_of, with_rule, HasKind, HasMatchesOf, IsAmong, fault_of, is_simple, is_simple_and_free, kind_of, subcommand_of, subcommand_rows_of}
 use Rattle.clap.specs.declared.error.Error.{Error}
 use Rattle.clap.specs.declared.error.kind.ErrorKind.TheVariants as kind
 use Rattle.clap.specs.declared.parser.matches.ArgMatches.{ArgMatches}
 use Rattle.clap.proofs.OnLiterals.{clap_on_literals}
-use Rattle.latchsym.specs.CommandLine.{latchsym_app}
-use Rattle.latchsym.specs.Jobs.{AnswersFile, AnswersMatches, AnswersWords, IsFaultOf, traced_file}
+use Rattle.clap.specs.declared.builder.arg.Arg.{Arg}
+use Rattle.clap.specs.declared.builder.command.Command.{Command}
+use Rattle.clap.specs.declared.builder.command.Command.TheViews.{out-Command}
+use Rattle.latchsym.specs.CommandLine.{IsCommand, IsPlainArg, latchsym_app}
+use Rattle.latchsym.specs.Jobs.{AnswersAsked, AnswersMatches, AnswersWords, IsFaultOf, asked_by}
 use Rattle.latchsym.specs.declared.command_line.Job.{Job}
-use Rattle.latchsym.specs.declared.command_line.Job.TheVariants.{Trace}
 use Rattle.latchsym.specs.declared.command_line.JobFault.{JobFault}
-use Rattle.latchsym.specs.declared.command_line.JobFault.TheVariants.{OutOfMemory, CommandLine, NoJob}
+use Rattle.latchsym.specs.declared.command_line.JobFault.TheVariants.{OutOfMemory, CommandLine, BadAddress, NoJob}
 
 is_simple_latchsym : is_simple latchsym_app ≡ true
 unfolding clap_on_literals
@@ -28,12 +35,14 @@ fails : (words : List Text) (e : Error) (f : JobFault) → IsFaultOf e f → Has
 fails words e OutOfMemory is has = tt
 fails words e (CommandLine shown) is has =
     among words shown (subst (HasKind (fault_of latchsym_app words)) (sym is.0) has) is.1
+fails words e (BadAddress word) is has = absurd is
 fails words e NoJob is has = absurd is
 
-passes : (words : List Text) (r : Result Job JobFault) → fault_of latchsym_app words ≡ [] → AnswersFile (traced_file (subcommand_of latchsym_app words)) r → AnswersWords words r
-passes words (Ok (Trace file)) none is = (none, is)
+passes : (words : List Text) (r : Result Job JobFault) → fault_of latchsym_app words ≡ [] → AnswersAsked (asked_by (subcommand_of latchsym_app words)) r → AnswersWords words r
+passes words (Ok job) none is = (none, is)
 passes words (Err OutOfMemory) none is = tt
 passes words (Err (CommandLine e)) none is = absurd is
+passes words (Err (BadAddress word)) none is = (none, is)
 passes words (Err NoJob) none is = (none, is)
 
 -- the answer to an error of the parse
@@ -50,3 +59,31 @@ answers_matches a words m r is none has says =
     let Q : App → Type 0 = λ b. HasMatchesOf b words m in
     let entered : subcommand_rows_of m ≡ subcommand_of latchsym_app words = (subst Q is has is_simple_latchsym).1 in
     passes words r (subst P is none is_free_latchsym) (subst (λ s. AnswersMatches s r) entered says)
+
+-- an argument with its help
+pub helped : (a b : Arg) (text : Option (Bor Text)) (rule : Rule) → b ≡ record a { help = text } → IsPlainArg rule a → IsPlainArg rule b
+helped a b text rule e h = (ap rule_of e ∙ h.0, ap (λ (x : Arg). x.global) e ∙ h.1)
+
+-- a command with one argument more
+pub one_argument_more : (old new : Command) (a : Arg) (app : App) (rule : Rule) → IsCommand app old → IsPlainArg rule a → AddsArg old a new → IsCommand (with_rule app rule) new
+one_argument_more old new a app rule command arg adds =
+    let local : a.global ≡ false = arg.1 in (
+      adds.shape arg.1 ∙ ap (λ x. with_rule x (rule_of a)) command.0 ∙ ap (with_rule app) arg.0,
+      adds.globals ∙ ap (λ b. (out-Command old).has_globals || b) local ∙ ap (λ b. b || false) command.1,
+    )
+
+-- the subcommand that a parse entered, by its name and its matches
+named : {Z : Type 0} (o : Option (Box SubCommand Z)) → option_map (λ b. (out-SubCommand (box_value b)).name.now) o ≡ option_map (λ p. p.0) (subcommand_rows o)
+named None = refl
+named (Some b) = refl
+
+both : (o : Option (Text × List Row)) (name : Text) (rows : List Row) → Some name ≡ option_map (λ p. p.0) o → Some rows ≡ option_map (λ p. p.1) o → o ≡ Some (name, rows)
+both None name rows e f = absurd (cc)
+both (Some p) name rows e f =
+    let a : p.0 ≡ name = cc in
+    let b : p.1 ≡ rows = cc in
+    ap Some (λ i. (a i, b i))
+
+pub entered_is : (m : ArgMatches) (name : Text) (rows : List Row) → Some name ≡ subcommand_name_of m → Some rows ≡ option_map (λ p. p.1) (subcommand_rows_of m)
+    → subcommand_rows_of m ≡ Some (name, rows)
+entered_is m name rows e f = both (subcommand_rows_of m) name rows (e ∙ named (out-ArgMatches m).subcommand) f

@@ -1,5 +1,6 @@
 -- The program's command line, as `clap` reads it.
-use Rattle.std.specs.Prelude.{◌≡◌, codes, true, false}
+use Rattle.std.specs.Prelude.{◌≡◌, Some, codes, true, false}
+use Rattle.clap.specs.Lexer.{usize_max}
 use Rattle.clap.specs.Words.{App, Rule, Text, app_of, new_app, new_rule, rule_of, with_rule, with_subcommand}
 use Rattle.clap.specs.Simple.{on_top}
 use Rattle.clap.specs.declared.builder.arg.Arg.{Arg}
@@ -10,16 +11,31 @@ use Rattle.clap.specs.declared.builder.command.Command.TheViews.{out-Command}
 abbrev pub word_rule : Text → Rule
 word_rule id = record (new_rule id) { value_names = 1; required = true }
 
+-- an option that has to be given, with one value
+abbrev pub option_rule : Text → Rule
+option_rule id = record (new_rule id) { long = Some id; value_names = 1; required = true }
+
+-- any number of words, of which one has to be given
+abbrev pub words_rule : Text → Rule
+words_rule id = record (new_rule id) { range = Some (record { start_inclusive = 1; end_inclusive = usize_max }); value_names = 1; required = true }
+
 -- trace FILE
 abbrev pub trace_app : App
 trace_app = with_rule (new_app (codes "trace")) (word_rule (codes "file"))
+
+-- lookup --modules FILE --kallsyms FILE ADDR..
+abbrev pub lookup_app : App
+lookup_app =
+    with_rule
+    (with_rule (with_rule (new_app (codes "lookup")) (option_rule (codes "modules"))) (option_rule (codes "kallsyms")))
+    (words_rule (codes "addresses"))
 
 -- a subcommand has to be given
 abbrev pub top_app : App
 top_app = on_top (λ s. record s { subcommand_required = true }) (new_app (codes "latchsym"))
 
 abbrev pub latchsym_app : App
-latchsym_app = with_subcommand top_app trace_app.top
+latchsym_app = with_subcommand (with_subcommand top_app trace_app.top) lookup_app.top
 
 -- the command reads words as `app` does
 abbrev pub IsCommand : App → Command → Type 0

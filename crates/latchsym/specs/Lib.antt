@@ -11,3 +11,11 @@ pub mod Blocks
 pub mod Traces
 -- why a run of the program failed, and the line that says so
 pub mod Faults
+-- the table of a catalog: an item for each region, and the item that holds an address
+pub mod CatalogTables
+-- a world that holds the regions of modules
+pub mod LoadedWorlds
+-- the lines that a lookup of addresses writes
+pub mod LookupTexts
+-- what is written for two listings and a list of addresses
+pub mod Lookups

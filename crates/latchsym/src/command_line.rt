@@ -1,19 +1,33 @@
 //! The command line: what it may say, and the job that it asks for.
-ghost use Rattle.std.specs.Prelude.{◌≡◌, IfOk, codes, map, option_map};
-ghost use Rattle.clap.specs.Words.{found_of, first_of, rows_of, subcommand_rows_of};
-ghost use Rattle.latchsym.specs.CommandLine.{trace_app, latchsym_app, word_rule, IsCommand, IsPlainArg};
-ghost use Rattle.latchsym.specs.Jobs.{AnswersFile, AnswersMatches, AnswersWords, IsFaultOf};
+ghost use Rattle.std.specs.Prelude.{◌≡◌, Some, IfOk, codes, map, option_map};
+ghost use Rattle.clap.specs.Words.{all_of, found_of, first_of, rows_of, subcommand_rows_of};
+ghost use Rattle.latchsym.specs.CommandLine.{lookup_app, trace_app, latchsym_app, option_rule, word_rule, words_rule, IsCommand, IsPlainArg};
+ghost use Rattle.latchsym.specs.Jobs.{asked_lookup, asked_trace, AnswersAsked, ForLookup, AnswersMatches, AnswersWords, AreNumbers, IsFaultOf};
 
 use clap::error::ErrorKind;
 use clap::{Arg, ArgMatches, Command, Error};
-use std::alloc::{AllocError, Global};
+use listing::number;
+use std::alloc::{AllocError, AllocFailed, Global};
 use std::convert::AsStr;
 
 /// What a command line asks for.
-#[derive(Clone, Copy, Debug, PartialEq, Eq)]
+#[derive(Debug, PartialEq, Eq, Drop)]
 pub enum Job<'a> {
     /// `latchsym trace FILE`: run the trace in this file.
     Trace { file: &'a str },
+    /// `latchsym lookup --modules FILE --kallsyms FILE ADDR..`: look addresses up.
+    Lookup(LookupJob<'a>),
+}
+
+/// Which addresses are looked up, and in which listings.
+#[derive(Debug, PartialEq, Eq, Drop)]
+pub struct LookupJob<'a> {
+    /// The file of the listing of modules.
+    pub modules: &'a str,
+    /// The file of the listing of symbols.
+    pub kallsyms: &'a str,
+    /// The addresses, in the order of their words.
+    pub addresses: Vec<u64>,
 }
 
 impl<'a> Job<'a> {
@@ -26,25 +40,39 @@ impl<'a> Job<'a> {
     {
         match self {
             Job::Trace { file } if place == 0 => Some(file),
-            Job::Trace { .. } => None,
+            Job::Lookup(job) if place == 0 => Some(job.modules),
+            Job::Lookup(job) if place == 1 => Some(job.kallsyms),
+            Job::Trace { .. } | Job::Lookup(_) => None,
         }
     }
 }
 
 /// Why a command line gives no job.
 #[derive(Drop)]
-pub enum JobFault {
+pub enum JobFault<'a> {
     /// Memory ran out.
     OutOfMemory,
     /// Help that was asked for, or words that the command line does not have. The error holds the
     /// text for the user.
     CommandLine(Error),
+    /// The first address that is no number.
+    BadAddress(&'a str),
     /// The words pass, and still name no job.
     NoJob,
 }
 
+impl<T: Drop> From<AllocFailed<T>> for JobFault<'_> {
+    ghost use Rattle.latchsym.specs.declared.command_line.JobFault.TheVariants.{OutOfMemory};
+
+    ghost from_gives = { λ _ fault. fault ≡ OutOfMemory };
+
+    fn from(_failed: AllocFailed<T>) -> Self {
+        JobFault::OutOfMemory
+    }
+}
+
 /// The job that a program's words ask for, the first of which is the program's name.
-pub fn job_of<'a, S: AsStr>(alloc: Global, words: &'a [S]) -> Result<Job<'a>, JobFault>
+pub fn job_of<'a, S: AsStr>(alloc: Global, words: &'a [S]) -> Result<Job<'a>, JobFault<'a>>
     ensures { AnswersWords (map S.text words.entry.now) result }
 {
     let mut command = match latchsym_command(alloc) {
@@ -52,7 +80,7 @@ pub fn job_of<'a, S: AsStr>(alloc: Global, words: &'a [S]) -> Result<Job<'a>, Jo
         Err(_) => return Err(JobFault::OutOfMemory),
     };
     match command.try_get_matches_from_mut(words) {
-        Ok(matches) => job_in(&matches),
+        Ok(matches) => job_in(alloc, &matches),
         Err(error) => Err(fault_of_error(error)),
     }
 }
@@ -63,7 +91,8 @@ fn latchsym_command<'a>(alloc: Global) -> Result<Command<'a>, AllocError>
     let command = Command::new(alloc, "latchsym")
         .about("A latched address tree, step by step")
         .subcommand_required(true)
-        .subcommand(trace_command(alloc)?)?;
+        .subcommand(trace_command(alloc)?)?
+        .subcommand(lookup_command(alloc)?)?;
     Ok(command)
 }
 
@@ -77,28 +106,126 @@ fn trace_command<'a>(alloc: Global) -> Result<Command<'a>, AllocError>
     Ok(command)
 }
 
+fn lookup_command<'a>(alloc: Global) -> Result<Command<'a>, AllocError>
+    ensures { IfOk result (IsCommand lookup_app) }
+{
+    let modules = required_option(alloc, "modules").help(
+        "The modules, in the form of /proc/modules",
+    );
+    let kallsyms = required_option(alloc, "kallsyms").help(
+        "The symbols, in the form of /proc/kallsyms",
+    );
+    let addresses = required_words(alloc, "addresses", "ADDR").help("The addresses");
+    let command = Command::new(alloc, "lookup")
+        .about("Say which module and which symbol hold an address")
+        .arg(modules)?
+        .arg(kallsyms)?
+        .arg(addresses)?;
+    Ok(command)
+}
+
 fn required_word<'a>(alloc: Global, id: &'a str, value: &'a str) -> Arg<'a>
     ensures { IsPlainArg (word_rule id.entry.now) result }
 {
     Arg::new(alloc, id).value_name(value).required(true)
 }
 
-fn job_in<'a>(matches: &ArgMatches<'a>) -> Result<Job<'a>, JobFault>
+fn required_option<'a>(alloc: Global, id: &'a str) -> Arg<'a>
+    ensures { IsPlainArg (option_rule id.entry.now) result }
+{
+    Arg::new(alloc, id)
+        .long(id)
+        .value_name("FILE")
+        .required(true)
+}
+
+fn required_words<'a>(alloc: Global, id: &'a str, value: &'a str) -> Arg<'a>
+    ensures { IsPlainArg (words_rule id.entry.now) result }
+{
+    Arg::new(alloc, id)
+        .num_args(1..)
+        .value_name(value)
+        .required(true)
+}
+
+fn job_in<'a>(alloc: Global, matches: &ArgMatches<'a>) -> Result<Job<'a>, JobFault<'a>>
     ensures { AnswersMatches (subcommand_rows_of matches.now) result }
 {
     match matches.subcommand() {
-        Some((name, found)) if name == "trace" => trace_job(found),
+        Some((name, found)) => job_of_subcommand(alloc, name, found),
+        None => Err(JobFault::NoJob),
+    }
+}
+
+fn job_of_subcommand<'a>(
+    alloc: Global,
+    name: &str,
+    found: &ArgMatches<'a>,
+) -> Result<Job<'a>, JobFault<'a>>
+    ensures { AnswersMatches (Some (name.now, rows_of (found_of found.now))) result }
+{
+    match name {
+        "trace" => trace_job(found),
+        "lookup" => lookup_job(alloc, found),
         _ => Err(JobFault::NoJob),
     }
 }
 
-fn trace_job<'a>(found: &ArgMatches<'a>) -> Result<Job<'a>, JobFault>
-    ensures { AnswersFile (first_of (codes "file") (rows_of (found_of found.now))) result }
+fn trace_job<'a>(found: &ArgMatches<'a>) -> Result<Job<'a>, JobFault<'a>>
+    ensures { AnswersAsked (asked_trace (first_of (codes "file") (rows_of (found_of found.now)))) result }
 {
     match value_of(found, "file") {
         Some(file) => Ok(Job::Trace { file }),
         None => Err(JobFault::NoJob),
     }
+}
+
+fn lookup_job<'a>(alloc: Global, found: &ArgMatches<'a>) -> Result<Job<'a>, JobFault<'a>>
+    ensures { let rows = rows_of (found_of found.now) in
+        AnswersAsked (asked_lookup (first_of (codes "modules") rows) (first_of (codes "kallsyms") rows) (all_of (codes "addresses") rows)) result }
+{
+    let Some(modules) = value_of(found, "modules") else {
+        return Err(JobFault::NoJob);
+    };
+    let Some(kallsyms) = value_of(found, "kallsyms") else {
+        return Err(JobFault::NoJob);
+    };
+    let Some(words) = values_of(found, "addresses") else {
+        return Err(JobFault::NoJob);
+    };
+    lookup_of(alloc, modules, kallsyms, words)
+}
+
+fn lookup_of<'a>(
+    alloc: Global,
+    modules: &'a str,
+    kallsyms: &'a str,
+    words: &[&'a str],
+) -> Result<Job<'a>, JobFault<'a>>
+    ensures { AnswersAsked (ForLookup modules.entry.now kallsyms.entry.now (map (λ w. w.now) words.now)) result }
+{
+    match addresses_in(alloc, words) {
+        Ok(addresses) => Ok(Job::Lookup(LookupJob {
+            modules,
+            kallsyms,
+            addresses,
+        })),
+        Err(fault) => Err(fault),
+    }
+}
+
+/// The numbers that words are.
+fn addresses_in<'a>(alloc: Global, words: &[&'a str]) -> Result<Vec<u64>, JobFault<'a>>
+    ensures { AreNumbers (map (λ w. w.now) words.now) result }
+{
+    let mut addresses = Vec::new(alloc);
+    for word in words {
+        match number(word.as_bytes()) {
+            Some(address) => addresses.push(address)?,
+            None => return Err(JobFault::BadAddress(word)),
+        }
+    }
+    Ok(addresses)
 }
 
 /// The value of an argument that takes one.
@@ -108,7 +235,14 @@ fn value_of<'a>(found: &ArgMatches<'a>, id: &str) -> Option<&'a str>
     found.get_str(id)
 }
 
-fn fault_of_error(error: Error) -> JobFault
+/// The values of an argument that takes any number of them.
+fn values_of<'m, 'a>(found: &'m ArgMatches<'a>, id: &str) -> Option<&'m [&'a str]>
+    ensures { option_map (λ s. map (λ w. w.now) s.now) result ≡ all_of id.now (rows_of (found_of found.now)) }
+{
+    found.get_raw(id)
+}
+
+fn fault_of_error<'a>(error: Error) -> JobFault<'a>
     ensures { IsFaultOf error result }
 {
     match error.kind() {

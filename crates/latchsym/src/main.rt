@@ -1,24 +1,35 @@
 //! The program `latchsym`: a latched address tree, one word at a time.
 //!
 //! `latchsym trace FILE` runs a trace in the step machine and writes what its lookups found.
+//! `latchsym lookup --modules FILE --kallsyms FILE ADDR..` says which module and which symbol hold
+//! an address.
 #![tactic(auto)]
 
 mod command_line;
 mod fault;
+mod input;
+mod lookup;
+mod lookup_texts;
+mod table;
 #[cfg(test)]
 mod tests;
 mod texts;
 mod trace;
 
 use clap::Error;
-use command_line::{Job, JobFault, job_of};
+use command_line::{Job, JobFault, LookupJob, job_of};
 use devices::{Counted, put};
 use fault::{Fault, conclude, report_before_job};
+use input::Input;
+use lookup::lookup_engine;
 use order_laws::Refusal;
 use std::io::{BufWriter, ErrorKind, Stderr};
 use std::process::ExitCode;
 use std::{env, fs};
 use trace::trace_engine;
+
+/// How many bytes of the lines of a lookup go to the standard output at once.
+const OUTPUT_BLOCK: usize = 65536;
 
 /// The program's status where the command line is at fault.
 const MISUSED: u8 = 2;
@@ -31,7 +42,7 @@ fn main(rt: HostRuntime) -> ExitCode {
             Err(fault) => refuse(&rt, fault, &mut errors),
         },
         Err(ErrorKind::OutOfMemory) => refuse(&rt, JobFault::OutOfMemory, &mut errors),
-        Err(_) => misused(b"a word of the command line is no text\n", &mut errors),
+        Err(_) => misused(b"a word of the command line is no text", "", &mut errors),
     };
     ExitCode::from(status)
 }
@@ -48,32 +59,54 @@ fn words_of(rt: &HostRuntime) -> Result<Vec<String>, ErrorKind> {
 fn run(rt: &HostRuntime, job: &Job<'_>, errors: &mut Counted<Stderr>) -> u8 {
     let outcome = match job {
         Job::Trace { file } => run_trace(rt, file),
+        Job::Lookup(lookup) => run_lookup(rt, lookup),
     };
     conclude(outcome, job, errors)
 }
 
-/// Runs the trace in a file. The buffer for the output is there before anything is read.
+/// Runs the trace in a file. The engine writes blocks, so nothing gathers its output here.
 fn run_trace(rt: &HostRuntime, file: &str) -> Result<(), Fault> {
-    let mut writer = match BufWriter::new(rt.alloc(), rt.stdout()) {
-        Ok(buffer) => Counted::new(buffer),
-        Err(_) => return Err(Fault::Refused(Refusal::OutOfMemory)),
-    };
-    let mut reader = match fs::open(rt, file) {
-        Ok(opened) => Counted::new(opened),
-        Err(error) if error.kind() == ErrorKind::OutOfMemory => {
-            return Err(Fault::Refused(Refusal::OutOfMemory));
-        }
-        Err(_) => return Err(Fault::Read { place: 0 }),
-    };
+    let mut reader = open(rt, file)?;
+    let mut writer = Counted::new(rt.stdout());
     trace_engine(rt.alloc(), &mut reader, &mut writer)
 }
 
+/// Looks addresses up. The buffer for the output is there before anything is read.
+fn run_lookup(rt: &HostRuntime, job: &LookupJob<'_>) -> Result<(), Fault> {
+    let Ok(buffer) = BufWriter::with_capacity(rt.alloc(), OUTPUT_BLOCK, rt.stdout()) else {
+        return Err(Fault::Refused(Refusal::OutOfMemory));
+    };
+    let mut writer = Counted::new(buffer);
+    let mut modules = open(rt, job.modules)?;
+    let mut kallsyms = open(rt, job.kallsyms)?;
+    lookup_engine(
+        rt.alloc(),
+        &mut modules,
+        &mut kallsyms,
+        &job.addresses,
+        &mut writer,
+    )
+}
+
+/// Opens a file to be read. Refused for want of memory alone: a file that cannot be opened for
+/// another reason fails when it is read.
+fn open(rt: &HostRuntime, file: &str) -> Result<Counted<Input>, Fault> {
+    match fs::open(rt, file) {
+        Ok(opened) => Ok(Counted::new(Input::Opened(opened))),
+        Err(error) if error.kind() == ErrorKind::OutOfMemory => {
+            Err(Fault::Refused(Refusal::OutOfMemory))
+        }
+        Err(_) => Ok(Counted::new(Input::Unopened)),
+    }
+}
+
 /// Says why the command line gives no job, and answers the program's status.
-fn refuse(rt: &HostRuntime, fault: JobFault, errors: &mut Counted<Stderr>) -> u8 {
+fn refuse(rt: &HostRuntime, fault: JobFault<'_>, errors: &mut Counted<Stderr>) -> u8 {
     match fault {
         JobFault::OutOfMemory => report_before_job(&Fault::Refused(Refusal::OutOfMemory), errors),
         JobFault::CommandLine(error) => explain(rt, &error, errors),
-        JobFault::NoJob => misused(b"the command line names no job\n", errors),
+        JobFault::BadAddress(word) => misused(b"bad address ", word, errors),
+        JobFault::NoJob => misused(b"the command line names no job", "", errors),
     }
 }
 
@@ -90,8 +123,10 @@ fn explain(rt: &HostRuntime, error: &Error, errors: &mut Counted<Stderr>) -> u8 
     }
 }
 
-fn misused(message: &[u8], errors: &mut Counted<Stderr>) -> u8 {
-    let _ = put(errors, b"latchsym: ");
-    let _ = put(errors, message);
+/// Says what is wrong with the command line, and of which word.
+fn misused(message: &[u8], word: &str, errors: &mut Counted<Stderr>) -> u8 {
+    for part in [b"latchsym: ", message, word.as_bytes(), b"\n"] {
+        let _ = put(errors, part);
+    }
     MISUSED
 }

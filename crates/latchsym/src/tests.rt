@@ -2,6 +2,7 @@
 mod at_size;
 mod bad_input;
 mod devices_that_fail;
+mod listings;
 mod rows;
 mod stops;
 mod words;

@@ -1,5 +1,5 @@
 //! Command lines, and the lines that report a fault.
-use crate::command_line::{Job, JobFault, job_of};
+use crate::command_line::{Job, JobFault, LookupJob, job_of};
 use crate::fault::{Fault, report, report_before_job};
 use clap::error::ErrorKind;
 use devices::Counted;
@@ -27,6 +27,60 @@ fn a_command_line_asks_for_a_trace(rt: HostRuntime) {
         Ok(job) => assert!(rt; job == Job::Trace { file: "--help" }),
         Err(_) => assert!(rt; false, "no job"),
     }
+}
+
+#[test]
+fn a_command_line_asks_for_a_lookup(rt: HostRuntime) -> Result<(), Fail> {
+    let alloc = rt.alloc();
+    let words = [
+        "latchsym",
+        "lookup",
+        "0x10",
+        "--modules",
+        "m",
+        "--kallsyms=k",
+        "18446744073709551615",
+    ];
+    let addresses = Vec::from_slice(alloc, &[16, u64::MAX])?;
+    let wanted = Job::Lookup(LookupJob {
+        modules: "m",
+        kallsyms: "k",
+        addresses,
+    });
+    match job_of(alloc, &words) {
+        Ok(job) => {
+            assert!(rt; job == wanted);
+            assert!(rt; job.file(0) == Some("m"));
+            assert!(rt; job.file(1) == Some("k"));
+            assert!(rt; job.file(2) == None);
+        }
+        Err(_) => assert!(rt; false, "no job"),
+    }
+    for bad in ["16x", "18446744073709551616", "0x", ""] {
+        let words = [
+            "latchsym",
+            "lookup",
+            "--modules",
+            "m",
+            "--kallsyms",
+            "k",
+            "1",
+            bad,
+            "y",
+        ];
+        match job_of(alloc, &words) {
+            Err(JobFault::BadAddress(word)) => assert!(rt; word == bad),
+            _ => assert!(rt; false, "no bad address"),
+        }
+    }
+    for words in [
+        ["latchsym", "lookup", "--modules", "m", "--kallsyms", "k"].as_slice(),
+        ["latchsym", "lookup", "--modules", "m", "1"].as_slice(),
+        ["latchsym", "lookup", "--kallsyms", "k", "1"].as_slice(),
+    ] {
+        assert!(rt; fault_in(alloc, words) == Some(ErrorKind::MissingRequiredArgument));
+    }
+    Ok(())
 }
 
 #[test]

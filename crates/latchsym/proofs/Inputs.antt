@@ -1,0 +1,56 @@
+-- From the texts that were read to the readers that they were read from.
+use Rattle.std.proofs.Common.{◌≡◌, ℕ, List, [], ◌∷◌, length, Option, Some, None, Result, Ok, Err, refl, sym, ◌∙◌, ap, subst}
+use Rattle.std.specs.Prelude.{IfSome}
+use Rattle.std.specs.Io.KnownBytes.{Appends}
+use Rattle.std.proofs.lemmas.List.{length-map}
+use Rattle.devices.specs.declared.counted.Counted.{Counted}
+use Rattle.devices.specs.Counted.{device_of}
+use Rattle.order_laws.specs.declared.refusals.Refusal.TheVariants as refusal
+use Rattle.listing.specs.Lines.{lines_of}
+use Rattle.listing.specs.ModuleListing.{modules_in}
+use Rattle.listing.specs.SymbolListing.{symbols_in}
+use Rattle.modules.specs.Accepted.{accepted_of}
+use Rattle.modules.specs.Catalogs.{entry_for}
+use Rattle.modules.specs.Lines.{built_in_region}
+use Rattle.latchsym.specs.declared.fault.Fault.{Fault}
+use Rattle.latchsym.specs.declared.fault.Fault.TheVariants.{Refused, Write}
+use Rattle.latchsym.specs.declared.lookup.Listings.{Listings}
+use Rattle.latchsym.specs.Lookups.{Answers, AnswersFor, AreSaidBy, Failures, FitsTable, HasTooManyRegions, Inputs, NoReaderFailed, catalog_in, counts_in, known_inputs, lookup_text}
+
+-- each accepted module is counted
+modules_counted : (modules kallsyms : List ℕ) → (counts_in modules kallsyms).modules ≡ length (catalog_in modules kallsyms).modules
+unfolding catalog_in counts_in
+modules_counted modules kallsyms =
+    let symbols = symbols_in (lines_of kallsyms) in
+    sym (length-map (accepted_of (built_in_region symbols) (modules_in (lines_of modules))).lines (entry_for symbols))
+
+pub all_counted : (modules kallsyms : List ℕ) (l : Listings) → AreSaidBy modules kallsyms l → l.built.modules ≡ length l.catalog.modules
+all_counted modules kallsyms l said =
+    ap (λ b. b.modules) said.built ∙ modules_counted modules kallsyms ∙ sym (ap (λ c. length c.modules) said.catalog)
+
+-- what holds of the texts that were read holds of the inputs, where these are known
+pub where_known : (P : Inputs → Type 0) (a b : Option (List ℕ)) (modules kallsyms addresses : List ℕ) → IfSome a (λ x. modules ≡ x) → IfSome b (λ x. kallsyms ≡ x)
+    → P (record { modules = modules; kallsyms = kallsyms; addresses = addresses }) → IfSome (known_inputs a b addresses) P
+where_known P None b modules kallsyms addresses e f p = tt
+where_known P (Some x) None modules kallsyms addresses e f p = tt
+where_known P (Some x) (Some y) modules kallsyms addresses e f p = subst (λ s. P (record { modules = s; kallsyms = y; addresses = addresses })) e (subst (λ s. P (record { modules = modules; kallsyms = s; addresses = addresses })) f p)
+
+module _ {W : Type 0} (contents : W → Option (List ℕ)) (known : Option Inputs) (i : Inputs) (all : (P : Inputs → Type 0) → P i → IfSome known P) (counts : Failures) (none : NoReaderFailed counts) (w w' : Counted W) where
+  pub answered : (r : Result (Unit {0}) Fault) → AnswersFor contents i w w' r → Answers contents known counts w w' r
+  answered (Ok u) h = (none, h.0, all (λ j. FitsTable j × Appends (contents (device_of w)) (contents (device_of w')) (lookup_text j)) (h.1, h.2))
+  answered (Err (Refused refusal.OutOfMemory)) h = (none, h)
+  answered (Err (Refused refusal.BadCapacity)) h = (none, h.0, all HasTooManyRegions h.1)
+  answered (Err Write) h = (none, h.0, all FitsTable h.1)
+  answered (Err _) h = absurd h
+
+-- the same of two readers, of which none failed
+pub read_and_answered : {W : Type 0} (contents : W → Option (List ℕ)) (a b : Option (List ℕ)) (modules kallsyms m k addresses : List ℕ) (m0 m1 k0 k1 : ℕ) (w w' : Counted W) (r : Result (Unit {0}) Fault)
+    → m ≡ modules → k ≡ kallsyms → IfSome a (λ x. modules ≡ x) → IfSome b (λ x. kallsyms ≡ x) → m1 ≡ m0 → k1 ≡ k0
+    → AnswersFor contents (record { modules = m; kallsyms = k; addresses = addresses }) w w' r
+    → Answers contents (known_inputs a b addresses) ((m0, m1) ∷ (k0, k1) ∷ []) w w' r
+read_and_answered contents a b modules kallsyms m k addresses m0 m1 k0 k1 w w' r is_m is_k e f none_m none_k h =
+    let e' : IfSome a (λ x. m ≡ x) = subst (λ y. IfSome a (λ x. y ≡ x)) (sym is_m) e in
+    let f' : IfSome b (λ x. k ≡ x) = subst (λ y. IfSome b (λ x. y ≡ x)) (sym is_k) f in
+    answered contents (known_inputs a b addresses) (record { modules = m; kallsyms = k; addresses = addresses })
+    (λ P p. where_known P a b m k addresses e' f' p)
+    ((m0, m1) ∷ (k0, k1) ∷ []) (none_m, (none_k, tt)) w w' r h

@@ -1,0 +1,162 @@
+-- What the events of a lookup do to an idle world.
+use Rattle.std.proofs.Common.{◌≡◌, ◌≢◌, ℕ, ◌+◌, ◌-◌, ◌*◌, ◌%◌, ◌<◌, ◌≤◌, true, false, cond, List, [], ◌∷◌, ◌++◌, length, Option, Some, None, refl, sym, ◌∙◌, ap, subst, inl, inr, ⊎_elim, arith}
+use Rattle.std.specs.List.{AllByRecursion}
+use Rattle.std.specs.Ordering.{nat_cmp, eq_by_cmp}
+use Rattle.std.specs.Cmp.{nat_cmp_total}
+use Rattle.std.specs.FinMap.{FinMap, get, insert, remove, get-insert, get-remove}
+use Rattle.std.proofs.lemmas.Bool.{cases_eq}
+use Rattle.std.proofs.lemmas.Bool.Decides.{nat_tests}
+use Rattle.std.proofs.lemmas.List.{take_all}
+use Rattle.order_laws.specs.Orders.{Order}
+use Rattle.order_laws.specs.Tables.{look, IsTable}
+use Rattle.word_arena.specs.Words.{at}
+use Rattle.latch_core.specs.declared.updates.Update.{Update}
+use Rattle.latch_core.specs.Sequences.{gen}
+use Rattle.latch_core.specs.Histories.{replay, current_table}
+use Rattle.latch_core.specs.Invariants.{IsSound, IsInHand}
+use Rattle.latch_core.specs.Latches.{Hand, Latch}
+use Rattle.latch_steps.specs.declared.events.Event.{Event}
+use Rattle.latch_steps.specs.declared.events.Event.TheVariants.{Begin, Write, Start, Read}
+use Rattle.latch_steps.specs.declared.replies.Reply.{Reply}
+use Rattle.latch_steps.specs.declared.replies.Reply.TheVariants.{Started, Returned as Gave}
+use Rattle.latch_steps.specs.declared.replies.Returned.{Returned}
+use Rattle.latch_steps.specs.declared.lookups.Lookup.{Lookup}
+use Rattle.latch_steps.specs.declared.worlds.World.{World}
+use Rattle.latch_steps.specs.Runs.{LookupInHand, Moment, Done, did, last_of}
+use Rattle.latch_steps.specs.Steps.{AfterLoad, Goes, Retries, Returns, Run, Step, Writes, after_load, load_done, read_done, start_done, with_lookups, new_lookup, more}
+use Rattle.latch_steps.specs.Lookups.{IsInHand as IsHeld}
+use Rattle.latch_steps.specs.Worlds.{Shows, IsAfter, layout_in}
+
+-- no lookup is in hand
+abbrev pub NoLookup : {K : Type 0} → Moment K → Type 0
+NoLookup w = (r : ℕ) → get w.lookups r ≡ None
+
+none_held : {O K : Type 0} (o : Order K) (n : ℕ) (c : Option (Lookup O K)) (a b : Option (LookupInHand K))
+    → IsHeld o n c a → IsHeld o n c b → a ≡ None → b ≡ None
+none_held o n None a None h k e = refl
+none_held o n None a (Some l) h k e = absurd k
+none_held o n (Some c) None b h k e = absurd h
+none_held o n (Some c) (Some l) b h k e = absurd (cc)
+
+-- all moments that a world shows have the same readers at rest
+pub same_readers : {O K : Type 0} (o : Order K) (c : World O K) (w v : Moment K) → Shows o c w → Shows o c v
+    → NoLookup w → NoLookup v
+same_readers o c w v s t none r = none_held o _ _ (get w.lookups r) (get v.lookups r) (s.lookups r) (t.lookups r) (none r)
+
+-- a run of writes leaves the lookups in hand as they are
+write_keeps : {K : Type 0} (n : ℕ) (w : Moment K) (h : Option Hand) (reply : Reply K) (v : Moment K)
+    → Writes n w h reply v → v.lookups ≡ w.lookups
+write_keeps n w None reply v step = ap (λ m. m.lookups) step.1
+write_keeps n w (Some h) reply v step = ap (λ m. m.lookups) step.3
+
+pub writes_keep : {K : Type 0} (o : Order K) (n limit : ℕ) (w : Moment K) (run : List (Done K))
+    → AllByRecursion (λ d. d.event ≡ Write) run → Run o n limit w run → (last_of w run).lookups ≡ w.lookups
+writes_keep o n limit w [] all steps = refl
+writes_keep o n limit w (d ∷ run) all steps =
+    let one = subst (λ e. Step o n limit w e d.reply d.after) all.0 steps.0 in
+    writes_keep o n limit d.after run all.1 steps.1 ∙ write_keeps n w w.latch.hand d.reply d.after one
+
+-- a map at a key, after a change at another and at this one
+apart_keys : (q r : ℕ) → q ≢ r → eq_by_cmp nat_cmp q r ≡ false
+apart_keys q r ne = grind (arith, nat_tests)
+
+one_key : (r : ℕ) → eq_by_cmp nat_cmp r r ≡ true
+one_key r = grind (arith, nat_tests)
+
+module _ {X : Type 0} where
+  inserted_other : (m : FinMap nat_cmp X) (q r : ℕ) (x : X) → q ≢ r → get (insert m r x) q ≡ get m q
+  inserted_other m q r x ne = get-insert nat_cmp_total m r x q ∙ ap (λ b. cond b (Some x) (get m q)) (apart_keys q r ne)
+
+  removed_other : (m : FinMap nat_cmp X) (q r : ℕ) → q ≢ r → get (remove m r) q ≡ get m q
+  removed_other m q r ne = get-remove nat_cmp_total m r q ∙ ap (λ b. cond b None (get m q)) (apart_keys q r ne)
+
+  removed_same : (m : FinMap nat_cmp X) (r : ℕ) → get (remove m r) r ≡ None
+  removed_same m r = get-remove nat_cmp_total m r r ∙ ap (λ b. cond b None (get m r)) (one_key r)
+
+-- one moment differs from another in the lookup of one reader at most
+pub record Differs {K : Type 0} (r : ℕ) (w v : Moment K) : Type 0 where
+  pub latch : v.latch ≡ w.latch
+  pub others : (q : ℕ) → q ≢ r → get v.lookups q ≡ get w.lookups q
+
+-- of a reply that returns, the reader has no lookup in hand any more
+abbrev pub Ends : {K : Type 0} → ℕ → Reply K → Moment K → Type 0
+Ends r (Gave x) v = get v.lookups r ≡ None
+Ends r _ v = Unit {0}
+
+-- what a load does to a moment
+pub record Reads {K : Type 0} (r : ℕ) (w : Moment K) (done : Reply K × Moment K) : Type 0 where
+  pub differs : Differs r w done.1
+  pub ends : Ends r done.0 done.1
+
+module _ {K : Type 0} (r : ℕ) where
+  start_differs : (w : Moment K) (k : K) (found : Option (LookupInHand K)) → Differs r w (start_done w r k found).1
+  start_differs w k None = record { latch = refl; others = λ q ne. inserted_other w.lookups q r (new_lookup k (more w.events)) ne }
+  start_differs w k (Some l) = record { latch = refl; others = λ q ne. refl }
+
+  load_reads : (w : Moment K) (next : AfterLoad K) → Reads r w (load_done w r next)
+  load_reads w (Goes l) = record { differs = record { latch = refl; others = λ q ne. inserted_other w.lookups q r l ne }; ends = tt }
+  load_reads w (Retries l) = record { differs = record { latch = refl; others = λ q ne. inserted_other w.lookups q r l ne }; ends = tt }
+  load_reads w (Returns x) = record { differs = record { latch = refl; others = λ q ne. removed_other w.lookups q r ne }; ends = removed_same w.lookups r }
+
+  read_reads : (o : Order K) (n : ℕ) (w : Moment K) (found : Option (LookupInHand K)) → Reads r w (read_done o n w r found)
+  read_reads o n w None = record { differs = record { latch = refl; others = λ q ne. refl }; ends = tt }
+  read_reads o n w (Some l) = load_reads w (after_load o n w r l)
+
+  differs_twice : (w v u : Moment K) → Differs r w v → Differs r v u → Differs r w u
+  differs_twice w v u a b = record { latch = b.latch ∙ a.latch; others = λ q ne. b.others q ne ∙ a.others q ne }
+
+  one_read : (o : Order K) (n : ℕ) (w v : Moment K) (reply : Reply K) → read_done o n w r (get w.lookups r) ≡ (reply, v)
+      → Reads r w (reply, v)
+  one_read o n w v reply e = subst (Reads r w) e (read_reads o n w (get w.lookups r))
+
+  -- reads, and the one that returns
+  pub reads_to_end : (o : Order K) (n limit : ℕ) (w : Moment K) (run : List (Done K)) (x : Returned K) (done : Moment K)
+      → AllByRecursion (λ d. d.event ≡ Read r) run → Run o n limit w (run ++ did (Read r) (Gave x) done ∷ [])
+      → Reads r w (Gave x, done)
+  reads_to_end o n limit w [] x done all steps = one_read o n w done (Gave x) steps.0
+  reads_to_end o n limit w (d ∷ run) x done all steps =
+      let one = one_read o n w d.after d.reply (subst (λ e. Step o n limit w e d.reply d.after) all.0 steps.0) in
+      let rest = reads_to_end o n limit d.after run x done all.1 steps.1 in
+      record { differs = differs_twice w d.after done one.differs rest.differs; ends = rest.ends }
+
+  -- the whole lookup
+  pub found_at_end : (o : Order K) (n limit : ℕ) (w begun : Moment K) (k : K) (run : List (Done K)) (x : Returned K) (done : Moment K)
+      → AllByRecursion (λ d. d.event ≡ Read r) run
+      → Run o n limit w (did (Start r k) Started begun ∷ run ++ did (Read r) (Gave x) done ∷ [])
+      → Reads r w (Gave x, done)
+  found_at_end o n limit w begun k run x done all steps =
+      let first = subst (λ (p : Reply K × Moment K). Differs r w p.1) steps.0 (start_differs w k (get w.lookups r)) in
+      let rest = reads_to_end o n limit begun run x done all steps.1 in
+      record { differs = differs_twice w begun done first rest.differs; ends = rest.ends }
+
+  pub none_at_end : (w v : Moment K) (x : Returned K) → NoLookup w → Reads r w (Gave x, v) → NoLookup v
+  none_at_end w v x none h q =
+      ⊎_elim
+      (λ same. subst (λ j. get v.lookups j ≡ None) (sym same) h.ends)
+      (λ ne. h.differs.others q ne ∙ none q)
+      (cases_eq q r)
+
+-- with nothing in hand the sequence names all accepted updates
+pub sequence_at_rest : {K : Type 0} (o : Order K) (n start : ℕ) (us : List Update) (l : Latch)
+    → IsSound o n start us l → l.hand ≡ None → at l.words 0 ≡ start + 2 * length us
+sequence_at_rest o n start us l ok rest = subst (IsInHand o start (at l.words 0) us) rest ok.in_hand
+
+pub current_at_rest : {K : Type 0} (o : Order K) (n start : ℕ) (us : List Update) (l : Latch)
+    → IsSound o n start us l → l.hand ≡ None → current_table o start us l.words ≡ replay o [] us
+current_at_rest o n start us l ok rest =
+    let seq = sequence_at_rest o n start us l ok rest in
+    let all : length us ≤ gen (at l.words 0) - gen start = (let ev : start % 2 ≡ 0 = ok.even in omega arith) in
+    ap (replay o []) (take_all (gen (at l.words 0) - gen start) us all)
+
+-- before any update none is in hand
+pub none_begun : {K : Type 0} (o : Order K) (n start : ℕ) (l : Latch) → IsSound o n start [] l → l.hand ≡ None
+none_begun o n start l ok = go l.hand ok.in_hand
+  where
+    go : (h : Option Hand) → IsInHand o start (at l.words 0) [] h → h ≡ None
+    go None is = refl
+    go (Some h) is = absurd (omega (arith, is.last))
+
+-- the table after a list of updates
+pub table_at_rest : {K : Type 0} (o : Order K) (n start : ℕ) (us : List Update) (l : Latch) → IsSound o n start us l → IsTable o (replay o [] us)
+table_at_rest o n start us l ok =
+    subst (λ v. IsTable o (replay o [] v)) (take_all (length us) us (omega arith)) (ok.tables (length us)).0

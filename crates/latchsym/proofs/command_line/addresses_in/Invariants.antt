@@ -1,0 +1,13 @@
+use Rattle.std.proofs.Common.{◌≡◌, take, None}
+use Rattle.std.specs.Prelude.{find}
+use Rattle.std.specs.List.{filter_map}
+use Rattle.listing.specs.Numbers.{number_of}
+use Rattle.latchsym.specs.Jobs.{is_no_number}
+use Rattle.latchsym.proofs.Addresses.{texts}
+use Rattle.latchsym.proofs.command_line.addresses_in.Given as goal
+
+abbrev pub invariant-loop-word : goal.invariant-loop-word
+invariant-loop-word l = record {
+  none_bad : find is_no_number (texts (take l.word-index l.words)) ≡ None;
+  numbers : l.addresses.items ≡ filter_map number_of (texts (take l.word-index l.words));
+}

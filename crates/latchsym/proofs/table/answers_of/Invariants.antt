@@ -1,0 +1,11 @@
+use Rattle.std.proofs.Common.{◌≡◌, ◌≤◌, length, map, take}
+use Rattle.modules.specs.Catalogs.{regions_of}
+use Rattle.latchsym.specs.CatalogTables.{answer_at, items_of}
+use Rattle.latchsym.specs.LoadedWorlds.{Holds}
+use Rattle.latchsym.proofs.table.answers_of.Given as goal
+
+abbrev pub invariant-loop-addr : goal.invariant-loop-addr
+invariant-loop-addr l = record {
+  holds : Holds (items_of l.catalog) l.world;
+  answers : l.answers.items ≡ map (answer_at l.catalog) (take l.addr-index l.addresses);
+}

@@ -1,0 +1,19 @@
+use Rattle.std.proofs.Common.{◌≡◌, ap, rules}
+use Rattle.order_laws.specs.declared.items.Item.{Item}
+use Rattle.std.specs.Prelude.{Option}
+use Rattle.latchsym.specs.declared.table.Answer.{Answer}
+use Rattle.latchsym.proofs.Opening.{only_for_memory, right_item, still_holds}
+use Rattle.latchsym.proofs.table.look_up.Goals as goal
+
+pub returns-in_err-found-clause-refusal : goal.returns-in_err-found-clause-refusal
+returns-in_err-found-clause-refusal c = λ items h.
+    let e = only_for_memory items c.args.world.now c.find_now.new.self h 0 c.in_err-found.field-0.0 c.in_err-found.ensures.refusal in
+    search (rules, e)
+
+pub returns-clause-found : goal.returns-clause-found
+returns-clause-found c = λ items h.
+    let same = right_item items c.args.world.now c.find_now.new.self h 0 c.args.addr c.in_ok-found.found c.in_ok-found.ensures.found in
+    ap (λ (o : Option Item). let a : Answer = record { addr = c.args.addr; item = o } in a) same
+
+pub returns-clause-holds : goal.returns-clause-holds
+returns-clause-holds c = λ items h. still_holds items c.args.world.now c.find_now.new.self h 0 c.args.addr c.in_ok-found.found c.find_now.ensures.layout c.in_ok-found.ensures.finds

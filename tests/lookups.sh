@@ -1,0 +1,87 @@
+#!/usr/bin/env bash
+# Looks addresses up in the listings of examples/listings/, and compares what is written with the lines beside them; cuts
+# listings at each byte and adds the counts up; reads the listings of this machine; and tries what may be wrong with the command
+# line and the files.
+set -eu
+. "$(dirname "$0")/program.sh"
+build latchsym
+cd "$top/examples/listings"
+failed=0
+
+fail() {
+    echo "lookups: $1"
+    failed=1
+}
+
+for modules in *.modules; do
+    name=${modules%.modules}
+    status=0
+    # shellcheck disable=SC2046
+    "$program" lookup --modules "$modules" --kallsyms "$name.kallsyms" $(cat "$name.addresses") >"$work/out" 2>"$work/err" || status=$?
+    [ $status = 0 ] && [ ! -s "$work/err" ] || fail "$name: status $status, $(cat "$work/err")"
+    cmp -s "$work/out" "$name.expected" || fail "$name: other lines than $name.expected"
+done
+
+# adds_up MODULES KALLSYMS: the counts of each listing add up to the number of its lines
+adds_up() {
+    local status=0
+    "$program" lookup --modules "$1" --kallsyms "$2" 0 >"$work/out" 2>"$work/err" || status=$?
+    [ $status = 0 ] || return 1
+    awk -v modules="$(awk 'END { print NR }' "$1")" -v symbols="$(awk 'END { print NR }' "$2")" '
+        /^modules / { for (i = 2; i <= NF; i += 2) modules -= $i }
+        /^symbols / { for (i = 2; i <= NF; i += 2) symbols -= $i }
+        END { exit modules != 0 || symbols != 0 }' "$work/out"
+}
+for listing in modules kallsyms; do
+    bytes=$(wc -c <basic.$listing)
+    for end in $(seq 0 "$bytes"); do
+        cp basic.modules basic.kallsyms "$work/"
+        head -c "$end" basic.$listing >"$work/basic.$listing"
+        adds_up "$work/basic.modules" "$work/basic.kallsyms" || fail "$listing cut at byte $end: the counts do not add up"
+    done
+done
+if [ -r /proc/modules ] && [ -r /proc/kallsyms ]; then
+    cat /proc/modules >"$work/modules"
+    cat /proc/kallsyms >"$work/kallsyms"
+    adds_up "$work/modules" "$work/kallsyms" || fail "the listings of this machine: the counts do not add up"
+fi
+
+# a line of 4096 bytes is read, and one byte more makes it long
+{ printf 'm 1 0 - Live 0x1000 ' && printf '%04076d\n' 0; } >"$work/whole"
+{ printf 'm 1 0 - Live 0x1000 ' && printf '%04077d\n' 0; } >"$work/long"
+"$program" lookup --modules "$work/whole" --kallsyms empty.kallsyms 0x1000 | head -n 2 | cmp -s - <(printf '0x1000 ? [m]\nmodules 1 hidden 0 empty 0 wraps 0 overlap 0 double 0 long 0 malformed 0\n') || fail "a line of 4096 bytes"
+"$program" lookup --modules "$work/long" --kallsyms empty.kallsyms 0x1000 | head -n 2 | cmp -s - <(printf '0x1000 -\nmodules 0 hidden 0 empty 0 wraps 0 overlap 0 double 0 long 1 malformed 0\n') || fail "a line of 4097 bytes"
+
+# a table has 65536 nodes at most
+awk 'BEGIN { for (i = 1; i <= 70000; i++) printf "m%d 4096 0 - Live 0x%x\n", i, i * 4096 }' >"$work/many"
+head -n 65536 "$work/many" >"$work/most"
+"$program" lookup --modules "$work/most" --kallsyms empty.kallsyms 0x10000fff | head -n 2 | cmp -s - <(printf '0x10000fff ? [m65536]\nmodules 65536 hidden 0 empty 0 wraps 0 overlap 0 double 0 long 0 malformed 0\n') || fail "65536 modules"
+
+# refused STATUS LINE ARGUMENT..: nothing on standard output, this line on standard error (any, where it is empty), and this status
+refused() {
+    local want=$1 line=$2 status=0
+    shift 2
+    "$program" lookup "$@" >"$work/out" 2>"$work/err" || status=$?
+    [ $status = "$want" ] && [ ! -s "$work/out" ] && [ -s "$work/err" ] || fail "lookup $*: status $status in place of $want"
+    [ -z "$line" ] || [ "$(cat "$work/err")" = "latchsym: $line" ] || fail "lookup $*: $(cat "$work/err")"
+}
+refused 1 "refused 10" --modules "$work/many" --kallsyms empty.kallsyms 1
+refused 1 "no_such: cannot be read" --modules no_such --kallsyms basic.kallsyms 1
+refused 1 "no_such: cannot be read" --modules basic.modules --kallsyms no_such 1
+refused 1 "no_such: cannot be read" --modules no_such --kallsyms no_other 1
+refused 1 ".: cannot be read" --modules . --kallsyms no_such 1
+refused 1 "no_such: cannot be read" --modules no_such --kallsyms . 1
+refused 2 "bad address 16x" --modules no_such --kallsyms no_such 16 16x y
+refused 2 "bad address 18446744073709551616" --modules no_such --kallsyms no_such 18446744073709551616
+refused 2 "" --modules basic.modules --kallsyms basic.kallsyms
+refused 2 "" --modules basic.modules 1
+refused 2 "" --kallsyms basic.kallsyms 1
+refused 2 "" --modules basic.modules --kallsyms basic.kallsyms --modules basic.modules 1
+refused 2 "" --modules basic.modules --kallsyms basic.kallsyms --symbols x 1
+if [ -e /dev/full ]; then
+    status=0
+    "$program" lookup --modules basic.modules --kallsyms basic.kallsyms 1 >/dev/full 2>"$work/err" || status=$?
+    [ $status = 1 ] && [ "$(cat "$work/err")" = "latchsym: cannot write" ] || fail "a full device is not reported"
+fi
+[ $failed = 1 ] || echo "lookups: $(ls ./*.modules | wc -l) listings, and the basic ones cut at each byte"
+exit $failed
