@@ -13,3 +13,4 @@ pub mod NodeLemmas
 pub mod WriterLemmas
 pub mod BeginLemmas
 pub mod Shallow
+pub mod Standing
