@@ -16,3 +16,4 @@ pub mod WriterLemmas
 pub mod BeginLemmas
 pub mod BatchBegins
 pub mod Shallow
+pub mod Standing

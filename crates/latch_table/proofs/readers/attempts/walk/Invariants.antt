@@ -1,0 +1,18 @@
+use Rattle.std.proofs.Common.{◌≡◌, ◌+◌, ◌-◌, ◌*◌}
+use Rattle.word_arena.specs.Layouts.{capacity_of}
+use Rattle.latch_core.specs.Sequences.{stable}
+use Rattle.latch_table.specs.Views.{reader_of}
+use Rattle.latch_table.proofs.Walks.{IsAtLink}
+use Rattle.latch_table.proofs.readers.attempts.walk.Given as goal
+
+abbrev pub invariant-loop-link : goal.invariant-loop-link
+invariant-loop-link g l =
+    record {
+      table : l.seat.table_id ≡ l.fn.seat.table_id;
+      left : l.left ≡ 6 + 2 * stable l.first;
+      right : l.right ≡ 7 + 2 * stable l.first;
+      walks : IsAtLink g.O.TreeOrder.order (capacity_of l.fn.l) l.k l.first (reader_of l.fn.seat.me.0) l.seat.me l.loads l.link;
+    }
+
+abbrev pub decreases-loop-link : goal.decreases-loop-link
+decreases-loop-link g l = 4 * capacity_of l.fn.l + 6 - l.loads
