@@ -85,9 +85,14 @@ fn rows_of_batches(rt: HostRuntime) -> Result<(), Fail> {
     let alloc = rt.alloc();
     let mut table = Table::<HalfOpen>::open(&rt, alloc, Layout::new(4)?, 0)?;
     let two = [item(0x10, 0x20, 1), item(0x30, 0x40, 2)];
-    table.writer.begin(batch(alloc, &[], &two)?)?;
-    while table.generation() == 0 {
-        assert_eq!(rt; table.find(&rt, 0x10), (None, 0));
+    let left = table.writer.begin(batch(alloc, &[], &two)?)?;
+    for _ in 0..left {
+        let found = if table.generation() == 0 {
+            None
+        } else {
+            Some(two[0])
+        };
+        assert_eq!(rt; table.find(&rt, 0x10), (found, table.generation()));
         assert!(rt; table.step(&rt));
     }
     assert_eq!(rt; table.find(&rt, 0x10), (Some(two[0]), 1));
