@@ -1,3 +1,5 @@
+ghost use Rattle.std.specs.Prelude.{◌<◌};
+
 use crate::attempts::Attempted;
 use crate::sequences::generation;
 use crate::tests::{Address, Ranges};
