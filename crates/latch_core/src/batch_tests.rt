@@ -1,6 +1,10 @@
+ghost use Rattle.std.specs.Prelude.{◌<◌};
+
 use crate::attempts::Attempted;
 use crate::sequences::generation;
+use crate::tests::{Address, Ranges};
 use crate::{Update, WriterCore, attempt_in, plain};
+use order_laws::laws::look_through;
 use order_laws::{Closed, HalfOpen, Item, Refusal, TreeOrder};
 use std::alloc::Global;
 use std::process::Abort;
@@ -85,9 +89,14 @@ fn rows_of_batches(rt: HostRuntime) -> Result<(), Fail> {
     let alloc = rt.alloc();
     let mut table = Table::<HalfOpen>::open(&rt, alloc, Layout::new(4)?, 0)?;
     let two = [item(0x10, 0x20, 1), item(0x30, 0x40, 2)];
-    table.writer.begin(batch(alloc, &[], &two)?)?;
-    while table.generation() == 0 {
-        assert_eq!(rt; table.find(&rt, 0x10), (None, 0));
+    let left = table.writer.begin(batch(alloc, &[], &two)?)?;
+    for _ in 0..left {
+        let found = if table.generation() == 0 {
+            None
+        } else {
+            Some(two[0])
+        };
+        assert_eq!(rt; table.find(&rt, 0x10), (found, table.generation()));
         assert!(rt; table.step(&rt));
     }
     assert_eq!(rt; table.find(&rt, 0x10), (Some(two[0]), 1));
@@ -154,7 +163,7 @@ fn all_or_none<O: TreeOrder<Key = u64>>(
             after
         };
         for key in keys {
-            let found = order_laws::laws::look_through::<O>(now, *key);
+            let found = look_through::<O>(now, *key);
             assert_eq!(rt; table.find(rt, *key), (found, table.generation()));
         }
         table.step(rt);
@@ -219,4 +228,83 @@ fn the_wide_sequence(rt: HostRuntime) -> Result<(), Fail> {
         assert_eq!(rt; opened.err(), Some(Refusal::BadCapacity), "at {start}");
     }
     Ok(())
+}
+
+// A pseudo-random number below `below`; `state` goes on.
+fn draw(state: &mut u64, below: u64) -> u64
+    requires { 0 < below }
+    ensures { result < below }
+{
+    *state = state
+        .wrapping_mul(6364136223846793005)
+        .wrapping_add(1442695040888963407);
+    (*state >> 33) % below
+}
+
+fn some_item(state: &mut u64) -> Item {
+    let a = 16 * draw(state, 12);
+    item(a, a + draw(state, 24), draw(state, 1000))
+}
+
+// One item more or less, or a batch of at most three first words and four items.
+fn some_update(alloc: Global, state: &mut u64) -> Result<Update, Fail> {
+    match draw(state, 4) {
+        0 => Ok(Update::Insert(some_item(state))),
+        1 => Ok(Update::Erase(16 * draw(state, 12))),
+        _ => {
+            let mut erase = Vec::new(alloc);
+            for _ in 0..draw(state, 4) {
+                erase.push(16 * draw(state, 12))?;
+            }
+            let mut insert = Vec::new(alloc);
+            for _ in 0..draw(state, 5) {
+                insert.push(some_item(state))?;
+            }
+            Ok(Update::Batch {
+                erase: erase.into(),
+                insert: insert.into(),
+            })
+        }
+    }
+}
+
+// Updates that are drawn are refused as the definitions say, and the others leave the table that they say.
+fn run_at_random<O: TreeOrder>(
+    rt: &impl Abort,
+    alloc: Global,
+    keys: &[O::Key],
+    mut state: u64,
+) -> Result<(), Fail> {
+    let l = Layout::new(9)?;
+    let mut table = Table::<O>::open(rt, alloc, l, 0)?;
+    let mut plain_table = Vec::new(alloc);
+    for _ in 0..400 {
+        let u = some_update(alloc, &mut state)?;
+        let sequence = table.words.first().copied().ok_or("no words")?;
+        let why = plain::refuses::<O>(l, false, plain_table.as_slice(), sequence, &u);
+        if why.is_none() {
+            plain_table = plain::after::<O>(alloc, plain_table.as_slice(), &u)?;
+        }
+        assert_eq!(rt; table.carry_out(rt, u).err(), why);
+        for key in keys {
+            let found = look_through::<O>(plain_table.as_slice(), *key);
+            assert_eq!(rt; table.find(rt, *key), (found, table.generation()));
+        }
+    }
+    Ok(())
+}
+
+#[test]
+fn random_runs_with_batches(rt: HostRuntime) -> Result<(), Fail> {
+    let keys = [0, 5, 15, 16, 33, 48, 60, 80, 100, 120, 144, 160, 176, 190];
+    run_at_random::<HalfOpen>(&rt, rt.alloc(), &keys, 1)?;
+    run_at_random::<Closed>(&rt, rt.alloc(), &keys, 2)?;
+    let addresses = [
+        Address(0),
+        Address(17),
+        Address(60),
+        Address(100),
+        Address(176),
+    ];
+    run_at_random::<Ranges>(&rt, rt.alloc(), &addresses, 3)
 }

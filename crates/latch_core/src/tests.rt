@@ -12,10 +12,10 @@ use word_arena::{Layout, TreeCopy, apply};
 
 /// An address that is no plain number.
 #[derive(Clone, Copy, Debug, PartialEq, Eq, Drop)]
-struct Address(u64);
+pub struct Address(pub u64);
 
 /// Ranges without their end, found by an address.
-struct Ranges;
+pub struct Ranges;
 
 impl TreeOrder for Ranges {
     type Key = Address;
