@@ -158,6 +158,63 @@ fn lines_just_inside_and_outside_the_form_of_modules(rt: HostRuntime) -> Result<
 }
 
 #[test]
+fn modules_just_inside_and_outside_each_cause(rt: HostRuntime) -> Result<(), Fail> {
+    let cases: [(&[u8], [u64; 4]); 10] = [
+        (b"\x00\xff[\r 1 0 - Live 0x1", [0, 0, 0, 0]),
+        (b"a 1 0 - Live 0x0", [1, 0, 0, 0]),
+        (b"a 0 0 - Live 0x0", [1, 0, 0, 0]),
+        (b"a 0 0 - Live 0x1", [0, 1, 0, 0]),
+        (b"a 18446744073709551614 0 - Live 0x1", [0, 0, 0, 0]),
+        (b"a 18446744073709551615 0 - Live 0x1", [0, 0, 1, 0]),
+        (b"a 1 0 - Live 0xfffffffffffffffe", [0, 0, 0, 0]),
+        (b"a 1 0 - Live 0xffffffffffffffff", [0, 0, 1, 0]),
+        (b"a 0 0 - Live 0", [0, 0, 0, 1]),
+        (b"a 0 0 - 0x0", [0, 0, 0, 1]),
+    ];
+    for (line, expected) in cases {
+        let (modules, counts) = read_modules(rt.alloc(), line)?;
+        let skipped = [counts.hidden, counts.empty, counts.wraps, counts.malformed];
+        assert_eq!(rt; skipped, expected, "in {line:?}");
+        assert_eq!(rt; modules.len() == 1, expected == [0, 0, 0, 0]);
+    }
+    Ok(())
+}
+
+#[test]
+fn symbols_just_inside_and_outside_each_cause(rt: HostRuntime) -> Result<(), Fail> {
+    let cases: [(&[u8], [u64; 2]); 5] = [
+        (b"0000000000000001 t \x00\xff[", [0, 0]),
+        (b"0000000000000000 t a", [1, 0]),
+        (b"0 t a", [1, 0]),
+        (b"000000000000000g t a", [0, 1]),
+        (b"0000000000000000 t ", [0, 1]),
+    ];
+    for (line, expected) in cases {
+        let (symbols, counts) = read_kallsyms(rt.alloc(), line)?;
+        assert_eq!(rt; [counts.hidden, counts.malformed], expected, "in {line:?}");
+        assert_eq!(rt; symbols.len() == 1, expected == [0, 0]);
+    }
+    Ok(())
+}
+
+#[test]
+fn seventy_thousand_lines_of_each_listing(rt: HostRuntime) -> Result<(), Fail> {
+    let mut modules = Vec::new(rt.alloc());
+    let mut symbols = Vec::new(rt.alloc());
+    for _ in 0..70000 {
+        modules.extend_from_slice(b"a 1 0 - Live 0x1\n")?;
+        symbols.extend_from_slice(b"1 t a\t[a]\n")?;
+    }
+    let (modules, counts) = read_modules(rt.alloc(), &modules)?;
+    assert_eq!(rt; modules.len(), 70000);
+    assert_eq!(rt; counts, NO_MODULES_SKIPPED);
+    let (symbols, counts) = read_kallsyms(rt.alloc(), &symbols)?;
+    assert_eq!(rt; symbols.len(), 70000);
+    assert_eq!(rt; counts, NO_SYMBOLS_SKIPPED);
+    Ok(())
+}
+
+#[test]
 fn lines_just_inside_and_outside_the_form_of_symbols(rt: HostRuntime) -> Result<(), Fail> {
     let cases: [(&[u8], bool); 16] = [
         (b"1 t a", true),
