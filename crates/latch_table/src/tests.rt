@@ -270,7 +270,7 @@ fn share<R: Threads + Abort + Sync>(rt: &R, alloc: Global, readers: u32) -> Resu
             wrong: 0,
         })?;
     }
-    let threads = trials.len();
+    let threads = trials.len().max(1);
     let (done, ()) = join(
         rt,
         || write_all(&mut writer),
