@@ -1,11 +1,14 @@
 -- The commands that lines of a trace are.
-use Rattle.std.specs.Prelude.{ℕ, List, [], ◌∷◌, codes, Option, Some, None, if◌then◌else◌}
+use Rattle.std.specs.Prelude.{ℕ, Bool, ◌&&◌, List, [], ◌∷◌, codes, Option, Some, None, if◌then◌else◌}
 use Rattle.std.specs.Option.{option_map}
 use Rattle.std.specs.Str.{bytes_eq}
-use Rattle.latch_core.specs.declared.updates.Update.TheVariants.{Insert, Erase}
+use Rattle.latch_core.specs.declared.updates.Update.TheVariants.{Insert, Erase, Batch}
 use Rattle.latch_steps.specs.declared.commands.Command.{Command}
 use Rattle.latch_steps.specs.declared.commands.Command.TheVariants.{Begin, Write, WriteFlip, WriteEnd, Start, Read}
+use Rattle.order_laws.specs.declared.items.Item.{Item}
 use Rattle.listing.specs.declared.header.Version.{Version}
+use Rattle.listing.specs.Batch.{batch_of}
+use Rattle.listing.specs.Header.{has_batches}
 use Rattle.listing.specs.Lines.{words_of}
 use Rattle.listing.specs.Numbers.{number_of, short_number_of, count_of}
 
@@ -19,16 +22,22 @@ insert_of (low ∷ high ∷ tag ∷ []) = insert_with (number_of low) (number_of
 insert_of _ = None
 
 -- `erase LO`
+abbrev pub erase_with : Option ℕ → Option (Command ℕ)
+erase_with low = option_map (λ a. Begin (Erase a)) low
+
 abbrev pub erase_of : List (List ℕ) → Option (Command ℕ)
-erase_of (low ∷ []) = option_map (λ a. Begin (Erase a)) (number_of low)
+erase_of (low ∷ []) = erase_with (number_of low)
 erase_of _ = None
 
 -- `write flip`, `write end` and `write K`
-abbrev pub write_of : List (List ℕ) → Option (Command ℕ)
-write_of (steps ∷ []) =
+abbrev pub write_with : List ℕ → Option (Command ℕ)
+write_with steps =
     if bytes_eq steps (codes "flip") then Some WriteFlip
     else if bytes_eq steps (codes "end") then Some WriteEnd
     else option_map (λ k. Write k) (count_of steps)
+
+abbrev pub write_of : List (List ℕ) → Option (Command ℕ)
+write_of (steps ∷ []) = write_with steps
 write_of _ = None
 
 -- `start R ADDR`
@@ -60,6 +69,19 @@ command_of (word ∷ words) =
     else if bytes_eq word (codes "read") then read_of words
     else None
 
--- the command that a line is, if it is one
+-- `batch E I ..`
+abbrev pub batch_command : Option (List ℕ × List Item) → Option (Command ℕ)
+batch_command (Some (erase, insert)) = Some (Begin (Batch erase insert))
+batch_command None = None
+
+-- the same, where the trace may have lines `batch` or not
+abbrev pub command_with : Bool → List (List ℕ) → Option (Command ℕ)
+command_with batches [] = None
+command_with batches (word ∷ words) =
+    if batches && bytes_eq word (codes "batch")
+    then batch_command (batch_of words)
+    else command_of (word ∷ words)
+
+-- the command that a line is, if it is one, in a trace of this version
 abbrev pub command_by : Version → List ℕ → Option (Command ℕ)
-command_by version line = command_of (words_of line)
+command_by version line = command_with (has_batches version) (words_of line)

@@ -46,6 +46,16 @@ impl<T: Drop> From<AllocFailed<T>> for LineFault {
     }
 }
 
+impl From<AllocError> for LineFault {
+    ghost use Rattle.listing.specs.declared.faults.LineFault.TheVariants.{OutOfMemory};
+
+    ghost from_gives = { λ _ fault. fault ≡ OutOfMemory };
+
+    fn from(_error: AllocError) -> LineFault {
+        LineFault::OutOfMemory
+    }
+}
+
 impl From<AllocError> for ReadFault {
     ghost use Rattle.listing.specs.declared.faults.ReadFault.TheVariants.{OutOfMemory};
 

@@ -2,7 +2,7 @@ use crate::{
     Header, LONGEST_LINE, LineFault, ReadFault, TraceFile, Version, number, read_trace, read_whole,
 };
 use devices::{Counted, FailAt};
-use latch_core::Update;
+use latch_core::{Entries, Update};
 use latch_steps::Command;
 use order_laws::Item;
 use std::alloc::{AllocError, Global};
@@ -180,5 +180,81 @@ fn input_is_read_whole(rt: HostRuntime) -> Result<(), Fail> {
     assert_eq!(rt; number(b"0x"), None);
     assert_eq!(rt; number(b"0X10"), None);
     assert_eq!(rt; number(b"+1"), None);
+    Ok(())
+}
+
+/// A batch of these first words and items.
+fn batch(alloc: Global, erase: &[u64], insert: &[Item]) -> Result<Command<u64>, AllocError> {
+    Ok(Command::Begin(Update::Batch {
+        erase: Entries::from(Vec::from_slice(alloc, erase)?),
+        insert: Entries::from(Vec::from_slice(alloc, insert)?),
+    }))
+}
+
+#[test]
+fn batches_are_read_from_the_second_version_on(rt: HostRuntime) -> Result<(), Fail> {
+    let alloc = rt.alloc();
+    let lines = b" halfopen 4\nbatch 2 1 0x10 0x20 1 2 3\nbatch 0 0\nbatch 0 1 4 5 6\nbatch 1 0 7";
+    let items = [Item { a: 1, b: 2, tag: 3 }, Item { a: 4, b: 5, tag: 6 }];
+    let expected = [
+        batch(alloc, &[16, 32], &items[..1])?,
+        batch(alloc, &[], &[])?,
+        batch(alloc, &[], &items[1..])?,
+        batch(alloc, &[7], &[])?,
+    ];
+    for version in [b"latchtrace 2".as_slice(), b"latchtrace 3".as_slice()] {
+        let mut text = Vec::from_slice(alloc, version)?;
+        text.extend_from_slice(lines)?;
+        let trace = trace(alloc, &text)?;
+        assert_eq!(rt; trace.commands.as_slice(), expected.as_slice());
+    }
+    let answer = trace(alloc, b"latchtrace 1 halfopen 4\nbatch 0 0").map(|trace| trace
+        .commands
+        .len());
+    assert_eq!(rt; answer, Err(LineFault::BadLine(2)));
+    Ok(())
+}
+
+#[test]
+fn a_batch_has_as_many_words_as_it_says(rt: HostRuntime) -> Result<(), Fail> {
+    let lines = [
+        b"batch".as_slice(),
+        b"batch 0".as_slice(),
+        b"batch 0 0 ".as_slice(),
+        b"batch  0 0".as_slice(),
+        b"batch 0 0 1".as_slice(),
+        b"batch 1 0".as_slice(),
+        b"batch 1 0 1 2".as_slice(),
+        b"batch 0 1 1 2".as_slice(),
+        b"batch 0 1 1 2 3 4".as_slice(),
+        b"batch 3 0 1 2".as_slice(),
+        b"batch 1 1 1 2 3".as_slice(),
+        b"batch 18446744073709551615 0 1".as_slice(),
+        b"batch 0 18446744073709551615 1 2 3".as_slice(),
+        b"batch 2 6148914691236517205 1".as_slice(),
+        b"batch 0 6148914691236517206 1 2".as_slice(),
+        b"batch 18446744073709551616 0".as_slice(),
+    ];
+    for line in lines {
+        let mut text = Vec::from_slice(rt.alloc(), b"latchtrace 2 halfopen 4\n")?;
+        text.extend_from_slice(line)?;
+        let answer = trace(rt.alloc(), &text).map(|trace| trace.commands.len());
+        assert_eq!(rt; answer, Err(LineFault::BadLine(2)), "in {line:?}");
+    }
+    Ok(())
+}
+
+#[test]
+fn no_buffer_cuts_a_batch_short(rt: HostRuntime) -> Result<(), Fail> {
+    let alloc = rt.alloc();
+    let mut text = Vec::from_slice(alloc, b"latchtrace 2 halfopen 4\nbatch 2042 0")?;
+    for _ in 0..2042 {
+        text.extend_from_slice(b" 7")?;
+    }
+    assert_eq!(rt; text.len(), 24 + 4096);
+    assert_eq!(rt; trace(alloc, &text)?.commands.len(), 1);
+    text.push(b'7')?;
+    let answer = trace(alloc, &text).map(|trace| trace.commands.len());
+    assert_eq!(rt; answer, Err(LineFault::BadLine(2)));
     Ok(())
 }

@@ -29,8 +29,9 @@ pub struct TraceFile {
 ///
 /// Line 1 is the header, `latchtrace VERSION ORDER CAPACITY` with START behind it or not. Each later
 /// line is empty, a comment that begins with `#`, or one of `insert LO HI TAG`, `erase LO`,
-/// `write K`, `write flip`, `write end`, `start R ADDR` and `read R K`, with exactly one blank
-/// between two words. No line, also no comment, has more than [`LONGEST_LINE`](crate::LONGEST_LINE)
+/// `write K`, `write flip`, `write end`, `start R ADDR`, `read R K` and, from version 2 on,
+/// `batch E I ..` with E first words and three numbers for each of I items behind it, with exactly
+/// one blank between two words. No line, also no comment, has more than [`LONGEST_LINE`](crate::LONGEST_LINE)
 /// bytes. Bytes behind the last line's end are a line too; a trace of no bytes has a bad line 1.
 pub fn read_trace<R: Read>(alloc: Global, reader: &mut Counted<R>) -> Result<TraceFile, LineFault>
     ensures trace { IfSome (R.remaining (device_of reader.old)) (λ bytes. Gives contents_of result (trace_of bytes)) }
@@ -71,7 +72,8 @@ fn commands_in(
     let mut number = 2u64;
     while !rest.is_empty() {
         let (line, after) = cut_line(rest);
-        match said_by(version, line) {
+        let said = said_by(alloc, version, line)?;
+        match said {
             Said::Nothing => {}
             Said::One(command) => commands.push(command)?,
             Said::Bad => return Err(LineFault::BadLine(number)),

@@ -17,15 +17,15 @@ loop-rest-preserved c =
     let before : after_front front (entries_from form n (line ∷ lines)) ≡ entries_from form 2 (lines_of c.args.bytes.now) =
     ap (λ ls. after_front front (entries_from form n ls)) (sym c.cut_line.ensures.line) ∙ c.loop-rest.invariant.told in
     record {
-      told = elim c.match-said_by.branch [
+      told = elim c.match-said.branch [
         | in-Nothing w ↦
             ap (λ v. after_front v.items (entries_from form (n + 1) lines)) w.commands-is
-            ∙ ap (after_front front) (sym (passed form n line lines (sym w.in-Nothing.ensures))) ∙ before
+            ∙ ap (after_front front) (sym (passed form n line lines (sym c.in_ok-said.ensures ∙ w.in-Nothing.is))) ∙ before
         | in-One+in_ok-push-in-One w ↦
             let pushed : w.push.new.self.items ≡ front ++ w.in-One.command ∷ [] = grind (arith, common_steps) in
             ap (λ v. after_front v.items (entries_from form (n + 1) lines)) w.commands-is
             ∙ ap (λ xs. after_front xs (entries_from form (n + 1) lines)) pushed
-            ∙ sym (taken form n line lines front w.in-One.command (sym w.in-One.ensures)) ∙ before
+            ∙ sym (taken form n line lines front w.in-One.command (sym c.in_ok-said.ensures ∙ w.in-One.is)) ∙ before
       ];
       numbered = omega (arith, c.loop-rest.invariant.numbered, c.cut_line.ensures.shorter);
     }
