@@ -270,16 +270,18 @@ fn share<R: Threads + Abort + Sync>(rt: &R, alloc: Global, readers: u32) -> Resu
             wrong: 0,
         })?;
     }
-    let threads = trials.len().max(1);
     let (done, ()) = join(
         rt,
         || write_all(&mut writer),
-        || for_each_mut(
-            rt,
-            trials.as_mut_slice(),
-            threads,
-            &|_, trial| trial.run(&tables),
-        ),
+        || {
+            let threads = trials.len().max(1);
+            for_each_mut(
+                rt,
+                trials.as_mut_slice(),
+                threads,
+                &|_, trial| trial.run(&tables),
+            );
+        },
     );
     assert_eq!(rt; done?, 1000);
     for trial in &trials {
