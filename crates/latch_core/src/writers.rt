@@ -104,12 +104,25 @@ impl<O: TreeOrder> WriterCore<O> {
             × (self.new.sequence ≡ self.old.sequence) }
         ensures pictured { RefusesAsPictured O.order self.old u }
     {
-        if let Some(refusal) = self.refusal(&u) {
+        self.begin_from(&u)
+    }
+
+    /// The same for a caller that keeps its update.
+    pub fn begin_from(&mut self, u: &Update) -> Result<u64, Refusal>
+        ensures accepted { IfOk result (λ left. why_refused O.order self.old u.now ≡ None) }
+        ensures begun { IfOk result (λ left. (left ≡ length self.new.left) × HasBegun O.order self.old u.now self.new) }
+        ensures refusal { IfErr result (IsRefusedBy O.order self.old u.now) }
+        ensures unchanged { OnErr result (self.new ≡ self.old) }
+        ensures same { (self.new.capacity ≡ self.old.capacity) × (self.new.limit ≡ self.old.limit)
+            × (self.new.sequence ≡ self.old.sequence) }
+        ensures pictured { RefusesAsPictured O.order self.old u.now }
+    {
+        if let Some(refusal) = self.refusal(u) {
             return Err(refusal);
         }
         match u {
-            Update::Insert(item) => self.insert(item)?,
-            Update::Erase(a) => self.erase(a)?,
+            Update::Insert(item) => self.insert(*item)?,
+            Update::Erase(a) => self.erase(*a)?,
             Update::Batch { erase, insert } => self.batch(erase.as_slice(), insert.as_slice())?,
         }
         Ok(self.plan.remaining())
