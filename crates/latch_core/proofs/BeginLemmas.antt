@@ -1,12 +1,12 @@
 -- An update that begins: what was tested, the node that it takes or frees, and the stores that were planned.
-use Rattle.std.proofs.Common.{◌≡◌, ◌≢◌, ℕ, suc, ◌+◌, ◌*◌, ◌<◌, ◌≤◌, true, false, List, [], ◌∷◌, ◌++◌, length, None, refl, sym, ◌∙◌, ap, subst, inl, inr, arith, length-append}
+use Rattle.std.proofs.Common.{◌≡◌, ℕ, suc, ◌+◌, ◌*◌, ◌<◌, ◌≤◌, true, false, List, [], ◌∷◌, ◌++◌, length, refl, sym, ◌∙◌, ap, subst, inl, inr, arith, length-append}
 use Rattle.std.specs.Prelude.{All, nat_lt, insert, remove, Contains}
-use Rattle.std.proofs.lemmas.Bool.{eqb-false, ltb-false, lt-ltb}
+use Rattle.std.proofs.lemmas.Bool.{ltb-false, lt-ltb}
 use Rattle.std.proofs.lemmas.List.Elements.{All-append, All-cons, All-nil, All-from_recursion}
 use Rattle.std.proofs.Math.Nat.{mul-le-mul_right}
 use Rattle.order_laws.specs.declared.items.Item.{Item}
 use Rattle.order_laws.specs.Orders.{Order}
-use Rattle.order_laws.specs.Tables.{place_for, place_of, with_item, without, has, meets}
+use Rattle.order_laws.specs.Tables.{place_for, place_of, with_item, without}
 use Rattle.order_laws.proofs.TableLemmas.{all_weaker}
 use Rattle.word_arena.specs.declared.stores.Store.{Store}
 use Rattle.word_arena.specs.Words.{at, words_for, Nodes, Holds, IsUnreached, listed}
@@ -17,16 +17,13 @@ use Rattle.rb_trees.specs.Trees.{CanBeRedBlack}
 use Rattle.rb_words.specs.Pictures.{Picture, IsPictured}
 use Rattle.rb_words.specs.Plans.{Inserts, Erases, LeadsWithItem, LeadsByLinks, AreLinks, item_stores}
 use Rattle.latch_core.specs.declared.updates.Update.{Update}
-use Rattle.latch_core.specs.declared.updates.Update.TheVariants.{Insert, Erase}
 use Rattle.latch_core.specs.Sequences.{stable}
 use Rattle.latch_core.specs.Updates.{after, size_of}
 use Rattle.latch_core.specs.Latches.{Latch}
 use Rattle.latch_core.specs.Plans.{flip_to, update_stores}
 use Rattle.latch_core.specs.FreeNodes.{AreAllNodes}
 use Rattle.latch_core.specs.WriterViews.{WriterView}
-use Rattle.latch_core.specs.Writers.{AtRest, Pictures, HasBegun, why_refused, AreInStep}
-use Rattle.latch_core.proofs.TestLemmas.{NoneHolds, all_tests, none_holds}
-use Rattle.latch_core.proofs.BatchLemmas.{not_false}
+use Rattle.latch_core.specs.Writers.{AtRest, Pictures, HasBegun, AreInStep}
 use Rattle.latch_core.proofs.Planned.{Leading}
 use Rattle.latch_core.proofs.NodeLemmas.{last_is_free, node_taken, node_freed}
 use Rattle.latch_core.proofs.WriterLemmas.{begun_pictures, rest_now}
@@ -48,18 +45,6 @@ idle_from (x ∷ xs) e =
 pub accepted_by : (w : WriterView) → nat_lt 0 (length w.left) ≡ false → nat_lt w.limit (w.sequence + 2) ≡ false → Accepted w
 accepted_by w busy spent =
     record { idle = idle_from w.left busy; counts = ltb-false w.limit (w.sequence + 2) spent }
-
-pub accepted_insert : {K : Type 0} (o : Order K) (w : WriterView) (i : Item) → why_refused o w (Insert i) ≡ None → Accepted w × (o.valid i ≡ true) × (meets o i w.table ≡ false) × (length w.table ≢ w.capacity)
-accepted_insert o w i e =
-    let tests = all_tests o w.capacity w.limit (nat_lt 0 (length w.left)) w.table w.sequence (Insert i) in
-    let h : NoneHolds tests = none_holds tests e in
-    (accepted_by w h.0 h.1.1.1.1.0, not_false (o.valid i) h.1.0, h.1.1.0, eqb-false (length w.table) w.capacity h.1.1.1.0)
-
-pub accepted_erase : {K : Type 0} (o : Order K) (w : WriterView) (a : ℕ) → why_refused o w (Erase a) ≡ None → Accepted w × (has a w.table ≡ true)
-accepted_erase o w a e =
-    let tests = all_tests o w.capacity w.limit (nat_lt 0 (length w.left)) w.table w.sequence (Erase a) in
-    let h : NoneHolds tests = none_holds tests e in
-    (accepted_by w h.0 h.1.1.0, not_false (has a w.table) h.1.0)
 
 -- the free node that an insert takes
 pub taken_node : (n : ℕ) (zero one : Picture) (free rest : List ℕ) (node : ℕ) (left : List Store) → AreInStep n zero one free left → free ≡ rest ++ node ∷ [] → (node < n) × (Contains (listed zero.tree) node → ⊥) × (Contains (listed one.tree) node → ⊥)
@@ -92,7 +77,7 @@ update_in_range n seq items links0 links1 all zero one =
     All-append P (items ++ flip_to (seq + 1) ∷ links0) (flip_to (seq + 2) ∷ links1) (All-append P items (flip_to (seq + 1) ∷ links0) all f0) f1
 
 -- how many stores an update has
-update_length : (seq : ℕ) (items links0 links1 : List Store) → length (update_stores seq items links0 links1) ≡ length items + length links0 + length links1 + 2
+pub update_length : (seq : ℕ) (items links0 links1 : List Store) → length (update_stores seq items links0 links1) ≡ length items + length links0 + length links1 + 2
 update_length seq items links0 links1 =
     omega (arith, length-append (items ++ flip_to (seq + 1) ∷ links0) (flip_to (seq + 2) ∷ links1), length-append items (flip_to (seq + 1) ∷ links0))
 

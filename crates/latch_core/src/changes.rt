@@ -9,10 +9,10 @@ ghost use Rattle.latch_core.specs.Updates.{some_missing, some_twice, some_invali
 ghost use Rattle.latch_core.specs.FreeNodes.{AreAllNodes};
 ghost use Rattle.latch_core.specs.Changes.{Placed, placing_stores, ErasesAll, InsertsAll};
 
-use crate::plans::{ITEM_STORES, Plan, append};
+use crate::plans::{ITEM_STORES, Plan};
 use order_laws::{Item, TreeOrder};
 use rb_words::{STORES, Shape};
-use word_arena::Store;
+use word_arena::{Store, append};
 
 /// Plans to erase the items of these first words, and puts their nodes behind the free ones.
 pub fn plan_erases<O: TreeOrder>(

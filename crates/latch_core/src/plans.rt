@@ -1,15 +1,21 @@
 //! The stores of an update, in the order in which they are made.
 
-ghost use Rattle.std.specs.Prelude.{◌≡◌, ◌+◌, ◌-◌, ◌*◌, ◌^◌, ◌<◌, ◌≤◌, ◌++◌, [], Some, IsSome, OnOk, take, drop, length, slice_get, vec_len, vec_capacity};
+ghost use Rattle.std.specs.Prelude.{◌≡◌, ◌+◌, ◌-◌, ◌*◌, ◌^◌, ◌<◌, ◌≤◌, ◌++◌, ◌∷◌, [], List, true, false, Some, None, IsSome, IfSome, is_some, OnOk, IfErr, Contains, take, drop, length, slice_get, vec_len, vec_capacity};
+ghost use Rattle.order_laws.specs.Tables.{has, meets};
+ghost use Rattle.word_arena.specs.declared.stores.Store.{Store};
 ghost use Rattle.word_arena.specs.Layouts.{capacity_of};
 ghost use Rattle.word_arena.specs.Stores.{AreLinkStores};
-ghost use Rattle.rb_words.specs.Mirrors.{mirror};
-ghost use Rattle.latch_core.specs.Plans.{update_stores};
+ghost use Rattle.word_arena.specs.Words.{listed};
+ghost use Rattle.rb_words.specs.Mirrors.{mirror, mirror_store};
+ghost use Rattle.rb_words.specs.Pictures.{IsPicture};
+ghost use Rattle.rb_words.specs.Plans.{item_stores, Inserts, LeadsWithItem, Erases, LeadsByLinks};
+ghost use Rattle.latch_core.specs.Plans.{update_stores, flip_to};
 
-use rb_words::mirrored;
+use order_laws::{Item, Refusal, TreeOrder};
+use rb_words::{STORES, Shape, mirrored};
 use std::alloc::{AllocError, Global};
 use std::marker::Model;
-use word_arena::{Layout, Store};
+use word_arena::{Layout, Store, append};
 
 /// How many stores an item's words take.
 pub const ITEM_STORES: usize = 3;
@@ -83,21 +89,96 @@ impl Plan {
         self.stores.reserve(count)
     }
 
-    /// Takes in the stores of an update, from what was planned for copy 0: those of items, with which it begins and which
-    /// are made once, the first flip, the links of copy 0, the second flip, the same links in copy 1.
+    /// Makes room for an update of one item, where none are left: here and in the picture of copy 0.
+    #[inline(always)]
+    pub fn reserve_with<O: TreeOrder>(&mut self, shape: &mut Shape<O>) -> Result<(), Refusal>
+        requires { self.old.left ≡ [] }
+        ensures left { self.new.left ≡ [] }
+        ensures kept { shape.new ≡ record shape.old { room = shape.new.room } }
+        ensures room { OnOk result (2 * STORES + 2 ≤ self.new.room) }
+        ensures shape_room { OnOk result (0 < shape.new.room) }
+        ensures refusal { IfErr result (λ e. e ≡ Refusal.OutOfMemory) }
+        ensures sound { IsPicture O.order shape.new }
+    {
+        shape.reserve_in(1, &mut self.stores)?;
+        Ok(self.reserve(2 * STORES + 2)?)
+    }
+
+    /// Takes in the stores that insert an item in a free node, unless it meets one of the table. Answers whether it does;
+    /// then what is pictured of copy 0 stays, and no stores are left.
+    ///
+    /// Takes no memory. The item must be valid.
+    pub fn insert<O: TreeOrder>(
+        &mut self,
+        l: Layout,
+        sequence: u64,
+        shape: &mut Shape<O>,
+        node: u32,
+        item: Item,
+    ) -> bool
+        requires room { 2 * STORES + 2 ≤ self.old.room }
+        requires shape_room { 0 < shape.old.room }
+        requires first_copy { shape.old.copy ≡ 0 }
+        requires capacity { shape.old.capacity ≡ capacity_of l }
+        requires in_range { node < shape.old.capacity }
+        requires free { Contains (listed shape.old.tree) node → ⊥ }
+        requires valid { O.order.valid item ≡ true }
+        requires counts { sequence + 2 < 2 ^ 64 }
+        ensures met { result ≡ meets O.order item shape.old.table }
+        ensures unchanged { result ≡ true → (shape.new ≡ shape.old) × (self.new.left ≡ []) }
+        ensures pictures { result ≡ false → Inserts O.order shape.old shape.new node item }
+        ensures plan { result ≡ false → (links : List Store)
+            × (self.new.left ≡ update_stores sequence (item_stores node item) links (mirror links))
+            × LeadsWithItem shape.old shape.new node item links }
+        ensures few { result ≡ false → length self.new.left ≤ 2 * STORES + 2 }
+        ensures was_sound { IsPicture O.order shape.old }
+        ensures sound { IsPicture O.order shape.new }
+    {
+        self.made = 0;
+        flip_alone(&mut self.stores, sequence + 1);
+        if shape.plan_insert_apart(&mut self.stores, node, item) {
+            self.made = self.stores.len();
+            return true;
+        }
+        // The node's words serve both copies, so they are stored once, before copy 1 links the node.
+        put_items_first(&mut self.stores);
+        flip_and_mirror(l, &mut self.stores, sequence + 2, ITEM_STORES + 1);
+        false
+    }
+
+    /// Takes in the stores that erase the item of a first word, if there is one, and answers its node. With none, what is
+    /// pictured of copy 0 stays, and no stores are left.
     ///
     /// Takes no memory.
-    pub fn fill(&mut self, l: Layout, sequence: u64, planned: &[Store], items: usize)
-        requires none_left { self.old.left ≡ [] }
-        requires items_first { items ≤ length planned.now }
-        requires then_links { AreLinkStores (capacity_of l) 0 (drop items planned.now) }
-        requires room { 2 * length planned.now + 2 ≤ self.old.room }
+    pub fn erase<O: TreeOrder>(
+        &mut self,
+        l: Layout,
+        sequence: u64,
+        shape: &mut Shape<O>,
+        a: u64,
+    ) -> Option<u32>
+        requires room { 2 * STORES + 2 ≤ self.old.room }
+        requires first_copy { shape.old.copy ≡ 0 }
+        requires capacity { shape.old.capacity ≡ capacity_of l }
         requires counts { sequence + 2 < 2 ^ 64 }
-        ensures { self.new.left ≡ update_stores sequence (take items planned.now)
-            (drop items planned.now) (mirror (drop items planned.now)) }
+        ensures found { is_some result ≡ has a shape.old.table }
+        ensures unchanged { result ≡ None → (shape.new ≡ shape.old) × (self.new.left ≡ []) }
+        ensures pictures { IfSome result (Erases shape.old shape.new a) }
+        ensures plan { IsSome result → (links : List Store)
+            × (self.new.left ≡ update_stores sequence [] links (mirror links))
+            × LeadsByLinks shape.old shape.new links }
+        ensures few { IsSome result → length self.new.left ≤ 2 * STORES + 2 }
+        ensures was_sound { IsPicture O.order shape.old }
+        ensures sound { IsPicture O.order shape.new }
     {
-        self.add(&planned[..items]);
-        self.close(l, sequence, &planned[items..]);
+        self.made = 0;
+        flip_alone(&mut self.stores, sequence + 1);
+        let Some(node) = shape.plan_erase_found(&mut self.stores, a) else {
+            self.made = self.stores.len();
+            return None;
+        };
+        flip_and_mirror(l, &mut self.stores, sequence + 2, 1);
+        Some(node)
     }
 
     /// Takes in stores, for which there is room.
@@ -127,6 +208,7 @@ impl Plan {
 }
 
 /// The store that makes this number the sequence.
+#[inline(always)]
 fn flip_to(sequence: u64) -> Store
     ensures { result ≡ record { word = 0; value = sequence } }
 {
@@ -136,14 +218,61 @@ fn flip_to(sequence: u64) -> Store
     }
 }
 
-/// Appends stores where there is room for them.
-pub fn append(stores: &mut Vec<Store>, more: &[Store])
-    requires { vec_len stores.old + length more.now ≤ vec_capacity stores.old }
-    ensures items { stores.new.items ≡ stores.old.items ++ more.now }
-    ensures len { vec_len stores.new ≡ vec_len stores.old + length more.now }
+/// Leaves one store in the list, which makes this number the sequence.
+#[inline(always)]
+fn flip_alone(stores: &mut Vec<Store>, sequence: u64)
+    requires { 1 ≤ vec_capacity stores.old }
+    ensures items { stores.new.items ≡ flip_to sequence ∷ [] }
+    ensures len { vec_len stores.new ≡ 1 }
     ensures capacity { vec_capacity stores.new ≡ vec_capacity stores.old }
 {
-    for store in more {
-        stores.push_reserved(*store);
+    stores.clear();
+    stores.push_reserved(flip_to(sequence));
+}
+
+/// Puts the first store behind the three of an item that follow it.
+#[inline(always)]
+fn put_items_first(stores: &mut Vec<Store>)
+    requires { 4 ≤ vec_len stores.old }
+    ensures items { stores.new.items
+        ≡ take 3 (drop 1 stores.old.items) ++ (take 1 stores.old.items ++ drop 4 stores.old.items) }
+    ensures len { vec_len stores.new ≡ vec_len stores.old }
+    ensures capacity { vec_capacity stores.new ≡ vec_capacity stores.old }
+{
+    stores.swap(0, 1);
+    stores.swap(1, 2);
+    stores.swap(2, 3);
+}
+
+/// Appends the store that makes this number the sequence, and for each store of copy 0 from the place `from` on that of
+/// copy 1.
+#[inline(always)]
+fn flip_and_mirror(l: Layout, stores: &mut Vec<Store>, sequence: u64, from: usize)
+    requires place { from ≤ vec_len stores.old }
+    requires links_only { AreLinkStores (capacity_of l) 0 (drop from stores.old.items) }
+    requires room { 2 * vec_len stores.old + 1 ≤ vec_capacity stores.old + from }
+    ensures items { stores.new.items ≡ stores.old.items ++ flip_to sequence ∷ mirror (drop from stores.old.items) }
+    ensures len { vec_len stores.new + from ≡ 2 * vec_len stores.old + 1 }
+    ensures capacity { vec_capacity stores.new ≡ vec_capacity stores.old }
+{
+    let _most = l.capacity();
+    let end = stores.len();
+    stores.push_reserved(flip_to(sequence));
+    for place in from..end {
+        let link = stores[place];
+        stores.push_reserved(mirror_store(link));
+    }
+}
+
+/// The store of copy 1 for one of copy 0.
+#[inline(always)]
+fn mirror_store(link: Store) -> Store
+    requires { link.word + 2 < 2 ^ 64 }
+    ensures { result ≡ mirror_store link }
+{
+    let word = if link.word == 1 { 2 } else { link.word + 2 };
+    Store {
+        word,
+        value: link.value,
     }
 }

@@ -15,7 +15,7 @@ use crate::changes::{plan_erases, plan_inserts};
 use crate::clashes::{some_overlap, some_twice};
 use crate::nodes::all_nodes;
 use crate::plain::some_invalid;
-use crate::plans::{ITEM_STORES, Plan};
+use crate::plans::Plan;
 use crate::sequences::{generation, is_spent};
 use crate::updates::Update;
 use order_laws::{Item, Refusal, TreeOrder};
@@ -104,15 +104,52 @@ impl<O: TreeOrder> WriterCore<O> {
             × (self.new.sequence ≡ self.old.sequence) }
         ensures pictured { RefusesAsPictured O.order self.old u }
     {
-        if let Some(refusal) = self.refusal(&u) {
-            return Err(refusal);
-        }
-        match u {
-            Update::Insert(item) => self.insert(item)?,
-            Update::Erase(a) => self.erase(a)?,
-            Update::Batch { erase, insert } => self.batch(erase.as_slice(), insert.as_slice())?,
+        self.begin_from(&u)
+    }
+
+    /// The same for a caller that keeps its update.
+    pub fn begin_from(&mut self, u: &Update) -> Result<u64, Refusal>
+        ensures accepted { IfOk result (λ left. why_refused O.order self.old u.now ≡ None) }
+        ensures begun { IfOk result (λ left. (left ≡ length self.new.left) × HasBegun O.order self.old u.now self.new) }
+        ensures refusal { IfErr result (IsRefusedBy O.order self.old u.now) }
+        ensures unchanged { OnErr result (self.new ≡ self.old) }
+        ensures same { (self.new.capacity ≡ self.old.capacity) × (self.new.limit ≡ self.old.limit)
+            × (self.new.sequence ≡ self.old.sequence) }
+        ensures pictured { RefusesAsPictured O.order self.old u.now }
+    {
+        let begun = match u {
+            Update::Insert(item) => self.insert(*item),
+            Update::Erase(a) => self.erase(*a),
+            Update::Batch { erase, insert } => {
+                if let Some(refusal) = self.refusal(u) {
+                    return Err(refusal);
+                }
+                self.batch(erase.as_slice(), insert.as_slice())?;
+                true
+            }
+        };
+        if !begun {
+            return Err(self.refused(u));
         }
         Ok(self.plan.remaining())
+    }
+
+    /// Why an update is refused that was not begun.
+    fn refused(&self, u: &Update) -> Refusal
+        ensures { IsRefusedBy O.order self.now u.now result }
+    {
+        match self.refusal(u) {
+            Some(refusal) => refusal,
+            None => Refusal::OutOfMemory,
+        }
+    }
+
+    /// Whether no update is in hand, and two flips more keep within the greatest sequence.
+    #[inline(always)]
+    fn is_ready(&self) -> bool
+        ensures { IsTrue result → (self.now.left ≡ []) × (self.now.sequence + 2 ≤ self.now.limit) }
+    {
+        self.plan.remaining() == 0 && !is_spent(self.layout, self.sequence)
     }
 
     /// Why an update is refused before any memory is asked for, if it is.
@@ -215,36 +252,53 @@ impl<O: TreeOrder> WriterCore<O> {
         items.iter().any(|i| self.shape.meets(i, but))
     }
 
-    /// Plans to insert an item: it goes into a free node, which both copies then link.
-    fn insert(&mut self, item: Item) -> Result<(), Refusal>
-        requires accepted { why_refused O.order self.old (Update.Insert item) ≡ None }
-        ensures begun { OnOk result (HasBegun O.order self.old (Update.Insert item) self.new) }
-        ensures refusal { IfErr result (λ e. e ≡ Refusal.OutOfMemory) }
-        ensures unchanged { OnErr result (self.new ≡ self.old) }
+    /// Plans to insert an item in a free node, which both copies then link. Answers whether it could.
+    ///
+    /// The way down to the item's place tells whether it meets one of the table, so that is not asked before.
+    fn insert(&mut self, item: Item) -> bool
+        ensures accepted { IsTrue result → why_refused O.order self.old (Update.Insert item) ≡ None }
+        ensures begun { IsTrue result → HasBegun O.order self.old (Update.Insert item) self.new }
+        ensures unchanged { result ≡ false → self.new ≡ self.old }
     {
-        reserve(&mut self.shape, &mut self.planned, &mut self.plan)?;
+        if !self.is_ready() || self.shape.len() == self.layout.capacity() || !O::valid(&item) {
+            return false;
+        }
+        let Ok(()) = self.plan.reserve_with(&mut self.shape) else {
+            return false;
+        };
         let Some(node) = self.free.pop() else {
             unreachable!()
         };
-        self.shape.plan_insert(&mut self.planned, node, item);
-        // The node's words serve both copies, so they are stored once, before copy 1 links the node.
-        self.plan
-            .fill(self.layout, self.sequence, &self.planned, ITEM_STORES);
-        Ok(())
+        let (layout, sequence) = (self.layout, self.sequence);
+        if self
+            .plan
+            .insert(layout, sequence, &mut self.shape, node, item)
+        {
+            self.free.push_reserved(node);
+            return false;
+        }
+        true
     }
 
-    /// Plans to erase the item of a first word: both copies leave out its node, which is free afterwards.
-    fn erase(&mut self, a: u64) -> Result<(), Refusal>
-        requires accepted { why_refused O.order self.old (Update.Erase a) ≡ None }
-        ensures begun { OnOk result (HasBegun O.order self.old (Update.Erase a) self.new) }
-        ensures refusal { IfErr result (λ e. e ≡ Refusal.OutOfMemory) }
-        ensures unchanged { OnErr result (self.new ≡ self.old) }
+    /// Plans to erase the item of a first word, if there is one: both copies leave out its node, which is free afterwards.
+    /// Answers whether it could.
+    fn erase(&mut self, a: u64) -> bool
+        ensures accepted { IsTrue result → why_refused O.order self.old (Update.Erase a) ≡ None }
+        ensures begun { IsTrue result → HasBegun O.order self.old (Update.Erase a) self.new }
+        ensures unchanged { result ≡ false → self.new ≡ self.old }
     {
-        reserve(&mut self.shape, &mut self.planned, &mut self.plan)?;
-        let node = self.shape.plan_erase(&mut self.planned, a);
+        if !self.is_ready() {
+            return false;
+        }
+        let Ok(()) = self.plan.reserve_with(&mut self.shape) else {
+            return false;
+        };
+        let (layout, sequence) = (self.layout, self.sequence);
+        let Some(node) = self.plan.erase(layout, sequence, &mut self.shape, a) else {
+            return false;
+        };
         self.free.push_reserved(node);
-        self.plan.fill(self.layout, self.sequence, &self.planned, 0);
-        Ok(())
+        true
     }
 
     /// Plans to erase the items of some first words and to insert some items.
@@ -360,30 +414,6 @@ impl<O: TreeOrder> WriterCore<O> {
     {
         self.layout
     }
-}
-
-/// Makes room for an update of one item: in the picture, in the list of what is planned for copy 0, which it empties, and in
-/// the plan.
-fn reserve<O: TreeOrder>(
-    shape: &mut Shape<O>,
-    planned: &mut Vec<Store>,
-    plan: &mut Plan,
-) -> Result<(), Refusal>
-    requires { plan.old.left ≡ [] }
-    ensures kept { shape.new ≡ record shape.old { room = shape.new.room } }
-    ensures plan_kept { plan.new.left ≡ [] }
-    ensures emptied { planned.new.items ≡ [] }
-    ensures none_planned { vec_len planned.new ≡ 0 }
-    ensures room { OnOk result (0 < shape.new.room) }
-    ensures list_room { OnOk result (STORES ≤ vec_capacity planned.new) }
-    ensures plan_room { OnOk result (2 * STORES + 2 ≤ plan.new.room) }
-    ensures refusal { IfErr result (λ e. e ≡ Refusal.OutOfMemory) }
-    ensures sound { IsPicture O.order shape.new }
-{
-    planned.clear();
-    shape.reserve_in(1, planned)?;
-    plan.reserve(2 * STORES + 2)?;
-    Ok(())
 }
 
 /// Makes room for an update of so many items: in the picture, in the list of what is planned for one of them, and in the
