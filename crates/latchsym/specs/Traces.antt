@@ -1,33 +1,41 @@
 -- What is written for a trace that is read.
-use Rattle.std.specs.Prelude.{◌≡◌, ℕ, ◌%◌, ◌<◌, ◌≤◌, List, ◌++◌, Bool, true, false, Option, Result, Ok, Err, IfSome, flat_map}
+use Rattle.std.specs.Prelude.{◌≡◌, ℕ, ◌%◌, ◌<◌, ◌≤◌, List, ◌++◌, Bool, true, false, Option, Result, Ok, Err, IfSome, flat_map, if◌then◌else◌}
 use Rattle.std.specs.Io.KnownBytes.{Appends}
 use Rattle.devices.specs.declared.counted.Counted.{Counted}
 use Rattle.devices.specs.Counted.{NoneFailed, Rose, device_of, failures_of}
 use Rattle.order_laws.specs.Orders.{Order, closed, half_open}
 use Rattle.order_laws.specs.declared.refusals.Refusal.TheVariants as refusal
-use Rattle.word_arena.specs.declared.layouts.TheConstants.{MOST_NODES, GREATEST_SEQUENCE}
+use Rattle.word_arena.specs.declared.layouts.TheConstants.{MOST_NODES, GREATEST_SEQUENCE, GREATEST_WIDE_SEQUENCE}
 use Rattle.word_arena.specs.Words.{at}
-use Rattle.latch_steps.specs.Runs.{Done, last_of, opening}
+use Rattle.latch_steps.specs.Runs.{Done, history, last_of, opening}
 use Rattle.latch_steps.specs.Steps.{Run}
 use Rattle.latch_steps.specs.Traces.{notes_of}
 use Rattle.latch_steps.specs.Expands.{Expand}
 use Rattle.latch_steps.specs.Safe.{IsSafe}
 use Rattle.latch_steps.specs.Quiet.{IsQuiet}
+use Rattle.latch_steps.specs.Near.{AreNear}
 use Rattle.latch_steps.specs.Promises.{IsExactWherePlain}
 use Rattle.listing.specs.declared.header.Header.{Header}
+use Rattle.listing.specs.declared.header.Version.{Version}
 use Rattle.listing.specs.declared.faults.LineFault.{LineFault}
 use Rattle.listing.specs.declared.faults.LineFault.TheVariants as line
+use Rattle.listing.specs.Header.{is_wide}
 use Rattle.listing.specs.Trace.{Contents, trace_of}
 use Rattle.latchsym.specs.Texts.{end_text, note_text}
 use Rattle.latchsym.specs.declared.fault.Fault.{Fault}
 use Rattle.latchsym.specs.declared.fault.Fault.TheVariants.{Refused, BadLine, Read, Write}
 
--- a table is opened with at least one node and at most as many as a layout may have, at an even sequence of at most the greatest
+-- the greatest sequence of the tables that a trace of this version runs on
+abbrev pub greatest_of : Version → ℕ
+greatest_of version = if is_wide version then GREATEST_WIDE_SEQUENCE else GREATEST_SEQUENCE
+
+-- a table is opened with at least one node and at most as many as a layout may have, at an even
+-- sequence of at most the greatest of its version
 pub record HeaderMayOpen (h : Header) : Type 0 where
   pub some : 0 < h.capacity
   pub most : h.capacity ≤ MOST_NODES
   pub even : h.start % 2 ≡ 0
-  pub within : h.start ≤ GREATEST_SEQUENCE
+  pub within : h.start ≤ greatest_of h.version
 
 abbrev pub HeaderMayNotOpen : Header → Type 0
 HeaderMayNotOpen h = ¬ HeaderMayOpen h
@@ -38,13 +46,16 @@ order_by true = closed
 order_by false = half_open
 
 -- what some run of these commands in this order writes: its notes and its last sequence. The run is
--- safe and quiet, and where it is plain each lookup is that of one table.
+-- safe and quiet, its lookups that the writer leaves alone are as short as in a red-black tree, and
+-- where it is plain each lookup is that of one table.
 pub record IsRunText (o : Order ℕ) (said : Contents) (written : List ℕ) : Type 0 where
   pub run : List (Done ℕ)
-  pub steps : Run o said.header.capacity GREATEST_SEQUENCE (opening said.header.capacity said.header.start) run
+  pub steps : Run o said.header.capacity (greatest_of said.header.version)
+      (opening said.header.capacity said.header.start) run
   pub expands : Expand (opening said.header.capacity said.header.start) said.commands run
   pub safe : IsSafe o said.header.capacity said.header.start run
   pub quiet : IsQuiet o said.header.start run
+  pub near : AreNear o said.header.start (history run) run
   pub plain : IsExactWherePlain o said.header.capacity said.header.start run
   pub text : written
       ≡ flat_map note_text (notes_of run)

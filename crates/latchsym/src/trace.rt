@@ -1,15 +1,16 @@
 //! From the bytes of a trace to the lines that it writes.
-ghost use Rattle.std.specs.Prelude.{◌≡◌, ◌≤◌, ◌++◌, [], flat_map, vec_capacity};
+ghost use Rattle.std.specs.Prelude.{◌≡◌, ◌<◌, ◌≤◌, ◌++◌, ◌↔◌, ◌⊎◌, [], IfErr, IfOk, IsErr, flat_map, vec_capacity};
 ghost use Rattle.devices.specs.Exact.{Wrote};
 ghost use Rattle.listing.specs.Trace.{contents_of};
+ghost use Rattle.word_arena.specs.Layouts.{capacity_of, limit_of};
 ghost use Rattle.latchsym.specs.Texts.{end_text, note_text};
-ghost use Rattle.latchsym.specs.Traces.{Answers, AnswersIn, IsInputFault};
+ghost use Rattle.latchsym.specs.Traces.{Answers, AnswersIn, IsInputFault, greatest_of};
 
 use crate::fault::Fault;
 use crate::texts::{append_end, put_notes};
 use devices::{Counted, put};
 use latch_steps::{Note, drive_notes};
-use listing::{LineFault, TraceFile, read_trace};
+use listing::{LineFault, TraceFile, Version, read_trace};
 use order_laws::{Closed, HalfOpen, Refusal, TreeOrder};
 use std::alloc::Global;
 use std::io;
@@ -57,10 +58,24 @@ fn run_in<O: TreeOrder<Key = u64>, W: Write>(
 ) -> Result<(), Fault>
     ensures { AnswersIn O.order W.contents (contents_of trace) writer.old writer.new result }
 {
-    let layout = Layout::new(trace.header.capacity)?;
+    let layout = layout_for(trace.header.version, trace.header.capacity)?;
     let run = drive_notes::<O>(alloc, layout, trace.header.start, trace.commands)?;
     let mut block = Vec::with_capacity(alloc, BLOCK)?;
     put_trace(writer, &mut block, &run.notes, run.sequence).map_err(|_| Fault::Write)
+}
+
+/// The layout of the table that a trace of this version runs on: a wide sequence from version 3 on.
+fn layout_for(version: Version, capacity: u32) -> Result<Layout, Refusal>
+    ensures capacity { IfOk result (λ l. capacity_of l ≡ capacity) }
+    ensures limit { IfOk result (λ l. limit_of l ≡ greatest_of version) }
+    ensures refused { IsErr result ↔ ((capacity ≡ 0) ⊎ (65536 < capacity)) }
+    ensures refusal { IfErr result (λ e. e ≡ Refusal.BadCapacity) }
+{
+    if version.is_wide() {
+        Layout::wide(capacity)
+    } else {
+        Layout::new(capacity)
+    }
 }
 
 /// Writes the lines of a run, and lets the writer keep nothing back.
