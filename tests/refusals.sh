@@ -73,7 +73,7 @@ try() {
 }
 
 cd "$top/examples/traces"
-for trace in torn_item both_ends; do
+for trace in torn_item both_ends batch_replaces_an_item wide_last_sequence; do
     "$program" trace $trace.trace | cmp - $trace.expected
     try trace $trace.trace
 done

@@ -80,6 +80,8 @@ fn a_catalog_of_two_listings(rt: HostRuntime) -> Result<(), Fail> {
         modules: 2,
         double: 1,
         overlap: 1,
+        regions: 0,
+        stray_regions: 0,
         symbols: 2,
         stray: 2,
     };

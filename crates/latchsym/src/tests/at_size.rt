@@ -1,5 +1,5 @@
 //! Want of memory is not invented at some size: no contract can rule that out, so these runs do.
-ghost use Rattle.std.specs.Prelude.{◌<◌};
+ghost use Rattle.std.specs.Prelude.{◌<◌, ◌≤◌};
 
 use crate::tests::traced;
 use std::alloc::{AllocError, Global};
@@ -62,5 +62,71 @@ fn nothing_is_refused_at_size(rt: HostRuntime) -> Result<(), Fail> {
         lines += 1;
     }
     assert_eq!(rt; lines, 2 * ITEMS + 1);
+    Ok(())
+}
+
+/// The items of the largest batch, as many as a line has room for.
+const LARGEST_BATCH: u64 = 290;
+
+/// So many first words, each behind a blank.
+fn first_words(alloc: Global, count: u64) -> Result<String, AllocError> {
+    let mut words = String::new(alloc);
+    for low in 1..=count {
+        words.push_str(&format!(in alloc; " {low}")?)?;
+    }
+    Ok(words)
+}
+
+/// So many items with this tag, each behind a blank.
+fn items(alloc: Global, count: u64, tag: u64) -> Result<String, AllocError>
+    requires { count ≤ LARGEST_BATCH }
+{
+    let mut words = String::new(alloc);
+    for low in 1..=count {
+        words.push_str(&format!(in alloc; " {low} {} {tag}", low + 1)?)?;
+    }
+    Ok(words)
+}
+
+/// Batches of every size up to the largest, each of which takes the place of the one before it, and
+/// a lookup behind each.
+fn batches_trace(alloc: Global) -> Result<String, AllocError> {
+    let mut trace = String::from_str(alloc, "latchtrace 3 halfopen 1024\n")?;
+    for size in 0..=LARGEST_BATCH {
+        let erased = size.saturating_sub(1);
+        trace.push_str(&format!(in alloc; "batch {erased} {size}")?)?;
+        trace.push_str(&first_words(alloc, erased)?)?;
+        trace.push_str(&items(alloc, size, size % 10)?)?;
+        trace.push_str(&format!(in alloc; "\nwrite end\nstart 1 {size}\nread 1 9999\n")?)?;
+    }
+    Ok(trace)
+}
+
+#[test]
+fn no_size_of_a_batch_is_refused(rt: HostRuntime) -> Result<(), Fail> {
+    let alloc = rt.alloc();
+    let (answer, written) = traced(alloc, batches_trace(alloc)?.as_bytes());
+    assert_eq!(rt; answer, Ok(()));
+    let mut size = 0u64;
+    for line in std::str::from_utf8(&written)?.lines() {
+        if size > LARGEST_BATCH {
+            assert_eq!(rt; line, "seq 582 gen 291");
+            size += 1;
+            break;
+        }
+        let tag = if size == 0 {
+            String::from_str(alloc, "-")?
+        } else {
+            format!(in alloc; "{}", size % 10)?
+        };
+        let generation = size + 1;
+        let start = format!(in alloc; "1 {size:#x} -> {tag} gen {generation} loads ")?;
+        assert!(rt;
+            line.starts_with(start.as_str()) && line.ends_with(" tries 1"),
+            "{line}"
+        );
+        size += 1;
+    }
+    assert_eq!(rt; size, LARGEST_BATCH + 2);
     Ok(())
 }

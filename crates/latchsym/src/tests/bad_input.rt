@@ -21,6 +21,10 @@ fn the_first_bad_line_is_named(rt: HostRuntime) {
         (b"latchtrace 1 halfopen 4\n\nerase 1 \nwrite 0\n", 3),
         (b"latchtrace 1 halfopen 4\nstart 1 0x10\r\n", 2),
         (b"\nlatchtrace 1 halfopen 4\n", 1),
+        (b"latchtrace 1 halfopen 4\n# x\nbatch 0 0", 3),
+        (b"latchtrace 2 halfopen 4\nbatch 0 0\nbatch 0 1 1 2", 3),
+        (b"latchtrace 3 halfopen 4\nbatch 1 0 1 2", 2),
+        (b"latchtrace 4 halfopen 4", 1),
     ] {
         let (answer, written) = traced(rt.alloc(), trace);
         assert_eq!(rt;
@@ -42,14 +46,27 @@ fn a_table_that_may_not_be_opened_is_refused(rt: HostRuntime) {
         b"latchtrace 1 halfopen 65537",
         b"latchtrace 1 closed 4 3",
         b"latchtrace 1 closed 4 4294967296",
+        b"latchtrace 2 halfopen 4 4294967296",
+        b"latchtrace 3 halfopen 4 18446744073709551615",
+        b"latchtrace 3 halfopen 4 4294967295",
+        b"latchtrace 3 halfopen 65537",
+        b"latchtrace 3 halfopen 0",
     ] {
         let (answer, written) = traced(rt.alloc(), trace);
         assert!(rt; answer == refused);
         assert!(rt; written.is_empty());
     }
-    let (answer, written) = traced(rt.alloc(), b"latchtrace 1 halfopen 65536 4294967294");
-    assert!(rt; answer == Ok(()));
-    assert!(rt; written.as_slice() == b"seq 4294967294 gen 2147483647\n".as_slice());
+    let narrow = b"seq 4294967294 gen 2147483647\n".as_slice();
+    let wide = b"seq 18446744073709551614 gen 9223372036854775807\n";
+    for (trace, line) in [
+        (b"latchtrace 1 halfopen 65536 4294967294".as_slice(), narrow),
+        (b"latchtrace 2 closed 65536 4294967294", narrow),
+        (b"latchtrace 3 closed 65536 18446744073709551614", wide),
+    ] {
+        let (answer, written) = traced(rt.alloc(), trace);
+        assert!(rt; answer == Ok(()));
+        assert!(rt; written.as_slice() == line);
+    }
 }
 
 /// A trace with a comment of so many bytes.

@@ -13,7 +13,7 @@ pub(crate) struct Row {
     pub(crate) items: u64,
 }
 
-pub(crate) const ROWS: [Row; 14] = [
+pub(crate) const ROWS: [Row; 21] = [
     Row {
         name: "least_lookup",
         trace: "latchtrace 1 halfopen 4\n\
@@ -209,6 +209,102 @@ pub(crate) const ROWS: [Row; 14] = [
              refused 9\n\
              seq 0 gen 0\n",
         items: 0,
+    },
+    Row {
+        name: "batch_all_or_nothing",
+        trace: "latchtrace 2 halfopen 4\n\
+             batch 0 2 0x10 0x20 1 0x30 0x40 2\n\
+             write flip\n\
+             start 1 0x10\n\
+             read 1 3\n\
+             write flip\n\
+             start 1 0x10\n\
+             read 1 11\n\
+             start 1 0x30\n\
+             read 1 11\n",
+        lines: "1 0x10 -> - gen 0 loads 3 tries 1\n\
+             1 0x10 -> 1 gen 1 loads * tries 1\n\
+             1 0x30 -> 2 gen 1 loads * tries 1\n\
+             seq 2 gen 1\n",
+        items: 2,
+    },
+    Row {
+        name: "batch_without_a_free_node",
+        trace: "latchtrace 2 halfopen 1\n\
+             insert 0x10 0x20 1\n\
+             write end\n\
+             batch 1 1 0x10 0x10 0x20 2\n",
+        lines: "refused 4\n\
+             seq 2 gen 1\n",
+        items: 1,
+    },
+    Row {
+        name: "batch_replaces_an_item",
+        trace: "latchtrace 2 halfopen 2\n\
+             insert 0x10 0x20 1\n\
+             write end\n\
+             batch 1 1 0x10 0x10 0x20 2\n\
+             write end\n\
+             start 1 0x10\n\
+             read 1 6\n",
+        lines: "1 0x10 -> 2 gen 2 loads 6 tries 1\n\
+             seq 4 gen 2\n",
+        items: 1,
+    },
+    Row {
+        name: "batch_refused_or_empty",
+        trace: "latchtrace 2 halfopen 4\n\
+             batch 0 2 0x10 0x20 1 0x18 0x28 2\n\
+             batch 1 0 0x10\n\
+             batch 0 0\n\
+             write end\n",
+        lines: "refused 2\n\
+             refused 3\n\
+             seq 2 gen 1\n",
+        items: 0,
+    },
+    Row {
+        name: "batch_of_the_third_version",
+        trace: "latchtrace 3 closed 4\n\
+             batch 0 2 0x10 0x1f 1 0x20 0x2f 2\n\
+             write end\n\
+             batch 1 1 0x20 0x20 0x20 3\n\
+             write end\n\
+             start 1 0x20\n\
+             read 1 11\n\
+             start 1 0x21\n\
+             read 1 11\n",
+        lines: "1 0x20 -> 3 gen 2 loads * tries 1\n\
+             1 0x21 -> - gen 2 loads * tries 1\n\
+             seq 4 gen 2\n",
+        items: 2,
+    },
+    Row {
+        name: "wide_last_sequence",
+        trace: "latchtrace 3 halfopen 4 18446744073709551612\n\
+             insert 0x10 0x20 1\n\
+             write end\n\
+             insert 0x30 0x40 2\n\
+             start 1 0x10\n\
+             read 1 6\n",
+        lines: "refused 6\n\
+             1 0x10 -> 1 gen 9223372036854775807 loads 6 tries 1\n\
+             seq 18446744073709551614 gen 9223372036854775807\n",
+        items: 1,
+    },
+    Row {
+        name: "wide_past_the_narrow_limit",
+        trace: "latchtrace 3 halfopen 4 4294967292\n\
+             insert 0x10 0x20 1\n\
+             write end\n\
+             insert 0x30 0x40 2\n\
+             erase 0x10\n\
+             start 1 0x10\n\
+             read 1 6\n",
+        lines: "refused 5\n\
+             1 0x10 -> 1 gen 2147483647 loads 6 tries 1\n\
+             seq 4294967294 gen 2147483647\n",
+        items: 2,
     },
 ];
 
