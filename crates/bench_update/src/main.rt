@@ -59,9 +59,8 @@ fn carry_out(writer: &mut WriterCore<HalfOpen>, words: &mut [u64])
     requires { length words.old ≡ words_for writer.old.capacity }
     ensures sized { length words.new ≡ words_for writer.new.capacity }
 {
-    while let Some(store) = writer.next() {
+    while let Some(store) = writer.step() {
         apply(words, store);
-        writer.did();
     }
 }
 

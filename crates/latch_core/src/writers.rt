@@ -1,6 +1,6 @@
 //! The writer of a latched tree, which hands out one store at a time.
 
-ghost use Rattle.std.specs.Prelude.{◌≡◌, false, ◌↔◌, ◌+◌, ◌*◌, ◌<◌, ◌≤◌, [], Some, None, ◌||◌, IsTrue, IsSome, IfSome, IfOk, IfErr, OnOk, OnErr, length, vec_len, vec_capacity};
+ghost use Rattle.std.specs.Prelude.{◌≡◌, false, ◌↔◌, ◌+◌, ◌*◌, ◌<◌, ◌≤◌, [], Some, None, ◌||◌, IsTrue, IsSome, IfSome, IfOk, IfErr, OnOk, OnErr, length, vec_len, vec_capacity, IfNone, OnSome};
 ghost use Rattle.order_laws.specs.Tables.{has, without_all};
 ghost use Rattle.word_arena.specs.declared.stores.Store.{Store};
 ghost use Rattle.word_arena.specs.Layouts.{capacity_of, limit_of};
@@ -351,6 +351,25 @@ impl<O: TreeOrder> WriterCore<O> {
         ensures pictures { LeadsFrom self.old self.new }
     {
         self.step_on();
+    }
+
+    /// The next store, which counts as made: [`next`](WriterCore::next) and [`did`](WriterCore::did) in one, for a writer
+    /// that makes each store before it asks for another.
+    #[inline(always)]
+    pub fn step(&mut self) -> Option<Store>
+        ensures which { result ≡ next_store self.old }
+        ensures within { IfSome result (λ s. s.word < words_for self.old.capacity) }
+        ensures may { MayBeNext self.old result }
+        ensures same { (self.new.capacity ≡ self.old.capacity) × (self.new.limit ≡ self.old.limit)
+            × (self.new.table ≡ self.old.table) }
+        ensures left { OnSome result (length self.new.left + 1 ≡ length self.old.left) }
+        ensures stepped { IfSome result (λ s. self.new ≡ stepped_writer self.old s) }
+        ensures pictures { LeadsFrom self.old self.new }
+        ensures none { IfNone result (self.new ≡ self.old) }
+    {
+        let store = self.next()?;
+        self.did();
+        Some(store)
     }
 
     /// Leaves the next store behind, and keeps the sequence that it makes.
