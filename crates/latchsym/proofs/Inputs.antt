@@ -1,5 +1,5 @@
 -- From the texts that were read to the readers that they were read from.
-use Rattle.std.proofs.Common.{◌≡◌, ℕ, List, [], ◌∷◌, length, Option, Some, None, Result, Ok, Err, refl, sym, ◌∙◌, ap, subst}
+use Rattle.std.proofs.Common.{◌≡◌, ℕ, List, [], ◌∷◌, length, Option, Some, None, Result, Ok, Err, sym, ◌∙◌, ap, subst}
 use Rattle.std.specs.Prelude.{IfSome}
 use Rattle.std.specs.Io.KnownBytes.{Appends}
 use Rattle.std.proofs.lemmas.List.{length-map}
@@ -11,7 +11,7 @@ use Rattle.listing.specs.ModuleListing.{modules_in}
 use Rattle.listing.specs.SymbolListing.{symbols_in}
 use Rattle.modules.specs.Accepted.{accepted_of}
 use Rattle.modules.specs.Catalogs.{entry_for}
-use Rattle.modules.specs.Lines.{built_in_region}
+use Rattle.modules.specs.Lines.{built_in_region, usual_bounds}
 use Rattle.latchsym.specs.declared.fault.Fault.{Fault}
 use Rattle.latchsym.specs.declared.fault.Fault.TheVariants.{Refused, Write}
 use Rattle.latchsym.specs.declared.lookup.Listings.{Listings}
@@ -22,7 +22,7 @@ modules_counted : (modules kallsyms : List ℕ) → (counts_in modules kallsyms)
 unfolding catalog_in counts_in
 modules_counted modules kallsyms =
     let symbols = symbols_in (lines_of kallsyms) in
-    sym (length-map (accepted_of (built_in_region symbols) (modules_in (lines_of modules))).lines (entry_for symbols))
+    sym (length-map (accepted_of (built_in_region usual_bounds symbols) [] (modules_in (lines_of modules))).modules (entry_for symbols))
 
 pub all_counted : (modules kallsyms : List ℕ) (l : Listings) → AreSaidBy modules kallsyms l → l.built.modules ≡ length l.catalog.modules
 all_counted modules kallsyms l said =

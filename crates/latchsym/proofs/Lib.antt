@@ -2,8 +2,8 @@ mod ParseLemmas
 mod Writing
 mod Gathering
 mod Worlds
-mod Regions
 mod Loads
+mod Regions
 mod Opening
 mod Loading
 mod Inputs

@@ -1,8 +1,10 @@
 -- One module more in a world that holds those of lesser numbers.
-use Rattle.std.proofs.Common.{◌≡◌, ℕ, zero, suc, ◌+◌, ◌*◌, ◌<◌, ◌≤◌, true, false, List, [], ◌∷◌, ◌++◌, length, map, Option, Some, None, Result, Ok, Err, refl, sym, ◌∙◌, ap, subst, ⊎_elim, arith, append-nil}
-use Rattle.std.specs.Prelude.{◌⊎◌, All, Contains, is_some, slice_get, slice_index_or}
+use Rattle.std.proofs.Common.{◌≡◌, ℕ, zero, suc, ◌+◌, ◌<◌, ◌≤◌, true, false, List, [], ◌∷◌, ◌++◌, length, map, Option, Some, None, Result, Ok, Err, refl, sym, ◌∙◌, ap, subst, ⊎_elim, arith}
+use Rattle.std.specs.Prelude.{Contains, is_some}
 use Rattle.std.specs.FinMap.{get}
+use Rattle.std.specs.List.{list_any}
 use Rattle.std.specs.Option.{option_map_or, option_to_list}
+use Rattle.std.proofs.lemmas.List.{length-map}
 use Rattle.std.proofs.lemmas.List.Elements.{All-contains, Contains-append_left, Contains-append_right}
 use Rattle.std.proofs.lemmas.Option.{get_or_from_slice_get, slice_get_within}
 use Rattle.order_laws.specs.declared.half_open_ranges.HalfOpen.{HalfOpen}
@@ -13,7 +15,6 @@ use Rattle.order_laws.specs.Orders.{half_open}
 use Rattle.word_arena.specs.Layouts.{capacity_of, limit_of}
 use Rattle.word_arena.specs.Words.{at}
 use Rattle.latch_core.specs.declared.updates.Update.{Update}
-use Rattle.latch_core.specs.declared.updates.Update.TheVariants.{Insert}
 use Rattle.latch_core.specs.Histories.{replay}
 use Rattle.latch_core.specs.Updates.{erased, inserted, refuses}
 use Rattle.latch_steps.specs.declared.events.Event.TheVariants.{Begin}
@@ -23,26 +24,30 @@ use Rattle.latch_steps.specs.declared.worlds.World.{World}
 use Rattle.latch_steps.specs.Runs.{Moment, accepted, last_of}
 use Rattle.latch_steps.specs.Steps.{Begins}
 use Rattle.latch_steps.specs.Worlds.{IsAfter, Shows, layout_in}
-use Rattle.latch_steps.specs.WorldSteps.{Does, GivesUp, MayDo}
+use Rattle.latch_steps.specs.WorldSteps.{Does, MayDo}
 use Rattle.latch_steps.specs.AtOnce.{IsSettled, Settles}
-use Rattle.modules.specs.Catalogs.{IsSound, entries_of, load_of, loaded, module_of}
+use Rattle.modules.specs.Building.{place_of}
+use Rattle.modules.specs.Catalogs.{IsSound, entries_of, module_of}
 use Rattle.modules.specs.Entries.{CatalogEntries, ModuleEntry}
+use Rattle.modules.specs.Loads.{GivesOrLacksMemory, load_of, loaded, update_of}
+use Rattle.modules.specs.Parts.{is_core}
+use Rattle.modules.specs.Placed.{IsPlaced, PlacedModule}
+use Rattle.modules.specs.declared.catalog.Held.{Held}
+use Rattle.modules.specs.declared.lines.Part.{Part}
 use Rattle.latchsym.specs.CatalogTables.{item_of, items_at, items_below, items_of}
-use Rattle.latchsym.specs.LoadedWorlds.{Holds, HoldsBelow, HasRoomFor, Inserts, IsIdle}
-use Rattle.latchsym.proofs.Regions.{has_addresses, is_apart_from, one_number_more, some_left}
-use Rattle.latchsym.proofs.Loads.{in_table, insert_accepted, one_update_more, table_length}
+use Rattle.latchsym.specs.LoadedWorlds.{HoldsBelow, Inserts}
+use Rattle.latchsym.proofs.Regions.{has_addresses, is_apart_from, none_overlap, one_number_more, some_left}
+use Rattle.latchsym.proofs.Loads.{erases_none, in_table, inserts_accepted, inserts_these, one_update_more, table_length}
 use Rattle.latchsym.proofs.Worlds.{NoLookup, same_readers, sequence_at_rest, writes_keep}
 
--- the update that loads a module is that of its item
-pub record LoadsItem (c : CatalogEntries) (k : ℕ) (u : Update) : Type 0 where
-  pub item : Item
-  pub is : u ≡ Insert item
-  pub items : items_at c k ≡ item ∷ []
+-- the update that loads a module inserts its items, of which there is one at least
+pub record LoadsItems (c : CatalogEntries) (k : ℕ) (u : Update) : Type 0 where
+  pub is : u ≡ update_of [] (items_at c k)
+  pub some : 0 < length (items_at c k)
 
-only_one : (k : ℕ) (rs : List (ℕ × ℕ)) → length rs ≡ 1 → map (item_of k) rs ≡ item_of k (slice_index_or rs 0 (0, 0)) ∷ []
-only_one k [] one = absurd (omega arith)
-only_one k (r ∷ []) one = refl
-only_one k (r ∷ s ∷ rs) one = absurd (omega arith)
+-- what a table holds of a module that is not loaded
+abbrev pub none_held : Held
+none_held = record { core = false; init = false }
 
 among_entries : (c : CatalogEntries) (k : ℕ) (m : ModuleEntry) → module_of c k ≡ Some m → Contains (entries_of c) m
 among_entries c zero m e =
@@ -50,23 +55,39 @@ among_entries c zero m e =
 among_entries c (suc j) m e =
     Contains-append_right (option_to_list c.built_in) c.modules m (j, slice_get_within c.modules j m e, get_or_from_slice_get c.modules j m m e)
 
-loads_one : (c : CatalogEntries) (k : ℕ) (u : Update) (m : ModuleEntry) → IsSound c → module_of c k ≡ Some m → load_of c k false ≡ Ok u → LoadsItem c k u
-loads_one c k u m sound e loads =
-    let item = item_of k (slice_index_or m.regions 0 (0, 0)) in
-    let given : load_of c k false ≡ Ok (Insert item) = ap (λ o. option_map_or (loaded k false) o (Err UnknownModule)) e in
-    let one : length m.regions ≡ 1 = All-contains (λ (x : ModuleEntry). length x.regions ≡ 1) (entries_of c) m sound.one_region (among_entries c k m e) in
+-- a module has a core region
+has_region : (m : PlacedModule) → IsPlaced m → 0 < length m.regions
+has_region m placed =
+    let same = placed.same in
+    let some : 0 < length m.parts = go m.parts placed.some_core in
+    omega arith
+  where
+    go : (parts : List Part) → list_any is_core parts ≡ true → 0 < length parts
+    go [] e = absurd (cc)
+    go (p ∷ ps) e = omega arith
+
+loads_some : (c : CatalogEntries) (k : ℕ) (u : Update) (m : ModuleEntry) → IsSound c → module_of c k ≡ Some m → load_of c k none_held ≡ Ok u → LoadsItems c k u
+loads_some c k u m sound e loads =
+    let items : items_at c k ≡ map (item_of k) m.regions = ap (λ o. option_map_or (λ (x : ModuleEntry). map (item_of k) x.regions) o []) e in
+    let given : load_of c k none_held ≡ Ok (update_of [] (map (item_of k) m.regions)) = ap (λ o. option_map_or (loaded k none_held) o (Err UnknownModule)) e in
+    let placed = All-contains (λ (x : ModuleEntry). IsPlaced (place_of x)) (entries_of c) m sound.placed (among_entries c k m e) in
+    let some = has_region (place_of m) placed in
+    let same : u ≡ update_of [] (map (item_of k) m.regions) = cc in
     record {
-      item = item;
-      is = cc;
-      items = ap (λ o. option_map_or (λ (x : ModuleEntry). map (item_of k) x.regions) o []) e ∙ only_one k m.regions one;
+      is = same ∙ ap (update_of []) (sym items);
+      some = omega (arith, ap length items, length-map m.regions (item_of k));
     }
 
-pub loads_item : (c : CatalogEntries) (k : ℕ) (u : Update) → IsSound c → load_of c k false ≡ Ok u → LoadsItem c k u
-loads_item c k u sound loads = go (module_of c k) refl
+pub loads_items : (c : CatalogEntries) (k : ℕ) (u : Update) → IsSound c → load_of c k none_held ≡ Ok u → LoadsItems c k u
+loads_items c k u sound loads = go (module_of c k) refl
   where
-    go : (o : Option ModuleEntry) → module_of c k ≡ o → LoadsItem c k u
-    go None e = let none : load_of c k false ≡ Err UnknownModule = ap (λ o. option_map_or (loaded k false) o (Err UnknownModule)) e in absurd (cc)
-    go (Some m) e = loads_one c k u m sound e loads
+    go : (o : Option ModuleEntry) → module_of c k ≡ o → LoadsItems c k u
+    go None e = let none : load_of c k none_held ≡ Err UnknownModule = ap (λ o. option_map_or (loaded k none_held) o (Err UnknownModule)) e in absurd (cc)
+    go (Some m) e = loads_some c k u m sound e loads
+
+-- a load that gives an update gives the one that is asked for
+pub is_given : (asked r : Result Update Refusal) (u : Update) → GivesOrLacksMemory asked r → r ≡ Ok u → asked ≡ Ok u
+is_given asked r u g is = ⊎_elim (λ e. sym e ∙ is) (λ h. let f : Err OutOfMemory ≡ Ok u = sym h.0 ∙ is in absurd (cc)) g
 
 -- the step that begins the update, from an idle moment on
 record Starts (w : World HalfOpen ℕ) (u : Update) (reply : Reply ℕ) (a : Moment ℕ) : Type 0 where
@@ -76,7 +97,7 @@ record Starts (w : World HalfOpen ℕ) (u : Update) (reply : Reply ℕ) (a : Mom
   pub shows : Shows half_open w next
   pub lookups : next.lookups ≡ a.lookups
 
-module _ (c : CatalogEntries) (k : ℕ) (u : Update) (le : k ≤ length c.modules) (old new : World HalfOpen ℕ) (h : HoldsBelow c k old) (l : LoadsItem c k u) (reply : Reply ℕ) where
+module _ (c : CatalogEntries) (k : ℕ) (u : Update) (le : k ≤ length c.modules) (old new : World HalfOpen ℕ) (h : HoldsBelow c k old) (l : LoadsItems c k u) (reply : Reply ℕ) where
   in_hand_at : Moment ℕ
   in_hand_at = h.holds.idle.after.moment
 
@@ -91,20 +112,19 @@ module _ (c : CatalogEntries) (k : ℕ) (u : Update) (le : k ≤ length c.module
       let seq = at a.moment.latch.words 0 in
       let free : is_some a.moment.latch.hand ≡ false = ap is_some h.holds.idle.rest in
       let is : table ≡ replay half_open [] us = a.sound.table_is in
-      let here : Contains (items_at c k) l.item = subst (λ xs. Contains xs l.item) (sym l.items) (0, omega arith, refl) in
-      let apart : (x : Item) → Contains table x → half_open.apart x l.item ≡ true =
-      λ x m. is_apart_from c h.sound k le x l.item (in_table half_open us (items_below c k) h.holds.inserts x (subst (λ t. Contains t x) is m)) here in
+      let apart : (x i : Item) → Contains table x → Contains (items_at c k) i → half_open.apart x i ≡ true =
+      λ x i m here. is_apart_from c h.sound k le x i (in_table half_open us (items_below c k) h.holds.inserts x (subst (λ t. Contains t x) is m)) here in
       let sizes : length table ≡ length (items_below c k) = ap length is ∙ table_length half_open us (items_below c k) h.holds.inserts in
-      let one : length (items_at c k) ≡ 1 = ap length l.items in
+      let some = l.some in
       let below = some_left c h.sound k le in
       let room = h.room.capacity in
       let few = h.holds.inserts.few in
       let most = lay.most in
       let limit = h.room.limit in
       let count = sequence_at_rest half_open n 0 us a.moment.latch a.sound h.holds.idle.rest in
-      let fits : length table < n = omega arith in
+      let fits : length table + length (items_at c k) ≤ n = omega arith in
       let left : seq + 2 ≤ limit_of lay = omega arith in
-      let ok = insert_accepted n (limit_of lay) l.item table seq (has_addresses c h.sound k le l.item here) apart fits left in
+      let ok = inserts_accepted n (limit_of lay) (items_at c k) table seq some (has_addresses c h.sound k le) (none_overlap c h.sound k le) apart fits left in
       ap (λ b. refuses half_open n (limit_of lay) b table seq u) free
       ∙ ap (refuses half_open n (limit_of lay) false table seq) l.is ∙ ok
 
@@ -138,7 +158,7 @@ module _ (c : CatalogEntries) (k : ℕ) (u : Update) (le : k ≤ length c.module
       let run = settles s.next s.shows in
       let kept : (last_of s.next run.run).lookups ≡ a.moment.lookups = writes_keep half_open _ _ s.next run.run run.writes run.steps ∙ s.lookups in
       let none : NoLookup (last_of s.next run.run) = λ r. ap (λ m. get m r) kept ∙ h.holds.idle.no_lookup r in
-      let more = one_update_more us (items_below c k) (items_at c k) u h.holds.inserts (ap inserted l.is ∙ sym l.items) (ap erased l.is) (let one : length (items_at c k) ≡ 1 = ap length l.items in omega arith) in
+      let more = one_update_more us (items_below c k) (items_at c k) u h.holds.inserts (ap inserted l.is ∙ inserts_these (items_at c k)) (ap erased l.is ∙ erases_none (items_at c k)) l.some in
       record {
         sound = h.sound;
         holds = record {

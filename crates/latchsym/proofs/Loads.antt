@@ -1,14 +1,13 @@
 -- What updates that insert items leave in a table, and when one more is accepted.
-use Rattle.std.proofs.Common.{◌≡◌, ℕ, ◌+◌, ◌*◌, ◌<◌, ◌≤◌, Bool, true, false, cond, List, [], ◌∷◌, ◌++◌, length, flat_map, get_or, Option, Some, None, refl, sym, ◌∙◌, ap, subst, inl, inr, ⊎_elim, arith, append-nil, length-append}
-use Rattle.std.specs.Prelude.{◌⊎◌, ◌↔◌, ◌==◌, All, Contains, not, nat_lt}
-use Rattle.std.specs.List.{list_any}
+use Rattle.std.proofs.Common.{◌≡◌, ℕ, ◌+◌, ◌<◌, ◌≤◌, Bool, true, false, List, [], ◌∷◌, ◌++◌, length, flat_map, get_or, Option, Some, None, refl, sym, ◌∙◌, ap, subst, inl, inr, ⊎_elim, arith, append-nil, length-append}
+use Rattle.std.specs.Prelude.{◌⊎◌, ◌==◌, ◌||◌, Contains, not, nat_lt}
 use Rattle.std.proofs.lemmas.Bool.{lt-ltb}
 use Rattle.std.proofs.lemmas.Bool.Decides.{nat_tests}
 use Rattle.std.proofs.lemmas.Grind.{flat_map-append}
 use Rattle.std.proofs.lemmas.List.Elements.{Contains-get_or, Contains-append_cases, Contains-append_left, Contains-append_right}
 use Rattle.std.proofs.lemmas.List.Folds.{list_any_none}
 use Rattle.order_laws.specs.declared.items.Item.{Item}
-use Rattle.order_laws.specs.declared.refusals.Refusal.TheVariants.{BadItem, Overlap, Full, SequenceSpent}
+use Rattle.order_laws.specs.declared.refusals.Refusal.TheVariants.{BadItem, Overlap, Full, NoSuchItem, SequenceSpent, UpdateInHand}
 use Rattle.order_laws.specs.Orders.{Order, half_open, half_open_lawful}
 use Rattle.order_laws.specs.Tables.{IsTable, IsLook, look, meets, with_item, without_all}
 use Rattle.order_laws.proofs.PlaceLemmas.{without_none}
@@ -17,7 +16,8 @@ use Rattle.order_laws.proofs.TableLemmas.{length_with_item, look_is, look_only, 
 use Rattle.latch_core.specs.declared.updates.Update.{Update}
 use Rattle.latch_core.specs.declared.updates.Update.TheVariants.{Insert}
 use Rattle.latch_core.specs.Histories.{replay}
-use Rattle.latch_core.specs.Updates.{after, erased, inserted, refuses, spent, with_items}
+use Rattle.latch_core.specs.Updates.{after, erased, first_that_holds, inserted, refuses, some_invalid, some_meet, some_overlap, with_items}
+use Rattle.modules.specs.Loads.{update_of}
 use Rattle.latchsym.specs.LoadedWorlds.{Inserts}
 
 none_left : {X : Type 0} (xs ys : List X) → xs ++ ys ≡ [] → xs ≡ []
@@ -118,7 +118,7 @@ one_update_more us items more u h puts none some =
       few = let f = h.few in omega (arith, length-append us (u ∷ []), length-append items more);
     }
 
-none_meets : (i : Item) (table : List Item) → ((x : Item) → Contains table x → half_open.apart x i ≡ true) → meets half_open i table ≡ false
+pub none_meets : (i : Item) (table : List Item) → ((x : Item) → Contains table x → half_open.apart x i ≡ true) → meets half_open i table ≡ false
 none_meets i table h =
     list_any_none (λ x. not (half_open.apart x i)) table (λ k d lt. ap not (h (get_or table k d) (Contains-get_or table k d lt)))
 
@@ -131,3 +131,44 @@ insert_accepted n limit i table seq valid apart room left =
     let f : (length table == n) ≡ false = grind (arith, nat_tests) in
     let s : nat_lt limit (seq + 2) ≡ false = grind (arith, nat_tests) in
     rw (v, m, f, s) refl
+
+-- of the tests of a batch none holds
+no_test_holds : (invalid overlap meet full spent : Bool) → invalid ≡ false → overlap ≡ false → meet ≡ false → full ≡ false → spent ≡ false
+    → first_that_holds ((false, UpdateInHand) ∷ (invalid, BadItem) ∷ (false, NoSuchItem) ∷ (overlap || meet, Overlap) ∷ (full, Full) ∷ (spent, SequenceSpent) ∷ []) ≡ None
+no_test_holds invalid overlap meet full spent a b c d e = rw (a, b, c, d, e) refl
+
+all_are_valid : (items : List Item) → ((i : Item) → Contains items i → i.a < i.b) → some_invalid half_open items ≡ false
+all_are_valid items valid =
+    list_any_none (λ i. not (nat_lt i.a i.b)) items
+    (λ k d lt. ap not (lt-ltb (get_or items k d).a (get_or items k d).b (valid (get_or items k d) (Contains-get_or items k d lt))))
+
+none_meet : (items table : List Item) → ((x i : Item) → Contains table x → Contains items i → half_open.apart x i ≡ true) → some_meet half_open items table ≡ false
+none_meet items table apart =
+    list_any_none (λ i. meets half_open i table) items
+    (λ k d lt. none_meets (get_or items k d) table (λ x m. apart x (get_or items k d) m (Contains-get_or items k d lt)))
+
+-- the update that inserts some items is accepted where these are apart from each other and from all others, and have room
+pub inserts_accepted : (n limit : ℕ) (items table : List Item) (seq : ℕ) → 0 < length items → ((i : Item) → Contains items i → i.a < i.b)
+    → some_overlap half_open items ≡ false → ((x i : Item) → Contains table x → Contains items i → half_open.apart x i ≡ true)
+    → length table + length items ≤ n → seq + 2 ≤ limit → refuses half_open n limit false table seq (update_of [] items) ≡ None
+inserts_accepted n limit [] table seq some valid each apart room left = absurd (omega arith)
+inserts_accepted n limit (i ∷ []) table seq some valid each apart room left =
+    let here : Contains (i ∷ []) i = (0, omega arith, refl) in
+    insert_accepted n limit i table seq (valid i here) (λ x m. apart x i m here) (omega arith) left
+inserts_accepted n limit (i ∷ j ∷ rest) table seq some valid each apart room left =
+    let items = i ∷ j ∷ rest in
+    let f : nat_lt n (length table + length items) ≡ false = grind (arith, nat_tests) in
+    let s : nat_lt limit (seq + 2) ≡ false = grind (arith, nat_tests) in
+    no_test_holds (some_invalid half_open items) (some_overlap half_open items) (some_meet half_open items (without_all [] table)) (nat_lt n (length table + length items)) (nat_lt limit (seq + 2))
+    (all_are_valid items valid) each (ap (some_meet half_open items) (without_none table) ∙ none_meet items table apart) f s
+
+-- the update that inserts these items, and erases none
+pub inserts_these : (items : List Item) → inserted (update_of [] items) ≡ items
+inserts_these [] = refl
+inserts_these (i ∷ []) = refl
+inserts_these (i ∷ j ∷ rest) = refl
+
+pub erases_none : (items : List Item) → erased (update_of [] items) ≡ []
+erases_none [] = refl
+erases_none (i ∷ []) = refl
+erases_none (i ∷ j ∷ rest) = refl

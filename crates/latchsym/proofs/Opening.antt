@@ -1,12 +1,12 @@
 -- A world for the table of a catalog, from its opening on.
-use Rattle.std.proofs.Common.{◌≡◌, ℕ, ◌+◌, ◌*◌, ◌<◌, ◌≤◌, false, List, [], ◌∷◌, ◌++◌, length, Option, Some, None, Result, Ok, Err, refl, sym, ◌∙◌, ap, subst, ⊎_elim, arith}
-use Rattle.std.specs.Prelude.{IfOk, IfErr, Contains, is_some}
+use Rattle.std.proofs.Common.{◌≡◌, ℕ, ◌≤◌, false, List, [], length, Result, Ok, Err, refl, sym, ◌∙◌, ap, subst, ⊎_elim, arith}
+use Rattle.std.specs.Prelude.{IfOk, is_some}
 use Rattle.std.specs.Ordering.{nat_cmp}
 use Rattle.std.specs.FinMap.{get, get-empty}
 use Rattle.order_laws.specs.declared.half_open_ranges.HalfOpen.{HalfOpen}
 use Rattle.order_laws.specs.declared.items.Item.{Item}
 use Rattle.order_laws.specs.declared.refusals.Refusal.{Refusal}
-use Rattle.order_laws.specs.declared.refusals.Refusal.TheVariants.{OutOfMemory, ReaderBusy}
+use Rattle.order_laws.specs.declared.refusals.Refusal.TheVariants.{OutOfMemory}
 use Rattle.order_laws.specs.Orders.{half_open}
 use Rattle.order_laws.specs.Tables.{look}
 use Rattle.word_arena.specs.declared.layouts.Layout.{Layout}
@@ -21,11 +21,10 @@ use Rattle.latch_steps.specs.Worlds.{IsAfter, Shows, layout_in}
 use Rattle.latch_steps.specs.AtOnce.{Finds, IsFound, IsNotBegun}
 use Rattle.modules.specs.Catalogs.{IsSound, regions_of}
 use Rattle.modules.specs.Entries.{CatalogEntries}
-use Rattle.latchsym.specs.CatalogTables.{items_of}
-use Rattle.latchsym.specs.LoadedWorlds.{Holds, HoldsBelow, HasRoomFor, Inserts, IsIdle}
+use Rattle.latchsym.specs.LoadedWorlds.{Holds, HoldsBelow, Inserts}
 use Rattle.latchsym.proofs.Regions.{as_many}
 use Rattle.latchsym.proofs.Loads.{look_in_table}
-use Rattle.latchsym.proofs.Worlds.{NoLookup, Reads, current_at_rest, found_at_end, none_at_end, none_begun, same_readers, table_at_rest}
+use Rattle.latchsym.proofs.Worlds.{NoLookup, current_at_rest, found_at_end, none_at_end, none_begun, same_readers, table_at_rest}
 
 no_updates : Inserts [] []
 no_updates = record { inserted = refl; erased = refl; few = omega arith }

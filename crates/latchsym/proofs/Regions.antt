@@ -1,16 +1,20 @@
 -- The items of a catalog are its regions.
-use Rattle.std.proofs.Common.{◌≡◌, ℕ, zero, suc, ◌+◌, ◌-◌, ◌<◌, ◌≤◌, List, [], ◌∷◌, ◌++◌, length, map, flat_map, get_or, Option, Some, None, refl, sym, ◌∙◌, ap, subst, arith, append_assoc, append-nil, add-one, length-append}
-use Rattle.std.specs.Prelude.{true, All, Contains, slice_get}
+use Rattle.std.proofs.Common.{◌≡◌, ℕ, zero, suc, ◌+◌, ◌-◌, ◌<◌, ◌≤◌, List, [], ◌∷◌, ◌++◌, length, map, flat_map, get_or, Option, Some, None, refl, sym, ◌∙◌, ap, subst, arith, append-nil, add-one, length-append}
+use Rattle.std.specs.Prelude.{Bool, true, false, ◌||◌, All, Contains, slice_get}
 use Rattle.std.specs.List.{AllPairs, range_with_len}
 use Rattle.std.specs.Option.{option_map_or, option_to_list}
 use Rattle.std.proofs.lemmas.List.{map-append, length-map, get_or_append_left, get_or-append-add, get_or_default}
 use Rattle.std.proofs.lemmas.List.Elements.{All-contains, Contains-append_left, Contains-append_right}
 use Rattle.std.proofs.lemmas.Grind.{flat_map-append}
 use Rattle.order_laws.specs.declared.items.Item.{Item}
-use Rattle.modules.specs.Catalogs.{IsSound, entries_of, module_of, regions_of}
+use Rattle.order_laws.specs.Orders.{half_open, half_open_lawful}
+use Rattle.order_laws.specs.Tables.{meets}
+use Rattle.latch_core.specs.Updates.{some_overlap}
+use Rattle.modules.specs.Catalogs.{IsSound, module_of, regions_of}
 use Rattle.modules.specs.Entries.{CatalogEntries, ModuleEntry}
 use Rattle.modules.specs.Regions.{is_apart}
 use Rattle.latchsym.specs.CatalogTables.{item_of, items_at, items_below, items_of}
+use Rattle.latchsym.proofs.Loads.{none_meets}
 
 -- the region of an item
 abbrev pub region_of : Item → ℕ × ℕ
@@ -96,10 +100,38 @@ pairs_across R xs ys x y all (i, lt, is) (j, less, there) =
     let r : R (get_or (xs ++ ys) i x) (get_or (xs ++ ys) (length xs + j) x) = all i (length xs + j) x (omega arith) (omega (arith, length-append xs ys)) in
     subst (λ b. R x b) f (subst (λ a. R a (get_or (xs ++ ys) (length xs + j) x)) e r)
 
+-- a part of a list of which all pairs are related
+pairs_left : {X : Type 0} (R : X → X → Type 0) (xs ys : List X) → AllPairs R (xs ++ ys) → AllPairs R xs
+pairs_left R xs ys all i j d less lt =
+    let r = all i j d less (omega (arith, length-append xs ys)) in
+    subst (λ b. R (get_or xs i d) b) (get_or_append_left xs ys d j lt)
+    (subst (λ a. R a (get_or (xs ++ ys) j d)) (get_or_append_left xs ys d i (omega arith)) r)
+
+pairs_right : {X : Type 0} (R : X → X → Type 0) (xs ys : List X) → AllPairs R (xs ++ ys) → AllPairs R ys
+pairs_right R xs ys all i j d less lt =
+    let r = all (length xs + i) (length xs + j) d (omega arith) (omega (arith, length-append xs ys)) in
+    subst (λ b. R (get_or ys i d) b) (get_or-append-add xs ys j d)
+    (subst (λ a. R a (get_or (xs ++ ys) (length xs + j) d)) (get_or-append-add xs ys i d) r)
+
 in_map : {X Y : Type 0} (f : X → Y) (xs : List X) (x : X) → Contains xs x → Contains (map f xs) (f x)
 in_map f (y ∷ xs) x (zero, lt, is) = (zero, omega arith, ap f is)
 in_map f (y ∷ xs) x (suc k, lt, is) = let (j, less, there) = in_map f xs x (k, omega arith, is) in (suc j, omega arith, there)
 in_map f [] x (k, lt, is) = absurd (omega arith)
+
+neither_holds : (a b : Bool) → a ≡ false → b ≡ false → (a || b) ≡ false
+neither_holds a b p q = rw (p, q) refl
+
+-- items whose regions lie apart do not overlap
+no_overlap : (items : List Item) → AllPairs (λ r s. is_apart r s ≡ true) (map region_of items) → some_overlap half_open items ≡ false
+no_overlap [] all = refl
+no_overlap (i ∷ rest) all =
+    let later : (x : Item) → Contains rest x → half_open.apart x i ≡ true =
+    λ x m. let (j, less, there) = in_map region_of rest x m in
+    let r = all 0 (suc j) (region_of x) (omega arith) (omega arith) in
+    half_open_lawful.symmetric x i ∙ subst (λ s. is_apart (region_of i) s ≡ true) there r in
+    let here = none_meets i rest later in
+    let more = no_overlap rest (λ a b d less lt. all (suc a) (suc b) d (omega arith) (omega arith)) in
+    neither_holds (meets half_open i rest) (some_overlap half_open rest) here more
 
 -- an item of a number, and those of the lesser numbers
 module _ (c : CatalogEntries) (sound : IsSound c) (k : ℕ) (le : k ≤ length c.modules) where
@@ -122,6 +154,13 @@ module _ (c : CatalogEntries) (sound : IsSound c) (k : ℕ) (le : k ≤ length c
       All-contains (λ (r : ℕ × ℕ). r.0 < r.1) _ (region_of y) all
       (Contains-append_right (map region_of (items_below c k)) (map region_of (items_at c k) ++ map region_of (rest_of c k)) (region_of y)
       (Contains-append_left (map region_of (items_at c k)) (map region_of (rest_of c k)) (region_of y) (in_map region_of (items_at c k) y at')))
+
+  pub none_overlap : some_overlap half_open (items_at c k) ≡ false
+  none_overlap =
+      no_overlap (items_at c k)
+      (pairs_left (λ r s. is_apart r s ≡ true) (map region_of (items_at c k)) (map region_of (rest_of c k))
+      (pairs_right (λ r s. is_apart r s ≡ true) (map region_of (items_below c k)) (map region_of (items_at c k) ++ map region_of (rest_of c k))
+      (subst (AllPairs (λ r s. is_apart r s ≡ true)) regions_parted sound.apart.apart)))
 
   pub some_left : length (items_below c k) + length (items_at c k) ≤ length (items_of c)
   some_left = omega (arith, ap length (parted_at c k le), length-append (items_below c k) (items_at c k ++ rest_of c k), length-append (items_at c k) (rest_of c k))

@@ -1,5 +1,5 @@
 -- What the events of a lookup do to an idle world.
-use Rattle.std.proofs.Common.{◌≡◌, ◌≢◌, ℕ, ◌+◌, ◌-◌, ◌*◌, ◌%◌, ◌<◌, ◌≤◌, true, false, cond, List, [], ◌∷◌, ◌++◌, length, Option, Some, None, refl, sym, ◌∙◌, ap, subst, inl, inr, ⊎_elim, arith}
+use Rattle.std.proofs.Common.{◌≡◌, ◌≢◌, ℕ, ◌+◌, ◌-◌, ◌*◌, ◌%◌, ◌≤◌, true, false, cond, List, [], ◌∷◌, ◌++◌, length, Option, Some, None, refl, sym, ◌∙◌, ap, subst, ⊎_elim, arith}
 use Rattle.std.specs.List.{AllByRecursion}
 use Rattle.std.specs.Ordering.{nat_cmp, eq_by_cmp}
 use Rattle.std.specs.Cmp.{nat_cmp_total}
@@ -8,24 +8,23 @@ use Rattle.std.proofs.lemmas.Bool.{cases_eq}
 use Rattle.std.proofs.lemmas.Bool.Decides.{nat_tests}
 use Rattle.std.proofs.lemmas.List.{take_all}
 use Rattle.order_laws.specs.Orders.{Order}
-use Rattle.order_laws.specs.Tables.{look, IsTable}
+use Rattle.order_laws.specs.Tables.{IsTable}
 use Rattle.word_arena.specs.Words.{at}
 use Rattle.latch_core.specs.declared.updates.Update.{Update}
 use Rattle.latch_core.specs.Sequences.{gen}
 use Rattle.latch_core.specs.Histories.{replay, current_table}
 use Rattle.latch_core.specs.Invariants.{IsSound, IsInHand}
 use Rattle.latch_core.specs.Latches.{Hand, Latch}
-use Rattle.latch_steps.specs.declared.events.Event.{Event}
-use Rattle.latch_steps.specs.declared.events.Event.TheVariants.{Begin, Write, Start, Read}
+use Rattle.latch_steps.specs.declared.events.Event.TheVariants.{Write, Start, Read}
 use Rattle.latch_steps.specs.declared.replies.Reply.{Reply}
 use Rattle.latch_steps.specs.declared.replies.Reply.TheVariants.{Started, Returned as Gave}
 use Rattle.latch_steps.specs.declared.replies.Returned.{Returned}
 use Rattle.latch_steps.specs.declared.lookups.Lookup.{Lookup}
 use Rattle.latch_steps.specs.declared.worlds.World.{World}
 use Rattle.latch_steps.specs.Runs.{LookupInHand, Moment, Done, did, last_of}
-use Rattle.latch_steps.specs.Steps.{AfterLoad, Goes, Retries, Returns, Run, Step, Writes, after_load, load_done, read_done, start_done, with_lookups, new_lookup, more}
+use Rattle.latch_steps.specs.Steps.{AfterLoad, Goes, Retries, Returns, Run, Step, Writes, after_load, load_done, read_done, start_done, new_lookup, more}
 use Rattle.latch_steps.specs.Lookups.{IsInHand as IsHeld}
-use Rattle.latch_steps.specs.Worlds.{Shows, IsAfter, layout_in}
+use Rattle.latch_steps.specs.Worlds.{Shows}
 
 -- no lookup is in hand
 abbrev pub NoLookup : {K : Type 0} → Moment K → Type 0

@@ -10,6 +10,7 @@ use Rattle.listing.specs.SymbolListing.{symbol_counts, symbols_in}
 use Rattle.modules.specs.declared.catalog.BuildCounts.{BuildCounts}
 use Rattle.modules.specs.Catalogs.{catalog_of, counts_of, regions_of}
 use Rattle.modules.specs.Entries.{CatalogEntries}
+use Rattle.modules.specs.Lines.{usual_bounds}
 use Rattle.latchsym.specs.CatalogTables.{answer_at}
 use Rattle.latchsym.specs.LookupTexts.{answer_line, modules_line, symbols_line}
 use Rattle.latchsym.specs.declared.fault.Fault.{Fault}
@@ -24,10 +25,12 @@ pub record Inputs : Type 0 where
 
 -- the catalog that the listings say, and how many of their entries went where
 unfoldable pub catalog_in : List ℕ → List ℕ → CatalogEntries
-catalog_in modules kallsyms = catalog_of (modules_in (lines_of modules)) (symbols_in (lines_of kallsyms))
+catalog_in modules kallsyms =
+    catalog_of usual_bounds (modules_in (lines_of modules)) [] (symbols_in (lines_of kallsyms))
 
 unfoldable pub counts_in : List ℕ → List ℕ → BuildCounts
-counts_in modules kallsyms = counts_of (modules_in (lines_of modules)) (symbols_in (lines_of kallsyms))
+counts_in modules kallsyms =
+    counts_of usual_bounds (modules_in (lines_of modules)) [] (symbols_in (lines_of kallsyms))
 
 -- the two lines of counts
 abbrev pub count_lines : List ℕ → List ℕ → List ℕ

@@ -6,7 +6,7 @@ ghost use Rattle.latchsym.specs.CatalogTables.{answer_at, answer_in, items_of};
 ghost use Rattle.latchsym.specs.LoadedWorlds.{Holds, HoldsBelow, IsRefusedFor};
 
 use latch_steps::{Event, Reply, World};
-use modules::Catalog;
+use modules::{Catalog, Held};
 use order_laws::{HalfOpen, Item, Refusal};
 use std::alloc::Global;
 use word_arena::Layout;
@@ -78,7 +78,11 @@ fn load(world: &mut World<HalfOpen>, catalog: &Catalog, number: u64) -> Result<(
     if catalog.module(number).is_none() {
         return Ok(());
     }
-    let update = catalog.load(number, false)?;
+    let none_held = Held {
+        core: false,
+        init: false,
+    };
+    let update = catalog.load(number, none_held)?;
     if let Reply::Refused(why) = world.step(Event::Begin(update)) {
         return Err(why);
     }

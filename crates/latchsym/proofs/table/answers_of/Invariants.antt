@@ -1,5 +1,4 @@
-use Rattle.std.proofs.Common.{◌≡◌, ◌≤◌, length, map, take}
-use Rattle.modules.specs.Catalogs.{regions_of}
+use Rattle.std.proofs.Common.{◌≡◌, map, take}
 use Rattle.latchsym.specs.CatalogTables.{answer_at, items_of}
 use Rattle.latchsym.specs.LoadedWorlds.{Holds}
 use Rattle.latchsym.proofs.table.answers_of.Given as goal

@@ -1,4 +1,4 @@
-use Rattle.std.proofs.Common.{◌≡◌, ap, rules}
+use Rattle.std.proofs.Common.{ap, rules}
 use Rattle.order_laws.specs.declared.items.Item.{Item}
 use Rattle.std.specs.Prelude.{Option}
 use Rattle.latchsym.specs.declared.table.Answer.{Answer}

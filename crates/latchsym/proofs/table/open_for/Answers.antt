@@ -1,4 +1,4 @@
-use Rattle.std.proofs.Common.{◌≡◌, ◌≤◌, arith, length, rules}
+use Rattle.std.proofs.Common.{◌≤◌, arith, length}
 use Rattle.modules.specs.Catalogs.{regions_of}
 use Rattle.word_arena.specs.Layouts.{capacity_of}
 use Rattle.latchsym.proofs.Opening.{opened}
