@@ -47,7 +47,7 @@ impl Table {
         requires { length self.old.words.items ≡ words_for self.old.writer.capacity }
         ensures { length self.new.words.items ≡ words_for self.new.writer.capacity }
     {
-        let stores = self.writer.begin(update)?;
+        let stores = self.writer.begin_from(&update)?;
         carry_out(&mut self.writer, &mut self.words);
         self.stores = self.stores.wrapping_add(stores);
         Ok(())
