@@ -16,8 +16,10 @@ fail() {
 for modules in *.modules; do
     name=${modules%.modules}
     status=0
+    regions=()
+    [ ! -e "$name.regions" ] || regions=(--regions "$name.regions")
     # shellcheck disable=SC2046
-    "$program" lookup --modules "$modules" --kallsyms "$name.kallsyms" $(cat "$name.addresses") >"$work/out" 2>"$work/err" || status=$?
+    "$program" lookup --modules "$modules" --kallsyms "$name.kallsyms" "${regions[@]}" $(cat "$name.addresses") >"$work/out" 2>"$work/err" || status=$?
     [ $status = 0 ] && [ ! -s "$work/err" ] || fail "$name: status $status, $(cat "$work/err")"
     cmp -s "$work/out" "$name.expected" || fail "$name: other lines than $name.expected"
 done
@@ -71,6 +73,18 @@ refused 1 "no_such: cannot be read" --modules basic.modules --kallsyms no_such 1
 refused 1 "no_such: cannot be read" --modules no_such --kallsyms no_other 1
 refused 1 ".: cannot be read" --modules . --kallsyms no_such 1
 refused 1 "no_such: cannot be read" --modules no_such --kallsyms . 1
+# the listing of regions is read last, and names its first bad line
+printf 'latchregions 1\nm core 0 1\n' >"$work/bad.regions"
+printf 'latchregions 2\n' >"$work/other.regions"
+: >"$work/none.regions"
+{ echo 'latchregions 1' && for i in 1 2 3 4 5 6 7 8; do echo "m core $i 1"; done; } >"$work/eight.regions"
+refused 1 "$work/bad.regions: line 2 is not understood" --modules regions.modules --kallsyms regions.kallsyms --regions "$work/bad.regions" 1
+refused 1 "$work/other.regions: line 1 is not understood" --modules regions.modules --kallsyms regions.kallsyms --regions "$work/other.regions" 1
+refused 1 "$work/none.regions: line 1 is not understood" --modules regions.modules --kallsyms regions.kallsyms --regions "$work/none.regions" 1
+refused 1 "refused 14" --modules regions.modules --kallsyms regions.kallsyms --regions "$work/eight.regions" 1
+refused 1 "no_such: cannot be read" --modules regions.modules --kallsyms regions.kallsyms --regions no_such 1
+refused 1 ".: cannot be read" --modules regions.modules --kallsyms . --regions no_such 1
+refused 2 "" --modules regions.modules --kallsyms regions.kallsyms --regions regions.regions --regions regions.regions 1
 refused 2 "bad address 16x" --modules no_such --kallsyms no_such 16 16x y
 refused 2 "bad address 18446744073709551616" --modules no_such --kallsyms no_such 18446744073709551616
 refused 2 "" --modules basic.modules --kallsyms basic.kallsyms

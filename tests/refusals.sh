@@ -79,6 +79,8 @@ for trace in torn_item both_ends batch_replaces_an_item wide_last_sequence; do
 done
 cd "$top/examples/listings"
 try lookup --modules basic.modules --kallsyms basic.kallsyms 0xffffffffc0000018 0xffffffff81000108
+try lookup --modules regions.modules --kallsyms regions.kallsyms --regions regions.regions 0xffffffffc0600104
+try lookup --modules regions.modules --kallsyms regions.kallsyms --regions empty.modules 0
 cd "$top/examples/traces"
 try --help
 try trace cut_short.trace

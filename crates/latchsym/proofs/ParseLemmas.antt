@@ -14,7 +14,7 @@ use Rattle.clap.specs.declared.builder.arg.Arg.{Arg}
 use Rattle.clap.specs.declared.builder.command.Command.{Command}
 use Rattle.clap.specs.declared.builder.command.Command.TheViews.{out-Command}
 use Rattle.latchsym.specs.CommandLine.{IsCommand, IsPlainArg, latchsym_app}
-use Rattle.latchsym.specs.Jobs.{AnswersAsked, AnswersMatches, AnswersWords, IsFaultOf, asked_by}
+use Rattle.latchsym.specs.Jobs.{AnswersAsked, AnswersMatches, AnswersWords, ForLookup, IsFaultOf, asked_by, asked_lookup}
 use Rattle.latchsym.specs.declared.command_line.Job.{Job}
 use Rattle.latchsym.specs.declared.command_line.JobFault.{JobFault}
 use Rattle.latchsym.specs.declared.command_line.JobFault.TheVariants.{OutOfMemory, CommandLine, BadAddress, NoJob}
@@ -87,3 +87,13 @@ both (Some p) name rows e f =
 pub entered_is : (m : ArgMatches) (name : Text) (rows : List Row) → Some name ≡ subcommand_name_of m → Some rows ≡ option_map (λ p. p.1) (subcommand_rows_of m)
     → subcommand_rows_of m ≡ Some (name, rows)
 entered_is m name rows e f = both (subcommand_rows_of m) name rows (e ∙ named (out-ArgMatches m).subcommand) f
+
+-- what is asked for, by the values that were found
+pub asked_with : (m k r : Option Text) (w : Option (List Text)) (modules kallsyms : Text) (regions : Option Text) (words : List Text) (result : Result Job JobFault)
+    → Some modules ≡ m → Some kallsyms ≡ k → regions ≡ r → Some words ≡ w
+    → AnswersAsked (ForLookup modules kallsyms regions words) result → AnswersAsked (asked_lookup m k r w) result
+asked_with m k r w modules kallsyms regions words result e f g h answers =
+    subst (λ o. AnswersAsked (asked_lookup o k r w) result) e
+    (subst (λ o. AnswersAsked (asked_lookup (Some modules) o r w) result) f
+    (subst (λ o. AnswersAsked (asked_lookup (Some modules) (Some kallsyms) o w) result) g
+    (subst (λ o. AnswersAsked (asked_lookup (Some modules) (Some kallsyms) regions o) result) h answers)))

@@ -15,6 +15,10 @@ word_rule id = record (new_rule id) { value_names = 1; required = true }
 abbrev pub option_rule : Text → Rule
 option_rule id = record (new_rule id) { long = Some id; value_names = 1; required = true }
 
+-- an option that may be given, with one value
+abbrev pub optional_rule : Text → Rule
+optional_rule id = record (new_rule id) { long = Some id; value_names = 1 }
+
 -- any number of words, of which one has to be given
 abbrev pub words_rule : Text → Rule
 words_rule id = record (new_rule id) { range = Some (record { start_inclusive = 1; end_inclusive = usize_max }); value_names = 1; required = true }
@@ -23,11 +27,13 @@ words_rule id = record (new_rule id) { range = Some (record { start_inclusive = 
 abbrev pub trace_app : App
 trace_app = with_rule (new_app (codes "trace")) (word_rule (codes "file"))
 
--- lookup --modules FILE --kallsyms FILE ADDR..
+-- lookup --modules FILE --kallsyms FILE [--regions FILE] ADDR..
 abbrev pub lookup_app : App
 lookup_app =
     with_rule
+    (with_rule
     (with_rule (with_rule (new_app (codes "lookup")) (option_rule (codes "modules"))) (option_rule (codes "kallsyms")))
+    (optional_rule (codes "regions")))
     (words_rule (codes "addresses"))
 
 -- a subcommand has to be given

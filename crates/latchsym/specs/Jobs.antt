@@ -2,6 +2,7 @@
 use Rattle.std.specs.Prelude.{◌≡◌, ◌≢◌, ℕ, Bool, List, [], ◌∷◌, Option, Some, None, Result, Ok, Err, codes, find, is_none, if◌then◌else◌}
 use Rattle.std.specs.Global.{Vec}
 use Rattle.std.specs.List.{filter_map}
+use Rattle.std.specs.Option.{option_map, option_to_list}
 use Rattle.std.specs.Str.{bytes_eq}
 use Rattle.clap.specs.Words.{IsAmong, Row, Text, all_of, fault_of, first_of, kind_of, subcommand_of}
 use Rattle.clap.specs.declared.error.Error.{Error}
@@ -16,29 +17,30 @@ use Rattle.latchsym.specs.declared.command_line.JobFault.TheVariants.{OutOfMemor
 -- the files that a job reads, in order
 abbrev pub files_of : Job → List Text
 files_of (Trace file) = file.now ∷ []
-files_of (Lookup job) = job.modules.now ∷ job.kallsyms.now ∷ []
+files_of (Lookup job) =
+    job.modules.now ∷ job.kallsyms.now ∷ option_to_list (option_map (λ f. f.now) job.regions)
 
 -- what a subcommand asks for: to run the trace in a file, or to look the addresses up that these
--- words are, in the listings of modules and of symbols in two files
+-- words are, in the listings of modules and of symbols in two files, and of regions in a third or none
 pub data Asked : Type 0 where
   ForTrace : Text → Asked
-  ForLookup : Text → Text → List Text → Asked
+  ForLookup : Text → Text → Option Text → List Text → Asked
   ForNothing : Asked
 
 abbrev pub asked_trace : Option Text → Asked
 asked_trace (Some file) = ForTrace file
 asked_trace None = ForNothing
 
-abbrev pub asked_lookup : Option Text → Option Text → Option (List Text) → Asked
-asked_lookup (Some modules) (Some kallsyms) (Some words) = ForLookup modules kallsyms words
-asked_lookup _ _ _ = ForNothing
+abbrev pub asked_lookup : Option Text → Option Text → Option Text → Option (List Text) → Asked
+asked_lookup (Some modules) (Some kallsyms) regions (Some words) = ForLookup modules kallsyms regions words
+asked_lookup _ _ _ _ = ForNothing
 
 -- what a subcommand of this name, with these values, asks for
 abbrev pub asked_by : Option (Text × List Row) → Asked
 asked_by None = ForNothing
 asked_by (Some (name, rows)) =
     if bytes_eq name (codes "trace") then asked_trace (first_of (codes "file") rows)
-    else if bytes_eq name (codes "lookup") then asked_lookup (first_of (codes "modules") rows) (first_of (codes "kallsyms") rows) (all_of (codes "addresses") rows)
+    else if bytes_eq name (codes "lookup") then asked_lookup (first_of (codes "modules") rows) (first_of (codes "kallsyms") rows) (first_of (codes "regions") rows) (all_of (codes "addresses") rows)
     else ForNothing
 
 -- the word is no number
@@ -49,13 +51,14 @@ is_no_number word = is_none (number_of word)
 abbrev pub IsAskedBy : Asked → Job → Type 0
 IsAskedBy asked (Trace file) = asked ≡ ForTrace file.now
 IsAskedBy asked (Lookup job) =
-    (words : List Text) × (asked ≡ ForLookup job.modules.now job.kallsyms.now words)
+    (words : List Text) × (asked ≡ ForLookup job.modules.now job.kallsyms.now (option_map (λ f. f.now) job.regions) words)
     × (find is_no_number words ≡ None) × (job.addresses.items ≡ filter_map number_of words)
 
 -- an address is asked for that is no number, and this is the first such word
 abbrev pub HasBadAddress : Asked → Text → Type 0
 HasBadAddress asked word =
-    (modules kallsyms : Text) × (words : List Text) × (asked ≡ ForLookup modules kallsyms words)
+    (modules kallsyms : Text) × (regions : Option Text) × (words : List Text)
+    × (asked ≡ ForLookup modules kallsyms regions words)
     × (find is_no_number words ≡ Some word)
 
 -- the answer where this is asked for

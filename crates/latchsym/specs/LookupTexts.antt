@@ -29,6 +29,13 @@ modules_line skipped built =
     ++ count_text (codes " malformed ") skipped.malformed
     ++ codes "\n"
 
+-- how many lines of the listing of regions a module has its regions from, and how many none has
+unfoldable pub regions_line : BuildCounts → List ℕ
+regions_line built =
+    count_text (codes "regions ") built.regions
+    ++ count_text (codes " stray ") built.stray_regions
+    ++ codes "\n"
+
 -- how many lines of the listing of symbols went where
 unfoldable pub symbols_line : SymbolCounts → BuildCounts → List ℕ
 symbols_line skipped built =

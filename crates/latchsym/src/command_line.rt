@@ -1,7 +1,7 @@
 //! The command line: what it may say, and the job that it asks for.
 ghost use Rattle.std.specs.Prelude.{◌≡◌, Some, IfOk, codes, map, option_map};
 ghost use Rattle.clap.specs.Words.{all_of, found_of, first_of, rows_of, subcommand_rows_of};
-ghost use Rattle.latchsym.specs.CommandLine.{lookup_app, trace_app, latchsym_app, option_rule, word_rule, words_rule, IsCommand, IsPlainArg};
+ghost use Rattle.latchsym.specs.CommandLine.{lookup_app, trace_app, latchsym_app, option_rule, optional_rule, word_rule, words_rule, IsCommand, IsPlainArg};
 ghost use Rattle.latchsym.specs.Jobs.{asked_lookup, asked_trace, AnswersAsked, ForLookup, AnswersMatches, AnswersWords, AreNumbers, IsFaultOf};
 
 use clap::error::ErrorKind;
@@ -15,7 +15,7 @@ use std::convert::AsStr;
 pub enum Job<'a> {
     /// `latchsym trace FILE`: run the trace in this file.
     Trace { file: &'a str },
-    /// `latchsym lookup --modules FILE --kallsyms FILE ADDR..`: look addresses up.
+    /// `latchsym lookup --modules FILE --kallsyms FILE [--regions FILE] ADDR..`: look addresses up.
     Lookup(LookupJob<'a>),
 }
 
@@ -26,6 +26,8 @@ pub struct LookupJob<'a> {
     pub modules: &'a str,
     /// The file of the listing of symbols.
     pub kallsyms: &'a str,
+    /// The file of the listing of regions, where there is one.
+    pub regions: Option<&'a str>,
     /// The addresses, in the order of their words.
     pub addresses: Vec<u64>,
 }
@@ -42,6 +44,7 @@ impl<'a> Job<'a> {
             Job::Trace { file } if place == 0 => Some(file),
             Job::Lookup(job) if place == 0 => Some(job.modules),
             Job::Lookup(job) if place == 1 => Some(job.kallsyms),
+            Job::Lookup(job) if place == 2 => job.regions,
             Job::Trace { .. } | Job::Lookup(_) => None,
         }
     }
@@ -115,11 +118,13 @@ fn lookup_command<'a>(alloc: Global) -> Result<Command<'a>, AllocError>
     let kallsyms = required_option(alloc, "kallsyms").help(
         "The symbols, in the form of /proc/kallsyms",
     );
+    let regions = optional_option(alloc, "regions").help("The regions of the modules");
     let addresses = required_words(alloc, "addresses", "ADDR").help("The addresses");
     let command = Command::new(alloc, "lookup")
         .about("Say which module and which symbol hold an address")
         .arg(modules)?
         .arg(kallsyms)?
+        .arg(regions)?
         .arg(addresses)?;
     Ok(command)
 }
@@ -137,6 +142,12 @@ fn required_option<'a>(alloc: Global, id: &'a str) -> Arg<'a>
         .long(id)
         .value_name("FILE")
         .required(true)
+}
+
+fn optional_option<'a>(alloc: Global, id: &'a str) -> Arg<'a>
+    ensures { IsPlainArg (optional_rule id.entry.now) result }
+{
+    Arg::new(alloc, id).long(id).value_name("FILE")
 }
 
 fn required_words<'a>(alloc: Global, id: &'a str, value: &'a str) -> Arg<'a>
@@ -182,7 +193,7 @@ fn trace_job<'a>(found: &ArgMatches<'a>) -> Result<Job<'a>, JobFault<'a>>
 
 fn lookup_job<'a>(alloc: Global, found: &ArgMatches<'a>) -> Result<Job<'a>, JobFault<'a>>
     ensures { let rows = rows_of (found_of found.now) in
-        AnswersAsked (asked_lookup (first_of (codes "modules") rows) (first_of (codes "kallsyms") rows) (all_of (codes "addresses") rows)) result }
+        AnswersAsked (asked_lookup (first_of (codes "modules") rows) (first_of (codes "kallsyms") rows) (first_of (codes "regions") rows) (all_of (codes "addresses") rows)) result }
 {
     let Some(modules) = value_of(found, "modules") else {
         return Err(JobFault::NoJob);
@@ -193,21 +204,24 @@ fn lookup_job<'a>(alloc: Global, found: &ArgMatches<'a>) -> Result<Job<'a>, JobF
     let Some(words) = values_of(found, "addresses") else {
         return Err(JobFault::NoJob);
     };
-    lookup_of(alloc, modules, kallsyms, words)
+    let regions = value_of(found, "regions");
+    lookup_of(alloc, modules, kallsyms, regions, words)
 }
 
 fn lookup_of<'a>(
     alloc: Global,
     modules: &'a str,
     kallsyms: &'a str,
+    regions: Option<&'a str>,
     words: &[&'a str],
 ) -> Result<Job<'a>, JobFault<'a>>
-    ensures { AnswersAsked (ForLookup modules.entry.now kallsyms.entry.now (map (λ w. w.now) words.now)) result }
+    ensures { AnswersAsked (ForLookup modules.entry.now kallsyms.entry.now (option_map (λ f. f.now) regions.entry) (map (λ w. w.now) words.now)) result }
 {
     match addresses_in(alloc, words) {
         Ok(addresses) => Ok(Job::Lookup(LookupJob {
             modules,
             kallsyms,
+            regions,
             addresses,
         })),
         Err(fault) => Err(fault),

@@ -1,7 +1,7 @@
 //! The lines that a lookup of addresses writes, byte for byte, with no memory taken.
 ghost use Rattle.std.specs.Prelude.{◌++◌, codes, decimal, flat_map};
 ghost use Rattle.devices.specs.Exact.{Wrote};
-ghost use Rattle.latchsym.specs.LookupTexts.{answer_line, count_text, modules_line, symbols_line};
+ghost use Rattle.latchsym.specs.LookupTexts.{answer_line, count_text, modules_line, regions_line, symbols_line};
 
 use crate::table::Answer;
 use crate::texts::put_decimal;
@@ -75,6 +75,16 @@ pub fn put_symbol_counts<W: Write>(
     put_count(writer, b" stray ", built.stray)?;
     put_count(writer, b" long ", skipped.long)?;
     put_count(writer, b" malformed ", skipped.malformed)?;
+    put(writer, b"\n")
+}
+
+/// Writes the counts of the listing of regions: the lines that an accepted module has its regions
+/// from, and the others.
+pub fn put_region_counts<W: Write>(writer: &mut Counted<W>, built: &BuildCounts) -> io::Result<()>
+    ensures { Wrote W.contents writer.old writer.new result (regions_line built.now) }
+{
+    put_count(writer, b"regions ", built.regions)?;
+    put_count(writer, b" stray ", built.stray_regions)?;
     put(writer, b"\n")
 }
 

@@ -1,8 +1,8 @@
 //! The program `latchsym`: a latched address tree, one word at a time.
 //!
 //! `latchsym trace FILE` runs a trace in the step machine and writes what its lookups found.
-//! `latchsym lookup --modules FILE --kallsyms FILE ADDR..` says which module and which symbol hold
-//! an address.
+//! `latchsym lookup --modules FILE --kallsyms FILE [--regions FILE] ADDR..` says which module and
+//! which symbol hold an address.
 #![tactic(auto)]
 
 mod command_line;
@@ -79,10 +79,15 @@ fn run_lookup(rt: &HostRuntime, job: &LookupJob<'_>) -> Result<(), Fault> {
     let mut writer = Counted::new(buffer);
     let mut modules = open(rt, job.modules)?;
     let mut kallsyms = open(rt, job.kallsyms)?;
+    let mut regions = match job.regions {
+        Some(file) => Some(open(rt, file)?),
+        None => None,
+    };
     lookup_engine(
         rt.alloc(),
         &mut modules,
         &mut kallsyms,
+        &mut regions,
         &job.addresses,
         &mut writer,
     )

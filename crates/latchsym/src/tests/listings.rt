@@ -31,6 +31,11 @@ const LINES: &[u8] = b"0xffffffffc0000018 ext4_a+0x8/0x30 [ext4]\n\
     modules 1 hidden 0 empty 0 wraps 0 overlap 0 double 0 long 0 malformed 0\n\
     symbols 5 hidden 0 stray 1 long 0 malformed 0\n";
 
+/// A listing of regions that is not given.
+fn none_given() -> Option<Counted<&'static [u8]>> {
+    None
+}
+
 /// What the engine answers for these listings, and what it writes.
 fn looked_up(
     alloc: Global,
@@ -41,7 +46,14 @@ fn looked_up(
     let mut writer = Counted::new(Vec::new(alloc));
     let mut modules = Counted::new(modules);
     let mut symbols = Counted::new(symbols);
-    let answer = lookup_engine(alloc, &mut modules, &mut symbols, addresses, &mut writer);
+    let answer = lookup_engine(
+        alloc,
+        &mut modules,
+        &mut symbols,
+        &mut none_given(),
+        addresses,
+        &mut writer,
+    );
     (answer, writer.into_inner())
 }
 
@@ -119,7 +131,14 @@ fn a_failed_call_of_each_reader_is_reported(rt: HostRuntime) {
         let mut writer = Counted::new(Vec::new(alloc));
         let mut modules = Counted::new(FailAt::new(MODULES, call));
         let mut symbols = Counted::new(SYMBOLS);
-        let answer = lookup_engine(alloc, &mut modules, &mut symbols, &ADDRESSES, &mut writer);
+        let answer = lookup_engine(
+            alloc,
+            &mut modules,
+            &mut symbols,
+            &mut none_given(),
+            &ADDRESSES,
+            &mut writer,
+        );
         let read = if call < 3 {
             Err(Fault::Read { place: 0 })
         } else {
@@ -131,7 +150,14 @@ fn a_failed_call_of_each_reader_is_reported(rt: HostRuntime) {
         let mut writer = Counted::new(Vec::new(alloc));
         let mut modules = Counted::new(MODULES);
         let mut symbols = Counted::new(FailAt::new(SYMBOLS, call));
-        let answer = lookup_engine(alloc, &mut modules, &mut symbols, &ADDRESSES, &mut writer);
+        let answer = lookup_engine(
+            alloc,
+            &mut modules,
+            &mut symbols,
+            &mut none_given(),
+            &ADDRESSES,
+            &mut writer,
+        );
         let read = if call < 3 {
             Err(Fault::Read { place: 1 })
         } else {
@@ -150,7 +176,14 @@ fn each_failed_write_of_a_lookup_is_reported(rt: HostRuntime) {
         let mut writer = Counted::new(FailAt::new(Vec::new(alloc), turn));
         let mut modules = Counted::new(MODULES);
         let mut symbols = Counted::new(SYMBOLS);
-        let answer = lookup_engine(alloc, &mut modules, &mut symbols, &ADDRESSES, &mut writer);
+        let answer = lookup_engine(
+            alloc,
+            &mut modules,
+            &mut symbols,
+            &mut none_given(),
+            &ADDRESSES,
+            &mut writer,
+        );
         let memory = writer.into_inner().into_memory();
         assert!(rt; LINES.starts_with(&memory));
         if answer == Ok(()) {
@@ -211,4 +244,99 @@ fn listings_cut_anywhere_have_counts_that_add_up(rt: HostRuntime) -> Result<(), 
         );
     }
     Ok(())
+}
+
+/// A listing of regions in which `ext4` has a second region, for its start.
+const REGIONS: &[u8] = b"latchregions 1\n\
+    ext4 core 0xffffffffc0000000 0x1000\n\
+    # a comment\n\
+    ext4 init 0xffffffffc0100000 0x1000\n\
+    none core 0x1000 0x1000\n";
+
+const SYMBOLS_OF_BOTH: &[u8] = b"ffffffffc0000010 t ext4_a\t[ext4]\n\
+    ffffffffc0100010 t ext4_init\t[ext4]\n\
+    ffffffffc0101000 t ext4_far\t[ext4]\n";
+
+#[test]
+fn modules_lie_where_their_region_lines_say(rt: HostRuntime) {
+    let alloc = rt.alloc();
+    let mut writer = Counted::new(Vec::new(alloc));
+    let mut modules = Counted::new(MODULES);
+    let mut symbols = Counted::new(SYMBOLS_OF_BOTH);
+    let mut regions = Some(Counted::new(REGIONS));
+    let addresses = [
+        0xffff_ffff_c000_0018,
+        0xffff_ffff_c010_0018,
+        0xffff_ffff_c010_1000,
+        0x1000,
+    ];
+    let answer = lookup_engine(
+        alloc,
+        &mut modules,
+        &mut symbols,
+        &mut regions,
+        &addresses,
+        &mut writer,
+    );
+    assert_eq!(rt; answer, Ok(()));
+    let lines = b"0xffffffffc0000018 ext4_a+0x8/0xff0 [ext4]\n\
+        0xffffffffc0100018 ext4_init+0x8/0xff0 [ext4]\n\
+        0xffffffffc0101000 -\n\
+        0x1000 -\n\
+        modules 1 hidden 0 empty 0 wraps 0 overlap 0 double 0 long 0 malformed 0\n\
+        symbols 2 hidden 0 stray 1 long 0 malformed 0\n\
+        regions 2 stray 1\n";
+    assert_eq!(rt; writer.into_inner().as_slice(), lines.as_slice());
+}
+
+#[test]
+fn a_listing_of_regions_may_be_at_fault(rt: HostRuntime) {
+    let alloc = rt.alloc();
+    let eight = b"latchregions 1\n\
+        m core 1 1\nm core 2 1\nm core 3 1\nm core 4 1\n\
+        m init 5 1\nm init 6 1\nm init 7 1\nm init 8 1\n";
+    for (text, fault) in [
+        (b"".as_slice(), Fault::BadLine { place: 2, line: 1 }),
+        (
+            b"latchregions 1\nm core 0 1\n",
+            Fault::BadLine { place: 2, line: 2 },
+        ),
+        (eight, Fault::Refused(Refusal::TooManyRegions)),
+    ] {
+        let mut writer = Counted::new(Vec::new(alloc));
+        let mut modules = Counted::new(MODULES);
+        let mut symbols = Counted::new(SYMBOLS);
+        let mut regions = Some(Counted::new(text));
+        let answer = lookup_engine(
+            alloc,
+            &mut modules,
+            &mut symbols,
+            &mut regions,
+            &ADDRESSES,
+            &mut writer,
+        );
+        assert_eq!(rt; answer, Err(fault));
+        assert!(rt; writer.into_inner().is_empty());
+    }
+    for call in 1..=3 {
+        let mut writer = Counted::new(Vec::new(alloc));
+        let mut modules = Counted::new(MODULES);
+        let mut symbols = Counted::new(SYMBOLS);
+        let mut regions = Some(Counted::new(FailAt::new(REGIONS, call)));
+        let answer = lookup_engine(
+            alloc,
+            &mut modules,
+            &mut symbols,
+            &mut regions,
+            &ADDRESSES,
+            &mut writer,
+        );
+        let read = if call < 3 {
+            Err(Fault::Read { place: 2 })
+        } else {
+            Ok(())
+        };
+        assert_eq!(rt; answer, read);
+        assert_eq!(rt; writer.into_inner().is_empty(), call < 3);
+    }
 }

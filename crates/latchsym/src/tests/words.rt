@@ -39,12 +39,15 @@ fn a_command_line_asks_for_a_lookup(rt: HostRuntime) -> Result<(), Fail> {
         "--modules",
         "m",
         "--kallsyms=k",
+        "--regions",
+        "r",
         "18446744073709551615",
     ];
     let addresses = Vec::from_slice(alloc, &[16, u64::MAX])?;
     let wanted = Job::Lookup(LookupJob {
         modules: "m",
         kallsyms: "k",
+        regions: Some("r"),
         addresses,
     });
     match job_of(alloc, &words) {
@@ -52,7 +55,8 @@ fn a_command_line_asks_for_a_lookup(rt: HostRuntime) -> Result<(), Fail> {
             assert!(rt; job == wanted);
             assert!(rt; job.file(0) == Some("m"));
             assert!(rt; job.file(1) == Some("k"));
-            assert!(rt; job.file(2) == None);
+            assert!(rt; job.file(2) == Some("r"));
+            assert!(rt; job.file(3) == None);
         }
         Err(_) => assert!(rt; false, "no job"),
     }

@@ -1,6 +1,6 @@
 use Rattle.std.proofs.Common.{codes, rules}
 use Rattle.clap.specs.Words.{new_app, with_rule}
-use Rattle.latchsym.specs.CommandLine.{IsCommand, option_rule, words_rule}
+use Rattle.latchsym.specs.CommandLine.{IsCommand, option_rule, optional_rule, words_rule}
 use Rattle.latchsym.proofs.ParseLemmas.{helped, one_argument_more}
 use Rattle.latchsym.proofs.command_line.lookup_command.Goals as goal
 
@@ -9,10 +9,13 @@ returns c =
     let app0 = new_app (codes "lookup") in
     let app1 = with_rule app0 (option_rule (codes "modules")) in
     let app2 = with_rule app1 (option_rule (codes "kallsyms")) in
+    let app3 = with_rule app2 (optional_rule (codes "regions")) in
     let new : IsCommand app0 c.about.result = search rules in
     let modules = helped c.required_option.result c.help-modules.result _ (option_rule (codes "modules")) c.help-modules.ensures c.required_option.ensures in
     let kallsyms = helped c.required_option-2.result c.help-kallsyms.result _ (option_rule (codes "kallsyms")) c.help-kallsyms.ensures c.required_option-2.ensures in
+    let regions = helped c.optional_option.result c.help-regions.result _ (optional_rule (codes "regions")) c.help-regions.ensures c.optional_option.ensures in
     let addresses = helped c.required_words.result c.help-addresses.result _ (words_rule (codes "addresses")) c.help-addresses.ensures c.required_words.ensures in
     let one = one_argument_more c.about.result c.in_ok-arg.field-0 c.help-modules.result app0 (option_rule (codes "modules")) new modules c.in_ok-arg.ensures in
     let two = one_argument_more c.in_ok-arg.field-0 c.in_ok-arg-2.field-0 c.help-kallsyms.result app1 (option_rule (codes "kallsyms")) one kallsyms c.in_ok-arg-2.ensures in
-    one_argument_more c.in_ok-arg-2.field-0 c.in_ok-command.command c.help-addresses.result app2 (words_rule (codes "addresses")) two addresses c.in_ok-command.ensures
+    let three = one_argument_more c.in_ok-arg-2.field-0 c.in_ok-arg-3.field-0 c.help-regions.result app2 (optional_rule (codes "regions")) two regions c.in_ok-arg-3.ensures in
+    one_argument_more c.in_ok-arg-3.field-0 c.in_ok-command.command c.help-addresses.result app3 (words_rule (codes "addresses")) three addresses c.in_ok-command.ensures

@@ -1,0 +1,8 @@
+use Rattle.std.proofs.Common.{Some, subst, sym}
+use Rattle.clap.specs.Words.{found_of, rows_of}
+use Rattle.latchsym.specs.Jobs.{AnswersMatches}
+use Rattle.latchsym.proofs.command_line.job_of_subcommand.Goals as goal
+
+pub returns-in-lookup : goal.returns-in-lookup
+returns-in-lookup c =
+    subst (λ name. AnswersMatches (Some (name, rows_of (found_of c.args.found.now))) c.lookup_job.result) (sym c.in-lookup.is) c.lookup_job.ensures

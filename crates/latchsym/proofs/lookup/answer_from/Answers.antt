@@ -1,5 +1,0 @@
-use Rattle.latchsym.proofs.Inputs.{all_counted}
-use Rattle.latchsym.proofs.lookup.answer_from.Goals as goal
-
-pub answers_of-requires : goal.answers_of-requires
-answers_of-requires g c = all_counted c.args.modules.now c.args.kallsyms.now c.in_ok-listings.listings c.in_ok-listings.ensures.said
