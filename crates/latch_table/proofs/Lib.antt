@@ -1,9 +1,0 @@
-pub mod ReaderSteps
-pub mod RuleSteps
-pub mod WriterSteps
-pub mod Finishing
-pub mod Attempts
-pub mod Walks
-pub mod Lookups
-pub mod Openings
-pub mod Renewals
