@@ -1,0 +1,7 @@
+pub mod Standing
+pub mod Seats
+pub mod Rule
+pub mod Writers
+pub mod Readers
+pub mod Lookups
+pub mod Walks
