@@ -2,7 +2,6 @@
 use Rattle.std.proofs.Common.{◌≡◌, ℕ, ◌+◌, ◌<◌, length, None, Some, refl, sym, ◌∙◌, ap, subst, arith}
 use Rattle.word_arena.specs.Words.{at}
 use Rattle.latch_core.specs.Sequences.{gen}
-use Rattle.latch_core.specs.Latches.{Latch}
 use Rattle.latch_table.specs.declared.writers.Did.{Did}
 use Rattle.latch_table.specs.Writers.{WriterState, known, left_of, Steps, OnTheWay, Finishes}
 

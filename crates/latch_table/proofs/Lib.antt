@@ -1,4 +1,3 @@
-pub mod Standing
 pub mod ReaderLemmas
 pub mod RuleLemmas
 pub mod WriterLemmas

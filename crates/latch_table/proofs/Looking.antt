@@ -1,5 +1,5 @@
 -- The writer's own lookups.
-use Rattle.std.proofs.Common.{◌≡◌, ◌≢◌, ℕ, ◌+◌, ◌*◌, ◌≤◌, List, [], ◌∷◌, ◌++◌, length, Option, Some, None, refl, sym, ◌∙◌, ap, subst}
+use Rattle.std.proofs.Common.{◌≡◌, ℕ, List, [], ◌∷◌, ◌++◌, Option, Some, refl, sym, ◌∙◌, ap, subst}
 use Rattle.atomic_table.specs.Table.{Me}
 use Rattle.order_laws.specs.declared.items.Item.{Item}
 use Rattle.order_laws.specs.Orders.{Order, IsLawful}
@@ -7,7 +7,7 @@ use Rattle.order_laws.specs.Tables.{look}
 use Rattle.word_arena.specs.Words.{at}
 use Rattle.latch_core.specs.Sequences.{gen}
 use Rattle.latch_core.specs.Histories.{replay}
-use Rattle.latch_core.specs.Attempts.{Reading, Load, Ends, Outcome, Answer, Again, attempt, rest_after, IsAttempt, Stand}
+use Rattle.latch_core.specs.Attempts.{Reading, Load, Outcome, Answer, Again, attempt, rest_after, IsAttempt, Stand}
 use Rattle.latch_core.specs.declared.readers.ReaderCore.{ReaderCore}
 use Rattle.latch_core.specs.declared.readers.Taken.{Taken}
 use Rattle.latch_core.specs.declared.readers.Taken.TheVariants.{Going, Retrying, Returned}

@@ -1,13 +1,12 @@
 -- A table before any update.
-use Rattle.std.proofs.Common.{◌≡◌, ℕ, ◌+◌, ◌-◌, ◌*◌, ◌/◌, ◌%◌, List, [], ◌∷◌, length, take, refl, sym, ◌∙◌, ap, subst, arith}
+use Rattle.std.proofs.Common.{◌≡◌, ℕ, ◌+◌, ◌-◌, ◌*◌, ◌%◌, List, [], refl, sym, ap, subst, arith}
 use Rattle.std.proofs.lemmas.List.{take_all, length-replicate}
 use Rattle.atomic_table.specs.Table.{Me, opening}
 use Rattle.atomic_table.specs.Seated.{TableId}
 use Rattle.order_laws.specs.Orders.{Order}
 use Rattle.word_arena.specs.declared.layouts.Layout.{Layout}
 use Rattle.word_arena.specs.Layouts.{capacity_of}
-use Rattle.word_arena.specs.Words.{at, HoldsTable}
-use Rattle.latch_core.specs.declared.updates.Update.{Update}
+use Rattle.word_arena.specs.Words.{HoldsTable}
 use Rattle.latch_core.specs.Sequences.{gen, stable}
 use Rattle.latch_core.specs.Histories.{replay}
 use Rattle.latch_core.specs.Latches.{opening_latch}

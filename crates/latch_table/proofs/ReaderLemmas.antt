@@ -1,6 +1,5 @@
 -- What a reader knows stays true under each step of the writer, and each of its own loads adds to it.
-use Rattle.std.proofs.Common.{◌≡◌, ◌≢◌, ℕ, zero, suc, ◌+◌, ◌*◌, ◌<◌, ◌≤◌, List, [], ◌∷◌, ◌++◌, length, Some, None, refl, sym, ◌∙◌, ap, subst, inl, ⊎_elim, arith, le_refl, append_assoc, append-nil}
-use Rattle.std.proofs.lemmas.Bool.{eq-eqb}
+use Rattle.std.proofs.Common.{◌≡◌, ℕ, suc, ◌+◌, ◌*◌, ◌<◌, ◌≤◌, List, [], ◌∷◌, ◌++◌, length, Some, refl, sym, ◌∙◌, ap, subst, inl, ⊎_elim, arith, le_refl, append_assoc, append-nil}
 use mathlib.Core.List.{IsPrefix}
 use Rattle.order_laws.specs.Orders.{Order, IsLawful}
 use Rattle.order_laws.specs.Tables.{look}
@@ -10,12 +9,12 @@ use Rattle.word_arena.specs.Stores.{words_after}
 use Rattle.latch_core.specs.declared.updates.Update.{Update}
 use Rattle.latch_core.specs.Sequences.{gen}
 use Rattle.latch_core.specs.Histories.{replay}
-use Rattle.latch_core.specs.Attempts.{Reading, Load, Ends, Outcome, Answer, attempt, rest_after, IsAttempt}
+use Rattle.latch_core.specs.Attempts.{Reading, Load, Ends, Answer, attempt, rest_after, IsAttempt}
 use Rattle.latch_core.specs.Latches.{Hand, Latch, MayStep}
 use Rattle.latch_core.proofs.Steps.{sequence_after}
 use Rattle.latch_table.specs.declared.knowledge.ReaderKnowledge.{ReaderKnowledge}
 use Rattle.latch_core.specs.Standing.{loads_of, IsKept, StandAll, IsSteady, IsLatched}
-use Rattle.latch_table.specs.Seats.{blank_reader, with_sequence, with_word, last_or, last_seen}
+use Rattle.latch_table.specs.Seats.{blank_reader, with_sequence, with_word, last_or}
 use Rattle.latch_table.specs.Rule.{Rises, EndsRight, ReaderKnows, LoadsSequence}
 use Rattle.latch_core.proofs.Standing.{steady_step, steady_load, steady_first, stand_end, latched_answers}
 

@@ -1,8 +1,7 @@
 -- One attempt of a reader: its core, driven by loads of the shared words.
-use Rattle.std.proofs.Common.{◌≡◌, ◌≢◌, ℕ, suc, ◌+◌, ◌*◌, ◌<◌, ◌≤◌, true, false, cond, List, [], ◌∷◌, ◌++◌, length, Option, Some, None, refl, sym, ◌∙◌, ap, subst, inl, inr, ⊎_elim, arith, append_assoc, append-nil}
-use Rattle.std.specs.Prelude.{◌⊎◌, ◌==◌}
+use Rattle.std.proofs.Common.{◌≡◌, ◌≢◌, ℕ, ◌+◌, ◌*◌, ◌≤◌, true, false, cond, List, [], ◌∷◌, ◌++◌, length, Option, Some, None, refl, sym, ◌∙◌, ap, subst, ⊎_elim, append_assoc, append-nil}
+use Rattle.std.specs.Prelude.{◌==◌}
 use Rattle.std.proofs.lemmas.Bool.{eqb-true}
-use mathlib.Core.List.{IsPrefix}
 use Rattle.atomic_table.specs.Table.{Me}
 use Rattle.order_laws.specs.declared.items.Item.{Item}
 use Rattle.order_laws.specs.Orders.{Order}
@@ -24,7 +23,7 @@ use Rattle.latch_table.specs.declared.readers.Try.TheVariants.{Answered, Retry}
 use Rattle.latch_core.specs.Standing.{loads_of, IsKept, StandAll, Closes}
 use Rattle.latch_table.specs.Seats.{reading, reader_of, with_sequence, with_word}
 use Rattle.latch_table.specs.Rule.{LoadsSequence, as_reader}
-use Rattle.latch_table.specs.Readers.{Grows, Attempted, Answers, Tried, Searched, Searches}
+use Rattle.latch_table.specs.Readers.{Grows, Attempted, Tried, Searched, Searches}
 use Rattle.latch_table.specs.Walks.{Walking}
 use Rattle.latch_core.proofs.Standing.{wanted_kept, loads_push, attempt_closes}
 use Rattle.latch_table.proofs.ReaderLemmas.{prefix_along, prefix_whole}

@@ -1,6 +1,6 @@
 -- The writer's core, its seat and the update in hand, from one call to the next.
-use Rattle.std.proofs.Common.{◌≡◌, ◌≢◌, ℕ, zero, suc, ◌+◌, ◌-◌, ◌*◌, ◌/◌, ◌%◌, ◌<◌, ◌≤◌, true, false, cond, List, [], ◌∷◌, ◌++◌, length, take, drop, Option, Some, None, refl, sym, ◌∙◌, ap, subst, inl, inr, ⊎_elim, arith, length-append, append-nil, length-set}
-use Rattle.std.specs.Prelude.{◌⊎◌, ◌==◌, ◌&&◌, MatchOption, nat_lt, slice_get, slice_set}
+use Rattle.std.proofs.Common.{◌≡◌, ◌≢◌, ℕ, suc, ◌+◌, ◌-◌, ◌*◌, ◌%◌, ◌<◌, ◌≤◌, true, false, cond, List, [], ◌∷◌, ◌++◌, length, take, drop, Option, Some, None, refl, sym, ◌∙◌, ap, subst, inl, inr, ⊎_elim, arith, length-append, length-set}
+use Rattle.std.specs.Prelude.{◌⊎◌, ◌==◌, ◌&&◌, MatchOption, nat_lt, slice_get}
 use Rattle.std.proofs.lemmas.Bool.{eq-eqb, ne_eqb, lt-ltb}
 use Rattle.std.proofs.lemmas.List.{take-append-le, take-append-drop, take_all, length-take-le}
 use mathlib.Core.Option as maybe
@@ -8,23 +8,22 @@ use mathlib.Core.List.{IsPrefix}
 use Rattle.atomic_table.specs.Table.{Me, step, Allows}
 use Rattle.atomic_table.specs.Seated.{TableId}
 use Rattle.order_laws.specs.Orders.{Order, IsLawful}
-use Rattle.order_laws.specs.Tables.{IsTable, look}
+use Rattle.order_laws.specs.Tables.{look}
 use Rattle.order_laws.specs.declared.items.Item.{Item}
-use Rattle.order_laws.specs.declared.refusals.Refusal.TheVariants.{UpdateInHand}
 use Rattle.word_arena.specs.declared.stores.Store.{Store}
 use Rattle.word_arena.specs.Words.{at, words_for, HoldsTable}
 use Rattle.word_arena.specs.Stores.{words_after}
 use Rattle.word_arena.proofs.StoreLemmas.{length_after}
 use Rattle.latch_core.specs.declared.updates.Update.{Update}
 use Rattle.latch_core.specs.Sequences.{gen, stable}
-use Rattle.latch_core.specs.Updates.{refuses, after}
+use Rattle.latch_core.specs.Updates.{refuses}
 use Rattle.latch_core.specs.Histories.{replay}
-use Rattle.latch_core.specs.Latches.{Hand, Latch, MayStep, flips_after, stepped, begun, opening_latch}
+use Rattle.latch_core.specs.Latches.{Hand, Latch, MayStep, flips_after, stepped}
 use Rattle.latch_core.specs.Invariants.{IsHand, IsInHand, IsSound}
 use Rattle.latch_core.specs.WriterViews.{WriterView}
-use Rattle.latch_core.specs.Writers.{Pictures, next_store, why_refused, in_hand, stepped_writer, HasBegun, opening_writer}
+use Rattle.latch_core.specs.Writers.{Pictures, next_store, why_refused, in_hand, stepped_writer, HasBegun}
 use Rattle.latch_core.proofs.Steps.{hidden_same, flip_adds}
-use Rattle.latch_core.proofs.Sound.{flips_of_flip, flips_of_store, sound_step, sound_begin, sound_opening}
+use Rattle.latch_core.proofs.Sound.{flips_of_flip, flips_of_store, sound_step, sound_begin}
 use Rattle.latch_core.proofs.PlanLemmas.{first_and_rest}
 use Rattle.latch_core.proofs.WriterLemmas.{next_may, did_pictures, refuses_pictured}
 use Rattle.latch_table.specs.declared.knowledge.WriterKnowledge.{WriterKnowledge}

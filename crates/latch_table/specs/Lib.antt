@@ -1,4 +1,3 @@
-pub mod Standing
 pub mod Seats
 pub mod Rule
 pub mod Writers

@@ -1,9 +1,8 @@
 -- What the seats know, and how it changes.
-use Rattle.std.specs.Prelude.{ℕ, ◌/◌, ◌*◌, List, [], ◌∷◌, ◌++◌, slice_set, replicate, Option, Some, None, if◌then◌else◌, ◌==◌, ◌&&◌}
+use Rattle.std.specs.Prelude.{ℕ, ◌*◌, List, [], ◌∷◌, ◌++◌, slice_set, Option, Some, None, if◌then◌else◌, ◌==◌, ◌&&◌}
 use Rattle.order_laws.specs.Orders.{Order}
 use Rattle.word_arena.specs.Layouts.{capacity_of}
 use Rattle.word_arena.specs.Words.{at}
-use Rattle.word_arena.specs.declared.stores.Store.{Store}
 use Rattle.latch_core.specs.declared.updates.Update.{Update}
 use Rattle.latch_core.specs.Sequences.{gen, stable}
 use Rattle.latch_core.specs.Histories.{replay}

@@ -6,7 +6,7 @@ use Rattle.order_laws.specs.declared.items.Item.{Item}
 use Rattle.order_laws.specs.declared.refusals.Refusal.{Refusal}
 use Rattle.order_laws.specs.declared.refusals.Refusal.TheVariants.{OutOfMemory, BadCapacity, UpdateInHand}
 use Rattle.order_laws.specs.Orders.{Order}
-use Rattle.order_laws.specs.Tables.{look, has}
+use Rattle.order_laws.specs.Tables.{look}
 use Rattle.word_arena.specs.declared.layouts.Layout.{Layout}
 use Rattle.word_arena.specs.declared.stores.Store.{Store as Stored}
 use Rattle.word_arena.specs.Layouts.{capacity_of, limit_of}
@@ -44,15 +44,19 @@ pub record WriterState : Type 0 where
 abbrev pub known : WriterState → List Update
 known w = take (gen (at w.latch.words 0) - w.base) w.history
 
+-- an update is in hand while stores are left
+abbrev pub while_left : List Stored → Hand → Option Hand
+while_left [] h = None
+while_left (s ∷ ss) h = Some h
+
 -- the update in hand, by the stores that are left
 abbrev pub hand_of : List Stored → WriterKnowledge → Option Hand
-hand_of [] p = None
-hand_of (s ∷ ss) p =
-    Some (record {
+hand_of left p =
+    while_left left (record {
       old = p.old;
       began = p.began;
       flips = at p.picture 0 + 2 - (2 * p.base + 2 * length p.accepted);
-      left = length (s ∷ ss);
+      left = length left;
     })
 
 -- of what its seat knows and of its core

@@ -1,13 +1,10 @@
 ghost use Rattle.std.specs.Prelude.{◌≡◌};
 
 use crate::{Did, Reader, Try, Writer, meet, open};
-use latch_core::{Update, plain};
-use order_laws::laws::look_through;
+use latch_core::Update;
 use order_laws::{HalfOpen, Item, Refusal};
-use std::alloc::Global;
 use std::process::Abort;
 use std::test::Fail;
-use std::thread::join;
 use word_arena::Layout;
 
 fn item(a: u64, b: u64, tag: u64) -> Item {
@@ -21,36 +18,55 @@ fn an_update_by_its_stops(rt: HostRuntime) -> Result<(), Fail> {
     let first = item(0x1000, 0x2000, 7);
     let mut hand = writer.begin(Update::Insert(first))?;
     let mut flips = 0;
-    loop {
-        let (found, generation) = hand.find_inside(0x1000);
-        if flips < 2 {
-            assert_eq!(rt; (found, generation), (None, 0));
-        } else {
-            assert_eq!(rt; (found, generation), (Some(first), 1));
+    for left in (0..hand.remaining()).rev() {
+        let found = hand.find_inside(0x1000);
+        let shown = if flips < 2 { (None, 0) } else { (Some(first), 1) };
+        assert_eq!(rt; found, shown);
+        if hand.step() == Some(Did::Flip) {
+            flips += 1;
         }
-        let left = hand.remaining();
-        match hand.step() {
-            Some(Did::Flip) => flips += 1,
-            Some(Did::Store) => {}
-            None => break,
-        }
-        assert_eq!(rt; hand.remaining() + 1, left);
+        assert_eq!(rt; hand.remaining(), left);
     }
+    assert_eq!(rt; hand.step(), None);
     assert_eq!(rt; flips, 2);
     assert_eq!(rt; hand.finish(), 1);
-    match writer.begin(Update::Insert(item(0x1800, 0x2800, 8))) {
-        Ok(hand) => {
-            hand.finish();
-            panic!(rt; "not refused")
-        }
-        Err(refusal) => assert_eq!(rt; refusal, Refusal::Overlap),
-    }
     assert_eq!(rt; writer.generation(), 1);
     assert_eq!(rt; writer.find(0x2000), (None, 1));
     assert!(rt; writer.holds(0x1000) && !writer.holds(0x2000));
     Ok(())
 }
 
+// Why an update or an opening is refused, with the writer as it was.
+#[test]
+fn refusals(rt: HostRuntime) -> Result<(), Fail> {
+    let alloc = rt.alloc();
+    let (mut writer, _readers) = open::<HalfOpen>(alloc, Layout::new(1)?, 0, 1)?;
+    writer.begin(Update::Insert(item(0x1000, 0x2000, 7)))?.finish();
+    for (update, why) in [
+        (Update::Insert(item(0x2000, 0x2000, 8)), Refusal::BadItem),
+        (Update::Insert(item(0x1800, 0x2800, 8)), Refusal::Overlap),
+        (Update::Erase(0x2000), Refusal::NoSuchItem),
+        (Update::Insert(item(0x2000, 0x3000, 8)), Refusal::Full),
+    ] {
+        match writer.begin(update) {
+            Ok(hand) => {
+                hand.finish();
+                panic!(rt; "not refused")
+            }
+            Err(refusal) => assert_eq!(rt; refusal, why),
+        }
+        assert_eq!(rt; writer.generation(), 1);
+    }
+    for (start, readers) in [(1, 1), (0, 0), (0, 65)] {
+        match open::<HalfOpen>(alloc, Layout::new(1)?, start, readers) {
+            Ok(_) => panic!(rt; "not refused"),
+            Err(refusal) => assert_eq!(rt; refusal, Refusal::BadCapacity),
+        }
+    }
+    Ok(())
+}
+
+// A reader beside an update, and one that meets the writer after it.
 #[test]
 fn readers_on_one_thread(rt: HostRuntime) -> Result<(), Fail> {
     let (mut writer, mut readers) = open::<HalfOpen>(rt.alloc(), Layout::new(4)?, 0, 2)?;
@@ -60,8 +76,8 @@ fn readers_on_one_thread(rt: HostRuntime) -> Result<(), Fail> {
     assert_eq!(rt; reader.try_find(0x1000), Try::Answered(None, 0));
     let first = item(0x1000, 0x2000, 7);
     let mut hand = writer.begin(Update::Insert(first))?;
-    while let Some(did) = hand.step() {
-        if did == Did::Flip {
+    for _ in 0..hand.remaining() {
+        if hand.step() == Some(Did::Flip) {
             break;
         }
     }
@@ -73,78 +89,23 @@ fn readers_on_one_thread(rt: HostRuntime) -> Result<(), Fail> {
     Ok(())
 }
 
-const UPDATES: usize = 1000;
-
-fn update(i: usize) -> Update {
-    match i % 4 {
-        0 => Update::Insert(item(0x1000, 0x2000, 7)),
-        1 => Update::Insert(item(0x2000, 0x3000, 9)),
-        2 => Update::Erase(0x1000),
-        _ => Update::Erase(0x2000),
-    }
-}
-
-fn write_all(writer: &mut Writer<HalfOpen>) -> Result<u64, Refusal> {
-    let mut generation = 0;
-    for i in 0..UPDATES {
-        let hand = writer.begin(update(i))?;
-        generation = hand.finish();
-    }
-    Ok(generation)
-}
-
-const KEYS: [u64; 4] = [0x800, 0x1000, 0x2800, 0x3000];
-
-// Each answer is that of the plain replay of its first updates, and the generations never fall.
-fn try_all(
-    rt: &impl Abort,
-    alloc: Global,
-    reader: &mut Reader<HalfOpen>,
-) -> Result<(u64, u64), Refusal> {
-    let mut tables = Vec::new(alloc);
-    for i in 0..5 {
-        let mut updates = Vec::new(alloc);
-        for j in 0..i {
-            updates.push(update(j))?;
-        }
-        tables.push(plain::replay::<HalfOpen>(alloc, updates.as_slice())?)?;
-    }
-    let mut latest = 0;
-    let mut answered = 0u64;
-    for i in 0..UPDATES {
-        let key = KEYS[i % 4];
-        if let Try::Answered(answer, generation) = reader.try_find(key) {
-            assert!(rt; latest <= generation);
-            latest = generation;
-            let table = tables
-                .get((generation % 4) as usize)
-                .map(|t| look_through::<HalfOpen>(t, key));
-            assert_eq!(rt; table, Some(answer));
-            answered = answered.saturating_add(1);
-        }
-    }
-    Ok((answered, latest))
-}
-
+// The same table in new words, with new readers.
 #[test]
-fn three_threads(rt: HostRuntime) -> Result<(), Fail> {
+fn a_table_in_new_words(rt: HostRuntime) -> Result<(), Fail> {
     let alloc = rt.alloc();
-    let (mut writer, mut readers) = open::<HalfOpen>(alloc, Layout::new(4)?, 0, 2)?;
-    let (Some(mut one), Some(mut two)) = (readers.pop(), readers.pop()) else {
+    let (mut writer, readers) = open::<HalfOpen>(alloc, Layout::new(4)?, 0, 2)?;
+    let first = item(0x1000, 0x2000, 7);
+    writer.begin(Update::Insert(first))?.finish();
+    let mut readers = match writer.renew(alloc, readers) {
+        Ok(readers) => readers,
+        Err((refusal, _)) => return Err(refusal.into()),
+    };
+    assert_eq!(rt; readers.len(), 2);
+    writer.begin(Update::Erase(0x1000))?.finish();
+    let Some(mut reader) = readers.pop() else {
         panic!(rt; "no reader")
     };
-    let runtime = &rt;
-    let (done, (first, second)) = join(
-        runtime,
-        || write_all(&mut writer),
-        || join(
-            runtime,
-            || try_all(runtime, alloc, &mut one),
-            || try_all(runtime, alloc, &mut two),
-        ),
-    );
-    assert_eq!(rt; done?, 1000);
-    assert!(rt; first?.1 <= 1000 && second?.1 <= 1000);
-    assert_eq!(rt; one.find(runtime, 0x1000), (None, 1000));
+    assert_eq!(rt; reader.try_find(0x1000), Try::Answered(None, 2));
+    assert_eq!(rt; writer.find(0x1000), (None, 2));
     Ok(())
 }

@@ -1,9 +1,4 @@
-use Rattle.std.proofs.Common.{rules, ◌≡◌, ap, sym, ◌∙◌, subst, All}
-use Rattle.std.proofs.lemmas.List.Elements.{All-push}
-use Rattle.std.specs.Arc.{arc_value}
-use Rattle.atomic_table.specs.Seated.{TableId}
-use Rattle.latch_table.specs.Readers.{ReaderState, new_reader}
-use Rattle.latch_table.specs.Seats.{reader_of, first_knowledge, newcomer}
+use Rattle.std.proofs.Common.{rules, ap, ◌∙◌}
 use Rattle.latch_table.proofs.RuleLemmas.{splits_another}
 use Rattle.latch_table.proofs.opening.build.Goals as goal
 

@@ -1,4 +1,4 @@
-use Rattle.std.proofs.Common.{rules, ap, ◌∙◌, arith}
+use Rattle.std.proofs.Common.{rules, ap, ◌∙◌}
 use Rattle.latch_table.proofs.RuleLemmas.{allows_writer_load}
 use Rattle.latch_table.proofs.renewal.loaded.Goals as goal
 

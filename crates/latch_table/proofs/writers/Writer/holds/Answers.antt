@@ -1,7 +1,7 @@
-use Rattle.std.proofs.Common.{◌≡◌, ℕ, [], None, ◌∙◌, ap, subst}
+use Rattle.std.proofs.Common.{◌≡◌, [], None, ◌∙◌, ap, subst}
 use Rattle.order_laws.specs.Tables.{has}
 use Rattle.latch_core.specs.Histories.{replay}
-use Rattle.latch_table.specs.Writers.{WriterState, writer_state, known}
+use Rattle.latch_table.specs.Writers.{WriterState, known}
 use Rattle.latch_table.proofs.WriterLemmas.{table_rests}
 use Rattle.latch_table.proofs.writers.Writer.holds.Goals as goal
 

@@ -1,4 +1,4 @@
-use Rattle.std.proofs.Common.{rules, ◌≡◌, ℕ, List, [], sym, ap, ◌∙◌, subst}
+use Rattle.std.proofs.Common.{◌≡◌, ℕ, List, [], sym, ap, ◌∙◌, subst}
 use Rattle.atomic_table.specs.Table.{opening}
 use Rattle.latch_table.specs.declared.knowledge.Knowledge.{Knowledge}
 use Rattle.latch_table.specs.Seats.{writer_of, writing, moved_writer}

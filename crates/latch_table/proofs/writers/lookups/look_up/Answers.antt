@@ -1,4 +1,4 @@
-use Rattle.std.proofs.Common.{rules, ◌≡◌, ◌<◌, ℕ, List, ◌∷◌, ◌++◌, [], Some, None, ap, sym, ◌∙◌, subst, arith, refl}
+use Rattle.std.proofs.Common.{◌≡◌, ℕ, List, ◌∷◌, ◌++◌, [], Some, None, ap, sym, ◌∙◌, subst, arith}
 use Rattle.word_arena.specs.Layouts.{capacity_of}
 use Rattle.word_arena.specs.Words.{at}
 use Rattle.latch_table.specs.declared.knowledge.WriterKnowledge.{WriterKnowledge}
