@@ -11,10 +11,11 @@ ghost use Rattle.latch_core.specs.Updates.{failed_test, some_invalid, some_missi
 ghost use Rattle.std.specs.List.Sorted.{IsNonDecreasing};
 ghost use Rattle.latch_core.specs.Latches.{Latch, Hand, stepped, opening_latch};
 ghost use Rattle.latch_core.specs.Writers.{next_store, why_refused, IsRefusedBy, RefusesAsPictured, MayOpen, IsOpeningRefused, Pictures, MayBeNext, LeadsFrom, HasBegun, opening_writer, stepped_writer};
+ghost use Rattle.latch_core.specs.Widening.{why_not_widened, widened_writer, PicturesWidened, IsWideningRefused};
 
 use crate::changes::{plan_erases, plan_inserts};
 use crate::clashes::{in_order, some_overlap, some_twice};
-use crate::nodes::all_nodes;
+use crate::nodes::{add_nodes, all_nodes};
 use crate::plain::some_invalid;
 use crate::plans::Plan;
 use crate::sequences::{generation, is_spent};
@@ -89,6 +90,42 @@ impl<O: TreeOrder> WriterCore<O> {
             planned: Vec::new(alloc),
             plan: Plan::new(alloc),
         })
+    }
+
+    /// Goes on with the nodes and the greatest sequence of a layout: its table, its generation and its
+    /// order stay, and the nodes that come in addition are free.
+    ///
+    /// All memory for them is taken here. Whoever keeps the words puts seven words of 0 behind them
+    /// for each such node. Refused by [`Refusal::UpdateInHand`], then by [`Refusal::BadCapacity`]
+    /// where the layout has fewer nodes or a smaller greatest sequence, and last by
+    /// [`Refusal::OutOfMemory`]; a refusal changes nothing.
+    pub fn widen(&mut self, l: Layout) -> Result<(), Refusal>
+        ensures accepted { OnOk result (why_not_widened self.old l ≡ None) }
+        ensures widened { OnOk result (self.new ≡ widened_writer self.old l) }
+        ensures pictures { OnOk result (PicturesWidened self.old self.new) }
+        ensures refusal { IfErr result (IsWideningRefused self.old l) }
+        ensures unchanged { OnErr result (self.new ≡ self.old) }
+    {
+        if let Some(refusal) = self.why_not_widened(l) {
+            return Err(refusal);
+        }
+        add_nodes(&mut self.free, self.layout.capacity(), l.capacity())?;
+        self.shape.widen(l);
+        self.layout = l;
+        Ok(())
+    }
+
+    /// Why a layout is not taken, before any memory is asked for.
+    fn why_not_widened(&self, l: Layout) -> Option<Refusal>
+        ensures { result ≡ why_not_widened self.now l }
+    {
+        if self.remaining() > 0 {
+            Some(Refusal::UpdateInHand)
+        } else if l.capacity() < self.layout.capacity() || l.limit() < self.layout.limit() {
+            Some(Refusal::BadCapacity)
+        } else {
+            None
+        }
     }
 
     /// Takes an update in hand, and answers how many stores it takes.
