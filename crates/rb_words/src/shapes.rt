@@ -13,6 +13,7 @@ ghost use Rattle.word_arena.specs.Layouts.{capacity_of};
 ghost use Rattle.word_arena.specs.Copies.{copy_number};
 ghost use Rattle.word_arena.specs.Words.{none, listed, root_word};
 ghost use Rattle.rb_words.specs.Pictures.{IsPicture};
+ghost use Rattle.rb_words.specs.Wider.{IsPicturedWider};
 ghost use Rattle.rb_words.specs.Plans.{item_stores, Inserts, LeadsWithItem, Erases, LeadsByLinks};
 ghost use Rattle.rb_words.specs.TreePictures.{zipper_with, links_with, zipper_without, links_without};
 ghost use Rattle.rb_words.specs.TreePictures.{Grows, TakesOut};
@@ -86,6 +87,18 @@ impl<O: TreeOrder> Shape<O> {
             alloc,
             order: PhantomData,
         }
+    }
+
+    /// Pictures the same items in the same tree, in a memory of the nodes of this layout, which has
+    /// no fewer. Takes no memory.
+    pub fn widen(&mut self, l: Layout)
+        requires { self.old.capacity ≤ capacity_of l }
+        ensures widened { self.new ≡ record self.old { capacity = capacity_of l } }
+        ensures pictures { IsPicturedWider self.old self.new }
+        ensures was_sound { IsPicture O.order self.old }
+        ensures sound { IsPicture O.order self.new }
+    {
+        self.layout = l;
     }
 
     /// How many items are pictured.
