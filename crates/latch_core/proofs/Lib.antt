@@ -17,3 +17,4 @@ pub mod BeginLemmas
 pub mod BatchBegins
 pub mod Shallow
 pub mod Standing
+pub mod AttemptLemmas
