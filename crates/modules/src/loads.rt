@@ -43,10 +43,9 @@ fn inserting_many(alloc: Global, regions: &[Region], number: u64) -> Result<Upda
     ensures { GivesOrLacksMemory (Ok (update_of [] (map (item_of number) regions.now))) result }
 {
     let items = items_of(alloc, regions, number)?;
-    Ok(Update::Batch {
-        erase: Entries::new(Vec::new(alloc))?,
-        insert: Entries::new(items)?,
-    })
+    let erase = Entries::new(Vec::new(alloc))?;
+    let insert = Entries::new(items)?;
+    Ok(Update::Batch { erase, insert })
 }
 
 /// The update that puts in the regions of a module.
