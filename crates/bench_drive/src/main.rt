@@ -62,7 +62,7 @@ fn commands(alloc: Global, items: u32, rounds: u32) -> Result<Vec<Command<u64>>,
 fn rounds(alloc: Global, items: u32, rounds: u32) -> Result<Trace<HalfOpen>, Refusal> {
     let layout = Layout::new(items)?;
     let commands = commands(alloc, items, rounds)?;
-    drive::<HalfOpen>(alloc, layout, 0, commands)
+    drive::<HalfOpen>(alloc, layout, 0, &commands)
 }
 
 fn main(rt: HostRuntime) -> io::Result<()> {

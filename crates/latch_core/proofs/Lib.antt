@@ -18,3 +18,4 @@ pub mod BatchBegins
 pub mod Shallow
 pub mod Standing
 pub mod WideningLemmas
+pub mod AttemptLemmas

@@ -3,7 +3,7 @@ ghost use Rattle.std.specs.Prelude.{◌<◌};
 use crate::attempts::Attempted;
 use crate::sequences::generation;
 use crate::tests::{Address, Ranges};
-use crate::{Update, WriterCore, attempt_in, plain};
+use crate::{Entries, Update, WriterCore, attempt_in, plain};
 use order_laws::laws::look_through;
 use order_laws::{Closed, HalfOpen, Item, Refusal, TreeOrder};
 use std::alloc::Global;
@@ -24,8 +24,8 @@ pub fn in_row(i: u64) -> Item {
 /// A batch of these first words and items.
 fn batch(alloc: Global, erase: &[u64], insert: &[Item]) -> Result<Update, Fail> {
     Ok(Update::Batch {
-        erase: erase.to_vec(alloc)?.into(),
-        insert: insert.to_vec(alloc)?.into(),
+        erase: Entries::new(erase.to_vec(alloc)?)?,
+        insert: Entries::new(insert.to_vec(alloc)?)?,
     })
 }
 
@@ -261,8 +261,8 @@ fn some_update(alloc: Global, state: &mut u64) -> Result<Update, Fail> {
                 insert.push(some_item(state))?;
             }
             Ok(Update::Batch {
-                erase: erase.into(),
-                insert: insert.into(),
+                erase: Entries::new(erase)?,
+                insert: Entries::new(insert)?,
             })
         }
     }
