@@ -135,7 +135,7 @@ impl Plan {
         ensures sound { IsPicture O.order shape.new }
     {
         self.made = 0;
-        // The node's words serve both copies, so they are stored once, before copy 1 links the node.
+        // The node's words serve both copies: they are stored once, before copy 1 links it.
         item_and_flip(&mut self.stores, node, item, sequence + 1);
         if shape.plan_links_apart(&mut self.stores, node, item) {
             self.made = self.stores.len();
@@ -229,7 +229,8 @@ fn flip_alone(stores: &mut Vec<Store>, sequence: u64)
     stores.push_reserved(flip_to(sequence));
 }
 
-/// Leaves the stores of an item's words in the list, and the one that makes this number the sequence.
+/// Leaves the stores of an item's words in the list, and the one that makes this number the
+/// sequence.
 #[inline(always)]
 fn item_and_flip(stores: &mut Vec<Store>, node: u32, item: Item, sequence: u64)
     requires { 4 ≤ vec_capacity stores.old }

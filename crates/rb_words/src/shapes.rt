@@ -236,7 +236,8 @@ impl<O: TreeOrder> Shape<O> {
         requires apart { meets O.order item self.old.table ≡ false }
         ensures pictures { Inserts O.order self.old self.new node item }
         ensures plan { (links : List Store)
-            × (out.new.items ≡ out.old.items ++ links) × LeadsWithItem self.old self.new node item links }
+            × (out.new.items ≡ out.old.items ++ links)
+            × LeadsWithItem self.old self.new node item links }
         ensures few { vec_len out.new + 3 ≤ vec_len out.old + STORES }
         ensures capacity { vec_capacity out.new ≡ vec_capacity out.old }
         ensures was_sound { IsPicture O.order self.old }
@@ -278,12 +279,12 @@ impl<O: TreeOrder> Shape<O> {
         met
     }
 
-    /// Plans the links of an insert alone, for a caller that has listed the stores of the item's words, unless the item meets
-    /// one of the table. Answers whether it does.
+    /// Plans the links of an insert alone, for a caller that has listed the stores of the item's
+    /// words, unless the item meets one of the table. Answers whether it does.
     ///
-    /// Where it meets one, what is pictured and what is listed stay. Takes no memory. There must be room for one item and for
-    /// [`STORES`] stores, the item's three among them, and the item must be valid. Where items lie in line
-    /// ([`TreeOrder::in_line`]), it goes down once.
+    /// Where it meets one, what is pictured and what is listed stay. Takes no memory. There must
+    /// be room for one item and for [`STORES`] stores, the item's three among them, and the item
+    /// must be valid. Where items lie in line ([`TreeOrder::in_line`]), it goes down once.
     #[inline(always)]
     pub fn plan_links_apart(&mut self, out: &mut Vec<Store>, node: u32, item: Item) -> bool
         requires room { 0 < self.old.room }
@@ -295,7 +296,8 @@ impl<O: TreeOrder> Shape<O> {
         ensures unchanged { result ≡ true → (self.new ≡ self.old) × (out.new.items ≡ out.old.items) }
         ensures pictures { result ≡ false → Inserts O.order self.old self.new node item }
         ensures plan { result ≡ false → (links : List Store)
-            × (out.new.items ≡ out.old.items ++ links) × LeadsWithItem self.old self.new node item links }
+            × (out.new.items ≡ out.old.items ++ links)
+            × LeadsWithItem self.old self.new node item links }
         ensures few { vec_len out.new + 3 ≤ vec_len out.old + STORES }
         ensures capacity { vec_capacity out.new ≡ vec_capacity out.old }
         ensures was_sound { IsPicture O.order self.old }

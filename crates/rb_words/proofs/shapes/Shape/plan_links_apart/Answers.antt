@@ -1,5 +1,4 @@
 use Rattle.std.proofs.Common.{◌≡◌, ◌∙◌, List, false, sym, ap, arith}
-use Rattle.std.proofs.Common.{rules}
 use Rattle.order_laws.specs.Tables.{meets}
 use Rattle.order_laws.proofs.PlaceLemmas.{without_none}
 use Rattle.word_arena.specs.Layouts.{capacity_of}
