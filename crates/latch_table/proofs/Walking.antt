@@ -1,5 +1,5 @@
 -- One attempt of a reader: a walk, whose loads are those of its seat.
-use Rattle.std.proofs.Common.{◌≡◌, ◌≢◌, ℕ, zero, suc, ◌+◌, ◌-◌, ◌*◌, ◌<◌, ◌≤◌, true, false, cond, List, [], ◌∷◌, ◌++◌, length, Option, Some, None, refl, sym, ◌∙◌, ap, subst, inl, inr, ⊎_elim, arith, append_assoc, append-nil}
+use Rattle.std.proofs.Common.{◌≡◌, ◌≢◌, ℕ, zero, suc, ◌+◌, ◌-◌, ◌*◌, ◌<◌, ◌≤◌, false, cond, List, [], ◌∷◌, ◌++◌, Option, Some, refl, sym, ◌∙◌, ap, subst, ⊎_elim, arith, append_assoc, append-nil}
 use Rattle.std.specs.Prelude.{◌⊎◌, nat_lt}
 use Rattle.std.proofs.lemmas.Bool.{le-ltb}
 use mathlib.Core.List.{IsPrefix}
@@ -13,11 +13,11 @@ use Rattle.latch_core.specs.declared.loaders.Walked.{Walked}
 use Rattle.word_arena.specs.Words.{root_word}
 use Rattle.latch_core.specs.Sequences.{gen, stable}
 use Rattle.latch_core.specs.Histories.{replay}
-use Rattle.latch_core.specs.Attempts.{Reading, Load, Ends, Found, No_item, Stuck, Outcome, Answer, Again, outcome, closing, turn, visit, walk, attempt, rest_after, IsAttempt}
+use Rattle.latch_core.specs.Attempts.{Reading, Load, Ends, No_item, Stuck, Outcome, Answer, Again, outcome, closing, turn, visit, walk, attempt, rest_after, IsAttempt}
 use Rattle.latch_core.specs.Whole.{Wants, found_by}
 use Rattle.latch_core.proofs.Readings.{rest_push}
 use Rattle.latch_core.proofs.Walks.{attempt_length}
-use Rattle.latch_core.proofs.Going.{IsGoing, IsIn, going_starts, goes_in, goes_on, in_node, wants, turned}
+use Rattle.latch_core.proofs.Going.{IsGoing, IsIn, goes_in, goes_on, in_node, wants}
 use Rattle.latch_core.specs.Standing.{loads_of, IsKept, StandAll}
 use Rattle.latch_core.proofs.Standing.{wanted_kept, loads_push}
 use Rattle.latch_table.specs.declared.knowledge.ReaderKnowledge.{ReaderKnowledge}
@@ -25,7 +25,7 @@ use Rattle.latch_table.specs.declared.knowledge.Knowledge.{Knowledge}
 use Rattle.latch_table.specs.declared.readers.Try.TheVariants.{Answered, Retry}
 use Rattle.latch_table.specs.Seats.{reading, reader_of, with_sequence, with_word}
 use Rattle.latch_table.specs.Rule.{LoadsSequence, as_reader}
-use Rattle.latch_table.specs.Readers.{Grows, Attempted, Answers, Tried, Searched, Searches}
+use Rattle.latch_table.specs.Readers.{Grows, Attempted, Tried, Searched, Searches}
 use Rattle.latch_table.specs.Walks.{MayLoad, HasWalked}
 use Rattle.latch_table.proofs.ReaderLemmas.{prefix_along, prefix_whole}
 

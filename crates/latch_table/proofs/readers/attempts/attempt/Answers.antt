@@ -1,4 +1,4 @@
-use Rattle.std.proofs.Common.{rules, ◌≡◌, ◌<◌, ℕ, Some, None, ap, sym, ◌∙◌, subst, arith}
+use Rattle.std.proofs.Common.{Some, None, ap, sym, ◌∙◌, subst, arith}
 use Rattle.latch_core.specs.Sequences.{gen}
 use Rattle.latch_core.specs.Attempts.{outcome}
 use Rattle.latch_core.specs.Whole.{found_by}

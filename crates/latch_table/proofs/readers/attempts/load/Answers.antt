@@ -1,4 +1,4 @@
-use Rattle.std.proofs.Common.{rules, ap, sym}
+use Rattle.std.proofs.Common.{rules, ap}
 use Rattle.latch_table.specs.Seats.{reader_of}
 use Rattle.latch_table.proofs.RuleLemmas.{allows_word}
 use Rattle.latch_table.proofs.Walking.{wanted_is_kept}

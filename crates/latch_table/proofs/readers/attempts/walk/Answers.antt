@@ -4,11 +4,10 @@ use Rattle.word_arena.specs.Layouts.{capacity_of}
 use Rattle.word_arena.specs.Words.{root_word, a_word, b_word, tag_word, left_word, right_word}
 use Rattle.latch_core.specs.Sequences.{stable}
 use Rattle.latch_core.specs.Attempts.{walk}
-use Rattle.latch_core.specs.Whole.{Wants}
 use Rattle.latch_core.proofs.Walking.{item_of}
 use Rattle.latch_table.specs.declared.knowledge.ReaderKnowledge.{ReaderKnowledge}
 use Rattle.latch_table.specs.Seats.{reader_of, reading}
-use Rattle.latch_table.proofs.Walking.{IsAt, first_at, may_load, loads_on, walk_starts, enters, turns, leaves, walks_off, leaves_node}
+use Rattle.latch_table.proofs.Walking.{IsAt, first_at, may_load, loads_on, walk_starts, enters, turns, leaves, leaves_node}
 use Rattle.latch_table.proofs.readers.attempts.walk.Goals as goal
 
 pub load-link-requires-clause-wanted : goal.load-link-requires-clause-wanted
