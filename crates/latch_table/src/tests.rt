@@ -1,6 +1,6 @@
 ghost use Rattle.std.specs.Prelude.{◌≡◌};
 
-use crate::{Did, Reader, Try, Writer, meet, open};
+use crate::{Did, Try, meet, open};
 use latch_core::Update;
 use order_laws::{HalfOpen, Item, Refusal};
 use std::process::Abort;
@@ -17,13 +17,17 @@ fn an_update_by_its_stops(rt: HostRuntime) -> Result<(), Fail> {
     let (mut writer, _readers) = open::<HalfOpen>(rt.alloc(), Layout::new(4)?, 0, 1)?;
     let first = item(0x1000, 0x2000, 7);
     let mut hand = writer.begin(Update::Insert(first))?;
-    let mut flips = 0;
+    let mut flips = 0u64;
     for left in (0..hand.remaining()).rev() {
         let found = hand.find_inside(0x1000);
-        let shown = if flips < 2 { (None, 0) } else { (Some(first), 1) };
+        let shown = if flips < 2 {
+            (None, 0)
+        } else {
+            (Some(first), 1)
+        };
         assert_eq!(rt; found, shown);
         if hand.step() == Some(Did::Flip) {
-            flips += 1;
+            flips = flips.saturating_add(1);
         }
         assert_eq!(rt; hand.remaining(), left);
     }
@@ -41,7 +45,9 @@ fn an_update_by_its_stops(rt: HostRuntime) -> Result<(), Fail> {
 fn refusals(rt: HostRuntime) -> Result<(), Fail> {
     let alloc = rt.alloc();
     let (mut writer, _readers) = open::<HalfOpen>(alloc, Layout::new(1)?, 0, 1)?;
-    writer.begin(Update::Insert(item(0x1000, 0x2000, 7)))?.finish();
+    writer
+        .begin(Update::Insert(item(0x1000, 0x2000, 7)))?
+        .finish();
     for (update, why) in [
         (Update::Insert(item(0x2000, 0x2000, 8)), Refusal::BadItem),
         (Update::Insert(item(0x1800, 0x2800, 8)), Refusal::Overlap),
@@ -66,24 +72,22 @@ fn refusals(rt: HostRuntime) -> Result<(), Fail> {
     Ok(())
 }
 
-// A reader beside an update, and one that meets the writer after it.
+// A reader that met the writer, and one that did not, beside an update and after it.
 #[test]
 fn readers_on_one_thread(rt: HostRuntime) -> Result<(), Fail> {
-    let (mut writer, mut readers) = open::<HalfOpen>(rt.alloc(), Layout::new(4)?, 0, 2)?;
+    let (writer, mut readers) = open::<HalfOpen>(rt.alloc(), Layout::new(4)?, 0, 2)?;
     let (Some(other), Some(mut reader)) = (readers.pop(), readers.pop()) else {
         panic!(rt; "no reader")
     };
+    let (mut other, mut writer) = meet(other, writer);
     assert_eq!(rt; reader.try_find(0x1000), Try::Answered(None, 0));
     let first = item(0x1000, 0x2000, 7);
     let mut hand = writer.begin(Update::Insert(first))?;
-    for _ in 0..hand.remaining() {
-        if hand.step() == Some(Did::Flip) {
-            break;
-        }
-    }
+    // The three words of the item come first, and then the first flip.
+    let steps = [hand.step(), hand.step(), hand.step(), hand.step()];
+    assert_eq!(rt; steps[3], Some(Did::Flip));
     assert_eq!(rt; reader.try_find(0x1000), Try::Answered(None, 0));
     assert_eq!(rt; hand.finish(), 1);
-    let (mut other, writer) = meet(other, writer);
     assert_eq!(rt; other.try_find(0x1000), Try::Answered(Some(first), 1));
     assert_eq!(rt; writer.generation(), 1);
     Ok(())

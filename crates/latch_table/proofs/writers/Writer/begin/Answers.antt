@@ -28,5 +28,5 @@ returns g c =
     let of = c.in_ok-begin_from.ensures in
     let begun = begins o g.met.O.TreeOrder.lawful w.seat.table_id w.readers w.seat.me w.core c.self.invariant.2 c.args.u of.accepted core' of.begun.1 in
     let there = subst (λ (z : WriterState × WriterState). Begins o z.0 c.args.u z.1)
-        (λ i. (c.self.view_is i, writer_state (sym c.take_update.ensures.table i) w.readers (sym c.take_update.ensures.view i).0 core')) begun in
+    (λ i. (c.self.view_is i, writer_state (sym c.take_update.ensures.table i) w.readers (sym c.take_update.ensures.view i).0 core')) begun in
     ((refl, (λ v. refl), tt), record { rests = tt; same_reference = refl; begun = there; refused = tt })
