@@ -21,13 +21,21 @@ pub struct Tally {
 
 impl Tally {
     /// Nothing seen yet.
-    fn new() -> Tally {
+    pub fn new() -> Tally {
         Tally {
             answers: 0,
             retries: 0,
             wrong: 0,
             latest: 0,
         }
+    }
+
+    /// Adds what another reader saw.
+    pub fn add(&mut self, other: &Tally) {
+        self.answers = self.answers.saturating_add(other.answers);
+        self.retries = self.retries.saturating_add(other.retries);
+        self.wrong = self.wrong.saturating_add(other.wrong);
+        self.latest = self.latest.max(other.latest);
     }
 
     /// Counts an answer, of a generation, where this one was expected.

@@ -1,5 +1,4 @@
-use Rattle.std.proofs.Common.{◌≡◌, ◌∙◌, ◌++◌, List, [], true, false, length, take, refl, sym, ap, append_assoc, arith}
-use Rattle.std.proofs.Common.{rules}
+use Rattle.std.proofs.Common.{◌≡◌, ◌∙◌, List, false, sym, ap, arith}
 use Rattle.order_laws.specs.Tables.{meets}
 use Rattle.order_laws.proofs.PlaceLemmas.{without_none}
 use Rattle.word_arena.specs.Layouts.{capacity_of}
@@ -8,18 +7,17 @@ use Rattle.word_arena.specs.declared.stores.Store.{Store}
 use Rattle.rb_trees.specs.declared.Record.{Record}
 use Rattle.rb_cursor.specs.Zippers.{Zipper}
 use Rattle.rb_words.specs.Pictures.{Picture}
-use Rattle.rb_words.specs.Plans.{item_stores}
 use Rattle.rb_words.specs.TreePictures.{links_with}
 use Rattle.rb_words.proofs.PlanLemmas.{shown_insert, few_with, few_steps, met_none}
-use Rattle.rb_words.proofs.shapes.Shape.plan_insert_apart.Goals as goal
+use Rattle.rb_words.proofs.shapes.Shape.plan_links_apart.Goals as goal
 
 pub returns-then-meets-clause-met : goal.returns-then-meets-clause-met
 returns-then-meets-clause-met g c =
     sym c.if-meets.true ∙ c.meets.ensures
     ∙ ap (meets g.O.TreeOrder.order c.args.item) (without_none c.args.self.now.table)
 
-pub plan_insert-requires-clause-apart : goal.plan_insert-requires-clause-apart
-plan_insert-requires-clause-apart g c =
+pub plan_links-requires-clause-apart : goal.plan_links-requires-clause-apart
+plan_links-requires-clause-apart g c =
     sym (c.meets.ensures ∙ ap (meets g.O.TreeOrder.order c.args.item) (without_none c.args.self.now.table))
     ∙ c.if-meets.false
 
@@ -40,9 +38,6 @@ with_record_apart-requires-clause-list g c =
     omega (
       arith,
       c.requires.list,
-      c.append.ensures.len,
-      c.append.ensures.capacity,
-      ap length c.item_stores-words.ensures,
       few_with g.O.TreeOrder.order (copy_number c.self.inside.copy) c.self.inside.cursor.tree x
           c.self.invariant.1,
     )
@@ -126,13 +121,7 @@ returns-clause-plan g c = λ _.
     c.self.invariant.0 c.self.invariant.1 c.args.self.now c.self.view_is
     (c.requires.in_range, c.requires.free, c.requires.valid, apart) in
     let links : List Store = links_with copy order x c.self.inside.cursor.tree in
-    let appended : c.with_record_apart.new.out.items ≡ c.args.out.now.items
-    ++ (item_stores c.args.node c.args.item ++ links) =
-    c.with_record_apart.ensures.items c.if-with_record_apart.false
-    ∙ ap (λ xs. xs ++ links) c.append.ensures.items
-    ∙ ap (λ xs. (c.args.out.now.items ++ xs) ++ links) c.item_stores-words.ensures
-    ∙ append_assoc c.args.out.now.items (item_stores c.args.node c.args.item) links in
-    (links, appended, after.leads)
+    (links, c.with_record_apart.ensures.items c.if-with_record_apart.false, after.leads)
 
 pub returns-clause-few : goal.returns-clause-few
 returns-clause-few g c =
@@ -140,8 +129,6 @@ returns-clause-few g c =
     omega (
       arith,
       c.with_record_apart.ensures.len c.if-with_record_apart.false,
-      c.append.ensures.len,
-      ap length c.item_stores-words.ensures,
       few_with g.O.TreeOrder.order (copy_number c.self.inside.copy) c.self.inside.cursor.tree x
           c.self.invariant.1,
     )

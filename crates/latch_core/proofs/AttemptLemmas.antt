@@ -94,9 +94,3 @@ answer_first o n k m (s ∷ v) word go i g e st is =
     let at_end = (closes_rest s (Load (root_word (stable s)) (walk o n k s n)) v (Load word go) first e (at m word)).0 in
     let both : AnswersAt s word (at m word) (Ends (Answer i g)) = subst (AnswersAt s word (at m word)) is at_end in
     st.1 (sym both.1 ∙ ap (at m) both.0)
-
--- values that all stand
-pub stands : {K : Type 0} (o : Order K) (n : ℕ) (k : K) (m : List ℕ) (v : List ℕ)
-    → Stand m (attempt o n k) v → IsStanding m (attempt o n k) v
-stands o n k m [] st = tt
-stands o n k m (s ∷ v) st = (let first = st.0 in omega arith, λ is. st)

@@ -1,4 +1,4 @@
-use Rattle.std.proofs.Common.{◌≡◌, ◌∙◌, ◌++◌, List, length, ap, append_assoc, arith}
+use Rattle.std.proofs.Common.{List, ap, arith}
 use Rattle.std.proofs.Common.{rules}
 use Rattle.word_arena.specs.Layouts.{capacity_of}
 use Rattle.word_arena.specs.Copies.{copy_number}
@@ -6,10 +6,9 @@ use Rattle.word_arena.specs.declared.stores.Store.{Store}
 use Rattle.rb_trees.specs.declared.Record.{Record}
 use Rattle.rb_cursor.specs.Zippers.{Zipper}
 use Rattle.rb_words.specs.Pictures.{Picture}
-use Rattle.rb_words.specs.Plans.{item_stores}
 use Rattle.rb_words.specs.TreePictures.{links_with}
 use Rattle.rb_words.proofs.PlanLemmas.{shown_insert, few_with, few_steps}
-use Rattle.rb_words.proofs.shapes.Shape.plan_insert.Goals as goal
+use Rattle.rb_words.proofs.shapes.Shape.plan_links.Goals as goal
 
 pub with_record-requires-clause-steps : goal.with_record-requires-clause-steps
 with_record-requires-clause-steps g c =
@@ -23,9 +22,6 @@ with_record-requires-clause-list g c =
     omega (
       arith,
       c.requires.list,
-      c.append.ensures.len,
-      c.append.ensures.capacity,
-      ap length c.item_stores.ensures,
       few_with g.O.TreeOrder.order (copy_number c.self.inside.copy) c.self.inside.cursor.tree x
           c.self.invariant.1,
     )
@@ -70,20 +66,12 @@ returns g c =
     c.self.invariant.0 c.self.invariant.1 c.args.self.now c.self.view_is
     (c.requires.in_range, c.requires.free, c.requires.valid, c.requires.apart) in
     let links : List Store = links_with copy order x c.self.inside.cursor.tree in
-    let appended : c.with_record.new.out.items ≡ c.args.out.now.items
-    ++ (item_stores c.args.node c.args.item ++ links) =
-    c.with_record.ensures.items
-    ∙ ap (λ xs. xs ++ links) c.append.ensures.items
-    ∙ ap (λ xs. (c.args.out.now.items ++ xs) ++ links) c.item_stores.ensures
-    ∙ append_assoc c.args.out.now.items (item_stores c.args.node c.args.item) links in
     record {
       pictures = after.inserts;
-      plan = (links, appended, after.leads);
+      plan = (links, c.with_record.ensures.items, after.leads);
       few = omega (
         arith,
         c.with_record.ensures.len,
-        c.append.ensures.len,
-        ap length c.item_stores.ensures,
         few_with order copy c.self.inside.cursor.tree x c.self.invariant.1,
       );
       capacity = search rules;
