@@ -6,6 +6,8 @@
 
 pub mod observers;
 pub mod schedules;
+#[cfg(test)]
+mod tests;
 
 pub use observers::{Observer, Tally};
 pub use schedules::Schedule;
