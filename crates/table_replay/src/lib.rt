@@ -1,0 +1,13 @@
+//! A table for threads beside the replay of its updates.
+//!
+//! A writer goes through a schedule of updates again and again, and readers on threads of their own compare each answer with the
+//! plain table after as many updates as its generation tells.
+#![tactic(auto)]
+
+pub mod observers;
+pub mod schedules;
+#[cfg(test)]
+mod tests;
+
+pub use observers::{Observer, Tally};
+pub use schedules::Schedule;

@@ -1,0 +1,115 @@
+//! Readers that compare what they find.
+
+ghost use Rattle.std.specs.Prelude.{◌≡◌, ◌≤◌};
+
+use crate::schedules::Schedule;
+use latch_table::{Reader, Try, Writer};
+use order_laws::{HalfOpen, Item, Refusal};
+use std::thread::{Threads, join, map_vec};
+
+/// What a reader saw.
+#[derive(Clone, Copy, Debug, PartialEq, Eq, Drop)]
+pub struct Tally {
+    /// How many attempts answered.
+    pub answers: u64,
+    /// How many attempts did not, since the writer flipped meanwhile.
+    pub retries: u64,
+    /// How many answers were not what the key lies in after as many updates as the generation tells, or were of a generation
+    /// below an earlier answer's.
+    pub wrong: u64,
+    /// The generation of the last answer.
+    pub latest: u64,
+}
+
+impl Tally {
+    /// Nothing seen yet.
+    pub fn new() -> Tally {
+        Tally {
+            answers: 0,
+            retries: 0,
+            wrong: 0,
+            latest: 0,
+        }
+    }
+
+    /// Adds what another reader saw.
+    pub fn add(&mut self, other: &Tally)
+        ensures wrong { self.new.wrong ≡ 0 → (self.old.wrong ≡ 0) × (other.now.wrong ≡ 0) }
+    {
+        self.answers = self.answers.saturating_add(other.answers);
+        self.retries = self.retries.saturating_add(other.retries);
+        self.wrong = self.wrong.saturating_add(other.wrong);
+        self.latest = self.latest.max(other.latest);
+    }
+
+    /// Counts an answer, of a generation, where this one was expected. None is counted as wrong only
+    /// where each was as expected, and of no generation below the one before.
+    fn count(&mut self, expected: Option<Item>, answer: Option<Item>, generation: u64)
+        ensures latest { self.new.latest ≡ generation }
+        ensures wrong { self.new.wrong ≡ 0
+            → (self.old.wrong ≡ 0) × (answer ≡ expected) × (self.old.latest ≤ generation) }
+    {
+        self.answers = self.answers.saturating_add(1);
+        if generation < self.latest || answer != expected {
+            self.wrong = self.wrong.saturating_add(1);
+        }
+        self.latest = generation;
+    }
+}
+
+/// What a reader looks up, and when it stops.
+#[derive(Clone, Copy)]
+pub struct Observer<'a> {
+    /// What the writer goes through.
+    pub schedule: &'a Schedule,
+    /// The keys, looked up by turns.
+    pub keys: &'a [u64],
+    /// It stops at an answer of this generation or above.
+    pub until: u64,
+    /// It stops after so many attempts.
+    pub most: u64,
+}
+
+impl Observer<'_> {
+    /// Looks the keys up through this reader.
+    pub fn observe(&self, reader: &mut Reader<HalfOpen>) -> Tally {
+        let mut tally = Tally::new();
+        for (_, key) in (0..self.most).zip(self.keys.iter().cycle()) {
+            match reader.try_find(*key) {
+                Try::Answered(answer, generation) => {
+                    tally.count(self.schedule.look(*key, generation), answer, generation);
+                    if generation >= self.until {
+                        break;
+                    }
+                }
+                Try::Retry => tally.retries = tally.retries.saturating_add(1),
+            }
+        }
+        tally
+    }
+
+    /// Looks the keys up through each of these readers, each on a thread of its own, beside a writer that goes through its
+    /// schedule so many times. Answers the generation that the writer comes to, and each reader with what it saw.
+    pub fn watch<R: Threads + Sync>(
+        &self,
+        rt: &R,
+        writer: &mut Writer<HalfOpen>,
+        rounds: u32,
+        readers: Vec<Reader<HalfOpen>>,
+    ) -> Result<(u64, Vec<(Reader<HalfOpen>, Tally)>), Refusal> {
+        let observer = *self;
+        let (written, seen) = join(
+            rt,
+            || observer.schedule.carry_out(writer, rounds),
+            || map_vec(
+                rt,
+                readers,
+                &|mut reader: Reader<HalfOpen>| {
+                    let tally = observer.observe(&mut reader);
+                    (reader, tally)
+                },
+            ),
+        );
+        Ok((written?, seen?))
+    }
+}

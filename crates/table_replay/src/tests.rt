@@ -1,0 +1,53 @@
+//! What the tests share.
+
+mod stops;
+
+use crate::Schedule;
+use latch_core::{Entries, Update};
+use order_laws::Item;
+use std::alloc::Global;
+use std::test::Fail;
+
+/// Addresses in each range of the schedules, at both ends of some, and in none.
+const KEYS: [u64; 8] = [0x700, 0x800, 0xfff, 0x1000, 0x17ff, 0x2000, 0x3fff, 0x4000];
+
+fn item(a: u64, b: u64, tag: u64) -> Item {
+    Item { a, b, tag }
+}
+
+fn insert(a: u64, b: u64, tag: u64) -> Update {
+    Update::Insert(item(a, b, tag))
+}
+
+/// A batch of these first words and items.
+fn batch(alloc: Global, erase: &[u64], insert: &[Item]) -> Result<Update, Fail> {
+    Ok(Update::Batch {
+        erase: Entries::new(erase.to_vec(alloc)?)?,
+        insert: Entries::new(insert.to_vec(alloc)?)?,
+    })
+}
+
+/// Updates of every kind, batches among them. The table has at most four items.
+fn mixture(alloc: Global) -> Result<Schedule, Fail> {
+    let split = [
+        item(0x800, 0x1000, 1),
+        item(0x1000, 0x1800, 2),
+        item(0x4000, 0x5000, 3),
+    ];
+    let updates = Vec::from_array(
+        alloc,
+        [
+            insert(0x1000, 0x2000, 7),
+            insert(0x2000, 0x3000, 9),
+            batch(alloc, &[0x1000], &split)?,
+            Update::Erase(0x2000),
+            insert(0x1800, 0x4000, 4),
+            batch(alloc, &[0x800, 0x4000], &[])?,
+            batch(alloc, &[0x1800], &[item(0x3fff, 0x4001, 5)])?,
+            Update::Erase(0x1000),
+            insert(0x100, 0x800, 6),
+            batch(alloc, &[0x3fff, 0x100], &[])?,
+        ],
+    )?;
+    Ok(Schedule::new(alloc, updates)?)
+}
