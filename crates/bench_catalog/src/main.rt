@@ -5,13 +5,13 @@
 //! writes the counts. How long each part took goes to standard error.
 #![tactic(auto)]
 
+use bench_ranges::numbers;
 use latch_core::Update;
 use modules::{Catalog, Held, ModuleLine, SymbolLine, SymbolLines};
 use order_laws::Item;
 use std::alloc::{AllocError, Global};
-use std::io::{Eprint, Print};
+use std::io::{self, Eprint, Print};
 use std::time::{Clock, Instant};
-use std::{env, io};
 use symbols::symbol_of;
 
 /// Where the kernel itself begins.
@@ -191,13 +191,7 @@ fn run<R: Print + Eprint + Clock>(
 }
 
 fn main(rt: HostRuntime) -> io::Result<()> {
-    let mut numbers = Vec::new(rt.alloc());
-    for word in env::args(&rt)?.skip(1) {
-        match word.parse::<u32>() {
-            Ok(number) => numbers.push(number)?,
-            Err(_) => return eprintln!(rt; "usage: bench_catalog MODULES SYMBOLS LOOKUPS"),
-        }
-    }
+    let numbers = numbers(&rt)?;
     let [modules, symbols, lookups] = numbers.as_slice() else {
         return eprintln!(rt; "usage: bench_catalog MODULES SYMBOLS LOOKUPS");
     };

@@ -6,11 +6,12 @@
 
 ghost use Rattle.std.specs.Prelude.{◌<◌};
 
+use bench_ranges::numbers;
 use latch_core::Update;
 use latch_steps::{Command, Trace, drive};
 use order_laws::{HalfOpen, Item, Refusal};
 use std::alloc::{AllocError, Global};
-use std::{env, io};
+use std::io;
 use word_arena::Layout;
 
 /// How far the first addresses of two ranges lie apart.
@@ -61,17 +62,11 @@ fn commands(alloc: Global, items: u32, rounds: u32) -> Result<Vec<Command<u64>>,
 fn rounds(alloc: Global, items: u32, rounds: u32) -> Result<Trace<HalfOpen>, Refusal> {
     let layout = Layout::new(items)?;
     let commands = commands(alloc, items, rounds)?;
-    drive::<HalfOpen>(alloc, layout, 0, commands)
+    drive::<HalfOpen>(alloc, layout, 0, &commands)
 }
 
 fn main(rt: HostRuntime) -> io::Result<()> {
-    let mut numbers = Vec::new(rt.alloc());
-    for word in env::args(&rt)?.skip(1) {
-        match word.parse::<u32>() {
-            Ok(number) => numbers.push(number)?,
-            Err(_) => return eprintln!(rt; "usage: bench_drive ITEMS ROUNDS"),
-        }
-    }
+    let numbers = numbers(&rt)?;
     let [items, count] = numbers.as_slice() else {
         return eprintln!(rt; "usage: bench_drive ITEMS ROUNDS");
     };

@@ -43,11 +43,11 @@ impl Table {
     }
 
     /// Carries an update out, from its beginning to its last store.
-    fn update(&mut self, update: Update) -> Result<(), Refusal>
+    fn update(&mut self, update: &Update) -> Result<(), Refusal>
         requires { length self.old.words.items ≡ words_for self.old.writer.capacity }
         ensures { length self.new.words.items ≡ words_for self.new.writer.capacity }
     {
-        let stores = self.writer.begin_from(&update)?;
+        let stores = self.writer.begin_from(update)?;
         carry_out(&mut self.writer, &mut self.words);
         self.stores = self.stores.wrapping_add(stores);
         Ok(())
@@ -70,7 +70,7 @@ fn insert_all(table: &mut Table, ranges: &[Item]) -> Result<(), Refusal>
     ensures { length table.new.words.items ≡ words_for table.new.writer.capacity }
 {
     for range in ranges {
-        table.update(Update::Insert(*range))?;
+        table.update(&Update::Insert(*range))?;
     }
     Ok(())
 }
@@ -85,8 +85,8 @@ fn exchange(table: &mut Table, ranges: &[Item], pairs: u32) -> Result<(), Refusa
     let mut random = Random(SEED_OF_UPDATES);
     for _pair in 0..pairs {
         let range = ranges[random.below(ranges.len() as u32) as usize];
-        table.update(Update::Erase(range.a))?;
-        table.update(Update::Insert(range))?;
+        table.update(&Update::Erase(range.a))?;
+        table.update(&Update::Insert(range))?;
     }
     Ok(())
 }

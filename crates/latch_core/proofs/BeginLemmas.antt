@@ -37,7 +37,7 @@ pub record Accepted (w : WriterView) : Type 0 where
   pub idle : w.left ≡ []
   pub counts : w.sequence + 2 ≤ w.limit
 
-idle_from : (xs : List Store) → nat_lt 0 (length xs) ≡ false → xs ≡ []
+pub idle_from : (xs : List Store) → nat_lt 0 (length xs) ≡ false → xs ≡ []
 idle_from [] e = refl
 idle_from (x ∷ xs) e =
     absurd (let more : nat_lt 0 (suc (length xs)) ≡ true = lt-ltb 0 (suc (length xs)) (omega arith) in let f : true ≡ false = sym more ∙ e in cc)

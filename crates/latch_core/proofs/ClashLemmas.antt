@@ -1,16 +1,19 @@
 -- Entries of a batch that stand against each other are neighbours in a sorted list.
 use Rattle.std.proofs.Common.{◌≡◌, ◌≢◌, ℕ, suc, zero, ◌+◌, ◌-◌, ◌<◌, ◌≤◌, true, false, List, [], ◌∷◌, length, drop, get_or, refl, sym, ◌∙◌, ap, subst, ⊎_elim, arith}
-use Rattle.std.specs.Prelude.{Bool, not, ◌||◌, ◌==◌}
+use Rattle.std.specs.Prelude.{Bool, not, ◌||◌, ◌==◌, nat_lt}
 use Rattle.std.specs.List.{AllByRecursion, IsDistinct, list_any}
 use Rattle.std.specs.List.Sorted.{IsPermutation, IsNonDecreasingBy}
 use Rattle.std.proofs.lemmas.Bool.{eq-eqb, ne_eqb, cases_eq}
-use Rattle.std.proofs.lemmas.List.Sorted.{IsPermutation-sym, IsNonDecreasingBy-drop}
+use Rattle.std.proofs.lemmas.List.Sorted.{IsPermutation-sym, IsNonDecreasingBy-drop, list_any-IsPermutation}
 use Rattle.std.proofs.lemmas.Map.Keys.{IsDistinct-IsPermutation}
 use Rattle.order_laws.specs.declared.items.Item.{Item}
 use Rattle.order_laws.specs.Orders.{Order, Precedes, IsLawful, IsInLine}
-use Rattle.order_laws.specs.Tables.{meets}
+use Rattle.order_laws.specs.Tables.{has, meets}
+use Rattle.order_laws.specs.declared.refusals.Refusal.TheVariants.{BadItem, Overlap, NoSuchItem, Full}
 use Rattle.order_laws.proofs.TableLemmas.{all_weaker}
-use Rattle.latch_core.specs.Updates.{some_twice, some_overlap}
+use Rattle.order_laws.proofs.LeftOutLemmas.{without_moved}
+use Rattle.latch_core.specs.declared.updates.Update.TheVariants.{Batch}
+use Rattle.latch_core.specs.Updates.{first_that_holds, failed_test, some_invalid, some_twice, some_overlap, some_meet}
 use Rattle.rb_words.proofs.ListLemmas.{all_drop}
 use Rattle.latch_core.proofs.BatchLemmas.{neither, none_of, all_apart, no_meeting}
 use Rattle.latch_core.proofs.ChangeLemmas.{drop_here}
@@ -63,6 +66,20 @@ flipped a b =
 -- in another order of the list they clash alike
 pub twice_moved : (xs ys : List ℕ) → IsPermutation xs ys → some_twice xs ≡ some_twice ys
 twice_moved xs ys p = twice_clash xs ∙ clash_moved (λ a b. b == a) flipped xs ys p ∙ sym (twice_clash ys)
+
+-- and the tests of a batch go by its first words in any order
+pub tests_moved : {K : Type 0} (o : Order K) (n : ℕ) (table : List Item) (words words' : List ℕ) (insert : List Item) → IsPermutation words words' → failed_test o n table (Batch words insert) ≡ failed_test o n table (Batch words' insert)
+tests_moved o n table words words' insert p =
+    let missing = list_any-IsPermutation (λ a. not (has a table)) words words' p in
+    let twice = twice_moved words words' p in
+    let rest = without_moved words words' p table in
+    λ i. first_that_holds (
+    (some_invalid o insert, BadItem)
+    ∷ (missing i || twice i, NoSuchItem)
+    ∷ (some_overlap o insert || some_meet o insert (rest i), Overlap)
+    ∷ (nat_lt n (length table + length insert), Full)
+    ∷ []
+    )
 
 pub overlap_moved : {K : Type 0} (o : Order K) → IsLawful o → (xs ys : List Item) → IsPermutation xs ys → some_overlap o xs ≡ some_overlap o ys
 overlap_moved o law xs ys p = overlap_clash o xs ∙ clash_moved (λ i x. not (o.apart x i)) (λ i x. ap not (law.symmetric x i)) xs ys p ∙ sym (overlap_clash o ys)

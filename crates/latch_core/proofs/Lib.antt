@@ -17,3 +17,5 @@ pub mod BeginLemmas
 pub mod BatchBegins
 pub mod Shallow
 pub mod Standing
+pub mod WideningLemmas
+pub mod AttemptLemmas

@@ -57,6 +57,14 @@ last_is_free n node rest nodes are =
           absurd (let no : true ≡ false = sym same ∙ differ in cc),
     )
 
+-- one node more is free
+pub one_free_more : (i : ℕ) (free nodes : List ℕ) → AreAllNodes i (free ++ nodes) → AreAllNodes (i + 1) ((free ++ i ∷ []) ++ nodes)
+one_free_more i free nodes are =
+    subst (AreAllNodes (i + 1)) (sym (free_first i free nodes))
+    (moved_nodes (i + 1) (free ++ (nodes ++ i ∷ [])) (free ++ i ∷ nodes)
+    (IsPermutation-append_right free (nodes ++ i ∷ []) (i ∷ nodes) (IsPermutation-append_comm nodes (i ∷ [])))
+    (subst (AreAllNodes (i + 1)) (append_assoc free nodes (i ∷ [])) (one_node_more i (free ++ nodes) are)))
+
 -- it goes into the tree
 pub node_taken : (n node place : ℕ) (rest nodes : List ℕ) → AreAllNodes n ((rest ++ node ∷ []) ++ nodes) → AreAllNodes n (rest ++ insert nodes place node)
 node_taken n node place rest nodes are =

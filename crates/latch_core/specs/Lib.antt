@@ -19,6 +19,8 @@ pub mod FreeNodes
 pub mod Changes
 -- what a writer's core knows of the words, and when it accepts an update
 pub mod Writers
+-- a writer's core at rest that goes on with more nodes
+pub mod Widening
 -- what a reader's core has still to do, and how the values that it takes lead it on
 pub mod Cores
 -- whole attempts

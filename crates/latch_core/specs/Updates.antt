@@ -48,6 +48,10 @@ abbrev pub some_twice : List ℕ → Bool
 some_twice [] = false
 some_twice (a ∷ rest) = list_any (λ b. b == a) rest || some_twice rest
 
+-- some first word cannot be erased
+abbrev pub cannot_erase : List ℕ → List Item → Bool
+cannot_erase words table = some_missing words table || some_twice words
+
 -- two of these items are not apart, and one of them is not apart from an item of the table
 abbrev pub some_overlap : {K : Type 0} → Order K → List Item → Bool
 some_overlap o [] = false
@@ -55,6 +59,10 @@ some_overlap o (i ∷ rest) = meets o i rest || some_overlap o rest
 
 abbrev pub some_meet : {K : Type 0} → Order K → List Item → List Item → Bool
 some_meet o items table = list_any (λ i. meets o i table) items
+
+-- some item cannot be inserted where the items of these first words go
+abbrev pub cannot_insert : {K : Type 0} → Order K → List ℕ → List Item → List Item → Bool
+cannot_insert o words items table = some_overlap o items || some_meet o items (without_all words table)
 
 -- a test, and the refusal that it stands for; the first that holds answers
 abbrev pub Test : Type 0
@@ -71,10 +79,14 @@ tests_of o n table (Insert i) =
 tests_of o n table (Erase a) = (not (has a table), NoSuchItem) ∷ []
 tests_of o n table (Batch erase insert) =
     (some_invalid o insert, BadItem)
-    ∷ (some_missing erase table || some_twice erase, NoSuchItem)
-    ∷ (some_overlap o insert || some_meet o insert (without_all erase table), Overlap)
+    ∷ (cannot_erase erase table, NoSuchItem)
+    ∷ (cannot_insert o erase insert table, Overlap)
     ∷ (nat_lt n (length table + length insert), Full)
     ∷ []
+
+-- the refusal that the tests of an update answer, or none
+abbrev pub failed_test : {K : Type 0} → Order K → ℕ → List Item → Update → Option Refusal
+failed_test o n table u = first_that_holds (tests_of o n table u)
 
 -- why an update is refused, or none: at n nodes and a greatest sequence, with an update in hand or not, at this table and
 -- this sequence, from which two flips more may pass the greatest

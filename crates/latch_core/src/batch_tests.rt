@@ -3,7 +3,7 @@ ghost use Rattle.std.specs.Prelude.{◌<◌};
 use crate::attempts::Attempted;
 use crate::sequences::generation;
 use crate::tests::{Address, Ranges};
-use crate::{Update, WriterCore, attempt_in, plain};
+use crate::{Entries, Update, WriterCore, attempt_in, plain};
 use order_laws::laws::look_through;
 use order_laws::{Closed, HalfOpen, Item, Refusal, TreeOrder};
 use std::alloc::Global;
@@ -15,8 +15,8 @@ fn item(a: u64, b: u64, tag: u64) -> Item {
     Item { a, b, tag }
 }
 
-// Item number i of a row that lies side by side, from 0x100 on.
-fn in_row(i: u64) -> Item {
+/// Item number i of a row that lies side by side, from 0x100 on.
+pub fn in_row(i: u64) -> Item {
     let a = (i % 4096 + 1) * 0x100;
     item(a, a + 0x100, i)
 }
@@ -24,20 +24,20 @@ fn in_row(i: u64) -> Item {
 /// A batch of these first words and items.
 fn batch(alloc: Global, erase: &[u64], insert: &[Item]) -> Result<Update, Fail> {
     Ok(Update::Batch {
-        erase: erase.to_vec(alloc)?.into(),
-        insert: insert.to_vec(alloc)?.into(),
+        erase: Entries::new(erase.to_vec(alloc)?)?,
+        insert: Entries::new(insert.to_vec(alloc)?)?,
     })
 }
 
 /// A writer and its words.
 #[derive(Drop)]
-struct Table<O: TreeOrder> {
-    words: Vec<u64>,
-    writer: WriterCore<O>,
+pub struct Table<O: TreeOrder> {
+    pub words: Vec<u64>,
+    pub writer: WriterCore<O>,
 }
 
 impl<O: TreeOrder> Table<O> {
-    fn open(rt: &impl Abort, alloc: Global, l: Layout, start: u64) -> Result<Self, Fail> {
+    pub fn open(rt: &impl Abort, alloc: Global, l: Layout, start: u64) -> Result<Self, Fail> {
         let writer = WriterCore::open(alloc, l, start)?;
         let mut words = vec![in alloc; 0; l.words()]?;
         assert!(rt; !words.is_empty());
@@ -57,7 +57,7 @@ impl<O: TreeOrder> Table<O> {
     }
 
     /// A whole update, and how many steps it took.
-    fn carry_out(&mut self, rt: &impl Abort, u: Update) -> Result<u64, Refusal> {
+    pub fn carry_out(&mut self, rt: &impl Abort, u: Update) -> Result<u64, Refusal> {
         let left = self.writer.begin(u)?;
         for _ in 0..left {
             assert!(rt; self.step(rt));
@@ -67,7 +67,7 @@ impl<O: TreeOrder> Table<O> {
     }
 
     /// What a lookup finds that nobody disturbs, and its generation.
-    fn find(&self, rt: &impl Abort, key: O::Key) -> (Option<Item>, u64) {
+    pub fn find(&self, rt: &impl Abort, key: O::Key) -> (Option<Item>, u64) {
         let l = self.writer.layout();
         assert_eq!(rt; self.words.len(), l.words());
         match attempt_in::<O>(&self.words, l, key).0 {
@@ -261,8 +261,8 @@ fn some_update(alloc: Global, state: &mut u64) -> Result<Update, Fail> {
                 insert.push(some_item(state))?;
             }
             Ok(Update::Batch {
-                erase: erase.into(),
-                insert: insert.into(),
+                erase: Entries::new(erase)?,
+                insert: Entries::new(insert)?,
             })
         }
     }

@@ -7,10 +7,12 @@ use std::marker::Model;
 
 /// First words or items of one update.
 ///
-/// A contract sees the list of them: two of the same list are equal, whatever room lies behind either.
+/// A contract sees the list of them: two of the same list are equal, whatever room lies behind either. The list stands
+/// behind a pointer, so that a batch makes no update larger than an item does: a trace keeps many updates, and few of
+/// them are batches.
 #[derive(Debug, Drop)]
 pub struct Entries<T> {
-    items: Vec<T>,
+    items: Box<Vec<T>>,
 }
 
 impl<T> Model for Entries<T> {
@@ -18,7 +20,19 @@ impl<T> Model for Entries<T> {
 
     ghost Value = { List T };
 
-    ghost view = { λ e. e.items.items };
+    ghost view = { λ e. e.items.value.items };
+}
+
+impl<T: Drop> Entries<T> {
+    /// These entries.
+    pub fn new(items: Vec<T>) -> Result<Self, AllocError>
+        ensures { IfOk result (λ entries. entries ≡ items.items) }
+    {
+        let alloc = *items.allocator();
+        Ok(Entries {
+            items: Box::new(alloc, items)?,
+        })
+    }
 }
 
 impl<T> Entries<T> {
@@ -38,7 +52,7 @@ impl<T: PartialEq> PartialEq for Entries<T> {
     ghost laws = { lists_per T.laws };
 
     fn eq(&self, other: &Self) -> bool {
-        self.items.as_slice() == other.items.as_slice()
+        self.as_slice() == other.as_slice()
     }
 }
 
@@ -48,23 +62,12 @@ impl<T: Eq> Eq for Entries<T> {
     ghost laws = { lists_equiv T.Eq.laws };
 }
 
-impl<T> From<Vec<T>> for Entries<T> {
-    ghost from_gives = { λ items entries. entries ≡ items.items };
-
-    fn from(items: Vec<T>) -> Entries<T> {
-        Entries { items }
-    }
-}
-
 impl<T: Copy> Entries<T> {
     /// The same entries once more.
     pub fn copy(&self) -> Result<Self, AllocError>
         ensures { IfOk result (λ entries. entries ≡ self.now) }
     {
-        let mut items = Vec::with_capacity(*self.items.allocator(), self.items.len())?;
-        for entry in &self.items {
-            items.push_reserved(*entry);
-        }
-        Ok(Entries { items })
+        let items = Vec::from_slice(*self.items.allocator(), self.as_slice())?;
+        Entries::new(items)
     }
 }

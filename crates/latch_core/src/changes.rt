@@ -42,8 +42,8 @@ pub fn plan_erases<O: TreeOrder>(
     }
 }
 
-/// Plans to insert these items in as many of the first `fresh` free nodes: the stores of their words go into the plan, those
-/// of links into a list of their own.
+/// Plans to insert these items in as many of the first `fresh` free nodes: the stores of their words
+/// go into the plan, those of links into a list of their own.
 ///
 /// Nodes that stand behind the fresh ones are not taken.
 pub fn plan_inserts<O: TreeOrder>(
@@ -67,9 +67,11 @@ pub fn plan_inserts<O: TreeOrder>(
     requires first_copy { shape.old.copy ≡ 0 }
     requires nodes { AreAllNodes shape.old.capacity (free.old.items ++ listed shape.old.tree) }
     requires was_sound { IsPicture O.order shape.old }
-    ensures plan { (placed : Placed) × (more : List Store) × (plan.new.left ≡ plan.old.left ++ placing_stores placed)
+    ensures plan { (placed : Placed) × (more : List Store)
+        × (plan.new.left ≡ plan.old.left ++ placing_stores placed)
         × (links.new.items ≡ links.old.items ++ more)
-        × InsertsAll O.order shape.old shape.new insert.now placed more (take fresh free.old.items) free.new.items }
+        × InsertsAll O.order shape.old shape.new insert.now placed more
+        (take fresh free.old.items) free.new.items }
     ensures few { length plan.new.left + vec_len links.new
         ≤ length plan.old.left + vec_len links.old + length insert.now * STORES }
     ensures plan_len { length plan.new.left ≡ length plan.old.left + length insert.now * 3 }
@@ -85,7 +87,8 @@ pub fn plan_inserts<O: TreeOrder>(
     }
 }
 
-// Parts what was planned for an insert: the stores of the item's words go into the plan, those of links into their list.
+// Parts what was planned for an insert: the stores of the item's words go into the plan, those of
+// links into their list.
 fn separate(planned: &[Store], plan: &mut Plan, links: &mut Vec<Store>)
     requires items_first { 3 ≤ length planned.now }
     requires plan_room { 3 ≤ plan.old.room }

@@ -1,10 +1,10 @@
 //! Whether some entries of a batch stand against each other, in few comparisons.
 //!
-//! Entries that clash stand side by side in a sorted copy. Where there is no memory for the copy, and in an order in which
-//! items that clash need not be neighbours, each is compared with each.
+//! Entries that clash stand side by side in a sorted copy. Where there is no memory for the copy,
+//! and in an order in which items that clash need not be neighbours, each is compared with each.
 
-ghost use Rattle.std.specs.Prelude.{◌≡◌, false, IfOk};
-ghost use Rattle.std.specs.List.Sorted.{IsPermutation, IsNonDecreasingBy};
+ghost use Rattle.std.specs.Prelude.{◌≡◌, false, IsTrue, IfOk};
+ghost use Rattle.std.specs.List.Sorted.{IsPermutation, IsNonDecreasing, IsNonDecreasingBy};
 ghost use Rattle.order_laws.specs.declared.items.Item.{Item};
 ghost use Rattle.order_laws.specs.Orders.{IsInLine};
 ghost use Rattle.latch_core.specs.Updates.{some_twice, some_invalid, some_overlap};
@@ -13,20 +13,10 @@ use crate::plain;
 use order_laws::{Item, TreeOrder};
 use std::alloc::{AllocError, Global};
 
-/// Whether some number stands twice in the list.
-pub fn some_twice(alloc: Global, words: &[u64]) -> bool
-    ensures { result ≡ some_twice words.now }
-{
-    match in_order(alloc, words) {
-        Ok(sorted) => has_equal_neighbours(sorted.as_slice()),
-        Err(_) => plain::some_twice(words),
-    }
-}
-
-// The same numbers in order.
-fn in_order(alloc: Global, words: &[u64]) -> Result<Vec<u64>, AllocError>
+/// The same numbers in order.
+pub fn in_order(alloc: Global, words: &[u64]) -> Result<Vec<u64>, AllocError>
     ensures permutation { IfOk result (λ sorted. IsPermutation words.now sorted.items) }
-    ensures sorted { IfOk result (λ sorted. IsNonDecreasingBy (λ a. a) sorted.items) }
+    ensures sorted { IfOk result (λ sorted. IsNonDecreasing sorted.items) }
 {
     let mut sorted = copied(alloc, words)?;
     sorted.sort_unstable();
@@ -39,9 +29,22 @@ fn copied(alloc: Global, words: &[u64]) -> Result<Vec<u64>, AllocError>
     words.to_vec(alloc)
 }
 
+/// Whether some number stands twice in the list, of which only neighbours are compared where it is
+/// `rising`.
+pub fn some_twice(words: &[u64], rising: bool) -> bool
+    requires { IsTrue rising → IsNonDecreasing words.now }
+    ensures { result ≡ some_twice words.now }
+{
+    if rising {
+        has_equal_neighbours(words)
+    } else {
+        plain::some_twice(words)
+    }
+}
+
 // Whether a sorted list has two equal neighbours, as it has where some number stands in it twice.
 fn has_equal_neighbours(words: &[u64]) -> bool
-    requires sorted { IsNonDecreasingBy (λ a. a) words.now }
+    requires sorted { IsNonDecreasing words.now }
     ensures { result ≡ some_twice words.now }
 {
     for place in 1..words.len() {
@@ -82,7 +85,8 @@ fn copied_items(alloc: Global, items: &[Item]) -> Result<Vec<Item>, AllocError>
     items.to_vec(alloc)
 }
 
-// Whether two neighbours are not apart in a list that is sorted by first words, as they are where any two items of it are not.
+// Whether two neighbours are not apart in a list that is sorted by first words, as they are where
+// any two items of it are not.
 fn has_overlapping_neighbours<O: TreeOrder>(items: &[Item]) -> bool
     requires in_line { IsInLine O.order }
     requires valid { some_invalid O.order items.now ≡ false }

@@ -14,6 +14,7 @@ ghost use Rattle.latch_core.specs.Attempts.{Reading, Load, Outcome, Answer, atte
 ghost use Rattle.latch_core.specs.Whole.{GoesOn};
 ghost use Rattle.latch_core.specs.Latches.{Latch, Hand, MayStep, stepped, begun, opening_latch};
 ghost use Rattle.latch_core.specs.Invariants.{IsStanding, IsSound};
+ghost use Rattle.latch_core.specs.Widening.{widened_latch};
 
 use order_laws::TreeOrder;
 
@@ -74,8 +75,8 @@ pub fn sequence_never_falls()
         → (at (words_after l.words s) 0 ≡ at l.words 0) ⊎ (at (words_after l.words s) 0 ≡ at l.words 0 + 1) }
 {}
 
-/// At the opening, after each step and after each update that begins, the stable copy holds the table that the sequence
-/// names.
+/// At the opening, after each step, after each update that begins and with more nodes, the stable
+/// copy holds the table that the sequence names.
 pub fn latch_stays_sound<O: TreeOrder>()
     ensures opening { (n start : ℕ) → stable start ≡ 0 → IsSound O.order n start [] (opening_latch n start) }
     ensures step { (n start : ℕ) (us : List Update) (l : Latch) (h : Hand) (s : Store)
@@ -83,4 +84,6 @@ pub fn latch_stays_sound<O: TreeOrder>()
     ensures begin { (n limit start : ℕ) (us : List Update) (l : Latch) (u : Update) (left : ℕ)
         → IsSound O.order n start us l → l.hand ≡ None → refuses O.order n limit false l.table (at l.words 0) u ≡ None
         → IsSound O.order n start (us ++ u ∷ []) (begun O.order l u left) }
+    ensures widen { (n n' start : ℕ) (us : List Update) (l : Latch)
+        → n ≤ n' → IsSound O.order n start us l → IsSound O.order n' start us (widened_latch n n' l) }
 {}

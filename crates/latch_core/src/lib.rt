@@ -55,6 +55,8 @@ mod spots;
 #[cfg(test)]
 mod tests;
 pub mod updates;
+#[cfg(test)]
+mod widening_tests;
 pub mod writers;
 
 pub use attempts::{Attempted, attempt_in};

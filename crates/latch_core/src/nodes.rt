@@ -1,6 +1,6 @@
 //! The nodes that no copy has.
 
-ghost use Rattle.std.specs.Prelude.{◌≤◌, IfOk, vec_capacity};
+ghost use Rattle.std.specs.Prelude.{◌≡◌, ◌≤◌, ◌++◌, ℕ, List, IfOk, OnOk, OnErr, vec_len, vec_capacity};
 ghost use Rattle.latch_core.specs.FreeNodes.{AreAllNodes};
 
 use std::alloc::{AllocError, Global};
@@ -15,4 +15,22 @@ pub fn all_nodes(alloc: Global, capacity: u32) -> Result<Vec<u32>, AllocError>
         nodes.push_reserved(node);
     }
     Ok(nodes)
+}
+
+/// Puts the nodes from `capacity` up to `more` behind the free ones, in a list that has room for all
+/// `more` of them then. With the used ones they are all nodes, where they were before.
+pub fn add_nodes(free: &mut Vec<u32>, capacity: u32, more: u32) -> Result<(), AllocError>
+    requires more { capacity ≤ more }
+    requires fits { vec_len free.old ≤ capacity }
+    ensures all { OnOk result ((used : List ℕ) → AreAllNodes capacity (free.old.items ++ used)
+        → AreAllNodes more (free.new.items ++ used)) }
+    ensures room { OnOk result (more ≤ vec_capacity free.new) }
+    ensures unchanged { OnErr result ((free.new.items ≡ free.old.items)
+        × (vec_capacity free.new ≡ vec_capacity free.old)) }
+{
+    free.reserve_exact(more as usize - free.len())?;
+    for node in capacity..more {
+        free.push_reserved(node);
+    }
+    Ok(())
 }

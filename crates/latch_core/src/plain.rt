@@ -1,9 +1,10 @@
 //! The definitions of updates and histories as plain, slow programs, to compare with.
 
-ghost use Rattle.std.specs.Prelude.{◌≡◌, ◌||◌, [], None, Some, if◌then◌else◌, IfOk};
+ghost use Rattle.std.specs.Prelude.{◌≡◌, [], None, Some, if◌then◌else◌, IfOk};
 ghost use Rattle.order_laws.specs.Tables.{has, meets, without_all};
 ghost use Rattle.word_arena.specs.Layouts.{capacity_of, limit_of};
-ghost use Rattle.latch_core.specs.Updates.{refuses, tests_of, first_that_holds, some_invalid, some_missing, some_twice, some_overlap, some_meet, with_items, after};
+ghost use Rattle.latch_core.specs.Updates.{refuses, failed_test, some_invalid, some_missing, some_twice, cannot_erase};
+ghost use Rattle.latch_core.specs.Updates.{some_overlap, some_meet, cannot_insert, with_items, after};
 ghost use Rattle.latch_core.specs.Histories.{replay};
 
 use crate::sequences::is_spent;
@@ -21,7 +22,8 @@ pub fn refuses<O: TreeOrder>(
     sequence: u64,
     u: &Update,
 ) -> Option<Refusal>
-    ensures { result ≡ refuses O.order (capacity_of l) (limit_of l) in_hand table.now sequence u.now }
+    ensures { result
+        ≡ refuses O.order (capacity_of l) (limit_of l) in_hand table.now sequence u.now }
 {
     if in_hand {
         return Some(Refusal::UpdateInHand);
@@ -37,7 +39,7 @@ pub fn refuses<O: TreeOrder>(
 
 // The first test of an update of a table that fails, by its refusal.
 fn failed_test<O: TreeOrder>(l: Layout, table: &[Item], u: &Update) -> Option<Refusal>
-    ensures { result ≡ first_that_holds (tests_of O.order (capacity_of l) table.now u.now) }
+    ensures { result ≡ failed_test O.order (capacity_of l) table.now u.now }
 {
     match u {
         Update::Insert(item) => insert_test::<O>(l, table, item),
@@ -50,7 +52,7 @@ fn failed_test<O: TreeOrder>(l: Layout, table: &[Item], u: &Update) -> Option<Re
 
 // Why an item is not to be inserted, if it is not.
 fn insert_test<O: TreeOrder>(l: Layout, table: &[Item], item: &Item) -> Option<Refusal>
-    ensures { result ≡ first_that_holds (tests_of O.order (capacity_of l) table.now (Update.Insert item.now)) }
+    ensures { result ≡ failed_test O.order (capacity_of l) table.now (Update.Insert item.now) }
 {
     if !O::valid(item) {
         Some(Refusal::BadItem)
@@ -81,7 +83,8 @@ fn batch_test<O: TreeOrder>(
     erase: &[u64],
     insert: &[Item],
 ) -> Option<Refusal>
-    ensures { result ≡ first_that_holds (tests_of O.order (capacity_of l) table.now (Update.Batch erase.now insert.now)) }
+    ensures { result
+        ≡ failed_test O.order (capacity_of l) table.now (Update.Batch erase.now insert.now) }
 {
     if some_invalid::<O>(insert) {
         Some(Refusal::BadItem)
@@ -98,14 +101,14 @@ fn batch_test<O: TreeOrder>(
 
 // Whether some first word is in no item of the table or stands twice.
 fn cannot_erase(table: &[Item], erase: &[u64]) -> bool
-    ensures { result ≡ (some_missing erase.now table.now || some_twice erase.now) }
+    ensures { result ≡ cannot_erase erase.now table.now }
 {
     some_missing(table, erase) || some_twice(erase)
 }
 
 // Whether two of the items are not apart, or one of them and an item of the table that stays.
 fn cannot_insert<O: TreeOrder>(table: &[Item], erase: &[u64], insert: &[Item]) -> bool
-    ensures { result ≡ (some_overlap O.order insert.now || some_meet O.order insert.now (without_all erase.now table.now)) }
+    ensures { result ≡ cannot_insert O.order erase.now insert.now table.now }
 {
     some_overlap::<O>(insert) || some_meet::<O>(table, erase, insert)
 }
@@ -148,7 +151,8 @@ pub fn some_overlap<O: TreeOrder>(items: &[Item]) -> bool
     false
 }
 
-// Whether one of the items is not apart from an item of the table that has none of the first words `but`.
+// Whether one of the items is not apart from an item of the table that has none of the first words
+// `but`.
 fn some_meet<O: TreeOrder>(table: &[Item], but: &[u64], items: &[Item]) -> bool
     ensures { result ≡ some_meet O.order items.now (without_all but.now table.now) }
 {
@@ -210,7 +214,8 @@ fn changed<O: TreeOrder>(
     erase: &[u64],
     insert: &[Item],
 ) -> Result<Vec<Item>, AllocError>
-    ensures { IfOk result (λ new. new.items ≡ with_items O.order insert.now (without_all erase.now table.now)) }
+    ensures { IfOk result (λ new. new.items
+        ≡ with_items O.order insert.now (without_all erase.now table.now)) }
 {
     let mut new = without_all(alloc, table, erase)?;
     for item in insert {

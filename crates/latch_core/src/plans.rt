@@ -12,7 +12,7 @@ ghost use Rattle.rb_words.specs.Plans.{item_stores, Inserts, LeadsWithItem, Eras
 ghost use Rattle.latch_core.specs.Plans.{update_stores, flip_to};
 
 use order_laws::{Item, Refusal, TreeOrder};
-use rb_words::{STORES, Shape, mirrored};
+use rb_words::{STORES, Shape, item_stores, mirrored};
 use std::alloc::{AllocError, Global};
 use std::marker::Model;
 use word_arena::{Layout, Store, append};
@@ -100,7 +100,7 @@ impl Plan {
         ensures refusal { IfErr result (λ e. e ≡ Refusal.OutOfMemory) }
         ensures sound { IsPicture O.order shape.new }
     {
-        shape.reserve_in(1, &mut self.stores)?;
+        shape.reserve_room(1)?;
         Ok(self.reserve(2 * STORES + 2)?)
     }
 
@@ -135,13 +135,12 @@ impl Plan {
         ensures sound { IsPicture O.order shape.new }
     {
         self.made = 0;
-        flip_alone(&mut self.stores, sequence + 1);
-        if shape.plan_insert_apart(&mut self.stores, node, item) {
+        // The node's words serve both copies: they are stored once, before copy 1 links it.
+        item_and_flip(&mut self.stores, node, item, sequence + 1);
+        if shape.plan_links_apart(&mut self.stores, node, item) {
             self.made = self.stores.len();
             return true;
         }
-        // The node's words serve both copies, so they are stored once, before copy 1 links the node.
-        put_items_first(&mut self.stores);
         flip_and_mirror(l, &mut self.stores, sequence + 2, ITEM_STORES + 1);
         false
     }
@@ -230,18 +229,18 @@ fn flip_alone(stores: &mut Vec<Store>, sequence: u64)
     stores.push_reserved(flip_to(sequence));
 }
 
-/// Puts the first store behind the three of an item that follow it.
+/// Leaves the stores of an item's words in the list, and the one that makes this number the
+/// sequence.
 #[inline(always)]
-fn put_items_first(stores: &mut Vec<Store>)
-    requires { 4 ≤ vec_len stores.old }
-    ensures items { stores.new.items
-        ≡ take 3 (drop 1 stores.old.items) ++ (take 1 stores.old.items ++ drop 4 stores.old.items) }
-    ensures len { vec_len stores.new ≡ vec_len stores.old }
+fn item_and_flip(stores: &mut Vec<Store>, node: u32, item: Item, sequence: u64)
+    requires { 4 ≤ vec_capacity stores.old }
+    ensures items { stores.new.items ≡ item_stores node item ++ flip_to sequence ∷ [] }
+    ensures len { vec_len stores.new ≡ 4 }
     ensures capacity { vec_capacity stores.new ≡ vec_capacity stores.old }
 {
-    stores.swap(0, 1);
-    stores.swap(1, 2);
-    stores.swap(2, 3);
+    stores.clear();
+    append(stores, &item_stores(node, item));
+    stores.push_reserved(flip_to(sequence));
 }
 
 /// Appends the store that makes this number the sequence, and for each store of copy 0 from the place `from` on that of

@@ -7,13 +7,15 @@ ghost use Rattle.word_arena.specs.Layouts.{capacity_of, limit_of};
 ghost use Rattle.word_arena.specs.Words.{at, words_for};
 ghost use Rattle.rb_words.specs.Pictures.{IsPicture};
 ghost use Rattle.latch_core.specs.Sequences.{gen};
-ghost use Rattle.latch_core.specs.Updates.{first_that_holds, tests_of, some_invalid, some_missing, some_twice, some_overlap, some_meet};
+ghost use Rattle.latch_core.specs.Updates.{failed_test, some_invalid, some_missing, some_meet, cannot_erase, cannot_insert};
+ghost use Rattle.std.specs.List.Sorted.{IsNonDecreasing};
 ghost use Rattle.latch_core.specs.Latches.{Latch, Hand, stepped, opening_latch};
 ghost use Rattle.latch_core.specs.Writers.{next_store, why_refused, IsRefusedBy, RefusesAsPictured, MayOpen, IsOpeningRefused, Pictures, MayBeNext, LeadsFrom, HasBegun, opening_writer, stepped_writer};
+ghost use Rattle.latch_core.specs.Widening.{why_not_widened, widened_writer, PicturesWidened, IsWideningRefused};
 
 use crate::changes::{plan_erases, plan_inserts};
-use crate::clashes::{some_overlap, some_twice};
-use crate::nodes::all_nodes;
+use crate::clashes::{in_order, some_overlap, some_twice};
+use crate::nodes::{add_nodes, all_nodes};
 use crate::plain::some_invalid;
 use crate::plans::Plan;
 use crate::sequences::{generation, is_spent};
@@ -90,6 +92,42 @@ impl<O: TreeOrder> WriterCore<O> {
         })
     }
 
+    /// Goes on with the nodes and the greatest sequence of a layout: its table, its generation and its
+    /// order stay, and the nodes that come in addition are free.
+    ///
+    /// All memory for them is taken here. Whoever keeps the words puts seven words of 0 behind them
+    /// for each such node. Refused by [`Refusal::UpdateInHand`], then by [`Refusal::BadCapacity`]
+    /// where the layout has fewer nodes or a smaller greatest sequence, and last by
+    /// [`Refusal::OutOfMemory`]; a refusal changes nothing.
+    pub fn widen(&mut self, l: Layout) -> Result<(), Refusal>
+        ensures accepted { OnOk result (why_not_widened self.old l ≡ None) }
+        ensures widened { OnOk result (self.new ≡ widened_writer self.old l) }
+        ensures pictures { OnOk result (PicturesWidened self.old self.new) }
+        ensures refusal { IfErr result (IsWideningRefused self.old l) }
+        ensures unchanged { OnErr result (self.new ≡ self.old) }
+    {
+        if let Some(refusal) = self.why_not_widened(l) {
+            return Err(refusal);
+        }
+        add_nodes(&mut self.free, self.layout.capacity(), l.capacity())?;
+        self.shape.widen(l);
+        self.layout = l;
+        Ok(())
+    }
+
+    /// Why a layout is not taken, before any memory is asked for.
+    fn why_not_widened(&self, l: Layout) -> Option<Refusal>
+        ensures { result ≡ why_not_widened self.now l }
+    {
+        if self.remaining() > 0 {
+            Some(Refusal::UpdateInHand)
+        } else if l.capacity() < self.layout.capacity() || l.limit() < self.layout.limit() {
+            Some(Refusal::BadCapacity)
+        } else {
+            None
+        }
+    }
+
     /// Takes an update in hand, and answers how many stores it takes.
     ///
     /// The stores are planned and all memory is taken here. Refused by [`Refusal::UpdateInHand`], then by
@@ -97,11 +135,12 @@ impl<O: TreeOrder> WriterCore<O> {
     /// [`Refusal::SequenceSpent`] and last by [`Refusal::OutOfMemory`]; a refusal changes nothing.
     pub fn begin(&mut self, u: Update) -> Result<u64, Refusal>
         ensures accepted { IfOk result (λ left. why_refused O.order self.old u ≡ None) }
-        ensures begun { IfOk result (λ left. (left ≡ length self.new.left) × HasBegun O.order self.old u self.new) }
+        ensures begun { IfOk result (λ left. (left ≡ length self.new.left)
+            × HasBegun O.order self.old u self.new) }
         ensures refusal { IfErr result (IsRefusedBy O.order self.old u) }
         ensures unchanged { OnErr result (self.new ≡ self.old) }
-        ensures same { (self.new.capacity ≡ self.old.capacity) × (self.new.limit ≡ self.old.limit)
-            × (self.new.sequence ≡ self.old.sequence) }
+        ensures same { (self.new.capacity ≡ self.old.capacity)
+            × (self.new.limit ≡ self.old.limit) × (self.new.sequence ≡ self.old.sequence) }
         ensures pictured { RefusesAsPictured O.order self.old u }
     {
         self.begin_from(&u)
@@ -110,11 +149,12 @@ impl<O: TreeOrder> WriterCore<O> {
     /// The same for a caller that keeps its update.
     pub fn begin_from(&mut self, u: &Update) -> Result<u64, Refusal>
         ensures accepted { IfOk result (λ left. why_refused O.order self.old u.now ≡ None) }
-        ensures begun { IfOk result (λ left. (left ≡ length self.new.left) × HasBegun O.order self.old u.now self.new) }
+        ensures begun { IfOk result (λ left. (left ≡ length self.new.left)
+            × HasBegun O.order self.old u.now self.new) }
         ensures refusal { IfErr result (IsRefusedBy O.order self.old u.now) }
         ensures unchanged { OnErr result (self.new ≡ self.old) }
-        ensures same { (self.new.capacity ≡ self.old.capacity) × (self.new.limit ≡ self.old.limit)
-            × (self.new.sequence ≡ self.old.sequence) }
+        ensures same { (self.new.capacity ≡ self.old.capacity)
+            × (self.new.limit ≡ self.old.limit) × (self.new.sequence ≡ self.old.sequence) }
         ensures pictured { RefusesAsPictured O.order self.old u.now }
     {
         let begun = match u {
@@ -170,7 +210,7 @@ impl<O: TreeOrder> WriterCore<O> {
 
     /// The first test of an update of the table that fails, by its refusal.
     fn failed_test(&self, u: &Update) -> Option<Refusal>
-        ensures { result ≡ first_that_holds (tests_of O.order self.now.capacity self.now.table u.now) }
+        ensures { result ≡ failed_test O.order self.now.capacity self.now.table u.now }
     {
         match u {
             Update::Insert(item) => self.insert_test(item),
@@ -181,7 +221,8 @@ impl<O: TreeOrder> WriterCore<O> {
 
     /// Why an item is not to be inserted, if it is not.
     fn insert_test(&self, item: &Item) -> Option<Refusal>
-        ensures { result ≡ first_that_holds (tests_of O.order self.now.capacity self.now.table (Update.Insert item.now)) }
+        ensures { result
+            ≡ failed_test O.order self.now.capacity self.now.table (Update.Insert item.now) }
     {
         if !O::valid(item) {
             Some(Refusal::BadItem)
@@ -196,7 +237,8 @@ impl<O: TreeOrder> WriterCore<O> {
 
     /// Why a first word is not to be erased, if it is not.
     fn erase_test(&self, a: u64) -> Option<Refusal>
-        ensures { result ≡ first_that_holds (tests_of O.order self.now.capacity self.now.table (Update.Erase a)) }
+        ensures { result
+            ≡ failed_test O.order self.now.capacity self.now.table (Update.Erase a) }
     {
         if self.shape.has(a) {
             None
@@ -206,14 +248,29 @@ impl<O: TreeOrder> WriterCore<O> {
     }
 
     /// Why a batch is not to be carried out, if it is not.
+    ///
+    /// Its first words are tested in order, and as they came where there is no memory for a copy.
     fn batch_test(&self, erase: &[u64], insert: &[Item]) -> Option<Refusal>
-        ensures { result ≡ first_that_holds (tests_of O.order self.now.capacity self.now.table (Update.Batch erase.now insert.now)) }
+        ensures { result ≡ failed_test O.order self.now.capacity self.now.table
+            (Update.Batch erase.now insert.now) }
+    {
+        match in_order(*self.free.allocator(), erase) {
+            Ok(sorted) => self.batch_test_of(sorted.as_slice(), true, insert),
+            Err(_) => self.batch_test_of(erase, false, insert),
+        }
+    }
+
+    /// The same, where the first words may be `rising`.
+    fn batch_test_of(&self, erase: &[u64], rising: bool, insert: &[Item]) -> Option<Refusal>
+        requires { IsTrue rising → IsNonDecreasing erase.now }
+        ensures { result ≡ failed_test O.order self.now.capacity self.now.table
+            (Update.Batch erase.now insert.now) }
     {
         if some_invalid::<O>(insert) {
             Some(Refusal::BadItem)
-        } else if self.cannot_erase(erase) {
+        } else if self.cannot_erase(erase, rising) {
             Some(Refusal::NoSuchItem)
-        } else if self.cannot_insert(erase, insert) {
+        } else if self.cannot_insert(erase, rising, insert) {
             Some(Refusal::Overlap)
         } else if self.shape.len() as usize + insert.len() > self.layout.capacity() as usize {
             Some(Refusal::Full)
@@ -223,19 +280,21 @@ impl<O: TreeOrder> WriterCore<O> {
     }
 
     /// Whether some first word is in no item of the table or stands twice.
-    fn cannot_erase(&self, erase: &[u64]) -> bool
-        ensures { result ≡ (some_missing erase.now self.now.table || some_twice erase.now) }
+    fn cannot_erase(&self, erase: &[u64], rising: bool) -> bool
+        requires { IsTrue rising → IsNonDecreasing erase.now }
+        ensures { result ≡ cannot_erase erase.now self.now.table }
     {
-        self.some_missing(erase) || some_twice(*self.free.allocator(), erase)
+        self.some_missing(erase) || some_twice(erase, rising)
     }
 
-    /// Whether two of some valid items are not apart, or one of them and an item of the table that stays.
-    fn cannot_insert(&self, erase: &[u64], insert: &[Item]) -> bool
+    /// Whether two of some valid items are not apart, or one of them and an item of the table that
+    /// stays.
+    fn cannot_insert(&self, erase: &[u64], rising: bool, insert: &[Item]) -> bool
+        requires rising { IsTrue rising → IsNonDecreasing erase.now }
         requires valid { some_invalid O.order insert.now ≡ false }
-        ensures { result ≡ (some_overlap O.order insert.now
-            || some_meet O.order insert.now (without_all erase.now self.now.table)) }
+        ensures { result ≡ cannot_insert O.order erase.now insert.now self.now.table }
     {
-        some_overlap::<O>(*self.free.allocator(), insert) || self.some_meet(erase, insert)
+        some_overlap::<O>(*self.free.allocator(), insert) || self.some_meet(erase, rising, insert)
     }
 
     /// Whether some first word is in no item of the table.
@@ -245,11 +304,17 @@ impl<O: TreeOrder> WriterCore<O> {
         words.iter().any(|a| !self.shape.has(*a))
     }
 
-    /// Whether one of the items is not apart from an item of the table that has none of the first words `but`.
-    fn some_meet(&self, but: &[u64], items: &[Item]) -> bool
+    /// Whether one of the items is not apart from an item of the table that has none of the first
+    /// words `but`.
+    fn some_meet(&self, but: &[u64], rising: bool, items: &[Item]) -> bool
+        requires { IsTrue rising → IsNonDecreasing but.now }
         ensures { result ≡ some_meet O.order items.now (without_all but.now self.now.table) }
     {
-        items.iter().any(|i| self.shape.meets(i, but))
+        if rising {
+            items.iter().any(|i| self.shape.meets_rising(i, but))
+        } else {
+            items.iter().any(|i| self.shape.meets(i, but))
+        }
     }
 
     /// Plans to insert an item in a free node, which both copies then link. Answers whether it could.
@@ -344,10 +409,11 @@ impl<O: TreeOrder> WriterCore<O> {
     #[inline(always)]
     pub fn did(&mut self)
         requires { IsSome (next_store self.old) }
-        ensures same { (self.new.capacity ≡ self.old.capacity) × (self.new.limit ≡ self.old.limit)
-            × (self.new.table ≡ self.old.table) }
+        ensures same { (self.new.capacity ≡ self.old.capacity)
+            × (self.new.limit ≡ self.old.limit) × (self.new.table ≡ self.old.table) }
         ensures left { length self.new.left + 1 ≡ length self.old.left }
-        ensures stepped { (s : Store) → next_store self.old ≡ Some s → self.new ≡ stepped_writer self.old s }
+        ensures stepped { (s : Store) → next_store self.old ≡ Some s
+            → self.new ≡ stepped_writer self.old s }
         ensures pictures { LeadsFrom self.old self.new }
     {
         self.step_on();
@@ -360,8 +426,8 @@ impl<O: TreeOrder> WriterCore<O> {
         ensures which { result ≡ next_store self.old }
         ensures within { IfSome result (λ s. s.word < words_for self.old.capacity) }
         ensures may { MayBeNext self.old result }
-        ensures same { (self.new.capacity ≡ self.old.capacity) × (self.new.limit ≡ self.old.limit)
-            × (self.new.table ≡ self.old.table) }
+        ensures same { (self.new.capacity ≡ self.old.capacity)
+            × (self.new.limit ≡ self.old.limit) × (self.new.table ≡ self.old.table) }
         ensures left { OnSome result (length self.new.left + 1 ≡ length self.old.left) }
         ensures stepped { IfSome result (λ s. self.new ≡ stepped_writer self.old s) }
         ensures pictures { LeadsFrom self.old self.new }
@@ -376,10 +442,11 @@ impl<O: TreeOrder> WriterCore<O> {
     #[inline(always)]
     fn step_on(&mut self)
         requires { IsSome (next_store self.old) }
-        ensures same { (self.new.capacity ≡ self.old.capacity) × (self.new.limit ≡ self.old.limit)
-            × (self.new.table ≡ self.old.table) }
+        ensures same { (self.new.capacity ≡ self.old.capacity)
+            × (self.new.limit ≡ self.old.limit) × (self.new.table ≡ self.old.table) }
         ensures left { length self.new.left + 1 ≡ length self.old.left }
-        ensures stepped { (s : Store) → next_store self.old ≡ Some s → self.new ≡ stepped_writer self.old s }
+        ensures stepped { (s : Store) → next_store self.old ≡ Some s
+            → self.new ≡ stepped_writer self.old s }
     {
         let store = self.plan.advance();
         if store.word == 0 {
@@ -390,7 +457,8 @@ impl<O: TreeOrder> WriterCore<O> {
     /// How many stores are left until the update in hand is at its end; 0 where none is in hand.
     pub fn remaining(&self) -> u64
         ensures count { result ≡ length self.now.left }
-        ensures left { (l : Latch) (h : Hand) → Pictures self.now l → l.hand ≡ Some h → h.left ≡ result }
+        ensures left { (l : Latch) (h : Hand) → Pictures self.now l → l.hand ≡ Some h
+            → h.left ≡ result }
     {
         self.plan.remaining()
     }
@@ -450,7 +518,8 @@ fn reserve_all<O: TreeOrder>(
     ensures room { OnOk result (size ≤ shape.new.room) }
     ensures list_room { OnOk result (STORES ≤ vec_capacity planned.new) }
     ensures plan_room { OnOk result (2 * (size * STORES) + 2 ≤ plan.new.room) }
-    ensures links { IfOk result (λ links. (links.items ≡ []) × (vec_len links ≡ 0) × (size * STORES ≤ vec_capacity links)) }
+    ensures links { IfOk result (λ links. (links.items ≡ []) × (vec_len links ≡ 0)
+        × (size * STORES ≤ vec_capacity links)) }
     ensures refusal { IfErr result (λ e. e ≡ Refusal.OutOfMemory) }
     ensures sound { IsPicture O.order shape.new }
 {

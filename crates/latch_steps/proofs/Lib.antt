@@ -1,4 +1,3 @@
-mod AttemptLemmas
 mod LoadCases
 mod Moments
 mod Readers

@@ -12,9 +12,9 @@ use Rattle.latch_core.specs.Attempts.{Answer, Again, Reading, Load, Ends, attemp
 use Rattle.latch_core.specs.Invariants.{IsStanding, IsSound}
 use Rattle.latch_core.proofs.Readings.{rest_push, stand_push}
 use Rattle.latch_core.proofs.Walks.{attempt_answers}
+use Rattle.latch_core.proofs.AttemptLemmas.{standing_push, answer_first}
 use Rattle.latch_steps.specs.Runs.{LookupInHand, Moment}
 use Rattle.latch_steps.specs.Steps.{AfterLoad, Goes, Retries, Returns, with_value, next_attempt, return_of, after_value, load_left, after_load}
-use Rattle.latch_steps.proofs.AttemptLemmas.{standing_push, answer_first}
 
 -- a lookup in hand: while its first number is word 0 its values stand, and its attempt asks for a word
 pub record IsGoing {K : Type 0} (o : Order K) (n : ℕ) (m : List ℕ)

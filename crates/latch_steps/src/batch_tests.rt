@@ -1,6 +1,6 @@
 //! Batches: several items in one update, and what no test of one item shows.
 
-use crate::tests::{Line, copies, drives, insert, item, line_of, refused};
+use crate::tests::{Line, drives, insert, item, line_of, refused};
 use crate::{Command, Event, Note, Reply, World, drive, drive_notes, run};
 use latch_core::{Entries, Update};
 use order_laws::{HalfOpen, Item};
@@ -20,8 +20,8 @@ fn batch(alloc: Global, erase: &[u64], insert: &[Item]) -> Result<Update, Fail> 
         items.push(*item)?;
     }
     Ok(Update::Batch {
-        erase: Entries::from(words),
-        insert: Entries::from(items),
+        erase: Entries::new(words)?,
+        insert: Entries::new(items)?,
     })
 }
 
@@ -39,7 +39,7 @@ fn a_batch_is_seen_whole_or_not_at_all(rt: HostRuntime) -> Result<(), Fail> {
         Command::Start(1, 0x30),
         Command::Read(1, 11),
     ]?;
-    let trace = drive::<HalfOpen>(rt.alloc(), Layout::new(4)?, 0, commands)?;
+    let trace = drive::<HalfOpen>(rt.alloc(), Layout::new(4)?, 0, &commands)?;
     assert_eq!(rt; trace.sequence, 2);
     let told: [(u64, Option<u64>, u64); 3] = [
         (0x10, None, 0),
@@ -66,13 +66,13 @@ fn a_batch_where_the_table_is_full(rt: HostRuntime) -> Result<(), Fail> {
             Command::Begin(batch(rt.alloc(), &[0x10], &[item(0x10, 0x20, 2)])?),
         ]?;
         if capacity == 1 {
-            drives(&rt, rt.alloc(), 1, commands, &[refused(4)], 2)?;
+            drives(&rt, rt.alloc(), 1, &commands, &[refused(4)], 2)?;
         } else {
             commands.push(Command::WriteEnd)?;
             commands.push(Command::Start(1, 0x10))?;
             commands.push(Command::Read(1, 6))?;
             let line = (1, 0x10, Some(2), 2, 6, 1);
-            drives(&rt, rt.alloc(), 2, commands, &[line], 4)?;
+            drives(&rt, rt.alloc(), 2, &commands, &[line], 4)?;
         }
     }
     Ok(())
@@ -93,7 +93,7 @@ fn refused_batches_and_an_empty_one(rt: HostRuntime) -> Result<(), Fail> {
         Command::WriteEnd,
     ]?;
     let lines: [Line; 4] = [refused(2), refused(3), refused(3), refused(1)];
-    drives(&rt, alloc, 4, commands, &lines, 4)
+    drives(&rt, alloc, 4, &commands, &lines, 4)
 }
 
 /// Which of the items at these places, 16 apart, are found just now: all, or none of them.
@@ -194,7 +194,7 @@ fn last_updates(alloc: Global) -> Result<Vec<Command<u64>>, Fail> {
 fn a_wide_sequence_to_its_end(rt: HostRuntime) -> Result<(), Fail> {
     let alloc = rt.alloc();
     let start = 18446744073709551612;
-    let run = drive_notes::<HalfOpen>(alloc, Layout::wide(4)?, start, last_updates(alloc)?)?;
+    let run = drive_notes::<HalfOpen>(alloc, Layout::wide(4)?, start, &last_updates(alloc)?)?;
     let greatest = 9223372036854775807;
     assert_eq!(rt; run.notes.len(), 2);
     assert!(rt; line_of(&run.notes[0]) == refused(6));
@@ -204,7 +204,7 @@ fn a_wide_sequence_to_its_end(rt: HostRuntime) -> Result<(), Fail> {
         (Layout::wide(4)?, 18446744073709551615),
         (Layout::new(4)?, 4294967296),
     ] {
-        match drive_notes::<HalfOpen>(alloc, layout, start, last_updates(alloc)?) {
+        match drive_notes::<HalfOpen>(alloc, layout, start, &last_updates(alloc)?) {
             Ok(_) => assert!(rt; false),
             Err(why) => assert_eq!(rt; why.number(), 10),
         }
@@ -227,7 +227,7 @@ fn calls_at_size(rt: HostRuntime) -> Result<(), Fail> {
             events.push(Event::Read(4294967295))?;
         }
     }
-    let trace = run::<HalfOpen>(alloc, Layout::new(65535)?, 0, copies(alloc, &events)?)?;
+    let trace = run::<HalfOpen>(alloc, Layout::new(65535)?, 0, &events)?;
     assert!(rt; trace.events.as_slice() == events.as_slice());
     assert_eq!(rt; trace.sequence, 600);
     let returned = |note: &&Note<u64>| matches!(note, Note::Returned(_));
@@ -237,7 +237,7 @@ fn calls_at_size(rt: HostRuntime) -> Result<(), Fail> {
         commands.push(Command::Start(4294967294, i))?;
         commands.push(Command::Read(4294967294, 4294967295))?;
     }
-    let run = drive_notes::<HalfOpen>(alloc, Layout::new(65536)?, 246, commands)?;
+    let run = drive_notes::<HalfOpen>(alloc, Layout::new(65536)?, 246, &commands)?;
     assert_eq!(rt; run.notes.len(), 20000);
     Ok(())
 }

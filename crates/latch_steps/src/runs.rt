@@ -25,9 +25,9 @@ pub fn run<O: TreeOrder>(
     alloc: Global,
     l: Layout,
     start: u64,
-    events: Vec<Event<O::Key>>,
+    events: &[Event<O::Key>],
 ) -> Result<Trace<O>, Refusal>
-    ensures events { IfOk result (λ t. t.events.items ≡ events.items) }
+    ensures events { IfOk result (λ t. t.events.items ≡ events.now) }
     ensures traces { IfOk result (IsTrace O.order l start) }
     ensures safe { IfOk result (IsSafeTrace O.order l start) }
     ensures quiet { IfOk result (IsQuietTrace O.order l start) }
@@ -51,16 +51,16 @@ pub fn drive<O: TreeOrder>(
     alloc: Global,
     l: Layout,
     start: u64,
-    commands: Vec<Command<O::Key>>,
+    commands: &[Command<O::Key>],
 ) -> Result<Trace<O>, Refusal>
-    ensures expands { IfOk result (IsTraceOfCommands O.order l start commands.items) }
+    ensures expands { IfOk result (IsTraceOfCommands O.order l start commands.now) }
     ensures safe { IfOk result (IsSafeTrace O.order l start) }
     ensures quiet { IfOk result (IsQuietTrace O.order l start) }
     ensures near { IfOk result (IsNearTrace O.order l start) }
     ensures may { IfOk result (λ t. MayOpen l start) }
     ensures refusal { IfErr result (IsOpeningRefused l start) }
 {
-    let mut recorder = Recorder::<O>::open(alloc, l, start, reads_among(&commands))?;
+    let mut recorder = Recorder::<O>::open(alloc, l, start, reads_among(commands))?;
     for command in commands {
         recorder.obey::<true>(command)?;
     }
@@ -76,13 +76,13 @@ pub fn drive_notes<O: TreeOrder>(
     alloc: Global,
     l: Layout,
     start: u64,
-    commands: Vec<Command<O::Key>>,
+    commands: &[Command<O::Key>],
 ) -> Result<Notes<O>, Refusal>
-    ensures notes { IfOk result (AreNotesOfCommands O.order l start commands.items) }
+    ensures notes { IfOk result (AreNotesOfCommands O.order l start commands.now) }
     ensures may { IfOk result (λ t. MayOpen l start) }
     ensures refusal { IfErr result (IsOpeningRefused l start) }
 {
-    let mut recorder = Recorder::<O>::open(alloc, l, start, reads_among(&commands))?;
+    let mut recorder = Recorder::<O>::open(alloc, l, start, reads_among(commands))?;
     for command in commands {
         recorder.obey::<false>(command)?;
     }

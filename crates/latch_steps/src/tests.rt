@@ -34,21 +34,12 @@ pub(crate) fn line_of(note: &Note<u64>) -> Line {
     }
 }
 
-/// The same events once more.
-pub(crate) fn copies(alloc: Global, events: &[Event<u64>]) -> Result<Vec<Event<u64>>, Fail> {
-    let mut list = Vec::with_capacity(alloc, events.len())?;
-    for event in events {
-        list.push(event.copy()?)?;
-    }
-    Ok(list)
-}
-
 /// Drives commands from the sequence 0 at four nodes, or as told, and compares what is noted.
 pub(crate) fn drives(
     rt: &impl Abort,
     alloc: Global,
     capacity: u32,
-    commands: Vec<Command<u64>>,
+    commands: &[Command<u64>],
     lines: &[Line],
     sequence: u64,
 ) -> Result<(), Fail> {
@@ -58,8 +49,7 @@ pub(crate) fn drives(
         assert!(rt; line_of(note) == *line);
     }
     assert_eq!(rt; trace.sequence, sequence);
-    let events = copies(alloc, &trace.events)?;
-    let again = run::<HalfOpen>(alloc, Layout::new(capacity)?, 0, events)?;
+    let again = run::<HalfOpen>(alloc, Layout::new(capacity)?, 0, &trace.events)?;
     assert!(rt; again.events.as_slice() == trace.events.as_slice());
     assert!(rt; again.notes.as_slice() == trace.notes.as_slice());
     assert_eq!(rt; again.sequence, sequence);
@@ -75,7 +65,7 @@ fn a_lookup_in_the_first_half_of_an_insert(rt: HostRuntime) -> Result<(), Fail> 
         Command::Read(1, 3),
     ]?;
     let lines = [(1, 0x1000, None, 0, 3, 1)];
-    drives(&rt, rt.alloc(), 4, commands, &lines, 1)
+    drives(&rt, rt.alloc(), 4, &commands, &lines, 1)
 }
 
 // Copy 1 is still the old one.
@@ -89,7 +79,7 @@ fn a_lookup_in_the_second_half_of_an_insert(rt: HostRuntime) -> Result<(), Fail>
         Command::Read(1, 6),
     ]?;
     let lines = [(1, 0x1000, Some(7), 1, 6, 1)];
-    drives(&rt, rt.alloc(), 4, commands, &lines, 2)
+    drives(&rt, rt.alloc(), 4, &commands, &lines, 2)
 }
 
 #[test]
@@ -102,7 +92,7 @@ fn a_reader_sleeps_through_an_update(rt: HostRuntime) -> Result<(), Fail> {
         Command::Read(1, 11),
     ]?;
     let lines = [(1, 0x1000, Some(7), 1, 12, 2)];
-    drives(&rt, rt.alloc(), 4, commands, &lines, 2)
+    drives(&rt, rt.alloc(), 4, &commands, &lines, 2)
 }
 
 #[test]
@@ -115,7 +105,7 @@ fn a_second_attempt_finds_the_old_table(rt: HostRuntime) -> Result<(), Fail> {
         Command::Read(1, 4),
     ]?;
     let lines = [(1, 0x1000, None, 0, 6, 2)];
-    drives(&rt, rt.alloc(), 4, commands, &lines, 1)
+    drives(&rt, rt.alloc(), 4, &commands, &lines, 1)
 }
 
 /// The line of a refusal of this number.
@@ -134,7 +124,7 @@ fn a_second_update_while_one_is_in_hand(rt: HostRuntime) -> Result<(), Fail> {
         Command::Read(1, 6),
     ]?;
     let lines = [refused(5), (1, 0x10, Some(1), 1, 6, 1)];
-    drives(&rt, rt.alloc(), 4, commands, &lines, 2)
+    drives(&rt, rt.alloc(), 4, &commands, &lines, 2)
 }
 
 #[test]
@@ -147,7 +137,7 @@ fn a_busy_and_an_idle_reader(rt: HostRuntime) -> Result<(), Fail> {
         Command::Read(1, 1),
     ]?;
     let lines = [refused(8), refused(9), (1, 0x10, None, 0, 3, 1), refused(9)];
-    drives(&rt, rt.alloc(), 4, commands, &lines, 0)
+    drives(&rt, rt.alloc(), 4, &commands, &lines, 0)
 }
 
 #[test]
@@ -165,7 +155,7 @@ fn words_of_two_items_are_not_answered(rt: HostRuntime) -> Result<(), Fail> {
         Command::Read(1, 10),
     ]?;
     let lines = [refused(3), (1, 0x28, None, 3, 13, 2)];
-    drives(&rt, rt.alloc(), 1, commands, &lines, 6)
+    drives(&rt, rt.alloc(), 1, &commands, &lines, 6)
 }
 
 /// Commands of which the second update is past the greatest sequence.
@@ -182,13 +172,13 @@ fn two_updates(alloc: Global) -> Result<Vec<Command<u64>>, Fail> {
 #[test]
 fn the_last_sequence(rt: HostRuntime) -> Result<(), Fail> {
     let layout = Layout::new(4)?;
-    let trace = drive::<Closed>(rt.alloc(), layout, 4294967292, two_updates(rt.alloc())?)?;
+    let trace = drive::<Closed>(rt.alloc(), layout, 4294967292, &two_updates(rt.alloc())?)?;
     assert_eq!(rt; trace.sequence, 4294967294);
     assert_eq!(rt; trace.notes.len(), 2);
     assert!(rt; line_of(&trace.notes[0]) == (0, 6, None, 0, 0, 0));
     assert!(rt; line_of(&trace.notes[1]) == (1, 0x10, Some(1), 2147483647, 6, 1));
     for start in [1, 4294967296] {
-        match drive::<Closed>(rt.alloc(), layout, start, two_updates(rt.alloc())?) {
+        match drive::<Closed>(rt.alloc(), layout, start, &two_updates(rt.alloc())?) {
             Ok(_) => assert!(rt; false),
             Err(why) => assert_eq!(rt; why, Refusal::BadCapacity),
         }
@@ -223,8 +213,8 @@ fn some_batch(alloc: Global, state: &mut u64) -> Result<Update, Fail> {
         items.push(some_item(state))?;
     }
     Ok(Update::Batch {
-        erase: Entries::from(words),
-        insert: Entries::from(items),
+        erase: Entries::new(words)?,
+        insert: Entries::new(items)?,
     })
 }
 
@@ -370,7 +360,7 @@ fn interrupts(rt: &impl Abort, alloc: Global, seed: u64, start: u64) -> Result<(
         account.step(rt, alloc, some_event(alloc, &mut state)?)?;
     }
     assert!(rt; 20 < account.returned);
-    let trace = run::<HalfOpen>(alloc, layout, start, copies(alloc, &account.events)?)?;
+    let trace = run::<HalfOpen>(alloc, layout, start, &account.events)?;
     assert!(rt; trace.events.as_slice() == account.events.as_slice());
     assert!(rt; trace.notes.as_slice() == account.notes.as_slice());
     assert_eq!(rt; trace.sequence, account.world.sequence());

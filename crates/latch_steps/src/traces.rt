@@ -1,8 +1,10 @@
 //! Whole runs, and what they leave.
 
-ghost use Rattle.std.specs.Prelude.{◌≡◌, ◌<◌, ◌^◌, [], length, IfOk, IfErr, OnOk};
+ghost use Rattle.std.specs.Prelude.{◌≡◌, ◌<◌, ◌^◌, [], ◌++◌, length, false, IfOk, IfErr, OnOk};
+ghost use Rattle.std.specs.List.{cons_option};
 ghost use Rattle.word_arena.specs.Layouts.{capacity_of};
 ghost use Rattle.latch_core.specs.Writers.{MayOpen, IsOpeningRefused};
+ghost use Rattle.latch_steps.specs.declared.events.Event.TheVariants.{Begin};
 ghost use Rattle.latch_steps.specs.Runs.{opening};
 ghost use Rattle.latch_steps.specs.Traces.{note_of};
 ghost use Rattle.latch_steps.specs.WorldSteps.{gives_up};
@@ -13,6 +15,7 @@ use crate::commands::Command;
 use crate::events::Event;
 use crate::replies::{Note, Reply};
 use crate::worlds::World;
+use latch_core::Update;
 use order_laws::{Refusal, TreeOrder};
 use std::alloc::Global;
 use word_arena::Layout;
@@ -94,6 +97,36 @@ fn keep<K: Copy, const KEEPS: bool>(
     Ok(())
 }
 
+/// Appends a copy of this update's beginning, where events are kept. Refused by
+/// [`Refusal::OutOfMemory`] alone.
+fn keep_beginning<K: Copy, const KEEPS: bool>(
+    events: &mut Vec<Event<K>>,
+    update: &Update,
+) -> Result<(), Refusal>
+    ensures kept { OnOk result (KeepsTimes KEEPS (Begin update.now) 1 events.old.items events.new.items) }
+    ensures refusal { IfErr result (λ e. e ≡ Refusal.OutOfMemory) }
+{
+    if KEEPS {
+        events.push(Event::Begin(update.copy()?))?;
+    }
+    Ok(())
+}
+
+/// Notes a reply. Refused by [`Refusal::OutOfMemory`] alone, also where that is the reply.
+fn keep_note<K: Copy>(notes: &mut Vec<Note<K>>, reply: &Reply<K>) -> Result<(), Refusal>
+    ensures noted { OnOk result (notes.new.items ≡ notes.old.items ++ cons_option (note_of reply.now) []) }
+    ensures goes_on { OnOk result (gives_up reply.now ≡ false) }
+    ensures refusal { IfErr result (λ e. e ≡ Refusal.OutOfMemory) }
+{
+    if gives_up(reply) {
+        return Err(Refusal::OutOfMemory);
+    }
+    if let Some(note) = note_of(reply) {
+        notes.push(note)?;
+    }
+    Ok(())
+}
+
 impl<O: TreeOrder> Recorder<O> {
     ghost use Rattle.latch_steps.specs.Worlds.{Shows, layout_in, HasSequence, HasFewEvents};
     ghost use Rattle.latch_steps.specs.Recorders.{RecordsOne, ObeysFromAny, ObeysWriting, ObeysReading, EndsAt};
@@ -117,38 +150,44 @@ impl<O: TreeOrder> Recorder<O> {
     /// Does one event and records it. A copy is made only where events are kept.
     pub(crate) fn record<const KEEPS: bool>(
         &mut self,
-        event: Event<O::Key>,
+        event: &Event<O::Key>,
     ) -> Result<Reply<O::Key>, Refusal>
-        ensures recorded { IfOk result (RecordsOne O.order KEEPS event self.old self.new) }
+        ensures recorded { IfOk result (RecordsOne O.order KEEPS event.now self.old self.new) }
         ensures refusal { IfErr result (λ e. e ≡ Refusal.OutOfMemory) }
     {
-        keep::<O::Key, KEEPS>(&mut self.events, &event, 1)?;
-        let reply = self.world.step(event);
-        if gives_up(&reply) {
-            return Err(Refusal::OutOfMemory);
-        }
-        if let Some(note) = note_of(&reply) {
-            self.notes.push(note)?;
-        }
+        keep::<O::Key, KEEPS>(&mut self.events, event, 1)?;
+        let reply = self.world.step_from(event);
+        keep_note(&mut self.notes, &reply)?;
+        Ok(reply)
+    }
+
+    /// The writer takes an update in hand, which is recorded as an event.
+    fn begin<const KEEPS: bool>(&mut self, update: &Update) -> Result<Reply<O::Key>, Refusal>
+        ensures recorded { IfOk result (RecordsOne O.order KEEPS (Begin update.now) self.old self.new) }
+        ensures refusal { IfErr result (λ e. e ≡ Refusal.OutOfMemory) }
+    {
+        keep_beginning::<O::Key, KEEPS>(&mut self.events, update)?;
+        let reply = self.world.begin(update);
+        keep_note(&mut self.notes, &reply)?;
         Ok(reply)
     }
 
     /// Does the events of a command.
     pub(crate) fn obey<const KEEPS: bool>(
         &mut self,
-        command: Command<O::Key>,
+        command: &Command<O::Key>,
     ) -> Result<(), Refusal>
-        ensures obeyed { OnOk result (ObeysFromAny O.order KEEPS command self.old self.new) }
+        ensures obeyed { OnOk result (ObeysFromAny O.order KEEPS command.now self.old self.new) }
         ensures refusal { IfErr result (λ e. e ≡ Refusal.OutOfMemory) }
     {
         match command {
             Command::Begin(update) => {
-                let _ = self.record::<KEEPS>(Event::Begin(update))?;
+                let _ = self.begin::<KEEPS>(update)?;
                 Ok(())
             }
             Command::Write(most) => {
                 let most = if self.world.is_writing() {
-                    most as u64
+                    *most as u64
                 } else {
                     0
                 };
@@ -163,10 +202,10 @@ impl<O: TreeOrder> Recorder<O> {
                 self.write_on::<KEEPS>(left, false)
             }
             Command::Start(reader, key) => {
-                let _ = self.record::<KEEPS>(Event::Start(reader, key))?;
+                let _ = self.record::<KEEPS>(&Event::Start(*reader, *key))?;
                 Ok(())
             }
-            Command::Read(reader, most) => self.read_on::<KEEPS>(reader, most),
+            Command::Read(reader, most) => self.read_on::<KEEPS>(*reader, *most),
         }
     }
 
@@ -177,7 +216,7 @@ impl<O: TreeOrder> Recorder<O> {
         ensures refusal { IfErr result (λ e. e ≡ Refusal.OutOfMemory) }
     {
         for _turn in 0..most {
-            let reply = self.record::<KEEPS>(Event::Write)?;
+            let reply = self.record::<KEEPS>(&Event::Write)?;
             if self.ends(&reply, to_flip) {
                 break;
             }

@@ -70,20 +70,29 @@ impl<O: TreeOrder> World<O> {
         ensures steps { Steps O.order self.old event result self.new }
         ensures after { StaysAfter O.order self.old event result self.new }
     {
+        self.step_from(&event)
+    }
+
+    /// The same for a caller that keeps its event.
+    pub fn step_from(&mut self, event: &Event<O::Key>) -> Reply<O::Key>
+        ensures layout { layout_in self.new ≡ layout_in self.old }
+        ensures steps { Steps O.order self.old event.now result self.new }
+        ensures after { StaysAfter O.order self.old event.now result self.new }
+    {
         match event {
             Event::Begin(update) => self.begin(update),
             Event::Write => self.write(),
-            Event::Start(reader, key) => self.start(reader, key),
-            Event::Read(reader) => self.read(reader),
+            Event::Start(reader, key) => self.start(*reader, *key),
+            Event::Read(reader) => self.read(*reader),
         }
     }
 
     /// The writer takes an update in hand.
-    fn begin(&mut self, update: Update) -> Reply<O::Key>
+    pub(crate) fn begin(&mut self, update: &Update) -> Reply<O::Key>
         ensures layout { layout_in self.new ≡ layout_in self.old }
-        ensures steps { MayDo O.order self.old (Begin update) result self.new }
+        ensures steps { MayDo O.order self.old (Begin update.now) result self.new }
     {
-        match self.writer.begin(update) {
+        match self.writer.begin_from(update) {
             Ok(left) => {
                 self.events = self.events.saturating_add(1);
                 Reply::Begun(left)

@@ -34,22 +34,22 @@ pub fn trace_engine<R: Read, W: Write>(
 {
     let trace = read_trace(alloc, reader).map_err(|fault| Fault::of_lines(0, fault))?;
     if trace.header.closed {
-        run_in::<Closed, W>(alloc, trace, writer)
+        run_in::<Closed, W>(alloc, &trace, writer)
     } else {
-        run_in::<HalfOpen, W>(alloc, trace, writer)
+        run_in::<HalfOpen, W>(alloc, &trace, writer)
     }
 }
 
 /// Runs a trace in the order that its header names.
 fn run_in<O: TreeOrder<Key = u64>, W: Write>(
     alloc: Global,
-    trace: TraceFile,
+    trace: &TraceFile,
     writer: &mut Counted<W>,
 ) -> Result<(), Fault>
-    ensures { AnswersIn O.order W.contents (contents_of trace) writer.old writer.new result }
+    ensures { AnswersIn O.order W.contents (contents_of trace.now) writer.old writer.new result }
 {
     let layout = layout_for(trace.header.version, trace.header.capacity)?;
-    let run = drive_notes::<O>(alloc, layout, trace.header.start, trace.commands)?;
+    let run = drive_notes::<O>(alloc, layout, trace.header.start, &trace.commands)?;
     let mut block = Vec::with_capacity(alloc, BLOCK)?;
     put_trace(writer, &mut block, &run.notes, run.sequence).map_err(|_| Fault::Write)
 }

@@ -62,8 +62,8 @@ fn batch_command(alloc: Global, arguments: &[u8]) -> Result<Option<Command<u64>>
         return Ok(None);
     };
     Ok(Some(Command::Begin(Update::Batch {
-        erase: Entries::from(batch.erase),
-        insert: Entries::from(batch.insert),
+        erase: Entries::new(batch.erase)?,
+        insert: Entries::new(batch.insert)?,
     })))
 }
 

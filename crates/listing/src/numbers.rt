@@ -86,16 +86,16 @@ pub(crate) fn sixteen_digits(text: &[u8]) -> Option<u64>
     ensures { result ≡ numeral 16 16 text.now }
 {
     let (high, low) = text.split_at(8);
-    let (high, greatest_high) = eight_digits(high);
-    let (low, greatest_low) = eight_digits(low);
-    if greatest_high.max(greatest_low) >= 16 {
+    let (high, bits_high) = eight_digits(high);
+    let (low, bits_low) = eight_digits(low);
+    if bits_high.max(bits_low) >= 16 {
         return None;
     }
     Some(high * 0x1_0000_0000 + low)
 }
 
-/// What eight bytes write as hexadecimal digits, and the greatest of the digits, which is 16 or more
-/// where a byte is no such digit. No eight of them pass 64 bits.
+/// What eight bytes write as hexadecimal digits, and the bits of all of the digits, which are 16 or
+/// more where a byte is no such digit. No eight of them pass 64 bits.
 #[inline]
 fn eight_digits(text: &[u8]) -> (u64, u64)
     requires { length text.now ≡ 8 }
@@ -103,13 +103,13 @@ fn eight_digits(text: &[u8]) -> (u64, u64)
     ensures digits { nat_lt result.1 16 ≡ list_all (λ c. is_digit c 16) text.now }
 {
     let mut value = 0u64;
-    let mut greatest = 0u64;
+    let mut bits = 0u64;
     for byte in text {
         let digit = digit_of(*byte);
-        greatest = greatest.max(digit);
+        bits |= digit;
         value = value * 16 + digit;
     }
-    (value, greatest)
+    (value, bits)
 }
 
 /// The digit that each byte is, with 36 for a byte that is none.

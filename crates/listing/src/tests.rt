@@ -186,8 +186,8 @@ fn input_is_read_whole(rt: HostRuntime) -> Result<(), Fail> {
 /// A batch of these first words and items.
 fn batch(alloc: Global, erase: &[u64], insert: &[Item]) -> Result<Command<u64>, AllocError> {
     Ok(Command::Begin(Update::Batch {
-        erase: Entries::from(Vec::from_slice(alloc, erase)?),
-        insert: Entries::from(Vec::from_slice(alloc, insert)?),
+        erase: Entries::new(Vec::from_slice(alloc, erase)?)?,
+        insert: Entries::new(Vec::from_slice(alloc, insert)?)?,
     }))
 }
 

@@ -12,7 +12,7 @@ ghost use Rattle.modules.specs.Starts.{starts_of};
 use crate::lines::{Part, Region};
 use crate::module::MOST_REGIONS;
 use arrayvec::ArrayVec;
-use latch_core::Update;
+use latch_core::{Entries, Update};
 use order_laws::{Item, Refusal};
 use std::alloc::{AllocError, Global};
 
@@ -43,10 +43,9 @@ fn inserting_many(alloc: Global, regions: &[Region], number: u64) -> Result<Upda
     ensures { GivesOrLacksMemory (Ok (update_of [] (map (item_of number) regions.now))) result }
 {
     let items = items_of(alloc, regions, number)?;
-    Ok(Update::Batch {
-        erase: Vec::new(alloc).into(),
-        insert: items.into(),
-    })
+    let erase = Entries::new(Vec::new(alloc))?;
+    let insert = Entries::new(items)?;
+    Ok(Update::Batch { erase, insert })
 }
 
 /// The update that puts in the regions of a module.
@@ -67,8 +66,8 @@ pub(crate) fn erasing(alloc: Global, starts: &[u64]) -> Result<Update, Refusal>
         return Ok(Update::Erase(*start));
     }
     Ok(Update::Batch {
-        erase: Vec::from_slice(alloc, starts)?.into(),
-        insert: Vec::new(alloc).into(),
+        erase: Entries::new(Vec::from_slice(alloc, starts)?)?,
+        insert: Entries::new(Vec::new(alloc))?,
     })
 }
 

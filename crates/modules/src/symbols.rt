@@ -64,7 +64,7 @@ pub(crate) fn by_address(alloc: Global, symbols: &[Symbol]) -> Result<Vec<IndexE
     ensures { IfOk result (λ v. IsIndex symbols.now v.items) }
 {
     let mut entries = listed_entries(alloc, symbols)?;
-    entries.sort_by(|x, y| x.addr.cmp(&y.addr).then(y.place.cmp(&x.place)))?;
+    entries.sort_unstable_by(|x, y| x.addr.cmp(&y.addr).then(y.place.cmp(&x.place)));
     Ok(entries)
 }
 

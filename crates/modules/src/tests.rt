@@ -3,7 +3,7 @@
 use crate::{
     BuildCounts, Catalog, Held, KernelBounds, ModuleLine, Part, RegionLine, SymbolLine, SymbolLines,
 };
-use latch_core::Update;
+use latch_core::{Entries, Update};
 use order_laws::{Item, Refusal};
 use std::alloc::{AllocError, Global};
 use std::process::Abort;
@@ -335,18 +335,18 @@ fn several_regions_are_one_update(rt: HostRuntime) -> Result<(), Fail> {
         tag: 1,
     };
     let load = Update::Batch {
-        erase: Vec::new(alloc).into(),
-        insert: vec![in alloc; item(M_CORE), item(M_DATA), item(M_INIT)]?.into(),
+        erase: Entries::new(Vec::new(alloc))?,
+        insert: Entries::new(vec![in alloc; item(M_CORE), item(M_DATA), item(M_INIT)]?)?,
     };
     assert_eq!(rt; catalog.load(1, NOTHING)?, load);
     let both_parts = Update::Batch {
-        erase: vec![in alloc; M_CORE, M_DATA, M_INIT]?.into(),
-        insert: Vec::new(alloc).into(),
+        erase: Entries::new(vec![in alloc; M_CORE, M_DATA, M_INIT]?)?,
+        insert: Entries::new(Vec::new(alloc))?,
     };
     assert_eq!(rt; catalog.unload(1, BOTH)?, both_parts);
     let core_alone = Update::Batch {
-        erase: vec![in alloc; M_CORE, M_DATA]?.into(),
-        insert: Vec::new(alloc).into(),
+        erase: Entries::new(vec![in alloc; M_CORE, M_DATA]?)?,
+        insert: Entries::new(Vec::new(alloc))?,
     };
     assert_eq!(rt; catalog.unload(1, CORE)?, core_alone);
     assert_eq!(rt; catalog.drop_init(1, BOTH)?, Update::Erase(M_INIT));

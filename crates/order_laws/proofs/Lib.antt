@@ -1,3 +1,4 @@
 pub mod TableLemmas
 pub mod PlaceLemmas
 pub mod SetLemmas
+pub mod LeftOutLemmas

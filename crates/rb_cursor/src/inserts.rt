@@ -53,7 +53,7 @@ pub fn insert<O: TreeOrder>(
 
 /// As [`insert`] puts it, unless its item meets one of the tree: then nothing changes. Answers
 /// whether it does. In the tree no item beyond one that is apart from the item can meet it.
-#[inline]
+#[inline(always)]
 pub fn insert_apart<O: TreeOrder>(
     out: &mut Vec<Store>,
     copy: TreeCopy,
@@ -82,7 +82,7 @@ pub fn insert_apart<O: TreeOrder>(
 }
 
 // Plants a record where no node is in hand, and goes all the way up.
-#[inline]
+#[inline(always)]
 fn grow(out: &mut Vec<Store>, copy: TreeCopy, cursor: &mut Cursor, added: Record)
     requires leaf { cursor.old.tree ≡ tip }
     requires calm { IsCalmPath cursor.old.path }
@@ -106,6 +106,7 @@ fn grow(out: &mut Vec<Store>, copy: TreeCopy, cursor: &mut Cursor, added: Record
 }
 
 // Goes all the way up from the new leaf.
+#[inline(always)]
 fn climb(out: &mut Vec<Store>, copy: TreeCopy, cursor: &mut Cursor, added: &Record)
     requires leaf { cursor.old.tree ≡ branch true tip added.now tip }
     requires calm { IsCalmPath cursor.old.path }

@@ -12,7 +12,7 @@ use word_arena::{Store, TreeCopy};
 
 /// Puts the left child of the node in hand in its place, and the node on the right of it. The child
 /// gets the first colour, the node the second.
-#[inline]
+#[inline(always)]
 pub fn turn_right(
     out: &mut Vec<Store>,
     copy: TreeCopy,
@@ -44,7 +44,7 @@ pub fn turn_right(
 
 /// Puts the right child of the node in hand in its place, and the node on the left of it. The child
 /// gets the first colour, the node the second.
-#[inline]
+#[inline(always)]
 pub fn turn_left(
     out: &mut Vec<Store>,
     copy: TreeCopy,

@@ -1,3 +1,4 @@
 pub mod ListLemmas
 pub mod PlanLemmas
 pub mod MirrorLemmas
+pub mod WiderLemmas

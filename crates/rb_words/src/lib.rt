@@ -14,4 +14,4 @@ pub mod shapes;
 mod tests;
 
 pub use mirrors::mirrored;
-pub use shapes::{STORES, Shape};
+pub use shapes::{STORES, Shape, item_stores};

@@ -13,6 +13,7 @@ ghost use Rattle.word_arena.specs.Layouts.{capacity_of};
 ghost use Rattle.word_arena.specs.Copies.{copy_number};
 ghost use Rattle.word_arena.specs.Words.{none, listed, root_word};
 ghost use Rattle.rb_words.specs.Pictures.{IsPicture};
+ghost use Rattle.rb_words.specs.Wider.{IsPicturedWider};
 ghost use Rattle.rb_words.specs.Plans.{item_stores, Inserts, LeadsWithItem, Erases, LeadsByLinks};
 ghost use Rattle.rb_words.specs.TreePictures.{zipper_with, links_with, zipper_without, links_without};
 ghost use Rattle.rb_words.specs.TreePictures.{Grows, TakesOut};
@@ -86,6 +87,18 @@ impl<O: TreeOrder> Shape<O> {
             alloc,
             order: PhantomData,
         }
+    }
+
+    /// Pictures the same items in the same tree, in a memory of the nodes of this layout, which has
+    /// no fewer. Takes no memory.
+    pub fn widen(&mut self, l: Layout)
+        requires { self.old.capacity ≤ capacity_of l }
+        ensures widened { self.new ≡ record self.old { capacity = capacity_of l } }
+        ensures pictures { IsPicturedWider self.old self.new }
+        ensures was_sound { IsPicture O.order self.old }
+        ensures sound { IsPicture O.order self.new }
+    {
+        self.layout = l;
     }
 
     /// How many items are pictured.
@@ -173,8 +186,22 @@ impl<O: TreeOrder> Shape<O> {
         ensures refusal { IfErr result (λ e. e ≡ Refusal.OutOfMemory) }
         ensures sound { IsPicture O.order self.new }
     {
-        self.cursor.reserve(k as usize)?;
+        self.reserve_room(k)?;
         Ok(out.reserve(k as usize * STORES)?)
+    }
+
+    /// Makes room for `k` items, and in no list.
+    ///
+    /// What is pictured stays, also where memory is refused by [`Refusal::OutOfMemory`].
+    #[inline(always)]
+    pub fn reserve_room(&mut self, k: u32) -> Result<(), Refusal>
+        ensures kept { self.new ≡ record self.old { room = self.new.room } }
+        ensures grown { self.old.room ≤ self.new.room }
+        ensures room { OnOk result (k ≤ self.new.room) }
+        ensures refusal { IfErr result (λ e. e ≡ Refusal.OutOfMemory) }
+        ensures sound { IsPicture O.order self.new }
+    {
+        Ok(self.cursor.reserve(k as usize)?)
     }
 
     /// Plans to insert an item in a free node, and pictures the copy with it.
@@ -195,8 +222,28 @@ impl<O: TreeOrder> Shape<O> {
         ensures was_sound { IsPicture O.order self.old }
         ensures sound { IsPicture O.order self.new }
     {
-        let _most = self.layout.capacity();
         append(out, &item_stores(node, item));
+        self.plan_links(out, node, item);
+    }
+
+    // Plans the links of an insert alone.
+    fn plan_links(&mut self, out: &mut Vec<Store>, node: u32, item: Item)
+        requires room { 0 < self.old.room }
+        requires list { vec_len out.old + STORES ≤ vec_capacity out.old + 3 }
+        requires in_range { node < self.old.capacity }
+        requires free { Contains (listed self.old.tree) node → ⊥ }
+        requires valid { O.order.valid item ≡ true }
+        requires apart { meets O.order item self.old.table ≡ false }
+        ensures pictures { Inserts O.order self.old self.new node item }
+        ensures plan { (links : List Store)
+            × (out.new.items ≡ out.old.items ++ links)
+            × LeadsWithItem self.old self.new node item links }
+        ensures few { vec_len out.new + 3 ≤ vec_len out.old + STORES }
+        ensures capacity { vec_capacity out.new ≡ vec_capacity out.old }
+        ensures was_sound { IsPicture O.order self.old }
+        ensures sound { IsPicture O.order self.new }
+    {
+        let _most = self.layout.capacity();
         with_record::<O>(out, self.copy, &mut self.cursor, Record { node, item });
         self.count += 1;
     }
@@ -222,19 +269,49 @@ impl<O: TreeOrder> Shape<O> {
         ensures was_sound { IsPicture O.order self.old }
         ensures sound { IsPicture O.order self.new }
     {
+        let listed = out.len();
+        let words = item_stores(node, item);
+        append(out, &words);
+        let met = self.plan_links_apart(out, node, item);
+        if met {
+            out.truncate(listed);
+        }
+        met
+    }
+
+    /// Plans the links of an insert alone, for a caller that has listed the stores of the item's
+    /// words, unless the item meets one of the table. Answers whether it does.
+    ///
+    /// Where it meets one, what is pictured and what is listed stay. Takes no memory. There must
+    /// be room for one item and for [`STORES`] stores, the item's three among them, and the item
+    /// must be valid. Where items lie in line ([`TreeOrder::in_line`]), it goes down once.
+    #[inline(always)]
+    pub fn plan_links_apart(&mut self, out: &mut Vec<Store>, node: u32, item: Item) -> bool
+        requires room { 0 < self.old.room }
+        requires list { vec_len out.old + STORES ≤ vec_capacity out.old + 3 }
+        requires in_range { node < self.old.capacity }
+        requires free { Contains (listed self.old.tree) node → ⊥ }
+        requires valid { O.order.valid item ≡ true }
+        ensures met { result ≡ meets O.order item self.old.table }
+        ensures unchanged { result ≡ true → (self.new ≡ self.old) × (out.new.items ≡ out.old.items) }
+        ensures pictures { result ≡ false → Inserts O.order self.old self.new node item }
+        ensures plan { result ≡ false → (links : List Store)
+            × (out.new.items ≡ out.old.items ++ links)
+            × LeadsWithItem self.old self.new node item links }
+        ensures few { vec_len out.new + 3 ≤ vec_len out.old + STORES }
+        ensures capacity { vec_capacity out.new ≡ vec_capacity out.old }
+        ensures was_sound { IsPicture O.order self.old }
+        ensures sound { IsPicture O.order self.new }
+    {
         let _most = self.layout.capacity();
         if !O::in_line() {
             if self.meets(&item, &[]) {
                 return true;
             }
-            self.plan_insert(out, node, item);
+            self.plan_links(out, node, item);
             return false;
         }
-        let listed = out.len();
-        let words = item_stores(node, item);
-        append(out, &words);
         if with_record_apart::<O>(out, self.copy, &mut self.cursor, Record { node, item }) {
-            out.truncate(listed);
             return true;
         }
         self.count += 1;
@@ -394,8 +471,9 @@ fn without_sought<P: Probe>(
     Some(row)
 }
 
-// The stores of an item's words.
-fn item_stores(node: u32, item: Item) -> [Store; 3]
+/// The stores of an item's words in a node, which serve both copies.
+#[inline(always)]
+pub fn item_stores(node: u32, item: Item) -> [Store; 3]
     ensures { result ≡ item_stores node item }
 {
     [

@@ -3,3 +3,4 @@ pub mod StoreLemmas
 pub mod HoldsLemmas
 pub mod ReachLemmas
 pub mod HeldLemmas
+pub mod WiderLemmas

@@ -7,5 +7,7 @@ pub mod Copies
 pub mod Words
 -- stores
 pub mod Stores
+-- more nodes
+pub mod Wider
 -- a tree of node numbers as a list, from which it is built again
 pub mod NodesCode

@@ -1,14 +1,12 @@
-use Rattle.std.proofs.Common.{false, ◌++◌, [], refl, sym, ◌∙◌, subst, arith}
-use Rattle.std.proofs.lemmas.List.{map-id}
-use Rattle.std.proofs.lemmas.Iterator.Adapters.{YieldsList-from_vec}
-use Rattle.std.proofs.lemmas.Iterator.Consumers.{YieldsList-end}
+use Rattle.std.proofs.Common.{false, ◌++◌, [], take, refl, subst, arith}
+use Rattle.std.proofs.lemmas.List.{take_all}
 use Rattle.word_arena.specs.Layouts.{capacity_of, limit_of}
 use Rattle.latch_steps.specs.Runs.{last_of, opening}
 use Rattle.latch_steps.specs.Expands.{Expand}
 use Rattle.latch_steps.proofs.SafeRuns.{safe}
 use Rattle.latch_steps.proofs.Patient.{quiet, near}
 use Rattle.latch_steps.specs.Near.{AreShallow}
-use Rattle.latch_steps.proofs.Recording.{records_none, records_append, notes_of_run, expand_push}
+use Rattle.latch_steps.proofs.Recording.{records_none, records_append, notes_of_run, expand_push, one_more_taken}
 use Rattle.latch_steps.proofs.Counting.{few_counted}
 use Rattle.latch_steps.proofs.PlainRuns.{exact_where_plain}
 use Rattle.latch_steps.proofs.runs.drive_notes.Goals as goal
@@ -20,10 +18,13 @@ pub loop-command-preserved : goal.loop-command-preserved
 loop-command-preserved g c =
     let w0 = opening (capacity_of c.args.l) c.args.start in
     let h = c.loop-command.invariant in
-    let d = c.in_ok-obey.ensures.obeyed (last_of w0 h.0) h.1.shows in (
+    let d = c.in_ok-obey.ensures.obeyed (last_of w0 h.0) h.1.shows in
+    let xs = c.args.commands.now in
+    let i = c.loop-command.command-index in
+    let taken = one_more_taken xs i c.command-item.result (omega arith) c.command-item.is in (
       h.0 ++ d.0,
       records_append g.O.TreeOrder.order false c.in_ok-recorder.recorder c.loop-command.recorder c.obey.new.self w0 h.0 d.0 h.1 d.1,
-      expand_push w0 c.loop-command.yielded c.in-Some.command h.0 d.0 h.2 d.2,
+      subst (λ cs. Expand w0 cs (h.0 ++ d.0)) taken (expand_push w0 (take i xs) c.command-item.result h.0 d.0 h.2 d.2),
     )
 
 pub returns-clause-notes : goal.returns-clause-notes
@@ -35,8 +36,8 @@ returns-clause-notes g c =
     let even = c.in_ok-recorder.ensures.may.0 in
     let lay = c.in_ok-recorder.ensures.layout in
     let h = c.loop-command.invariant in
+    let all = take_all c.loop-command.command-index c.args.commands.now (omega arith) in
     let w0 = opening (capacity_of l) start in
-    let all = sym (map-id c.loop-command.yielded) ∙ (YieldsList-end (YieldsList-from_vec c.args.commands.items (let gives = c.into_iter-command-iterator.ensures.into_iter_gives in cc) (let gives = c.into_iter-command-iterator.ensures.into_iter_gives in let ok = c.args.commands.ok in omega arith)) c.loop-command.yielded c.loop-command.command-iterator c.loop-command.yielded_by c.next.result c.next.new.self c.in-None.is c.next.ensures.steps).0 in
     let told = c.in_ok-notes.ensures in
     let noted = notes_of_run o false l start c.in_ok-recorder.recorder c.loop-command.recorder c.in_ok-notes.notes h.0 lay c.in_ok-recorder.ensures.none.1 h.1 told.notes told.sequence in
     let low = subst (λ a. AreShallow (capacity_of a) h.0) lay h.1.shallow in

@@ -1,13 +1,11 @@
-use Rattle.std.proofs.Common.{true, ◌∙◌, ◌++◌, ◌∷◌, [], refl, sym, ap, subst, arith}
-use Rattle.std.proofs.lemmas.List.{map-id}
-use Rattle.std.proofs.lemmas.Iterator.Adapters.{YieldsList-from_vec}
-use Rattle.std.proofs.lemmas.Iterator.Consumers.{YieldsList-end}
+use Rattle.std.proofs.Common.{true, ◌∙◌, ◌++◌, ◌∷◌, [], refl, ap, subst, arith}
+use Rattle.std.proofs.lemmas.List.{take_all}
 use Rattle.word_arena.specs.Layouts.{capacity_of}
 use Rattle.latch_steps.specs.Runs.{did, last_of, opening}
 use Rattle.latch_steps.proofs.SafeRuns.{safe}
 use Rattle.latch_steps.proofs.Patient.{quiet, near}
 use Rattle.latch_steps.specs.Near.{AreShallow}
-use Rattle.latch_steps.proofs.Recording.{records_none, records_append, events_append, trace_of, few_done}
+use Rattle.latch_steps.proofs.Recording.{records_none, records_append, events_append, trace_of, few_done, one_more_taken}
 use Rattle.latch_steps.proofs.runs.run.Goals as goal
 
 pub loop-event-init : goal.loop-event-init
@@ -18,10 +16,11 @@ loop-event-preserved g c =
     let w0 = opening (capacity_of c.args.l) c.args.start in
     let h = c.loop-event.invariant in
     let d = c.in_ok-record.ensures.recorded (last_of w0 h.0) h.1.shows in
-    let one = did c.in-Some.event c.in_ok-record.field-0 d.0 in (
+    let one = did c.event-item.result c.in_ok-record.field-0 d.0 in (
       h.0 ++ one ∷ [],
       records_append g.O.TreeOrder.order true c.in_ok-recorder.recorder c.loop-event.recorder c.record.new.self w0 h.0 (one ∷ []) h.1 d.1,
-      events_append h.0 (one ∷ []) ∙ ap (λ es. es ++ c.in-Some.event ∷ []) h.2,
+      events_append h.0 (one ∷ []) ∙ ap (λ es. es ++ c.event-item.result ∷ []) h.2
+          ∙ one_more_taken c.args.events.now c.loop-event.event-index c.event-item.result (omega arith) c.event-item.is,
     )
 
 pub returns-clause-events : goal.returns-clause-events
@@ -30,7 +29,7 @@ returns-clause-events g c =
     let h = c.loop-event.invariant in
     (trace_of g.O.TreeOrder.order c.args.l c.args.start c.in_ok-recorder.recorder c.loop-event.recorder c.finish.result h.0
     c.in_ok-recorder.ensures.layout none.0 none.1 h.1 c.finish.ensures.events c.finish.ensures.notes c.finish.ensures.sequence).events
-    ∙ h.2 ∙ sym (map-id c.loop-event.yielded) ∙ (YieldsList-end (YieldsList-from_vec c.args.events.items (let gives = c.into_iter-event-iterator.ensures.into_iter_gives in cc) (let gives = c.into_iter-event-iterator.ensures.into_iter_gives in let ok = c.args.events.ok in omega arith)) c.loop-event.yielded c.loop-event.event-iterator c.loop-event.yielded_by c.next.result c.next.new.self c.in-None.is c.next.ensures.steps).0
+    ∙ h.2 ∙ take_all c.loop-event.event-index c.args.events.now (omega arith)
 
 pub returns-clause-traces : goal.returns-clause-traces
 returns-clause-traces g c =

@@ -1,5 +1,8 @@
-use Rattle.std.proofs.Common.{arith}
-use Rattle.listing.proofs.Values.{room_for_digit}
+use Rattle.std.proofs.Common.{◌+◌, ◌∙◌, arith, drop}
+use Rattle.std.specs.Char.{is_digit}
+use Rattle.std.specs.List.{list_all}
+use Rattle.std.proofs.lemmas.Grind.{common_steps}
+use Rattle.listing.proofs.Values.{digit_room, more_bits, room_for_digit}
 use Rattle.listing.proofs.numbers.eight_digits.Goals as goal
 
 pub overflow_mul-value : goal.overflow_mul-value
@@ -15,3 +18,14 @@ overflow_add-value c =
     let fits = i.fits in
     let eight = i.eight in
     omega (arith, c.digit_of-digit.ensures.small, room_for_digit c.loop-byte.value c.loop-byte.byte-index fits (omega (arith, eight, c.loop-byte-test.true)))
+
+pub loop-byte-preserved : goal.loop-byte-preserved
+loop-byte-preserved c =
+    let i = c.loop-byte.invariant in
+    let rest = list_all (λ b. is_digit b 16) (drop (c.loop-byte.byte-index + 1) c.args.text.now) in
+    record {
+      value = grind (arith, common_steps, i.value, c.digit_of-digit.ensures.value);
+      fits = digit_room c.loop-byte.value c.loop-byte.byte-index c.digit_of-digit.result i.fits c.digit_of-digit.ensures.small;
+      eight = i.eight;
+      tested = more_bits c.loop-byte.bits c.digit_of-digit.result rest ∙ grind (arith, common_steps, i.tested, c.digit_of-digit.ensures.value);
+    }

@@ -10,5 +10,5 @@ invariant-loop-byte l = record {
   value : digits_value_after 16 l.value (drop l.byte-index l.text) ≡ digits_value 16 l.text;
   fits : l.value + 17 ≤ 17 * 16 ^ l.byte-index;
   eight : length l.text ≡ 8;
-  tested : (nat_lt l.greatest 16 && list_all (λ c. is_digit c 16) (drop l.byte-index l.text)) ≡ list_all (λ c. is_digit c 16) l.text;
+  tested : (nat_lt l.bits 16 && list_all (λ c. is_digit c 16) (drop l.byte-index l.text)) ≡ list_all (λ c. is_digit c 16) l.text;
 }

@@ -8,6 +8,6 @@ use Rattle.modules.proofs.symbols.by_address.Goals as goal
 pub returns : goal.returns
 returns c =
     record {
-      sorted = c.in_ok-sort_by.ensures.sorted comes_before comes_before_weak (answers_always _ _ _ (λ f a r f' called. let is : r ≡ ordering_then (nat_cmp a.0.now.addr a.1.0.now.addr) (nat_cmp a.1.0.now.place a.0.now.place) = search rules in ap is_lt is ∙ is_lt-then a.0.now.addr a.0.now.place a.1.0.now.addr a.1.0.now.place));
-      listed = rw (← c.in_ok-entries.ensures) c.in_ok-sort_by.ensures.permutation;
+      sorted = c.sort_unstable_by.ensures.sorted comes_before comes_before_weak (answers_always _ _ _ (λ f a r f' called. let is : r ≡ ordering_then (nat_cmp a.0.now.addr a.1.0.now.addr) (nat_cmp a.1.0.now.place a.0.now.place) = search rules in ap is_lt is ∙ is_lt-then a.0.now.addr a.0.now.place a.1.0.now.addr a.1.0.now.place));
+      listed = rw (← c.in_ok-entries.ensures) c.sort_unstable_by.ensures.permutation;
     }

@@ -1,0 +1,99 @@
+-- A latch that has more nodes is pictured and sound as it was.
+use Rattle.std.proofs.Common.{◌≡◌, ℕ, ◌<◌, ◌≤◌, List, [], ◌∷◌, ◌++◌, None, refl, sym, ◌∙◌, ap, subst, arith, length-append}
+use Rattle.std.specs.Prelude.{◌-◌, ◌*◌, ◌||◌, nat_lt, replicate}
+use Rattle.std.proofs.lemmas.Bool.{ltb-false}
+use Rattle.std.proofs.lemmas.List.Elements.{All-weaker}
+use Rattle.order_laws.specs.Orders.{Order}
+use Rattle.order_laws.specs.declared.refusals.Refusal.TheVariants.{BadCapacity, UpdateInHand}
+use Rattle.word_arena.specs.declared.layouts.Layout.{Layout}
+use Rattle.word_arena.specs.declared.stores.Store.{Store}
+use Rattle.word_arena.specs.Layouts.{capacity_of, limit_of}
+use Rattle.word_arena.specs.Words.{at, words_for, Holds, HoldsTable, listed}
+use Rattle.word_arena.specs.Wider.{wider_words}
+use Rattle.word_arena.proofs.WiderLemmas.{at_wider, length_wider, holds_wider, table_wider}
+use Rattle.rb_words.specs.Pictures.{Picture}
+use Rattle.rb_words.specs.Mirrors.{second}
+use Rattle.latch_core.specs.declared.updates.Update.{Update}
+use Rattle.latch_core.specs.Sequences.{gen, stable}
+use Rattle.latch_core.specs.Histories.{table_at}
+use Rattle.latch_core.specs.Latches.{Latch}
+use Rattle.latch_core.specs.Invariants.{IsInHand, IsSound}
+use Rattle.latch_core.specs.FreeNodes.{AreAllNodes}
+use Rattle.latch_core.specs.WriterViews.{WriterView}
+use Rattle.latch_core.specs.Writers.{IsShallow, StaysShallow, Pictures, AreInStep, in_hand}
+use Rattle.latch_core.specs.Widening.{why_not_widened, widened_writer, widened_latch, PicturesWidened}
+use Rattle.latch_core.proofs.TestLemmas.{none_holds}
+use Rattle.latch_core.proofs.BatchLemmas.{neither}
+use Rattle.latch_core.proofs.BeginLemmas.{idle_from}
+use Rattle.latch_core.proofs.WriterLemmas.{rest_now}
+
+-- no update is in hand where a layout is taken, and it has no fewer nodes
+pub may_widen : (w : WriterView) (l : Layout) → why_not_widened w l ≡ None → (w.left ≡ []) × (w.capacity ≤ capacity_of l)
+may_widen w l e =
+    let tests = none_holds ((in_hand w, UpdateInHand) ∷ (nat_lt (capacity_of l) w.capacity || nat_lt (limit_of l) w.limit, BadCapacity) ∷ []) e in
+    let smaller = neither (nat_lt (capacity_of l) w.capacity) (nat_lt (limit_of l) w.limit) tests.1.0 in
+    (idle_from w.left tests.0, ltb-false (capacity_of l) w.capacity smaller.0)
+
+-- the sequence is in the first word, which stays
+same_sequence : (n n' : ℕ) (m : List ℕ) → at (wider_words n n' m) 0 ≡ at m 0
+same_sequence n n' m = at_wider n n' m 0
+
+shallow_wider : (n n' : ℕ) (m : List ℕ) → n ≤ n' → IsShallow n m → IsShallow n' (wider_words n n' m)
+shallow_wider n n' m le is = (
+  is.0,
+  is.1,
+  subst (λ q. Holds (wider_words n n' m) n' (stable q) is.0 is.1) (sym (same_sequence n n' m)) (holds_wider m n n' (stable (at m 0)) is.0 is.1 le is.2),
+  is.3,
+)
+
+-- what a core at rest pictures, it pictures with the nodes of a greater layout
+pub widened_pictures : (w : WriterView) (l : Layout) → w.left ≡ [] → w.capacity ≤ capacity_of l → PicturesWidened w (widened_writer w l)
+widened_pictures w l idle le latch p rest =
+    let n = w.capacity in
+    let n' = capacity_of l in
+    let m = latch.words in
+    let now = rest_now w latch p idle in
+    let same = same_sequence n n' m in
+    let shallow : IsShallow n m = subst (λ ss. StaysShallow n m ss) idle p.shallow in
+    subst (λ ss. Pictures (record { capacity = n'; limit = limit_of l; sequence = w.sequence; table = w.table; zero_tree = w.zero_tree; one_tree = w.one_tree; left = ss }) (widened_latch n n' latch)) (sym idle)
+    (record {
+      plan = rest;
+      at_rest = record {
+        sized = length_wider n n' m le now.sized;
+        even = ap stable same ∙ now.even;
+        zero = holds_wider m n n' 0 w.table w.zero_tree le now.zero;
+        one = holds_wider m n n' 1 w.table w.one_tree le now.one;
+      };
+      table = p.table;
+      sequence = same ∙ p.sequence;
+      shallow = shallow_wider n n' m le shallow;
+    })
+
+-- the nodes behind those that there were are free
+pub widened_step : (n n' : ℕ) (p : Picture) (free free' : List ℕ) (left : List Store) → n ≤ n' → AreInStep n p (second p) free left → AreAllNodes n' (free' ++ listed p.tree) → AreInStep n' (record p { capacity = n' }) (second (record p { capacity = n' })) free' left
+widened_step n n' p free free' left le is nodes =
+    record {
+      zero_capacity = refl;
+      zero_copy = is.zero_copy;
+      one_capacity = refl;
+      one_copy = refl;
+      same_table = refl;
+      same_nodes = refl;
+      nodes = nodes;
+      in_range = All-weaker (λ (s : Store). s.word < words_for n) (λ s. s.word < words_for n') (λ s lt. omega (arith, lt, le)) left is.in_range;
+    }
+
+-- a sound latch stays sound
+pub widened_sound : {K : Type 0} (o : Order K) (n n' start : ℕ) (us : List Update) (l : Latch) → n ≤ n' → IsSound o n start us l → IsSound o n' start us (widened_latch n n' l)
+widened_sound o n n' start us l le is =
+    let m = l.words in
+    let same = same_sequence n n' m in
+    let more = table_wider m n n' (stable (at m 0)) (table_at o start us (gen (at m 0))) le is.current in
+    record {
+      even = is.even;
+      sized = (let some = is.sized in omega (arith, some, length-append m (replicate (7 * (n' - n)) 0)));
+      tables = λ j. let t = is.tables j in (t.0, (let few = t.1 in omega (arith, few, le)));
+      table_is = is.table_is;
+      in_hand = subst (λ q. IsInHand o start q us l.hand) (sym same) is.in_hand;
+      current = subst (λ q. HoldsTable (wider_words n n' m) n' (stable q) (table_at o start us (gen q))) (sym same) more;
+    }

@@ -1,0 +1,12 @@
+use Rattle.std.proofs.Common.{ℕ, ◌≤◌, ◌++◌, List}
+use Rattle.std.specs.Prelude.{vec_len, vec_capacity}
+use Rattle.latch_core.specs.FreeNodes.{AreAllNodes}
+use Rattle.latch_core.proofs.nodes.add_nodes.Given as goal
+
+abbrev pub invariant-loop-node : goal.invariant-loop-node
+invariant-loop-node l =
+    record {
+      all : (used : List ℕ) → AreAllNodes l.capacity (l.fn.free.items ++ used) → AreAllNodes l.node (l.free.items ++ used);
+      fits : vec_len l.free ≤ l.node;
+      room : l.more ≤ vec_capacity l.free;
+    }

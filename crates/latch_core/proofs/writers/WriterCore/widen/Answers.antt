@@ -1,0 +1,22 @@
+use Rattle.std.proofs.Common.{◌≡◌, sym, ◌∙◌, ap, subst}
+use Rattle.word_arena.specs.Layouts.{capacity_of, limit_of}
+use Rattle.rb_words.specs.Pictures.{Picture}
+use Rattle.latch_core.specs.WriterViews.{WriterView}
+use Rattle.latch_core.specs.Widening.{widened_writer, PicturesWidened}
+use Rattle.latch_core.proofs.WideningLemmas.{may_widen, widened_pictures}
+use Rattle.latch_core.proofs.writers.WriterCore.widen.Goals as goal
+
+pub returns-clause-pictures : goal.returns-clause-pictures
+returns-clause-pictures g c =
+    let w = c.args.self.now in
+    let l = c.args.l in
+    let s = c.self.inside in
+    let may = may_widen w l (sym c.why_not_widened.ensures ∙ c.in_default.is) in
+    let shape = c.widen.new.self in
+    let widened = c.widen.ensures.widened in
+    let table = ap (λ (p : Picture). p.table) widened ∙ ap (λ (v : WriterView). v.table) c.self.view_is in
+    let zero = ap (λ (p : Picture). p.tree) widened ∙ ap (λ (v : WriterView). v.zero_tree) c.self.view_is in
+    let one = ap (λ (p : Picture). p.tree) widened ∙ ap (λ (v : WriterView). v.one_tree) c.self.view_is in
+    let shown : WriterView = record { capacity = capacity_of l; limit = limit_of l; sequence = s.sequence; table = shape.table; zero_tree = shape.tree; one_tree = shape.tree; left = s.plan.left } in
+    let same : shown ≡ widened_writer w l = λ i. record { capacity = capacity_of l; limit = limit_of l; sequence = (c.self.view_is i).sequence; table = table i; zero_tree = zero i; one_tree = one i; left = (c.self.view_is i).left } in
+    subst (PicturesWidened w) (sym same) (widened_pictures w l may.0 may.1)

@@ -1,0 +1,32 @@
+use Rattle.std.proofs.Common.{rules, ◌∙◌, refl, sym, subst}
+use Rattle.atomic_table.specs.Table.{Me}
+use Rattle.atomic_table.specs.Seated.{TableId}
+use Rattle.latch_core.specs.WriterViews.{WriterView}
+use Rattle.latch_table.specs.declared.knowledge.Knowledge.{Knowledge}
+use Rattle.latch_table.specs.Writers.{WriterState, writer_state, IsTied, Begins}
+use Rattle.latch_table.proofs.WriterLemmas.{tied_begun, begins}
+use Rattle.latch_table.proofs.writers.Writer.begin.Goals as goal
+
+pub invariant_of-self-2 : goal.invariant_of-self-2
+invariant_of-self-2 g c =
+    let o = g.O.TreeOrder.order in
+    let w = c.self.inside in
+    let core' : WriterView = c.begin_from.new.self in
+    let of = c.in_ok-begin_from.ensures in
+    let tied = tied_begun o g.met.O.TreeOrder.lawful w.seat.table_id w.readers w.seat.me w.core c.self.invariant.2 c.args.u of.accepted core' of.begun.1 in (
+      c.take_update.ensures.table ∙ c.self.invariant.0,
+      search rules,
+      subst (λ (z : TableId × Me (Unit {0}) Knowledge). IsTied o z.1 core' (writer_state z.0 w.readers z.1.0 core'))
+          (λ i. (sym c.take_update.ensures.table i, sym c.take_update.ensures.view i)) tied,
+    )
+
+pub returns : goal.returns
+returns g c =
+    let o = g.O.TreeOrder.order in
+    let w = c.self.inside in
+    let core' : WriterView = c.begin_from.new.self in
+    let of = c.in_ok-begin_from.ensures in
+    let begun = begins o g.met.O.TreeOrder.lawful w.seat.table_id w.readers w.seat.me w.core c.self.invariant.2 c.args.u of.accepted core' of.begun.1 in
+    let there = subst (λ (z : WriterState × WriterState). Begins o z.0 c.args.u z.1)
+    (λ i. (c.self.view_is i, writer_state (sym c.take_update.ensures.table i) w.readers (sym c.take_update.ensures.view i).0 core')) begun in
+    ((refl, (λ v. refl), tt), record { rests = tt; same_reference = refl; begun = there; refused = tt })

@@ -1,0 +1,40 @@
+use Rattle.std.proofs.Common.{rules, ◌≡◌, Some, sym, subst}
+use Rattle.atomic_table.specs.Table.{Me}
+use Rattle.atomic_table.specs.Seated.{TableId}
+use Rattle.latch_core.specs.WriterViews.{WriterView}
+use Rattle.latch_table.specs.declared.knowledge.Knowledge.{Knowledge}
+use Rattle.latch_table.specs.Writers.{WriterState, writer_state, IsTied, Steps, did_of}
+use Rattle.latch_table.proofs.WriterLemmas.{allows_next, tied_after, steps_next, did_flip, did_store}
+use Rattle.latch_table.proofs.writers.Writer.step.Goals as goal
+use Rattle.latch_table.proofs.writers.Writer.step.Goals.{then-store-eq0, else-store-eq0}
+
+pub store-requires : goal.store-requires
+store-requires g c =
+    let w = c.self.inside in
+    let s = c.in_ok-store.store in
+    (search rules, search rules, allows_next g.O.TreeOrder.order w.seat.table_id w.readers w.seat.me w.core c.self.invariant.2 s (sym c.in_ok-store.ensures.which) _ _ _ _)
+
+pub invariant_of-self : goal.invariant_of-self
+invariant_of-self g c =
+    let w = c.self.inside in
+    let s = c.in_ok-store.store in
+    let next = sym c.in_ok-store.ensures.which in
+    let tied = tied_after g.O.TreeOrder.order w.seat.table_id w.readers w.seat.me w.core c.self.invariant.2 s next in (
+      search rules,
+      search rules,
+      subst (λ (z : TableId × Me (Unit {0}) Knowledge × WriterView). IsTied g.O.TreeOrder.order z.1 z.2 (writer_state z.0 w.readers z.1.0 z.2))
+          (λ i. (sym c.store.ensures.0 i, sym c.store.ensures.2 i, sym (c.did.ensures.stepped s next) i)) tied,
+    )
+
+pub returns : goal.returns
+returns g c =
+    let w = c.self.inside in
+    let s = c.in_ok-store.store in
+    let next = sym c.in_ok-store.ensures.which in
+    let did : c.if-store-eq0.result ≡ did_of s = elim c.if-store-eq0.branch [
+      | then-store-eq0 b ↦ did_flip s c.if-store-eq0.result b.if-store-eq0.true b.result-is
+      | else-store-eq0 b ↦ did_store s c.if-store-eq0.result b.if-store-eq0.false b.result-is
+    ] in
+    let steps = steps_next g.O.TreeOrder.order w.seat.table_id w.readers w.seat.me w.core c.self.invariant.2 s next c.if-store-eq0.result did in
+    subst (λ (z : WriterState × WriterState). Steps z.0 z.1 (Some c.if-store-eq0.result))
+    (λ i. (c.self.view_is i, writer_state (sym c.store.ensures.0 i) w.readers (sym c.store.ensures.2 i).0 (sym (c.did.ensures.stepped s next) i))) steps

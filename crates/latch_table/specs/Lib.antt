@@ -1,0 +1,6 @@
+pub mod Seats
+pub mod Rule
+pub mod Writers
+pub mod Readers
+pub mod Lookups
+pub mod Walks

@@ -1,0 +1,64 @@
+-- A reader, and what its calls promise.
+use Rattle.std.specs.Prelude.{◌≡◌, ◌≢◌, ℕ, ◌+◌, ◌*◌, ◌≤◌, List, [], ◌∷◌, ◌++◌, length, Option}
+use mathlib.Core.List.{IsPrefix}
+use Rattle.atomic_table.specs.Seated.{TableId}
+use Rattle.order_laws.specs.declared.items.Item.{Item}
+use Rattle.order_laws.specs.Orders.{Order}
+use Rattle.order_laws.specs.Tables.{look}
+use Rattle.latch_core.specs.declared.updates.Update.{Update}
+use Rattle.latch_core.specs.Sequences.{gen}
+use Rattle.latch_core.specs.Histories.{replay}
+use Rattle.latch_core.specs.Attempts.{Outcome, Answer, Again, attempt, IsAttempt}
+use Rattle.latch_table.specs.declared.knowledge.ReaderKnowledge.{ReaderKnowledge}
+use Rattle.latch_table.specs.declared.knowledge.Knowledge.{Knowledge}
+use Rattle.latch_table.specs.declared.readers.Try.{Try}
+use Rattle.latch_table.specs.declared.readers.Try.TheVariants.{Answered, Retry}
+use Rattle.latch_core.specs.Standing.{loads_of}
+use Rattle.latch_table.specs.Seats.{writer_of, blank_reader}
+
+-- a reader, as clauses see it
+pub record ReaderState : Type 0 where
+  pub place : TableId
+  pub knowledge : ReaderKnowledge
+
+-- the reader now knows more updates, or the same ones
+pub record Grows (e e' : ReaderKnowledge) : Type 0 where
+  pub base : e'.base ≡ e.base
+  pub capacity : e'.capacity ≡ e.capacity
+  pub floor : e'.floor ≡ e.floor
+  pub known : IsPrefix e.known e'.known
+
+-- its last step ended one attempt, which had this outcome
+pub record Attempted {K : Type 0} (o : Order K) (k : K) (e : ReaderKnowledge) (out : Outcome) : Type 0 where
+  pub values : List ℕ
+  pub whole : IsAttempt o e.capacity k values out
+  pub loads : e.ended ≡ loads_of (attempt o e.capacity k) values
+  pub few : length values ≤ 4 * e.capacity + 3
+
+-- the answer is what the key lies in, in the table after the updates that the reader now knows, which are those of the generation g
+pub record Answers {K : Type 0} (o : Order K) (k : K) (e : ReaderKnowledge) (x : Option Item) (g : ℕ) : Type 0 where
+  pub floored : IsPrefix e.floor e.known
+  pub counted : e.base + length e.known ≡ g
+  pub found : x ≡ look o k (replay o [] e.known)
+
+-- one attempt: two equal numbers and an answer, or two that differ
+abbrev pub Tried : {K : Type 0} → Order K → K → ReaderKnowledge → ReaderKnowledge → Try → Type 0
+Tried o k e e' (Answered x g) =
+    (s : ℕ) × (e'.seen ≡ e.seen ++ s ∷ s ∷ []) × (gen s ≡ g) × Grows e e' × Attempted o k e' (Answer x g) × Answers o k e' x g
+Tried o k e e' Retry = (s : ℕ) × (t : ℕ) × (e'.seen ≡ e.seen ++ s ∷ t ∷ []) × (t ≢ s) × Grows e e' × Attempted o k e' Again
+
+-- one or more attempts, of which the last answered
+abbrev pub Searched : {K : Type 0} → Order K → K → ReaderKnowledge → ReaderKnowledge → Option Item × ℕ → Type 0
+Searched o k e e' r =
+    (more : List ℕ) × (s : ℕ) × (e'.seen ≡ (e.seen ++ more) ++ s ∷ s ∷ []) × (gen s ≡ r.1) × Grows e e' × Attempted o k e' (Answer r.0 r.1) × Answers o k e' r.0 r.1
+
+-- none or more attempts, of which none answered
+abbrev pub Searches : ReaderKnowledge → ReaderKnowledge → Type 0
+Searches e e' = (more : List ℕ) × (e'.seen ≡ e.seen ++ more) × Grows e e'
+
+-- the reader has loaded word 0 once more, and knows these updates
+abbrev pub Met : ReaderKnowledge → ReaderKnowledge → List Update → Type 0
+Met e e' all = (s : ℕ) × (e'.seen ≡ e.seen ++ s ∷ []) × (e'.known ≡ all) × Grows e e'
+
+abbrev pub new_reader : TableId → Knowledge → ReaderState
+new_reader place v = record { place = place; knowledge = blank_reader (writer_of v).base (writer_of v).capacity (writer_of v).known }

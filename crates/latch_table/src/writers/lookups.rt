@@ -1,0 +1,69 @@
+//! The writer's own lookups.
+
+ghost use Rattle.std.specs.Prelude.{◌≡◌, ◌+◌, ◌*◌, ◌≤◌, [], Some, length};
+ghost use Rattle.word_arena.specs.Layouts.{capacity_of};
+ghost use Rattle.word_arena.specs.Words.{at, words_for};
+ghost use Rattle.latch_core.specs.Attempts.{Answer, attempt, IsAttempt};
+ghost use Rattle.latch_core.specs.Standing.{IsLatched};
+ghost use Rattle.latch_table.specs.Seats.{writer_of, writing, with_loads};
+ghost use Rattle.latch_table.specs.Writers.{Finds};
+ghost use Rattle.latch_table.specs.Lookups.{FindsIn};
+
+use super::{InHand, Writer};
+use crate::knowledge::TableSeat;
+use crate::rule::{BeginLookup, Words, WriterLoad};
+use latch_core::{ReaderCore, Taken};
+use order_laws::{Item, TreeOrder};
+use word_arena::Layout;
+
+/// One attempt through the writer's seat, in words that nobody else changes.
+fn look_up<O: TreeOrder>(
+    words: &Words<O>,
+    seat: &mut TableSeat,
+    l: Layout,
+    k: O::Key,
+) -> (Option<Item>, u64)
+    requires table { seat.old.table_id ≡ words.now.table_id }
+    requires sized { seat.old.table_id.words ≡ words_for (capacity_of l) }
+    requires writes { seat.old.me ≡ (writing (writer_of seat.old.me.0), []) }
+    requires latched { IsLatched O.order (capacity_of l) (writer_of seat.old.me.0).base (writer_of seat.old.me.0).picture (writer_of seat.old.me.0).known }
+    ensures table { seat.new.table_id ≡ seat.old.table_id }
+    ensures view { seat.new.me ≡ (writing (with_loads (writer_of seat.new.me.0).loads (writer_of seat.old.me.0)), []) }
+    ensures found { FindsIn O.order (capacity_of l) k (writer_of seat.old.me.0) (writer_of seat.new.me.0).loads result }
+{
+    let first = words.load::<BeginLookup>(seat, 0);
+    let mut core = match ReaderCore::<O>::start(l, k).take(first) {
+        Taken::Going(core) => core,
+        Taken::Retrying(_) => unreachable!(),
+        Taken::Returned(_, _) => unreachable!(),
+    };
+    loop {
+        let word = core.wanted();
+        let value = words.load::<WriterLoad>(seat, word);
+        match core.take(value) {
+            Taken::Going(next) => core = next,
+            Taken::Returned(answer, generation) => return (answer, generation),
+            Taken::Retrying(_) => unreachable!(),
+        }
+    }
+}
+
+impl<O: TreeOrder> Writer<O> {
+    /// What a key lies in, and the generation that this is of.
+    pub fn find(&mut self, k: O::Key) -> (Option<Item>, u64)
+        ensures { Finds O.order self.old k self.new result }
+    {
+        let layout = self.core.layout();
+        look_up::<O>(&self.table.shared, &mut self.seat, layout, k)
+    }
+}
+
+impl<O: TreeOrder> InHand<'_, O> {
+    /// What a key lies in, as readers find it now, and the generation that this is of.
+    pub fn find_inside(&mut self, k: O::Key) -> (Option<Item>, u64)
+        ensures same_reference { self.new.writer.ghost_name ≡ self.old.writer.ghost_name }
+        ensures found { Finds O.order self.old.writer.now k self.new.writer.now result }
+    {
+        self.writer.find(k)
+    }
+}

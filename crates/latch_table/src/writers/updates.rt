@@ -1,0 +1,100 @@
+//! Updates, step by step.
+
+ghost use Rattle.std.specs.Prelude.{◌≡◌, ◌*◌, [], None, IfOk, IfErr};
+ghost use Rattle.std.specs.Borrow.{sem, RestsIfErr};
+ghost use Rattle.order_laws.specs.Tables.{has};
+ghost use Rattle.word_arena.specs.Words.{at};
+ghost use Rattle.latch_core.specs.Sequences.{gen};
+ghost use Rattle.latch_core.specs.Histories.{replay};
+ghost use Rattle.latch_core.specs.Invariants.{IsSound};
+ghost use Rattle.latch_table.specs.contracts.writers.Writer.{the_row};
+ghost use Rattle.latch_table.specs.Writers.{Begins, Refuses, Steps, Finishes, left_of, known};
+
+use super::steps::take_update;
+use super::{Did, InHand, Writer};
+use crate::rule::StoreWord;
+use latch_core::Update;
+use order_laws::{Refusal, TreeOrder};
+use std::marker::Brand;
+
+impl<O: TreeOrder> Writer<O> {
+    /// Takes an update in hand. A refusal changes nothing.
+    pub fn begin(&mut self, u: Update) -> Result<InHand<'_, O>, Refusal>
+        ensures* rests { sem 𝓛 (RestsIfErr (the_row O.row O.Key.row O.TreeOrder O.Key.Clone) self.entry (λ h. h.writer.ghost_name) result (λ n. n ≡ self.old)) }
+        ensures same_reference { IfOk result (λ h. h.writer.ghost_name ≡ self.entry.ghost_name) }
+        ensures begun { IfOk result (λ h. Begins O.order self.old u h.writer.now) }
+        ensures refused { IfErr result (Refuses O.order self.old u) }
+    {
+        self.core.begin_from(&u)?;
+        take_update::<O, Brand>(&self.table.shared, &mut self.seat, &u);
+        Ok(InHand { writer: self })
+    }
+
+    /// The generation: how many updates were shown, above the opening one.
+    ///
+    /// What its clause `sound` says holds of every writer: the tables of its latch are those of its history.
+    pub fn generation(&self) -> u64
+        ensures is { result ≡ gen (at self.now.latch.words 0) }
+        ensures sound { IsSound O.order self.now.capacity (2 * self.now.base) self.now.history self.now.latch }
+    {
+        self.core.generation()
+    }
+
+    /// Whether an item of the table after all accepted updates has this first word.
+    pub fn holds(&self, a: u64) -> bool
+        ensures is { result ≡ has a self.now.latch.table }
+        ensures rests { self.now.latch.hand ≡ None → result ≡ has a (replay O.order [] (known self.now)) }
+    {
+        self.core.holds(a)
+    }
+
+    /// How many readers came with the writer.
+    pub fn readers(&self) -> u32
+        ensures { result ≡ self.now.readers }
+    {
+        self.readers
+    }
+
+    /// One step of the update in hand.
+    fn step(&mut self) -> Option<Did>
+        ensures { Steps self.old self.new result }
+    {
+        let store = self.core.next()?;
+        self.table
+            .shared
+            .store::<StoreWord>(&mut self.seat, store.word, store.value);
+        self.core.did();
+        Some(if store.word == 0 {
+            Did::Flip
+        } else {
+            Did::Store
+        })
+    }
+}
+
+impl<O: TreeOrder> InHand<'_, O> {
+    /// Makes one step; none where the update is at its end.
+    pub fn step(&mut self) -> Option<Did>
+        ensures same_reference { self.new.writer.ghost_name ≡ self.old.writer.ghost_name }
+        ensures step { Steps self.old.writer.now self.new.writer.now result }
+    {
+        self.writer.step()
+    }
+
+    /// How many steps are left.
+    pub fn remaining(&self) -> u64
+        ensures { result ≡ left_of self.now.writer.now.latch.hand }
+    {
+        let writer: &Writer<O> = self.writer;
+        writer.core.remaining()
+    }
+
+    /// Makes the steps that are left, and answers the new generation.
+    pub fn finish(self) -> u64
+        ensures { Finishes self.entry.writer.now self.exit.0.now result }
+    {
+        let InHand { writer } = self;
+        while let Some(_) = writer.step() {}
+        writer.generation()
+    }
+}

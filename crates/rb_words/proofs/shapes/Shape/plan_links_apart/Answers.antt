@@ -1,0 +1,156 @@
+use Rattle.std.proofs.Common.{◌≡◌, ◌∙◌, List, false, sym, ap, arith}
+use Rattle.order_laws.specs.Tables.{meets}
+use Rattle.order_laws.proofs.PlaceLemmas.{without_none}
+use Rattle.word_arena.specs.Layouts.{capacity_of}
+use Rattle.word_arena.specs.Copies.{copy_number}
+use Rattle.word_arena.specs.declared.stores.Store.{Store}
+use Rattle.rb_trees.specs.declared.Record.{Record}
+use Rattle.rb_cursor.specs.Zippers.{Zipper}
+use Rattle.rb_words.specs.Pictures.{Picture}
+use Rattle.rb_words.specs.TreePictures.{links_with}
+use Rattle.rb_words.proofs.PlanLemmas.{shown_insert, few_with, few_steps, met_none}
+use Rattle.rb_words.proofs.shapes.Shape.plan_links_apart.Goals as goal
+
+pub returns-then-meets-clause-met : goal.returns-then-meets-clause-met
+returns-then-meets-clause-met g c =
+    sym c.if-meets.true ∙ c.meets.ensures
+    ∙ ap (meets g.O.TreeOrder.order c.args.item) (without_none c.args.self.now.table)
+
+pub plan_links-requires-clause-apart : goal.plan_links-requires-clause-apart
+plan_links-requires-clause-apart g c =
+    sym (c.meets.ensures ∙ ap (meets g.O.TreeOrder.order c.args.item) (without_none c.args.self.now.table))
+    ∙ c.if-meets.false
+
+pub returns-then-not-in_line-clause-met : goal.returns-then-not-in_line-clause-met
+returns-then-not-in_line-clause-met g c =
+    sym c.if-meets.false ∙ c.meets.ensures
+    ∙ ap (meets g.O.TreeOrder.order c.args.item) (without_none c.args.self.now.table)
+
+pub with_record_apart-requires-clause-steps : goal.with_record_apart-requires-clause-steps
+with_record_apart-requires-clause-steps g c =
+    few_steps g.O.TreeOrder.order (capacity_of c.self.inside.layout)
+    (copy_number c.self.inside.copy) c.self.inside.cursor.tree c.self.inside.cursor.room
+    (omega (arith, c.capacity-most.ensures.most, c.capacity-most.ensures.is)) c.self.invariant.0
+
+pub with_record_apart-requires-clause-list : goal.with_record_apart-requires-clause-list
+with_record_apart-requires-clause-list g c =
+    let x : Record = record { node = c.args.node; item = c.args.item } in
+    omega (
+      arith,
+      c.requires.list,
+      few_with g.O.TreeOrder.order (copy_number c.self.inside.copy) c.self.inside.cursor.tree x
+          c.self.invariant.1,
+    )
+
+pub returns-then-with_record_apart-clause-met : goal.returns-then-with_record_apart-clause-met
+returns-then-with_record_apart-clause-met g c =
+    sym c.if-with_record_apart.true ∙ c.with_record_apart.ensures.met
+    ∙ met_none g.O.TreeOrder.order g.met.O.TreeOrder.lawful (c.in_line.ensures c.if-not-in_line.false) c.requires.valid c.self.inside.cursor.tree c.self.invariant.0.is_table c.self.view_is
+
+pub invariant_of-self-2 : goal.invariant_of-self-2
+invariant_of-self-2 g c =
+    let x : Record = record { node = c.args.node; item = c.args.item } in
+    let order = g.O.TreeOrder.order in
+    let copy = copy_number c.self.inside.copy in
+    let apart : meets order c.args.item c.args.self.now.table ≡ false =
+    sym (met_none order g.met.O.TreeOrder.lawful (c.in_line.ensures c.if-not-in_line.false) c.requires.valid c.self.inside.cursor.tree c.self.invariant.0.is_table c.self.view_is)
+    ∙ sym c.with_record_apart.ensures.met ∙ c.if-with_record_apart.false in
+    let after = shown_insert order g.met.O.TreeOrder.lawful (capacity_of c.self.inside.layout) copy
+    c.self.inside.cursor.tree c.with_record_apart.new.cursor.tree c.self.inside.cursor.room
+    c.with_record_apart.new.cursor.room x
+    (ap (λ (z : Zipper). z.tree) (c.with_record_apart.ensures.cursor c.if-with_record_apart.false))
+    (omega (
+      arith,
+      ap (λ (z : Zipper). z.room) (c.with_record_apart.ensures.cursor c.if-with_record_apart.false),
+      ap (λ (p : Picture). p.room) c.self.view_is,
+      c.requires.room,
+    ))
+    c.self.invariant.0 c.self.invariant.1 c.args.self.now c.self.view_is
+    (c.requires.in_range, c.requires.free, c.requires.valid, apart) in (
+      after.picture,
+      after.balanced,
+      omega (arith, after.count, c.self.invariant.2),
+      ap (λ (z : Zipper). z.path) (c.with_record_apart.ensures.cursor c.if-with_record_apart.false),
+    )
+
+pub returns-clause-met : goal.returns-clause-met
+returns-clause-met g c =
+    sym c.if-with_record_apart.false ∙ c.with_record_apart.ensures.met
+    ∙ met_none g.O.TreeOrder.order g.met.O.TreeOrder.lawful (c.in_line.ensures c.if-not-in_line.false) c.requires.valid c.self.inside.cursor.tree c.self.invariant.0.is_table c.self.view_is
+
+pub returns-clause-pictures : goal.returns-clause-pictures
+returns-clause-pictures g c = λ _.
+    let x : Record = record { node = c.args.node; item = c.args.item } in
+    let order = g.O.TreeOrder.order in
+    let copy = copy_number c.self.inside.copy in
+    let apart : meets order c.args.item c.args.self.now.table ≡ false =
+    sym (met_none order g.met.O.TreeOrder.lawful (c.in_line.ensures c.if-not-in_line.false) c.requires.valid c.self.inside.cursor.tree c.self.invariant.0.is_table c.self.view_is)
+    ∙ sym c.with_record_apart.ensures.met ∙ c.if-with_record_apart.false in
+    let after = shown_insert order g.met.O.TreeOrder.lawful (capacity_of c.self.inside.layout) copy
+    c.self.inside.cursor.tree c.with_record_apart.new.cursor.tree c.self.inside.cursor.room
+    c.with_record_apart.new.cursor.room x
+    (ap (λ (z : Zipper). z.tree) (c.with_record_apart.ensures.cursor c.if-with_record_apart.false))
+    (omega (
+      arith,
+      ap (λ (z : Zipper). z.room) (c.with_record_apart.ensures.cursor c.if-with_record_apart.false),
+      ap (λ (p : Picture). p.room) c.self.view_is,
+      c.requires.room,
+    ))
+    c.self.invariant.0 c.self.invariant.1 c.args.self.now c.self.view_is
+    (c.requires.in_range, c.requires.free, c.requires.valid, apart) in
+    after.inserts
+
+pub returns-clause-plan : goal.returns-clause-plan
+returns-clause-plan g c = λ _.
+    let x : Record = record { node = c.args.node; item = c.args.item } in
+    let order = g.O.TreeOrder.order in
+    let copy = copy_number c.self.inside.copy in
+    let apart : meets order c.args.item c.args.self.now.table ≡ false =
+    sym (met_none order g.met.O.TreeOrder.lawful (c.in_line.ensures c.if-not-in_line.false) c.requires.valid c.self.inside.cursor.tree c.self.invariant.0.is_table c.self.view_is)
+    ∙ sym c.with_record_apart.ensures.met ∙ c.if-with_record_apart.false in
+    let after = shown_insert order g.met.O.TreeOrder.lawful (capacity_of c.self.inside.layout) copy
+    c.self.inside.cursor.tree c.with_record_apart.new.cursor.tree c.self.inside.cursor.room
+    c.with_record_apart.new.cursor.room x
+    (ap (λ (z : Zipper). z.tree) (c.with_record_apart.ensures.cursor c.if-with_record_apart.false))
+    (omega (
+      arith,
+      ap (λ (z : Zipper). z.room) (c.with_record_apart.ensures.cursor c.if-with_record_apart.false),
+      ap (λ (p : Picture). p.room) c.self.view_is,
+      c.requires.room,
+    ))
+    c.self.invariant.0 c.self.invariant.1 c.args.self.now c.self.view_is
+    (c.requires.in_range, c.requires.free, c.requires.valid, apart) in
+    let links : List Store = links_with copy order x c.self.inside.cursor.tree in
+    (links, c.with_record_apart.ensures.items c.if-with_record_apart.false, after.leads)
+
+pub returns-clause-few : goal.returns-clause-few
+returns-clause-few g c =
+    let x : Record = record { node = c.args.node; item = c.args.item } in
+    omega (
+      arith,
+      c.with_record_apart.ensures.len c.if-with_record_apart.false,
+      few_with g.O.TreeOrder.order (copy_number c.self.inside.copy) c.self.inside.cursor.tree x
+          c.self.invariant.1,
+    )
+
+pub returns-clause-sound : goal.returns-clause-sound
+returns-clause-sound g c =
+    let x : Record = record { node = c.args.node; item = c.args.item } in
+    let order = g.O.TreeOrder.order in
+    let copy = copy_number c.self.inside.copy in
+    let apart : meets order c.args.item c.args.self.now.table ≡ false =
+    sym (met_none order g.met.O.TreeOrder.lawful (c.in_line.ensures c.if-not-in_line.false) c.requires.valid c.self.inside.cursor.tree c.self.invariant.0.is_table c.self.view_is)
+    ∙ sym c.with_record_apart.ensures.met ∙ c.if-with_record_apart.false in
+    let after = shown_insert order g.met.O.TreeOrder.lawful (capacity_of c.self.inside.layout) copy
+    c.self.inside.cursor.tree c.with_record_apart.new.cursor.tree c.self.inside.cursor.room
+    c.with_record_apart.new.cursor.room x
+    (ap (λ (z : Zipper). z.tree) (c.with_record_apart.ensures.cursor c.if-with_record_apart.false))
+    (omega (
+      arith,
+      ap (λ (z : Zipper). z.room) (c.with_record_apart.ensures.cursor c.if-with_record_apart.false),
+      ap (λ (p : Picture). p.room) c.self.view_is,
+      c.requires.room,
+    ))
+    c.self.invariant.0 c.self.invariant.1 c.args.self.now c.self.view_is
+    (c.requires.in_range, c.requires.free, c.requires.valid, apart) in
+    after.picture
