@@ -1,10 +1,21 @@
 -- The lookup that a command line asks for.
-use Rattle.std.proofs.Common.{◌≡◌, ◌∙◌, ap, sym, List, Option, Some, Err, true, codes}
+use Rattle.std.proofs.Common.{◌≡◌, ◌∙◌, ap, sym, subst, refl, ℕ, ◌&&◌, nat_eq, List, [], ◌∷◌, length, map, Option, Some, None, option_map, Result, Ok, Err, true, false, codes, arith}
+use Rattle.std.specs.Prelude.{IsErrAnd, is_none, is_some}
+use Rattle.std.specs.Borrow.{Bor}
+use Rattle.std.proofs.lemmas.Bool.{false≢true}
 use Rattle.clap.specs.Words.{Row, Text, first_of}
 use Rattle.modules.specs.Listed.{BoundNames}
 use Rattle.latchsym.specs.Jobs.{AnswersAsked, AreNumbers, ForLookup, LookupWords, asked_lookup, bounds_in, lacks_addresses, lookup_in, values_in}
+use Rattle.latchsym.specs.declared.command_line.Job.{Job}
 use Rattle.latchsym.specs.declared.command_line.JobFault.{JobFault}
 use Rattle.latchsym.specs.declared.command_line.JobFault.TheVariants.{OutOfMemory, CommandLine, BadAddress, NoAddress, NoJob}
+
+-- no word is an address, and there is no file of them
+pub lacking : (words : List (Bor Text)) (file : Option (Bor Text)) → length words ≡ 0 → is_some file ≡ false
+    → (nat_eq (length (map (λ w. w.now) words)) 0 && is_none (option_map (λ f. f.now) file)) ≡ true
+lacking [] None empty none = refl
+lacking [] (Some f) empty none = absurd (false≢true (sym none))
+lacking (w ∷ words) file empty none = absurd (omega (arith, empty))
 
 -- by the values that were found
 module _ (rows : List Row) (modules kallsyms : Text) (regions file : Option Text) (names words : List Text) (kernel : BoundNames)
@@ -27,9 +38,13 @@ module _ (rows : List Row) (modules kallsyms : Text) (regions file : Option Text
   pub none_asked : lacks_addresses asked ≡ true → AnswersAsked (asked_lookup rows) (Err NoAddress)
   none_asked lacks = (asked, asked_is, lacks)
 
-  pub bad_asked : (fault : JobFault) → AreNumbers words (Err fault) → AnswersAsked (asked_lookup rows) (Err fault)
-  bad_asked OutOfMemory bad = tt
-  bad_asked (BadAddress word) bad = (asked, asked_is, bad)
-  bad_asked NoAddress bad = absurd bad
-  bad_asked NoJob bad = absurd bad
-  bad_asked (CommandLine e) bad = absurd bad
+  bad_asked_by : (fault : JobFault) → AreNumbers words (Err fault) → AnswersAsked (asked_lookup rows) (Err fault)
+  bad_asked_by OutOfMemory bad = tt
+  bad_asked_by (BadAddress word) bad = (asked, asked_is, bad)
+  bad_asked_by NoAddress bad = absurd bad
+  bad_asked_by NoJob bad = absurd bad
+  bad_asked_by (CommandLine e) bad = absurd bad
+
+  pub bad_asked : (result : Result Job JobFault) (fault : JobFault) → IsErrAnd result (λ f. f ≡ fault) → AreNumbers words (Err fault) → AnswersAsked (asked_lookup rows) result
+  bad_asked (Ok job) fault is bad = absurd is
+  bad_asked (Err f) fault is bad = bad_asked_by f (subst (λ x. AreNumbers words (Err x)) (sym is) bad)

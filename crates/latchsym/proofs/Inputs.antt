@@ -1,6 +1,6 @@
 -- From the texts that were read to the readers that they were read from.
 use Rattle.std.proofs.Common.{◌≡◌, ◌≢◌, ℕ, zero, suc, ◌++◌, List, [], ◌∷◌, length, Option, Some, None, Result, Ok, Err, refl, sym, ◌∙◌, ap, subst, inl, inr, ⊎_elim, option_map, arith}
-use Rattle.std.specs.Prelude.{IfSome, unwrap_or}
+use Rattle.std.specs.Prelude.{IfSome, option_and_then, unwrap_or}
 use Rattle.std.specs.Global.{Vec}
 use Rattle.std.proofs.lemmas.List.{length-map}
 use Rattle.devices.specs.declared.counted.Counted.{Counted}
@@ -17,7 +17,7 @@ use Rattle.latchsym.specs.declared.fault.Fault.{Fault}
 use Rattle.latchsym.specs.declared.fault.Fault.TheVariants.{Refused, BadLine, Read, Write}
 use Rattle.latchsym.specs.declared.lookup.ListingTexts.{ListingTexts}
 use Rattle.latchsym.specs.declared.lookup.Listings.{Listings}
-use Rattle.latchsym.specs.LookupInputs.{Inputs, all_addresses, catalog_in, counts_in, failures_in, inputs_of, inputs_with, lines_in, region_lines, texts_of, texts_with}
+use Rattle.latchsym.specs.LookupInputs.{Inputs, Texts, all_addresses, catalog_in, counts_in, failures_in, inputs_behind, inputs_of, inputs_with, lines_in, region_lines, texts_in, texts_of}
 use Rattle.latchsym.specs.Lookups.{Answers, AnswersWith, AreSaidBy, Failures, FitsTable, GivesAddresses, GivesLines, HasTooManyOfOne, HasTooManyRegions, HoldsOf, IsWritten, NoReaderFailed, OnlyFailed, last_failures}
 
 -- each accepted module is counted
@@ -34,22 +34,21 @@ all_counted i l said =
 no_rise : Rose 0 0 → ⊥
 no_rise rose = ⊎_elim (λ less. omega (arith, less)) (λ most. omega (arith, most)) rose
 
--- where the texts of the listings are known
-abbrev pub known_behind : BoundNames → List ℕ → ListingTexts → Option (Option (List ℕ)) → Option (Result Inputs (ℕ × ℕ))
-known_behind names given t file = option_map (λ text. inputs_of names given (texts_with t text)) file
-
 -- what holds of the inputs of the texts that were read holds of those that are known
-pub where_known : (P : Result Inputs (ℕ × ℕ) → Type 0) (a b : Option (List ℕ)) (d e : Option (Option (List ℕ))) (names : BoundNames) (given : List ℕ) (t : ListingTexts)
-    → IfSome a (λ x. t.modules.items ≡ x) → IfSome b (λ x. t.kallsyms.items ≡ x) → IfSome d (λ x. option_map (λ r. r.items) t.regions ≡ x)
-    → IfSome (known_behind names given t e) P → IfSome (option_map (inputs_of names given) (texts_of a b d e)) P
-where_known P None b d e names given t f g h p = tt
-where_known P (Some x) None d e names given t f g h p = tt
-where_known P (Some x) (Some y) None e names given t f g h p = tt
-where_known P (Some x) (Some y) (Some z) None names given t f g h p = tt
-where_known P (Some x) (Some y) (Some z) (Some w) names given t f g h p =
-    subst (λ s. P (inputs_of names given (record { modules = s; kallsyms = y; regions = z; addresses = w }))) f
-    (subst (λ s. P (inputs_of names given (record { modules = t.modules.items; kallsyms = s; regions = z; addresses = w }))) g
-    (subst (λ s. P (inputs_of names given (record { modules = t.modules.items; kallsyms = t.kallsyms.items; regions = s; addresses = w }))) h p))
+module _ (P : Result Inputs (ℕ × ℕ) → Type 0) (names : BoundNames) (given : List ℕ) (file : Option (Option (List ℕ))) (t : ListingTexts) where
+  abbrev Known : Texts → Type 0
+  Known x = IfSome (inputs_of names given file x) P
+
+  pub where_known : (a b : Option (List ℕ)) (d : Option (Option (List ℕ)))
+      → IfSome a (λ x. t.modules.items ≡ x) → IfSome b (λ x. t.kallsyms.items ≡ x) → IfSome d (λ x. option_map (λ r. r.items) t.regions ≡ x)
+      → IfSome (inputs_of names given file (texts_in t)) P → IfSome (option_and_then (inputs_of names given file) (texts_of a b d)) P
+  where_known None b d f g h p = tt
+  where_known (Some x) None d f g h p = tt
+  where_known (Some x) (Some y) None f g h p = tt
+  where_known (Some x) (Some y) (Some z) f g h p =
+      subst (λ s. Known (record { modules = s; kallsyms = y; regions = z })) f
+      (subst (λ s. Known (record { modules = t.modules.items; kallsyms = s; regions = z })) g
+      (subst (λ s. Known (record { modules = t.modules.items; kallsyms = t.kallsyms.items; regions = s })) h p))
 
 -- what was answered behind three readers that did not fail
 module _ {W A : Type 0} (contents : W → Option (List ℕ)) (inner known : Option (Result Inputs (ℕ × ℕ))) (all : (P : Result Inputs (ℕ × ℕ) → Type 0) → IfSome inner P → IfSome known P) (m k r : ℕ × ℕ) (m_same : m.1 ≡ m.0) (k_same : k.1 ≡ k.0) (r_same : r.1 ≡ r.0) (old new : Option (Counted A)) (w w' : Counted W) where
@@ -81,31 +80,39 @@ module _ {W A : Type 0} (contents : W → Option (List ℕ)) (names : BoundNames
   none_failed same = (refl, (refl, (refl, (same, tt))))
 
   abbrev known : Option (Result Inputs (ℕ × ℕ))
-  known = known_behind names given t file
+  known = inputs_of names given file (texts_in t)
 
   abbrev text : Option (List ℕ)
   text = option_map (λ r. r.items) t.regions
 
-  bad_region : (place n : ℕ) (e : Option (Option (List ℕ))) → place ≡ 2 → region_lines text ≡ Err n → IfSome (known_behind names given t e) (λ i. i ≡ Err (place, n))
-  bad_region place n None is bad = tt
-  bad_region place n (Some x) is bad =
-      ap (λ r. inputs_with names (texts_with t x) r (all_addresses given x)) bad ∙ ap (λ p. Err (p, n)) (sym is)
+  abbrev Behind : (Result Inputs (ℕ × ℕ) → Type 0) → Result (Option (List ListedRegion)) ℕ → Type 0
+  Behind P lines = IfSome (inputs_behind names given (texts_in t) lines file) P
+
+  bad_region : (place n : ℕ) → place ≡ 2 → region_lines text ≡ Err n → IfSome known (λ i. i ≡ Err (place, n))
+  bad_region place n is bad = subst (Behind (λ i. i ≡ Err (place, n))) (sym bad) (ap (λ p. Err (p, n)) (sym is))
 
   pub no_lines : (f : Fault) → failures_in new ≡ failures_in old → GivesLines text (Err f) → Answers contents known (last_failures old new) w w (Err f)
   no_lines (Refused refusal.OutOfMemory) same g = (none_failed same, refl)
-  no_lines (BadLine place n) same g = (none_failed same, refl, inl g.0, bad_region place n file g.0 g.1)
+  no_lines (BadLine place n) same g = (none_failed same, refl, inl g.0, bad_region place n g.0 g.1)
   no_lines _ same g = absurd g
 
   module _ (lines : Option (List ListedRegion)) (read : region_lines text ≡ Ok lines) where
-    bad_address : (place n : ℕ) (e : Option (Option (List ℕ))) → place ≡ 3 → IfSome e (λ x. all_addresses given x ≡ Err n) → IfSome (known_behind names given t e) (λ i. i ≡ Err (place, n))
+    with_text : (P : Result Inputs (ℕ × ℕ) → Type 0) (e : Option (Option (List ℕ))) → IfSome e (λ x. P (inputs_with names (texts_in t) lines (all_addresses given x)))
+        → IfSome (inputs_behind names given (texts_in t) (Ok lines) e) P
+    with_text P None h = tt
+    with_text P (Some x) h = h
+
+    where_read : (P : Result Inputs (ℕ × ℕ) → Type 0) → IfSome file (λ x. P (inputs_with names (texts_in t) lines (all_addresses given x))) → IfSome known P
+    where_read P h = subst (Behind P) (sym read) (with_text P file h)
+
+    bad_address : (place n : ℕ) (e : Option (Option (List ℕ))) → place ≡ 3 → IfSome e (λ x. all_addresses given x ≡ Err n)
+        → IfSome e (λ x. inputs_with names (texts_in t) lines (all_addresses given x) ≡ Err (place, n))
     bad_address place n None is bad = tt
-    bad_address place n (Some x) is bad =
-        ap (λ r. inputs_with names (texts_with t x) r (all_addresses given x)) read ∙ ap (inputs_with names (texts_with t x) (Ok lines)) bad
-        ∙ ap (λ p. Err (p, n)) (sym is)
+    bad_address place n (Some x) is bad = ap (inputs_with names (texts_in t) lines) bad ∙ ap (λ p. Err (p, n)) (sym is)
 
     pub no_addresses : (f : Fault) → GivesAddresses given file (failures_in old) (failures_in new) (Err f) → Answers contents known (last_failures old new) w w (Err f)
     no_addresses (Refused refusal.OutOfMemory) g = (none_failed g, refl)
-    no_addresses (BadLine place n) g = (none_failed g.0, refl, inr g.1, bad_address place n file g.1 g.2)
+    no_addresses (BadLine place n) g = (none_failed g.0, refl, inr g.1, where_read (λ i. i ≡ Err (place, n)) (bad_address place n file g.1 g.2))
     no_addresses (Read place) g = (refl, subst (λ p. OnlyFailed p (last_failures old new)) (sym g.0) (refl, (refl, (refl, (g.1, tt)))))
     no_addresses _ g = absurd g
 
@@ -114,20 +121,24 @@ module _ {W A : Type 0} (contents : W → Option (List ℕ)) (names : BoundNames
       abbrev inputs : Inputs
       inputs = record { names = names; modules = modules; kallsyms = kallsyms; regions = lines; addresses = addresses }
 
-      inputs_are : (x : Option (List ℕ)) → all_addresses given x ≡ Ok addresses → inputs_of names given (texts_with t x) ≡ Ok inputs
+      inputs_are : (x : Option (List ℕ)) → all_addresses given x ≡ Ok addresses → inputs_with names (texts_in t) lines (all_addresses given x) ≡ Ok inputs
       inputs_are x e =
-          ap (λ r. inputs_with names (texts_with t x) r (all_addresses given x)) read ∙ ap (inputs_with names (texts_with t x) (Ok lines)) e
+          ap (inputs_with names (texts_in t) lines) e
           ∙ ap (λ s. Ok (record { names = names; modules = s; kallsyms = t.kallsyms.items; regions = lines; addresses = addresses })) (sym is_modules)
           ∙ ap (λ s. Ok (record { names = names; modules = modules; kallsyms = s; regions = lines; addresses = addresses })) (sym is_kallsyms)
 
-      all_known : (P : Inputs → Type 0) (e : Option (Option (List ℕ))) → IfSome e (λ x. all_addresses given x ≡ Ok addresses) → P inputs → IfSome (known_behind names given t e) (HoldsOf P)
-      all_known P None h p = tt
-      all_known P (Some x) h p = subst (HoldsOf P) (sym (inputs_are x h)) p
+      with_inputs : (P : Inputs → Type 0) (e : Option (Option (List ℕ))) → IfSome e (λ x. all_addresses given x ≡ Ok addresses) → P inputs
+          → IfSome e (λ x. HoldsOf P (inputs_with names (texts_in t) lines (all_addresses given x)))
+      with_inputs P None h p = tt
+      with_inputs P (Some x) h p = subst (HoldsOf P) (sym (inputs_are x h)) p
+
+      all_known : (P : Inputs → Type 0) → P inputs → IfSome known (HoldsOf P)
+      all_known P p = where_read (HoldsOf P) (with_inputs P file listed p)
 
       pub answered : (same : failures_in new ≡ failures_in old) (result : Result (Unit {0}) Fault) → AnswersWith contents inputs w w' result → Answers contents known (last_failures old new) w w' result
-      answered same (Ok u) h = (none_failed same, h.0, all_known (IsWritten contents w w') file listed h.1)
+      answered same (Ok u) h = (none_failed same, h.0, all_known (IsWritten contents w w') h.1)
       answered same (Err (Refused refusal.OutOfMemory)) h = (none_failed same, h)
-      answered same (Err (Refused refusal.BadCapacity)) h = (none_failed same, h.0, all_known HasTooManyRegions file listed h.1)
-      answered same (Err (Refused refusal.TooManyRegions)) h = (none_failed same, h.0, all_known HasTooManyOfOne file listed h.1)
-      answered same (Err Write) h = (none_failed same, h.0, all_known FitsTable file listed h.1)
+      answered same (Err (Refused refusal.BadCapacity)) h = (none_failed same, h.0, all_known HasTooManyRegions h.1)
+      answered same (Err (Refused refusal.TooManyRegions)) h = (none_failed same, h.0, all_known HasTooManyOfOne h.1)
+      answered same (Err Write) h = (none_failed same, h.0, all_known FitsTable h.1)
       answered same (Err _) h = absurd h

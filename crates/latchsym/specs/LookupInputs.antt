@@ -1,5 +1,5 @@
 -- What a lookup of addresses reads, and what that says.
-use Rattle.std.specs.Prelude.{ℕ, List, [], ◌++◌, Option, Some, None, Result, Ok, Err, unwrap_or}
+use Rattle.std.specs.Prelude.{ℕ, List, [], ◌++◌, Option, Some, None, Result, Ok, Err, option_and_then, unwrap_or}
 use Rattle.std.specs.Option.{option_map, option_map_or}
 use Rattle.devices.specs.declared.counted.Counted.{Counted}
 use Rattle.devices.specs.Counted.{device_of, failures_of}
@@ -17,20 +17,18 @@ use Rattle.latchsym.specs.declared.lookup.ListingTexts.{ListingTexts}
 use Rattle.latchsym.specs.declared.lookup.LookupInputs.{LookupInputs}
 use Rattle.latchsym.specs.declared.lookup.LookupReaders.{LookupReaders}
 
--- the texts of the files; a listing of regions and a file of addresses may be missing
+-- the texts of the listings, of which that of regions may be missing
 pub record Texts : Type 0 where
   pub modules : List ℕ
   pub kallsyms : List ℕ
   pub regions : Option (List ℕ)
-  pub addresses : Option (List ℕ)
 
--- the texts of the listings, and that of the file of addresses
-abbrev pub texts_with : ListingTexts → Option (List ℕ) → Texts
-texts_with t addresses = record {
+-- the texts that the program has read
+abbrev pub texts_in : ListingTexts → Texts
+texts_in t = record {
   modules = t.modules.items;
   kallsyms = t.kallsyms.items;
   regions = option_map (λ text. text.items) t.regions;
-  addresses = addresses;
 }
 
 -- What a lookup is asked over: the names that bound the kernel's own region, the texts of two
@@ -60,12 +58,12 @@ listed_addresses (Some text) = addresses_of text
 abbrev pub all_addresses : List ℕ → Option (List ℕ) → Result (List ℕ) ℕ
 all_addresses given text = after_front given (listed_addresses text)
 
--- the inputs, or the place of the first file with a bad line and the number of that line
-abbrev pub inputs_with : BoundNames → Texts → Result (Option (List ListedRegion)) ℕ → Result (List ℕ) ℕ
+-- the inputs with these region lines and addresses, or the first bad line of the file of addresses,
+-- as the place of that file and the number of the line
+abbrev pub inputs_with : BoundNames → Texts → Option (List ListedRegion) → Result (List ℕ) ℕ
     → Result Inputs (ℕ × ℕ)
-inputs_with names t (Err n) _ = Err (2, n)
-inputs_with names t (Ok regions) (Err n) = Err (3, n)
-inputs_with names t (Ok regions) (Ok addresses) = Ok (record {
+inputs_with names t regions (Err n) = Err (3, n)
+inputs_with names t regions (Ok addresses) = Ok (record {
   names = names;
   modules = t.modules;
   kallsyms = t.kallsyms;
@@ -73,10 +71,17 @@ inputs_with names t (Ok regions) (Ok addresses) = Ok (record {
   addresses = addresses;
 })
 
+-- The same, where the text of that file is known. A bad region line is told before it is read.
+abbrev pub inputs_behind : BoundNames → List ℕ → Texts → Result (Option (List ListedRegion)) ℕ
+    → Option (Option (List ℕ)) → Option (Result Inputs (ℕ × ℕ))
+inputs_behind names given t (Err n) file = Some (Err (2, n))
+inputs_behind names given t (Ok regions) file =
+    option_map (λ text. inputs_with names t regions (all_addresses given text)) file
+
 -- the inputs that these texts are, behind the names and the addresses of the command line
-abbrev pub inputs_of : BoundNames → List ℕ → Texts → Result Inputs (ℕ × ℕ)
-inputs_of names given t =
-    inputs_with names t (region_lines t.regions) (all_addresses given t.addresses)
+abbrev pub inputs_of : BoundNames → List ℕ → Option (Option (List ℕ)) → Texts
+    → Option (Result Inputs (ℕ × ℕ))
+inputs_of names given file t = inputs_behind names given t (region_lines t.regions) file
 
 -- the inputs that the program gathers
 abbrev pub gathered_in : LookupInputs → Inputs
@@ -110,17 +115,16 @@ known_text remaining None = Some None
 known_text remaining (Some reader) = option_map (λ text. Some text) (remaining (device_of reader))
 
 -- the texts, where each of them is known
-abbrev pub texts_of : Option (List ℕ) → Option (List ℕ) → Option (Option (List ℕ)) → Option (Option (List ℕ))
-    → Option Texts
-texts_of (Some modules) (Some kallsyms) (Some regions) (Some addresses) =
-    Some (record { modules = modules; kallsyms = kallsyms; regions = regions; addresses = addresses })
-texts_of _ _ _ _ = None
+abbrev pub texts_of : Option (List ℕ) → Option (List ℕ) → Option (Option (List ℕ)) → Option Texts
+texts_of (Some modules) (Some kallsyms) (Some regions) =
+    Some (record { modules = modules; kallsyms = kallsyms; regions = regions })
+texts_of _ _ _ = None
 
--- the inputs that readers give, where the bytes of each are known
+-- the inputs that readers give, where the bytes of each that is read for them are known
 abbrev pub known_inputs : {M K R A : Type 0} → (M → Option (List ℕ)) → (K → Option (List ℕ))
     → (R → Option (List ℕ)) → (A → Option (List ℕ)) → LookupReaders M K R A → BoundNames → List ℕ
     → Option (Result Inputs (ℕ × ℕ))
 known_inputs modules kallsyms regions addresses readers names given =
-    option_map (inputs_of names given)
+    option_and_then (inputs_of names given (known_text addresses readers.addresses))
     (texts_of (modules (device_of readers.modules)) (kallsyms (device_of readers.kallsyms))
-    (known_text regions readers.regions) (known_text addresses readers.addresses))
+    (known_text regions readers.regions))

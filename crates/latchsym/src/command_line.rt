@@ -280,7 +280,7 @@ fn value_of<'a>(found: &ArgMatches<'a>, id: &str) -> Option<&'a str>
 fn values_of<'m, 'a>(found: &'m ArgMatches<'a>, id: &str) -> &'m [&'a str]
     ensures { map (λ w. w.now) result.now ≡ values_in id.now (rows_of (found_of found.now)) }
 {
-    found.get_raw(id).unwrap_or(&[])
+    found.get_raw(id).unwrap_or_default()
 }
 
 fn fault_of_error<'a>(error: Error) -> JobFault<'a>

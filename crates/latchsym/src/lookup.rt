@@ -4,7 +4,7 @@ ghost use Rattle.devices.specs.Counted.{device_of, failures_of};
 ghost use Rattle.devices.specs.Exact.{Wrote};
 ghost use Rattle.modules.specs.Catalogs.{IsBuildRefusal};
 ghost use Rattle.modules.specs.Lines.{region_fits};
-ghost use Rattle.latchsym.specs.LookupInputs.{failures_in, gathered_in, inputs_of, known_inputs, known_text, lines_in, texts_with};
+ghost use Rattle.latchsym.specs.LookupInputs.{failures_in, gathered_in, inputs_of, known_inputs, known_text, lines_in, texts_in};
 ghost use Rattle.latchsym.specs.LookupTexts.{answer_line};
 ghost use Rattle.latchsym.specs.Lookups.{Answers, AnswersWith, AreSaidBy, GivesAddresses, GivesLines, IsReadAs, counts_text, failures_between, last_failures, regions_line_of};
 
@@ -79,9 +79,9 @@ pub struct Listings<'a> {
 }
 
 /// Looks addresses up in the listings of modules and of symbols, and writes a line for each address
-/// and a line of counts for each listing. A listing of regions may say where modules lie, and a file
-/// of addresses which are looked up behind the given ones. The kernel's own region lies between the
-/// symbols of these names.
+/// and a line of counts for each listing. A listing of regions may say where modules lie, and a
+/// file of addresses which are looked up behind the given ones. The kernel's own region lies
+/// between the symbols of these names.
 ///
 /// All is read, and all answers are there, before the first byte is written; so every fault but a
 /// failed write leaves the writer as it was. docs/FORMATS.md has the files and the lines.
@@ -93,7 +93,8 @@ pub fn lookup_engine<M: Read, K: Read, R: Read, A: Read, W: Write>(
     writer: &mut Counted<W>,
 ) -> Result<(), Fault>
     ensures { Answers W.contents
-        (known_inputs M.remaining K.remaining R.remaining A.remaining readers.old names.now addresses.now)
+        (known_inputs M.remaining K.remaining R.remaining A.remaining
+        readers.old names.now addresses.now)
         (failures_between readers.old readers.new) writer.old writer.new result }
 {
     let modules = read_at(alloc, &mut readers.modules, MODULES_PLACE)?;
@@ -113,7 +114,8 @@ fn read_if_given<R: Read>(
     alloc: Global,
     reader: &mut Option<Counted<R>>,
 ) -> Result<Option<Vec<u8>>, Fault>
-    ensures bytes { IfOk result (λ text. IfSome (known_text R.remaining reader.old) (λ left. option_map (λ t. t.items) text ≡ left)) }
+    ensures bytes { IfOk result (λ text. IfSome (known_text R.remaining reader.old)
+        (λ left. option_map (λ t. t.items) text ≡ left)) }
     ensures read { IsReadAs 2 (failures_in reader.old) (failures_in reader.new) result }
 {
     match reader {
@@ -144,7 +146,7 @@ fn answer_from<A: Read, W: Write>(
     writer: &mut Counted<W>,
 ) -> Result<(), Fault>
     ensures { Answers W.contents
-        (option_map (λ t. inputs_of names.now given.now (texts_with texts.now t)) (known_text A.remaining file.old))
+        (inputs_of names.now given.now (known_text A.remaining file.old) (texts_in texts.now))
         (last_failures file.old file.new) writer.old writer.new result }
 {
     let regions = region_lines_in(alloc, &texts.regions)?;
@@ -182,7 +184,8 @@ fn all_addresses<A: Read>(
     given: &[u64],
     file: &mut Option<Counted<A>>,
 ) -> Result<Vec<u64>, Fault>
-    ensures { GivesAddresses given.now (known_text A.remaining file.old) (failures_in file.old) (failures_in file.new) result }
+    ensures { GivesAddresses given.now (known_text A.remaining file.old)
+        (failures_in file.old) (failures_in file.new) result }
 {
     let mut addresses = Vec::from_slice(alloc, given)?;
     if let Some(reader) = file {
