@@ -14,7 +14,7 @@ returns g c =
     answered_behind g.W.Write.contents (inputs_of names given file (texts_in texts))
     (known_inputs g.M.Read.remaining g.K.Read.remaining g.R.Read.remaining g.A.Read.remaining readers names given)
     (λ P p. where_known P names given file texts (g.M.Read.remaining (device_of readers.modules)) (g.K.Read.remaining (device_of readers.kallsyms)) (known_text g.R.Read.remaining readers.regions)
-        c.in_ok-modules.ensures.bytes c.in_ok-kallsyms.ensures.bytes c.in_ok-regions.ensures.bytes p)
+    c.in_ok-modules.ensures.bytes c.in_ok-kallsyms.ensures.bytes c.in_ok-regions.ensures.bytes p)
     (failures_of readers.modules, failures_of c.read_at.new.reader) (failures_of readers.kallsyms, failures_of c.read_at-2.new.reader)
     (failures_in readers.regions, failures_in c.read_if_given.new.reader)
     c.in_ok-modules.ensures.read c.in_ok-kallsyms.ensures.read c.in_ok-regions.ensures.read readers.addresses c.answer_from.new.file
