@@ -62,7 +62,8 @@ some_meet o items table = list_any (λ i. meets o i table) items
 
 -- some item cannot be inserted where the items of these first words go
 abbrev pub cannot_insert : {K : Type 0} → Order K → List ℕ → List Item → List Item → Bool
-cannot_insert o words items table = some_overlap o items || some_meet o items (without_all words table)
+cannot_insert o words items table =
+    some_overlap o items || some_meet o items (without_all words table)
 
 -- a test, and the refusal that it stands for; the first that holds answers
 abbrev pub Test : Type 0

@@ -10,8 +10,8 @@ use Rattle.latch_core.specs.Latches.{Latch}
 use Rattle.latch_core.specs.WriterViews.{WriterView}
 use Rattle.latch_core.specs.Writers.{Pictures, in_hand}
 
--- why a core does not take a layout, or none: an update is in hand, or the layout has fewer nodes or a smaller greatest
--- sequence
+-- why a core does not take a layout, or none: an update is in hand, or the layout has fewer nodes
+-- or a smaller greatest sequence
 abbrev pub why_not_widened : WriterView → Layout → Option Refusal
 why_not_widened w l =
     first_that_holds
@@ -35,4 +35,5 @@ widened_latch n n' l = record l { words = wider_words n n' l.words }
 -- each latch at rest that the old core pictures, the new one pictures once it has as many nodes
 abbrev pub PicturesWidened : WriterView → WriterView → Type 0
 PicturesWidened old new =
-    (l : Latch) → Pictures old l → l.hand ≡ None → Pictures new (widened_latch old.capacity new.capacity l)
+    (l : Latch) → Pictures old l → l.hand ≡ None →
+    Pictures new (widened_latch old.capacity new.capacity l)

@@ -42,8 +42,8 @@ pub fn plan_erases<O: TreeOrder>(
     }
 }
 
-/// Plans to insert these items in as many of the first `fresh` free nodes: the stores of their words
-/// go into the plan, those of links into a list of their own.
+/// Plans to insert these items in as many of the first `fresh` free nodes: the stores of their
+/// words go into the plan, those of links into a list of their own.
 ///
 /// Nodes that stand behind the fresh ones are not taken.
 pub fn plan_inserts<O: TreeOrder>(

@@ -85,5 +85,6 @@ pub fn latch_stays_sound<O: TreeOrder>()
         → IsSound O.order n start us l → l.hand ≡ None → refuses O.order n limit false l.table (at l.words 0) u ≡ None
         → IsSound O.order n start (us ++ u ∷ []) (begun O.order l u left) }
     ensures widen { (n n' start : ℕ) (us : List Update) (l : Latch)
-        → n ≤ n' → IsSound O.order n start us l → IsSound O.order n' start us (widened_latch n n' l) }
+        → n ≤ n' → IsSound O.order n start us l
+        → IsSound O.order n' start us (widened_latch n n' l) }
 {}

@@ -92,13 +92,13 @@ impl<O: TreeOrder> WriterCore<O> {
         })
     }
 
-    /// Goes on with the nodes and the greatest sequence of a layout: its table, its generation and its
-    /// order stay, and the nodes that come in addition are free.
+    /// Goes on with the nodes and the greatest sequence of a layout: the table and the sequence stay,
+    /// and the nodes that come in addition are free.
     ///
-    /// All memory for them is taken here. Whoever keeps the words puts seven words of 0 behind them
-    /// for each such node. Refused by [`Refusal::UpdateInHand`], then by [`Refusal::BadCapacity`]
-    /// where the layout has fewer nodes or a smaller greatest sequence, and last by
-    /// [`Refusal::OutOfMemory`]; a refusal changes nothing.
+    /// The list of free nodes gets its memory here. Whoever keeps the words puts seven words of 0
+    /// behind them for each new node. Refused by [`Refusal::UpdateInHand`], then by
+    /// [`Refusal::BadCapacity`] where the layout has fewer nodes or a smaller greatest sequence, and
+    /// last by [`Refusal::OutOfMemory`]; a refusal changes nothing.
     pub fn widen(&mut self, l: Layout) -> Result<(), Refusal>
         ensures accepted { OnOk result (why_not_widened self.old l ≡ None) }
         ensures widened { OnOk result (self.new ≡ widened_writer self.old l) }
@@ -321,7 +321,8 @@ impl<O: TreeOrder> WriterCore<O> {
     ///
     /// The way down to the item's place tells whether it meets one of the table, so that is not asked before.
     fn insert(&mut self, item: Item) -> bool
-        ensures accepted { IsTrue result → why_refused O.order self.old (Update.Insert item) ≡ None }
+        ensures accepted { IsTrue result
+            → why_refused O.order self.old (Update.Insert item) ≡ None }
         ensures begun { IsTrue result → HasBegun O.order self.old (Update.Insert item) self.new }
         ensures unchanged { result ≡ false → self.new ≡ self.old }
     {
@@ -371,7 +372,8 @@ impl<O: TreeOrder> WriterCore<O> {
     /// The inserted items go into nodes that were free before, so none goes into a node that is erased here.
     fn batch(&mut self, erase: &[u64], insert: &[Item]) -> Result<(), Refusal>
         requires accepted { why_refused O.order self.old (Update.Batch erase.now insert.now) ≡ None }
-        ensures begun { OnOk result (HasBegun O.order self.old (Update.Batch erase.now insert.now) self.new) }
+        ensures begun { OnOk result
+            (HasBegun O.order self.old (Update.Batch erase.now insert.now) self.new) }
         ensures refusal { IfErr result (λ e. e ≡ Refusal.OutOfMemory) }
         ensures unchanged { OnErr result (self.new ≡ self.old) }
     {

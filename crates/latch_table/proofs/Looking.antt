@@ -27,6 +27,19 @@ use Rattle.latch_core.proofs.Standing.{loads_push}
 pub still_writing : {S : Type 0} (m m' : Me S Knowledge) (p : WriterKnowledge) (loads loads' : List (ℕ × ℕ)) → m ≡ (writing (with_loads loads p), []) → m' ≡ as_writer (with_loads loads' (writer_of m.0)) m → m' ≡ (writing (with_loads loads' p), [])
 still_writing m m' p loads loads' writes is = is ∙ (λ i. as_writer (with_loads loads' (writer_of (writes i).0)) (writes i))
 
+-- a first number is no whole attempt
+first_not_whole : {K : Type 0} (o : Order K) (n : ℕ) (k : K) (first : ℕ) (out : Outcome) → IsAttempt o n k (first ∷ []) out → ⊥
+first_not_whole o n k first out e = absurd (cc)
+
+module _ {O K : Type 0} (o : Order K) (n : ℕ) (k : K) where
+  -- the first number leads to a core that goes on
+  module _ (core : ReaderCore O K) (first : ℕ) (cap : capacity_of_core core ≡ n) (key : key_of_core core ≡ k) (leads : LeadsTo o [] core) where
+    pub first_not_retrying : (c : ReaderCore O K) → LeadsBy o core first (Retrying c) → ⊥
+    first_not_retrying c by = first_not_whole o n k first Again (subst (λ (z : ℕ × K). IsAttempt o z.0 z.1 (first ∷ []) Again) (λ i. (cap i, key i)) (by [] leads).2)
+
+    pub first_not_returned : (a : Option Item) (g : ℕ) → LeadsBy o core first (Returned a g) → ⊥
+    first_not_returned a g by = first_not_whole o n k first (Answer a g) (subst (λ (z : ℕ × K). IsAttempt o z.0 z.1 (first ∷ []) (Answer a g)) (λ i. (cap i, key i)) (by [] leads))
+
 module _ {O K : Type 0} (o : Order K) (n : ℕ) (k : K) (p : WriterKnowledge) where
   pub looking_first : (core c : ReaderCore O K) (first : ℕ) → capacity_of_core core ≡ n → key_of_core core ≡ k → LeadsTo o [] core → first ≡ at p.picture 0 → LeadsBy o core first (Going c) → Looking o n k p ((0, first) ∷ []) c
   looking_first core c first cap key leads is by =

@@ -1,31 +1,32 @@
--- One attempt of a reader: its core, driven by loads of the shared words.
-use Rattle.std.proofs.Common.{◌≡◌, ◌≢◌, ℕ, ◌+◌, ◌*◌, ◌≤◌, true, false, cond, List, [], ◌∷◌, ◌++◌, length, Option, Some, None, refl, sym, ◌∙◌, ap, subst, ⊎_elim, append_assoc, append-nil}
-use Rattle.std.specs.Prelude.{◌==◌}
-use Rattle.std.proofs.lemmas.Bool.{eqb-true}
+-- One attempt of a reader: a walk, whose loads are those of its seat.
+use Rattle.std.proofs.Common.{◌≡◌, ◌≢◌, ℕ, zero, suc, ◌+◌, ◌-◌, ◌*◌, ◌<◌, ◌≤◌, false, cond, List, [], ◌∷◌, ◌++◌, Option, Some, refl, sym, ◌∙◌, ap, subst, ⊎_elim, arith, append_assoc, append-nil}
+use Rattle.std.specs.Prelude.{◌⊎◌, nat_lt}
+use Rattle.std.proofs.lemmas.Bool.{le-ltb}
+use mathlib.Core.List.{IsPrefix}
 use Rattle.atomic_table.specs.Table.{Me}
+use Rattle.std.specs.declared.cmp.Ordering.{Ordering}
 use Rattle.order_laws.specs.declared.items.Item.{Item}
 use Rattle.order_laws.specs.Orders.{Order}
 use Rattle.order_laws.specs.Tables.{look}
 use Rattle.latch_core.specs.declared.updates.Update.{Update}
-use Rattle.latch_core.specs.Sequences.{gen}
+use Rattle.latch_core.specs.declared.loaders.Walked.{Walked}
+use Rattle.word_arena.specs.Words.{root_word}
+use Rattle.latch_core.specs.Sequences.{gen, stable}
 use Rattle.latch_core.specs.Histories.{replay}
-use Rattle.latch_core.specs.Attempts.{Reading, Load, Ends, Found, Item_found, No_item, Stuck, Outcome, Answer, Again, outcome, attempt, rest_after, IsAttempt}
-use Rattle.latch_core.specs.declared.readers.ReaderCore.{ReaderCore}
-use Rattle.latch_core.specs.declared.readers.Taken.{Taken}
-use Rattle.latch_core.specs.declared.readers.Taken.TheVariants.{Going, Retrying, Returned}
-use Rattle.latch_core.specs.Cores.{capacity_of_core, key_of_core, remaining, LeadsTo, IsWanted, LeadsOn, LeadsBy}
+use Rattle.latch_core.specs.Attempts.{Reading, Load, Ends, No_item, Stuck, Outcome, Answer, Again, outcome, closing, turn, visit, walk, attempt, rest_after, IsAttempt}
+use Rattle.latch_core.specs.Whole.{Wants, found_by}
 use Rattle.latch_core.proofs.Readings.{rest_push}
-use Rattle.latch_core.proofs.Leads.{core_loads, moved}
 use Rattle.latch_core.proofs.Walks.{attempt_length}
+use Rattle.latch_core.proofs.Going.{IsGoing, IsIn, goes_in, goes_on, in_node, wants}
+use Rattle.latch_core.specs.Standing.{loads_of, IsKept, StandAll}
+use Rattle.latch_core.proofs.Standing.{wanted_kept, loads_push}
 use Rattle.latch_table.specs.declared.knowledge.ReaderKnowledge.{ReaderKnowledge}
 use Rattle.latch_table.specs.declared.knowledge.Knowledge.{Knowledge}
 use Rattle.latch_table.specs.declared.readers.Try.TheVariants.{Answered, Retry}
-use Rattle.latch_core.specs.Standing.{loads_of, IsKept, StandAll, Closes}
 use Rattle.latch_table.specs.Seats.{reading, reader_of, with_sequence, with_word}
 use Rattle.latch_table.specs.Rule.{LoadsSequence, as_reader}
 use Rattle.latch_table.specs.Readers.{Grows, Attempted, Tried, Searched, Searches}
-use Rattle.latch_table.specs.Walks.{Walking}
-use Rattle.latch_core.proofs.Standing.{wanted_kept, loads_push, attempt_closes}
+use Rattle.latch_table.specs.Walks.{MayLoad, HasWalked}
 use Rattle.latch_table.proofs.ReaderLemmas.{prefix_along, prefix_whole}
 
 -- a reader's seat after a load
@@ -35,155 +36,181 @@ still_reading {S} m m' e reads is =
     let known : reader_of m'.0 ≡ e = ap (λ (z : Me S Knowledge). reader_of z.0) is in
     (here ∙ (λ i. (reading (sym known i), [])), known)
 
--- only equal numbers give an answer
-equal_numbers : (s t : ℕ) (f : Found) (a : Option Item) (g : ℕ) → outcome s t f ≡ Answer a g → s ≡ t
-equal_numbers s t (Item_found x) a g =
-    elim (s == t) as (λ b. (s == t) ≡ b → cond b (Answer (Some x) (gen s)) Again ≡ Answer a g → s ≡ t) [
-      | true ↦ λ is e. eqb-true s t is
-      | false ↦ λ is e. absurd (cc)
-    ] refl
-equal_numbers s t No_item a g =
-    elim (s == t) as (λ b. (s == t) ≡ b → cond b (Answer None (gen s)) Again ≡ Answer a g → s ≡ t) [
-      | true ↦ λ is e. eqb-true s t is
-      | false ↦ λ is e. absurd (cc)
-    ] refl
-equal_numbers s t Stuck a g = λ e. absurd (cc)
+-- the word that an attempt wants is kept, wherever what it has loaded stands
+pub wanted_is_kept : {K : Type 0} (o : Order K) (n : ℕ) (k : K) (s : ℕ) (values : List ℕ) (word : ℕ) → Wants o n k (s ∷ values) word → (m : List ℕ) → StandAll n m (loads_of (attempt o n k) (s ∷ values)) → IsKept n m word
+wanted_is_kept o n k s values word w m = wanted_kept o n k m (s ∷ values) word w.0 w.1
 
--- a first number is no whole attempt
-first_not_whole : {K : Type 0} (o : Order K) (n : ℕ) (k : K) (first : ℕ) (out : Outcome) → IsAttempt o n k (first ∷ []) out → ⊥
-first_not_whole o n k first out e = absurd (cc)
+-- what an attempt at the key k that first read s has loaded, and what it has left
+pub record IsAt {K : Type 0} (o : Order K) (n : ℕ) (k : K) (s : ℕ) (before e : ReaderKnowledge) (count : ℕ) (go : Reading) : Type 0 where
+  pub capacity : before.capacity ≡ n
+  pub same : e ≡ record before { loads = e.loads; ended = e.ended }
+  pub values : List ℕ
+  pub made : e.loads ≡ loads_of (attempt o n k) (s ∷ values)
+  pub inside : IsIn o n k (s ∷ values) count go
 
-module _ {O K : Type 0} (o : Order K) (n : ℕ) (k : K) where
-  -- the first number leads to a core that goes on
-  module _ (core : ReaderCore O K) (first : ℕ) (cap : capacity_of_core core ≡ n) (key : key_of_core core ≡ k) (leads : LeadsTo o [] core) where
-    pub first_not_retrying : (c : ReaderCore O K) → LeadsBy o core first (Retrying c) → ⊥
-    first_not_retrying c by = first_not_whole o n k first Again (subst (λ (z : ℕ × K). IsAttempt o z.0 z.1 (first ∷ []) Again) (λ i. (cap i, key i)) (by [] leads).2)
+-- and where that is a walk from a link
+pub record IsOn {K : Type 0} (o : Order K) (n : ℕ) (k : K) (s : ℕ) (before e : ReaderKnowledge) (count link : ℕ) : Type 0 where
+  pub capacity : before.capacity ≡ n
+  pub same : e ≡ record before { loads = e.loads; ended = e.ended }
+  pub values : List ℕ
+  pub made : e.loads ≡ loads_of (attempt o n k) (s ∷ values)
+  pub going : IsGoing o n k s (s ∷ values) count link
 
-    pub first_not_returned : (a : Option Item) (g : ℕ) → LeadsBy o core first (Returned a g) → ⊥
-    first_not_returned a g by = first_not_whole o n k first (Answer a g) (subst (λ (z : ℕ × K). IsAttempt o z.0 z.1 (first ∷ []) (Answer a g)) (λ i. (cap i, key i)) (by [] leads))
+module _ {K : Type 0} (o : Order K) (n : ℕ) (k : K) (s : ℕ) (before : ReaderKnowledge) where
+  capacity_at : (e : ReaderKnowledge) (count : ℕ) (go : Reading) → IsAt o n k s before e count go → e.capacity ≡ n
+  capacity_at e count go at_e = ap (λ (z : ReaderKnowledge). z.capacity) at_e.same ∙ at_e.capacity
 
-  module _ (before : ReaderKnowledge) (same : before.capacity ≡ n) where
-    pub walking_first : (core c : ReaderCore O K) (first : ℕ) (known : List Update) → capacity_of_core core ≡ n → key_of_core core ≡ k → LeadsTo o [] core → LeadsBy o core first (Going c) → LoadsSequence o before first known → Walking o n k before (with_sequence first known before) first c
-    walking_first core c first known cap key leads by looks =
-        let on = by [] leads in record {
-          grows = record { base = refl; capacity = refl; floor = refl; known = looks.begins };
-          seen = refl;
-          values = [];
-          loads = refl;
-          capacity = on.0 ∙ cap;
-          key = on.1 ∙ key;
-          leads = on.2;
-        }
+  pub may_load : (e : ReaderKnowledge) (count word at_word : ℕ) (go : ℕ → Reading) → IsAt o n k s before e count (Load word go) → at_word ≡ word → MayLoad o k e at_word
+  may_load e count word at_word go at_e is =
+      subst (λ c. (first : ℕ) × (values : List ℕ) × (e.loads ≡ loads_of (attempt o c k) (first ∷ values)) × Wants o c k (first ∷ values) at_word) (sym (capacity_at e count (Load word go) at_e))
+      (s, at_e.values, at_e.made, wants o n k s (s ∷ at_e.values) count word at_word go at_e.inside is)
 
-    module _ (e : ReaderKnowledge) (first : ℕ) (core : ReaderCore O K) (walk : Walking o n k before e first core) (word : ℕ) (wants : IsWanted o core word) where
-      abbrev values : List ℕ
-      values = first ∷ walk.values
+  pub loads_on : (e e' : ReaderKnowledge) (count word at_word x : ℕ) (go : ℕ → Reading) → IsAt o n k s before e count (Load word go) → at_word ≡ word → e' ≡ with_word at_word x e → IsAt o n k s before e' (count + 1) (go x)
+  loads_on e e' count word at_word x go at_e is there =
+      let at_own : e' ≡ with_word word x e = there ∙ (λ i. with_word (is i) x e) in
+      record {
+        capacity = at_e.capacity;
+        same = there ∙ (λ i. with_word at_word x (at_e.same i)) ∙ (λ i. record before { loads = (sym there i).loads; ended = (sym there i).ended });
+        values = at_e.values ++ x ∷ [];
+        made = ap (λ (z : ReaderKnowledge). z.loads) at_own ∙ ap (λ (z : List (ℕ × ℕ)). z ++ (word, x) ∷ []) at_e.made ∙ sym (loads_push (attempt o n k) (s ∷ at_e.values) word go x at_e.inside.rest);
+        inside = goes_in o n k s (s ∷ at_e.values) (s ∷ (at_e.values ++ x ∷ [])) count word x go at_e.inside refl;
+      }
 
-      abbrev go : ℕ → Reading
-      go = (wants values walk.leads).0
+  pub first_at : before.capacity ≡ n → before.loads ≡ (0, s) ∷ [] → IsAt o n k s before before 1 (Load (root_word (stable s)) (walk o n k s n))
+  first_at cap made = record { capacity = cap; same = refl; values = []; made = made; inside = record { counted = refl; rest = refl } }
 
-      left_is : rest_after (attempt o n k) values ≡ Some (Load word go)
-      left_is = moved o (capacity_of_core core) n (key_of_core core) k values (Load word go) (Load word go) (sym walk.capacity) (sym walk.key) (wants values walk.leads).1 refl
+  pub walk_starts : (e : ReaderKnowledge) (link : ℕ) → IsAt o n k s before e 2 (walk o n k s n link) → IsOn o n k s before e 2 link
+  walk_starts e link at_e = record {
+    capacity = at_e.capacity;
+    same = at_e.same;
+    values = at_e.values;
+    made = at_e.made;
+    going = record { left = n; few = omega arith; counted = at_e.inside.counted; rest = at_e.inside.rest };
+  }
 
-      closes : Closes first (Load word go)
-      closes = attempt_closes o n k first walk.values word go left_is
+  module _ (e : ReaderKnowledge) (count link : ℕ) (on : IsOn o n k s before e count link) (some : link ≢ 0) (room : count < 4 * n + 2) where
+    abbrev left : ℕ
+    left = on.going.left - 1
 
-      capacity_is : e.capacity ≡ n
-      capacity_is = walk.grows.capacity ∙ same
+    pub enters : link ≤ n → IsAt o n k s before e count (visit o k s (link - 1) (walk o n k s left))
+    enters low = record {
+      capacity = on.capacity;
+      same = on.same;
+      values = on.values;
+      made = on.made;
+      inside = in_node o n k s (s ∷ on.values) count link on.going some low room;
+    }
 
-      -- the wanted word may be loaded
-      pub walk_leads : (m : List ℕ) → StandAll e.capacity m (loads_of (attempt o n k) values) → IsKept e.capacity m word
-      walk_leads m = subst (λ c. StandAll c m (loads_of (attempt o n k) values) → IsKept c m word) (sym capacity_is) (wanted_kept o n k m values word go left_is)
+    pub leaves : (e' : ReaderKnowledge) (next : ℕ) → IsAt o n k s before e' (count + 4) (walk o n k s left next) → IsOn o n k s before e' (count + 4) next
+    leaves e' next at_e = record {
+      capacity = at_e.capacity;
+      same = at_e.same;
+      values = at_e.values;
+      made = at_e.made;
+      going = goes_on o n k s (s ∷ on.values) (s ∷ at_e.values) count link next on.going some room at_e.inside;
+    }
 
-      -- and what the core then hands back
-      at_own : (x : ℕ) (taken : Taken O K) → LeadsBy o core x taken → LeadsOn o n k (values ++ x ∷ []) taken
-      at_own x taken by = subst (λ (z : ℕ × K). LeadsOn o z.0 z.1 (values ++ x ∷ []) taken) (λ i. (walk.capacity i, walk.key i)) (by values walk.leads)
+-- the rest of a visit, by the item that was loaded
+pub turns : {K : Type 0} (o : Order K) (n : ℕ) (k : K) (s : ℕ) (before e : ReaderKnowledge) (count i : ℕ) (x : Item) (go : ℕ → Reading) (c c' : Ordering) → c ≡ c' → IsAt o n k s before e count (turn s i x go c) → IsAt o n k s before e count (turn s i x go c')
+turns o n k s before e count i x go c c' is at_e = subst (λ d. IsAt o n k s before e count (turn s i x go d)) is at_e
 
-      left_after : (x : ℕ) → rest_after (attempt o n k) (values ++ x ∷ []) ≡ Some (go x)
-      left_after x = rest_push (attempt o n k) values word go x left_is
+-- the end of a walk
+at_link : {K : Type 0} (o : Order K) (n : ℕ) (k : K) (s : ℕ) (before e : ReaderKnowledge) (walked : Walked) (values : List ℕ) → before.capacity ≡ n → e ≡ record before { loads = e.loads; ended = e.ended }
+    → e.loads ≡ loads_of (attempt o n k) (s ∷ values) → rest_after (attempt o n k) (s ∷ values) ≡ Some (closing s (found_by walked)) → HasWalked o k s before e walked
+at_link o n k s before e walked values cap same made rest =
+    let at_own : e.capacity ≡ n = ap (λ (z : ReaderKnowledge). z.capacity) same ∙ cap in
+    record {
+      same = same;
+      values = values;
+      loads = subst (λ c. e.loads ≡ loads_of (attempt o c k) (s ∷ values)) (sym at_own) made;
+      rest = subst (λ c. rest_after (attempt o c k) (s ∷ values) ≡ Some (closing s (found_by walked))) (sym at_own) rest;
+    }
 
-      not_over : word ≢ 0 → (x : ℕ) (out : Outcome) → IsAttempt o n k (values ++ x ∷ []) out → ⊥
-      not_over other x out whole =
-          let is : go x ≡ Ends out = (let a = left_after x in let b = whole in cc) in
-          ⊎_elim (λ z. other z.0) (λ z. subst (Closes first) is (z.1 x)) closes
+pub leaves_node : {K : Type 0} (o : Order K) (n : ℕ) (k : K) (s : ℕ) (before e : ReaderKnowledge) (walked : Walked) (count : ℕ) → IsAt o n k s before e count (closing s (found_by walked)) → HasWalked o k s before e walked
+leaves_node o n k s before e walked count at_e = at_link o n k s before e walked at_e.values at_e.capacity at_e.same at_e.made at_e.inside.rest
 
-      pub not_retrying : word ≢ 0 → (x : ℕ) (c : ReaderCore O K) → LeadsBy o core x (Retrying c) → ⊥
-      not_retrying other x c by = not_over other x Again (at_own x (Retrying c) by).2
+-- a walk that ends at a link: at link 0, or at one that leads to no node or after as many visits as there are nodes
+pub walks_off : {K : Type 0} (o : Order K) (n : ℕ) (k : K) (s : ℕ) (before e : ReaderKnowledge) (count link : ℕ) (walked : Walked) → IsOn o n k s before e count link → ((left : ℕ) → count + 4 * left ≡ 4 * n + 2 → walk o n k s left link ≡ closing s (found_by walked)) → HasWalked o k s before e walked
+walks_off o n k s before e count link walked on ends =
+    at_link o n k s before e walked on.values on.capacity on.same on.made (on.going.rest ∙ ap Some (ends on.going.left on.going.few))
 
-      pub not_returned : word ≢ 0 → (x : ℕ) (a : Option Item) (g : ℕ) → LeadsBy o core x (Returned a g) → ⊥
-      not_returned other x a g by = not_over other x (Answer a g) (at_own x (Returned a g) by)
+pub ends_nowhere : {K : Type 0} (o : Order K) (n : ℕ) (k : K) (s left link : ℕ) → link ≡ 0 → walk o n k s left link ≡ closing s No_item
+ends_nowhere o n k s left link is = ap (walk o n k s left) is
 
-      pub walking_more : (x : ℕ) (c : ReaderCore O K) → LeadsBy o core x (Going c) → Walking o n k before (with_word word x e) first c
-      walking_more x c by =
-          let on = at_own x (Going c) by in record {
-            grows = record { base = walk.grows.base; capacity = walk.grows.capacity; floor = walk.grows.floor; known = walk.grows.known };
-            seen = walk.seen;
-            values = walk.values ++ x ∷ [];
-            loads = ap (λ (z : List (ℕ × ℕ)). z ++ (word, x) ∷ []) walk.loads ∙ sym (loads_push (attempt o n k) values word go x left_is);
-            capacity = on.0;
-            key = on.1;
-            leads = on.2;
-          }
+pub ends_lost : {K : Type 0} (o : Order K) (n : ℕ) (k : K) (s left link : ℕ) → link ≢ 0 → (n < link) ⊎ (left ≡ 0) → walk o n k s left link ≡ closing s Stuck
+ends_lost o n k s left zero some why = absurd (some refl)
+ends_lost o n k s zero (suc i) some why = refl
+ends_lost o n k s (suc left) (suc i) some why =
+    let beyond : nat_lt i n ≡ false = le-ltb i n (⊎_elim (λ far. omega arith) (λ none. absurd (omega arith)) why) in
+    ap (λ b. cond b (visit o k s i (walk o n k s left)) (closing s Stuck)) beyond
 
-      -- the last number
-      module _ (zero : word ≡ 0) (t : ℕ) (known : List Update) (looks : LoadsSequence o e t known) where
-        abbrev e' : ReaderKnowledge
-        e' = with_sequence t known e
+-- the second reading of the sequence
+module _ {K : Type 0} (o : Order K) (k : K) (before begun e : ReaderKnowledge) (s : ℕ) (walked : Walked) (all : List Update) (first : LoadsSequence o before s all) (is_begun : begun ≡ with_sequence s all before) (walk_is : HasWalked o k s begun e walked) where
+  module _ (t : ℕ) (known : List Update) (looks : LoadsSequence o e t known) where
+    abbrev e' : ReaderKnowledge
+    e' = with_sequence t known e
 
-        ends : (f : Found) × (go t ≡ Ends (outcome first t f))
-        ends = ⊎_elim (λ z. (z.1.0, z.1.1 t)) (λ z. absurd (z.0 zero)) closes
+    abbrev n : ℕ
+    n = e.capacity
 
-        pub never_going : (c : ReaderCore O K) → LeadsBy o core t (Going c) → ⊥
-        never_going c by =
-            let on = at_own t (Going c) by in
-            let asks = core_loads o c in
-            let there : rest_after (attempt o n k) (values ++ t ∷ []) ≡ Some (remaining o c) = moved o (capacity_of_core c) n (key_of_core c) k (values ++ t ∷ []) (remaining o c) (remaining o c) (sym on.0) (sym on.1) on.2 refl in
-            absurd (let a = left_after t in let b = ends.1 in let d = asks.2 in cc)
+    along : e ≡ record (with_sequence s all before) { loads = e.loads; ended = e.ended }
+    along = walk_is.same ∙ (λ i. record (is_begun i) { loads = e.loads; ended = e.ended })
 
-        loads_now : e'.ended ≡ loads_of (attempt o n k) (values ++ t ∷ [])
-        loads_now = ap (λ (z : List (ℕ × ℕ)). z ++ (0, t) ∷ []) walk.loads ∙ (ap (λ (w : ℕ). loads_of (attempt o n k) values ++ (w, t) ∷ []) (sym zero) ∙ sym (loads_push (attempt o n k) values word go t left_is))
+    abbrev values : List ℕ
+    values = s ∷ walk_is.values
 
-        grows_now : Grows before e'
-        grows_now = record { base = walk.grows.base; capacity = walk.grows.capacity; floor = walk.grows.floor; known = prefix_along before.known e.known known walk.grows.known looks.begins }
+    ended : rest_after (attempt o n k) (values ++ t ∷ []) ≡ Some (Ends (outcome s t (found_by walked)))
+    ended = rest_push (attempt o n k) values 0 (λ x. Ends (outcome s x (found_by walked))) t walk_is.rest
 
-        seen_now : e'.seen ≡ before.seen ++ first ∷ t ∷ []
-        seen_now = ap (λ (z : List ℕ). z ++ t ∷ []) walk.seen ∙ append_assoc before.seen (first ∷ []) (t ∷ [])
+    loads_now : e'.ended ≡ loads_of (attempt o n k) (values ++ t ∷ [])
+    loads_now = ap (λ (z : List (ℕ × ℕ)). z ++ (0, t) ∷ []) walk_is.loads ∙ sym (loads_push (attempt o n k) values 0 (λ x. Ends (outcome s x (found_by walked))) t walk_is.rest)
 
-        abbrev attempted : (out : Outcome) → IsAttempt o n k (values ++ t ∷ []) out → Attempted o k e' out
-        attempted out whole = record {
-          values = values ++ t ∷ [];
-          whole = subst (λ c. IsAttempt o c k (values ++ t ∷ []) out) (sym capacity_is) whole;
-          loads = subst (λ c. e'.ended ≡ loads_of (attempt o c k) (values ++ t ∷ [])) (sym capacity_is) loads_now;
-          few = subst (λ c. length (values ++ t ∷ []) ≤ 4 * c + 3) (sym capacity_is) (attempt_length o n k (values ++ t ∷ []) (Ends out) whole);
-        }
+    grows_now : Grows before e'
+    grows_now = record {
+      base = ap (λ (z : ReaderKnowledge). z.base) along;
+      capacity = ap (λ (z : ReaderKnowledge). z.capacity) along;
+      floor = ap (λ (z : ReaderKnowledge). z.floor) along;
+      known = prefix_along before.known e.known known (subst (IsPrefix before.known) (sym (ap (λ (z : ReaderKnowledge). z.known) along)) first.begins) looks.begins;
+    }
 
-        -- if it is the first one again, the attempt is an answer
-        right_now : (out : Outcome) → IsAttempt o n k (values ++ t ∷ []) out → t ≡ first → out ≡ Answer (look o k (replay o [] known)) (gen first)
-        right_now out whole is =
-            let tail : values ++ t ∷ [] ≡ first ∷ (walk.values ++ first ∷ []) = ap (λ z. values ++ z ∷ []) is in
-            looks.right k first walk.values out
-            (subst (λ v. IsAttempt o e.capacity k v out) tail (attempted out whole).whole)
-            (subst (λ v. e'.ended ≡ loads_of (attempt o e.capacity k) v) tail (attempted out whole).loads)
+    seen_now : e'.seen ≡ before.seen ++ s ∷ t ∷ []
+    seen_now = ap (λ (z : ReaderKnowledge). z.seen ++ t ∷ []) along ∙ append_assoc before.seen (s ∷ []) (t ∷ [])
 
-        pub answers_now : (a : Option Item) (g : ℕ) → LeadsBy o core t (Returned a g) → Tried o k before e' (Answered a g)
-        answers_now a g by =
-            let whole : IsAttempt o n k (values ++ t ∷ []) (Answer a g) = at_own t (Returned a g) by in
-            let equal : first ≡ t = equal_numbers first t ends.0 a g (let x = left_after t in let y = ends.1 in cc) in
-            let right : Answer a g ≡ Answer (look o k (replay o [] known)) (gen first) = right_now (Answer a g) whole (sym equal) in
-            let found : a ≡ look o k (replay o [] known) = cc in
-            let of : g ≡ gen first = cc in (
-              first,
-              seen_now ∙ ap (λ z. before.seen ++ first ∷ z ∷ []) (sym equal),
-              sym of,
-              grows_now,
-              attempted (Answer a g) whole,
-              record { floored = looks.floored; counted = looks.counted ∙ ap gen (sym equal) ∙ sym of; found = found },
-            )
+    module _ (out : Outcome) (is : outcome s t (found_by walked) ≡ out) where
+      whole : IsAttempt o n k (values ++ t ∷ []) out
+      whole = ended ∙ ap (λ (z : Outcome). Some (Ends z)) is
 
-        pub retries_now : (c : ReaderCore O K) → LeadsBy o core t (Retrying c) → Tried o k before e' Retry
-        retries_now c by =
-            let whole : IsAttempt o n k (values ++ t ∷ []) Again = (at_own t (Retrying c) by).2 in
-            (first, t, seen_now, (λ is. absurd (let wrong = right_now Again whole is in cc)), grows_now, attempted Again whole)
+      abbrev attempted : Attempted o k e' out
+      attempted = record {
+        values = values ++ t ∷ [];
+        whole = whole;
+        loads = loads_now;
+        few = attempt_length o n k (values ++ t ∷ []) (Ends out) whole;
+      }
+
+      -- if it is the first number again, the attempt is an answer
+      right_now : t ≡ s → out ≡ Answer (look o k (replay o [] known)) (gen s)
+      right_now same =
+          let tail : values ++ t ∷ [] ≡ s ∷ (walk_is.values ++ s ∷ []) = ap (λ z. values ++ z ∷ []) same in
+          looks.right k s walk_is.values out
+          (subst (λ v. IsAttempt o n k v out) tail whole)
+          (subst (λ v. e'.ended ≡ loads_of (attempt o n k) v) tail loads_now)
+
+    pub answers_now : (a : Option Item) (g : ℕ) → t ≡ s → outcome s t (found_by walked) ≡ Answer a g → Tried o k before e' (Answered a g)
+    answers_now a g same is =
+        let right : Answer a g ≡ Answer (look o k (replay o [] known)) (gen s) = right_now (Answer a g) is same in
+        let found : a ≡ look o k (replay o [] known) = cc in
+        let of : g ≡ gen s = cc in (
+          s,
+          seen_now ∙ ap (λ z. before.seen ++ s ∷ z ∷ []) same,
+          sym of,
+          grows_now,
+          attempted (Answer a g) is,
+          record { floored = looks.floored; counted = looks.counted ∙ ap gen same ∙ sym of; found = found },
+        )
+
+    pub retries_now : outcome s t (found_by walked) ≡ Again → Tried o k before e' Retry
+    retries_now is = (s, t, seen_now, (λ same. absurd (let wrong = right_now Again is same in cc)), grows_now, attempted Again is)
 
 -- one attempt after another
 grows_along : (a b c : ReaderKnowledge) → Grows a b → Grows b c → Grows a c

@@ -35,7 +35,8 @@ pub record Attempted {K : Type 0} (o : Order K) (k : K) (e : ReaderKnowledge) (o
   pub loads : e.ended ≡ loads_of (attempt o e.capacity k) values
   pub few : length values ≤ 4 * e.capacity + 3
 
--- the answer is what the key lies in, in the table after the updates that the reader now knows, which are those of the generation g
+-- the answer is what the key lies in, in the table after the updates that the reader now knows, which are those of
+-- the generation g
 pub record Answers {K : Type 0} (o : Order K) (k : K) (e : ReaderKnowledge) (x : Option Item) (g : ℕ) : Type 0 where
   pub floored : IsPrefix e.floor e.known
   pub counted : e.base + length e.known ≡ g
@@ -44,13 +45,16 @@ pub record Answers {K : Type 0} (o : Order K) (k : K) (e : ReaderKnowledge) (x :
 -- one attempt: two equal numbers and an answer, or two that differ
 abbrev pub Tried : {K : Type 0} → Order K → K → ReaderKnowledge → ReaderKnowledge → Try → Type 0
 Tried o k e e' (Answered x g) =
-    (s : ℕ) × (e'.seen ≡ e.seen ++ s ∷ s ∷ []) × (gen s ≡ g) × Grows e e' × Attempted o k e' (Answer x g) × Answers o k e' x g
-Tried o k e e' Retry = (s : ℕ) × (t : ℕ) × (e'.seen ≡ e.seen ++ s ∷ t ∷ []) × (t ≢ s) × Grows e e' × Attempted o k e' Again
+    (s : ℕ) × (e'.seen ≡ e.seen ++ s ∷ s ∷ []) × (gen s ≡ g)
+    × Grows e e' × Attempted o k e' (Answer x g) × Answers o k e' x g
+Tried o k e e' Retry =
+    (s : ℕ) × (t : ℕ) × (e'.seen ≡ e.seen ++ s ∷ t ∷ []) × (t ≢ s) × Grows e e' × Attempted o k e' Again
 
 -- one or more attempts, of which the last answered
 abbrev pub Searched : {K : Type 0} → Order K → K → ReaderKnowledge → ReaderKnowledge → Option Item × ℕ → Type 0
 Searched o k e e' r =
-    (more : List ℕ) × (s : ℕ) × (e'.seen ≡ (e.seen ++ more) ++ s ∷ s ∷ []) × (gen s ≡ r.1) × Grows e e' × Attempted o k e' (Answer r.0 r.1) × Answers o k e' r.0 r.1
+    (more : List ℕ) × (s : ℕ) × (e'.seen ≡ (e.seen ++ more) ++ s ∷ s ∷ []) × (gen s ≡ r.1)
+    × Grows e e' × Attempted o k e' (Answer r.0 r.1) × Answers o k e' r.0 r.1
 
 -- none or more attempts, of which none answered
 abbrev pub Searches : ReaderKnowledge → ReaderKnowledge → Type 0
@@ -61,4 +65,8 @@ abbrev pub Met : ReaderKnowledge → ReaderKnowledge → List Update → Type 0
 Met e e' all = (s : ℕ) × (e'.seen ≡ e.seen ++ s ∷ []) × (e'.known ≡ all) × Grows e e'
 
 abbrev pub new_reader : TableId → Knowledge → ReaderState
-new_reader place v = record { place = place; knowledge = blank_reader (writer_of v).base (writer_of v).capacity (writer_of v).known }
+new_reader place v =
+    record {
+      place = place;
+      knowledge = blank_reader (writer_of v).base (writer_of v).capacity (writer_of v).known;
+    }

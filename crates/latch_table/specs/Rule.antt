@@ -34,7 +34,8 @@ abbrev pub Rises : ℕ → List ℕ → ℕ → Type 0
 Rises low [] top = low ≤ top
 Rises low (x ∷ xs) top = (low ≤ x) × Rises x xs top
 
--- where the reader's last step ended an attempt with its first sequence, the attempt answers, from the table of what it knows
+-- where the reader's last step ended an attempt with its first sequence, the attempt answers, from the table after what
+-- it knows
 abbrev pub EndsRight : {K : Type 0} → Order K → ReaderKnowledge → Type 0
 EndsRight {K} o e =
     (k : K) (s : ℕ) (v : List ℕ) (out : Outcome)
@@ -63,7 +64,8 @@ pub record WriterKnows (n base : ℕ) (words : List ℕ) (known : List Update) (
 
 abbrev pub WriterPart : ℕ → ℕ → List ℕ → List Update → ℕ → ℕ → Option WriterKnowledge → Type 0
 WriterPart n base words known writer_seat seat None = Unit {0}
-WriterPart n base words known writer_seat seat (Some p) = (seat ≡ writer_seat) × WriterKnows n base words known p
+WriterPart n base words known writer_seat seat (Some p) =
+    (seat ≡ writer_seat) × WriterKnows n base words known p
 
 abbrev pub ReaderPart : {K : Type 0} → Order K → ℕ → ℕ → List ℕ → List Update → Option ReaderKnowledge → Type 0
 ReaderPart o n base words known None = Unit {0}

@@ -28,8 +28,9 @@ use Rattle.latch_table.specs.Readers.{ReaderState}
 use Rattle.latch_core.specs.Standing.{loads_of}
 use Rattle.latch_table.specs.Seats.{writer_of, writing, blank_reader}
 
--- The writer, as clauses see it: its table, how many readers came with it, the opening generation, the number of nodes and the
--- greatest sequence; all accepted updates; the words, the table after these updates and the update in hand; the loads of its last lookup
+-- The writer, as clauses see it: its table, how many readers came with it, the opening generation, the number of nodes
+-- and the greatest sequence; all accepted updates; the words, the table after these updates and the update in hand; the
+-- loads of its last lookup
 pub record WriterState : Type 0 where
   pub place : TableId
   pub readers : ℕ
@@ -106,14 +107,18 @@ Refuses o w u e = (why o w u ≡ Some e) ⊎ ((why o w u ≡ None) × (e ≡ Out
 
 -- the update is in hand, and is the last that was accepted
 abbrev pub Begins : {K : Type 0} → Order K → WriterState → Update → WriterState → Type 0
-Begins o w u w' = (why o w u ≡ None) × ((left : ℕ) × (0 < left) × (left ≤ most_steps w.capacity u) × (w' ≡ begun_state o w u left))
+Begins o w u w' =
+    (why o w u ≡ None)
+    × ((left : ℕ) × (0 < left) × (left ≤ most_steps w.capacity u) × (w' ≡ begun_state o w u left))
 
 -- one step of the update in hand, of the kinds that a writer may make; or it is at its end
 abbrev pub Steps : WriterState → WriterState → Option Did → Type 0
-Steps w w' None = (w.latch.hand ≡ None) × (w' ≡ w) × (known w ≡ w.history) × (gen (at w.latch.words 0) ≡ w.base + length w.history)
+Steps w w' None =
+    (w.latch.hand ≡ None) × (w' ≡ w) × (known w ≡ w.history) × (gen (at w.latch.words 0) ≡ w.base + length w.history)
 Steps w w' (Some did) =
     (left_of w'.latch.hand + 1 ≡ left_of w.latch.hand)
-    × ((h : Hand) × (s : Stored) × (w.latch.hand ≡ Some h) × MayStep w.capacity w.latch h s × (did ≡ did_of s) × (w' ≡ stepped_state w h s))
+    × ((h : Hand) × (s : Stored) × (w.latch.hand ≡ Some h) × MayStep w.capacity w.latch h s
+    × (did ≡ did_of s) × (w' ≡ stepped_state w h s))
 
 -- nothing else changes on the way from w to w'
 abbrev pub OnTheWay : WriterState → WriterState → Type 0
@@ -121,32 +126,50 @@ OnTheWay w w' = w' ≡ record w { latch = w'.latch }
 
 -- nothing is in hand, and all accepted updates were shown
 abbrev pub Finishes : WriterState → WriterState → ℕ → Type 0
-Finishes w w' g = OnTheWay w w' × (w'.latch.hand ≡ None) × (known w' ≡ w.history) × (g ≡ w.base + length w.history)
+Finishes w w' g =
+    OnTheWay w w' × (w'.latch.hand ≡ None) × (known w' ≡ w.history) × (g ≡ w.base + length w.history)
 
--- one attempt of the writer, which finds what the key lies in, in the table after the updates that were shown
+-- one attempt of the writer, which finds what the key lies in after the updates that were shown
 abbrev pub Finds : {K : Type 0} → Order K → WriterState → K → WriterState → Option Item × ℕ → Type 0
 Finds o w k w' r =
-    (w' ≡ record w { loads = w'.loads }) × (r.0 ≡ look o k (replay o [] (known w))) × (r.1 ≡ gen (at w.latch.words 0))
-    × ((v : List ℕ) × IsAttempt o w.capacity k v (Answer r.0 r.1) × (w'.loads ≡ loads_of (attempt o w.capacity k) v) × (length v ≤ 4 * length (replay o [] (known w)) + 3))
+    (w' ≡ record w { loads = w'.loads })
+    × (r.0 ≡ look o k (replay o [] (known w))) × (r.1 ≡ gen (at w.latch.words 0))
+    × ((v : List ℕ) × IsAttempt o w.capacity k v (Answer r.0 r.1)
+    × (w'.loads ≡ loads_of (attempt o w.capacity k) v) × (length v ≤ 4 * length (replay o [] (known w)) + 3))
 
 -- a writer that has shown nothing
 abbrev pub new_writer : TableId → Layout → ℕ → ℕ → WriterState
 new_writer place l start readers =
-    record { place = place; readers = readers; base = gen start; capacity = capacity_of l; limit = limit_of l; history = []; latch = opening_latch (capacity_of l) start; loads = [] }
+    record {
+      place = place;
+      readers = readers;
+      base = gen start;
+      capacity = capacity_of l;
+      limit = limit_of l;
+      history = [];
+      latch = opening_latch (capacity_of l) start;
+      loads = [];
+    }
 
 -- an opening is refused by its numbers, and else for want of memory
 abbrev pub MayOpenWith : Layout → ℕ → ℕ → Type 0
 MayOpenWith l start readers = MayOpen l start × (0 < readers) × (readers ≤ 64)
 
 abbrev pub RefusesOpening : Layout → ℕ → ℕ → Refusal → Type 0
-RefusesOpening l start readers e = ((e ≡ BadCapacity) × (MayOpenWith l start readers → ⊥)) ⊎ ((e ≡ OutOfMemory) × MayOpenWith l start readers)
+RefusesOpening l start readers e =
+    ((e ≡ BadCapacity) × (MayOpenWith l start readers → ⊥))
+    ⊎ ((e ≡ OutOfMemory) × MayOpenWith l start readers)
 
--- the writer goes on in other words that hold the same, and new readers come with it, which will know at least what was shown
+-- the writer goes on in other words that hold the same, and new readers come with it, which will know at least what
+-- was shown
 abbrev pub Renews : WriterState → WriterState → List ReaderState → Type 0
 Renews w w' all =
     (w' ≡ record w { place = w'.place; loads = [] })
-    × (length all ≡ w.readers) × All (λ x. x ≡ record { place = w'.place; knowledge = blank_reader w.base w.capacity (known w) }) all
+    × (length all ≡ w.readers)
+    × All (λ x. x ≡ record { place = w'.place; knowledge = blank_reader w.base w.capacity (known w) }) all
 
 -- with an update in hand, or for want of memory; the table is as before
 abbrev pub RefusesRenewal : WriterState → WriterState → Refusal → Type 0
-RefusesRenewal w w' e = (w' ≡ record w { loads = w'.loads }) × (((e ≡ UpdateInHand) × (0 < left_of w.latch.hand)) ⊎ ((e ≡ OutOfMemory) × (w.latch.hand ≡ None)))
+RefusesRenewal w w' e =
+    (w' ≡ record w { loads = w'.loads })
+    × (((e ≡ UpdateInHand) × (0 < left_of w.latch.hand)) ⊎ ((e ≡ OutOfMemory) × (w.latch.hand ≡ None)))

@@ -1,7 +1,7 @@
 //! What a seat knows.
 //!
-//! No value of these types is made: they stand in the clauses of a seat, which a proof reads and no program keeps. A clause
-//! reads an array as a list, of any length.
+//! No value of these types is made: they stand in the clauses of a seat, which a proof reads and no
+//! program keeps. A clause reads an array as a list, of any length.
 
 use atomic_table::Seat;
 use latch_core::Update;
@@ -20,9 +20,9 @@ pub struct ReaderKnowledge {
     pub known: [Update; 0],
     /// Those that were shown when it was made.
     pub floor: [Update; 0],
-    /// Its loads since its last load of word 0, with that one at their head: each word with its value.
+    /// Its loads since its last load of word 0, that one at their head: each word with its value.
     pub loads: [(u64, u64); 0],
-    /// Those from one load of word 0 to the next one, with both, where it has loaded nothing since.
+    /// Those from one load of word 0 to the next, with both, where it has loaded nothing since.
     pub ended: [(u64, u64); 0],
 }
 
@@ -44,7 +44,8 @@ pub struct WriterKnowledge {
     pub loads: [(u64, u64); 0],
 }
 
-/// What one seat knows: the writer's seat as the writer, a reader's as a reader, and both while the two are joined.
+/// What one seat knows: the writer's seat as the writer, a reader's as a reader, and both while the two
+/// are joined.
 pub struct Knowledge {
     pub writer: Option<WriterKnowledge>,
     pub reader: Option<ReaderKnowledge>,

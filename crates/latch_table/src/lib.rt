@@ -1,43 +1,46 @@
 //! The latched table over words that threads share: one writer, and readers that never wait.
 //!
-//! [`open`] makes a row of atomic words with one [`Writer`] and some [`Reader`]s, each of which may go to a thread of its own.
-//! Readers look keys up while the writer changes the tree; neither takes a lock. The algorithm is that of `latch_core`: here
-//! each of its loads and stores is one atomic step on a word.
+//! [`open`] makes a row of atomic words with one [`Writer`] and some [`Reader`]s, each of which may go
+//! to a thread of its own. Readers look keys up while the writer changes the tree; neither takes a lock.
+//! The algorithm is that of `latch_core`: here each of its loads and stores is one atomic step on a word.
 //!
 //! ```text
-//!                         words that all threads share
-//!               sequence | root 0 | root 1 | nodes: a b tag, links of each copy
-//!                  ^ ^                          ^
-//!     loads, flips | | loads                    | loads (readers), loads and stores (writer)
-//!        writer's seat   a seat of each reader
-//!     knows: all words,  knows: the sequences it loaded, its attempt's loads,
-//!     the updates shown  the updates shown by then
+//!                      words that all threads share
+//!            sequence | root 0 | root 1 | nodes: a, b, tag, links of each copy
+//!               ^  ^                          ^  ^
+//!        loads, |  | loads             loads, |  | loads
+//!        flips  |  |                   stores |  |
+//!         the writer's seat            the seat of each reader
+//!         knows: all words,            knows: the sequences that it loaded,
+//!         the updates shown and        the updates shown by then,
+//!         those accepted               the loads of its attempt
 //! ```
 //!
-//! **Who holds which seat.** A step on the words is made through a *seat*, a token of no bytes. The writer holds the one seat
-//! that may store; each reader holds a seat that only loads. A seat cannot be copied, so there is one writer, and a reader is
-//! used by one thread at a time.
+//! **Who holds which seat.** A step on the words is made through a *seat*, a token of no bytes. The
+//! writer holds the one seat that may store; each reader holds a seat that only loads. A seat cannot be
+//! copied, so there is one writer, and a reader is used by one thread at a time.
 //!
-//! **What a seat knows.** Each seat carries a list of facts that only a proof reads (`specs/Seats.antt`), and a step on a word is
-//! the only way to learn:
+//! **What a seat knows.** Each seat carries facts that only a proof reads (`specs/Seats.antt`), and a
+//! step on a word is the only way to learn:
 //!
 //! | Step | What its seat then knows |
 //! |---|---|
 //! | a reader loads the sequence | this number, and the updates that were shown by then |
 //! | a reader loads another word | the value, as one more load of its attempt |
-//! | the writer loads a word | the value, which it knew |
+//! | the writer loads a word | the value, which it knew; at the start of an update, the update |
 //! | the writer stores a word | the words with this one changed |
-//! | the writer flips the sequence | the same; after its second flip the update in hand counts as shown |
-//! | two seats are joined and parted ([`meet`]) | the reader: all updates that were shown |
+//! | the writer flips the sequence | the same; from the second flip on, the update as shown |
+//! | a reader meets the writer ([`meet`]) | the reader: all updates that were shown |
 //!
-//! **The rule of the words** (`specs/Rule.antt`) holds between any two steps of any threads: the stable copy holds the table after the
-//! updates that were shown, as many as the sequence says; what each seat knows is true; and while the sequence is what a reader
-//! first loaded in its attempt, each value that it loaded since still stands in its word. A step of the writer keeps it, since the
-//! writer stores nothing that a reader of the stable copy can reach. So a reader that loads the same number again knows that
+//! **The rule of the words** (`specs/Rule.antt`) holds between any two steps of any threads: the stable
+//! copy holds the table after the updates that were shown, as many as the sequence says; what each seat
+//! knows is true; and while the sequence is what a reader first loaded in its attempt, each value that it
+//! loaded since still stands in its word. A step of the writer keeps it, since the writer stores nothing
+//! that a reader of the stable copy can reach. So a reader that loads the same number again knows that
 //! its whole attempt stood still, and its answer is that of the table after the updates that were shown.
 //!
-//! **Not promised:** that [`Reader::find`] returns beside a writer that never rests; an order between readers that met nobody;
-//! anything of weak memory orders: each step is sequentially consistent.
+//! **Not promised:** that [`Reader::find`] returns beside a writer that never rests; an order between
+//! readers that met nobody; anything of weak memory orders: each step is sequentially consistent.
 #![tactic(auto)]
 
 pub mod knowledge;

@@ -12,7 +12,8 @@ use order_laws::TreeOrder;
 /// The reader then knows all updates that were shown.
 pub fn meet<O: TreeOrder>(reader: Reader<O>, writer: Writer<O>) -> (Reader<O>, Writer<O>)
     requires { reader.place ≡ writer.place }
-    ensures reader { (result.0.place ≡ reader.place) × Met reader.knowledge result.0.knowledge (known writer) }
+    ensures reader { (result.0.place ≡ reader.place)
+        × Met reader.knowledge result.0.knowledge (known writer) }
     ensures writer { result.1 ≡ writer }
 {
     let Reader {

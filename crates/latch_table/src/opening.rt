@@ -44,8 +44,12 @@ pub(crate) fn build<O: TreeOrder>(
     requires writer { (first_knowledge from.now ≡ writing (writer_of (first_knowledge from.now))) }
     requires same { (writer_of (first_knowledge from.now)).capacity ≡ capacity_of l }
     requires rule { Opens O.order from.now words.now }
-    ensures seat { IfOk result (λ b. (b.seat.table_id ≡ (arc_value b.table).shared.table_id) × (b.seat.table_id.words ≡ words_for (capacity_of l)) × (capacity_in (arc_value b.table).shared.key ≡ capacity_of l) × (b.seat.me ≡ (first_knowledge from.now, []))) }
-    ensures readers { IfOk result (λ b. (vec_len b.readers ≡ readers) × All (λ x. x ≡ new_reader b.seat.table_id (first_knowledge from.now)) b.readers.items) }
+    ensures seat { IfOk result (λ b. (b.seat.table_id ≡ (arc_value b.table).shared.table_id)
+        × (b.seat.table_id.words ≡ words_for (capacity_of l))
+        × (capacity_in (arc_value b.table).shared.key ≡ capacity_of l)
+        × (b.seat.me ≡ (first_knowledge from.now, []))) }
+    ensures readers { IfOk result (λ b. (vec_len b.readers ≡ readers)
+        × All (λ x. x ≡ new_reader b.seat.table_id (first_knowledge from.now)) b.readers.items) }
 {
     let (table, mut seat) = Board::<O>::of_words(alloc, words, from)?;
     let table = Arc::new(alloc, table)?;
@@ -76,8 +80,8 @@ fn opening_words(alloc: Global, l: Layout, start: u64) -> Result<Vec<u64>, Alloc
 
 /// An empty table, with its sequence at `start`: its writer, and so many readers.
 ///
-/// Refused by [`Refusal::BadCapacity`] where the start is odd or above the layout's limit or the readers are not 1 to 64, and
-/// else by [`Refusal::OutOfMemory`].
+/// The start is a sequence. Refused by [`Refusal::BadCapacity`] where it is odd or above the layout's
+/// limit, or the readers are not 1 to 64; and else by [`Refusal::OutOfMemory`].
 pub fn open<O: TreeOrder>(
     alloc: Global,
     l: Layout,
@@ -86,7 +90,8 @@ pub fn open<O: TreeOrder>(
 ) -> Result<(Writer<O>, Vec<Reader<O>>), Refusal>
     ensures may { IfOk result (λ r. MayOpenWith l start readers) }
     ensures writer { IfOk result (λ r. r.0 ≡ new_writer r.0.place l start readers) }
-    ensures readers { IfOk result (λ r. (vec_len r.1 ≡ readers) × All (λ x. x ≡ new_reader r.0.place (first_knowledge (Start l start))) r.1.items) }
+    ensures readers { IfOk result (λ r. (vec_len r.1 ≡ readers)
+        × All (λ x. x ≡ new_reader r.0.place (first_knowledge (Start l start))) r.1.items) }
     ensures refusal { IfErr result (RefusesOpening l start readers) }
 {
     if readers == 0 || readers > MOST_READERS {

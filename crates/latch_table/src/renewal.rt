@@ -29,7 +29,8 @@ fn loaded<O: TreeOrder>(
     requires writes { seat.old.me ≡ (writing (writer_of seat.old.me.0), []) }
     requires picture { length (writer_of seat.old.me.0).picture ≡ words_for (capacity_of l) }
     ensures table { seat.new.table_id ≡ seat.old.table_id }
-    ensures view { seat.new.me ≡ (writing (with_loads (writer_of seat.new.me.0).loads (writer_of seat.old.me.0)), []) }
+    ensures view { seat.new.me
+        ≡ (writing (with_loads (writer_of seat.new.me.0).loads (writer_of seat.old.me.0)), []) }
     ensures all { IfOk result (λ v. v.items ≡ (writer_of seat.old.me.0).picture) }
 {
     let count = l.words();
@@ -41,7 +42,8 @@ fn loaded<O: TreeOrder>(
 }
 
 impl<O: TreeOrder> Writer<O> {
-    /// Moves the table to a new row of words, with as many readers. The old row is given up with its seats.
+    /// Moves the table to a new row of words, with as many readers; the old row is given up with its seats.
+    /// Refused by [`Refusal::UpdateInHand`], or [`Refusal::OutOfMemory`] with the table as before.
     pub fn renew(
         &mut self,
         alloc: Global,

@@ -26,10 +26,13 @@ fn look_up<O: TreeOrder>(
     requires table { seat.old.table_id ≡ words.now.table_id }
     requires sized { seat.old.table_id.words ≡ words_for (capacity_of l) }
     requires writes { seat.old.me ≡ (writing (writer_of seat.old.me.0), []) }
-    requires latched { IsLatched O.order (capacity_of l) (writer_of seat.old.me.0).base (writer_of seat.old.me.0).picture (writer_of seat.old.me.0).known }
+    requires latched { IsLatched O.order (capacity_of l) (writer_of seat.old.me.0).base
+        (writer_of seat.old.me.0).picture (writer_of seat.old.me.0).known }
     ensures table { seat.new.table_id ≡ seat.old.table_id }
-    ensures view { seat.new.me ≡ (writing (with_loads (writer_of seat.new.me.0).loads (writer_of seat.old.me.0)), []) }
-    ensures found { FindsIn O.order (capacity_of l) k (writer_of seat.old.me.0) (writer_of seat.new.me.0).loads result }
+    ensures view { seat.new.me
+        ≡ (writing (with_loads (writer_of seat.new.me.0).loads (writer_of seat.old.me.0)), []) }
+    ensures found { FindsIn O.order (capacity_of l) k (writer_of seat.old.me.0)
+        (writer_of seat.new.me.0).loads result }
 {
     let first = words.load::<BeginLookup>(seat, 0);
     let mut core = match ReaderCore::<O>::start(l, k).take(first) {

@@ -18,9 +18,11 @@ use order_laws::{Refusal, TreeOrder};
 use std::marker::Brand;
 
 impl<O: TreeOrder> Writer<O> {
-    /// Takes an update in hand. A refusal changes nothing.
+    /// Takes an update in hand. Refused as [`WriterCore::begin`](latch_core::WriterCore::begin) refuses; a
+    /// refusal changes nothing.
     pub fn begin(&mut self, u: Update) -> Result<InHand<'_, O>, Refusal>
-        ensures* rests { sem 𝓛 (RestsIfErr (the_row O.row O.Key.row O.TreeOrder O.Key.Clone) self.entry (λ h. h.writer.ghost_name) result (λ n. n ≡ self.old)) }
+        ensures* rests { sem 𝓛 (RestsIfErr (the_row O.row O.Key.row O.TreeOrder O.Key.Clone) self.entry
+            (λ h. h.writer.ghost_name) result (λ n. n ≡ self.old)) }
         ensures same_reference { IfOk result (λ h. h.writer.ghost_name ≡ self.entry.ghost_name) }
         ensures begun { IfOk result (λ h. Begins O.order self.old u h.writer.now) }
         ensures refused { IfErr result (Refuses O.order self.old u) }
@@ -32,10 +34,12 @@ impl<O: TreeOrder> Writer<O> {
 
     /// The generation: how many updates were shown, above the opening one.
     ///
-    /// What its clause `sound` says holds of every writer: the tables of its latch are those of its history.
+    /// What its clause `sound` says holds of every writer: the tables of its latch are those of its
+    /// history.
     pub fn generation(&self) -> u64
         ensures is { result ≡ gen (at self.now.latch.words 0) }
-        ensures sound { IsSound O.order self.now.capacity (2 * self.now.base) self.now.history self.now.latch }
+        ensures sound { IsSound O.order self.now.capacity (2 * self.now.base) self.now.history
+            self.now.latch }
     {
         self.core.generation()
     }

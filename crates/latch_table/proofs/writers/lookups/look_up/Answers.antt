@@ -5,8 +5,7 @@ use Rattle.latch_table.specs.declared.knowledge.WriterKnowledge.{WriterKnowledge
 use Rattle.latch_table.specs.Seats.{writer_of, with_loads}
 use Rattle.latch_table.specs.Lookups.{Looking, FindsIn}
 use Rattle.latch_table.proofs.RuleLemmas.{allows_begin_lookup, allows_writer_load}
-use Rattle.latch_table.proofs.Walking.{first_not_retrying, first_not_returned}
-use Rattle.latch_table.proofs.Looking.{still_writing, looking_first, looking_more, not_again, finds}
+use Rattle.latch_table.proofs.Looking.{first_not_retrying, first_not_returned, still_writing, looking_first, looking_more, not_again, finds}
 use Rattle.latch_table.proofs.writers.lookups.look_up.Goals as goal
 
 pub load-first-requires : goal.load-first-requires

@@ -1,4 +1,4 @@
-use Rattle.std.proofs.Common.{◌≤◌, sym, ap, subst, arith}
+use Rattle.std.proofs.Common.{◌≤◌, sym, subst}
 use Rattle.word_arena.specs.Layouts.{capacity_of}
 use Rattle.word_arena.specs.Copies.{copy_number}
 use Rattle.rb_words.specs.Pictures.{Picture}
