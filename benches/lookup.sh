@@ -5,15 +5,14 @@
 #     benches/lookup.sh FOLDER [PEER]
 #
 # FOLDER has the listings modules.txt and kallsyms.txt, and addr.1, addr.1000 and addr.100000 with an address a line. PEER is a
-# program that takes the two listings and a file of addresses.
+# program that takes the two listings and a file of addresses. Our program takes the file by `--addresses`.
 set -eu
 folder=$(cd "$1" && pwd)
 peer=${2:+$(realpath "$2")}
 . "$(dirname "$0")/../tests/program.sh"
 build latchsym
-ulimit -s unlimited
 
-ours() { xargs -a "$folder/addr.$1" -n 1000000 -s 6000000 "$program" lookup --modules "$folder/modules.txt" --kallsyms "$folder/kallsyms.txt"; }
+ours() { "$program" lookup --modules "$folder/modules.txt" --kallsyms "$folder/kallsyms.txt" --addresses "$folder/addr.$1"; }
 theirs() { "$peer" "$folder/modules.txt" "$folder/kallsyms.txt" "$folder/addr.$1"; }
 
 # seconds NAME COUNT: the processor time of a run, added to the file NAME

@@ -48,6 +48,47 @@ if [ -r /proc/modules ] && [ -r /proc/kallsyms ]; then
     adds_up "$work/modules" "$work/kallsyms" || fail "the listings of this machine: the counts do not add up"
 fi
 
+# writes NAME ARGUMENT..: these arguments write the lines of NAME.expected
+writes() {
+    local name=$1 status=0
+    shift
+    "$program" lookup "$@" >"$work/out" 2>"$work/err" || status=$?
+    [ $status = 0 ] && [ ! -s "$work/err" ] || fail "lookup $*: status $status, $(cat "$work/err")"
+    cmp -s "$work/out" "$name.expected" || fail "lookup $*: other lines than $name.expected"
+}
+
+# addresses of a file are those of the command line, or come behind them; `-` is the standard input
+basic=(--modules basic.modules --kallsyms basic.kallsyms)
+head -n 2 basic.addresses >"$work/first"
+{ echo '# the others' && echo && tail -n +3 basic.addresses; } >"$work/rest"
+writes basic "${basic[@]}" --addresses basic.addresses
+writes basic "${basic[@]}" --addresses - <basic.addresses
+# shellcheck disable=SC2046
+writes basic "${basic[@]}" --addresses "$work/rest" $(cat "$work/first")
+# shellcheck disable=SC2046
+writes basic $(cat "$work/first") --addresses - "${basic[@]}" <"$work/rest"
+writes regions --modules regions.modules --kallsyms regions.kallsyms --regions regions.regions --addresses regions.addresses
+printf '#\n' >"$work/none"
+"$program" lookup "${basic[@]}" --addresses "$work/none" | cmp -s - <(tail -n 2 basic.expected) || fail "a file without an address"
+"$program" lookup "${basic[@]}" --addresses /dev/null | cmp -s - <(tail -n 2 basic.expected) || fail "an empty file of addresses"
+awk 'BEGIN { for (i = 0; i < 100000; i++) printf "0xffffffffc%07x\n", i }' >"$work/hundred_thousand"
+# shellcheck disable=SC2046
+(ulimit -s unlimited && "$program" lookup "${basic[@]}" $(cat "$work/hundred_thousand")) >"$work/given"
+"$program" lookup "${basic[@]}" --addresses "$work/hundred_thousand" | cmp -s - "$work/given" || fail "100000 addresses of a file"
+[ "$(wc -l <"$work/given")" = 100002 ] || fail "100000 addresses of the command line"
+
+# the names that bound the kernel itself, in a listing of symbols without the usual ones
+sed 's/_end$/_etext/' basic.kallsyms >"$work/etext.kallsyms"
+sed 's/_stext$/first/' "$work/etext.kallsyms" >"$work/first.kallsyms"
+writes basic --modules basic.modules --kallsyms "$work/etext.kallsyms" --kernel _stext _etext --addresses basic.addresses
+writes basic --modules basic.modules --kallsyms "$work/first.kallsyms" --addresses basic.addresses --kernel first _etext
+writes basic "${basic[@]}" --kernel _stext _end --addresses basic.addresses
+for names in "_stext _end" "_etext _stext" "_stext _etex" "_stext _etext_"; do
+    # shellcheck disable=SC2086
+    "$program" lookup --modules basic.modules --kallsyms "$work/etext.kallsyms" --kernel $names 0xffffffff81000108 \
+        | head -n 1 | cmp -s - <(echo '0xffffffff81000108 -') || fail "a kernel between $names"
+done
+
 # a line of 4096 bytes is read, and one byte more makes it long
 { printf 'm 1 0 - Live 0x1000 ' && printf '%04076d\n' 0; } >"$work/whole"
 { printf 'm 1 0 - Live 0x1000 ' && printf '%04077d\n' 0; } >"$work/long"
@@ -85,9 +126,29 @@ refused 1 "refused 14" --modules regions.modules --kallsyms regions.kallsyms --r
 refused 1 "no_such: cannot be read" --modules regions.modules --kallsyms regions.kallsyms --regions no_such 1
 refused 1 ".: cannot be read" --modules regions.modules --kallsyms . --regions no_such 1
 refused 2 "" --modules regions.modules --kallsyms regions.kallsyms --regions regions.regions --regions regions.regions 1
+# the file of addresses is read behind the listings, and names its first bad line
+printf '16\n# a comment\n0x\n16x\n' >"$work/bad.addresses"
+printf '16\n 17\n' >"$work/blank.addresses"
+printf '%04097d\n' 1 >"$work/long.addresses"
+refused 1 "$work/bad.addresses: line 3 is not understood" "${basic[@]}" --addresses "$work/bad.addresses"
+refused 1 "$work/blank.addresses: line 2 is not understood" "${basic[@]}" --addresses "$work/blank.addresses" 1
+refused 1 "$work/long.addresses: line 1 is not understood" "${basic[@]}" --addresses "$work/long.addresses"
+refused 1 "-: line 3 is not understood" "${basic[@]}" --addresses - <"$work/bad.addresses"
+refused 1 "no_such: cannot be read" "${basic[@]}" --addresses no_such
+refused 1 ".: cannot be read" "${basic[@]}" --addresses . 1
+refused 1 "-: cannot be read" "${basic[@]}" --addresses - <.
+refused 1 "no_such: cannot be read" --modules basic.modules --kallsyms no_such --addresses "$work/bad.addresses"
+refused 1 "$work/other.regions: line 1 is not understood" "${basic[@]}" --regions "$work/other.regions" --addresses no_such
+refused 2 "bad address 16x" --modules no_such --kallsyms no_such --addresses no_such 16x
+refused 2 "" "${basic[@]}" --addresses basic.addresses --addresses basic.addresses
+refused 2 "" "${basic[@]}" --kernel a b --kernel a b 1
+refused 2 "" "${basic[@]}" 1 --kernel a
+refused 2 "" "${basic[@]}" 1 --kernel
+refused 2 "" "${basic[@]}" 1 --addresses
 refused 2 "bad address 16x" --modules no_such --kallsyms no_such 16 16x y
 refused 2 "bad address 18446744073709551616" --modules no_such --kallsyms no_such 18446744073709551616
-refused 2 "" --modules basic.modules --kallsyms basic.kallsyms
+refused 2 "no address is given" --modules no_such --kallsyms no_such
+refused 2 "no address is given" "${basic[@]}" --kernel _stext _etext
 refused 2 "" --modules basic.modules 1
 refused 2 "" --kallsyms basic.kallsyms 1
 refused 2 "" --modules basic.modules --kallsyms basic.kallsyms --modules basic.modules 1

@@ -81,6 +81,7 @@ cd "$top/examples/listings"
 try lookup --modules basic.modules --kallsyms basic.kallsyms 0xffffffffc0000018 0xffffffff81000108
 try lookup --modules regions.modules --kallsyms regions.kallsyms --regions regions.regions 0xffffffffc0600104
 try lookup --modules regions.modules --kallsyms regions.kallsyms --regions empty.modules 0
+try lookup --modules basic.modules --kallsyms basic.kallsyms 0xffffffffc0000018 --addresses basic.addresses --kernel _stext _end
 cd "$top/examples/traces"
 try --help
 try trace cut_short.trace

@@ -8,3 +8,4 @@ mod Opening
 mod Loading
 mod Inputs
 mod Addresses
+mod Asked

@@ -14,10 +14,10 @@ use Rattle.clap.specs.declared.builder.arg.Arg.{Arg}
 use Rattle.clap.specs.declared.builder.command.Command.{Command}
 use Rattle.clap.specs.declared.builder.command.Command.TheViews.{out-Command}
 use Rattle.latchsym.specs.CommandLine.{IsCommand, IsPlainArg, latchsym_app}
-use Rattle.latchsym.specs.Jobs.{AnswersAsked, AnswersMatches, AnswersWords, ForLookup, IsFaultOf, asked_by, asked_lookup}
+use Rattle.latchsym.specs.Jobs.{AnswersAsked, AnswersMatches, AnswersWords, IsFaultOf, asked_by}
 use Rattle.latchsym.specs.declared.command_line.Job.{Job}
 use Rattle.latchsym.specs.declared.command_line.JobFault.{JobFault}
-use Rattle.latchsym.specs.declared.command_line.JobFault.TheVariants.{OutOfMemory, CommandLine, BadAddress, NoJob}
+use Rattle.latchsym.specs.declared.command_line.JobFault.TheVariants.{OutOfMemory, CommandLine, BadAddress, NoAddress, NoJob}
 
 is_simple_latchsym : is_simple latchsym_app ≡ true
 unfolding clap_on_literals
@@ -36,6 +36,7 @@ fails words e OutOfMemory is has = tt
 fails words e (CommandLine shown) is has =
     among words shown (subst (HasKind (fault_of latchsym_app words)) (sym is.0) has) is.1
 fails words e (BadAddress word) is has = absurd is
+fails words e NoAddress is has = absurd is
 fails words e NoJob is has = absurd is
 
 passes : (words : List Text) (r : Result Job JobFault) → fault_of latchsym_app words ≡ [] → AnswersAsked (asked_by (subcommand_of latchsym_app words)) r → AnswersWords words r
@@ -43,6 +44,7 @@ passes words (Ok job) none is = (none, is)
 passes words (Err OutOfMemory) none is = tt
 passes words (Err (CommandLine e)) none is = absurd is
 passes words (Err (BadAddress word)) none is = (none, is)
+passes words (Err NoAddress) none is = (none, is)
 passes words (Err NoJob) none is = (none, is)
 
 -- the answer to an error of the parse
@@ -87,13 +89,3 @@ both (Some p) name rows e f =
 pub entered_is : (m : ArgMatches) (name : Text) (rows : List Row) → Some name ≡ subcommand_name_of m → Some rows ≡ option_map (λ p. p.1) (subcommand_rows_of m)
     → subcommand_rows_of m ≡ Some (name, rows)
 entered_is m name rows e f = both (subcommand_rows_of m) name rows (e ∙ named (out-ArgMatches m).subcommand) f
-
--- what is asked for, by the values that were found
-pub asked_with : (m k r : Option Text) (w : Option (List Text)) (modules kallsyms : Text) (regions : Option Text) (words : List Text) (result : Result Job JobFault)
-    → Some modules ≡ m → Some kallsyms ≡ k → regions ≡ r → Some words ≡ w
-    → AnswersAsked (ForLookup modules kallsyms regions words) result → AnswersAsked (asked_lookup m k r w) result
-asked_with m k r w modules kallsyms regions words result e f g h answers =
-    subst (λ o. AnswersAsked (asked_lookup o k r w) result) e
-    (subst (λ o. AnswersAsked (asked_lookup (Some modules) o r w) result) f
-    (subst (λ o. AnswersAsked (asked_lookup (Some modules) (Some kallsyms) o w) result) g
-    (subst (λ o. AnswersAsked (asked_lookup (Some modules) (Some kallsyms) regions o) result) h answers)))

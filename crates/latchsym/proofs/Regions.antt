@@ -13,7 +13,8 @@ use Rattle.latch_core.specs.Updates.{some_overlap}
 use Rattle.modules.specs.Catalogs.{IsSound, module_of, regions_of}
 use Rattle.modules.specs.Entries.{CatalogEntries, ModuleEntry}
 use Rattle.modules.specs.Regions.{is_apart}
-use Rattle.latchsym.specs.CatalogTables.{item_of, items_at, items_below, items_of}
+use Rattle.modules.specs.Loads.{item_of}
+use Rattle.latchsym.specs.CatalogTables.{items_at, items_below, items_of}
 use Rattle.latchsym.proofs.Loads.{none_meets}
 
 -- the region of an item

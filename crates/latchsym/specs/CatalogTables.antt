@@ -7,11 +7,8 @@ use Rattle.order_laws.specs.Orders.{half_open}
 use Rattle.order_laws.specs.Tables.{look}
 use Rattle.modules.specs.Catalogs.{module_of}
 use Rattle.modules.specs.Entries.{CatalogEntries}
+use Rattle.modules.specs.Loads.{item_of}
 use Rattle.latchsym.specs.declared.table.Answer.{Answer}
-
--- a region as an item: its first address, its excluded end, and the number of its module
-abbrev pub item_of : ℕ → ℕ × ℕ → Item
-item_of number region = record { a = region.0; b = region.1; tag = number }
 
 -- the items of the module of a number, if there is one
 abbrev pub items_at : CatalogEntries → ℕ → List Item

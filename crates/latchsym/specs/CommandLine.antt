@@ -19,22 +19,34 @@ option_rule id = record (new_rule id) { long = Some id; value_names = 1; require
 abbrev pub optional_rule : Text → Rule
 optional_rule id = record (new_rule id) { long = Some id; value_names = 1 }
 
--- any number of words, of which one has to be given
+-- an option that may be given, with two values
+abbrev pub pair_rule : Text → Rule
+pair_rule id = record (new_rule id) { long = Some id; value_names = 2 }
+
+-- any number of words
 abbrev pub words_rule : Text → Rule
-words_rule id = record (new_rule id) { range = Some (record { start_inclusive = 1; end_inclusive = usize_max }); value_names = 1; required = true }
+words_rule id = record (new_rule id) {
+  range = Some (record { start_inclusive = 1; end_inclusive = usize_max });
+  value_names = 1;
+}
 
 -- trace FILE
 abbrev pub trace_app : App
 trace_app = with_rule (new_app (codes "trace")) (word_rule (codes "file"))
 
--- lookup --modules FILE --kallsyms FILE [--regions FILE] ADDR..
+-- the options of a lookup that have to be given
+abbrev pub listings_app : App
+listings_app =
+    with_rule (with_rule (new_app (codes "lookup")) (option_rule (codes "modules"))) (option_rule (codes "kallsyms"))
+
+-- lookup --modules FILE --kallsyms FILE [--regions FILE] [--addresses FILE] [--kernel START END] [ADDR]..
 abbrev pub lookup_app : App
 lookup_app =
     with_rule
     (with_rule
-    (with_rule (with_rule (new_app (codes "lookup")) (option_rule (codes "modules"))) (option_rule (codes "kallsyms")))
-    (optional_rule (codes "regions")))
-    (words_rule (codes "addresses"))
+    (with_rule (with_rule listings_app (optional_rule (codes "regions"))) (optional_rule (codes "addresses")))
+    (pair_rule (codes "kernel")))
+    (words_rule (codes "address"))
 
 -- a subcommand has to be given
 abbrev pub top_app : App

@@ -1,11 +1,14 @@
 -- Why a run of the program failed, and the line that says so.
-use Rattle.std.specs.Prelude.{◌≡◌, ℕ, List, [], ◌++◌, ◌≤◌, ◌⊎◌, Option, Some, None, Result, Ok, Err, codes, decimal, option_and_then, slice_get, unwrap_or}
+use Rattle.std.specs.Prelude.{◌≡◌, ℕ, List, [], ◌++◌, ◌≤◌, ◌⊎◌, Option, Some, None, Result, Ok, Err, codes, decimal, option_and_then, unwrap_or}
 use Rattle.std.specs.Io.KnownBytes.{Appends}
 use Rattle.clap.specs.Words.{Text}
 use Rattle.devices.specs.declared.counted.Counted.{Counted}
 use Rattle.devices.specs.Counted.{Rose, device_of, failures_of}
+use Rattle.listing.specs.declared.faults.LineFault.{LineFault}
+use Rattle.listing.specs.declared.faults.LineFault.TheVariants as line
 use Rattle.order_laws.specs.Refusals as refusals
-use Rattle.latchsym.specs.Jobs.{files_of}
+use Rattle.order_laws.specs.declared.refusals.Refusal.TheVariants as refusal
+use Rattle.latchsym.specs.Jobs.{file_at}
 use Rattle.latchsym.specs.Texts.{refused_text}
 use Rattle.latchsym.specs.declared.command_line.Job.{Job}
 use Rattle.latchsym.specs.declared.fault.Fault.{Fault}
@@ -47,9 +50,15 @@ message_text file Write = codes "cannot write\n"
 abbrev pub fault_text : Text → Fault → List ℕ
 fault_text file fault = codes "latchsym: " ++ message_text file fault
 
+-- the fault of the program for that of a file at this place whose lines all have to be understood
+abbrev pub IsLineFault : ℕ → LineFault → Fault → Type 0
+IsLineFault place line.OutOfMemory fault = fault ≡ Refused refusal.OutOfMemory
+IsLineFault place line.Read fault = fault ≡ Read place
+IsLineFault place (line.BadLine n) fault = fault ≡ BadLine place n
+
 -- the file of the job that the fault is about
 abbrev pub file_of : Job → Fault → Text
-file_of job fault = unwrap_or (option_and_then (slice_get (files_of job)) (place_of fault)) []
+file_of job fault = unwrap_or (option_and_then (file_at job) (place_of fault)) []
 
 -- the writer has taken this line and nothing else, or a call of it failed
 pub record Reported {D : Type 0} (contents : D → Option (List ℕ)) (old new : Counted D) (line : List ℕ) : Type 0 where

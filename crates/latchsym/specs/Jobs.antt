@@ -1,71 +1,135 @@
 -- The job that the words of a command line ask for.
-use Rattle.std.specs.Prelude.{◌≡◌, ◌≢◌, ℕ, Bool, List, [], ◌∷◌, Option, Some, None, Result, Ok, Err, codes, find, is_none, if◌then◌else◌}
+use Rattle.std.specs.Prelude.{◌≡◌, ◌≢◌, ◌&&◌, ℕ, Bool, true, false, nat_eq, List, [], ◌∷◌, length, Option, Some, None, Result, Ok, Err, codes, find, is_none, option_and_then, slice_get, unwrap_or, if◌then◌else◌}
 use Rattle.std.specs.Global.{Vec}
 use Rattle.std.specs.List.{filter_map}
-use Rattle.std.specs.Option.{option_map, option_to_list}
+use Rattle.std.specs.Option.{option_map}
 use Rattle.std.specs.Str.{bytes_eq}
 use Rattle.clap.specs.Words.{IsAmong, Row, Text, all_of, fault_of, first_of, kind_of, subcommand_of}
 use Rattle.clap.specs.declared.error.Error.{Error}
 use Rattle.clap.specs.declared.error.kind.ErrorKind.TheVariants as kind
 use Rattle.listing.specs.Numbers.{number_of}
+use Rattle.modules.specs.Lines.{usual_bounds}
+use Rattle.modules.specs.Listed.{BoundNames}
 use Rattle.latchsym.specs.CommandLine.{latchsym_app}
 use Rattle.latchsym.specs.declared.command_line.Job.{Job}
+use Rattle.latchsym.specs.declared.command_line.LookupJob.{LookupJob}
 use Rattle.latchsym.specs.declared.command_line.Job.TheVariants.{Trace, Lookup}
 use Rattle.latchsym.specs.declared.command_line.JobFault.{JobFault}
-use Rattle.latchsym.specs.declared.command_line.JobFault.TheVariants.{OutOfMemory, CommandLine, BadAddress, NoJob}
+use Rattle.latchsym.specs.declared.command_line.JobFault.TheVariants.{OutOfMemory, CommandLine, BadAddress, NoAddress, NoJob}
 
--- the files that a job reads, in order
-abbrev pub files_of : Job → List Text
-files_of (Trace file) = file.now ∷ []
+-- the files that a job reads, in order; the place of one that is not given stays empty
+abbrev pub files_of : Job → List (Option Text)
+files_of (Trace file) = Some file.now ∷ []
 files_of (Lookup job) =
-    job.modules.now ∷ job.kallsyms.now ∷ option_to_list (option_map (λ f. f.now) job.regions)
+    Some job.modules.now ∷ Some job.kallsyms.now ∷ option_map (λ f. f.now) job.regions
+    ∷ option_map (λ f. f.now) job.address_file ∷ []
 
--- what a subcommand asks for: to run the trace in a file, or to look the addresses up that these
--- words are, in the listings of modules and of symbols in two files, and of regions in a third or none
+-- the file at a place among them
+abbrev pub file_at : Job → ℕ → Option Text
+file_at job place = option_and_then (λ f. f) (slice_get (files_of job) place)
+
+-- to look the addresses up that these words are, and behind them those of a file, in the listings of
+-- modules and of symbols in two files, and of regions in a third, where these symbols bound the kernel
+pub record LookupWords : Type 0 where
+  pub modules : Text
+  pub kallsyms : Text
+  pub regions : Option Text
+  pub address_file : Option Text
+  pub kernel : BoundNames
+  pub addresses : List Text
+
+-- what a subcommand asks for: to run the trace in a file, or a lookup
 pub data Asked : Type 0 where
   ForTrace : Text → Asked
-  ForLookup : Text → Text → Option Text → List Text → Asked
+  ForLookup : LookupWords → Asked
   ForNothing : Asked
 
 abbrev pub asked_trace : Option Text → Asked
 asked_trace (Some file) = ForTrace file
 asked_trace None = ForNothing
 
-abbrev pub asked_lookup : Option Text → Option Text → Option Text → Option (List Text) → Asked
-asked_lookup (Some modules) (Some kallsyms) regions (Some words) = ForLookup modules kallsyms regions words
-asked_lookup _ _ _ _ = ForNothing
+-- the names behind `--kernel`, or the usual ones where it is not given
+abbrev pub bounds_in : List Text → Option BoundNames
+bounds_in [] = Some usual_bounds
+bounds_in (start ∷ end ∷ []) = Some (record { start = start; end = end })
+bounds_in _ = None
+
+-- all values of an argument
+abbrev pub values_in : Text → List Row → List Text
+values_in id rows = unwrap_or (all_of id rows) []
+
+-- the lookup that these values ask for, where those that have to be there are
+abbrev pub lookup_in : List Row → Option Text → Option Text → Option BoundNames → Asked
+lookup_in rows (Some modules) (Some kallsyms) (Some kernel) = ForLookup (record {
+  modules = modules;
+  kallsyms = kallsyms;
+  regions = first_of (codes "regions") rows;
+  address_file = first_of (codes "addresses") rows;
+  kernel = kernel;
+  addresses = values_in (codes "address") rows;
+})
+lookup_in rows _ _ _ = ForNothing
+
+abbrev pub asked_lookup : List Row → Asked
+asked_lookup rows =
+    lookup_in rows (first_of (codes "modules") rows) (first_of (codes "kallsyms") rows)
+    (bounds_in (values_in (codes "kernel") rows))
 
 -- what a subcommand of this name, with these values, asks for
 abbrev pub asked_by : Option (Text × List Row) → Asked
 asked_by None = ForNothing
 asked_by (Some (name, rows)) =
     if bytes_eq name (codes "trace") then asked_trace (first_of (codes "file") rows)
-    else if bytes_eq name (codes "lookup") then asked_lookup (first_of (codes "modules") rows) (first_of (codes "kallsyms") rows) (first_of (codes "regions") rows) (all_of (codes "addresses") rows)
+    else if bytes_eq name (codes "lookup") then asked_lookup rows
     else ForNothing
 
 -- the word is no number
 abbrev pub is_no_number : Text → Bool
 is_no_number word = is_none (number_of word)
 
--- the job is what is asked for, and its addresses are the numbers that the words are, in order
+-- no address is given in any place
+abbrev pub lacks_addresses : LookupWords → Bool
+lacks_addresses l = nat_eq (length l.addresses) 0 && is_none l.address_file
+
+-- what a lookup asks for whose addresses are these words
+abbrev pub words_of : LookupJob → List Text → LookupWords
+words_of job words = record {
+  modules = job.modules.now;
+  kallsyms = job.kallsyms.now;
+  regions = option_map (λ f. f.now) job.regions;
+  address_file = option_map (λ f. f.now) job.address_file;
+  kernel = job.kernel;
+  addresses = words;
+}
+
+-- some address is given, and those of the job are the numbers that the words are, in order
+pub record IsLookupFor (asked : Asked) (job : LookupJob) : Type 0 where
+  pub words : List Text
+  pub asked_for : asked ≡ ForLookup (words_of job words)
+  pub some : lacks_addresses (words_of job words) ≡ false
+  pub none_bad : find is_no_number words ≡ None
+  pub addresses : job.addresses.items ≡ filter_map number_of words
+
+-- the job is what is asked for
 abbrev pub IsAskedBy : Asked → Job → Type 0
 IsAskedBy asked (Trace file) = asked ≡ ForTrace file.now
-IsAskedBy asked (Lookup job) =
-    (words : List Text) × (asked ≡ ForLookup job.modules.now job.kallsyms.now (option_map (λ f. f.now) job.regions) words)
-    × (find is_no_number words ≡ None) × (job.addresses.items ≡ filter_map number_of words)
+IsAskedBy asked (Lookup job) = IsLookupFor asked job
 
 -- an address is asked for that is no number, and this is the first such word
 abbrev pub HasBadAddress : Asked → Text → Type 0
 HasBadAddress asked word =
-    (modules kallsyms : Text) × (regions : Option Text) × (words : List Text)
-    × (asked ≡ ForLookup modules kallsyms regions words)
-    × (find is_no_number words ≡ Some word)
+    (l : LookupWords) × (asked ≡ ForLookup l) × (find is_no_number l.addresses ≡ Some word)
+
+-- a lookup is asked for without an address
+abbrev pub HasNoAddress : Asked → Type 0
+HasNoAddress asked = (l : LookupWords) × (asked ≡ ForLookup l) × (lacks_addresses l ≡ true)
 
 -- the answer where this is asked for
 abbrev pub AnswersAsked : Asked → Result Job JobFault → Type 0
 AnswersAsked asked (Ok job) = IsAskedBy asked job
 AnswersAsked asked (Err OutOfMemory) = Unit {0}
 AnswersAsked asked (Err (BadAddress word)) = HasBadAddress asked word.now
+AnswersAsked asked (Err NoAddress) = HasNoAddress asked
 AnswersAsked asked (Err NoJob) = asked ≡ ForNothing
 AnswersAsked asked (Err (CommandLine e)) = ⊥
 
@@ -89,10 +153,13 @@ IsFaultOf error _ = ⊥
 -- The answer to these words. A job is answered only where the parser finds no fault in them, and is
 -- what they say; a fault of the command line is one that the parser finds.
 abbrev pub AnswersWords : List Text → Result Job JobFault → Type 0
-AnswersWords words (Ok job) = (fault_of latchsym_app words ≡ []) × IsAskedBy (asked_by (subcommand_of latchsym_app words)) job
+AnswersWords words (Ok job) =
+    (fault_of latchsym_app words ≡ []) × IsAskedBy (asked_by (subcommand_of latchsym_app words)) job
 AnswersWords words (Err OutOfMemory) = Unit {0}
 AnswersWords words (Err (CommandLine e)) = IsAmong (kind_of e) (fault_of latchsym_app words)
 AnswersWords words (Err (BadAddress word)) =
     (fault_of latchsym_app words ≡ []) × HasBadAddress (asked_by (subcommand_of latchsym_app words)) word.now
+AnswersWords words (Err NoAddress) =
+    (fault_of latchsym_app words ≡ []) × HasNoAddress (asked_by (subcommand_of latchsym_app words))
 AnswersWords words (Err NoJob) =
     (fault_of latchsym_app words ≡ []) × (asked_by (subcommand_of latchsym_app words) ≡ ForNothing)

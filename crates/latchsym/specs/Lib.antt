@@ -7,15 +7,17 @@ pub mod Jobs
 pub mod Texts
 -- text that is gathered in a block of memory, and written when the block is full
 pub mod Blocks
--- what is written for a trace that is read
-pub mod Traces
 -- why a run of the program failed, and the line that says so
 pub mod Faults
+-- what is written for a trace that is read
+pub mod Traces
 -- the table of a catalog: an item for each region, and the item that holds an address
 pub mod CatalogTables
 -- a world that holds the regions of modules
 pub mod LoadedWorlds
 -- the lines that a lookup of addresses writes
 pub mod LookupTexts
--- what is written for two listings and a list of addresses
+-- what a lookup of addresses reads, and what that says
+pub mod LookupInputs
+-- what is written for the listings and the addresses that are asked for
 pub mod Lookups

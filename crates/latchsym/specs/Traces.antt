@@ -17,8 +17,6 @@ use Rattle.latch_steps.specs.Near.{AreNear}
 use Rattle.latch_steps.specs.Promises.{IsExactWherePlain}
 use Rattle.listing.specs.declared.header.Header.{Header}
 use Rattle.listing.specs.declared.header.Version.{Version}
-use Rattle.listing.specs.declared.faults.LineFault.{LineFault}
-use Rattle.listing.specs.declared.faults.LineFault.TheVariants as line
 use Rattle.listing.specs.Header.{is_wide}
 use Rattle.listing.specs.Trace.{Contents, trace_of}
 use Rattle.latchsym.specs.Texts.{end_text, note_text}
@@ -74,11 +72,6 @@ pub record IsTraceWith (P : Header → Type 0) (read : List ℕ) : Type 0 where
   pub said : Contents
   pub reads : trace_of read ≡ Ok said
   pub header : P said.header
-
-abbrev pub IsInputFault : LineFault → Fault → Type 0
-IsInputFault line.OutOfMemory fault = fault ≡ Refused refusal.OutOfMemory
-IsInputFault line.Read fault = fault ≡ Read 0
-IsInputFault (line.BadLine n) fault = fault ≡ BadLine 0 n
 
 -- What an engine answers that ran a trace of these contents from one state of the writer to another.
 -- Every fault but a failed write leaves the writer as it was, and a call of it failed then alone.

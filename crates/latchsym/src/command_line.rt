@@ -1,26 +1,28 @@
 //! The command line: what it may say, and the job that it asks for.
 ghost use Rattle.std.specs.Prelude.{◌≡◌, Some, IfOk, codes, map, option_map};
-ghost use Rattle.clap.specs.Words.{all_of, found_of, first_of, rows_of, subcommand_rows_of};
-ghost use Rattle.latchsym.specs.CommandLine.{lookup_app, trace_app, latchsym_app, option_rule, optional_rule, word_rule, words_rule, IsCommand, IsPlainArg};
-ghost use Rattle.latchsym.specs.Jobs.{asked_lookup, asked_trace, AnswersAsked, ForLookup, AnswersMatches, AnswersWords, AreNumbers, IsFaultOf};
+ghost use Rattle.clap.specs.Words.{found_of, first_of, rows_of, subcommand_rows_of};
+ghost use Rattle.latchsym.specs.CommandLine.{lookup_app, trace_app, latchsym_app, option_rule, optional_rule, pair_rule, word_rule, words_rule, IsCommand, IsPlainArg};
+ghost use Rattle.latchsym.specs.Jobs.{asked_lookup, asked_trace, bounds_in, values_in, AnswersAsked, AnswersMatches, AnswersWords, AreNumbers, IsFaultOf};
 
 use clap::error::ErrorKind;
 use clap::{Arg, ArgMatches, Command, Error};
 use listing::number;
+use modules::KernelBounds;
 use std::alloc::{AllocError, AllocFailed, Global};
 use std::convert::AsStr;
 
 /// What a command line asks for.
-#[derive(Debug, PartialEq, Eq, Drop)]
+#[derive(Debug, Drop)]
 pub enum Job<'a> {
     /// `latchsym trace FILE`: run the trace in this file.
     Trace { file: &'a str },
-    /// `latchsym lookup --modules FILE --kallsyms FILE [--regions FILE] ADDR..`: look addresses up.
+    /// `latchsym lookup --modules FILE --kallsyms FILE [--regions FILE] [--addresses FILE]
+    /// [--kernel START END] [ADDR]..`: look addresses up.
     Lookup(LookupJob<'a>),
 }
 
 /// Which addresses are looked up, and in which listings.
-#[derive(Debug, PartialEq, Eq, Drop)]
+#[derive(Debug, Drop)]
 pub struct LookupJob<'a> {
     /// The file of the listing of modules.
     pub modules: &'a str,
@@ -28,23 +30,28 @@ pub struct LookupJob<'a> {
     pub kallsyms: &'a str,
     /// The file of the listing of regions, where there is one.
     pub regions: Option<&'a str>,
-    /// The addresses, in the order of their words.
+    /// The file of further addresses, where there is one; `-` is the standard input.
+    pub address_file: Option<&'a str>,
+    /// The names of the symbols that bound the kernel's own region.
+    pub kernel: KernelBounds<'a>,
+    /// The addresses of the command line, in the order of their words.
     pub addresses: Vec<u64>,
 }
 
 impl<'a> Job<'a> {
-    ghost use Rattle.std.specs.Prelude.{slice_get};
-    ghost use Rattle.latchsym.specs.Jobs.{files_of};
+    ghost use Rattle.latchsym.specs.Jobs.{file_at};
 
     /// The file at this place among those that the job reads, in the order in which it reads them.
+    /// The listing of regions has place 2 and the file of addresses 3, where they are given.
     pub fn file(&self, place: u64) -> Option<&'a str>
-        ensures { option_map (λ f. f.now) result ≡ slice_get (files_of self.now) place }
+        ensures { option_map (λ f. f.now) result ≡ file_at self.now place }
     {
         match self {
             Job::Trace { file } if place == 0 => Some(file),
             Job::Lookup(job) if place == 0 => Some(job.modules),
             Job::Lookup(job) if place == 1 => Some(job.kallsyms),
             Job::Lookup(job) if place == 2 => job.regions,
+            Job::Lookup(job) if place == 3 => job.address_file,
             Job::Trace { .. } | Job::Lookup(_) => None,
         }
     }
@@ -60,6 +67,8 @@ pub enum JobFault<'a> {
     CommandLine(Error),
     /// The first address that is no number.
     BadAddress(&'a str),
+    /// A lookup without an address.
+    NoAddress,
     /// The words pass, and still name no job.
     NoJob,
 }
@@ -119,12 +128,20 @@ fn lookup_command<'a>(alloc: Global) -> Result<Command<'a>, AllocError>
         "The symbols, in the form of /proc/kallsyms",
     );
     let regions = optional_option(alloc, "regions").help("The regions of the modules");
-    let addresses = required_words(alloc, "addresses", "ADDR").help("The addresses");
+    let file = optional_option(alloc, "addresses").help(
+        "Further addresses, a number a line; - is the standard input",
+    );
+    let kernel = optional_pair(alloc, "kernel", &["START", "END"]).help(
+        "The symbols that bound the kernel itself, in place of _stext and _end",
+    );
+    let addresses = any_words(alloc, "address", "ADDR").help("The addresses");
     let command = Command::new(alloc, "lookup")
         .about("Say which module and which symbol hold an address")
         .arg(modules)?
         .arg(kallsyms)?
         .arg(regions)?
+        .arg(file)?
+        .arg(kernel)?
         .arg(addresses)?;
     Ok(command)
 }
@@ -150,13 +167,16 @@ fn optional_option<'a>(alloc: Global, id: &'a str) -> Arg<'a>
     Arg::new(alloc, id).long(id).value_name("FILE")
 }
 
-fn required_words<'a>(alloc: Global, id: &'a str, value: &'a str) -> Arg<'a>
+fn optional_pair<'a>(alloc: Global, id: &'a str, values: &'a [&'a str; 2]) -> Arg<'a>
+    ensures { IsPlainArg (pair_rule id.entry.now) result }
+{
+    Arg::new(alloc, id).long(id).value_names(values)
+}
+
+fn any_words<'a>(alloc: Global, id: &'a str, value: &'a str) -> Arg<'a>
     ensures { IsPlainArg (words_rule id.entry.now) result }
 {
-    Arg::new(alloc, id)
-        .num_args(1..)
-        .value_name(value)
-        .required(true)
+    Arg::new(alloc, id).num_args(1..).value_name(value)
 }
 
 fn job_in<'a>(alloc: Global, matches: &ArgMatches<'a>) -> Result<Job<'a>, JobFault<'a>>
@@ -192,8 +212,7 @@ fn trace_job<'a>(found: &ArgMatches<'a>) -> Result<Job<'a>, JobFault<'a>>
 }
 
 fn lookup_job<'a>(alloc: Global, found: &ArgMatches<'a>) -> Result<Job<'a>, JobFault<'a>>
-    ensures { let rows = rows_of (found_of found.now) in
-        AnswersAsked (asked_lookup (first_of (codes "modules") rows) (first_of (codes "kallsyms") rows) (first_of (codes "regions") rows) (all_of (codes "addresses") rows)) result }
+    ensures { AnswersAsked (asked_lookup (rows_of (found_of found.now))) result }
 {
     let Some(modules) = value_of(found, "modules") else {
         return Err(JobFault::NoJob);
@@ -201,30 +220,38 @@ fn lookup_job<'a>(alloc: Global, found: &ArgMatches<'a>) -> Result<Job<'a>, JobF
     let Some(kallsyms) = value_of(found, "kallsyms") else {
         return Err(JobFault::NoJob);
     };
-    let Some(words) = values_of(found, "addresses") else {
+    let Some(kernel) = bounds_in(values_of(found, "kernel")) else {
         return Err(JobFault::NoJob);
     };
     let regions = value_of(found, "regions");
-    lookup_of(alloc, modules, kallsyms, regions, words)
+    let address_file = value_of(found, "addresses");
+    let words = values_of(found, "address");
+    if words.is_empty() && address_file.is_none() {
+        return Err(JobFault::NoAddress);
+    }
+    let addresses = addresses_in(alloc, words)?;
+    Ok(Job::Lookup(LookupJob {
+        modules,
+        kallsyms,
+        regions,
+        address_file,
+        kernel,
+        addresses,
+    }))
 }
 
-fn lookup_of<'a>(
-    alloc: Global,
-    modules: &'a str,
-    kallsyms: &'a str,
-    regions: Option<&'a str>,
-    words: &[&'a str],
-) -> Result<Job<'a>, JobFault<'a>>
-    ensures { AnswersAsked (ForLookup modules.entry.now kallsyms.entry.now (option_map (λ f. f.now) regions.entry) (map (λ w. w.now) words.now)) result }
+/// The names of the symbols that bound the kernel's own region: the two that are given, or the
+/// usual ones where none is.
+fn bounds_in<'a>(names: &[&'a str]) -> Option<KernelBounds<'a>>
+    ensures { result ≡ bounds_in (map (λ n. n.now) names.now) }
 {
-    match addresses_in(alloc, words) {
-        Ok(addresses) => Ok(Job::Lookup(LookupJob {
-            modules,
-            kallsyms,
-            regions,
-            addresses,
-        })),
-        Err(fault) => Err(fault),
+    match names {
+        [] => Some(KernelBounds::usual()),
+        [start, end] => Some(KernelBounds {
+            start: start.as_bytes(),
+            end: end.as_bytes(),
+        }),
+        _ => None,
     }
 }
 
@@ -250,10 +277,10 @@ fn value_of<'a>(found: &ArgMatches<'a>, id: &str) -> Option<&'a str>
 }
 
 /// The values of an argument that takes any number of them.
-fn values_of<'m, 'a>(found: &'m ArgMatches<'a>, id: &str) -> Option<&'m [&'a str]>
-    ensures { option_map (λ s. map (λ w. w.now) s.now) result ≡ all_of id.now (rows_of (found_of found.now)) }
+fn values_of<'m, 'a>(found: &'m ArgMatches<'a>, id: &str) -> &'m [&'a str]
+    ensures { map (λ w. w.now) result.now ≡ values_in id.now (rows_of (found_of found.now)) }
 {
-    found.get_raw(id)
+    found.get_raw(id).unwrap_or_default()
 }
 
 fn fault_of_error<'a>(error: Error) -> JobFault<'a>

@@ -1,11 +1,12 @@
 //! Why a run of the program fails, and the line that says so.
 ghost use Rattle.std.specs.Prelude.{◌≡◌, []};
 ghost use Rattle.devices.specs.Exact.{Wrote};
-ghost use Rattle.latchsym.specs.Faults.{Concluded, Reported, bad_line_text, fault_text, file_of, line_of, message_text, number_of, place_of, unread_text};
+ghost use Rattle.latchsym.specs.Faults.{Concluded, IsLineFault, Reported, bad_line_text, fault_text, file_of, line_of, message_text, number_of, place_of, unread_text};
 
 use crate::command_line::Job;
 use crate::texts::{put_decimal, put_refused};
 use devices::{Counted, put};
+use listing::LineFault;
 use order_laws::Refusal;
 use std::alloc::AllocError;
 use std::io;
@@ -39,6 +40,18 @@ pub enum Fault {
 }
 
 impl Fault {
+    /// The fault of the program for that of the file at this place, whose lines all have to be
+    /// understood.
+    pub fn of_lines(place: u64, fault: LineFault) -> Fault
+        ensures { IsLineFault place fault result }
+    {
+        match fault {
+            LineFault::OutOfMemory => Fault::Refused(Refusal::OutOfMemory),
+            LineFault::Read => Fault::Read { place },
+            LineFault::BadLine(line) => Fault::BadLine { place, line },
+        }
+    }
+
     /// The number that stands for the fault: that of the refusal, 15 for a bad line, 16 where a
     /// reader or the writer failed.
     pub fn number(&self) -> u32

@@ -4,22 +4,68 @@ ghost use Rattle.devices.specs.Counted.{device_of, failures_of};
 ghost use Rattle.devices.specs.Exact.{Wrote};
 ghost use Rattle.modules.specs.Catalogs.{IsBuildRefusal};
 ghost use Rattle.modules.specs.Lines.{region_fits};
-ghost use Rattle.latchsym.specs.LookupTexts.{answer_line, modules_line, symbols_line};
-ghost use Rattle.latchsym.specs.Lookups.{Answers, AnswersFor, AnswersWith, AreSaidBy, GivesLines, IsReadAs, IsRegionFault, failures_in, known_inputs, known_text, regions_line_of};
+ghost use Rattle.latchsym.specs.LookupInputs.{failures_in, gathered_in, inputs_of, known_inputs, known_text, lines_in, texts_in};
+ghost use Rattle.latchsym.specs.LookupTexts.{answer_line};
+ghost use Rattle.latchsym.specs.Lookups.{Answers, AnswersWith, AreSaidBy, GivesAddresses, GivesLines, IsReadAs, counts_text, failures_between, last_failures, regions_line_of};
 
 use crate::fault::Fault;
 use crate::lookup_texts::{put_answers, put_module_counts, put_region_counts, put_symbol_counts};
 use crate::table::{Answer, answers_of};
 use devices::Counted;
 use listing::{
-    LineFault, ModuleCounts, ReadFault, SymbolCounts, read_kallsyms, read_modules, read_regions,
-    read_whole,
+    ModuleCounts, ReadFault, SymbolCounts, read_addresses, read_kallsyms, read_modules,
+    read_regions, read_whole,
 };
-use modules::{BuildCounts, Catalog, RegionLine};
+use modules::{BuildCounts, Catalog, KernelBounds, RegionLine};
 use order_laws::Refusal;
 use std::alloc::Global;
 use std::io;
 use std::io::{Read, Write};
+
+/// The readers of the files of a lookup, in the order in which they are read.
+#[derive(Drop)]
+pub struct LookupReaders<M, K, R, A> {
+    /// The listing of modules.
+    pub modules: Counted<M>,
+    /// The listing of symbols.
+    pub kallsyms: Counted<K>,
+    /// The listing of regions, where there is one.
+    pub regions: Option<Counted<R>>,
+    /// The file of further addresses, where there is one.
+    pub addresses: Option<Counted<A>>,
+}
+
+/// The places of the files among those that are read.
+const MODULES_PLACE: u64 = 0;
+
+const KALLSYMS_PLACE: u64 = 1;
+
+const REGIONS_PLACE: u64 = 2;
+
+const ADDRESSES_PLACE: u64 = 3;
+
+/// The texts of the listings, that of regions only where it is given.
+#[derive(Drop)]
+pub struct ListingTexts {
+    pub modules: Vec<u8>,
+    pub kallsyms: Vec<u8>,
+    pub regions: Option<Vec<u8>>,
+}
+
+/// What a lookup is asked over.
+#[derive(Drop)]
+pub struct LookupInputs<'a> {
+    /// The names of the symbols that bound the kernel's own region.
+    pub names: &'a KernelBounds<'a>,
+    /// The text of the listing of modules.
+    pub modules: &'a [u8],
+    /// The text of the listing of symbols.
+    pub kallsyms: &'a [u8],
+    /// The lines of the listing of regions, where there is one.
+    pub regions: Option<Vec<RegionLine<'a>>>,
+    /// The addresses of the command line, and behind them those of the file.
+    pub addresses: Vec<u64>,
+}
 
 /// What the listings say: a catalog, and how many of their lines went where.
 #[derive(Drop)]
@@ -28,43 +74,39 @@ pub struct Listings<'a> {
     pub built: BuildCounts,
     pub skipped_modules: ModuleCounts,
     pub skipped_symbols: SymbolCounts,
+    /// Whether there is a listing of regions.
+    pub has_regions: bool,
 }
 
-/// The place of the listing of regions among the files that are read.
-const REGIONS_PLACE: u64 = 2;
-
 /// Looks addresses up in the listings of modules and of symbols, and writes a line for each address
-/// and a line of counts for each listing. A listing of regions may say where modules lie.
+/// and a line of counts for each listing. A listing of regions may say where modules lie, and a
+/// file of addresses which are looked up behind the given ones. The kernel's own region lies
+/// between the symbols of these names.
 ///
-/// The listings are read whole, and all answers are there, before the first byte is written; so
-/// every fault but a failed write leaves the writer as it was. docs/FORMATS.md has the listings and
-/// the lines.
-pub fn lookup_engine<M: Read, K: Read, R: Read, W: Write>(
+/// All is read, and all answers are there, before the first byte is written; so every fault but a
+/// failed write leaves the writer as it was. docs/FORMATS.md has the files and the lines.
+pub fn lookup_engine<M: Read, K: Read, R: Read, A: Read, W: Write>(
     alloc: Global,
-    modules: &mut Counted<M>,
-    kallsyms: &mut Counted<K>,
-    regions: &mut Option<Counted<R>>,
+    readers: &mut LookupReaders<M, K, R, A>,
+    names: &KernelBounds<'_>,
     addresses: &[u64],
     writer: &mut Counted<W>,
 ) -> Result<(), Fault>
     ensures { Answers W.contents
-        (known_inputs (M.remaining (device_of modules.old)) (K.remaining (device_of kallsyms.old))
-        (known_text R.remaining regions.old) addresses.now)
-        ((failures_of modules.old, failures_of modules.new) ∷ (failures_of kallsyms.old, failures_of kallsyms.new)
-        ∷ (failures_in regions.old, failures_in regions.new) ∷ [])
-        writer.old writer.new result }
+        (known_inputs M.remaining K.remaining R.remaining A.remaining
+        readers.old names.now addresses.now)
+        (failures_between readers.old readers.new) writer.old writer.new result }
 {
-    let module_text = read_at(alloc, modules, 0)?;
-    let symbol_text = read_at(alloc, kallsyms, 1)?;
-    let region_text = read_if_given(alloc, regions)?;
-    answer_from(
-        alloc,
-        &module_text,
-        &symbol_text,
-        &region_text,
-        addresses,
-        writer,
-    )
+    let modules = read_at(alloc, &mut readers.modules, MODULES_PLACE)?;
+    let kallsyms = read_at(alloc, &mut readers.kallsyms, KALLSYMS_PLACE)?;
+    let regions = read_if_given(alloc, &mut readers.regions)?;
+    let texts = ListingTexts {
+        modules,
+        kallsyms,
+        regions,
+    };
+    let file = &mut readers.addresses;
+    answer_from(alloc, names, addresses, &texts, file, writer)
 }
 
 /// Reads the listing of regions, where there is one.
@@ -72,7 +114,8 @@ fn read_if_given<R: Read>(
     alloc: Global,
     reader: &mut Option<Counted<R>>,
 ) -> Result<Option<Vec<u8>>, Fault>
-    ensures bytes { IfOk result (λ text. IfSome (known_text R.remaining reader.old) (λ left. option_map (λ t. t.items) text ≡ left)) }
+    ensures bytes { IfOk result (λ text. IfSome (known_text R.remaining reader.old)
+        (λ left. option_map (λ t. t.items) text ≡ left)) }
     ensures read { IsReadAs 2 (failures_in reader.old) (failures_in reader.new) result }
 {
     match reader {
@@ -93,90 +136,121 @@ fn read_at<R: Read>(alloc: Global, reader: &mut Counted<R>, place: u64) -> Resul
     }
 }
 
-/// Answers for the texts of the listings.
-fn answer_from<W: Write>(
+/// Answers for the texts of the listings, and for the addresses that are given and those of a file.
+fn answer_from<A: Read, W: Write>(
     alloc: Global,
-    modules: &[u8],
-    kallsyms: &[u8],
-    regions: &Option<Vec<u8>>,
-    addresses: &[u64],
+    names: &KernelBounds<'_>,
+    given: &[u64],
+    texts: &ListingTexts,
+    file: &mut Option<Counted<A>>,
     writer: &mut Counted<W>,
 ) -> Result<(), Fault>
-    ensures { let text = option_map (λ t. t.items) regions.now in
-        AnswersFor W.contents (record { modules = modules.now; kallsyms = kallsyms.now; regions = text; addresses = addresses.now }) writer.old writer.new result }
+    ensures { Answers W.contents
+        (inputs_of names.now given.now (known_text A.remaining file.old) (texts_in texts.now))
+        (last_failures file.old file.new) writer.old writer.new result }
 {
-    let lines = region_lines_in(alloc, regions)?;
-    answer_with(alloc, modules, kallsyms, regions, &lines, addresses, writer)
+    let regions = region_lines_in(alloc, &texts.regions)?;
+    let addresses = all_addresses(alloc, given, file)?;
+    let inputs = LookupInputs {
+        names,
+        modules: &texts.modules,
+        kallsyms: &texts.kallsyms,
+        regions,
+        addresses,
+    };
+    answer_with(alloc, &inputs, writer)
 }
 
-/// Answers for the texts of the listings, of which that of regions has these lines.
+/// The lines of the listing of regions, where there is one.
+fn region_lines_in(
+    alloc: Global,
+    text: &Option<Vec<u8>>,
+) -> Result<Option<Vec<RegionLine<'_>>>, Fault>
+    ensures lines { GivesLines (option_map (λ t. t.items) text.now) result }
+    ensures fit { IfOk result (λ o. IfSome o (λ v. All (λ r. region_fits r ≡ true) v.items)) }
+{
+    let Some(text) = text else {
+        return Ok(None);
+    };
+    match read_regions(alloc, text) {
+        Ok(lines) => Ok(Some(lines)),
+        Err(fault) => Err(Fault::of_lines(REGIONS_PLACE, fault)),
+    }
+}
+
+/// The addresses that are given, and behind them those of the file, where there is one.
+fn all_addresses<A: Read>(
+    alloc: Global,
+    given: &[u64],
+    file: &mut Option<Counted<A>>,
+) -> Result<Vec<u64>, Fault>
+    ensures { GivesAddresses given.now (known_text A.remaining file.old)
+        (failures_in file.old) (failures_in file.new) result }
+{
+    let mut addresses = Vec::from_slice(alloc, given)?;
+    if let Some(reader) = file {
+        match read_addresses(alloc, reader) {
+            Ok(listed) => addresses.extend_from_slice(&listed)?,
+            Err(fault) => return Err(Fault::of_lines(ADDRESSES_PLACE, fault)),
+        }
+    }
+    Ok(addresses)
+}
+
+/// Looks the addresses up, and writes what is found.
 fn answer_with<W: Write>(
     alloc: Global,
-    modules: &[u8],
-    kallsyms: &[u8],
-    regions: &Option<Vec<u8>>,
-    lines: &[RegionLine<'_>],
-    addresses: &[u64],
+    inputs: &LookupInputs<'_>,
     writer: &mut Counted<W>,
 ) -> Result<(), Fault>
-    requires { All (λ r. region_fits r ≡ true) lines.now }
-    ensures { let text = option_map (λ t. t.items) regions.now in
-        AnswersWith W.contents (record { modules = modules.now; kallsyms = kallsyms.now; regions = text; addresses = addresses.now }) lines.now writer.old writer.new result }
+    requires { All (λ r. region_fits r ≡ true) (lines_in (gathered_in inputs.now)) }
+    ensures { AnswersWith W.contents (gathered_in inputs.now) writer.old writer.new result }
 {
-    let listings = listings_in(alloc, modules, kallsyms, lines)?;
-    let answers = answers_of(alloc, &listings.catalog, listings.built.modules, addresses)?;
-    put_lookup(writer, &listings, &answers, regions.is_some()).map_err(|_| Fault::Write)
-}
-
-/// The lines of the listing of regions, of which there are none where it is not given.
-fn region_lines_in(alloc: Global, regions: &Option<Vec<u8>>) -> Result<Vec<RegionLine<'_>>, Fault>
-    ensures lines { GivesLines (λ v. v.items) (option_map (λ t. t.items) regions.now) result }
-    ensures fit { IfOk result (λ v. All (λ r. region_fits r ≡ true) v.items) }
-{
-    match regions {
-        Some(text) => read_regions(alloc, text).map_err(region_fault),
-        None => Ok(Vec::new(alloc)),
-    }
-}
-
-/// The fault of the program for that of the listing of regions.
-fn region_fault(fault: LineFault) -> Fault
-    ensures { IsRegionFault fault result }
-{
-    match fault {
-        LineFault::OutOfMemory => Fault::Refused(Refusal::OutOfMemory),
-        LineFault::Read => Fault::Read {
-            place: REGIONS_PLACE,
-        },
-        LineFault::BadLine(line) => Fault::BadLine {
-            place: REGIONS_PLACE,
-            line,
-        },
-    }
+    let listings = listings_in(alloc, inputs)?;
+    let answers = answers_of(
+        alloc,
+        &listings.catalog,
+        listings.built.modules,
+        &inputs.addresses,
+    )?;
+    put_lookup(writer, &listings, &answers).map_err(|_| Fault::Write)
 }
 
 /// Reads the lines of the first two listings, and builds the catalog of all three. Refused where
 /// more than 7 region lines have one name, and for want of memory.
-#[tactic(auto, unfolding(crate::specs::Lookups::catalog_in, crate::specs::Lookups::counts_in))]
-fn listings_in<'a>(
-    alloc: Global,
-    modules: &'a [u8],
-    kallsyms: &'a [u8],
-    regions: &[RegionLine<'a>],
-) -> Result<Listings<'a>, Refusal>
-    requires { All (λ r. region_fits r ≡ true) regions.now }
-    ensures said { IfOk result (AreSaidBy modules.now kallsyms.now regions.now) }
-    ensures refusal { IfErr result (IsBuildRefusal regions.now) }
+#[tactic(auto, unfolding(crate::specs::LookupInputs::catalog_in, crate::specs::LookupInputs::counts_in))]
+fn listings_in<'a>(alloc: Global, inputs: &LookupInputs<'a>) -> Result<Listings<'a>, Refusal>
+    requires { All (λ r. region_fits r ≡ true) (lines_in (gathered_in inputs.now)) }
+    ensures said { IfOk result (AreSaidBy (gathered_in inputs.now)) }
+    ensures refusal { IfErr result (IsBuildRefusal (lines_in (gathered_in inputs.now))) }
 {
-    let (module_lines, skipped_modules) = read_modules(alloc, modules)?;
-    let (symbol_lines, skipped_symbols) = read_kallsyms(alloc, kallsyms)?;
-    let (catalog, built) = Catalog::build_with(alloc, &module_lines, regions, &symbol_lines)?;
+    let (module_lines, skipped_modules) = read_modules(alloc, inputs.modules)?;
+    let (symbol_lines, skipped_symbols) = read_kallsyms(alloc, inputs.kallsyms)?;
+    let regions = region_lines_of(inputs);
+    let (catalog, built) = Catalog::build_between(
+        alloc,
+        inputs.names,
+        &module_lines,
+        regions,
+        &symbol_lines,
+    )?;
     Ok(Listings {
         catalog,
         built,
         skipped_modules,
         skipped_symbols,
+        has_regions: inputs.regions.is_some(),
     })
+}
+
+/// The region lines, of which there are none where there is no listing of them.
+fn region_lines_of<'i, 'a>(inputs: &'i LookupInputs<'a>) -> &'i [RegionLine<'a>]
+    ensures { result.now ≡ lines_in (gathered_in inputs.now) }
+{
+    match &inputs.regions {
+        Some(lines) => lines,
+        None => &[],
+    }
 }
 
 /// Writes the line of each answer and the counts, and lets the writer keep nothing back.
@@ -184,45 +258,31 @@ fn put_lookup<W: Write>(
     writer: &mut Counted<W>,
     listings: &Listings,
     answers: &[Answer],
-    with_regions: bool,
 ) -> io::Result<()>
     ensures { Wrote W.contents writer.old writer.new result
-        (flat_map (answer_line listings.now.catalog) answers.now
-        ++ (modules_line listings.now.skipped_modules listings.now.built
-        ++ symbols_line listings.now.skipped_symbols listings.now.built
-        ++ regions_line_of with_regions listings.now.built)) }
+        (flat_map (answer_line listings.now.catalog) answers.now ++ counts_text listings.now) }
 {
     put_answers(writer, &listings.catalog, answers)?;
-    put_counts(writer, listings, with_regions)?;
+    put_counts(writer, listings)?;
     writer.flush()
 }
 
 /// Writes the counts of the listings.
-fn put_counts<W: Write>(
-    writer: &mut Counted<W>,
-    listings: &Listings,
-    with_regions: bool,
-) -> io::Result<()>
-    ensures { Wrote W.contents writer.old writer.new result
-        (modules_line listings.now.skipped_modules listings.now.built
-        ++ symbols_line listings.now.skipped_symbols listings.now.built
-        ++ regions_line_of with_regions listings.now.built) }
+fn put_counts<W: Write>(writer: &mut Counted<W>, listings: &Listings) -> io::Result<()>
+    ensures { Wrote W.contents writer.old writer.new result (counts_text listings.now) }
 {
     put_module_counts(writer, &listings.skipped_modules, &listings.built)?;
     put_symbol_counts(writer, &listings.skipped_symbols, &listings.built)?;
-    put_counts_of_regions(writer, &listings.built, with_regions)
+    put_counts_of_regions(writer, listings)
 }
 
 /// Writes the counts of the listing of regions, where there is one.
-fn put_counts_of_regions<W: Write>(
-    writer: &mut Counted<W>,
-    built: &BuildCounts,
-    given: bool,
-) -> io::Result<()>
-    ensures { Wrote W.contents writer.old writer.new result (regions_line_of given built.now) }
+fn put_counts_of_regions<W: Write>(writer: &mut Counted<W>, listings: &Listings) -> io::Result<()>
+    ensures { Wrote W.contents writer.old writer.new result
+        (regions_line_of listings.now.has_regions listings.now.built) }
 {
-    if given {
-        put_region_counts(writer, built)
+    if listings.has_regions {
+        put_region_counts(writer, &listings.built)
     } else {
         Ok(())
     }

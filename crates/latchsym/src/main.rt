@@ -1,8 +1,8 @@
 //! The program `latchsym`: a latched address tree, one word at a time.
 //!
 //! `latchsym trace FILE` runs a trace in the step machine and writes what its lookups found.
-//! `latchsym lookup --modules FILE --kallsyms FILE [--regions FILE] ADDR..` says which module and
-//! which symbol hold an address.
+//! `latchsym lookup --modules FILE --kallsyms FILE [--regions FILE] [--addresses FILE]
+//! [--kernel START END] [ADDR]..` says which module and which symbol hold an address.
 #![tactic(auto)]
 
 mod command_line;
@@ -21,7 +21,7 @@ use command_line::{Job, JobFault, LookupJob, job_of};
 use devices::{Counted, put};
 use fault::{Fault, conclude, report_before_job};
 use input::Input;
-use lookup::lookup_engine;
+use lookup::{LookupReaders, lookup_engine};
 use order_laws::Refusal;
 use std::io::{BufWriter, ErrorKind, Stderr};
 use std::process::ExitCode;
@@ -77,20 +77,34 @@ fn run_lookup(rt: &HostRuntime, job: &LookupJob<'_>) -> Result<(), Fault> {
         return Err(Fault::Refused(Refusal::OutOfMemory));
     };
     let mut writer = Counted::new(buffer);
-    let mut modules = open(rt, job.modules)?;
-    let mut kallsyms = open(rt, job.kallsyms)?;
-    let mut regions = match job.regions {
-        Some(file) => Some(open(rt, file)?),
-        None => None,
-    };
+    let mut readers = open_for(rt, job)?;
     lookup_engine(
         rt.alloc(),
-        &mut modules,
-        &mut kallsyms,
-        &mut regions,
+        &mut readers,
+        &job.kernel,
         &job.addresses,
         &mut writer,
     )
+}
+
+/// Opens the files of a lookup.
+fn open_for(
+    rt: &HostRuntime,
+    job: &LookupJob<'_>,
+) -> Result<LookupReaders<Input, Input, Input, Input>, Fault> {
+    Ok(LookupReaders {
+        modules: open(rt, job.modules)?,
+        kallsyms: open(rt, job.kallsyms)?,
+        regions: match job.regions {
+            Some(file) => Some(open(rt, file)?),
+            None => None,
+        },
+        addresses: match job.address_file {
+            Some("-") => Some(Counted::new(Input::Standard(rt.stdin()))),
+            Some(file) => Some(open(rt, file)?),
+            None => None,
+        },
+    })
 }
 
 /// Opens a file to be read. Refused for want of memory alone: a file that cannot be opened for
@@ -111,6 +125,7 @@ fn refuse(rt: &HostRuntime, fault: JobFault<'_>, errors: &mut Counted<Stderr>) -
         JobFault::OutOfMemory => report_before_job(&Fault::Refused(Refusal::OutOfMemory), errors),
         JobFault::CommandLine(error) => explain(rt, &error, errors),
         JobFault::BadAddress(word) => misused(b"bad address ", word, errors),
+        JobFault::NoAddress => misused(b"no address is given", "", errors),
         JobFault::NoJob => misused(b"the command line names no job", "", errors),
     }
 }

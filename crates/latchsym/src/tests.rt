@@ -1,4 +1,5 @@
 //! The engine over readers and writers in memory.
+mod address_files;
 mod at_size;
 mod bad_input;
 mod devices_that_fail;

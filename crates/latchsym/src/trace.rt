@@ -4,13 +4,13 @@ ghost use Rattle.devices.specs.Exact.{Wrote};
 ghost use Rattle.listing.specs.Trace.{contents_of};
 ghost use Rattle.word_arena.specs.Layouts.{capacity_of, limit_of};
 ghost use Rattle.latchsym.specs.Texts.{end_text, note_text};
-ghost use Rattle.latchsym.specs.Traces.{Answers, AnswersIn, IsInputFault, greatest_of};
+ghost use Rattle.latchsym.specs.Traces.{Answers, AnswersIn, greatest_of};
 
 use crate::fault::Fault;
 use crate::texts::{append_end, put_notes};
 use devices::{Counted, put};
 use latch_steps::{Note, drive_notes};
-use listing::{LineFault, TraceFile, Version, read_trace};
+use listing::{TraceFile, Version, read_trace};
 use order_laws::{Closed, HalfOpen, Refusal, TreeOrder};
 use std::alloc::Global;
 use std::io;
@@ -32,21 +32,11 @@ pub fn trace_engine<R: Read, W: Write>(
 ) -> Result<(), Fault>
     ensures { Answers R.remaining W.contents reader.old reader.new writer.old writer.new result }
 {
-    let trace = read_trace(alloc, reader).map_err(input_fault)?;
+    let trace = read_trace(alloc, reader).map_err(|fault| Fault::of_lines(0, fault))?;
     if trace.header.closed {
         run_in::<Closed, W>(alloc, &trace, writer)
     } else {
         run_in::<HalfOpen, W>(alloc, &trace, writer)
-    }
-}
-
-fn input_fault(fault: LineFault) -> Fault
-    ensures { IsInputFault fault result }
-{
-    match fault {
-        LineFault::OutOfMemory => Fault::Refused(Refusal::OutOfMemory),
-        LineFault::Read => Fault::Read { place: 0 },
-        LineFault::BadLine(line) => Fault::BadLine { place: 0, line },
     }
 }
 

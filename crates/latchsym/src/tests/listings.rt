@@ -1,9 +1,11 @@
 //! Addresses that are looked up in listings.
 use crate::fault::Fault;
-use crate::lookup::lookup_engine;
+use crate::lookup::{LookupReaders, lookup_engine};
 use devices::{Counted, FailAt};
+use modules::KernelBounds;
 use order_laws::Refusal;
 use std::alloc::{AllocError, Global};
+use std::io::Read;
 use std::test::Fail;
 
 const MODULES: &[u8] = b"ext4 4096 1 - Live 0xffffffffc0000000\n";
@@ -31,9 +33,26 @@ const LINES: &[u8] = b"0xffffffffc0000018 ext4_a+0x8/0x30 [ext4]\n\
     modules 1 hidden 0 empty 0 wraps 0 overlap 0 double 0 long 0 malformed 0\n\
     symbols 5 hidden 0 stray 1 long 0 malformed 0\n";
 
-/// A listing of regions that is not given.
-fn none_given() -> Option<Counted<&'static [u8]>> {
-    None
+/// Readers of the two listings that have to be given, and of no other file.
+fn readers_of<M, K>(modules: M, kallsyms: K) -> LookupReaders<M, K, &'static [u8], &'static [u8]> {
+    LookupReaders {
+        modules: Counted::new(modules),
+        kallsyms: Counted::new(kallsyms),
+        regions: None,
+        addresses: None,
+    }
+}
+
+/// What the engine answers for these readers, and what it writes.
+fn answered<M: Read + Drop, K: Read + Drop, R: Read + Drop, A: Read + Drop>(
+    alloc: Global,
+    mut readers: LookupReaders<M, K, R, A>,
+    addresses: &[u64],
+) -> (Result<(), Fault>, Vec<u8>) {
+    let mut writer = Counted::new(Vec::new(alloc));
+    let names = KernelBounds::usual();
+    let answer = lookup_engine(alloc, &mut readers, &names, addresses, &mut writer);
+    (answer, writer.into_inner())
 }
 
 /// What the engine answers for these listings, and what it writes.
@@ -43,18 +62,7 @@ fn looked_up(
     symbols: &[u8],
     addresses: &[u64],
 ) -> (Result<(), Fault>, Vec<u8>) {
-    let mut writer = Counted::new(Vec::new(alloc));
-    let mut modules = Counted::new(modules);
-    let mut symbols = Counted::new(symbols);
-    let answer = lookup_engine(
-        alloc,
-        &mut modules,
-        &mut symbols,
-        &mut none_given(),
-        addresses,
-        &mut writer,
-    );
-    (answer, writer.into_inner())
+    answered(alloc, readers_of(modules, symbols), addresses)
 }
 
 #[test]
@@ -128,43 +136,24 @@ fn more_regions_than_a_table_has_nodes_are_refused(rt: HostRuntime) -> Result<()
 fn a_failed_call_of_each_reader_is_reported(rt: HostRuntime) {
     let alloc = rt.alloc();
     for call in 1..=3 {
-        let mut writer = Counted::new(Vec::new(alloc));
-        let mut modules = Counted::new(FailAt::new(MODULES, call));
-        let mut symbols = Counted::new(SYMBOLS);
-        let answer = lookup_engine(
-            alloc,
-            &mut modules,
-            &mut symbols,
-            &mut none_given(),
-            &ADDRESSES,
-            &mut writer,
-        );
-        let read = if call < 3 {
-            Err(Fault::Read { place: 0 })
-        } else {
-            Ok(())
-        };
-        assert_eq!(rt; answer, read);
-        assert_eq!(rt; writer.into_inner().is_empty(), call < 3);
+        let readers = readers_of(FailAt::new(MODULES, call), SYMBOLS);
+        let (answer, written) = answered(alloc, readers, &ADDRESSES);
+        assert_eq!(rt; answer, read_until(3, call, 0));
+        assert_eq!(rt; written.is_empty(), call < 3);
 
-        let mut writer = Counted::new(Vec::new(alloc));
-        let mut modules = Counted::new(MODULES);
-        let mut symbols = Counted::new(FailAt::new(SYMBOLS, call));
-        let answer = lookup_engine(
-            alloc,
-            &mut modules,
-            &mut symbols,
-            &mut none_given(),
-            &ADDRESSES,
-            &mut writer,
-        );
-        let read = if call < 3 {
-            Err(Fault::Read { place: 1 })
-        } else {
-            Ok(())
-        };
-        assert_eq!(rt; answer, read);
-        assert_eq!(rt; writer.into_inner().is_empty(), call < 3);
+        let readers = readers_of(MODULES, FailAt::new(SYMBOLS, call));
+        let (answer, written) = answered(alloc, readers, &ADDRESSES);
+        assert_eq!(rt; answer, read_until(3, call, 1));
+        assert_eq!(rt; written.is_empty(), call < 3);
+    }
+}
+
+/// The answer where the file at a place is read by fewer calls than `end`, and one of them fails.
+fn read_until(end: u64, call: u64, place: u64) -> Result<(), Fault> {
+    if call < end {
+        Err(Fault::Read { place })
+    } else {
+        Ok(())
     }
 }
 
@@ -174,16 +163,9 @@ fn each_failed_write_of_a_lookup_is_reported(rt: HostRuntime) {
     let mut call = 0u64;
     for turn in 1..200u64 {
         let mut writer = Counted::new(FailAt::new(Vec::new(alloc), turn));
-        let mut modules = Counted::new(MODULES);
-        let mut symbols = Counted::new(SYMBOLS);
-        let answer = lookup_engine(
-            alloc,
-            &mut modules,
-            &mut symbols,
-            &mut none_given(),
-            &ADDRESSES,
-            &mut writer,
-        );
+        let mut readers = readers_of(MODULES, SYMBOLS);
+        let names = KernelBounds::usual();
+        let answer = lookup_engine(alloc, &mut readers, &names, &ADDRESSES, &mut writer);
         let memory = writer.into_inner().into_memory();
         assert!(rt; LINES.starts_with(&memory));
         if answer == Ok(()) {
@@ -260,24 +242,15 @@ const SYMBOLS_OF_BOTH: &[u8] = b"ffffffffc0000010 t ext4_a\t[ext4]\n\
 #[test]
 fn modules_lie_where_their_region_lines_say(rt: HostRuntime) {
     let alloc = rt.alloc();
-    let mut writer = Counted::new(Vec::new(alloc));
-    let mut modules = Counted::new(MODULES);
-    let mut symbols = Counted::new(SYMBOLS_OF_BOTH);
-    let mut regions = Some(Counted::new(REGIONS));
+    let mut readers = readers_of(MODULES, SYMBOLS_OF_BOTH);
+    readers.regions = Some(Counted::new(REGIONS));
     let addresses = [
         0xffff_ffff_c000_0018,
         0xffff_ffff_c010_0018,
         0xffff_ffff_c010_1000,
         0x1000,
     ];
-    let answer = lookup_engine(
-        alloc,
-        &mut modules,
-        &mut symbols,
-        &mut regions,
-        &addresses,
-        &mut writer,
-    );
+    let (answer, written) = answered(alloc, readers, &addresses);
     assert_eq!(rt; answer, Ok(()));
     let lines = b"0xffffffffc0000018 ext4_a+0x8/0xff0 [ext4]\n\
         0xffffffffc0100018 ext4_init+0x8/0xff0 [ext4]\n\
@@ -286,7 +259,7 @@ fn modules_lie_where_their_region_lines_say(rt: HostRuntime) {
         modules 1 hidden 0 empty 0 wraps 0 overlap 0 double 0 long 0 malformed 0\n\
         symbols 2 hidden 0 stray 1 long 0 malformed 0\n\
         regions 2 stray 1\n";
-    assert_eq!(rt; writer.into_inner().as_slice(), lines.as_slice());
+    assert_eq!(rt; written.as_slice(), lines.as_slice());
 }
 
 #[test]
@@ -303,40 +276,21 @@ fn a_listing_of_regions_may_be_at_fault(rt: HostRuntime) {
         ),
         (eight, Fault::Refused(Refusal::TooManyRegions)),
     ] {
-        let mut writer = Counted::new(Vec::new(alloc));
-        let mut modules = Counted::new(MODULES);
-        let mut symbols = Counted::new(SYMBOLS);
-        let mut regions = Some(Counted::new(text));
-        let answer = lookup_engine(
-            alloc,
-            &mut modules,
-            &mut symbols,
-            &mut regions,
-            &ADDRESSES,
-            &mut writer,
-        );
+        let mut readers = readers_of(MODULES, SYMBOLS);
+        readers.regions = Some(Counted::new(text));
+        let (answer, written) = answered(alloc, readers, &ADDRESSES);
         assert_eq!(rt; answer, Err(fault));
-        assert!(rt; writer.into_inner().is_empty());
+        assert!(rt; written.is_empty());
     }
     for call in 1..=3 {
-        let mut writer = Counted::new(Vec::new(alloc));
-        let mut modules = Counted::new(MODULES);
-        let mut symbols = Counted::new(SYMBOLS);
-        let mut regions = Some(Counted::new(FailAt::new(REGIONS, call)));
-        let answer = lookup_engine(
-            alloc,
-            &mut modules,
-            &mut symbols,
-            &mut regions,
-            &ADDRESSES,
-            &mut writer,
-        );
-        let read = if call < 3 {
-            Err(Fault::Read { place: 2 })
-        } else {
-            Ok(())
+        let readers = LookupReaders {
+            modules: Counted::new(MODULES),
+            kallsyms: Counted::new(SYMBOLS),
+            regions: Some(Counted::new(FailAt::new(REGIONS, call))),
+            addresses: None::<Counted<&[u8]>>,
         };
-        assert_eq!(rt; answer, read);
-        assert_eq!(rt; writer.into_inner().is_empty(), call < 3);
+        let (answer, written) = answered(alloc, readers, &ADDRESSES);
+        assert_eq!(rt; answer, read_until(3, call, 2));
+        assert_eq!(rt; written.is_empty(), call < 3);
     }
 }

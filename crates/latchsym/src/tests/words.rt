@@ -19,19 +19,26 @@ fn fault_in(alloc: Global, words: &[&str]) -> Option<ErrorKind> {
 fn a_command_line_asks_for_a_trace(rt: HostRuntime) {
     let words = ["latchsym", "trace", "a file"];
     match job_of(rt.alloc(), &words) {
-        Ok(job) => assert!(rt; job == Job::Trace { file: "a file" }),
-        Err(_) => assert!(rt; false, "no job"),
+        Ok(Job::Trace { file }) => assert_eq!(rt; file, "a file"),
+        _ => assert!(rt; false, "no trace"),
     }
     let words = ["latchsym", "trace", "--", "--help"];
     match job_of(rt.alloc(), &words) {
-        Ok(job) => assert!(rt; job == Job::Trace { file: "--help" }),
-        Err(_) => assert!(rt; false, "no job"),
+        Ok(Job::Trace { file }) => assert_eq!(rt; file, "--help"),
+        _ => assert!(rt; false, "no trace"),
+    }
+}
+
+/// The lookup that these words ask for.
+fn lookup_in<'a>(alloc: Global, words: &'a [&'a str]) -> Option<LookupJob<'a>> {
+    match job_of(alloc, words) {
+        Ok(Job::Lookup(job)) => Some(job),
+        _ => None,
     }
 }
 
 #[test]
 fn a_command_line_asks_for_a_lookup(rt: HostRuntime) -> Result<(), Fail> {
-    let alloc = rt.alloc();
     let words = [
         "latchsym",
         "lookup",
@@ -43,23 +50,93 @@ fn a_command_line_asks_for_a_lookup(rt: HostRuntime) -> Result<(), Fail> {
         "r",
         "18446744073709551615",
     ];
-    let addresses = Vec::from_slice(alloc, &[16, u64::MAX])?;
-    let wanted = Job::Lookup(LookupJob {
-        modules: "m",
-        kallsyms: "k",
-        regions: Some("r"),
-        addresses,
-    });
-    match job_of(alloc, &words) {
-        Ok(job) => {
-            assert!(rt; job == wanted);
-            assert!(rt; job.file(0) == Some("m"));
-            assert!(rt; job.file(1) == Some("k"));
-            assert!(rt; job.file(2) == Some("r"));
-            assert!(rt; job.file(3) == None);
-        }
-        Err(_) => assert!(rt; false, "no job"),
+    let job = lookup_in(rt.alloc(), &words).ok_or("no lookup")?;
+    assert_eq!(rt; job.addresses.as_slice(), [16, u64::MAX].as_slice());
+    assert_eq!(rt; job.kernel.start, b"_stext".as_slice());
+    assert_eq!(rt; job.kernel.end, b"_end".as_slice());
+    let job = Job::Lookup(job);
+    assert!(rt; job.file(0) == Some("m"));
+    assert!(rt; job.file(1) == Some("k"));
+    assert!(rt; job.file(2) == Some("r"));
+    assert!(rt; job.file(3) == None);
+    assert!(rt; job.file(4) == None);
+    Ok(())
+}
+
+#[test]
+fn a_lookup_has_options(rt: HostRuntime) -> Result<(), Fail> {
+    let alloc = rt.alloc();
+    let words = [
+        "latchsym",
+        "lookup",
+        "--modules",
+        "m",
+        "--kernel",
+        "_stext",
+        "_etext",
+        "16",
+        "--kallsyms",
+        "k",
+        "--addresses",
+        "-",
+    ];
+    let job = lookup_in(alloc, &words).ok_or("no lookup")?;
+    assert_eq!(rt; job.addresses.as_slice(), [16].as_slice());
+    assert_eq!(rt; job.kernel.start, b"_stext".as_slice());
+    assert_eq!(rt; job.kernel.end, b"_etext".as_slice());
+    let job = Job::Lookup(job);
+    assert!(rt; job.file(2) == None);
+    assert!(rt; job.file(3) == Some("-"));
+
+    let words = [
+        "latchsym",
+        "lookup",
+        "--modules=m",
+        "--kallsyms=k",
+        "--addresses=a",
+    ];
+    let job = lookup_in(alloc, &words).ok_or("no lookup")?;
+    assert!(rt; job.addresses.is_empty());
+    for words in [
+        [
+            "latchsym",
+            "lookup",
+            "--modules=m",
+            "--kallsyms=k",
+            "1",
+            "--kernel",
+            "a",
+        ]
+        .as_slice(),
+        [
+            "latchsym",
+            "lookup",
+            "--modules=m",
+            "--kallsyms=k",
+            "1",
+            "--kernel",
+        ]
+        .as_slice(),
+    ] {
+        assert!(rt; fault_in(alloc, words).is_some());
     }
+    for twice in [
+        ["--addresses=a", "--addresses=a"].as_slice(),
+        &["--kernel", "a", "b", "--kernel", "a", "b"],
+    ] {
+        let mut words = Vec::from_slice(
+            alloc,
+            &["latchsym", "lookup", "--modules=m", "--kallsyms=k", "1"],
+        )?;
+        words.extend_from_slice(twice)?;
+        assert!(rt; fault_in(alloc, &words) == Some(ErrorKind::ArgumentConflict));
+    }
+    Ok(())
+}
+
+#[test]
+fn a_lookup_needs_addresses_that_are_numbers(rt: HostRuntime) {
+    let alloc = rt.alloc();
     for bad in ["16x", "18446744073709551616", "0x", ""] {
         let words = [
             "latchsym",
@@ -77,14 +154,17 @@ fn a_command_line_asks_for_a_lookup(rt: HostRuntime) -> Result<(), Fail> {
             _ => assert!(rt; false, "no bad address"),
         }
     }
-    for words in [
-        ["latchsym", "lookup", "--modules", "m", "--kallsyms", "k"].as_slice(),
-        ["latchsym", "lookup", "--modules", "m", "1"].as_slice(),
-        ["latchsym", "lookup", "--kallsyms", "k", "1"].as_slice(),
-    ] {
-        assert!(rt; fault_in(alloc, words) == Some(ErrorKind::MissingRequiredArgument));
+    let words = ["latchsym", "lookup", "--modules", "m", "--kallsyms", "k"];
+    match job_of(alloc, &words) {
+        Err(JobFault::NoAddress) => {}
+        _ => assert!(rt; false, "an address"),
     }
-    Ok(())
+    for words in [
+        ["latchsym", "lookup", "--modules", "m", "1"],
+        ["latchsym", "lookup", "--kallsyms", "k", "1"],
+    ] {
+        assert!(rt; fault_in(alloc, &words) == Some(ErrorKind::MissingRequiredArgument));
+    }
 }
 
 #[test]

@@ -1,19 +1,37 @@
-use Rattle.std.proofs.Common.{◌∙◌, ap}
+use Rattle.std.proofs.Common.{◌≡◌, ◌∙◌, ap, sym, refl, Option, Some, None, option_map}
+use Rattle.std.specs.Prelude.{is_some}
+use Rattle.std.specs.Global.{Vec}
 use Rattle.listing.specs.Lines.{lines_of}
 use Rattle.listing.specs.ModuleListing.{modules_in}
 use Rattle.modules.specs.Catalogs.{catalog_of, counts_of}
-use Rattle.modules.specs.Lines.{usual_bounds}
-use Rattle.latchsym.specs.Lookups.{catalog_in, counts_in}
+use Rattle.modules.specs.Listed.{ListedRegion}
+use Rattle.modules.specs.Placed.{are_few}
+use Rattle.latchsym.specs.LookupInputs.{catalog_in, counts_in, gathered_in, lines_in}
 use Rattle.latchsym.proofs.lookup.listings_in.Goals as goal
+
+still_some : (o : Option (Vec ListedRegion)) → is_some o ≡ is_some (option_map (λ lines. lines.items) o)
+still_some None = refl
+still_some (Some lines) = refl
 
 pub returns-clause-said : goal.returns-clause-said
 unfolding catalog_in counts_in
-returns-clause-said c = record {
-  few = c.in_ok-catalog.ensures.few;
-  catalog = c.in_ok-catalog.ensures.built ∙ ap (λ m. catalog_of usual_bounds m c.args.regions.now c.in_ok-symbol_lines.symbol_lines) (c.deref.ensures.value ∙ c.in_ok-module_lines.ensures.modules)
-      ∙ ap (λ s. catalog_of usual_bounds (modules_in (lines_of c.args.modules.now)) c.args.regions.now s) c.in_ok-symbol_lines.ensures.symbols;
-  built = c.in_ok-catalog.ensures.counted ∙ ap (λ m. counts_of usual_bounds m c.args.regions.now c.in_ok-symbol_lines.symbol_lines) (c.deref.ensures.value ∙ c.in_ok-module_lines.ensures.modules)
-      ∙ ap (λ s. counts_of usual_bounds (modules_in (lines_of c.args.modules.now)) c.args.regions.now s) c.in_ok-symbol_lines.ensures.symbols;
-  skipped_modules = c.in_ok-module_lines.ensures.counts;
-  skipped_symbols = c.in_ok-symbol_lines.ensures.counts;
-}
+returns-clause-said c =
+    let i = c.args.inputs.now in
+    let names = i.names.now in
+    let lines = c.region_lines_of-regions.result.now in
+    let symbols = c.in_ok-symbol_lines.symbol_lines in
+    let all_modules = modules_in (lines_of i.modules.now) in
+    let all_lines = lines_in (gathered_in i) in
+    let is_modules = c.deref.ensures.value ∙ c.in_ok-module_lines.ensures.modules in
+    record {
+      few = ap are_few (sym c.region_lines_of-regions.ensures) ∙ c.in_ok-catalog.ensures.few;
+      catalog = c.in_ok-catalog.ensures.built ∙ ap (λ m. catalog_of names m lines symbols) is_modules
+          ∙ ap (λ r. catalog_of names all_modules r symbols) c.region_lines_of-regions.ensures
+          ∙ ap (λ s. catalog_of names all_modules all_lines s) c.in_ok-symbol_lines.ensures.symbols;
+      built = c.in_ok-catalog.ensures.counted ∙ ap (λ m. counts_of names m lines symbols) is_modules
+          ∙ ap (λ r. counts_of names all_modules r symbols) c.region_lines_of-regions.ensures
+          ∙ ap (λ s. counts_of names all_modules all_lines s) c.in_ok-symbol_lines.ensures.symbols;
+      skipped_modules = c.in_ok-module_lines.ensures.counts;
+      skipped_symbols = c.in_ok-symbol_lines.ensures.counts;
+      has_regions = c.is_some.ensures ∙ still_some i.regions;
+    }

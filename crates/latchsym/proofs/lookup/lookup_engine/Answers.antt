@@ -1,13 +1,21 @@
-use Rattle.std.proofs.Common.{option_map}
 use Rattle.devices.specs.Counted.{device_of, failures_of}
-use Rattle.latchsym.specs.Lookups.{failures_in, known_text}
-use Rattle.latchsym.proofs.Inputs.{read_and_answered}
+use Rattle.latchsym.specs.LookupInputs.{failures_in, inputs_of, known_inputs, known_text, texts_in}
+use Rattle.latchsym.specs.declared.lookup.ListingTexts.{ListingTexts}
+use Rattle.latchsym.proofs.Inputs.{answered_behind, where_known}
 use Rattle.latchsym.proofs.lookup.lookup_engine.Goals as goal
 
 pub returns : goal.returns
 returns g c =
-    read_and_answered g.W.Write.contents (g.M.Read.remaining (device_of c.args.modules.now)) (g.K.Read.remaining (device_of c.args.kallsyms.now)) (known_text g.R.Read.remaining c.args.regions.now)
-    c.in_ok-module_text.module_text.items c.in_ok-symbol_text.symbol_text.items c.deref.result.now c.deref-2.result.now (option_map (λ t. t.items) c.in_ok-region_text.region_text) c.args.addresses.now
-    (failures_of c.args.modules.now) (failures_of c.read_at.new.reader) (failures_of c.args.kallsyms.now) (failures_of c.read_at-2.new.reader) (failures_in c.args.regions.now) (failures_in c.read_if_given.new.reader)
-    c.args.writer.now c.answer_from.new.writer c.answer_from.result c.deref.ensures.value c.deref-2.ensures.value
-    c.in_ok-module_text.ensures.bytes c.in_ok-symbol_text.ensures.bytes c.in_ok-region_text.ensures.bytes c.in_ok-module_text.ensures.read c.in_ok-symbol_text.ensures.read c.in_ok-region_text.ensures.read c.answer_from.ensures
+    let readers = c.args.readers.now in
+    let names = c.args.names.now in
+    let given = c.args.addresses.now in
+    let file = known_text g.A.Read.remaining readers.addresses in
+    let texts : ListingTexts = record { modules = c.in_ok-modules.modules; kallsyms = c.in_ok-kallsyms.kallsyms; regions = c.in_ok-regions.regions } in
+    answered_behind g.W.Write.contents (inputs_of names given file (texts_in texts))
+    (known_inputs g.M.Read.remaining g.K.Read.remaining g.R.Read.remaining g.A.Read.remaining readers names given)
+    (λ P p. where_known P names given file texts (g.M.Read.remaining (device_of readers.modules)) (g.K.Read.remaining (device_of readers.kallsyms)) (known_text g.R.Read.remaining readers.regions)
+    c.in_ok-modules.ensures.bytes c.in_ok-kallsyms.ensures.bytes c.in_ok-regions.ensures.bytes p)
+    (failures_of readers.modules, failures_of c.read_at.new.reader) (failures_of readers.kallsyms, failures_of c.read_at-2.new.reader)
+    (failures_in readers.regions, failures_in c.read_if_given.new.reader)
+    c.in_ok-modules.ensures.read c.in_ok-kallsyms.ensures.read c.in_ok-regions.ensures.read readers.addresses c.answer_from.new.file
+    c.args.writer.now c.answer_from.new.writer c.answer_from.result c.answer_from.ensures
