@@ -41,7 +41,11 @@ pub fn attempt_in<O: TreeOrder>(words: &[u64], l: Layout, key: O::Key) -> (Attem
 {
     let first = words[0];
     let copy = stable_copy(first);
-    let (left, right) = (places::left_of(copy, 0), places::right_of(copy, 0));
+    // The words from node 0's links on: a node's own then lie as far in as its item does.
+    let (below, above) = (
+        &words[places::left_of(copy, 0)..],
+        &words[places::right_of(copy, 0)..],
+    );
     let mut link = words[places::root_of(copy)];
     let mut loads = 2;
     // Link 0 wraps round to a number that no node has, so one comparison tells a node.
@@ -55,8 +59,8 @@ pub fn attempt_in<O: TreeOrder>(words: &[u64], l: Layout, key: O::Key) -> (Attem
         };
         loads += 4;
         link = match O::comp(key, &item) {
-            Ordering::Less => words[left + skipped],
-            Ordering::Greater => words[right + skipped],
+            Ordering::Less => below[skipped],
+            Ordering::Greater => above[skipped],
             Ordering::Equal => {
                 return (Attempted::Answered(Some(item), generation(first)), loads);
             }

@@ -1,4 +1,5 @@
-use Rattle.std.proofs.Common.{◌≡◌, ◌≢◌, ◌≤◌, ◌<◌, ◌⊎◌, ◌+◌, ◌-◌, ◌*◌, arith, sym, ◌∙◌, ap, subst, inl, inr, Some, None}
+use Rattle.std.proofs.Common.{◌≡◌, ◌≢◌, ◌≤◌, ◌<◌, ◌⊎◌, ℕ, ◌+◌, ◌-◌, ◌*◌, List, length, take, drop, arith, sym, ◌∙◌, ap, subst, inl, inr, Some, None}
+use Rattle.std.proofs.lemmas.List.{take_all, length-drop, get_or-drop}
 use Rattle.word_arena.specs.Layouts.{capacity_of}
 use Rattle.word_arena.specs.Words.{at, root_word, left_word, right_word, item_at}
 use Rattle.latch_core.specs.Sequences.{gen, stable}
@@ -9,14 +10,19 @@ use Rattle.latch_core.proofs.attempts.attempt_in.Given.{Over}
 use Rattle.latch_core.proofs.attempts.attempt_in.Goals as goal
 use Rattle.latch_core.proofs.attempts.attempt_in.Goals.{then-loop-link-test+else-loads-capacity, else-loop-link-test, then-link-eq0, else-link-eq0}
 
+-- a word of the words from f on
+from_there : (m : List ℕ) (f w : ℕ) → at (take (length m - f) (drop f m)) w ≡ at m (f + w)
+from_there m f w =
+    ap (λ ws. at ws w) (take_all (length m - f) (drop f m) (omega (arith, length-drop f m))) ∙ get_or-drop f m w 0
+
 pub loop-link-init : goal.loop-link-init
 loop-link-init g c =
     let o = g.O.TreeOrder.order in
     let m = c.args.words.now in
     let copy = c.stable_copy-copy.ensures in
     record {
-      left = c.left_of-left.ensures ∙ ap (λ p. left_word p 0) copy;
-      right = c.right_of-right.ensures ∙ ap (λ p. right_word p 0) copy;
+      below = λ w. from_there m c.left_of.result w ∙ ap (λ f. at m (f + w)) (c.left_of.ensures ∙ ap (λ p. left_word p 0) copy);
+      above = λ w. from_there m c.right_of.result w ∙ ap (λ f. at m (f + w)) (c.right_of.ensures ∙ ap (λ p. right_word p 0) copy);
       walking = subst (λ w. IsWalking o m (capacity_of c.args.l) c.args.key 2 (at m w))
           (sym (c.root_of.ensures ∙ ap root_word copy)) (walking_starts o m (capacity_of c.args.l) c.args.key);
     }
@@ -31,11 +37,12 @@ loop-link-preserved-in-Less g c =
     let low : c.loop-link.link ≤ capacity_of c.args.l = omega arith in
     let room : c.loop-link.loads < 4 * capacity_of c.args.l + 2 = omega arith in
     let is = c.in-Less.ensures ∙ ap (o.comp c.args.key) (item_here m i c.a_of.result c.b_of.result c.tag_of.result c.a_of.ensures c.b_of.ensures c.tag_of.ensures) in
-    let word : c.left_of-left.result + 7 * i ≡ left_word (stable (at m 0)) i = omega (arith, kept.left) in
+    let word : 6 + 2 * stable (at m 0) + 7 * i ≡ left_word (stable (at m 0)) i = omega arith in
     record {
-      left = kept.left;
-      right = kept.right;
-      walking = goes_left o m (capacity_of c.args.l) c.args.key c.loop-link.loads c.loop-link.link _ kept.walking some low room (sym is) (ap (at m) word);
+      below = kept.below;
+      above = kept.above;
+      walking = goes_left o m (capacity_of c.args.l) c.args.key c.loop-link.loads c.loop-link.link _ kept.walking some low room (sym is)
+          (kept.below (7 * i) ∙ ap (at m) word);
     }
 
 pub loop-link-preserved : goal.loop-link-preserved
@@ -48,11 +55,12 @@ loop-link-preserved g c =
     let low : c.loop-link.link ≤ capacity_of c.args.l = omega arith in
     let room : c.loop-link.loads < 4 * capacity_of c.args.l + 2 = omega arith in
     let is = c.in-Greater.ensures ∙ ap (o.comp c.args.key) (item_here m i c.a_of.result c.b_of.result c.tag_of.result c.a_of.ensures c.b_of.ensures c.tag_of.ensures) in
-    let word : c.right_of-right.result + 7 * i ≡ right_word (stable (at m 0)) i = omega (arith, kept.right) in
+    let word : 7 + 2 * stable (at m 0) + 7 * i ≡ right_word (stable (at m 0)) i = omega arith in
     record {
-      left = kept.left;
-      right = kept.right;
-      walking = goes_right o m (capacity_of c.args.l) c.args.key c.loop-link.loads c.loop-link.link _ kept.walking some low room (sym is) (ap (at m) word);
+      below = kept.below;
+      above = kept.above;
+      walking = goes_right o m (capacity_of c.args.l) c.args.key c.loop-link.loads c.loop-link.link _ kept.walking some low room (sym is)
+          (kept.above (7 * i) ∙ ap (at m) word);
     }
 
 -- the key is in the item of the node
