@@ -6,33 +6,7 @@
 set -eu
 . "$(dirname "$0")/program.sh"
 build latchsym
-cat >"$work/refuse.c" <<'C'
-#include <errno.h>
-#include <fcntl.h>
-#include <stdlib.h>
-
-extern void *__libc_malloc(size_t size);
-extern void *__libc_calloc(size_t count, size_t size);
-extern void *__libc_realloc(void *block, size_t size);
-
-static long refused_request, requests;
-
-/* Whether this request is the one to refuse. A mark is left for the script where it is. */
-static int is_refused(void) {
-    if (refused_request == 0 || ++requests != refused_request) return 0;
-    open(getenv("REFUSAL_MARK"), O_CREAT | O_WRONLY, 0600);
-    errno = ENOMEM;
-    return 1;
-}
-
-void *malloc(size_t size) { return is_refused() ? NULL : __libc_malloc(size); }
-void *calloc(size_t count, size_t size) { return is_refused() ? NULL : __libc_calloc(count, size); }
-void *realloc(void *block, size_t size) { return is_refused() ? NULL : __libc_realloc(block, size); }
-
-/* The requests of the loader, before this, do not count. */
-__attribute__((constructor)) static void begin(void) { refused_request = atol(getenv("REFUSED_REQUEST")); }
-C
-cc -O1 -shared -fPIC -o "$work/refuse.so" "$work/refuse.c"
+cc -O1 -shared -fPIC -o "$work/refuse.so" "$top/tests/refusals/refuse.c"
 
 # run NAME COMMAND..: the output of the command in NAME.out and NAME.err, its status in NAME.status
 run() {

@@ -10,7 +10,7 @@ use std::test::Fail;
 use word_arena::Layout;
 
 /// A batch of these first words and these items.
-fn batch(alloc: Global, erase: &[u64], insert: &[Item]) -> Result<Update, Fail> {
+pub(crate) fn batch(alloc: Global, erase: &[u64], insert: &[Item]) -> Result<Update, Fail> {
     let mut words = Vec::new(alloc);
     for word in erase {
         words.push(*word)?;

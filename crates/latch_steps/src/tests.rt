@@ -1,5 +1,6 @@
 ghost use Rattle.std.specs.Prelude.{◌<◌};
 
+use crate::batch_tests::batch;
 use crate::{Command, Event, Note, Reply, Returned, World, drive, run};
 use latch_core::{Entries, Update, plain};
 use order_laws::{Closed, HalfOpen, Item, Refusal};
@@ -474,9 +475,34 @@ fn erases(rt: &impl Abort, world: &mut World<HalfOpen>) -> Result<(), Fail> {
     Ok(())
 }
 
+/// Erases three of the 32 items that are left and inserts three others, as one update, ten times.
+fn exchanges(rt: &impl Abort, alloc: Global, world: &mut World<HalfOpen>) -> Result<(), Fail> {
+    for i in 0..10u64 {
+        let (first, second, third) = (96 * i, 96 * i + 32, 96 * i + 64);
+        let erased = [first + 16, second + 16, third + 16];
+        let inserted = [
+            item(first, first + 16, 0),
+            item(second, second + 16, i),
+            item(third, third + 16, 0),
+        ];
+        let update = batch(alloc, &erased, &inserted)?;
+        steps_through(
+            rt,
+            world,
+            update,
+            second,
+            (None, Some(i)),
+            Some(63),
+            (32, 32),
+        )?;
+    }
+    Ok(())
+}
+
 #[test]
-fn lookups_at_every_step_of_inserts_and_erasures(rt: HostRuntime) -> Result<(), Fail> {
+fn lookups_at_every_step_of_inserts_erasures_and_batches(rt: HostRuntime) -> Result<(), Fail> {
     let mut world = World::<HalfOpen>::open(rt.alloc(), Layout::new(64)?, 0)?;
     inserts(&rt, &mut world)?;
-    erases(&rt, &mut world)
+    erases(&rt, &mut world)?;
+    exchanges(&rt, rt.alloc(), &mut world)
 }

@@ -43,6 +43,8 @@
 //! readers that met nobody; anything of weak memory orders: each step is sequentially consistent.
 #![tactic(auto)]
 
+#[cfg(test)]
+mod interrupt_tests;
 pub mod knowledge;
 pub mod meeting;
 pub mod opening;

@@ -1,0 +1,92 @@
+//! `Catalog::build_with` and `load`.
+
+ghost use Rattle.std.specs.Prelude.{◌≡◌, true, All};
+ghost use Rattle.modules.specs.Lines.{fits, region_fits};
+
+use crate::End;
+use modules::{Catalog, Held, ModuleLine, Part, RegionLine, SymbolLine, SymbolLines};
+use order_laws::Refusal;
+use std::alloc::{AllocError, Global};
+use std::io::Print;
+
+const NAME: &[u8] = b"module";
+
+/// So many symbols of the kernel itself.
+fn symbols(alloc: Global, count: u32) -> Result<SymbolLines<'static>, AllocError> {
+    let mut lines = SymbolLines::new(alloc);
+    for place in 0..count {
+        lines.push(SymbolLine {
+            addr: (place as u64 + 1) * 16,
+            letter: b'T',
+            name: if place == 0 { b"_stext" } else { b"_end" },
+            module: if place % 3 == 2 { Some(NAME) } else { None },
+        })?;
+    }
+    Ok(lines)
+}
+
+/// A module of two regions, in lines that fit.
+fn modules() -> [ModuleLine<'static>; 1] {
+    [ModuleLine {
+        name: NAME,
+        base: 0x4000_0000,
+        size: 0x1000,
+    }]
+}
+
+fn regions() -> [RegionLine<'static>; 2] {
+    let core = RegionLine {
+        name: NAME,
+        part: Part::Core,
+        base: 0x4000_0000,
+        size: 0x1000,
+    };
+    let init = RegionLine {
+        name: NAME,
+        part: Part::Init,
+        base: 0x5000_0000,
+        size: 0x1000,
+    };
+    [core, init]
+}
+
+/// The catalog, built once more where memory was refused, and the update that loads its module.
+fn build(
+    rt: &impl Print,
+    alloc: Global,
+    modules: &[ModuleLine<'_>],
+    regions: &[RegionLine<'_>],
+    symbols: &SymbolLines<'_>,
+) -> Result<(), End>
+    requires fit { All (λ l. fits l ≡ true) modules.now }
+    requires regions_fit { All (λ l. region_fits l ≡ true) regions.now }
+{
+    let (catalog, counts) = match Catalog::build_with(alloc, modules, regions, symbols) {
+        Err(Refusal::OutOfMemory) => Catalog::build_with(alloc, modules, regions, symbols)?,
+        built => built?,
+    };
+    println!(rt;
+        "build: modules {} symbols {} stray {}",
+        counts.modules, counts.symbols, counts.stray
+    )?;
+    let held = Held {
+        core: false,
+        init: false,
+    };
+    let loaded = match catalog.load(1, held) {
+        Err(Refusal::OutOfMemory) => catalog.load(1, held)?,
+        answered => answered?,
+    };
+    println!(rt; "load: {:?}", loaded)?;
+    Ok(())
+}
+
+/// Builds a catalog of so many symbols.
+pub(crate) fn call_all(rt: &impl Print, alloc: Global, count: u32) -> Result<(), End> {
+    let symbols = symbols(alloc, count).map_err(Refusal::from)?;
+    let (modules, regions) = (modules(), regions());
+    if modules.iter().all(|line| line.fits()) && regions.iter().all(|line| line.fits()) {
+        build(rt, alloc, &modules, &regions, &symbols)?;
+    }
+    Ok(())
+}

@@ -1,0 +1,134 @@
+//! `latch_table::open` and `Writer::begin`.
+
+use crate::End;
+use crate::updates::{KEYS, key};
+use latch_core::Update;
+use latch_table::{InHand, Reader, Try, Writer, open};
+use order_laws::{HalfOpen, Item, Refusal};
+use std::alloc::Global;
+use std::io::{self, Print};
+use word_arena::Layout;
+
+const READERS: u32 = 2;
+
+/// What the keys lie in, in one number, as the writer finds it.
+fn found_by(writer: &mut Writer<HalfOpen>, capacity: u32) -> u64 {
+    let mut sum: u64 = 0;
+    for place in 0..KEYS {
+        let (found, generation) = writer.find(key(place, capacity));
+        sum = with(sum, found, generation);
+    }
+    sum
+}
+
+/// The same, as a reader finds it.
+fn read_by(reader: &mut Reader<HalfOpen>, capacity: u32) -> u64 {
+    let mut sum: u64 = 0;
+    for place in 0..KEYS {
+        if let Try::Answered(found, generation) = reader.try_find(key(place, capacity)) {
+            sum = with(sum, found, generation);
+        }
+    }
+    sum
+}
+
+fn with(sum: u64, found: Option<Item>, generation: u64) -> u64 {
+    let tag = found.map_or(7, |item| item.tag);
+    sum.wrapping_mul(31)
+        .wrapping_add(tag)
+        .wrapping_add(generation)
+}
+
+/// The same, as the writer finds it from within its update.
+fn found_inside(hand: &mut InHand<'_, HalfOpen>, capacity: u32) -> u64 {
+    let mut sum: u64 = 0;
+    for place in 0..KEYS {
+        let (found, generation) = hand.find_inside(key(place, capacity));
+        sum = with(sum, found, generation);
+    }
+    sum
+}
+
+/// An update to its end, unless it is refused. Answers the new generation and what was found within.
+fn update(
+    rt: &impl Print,
+    writer: &mut Writer<HalfOpen>,
+    capacity: u32,
+    u: Update,
+) -> Result<(u64, u64), End> {
+    let mut hand = writer.begin(u)?;
+    let begun = println!(rt; "steps begin");
+    let mut sum: u64 = 0;
+    for _ in 0..hand.remaining() {
+        hand.step();
+        sum = sum
+            .wrapping_mul(31)
+            .wrapping_add(found_inside(&mut hand, capacity));
+    }
+    let ended = println!(rt; "steps end");
+    let generation = hand.finish();
+    begun?;
+    ended?;
+    Ok((generation, sum))
+}
+
+/// A table with its readers.
+#[derive(Drop)]
+struct Table {
+    writer: Writer<HalfOpen>,
+    readers: Vec<Reader<HalfOpen>>,
+    capacity: u32,
+}
+
+impl Table {
+    /// What is found now, in one number.
+    fn account(&mut self) -> u64 {
+        let mut sum = found_by(&mut self.writer, self.capacity);
+        for reader in &mut self.readers {
+            sum = sum
+                .wrapping_mul(31)
+                .wrapping_add(read_by(reader, self.capacity));
+        }
+        sum
+    }
+
+    /// Makes an update, and once more where memory was refused.
+    fn carry_out(&mut self, rt: &impl Print, u: &Update) -> Result<(), End> {
+        let before = self.account();
+        let mut done = update(rt, &mut self.writer, self.capacity, u.copy()?);
+        if let Err(End::Refused(Refusal::OutOfMemory)) = done {
+            if self.account() != before {
+                println!(rt; "update: changed by a refusal")?;
+            }
+            done = update(rt, &mut self.writer, self.capacity, u.copy()?);
+        }
+        match done {
+            Ok((generation, sum)) => println!(rt; "update: generation {generation} found {sum}")?,
+            Err(End::Refused(why)) => println!(rt; "update: refused {}", why.number())?,
+            Err(End::Unwritten(error)) => return Err(End::Unwritten(error)),
+        }
+        Ok(())
+    }
+}
+
+/// Opens a table and carries the updates out.
+pub(crate) fn call_all(
+    rt: &impl Print,
+    alloc: Global,
+    l: Layout,
+    updates: &[Update],
+) -> Result<(), End> {
+    let (writer, readers) = match open::<HalfOpen>(alloc, l, 0, READERS) {
+        Ok(opened) => opened,
+        Err(_) => open(alloc, l, 0, READERS)?,
+    };
+    let mut table = Table {
+        writer,
+        readers,
+        capacity: l.capacity(),
+    };
+    for update in updates {
+        table.carry_out(rt, update)?;
+    }
+    Ok(())
+}

@@ -1,0 +1,86 @@
+//! `WriterCore::open` and `begin`.
+
+use crate::End;
+use crate::updates::{KEYS, key};
+use latch_core::{Update, WriterCore};
+use order_laws::{HalfOpen, Refusal};
+use std::alloc::Global;
+use std::io::{self, Print};
+use word_arena::Layout;
+
+/// What a writer answers when it is asked.
+#[derive(Clone, Copy, PartialEq, Eq)]
+struct Account {
+    generation: u64,
+    remaining: u64,
+    len: u32,
+    held: u64,
+}
+
+impl Account {
+    fn of(writer: &WriterCore<HalfOpen>) -> Account {
+        let mut held: u64 = 0;
+        for place in 0..KEYS {
+            let is_held = writer.holds(key(place, writer.layout().capacity()));
+            held = held.wrapping_mul(3).wrapping_add(is_held as u64);
+        }
+        Account {
+            generation: writer.generation(),
+            remaining: writer.remaining(),
+            len: writer.len(),
+            held,
+        }
+    }
+}
+
+/// Makes the steps that are left.
+fn finish(writer: &mut WriterCore<HalfOpen>) {
+    for _ in 0..writer.remaining() {
+        writer.step();
+    }
+}
+
+/// Begins an update, and once more where memory was refused; takes its steps.
+fn carry_out(
+    rt: &impl Print,
+    writer: &mut WriterCore<HalfOpen>,
+    update: &Update,
+) -> io::Result<()> {
+    let before = Account::of(writer);
+    let mut begun = writer.begin_from(update);
+    if begun == Err(Refusal::OutOfMemory) {
+        if Account::of(writer) != before {
+            println!(rt; "begin: changed by a refusal")?;
+        }
+        begun = writer.begin_from(update);
+    }
+    match begun {
+        Ok(steps) => println!(rt; "begin: {steps} steps")?,
+        Err(refusal) => return println!(rt; "begin: refused {}", refusal.number()),
+    }
+    println!(rt; "steps begin")?;
+    finish(writer);
+    println!(rt; "steps end")
+}
+
+/// Opens a writer and carries the updates out.
+pub(crate) fn call_all(
+    rt: &impl Print,
+    alloc: Global,
+    l: Layout,
+    updates: &[Update],
+) -> Result<(), End> {
+    let mut writer = match WriterCore::<HalfOpen>::open(alloc, l, 0) {
+        Ok(writer) => writer,
+        Err(_) => WriterCore::open(alloc, l, 0)?,
+    };
+    for update in updates {
+        carry_out(rt, &mut writer, update)?;
+    }
+    println!(rt;
+        "writer: generation {} held {}",
+        writer.generation(),
+        Account::of(&writer).held
+    )?;
+    Ok(())
+}

@@ -1,0 +1,52 @@
+#!/usr/bin/env bash
+# Runs the program on a long trace and on long listings under limits of its memory (`ulimit -v`), from 8 MiB on, each twice the one
+# before, until a limit is enough. Each run has to give what it gives without a limit, or nothing on standard output,
+# `latchsym: refused 7` on standard error and status 1.
+#
+# LINES_OF_INPUT is the number of the trace's lines and of the listing's symbols.
+set -eu
+. "$(dirname "$0")/program.sh"
+build latchsym
+lines=${LINES_OF_INPUT:-200000}
+
+# limited NAME ARGUMENT..: the program with these arguments, at each limit
+limited() {
+    local name=$1 limit=8192 status=0 refused=0
+    shift
+    "$program" "$@" >"$work/ample"
+    while :; do
+        status=0
+        (ulimit -v $limit && exec "$program" "$@") >"$work/out" 2>"$work/err" || status=$?
+        if [ $status = 0 ]; then
+            cmp -s "$work/out" "$work/ample" && [ ! -s "$work/err" ] && break
+        elif [ $status = 1 ] && [ ! -s "$work/out" ] && [ "$(cat "$work/err")" = "latchsym: refused 7" ]; then
+            refused=$((refused + 1))
+            limit=$((2 * limit))
+            continue
+        fi
+        echo "memory: $name of $lines lines in $limit KiB: status $status, $(head -c 200 "$work/err")"
+        exit 1
+    done
+    [ $refused != 0 ] || { echo "memory: $name: no limit was too low" && exit 1; }
+    echo "memory: $name of $lines lines: $(($(stat -c %s "$work/input") / 1048576)) MiB are served in $((limit / 1024)) MiB," \
+        "and refused in $((limit / 2048)) MiB"
+}
+
+awk -v lines="$lines" 'BEGIN {
+    print "latchtrace 1 halfopen 64"
+    for (i = 1; i < lines; i++) {
+        slot = int(i / 4) % 64 * 4096 + 4096
+        if (i % 4 == 0) print (int(i / 256) % 2 ? "erase " slot : "insert " slot " " slot + 4096 " " i)
+        else if (i % 4 == 1) print "write end"
+        else if (i % 4 == 2) print "start 1 " slot
+        else print "read 1 100"
+    }
+}' >"$work/input"
+limited "a trace" trace "$work/input"
+awk -v lines="$lines" 'BEGIN {
+    print "ffffffff80000000 T _stext"
+    for (i = 2; i < lines; i++) printf "ffffffff%08x t some_function_of_the_kernel_%d\n", 2147483648 + 16 * (i % 100000000), i
+    print "ffffffffffff0000 T _end"
+}' >"$work/input"
+: >"$work/none"
+limited "a listing" lookup --modules "$work/none" --kallsyms "$work/input" 0xffffffff80001008
