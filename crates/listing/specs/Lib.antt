@@ -23,5 +23,7 @@ pub mod ModuleListing
 pub mod SymbolListing
 -- what a listing of regions says
 pub mod RegionListing
+-- what a script says
+pub mod Scripts
 -- what a text is, line by line
 pub mod Understood

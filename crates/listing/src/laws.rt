@@ -6,6 +6,7 @@ ghost use Rattle.listing.specs.SymbolListing.{symbol_counts, symbols_in, symbols
 ghost use Rattle.listing.specs.Addresses.{addresses_of};
 ghost use Rattle.listing.specs.Numbers.{number_of};
 ghost use Rattle.listing.specs.RegionListing.{regions_of};
+ghost use Rattle.listing.specs.Scripts.{script_line_by, script_of};
 ghost use Rattle.listing.specs.Trace.{trace_of};
 ghost use Rattle.listing.specs.Understood.{AreSaidBy, IsFirstBad, IsFirstBadFrom, IsFirstBadRegion, IsRegionListingBy, IsTraceBy};
 
@@ -25,6 +26,13 @@ pub fn regions_by_their_lines()
 /// The same of a file of addresses.
 pub fn addresses_by_their_lines()
     ensures { (text : List ℕ) → MatchResult (addresses_of text) (AreSaidBy number_of (lines_of text)) (IsFirstBadFrom number_of 1 (lines_of text)) }
+{}
+
+/// The same of a script, for any number of readers.
+pub fn script_by_its_lines()
+    ensures { (readers : ℕ) → (text : List ℕ) → MatchResult (script_of readers text)
+        (AreSaidBy (script_line_by readers) (lines_of text))
+        (IsFirstBadFrom (script_line_by readers) 1 (lines_of text)) }
 {}
 
 /// Each line of a listing is taken, or is counted for one cause for which it is skipped.

@@ -16,6 +16,7 @@ mod module_listing;
 mod numbers;
 mod region_listing;
 mod said;
+mod scripts;
 mod symbol_listing;
 mod trace;
 
@@ -25,12 +26,13 @@ pub use header::{Header, Version};
 pub use input::read_whole;
 pub use laws::{
     addresses_by_their_lines, each_listed_line_is_counted_once, regions_by_their_lines,
-    trace_by_its_lines,
+    script_by_its_lines, trace_by_its_lines,
 };
 pub use lines::LONGEST_LINE;
 pub use module_listing::{ModuleCounts, SkippedModule, read_modules};
 pub use numbers::number;
 pub use region_listing::read_regions;
+pub use scripts::{MOST_WRITERS, ModuleName, ScriptLine, read_script};
 pub use symbol_listing::{SkippedSymbol, SymbolCounts, read_kallsyms};
 pub use trace::{TraceFile, read_trace};
 
@@ -40,5 +42,7 @@ mod address_tests;
 mod listing_tests;
 #[cfg(test)]
 mod region_tests;
+#[cfg(test)]
+mod script_tests;
 #[cfg(test)]
 mod tests;

@@ -1,0 +1,175 @@
+//! Scripts: what the writers and the readers of a running table do.
+//!
+//! ```text
+//! load 1 ext4
+//! look 2 0xffffffffc0c00018
+//! init 1 ext4
+//! unload 1 ext4
+//! VERB ACTOR WHAT
+//! ```
+//!
+//! A line has three words with exactly one blank between two of them. The actor is the number of a
+//! writer or of a reader, and names are any bytes but a blank.
+ghost use Rattle.std.specs.Prelude.{◌≡◌, true, All, map, IfOk};
+ghost use Rattle.listing.specs.Lines.{lines_of, words_of};
+ghost use Rattle.listing.specs.Numbers.{between, number_of};
+ghost use Rattle.listing.specs.Said.{entries_from, said_by, GivesInGrammar};
+ghost use Rattle.listing.specs.Scripts.{change_by, has_actor, look_with, script_line_by, script_line_of, script_line_with, script_of};
+
+use crate::LineFault;
+use crate::lines::{cut_line, words_in};
+use crate::numbers::number;
+use crate::said::{Said, is_passed_over, is_too_long};
+use std::alloc::Global;
+use std::marker::Model;
+
+/// The greatest number of a writer.
+pub const MOST_WRITERS: u32 = 8;
+
+/// How many words a line has.
+const LINE_WORDS: usize = 3;
+
+/// The name of a module, any bytes of the text that was read; `-` is the built-in region.
+#[derive(Debug, Drop)]
+pub struct ModuleName<'a> {
+    pub bytes: &'a [u8],
+}
+
+impl<'a> Model for ModuleName<'a> {
+    ghost use Rattle.std.specs.Prelude.{ℕ, List};
+
+    ghost Value = { List ℕ };
+
+    ghost view = { λ n. n.bytes.now };
+}
+
+/// What a line of a script has one writer or one reader do.
+#[derive(Debug, Drop)]
+pub enum ScriptLine<'a> {
+    /// `load W NAME`: the writer loads the module.
+    Load { writer: u32, name: ModuleName<'a> },
+    /// `unload W NAME`: the writer unloads the module.
+    Unload { writer: u32, name: ModuleName<'a> },
+    /// `init W NAME`: the writer drops what the start of the module alone needed.
+    Init { writer: u32, name: ModuleName<'a> },
+    /// `look R ADDR`: the reader looks the address up.
+    Look { reader: u32, address: u64 },
+}
+
+/// The number from 1 up to the greatest that a word is.
+fn number_up_to(word: &[u8], greatest: u32) -> Option<u32>
+    ensures { result ≡ between 1 greatest (number_of word.now) }
+{
+    match number(word) {
+        Some(number) if number >= 1 && number <= u64::from(greatest) => Some(number as u32),
+        _ => None,
+    }
+}
+
+/// `load W NAME`, `unload W NAME` and `init W NAME`
+fn make_change<'a>(verb: &[u8], writer: u32, name: &'a [u8]) -> Option<ScriptLine<'a>>
+    ensures { result ≡ change_by verb.now writer name.now }
+{
+    if name.is_empty() {
+        return None;
+    }
+    let name = ModuleName { bytes: name };
+    if verb == b"load".as_slice() {
+        Some(ScriptLine::Load { writer, name })
+    } else if verb == b"unload".as_slice() {
+        Some(ScriptLine::Unload { writer, name })
+    } else if verb == b"init".as_slice() {
+        Some(ScriptLine::Init { writer, name })
+    } else {
+        None
+    }
+}
+
+/// `look R ADDR`
+fn make_look<'a>(reader: &[u8], address: &[u8], readers: u32) -> Option<ScriptLine<'a>>
+    ensures { result ≡ look_with (between 1 readers (number_of reader.now)) (number_of address.now) }
+{
+    Some(ScriptLine::Look {
+        reader: number_up_to(reader, readers)?,
+        address: number(address)?,
+    })
+}
+
+/// What these three words have an actor do.
+fn make_line<'a>(verb: &[u8], actor: &[u8], what: &'a [u8], readers: u32) -> Option<ScriptLine<'a>>
+    ensures { result ≡ script_line_with readers verb.now actor.now what.now }
+{
+    if verb == b"look".as_slice() {
+        make_look(actor, what, readers)
+    } else {
+        make_change(verb, number_up_to(actor, MOST_WRITERS)?, what)
+    }
+}
+
+/// What these words have an actor do.
+#[tactic(auto, using(crate::proofs::ScriptLines::line_of_three, crate::proofs::ScriptLines::no_line))]
+fn line_in_words<'a>(words: &[&'a [u8]], readers: u32) -> Option<ScriptLine<'a>>
+    ensures { result ≡ script_line_of readers (map (λ w. w.now) words.now) }
+{
+    if words.len() != LINE_WORDS {
+        return None;
+    }
+    make_line(words[0], words[1], words[2], readers)
+}
+
+/// What a line has an actor do.
+#[tactic(auto, using(crate::proofs::ScriptLines::line_too_long))]
+fn line_in<'a>(line: &'a [u8], readers: u32) -> Option<ScriptLine<'a>>
+    ensures { result ≡ script_line_by readers line.now }
+{
+    line_in_words(&words_in(line)?, readers)
+}
+
+/// What a line says.
+fn said_by<'a>(line: &'a [u8], readers: u32) -> Said<ScriptLine<'a>>
+    ensures { result ≡ said_by (script_line_by readers) line.now }
+{
+    if is_too_long(line) {
+        return Said::Bad;
+    }
+    if is_passed_over(line) {
+        return Said::Nothing;
+    }
+    match line_in(line, readers) {
+        Some(entry) => Said::One(entry),
+        None => Said::Bad,
+    }
+}
+
+/// The lines of a script for so many readers, in their order.
+///
+/// Each line is `load W NAME`, `unload W NAME`, `init W NAME` or `look R ADDR` with exactly one
+/// blank between two words, or is passed over: it is empty, or a comment that begins with `#`. W is
+/// a NUMBER from 1 to [`MOST_WRITERS`], R one from 1 to `readers` and ADDR any NUMBER (as [`number`]
+/// reads them); NAME is one byte or more and has no blank. No line, also no comment, has more than
+/// [`LONGEST_LINE`](crate::LONGEST_LINE) bytes. Bytes behind the last line's end are a line too. Any
+/// other line is [`LineFault::BadLine`], the first of them. No reader is asked here, so that
+/// [`LineFault::Read`] is never answered. The names are those of the text.
+pub fn read_script<'a>(
+    alloc: Global,
+    text: &'a [u8],
+    readers: u32,
+) -> Result<Vec<ScriptLine<'a>>, LineFault>
+    ensures lines { GivesInGrammar (λ lines. lines.items) result (script_of readers text.now) }
+    ensures actors { IfOk result (λ lines. All (λ l. has_actor readers l ≡ true) lines.items) }
+{
+    let mut lines = Vec::new(alloc);
+    let mut rest = text;
+    let mut number = 1u64;
+    while !rest.is_empty() {
+        let (line, after) = cut_line(rest);
+        match said_by(line, readers) {
+            Said::Nothing => {}
+            Said::One(entry) => lines.push(entry)?,
+            Said::Bad => return Err(LineFault::BadLine(number)),
+        }
+        rest = after;
+        number += 1;
+    }
+    Ok(lines)
+}
