@@ -1,5 +1,5 @@
 -- A latch that has more nodes is pictured and sound as it was.
-use Rattle.std.proofs.Common.{◌≡◌, ℕ, ◌<◌, ◌≤◌, List, [], ◌∷◌, ◌++◌, None, refl, sym, ◌∙◌, ap, subst, arith, length-append}
+use Rattle.std.proofs.Common.{◌≡◌, ℕ, ◌<◌, ◌≤◌, List, [], ◌∷◌, ◌++◌, length, None, refl, sym, ◌∙◌, ap, subst, arith, length-append}
 use Rattle.std.specs.Prelude.{◌-◌, ◌*◌, ◌||◌, nat_lt, replicate}
 use Rattle.std.proofs.lemmas.Bool.{ltb-false}
 use Rattle.std.proofs.lemmas.List.Elements.{All-weaker}
@@ -15,10 +15,11 @@ use Rattle.rb_words.specs.Pictures.{Picture}
 use Rattle.rb_words.specs.Mirrors.{second}
 use Rattle.latch_core.specs.declared.updates.Update.{Update}
 use Rattle.latch_core.specs.Sequences.{gen, stable}
-use Rattle.latch_core.specs.Histories.{table_at}
+use Rattle.latch_core.specs.Histories.{replay, table_at}
 use Rattle.latch_core.specs.Latches.{Latch}
 use Rattle.latch_core.specs.Invariants.{IsInHand, IsSound}
 use Rattle.latch_core.specs.FreeNodes.{AreAllNodes}
+use Rattle.latch_core.specs.Standing.{IsLatched}
 use Rattle.latch_core.specs.WriterViews.{WriterView}
 use Rattle.latch_core.specs.Writers.{IsShallow, StaysShallow, Pictures, AreInStep, in_hand}
 use Rattle.latch_core.specs.Widening.{why_not_widened, widened_writer, widened_latch, PicturesWidened}
@@ -27,12 +28,12 @@ use Rattle.latch_core.proofs.BatchLemmas.{neither}
 use Rattle.latch_core.proofs.BeginLemmas.{idle_from}
 use Rattle.latch_core.proofs.WriterLemmas.{rest_now}
 
--- no update is in hand where a layout is taken, and it has no fewer nodes
-pub may_widen : (w : WriterView) (l : Layout) → why_not_widened w l ≡ None → (w.left ≡ []) × (w.capacity ≤ capacity_of l)
+-- no update is in hand where a layout is taken, and it has no fewer nodes and no smaller greatest sequence
+pub may_widen : (w : WriterView) (l : Layout) → why_not_widened w l ≡ None → (w.left ≡ []) × (w.capacity ≤ capacity_of l) × (w.limit ≤ limit_of l)
 may_widen w l e =
     let tests = none_holds ((in_hand w, UpdateInHand) ∷ (nat_lt (capacity_of l) w.capacity || nat_lt (limit_of l) w.limit, BadCapacity) ∷ []) e in
     let smaller = neither (nat_lt (capacity_of l) w.capacity) (nat_lt (limit_of l) w.limit) tests.1.0 in
-    (idle_from w.left tests.0, ltb-false (capacity_of l) w.capacity smaller.0)
+    (idle_from w.left tests.0, ltb-false (capacity_of l) w.capacity smaller.0, ltb-false (limit_of l) w.limit smaller.1)
 
 -- the sequence is in the first word, which stays
 same_sequence : (n n' : ℕ) (m : List ℕ) → at (wider_words n n' m) 0 ≡ at m 0
@@ -96,4 +97,17 @@ widened_sound o n n' start us l le is =
       table_is = is.table_is;
       in_hand = subst (λ q. IsInHand o start q us l.hand) (sym same) is.in_hand;
       current = subst (λ q. HoldsTable (wider_words n n' m) n' (stable q) (table_at o start us (gen q))) (sym same) more;
+    }
+
+-- words of which the stable copy holds what was shown hold it with more nodes
+pub latched_wider : {K : Type 0} (o : Order K) (n n' base : ℕ) (m : List ℕ) (known : List Update) → n ≤ n' → IsLatched o n base m known → IsLatched o n' base (wider_words n n' m) known
+latched_wider o n n' base m known le is =
+    let same = same_sequence n n' m in
+    let table = replay o [] known in
+    record {
+      sized = length_wider n n' m le is.sized;
+      counted = is.counted ∙ ap gen (sym same);
+      is_table = is.is_table;
+      fits = (let few = is.fits in omega (arith, few, le));
+      holds = subst (λ q. HoldsTable (wider_words n n' m) n' (stable q) table) (sym same) (table_wider m n n' (stable (at m 0)) table le is.holds);
     }

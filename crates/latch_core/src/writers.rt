@@ -115,8 +115,9 @@ impl<O: TreeOrder> WriterCore<O> {
         Ok(())
     }
 
-    /// Why a layout is not taken, before any memory is asked for.
-    fn why_not_widened(&self, l: Layout) -> Option<Refusal>
+    /// Why [`widen`](WriterCore::widen) would refuse a layout before it asks for memory; none where it
+    /// would ask.
+    pub fn why_not_widened(&self, l: Layout) -> Option<Refusal>
         ensures { result ≡ why_not_widened self.now l }
     {
         if self.remaining() > 0 {

@@ -5,4 +5,4 @@ pub mod Finishing
 pub mod Walking
 pub mod Looking
 pub mod Openings
-pub mod Renewals
+pub mod Enlargings

@@ -19,7 +19,7 @@ use Rattle.latch_table.specs.declared.knowledge.WriterKnowledge.{WriterKnowledge
 use Rattle.latch_table.specs.declared.knowledge.Knowledge.{Knowledge}
 use Rattle.latch_core.specs.Standing.{IsKept, StandAll, IsLatched}
 use Rattle.latch_table.specs.Seats.{reader_of, writer_of, writing, newcomer, both, nobody, writer_alone, reader_alone, blank_reader, with_sequence, with_word, with_loads, with_update, with_store, shown_after}
-use Rattle.latch_table.specs.Rule.{ReaderKnows, WriterKnows, WriterPart, ReaderPart, SeatKnows, KnowledgeHolds, LoadsSequence, as_writer, sequence_loaded, word_loaded, lookup_begun, writer_loaded, update_taken, word_stored}
+use Rattle.latch_table.specs.Rule.{ReaderKnows, WriterKnows, WriterPart, ReaderPart, SeatKnows, KnowledgeHolds, LoadsSequence, as_writer, sequence_loaded, word_loaded, lookup_begun, writer_loaded, word_copied, update_taken, word_stored}
 use Rattle.latch_table.proofs.ReaderLemmas.{reader_step, reader_sequence, looks, reader_word, reader_new}
 
 -- what the seats know, after one of them has a new view
@@ -119,6 +119,19 @@ module _ {S K : Type 0} (o : Order K) (n base : ℕ) where
   pub allows_writer_load : (slots id i : ℕ) (m : Me S Knowledge) (p : WriterKnowledge) → m.0.writer ≡ Some p → Allows (KnowledgeHolds o n base) slots id m i (λ x. x) (writer_loaded (step slots i 0 0 maybe.none) m)
   allows_writer_load slots id i m p is =
       reads id i m p (λ q x. with_loads (q.loads ++ (i, x) ∷ []) q) (λ q x ws us. same_picture n base q (with_loads (q.loads ++ (i, x) ∷ []) q) ws us refl refl refl refl) is slots
+
+  -- the writer copies a word, and its seat stays as it was
+  pub allows_copy : (slots id i : ℕ) (m : Me S Knowledge) (p : WriterKnowledge) → m.0.writer ≡ Some p → Allows (KnowledgeHolds o n base) slots id m i (λ x. x) (word_copied (step slots i 0 0 maybe.none) m)
+  allows_copy slots id i m p is s r _ there _ =
+      let knows = r.each id m.0 there in
+      let mine : WriterPart n base s.words r.known r.writer_seat id (Some p) = subst (WriterPart n base s.words r.known r.writer_seat id) is knows.0 in
+      let same : writer_of m.0 ≡ p = ap (λ (z : Option WriterKnowledge). writer_of record { writer = z; reader = None }) is in (
+        m.0,
+        keeps,
+        tt,
+        unmoved s r i id m.1 m.0 knows,
+        (ap (λ (z : List ℕ). at z i) (sym (ap (λ (z : WriterKnowledge). z.picture) same ∙ mine.1.picture)), refl),
+      )
 
   pub allows_take : (slots id i : ℕ) (m : Me S Knowledge) (p : WriterKnowledge) (u : Update) → m.0.writer ≡ Some p → Allows (KnowledgeHolds o n base) slots id m i (λ x. x) (update_taken o u (step slots i 0 0 maybe.none) m)
   allows_take slots id i m p u is =

@@ -128,6 +128,10 @@ module _ {S : Type 0} where
   writer_loaded st m x m' =
       loaded_by_writer st m x (with_loads ((writer_of m.0).loads ++ (st.word, x) ∷ []) (writer_of m.0)) m'
 
+  -- the writer copies a word
+  abbrev pub word_copied : Step S → Me S Knowledge → ℕ → Me S Knowledge → Type 0
+  word_copied st m x m' = (x ≡ at (writer_of m.0).picture st.word) × (m' ≡ m)
+
   -- the load by which the writer's seat learns which update is in hand
   abbrev pub update_taken : {K : Type 0} → Order K → Update → Step S → Me S Knowledge → ℕ → Me S Knowledge → Type 0
   update_taken o u st m x m' = loaded_by_writer st m x (with_update o u (writer_of m.0)) m'

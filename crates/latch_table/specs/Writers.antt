@@ -1,10 +1,10 @@
 -- The writer, and what its calls promise.
-use Rattle.std.specs.Prelude.{◌≡◌, ◌⊎◌, ℕ, ◌+◌, ◌-◌, ◌*◌, ◌<◌, ◌≤◌, List, [], ◌∷◌, ◌++◌, length, take, All, Option, Some, None, is_some, if◌then◌else◌, ◌==◌}
+use Rattle.std.specs.Prelude.{◌≡◌, ◌⊎◌, ℕ, ◌+◌, ◌-◌, ◌*◌, ◌<◌, ◌≤◌, List, [], ◌∷◌, ◌++◌, length, take, Option, Some, None, is_some, if◌then◌else◌, ◌==◌}
 use Rattle.atomic_table.specs.Table.{Me}
 use Rattle.atomic_table.specs.Seated.{TableId}
 use Rattle.order_laws.specs.declared.items.Item.{Item}
 use Rattle.order_laws.specs.declared.refusals.Refusal.{Refusal}
-use Rattle.order_laws.specs.declared.refusals.Refusal.TheVariants.{OutOfMemory, BadCapacity, UpdateInHand}
+use Rattle.order_laws.specs.declared.refusals.Refusal.TheVariants.{OutOfMemory, BadCapacity}
 use Rattle.order_laws.specs.Orders.{Order}
 use Rattle.order_laws.specs.Tables.{look}
 use Rattle.word_arena.specs.declared.layouts.Layout.{Layout}
@@ -24,9 +24,8 @@ use Rattle.latch_table.specs.declared.knowledge.Knowledge.{Knowledge}
 use Rattle.latch_table.specs.declared.knowledge.WriterKnowledge.{WriterKnowledge}
 use Rattle.latch_table.specs.declared.writers.Did.{Did}
 use Rattle.latch_table.specs.declared.writers.Did.TheVariants.{Flip, Store}
-use Rattle.latch_table.specs.Readers.{ReaderState}
 use Rattle.latch_core.specs.Standing.{loads_of}
-use Rattle.latch_table.specs.Seats.{writer_of, writing, blank_reader}
+use Rattle.latch_table.specs.Seats.{writer_of, writing}
 
 -- The writer, as clauses see it: its table, how many readers came with it, the opening generation, the number of nodes
 -- and the greatest sequence; all accepted updates; the words, the table after these updates and the update in hand; the
@@ -159,17 +158,3 @@ abbrev pub RefusesOpening : Layout → ℕ → ℕ → Refusal → Type 0
 RefusesOpening l start readers e =
     ((e ≡ BadCapacity) × (MayOpenWith l start readers → ⊥))
     ⊎ ((e ≡ OutOfMemory) × MayOpenWith l start readers)
-
--- the writer goes on in other words that hold the same, and new readers come with it, which will know at least what
--- was shown
-abbrev pub Renews : WriterState → WriterState → List ReaderState → Type 0
-Renews w w' all =
-    (w' ≡ record w { place = w'.place; loads = [] })
-    × (length all ≡ w.readers)
-    × All (λ x. x ≡ record { place = w'.place; knowledge = blank_reader w.base w.capacity (known w) }) all
-
--- with an update in hand, or for want of memory; the table is as before
-abbrev pub RefusesRenewal : WriterState → WriterState → Refusal → Type 0
-RefusesRenewal w w' e =
-    (w' ≡ record w { loads = w'.loads })
-    × (((e ≡ UpdateInHand) × (0 < left_of w.latch.hand)) ⊎ ((e ≡ OutOfMemory) × (w.latch.hand ≡ None)))

@@ -31,6 +31,7 @@
 //! | the writer stores a word | the words with this one changed |
 //! | the writer flips the sequence | the same; from the second flip on, the update as shown |
 //! | a reader meets the writer ([`meet`]) | the reader: all updates that were shown |
+//! | the writer copies a word | nothing more |
 //!
 //! **The rule of the words** (`specs/Rule.antt`) holds between any two steps of any threads: the stable
 //! copy holds the table after the updates that were shown, as many as the sequence says; what each seat
@@ -39,17 +40,23 @@
 //! that a reader of the stable copy can reach. So a reader that loads the same number again knows that
 //! its whole attempt stood still, and its answer is that of the table after the updates that were shown.
 //!
+//! **A larger table** ([`Writer::enlarge`]) is a new row of words. Between two updates the writer copies
+//! the words, puts those of the new nodes behind them, and its seat of the new row begins with what its
+//! seat of the old one knew. New readers part from it; the old ones are given up with their row.
+//!
 //! **Not promised:** that [`Reader::find`] returns beside a writer that never rests; an order between
 //! readers that met nobody; anything of weak memory orders: each step is sequentially consistent.
 #![tactic(auto)]
 
+pub mod enlarging;
+#[cfg(test)]
+mod enlarging_tests;
 #[cfg(test)]
 mod interrupt_tests;
 pub mod knowledge;
 pub mod meeting;
 pub mod opening;
 pub mod readers;
-pub mod renewal;
 mod rule;
 #[cfg(test)]
 mod tests;

@@ -67,6 +67,15 @@ impl Play<(), Knowledge> for WriterLoad {
     ghost then = { writer_loaded };
 }
 
+/// The writer copies a word, and its seat knows no more than before.
+pub struct CopyWord;
+
+impl Play<(), Knowledge> for CopyWord {
+    ghost use Rattle.latch_table.specs.Rule.{word_copied};
+
+    ghost then = { word_copied };
+}
+
 /// Which update the writer takes in hand.
 pub trait NamesUpdate {
     ghost use Rattle.latch_core.specs.declared.updates.Update.{Update};

@@ -7,7 +7,7 @@ use std::process::Abort;
 use std::test::Fail;
 use word_arena::Layout;
 
-fn item(a: u64, b: u64, tag: u64) -> Item {
+pub fn item(a: u64, b: u64, tag: u64) -> Item {
     Item { a, b, tag }
 }
 
@@ -90,26 +90,5 @@ fn readers_on_one_thread(rt: HostRuntime) -> Result<(), Fail> {
     assert_eq!(rt; hand.finish(), 1);
     assert_eq!(rt; other.try_find(0x1000), Try::Answered(Some(first), 1));
     assert_eq!(rt; writer.generation(), 1);
-    Ok(())
-}
-
-// The same table in new words, with new readers.
-#[test]
-fn a_table_in_new_words(rt: HostRuntime) -> Result<(), Fail> {
-    let alloc = rt.alloc();
-    let (mut writer, readers) = open::<HalfOpen>(alloc, Layout::new(4)?, 0, 2)?;
-    let first = item(0x1000, 0x2000, 7);
-    writer.begin(Update::Insert(first))?.finish();
-    let mut readers = match writer.renew(alloc, readers) {
-        Ok(readers) => readers,
-        Err((refusal, _)) => return Err(refusal.into()),
-    };
-    assert_eq!(rt; readers.len(), 2);
-    writer.begin(Update::Erase(0x1000))?.finish();
-    let Some(mut reader) = readers.pop() else {
-        panic!(rt; "no reader")
-    };
-    assert_eq!(rt; reader.try_find(0x1000), Try::Answered(None, 2));
-    assert_eq!(rt; writer.find(0x1000), (None, 2));
     Ok(())
 }

@@ -1,0 +1,57 @@
+-- A writer that goes on with more nodes, in another row of words.
+use Rattle.std.specs.Prelude.{◌≡◌, ◌⊎◌, ◌<◌, ◌≤◌, List, [], length, All, None}
+use Rattle.atomic_table.specs.Seated.{TableId}
+use Rattle.order_laws.specs.declared.refusals.Refusal.{Refusal}
+use Rattle.order_laws.specs.declared.refusals.Refusal.TheVariants.{OutOfMemory, BadCapacity, UpdateInHand}
+use Rattle.word_arena.specs.declared.layouts.Layout.{Layout}
+use Rattle.word_arena.specs.Layouts.{capacity_of, limit_of}
+use Rattle.word_arena.specs.Words.{at}
+use Rattle.latch_core.specs.Widening.{widened_latch}
+use Rattle.latch_table.specs.Seats.{blank_reader}
+use Rattle.latch_table.specs.Readers.{ReaderState}
+use Rattle.latch_table.specs.Writers.{WriterState, known, left_of}
+
+-- these are the readers that came with the writer
+abbrev pub AreReadersOf : WriterState → List ReaderState → Type 0
+AreReadersOf w all = (length all ≡ w.readers) × All (λ x. x.place ≡ w.place) all
+
+-- the layout has no fewer nodes and no smaller greatest sequence
+abbrev pub IsNoSmaller : WriterState → Layout → Type 0
+IsNoSmaller w l = (w.capacity ≤ capacity_of l) × (w.limit ≤ limit_of l)
+
+abbrev pub MayEnlarge : WriterState → Layout → Type 0
+MayEnlarge w l = (w.latch.hand ≡ None) × IsNoSmaller w l
+
+-- an update is in hand; or else the layout is smaller; or else memory was refused
+abbrev pub RefusesEnlarging : WriterState → Layout → Refusal → Type 0
+RefusesEnlarging w l e =
+    ((e ≡ UpdateInHand) × (0 < left_of w.latch.hand))
+    ⊎ ((e ≡ BadCapacity) × (w.latch.hand ≡ None) × (IsNoSmaller w l → ⊥))
+    ⊎ ((e ≡ OutOfMemory) × MayEnlarge w l)
+
+-- the same updates, shown and accepted, and the same table, in the words of another layout, where
+-- those of the new nodes are 0
+abbrev pub enlarged_state : TableId → Layout → WriterState → WriterState
+enlarged_state place l w =
+    record w {
+      place = place;
+      capacity = capacity_of l;
+      limit = limit_of l;
+      latch = widened_latch w.capacity (capacity_of l) w.latch;
+      loads = [];
+    }
+
+-- a reader of these words that has loaded nothing, and will know at least what was shown
+abbrev pub reader_beside : WriterState → ReaderState
+reader_beside w = record { place = w.place; knowledge = blank_reader w.base w.capacity (known w) }
+
+-- the writer goes on in words of the layout, with as many readers as before; its sequence and what
+-- was shown stay
+pub record Enlarges (w : WriterState) (l : Layout) (w' : WriterState) (all : List ReaderState)
+    : Type 0 where
+  pub may : MayEnlarge w l
+  pub state : w' ≡ enlarged_state w'.place l w
+  pub sequence : at w'.latch.words 0 ≡ at w.latch.words 0
+  pub shown : known w' ≡ known w
+  pub count : length all ≡ w.readers
+  pub readers : All (λ x. x ≡ reader_beside w') all
