@@ -172,7 +172,7 @@ fn run<R: Print + Eprint + Clock>(
     }
 
     let start = Instant::now(rt)?;
-    let built = Catalog::build(alloc, &module_lines, &symbol_lines);
+    let built = Catalog::build(alloc, &module_lines, symbol_lines);
     let elapsed = start.elapsed(rt)?.as_micros();
     let Ok((catalog, counts)) = built else {
         return eprintln!(rt; "the catalog was refused");

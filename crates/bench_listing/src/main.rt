@@ -30,7 +30,7 @@ fn run<R: Print + Eprint + Clock>(
     let (symbols, skipped_symbols) = read_kallsyms(alloc, kallsyms)?;
     tell(rt, "lines", &start)?;
     let start = Instant::now(rt)?;
-    let Ok((_, counts)) = Catalog::build(alloc, &modules, &symbols) else {
+    let Ok((_, counts)) = Catalog::build(alloc, &modules, symbols) else {
         return eprintln!(rt; "the catalog was refused");
     };
     tell(rt, "build", &start)?;

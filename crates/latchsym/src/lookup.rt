@@ -232,7 +232,7 @@ fn listings_in<'a>(alloc: Global, inputs: &LookupInputs<'a>) -> Result<Listings<
         inputs.names,
         &module_lines,
         regions,
-        &symbol_lines,
+        symbol_lines,
     )?;
     Ok(Listings {
         catalog,

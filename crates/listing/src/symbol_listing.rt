@@ -56,7 +56,7 @@ impl SymbolCounts {
 }
 
 /// What stands before the first such byte, and what stands behind it.
-#[inline]
+#[inline(always)]
 fn cut(text: &[u8], byte: u8) -> Option<(&[u8], &[u8])>
     ensures { option_map (λ p. (p.0.now, p.1.now)) result ≡ cut_at byte text.now }
 {
@@ -81,7 +81,7 @@ fn name_in_brackets(text: &[u8]) -> Option<&[u8]>
 
 /// The address that a text begins with, and what stands behind the blank after it. Most addresses
 /// have all sixteen digits, and then the blank need not be sought.
-#[inline]
+#[inline(always)]
 fn cut_address(text: &[u8]) -> Option<(u64, &[u8])>
     ensures { option_map (λ p. (p.0, p.1.now)) result ≡ address_in text.now }
 {
@@ -95,7 +95,7 @@ fn cut_address(text: &[u8]) -> Option<(u64, &[u8])>
 }
 
 /// The symbol that `ADDRESS LETTER NAME` is.
-#[inline]
+#[inline(always)]
 fn named_symbol<'a>(text: &'a [u8], owner: Option<&'a [u8]>) -> Option<SymbolLine<'a>>
     ensures { result ≡ symbol_named (option_copied owner.entry) text.now }
 {
@@ -114,7 +114,7 @@ fn named_symbol<'a>(text: &'a [u8], owner: Option<&'a [u8]>) -> Option<SymbolLin
 }
 
 /// The symbol that a line is, if it is of the form.
-#[inline]
+#[inline(always)]
 fn symbol_in_form<'a>(line: &'a [u8]) -> Option<SymbolLine<'a>>
     ensures { result ≡ symbol_before (cut_at 9 line.now) line.now }
 {
@@ -125,7 +125,7 @@ fn symbol_in_form<'a>(line: &'a [u8]) -> Option<SymbolLine<'a>>
 }
 
 /// The symbol that a line is, or the first cause for which it is skipped.
-#[inline]
+#[inline(always)]
 fn symbol_in<'a>(line: &'a [u8]) -> Result<SymbolLine<'a>, SkippedSymbol>
     ensures { result ≡ symbol_of line.now }
 {

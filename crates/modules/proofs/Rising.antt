@@ -10,7 +10,7 @@ use Rattle.std.proofs.lemmas.List.Sums.{AllPass-from_list_all, list_all-from_All
 use Rattle.std.proofs.lemmas.Option.{slice_get_cases}
 use Rattle.modules.specs.Around.{is_nearest, symbol_below, is_next, address_above}
 use Rattle.modules.specs.Entries.{SymbolEntry}
-use Rattle.modules.specs.Index.{IsRising, IsSplitOf, IsFirstOf}
+use Rattle.modules.specs.Index.{IsRising, IsSplitOf, IsFirstOf, IsFirstAt}
 use Rattle.modules.proofs.Indexing.{find_first, find_none, le_from_leb, lt_from_leb, lt_from_ltb, nearest_test, below_nearest, and_parts, le_is_true, le_is_false, next_test, above_next, lt_is_true, lt_is_false}
 
 pub IsSplitOf-from_partition : (symbols : List SymbolEntry) (addr split : ℕ) → split ≤ length symbols → IsPartitionPoint (λ s. nat_le s.addr addr ≡ true) (λ s. nat_le s.addr addr ≡ false) symbols split → IsSplitOf symbols addr split
@@ -30,6 +30,27 @@ IsFirstOf-from_partition symbols addr split bound point =
       bound = bound;
       below = λ k d lt. lt_from_ltb (get_or symbols k d).addr addr (point.0 k d (omega arith) lt);
       others = λ k d le lt. le_from_ltb (get_or symbols k d).addr addr (point.1 k d le lt);
+    }
+
+-- the first symbol is the first of its address
+pub first_is_first : (symbols : List SymbolEntry) → IsRising symbols → 0 < length symbols → IsFirstAt symbols 0 0
+first_is_first symbols rising some d = record {
+  bound = omega arith;
+  below = λ k e lt. absurd (omega arith);
+  others = λ k e le lt. subst (λ (x : SymbolEntry). x.addr ≤ (get_or symbols k e).addr) (get_or_default symbols 0 e d some) (rising 0 k e le lt);
+}
+
+-- and so is one that stands above the one before it
+pub above_is_first : (symbols : List SymbolEntry) (place : ℕ) (s t : SymbolEntry) → IsRising symbols → place < length symbols → 0 < place → (get_or symbols (place - 1) s).addr < (get_or symbols place t).addr → IsFirstAt symbols place place
+above_is_first symbols place s t rising within some above d =
+    let its : get_or symbols place t ≡ get_or symbols place d = get_or_default symbols place t d within in
+    let over : (get_or symbols (place - 1) s).addr < (get_or symbols place d).addr = subst (λ (x : SymbolEntry). (get_or symbols (place - 1) s).addr < x.addr) its above in
+    record {
+      bound = omega arith;
+      below = λ k e lt.
+          let under : (get_or symbols k e).addr ≤ (get_or symbols (place - 1) s).addr = subst (λ (x : SymbolEntry). (get_or symbols k e).addr ≤ x.addr) (get_or_default symbols (place - 1) e s (omega arith)) (rising k (place - 1) e (omega arith) (omega arith)) in
+          omega arith;
+      others = λ k e le lt. subst (λ (x : SymbolEntry). x.addr ≤ (get_or symbols k e).addr) (get_or_default symbols place e d within) (rising place k e le lt);
     }
 
 -- ---- the symbol that is not above an address

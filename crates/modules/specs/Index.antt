@@ -41,6 +41,11 @@ pub record IsFirstOf (symbols : List SymbolEntry) (addr place : ℕ) : Type 0 wh
   pub below : (k : ℕ) (d : SymbolEntry) → k < place → (slice_index_or symbols k d).addr < addr
   pub others : (k : ℕ) (d : SymbolEntry) → place ≤ k → k < length symbols → addr ≤ (slice_index_or symbols k d).addr
 
+-- the first of the symbols that have the address of the one at a place
+abbrev pub IsFirstAt : List SymbolEntry → ℕ → ℕ → Type 0
+IsFirstAt symbols place first =
+    (d : SymbolEntry) → IsFirstOf symbols (slice_index_or symbols place d).addr first
+
 -- the symbols are indexed, or stand by rising address as they are listed
 pub record IsOrdered (symbols : List SymbolEntry) (by_address : Option (Vec IndexEntry)) : Type 0 where
   pub rising : by_address ≡ None → IsRising symbols

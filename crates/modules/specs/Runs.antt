@@ -1,30 +1,33 @@
--- Lines of symbols that have the name of their module by the number of a run.
-use Rattle.std.specs.Prelude.{ℕ, ◌≡◌, ◌<◌, ◌≤◌, Bool, ◌&&◌, is_none, List, length, map, slice_index_or, All, Option, None}
-use Rattle.std.specs.Borrow.{Bor}
+-- Lines of symbols in runs of one module, whose letters stand beside them.
+use Rattle.std.specs.Prelude.{ℕ, ◌≡◌, List, [], ◌∷◌, length, map, flat_map, Option}
+use Rattle.std.specs.List.{zip}
 use Rattle.std.specs.Option.{option_copied}
-use Rattle.std.specs.Str.{bytes_eq}
+use Rattle.modules.specs.Entries.{SymbolEntry}
 use Rattle.modules.specs.Listed.{ListedSymbol}
-use Rattle.modules.specs.declared.symbol_lines.RunLine.{RunLine}
+use Rattle.modules.specs.declared.symbol_lines.Run.{Run}
 
--- the name of the module of a run, if it has one
-abbrev pub owner_in : List (Option (Bor (List ℕ))) → ℕ → Option (List ℕ)
-owner_in runs run = option_copied (slice_index_or runs run None)
+-- the line of a symbol of this module, or of the kernel itself, without its letter
+abbrev pub unlettered : Option (List ℕ) → SymbolEntry → ListedSymbol
+unlettered owner s = record { addr = s.addr; letter = 0; name = s.name; owner = owner }
 
--- the line with the name of its run's module
-abbrev pub line_in : List (Option (Bor (List ℕ))) → RunLine → ListedSymbol
-line_in runs l = record { addr = l.addr; letter = l.letter; name = l.name.now; owner = owner_in runs l.run }
+abbrev pub one_line : Option (List ℕ) → SymbolEntry → List ListedSymbol
+one_line owner s = unlettered owner s ∷ []
 
-abbrev pub lines_in : List (Option (Bor (List ℕ))) → List RunLine → List ListedSymbol
-lines_in runs lines = map (line_in runs) lines
+-- the lines of a run, without their letters
+abbrev pub lines_of : Run → List ListedSymbol
+lines_of r = map (unlettered (option_copied r.module)) r.symbols.items
 
--- the line is of the kernel itself, and has this name
-abbrev pub is_named : List (Option (Bor (List ℕ))) → List ℕ → RunLine → Bool
-is_named runs name l = is_none (owner_in runs l.run) && bytes_eq l.name.now name
+abbrev pub lines_of_all : List Run → List ListedSymbol
+lines_of_all runs = flat_map lines_of runs
 
--- each line is of one of the runs
-abbrev pub AreNumbered : List (Option (Bor (List ℕ))) → List RunLine → Type 0
-AreNumbered runs lines = All (λ l. l.run < length runs) lines
+-- the line with its letter
+abbrev pub with_letter : ListedSymbol × ℕ → ListedSymbol
+with_letter l = record { addr = l.0.addr; letter = l.1; name = l.0.name; owner = l.0.owner }
 
--- each run is where it was, and further runs may stand behind them
-abbrev pub AreKept : List (Option (Bor (List ℕ))) → List (Option (Bor (List ℕ))) → Type 0
-AreKept old new = (length old ≤ length new) × ((k : ℕ) → k < length old → slice_index_or new k None ≡ slice_index_or old k None)
+-- the lines of the runs, each with its letter
+abbrev pub lines_in : List Run → List ℕ → List ListedSymbol
+lines_in runs letters = map with_letter (zip (lines_of_all runs) letters)
+
+-- there is a letter for each line
+abbrev pub AreLettered : List Run → List ℕ → Type 0
+AreLettered runs letters = length (lines_of_all runs) ≡ length letters

@@ -91,16 +91,16 @@ pub(crate) fn assemble<'a>(
     names: &KernelBounds,
     modules: &[ModuleLine<'a>],
     regions: &RegionLines<'_, 'a>,
-    symbols: &SymbolLines<'a>,
+    symbols: SymbolLines<'a>,
 ) -> Result<(Catalog<'a>, BuildCounts), AllocError>
     requires fit { All (λ l. fits l ≡ true) modules.now }
     requires regions_fit { All (λ l. region_fits l ≡ true) regions.now }
     requires few { are_few regions.now ≡ true }
-    ensures built { IfOk result (λ r. r.0 ≡ catalog_of names.now modules.now regions.now symbols.now) }
-    ensures counted { IfOk result (λ r. r.1 ≡ counts_of names.now modules.now regions.now symbols.now) }
+    ensures built { IfOk result (λ r. r.0 ≡ catalog_of names.now modules.now regions.now symbols.entry) }
+    ensures counted { IfOk result (λ r. r.1 ≡ counts_of names.now modules.now regions.now symbols.entry) }
     ensures sound { IfOk result (λ r. IsSound r.0) }
 {
-    let built_in = built_in_region(symbols, names);
+    let built_in = built_in_region(&symbols, names);
     let admission = admit(alloc, built_in, regions, modules)?;
     let gathered = gather(alloc, &admission, symbols)?;
     let used = used_in(&admission, regions) as u64;

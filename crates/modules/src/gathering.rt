@@ -4,23 +4,25 @@
 //! address lies in a region of its run's module, and is stray otherwise:
 //!
 //! ```text
-//! runs:    none      "ext4"     "bpf"
-//! owners:  BuiltIn   Module(0)  Nobody
-//! lines:   in, out   in, out    any
-//! homes:   BuiltIn,  Module(0), Stray
-//!          Stray     Stray
+//! runs:    none     "ext4"     "bpf"
+//! owners:  BuiltIn  Module(0)  Nobody
+//! lines:   in, out  in, out    any
+//! kept:    in       in
 //! ```
+//!
+//! The strays are taken out of the list of a run, and the first list of a module becomes the
+//! module's own; so no symbol is copied where the lines of each module stand side by side.
 
-ghost use Rattle.std.specs.Prelude.{◌≡◌, ◌+◌, ◌<◌, ◌^◌, IfOk, OnOk, map};
+ghost use Rattle.std.specs.Prelude.{◌≡◌, ◌+◌, ◌<◌, ◌^◌, ◌++◌, ◌∷◌, [], IfOk, OnOk, filter, length, vec_len};
 ghost use Rattle.std.specs.Option.{option_copied};
 ghost use Rattle.modules.specs.Accepted.{names_of};
 ghost use Rattle.modules.specs.Admissions.{shown, IsTied};
 ghost use Rattle.modules.specs.Kept.{AreDistinct};
-ghost use Rattle.modules.specs.Gathering.{owner_for, home_for, HasRoom, Keeps, IsEmptyFor, Gathers};
-ghost use Rattle.modules.specs.Runs.{lines_in, AreNumbered};
+ghost use Rattle.modules.specs.Gathering.{owner_for, lies_for, CountsStay, HasRoom, Keeps, KeepsRun, IsEmptyFor, Gathers};
+ghost use Rattle.modules.specs.Runs.{lines_of_all};
 
 use crate::admission::Admission;
-use crate::symbol_lines::{RunLine, SymbolLines};
+use crate::symbol_lines::{Run, SymbolLines};
 use crate::symbols::Symbol;
 use std::alloc::{AllocError, Global};
 
@@ -33,17 +35,6 @@ enum Owner {
     Module(usize),
     /// Those of a module that was not accepted.
     Nobody,
-}
-
-/// Where the symbol of a line is kept.
-#[derive(Clone, Copy, Debug, Drop)]
-enum Home {
-    /// In the kernel itself.
-    BuiltIn,
-    /// In the module at this place among the accepted modules.
-    Module(usize),
-    /// Nowhere.
-    Stray,
 }
 
 /// The symbols kept so far, in the order listed, and how many lines were gone through.
@@ -75,25 +66,48 @@ impl<'a> Gathered<'a> {
         })
     }
 
-    fn keep(&mut self, home: Home, symbol: Symbol<'a>) -> Result<(), AllocError>
-        requires room { HasRoom self.old home }
-        requires counts { self.old.kept + self.old.stray + 1 < 2 ^ 64 }
-        ensures { OnOk result (Keeps home symbol.entry self.old self.new) }
+    /// Puts symbols behind those of their owner.
+    fn put(&mut self, owner: Owner, symbols: Vec<Symbol<'a>>) -> Result<(), AllocError>
+        requires room { HasRoom self.old owner }
+        ensures lists { OnOk result (Keeps owner symbols.entry.items self.old self.new) }
+        ensures counts { OnOk result (CountsStay self.old self.new) }
     {
-        match home {
-            Home::BuiltIn => self.built_in.push(symbol)?,
-            Home::Module(place) => {
+        match owner {
+            Owner::BuiltIn => join(&mut self.built_in, symbols),
+            Owner::Module(place) => {
                 let list = &mut self.modules[place];
-                list.push(symbol)?;
+                join(list, symbols)
             }
-            Home::Stray => {
-                self.stray += 1;
-                return Ok(());
-            }
+            Owner::Nobody => Ok(()),
         }
-        self.kept += 1;
-        Ok(())
     }
+
+    /// Goes through the lines of a run.
+    fn keep_run(&mut self, admission: &Admission, run: Run<'a>) -> Result<(), AllocError>
+        requires tied { IsTied admission.now }
+        requires lists { length self.old.modules.items ≡ length (shown admission.now).modules }
+        requires counts { self.old.kept + self.old.stray + vec_len run.symbols < 2 ^ 64 }
+        ensures { OnOk result (KeepsRun (shown admission.now) run.entry self.old self.new) }
+    {
+        let owner = owner_of(admission, run.module);
+        let listed = run.symbols.len();
+        let symbols = without_strays(admission, owner, run.symbols);
+        self.kept += symbols.len() as u64;
+        self.stray += (listed - symbols.len()) as u64;
+        self.put(owner, symbols)
+    }
+}
+
+/// Puts symbols behind others. Where there are no others, the list is taken over as it is.
+fn join<'a>(list: &mut Vec<Symbol<'a>>, symbols: Vec<Symbol<'a>>) -> Result<(), AllocError>
+    ensures { OnOk result (list.new.items ≡ list.old.items ++ symbols.entry.items) }
+{
+    if list.is_empty() {
+        *list = symbols;
+        return Ok(());
+    }
+    let mut symbols = symbols;
+    list.append(&mut symbols)
 }
 
 /// Whose symbols the lines of a module of this name are.
@@ -110,59 +124,55 @@ fn owner_of(admission: &Admission, name: Option<&[u8]>) -> Owner
     }
 }
 
-/// Whose symbols the lines of each run are.
-fn owners_of(
-    alloc: Global,
-    admission: &Admission,
-    runs: &[Option<&[u8]>],
-) -> Result<Vec<Owner>, AllocError>
-    requires { IsTied admission.now }
-    ensures { IfOk result (λ v. v.items ≡ map (λ name. owner_for (shown admission.now) (option_copied name)) runs.now) }
-{
-    runs.iter()
-        .map(|name| owner_of(admission, *name))
-        .collect(alloc)
-}
-
-/// Where a symbol of this owner and this address is kept.
-fn home_of(admission: &Admission, owner: Owner, addr: u64) -> Home
-    ensures { result ≡ home_for (shown admission.now) owner addr }
+/// Whether a symbol of this owner is kept at this address.
+fn lies_at(admission: &Admission, owner: Owner, addr: u64) -> bool
+    ensures { result ≡ lies_for (shown admission.now) owner addr }
 {
     match owner {
         Owner::BuiltIn => match admission.built_in {
-            Some((start, end)) if start <= addr && addr < end => Home::BuiltIn,
-            _ => Home::Stray,
+            Some((start, end)) => start <= addr && addr < end,
+            None => false,
         },
         Owner::Module(place) => match admission.modules.get(place) {
-            Some(module) if module.lies_at(addr) => Home::Module(place),
-            _ => Home::Stray,
+            Some(module) => module.lies_at(addr),
+            None => false,
         },
-        Owner::Nobody => Home::Stray,
+        Owner::Nobody => false,
     }
 }
 
-/// Goes through the lines in their order.
-fn gather_lines<'a>(
+/// The symbols of this owner that are kept.
+fn without_strays<'a>(
+    admission: &Admission,
+    owner: Owner,
+    symbols: Vec<Symbol<'a>>,
+) -> Vec<Symbol<'a>>
+    ensures { result.items
+        ≡ filter (λ s. lies_for (shown admission.now) owner s.addr) symbols.entry.items }
+{
+    let mut kept = symbols;
+    kept.retain(|symbol| lies_at(admission, owner, symbol.addr));
+    kept
+}
+
+/// Goes through the lines of runs in their order.
+fn gather_runs<'a>(
     alloc: Global,
     admission: &Admission,
-    runs: &[Option<&'a [u8]>],
-    lines: &[RunLine<'a>],
+    runs: Vec<Run<'a>>,
+    last: Run<'a>,
 ) -> Result<Gathered<'a>, AllocError>
     requires tied { IsTied admission.now }
     requires distinct { AreDistinct (names_of (shown admission.now).modules) }
-    requires numbered { AreNumbered runs.now lines.now }
-    ensures { IfOk result (Gathers (shown admission.now) (lines_in runs.now lines.now)) }
+    requires few { length (lines_of_all (runs.items ++ last ∷ [])) < 2 ^ 64 }
+    ensures { IfOk result
+        (Gathers (shown admission.now) (lines_of_all (runs.entry.items ++ last.entry ∷ []))) }
 {
-    let owners = owners_of(alloc, admission, runs)?;
     let mut gathered = Gathered::new(alloc, admission.modules.len())?;
-    for line in lines {
-        let home = home_of(admission, owners[line.run as usize], line.addr);
-        let symbol = Symbol {
-            addr: line.addr,
-            name: line.name,
-        };
-        gathered.keep(home, symbol)?;
+    for run in runs {
+        gathered.keep_run(admission, run)?;
     }
+    gathered.keep_run(admission, last)?;
     Ok(gathered)
 }
 
@@ -170,16 +180,12 @@ fn gather_lines<'a>(
 pub(crate) fn gather<'a>(
     alloc: Global,
     admission: &Admission,
-    symbols: &SymbolLines<'a>,
+    symbols: SymbolLines<'a>,
 ) -> Result<Gathered<'a>, AllocError>
     requires tied { IsTied admission.now }
     requires distinct { AreDistinct (names_of (shown admission.now).modules) }
-    ensures { IfOk result (Gathers (shown admission.now) symbols.now) }
+    ensures { IfOk result (Gathers (shown admission.now) symbols.entry) }
 {
-    gather_lines(
-        alloc,
-        admission,
-        symbols.runs.as_slice(),
-        symbols.lines.as_slice(),
-    )
+    let SymbolLines { runs, last, .. } = symbols;
+    gather_runs(alloc, admission, runs, last)
 }

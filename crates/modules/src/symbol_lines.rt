@@ -1,67 +1,117 @@
-//! The lines of a listing of symbols, close together.
+//! The lines of a listing of symbols, in the runs in which they come.
 //!
 //! A listing has the lines of one module side by side, so the name of the module is kept once for
-//! each such run of lines, and a line has the number of its run:
+//! each such run of lines. The symbols of a run stand in a list of their own, which a catalog takes
+//! over as it is. The letters of all lines stand beside them:
 //!
 //! ```text
-//! runs:   none          "ext4"        none
-//! lines:  0   0   0     1   1         2
+//! runs:     none: a b c   "ext4": d e   none: f
+//! letters:        T t D           t b         T
 //! ```
 
-ghost use Rattle.std.specs.Prelude.{◌≡◌, ◌<◌, ◌++◌, ◌∷◌, [], length, find, is_none, IfOk, OnOk, OnErr};
+ghost use Rattle.std.specs.Prelude.{◌≡◌, ◌++◌, ◌∷◌, [], length, find, IfOk, OnOk, OnErr};
 ghost use Rattle.modules.specs.Lines.{first_address, built_in_region};
 ghost use Rattle.std.specs.Option.{option_copied, option_map};
-ghost use Rattle.modules.specs.Runs.{AreKept, is_named, owner_in};
+ghost use Rattle.std.specs.Str.{bytes_eq};
+ghost use Rattle.modules.specs.Runs.{lines_of, lines_of_all, one_line};
 
 use crate::lines::{KernelBounds, Region, SymbolLine};
+use crate::symbols::Symbol;
 use std::alloc::{AllocError, Global};
 use std::marker::Model;
+use std::mem;
 
-/// A line with the number of its run.
-#[derive(Clone, Copy, Debug, Drop)]
-pub(crate) struct RunLine<'a> {
-    pub(crate) addr: u64,
-    pub(crate) name: &'a [u8],
-    pub(crate) run: u32,
-    pub(crate) letter: u8,
+/// Lines of one module that stand side by side, without their letters.
+#[derive(Drop)]
+pub(crate) struct Run<'a> {
+    /// The name of the module; none for the kernel itself.
+    pub(crate) module: Option<&'a [u8]>,
+    /// The address and the name of each line.
+    pub(crate) symbols: Vec<Symbol<'a>>,
 }
 
 /// The lines of a listing of symbols, in their order. A contract sees the list of the lines.
 #[derive(Drop)]
 pub struct SymbolLines<'a> {
-    pub(crate) lines: Vec<RunLine<'a>>,
-    /// The name of the module of each run of lines; none for the kernel itself.
-    pub(crate) runs: Vec<Option<&'a [u8]>>,
+    /// The runs before the last one.
+    pub(crate) runs: Vec<Run<'a>>,
+    /// The last run. It has no lines only where there are none at all.
+    pub(crate) last: Run<'a>,
+    /// The letter of each line.
+    letters: Vec<u8>,
 }
 
 impl<'a> Model for SymbolLines<'a> {
-    ghost use Rattle.std.specs.Prelude.{List};
+    ghost use Rattle.std.specs.Prelude.{List, [], ◌∷◌, ◌++◌};
     ghost use Rattle.modules.specs.Listed.{ListedSymbol};
 
     ghost Value = { List ListedSymbol };
 
-    ghost use Rattle.modules.specs.Runs.{lines_in, AreNumbered};
+    ghost use Rattle.modules.specs.Runs.{lines_in, AreLettered};
 
-    ghost view = { λ l. lines_in l.runs.items l.lines.items };
+    ghost view = { λ l. lines_in (l.runs.items ++ l.last ∷ []) l.letters.items };
 
-    ghost invariant = { λ l. AreNumbered l.runs.items l.lines.items };
+    ghost invariant = { λ l. AreLettered (l.runs.items ++ l.last ∷ []) l.letters.items };
 }
 
-/// The number of the run that a line of this module belongs to, if it is put behind all lines. It
-/// is a new run where the last one is of another module.
-fn run_of<'a>(runs: &mut Vec<Option<&'a [u8]>>, name: Option<&'a [u8]>) -> Result<u32, AllocError>
-    ensures kept { AreKept runs.old.items runs.new.items }
-    ensures numbered { IfOk result (λ run. run < length runs.new.items) }
-    ensures named { IfOk result (λ run. owner_in runs.new.items run ≡ option_copied name.entry) }
+impl<'a> Run<'a> {
+    /// A run of one line.
+    fn of(
+        alloc: Global,
+        module: Option<&'a [u8]>,
+        symbol: Symbol<'a>,
+    ) -> Result<Run<'a>, AllocError>
+        ensures { IfOk result
+            (λ r. lines_of r ≡ one_line (option_copied module.entry) symbol.entry) }
+    {
+        let mut symbols = Vec::with_capacity(alloc, 1)?;
+        symbols.push(symbol)?;
+        Ok(Run { module, symbols })
+    }
+
+    /// The address of its first symbol of this name, where it is of the kernel itself.
+    fn first_address(&self, name: &[u8]) -> Option<u64>
+        ensures { result ≡ first_address name.now (lines_of self.now) }
+    {
+        if self.module.is_some() {
+            return None;
+        }
+        first_named(self.symbols.as_slice(), name)
+    }
+}
+
+/// The address of the first symbol of this name.
+fn first_named(symbols: &[Symbol], name: &[u8]) -> Option<u64>
+    ensures { result ≡ option_map (λ s. s.addr) (find (λ s. bytes_eq s.name name.now) symbols.now) }
 {
-    match runs.last() {
-        Some(last) if *last == name => {}
-        _ => runs.push(name)?,
+    symbols
+        .iter()
+        .find(|symbol| symbol.name == name)
+        .map(|symbol| symbol.addr)
+}
+
+/// Puts a symbol of this module behind all runs. An error leaves the lines as they were.
+#[inline(always)]
+fn put_line<'a>(
+    runs: &mut Vec<Run<'a>>,
+    last: &mut Run<'a>,
+    module: Option<&'a [u8]>,
+    symbol: Symbol<'a>,
+) -> Result<(), AllocError>
+    ensures pushed { OnOk result (lines_of_all (runs.new.items ++ last.new ∷ [])
+        ≡ lines_of_all (runs.old.items ++ last.old ∷ [])
+        ++ one_line (option_copied module.entry) symbol.entry) }
+    ensures err { OnErr result (lines_of_all (runs.new.items ++ last.new ∷ [])
+        ≡ lines_of_all (runs.old.items ++ last.old ∷ [])) }
+{
+    if last.module == module {
+        last.symbols.push(symbol)?;
+        return Ok(());
     }
-    match u32::try_from(runs.len() - 1) {
-        Ok(run) => Ok(run),
-        Err(_) => Err(AllocError),
-    }
+    let next = Run::of(*runs.allocator(), module, symbol)?;
+    runs.reserve(1)?;
+    runs.push(mem::replace(last, next)).unwrap();
+    Ok(())
 }
 
 impl<'a> SymbolLines<'a> {
@@ -69,9 +119,14 @@ impl<'a> SymbolLines<'a> {
     pub fn new(alloc: Global) -> SymbolLines<'a>
         ensures { result ≡ [] }
     {
+        let last = Run {
+            module: None,
+            symbols: Vec::new(alloc),
+        };
         SymbolLines {
-            lines: Vec::new(alloc),
             runs: Vec::new(alloc),
+            last,
+            letters: Vec::new(alloc),
         }
     }
 
@@ -79,48 +134,46 @@ impl<'a> SymbolLines<'a> {
     pub fn len(&self) -> usize
         ensures { result ≡ length self.now }
     {
-        self.lines.len()
+        self.letters.len()
     }
 
     /// Puts a line behind these. An error leaves these as they were.
+    #[inline(always)]
     pub fn push(&mut self, line: SymbolLine<'a>) -> Result<(), AllocError>
         ensures pushed { OnOk result (self.new ≡ self.old ++ line.entry ∷ []) }
         ensures err { OnErr result (self.new ≡ self.old) }
     {
-        let run = run_of(&mut self.runs, line.module)?;
-        self.lines.push(RunLine {
+        self.letters.reserve(1)?;
+        let symbol = Symbol {
             addr: line.addr,
             name: line.name,
-            run,
-            letter: line.letter,
-        })?;
+        };
+        put_line(&mut self.runs, &mut self.last, line.module, symbol)?;
+        self.letters.push(line.letter).unwrap();
         Ok(())
     }
 }
 
-/// Whether the lines of a run are of the kernel itself.
-fn is_built_in(runs: &[Option<&[u8]>], run: u32) -> bool
-    ensures { result ≡ is_none (owner_in runs.now run) }
+/// The address of the first line without a module that has this name, of lines in runs.
+fn first_in_runs(runs: &[Run], name: &[u8]) -> Option<u64>
+    ensures { result ≡ first_address name.now (lines_of_all runs.now) }
 {
-    !matches!(runs.get(run as usize), Some(Some(_)))
-}
-
-/// The address of the first line of the kernel itself that has this name, of lines of these runs.
-fn first_address_in(runs: &[Option<&[u8]>], lines: &[RunLine], name: &[u8]) -> Option<u64>
-    ensures { result ≡ option_map (λ l. l.addr) (find (is_named runs.now name.now) lines.now) }
-{
-    lines
-        .iter()
-        .find(|line| is_built_in(runs, line.run) && line.name == name)
-        .map(|line| line.addr)
+    for run in runs {
+        if let Some(addr) = run.first_address(name) {
+            return Some(addr);
+        }
+    }
+    None
 }
 
 /// The address of the first line without a module that has this name.
-#[tactic(auto, using(crate::proofs::Running::first_address_found))]
 fn first_address(lines: &SymbolLines, name: &[u8]) -> Option<u64>
     ensures { result ≡ first_address name.now lines.now }
 {
-    first_address_in(lines.runs.as_slice(), lines.lines.as_slice(), name)
+    match first_in_runs(lines.runs.as_slice(), name) {
+        None => lines.last.first_address(name),
+        found => found,
+    }
 }
 
 /// The region of the kernel itself, from the symbol of the one name up to that of the other.

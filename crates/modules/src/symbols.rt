@@ -11,11 +11,11 @@
 //!
 //! So the last entry that is not above an address is that of the symbol to be found.
 
-ghost use Rattle.std.specs.Prelude.{◌≡◌, true, IfOk, slice_get};
+ghost use Rattle.std.specs.Prelude.{◌≡◌, ◌<◌, true, IfOk, length, slice_get};
 ghost use Rattle.std.specs.List.Sorted.{IsNonDecreasingBy};
 ghost use Rattle.std.specs.Option.{option_copied, option_map};
 ghost use Rattle.modules.specs.Around.{symbol_below, address_above};
-ghost use Rattle.modules.specs.Index.{entries_of, IsIndex, IsSplit, IsRising, IsSplitOf, IsFirstOf};
+ghost use Rattle.modules.specs.Index.{entries_of, IsIndex, IsSplit, IsRising, IsSplitOf, IsFirstOf, IsFirstAt};
 
 use std::alloc::{AllocError, Global};
 use std::marker::Model;
@@ -125,6 +125,24 @@ fn listed_below(symbols: &[Symbol], addr: u64) -> usize
     symbols.partition_point(|symbol| symbol.addr < addr)
 }
 
+/// The place of the first symbol that has the address of the one at a place. Mostly it is that one itself, and then
+/// nothing is sought.
+fn first_of_equal(symbols: &[Symbol], place: usize) -> usize
+    requires rising { IsRising symbols.now }
+    requires within { place < length symbols.now }
+    ensures { IsFirstAt symbols.now place result }
+{
+    if place == 0 {
+        return 0;
+    }
+    let symbol = &symbols[place];
+    let before = &symbols[place - 1];
+    if before.addr < symbol.addr {
+        return place;
+    }
+    listed_below(symbols, symbol.addr)
+}
+
 /// The address of the symbol at a place, if there is one.
 fn listed_address_at(symbols: &[Symbol], place: usize) -> Option<u64>
     ensures { result ≡ option_map (λ s. s.addr) (slice_get symbols.now place) }
@@ -146,8 +164,7 @@ pub(crate) fn around_as_listed<'s, 'a>(
     if split == 0 {
         return (None, above);
     }
-    let last = &symbols[split - 1];
-    let first = listed_below(symbols, last.addr);
+    let first = first_of_equal(symbols, split - 1);
     (symbol_at(symbols, first), above)
 }
 

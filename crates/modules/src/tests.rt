@@ -36,7 +36,7 @@ fn build<'a>(
     symbols: &[Listed<'a>],
 ) -> Result<(Catalog<'a>, BuildCounts), Refusal> {
     assert!(rt; modules.iter().all(|line| line.fits()));
-    Catalog::build(alloc, modules, &lines(alloc, symbols)?)
+    Catalog::build(alloc, modules, lines(alloc, symbols)?)
 }
 
 fn region(name: &[u8], part: Part, base: u64, size: u64) -> RegionLine<'_> {
@@ -57,7 +57,7 @@ fn build_with<'a>(
 ) -> Result<(Catalog<'a>, BuildCounts), Refusal> {
     assert!(rt; modules.iter().all(|line| line.fits()));
     assert!(rt; regions.iter().all(|line| line.fits()));
-    Catalog::build_with(alloc, modules, regions, &lines(alloc, symbols)?)
+    Catalog::build_with(alloc, modules, regions, lines(alloc, symbols)?)
 }
 
 /// Counts of listings without region lines.
@@ -446,14 +446,14 @@ fn the_kernel_between_named_symbols(rt: HostRuntime) -> Result<(), Fail> {
         start: b"_stext",
         end: b"_etext",
     };
-    let symbols = lines(alloc, &symbols)?;
-    let (catalog, counts) = Catalog::build_between(alloc, &names, &[], &[], &symbols)?;
+    let bounded = lines(alloc, &symbols)?;
+    let (catalog, counts) = Catalog::build_between(alloc, &names, &[], &[], bounded)?;
     assert_eq!(rt;
         catalog.module(0).ok_or("no kernel")?.regions(),
         [(0x1000, 0x2000)].as_slice()
     );
     assert_eq!(rt; (counts.symbols, counts.stray), (2, 1));
-    let (usual, _) = Catalog::build(alloc, &[], &symbols)?;
+    let (usual, _) = Catalog::build(alloc, &[], lines(alloc, &symbols)?)?;
     assert!(rt; usual.module(0).is_none());
     Ok(())
 }

@@ -49,7 +49,7 @@ fn small_catalog(rt: &impl Abort, alloc: Global) -> Result<Catalog<'static>, Fai
     for line in symbols {
         lines.push(line)?;
     }
-    let (catalog, _) = Catalog::build(alloc, &modules, &lines)?;
+    let (catalog, _) = Catalog::build(alloc, &modules, lines)?;
     Ok(catalog)
 }
 
@@ -114,7 +114,7 @@ fn module_of_three_regions(rt: &impl Abort, alloc: Global) -> Result<Catalog<'st
     lines.push(symbol(0xffff_ffff_c070_0000, b"m_init", Some(M)))?;
     assert!(rt; modules.iter().all(|line| line.fits()));
     assert!(rt; regions.iter().all(|line| line.fits()));
-    let (catalog, _) = Catalog::build_with(alloc, &modules, &regions, &lines)?;
+    let (catalog, _) = Catalog::build_with(alloc, &modules, &regions, lines)?;
     Ok(catalog)
 }
 

@@ -1,4 +1,4 @@
-use Rattle.std.proofs.Common.{◌≡◌, ℕ, ◌+◌, ◌-◌, ◌<◌, ◌++◌, List, Option, sym, ap, ◌∙◌, subst, arith, length, not, map}
+use Rattle.std.proofs.Common.{◌≡◌, ℕ, ◌+◌, ◌-◌, ◌<◌, List, Option, sym, ap, ◌∙◌, subst, arith, length, not, map}
 use Rattle.std.specs.Prelude.{IfSome, count_by, is_some}
 use Rattle.std.specs.Int.{from_bool}
 use Rattle.std.specs.List.{flat_map}
@@ -10,7 +10,7 @@ use Rattle.modules.specs.Entries.{ModuleEntry}
 use Rattle.modules.specs.Kept.{is_used}
 use Rattle.modules.specs.Lines.{built_in_region, first_address}
 use Rattle.modules.specs.Listed.{ListedRegion}
-use Rattle.modules.specs.Placed.{PlacedModule, placed}
+use Rattle.modules.specs.Placed.{placed}
 use Rattle.modules.proofs.Counting.{count_by-both}
 use Rattle.modules.proofs.Soundness.{IsGood, accepted_good, built_in_kept, valid_built_in, count_of_regions, kernel_one, IsSound-catalog_of}
 use Rattle.modules.proofs.Makings.{catalog_from, counts_from}
@@ -18,26 +18,26 @@ use Rattle.modules.proofs.build.assemble.Goals as goal
 
 pub gather-requires-clause-distinct : goal.gather-requires-clause-distinct
 gather-requires-clause-distinct c =
-    let a : shown c.in_ok-admission.admission ≡ accepted_of (built_in_region c.args.names.now c.args.symbols.now) c.args.regions.now c.args.modules.now = c.in_ok-admission.ensures.admitted ∙ ap (λ (b : Option (ℕ × ℕ)). accepted_of b c.args.regions.now c.args.modules.now) c.built_in_region-built_in.ensures in
-    (subst IsGood (sym a) (accepted_good c.args.names.now c.args.modules.now c.args.regions.now c.args.symbols.now c.requires.fit c.requires.regions_fit c.requires.few)).distinct
+    let a : shown c.in_ok-admission.admission ≡ accepted_of (built_in_region c.args.names.now c.args.symbols) c.args.regions.now c.args.modules.now = c.in_ok-admission.ensures.admitted ∙ ap (λ (b : Option (ℕ × ℕ)). accepted_of b c.args.regions.now c.args.modules.now) c.built_in_region-built_in.ensures in
+    (subst IsGood (sym a) (accepted_good c.args.names.now c.args.modules.now c.args.regions.now c.args.symbols c.requires.fit c.requires.regions_fit c.requires.few)).distinct
 
 pub built_in_module-requires : goal.built_in_module-requires
 built_in_module-requires c =
     let names = c.args.names.now in
-    let symbols = c.args.symbols.now in
+    let symbols = c.args.symbols in
     let a : shown c.in_ok-admission.admission ≡ accepted_of (built_in_region names symbols) c.args.regions.now c.args.modules.now = c.in_ok-admission.ensures.admitted ∙ ap (λ (b : Option (ℕ × ℕ)). accepted_of b c.args.regions.now c.args.modules.now) c.built_in_region-built_in.ensures in
     let region : c.in_ok-admission.admission.built_in ≡ built_in_region names symbols = ap (λ (x : Accepted). x.built_in) a ∙ built_in_kept (none_yet (built_in_region names symbols)) (map (placed c.args.regions.now) c.args.modules.now) in
     subst (λ (b : Option (ℕ × ℕ)). IfSome b (λ r. r.0 < r.1)) (sym region) (valid_built_in (first_address names.start symbols) (first_address names.end symbols))
 
 pub modules_from-requires-clause-placed : goal.modules_from-requires-clause-placed
 modules_from-requires-clause-placed c =
-    let a : shown c.in_ok-admission.admission ≡ accepted_of (built_in_region c.args.names.now c.args.symbols.now) c.args.regions.now c.args.modules.now = c.in_ok-admission.ensures.admitted ∙ ap (λ (b : Option (ℕ × ℕ)). accepted_of b c.args.regions.now c.args.modules.now) c.built_in_region-built_in.ensures in
-    rw c.as_slice.ensures.value (subst IsGood (sym a) (accepted_good c.args.names.now c.args.modules.now c.args.regions.now c.args.symbols.now c.requires.fit c.requires.regions_fit c.requires.few)).places
+    let a : shown c.in_ok-admission.admission ≡ accepted_of (built_in_region c.args.names.now c.args.symbols) c.args.regions.now c.args.modules.now = c.in_ok-admission.ensures.admitted ∙ ap (λ (b : Option (ℕ × ℕ)). accepted_of b c.args.regions.now c.args.modules.now) c.built_in_region-built_in.ensures in
+    rw c.as_slice.ensures.value (subst IsGood (sym a) (accepted_good c.args.names.now c.args.modules.now c.args.regions.now c.args.symbols c.requires.fit c.requires.regions_fit c.requires.few)).places
 
 pub invariant_of-catalog : goal.invariant_of-catalog
 invariant_of-catalog c =
     let names = c.args.names.now in
-    let symbols = c.args.symbols.now in
+    let symbols = c.args.symbols in
     let a : shown c.in_ok-admission.admission ≡ accepted_of (built_in_region names symbols) c.args.regions.now c.args.modules.now = c.in_ok-admission.ensures.admitted ∙ ap (λ (b : Option (ℕ × ℕ)). accepted_of b c.args.regions.now c.args.modules.now) c.built_in_region-built_in.ensures in
     let made : AreModules c.in_ok-admission.admission.modules.items c.in_ok-gathered.gathered.modules.items c.in_ok-modules.modules.items = rw (← c.as_slice.ensures.value) c.in_ok-modules.ensures in
     let built = catalog_from c.in_ok-admission.admission c.in_ok-gathered.gathered names c.args.modules.now c.args.regions.now symbols c.in_ok-built_in.built_in c.in_ok-modules.modules.items a c.in_ok-gathered.ensures c.in_ok-built_in.ensures made in
@@ -54,7 +54,7 @@ invariant_of-catalog c =
 pub returns-clause-built : goal.returns-clause-built
 returns-clause-built c =
     let names = c.args.names.now in
-    let symbols = c.args.symbols.now in
+    let symbols = c.args.symbols in
     let a : shown c.in_ok-admission.admission ≡ accepted_of (built_in_region names symbols) c.args.regions.now c.args.modules.now = c.in_ok-admission.ensures.admitted ∙ ap (λ (b : Option (ℕ × ℕ)). accepted_of b c.args.regions.now c.args.modules.now) c.built_in_region-built_in.ensures in
     let made : AreModules c.in_ok-admission.admission.modules.items c.in_ok-gathered.gathered.modules.items c.in_ok-modules.modules.items = rw (← c.as_slice.ensures.value) c.in_ok-modules.ensures in
     catalog_from c.in_ok-admission.admission c.in_ok-gathered.gathered names c.args.modules.now c.args.regions.now symbols c.in_ok-built_in.built_in c.in_ok-modules.modules.items a c.in_ok-gathered.ensures c.in_ok-built_in.ensures made
@@ -62,7 +62,7 @@ returns-clause-built c =
 pub returns-clause-counted : goal.returns-clause-counted
 returns-clause-counted c =
     let names = c.args.names.now in
-    let symbols = c.args.symbols.now in
+    let symbols = c.args.symbols in
     let regions = c.args.regions.now in
     let a : shown c.in_ok-admission.admission ≡ accepted_of (built_in_region names symbols) regions c.args.modules.now = c.in_ok-admission.ensures.admitted ∙ ap (λ (b : Option (ℕ × ℕ)). accepted_of b regions c.args.modules.now) c.built_in_region-built_in.ensures in
     let used : ℕ = c.used_in-used.result in
@@ -73,7 +73,7 @@ returns-clause-counted c =
 pub returns-clause-sound : goal.returns-clause-sound
 returns-clause-sound c =
     let names = c.args.names.now in
-    let symbols = c.args.symbols.now in
+    let symbols = c.args.symbols in
     let a : shown c.in_ok-admission.admission ≡ accepted_of (built_in_region names symbols) c.args.regions.now c.args.modules.now = c.in_ok-admission.ensures.admitted ∙ ap (λ (b : Option (ℕ × ℕ)). accepted_of b c.args.regions.now c.args.modules.now) c.built_in_region-built_in.ensures in
     let made : AreModules c.in_ok-admission.admission.modules.items c.in_ok-gathered.gathered.modules.items c.in_ok-modules.modules.items = rw (← c.as_slice.ensures.value) c.in_ok-modules.ensures in
     let built = catalog_from c.in_ok-admission.admission c.in_ok-gathered.gathered names c.args.modules.now c.args.regions.now symbols c.in_ok-built_in.built_in c.in_ok-modules.modules.items a c.in_ok-gathered.ensures c.in_ok-built_in.ensures made in

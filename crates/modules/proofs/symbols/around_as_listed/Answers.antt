@@ -2,7 +2,7 @@ use Rattle.std.proofs.Common.{◌≡◌, ℕ, ◌<◌, ◌-◌, [], length, get_
 use Rattle.std.proofs.lemmas.List.{get_or_default}
 use Rattle.std.proofs.lemmas.Option.{slice_get-get_or}
 use Rattle.modules.specs.Entries.{SymbolEntry}
-use Rattle.modules.specs.Index.{IsSplitOf, IsFirstOf}
+use Rattle.modules.specs.Index.{IsSplitOf}
 use Rattle.modules.proofs.Rising.{none_below, first_within, first_below, above_in}
 use Rattle.modules.proofs.symbols.around_as_listed.Goals as goal
 
@@ -18,12 +18,11 @@ pub returns-clause-below : goal.returns-clause-below
 returns-clause-below c =
     let symbols = c.args.symbols.now in
     let split : ℕ = c.listed_split_at-split.result in
-    let first : ℕ = c.listed_below-first.result in
+    let first : ℕ = c.first_of_equal-first.result in
     let parts = c.listed_split_at-split.ensures in
     let some : 0 < split = omega arith in
-    let s : SymbolEntry = c.index-symbols-split.result in
-    let addr_is : c.last.inside.addr ≡ (get_or symbols (split - 1) s).addr = ap (λ (e : SymbolEntry). e.addr) (c.last.view_is ∙ c.index-symbols-split.is) in
-    let is = subst (λ a. IsFirstOf symbols a first) addr_is c.listed_below-first.ensures in
+    let s : SymbolEntry = record { addr = 0; name = [] } in
+    let is = c.first_of_equal-first.ensures s in
     c.symbol_at.ensures ∙ slice_get-get_or symbols first s (first_within symbols c.args.addr split first s c.requires parts some is) ∙ sym (first_below symbols c.args.addr split first s c.requires parts some is)
 
 pub returns-clause-above : goal.returns-clause-above

@@ -8,5 +8,5 @@ use Rattle.modules.proofs.catalog.Catalog.build.Goals as goal
 pub returns-clause-counted : goal.returns-clause-counted
 returns-clause-counted c =
     c.in_ok-assemble.ensures.counted
-    ∙ ap (λ (n : BoundNames). counts_of n c.args.modules.now c.in_ok-regions.regions c.args.symbols.now) c.usual.ensures
-    ∙ ap (λ (rs : List ListedRegion). counts_of usual_bounds c.args.modules.now rs c.args.symbols.now) c.in_ok-regions.ensures
+    ∙ ap (λ (n : BoundNames). counts_of n c.args.modules.now c.in_ok-regions.regions c.args.symbols) c.usual.ensures
+    ∙ ap (λ (rs : List ListedRegion). counts_of usual_bounds c.args.modules.now rs c.args.symbols) c.in_ok-regions.ensures

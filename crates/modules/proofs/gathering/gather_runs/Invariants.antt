@@ -1,0 +1,15 @@
+use Rattle.std.proofs.Common.{◌≡◌, ◌+◌, ◌++◌, length}
+use Rattle.std.specs.Vec.Iter.{into_iter_items}
+use Rattle.modules.specs.Admissions.{shown}
+use Rattle.modules.specs.Gathering.{Gathers}
+use Rattle.modules.specs.Runs.{lines_of_all}
+use Rattle.modules.proofs.gathering.gather_runs.Given as goal
+
+abbrev pub invariant-loop-run : goal.invariant-loop-run
+invariant-loop-run l = record {
+  can_next : (goal.iterator-loop-run).can_next l.run-iterator;
+  finite : (goal.iterator-loop-run).is_finite l.run-iterator;
+  gone : l.fn.runs.items ≡ l.yielded ++ into_iter_items l.run-iterator;
+  gathers : Gathers (shown l.admission) (lines_of_all l.yielded) l.gathered;
+  counted : l.gathered.kept + l.gathered.stray ≡ length (lines_of_all l.yielded);
+}
