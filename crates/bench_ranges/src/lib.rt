@@ -2,7 +2,7 @@
 //! they are given.
 #![tactic(auto)]
 
-ghost use Rattle.std.specs.Prelude.{◌≡◌, ◌<◌, ◌≤◌, IfOk, length};
+ghost use Rattle.std.specs.Prelude.{◌≡◌, ◌+◌, ◌*◌, ◌<◌, ◌≤◌, IfOk, length};
 
 use order_laws::Item;
 use std::alloc::{AllocError, Global};
@@ -22,19 +22,37 @@ const LENGTH: u64 = 4096;
 pub struct Random(pub u64);
 
 impl Random {
+    /// The next random number.
+    pub fn step(&mut self) -> u64 {
+        self.0 = self
+            .0
+            .wrapping_mul(6364136223846793005)
+            .wrapping_add(1442695040888963407);
+        self.0
+    }
+
     /// The next random number below this one: the high half of their product, in two steps that fit 64 bits.
     pub fn below(&mut self, most: u32) -> u32
         requires some { 0 < most }
         requires few { most ≤ 65536 }
         ensures { result < most }
     {
-        self.0 = self
-            .0
-            .wrapping_mul(6364136223846793005)
-            .wrapping_add(1442695040888963407);
+        let number = self.step();
         let most = most as u64;
-        let low = self.0 % 4294967296 * most / 4294967296;
-        ((self.0 / 4294967296 * most + low) / 4294967296) as u32
+        let low = number % 4294967296 * most / 4294967296;
+        ((number / 4294967296 * most + low) / 4294967296) as u32
+    }
+
+    /// The next random address in so many slots, with even chance in a range and in none: the high half of the product of a
+    /// random number and the slots' length.
+    #[inline(always)]
+    pub fn address(&mut self, slots: u32) -> u64
+        requires { 0 < slots }
+        ensures from { BASE ≤ result }
+        ensures below { result < BASE + slots * SLOT }
+    {
+        let length = slots as u128 * SLOT as u128;
+        BASE + (self.step() as u128 * length / 18446744073709551616) as u64
     }
 }
 

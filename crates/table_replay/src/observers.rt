@@ -32,16 +32,6 @@ impl Tally {
         }
     }
 
-    /// Adds what another reader saw.
-    pub fn add(&mut self, other: &Tally)
-        ensures wrong { self.new.wrong ≡ 0 → (self.old.wrong ≡ 0) × (other.now.wrong ≡ 0) }
-    {
-        self.answers = self.answers.saturating_add(other.answers);
-        self.retries = self.retries.saturating_add(other.retries);
-        self.wrong = self.wrong.saturating_add(other.wrong);
-        self.latest = self.latest.max(other.latest);
-    }
-
     /// Counts an answer, of a generation, where this one was expected. None is counted as wrong only
     /// where each was as expected, and of no generation below the one before.
     fn count(&mut self, expected: Option<Item>, answer: Option<Item>, generation: u64)

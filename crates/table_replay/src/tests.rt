@@ -1,6 +1,8 @@
 //! What the tests share.
 
+mod meetings;
 mod stops;
+mod threads;
 
 use crate::Schedule;
 use latch_core::{Entries, Update};
@@ -49,5 +51,5 @@ fn mixture(alloc: Global) -> Result<Schedule, Fail> {
             batch(alloc, &[0x3fff, 0x100], &[])?,
         ],
     )?;
-    Ok(Schedule::new(alloc, updates)?)
+    Ok(Schedule::new(alloc, updates)?.ok_or("no round")?)
 }

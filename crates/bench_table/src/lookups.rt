@@ -1,0 +1,89 @@
+//! Lookups of random addresses.
+
+ghost use Rattle.std.specs.Prelude.{◌<◌};
+
+use bench_ranges::Random;
+use latch_table::Reader;
+use order_laws::HalfOpen;
+use std::sync::Wait;
+use std::time::Duration;
+
+/// What a reader's lookups came to.
+#[derive(Clone, Copy, Drop)]
+pub struct Tally {
+    pub lookups: u64,
+    /// How many found a range.
+    pub found: u64,
+    /// The sum of the tags that were found.
+    pub tags: u64,
+    /// How long they took.
+    pub time: Duration,
+}
+
+impl Tally {
+    pub fn new() -> Tally {
+        Tally {
+            lookups: 0,
+            found: 0,
+            tags: 0,
+            time: Duration::ZERO,
+        }
+    }
+
+    /// Adds what a number of lookups found.
+    fn add(&mut self, lookups: u64, found: u64, tags: u64) {
+        self.lookups = self.lookups.wrapping_add(lookups);
+        self.found = self.found.wrapping_add(found);
+        self.tags = self.tags.wrapping_add(tags);
+    }
+}
+
+/// Looks so many random addresses of the slots up.
+pub fn look_up<R: Wait>(
+    rt: &R,
+    reader: &mut Reader<HalfOpen>,
+    random: &mut Random,
+    slots: u32,
+    count: u64,
+    tally: &mut Tally,
+)
+    requires { 0 < slots }
+{
+    let mut found: u64 = 0;
+    let mut tags: u64 = 0;
+    for _ in 0..count {
+        let (answer, _) = reader.find(rt, random.address(slots));
+        if let Some(item) = answer {
+            found = found.wrapping_add(1);
+            tags = tags.wrapping_add(item.tag);
+        }
+    }
+    tally.add(count, found, tags);
+}
+
+/// The same, where each address depends on the answer before.
+pub fn look_up_chain<R: Wait>(
+    rt: &R,
+    reader: &mut Reader<HalfOpen>,
+    random: &mut Random,
+    slots: u32,
+    count: u64,
+    tally: &mut Tally,
+)
+    requires { 0 < slots }
+{
+    let mut found: u64 = 0;
+    let mut tag: u64 = 0;
+    for _ in 0..count {
+        random.0 ^= tag;
+        let (answer, _) = reader.find(rt, random.address(slots));
+        tag = match answer {
+            Some(item) => {
+                found = found.wrapping_add(1);
+                item.tag
+            }
+            None => 0,
+        };
+    }
+    tally.add(count, found, tag);
+}

@@ -1,0 +1,88 @@
+//! The table that is measured, and its updates.
+
+ghost use Rattle.std.specs.Prelude.{◌≡◌, ◌<◌, ◌≤◌, IfOk, length};
+
+use crate::faults::Fault;
+use crate::memory::resident;
+use bench_ranges::{Random, ranges, shuffle};
+use latch_core::Update;
+use latch_table::{Reader, Writer, open};
+use order_laws::{HalfOpen, Item, Refusal};
+use std::alloc::Global;
+use std::num::nearest_u64_to_f64;
+use std::rt::Files;
+use word_arena::Layout;
+
+/// What the random numbers of the ranges begin with.
+const SEED_OF_RANGES: u64 = 12345;
+
+/// The most items of a table.
+const MOST_ITEMS: u32 = 65536;
+
+/// A table with a range in each slot.
+#[derive(Drop)]
+pub struct Measured {
+    /// The ranges, by slot.
+    pub ranges: Vec<Item>,
+    pub writer: Writer<HalfOpen>,
+    pub readers: Vec<Reader<HalfOpen>>,
+    /// The bytes of memory that the table took, an item.
+    pub bytes: f64,
+}
+
+/// A table of so many items, these ranges inserted in this order, with so many readers.
+fn build(
+    alloc: Global,
+    items: u32,
+    order: &[Item],
+    readers: u32,
+) -> Result<(Writer<HalfOpen>, Vec<Reader<HalfOpen>>), Refusal> {
+    let layout = Layout::wide(items)?;
+    let (mut writer, readers) = open::<HalfOpen>(alloc, layout, 0, readers)?;
+    for range in order {
+        writer.begin(Update::Insert(*range))?.finish();
+    }
+    Ok((writer, readers))
+}
+
+/// A table of so many items, with so many readers and at least one.
+pub fn prepare<R: Files + AllocGlobal>(rt: &R, items: u32, readers: u32) -> Result<Measured, Fault>
+    ensures some { IfOk result (λ made. 0 < items) }
+    ensures most { IfOk result (λ made. items ≤ 65536) }
+    ensures ranges { IfOk result (λ made. length made.ranges.items ≡ items) }
+{
+    if items == 0 || items > MOST_ITEMS {
+        return Err(Fault::Refused(Refusal::BadCapacity));
+    }
+    let mut random = Random(SEED_OF_RANGES);
+    let ranges = ranges(rt.alloc(), &mut random, items)?;
+    let mut order = ranges.to_vec(rt.alloc())?;
+    shuffle(&mut random, &mut order);
+    let before = resident(rt);
+    let (writer, readers) = build(rt.alloc(), items, &order, readers.max(1))?;
+    let bytes = nearest_u64_to_f64(resident(rt).saturating_sub(before)) / items as f64;
+    Ok(Measured {
+        ranges,
+        writer,
+        readers,
+        bytes,
+    })
+}
+
+/// Erases the range of a random slot and inserts it again, so many times.
+pub fn exchange(
+    writer: &mut Writer<HalfOpen>,
+    ranges: &[Item],
+    random: &mut Random,
+    pairs: u64,
+) -> Result<(), Refusal>
+    requires some { 0 < length ranges.now }
+    requires few { length ranges.now ≤ 65536 }
+{
+    for _ in 0..pairs {
+        let range = ranges[random.below(ranges.len() as u32) as usize];
+        writer.begin(Update::Erase(range.a))?.finish();
+        writer.begin(Update::Insert(range))?.finish();
+    }
+    Ok(())
+}

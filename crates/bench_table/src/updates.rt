@@ -1,0 +1,118 @@
+//! What the writer does for a time.
+
+ghost use Rattle.std.specs.Prelude.{◌<◌, ◌≤◌, length};
+
+use crate::faults::Fault;
+use crate::jobs::Writing;
+use crate::tables::exchange;
+use bench_ranges::Random;
+use latch_table::Writer;
+use order_laws::{HalfOpen, Item};
+use std::thread::sleep;
+use std::time::{Clock, Duration, Instant};
+
+/// What the random numbers of the updates begin with.
+const SEED: u64 = 99;
+
+/// How many pairs of updates are made between two looks at the clock, in a large table and in another.
+const PAIRS_IF_LARGE: u64 = 4;
+
+const PAIRS: u64 = 64;
+
+/// More items than this make a table large.
+const LARGE: usize = 10000;
+
+/// The microseconds of a pair of updates of a paced writer.
+const PACE: u64 = 200;
+
+/// How many updates were made, and in which time.
+#[derive(Clone, Copy, Drop)]
+pub struct Written {
+    pub updates: u64,
+    pub time: Duration,
+}
+
+/// Writes for so long.
+pub fn write<R: Clock>(
+    rt: &R,
+    writer: &mut Writer<HalfOpen>,
+    ranges: &[Item],
+    writing: Writing,
+    time: Duration,
+) -> Result<Written, Fault>
+    requires some { 0 < length ranges.now }
+    requires few { length ranges.now ≤ 65536 }
+{
+    match writing {
+        Writing::Nothing => {
+            sleep(rt, time);
+            Ok(Written { updates: 0, time })
+        }
+        Writing::Steady => write_steadily(rt, writer, ranges, time),
+        Writing::Paced => write_paced(rt, writer, ranges, time),
+    }
+}
+
+/// Makes updates without a rest.
+fn write_steadily<R: Clock>(
+    rt: &R,
+    writer: &mut Writer<HalfOpen>,
+    ranges: &[Item],
+    time: Duration,
+) -> Result<Written, Fault>
+    requires some { 0 < length ranges.now }
+    requires few { length ranges.now ≤ 65536 }
+{
+    let pairs = if ranges.len() > LARGE {
+        PAIRS_IF_LARGE
+    } else {
+        PAIRS
+    };
+    let mut random = Random(SEED);
+    let mut written = Written {
+        updates: 0,
+        time: Duration::ZERO,
+    };
+    let start = Instant::now(rt)?;
+    for _ in 0..u64::MAX {
+        exchange(writer, ranges, &mut random, pairs)?;
+        written.updates = written.updates.saturating_add(2 * pairs);
+        written.time = start.elapsed(rt)?;
+        if written.time >= time {
+            break;
+        }
+    }
+    Ok(written)
+}
+
+/// Makes a pair of updates, and waits until its time is over, again and again.
+fn write_paced<R: Clock>(
+    rt: &R,
+    writer: &mut Writer<HalfOpen>,
+    ranges: &[Item],
+    time: Duration,
+) -> Result<Written, Fault>
+    requires some { 0 < length ranges.now }
+    requires few { length ranges.now ≤ 65536 }
+{
+    let mut random = Random(SEED);
+    let mut written = Written {
+        updates: 0,
+        time: Duration::ZERO,
+    };
+    let pace = Duration::from_micros(PACE);
+    let mut due = pace;
+    let start = Instant::now(rt)?;
+    for _ in 0..u64::MAX {
+        if written.time >= time {
+            break;
+        }
+        if written.time >= due || written.updates == 0 {
+            exchange(writer, ranges, &mut random, 1)?;
+            written.updates = written.updates.saturating_add(2);
+            due = due.saturating_add(pace);
+        }
+        written.time = start.elapsed(rt)?;
+    }
+    Ok(written)
+}

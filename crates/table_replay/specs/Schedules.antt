@@ -1,0 +1,29 @@
+-- A list of updates that is gone through again and again.
+use Rattle.std.specs.Prelude.{◌≡◌, ℕ, zero, suc, ◌<◌, ◌/◌, ◌%◌, List, [], ◌++◌, length, take, slice_index_or}
+use Rattle.order_laws.specs.declared.items.Item.{Item}
+use Rattle.order_laws.specs.Orders.{half_open}
+use Rattle.latch_core.specs.declared.updates.Update.{Update}
+use Rattle.latch_core.specs.Histories.{replay}
+
+-- the list so many times, one after another
+abbrev pub times : ℕ → List Update → List Update
+times zero us = []
+times (suc rounds) us = us ++ times rounds us
+
+-- so many updates, where the list is gone through again and again: whole rounds, and the beginning of one more
+abbrev pub first_of : ℕ → List Update → List Update
+first_of count us = times (count / length us) us ++ take (count % length us) us
+
+-- the table after these updates, from the empty table on
+abbrev pub table_after : List Update → List Item
+table_after us = replay half_open [] us
+
+-- the updates lead from the empty table back to it
+abbrev pub IsRound : List Update → Type 0
+IsRound us = table_after us ≡ []
+
+-- these are the tables after none of the updates, after the first, and so on, up to the one before the last update
+abbrev pub AreTables : {T : Type 0} → (T → List Item) → List Update → List T → Type 0
+AreTables items us tables =
+    (length tables ≡ length us)
+    × ((k : ℕ) (d : _) → k < length us → items (slice_index_or tables k d) ≡ table_after (take k us))
