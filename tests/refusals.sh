@@ -60,36 +60,3 @@ cd "$top/examples/traces"
 try --help
 try trace cut_short.trace
 try trace no_such.trace
-
-# A table that is enlarged: each request of the program table_growth is refused in turn. Where that is one of the enlargement, the
-# writer and the reader find what they found before, and at the second asking all goes on as with ample memory.
-build table_growth
-run ample "$program"
-part=$(($(wc -l <"$work/ample.out") / 3))
-
-# after PARTS: what is found in so many parts of the run, and then a refusal
-after() { head -n $((part * $1)) "$work/ample.out" && echo "refused 7"; }
-
-after 0 >"$work/opening.out"
-{ after 1 && cat "$work/ample.out"; } >"$work/enlarging.out"
-after 2 >"$work/inserting.out"
-for step in opening enlarging inserting; do cp "$work/ample.err" "$work/$step.err" && cp "$work/ample.status" "$work/$step.status"; done
-request=0 refused=0
-while :; do
-    request=$((request + 1))
-    rm -f "$work/mark"
-    run once env REFUSED_REQUEST=$request REFUSAL_MARK="$work/mark" LD_PRELOAD="$work/refuse.so" "$program"
-    [ -e "$work/mark" ] || break
-    if same once enlarging; then
-        refused=$((refused + 1))
-    elif ! same once opening && ! same once inserting; then
-        echo "refusals: table_growth: request $request refused, and then:"
-        cat "$work/once.out" "$work/once.err" "$work/once.status"
-        exit 1
-    fi
-done
-if [ "$refused" = 0 ] || ! same once ample; then
-    echo "refusals: table_growth: no request of the enlargement was refused, or the last run differs"
-    exit 1
-fi
-echo "refusals: table_growth: $((request - 1)) requests, of which the enlargement makes $refused"

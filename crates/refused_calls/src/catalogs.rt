@@ -6,13 +6,13 @@ ghost use Rattle.modules.specs.Lines.{fits, region_fits};
 use crate::End;
 use modules::{Catalog, Held, ModuleLine, Part, RegionLine, SymbolLine, SymbolLines};
 use order_laws::Refusal;
-use std::alloc::{AllocError, Global};
+use std::alloc::Global;
 use std::io::Print;
 
 const NAME: &[u8] = b"module";
 
 /// So many symbols of the kernel itself.
-fn symbols(alloc: Global, count: u32) -> Result<SymbolLines<'static>, AllocError> {
+fn symbols(alloc: Global, count: u32) -> Result<SymbolLines<'static>, Refusal> {
     let mut lines = SymbolLines::new(alloc);
     for place in 0..count {
         lines.push(SymbolLine {
@@ -50,20 +50,21 @@ fn regions() -> [RegionLine<'static>; 2] {
     [core, init]
 }
 
-/// The catalog, built once more where memory was refused, and the update that loads its module.
+/// The catalog with so many symbols, built once more where memory was refused, and the update that loads its module.
 fn build(
     rt: &impl Print,
     alloc: Global,
     modules: &[ModuleLine<'_>],
     regions: &[RegionLine<'_>],
-    symbols: &SymbolLines<'_>,
+    count: u32,
 ) -> Result<(), End>
     requires fit { All (λ l. fits l ≡ true) modules.now }
     requires regions_fit { All (λ l. region_fits l ≡ true) regions.now }
 {
-    let (catalog, counts) = match Catalog::build_with(alloc, modules, regions, symbols) {
-        Err(Refusal::OutOfMemory) => Catalog::build_with(alloc, modules, regions, symbols)?,
-        built => built?,
+    let lines = symbols(alloc, count)?;
+    let (catalog, counts) = match Catalog::build_with(alloc, modules, regions, lines) {
+        Err(_) => Catalog::build_with(alloc, modules, regions, symbols(alloc, count)?)?,
+        Ok(built) => built,
     };
     println!(rt;
         "build: modules {} symbols {} stray {}",
@@ -83,10 +84,9 @@ fn build(
 
 /// Builds a catalog of so many symbols.
 pub(crate) fn call_all(rt: &impl Print, alloc: Global, count: u32) -> Result<(), End> {
-    let symbols = symbols(alloc, count).map_err(Refusal::from)?;
     let (modules, regions) = (modules(), regions());
     if modules.iter().all(|line| line.fits()) && regions.iter().all(|line| line.fits()) {
-        build(rt, alloc, &modules, &regions, &symbols)?;
+        build(rt, alloc, &modules, &regions, count)?;
     }
     Ok(())
 }

@@ -9,6 +9,7 @@
 #![tactic(auto)]
 
 mod catalogs;
+mod growth;
 mod tables;
 mod updates;
 mod worlds;
@@ -46,6 +47,7 @@ fn call_all(rt: &HostRuntime, alloc: Global, items: u32) -> Result<(), End> {
     writers::call_all(rt, alloc, layout, &updates)?;
     worlds::call_all(rt, alloc, layout, &updates)?;
     tables::call_all(rt, alloc, layout, &updates)?;
+    growth::call_all(rt, alloc, layout)?;
     catalogs::call_all(rt, alloc, items)
 }
 
