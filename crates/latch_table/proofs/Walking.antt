@@ -210,7 +210,7 @@ module _ {K : Type 0} (o : Order K) (k : K) (before begun e : ReaderKnowledge) (
         )
 
     pub retries_now : outcome s t (found_by walked) ≡ Again → Tried o k before e' Retry
-    retries_now is = (s, t, seen_now, (λ same. absurd (let wrong = right_now Again is same in cc)), grows_now, attempted Again is)
+    retries_now is = (s, t, seen_now, (λ same. absurd (let wrong = right_now Again is same in cc)), grows_now, attempted Again is, looks.floored)
 
 -- one attempt after another
 grows_along : (a b c : ReaderKnowledge) → Grows a b → Grows b c → Grows a c

@@ -28,6 +28,10 @@ pub record Grows (e e' : ReaderKnowledge) : Type 0 where
   pub floor : e'.floor ≡ e.floor
   pub known : IsPrefix e.known e'.known
 
+-- what a reader knows once it has loaded the sequence begins with what was shown when it was made
+abbrev pub KnowsFloor : ReaderKnowledge → Type 0
+KnowsFloor e = IsPrefix e.floor e.known
+
 -- its last step ended one attempt, which had this outcome
 pub record Attempted {K : Type 0} (o : Order K) (k : K) (e : ReaderKnowledge) (out : Outcome) : Type 0 where
   pub values : List ℕ
@@ -38,7 +42,7 @@ pub record Attempted {K : Type 0} (o : Order K) (k : K) (e : ReaderKnowledge) (o
 -- the answer is what the key lies in, in the table after the updates that the reader now knows, which are those of
 -- the generation g
 pub record Answers {K : Type 0} (o : Order K) (k : K) (e : ReaderKnowledge) (x : Option Item) (g : ℕ) : Type 0 where
-  pub floored : IsPrefix e.floor e.known
+  pub floored : KnowsFloor e
   pub counted : e.base + length e.known ≡ g
   pub found : x ≡ look o k (replay o [] e.known)
 
@@ -48,7 +52,8 @@ Tried o k e e' (Answered x g) =
     (s : ℕ) × (e'.seen ≡ e.seen ++ s ∷ s ∷ []) × (gen s ≡ g)
     × Grows e e' × Attempted o k e' (Answer x g) × Answers o k e' x g
 Tried o k e e' Retry =
-    (s : ℕ) × (t : ℕ) × (e'.seen ≡ e.seen ++ s ∷ t ∷ []) × (t ≢ s) × Grows e e' × Attempted o k e' Again
+    (s : ℕ) × (t : ℕ) × (e'.seen ≡ e.seen ++ s ∷ t ∷ []) × (t ≢ s)
+    × Grows e e' × Attempted o k e' Again × KnowsFloor e'
 
 -- one or more attempts, of which the last answered
 abbrev pub Searched : {K : Type 0} → Order K → K → ReaderKnowledge → ReaderKnowledge → Option Item × ℕ → Type 0
@@ -62,7 +67,8 @@ Searches e e' = (more : List ℕ) × (e'.seen ≡ e.seen ++ more) × Grows e e'
 
 -- the reader has loaded word 0 once more, and knows these updates
 abbrev pub Met : ReaderKnowledge → ReaderKnowledge → List Update → Type 0
-Met e e' all = (s : ℕ) × (e'.seen ≡ e.seen ++ s ∷ []) × (e'.known ≡ all) × Grows e e'
+Met e e' all =
+    (s : ℕ) × (e'.seen ≡ e.seen ++ s ∷ []) × (e'.known ≡ all) × Grows e e' × KnowsFloor e'
 
 abbrev pub new_reader : TableId → Knowledge → ReaderState
 new_reader place v =

@@ -95,7 +95,8 @@ fn a_full_table_is_enlarged(rt: HostRuntime) -> Result<(), Fail> {
     Ok(())
 }
 
-// At its last sequence a table goes on with a wide layout, and then takes no other any more.
+// At its last sequence a table goes on with a wide layout, here of the most nodes that there may be.
+// From then on it takes none with 32-bit sequences.
 #[test]
 fn a_wide_layout(rt: HostRuntime) -> Result<(), Fail> {
     let alloc = rt.alloc();
@@ -103,10 +104,10 @@ fn a_wide_layout(rt: HostRuntime) -> Result<(), Fail> {
     let (mut writer, readers) = open::<HalfOpen>(alloc, Layout::new(2)?, 4294967294, 2)?;
     let spent = carry_out(&mut writer, Update::Insert(first));
     assert_eq!(rt; spent, Err(Refusal::SequenceSpent));
-    let readers = enlarged(&mut writer, alloc, Layout::wide(2)?, readers)?;
+    let readers = enlarged(&mut writer, alloc, Layout::wide(65536)?, readers)?;
     let done = carry_out(&mut writer, Update::Insert(first));
     assert_eq!(rt; done, Ok(2147483648));
-    let mut readers = not_enlarged(&rt, &mut writer, alloc, Layout::new(9)?, readers);
+    let mut readers = not_enlarged(&rt, &mut writer, alloc, Layout::new(65536)?, readers);
     assert_eq!(rt; readers.len(), 2);
     let here = found(&rt, &mut writer, &mut readers, 0x10);
     assert_eq!(rt; here, (Some(first), 2147483648));
