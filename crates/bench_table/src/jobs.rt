@@ -39,6 +39,10 @@ pub enum Job {
         writing: Writing,
         time: Duration,
     },
+    /// For so long, readers that compare each answer with the replay.
+    Soak {
+        time: Duration,
+    },
 }
 
 /// The job that the arguments name, if they name one.
@@ -55,6 +59,9 @@ fn parse(words: &[String]) -> Option<Job> {
         return None;
     };
     match (mode.as_str(), rest) {
+        ("soak", [time]) => Some(Job::Soak {
+            time: seconds(time)?,
+        }),
         (mode, [items, last]) => alone(mode, number(items)?, last),
         (mode, [items, readers, time]) => {
             beside(mode, number(items)?, number(readers)?, seconds(time)?)

@@ -1,19 +1,22 @@
 //! The table for threads at work, for a measure of its lookups and updates.
 //!
-//! The table has a range in each of ITEMS slots, inserted in shuffled order. A lookup is of a random address, half of which lie in a
-//! range; an update erases the range of a random slot or inserts it again.
+//! The table has a range in each of ITEMS slots, inserted in shuffled order. A lookup is of a
+//! random address, half of which lie in a range; an update erases the range of a random slot or
+//! inserts it again.
 //!
 //! ```text
 //! bench_table r ITEMS SECONDS             a reader alone
-//! bench_table d ITEMS SECONDS             the same, where each address depends on the answer before
+//! bench_table d ITEMS SECONDS             the same, each address from the last answer
 //! bench_table w ITEMS SECONDS             the writer alone
-//! bench_table rw ITEMS READERS SECONDS    readers on threads beside a writer that never rests
-//! bench_table rp ITEMS READERS SECONDS    readers on threads beside a writer of 10000 updates a second
+//! bench_table rw ITEMS READERS SECONDS    readers on threads beside a busy writer
+//! bench_table rp ITEMS READERS SECONDS    beside a writer of 10000 updates a second
 //! bench_table c ITEMS COUNT               so many lookups, for a count of instructions
 //! bench_table cw ITEMS COUNT              so many updates, likewise
+//! bench_table soak SECONDS                three readers that compare each answer with the replay
 //! ```
 //!
-//! The first five write lookups a second, updates a second, bytes of memory an item and the share of lookups that found a range.
+//! The first five write lookups a second, updates a second, bytes of memory an item and the share
+//! of lookups that found a range.
 #![tactic(auto)]
 
 mod faults;
@@ -21,12 +24,14 @@ mod jobs;
 mod lookups;
 mod memory;
 mod runs;
+mod soak;
 mod tables;
 mod updates;
 
 use faults::Fault;
 use jobs::{Job, job_of};
 use runs::{count_lookups, count_updates, measure_beside, measure_chain};
+use soak::soak;
 use std::io;
 
 const USAGE: &str =
@@ -46,6 +51,7 @@ fn main(rt: HostRuntime) -> io::Result<()> {
             writing,
             time,
         } => measure_beside(&rt, items, readers, writing, time),
+        Job::Soak { time } => soak(&rt, time),
     };
     match done {
         Ok(()) => Ok(()),

@@ -6,7 +6,8 @@ use std::rt::Files;
 /// The length of a page.
 const PAGE: u64 = 4096;
 
-/// The bytes that the program holds in memory, as the system tells in whole pages; 0 where it does not tell.
+/// The bytes that the program holds in memory, as the system tells in whole pages; 0 where it does
+/// not tell.
 pub fn resident<R: Files + AllocGlobal>(rt: &R) -> u64 {
     let Ok(text) = fs::read_to_string(rt, "/proc/self/statm") else {
         return 0;

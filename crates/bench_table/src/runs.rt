@@ -63,7 +63,8 @@ pub fn count_updates<R: Print + Files + AllocGlobal>(
     Ok(())
 }
 
-/// Writes lookups a second, updates a second, bytes an item, and the share of lookups that found a range.
+/// Writes lookups a second, updates a second, bytes an item, and the share of lookups that found a
+/// range.
 fn report(rt: &impl Print, written: Written, seen: &[Tally], bytes: f64) -> io::Result<()> {
     let mut rate = 0.0;
     let (mut lookups, mut found) = (0.0, 0.0);

@@ -14,7 +14,8 @@ use std::time::{Clock, Duration, Instant};
 /// What the random numbers of the updates begin with.
 const SEED: u64 = 99;
 
-/// How many pairs of updates are made between two looks at the clock, in a large table and in another.
+/// How many pairs of updates are made between two looks at the clock, in a large table and in
+/// another.
 const PAIRS_IF_LARGE: u64 = 4;
 
 const PAIRS: u64 = 64;

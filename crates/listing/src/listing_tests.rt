@@ -75,7 +75,7 @@ fn symbols_are_skipped_by_cause(rt: HostRuntime) -> Result<(), Fail> {
 fn a_catalog_of_two_listings(rt: HostRuntime) -> Result<(), Fail> {
     let (modules, _) = read_modules(rt.alloc(), MODULES)?;
     let (symbols, _) = read_kallsyms(rt.alloc(), SYMBOLS)?;
-    let (catalog, counts) = Catalog::build(rt.alloc(), &modules, &symbols)?;
+    let (catalog, counts) = Catalog::build(rt.alloc(), &modules, symbols)?;
     let expected = BuildCounts {
         modules: 2,
         double: 1,

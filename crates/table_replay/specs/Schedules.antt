@@ -10,7 +10,8 @@ abbrev pub times : ℕ → List Update → List Update
 times zero us = []
 times (suc rounds) us = us ++ times rounds us
 
--- so many updates, where the list is gone through again and again: whole rounds, and the beginning of one more
+-- so many updates, where the list is gone through again and again: whole rounds, and the beginning
+-- of one more
 abbrev pub first_of : ℕ → List Update → List Update
 first_of count us = times (count / length us) us ++ take (count % length us) us
 
@@ -22,8 +23,10 @@ table_after us = replay half_open [] us
 abbrev pub IsRound : List Update → Type 0
 IsRound us = table_after us ≡ []
 
--- these are the tables after none of the updates, after the first, and so on, up to the one before the last update
+-- these are the tables after none of the updates, after the first, and so on, up to the one before
+-- the last update
 abbrev pub AreTables : {T : Type 0} → (T → List Item) → List Update → List T → Type 0
 AreTables items us tables =
     (length tables ≡ length us)
-    × ((k : ℕ) (d : _) → k < length us → items (slice_index_or tables k d) ≡ table_after (take k us))
+    × ((k : ℕ) (d : _) → k < length us
+    → items (slice_index_or tables k d) ≡ table_after (take k us))

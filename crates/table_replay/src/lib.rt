@@ -1,7 +1,7 @@
 //! A table for threads beside the replay of its updates.
 //!
-//! A writer goes through a schedule of updates again and again, and readers on threads of their own compare each answer with the
-//! plain table after as many updates as its generation tells.
+//! A writer goes through a schedule of updates again and again, and readers on threads of their own
+//! compare each answer with the plain table after as many updates as its generation tells.
 #![tactic(auto)]
 
 pub mod observers;

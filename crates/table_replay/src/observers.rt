@@ -14,8 +14,8 @@ pub struct Tally {
     pub answers: u64,
     /// How many attempts did not, since the writer flipped meanwhile.
     pub retries: u64,
-    /// How many answers were not what the key lies in after as many updates as the generation tells, or were of a generation
-    /// below an earlier answer's.
+    /// How many answers were not what the key lies in after as many updates as the generation
+    /// tells, or were of a generation below an earlier answer's.
     pub wrong: u64,
     /// The generation of the last answer.
     pub latest: u64,
@@ -32,8 +32,18 @@ impl Tally {
         }
     }
 
-    /// Counts an answer, of a generation, where this one was expected. None is counted as wrong only
-    /// where each was as expected, and of no generation below the one before.
+    /// Adds what another reader saw.
+    pub fn add(&mut self, other: &Tally)
+        ensures wrong { self.new.wrong ≡ 0 → (self.old.wrong ≡ 0) × (other.now.wrong ≡ 0) }
+    {
+        self.answers = self.answers.saturating_add(other.answers);
+        self.retries = self.retries.saturating_add(other.retries);
+        self.wrong = self.wrong.saturating_add(other.wrong);
+        self.latest = self.latest.max(other.latest);
+    }
+
+    /// Counts an answer, of a generation, where this one was expected. None is counted as wrong
+    /// only where each was as expected, and of no generation below the one before.
     fn count(&mut self, expected: Option<Item>, answer: Option<Item>, generation: u64)
         ensures latest { self.new.latest ≡ generation }
         ensures wrong { self.new.wrong ≡ 0
@@ -61,9 +71,10 @@ pub struct Observer<'a> {
 }
 
 impl Observer<'_> {
-    /// Looks the keys up through this reader.
-    pub fn observe(&self, reader: &mut Reader<HalfOpen>) -> Tally {
-        let mut tally = Tally::new();
+    /// Looks the keys up through this reader, which may have seen something before.
+    pub fn observe(&self, reader: &mut Reader<HalfOpen>, tally: &mut Tally)
+        ensures { tally.new.wrong ≡ 0 → tally.old.wrong ≡ 0 }
+    {
         for (_, key) in (0..self.most).zip(self.keys.iter().cycle()) {
             match reader.try_find(*key) {
                 Try::Answered(answer, generation) => {
@@ -75,11 +86,11 @@ impl Observer<'_> {
                 Try::Retry => tally.retries = tally.retries.saturating_add(1),
             }
         }
-        tally
     }
 
-    /// Looks the keys up through each of these readers, each on a thread of its own, beside a writer that goes through its
-    /// schedule so many times. Answers the generation that the writer comes to, and each reader with what it saw.
+    /// Looks the keys up through each of these readers, each on a thread of its own, beside a
+    /// writer that goes through its schedule so many times. Answers the generation that the writer
+    /// comes to, and each reader with what it saw.
     pub fn watch<R: Threads + Sync>(
         &self,
         rt: &R,
@@ -95,7 +106,8 @@ impl Observer<'_> {
                 rt,
                 readers,
                 &|mut reader: Reader<HalfOpen>| {
-                    let tally = observer.observe(&mut reader);
+                    let mut tally = Tally::new();
+                    observer.observe(&mut reader, &mut tally);
                     (reader, tally)
                 },
             ),

@@ -12,7 +12,8 @@ use order_laws::{HalfOpen, Item, Refusal};
 use std::alloc::{AllocError, Global};
 use std::marker::Model;
 
-/// A list of updates that leads from the empty table back to it, so that it can be made any number of times.
+/// A list of updates that leads from the empty table back to it, so that it can be made any number
+/// of times.
 #[derive(Drop)]
 pub struct Schedule {
     updates: Vec<Update>,
@@ -60,7 +61,8 @@ impl Schedule {
         &self.updates
     }
 
-    /// What a key lies in after so many updates, where the schedule is gone through again and again.
+    /// What a key lies in after so many updates, where the schedule is gone through again and
+    /// again.
     pub fn look(&self, key: u64, generation: u64) -> Option<Item>
         ensures { result ≡ look half_open key (table_after (first_of generation self.now)) }
     {

@@ -13,7 +13,8 @@ use word_arena::Layout;
 /// How often the writer goes through its schedule, of ten updates.
 const ROUNDS: u32 = 100;
 
-/// The reader meets the writer after each update of the schedule, and finds the table of its generation.
+/// The reader meets the writer after each update of the schedule, and finds the table of its
+/// generation.
 fn meet_after_each<R: Abort>(
     rt: &R,
     schedule: &Schedule,

@@ -9,7 +9,8 @@ use std::test::Fail;
 use std::thread::{Threads, join};
 use word_arena::Layout;
 
-/// Two readers on threads of their own look a key up while the writer stands: each answers at its first attempt.
+/// Two readers on threads of their own look a key up while the writer stands: each answers at its
+/// first attempt.
 fn both_find<R: Threads + Abort + Sync>(
     rt: &R,
     one: &mut Reader<HalfOpen>,
@@ -38,7 +39,8 @@ fn all_find<R: Threads + Abort + Sync>(
     }
 }
 
-/// One update by single steps. Before its second flip, everyone finds the table before it, and then the table after it.
+/// One update by single steps. Before its second flip, everyone finds the table before it, and then
+/// the table after it.
 fn step_through<R: Threads + Abort + Sync>(
     rt: &R,
     schedule: &Schedule,

@@ -1,4 +1,4 @@
-use Rattle.std.proofs.Common.{ap, ◌∙◌, sym, arith, length-append, get_or}
+use Rattle.std.proofs.Common.{ap, ◌∙◌, arith, length-append}
 use Rattle.table_replay.proofs.Rounds.{table_more, tables_more}
 use Rattle.order_laws.specs.Orders.{half_open}
 use Rattle.latch_core.specs.Updates.{after}
