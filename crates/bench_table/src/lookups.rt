@@ -3,9 +3,8 @@
 ghost use Rattle.std.specs.Prelude.{◌<◌};
 
 use bench_ranges::Random;
-use latch_table::Reader;
-use order_laws::HalfOpen;
-use std::sync::Wait;
+use latch_table::{Reader, Try};
+use order_laws::{HalfOpen, Item};
 use std::time::Duration;
 
 /// What a reader's lookups came to.
@@ -38,9 +37,19 @@ impl Tally {
     }
 }
 
+/// What an address lies in, by as many attempts as it takes.
+#[inline(always)]
+fn find(reader: &mut Reader<HalfOpen>, address: u64) -> Option<Item> {
+    for _ in 0..u64::MAX {
+        if let Try::Answered(answer, _) = reader.try_find(address) {
+            return answer;
+        }
+    }
+    None
+}
+
 /// Looks so many random addresses of the slots up.
-pub fn look_up<R: Wait>(
-    rt: &R,
+pub fn look_up(
     reader: &mut Reader<HalfOpen>,
     random: &mut Random,
     slots: u32,
@@ -49,21 +58,22 @@ pub fn look_up<R: Wait>(
 )
     requires { 0 < slots }
 {
+    // In locals, since an atomic step makes all else be read from memory again.
+    let mut numbers = Random(random.0);
     let mut found: u64 = 0;
     let mut tags: u64 = 0;
     for _ in 0..count {
-        let (answer, _) = reader.find(rt, random.address(slots));
-        if let Some(item) = answer {
+        if let Some(item) = find(reader, numbers.address(slots)) {
             found = found.wrapping_add(1);
             tags = tags.wrapping_add(item.tag);
         }
     }
+    *random = numbers;
     tally.add(count, found, tags);
 }
 
 /// The same, where each address depends on the answer before.
-pub fn look_up_chain<R: Wait>(
-    rt: &R,
+pub fn look_up_chain(
     reader: &mut Reader<HalfOpen>,
     random: &mut Random,
     slots: u32,
@@ -72,18 +82,20 @@ pub fn look_up_chain<R: Wait>(
 )
     requires { 0 < slots }
 {
-    let mut found: u64 = 0;
+    let mut numbers = Random(random.0);
+    let (mut found, mut tags): (u64, u64) = (0, 0);
     let mut tag: u64 = 0;
     for _ in 0..count {
-        random.0 ^= tag;
-        let (answer, _) = reader.find(rt, random.address(slots));
-        tag = match answer {
+        numbers.0 ^= tag;
+        tag = match find(reader, numbers.address(slots)) {
             Some(item) => {
                 found = found.wrapping_add(1);
                 item.tag
             }
             None => 0,
         };
+        tags = tags.wrapping_add(tag);
     }
-    tally.add(count, found, tag);
+    *random = numbers;
+    tally.add(count, found, tags);
 }

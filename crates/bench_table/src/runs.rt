@@ -14,7 +14,6 @@ use std::alloc::{AllocError, Global};
 use std::io::{self, Print};
 use std::num::nearest_u64_to_f64;
 use std::rt::Files;
-use std::sync::Wait;
 use std::sync::atomic::{AtomicBool, Ordering};
 use std::thread::{Threads, join, map_vec};
 use std::time::{Clock, Duration, Instant};
@@ -32,7 +31,7 @@ const BLOCK: u64 = 256;
 const BLOCK_OF_CHAIN: u64 = 4096;
 
 /// Writes how many of so many lookups found a range, and the sum of the tags.
-pub fn count_lookups<R: Wait + Print + Files + AllocGlobal>(
+pub fn count_lookups<R: Print + Files + AllocGlobal>(
     rt: &R,
     items: u32,
     count: u64,
@@ -40,7 +39,7 @@ pub fn count_lookups<R: Wait + Print + Files + AllocGlobal>(
     let mut table = prepare(rt, items, 1)?;
     let mut tally = Tally::new();
     for reader in &mut table.readers {
-        look_up(rt, reader, &mut Random(SEED), items, count, &mut tally);
+        look_up(reader, &mut Random(SEED), items, count, &mut tally);
     }
     println!(rt; "{} {}", tally.found, tally.tags)?;
     Ok(())
@@ -79,7 +78,7 @@ fn report(rt: &impl Print, written: Written, seen: &[Tally], bytes: f64) -> io::
 }
 
 /// Looks random addresses up for so long, each of which depends on the answer before.
-fn chain<R: Wait + Clock>(
+fn chain<R: Clock>(
     rt: &R,
     reader: &mut Reader<HalfOpen>,
     items: u32,
@@ -91,7 +90,7 @@ fn chain<R: Wait + Clock>(
     let mut random = Random(SEED);
     let start = Instant::now(rt)?;
     for _ in 0..u64::MAX {
-        look_up_chain(rt, reader, &mut random, items, BLOCK_OF_CHAIN, &mut tally);
+        look_up_chain(reader, &mut random, items, BLOCK_OF_CHAIN, &mut tally);
         tally.time = start.elapsed(rt)?;
         if tally.time >= time {
             break;
@@ -101,7 +100,7 @@ fn chain<R: Wait + Clock>(
 }
 
 /// The same through each of these readers.
-fn chains<R: Wait + Clock + AllocGlobal>(
+fn chains<R: Clock + AllocGlobal>(
     rt: &R,
     readers: Vec<Reader<HalfOpen>>,
     items: u32,
@@ -117,7 +116,7 @@ fn chains<R: Wait + Clock + AllocGlobal>(
 }
 
 /// Measures one reader whose addresses depend on its answers.
-pub fn measure_chain<R: Wait + Clock + Print + Files + AllocGlobal>(
+pub fn measure_chain<R: Clock + Print + Files + AllocGlobal>(
     rt: &R,
     items: u32,
     time: Duration,
@@ -130,7 +129,7 @@ pub fn measure_chain<R: Wait + Clock + Print + Files + AllocGlobal>(
 }
 
 /// Looks random addresses up until it is told to stop.
-fn read<R: Wait + Clock>(
+fn read<R: Clock>(
     rt: &R,
     stop: &AtomicBool,
     reader: &mut Reader<HalfOpen>,
@@ -146,7 +145,7 @@ fn read<R: Wait + Clock>(
         if stop.load(Ordering::SeqCst) {
             break;
         }
-        look_up(rt, reader, &mut random, items, BLOCK, &mut tally);
+        look_up(reader, &mut random, items, BLOCK, &mut tally);
     }
     tally.time = start.elapsed(rt)?;
     Ok(tally)
@@ -175,7 +174,7 @@ fn whole(alloc: Global, seen: Vec<io::Result<Tally>>) -> io::Result<Vec<Tally>> 
 }
 
 /// Measures so many readers, each on a thread of its own, beside the writer.
-pub fn measure_beside<R: Threads + Wait + Clock + Print + Files + AllocGlobal + Sync>(
+pub fn measure_beside<R: Threads + Clock + Print + Files + AllocGlobal + Sync>(
     rt: &R,
     items: u32,
     readers: u32,

@@ -63,11 +63,12 @@ impl<O: TreeOrder> Writer<O> {
     fn step(&mut self) -> Option<Did>
         ensures { Steps self.old self.new result }
     {
-        let store = self.core.next()?;
+        // The core goes on before the store, since nothing it keeps is read again after an atomic step
+        // but from memory.
+        let store = self.core.step()?;
         self.table
             .shared
             .store::<StoreWord>(&mut self.seat, store.word, store.value);
-        self.core.did();
         Some(if store.word == 0 {
             Did::Flip
         } else {

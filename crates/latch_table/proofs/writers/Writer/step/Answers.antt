@@ -1,4 +1,6 @@
 use Rattle.std.proofs.Common.{rules, ◌≡◌, Some, sym, subst}
+use Rattle.std.specs.Arc.{arc_value}
+use Rattle.word_arena.specs.Words.{words_for}
 use Rattle.atomic_table.specs.Table.{Me}
 use Rattle.atomic_table.specs.Seated.{TableId}
 use Rattle.latch_core.specs.WriterViews.{WriterView}
@@ -14,8 +16,18 @@ store-requires g c =
     let s = c.in_ok-store.store in
     (search rules, search rules, allows_next g.O.TreeOrder.order w.seat.table_id w.readers w.seat.me w.core c.self.invariant.2 s (sym c.in_ok-store.ensures.which) _ _ _ _)
 
+-- at the end of the update nothing has changed
 pub invariant_of-self : goal.invariant_of-self
 invariant_of-self g c =
+    let w = c.self.inside in
+    subst
+    (λ (core : WriterView).
+    (w.seat.table_id ≡ (arc_value w.table).shared.table_id) × (w.seat.table_id.words ≡ words_for core.capacity)
+    × IsTied g.O.TreeOrder.order w.seat.me core (writer_state w.seat.table_id w.readers w.seat.me.0 core)) (sym c.in_err-store.ensures.none)
+    c.self.invariant
+
+pub invariant_of-self-2 : goal.invariant_of-self-2
+invariant_of-self-2 g c =
     let w = c.self.inside in
     let s = c.in_ok-store.store in
     let next = sym c.in_ok-store.ensures.which in
@@ -23,7 +35,7 @@ invariant_of-self g c =
       search rules,
       search rules,
       subst (λ (z : TableId × Me (Unit {0}) Knowledge × WriterView). IsTied g.O.TreeOrder.order z.1 z.2 (writer_state z.0 w.readers z.1.0 z.2))
-          (λ i. (sym c.store.ensures.0 i, sym c.store.ensures.2 i, sym (c.did.ensures.stepped s next) i)) tied,
+          (λ i. (sym c.store.ensures.0 i, sym c.store.ensures.2 i, sym (c.in_ok-store.ensures.stepped) i)) tied,
     )
 
 pub returns : goal.returns
@@ -37,4 +49,4 @@ returns g c =
     ] in
     let steps = steps_next g.O.TreeOrder.order w.seat.table_id w.readers w.seat.me w.core c.self.invariant.2 s next c.if-store-eq0.result did in
     subst (λ (z : WriterState × WriterState). Steps z.0 z.1 (Some c.if-store-eq0.result))
-    (λ i. (c.self.view_is i, writer_state (sym c.store.ensures.0 i) w.readers (sym c.store.ensures.2 i).0 (sym (c.did.ensures.stepped s next) i))) steps
+    (λ i. (c.self.view_is i, writer_state (sym c.store.ensures.0 i) w.readers (sym c.store.ensures.2 i).0 (sym (c.in_ok-store.ensures.stepped) i))) steps
