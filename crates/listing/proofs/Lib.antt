@@ -11,3 +11,4 @@ pub mod Reading
 pub mod Digits
 pub mod Understood
 pub mod RegionLines
+pub mod Tabs
