@@ -12,3 +12,4 @@ pub mod Digits
 pub mod Understood
 pub mod RegionLines
 pub mod ScriptLines
+pub mod Tabs

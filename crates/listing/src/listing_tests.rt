@@ -118,7 +118,7 @@ fn the_longest_lines(rt: HostRuntime) -> Result<(), Fail> {
                 ..NO_MODULES_SKIPPED
             }
         );
-        assert_eq!(rt; modules.len() as u64 + long, 1);
+        assert_eq!(rt; modules.len(), usize::from(long == 0));
         let text = line_of(alloc, b"1 t ", length)?;
         let (symbols, counts) = read_kallsyms(alloc, &text)?;
         assert_eq!(rt;
@@ -128,7 +128,7 @@ fn the_longest_lines(rt: HostRuntime) -> Result<(), Fail> {
                 ..NO_SYMBOLS_SKIPPED
             }
         );
-        assert_eq!(rt; symbols.len() as u64 + long, 1);
+        assert_eq!(rt; symbols.len(), usize::from(long == 0));
     }
     Ok(())
 }

@@ -9,14 +9,15 @@
 //! ```
 //!
 //! The parts have exactly one blank between them, and names any bytes but a tab.
-ghost use Rattle.std.specs.Prelude.{◌≡◌, ◌+◌, ◌<◌, ◌^◌, Err, IfOk};
+ghost use Rattle.std.specs.Prelude.{◌≡◌, ◌+◌, ◌<◌, ◌^◌, ◌∷◌, Err, IfOk, length, unwrap_or};
+ghost use Rattle.memchr.specs.Find.{IsFirst, IsFirstByte, Passes, is_byte};
 ghost use Rattle.std.specs.Option.{option_copied, option_map};
 ghost use Rattle.listing.specs.Lines.{lines_of};
 ghost use Rattle.listing.specs.SymbolListing.{address_in, bracketed, counts_after, cut_at, symbol_before, symbol_counts, symbol_named, symbol_of, symbols_in, symbols_skipped};
 
-use crate::lines::{LONGEST_LINE, cut_line};
+use crate::lines::LONGEST_LINE;
 use crate::numbers::{hexadecimal, sixteen_digits};
-use memchr::memchr;
+use memchr::{memchr, memchr2};
 use modules::{SymbolLine, SymbolLines};
 use std::alloc::{AllocError, Global};
 
@@ -52,6 +53,40 @@ impl SymbolCounts {
             SkippedSymbol::Malformed => self.malformed += 1,
             SkippedSymbol::Hidden => self.hidden += 1,
         }
+    }
+}
+
+/// Where the first line has its first tab, and where it ends, each if it does. Both are sought at
+/// once, since a search pays off in a long text, and most lines have no tab.
+#[inline(always)]
+fn tab_and_end(bytes: &[u8]) -> (Option<usize>, Option<usize>)
+    ensures tab { IsFirst (Passes (is_byte 9) bytes.now) 0 (unwrap_or result.1 (length bytes.now)) result.0 }
+    ensures end { IsFirstByte (is_byte 10) bytes.now result.1 }
+{
+    let Some(place) = memchr2(b'\n', b'\t', bytes) else {
+        return (None, None);
+    };
+    if bytes[place] == b'\n' {
+        return (None, Some(place));
+    }
+    match memchr(b'\n', &bytes[place + 1..]) {
+        Some(more) => (Some(place), Some(place + 1 + more)),
+        None => (Some(place), None),
+    }
+}
+
+/// Cuts off the first line of the bytes. The place is that of the line's first tab, if it has one.
+#[inline(always)]
+fn cut_tabbed_line(bytes: &[u8]) -> (&[u8], Option<usize>, &[u8])
+    requires { 0 < length bytes.now }
+    ensures line { lines_of bytes.now ≡ result.0.now ∷ lines_of result.2.now }
+    ensures tab { IsFirstByte (is_byte 9) result.0.now result.1 }
+    ensures shorter { length result.2.now < length bytes.now }
+{
+    let (tab, end) = tab_and_end(bytes);
+    match end {
+        Some(end) => (&bytes[..end], tab, &bytes[end + 1..]),
+        None => (bytes, tab, &[]),
     }
 }
 
@@ -113,26 +148,29 @@ fn named_symbol<'a>(text: &'a [u8], owner: Option<&'a [u8]>) -> Option<SymbolLin
     }
 }
 
-/// The symbol that a line is, if it is of the form.
+/// The symbol that a line is whose first tab stands at this place, if it is of the form.
 #[inline(always)]
-fn symbol_in_form<'a>(line: &'a [u8]) -> Option<SymbolLine<'a>>
+fn symbol_in_form<'a>(line: &'a [u8], tab: Option<usize>) -> Option<SymbolLine<'a>>
+    requires { IsFirstByte (is_byte 9) line.now tab }
     ensures { result ≡ symbol_before (cut_at 9 line.now) line.now }
 {
-    match cut(line, b'\t') {
+    match tab {
         None => named_symbol(line, None),
-        Some((text, owner)) => named_symbol(text, Some(name_in_brackets(owner)?)),
+        Some(tab) => named_symbol(&line[..tab], Some(name_in_brackets(&line[tab + 1..])?)),
     }
 }
 
-/// The symbol that a line is, or the first cause for which it is skipped.
+/// The symbol that a line is whose first tab stands at this place, or the first cause for which it
+/// is skipped.
 #[inline(always)]
-fn symbol_in<'a>(line: &'a [u8]) -> Result<SymbolLine<'a>, SkippedSymbol>
+fn symbol_in<'a>(line: &'a [u8], tab: Option<usize>) -> Result<SymbolLine<'a>, SkippedSymbol>
+    requires { IsFirstByte (is_byte 9) line.now tab }
     ensures { result ≡ symbol_of line.now }
 {
     if line.len() > LONGEST_LINE {
         return Err(SkippedSymbol::Long);
     }
-    let Some(symbol) = symbol_in_form(line) else {
+    let Some(symbol) = symbol_in_form(line, tab) else {
         return Err(SkippedSymbol::Malformed);
     };
     if symbol.addr == 0 {
@@ -163,8 +201,8 @@ pub fn read_kallsyms<'a>(
     };
     let mut rest = text;
     while !rest.is_empty() {
-        let (line, after) = cut_line(rest);
-        match symbol_in(line) {
+        let (line, tab, after) = cut_tabbed_line(rest);
+        match symbol_in(line, tab) {
             Ok(symbol) => symbols.push(symbol)?,
             Err(cause) => counts.count(cause),
         }
