@@ -40,6 +40,18 @@ fn an_update_by_its_stops(rt: HostRuntime) -> Result<(), Fail> {
     Ok(())
 }
 
+// An update that is left stays in hand, and the writer goes on with it.
+#[test]
+fn an_update_that_is_left(rt: HostRuntime) -> Result<(), Fail> {
+    let (mut writer, _readers) = open::<HalfOpen>(rt.alloc(), Layout::new(4)?, 0, 1)?;
+    let first = item(0x1000, 0x2000, 7);
+    writer.begin(Update::Insert(first))?.leave();
+    assert_eq!(rt; writer.find(0x1000), (None, 0));
+    while let Some(_) = writer.step() {}
+    assert_eq!(rt; writer.find(0x1000), (Some(first), 1));
+    Ok(())
+}
+
 // Why an update or an opening is refused, with the writer as it was.
 #[test]
 fn refusals(rt: HostRuntime) -> Result<(), Fail> {

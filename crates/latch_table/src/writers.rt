@@ -36,7 +36,8 @@ impl<O: TreeOrder> Model for Writer<O> {
         × IsTied O.order w.seat.me w.core (writer_state w.seat.table_id w.readers w.seat.me.0 w.core) };
 }
 
-/// An update in hand. It cannot be dropped: [`finish`](InHand::finish) brings it to its end.
+/// An update in hand. It cannot be dropped: [`finish`](InHand::finish) brings it to its end, and
+/// [`leave`](InHand::leave) lets the writer keep it in hand.
 pub struct InHand<'a, O: TreeOrder> {
     pub(crate) writer: &'a mut Writer<O>,
 }

@@ -59,8 +59,8 @@ impl<O: TreeOrder> Writer<O> {
         self.readers
     }
 
-    /// One step of the update in hand.
-    fn step(&mut self) -> Option<Did>
+    /// Makes one step of the update in hand; none where it is at its end, or none is in hand.
+    pub fn step(&mut self) -> Option<Did>
         ensures { Steps self.old self.new result }
     {
         // The core goes on before the store, since nothing it keeps is read again after an atomic step
@@ -74,6 +74,15 @@ impl<O: TreeOrder> Writer<O> {
         } else {
             Did::Store
         })
+    }
+
+    /// Makes the steps that are left of the update in hand, if there is one, and answers the new
+    /// generation.
+    pub fn finish(&mut self) -> u64
+        ensures { Finishes self.old self.new result }
+    {
+        while let Some(_) = self.step() {}
+        self.generation()
     }
 }
 
@@ -94,12 +103,18 @@ impl<O: TreeOrder> InHand<'_, O> {
         writer.core.remaining()
     }
 
+    /// Leaves the update in hand, for [`Writer::step`] to go on with.
+    pub fn leave(self)
+        ensures { self.exit.0.now ≡ self.entry.writer.now }
+    {
+        let InHand { writer: _writer } = self;
+    }
+
     /// Makes the steps that are left, and answers the new generation.
     pub fn finish(self) -> u64
         ensures { Finishes self.entry.writer.now self.exit.0.now result }
     {
         let InHand { writer } = self;
-        while let Some(_) = writer.step() {}
-        writer.generation()
+        writer.finish()
     }
 }

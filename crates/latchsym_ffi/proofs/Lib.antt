@@ -1,0 +1,2 @@
+-- the machine values of the handles
+pub mod CatalogHandleValues

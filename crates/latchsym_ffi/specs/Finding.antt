@@ -1,0 +1,57 @@
+-- What is known of an address, and what is told of it.
+use Rattle.std.specs.Prelude.{◌≡◌, ℕ, List, [], ◌++◌, length, take, drop, Option, Some, None}
+use Rattle.std.specs.Option.{option_map, option_map_or}
+use Rattle.order_laws.specs.declared.items.Item.{Item}
+use Rattle.modules.specs.Catalogs.{module_of}
+use Rattle.modules.specs.Entries.{CatalogEntries}
+use Rattle.symbols.specs.Found.{Found, seen, symbol_at}
+use Rattle.region_index.specs.Items.{item_at}
+use Rattle.latchsym_ffi.specs.declared.finding.CatalogAnswer.{CatalogAnswer}
+use Rattle.latchsym_ffi.specs.declared.finding.Seen.{Seen}
+use Rattle.latchsym_ffi.specs.declared.finding.Told.{Told}
+
+-- the item of the region that an address lies in, if any, and the symbol that it belongs to there, if any
+abbrev pub Known : Type 0
+Known = Option (Item × Option Found)
+
+abbrev pub known_at : CatalogEntries → ℕ → Known
+known_at c addr = option_map (λ i. (i, symbol_at c i addr)) (item_at c addr)
+
+abbrev pub shown_seen : Seen → Item × Option Found
+shown_seen s = (s.item, option_map seen s.found)
+
+-- the number that is answered
+abbrev pub known_code : Known → ℕ
+known_code None = 2
+known_code (Some (i, None)) = 1
+known_code (Some (i, Some f)) = 0
+
+-- the name of the module of a number
+abbrev pub module_name : CatalogEntries → ℕ → List ℕ
+module_name c number = option_map_or (λ m. m.name) (module_of c number) []
+
+abbrev pub symbol_named : Known → List ℕ
+symbol_named None = []
+symbol_named (Some (i, None)) = []
+symbol_named (Some (i, Some f)) = f.symbol.name
+
+abbrev pub owner_named : CatalogEntries → Known → List ℕ
+owner_named c None = []
+owner_named c (Some (i, f)) = module_name c i.tag
+
+-- the numbers that are answered
+abbrev pub answer_of : CatalogEntries → Known → CatalogAnswer
+answer_of c None = record { module_number = 0; offset = 0; size = 0; name_len = 0; module_len = 0 }
+answer_of c (Some (i, None)) = record { module_number = i.tag; offset = 0; size = 0; name_len = 0; module_len = length (module_name c i.tag) }
+answer_of c (Some (i, Some f)) = record { module_number = i.tag; offset = f.offset; size = f.size; name_len = length f.symbol.name; module_len = length (module_name c i.tag) }
+
+-- what is told of what is known
+pub record Tells (c : CatalogEntries) (k : Known) (t : Told) : Type 0 where
+  pub code : t.code ≡ known_code k
+  pub answer : t.answer ≡ answer_of c k
+  pub symbol : t.symbol.now ≡ symbol_named k
+  pub owner : t.owner.now ≡ owner_named c k
+
+-- a room that begins with as many bytes of a name as it has, and else is as it was
+abbrev pub copied : List ℕ → List ℕ → List ℕ
+copied name room = take (length room) name ++ drop (length name) room

@@ -1,0 +1,9 @@
+-- The definitions of this crate, in the order in which to read them.
+-- what a handle owns
+pub mod Owning
+-- what the bytes of the listings say
+pub mod Opening
+-- what is known of an address, and what is told of it
+pub mod Finding
+-- what the calls on catalogs answer
+pub mod Catalogs

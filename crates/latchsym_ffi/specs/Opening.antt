@@ -1,0 +1,92 @@
+-- What the bytes of the listings say.
+use Rattle.std.specs.Prelude.{◌≡◌, ℕ, List, [], true, false, Option, Some, None, Result, Ok, Err}
+use Rattle.std.specs.Global.{Vec}
+use Rattle.std.specs.Option.{option_copied}
+use Rattle.order_laws.specs.declared.refusals.Refusal.TheVariants as refusal
+use Rattle.listing.specs.declared.module_listing.ModuleCounts.{ModuleCounts}
+use Rattle.listing.specs.declared.symbol_listing.SymbolCounts.{SymbolCounts}
+use Rattle.listing.specs.Lines.{lines_of}
+use Rattle.listing.specs.ModuleListing.{module_counts, modules_in}
+use Rattle.listing.specs.RegionListing.{regions_of as listed_regions}
+use Rattle.listing.specs.SymbolListing.{symbol_counts, symbols_in}
+use Rattle.modules.specs.Catalogs.{catalog_of, counts_of}
+use Rattle.modules.specs.Entries.{CatalogEntries}
+use Rattle.modules.specs.Lines.{usual_bounds}
+use Rattle.modules.specs.Listed.{ListedRegion}
+use Rattle.modules.specs.Placed.{are_few}
+use Rattle.modules.specs.declared.catalog.BuildCounts.{BuildCounts}
+use Rattle.latchsym_ffi.specs.declared.opening.CatalogCounts.{CatalogCounts}
+use Rattle.latchsym_ffi.specs.declared.opening.CatalogFault.{CatalogFault}
+use Rattle.latchsym_ffi.specs.declared.opening.CatalogFault.TheVariants.{BadLine, Refused}
+use Rattle.latchsym_ffi.specs.declared.opening.CatalogTexts.{CatalogTexts}
+
+-- the bytes of the listings, of which that of regions may be missing
+pub record Texts : Type 0 where
+  pub modules : List ℕ
+  pub kallsyms : List ℕ
+  pub regions : Option (List ℕ)
+
+abbrev pub shown_texts : CatalogTexts → Texts
+shown_texts t = record { modules = t.modules.now; kallsyms = t.kallsyms.now; regions = option_copied t.regions }
+
+-- the region lines of a listing that may be there, or the number of its first bad line
+abbrev pub region_lines : Option (List ℕ) → Result (List ListedRegion) ℕ
+region_lines None = Ok []
+region_lines (Some text) = listed_regions text
+
+-- the counts of the skipped lines of both listings, and those of the build
+abbrev pub counts_in : ModuleCounts → SymbolCounts → BuildCounts → CatalogCounts
+counts_in m s b = record {
+  modules = b.modules;
+  modules_hidden = m.hidden;
+  modules_empty = m.empty;
+  modules_wraps = m.wraps;
+  modules_overlap = b.overlap;
+  modules_double = b.double;
+  modules_long = m.long;
+  modules_malformed = m.malformed;
+  symbols = b.symbols;
+  symbols_hidden = s.hidden;
+  symbols_stray = b.stray;
+  symbols_long = s.long;
+  symbols_malformed = s.malformed;
+  regions = b.regions;
+  regions_stray = b.stray_regions;
+}
+
+-- the catalog of the listings and of region lines
+abbrev pub catalog_in : Texts → List ListedRegion → CatalogEntries
+catalog_in t lines = catalog_of usual_bounds (modules_in (lines_of t.modules)) lines (symbols_in (lines_of t.kallsyms))
+
+abbrev pub build_counts_in : Texts → List ListedRegion → BuildCounts
+build_counts_in t lines = counts_of usual_bounds (modules_in (lines_of t.modules)) lines (symbols_in (lines_of t.kallsyms))
+
+-- the catalog and the counts are those of the texts with these region lines
+pub record IsOpened (t : Texts) (lines : List ListedRegion) (c : CatalogEntries) (n : CatalogCounts) : Type 0 where
+  pub catalog : c ≡ catalog_in t lines
+  pub counts : n ≡ counts_in (module_counts (lines_of t.modules)) (symbol_counts (lines_of t.kallsyms)) (build_counts_in t lines)
+
+-- the same with the region lines that the texts have, of which no more than seven have one name
+pub record AreRead (t : Texts) (c : CatalogEntries) (n : CatalogCounts) : Type 0 where
+  pub lines : List ListedRegion
+  pub read : region_lines t.regions ≡ Ok lines
+  pub few : are_few lines ≡ true
+  pub opened : IsOpened t lines c n
+
+-- the region lines, or why they are not there
+abbrev pub GivesRegions : Option (List ℕ) → Result (Vec ListedRegion) CatalogFault → Type 0
+GivesRegions text (Ok lines) = region_lines text ≡ Ok lines.items
+GivesRegions text (Err (Refused refusal.OutOfMemory)) = Unit {0}
+GivesRegions text (Err (BadLine n)) = region_lines text ≡ Err n
+GivesRegions text (Err _) = ⊥
+
+-- more than seven region lines have one name
+abbrev pub HasTooManyOfOne : Texts → Type 0
+HasTooManyOfOne t = (lines : List ListedRegion) × (region_lines t.regions ≡ Ok lines) × (are_few lines ≡ false)
+
+-- why the texts are refused
+abbrev pub RefusesTexts : Texts → CatalogFault → Type 0
+RefusesTexts t (Refused refusal.OutOfMemory) = Unit {0}
+RefusesTexts t (Refused refusal.TooManyRegions) = HasTooManyOfOne t
+RefusesTexts t (BadLine n) = region_lines t.regions ≡ Err n
+RefusesTexts t _ = ⊥

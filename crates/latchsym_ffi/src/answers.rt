@@ -1,0 +1,10 @@
+//! The numbers that calls answer, but those of refusals.
+
+/// The call did what it was asked for, or a symbol or an item was found.
+pub(crate) const DONE: u32 = 0;
+
+/// A listing has a line that is not in its grammar.
+pub(crate) const BAD_LINE: u32 = 15;
+
+/// The slot is closed, or is open where a closed one is wanted.
+pub(crate) const NOT_SO: u32 = 101;

@@ -1,0 +1,138 @@
+//! What is known of an address.
+
+ghost use Rattle.std.specs.Prelude.{◌≡◌};
+ghost use Rattle.std.specs.Option.{option_map};
+ghost use Rattle.latchsym_ffi.specs.Finding.{Tells, answer_of, copied, known_at, known_code, module_name, owner_named, shown_seen, symbol_named};
+
+use modules::{Catalog, Symbol};
+use order_laws::Item;
+use region_index::IndexedCatalog;
+use symbols::symbol_of;
+
+/// What is told of an address.
+#[repr(C)]
+#[derive(Clone, Copy, Drop)]
+pub struct CatalogAnswer {
+    /// The number of the module: 0 is the kernel itself.
+    pub module_number: u64,
+    /// How many bytes the address lies above the symbol.
+    pub offset: u64,
+    /// How many bytes the symbol reaches.
+    pub size: u64,
+    /// How many bytes the symbol's name has.
+    pub name_len: usize,
+    /// How many bytes the module's name has.
+    pub module_len: usize,
+}
+
+/// A symbol was found.
+pub(crate) const FOUND: u32 = 0;
+
+/// The address lies in a region, and no symbol of it is at or below the address.
+pub(crate) const NO_SYMBOL: u32 = 1;
+
+/// The address lies in no region.
+pub(crate) const NOTHING: u32 = 2;
+
+/// The region that an address lies in, and the symbol with the offset and the size, if there is one.
+#[derive(Drop)]
+struct Seen<'c> {
+    item: Item,
+    found: Option<(&'c Symbol<'static>, u64, u64)>,
+}
+
+/// What is told of an address, with the names.
+#[derive(Drop)]
+struct Told {
+    code: u32,
+    answer: CatalogAnswer,
+    symbol: &'static [u8],
+    owner: &'static [u8],
+}
+
+/// Copies as many bytes as there is room for.
+fn copy_name(room: &mut [u8], name: &[u8])
+    ensures { room.new ≡ copied name.now room.old }
+{
+    let count = room.len().min(name.len());
+    room[..count].copy_from_slice(&name[..count]);
+}
+
+/// The name of the module of a number, which is empty where there is none.
+fn name_of<'a>(catalog: &Catalog<'a>, number: u64) -> &'a [u8]
+    ensures { result.now ≡ module_name catalog.now number }
+{
+    match catalog.module(number) {
+        Some(module) => module.name(),
+        None => &[],
+    }
+}
+
+/// The region that the address lies in, and the symbol, the offset and the size where there is one.
+fn seek<'c>(catalog: &'c IndexedCatalog<'static>, addr: u64) -> Option<Seen<'c>>
+    ensures { option_map shown_seen result ≡ known_at catalog.now addr }
+{
+    let item = catalog.find(addr)?;
+    Some(Seen {
+        item,
+        found: symbol_of(catalog.catalog(), item, addr),
+    })
+}
+
+/// What is told of an address.
+fn told_of(catalog: &IndexedCatalog<'static>, addr: u64) -> Told
+    ensures { Tells catalog.now (known_at catalog.now addr) result }
+{
+    let Some(Seen { item, found }) = seek(catalog, addr) else {
+        return Told {
+            code: NOTHING,
+            answer: CatalogAnswer {
+                module_number: 0,
+                offset: 0,
+                size: 0,
+                name_len: 0,
+                module_len: 0,
+            },
+            symbol: &[],
+            owner: &[],
+        };
+    };
+    let owner = name_of(catalog.catalog(), item.tag);
+    let (code, symbol, offset, size) = match found {
+        Some((symbol, offset, size)) => (FOUND, symbol.name, offset, size),
+        None => (NO_SYMBOL, b"".as_slice(), 0, 0),
+    };
+    Told {
+        code,
+        answer: CatalogAnswer {
+            module_number: item.tag,
+            offset,
+            size,
+            name_len: symbol.len(),
+            module_len: owner.len(),
+        },
+        symbol,
+        owner,
+    }
+}
+
+/// Tells of an address: FOUND with a symbol, NO_SYMBOL where no symbol of its region is at or below
+/// it, and NOTHING, with all numbers 0, where it lies in no region.
+pub(crate) fn find(
+    catalog: &IndexedCatalog<'static>,
+    addr: u64,
+    out: &mut CatalogAnswer,
+    name: &mut [u8],
+    owner: &mut [u8],
+) -> u32
+    ensures code { result ≡ known_code (known_at catalog.now addr) }
+    ensures answer { out.new ≡ answer_of catalog.now (known_at catalog.now addr) }
+    ensures name { name.new ≡ copied (symbol_named (known_at catalog.now addr)) name.old }
+    ensures owner { owner.new ≡ copied (owner_named catalog.now (known_at catalog.now addr)) owner.old }
+{
+    let told = told_of(catalog, addr);
+    *out = told.answer;
+    copy_name(name, told.symbol);
+    copy_name(owner, told.owner);
+    told.code
+}

@@ -1,0 +1,54 @@
+//! A catalog that handles share.
+
+ghost use Rattle.std.specs.Prelude.{◌≡◌, IfOk};
+
+use region_index::IndexedCatalog;
+use std::alloc::{AllocError, Global};
+use std::marker::Model;
+use std::sync::Arc;
+
+/// A catalog of listings whose bytes C keeps until its last handle is closed.
+#[derive(Drop)]
+pub struct OpenCatalog {
+    shared: Arc<IndexedCatalog<'static>, Global>,
+}
+
+impl Model for OpenCatalog {
+    ghost use Rattle.std.specs.Arc.{arc_value};
+    ghost use Rattle.modules.specs.Entries.{CatalogEntries};
+
+    ghost Value = { CatalogEntries };
+
+    ghost view = { λ c. arc_value c.shared };
+}
+
+impl OpenCatalog {
+    /// Puts a catalog where handles can share it.
+    pub(crate) fn new(
+        alloc: Global,
+        catalog: IndexedCatalog<'static>,
+    ) -> Result<OpenCatalog, AllocError>
+        ensures { IfOk result (λ c. c ≡ catalog.entry) }
+    {
+        Ok(OpenCatalog {
+            shared: Arc::new(alloc, catalog)?,
+        })
+    }
+
+    /// The same catalog once more, in a box.
+    pub(crate) fn share_in(&self, alloc: Global) -> Result<Box<OpenCatalog, Global>, AllocError>
+        ensures { IfOk result (λ b. b.value ≡ self.now) }
+    {
+        let shared = OpenCatalog {
+            shared: Arc::try_clone(&self.shared)?,
+        };
+        Ok(Box::new(alloc, shared)?)
+    }
+
+    /// The catalog with its index.
+    pub(crate) fn indexed(&self) -> &IndexedCatalog<'static>
+        ensures { result.now ≡ self.now }
+    {
+        &self.shared
+    }
+}

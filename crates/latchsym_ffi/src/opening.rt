@@ -1,0 +1,178 @@
+//! From the bytes of the listings to a catalog.
+
+ghost use Rattle.std.specs.Prelude.{◌≡◌, true, All, IfOk, IfErr};
+ghost use Rattle.std.specs.Option.{option_copied};
+ghost use Rattle.modules.specs.Catalogs.{IsBuildRefusal};
+ghost use Rattle.modules.specs.Lines.{region_fits};
+ghost use Rattle.modules.specs.Placed.{are_few};
+ghost use Rattle.latchsym_ffi.specs.Opening.{AreRead, GivesRegions, IsOpened, RefusesTexts, counts_in, shown_texts};
+
+use crate::open_catalogs::OpenCatalog;
+use listing::{LineFault, ModuleCounts, SymbolCounts, read_kallsyms, read_modules, read_regions};
+use modules::{BuildCounts, Catalog, KernelBounds, RegionLine};
+use order_laws::Refusal;
+use region_index::IndexedCatalog;
+use std::alloc::{AllocError, AllocFailed, Global};
+
+/// How many lines of each listing went where: the accepted ones, and the others by the cause for
+/// which they were skipped, as `latchsym lookup` prints them.
+#[repr(C)]
+#[derive(Clone, Copy, Drop)]
+pub struct CatalogCounts {
+    pub modules: u64,
+    pub modules_hidden: u64,
+    pub modules_empty: u64,
+    pub modules_wraps: u64,
+    pub modules_overlap: u64,
+    pub modules_double: u64,
+    pub modules_long: u64,
+    pub modules_malformed: u64,
+    pub symbols: u64,
+    pub symbols_hidden: u64,
+    pub symbols_stray: u64,
+    pub symbols_long: u64,
+    pub symbols_malformed: u64,
+    pub regions: u64,
+    pub regions_stray: u64,
+}
+
+/// The bytes of the listings, that of regions only where it is given.
+#[derive(Drop)]
+pub struct CatalogTexts {
+    pub modules: &'static [u8],
+    pub kallsyms: &'static [u8],
+    pub regions: Option<&'static [u8]>,
+}
+
+/// Why no catalog was opened.
+#[derive(Drop)]
+pub enum CatalogFault {
+    /// A refusal of the build.
+    Refused(Refusal),
+    /// The number of the first line of the listing of regions that is not one.
+    BadLine(u64),
+}
+
+impl From<Refusal> for CatalogFault {
+    ghost use Rattle.latchsym_ffi.specs.declared.opening.CatalogFault.TheVariants.{Refused};
+
+    ghost from_gives = { λ refusal fault. fault ≡ Refused refusal };
+
+    fn from(refusal: Refusal) -> CatalogFault {
+        CatalogFault::Refused(refusal)
+    }
+}
+
+impl<T: Drop> From<AllocFailed<T>> for CatalogFault {
+    ghost use Rattle.order_laws.specs.declared.refusals.Refusal.TheVariants.{OutOfMemory};
+    ghost use Rattle.latchsym_ffi.specs.declared.opening.CatalogFault.TheVariants.{Refused};
+
+    ghost from_gives = { λ _ fault. fault ≡ Refused OutOfMemory };
+
+    fn from(_failed: AllocFailed<T>) -> CatalogFault {
+        CatalogFault::Refused(Refusal::OutOfMemory)
+    }
+}
+
+impl From<AllocError> for CatalogFault {
+    ghost use Rattle.order_laws.specs.declared.refusals.Refusal.TheVariants.{OutOfMemory};
+    ghost use Rattle.latchsym_ffi.specs.declared.opening.CatalogFault.TheVariants.{Refused};
+
+    ghost from_gives = { λ _ fault. fault ≡ Refused OutOfMemory };
+
+    fn from(_error: AllocError) -> CatalogFault {
+        CatalogFault::Refused(Refusal::OutOfMemory)
+    }
+}
+
+/// The lines of the listing of regions, of which there are none where it is not given.
+fn region_lines(
+    alloc: Global,
+    text: Option<&'static [u8]>,
+) -> Result<Vec<RegionLine<'static>>, CatalogFault>
+    ensures lines { GivesRegions (option_copied text.entry) result }
+    ensures fit { IfOk result (λ v. All (λ r. region_fits r ≡ true) v.items) }
+{
+    let Some(text) = text else {
+        return Ok(Vec::new(alloc));
+    };
+    match read_regions(alloc, text) {
+        Ok(lines) => Ok(lines),
+        Err(LineFault::BadLine(number)) => Err(CatalogFault::BadLine(number)),
+        Err(_) => Err(CatalogFault::Refused(Refusal::OutOfMemory)),
+    }
+}
+
+/// The counts as C has them.
+fn counts_of(modules: &ModuleCounts, symbols: &SymbolCounts, built: &BuildCounts) -> CatalogCounts
+    ensures { result ≡ counts_in modules.now symbols.now built.now }
+{
+    CatalogCounts {
+        modules: built.modules,
+        modules_hidden: modules.hidden,
+        modules_empty: modules.empty,
+        modules_wraps: modules.wraps,
+        modules_overlap: built.overlap,
+        modules_double: built.double,
+        modules_long: modules.long,
+        modules_malformed: modules.malformed,
+        symbols: built.symbols,
+        symbols_hidden: symbols.hidden,
+        symbols_stray: built.stray,
+        symbols_long: symbols.long,
+        symbols_malformed: symbols.malformed,
+        regions: built.regions,
+        regions_stray: built.stray_regions,
+    }
+}
+
+/// Reads the listings of modules and of symbols, and builds the catalog of them and of these region
+/// lines.
+fn catalog_between(
+    alloc: Global,
+    texts: &CatalogTexts,
+    regions: &[RegionLine<'static>],
+) -> Result<(IndexedCatalog<'static>, CatalogCounts), Refusal>
+    requires { All (λ r. region_fits r ≡ true) regions.now }
+    ensures opened { IfOk result (λ r. IsOpened (shown_texts texts.now) regions.now r.0 r.1) }
+    ensures few { IfOk result (λ _. are_few regions.now ≡ true) }
+    ensures refusal { IfErr result (IsBuildRefusal regions.now) }
+{
+    let (module_lines, skipped_modules) = read_modules(alloc, texts.modules)?;
+    let (symbol_lines, skipped_symbols) = read_kallsyms(alloc, texts.kallsyms)?;
+    let (catalog, built) = Catalog::build_between(
+        alloc,
+        &KernelBounds::usual(),
+        &module_lines,
+        regions,
+        &symbol_lines,
+    )?;
+    let counts = counts_of(&skipped_modules, &skipped_symbols, &built);
+    let indexed = IndexedCatalog::new(alloc, catalog, built.modules)?;
+    Ok((indexed, counts))
+}
+
+/// Reads the listings, and builds the catalog of them.
+fn catalog_of(
+    alloc: Global,
+    texts: &CatalogTexts,
+) -> Result<(IndexedCatalog<'static>, CatalogCounts), CatalogFault>
+    ensures opened { IfOk result (λ r. AreRead (shown_texts texts.now) r.0 r.1) }
+    ensures fault { IfErr result (RefusesTexts (shown_texts texts.now)) }
+{
+    let regions = region_lines(alloc, texts.regions)?;
+    Ok(catalog_between(alloc, texts, &regions)?)
+}
+
+/// The same, in a box.
+pub(crate) fn open_catalog(
+    alloc: Global,
+    texts: &CatalogTexts,
+) -> Result<(Box<OpenCatalog, Global>, CatalogCounts), CatalogFault>
+    ensures opened { IfOk result (λ r. AreRead (shown_texts texts.now) r.0.value r.1) }
+    ensures fault { IfErr result (RefusesTexts (shown_texts texts.now)) }
+{
+    let (catalog, counts) = catalog_of(alloc, texts)?;
+    let content = OpenCatalog::new(alloc, catalog)?;
+    Ok((Box::new(alloc, content)?, counts))
+}

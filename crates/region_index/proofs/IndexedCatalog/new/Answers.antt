@@ -1,0 +1,15 @@
+use Rattle.std.proofs.Common.{List, subst, rules}
+use Rattle.std.specs.List.Sorted.{IsPermutation}
+use Rattle.std.proofs.lemmas.List.Sorted.{IsNonDecreasingBy-from_sort_by_key}
+use Rattle.order_laws.specs.declared.items.Item.{Item}
+use Rattle.region_index.proofs.IndexedCatalog.new.Goals as goal
+
+pub invariant_of-result : goal.invariant_of-result
+invariant_of-result c =
+    record {
+      sound = c.regions-regions.ensures.sound;
+      indexed = record {
+        same = subst (λ (l : List Item). IsPermutation l c.sort_unstable_by_key.new.self.items) c.in_ok-items.ensures c.sort_unstable_by_key.ensures.permutation;
+        rising = IsNonDecreasingBy-from_sort_by_key (λ (i : Item). i.a) c.sort_unstable_by_key.new.self.items c.sort_unstable_by_key.ensures.sorted (λ a r q k. search rules);
+      };
+    }

@@ -1,0 +1,122 @@
+//! The region that an address lies in, among all regions of a catalog.
+//!
+//! The regions stand in one list by rising first address. They lie apart, so an address can lie only
+//! in the last region that begins at or below it, which a binary search finds:
+//!
+//! ```text
+//!      | region |      | region  |   | region |
+//!                        ^ addr        the last that begins at or below it, if it ends above it
+//! ```
+#![tactic(auto)]
+
+ghost use Rattle.std.specs.Prelude.{◌≡◌, ◌≤◌, ◌<◌, ◌++◌, length, map, IfOk, IfSome};
+ghost use Rattle.std.specs.List.Sorted.{IsNonDecreasingBy};
+ghost use Rattle.modules.specs.Loads.{item_of};
+ghost use Rattle.region_index.specs.Indexes.{IsSplit};
+ghost use Rattle.region_index.specs.Items.{item_at, items_at, items_below, items_of};
+
+use modules::{Catalog, Region};
+use order_laws::Item;
+use std::alloc::{AllocError, Global};
+use std::marker::Model;
+
+/// A catalog, with all its regions by rising first address.
+#[derive(Drop)]
+pub struct IndexedCatalog<'a> {
+    catalog: Catalog<'a>,
+    items: Vec<Item>,
+}
+
+impl<'a> Model for IndexedCatalog<'a> {
+    ghost use Rattle.modules.specs.Entries.{CatalogEntries};
+
+    ghost Value = { CatalogEntries };
+
+    ghost use Rattle.region_index.specs.Whole.{IsWhole};
+
+    ghost view = { λ c. c.catalog };
+
+    ghost invariant = { IsWhole };
+}
+
+/// Puts the items of a module's regions behind the others.
+fn push_regions(items: &mut Vec<Item>, regions: &[Region], number: u64) -> Result<(), AllocError>
+    ensures { IfOk result (λ _. items.new.items ≡ items.old.items ++ map (item_of number) regions.now) }
+{
+    for region in regions {
+        items.push(Item {
+            a: region.0,
+            b: region.1,
+            tag: number,
+        })?;
+    }
+    Ok(())
+}
+
+/// Puts the items of the module of this number behind the others, if there is one.
+fn push_items(items: &mut Vec<Item>, catalog: &Catalog, number: u64) -> Result<(), AllocError>
+    ensures { IfOk result (λ _. items.new.items ≡ items.old.items ++ items_at catalog.now number) }
+{
+    match catalog.module(number) {
+        Some(module) => push_regions(items, module.regions(), number),
+        None => Ok(()),
+    }
+}
+
+/// The items of all regions, in the order of the catalog.
+fn items_of(alloc: Global, catalog: &Catalog, modules: u64) -> Result<Vec<Item>, AllocError>
+    requires { modules ≡ length catalog.now.modules }
+    ensures { IfOk result (λ v. v.items ≡ items_of catalog.now) }
+{
+    let mut items = Vec::new(alloc);
+    for number in 0..=modules {
+        push_items(&mut items, catalog, number)?;
+    }
+    Ok(items)
+}
+
+/// How many items begin at or below the address.
+fn split_at(items: &[Item], addr: u64) -> usize
+    requires { IsNonDecreasingBy (λ i. i.a) items.now }
+    ensures { IsSplit items.now addr result }
+{
+    items.partition_point(|item| item.a <= addr)
+}
+
+impl<'a> IndexedCatalog<'a> {
+    /// Indexes the regions of a catalog of so many modules, the kernel itself not counted. Refused
+    /// for want of memory alone.
+    pub fn new(
+        alloc: Global,
+        catalog: Catalog<'a>,
+        modules: u64,
+    ) -> Result<IndexedCatalog<'a>, AllocError>
+        requires { modules ≡ length catalog.modules }
+        ensures { IfOk result (λ c. c ≡ catalog.entry) }
+    {
+        let _regions = catalog.regions();
+        let mut items = items_of(alloc, &catalog, modules)?;
+        items.sort_unstable_by_key(|item| item.a);
+        Ok(IndexedCatalog { catalog, items })
+    }
+
+    /// The catalog.
+    pub fn catalog(&self) -> &Catalog<'a>
+        ensures { result.now ≡ self.now }
+    {
+        &self.catalog
+    }
+
+    /// The region that an address lies in, with the number of its module as the tag.
+    pub fn find(&self, addr: u64) -> Option<Item>
+        ensures is { result ≡ item_at self.now addr }
+        ensures holds { IfSome result (λ i. (i.a ≤ addr) × (addr < i.b)) }
+    {
+        let split = split_at(&self.items, addr);
+        if split == 0 {
+            return None;
+        }
+        let item = self.items[split - 1];
+        if addr < item.b { Some(item) } else { None }
+    }
+}
