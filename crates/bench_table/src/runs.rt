@@ -164,6 +164,27 @@ fn seeded(
     Ok(all)
 }
 
+/// Looks random addresses up through each of these readers, each on a thread of its own.
+fn read_all<R: Threads + Clock + Sync>(
+    rt: &R,
+    stop: &AtomicBool,
+    jobs: Vec<(Reader<HalfOpen>, u64)>,
+    items: u32,
+) -> Result<Vec<io::Result<Tally>>, AllocError>
+    requires { 0 < items }
+{
+    map_vec(
+        rt,
+        jobs,
+        &|job: (Reader<HalfOpen>, u64)|
+            requires { 0 < items }
+        {
+            let (mut reader, seed) = job;
+            read(rt, stop, &mut reader, seed, items)
+        },
+    )
+}
+
 /// What the readers saw, where the clock told each its time.
 fn whole(alloc: Global, seen: Vec<io::Result<Tally>>) -> io::Result<Vec<Tally>> {
     let mut all = Vec::new(alloc);
@@ -201,18 +222,7 @@ pub fn measure_beside<R: Threads + Clock + Print + Files + AllocGlobal + Sync>(
         },
         ||
             requires { 0 < items }
-        {
-            map_vec(
-                rt,
-                jobs,
-                &|job: (Reader<HalfOpen>, u64)|
-                    requires { 0 < items }
-                {
-                    let (mut reader, seed) = job;
-                    read(rt, &stop, &mut reader, seed, items)
-                },
-            )
-        },
+        { read_all(rt, &stop, jobs, items) },
     );
     let seen = whole(rt.alloc(), seen?)?;
     report(rt, written?, &seen, bytes)?;
