@@ -1,0 +1,107 @@
+-- A table with the log of its updates.
+use Rattle.std.specs.Prelude.{◌≡◌, ◌⊎◌, ℕ, ◌+◌, ◌*◌, List, [], ◌∷◌, ◌++◌, length, take, slice_get, false, Option, Some, None}
+use Rattle.atomic_table.specs.Seated.{TableId}
+use Rattle.order_laws.specs.declared.items.Item.{Item}
+use Rattle.order_laws.specs.declared.refusals.Refusal.{Refusal}
+use Rattle.order_laws.specs.declared.refusals.Refusal.TheVariants.{OutOfMemory}
+use Rattle.order_laws.specs.Orders.{half_open}
+use Rattle.word_arena.specs.declared.layouts.Layout.{Layout}
+use Rattle.word_arena.specs.Layouts.{capacity_of, limit_of}
+use Rattle.latch_core.specs.declared.updates.Update.{Update}
+use Rattle.latch_core.specs.Sequences.{gen}
+use Rattle.latch_core.specs.Updates.{refuses}
+use Rattle.latch_core.specs.Histories.{replay}
+use Rattle.latch_table.specs.Writers.{WriterState, known, why}
+
+-- A ledger, as clauses see it: its table, how many readers came with it, the opening generation,
+-- the number of nodes and the greatest sequence, and every accepted update in order
+pub record LedgerState : Type 0 where
+  pub place : TableId
+  pub readers : ℕ
+  pub base : ℕ
+  pub capacity : ℕ
+  pub limit : ℕ
+  pub log : List Update
+
+-- the table after the updates of the log
+abbrev pub table_of : LedgerState → List Item
+table_of l = replay half_open [] l.log
+
+-- the generation, and the sequence that names it
+abbrev pub generation_of : LedgerState → ℕ
+generation_of l = l.base + length l.log
+
+abbrev pub sequence_of : LedgerState → ℕ
+sequence_of l = 2 * generation_of l
+
+-- why an update is refused, or none
+abbrev pub why_not : LedgerState → Update → Option Refusal
+why_not l u = refuses half_open l.capacity l.limit false (table_of l) (sequence_of l) u
+
+-- with one update more at the end of the log
+abbrev pub with_entry : Update → LedgerState → LedgerState
+with_entry u l = record l { log = l.log ++ u ∷ [] }
+
+-- with the first updates of the log alone
+abbrev pub with_first : ℕ → LedgerState → LedgerState
+with_first count l = record l { log = take count l.log }
+
+-- the update stands against nothing, and is the last of the log, whose generation this is
+abbrev pub Applies : Update → LedgerState → LedgerState → ℕ → Type 0
+Applies u l l' g = (why_not l u ≡ None) × (l' ≡ with_entry u l) × (g ≡ generation_of l')
+
+-- what stands against an update, or want of memory
+abbrev pub RefusesEntry : Update → LedgerState → Refusal → Type 0
+RefusesEntry u l e = (why_not l u ≡ Some e) ⊎ (e ≡ OutOfMemory)
+
+-- what stands against an update, or want of memory where nothing does
+abbrev pub RefusesUpdate : Update → LedgerState → Refusal → Type 0
+RefusesUpdate u l e = (why_not l u ≡ Some e) ⊎ ((why_not l u ≡ None) × (e ≡ OutOfMemory))
+
+-- nothing stood against any update of the log when its turn came
+abbrev pub AreAccepted : LedgerState → Type 0
+AreAccepted l =
+    (j : ℕ) (u : Update) → slice_get l.log j ≡ Some u → why_not (with_first j l) u ≡ None
+
+-- a ledger of the same table without any update
+abbrev pub blank_of : LedgerState → LedgerState
+blank_of l = with_first 0 l
+
+-- a new ledger
+abbrev pub new_ledger : TableId → Layout → ℕ → ℕ → LedgerState
+new_ledger place l start readers =
+    record {
+      place = place;
+      readers = readers;
+      base = gen start;
+      capacity = capacity_of l;
+      limit = limit_of l;
+      log = [];
+    }
+
+-- a writer with all that it accepted as the log
+abbrev pub ledger_state : WriterState → LedgerState
+ledger_state w =
+    record {
+      place = w.place;
+      readers = w.readers;
+      base = w.base;
+      capacity = w.capacity;
+      limit = w.limit;
+      log = w.history;
+    }
+
+-- a writer with nothing in hand: it has shown all that it accepted, and nothing stood against any
+-- of it
+pub record IsResting (w : WriterState) : Type 0 where
+  pub rests : w.latch.hand ≡ None
+  pub shown : known w ≡ w.history
+  pub accepted : AreAccepted (ledger_state w)
+
+-- the update was begun and all its steps were made; nothing is in hand, and all that was accepted
+-- is shown
+abbrev pub CarriesOut : WriterState → Update → WriterState → ℕ → Type 0
+CarriesOut w u w' g =
+    (why half_open w u ≡ None)
+    × (w' ≡ record w { history = w.history ++ u ∷ []; latch = w'.latch })
+    × (w'.latch.hand ≡ None) × (known w' ≡ w'.history) × (g ≡ w.base + length w'.history)

@@ -1,0 +1,17 @@
+-- What a ledger keeps.
+use Rattle.std.specs.Prelude.{◌≡◌, ℕ, List}
+use Rattle.word_arena.specs.declared.layouts.Layout.{Layout}
+use Rattle.word_arena.specs.Layouts.{capacity_of, limit_of}
+use Rattle.latch_core.specs.declared.updates.Update.{Update}
+use Rattle.latch_core.specs.Sequences.{gen}
+use Rattle.latch_core.specs.Writers.{MayOpen}
+use Rattle.shared_lookup.specs.Ledgers.{LedgerState}
+
+-- the log is what the writer accepted, and the layout and the opening sequence are those of its
+-- table
+pub record IsLedger (w : LedgerState) (log : List Update) (l : Layout) (start : ℕ) : Type 0 where
+  pub logged : log ≡ w.log
+  pub capacity : w.capacity ≡ capacity_of l
+  pub limit : w.limit ≡ limit_of l
+  pub base : w.base ≡ gen start
+  pub opened : MayOpen l start

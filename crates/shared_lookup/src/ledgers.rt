@@ -1,0 +1,173 @@
+//! A writer with the log of its updates.
+
+ghost use Rattle.std.specs.Prelude.{◌≡◌, [], IfOk, IfErr, OnErr, All, vec_len};
+ghost use Rattle.order_laws.specs.declared.refusals.Refusal.TheVariants.{OutOfMemory};
+ghost use Rattle.latch_table.specs.declared.knowledge.Origin.TheVariants.{Start};
+ghost use Rattle.latch_table.specs.Readers.{new_reader};
+ghost use Rattle.latch_table.specs.Seats.{first_knowledge};
+ghost use Rattle.latch_table.specs.Writers.{MayOpenWith, RefusesOpening};
+ghost use Rattle.shared_lookup.specs.Checks.{with_log};
+ghost use Rattle.shared_lookup.specs.Changes.{Changes, RefusesChange, held_in};
+ghost use Rattle.shared_lookup.specs.Ledgers.{Applies, AreAccepted, RefusesEntry, new_ledger};
+ghost use Rattle.shared_lookup.specs.Ledgers.{table_of};
+
+use crate::changes::Change;
+use crate::gates::Gate;
+use crate::resting::RestingWriter;
+use latch_core::Update;
+use latch_table::Reader;
+use modules::{Catalog, Held};
+use order_laws::{HalfOpen, Refusal};
+use std::alloc::Global;
+use std::marker::Model;
+use word_arena::Layout;
+
+/// The one writer of a table, with nothing in hand between its calls, and every update that it
+/// accepted, in order.
+#[derive(Drop)]
+pub struct Ledger {
+    writer: RestingWriter,
+    log: Vec<Update>,
+    layout: Layout,
+    start: u64,
+}
+
+impl Model for Ledger {
+    ghost use Rattle.shared_lookup.specs.Ledgers.{LedgerState};
+    ghost use Rattle.shared_lookup.specs.Logs.{IsLedger};
+
+    ghost Value = { LedgerState };
+
+    ghost view = { λ l. l.writer };
+
+    ghost invariant = { λ l. IsLedger l.writer l.log.items l.layout l.start };
+}
+
+impl Ledger {
+    /// An empty table, with its sequence at `start`, and so many readers.
+    ///
+    /// Refused as [`latch_table::open`] refuses.
+    pub fn open(
+        alloc: Global,
+        l: Layout,
+        start: u64,
+        readers: u32,
+    ) -> Result<(Ledger, Vec<Reader<HalfOpen>>), Refusal>
+        ensures may { IfOk result (λ r. MayOpenWith l start readers) }
+        ensures ledger { IfOk result (λ r. r.0 ≡ new_ledger r.0.place l start readers) }
+        ensures readers { IfOk result (λ r. (vec_len r.1 ≡ readers)
+            × All (λ x. x ≡ new_reader r.0.place (first_knowledge (Start l start))) r.1.items) }
+        ensures refusal { IfErr result (RefusesOpening l start readers) }
+    {
+        let (writer, readers) = RestingWriter::open(alloc, l, start, readers)?;
+        let ledger = Ledger {
+            writer,
+            log: Vec::new(alloc),
+            layout: l,
+            start,
+        };
+        Ok((ledger, readers))
+    }
+
+    /// Makes one whole update and adds it to the log. The gate is told of each step as a step of
+    /// the writer `who`. Answers the new generation.
+    ///
+    /// Room in the log is made first, and where it is refused the answer is
+    /// [`Refusal::OutOfMemory`]. Else the update is refused by [`Refusal::BadItem`],
+    /// [`Refusal::Overlap`], [`Refusal::NoSuchItem`], [`Refusal::Full`] and
+    /// [`Refusal::SequenceSpent`] as the table after the log's updates has it, and by
+    /// [`Refusal::OutOfMemory`]. A refusal changes nothing. It waits where the gate waits.
+    pub fn apply<G: Gate>(&mut self, g: &G, who: u32, u: Update) -> Result<u64, Refusal>
+        ensures applied { IfOk result (Applies u self.old self.new) }
+        ensures unchanged { OnErr result (self.new ≡ self.old) }
+        ensures refused { IfErr result (RefusesEntry u self.old) }
+    {
+        self.log.reserve(1)?;
+        let entry = u.copy()?;
+        let generation = self.writer.apply(g, who, u)?;
+        self.log.push_reserved(entry);
+        Ok(generation)
+    }
+
+    /// Loads or unloads a module, or ends its start, by what the table itself holds of it. Answers
+    /// the new generation.
+    ///
+    /// Refused as the catalog refuses ([`Refusal::UnknownModule`], [`Refusal::AlreadyLoaded`],
+    /// [`Refusal::NotLoaded`], [`Refusal::NoInit`], [`Refusal::OutOfMemory`]), and else as
+    /// [`Ledger::apply`] refuses the update. A refusal changes nothing.
+    pub fn change<G: Gate>(
+        &mut self,
+        g: &G,
+        who: u32,
+        c: &Catalog<'_>,
+        ch: Change,
+    ) -> Result<u64, Refusal>
+        ensures changed { IfOk result (Changes c.now ch self.old self.new) }
+        ensures unchanged { OnErr result (self.new ≡ self.old) }
+        ensures refused { IfErr result (RefusesChange c.now ch self.old) }
+    {
+        let held = self.held(c, ch.number());
+        let update = ch.asked(c, held)?;
+        self.apply(g, who, update)
+    }
+
+    /// What of a module the table holds.
+    fn held(&self, c: &Catalog<'_>, number: u64) -> Held
+        ensures { result ≡ held_in c.now number (table_of self.now) }
+    {
+        let Some(module) = c.module(number) else {
+            return Held {
+                core: false,
+                init: false,
+            };
+        };
+        let (core, init) = module.starts();
+        Held {
+            core: self.writer.holds(core),
+            init: match init {
+                Some(start) => self.writer.holds(start),
+                None => false,
+            },
+        }
+    }
+
+    /// How many readers came with the table.
+    pub fn readers(&self) -> u32
+        ensures { result ≡ self.now.readers }
+    {
+        self.writer.readers()
+    }
+
+    /// Every update that was accepted, in order.
+    pub fn log(&self) -> &[Update]
+        ensures log { result.now ≡ self.now.log }
+        ensures accepted { AreAccepted self.now }
+    {
+        let _readers = self.writer.readers();
+        self.log.as_slice()
+    }
+
+    /// The same, where the ledger is not needed any more.
+    pub fn into_log(self) -> Vec<Update>
+        ensures { result.items ≡ self.log }
+    {
+        let Ledger {
+            writer: _,
+            log,
+            layout: _,
+            start: _,
+        } = self;
+        log
+    }
+
+    /// An empty table that accepts the same updates. Refused by [`Refusal::OutOfMemory`] alone.
+    pub(crate) fn blank(&self, alloc: Global) -> Result<RestingWriter, Refusal>
+        ensures blank { IfOk result (λ w. w.log ≡ []) }
+        ensures accepts { IfOk result (λ w. AreAccepted (with_log self.now.log w)) }
+        ensures refusal { IfErr result (λ e. e ≡ OutOfMemory) }
+    {
+        let _readers = self.writer.readers();
+        let (table, _) = RestingWriter::open(alloc, self.layout, self.start, 1)?;
+        Ok(table)
+    }
+}

@@ -1,0 +1,128 @@
+//! A writer that makes whole updates.
+
+ghost use Rattle.std.specs.Prelude.{◌≡◌, IfOk, IfErr, OnErr, All, vec_len};
+ghost use Rattle.order_laws.specs.Orders.{half_open};
+ghost use Rattle.order_laws.specs.Tables.{has, look};
+ghost use Rattle.latch_table.specs.declared.knowledge.Origin.TheVariants.{Start};
+ghost use Rattle.latch_table.specs.Readers.{new_reader};
+ghost use Rattle.latch_table.specs.Seats.{first_knowledge};
+ghost use Rattle.latch_table.specs.Writers.{MayOpenWith, OnTheWay, Refuses, RefusesOpening};
+ghost use Rattle.shared_lookup.specs.Ledgers.{Applies, AreAccepted, CarriesOut, RefusesUpdate};
+ghost use Rattle.shared_lookup.specs.Ledgers.{new_ledger, table_of};
+
+use crate::gates::{Gate, Point};
+use latch_core::Update;
+use latch_table::{Did, InHand, Reader, Writer, open};
+use order_laws::{HalfOpen, Item, Refusal};
+use std::alloc::Global;
+use std::marker::Model;
+use word_arena::Layout;
+
+/// A writer with nothing in hand between its calls.
+#[derive(Drop)]
+pub(crate) struct RestingWriter {
+    writer: Writer<HalfOpen>,
+}
+
+impl Model for RestingWriter {
+    ghost use Rattle.shared_lookup.specs.Ledgers.{LedgerState, ledger_state, IsResting};
+
+    ghost Value = { LedgerState };
+
+    ghost view = { λ r. ledger_state r.writer };
+
+    ghost invariant = { λ r. IsResting r.writer };
+}
+
+/// Makes the steps that are left, and tells the gate of each.
+fn step_through<G: Gate>(hand: &mut InHand<'_, HalfOpen>, g: &G, writer: u32, sequence: u64)
+    ensures same_reference { hand.new.writer.ghost_name ≡ hand.old.writer.ghost_name }
+    ensures way { OnTheWay hand.old.writer.now hand.new.writer.now }
+{
+    let mut seq = sequence;
+    while let Some(did) = hand.step() {
+        if did == Did::Flip {
+            seq = seq.saturating_add(1);
+        }
+        let remaining = hand.remaining();
+        g.tell(Point::WriterStep {
+            writer,
+            seq,
+            remaining,
+        });
+    }
+}
+
+/// Begins an update, makes all its steps, and answers the new generation.
+fn carry_out<G: Gate>(
+    writer: &mut Writer<HalfOpen>,
+    g: &G,
+    who: u32,
+    u: Update,
+) -> Result<u64, Refusal>
+    ensures carried { IfOk result (CarriesOut writer.old u writer.new) }
+    ensures unchanged { OnErr result (writer.new ≡ writer.old) }
+    ensures refused { IfErr result (Refuses half_open writer.old u) }
+{
+    let sequence = writer.generation().saturating_mul(2);
+    let mut hand = writer.begin(u)?;
+    step_through(&mut hand, g, who, sequence);
+    Ok(hand.finish())
+}
+
+impl RestingWriter {
+    /// Opens a table as [`open`] does.
+    pub(crate) fn open(
+        alloc: Global,
+        l: Layout,
+        start: u64,
+        readers: u32,
+    ) -> Result<(RestingWriter, Vec<Reader<HalfOpen>>), Refusal>
+        ensures may { IfOk result (λ r. MayOpenWith l start readers) }
+        ensures writer { IfOk result (λ r. r.0 ≡ new_ledger r.0.place l start readers) }
+        ensures readers { IfOk result (λ r. (vec_len r.1 ≡ readers)
+            × All (λ x. x ≡ new_reader r.0.place (first_knowledge (Start l start))) r.1.items) }
+        ensures refusal { IfErr result (RefusesOpening l start readers) }
+    {
+        let (writer, readers) = open::<HalfOpen>(alloc, l, start, readers)?;
+        Ok((RestingWriter { writer }, readers))
+    }
+
+    /// Makes one whole update, of which the gate is told step by step, and answers the new
+    /// generation.
+    pub(crate) fn apply<G: Gate>(&mut self, g: &G, who: u32, u: Update) -> Result<u64, Refusal>
+        ensures applied { IfOk result (Applies u self.old self.new) }
+        ensures unchanged { OnErr result (self.new ≡ self.old) }
+        ensures refused { IfErr result (RefusesUpdate u self.old) }
+    {
+        let _generation = self.writer.generation();
+        carry_out(&mut self.writer, g, who, u)
+    }
+
+    /// What a key lies in.
+    pub(crate) fn find(&mut self, k: u64) -> Option<Item>
+        ensures same { self.new ≡ self.old }
+        ensures found { result ≡ look half_open k (table_of self.old) }
+    {
+        let (found, _) = self.writer.find(k);
+        found
+    }
+
+    /// Whether an item of the table has this first word.
+    pub(crate) fn holds(&self, a: u64) -> bool
+        ensures { result ≡ has a (table_of self.now) }
+    {
+        self.writer.holds(a)
+    }
+
+    /// How many readers came with the writer.
+    ///
+    /// What its clause `accepted` says holds of each such writer: its updates were accepted, one
+    /// after another.
+    pub(crate) fn readers(&self) -> u32
+        ensures is { result ≡ self.now.readers }
+        ensures accepted { AreAccepted self.now }
+    {
+        self.writer.readers()
+    }
+}
