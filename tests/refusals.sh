@@ -46,6 +46,31 @@ try() {
     echo "refusals: latchsym $*: $((request - 1)) requests, $refused runs refused as a whole"
 }
 
+# run_script: the script loads.script, each request refused in turn. Its threads come to a request in any order, so a run is
+# refused as a whole, or writes the line of each refused change, of the lookup and of the totals.
+run_script() {
+    local request=0 refused=0 arguments=(run --modules basic.modules --kallsyms basic.kallsyms --readers 1 ../scripts/loads.script)
+    while :; do
+        request=$((request + 1))
+        rm -f "$work/mark"
+        run once env REFUSED_REQUEST=$request REFUSAL_MARK="$work/mark" LD_PRELOAD="$work/refuse.so" "$program" "${arguments[@]}"
+        if same once refused; then
+            refused=$((refused + 1))
+        elif [ "$(cat "$work/once.status")" != 0 ] || [ -s "$work/once.err" ] || ! tr '\n' '/' <"$work/once.out" | grep -Eqx "$outcomes"; then
+            echo "refusals: latchsym ${arguments[*]}: request $request refused, and then:"
+            cat "$work/once.out" "$work/once.err" "$work/once.status"
+            exit 1
+        fi
+        [ -e "$work/mark" ] || break
+    done
+    if [ "$refused" = 0 ] || same once refused; then
+        echo "refusals: latchsym ${arguments[*]}: no request was refused, or the last run was"
+        exit 1
+    fi
+    echo "refusals: latchsym ${arguments[*]}: $((request - 1)) requests, $refused runs refused as a whole"
+}
+outcomes='(refused 1 (7|12) ext4/){0,2}refused 1 (7|11) nfs/1 0xffffffffc0000018 -> (- gen 0|ext4_a\+0x8/0x30 \[ext4\] gen 1)/checked 1 wrong 0 seq (0 gen 0|2 gen 1)/'
+
 cd "$top/examples/traces"
 for trace in torn_item both_ends batch_replaces_an_item wide_last_sequence; do
     "$program" trace $trace.trace | cmp - $trace.expected
@@ -56,6 +81,7 @@ try lookup --modules basic.modules --kallsyms basic.kallsyms 0xffffffffc0000018 
 try lookup --modules regions.modules --kallsyms regions.kallsyms --regions regions.regions 0xffffffffc0600104
 try lookup --modules regions.modules --kallsyms regions.kallsyms --regions empty.modules 0
 try lookup --modules basic.modules --kallsyms basic.kallsyms 0xffffffffc0000018 --addresses basic.addresses --kernel _stext _end
+run_script
 cd "$top/examples/traces"
 try --help
 try trace cut_short.trace

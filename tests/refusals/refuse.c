@@ -21,7 +21,7 @@ static long refused_request = -1, requests;
 static int counted = -1;
 
 static int is_refused(void) {
-    if (refused_request < 0 || ++requests != refused_request) return 0;
+    if (refused_request < 0 || __atomic_add_fetch(&requests, 1, __ATOMIC_SEQ_CST) != refused_request) return 0;
     open(getenv("REFUSAL_MARK"), O_CREAT | O_WRONLY, 0600);
     errno = ENOMEM;
     return 1;

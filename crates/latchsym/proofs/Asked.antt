@@ -5,10 +5,10 @@ use Rattle.std.specs.Borrow.{Bor}
 use Rattle.std.proofs.lemmas.Bool.{false≢true}
 use Rattle.clap.specs.Words.{Row, Text, first_of}
 use Rattle.modules.specs.Listed.{BoundNames}
-use Rattle.latchsym.specs.Jobs.{AnswersAsked, AreNumbers, ForLookup, LookupWords, asked_lookup, bounds_in, lacks_addresses, lookup_in, values_in}
+use Rattle.latchsym.specs.Jobs.{AnswersAsked, AreNumbers, ForLookup, LookupWords, asked_lookup, asked_run, bounds_in, lacks_addresses, lookup_in, run_in, values_in, ForRun, RunWords}
 use Rattle.latchsym.specs.declared.command_line.Job.{Job}
 use Rattle.latchsym.specs.declared.command_line.JobFault.{JobFault}
-use Rattle.latchsym.specs.declared.command_line.JobFault.TheVariants.{OutOfMemory, CommandLine, BadAddress, NoAddress, NoJob}
+use Rattle.latchsym.specs.declared.command_line.JobFault.TheVariants.{OutOfMemory, CommandLine, BadAddress, NoAddress, BadReaders, NoJob}
 
 -- no word is an address, and there is no file of them
 pub lacking : (words : List (Bor Text)) (file : Option (Bor Text)) → length words ≡ 0 → is_some file ≡ false
@@ -42,9 +42,22 @@ module _ (rows : List Row) (modules kallsyms : Text) (regions file : Option Text
   bad_asked_by OutOfMemory bad = tt
   bad_asked_by (BadAddress word) bad = (asked, asked_is, bad)
   bad_asked_by NoAddress bad = absurd bad
+  bad_asked_by (BadReaders word) bad = absurd bad
   bad_asked_by NoJob bad = absurd bad
   bad_asked_by (CommandLine e) bad = absurd bad
 
   pub bad_asked : (result : Result Job JobFault) (fault : JobFault) → IsErrAnd result (λ f. f ≡ fault) → AreNumbers words (Err fault) → AnswersAsked (asked_lookup rows) result
   bad_asked (Ok job) fault is bad = absurd is
   bad_asked (Err f) fault is bad = bad_asked_by f (subst (λ x. AreNumbers words (Err x)) (sym is) bad)
+
+-- the run that these values ask for
+pub run_asked : (rows : List Row) (modules kallsyms : Text) (regions : Option Text) (readers script : Text)
+    → Some modules ≡ first_of (codes "modules") rows → Some kallsyms ≡ first_of (codes "kallsyms") rows → regions ≡ first_of (codes "regions") rows
+    → Some readers ≡ first_of (codes "readers") rows → Some script ≡ first_of (codes "script") rows
+    → asked_run rows ≡ ForRun (record { modules = modules; kallsyms = kallsyms; regions = regions; readers = readers; script = script })
+run_asked rows modules kallsyms regions readers script is_modules is_kallsyms is_regions are_readers is_script =
+    ap (λ o. run_in o (first_of (codes "kallsyms") rows) (first_of (codes "regions") rows) (first_of (codes "readers") rows) (first_of (codes "script") rows)) (sym is_modules)
+    ∙ ap (λ o. run_in (Some modules) o (first_of (codes "regions") rows) (first_of (codes "readers") rows) (first_of (codes "script") rows)) (sym is_kallsyms)
+    ∙ ap (λ o. run_in (Some modules) (Some kallsyms) o (first_of (codes "readers") rows) (first_of (codes "script") rows)) (sym is_regions)
+    ∙ ap (λ o. run_in (Some modules) (Some kallsyms) regions o (first_of (codes "script") rows)) (sym are_readers)
+    ∙ ap (λ o. run_in (Some modules) (Some kallsyms) regions (Some readers) o) (sym is_script)

@@ -9,3 +9,6 @@ mod Loading
 mod Inputs
 mod Addresses
 mod Asked
+mod Assigning
+mod RunWriting
+mod Running

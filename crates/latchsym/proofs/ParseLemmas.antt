@@ -5,6 +5,8 @@ use Rattle.std.specs.Prelude.{Box, option_map}
 use Rattle.std.specs.Box.{box_value}
 use Rattle.clap.specs.declared.parser.matches.ArgMatches.TheViews.{out-ArgMatches, out-SubCommand}
 use Rattle.clap.specs.declared.parser.matches.SubCommand.{SubCommand}
+use Rattle.clap.specs.Built.{AddsSubcommand}
+use Rattle.clap.specs.Simple.{shape_of, with_subcommand}
 use Rattle.clap.specs.Words.{AddsArg, Row, subcommand_name_of, subcommand_rows, App, Rule, Text, rule_of, with_rule, HasKind, HasMatchesOf, IsAmong, fault_of, is_simple, is_simple_and_free, kind_of, subcommand_of, subcommand_rows_of}
 use Rattle.clap.specs.declared.error.Error.{Error}
 use Rattle.clap.specs.declared.error.kind.ErrorKind.TheVariants as kind
@@ -17,7 +19,7 @@ use Rattle.latchsym.specs.CommandLine.{IsCommand, IsPlainArg, latchsym_app}
 use Rattle.latchsym.specs.Jobs.{AnswersAsked, AnswersMatches, AnswersWords, IsFaultOf, asked_by}
 use Rattle.latchsym.specs.declared.command_line.Job.{Job}
 use Rattle.latchsym.specs.declared.command_line.JobFault.{JobFault}
-use Rattle.latchsym.specs.declared.command_line.JobFault.TheVariants.{OutOfMemory, CommandLine, BadAddress, NoAddress, NoJob}
+use Rattle.latchsym.specs.declared.command_line.JobFault.TheVariants.{OutOfMemory, CommandLine, BadAddress, NoAddress, BadReaders, NoJob}
 
 is_simple_latchsym : is_simple latchsym_app ≡ true
 unfolding clap_on_literals
@@ -37,6 +39,7 @@ fails words e (CommandLine shown) is has =
     among words shown (subst (HasKind (fault_of latchsym_app words)) (sym is.0) has) is.1
 fails words e (BadAddress word) is has = absurd is
 fails words e NoAddress is has = absurd is
+fails words e (BadReaders word) is has = absurd is
 fails words e NoJob is has = absurd is
 
 passes : (words : List Text) (r : Result Job JobFault) → fault_of latchsym_app words ≡ [] → AnswersAsked (asked_by (subcommand_of latchsym_app words)) r → AnswersWords words r
@@ -45,6 +48,7 @@ passes words (Err OutOfMemory) none is = tt
 passes words (Err (CommandLine e)) none is = absurd is
 passes words (Err (BadAddress word)) none is = (none, is)
 passes words (Err NoAddress) none is = (none, is)
+passes words (Err (BadReaders word)) none is = (none, is)
 passes words (Err NoJob) none is = (none, is)
 
 -- the answer to an error of the parse
@@ -73,6 +77,14 @@ one_argument_more old new a app rule command arg adds =
       adds.shape arg.1 ∙ ap (λ x. with_rule x (rule_of a)) command.0 ∙ ap (with_rule app) arg.0,
       adds.globals ∙ ap (λ b. (out-Command old).has_globals || b) local ∙ ap (λ b. b || false) command.1,
     )
+
+-- a command with one subcommand more
+pub one_subcommand_more : (old new sub : Command) (app of_sub : App) → IsCommand app old → IsCommand of_sub sub → AddsSubcommand old sub new
+    → IsCommand (with_subcommand app of_sub.top) new
+one_subcommand_more old new sub app of_sub command added adds = (
+  adds.shape added.1 ∙ ap (λ x. with_subcommand x (shape_of sub)) command.0 ∙ ap (λ x. with_subcommand app x.top) added.0,
+  adds.globals ∙ ap (λ b. b || (out-Command sub).has_globals) command.1 ∙ ap (λ b. false || b) added.1,
+)
 
 -- the subcommand that a parse entered, by its name and its matches
 named : {Z : Type 0} (o : Option (Box SubCommand Z)) → option_map (λ b. (out-SubCommand (box_value b)).name.now) o ≡ option_map (λ p. p.0) (subcommand_rows o)

@@ -48,12 +48,25 @@ lookup_app =
     (pair_rule (codes "kernel")))
     (words_rule (codes "address"))
 
+-- the options of a run
+abbrev pub run_options_app : App
+run_options_app =
+    with_rule
+    (with_rule
+    (with_rule (with_rule (new_app (codes "run")) (option_rule (codes "modules"))) (option_rule (codes "kallsyms")))
+    (optional_rule (codes "regions")))
+    (option_rule (codes "readers"))
+
+-- run --modules FILE --kallsyms FILE [--regions FILE] --readers N SCRIPT
+abbrev pub run_app : App
+run_app = with_rule run_options_app (word_rule (codes "script"))
+
 -- a subcommand has to be given
 abbrev pub top_app : App
 top_app = on_top (λ s. record s { subcommand_required = true }) (new_app (codes "latchsym"))
 
 abbrev pub latchsym_app : App
-latchsym_app = with_subcommand (with_subcommand top_app trace_app.top) lookup_app.top
+latchsym_app = with_subcommand (with_subcommand (with_subcommand top_app trace_app.top) lookup_app.top) run_app.top
 
 -- the command reads words as `app` does
 abbrev pub IsCommand : App → Command → Type 0

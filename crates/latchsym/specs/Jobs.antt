@@ -7,15 +7,16 @@ use Rattle.std.specs.Str.{bytes_eq}
 use Rattle.clap.specs.Words.{IsAmong, Row, Text, all_of, fault_of, first_of, kind_of, subcommand_of}
 use Rattle.clap.specs.declared.error.Error.{Error}
 use Rattle.clap.specs.declared.error.kind.ErrorKind.TheVariants as kind
-use Rattle.listing.specs.Numbers.{number_of}
+use Rattle.listing.specs.Numbers.{between, number_of}
 use Rattle.modules.specs.Lines.{usual_bounds}
 use Rattle.modules.specs.Listed.{BoundNames}
 use Rattle.latchsym.specs.CommandLine.{latchsym_app}
 use Rattle.latchsym.specs.declared.command_line.Job.{Job}
 use Rattle.latchsym.specs.declared.command_line.LookupJob.{LookupJob}
-use Rattle.latchsym.specs.declared.command_line.Job.TheVariants.{Trace, Lookup}
+use Rattle.latchsym.specs.declared.command_line.RunJob.{RunJob}
+use Rattle.latchsym.specs.declared.command_line.Job.TheVariants.{Trace, Lookup, Run}
 use Rattle.latchsym.specs.declared.command_line.JobFault.{JobFault}
-use Rattle.latchsym.specs.declared.command_line.JobFault.TheVariants.{OutOfMemory, CommandLine, BadAddress, NoAddress, NoJob}
+use Rattle.latchsym.specs.declared.command_line.JobFault.TheVariants.{OutOfMemory, CommandLine, BadAddress, NoAddress, BadReaders, NoJob}
 
 -- the files that a job reads, in order; the place of one that is not given stays empty
 abbrev pub files_of : Job → List (Option Text)
@@ -23,6 +24,8 @@ files_of (Trace file) = Some file.now ∷ []
 files_of (Lookup job) =
     Some job.modules.now ∷ Some job.kallsyms.now ∷ option_map (λ f. f.now) job.regions
     ∷ option_map (λ f. f.now) job.address_file ∷ []
+files_of (Run job) =
+    Some job.modules.now ∷ Some job.kallsyms.now ∷ option_map (λ f. f.now) job.regions ∷ Some job.script.now ∷ []
 
 -- the file at a place among them
 abbrev pub file_at : Job → ℕ → Option Text
@@ -38,10 +41,19 @@ pub record LookupWords : Type 0 where
   pub kernel : BoundNames
   pub addresses : List Text
 
--- what a subcommand asks for: to run the trace in a file, or a lookup
+-- to do what the script in a file says, with as many readers as a word says, over listings in two or three files
+pub record RunWords : Type 0 where
+  pub modules : Text
+  pub kallsyms : Text
+  pub regions : Option Text
+  pub readers : Text
+  pub script : Text
+
+-- what a subcommand asks for: to run the trace in a file, a lookup, or to run a script
 pub data Asked : Type 0 where
   ForTrace : Text → Asked
   ForLookup : LookupWords → Asked
+  ForRun : RunWords → Asked
   ForNothing : Asked
 
 abbrev pub asked_trace : Option Text → Asked
@@ -75,12 +87,29 @@ asked_lookup rows =
     lookup_in rows (first_of (codes "modules") rows) (first_of (codes "kallsyms") rows)
     (bounds_in (values_in (codes "kernel") rows))
 
+-- the run that these values ask for, where those that have to be there are
+abbrev pub run_in : Option Text → Option Text → Option Text → Option Text → Option Text → Asked
+run_in (Some modules) (Some kallsyms) regions (Some readers) (Some script) = ForRun (record {
+  modules = modules;
+  kallsyms = kallsyms;
+  regions = regions;
+  readers = readers;
+  script = script;
+})
+run_in _ _ _ _ _ = ForNothing
+
+abbrev pub asked_run : List Row → Asked
+asked_run rows =
+    run_in (first_of (codes "modules") rows) (first_of (codes "kallsyms") rows) (first_of (codes "regions") rows)
+    (first_of (codes "readers") rows) (first_of (codes "script") rows)
+
 -- what a subcommand of this name, with these values, asks for
 abbrev pub asked_by : Option (Text × List Row) → Asked
 asked_by None = ForNothing
 asked_by (Some (name, rows)) =
     if bytes_eq name (codes "trace") then asked_trace (first_of (codes "file") rows)
     else if bytes_eq name (codes "lookup") then asked_lookup rows
+    else if bytes_eq name (codes "run") then asked_run rows
     else ForNothing
 
 -- the word is no number
@@ -110,10 +139,31 @@ pub record IsLookupFor (asked : Asked) (job : LookupJob) : Type 0 where
   pub none_bad : find is_no_number words ≡ None
   pub addresses : job.addresses.items ≡ filter_map number_of words
 
+-- the number of readers that a word is
+abbrev pub readers_of : Text → Option ℕ
+readers_of word = between 1 64 (number_of word)
+
+-- what a run asks for whose number of readers is this word
+abbrev pub run_words_of : RunJob → Text → RunWords
+run_words_of job word = record {
+  modules = job.modules.now;
+  kallsyms = job.kallsyms.now;
+  regions = option_map (λ f. f.now) job.regions;
+  readers = word;
+  script = job.script.now;
+}
+
+-- the number of readers is the one that its word is
+pub record IsRunFor (asked : Asked) (job : RunJob) : Type 0 where
+  pub word : Text
+  pub asked_for : asked ≡ ForRun (run_words_of job word)
+  pub readers : readers_of word ≡ Some job.readers
+
 -- the job is what is asked for
 abbrev pub IsAskedBy : Asked → Job → Type 0
 IsAskedBy asked (Trace file) = asked ≡ ForTrace file.now
 IsAskedBy asked (Lookup job) = IsLookupFor asked job
+IsAskedBy asked (Run job) = IsRunFor asked job
 
 -- an address is asked for that is no number, and this is the first such word
 abbrev pub HasBadAddress : Asked → Text → Type 0
@@ -124,12 +174,17 @@ HasBadAddress asked word =
 abbrev pub HasNoAddress : Asked → Type 0
 HasNoAddress asked = (l : LookupWords) × (asked ≡ ForLookup l) × (lacks_addresses l ≡ true)
 
+-- a run is asked for whose number of readers is this word, which is none
+abbrev pub HasBadReaders : Asked → Text → Type 0
+HasBadReaders asked word = (r : RunWords) × (asked ≡ ForRun r) × (r.readers ≡ word) × (readers_of word ≡ None)
+
 -- the answer where this is asked for
 abbrev pub AnswersAsked : Asked → Result Job JobFault → Type 0
 AnswersAsked asked (Ok job) = IsAskedBy asked job
 AnswersAsked asked (Err OutOfMemory) = Unit {0}
 AnswersAsked asked (Err (BadAddress word)) = HasBadAddress asked word.now
 AnswersAsked asked (Err NoAddress) = HasNoAddress asked
+AnswersAsked asked (Err (BadReaders word)) = HasBadReaders asked word.now
 AnswersAsked asked (Err NoJob) = asked ≡ ForNothing
 AnswersAsked asked (Err (CommandLine e)) = ⊥
 
@@ -161,5 +216,7 @@ AnswersWords words (Err (BadAddress word)) =
     (fault_of latchsym_app words ≡ []) × HasBadAddress (asked_by (subcommand_of latchsym_app words)) word.now
 AnswersWords words (Err NoAddress) =
     (fault_of latchsym_app words ≡ []) × HasNoAddress (asked_by (subcommand_of latchsym_app words))
+AnswersWords words (Err (BadReaders word)) =
+    (fault_of latchsym_app words ≡ []) × HasBadReaders (asked_by (subcommand_of latchsym_app words)) word.now
 AnswersWords words (Err NoJob) =
     (fault_of latchsym_app words ≡ []) × (asked_by (subcommand_of latchsym_app words) ≡ ForNothing)

@@ -21,3 +21,9 @@ pub mod LookupTexts
 pub mod LookupInputs
 -- what is written for the listings and the addresses that are asked for
 pub mod Lookups
+-- what the lines of a script have each writer and each reader do
+pub mod Assignments
+-- the lines that a run of a script writes
+pub mod RunTexts
+-- what is written for a script and the listings that it is run over
+pub mod Runs

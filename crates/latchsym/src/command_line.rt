@@ -1,15 +1,18 @@
 //! The command line: what it may say, and the job that it asks for.
 ghost use Rattle.std.specs.Prelude.{◌≡◌, Some, IfOk, codes, map, option_map};
 ghost use Rattle.clap.specs.Words.{found_of, first_of, rows_of, subcommand_rows_of};
-ghost use Rattle.latchsym.specs.CommandLine.{lookup_app, trace_app, latchsym_app, option_rule, optional_rule, pair_rule, word_rule, words_rule, IsCommand, IsPlainArg};
-ghost use Rattle.latchsym.specs.Jobs.{asked_lookup, asked_trace, bounds_in, values_in, AnswersAsked, AnswersMatches, AnswersWords, AreNumbers, IsFaultOf};
+ghost use Rattle.latchsym.specs.CommandLine.{lookup_app, run_app, trace_app, latchsym_app, option_rule, optional_rule, pair_rule, word_rule, words_rule, IsCommand, IsPlainArg};
+ghost use Rattle.latchsym.specs.Jobs.{asked_lookup, asked_run, asked_trace, readers_of, bounds_in, values_in, AnswersAsked, AnswersMatches, AnswersWords, AreNumbers, IsFaultOf};
 
 use clap::error::ErrorKind;
 use clap::{Arg, ArgMatches, Command, Error};
-use listing::number;
+use listing::{number, number_up_to};
 use modules::KernelBounds;
 use std::alloc::{AllocError, AllocFailed, Global};
 use std::convert::AsStr;
+
+/// The most readers that a script may have, which are those of one table.
+const MOST_READERS: u32 = 64;
 
 /// What a command line asks for.
 #[derive(Debug, Drop)]
@@ -19,6 +22,9 @@ pub enum Job<'a> {
     /// `latchsym lookup --modules FILE --kallsyms FILE [--regions FILE] [--addresses FILE]
     /// [--kernel START END] [ADDR]..`: look addresses up.
     Lookup(LookupJob<'a>),
+    /// `latchsym run --modules FILE --kallsyms FILE [--regions FILE] --readers N SCRIPT`: do what a
+    /// script says, each writer and each reader on a thread.
+    Run(RunJob<'a>),
 }
 
 /// Which addresses are looked up, and in which listings.
@@ -38,11 +44,27 @@ pub struct LookupJob<'a> {
     pub addresses: Vec<u64>,
 }
 
+/// Which script is run, by how many readers, and over which listings.
+#[derive(Debug, Drop)]
+pub struct RunJob<'a> {
+    /// The file of the listing of modules.
+    pub modules: &'a str,
+    /// The file of the listing of symbols.
+    pub kallsyms: &'a str,
+    /// The file of the listing of regions, where there is one.
+    pub regions: Option<&'a str>,
+    /// How many readers there are, 1 to 64.
+    pub readers: u32,
+    /// The file of the script.
+    pub script: &'a str,
+}
+
 impl<'a> Job<'a> {
     ghost use Rattle.latchsym.specs.Jobs.{file_at};
 
     /// The file at this place among those that the job reads, in the order in which it reads them.
-    /// The listing of regions has place 2 and the file of addresses 3, where they are given.
+    /// The listing of regions has place 2 and the file of addresses 3, where they are given; the
+    /// script has place 3.
     pub fn file(&self, place: u64) -> Option<&'a str>
         ensures { option_map (λ f. f.now) result ≡ file_at self.now place }
     {
@@ -52,7 +74,11 @@ impl<'a> Job<'a> {
             Job::Lookup(job) if place == 1 => Some(job.kallsyms),
             Job::Lookup(job) if place == 2 => job.regions,
             Job::Lookup(job) if place == 3 => job.address_file,
-            Job::Trace { .. } | Job::Lookup(_) => None,
+            Job::Run(job) if place == 0 => Some(job.modules),
+            Job::Run(job) if place == 1 => Some(job.kallsyms),
+            Job::Run(job) if place == 2 => job.regions,
+            Job::Run(job) if place == 3 => Some(job.script),
+            Job::Trace { .. } | Job::Lookup(_) | Job::Run(_) => None,
         }
     }
 }
@@ -69,6 +95,8 @@ pub enum JobFault<'a> {
     BadAddress(&'a str),
     /// A lookup without an address.
     NoAddress,
+    /// A value of `--readers` that is no NUMBER from 1 to 64.
+    BadReaders(&'a str),
     /// The words pass, and still name no job.
     NoJob,
 }
@@ -104,7 +132,8 @@ fn latchsym_command<'a>(alloc: Global) -> Result<Command<'a>, AllocError>
         .about("A latched address tree, step by step")
         .subcommand_required(true)
         .subcommand(trace_command(alloc)?)?
-        .subcommand(lookup_command(alloc)?)?;
+        .subcommand(lookup_command(alloc)?)?
+        .subcommand(run_command(alloc)?)?;
     Ok(command)
 }
 
@@ -118,16 +147,19 @@ fn trace_command<'a>(alloc: Global) -> Result<Command<'a>, AllocError>
     Ok(command)
 }
 
+/// The help of the options that both `lookup` and `run` have.
+const MODULES_HELP: &str = "The modules, in the form of /proc/modules";
+
+const KALLSYMS_HELP: &str = "The symbols, in the form of /proc/kallsyms";
+
+const REGIONS_HELP: &str = "The regions of the modules";
+
 fn lookup_command<'a>(alloc: Global) -> Result<Command<'a>, AllocError>
     ensures { IfOk result (IsCommand lookup_app) }
 {
-    let modules = required_option(alloc, "modules").help(
-        "The modules, in the form of /proc/modules",
-    );
-    let kallsyms = required_option(alloc, "kallsyms").help(
-        "The symbols, in the form of /proc/kallsyms",
-    );
-    let regions = optional_option(alloc, "regions").help("The regions of the modules");
+    let modules = required_option(alloc, "modules", "FILE").help(MODULES_HELP);
+    let kallsyms = required_option(alloc, "kallsyms", "FILE").help(KALLSYMS_HELP);
+    let regions = optional_option(alloc, "regions").help(REGIONS_HELP);
     let file = optional_option(alloc, "addresses").help(
         "Further addresses, a number a line; - is the standard input",
     );
@@ -146,18 +178,38 @@ fn lookup_command<'a>(alloc: Global) -> Result<Command<'a>, AllocError>
     Ok(command)
 }
 
+fn run_command<'a>(alloc: Global) -> Result<Command<'a>, AllocError>
+    ensures { IfOk result (IsCommand run_app) }
+{
+    let modules = required_option(alloc, "modules", "FILE").help(MODULES_HELP);
+    let kallsyms = required_option(alloc, "kallsyms", "FILE").help(KALLSYMS_HELP);
+    let regions = optional_option(alloc, "regions").help(REGIONS_HELP);
+    let readers = required_option(alloc, "readers", "N").help(
+        "How many readers there are, 1 to 64",
+    );
+    let script = required_word(alloc, "script", "SCRIPT").help("What each writer and reader does");
+    let command = Command::new(alloc, "run")
+        .about("Load and look up beside each other, as a script says")
+        .arg(modules)?
+        .arg(kallsyms)?
+        .arg(regions)?
+        .arg(readers)?
+        .arg(script)?;
+    Ok(command)
+}
+
 fn required_word<'a>(alloc: Global, id: &'a str, value: &'a str) -> Arg<'a>
     ensures { IsPlainArg (word_rule id.entry.now) result }
 {
     Arg::new(alloc, id).value_name(value).required(true)
 }
 
-fn required_option<'a>(alloc: Global, id: &'a str) -> Arg<'a>
+fn required_option<'a>(alloc: Global, id: &'a str, value: &'a str) -> Arg<'a>
     ensures { IsPlainArg (option_rule id.entry.now) result }
 {
     Arg::new(alloc, id)
         .long(id)
-        .value_name("FILE")
+        .value_name(value)
         .required(true)
 }
 
@@ -198,6 +250,7 @@ fn job_of_subcommand<'a>(
     match name {
         "trace" => trace_job(found),
         "lookup" => lookup_job(alloc, found),
+        "run" => run_job(found),
         _ => Err(JobFault::NoJob),
     }
 }
@@ -238,6 +291,36 @@ fn lookup_job<'a>(alloc: Global, found: &ArgMatches<'a>) -> Result<Job<'a>, JobF
         kernel,
         addresses,
     }))
+}
+
+fn run_job<'a>(found: &ArgMatches<'a>) -> Result<Job<'a>, JobFault<'a>>
+    ensures { AnswersAsked (asked_run (rows_of (found_of found.now))) result }
+{
+    let (Some(modules), Some(kallsyms)) = (value_of(found, "modules"), value_of(found, "kallsyms"))
+    else {
+        return Err(JobFault::NoJob);
+    };
+    let (Some(word), Some(script)) = (value_of(found, "readers"), value_of(found, "script")) else {
+        return Err(JobFault::NoJob);
+    };
+    let regions = value_of(found, "regions");
+    let Some(readers) = readers_in(word) else {
+        return Err(JobFault::BadReaders(word));
+    };
+    Ok(Job::Run(RunJob {
+        modules,
+        kallsyms,
+        regions,
+        readers,
+        script,
+    }))
+}
+
+/// The number of readers that a word is.
+fn readers_in(word: &str) -> Option<u32>
+    ensures { result ≡ readers_of word.now }
+{
+    number_up_to(word.as_bytes(), MOST_READERS)
 }
 
 /// The names of the symbols that bound the kernel's own region: the two that are given, or the

@@ -36,9 +36,9 @@ pub struct LookupReaders<M, K, R, A> {
 }
 
 /// The places of the files among those that are read.
-const MODULES_PLACE: u64 = 0;
+pub const MODULES_PLACE: u64 = 0;
 
-const KALLSYMS_PLACE: u64 = 1;
+pub const KALLSYMS_PLACE: u64 = 1;
 
 const REGIONS_PLACE: u64 = 2;
 
@@ -110,7 +110,7 @@ pub fn lookup_engine<M: Read, K: Read, R: Read, A: Read, W: Write>(
 }
 
 /// Reads the listing of regions, where there is one.
-fn read_if_given<R: Read>(
+pub(crate) fn read_if_given<R: Read>(
     alloc: Global,
     reader: &mut Option<Counted<R>>,
 ) -> Result<Option<Vec<u8>>, Fault>
@@ -125,7 +125,11 @@ fn read_if_given<R: Read>(
 }
 
 /// Reads the file at a place of the order in which they are read.
-fn read_at<R: Read>(alloc: Global, reader: &mut Counted<R>, place: u64) -> Result<Vec<u8>, Fault>
+pub(crate) fn read_at<R: Read>(
+    alloc: Global,
+    reader: &mut Counted<R>,
+    place: u64,
+) -> Result<Vec<u8>, Fault>
     ensures bytes { IfOk result (λ bytes. IfSome (R.remaining (device_of reader.old)) (λ left. bytes.items ≡ left)) }
     ensures read { IsReadAs place (failures_of reader.old) (failures_of reader.new) result }
 {
@@ -162,7 +166,7 @@ fn answer_from<A: Read, W: Write>(
 }
 
 /// The lines of the listing of regions, where there is one.
-fn region_lines_in(
+pub(crate) fn region_lines_in(
     alloc: Global,
     text: &Option<Vec<u8>>,
 ) -> Result<Option<Vec<RegionLine<'_>>>, Fault>
@@ -219,7 +223,10 @@ fn answer_with<W: Write>(
 /// Reads the lines of the first two listings, and builds the catalog of all three. Refused where
 /// more than 7 region lines have one name, and for want of memory.
 #[tactic(auto, unfolding(crate::specs::LookupInputs::catalog_in, crate::specs::LookupInputs::counts_in))]
-fn listings_in<'a>(alloc: Global, inputs: &LookupInputs<'a>) -> Result<Listings<'a>, Refusal>
+pub(crate) fn listings_in<'a>(
+    alloc: Global,
+    inputs: &LookupInputs<'a>,
+) -> Result<Listings<'a>, Refusal>
     requires { All (λ r. region_fits r ≡ true) (lines_in (gathered_in inputs.now)) }
     ensures said { IfOk result (AreSaidBy (gathered_in inputs.now)) }
     ensures refusal { IfErr result (IsBuildRefusal (lines_in (gathered_in inputs.now))) }

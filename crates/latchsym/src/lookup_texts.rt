@@ -89,7 +89,7 @@ pub fn put_region_counts<W: Write>(writer: &mut Counted<W>, built: &BuildCounts)
 }
 
 /// Writes a word, with the blanks around it, and a count.
-fn put_count<W: Write>(writer: &mut Counted<W>, word: &[u8], count: u64) -> io::Result<()>
+pub fn put_count<W: Write>(writer: &mut Counted<W>, word: &[u8], count: u64) -> io::Result<()>
     ensures { Wrote W.contents writer.old writer.new result (count_text word.now count) }
 {
     put(writer, word)?;

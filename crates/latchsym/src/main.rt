@@ -3,13 +3,18 @@
 //! `latchsym trace FILE` runs a trace in the step machine and writes what its lookups found.
 //! `latchsym lookup --modules FILE --kallsyms FILE [--regions FILE] [--addresses FILE]
 //! [--kernel START END] [ADDR]..` says which module and which symbol hold an address.
+//! `latchsym run --modules FILE --kallsyms FILE [--regions FILE] --readers N SCRIPT` does what a
+//! script says, each writer and each reader on a thread of its own.
 #![tactic(auto)]
 
+mod assignments;
 mod command_line;
 mod fault;
 mod input;
 mod lookup;
 mod lookup_texts;
+mod run_texts;
+mod runs;
 mod table;
 #[cfg(test)]
 mod tests;
@@ -17,18 +22,21 @@ mod texts;
 mod trace;
 
 use clap::Error;
-use command_line::{Job, JobFault, LookupJob, job_of};
+use command_line::{Job, JobFault, LookupJob, RunJob, job_of};
 use devices::{Counted, put};
-use fault::{Fault, conclude, report_before_job};
+use fault::{Fault, conclude, report, report_before_job};
 use input::Input;
 use lookup::{LookupReaders, lookup_engine};
 use order_laws::Refusal;
+use runs::{RunReaders, run_engine};
 use std::io::{BufWriter, ErrorKind, Stderr};
 use std::process::ExitCode;
+use std::sync::Wait;
+use std::thread::Threads;
 use std::{env, fs};
 use trace::trace_engine;
 
-/// How many bytes of the lines of a lookup go to the standard output at once.
+/// How many bytes of the lines of a lookup or of a run go to the standard output at once.
 const OUTPUT_BLOCK: usize = 65536;
 
 /// The program's status where the command line is at fault.
@@ -38,7 +46,7 @@ fn main(rt: HostRuntime) -> ExitCode {
     let mut errors = Counted::new(rt.stderr());
     let status = match words_of(&rt) {
         Ok(words) => match job_of(rt.alloc(), words.as_slice()) {
-            Ok(job) => run(&rt, &job, &mut errors),
+            Ok(job) => run(&rt, &rt, &job, &mut errors),
             Err(fault) => refuse(&rt, fault, &mut errors),
         },
         Err(ErrorKind::OutOfMemory) => refuse(&rt, JobFault::OutOfMemory, &mut errors),
@@ -55,13 +63,22 @@ fn words_of(rt: &HostRuntime) -> Result<Vec<String>, ErrorKind> {
         .map_err(|_| ErrorKind::OutOfMemory)
 }
 
-/// Does the job, and answers the program's status.
-fn run(rt: &HostRuntime, job: &Job<'_>, errors: &mut Counted<Stderr>) -> u8 {
-    let outcome = match job {
-        Job::Trace { file } => run_trace(rt, file),
-        Job::Lookup(lookup) => run_lookup(rt, lookup),
-    };
-    conclude(outcome, job, errors)
+/// Does the job, and answers the program's status. The host that may start threads and wait for
+/// them is taken beside the one that reads and writes, since a script alone needs it.
+fn run<T: Threads + Wait + Sync>(
+    rt: &HostRuntime,
+    threads: &T,
+    job: &Job<'_>,
+    errors: &mut Counted<Stderr>,
+) -> u8 {
+    match job {
+        Job::Trace { file } => conclude(run_trace(rt, file), job, errors),
+        Job::Lookup(lookup) => conclude(run_lookup(rt, lookup), job, errors),
+        Job::Run(script) => match run_script(rt, threads, script) {
+            Ok(status) => status,
+            Err(fault) => report(&fault, job, errors),
+        },
+    }
 }
 
 /// Runs the trace in a file. The engine writes blocks, so nothing gathers its output here.
@@ -85,6 +102,28 @@ fn run_lookup(rt: &HostRuntime, job: &LookupJob<'_>) -> Result<(), Fault> {
         &job.addresses,
         &mut writer,
     )
+}
+
+/// Runs a script. The buffer for the output is there before anything is read.
+fn run_script<T: Threads + Wait + Sync>(
+    rt: &HostRuntime,
+    threads: &T,
+    job: &RunJob<'_>,
+) -> Result<u8, Fault> {
+    let Ok(buffer) = BufWriter::with_capacity(rt.alloc(), OUTPUT_BLOCK, rt.stdout()) else {
+        return Err(Fault::Refused(Refusal::OutOfMemory));
+    };
+    let mut writer = Counted::new(buffer);
+    let mut readers = RunReaders {
+        modules: open(rt, job.modules)?,
+        kallsyms: open(rt, job.kallsyms)?,
+        regions: match job.regions {
+            Some(file) => Some(open(rt, file)?),
+            None => None,
+        },
+        script: open(rt, job.script)?,
+    };
+    run_engine(threads, rt.alloc(), &mut readers, job.readers, &mut writer)
 }
 
 /// Opens the files of a lookup.
@@ -126,6 +165,7 @@ fn refuse(rt: &HostRuntime, fault: JobFault<'_>, errors: &mut Counted<Stderr>) -
         JobFault::CommandLine(error) => explain(rt, &error, errors),
         JobFault::BadAddress(word) => misused(b"bad address ", word, errors),
         JobFault::NoAddress => misused(b"no address is given", "", errors),
+        JobFault::BadReaders(word) => misused(b"bad number of readers ", word, errors),
         JobFault::NoJob => misused(b"the command line names no job", "", errors),
     }
 }

@@ -5,6 +5,7 @@ mod bad_input;
 mod devices_that_fail;
 mod listings;
 mod rows;
+mod scripts;
 mod stops;
 mod words;
 

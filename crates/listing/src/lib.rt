@@ -30,7 +30,7 @@ pub use laws::{
 };
 pub use lines::LONGEST_LINE;
 pub use module_listing::{ModuleCounts, SkippedModule, read_modules};
-pub use numbers::number;
+pub use numbers::{number, number_up_to};
 pub use region_listing::read_regions;
 pub use scripts::{MOST_WRITERS, ModuleName, ScriptLine, read_script};
 pub use symbol_listing::{SkippedSymbol, SymbolCounts, read_kallsyms};

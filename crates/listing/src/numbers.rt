@@ -3,7 +3,7 @@ ghost use Rattle.std.specs.Prelude.{◌≡◌, ◌<◌, length, nat_lt};
 ghost use Rattle.std.specs.Char.{digit_value, is_digit};
 ghost use Rattle.std.specs.List.{list_all};
 ghost use Rattle.std.specs.Str.Parse.{digits_value};
-ghost use Rattle.listing.specs.Numbers.{numeral, number_of, short_number_of, count_of};
+ghost use Rattle.listing.specs.Numbers.{between, numeral, number_of, short_number_of, count_of};
 
 /// The number that a word is: 1 to 20 decimal digits, or `0x` and 1 to 16 hexadecimal digits of
 /// either case, with a value of at most the greatest `u64`. Leading zeros are allowed.
@@ -31,6 +31,16 @@ pub(crate) fn count(word: &[u8]) -> Option<u32>
     match short_number(word) {
         Some(0) | None => None,
         Some(count) => Some(count),
+    }
+}
+
+/// The NUMBER from 1 up to the greatest that a word is (as [`number`] reads it).
+pub fn number_up_to(word: &[u8], greatest: u32) -> Option<u32>
+    ensures { result ≡ between 1 greatest (number_of word.now) }
+{
+    match number(word) {
+        Some(number) if number >= 1 && number <= u64::from(greatest) => Some(number as u32),
+        _ => None,
     }
 }
 

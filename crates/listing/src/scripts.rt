@@ -18,7 +18,7 @@ ghost use Rattle.listing.specs.Scripts.{change_by, has_actor, look_with, script_
 
 use crate::LineFault;
 use crate::lines::{cut_line, words_in};
-use crate::numbers::number;
+use crate::numbers::{number, number_up_to};
 use crate::said::{Said, is_passed_over, is_too_long};
 use std::alloc::Global;
 use std::marker::Model;
@@ -54,16 +54,6 @@ pub enum ScriptLine<'a> {
     Init { writer: u32, name: ModuleName<'a> },
     /// `look R ADDR`: the reader looks the address up.
     Look { reader: u32, address: u64 },
-}
-
-/// The number from 1 up to the greatest that a word is.
-fn number_up_to(word: &[u8], greatest: u32) -> Option<u32>
-    ensures { result ≡ between 1 greatest (number_of word.now) }
-{
-    match number(word) {
-        Some(number) if number >= 1 && number <= u64::from(greatest) => Some(number as u32),
-        _ => None,
-    }
 }
 
 /// `load W NAME`, `unload W NAME` and `init W NAME`

@@ -13,7 +13,7 @@ use Rattle.latch_table.specs.Writers.{WriterState, why}
 use Rattle.shared_lookup.specs.Ledgers.{LedgerState, AreAccepted, CarriesOut, IsResting, ledger_state, sequence_of, why_not, with_entry}
 
 -- an entry of a list with one more at its end
-get_snoc : {X : Type 0} (xs : List X) (u v : X) (j : ℕ) → slice_get (xs ++ u ∷ []) j ≡ Some v
+pub get_snoc : {X : Type 0} (xs : List X) (u v : X) (j : ℕ) → slice_get (xs ++ u ∷ []) j ≡ Some v
     → ((j < length xs) × (slice_get xs j ≡ Some v)) ⊎ ((j ≡ length xs) × (u ≡ v))
 get_snoc [] u v zero e = inr (refl, cc)
 get_snoc [] u v (suc j) e = absurd cc

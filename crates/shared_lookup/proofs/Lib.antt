@@ -1,1 +1,4 @@
 pub mod LedgerLemmas
+pub mod CountLemmas
+pub mod CheckLemmas
+pub mod ThreadLemmas

@@ -5,3 +5,11 @@ pub mod Ledgers
 pub mod Logs
 -- what a load, an unload and the end of a module's start do to it
 pub mod Changes
+-- how many entries of a list a property holds of
+pub mod Counts
+-- what several writers and readers come back with
+pub mod Servings
+-- how their answers are checked
+pub mod Checks
+-- what their threads are given
+pub mod Threads

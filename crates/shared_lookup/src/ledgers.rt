@@ -1,11 +1,12 @@
 //! A writer with the log of its updates.
 
-ghost use Rattle.std.specs.Prelude.{◌≡◌, IfOk, IfErr, OnErr, All, vec_len};
+ghost use Rattle.std.specs.Prelude.{◌≡◌, [], IfOk, IfErr, OnErr, All, vec_len};
 ghost use Rattle.order_laws.specs.declared.refusals.Refusal.TheVariants.{OutOfMemory};
 ghost use Rattle.latch_table.specs.declared.knowledge.Origin.TheVariants.{Start};
 ghost use Rattle.latch_table.specs.Readers.{new_reader};
 ghost use Rattle.latch_table.specs.Seats.{first_knowledge};
 ghost use Rattle.latch_table.specs.Writers.{MayOpenWith, RefusesOpening};
+ghost use Rattle.shared_lookup.specs.Checks.{with_log};
 ghost use Rattle.shared_lookup.specs.Changes.{Changes, RefusesChange, held_in};
 ghost use Rattle.shared_lookup.specs.Ledgers.{Applies, AreAccepted, RefusesEntry, new_ledger};
 ghost use Rattle.shared_lookup.specs.Ledgers.{table_of};
@@ -144,5 +145,29 @@ impl Ledger {
     {
         let _readers = self.writer.readers();
         self.log.as_slice()
+    }
+
+    /// The same, where the ledger is not needed any more.
+    pub fn into_log(self) -> Vec<Update>
+        ensures { result.items ≡ self.log }
+    {
+        let Ledger {
+            writer: _,
+            log,
+            layout: _,
+            start: _,
+        } = self;
+        log
+    }
+
+    /// An empty table that accepts the same updates. Refused by [`Refusal::OutOfMemory`] alone.
+    pub(crate) fn blank(&self, alloc: Global) -> Result<RestingWriter, Refusal>
+        ensures blank { IfOk result (λ w. w.log ≡ []) }
+        ensures accepts { IfOk result (λ w. AreAccepted (with_log self.now.log w)) }
+        ensures refusal { IfErr result (λ e. e ≡ OutOfMemory) }
+    {
+        let _readers = self.writer.readers();
+        let (table, _) = RestingWriter::open(alloc, self.layout, self.start, 1)?;
+        Ok(table)
     }
 }

@@ -12,16 +12,30 @@
 //!   thread of writer 2 --'                                              '-- thread of reader 2
 //! ```
 //!
-//! **Not promised:** which thread is first; that a thread gets its turn.
+//! [`serve`] runs one thread for each list, and then checks what came back: it puts the answers in
+//! the order of their generations and replays the log once through a second table, in which it
+//! looks each key up at its generation.
+//!
+//! **Not promised:** which thread is first; that a thread gets its turn; that the threads run at
+//! once.
 #![tactic(auto)]
 
 pub mod changes;
+mod checks;
 pub mod gates;
 pub mod ledgers;
+mod lists;
+mod outcomes;
+mod replays;
 mod resting;
+pub mod served;
+pub mod serving;
 pub mod shared;
+mod threads;
 
 pub use changes::Change;
 pub use gates::{Gate, Open, Point};
 pub use ledgers::Ledger;
+pub use served::{Answer, Served};
+pub use serving::serve;
 pub use shared::SharedWriter;

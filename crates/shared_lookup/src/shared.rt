@@ -39,3 +39,28 @@ impl SharedWriter {
         ledger.into_inner()
     }
 }
+
+/// Makes changes, each on its own, for any number of threads.
+pub(crate) trait Changer {
+    /// The new generation, or why the change was refused.
+    fn change<R: Wait, G: Gate>(&self, rt: &R, g: &G, who: u32, ch: Change) -> Result<u64, Refusal>;
+}
+
+/// A shared writer with the catalog that its changes are of.
+#[derive(Clone, Copy)]
+pub(crate) struct CatalogWriter<'a, 'c> {
+    pub(crate) shared: &'a SharedWriter,
+    pub(crate) catalog: &'a Catalog<'c>,
+}
+
+impl<'a, 'c> Changer for CatalogWriter<'a, 'c> {
+    fn change<R: Wait, G: Gate>(
+        &self,
+        rt: &R,
+        g: &G,
+        who: u32,
+        ch: Change,
+    ) -> Result<u64, Refusal> {
+        self.shared.change(rt, g, who, self.catalog, ch)
+    }
+}

@@ -1,5 +1,5 @@
 //! Command lines, and the lines that report a fault.
-use crate::command_line::{Job, JobFault, LookupJob, job_of};
+use crate::command_line::{Job, JobFault, LookupJob, RunJob, job_of};
 use crate::fault::{Fault, report, report_before_job};
 use clap::error::ErrorKind;
 use devices::Counted;
@@ -165,6 +165,65 @@ fn a_lookup_needs_addresses_that_are_numbers(rt: HostRuntime) {
     ] {
         assert!(rt; fault_in(alloc, &words) == Some(ErrorKind::MissingRequiredArgument));
     }
+}
+
+/// The run that these words ask for, with this number of readers.
+fn run_of<'a>(alloc: Global, words: &'a [&'a str]) -> Option<RunJob<'a>> {
+    match job_of(alloc, words) {
+        Ok(Job::Run(job)) => Some(job),
+        _ => None,
+    }
+}
+
+#[test]
+fn a_command_line_asks_for_a_run(rt: HostRuntime) -> Result<(), Fail> {
+    let alloc = rt.alloc();
+    for (number, readers) in [("1", 1), ("064", 64), ("0x40", 64)] {
+        let words = [
+            "latchsym",
+            "run",
+            "--modules=m",
+            "--readers",
+            number,
+            "s",
+            "--kallsyms=k",
+        ];
+        let job = run_of(alloc, &words).ok_or("no run")?;
+        assert_eq!(rt; job.readers, readers);
+        let job = Job::Run(job);
+        assert!(rt; job.file(0) == Some("m"));
+        assert!(rt; job.file(1) == Some("k"));
+        assert!(rt; job.file(2) == None);
+        assert!(rt; job.file(3) == Some("s"));
+    }
+    for bad in ["0", "65", "", "x", "-1", "18446744073709551617"] {
+        let words = [
+            "latchsym",
+            "run",
+            "--modules=m",
+            "--kallsyms=k",
+            "s",
+            "--regions=r",
+            "--readers",
+            bad,
+        ];
+        match job_of(alloc, &words) {
+            Err(JobFault::BadReaders(word)) => assert!(rt; word == bad),
+            Err(JobFault::CommandLine(_)) => assert!(rt; bad == "-1"),
+            _ => assert!(rt; false, "a number of readers"),
+        }
+    }
+    let words = ["latchsym", "run", "--modules=m", "--kallsyms=k", "s"];
+    assert!(rt; fault_in(alloc, &words) == Some(ErrorKind::MissingRequiredArgument));
+    let words = [
+        "latchsym",
+        "run",
+        "--modules=m",
+        "--kallsyms=k",
+        "--readers=1",
+    ];
+    assert!(rt; fault_in(alloc, &words) == Some(ErrorKind::MissingRequiredArgument));
+    Ok(())
 }
 
 #[test]

@@ -6,3 +6,7 @@ use Rattle.latchsym.proofs.command_line.job_of_subcommand.Goals as goal
 pub returns-in-lookup : goal.returns-in-lookup
 returns-in-lookup c =
     subst (λ name. AnswersMatches (Some (name, rows_of (found_of c.args.found.now))) c.lookup_job.result) (sym c.in-lookup.is) c.lookup_job.ensures
+
+pub returns-in-run : goal.returns-in-run
+returns-in-run c =
+    subst (λ name. AnswersMatches (Some (name, rows_of (found_of c.args.found.now))) c.run_job.result) (sym c.in-run.is) c.run_job.ensures

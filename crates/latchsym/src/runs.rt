@@ -1,0 +1,142 @@
+//! From the bytes of a script and of the listings to the lines that its run writes.
+//!
+//! The lines of the script are put into a list for each writer and a list for each reader. Each
+//! list is done by a thread of its own, all at once, over one table. What came back is checked
+//! against the log of the table's updates before the first byte is written.
+ghost use Rattle.std.specs.Prelude.{◌≡◌, ◌⊎◌, true, All, IfErr, IfSome};
+ghost use Rattle.std.specs.List.{list_any};
+ghost use Rattle.devices.specs.Counted.{device_of};
+ghost use Rattle.listing.specs.Scripts.{has_actor};
+ghost use Rattle.modules.specs.Lines.{region_fits};
+ghost use Rattle.latchsym.specs.LookupInputs.{gathered_in, lines_in};
+ghost use Rattle.latchsym.specs.Runs.{AnswersLines, AnswersScript, RunsScript, status_of};
+
+use crate::assignments::{Assignments, assign};
+use crate::fault::{FAILED, Fault, SUCCEEDED};
+use crate::lookup::{
+    KALLSYMS_PLACE, LookupInputs, MODULES_PLACE, listings_in, read_at, read_if_given,
+    region_lines_in,
+};
+use crate::run_texts::put_run;
+use devices::Counted;
+use listing::{ScriptLine, read_script};
+use modules::{Catalog, KernelBounds};
+use order_laws::Refusal;
+use shared_lookup::{Open, serve};
+use std::alloc::Global;
+use std::io::{Read, Write};
+use std::sync::Wait;
+use std::thread::Threads;
+
+/// The readers of the files of a run, in the order in which they are read.
+#[derive(Drop)]
+pub struct RunReaders<M, K, R, S> {
+    /// The listing of modules.
+    pub modules: Counted<M>,
+    /// The listing of symbols.
+    pub kallsyms: Counted<K>,
+    /// The listing of regions, where there is one.
+    pub regions: Option<Counted<R>>,
+    /// The script.
+    pub script: Counted<S>,
+}
+
+/// The place of the script among the files that are read.
+const SCRIPT_PLACE: u64 = 3;
+
+/// Does what a script for so many readers says, over a table that is empty at first, and writes a
+/// line for each refused change and each lookup and the line of the totals. Answers the program's
+/// status, 1 where an answer was not that of its generation or a change is not in the log as it was
+/// accepted.
+///
+/// All is read, done and checked before the first byte is written, so every fault but a failed
+/// write leaves the writer as it was. Refused for want of memory also where a reader's thread was
+/// not started or has not all its answers. docs/FORMATS.md has the files and the lines.
+pub fn run_engine<T: Threads + Wait + Sync, M: Read, K: Read, R: Read, S: Read, W: Write>(
+    rt: &T,
+    alloc: Global,
+    readers: &mut RunReaders<M, K, R, S>,
+    count: u32,
+    writer: &mut Counted<W>,
+) -> Result<u8, Fault>
+    ensures kept { IfErr result (λ e. (e ≡ Fault.Write) ⊎ (writer.new ≡ writer.old)) }
+    ensures script { IfSome (S.remaining (device_of readers.old.script))
+        (λ text. RunsScript W.contents count text writer.old writer.new result) }
+{
+    let modules = read_at(alloc, &mut readers.modules, MODULES_PLACE)?;
+    let kallsyms = read_at(alloc, &mut readers.kallsyms, KALLSYMS_PLACE)?;
+    let regions = read_if_given(alloc, &mut readers.regions)?;
+    let regions = region_lines_in(alloc, &regions)?;
+    let script = read_at(alloc, &mut readers.script, SCRIPT_PLACE)?;
+    let inputs = LookupInputs {
+        names: &KernelBounds::usual(),
+        modules: &modules,
+        kallsyms: &kallsyms,
+        regions,
+        addresses: Vec::new(alloc),
+    };
+    run_with(rt, alloc, &inputs, &script, count, writer)
+}
+
+/// Does what the text of a script for so many readers says, over these listings.
+fn run_with<T: Threads + Wait + Sync, W: Write>(
+    rt: &T,
+    alloc: Global,
+    inputs: &LookupInputs<'_>,
+    script: &[u8],
+    readers: u32,
+    writer: &mut Counted<W>,
+) -> Result<u8, Fault>
+    requires { All (λ r. region_fits r ≡ true) (lines_in (gathered_in inputs.now)) }
+    ensures { AnswersScript W.contents (gathered_in inputs.now) readers script.now
+        writer.old writer.new result }
+{
+    let lines = match read_script(alloc, script, readers) {
+        Ok(lines) => lines,
+        Err(fault) => return Err(Fault::of_lines(SCRIPT_PLACE, fault)),
+    };
+    let listings = listings_in(alloc, inputs)?;
+    run_lines(rt, alloc, &listings.catalog, &lines, readers, writer)
+}
+
+/// Does what these lines of a script for so many readers say, writes the lines of what came back,
+/// and answers the program's status, 1 where something is wrong.
+fn run_lines<T: Threads + Wait + Sync, W: Write>(
+    rt: &T,
+    alloc: Global,
+    catalog: &Catalog<'_>,
+    lines: &[ScriptLine<'_>],
+    readers: u32,
+    writer: &mut Counted<W>,
+) -> Result<u8, Fault>
+    requires { All (λ l. has_actor readers l ≡ true) lines.now }
+    ensures { AnswersLines W.contents catalog.now readers lines.now writer.old writer.new result }
+{
+    let Assignments {
+        changes,
+        names,
+        keys,
+    } = assign(alloc, catalog, lines, readers)?;
+    let served = serve(rt, alloc, &Open, catalog, changes, keys)?;
+    if has_ended(&served.ended) {
+        return Err(Fault::Refused(Refusal::OutOfMemory));
+    }
+    match put_run(writer, catalog, &names, &served) {
+        Ok(()) => Ok(status_of(served.wrong)),
+        Err(_) => Err(Fault::Write),
+    }
+}
+
+/// Whether some list of addresses ended for want of memory.
+fn has_ended(ended: &[bool]) -> bool
+    ensures { result ≡ list_any (λ e. e) ended.now }
+{
+    ended.iter().any(|ended| *ended)
+}
+
+/// The program's status where so many are wrong.
+fn status_of(wrong: u64) -> u8
+    ensures { result ≡ status_of wrong }
+{
+    if wrong == 0 { SUCCEEDED } else { FAILED }
+}

@@ -1,0 +1,50 @@
+-- The count of wrong answers, by its test.
+use Rattle.std.proofs.Common.{◌≡◌, Bool, true, false, List, [], length, take, Option, Some, None, refl, ap, inl, inr, ⊎_elim, arith}
+use Rattle.std.specs.Prelude.{count_by, nat_lt, not, ◌||◌}
+use Rattle.std.proofs.lemmas.Bool.Decides.{nat_tests}
+use Rattle.order_laws.specs.declared.items.Item.{Item}
+use Rattle.order_laws.specs.Orders.{half_open}
+use Rattle.order_laws.specs.Tables.{look}
+use Rattle.latch_core.specs.declared.updates.Update.{Update}
+use Rattle.latch_core.specs.Histories.{replay}
+use Rattle.shared_lookup.specs.declared.served.Answer.{Answer}
+use Rattle.shared_lookup.specs.Checks.{is_same, is_wrong_answer}
+use Rattle.shared_lookup.specs.Counts.{Counts}
+use Rattle.shared_lookup.specs.Servings.{IsWrongAnswer}
+use Rattle.shared_lookup.proofs.CountLemmas.{counts_of}
+
+same_items : (x y : Option Item) → is_same x y ≡ true → x ≡ y
+same_items None None e = refl
+same_items None (Some j) e = absurd cc
+same_items (Some i) None e = absurd cc
+same_items (Some i) (Some j) e =
+    let a : i.a ≡ j.a = grind (arith, nat_tests) in
+    let b : i.b ≡ j.b = grind (arith, nat_tests) in
+    let t : i.tag ≡ j.tag = grind (arith, nat_tests) in
+    λ k. Some (record { a = a k; b = b k; tag = t k })
+
+itself : (x : Option Item) → is_same x x ≡ true
+itself None = refl
+itself (Some i) = grind (arith, nat_tests)
+
+module _ (log : List Update) (a : Answer) where
+  abbrev found : Option Item
+  found = look half_open a.key (replay half_open [] (take a.generation log))
+
+  wrong_by : (p q : Bool) → nat_lt (length log) a.generation ≡ p → is_same a.item found ≡ q → (p || not q) ≡ true → IsWrongAnswer log a
+  wrong_by true q ep eq e = inl (let h = ep in grind (arith, nat_tests))
+  wrong_by false true ep eq e = absurd cc
+  wrong_by false false ep eq e =
+      inr (λ same. absurd (let f : is_same a.item a.item ≡ is_same a.item found = ap (is_same a.item) same in let g = itself a.item in let h = eq in cc))
+
+  right_by : (p q : Bool) → nat_lt (length log) a.generation ≡ p → is_same a.item found ≡ q → (p || not q) ≡ false → IsWrongAnswer log a → ⊥
+  right_by true q ep eq e wrong = absurd cc
+  right_by false true ep eq e wrong =
+      ⊎_elim (λ past. absurd (let h = ep in grind (arith, nat_tests))) (λ other. other (same_items a.item found eq)) wrong
+  right_by false false ep eq e wrong = absurd cc
+
+-- so many answers are wrong as the test says
+pub wrong_counted : (log : List Update) (answers : List Answer) → Counts (IsWrongAnswer log) answers (count_by (is_wrong_answer log) answers)
+wrong_counted log answers =
+    counts_of (IsWrongAnswer log) (is_wrong_answer log)
+    (λ a e. wrong_by log a _ _ refl refl e) (λ a e. right_by log a _ _ refl refl e) answers

@@ -1,0 +1,37 @@
+use Rattle.std.proofs.Common.{◌≡◌, ◌∙◌, ◌++◌, ◌∷◌, [], ℕ, List, length, Some, refl, ap, sym, subst, ⊎_elim, arith, length-append, get_or}
+use Rattle.std.specs.Prelude.{slice_get}
+use Rattle.std.proofs.lemmas.Option.{get_or_from_slice_get}
+use Rattle.shared_lookup.specs.declared.served.Answer.{Answer}
+use Rattle.shared_lookup.specs.Servings.{IsAnswerTo}
+use Rattle.shared_lookup.proofs.LedgerLemmas.{get_snoc}
+use Rattle.shared_lookup.proofs.threads.look_up.Goals as goal
+
+-- an answer more, at the place of its key
+answer_more : (reader : ℕ) (keys : List ℕ) (old : List Answer) (new : Answer)
+    → ((place key : ℕ) (a : Answer) → slice_get keys place ≡ Some key → slice_get old place ≡ Some a → IsAnswerTo reader place key a)
+    → new.reader ≡ reader → new.place ≡ length old → new.key ≡ get_or keys (length old) 0
+    → (place key : ℕ) (a : Answer) → slice_get keys place ≡ Some key → slice_get (old ++ new ∷ []) place ≡ Some a → IsAnswerTo reader place key a
+answer_more reader keys old new before er ep ek place key a k h =
+    ⊎_elim
+    (λ q. before place key a k q.1)
+    (λ q.
+    let key_is : get_or keys place 0 ≡ key = get_or_from_slice_get keys place key 0 k in
+    record {
+      reader_is = sym (ap (λ (x : Answer). x.reader) q.1) ∙ er;
+      place_is = sym (ap (λ (x : Answer). x.place) q.1) ∙ ep ∙ sym q.0;
+      key_is = sym (ap (λ (x : Answer). x.key) q.1) ∙ ek ∙ ap (λ i. get_or keys i 0) (sym q.0) ∙ key_is;
+    })
+    (get_snoc old new a place h)
+
+pub loop-index-preserved : goal.loop-index-preserved
+loop-index-preserved g c =
+    let new : Answer = record { reader = c.args.reader; place = c.loop-index.index; key = get_or c.args.keys.now c.loop-index.index 0; generation = c.find-item.result.1; item = c.find-item.result.0 } in
+    let old = c.loop-index.answers.items in
+    let few = c.loop-index.invariant.few in
+    let items : c.push_reserved.new.self.items ≡ old ++ new ∷ [] = c.push_reserved.ensures.items ∙ ap (λ (xs : List Answer). xs ++ new ∷ []) c.reserve.ensures.items in
+    record {
+      few = ap length items ∙ (let n = length-append old (new ∷ []) in omega (arith, n, few));
+      each = λ place key a k h.
+          answer_more c.args.reader c.args.keys.now old new c.loop-index.invariant.each refl (sym few) (ap (λ i. get_or c.args.keys.now i 0) (sym few)) place key a k
+          (subst (λ (xs : List Answer). slice_get xs place ≡ Some a) items h);
+    }

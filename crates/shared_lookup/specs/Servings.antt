@@ -1,0 +1,97 @@
+-- What several writers and readers come back with, and how many of their answers are wrong.
+use Rattle.std.specs.Prelude.{◌≡◌, ◌≢◌, ◌⊎◌, ℕ, ◌+◌, ◌-◌, ◌^◌, ◌<◌, ◌≤◌, ◌==◌, Bool, false, List, [], length, map, take, slice_get, count_by, zip, min, Some, Result, Ok, Err}
+use Rattle.std.specs.Global.{Vec}
+use Rattle.std.specs.List.{flat_map, range_with_len}
+use Rattle.order_laws.specs.declared.refusals.Refusal.{Refusal}
+use Rattle.order_laws.specs.declared.refusals.Refusal.TheVariants.{OutOfMemory, BadCapacity}
+use Rattle.order_laws.specs.Orders.{half_open}
+use Rattle.order_laws.specs.Tables.{look}
+use Rattle.latch_core.specs.declared.updates.Update.{Update}
+use Rattle.latch_core.specs.Histories.{replay}
+use Rattle.modules.specs.Catalogs.{regions_of}
+use Rattle.modules.specs.Entries.{CatalogEntries}
+use Rattle.shared_lookup.specs.declared.changes.Change.{Change}
+use Rattle.shared_lookup.specs.declared.served.Answer.{Answer}
+use Rattle.shared_lookup.specs.Changes.{IsUpdateFor}
+use Rattle.shared_lookup.specs.Counts.{Counts}
+
+-- what became of a change: its generation, or why it was refused
+abbrev pub Outcome : Type 0
+Outcome = Result ℕ Refusal
+
+-- all entries of all lists, one list after another
+abbrev pub entries : {X : Type 0} → List (Vec X) → List X
+entries lists = flat_map (λ list. list.items) lists
+
+-- each list of changes has a list of outcomes, one for each change
+abbrev pub EachHasOutcome : List (Vec Change) → List (Vec Outcome) → Type 0
+EachHasOutcome changes outcomes =
+    map (λ list. length list.items) outcomes ≡ map (λ list. length list.items) changes
+
+-- the answer is that of this reader to the key at this place
+pub record IsAnswerTo (reader place key : ℕ) (a : Answer) : Type 0 where
+  pub reader_is : a.reader ≡ reader
+  pub place_is : a.place ≡ place
+  pub key_is : a.key ≡ key
+
+-- a list of keys is answered from its first place on, and to its end unless it ended for want of
+-- memory
+pub record AreAnswered (reader : ℕ) (keys : List ℕ) (answers : List Answer) (ended : Bool)
+    : Type 0 where
+  pub few : length answers ≤ length keys
+  pub each : (place key : ℕ) (a : Answer) → slice_get keys place ≡ Some key
+      → slice_get answers place ≡ Some a → IsAnswerTo reader place key a
+  pub whole : ended ≡ false → length answers ≡ length keys
+
+-- each list of keys is answered
+pub record EachIsAnswered (keys : List (Vec ℕ)) (answers : List (Vec Answer)) (ended : List Bool)
+    : Type 0 where
+  pub same : length answers ≡ length keys
+  pub told : length ended ≡ length keys
+  pub each : (reader : ℕ) (list : Vec ℕ) (found : Vec Answer) (end : Bool)
+      → slice_get keys reader ≡ Some list → slice_get answers reader ≡ Some found → slice_get ended reader ≡ Some end
+      → AreAnswered reader list.items found.items end
+
+-- an answer of a generation that the log does not come to, or not what the key lies in at its
+-- generation
+abbrev pub IsWrongAnswer : List Update → Answer → Type 0
+IsWrongAnswer log a =
+    (length log < a.generation)
+    ⊎ (a.item ≢ look half_open a.key (replay half_open [] (take a.generation log)))
+
+-- the log has an entry of this generation that the catalog gives for the change
+abbrev pub IsLogged : CatalogEntries → List Update → Change → ℕ → Type 0
+IsLogged c log ch g =
+    (0 < g) × ((u : Update) × (slice_get log (g - 1) ≡ Some u) × IsUpdateFor c ch u)
+
+-- a change that was accepted without such an entry
+abbrev pub IsWrongChange : CatalogEntries → List Update → Change × Outcome → Type 0
+IsWrongChange c log e = (g : ℕ) × (e.1 ≡ Ok g) × (IsLogged c log e.0 g → ⊥)
+
+-- the change was accepted, and this is its generation
+abbrev pub has_generation : ℕ → Outcome → Bool
+has_generation g (Ok h) = h == g
+has_generation g (Err e) = false
+
+-- an entry of the log, by its place, whose generation is not that of exactly one accepted change
+abbrev pub IsWrongEntry : List Outcome → ℕ → Type 0
+IsWrongEntry outcomes place = count_by (has_generation (place + 1)) outcomes ≢ 1
+
+-- how many are wrong of the answers, of the accepted changes and of the entries of the log; it
+-- stays at the greatest u64
+abbrev pub IsWrongCount : CatalogEntries → List (Vec Change) → List (Vec Outcome)
+    → List (Vec Answer) → List Update → ℕ → Type 0
+IsWrongCount c changes outcomes answers log wrong =
+    (a : ℕ) × Counts (IsWrongAnswer log) (entries answers) a
+    × ((b : ℕ) × Counts (IsWrongChange c log) (zip (entries changes) (entries outcomes)) b
+    × ((d : ℕ) × Counts (IsWrongEntry (entries outcomes)) (range_with_len 0 (length log)) d
+    × (wrong ≡ min (a + b + d) (2 ^ 64 - 1))))
+
+-- a table can have so many regions, and so many readers
+abbrev pub MayServe : CatalogEntries → List (Vec ℕ) → Type 0
+MayServe c keys = (length (regions_of c) ≤ 65536) × (0 < length keys) × (length keys ≤ 64)
+
+-- by these numbers, and else for want of memory
+abbrev pub RefusesServing : CatalogEntries → List (Vec ℕ) → Refusal → Type 0
+RefusesServing c keys e =
+    ((e ≡ BadCapacity) × (MayServe c keys → ⊥)) ⊎ ((e ≡ OutOfMemory) × MayServe c keys)

@@ -1,0 +1,133 @@
+//! The outcomes of the changes, compared with the log.
+
+ghost use Rattle.std.specs.Prelude.{◌≡◌, ◌↔◌, ◌+◌, ◌<◌, ◌≤◌, IsTrue, length, min, slice_index_or};
+ghost use Rattle.std.specs.Prelude.{zip, IfOk};
+ghost use Rattle.std.specs.List.{range_with_len};
+ghost use Rattle.std.specs.Prelude.{count_by};
+ghost use Rattle.shared_lookup.specs.Checks.{AreTallied, IsTalliedBy};
+ghost use Rattle.shared_lookup.specs.Counts.{CountsUpTo};
+ghost use Rattle.shared_lookup.specs.Servings.{EachHasOutcome, IsLogged, IsWrongChange};
+ghost use Rattle.shared_lookup.specs.Servings.{IsWrongEntry};
+ghost use Rattle.shared_lookup.specs.Servings.{entries, has_generation};
+
+use crate::changes::Change;
+use latch_core::Update;
+use modules::Catalog;
+use order_laws::Refusal;
+use std::alloc::{AllocError, Global};
+
+/// Whether the entry of a generation is one that the catalog gives for a change.
+fn is_logged(c: &Catalog<'_>, log: &[Update], change: Change, generation: u64) -> bool
+    ensures { IsTrue result ↔ IsLogged c.now log.now change generation }
+{
+    if generation == 0 {
+        return false;
+    }
+    match log.get((generation - 1) as usize) {
+        Some(update) => change.gives(c, update),
+        None => false,
+    }
+}
+
+/// Whether a change was accepted without such an entry.
+fn is_wrong(c: &Catalog<'_>, log: &[Update], change: Change, outcome: Result<u64, Refusal>) -> bool
+    ensures { IsTrue result ↔ IsWrongChange c.now log.now (change, outcome) }
+{
+    match outcome {
+        Ok(generation) => !is_logged(c, log, change, generation),
+        Err(_) => false,
+    }
+}
+
+/// How many changes of one list were accepted without an entry in the log; it stays at the greatest
+/// number.
+fn wrong_in_list(
+    c: &Catalog<'_>,
+    log: &[Update],
+    changes: &[Change],
+    outcomes: &[Result<u64, Refusal>],
+) -> u64
+    requires { length outcomes.now ≡ length changes.now }
+    ensures { CountsUpTo (IsWrongChange c.now log.now) (zip changes.now outcomes.now) result }
+{
+    let mut wrong = 0u64;
+    for place in 0..changes.len() {
+        if is_wrong(c, log, changes[place], outcomes[place]) {
+            wrong = wrong.saturating_add(1);
+        }
+    }
+    wrong
+}
+
+/// The same of all lists.
+pub(crate) fn wrong_changes(
+    c: &Catalog<'_>,
+    log: &[Update],
+    changes: &[Vec<Change>],
+    outcomes: &[Vec<Result<u64, Refusal>>],
+) -> u64
+    requires { EachHasOutcome changes.now outcomes.now }
+    ensures { CountsUpTo (IsWrongChange c.now log.now)
+        (zip (entries changes.now) (entries outcomes.now)) result }
+{
+    let mut wrong = 0u64;
+    for place in 0..changes.len() {
+        let here = wrong_in_list(c, log, &changes[place], &outcomes[place]);
+        wrong = wrong.saturating_add(here);
+    }
+    wrong
+}
+
+/// Counts the accepted changes of one list at the entries of their generations; each count stays at
+/// the greatest number.
+fn tally(outcomes: &[Result<u64, Refusal>], times: &mut [u8])
+    ensures length { length times.new ≡ length times.old }
+    ensures tallied { IsTalliedBy outcomes.now times.old times.new }
+{
+    for outcome in outcomes {
+        let Ok(generation) = outcome else {
+            continue;
+        };
+        let place = generation.wrapping_sub(1);
+        if place < times.len() as u64 {
+            times[place as usize] = times[place as usize].saturating_add(1);
+        }
+    }
+}
+
+/// For each of the first entries of the log how many accepted changes have its generation; it stays
+/// at the greatest number.
+fn tallied(
+    alloc: Global,
+    count: usize,
+    outcomes: &[Vec<Result<u64, Refusal>>],
+) -> Result<Vec<u8>, AllocError>
+    ensures { IfOk result (λ times. (length times.items ≡ count)
+        × AreTallied (entries outcomes.now) times.items) }
+{
+    let mut times = vec![in alloc; 0u8; count]?;
+    for list in outcomes {
+        tally(list.as_slice(), times.as_mut_slice());
+    }
+    Ok(times)
+}
+
+/// How many of the first entries of the log have a generation that is not that of exactly one
+/// accepted change; it stays at the greatest number.
+pub(crate) fn wrong_entries(
+    alloc: Global,
+    count: usize,
+    outcomes: &[Vec<Result<u64, Refusal>>],
+) -> Result<u64, AllocError>
+    ensures { IfOk result (λ n. CountsUpTo (IsWrongEntry (entries outcomes.now))
+        (range_with_len 0 count) n) }
+{
+    let times = tallied(alloc, count, outcomes)?;
+    let mut wrong = 0u64;
+    for time in &times {
+        if *time != 1 {
+            wrong = wrong.saturating_add(1);
+        }
+    }
+    Ok(wrong)
+}

@@ -1,0 +1,138 @@
+//! The answers of the readers, checked by one replay of the log.
+//!
+//! The answers are put in the order of their generations, and a second table goes through the log
+//! once: before each answer it is brought to the answer's generation, and the key is looked up
+//! there.
+
+ghost use Rattle.std.specs.Prelude.{◌≡◌, ◌≤◌, [], take, length, count_by, IfOk, IfErr, OnOk};
+ghost use Rattle.std.specs.List.Sorted.{IsPermutation};
+ghost use Rattle.order_laws.specs.declared.refusals.Refusal.TheVariants.{OutOfMemory};
+ghost use Rattle.shared_lookup.specs.Checks.{AreInOrder, is_same, is_wrong_answer, with_log};
+ghost use Rattle.shared_lookup.specs.Ledgers.{AreAccepted};
+ghost use Rattle.shared_lookup.specs.Servings.{entries};
+
+use crate::gates::Open;
+use crate::resting::RestingWriter;
+use crate::served::Answer;
+use latch_core::Update;
+use order_laws::{Item, Refusal};
+use std::alloc::{AllocError, Global};
+
+/// The answers of all lists, one list after another.
+fn flattened(alloc: Global, answers: &[Vec<Answer>]) -> Result<Vec<Answer>, AllocError>
+    ensures { IfOk result (λ all. all.items ≡ entries answers.now) }
+{
+    let mut all = Vec::new(alloc);
+    for list in answers {
+        all.extend_from_slice(list.as_slice())?;
+    }
+    Ok(all)
+}
+
+/// The answers of all lists, by rising generation.
+fn by_generation(alloc: Global, answers: &[Vec<Answer>]) -> Result<Vec<Answer>, AllocError>
+    ensures permutation { IfOk result (λ all. IsPermutation (entries answers.now) all.items) }
+    ensures ordered { IfOk result (λ all. AreInOrder all.items) }
+{
+    let mut all = flattened(alloc, answers)?;
+    all.sort_unstable_by_key(|answer| answer.generation);
+    Ok(all)
+}
+
+/// Whether both are the same item, or none.
+fn is_same(x: Option<Item>, y: Option<Item>) -> bool
+    ensures { result ≡ is_same x y }
+{
+    match (x, y) {
+        (None, None) => true,
+        (Some(i), Some(j)) => i.a == j.a && i.b == j.b && i.tag == j.tag,
+        (_, _) => false,
+    }
+}
+
+/// Brings a table that has made the first `done` updates of the log on to the first `count`.
+fn replay_up_to(
+    table: &mut RestingWriter,
+    log: &[Update],
+    done: usize,
+    count: usize,
+) -> Result<(), Refusal>
+    requires done { table.old.log ≡ take done log.now }
+    requires further { done ≤ count }
+    requires within { count ≤ length log.now }
+    requires accepted { AreAccepted (with_log log.now table.old) }
+    ensures replayed { OnOk result (table.new ≡ with_log (take count log.now) table.old) }
+    ensures refusal { IfErr result (λ e. e ≡ OutOfMemory) }
+{
+    for update in &log[done..count] {
+        table.apply(&Open, 0, update.copy()?)?;
+    }
+    Ok(())
+}
+
+/// Whether an answer is wrong, of a generation that is not below the `done` updates of the log that
+/// the table has made. Answers with it how many it has made then.
+fn is_wrong(
+    table: &mut RestingWriter,
+    log: &[Update],
+    done: usize,
+    answer: &Answer,
+) -> Result<(bool, usize), Refusal>
+    requires done { table.old.log ≡ take done log.now }
+    requires within { done ≤ length log.now }
+    requires further { done ≤ answer.now.generation }
+    requires accepted { AreAccepted (with_log log.now table.old) }
+    ensures wrong { IfOk result (λ r. r.0 ≡ is_wrong_answer log.now answer.now) }
+    ensures done { IfOk result (λ r. (r.1 ≤ length log.now) × (r.1 ≤ answer.now.generation)
+        × (table.new ≡ with_log (take r.1 log.now) table.old)) }
+    ensures refusal { IfErr result (λ e. e ≡ OutOfMemory) }
+{
+    if answer.generation > log.len() as u64 {
+        return Ok((true, done));
+    }
+    let count = answer.generation as usize;
+    replay_up_to(table, log, done, count)?;
+    let found = table.find(answer.key);
+    Ok((!is_same(answer.item, found), count))
+}
+
+/// How many answers are wrong, of answers in order, by a table that has made no update.
+fn wrong_in_order(
+    table: &mut RestingWriter,
+    log: &[Update],
+    answers: &[Answer],
+) -> Result<u64, Refusal>
+    requires blank { table.old.log ≡ [] }
+    requires accepted { AreAccepted (with_log log.now table.old) }
+    requires ordered { AreInOrder answers.now }
+    ensures count { IfOk result (λ n. n ≡ count_by (is_wrong_answer log.now) answers.now) }
+    ensures refusal { IfErr result (λ e. e ≡ OutOfMemory) }
+{
+    let mut done = 0;
+    let mut wrong = 0;
+    for answer in answers {
+        let (here, now) = is_wrong(table, log, done, answer)?;
+        done = now;
+        if here {
+            wrong += 1;
+        }
+    }
+    Ok(wrong)
+}
+
+/// How many answers of these lists are wrong, by a table that has made no update.
+pub(crate) fn wrong_answers(
+    alloc: Global,
+    table: &mut RestingWriter,
+    log: &[Update],
+    answers: &[Vec<Answer>],
+) -> Result<u64, Refusal>
+    requires blank { table.old.log ≡ [] }
+    requires accepted { AreAccepted (with_log log.now table.old) }
+    ensures count { IfOk result (λ n.
+        n ≡ count_by (is_wrong_answer log.now) (entries answers.now)) }
+    ensures refusal { IfErr result (λ e. e ≡ OutOfMemory) }
+{
+    let ordered = by_generation(alloc, answers)?;
+    wrong_in_order(table, log, ordered.as_slice())
+}

@@ -1,0 +1,150 @@
+//! Lists of changes and lists of keys, each on a thread of its own.
+
+ghost use Rattle.std.specs.Prelude.{◌≡◌, ◌≤◌, length, IfOk, IfErr, vec_len};
+ghost use Rattle.modules.specs.Catalogs.{regions_of};
+ghost use Rattle.word_arena.specs.Layouts.{capacity_of};
+ghost use Rattle.shared_lookup.specs.Servings.{EachHasOutcome, EachIsAnswered};
+ghost use Rattle.shared_lookup.specs.Servings.{IsWrongCount, MayServe, RefusesServing};
+
+use crate::changes::Change;
+use crate::checks::wrong_count;
+use crate::gates::Gate;
+use crate::ledgers::Ledger;
+use crate::lists::{join_readers, join_writers, start_readers, start_writers, with_room};
+use crate::served::{Answer, Served};
+use crate::shared::{CatalogWriter, Changer, SharedWriter};
+use crate::threads::Outcomes;
+use latch_table::Reader;
+use modules::Catalog;
+use order_laws::{HalfOpen, Refusal};
+use std::alloc::{AllocError, Global};
+use std::sync::Wait;
+use std::thread;
+use std::thread::Threads;
+use word_arena::Layout;
+
+/// What all threads came back with.
+#[derive(Drop)]
+struct Returned {
+    outcomes: Vec<Outcomes>,
+    answers: Vec<Vec<Answer>>,
+    ended: Vec<bool>,
+}
+
+/// Runs a thread for each list, all at once, and waits for them. All memory but that of the answers
+/// is made before the first thread starts.
+fn run_threads<R: Threads + Wait + Sync, G: Gate + Sync, W: Changer + Sync>(
+    rt: &R,
+    alloc: Global,
+    g: &G,
+    changer: &W,
+    changes: &[Vec<Change>],
+    keys: &[Vec<u64>],
+    seats: Vec<Reader<HalfOpen>>,
+) -> Result<Returned, AllocError>
+    requires same { vec_len seats ≡ length keys.now }
+    requires few { length keys.now ≤ 64 }
+    ensures outcomes { IfOk result (λ r. EachHasOutcome changes.now r.outcomes.items) }
+    ensures answers { IfOk result (λ r. EachIsAnswered keys.now r.answers.items r.ended.items) }
+{
+    thread::scope(
+        thread::scope_env(),
+        rt,
+        |scope| -> Result<Returned, AllocError>
+            requires { (vec_len seats ≡ length keys.now) × (length keys.now ≤ 64) }
+            ensures outcomes { IfOk result (λ r.
+                EachHasOutcome changes.entry.now r.outcomes.items) }
+            ensures answers { IfOk result (λ r.
+                EachIsAnswered keys.entry.now r.answers.items r.ended.items) }
+        {
+            let lists = with_room(alloc, changes)?;
+            let outcomes = Vec::with_capacity(alloc, changes.len())?;
+            let answers = Vec::with_capacity(alloc, keys.len())?;
+            let ended = Vec::with_capacity(alloc, keys.len())?;
+            let writers = Vec::with_capacity(alloc, changes.len())?;
+            let readers = Vec::with_capacity(alloc, keys.len())?;
+            let writers = start_writers(scope, rt, g, changer, lists, writers)?;
+            let readers = start_readers(scope, rt, alloc, g, seats, keys, readers)?;
+            let outcomes = join_writers(rt, alloc, writers, outcomes)?;
+            let (answers, ended) = join_readers(rt, alloc, keys, readers, answers, ended)?;
+            Ok(Returned {
+                outcomes,
+                answers,
+                ended,
+            })
+        },
+    )
+}
+
+/// The layout of a table for all regions of a catalog. Refused by [`Refusal::BadCapacity`] where
+/// they are more than a table can have.
+fn layout_for(c: &Catalog<'_>) -> Result<Layout, Refusal>
+    ensures may { IfOk result (λ _. length (regions_of c.now) ≤ 65536) }
+    ensures refused { IfErr result (λ e. (e ≡ Refusal.BadCapacity)
+        × (length (regions_of c.now) ≤ 65536 → ⊥)) }
+{
+    match u32::try_from(c.regions()) {
+        Ok(regions) => Layout::wide(regions.max(1)),
+        Err(_) => Err(Refusal::BadCapacity),
+    }
+}
+
+/// Runs a thread for each list of changes and one for each list of keys, all at once, over a table
+/// that is empty at first, waits for them, and counts what is wrong.
+///
+/// Each change is one [`SharedWriter::change`], each key one
+/// [`Reader::find`](latch_table::Reader::find). Writers, readers and places are numbered from 0.
+/// The gate is told of each step of each update, and of each place before its lookup and after it.
+/// Where no thread can be made for a list, its changes are refused by [`Refusal::OutOfMemory`], or
+/// it ends at its first key; so does a list of keys end where there is no memory for an answer.
+///
+/// Counted as wrong are each answer whose generation is above the log's length or that is not what
+/// the key lies in after as many updates of the log; each accepted change whose generation's entry
+/// of the log is none that the catalog gives for it; and each entry whose generation is not that of
+/// exactly one accepted change.
+///
+/// Refused by [`Refusal::BadCapacity`] where the catalog has more than 65536 regions or there are
+/// not 1 to 64 lists of keys, and else by [`Refusal::OutOfMemory`]: before the threads start, or
+/// where there is none to check what came back.
+pub fn serve<R: Threads + Wait + Sync, G: Gate + Sync>(
+    rt: &R,
+    alloc: Global,
+    g: &G,
+    c: &Catalog<'_>,
+    changes: Vec<Vec<Change>>,
+    keys: Vec<Vec<u64>>,
+) -> Result<Served, Refusal>
+    ensures may { IfOk result (λ s. MayServe c.now keys.items) }
+    ensures outcomes { IfOk result (λ s. EachHasOutcome changes.items s.changes.items) }
+    ensures answers { IfOk result (λ s.
+        EachIsAnswered keys.items s.answers.items s.ended.items) }
+    ensures wrong { IfOk result (λ s.
+        IsWrongCount c.now changes.items s.changes.items s.answers.items s.log.items s.wrong) }
+    ensures refusal { IfErr result (RefusesServing c.now keys.items) }
+{
+    let layout = layout_for(c)?;
+    if keys.is_empty() || keys.len() > 64 {
+        return Err(Refusal::BadCapacity);
+    }
+    let (ledger, seats) = Ledger::open(alloc, layout, 0, keys.len() as u32)?;
+    let shared = SharedWriter::new(ledger);
+    let changer = CatalogWriter {
+        shared: &shared,
+        catalog: c,
+    };
+    let returned = run_threads(rt, alloc, g, &changer, &changes, &keys, seats)?;
+    let ledger = shared.into_ledger();
+    let Returned {
+        outcomes,
+        answers,
+        ended,
+    } = returned;
+    let wrong = wrong_count(alloc, &ledger, c, &changes, &outcomes, &answers)?;
+    Ok(Served {
+        changes: outcomes,
+        answers,
+        ended,
+        log: ledger.into_log(),
+        wrong,
+    })
+}

@@ -1,0 +1,106 @@
+#!/usr/bin/env bash
+# Runs the scripts of examples/scripts/ and compares what is written with the lines beside them; runs scripts of several writers
+# beside many readers, whose last line says that nothing is wrong; and tries what may be wrong with the command line and the files.
+set -eu
+. "$(dirname "$0")/program.sh"
+build latchsym
+cd "$top/examples/scripts"
+failed=0
+
+fail() {
+    echo "runs: $1"
+    failed=1
+}
+
+basic=(--modules ../listings/basic.modules --kallsyms ../listings/basic.kallsyms)
+regions=(--modules ../listings/regions.modules --kallsyms ../listings/regions.kallsyms --regions ../listings/regions.regions)
+
+# run ARGUMENT..: the output in out and err; the run has to succeed
+run() {
+    local status=0
+    "$program" run "$@" >"$work/out" 2>"$work/err" || status=$?
+    [ $status = 0 ] && [ ! -s "$work/err" ] || fail "run $*: status $status, $(cat "$work/err")"
+}
+
+for _ in 1 2 3 4 5 6 7 8 9 10; do
+    run "${basic[@]}" --readers 1 loads.script
+    cmp -s "$work/out" loads.before || cmp -s "$work/out" loads.behind || fail "loads: other lines than those beside it"
+done
+run "${regions[@]}" --readers 1 init.script
+cmp -s "$work/out" init.expected || fail "init: other lines than those beside it"
+
+# ends LINE ARGUMENT..: the run ends with this line
+ends() {
+    local line=$1
+    shift
+    run "$@"
+    [ "$(tail -n 1 "$work/out")" = "$line" ] || fail "run $*: $(tail -n 1 "$work/out")"
+}
+
+# so many modules of a page each, the first at 0x1000
+modules() { awk -v n="$1" 'BEGIN { for (i = 1; i <= n; i++) printf "m%d 4096 0 - Live 0x%x\n", i, i * 4096 }'; }
+
+modules 4 >"$work/four"
+awk 'BEGIN {
+    for (i = 0; i < 50; i++) for (w = 1; w <= 4; w++) {
+        printf "load %d m%d\nunload %d m%d\n", w, w, w, w
+        for (r = 1; r <= 4; r++) printf "look %d 0x%x\n", r, (1 + (r + w + i) % 4) * 4096 + 8
+    }
+}' >"$work/four.script"
+ends "checked 800 wrong 0 seq 800 gen 400" --modules "$work/four" --kallsyms /dev/null --readers 4 "$work/four.script"
+
+# all writers load and unload the same modules, so some of their changes are refused
+modules 8 >"$work/eight"
+awk 'BEGIN {
+    for (i = 0; i < 100000; i++)
+        if (i % 3 == 0) printf "%s %d m%d\n", i % 2 ? "load" : "unload", 1 + i % 8, 1 + int(i / 16) % 8
+        else printf "look %d 0x%x\n", 1 + i % 64, (1 + i % 9) * 4096
+}' >"$work/eight.script"
+run --modules "$work/eight" --kallsyms /dev/null --readers 64 "$work/eight.script"
+tail -n 1 "$work/out" | grep -q '^checked 66666 wrong 0 seq ' || fail "eight writers beside 64 readers: $(tail -n 1 "$work/out")"
+
+# the names of changes and the addresses of lookups come in the order of the script, by writer and by reader
+printf 'unload 8 b\nlook 2 7\nunload 1 a\n\nload 8 c\n# last\nlook 1 0x8\nlook 2 9' >"$work/order"
+run "${basic[@]}" --readers 3 "$work/order"
+printf 'refused 1 11 a\nrefused 8 11 b\nrefused 8 11 c\n1 0x8 -> - gen 0\n2 0x7 -> - gen 0\n2 0x9 -> - gen 0\nchecked 3 wrong 0 seq 0 gen 0\n' >"$work/ordered"
+cmp -s "$work/out" "$work/ordered" || fail "order: other lines"
+for readers in 1 64 0x40; do
+    ends "checked 0 wrong 0 seq 0 gen 0" "${basic[@]}" --readers $readers /dev/null
+done
+
+# refused STATUS LINE ARGUMENT..: nothing on standard output, this line on standard error (any, where it is empty), and this status
+refused() {
+    local want=$1 line=$2 status=0
+    shift 2
+    "$program" run "$@" >"$work/out" 2>"$work/err" || status=$?
+    [ $status = "$want" ] && [ ! -s "$work/out" ] && [ -s "$work/err" ] || fail "run $*: status $status in place of $want"
+    [ -z "$line" ] || [ "$(cat "$work/err")" = "latchsym: $line" ] || fail "run $*: $(cat "$work/err")"
+}
+for word in 0 65 x 64x ''; do
+    refused 2 "bad number of readers $word" "${basic[@]}" --readers "$word" loads.script
+done
+refused 2 "" "${basic[@]}" loads.script
+refused 2 "" "${basic[@]}" --readers 1
+refused 2 "" "${basic[@]}" --readers 1 --readers 2 loads.script
+refused 2 "" --readers 1 --modules ../listings/basic.modules loads.script
+printf 'load 1 ext4\n\n# two\nlook 2 0\n' >"$work/bad.script"
+refused 1 "$work/bad.script: line 4 is not understood" "${basic[@]}" --readers 1 "$work/bad.script"
+run "${basic[@]}" --readers 2 "$work/bad.script"
+printf 'load 9 ext4\n' >"$work/ninth.script"
+refused 1 "$work/ninth.script: line 1 is not understood" "${basic[@]}" --readers 1 "$work/ninth.script"
+refused 1 "no_such: cannot be read" "${basic[@]}" --readers 1 no_such
+refused 1 "no_such: cannot be read" "${basic[@]}" --regions no_such --readers 1 no_other
+printf 'latchregions 2\n' >"$work/other.regions"
+refused 1 "$work/other.regions: line 1 is not understood" "${basic[@]}" --regions "$work/other.regions" --readers 1 no_such
+modules 65537 >"$work/many"
+refused 1 "refused 10" --modules "$work/many" --kallsyms /dev/null --readers 1 /dev/null
+if [ -e /dev/full ]; then
+    status=0
+    "$program" run "${basic[@]}" --readers 1 loads.script >/dev/full 2>"$work/err" || status=$?
+    [ $status = 1 ] && [ "$(cat "$work/err")" = "latchsym: cannot write" ] || fail "a full device is not reported"
+fi
+status=0
+"$program" run "${basic[@]}" --readers 1 loads.script >&- 2>"$work/err" || status=$?
+[ $status = 1 ] && [ "$(cat "$work/err")" = "latchsym: cannot write" ] || fail "a closed standard output is not reported"
+[ $failed = 1 ] || echo "runs: $(ls ./*.script | wc -l) scripts, four writers beside four readers, and eight beside 64"
+exit $failed
