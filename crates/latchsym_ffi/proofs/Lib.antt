@@ -1,2 +1,6 @@
 -- the machine values of the handles
 pub mod CatalogHandleValues
+pub mod WriterHandleValues
+pub mod ReaderHandleValues
+-- what each of some boxes holds
+mod Boxes

@@ -7,3 +7,9 @@ pub mod Opening
 pub mod Finding
 -- what the calls on catalogs answer
 pub mod Catalogs
+-- the numbers that calls on a writer answer
+pub mod Updates
+-- what lookups answer
+pub mod Lookups
+-- what the opening of a table gives
+pub mod Tables

@@ -1,0 +1,16 @@
+use Rattle.std.proofs.Common.{◌≡◌, ◌∙◌, ap, subst, sym, length, rules}
+use Rattle.latch_table.specs.Writers.{new_writer}
+use Rattle.latchsym_ffi.specs.Tables.{first_reader}
+use Rattle.latchsym_ffi.proofs.opening_tables.latchsym_table_open.Goals as goal
+
+pub returns-in-Ok-open_boxes-clause-opened : goal.returns-in-Ok-open_boxes-clause-opened
+returns-in-Ok-open_boxes-clause-opened c zero =
+    let o = c.in-Ok-open_boxes.ensures.opened in
+    record {
+      place = o.place;
+      layout = o.layout;
+      wide = o.wide;
+      is_open = c.open.ensures.open;
+      writer = ap (λ w. w.inner) c.open.ensures.value ∙ o.writer ∙ ap (new_writer o.place o.layout 0) (c.in-Ok.ensures.1 ∙ sym c.fill.ensures.count);
+      each = c.fill.ensures.each (first_reader o.place o.layout) o.each;
+    }

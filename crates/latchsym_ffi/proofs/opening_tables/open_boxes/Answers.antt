@@ -1,0 +1,16 @@
+use Rattle.std.proofs.Common.{◌≡◌, ◌∙◌, ap, subst, sym, rules}
+use Rattle.std.specs.Prelude.{All}
+use Rattle.latch_table.specs.Readers.{ReaderState}
+use Rattle.latchsym_ffi.specs.Tables.{first_reader}
+use Rattle.latchsym_ffi.proofs.opening_tables.open_boxes.Goals as goal
+
+pub returns-clause-opened : goal.returns-clause-opened
+returns-clause-opened c =
+    record {
+      place = c.in_ok-inner.inner.place;
+      layout = c.in_ok-layout.layout;
+      wide = (c.in_ok-layout.ensures.capacity, c.in_ok-layout.ensures.limit);
+      writer = ap (λ w. w.inner) c.in_ok-writer.ensures.ok ∙ c.in_ok-inner.ensures.writer;
+      count = c.in_ok-readers.ensures.count ∙ c.in_ok-inner.ensures.readers.0;
+      each = c.in_ok-readers.ensures.each (first_reader c.in_ok-inner.inner.place c.in_ok-layout.layout) c.in_ok-inner.ensures.readers.1;
+    }

@@ -1,0 +1,51 @@
+-- What the opening of a table gives.
+use Rattle.std.specs.Prelude.{◌≡◌, ℕ, ◌≤◌, ◌<◌, ◌⊎◌, true, All, List, length, vec_len}
+use Rattle.atomic_table.specs.Seated.{TableId}
+use Rattle.word_arena.specs.declared.layouts.Layout.{Layout}
+use Rattle.word_arena.specs.Layouts.{capacity_of, limit_of}
+use Rattle.latch_table.specs.declared.knowledge.Origin.TheVariants.{Start}
+use Rattle.latch_table.specs.Readers.{ReaderState, new_reader}
+use Rattle.latch_table.specs.Seats.{first_knowledge}
+use Rattle.latch_table.specs.Writers.{new_writer}
+use Rattle.latchsym_ffi.specs.declared.opening_tables.Boxes.{Boxes}
+use Rattle.latchsym_ffi.specs.declared.reader_slots.ReaderSlot.{ReaderSlot}
+use Rattle.latchsym_ffi.specs.declared.writer_slots.WriterSlot.{WriterSlot}
+
+-- a layout of so many nodes with 64-bit sequences
+abbrev pub IsWide : ℕ → Layout → Type 0
+IsWide nodes l = (capacity_of l ≡ nodes) × (limit_of l ≡ 18446744073709551614)
+
+-- a reader of the empty table at a place
+abbrev pub first_reader : TableId → Layout → ReaderState
+first_reader place l = new_reader place (first_knowledge (Start l 0))
+
+-- the slot holds this reader
+abbrev pub HoldsReader : ReaderState → ReaderSlot → Type 0
+HoldsReader r s = (s.is_open ≡ true) × (s.handle.value.inner ≡ r)
+
+-- an empty table of so many nodes, with its writer in one slot and a reader in each of the others
+pub record IsOpened (nodes : ℕ) (w : WriterSlot) (readers : List ReaderSlot) : Type 0 where
+  pub place : TableId
+  pub layout : Layout
+  pub wide : IsWide nodes layout
+  pub is_open : w.is_open ≡ true
+  pub writer : w.handle.value.inner ≡ new_writer place layout 0 (length readers)
+  pub each : All (HoldsReader (first_reader place layout)) readers
+
+-- the same, in boxes
+pub record AreOpened (nodes readers : ℕ) (b : Boxes) : Type 0 where
+  pub place : TableId
+  pub layout : Layout
+  pub wide : IsWide nodes layout
+  pub writer : b.writer.value.inner ≡ new_writer place layout 0 readers
+  pub count : vec_len b.readers ≡ readers
+  pub each : All (λ x. x.value.inner ≡ first_reader place layout) b.readers.items
+
+-- the numbers of nodes and readers are 1 to 65536 and 1 to 64
+abbrev pub AreInRange : ℕ → ℕ → Type 0
+AreInRange nodes readers = (0 < nodes) × (nodes ≤ 65536) × (0 < readers) × (readers ≤ 64)
+
+-- a refusal for numbers out of their ranges, and else for want of memory
+abbrev pub RefusesTable : ℕ → ℕ → ℕ → Type 0
+RefusesTable nodes readers result =
+    ((result ≡ 10) × (AreInRange nodes readers → ⊥)) ⊎ ((result ≡ 7) × AreInRange nodes readers)

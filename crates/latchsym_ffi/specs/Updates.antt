@@ -1,0 +1,24 @@
+-- The numbers that calls on a writer answer.
+use Rattle.std.specs.Prelude.{◌≡◌, ℕ, Option, Some, None}
+use Rattle.order_laws.specs.declared.items.Item.{Item}
+use Rattle.order_laws.specs.declared.refusals.Refusal.{Refusal}
+use Rattle.order_laws.specs.Orders.{half_open}
+use Rattle.order_laws.specs.Refusals.{number_of}
+use Rattle.latch_core.specs.declared.updates.Update.{Update}
+use Rattle.latch_table.specs.declared.writers.Did.{Did}
+use Rattle.latch_table.specs.declared.writers.Did.TheVariants.{Flip, Store}
+use Rattle.latch_table.specs.Writers.{Refuses, WriterState}
+use Rattle.latchsym_ffi.specs.declared.updates.TableItem.{TableItem}
+
+abbrev pub item_from : TableItem → Item
+item_from i = record { a = i.a; b = i.b; tag = i.tag }
+
+-- the number of a step
+abbrev pub did_code : Option Did → ℕ
+did_code None = 0
+did_code (Some Flip) = 1
+did_code (Some Store) = 2
+
+-- the writer refuses an update by the refusal of this number
+abbrev pub RefusesAs : WriterState → Update → ℕ → Type 0
+RefusesAs w u result = (e : Refusal) × (result ≡ number_of e) × Refuses half_open w u e

@@ -1,0 +1,122 @@
+//! What C calls, of lookups in a table.
+
+ghost use Rattle.std.specs.Prelude.{◌≡◌, Option, true, false};
+ghost use Rattle.order_laws.specs.declared.items.Item.{Item};
+ghost use Rattle.order_laws.specs.Orders.{half_open};
+ghost use Rattle.latch_table.specs.declared.readers.Try.{Try};
+ghost use Rattle.latch_table.specs.Readers.{Tried};
+ghost use Rattle.latch_table.specs.Writers.{Finds};
+ghost use Rattle.latchsym_ffi.specs.Lookups.{Shows, answer_from, found_code, try_code};
+
+use crate::answers::{DONE, NOT_SO};
+use crate::finding::NOTHING;
+use crate::reader_slots::ReaderSlot;
+use crate::writer_slots::WriterSlot;
+use latch_table::Try;
+use order_laws::Item;
+
+/// The writer flipped meanwhile: another attempt is to be made.
+const RETRY: u32 = 3;
+
+/// What a lookup found, and the generation that this is of.
+#[repr(C)]
+#[derive(Clone, Copy, Drop)]
+pub struct TableAnswer {
+    pub a: u64,
+    pub b: u64,
+    pub tag: u64,
+    pub generation: u64,
+}
+
+/// An answer as C has it.
+fn answer_of(item: Option<Item>, generation: u64) -> TableAnswer
+    ensures { result ≡ answer_from item generation }
+{
+    match item {
+        Some(item) => TableAnswer {
+            a: item.a,
+            b: item.b,
+            tag: item.tag,
+            generation,
+        },
+        None => TableAnswer {
+            a: 0,
+            b: 0,
+            tag: 0,
+            generation,
+        },
+    }
+}
+
+/// Whether something was found, as a number.
+fn code_of(item: Option<Item>) -> u32
+    ensures { result ≡ found_code item }
+{
+    match item {
+        Some(_) => DONE,
+        None => NOTHING,
+    }
+}
+
+/// The writer's own lookup, also with an update in hand: what readers find now.
+#[unsafe(no_mangle)]
+pub extern "C" fn latchsym_writer_find(
+    writer: &mut WriterSlot,
+    addr: u64,
+    out: &mut TableAnswer,
+) -> u32
+    ensures open { writer.new.is_open ≡ writer.old.is_open }
+    ensures found { writer.old.is_open ≡ true → (x : Option Item)
+        × Finds half_open writer.old.handle.value.inner addr writer.new.handle.value.inner (x, out.new.generation)
+        × (result ≡ found_code x) × (out.new ≡ answer_from x out.new.generation) }
+    ensures closed { writer.old.is_open ≡ false → (result ≡ 101) × (out.new ≡ out.old) }
+{
+    if !writer.is_open {
+        return NOT_SO;
+    }
+    let mut content = writer.take();
+    let (item, generation) = content.inner.find(addr);
+    *writer = WriterSlot::open(writer.alloc, content);
+    *out = answer_of(item, generation);
+    code_of(item)
+}
+
+/// One attempt to find the item that an address lies in.
+#[unsafe(no_mangle)]
+pub extern "C" fn latchsym_reader_try_find(
+    reader: &mut ReaderSlot,
+    addr: u64,
+    out: &mut TableAnswer,
+) -> u32
+    ensures open { reader.new.is_open ≡ reader.old.is_open }
+    ensures place { reader.old.is_open ≡ true
+        → reader.new.handle.value.inner.place ≡ reader.old.handle.value.inner.place }
+    ensures tried { reader.old.is_open ≡ true → (t : Try)
+        × Tried half_open addr reader.old.handle.value.inner.knowledge reader.new.handle.value.inner.knowledge t
+        × (result ≡ try_code t) × Shows t out.old out.new }
+    ensures closed { reader.old.is_open ≡ false → (result ≡ 101) × (out.new ≡ out.old) }
+{
+    if !reader.is_open {
+        return NOT_SO;
+    }
+    let mut content = reader.take();
+    let tried = content.inner.try_find(addr);
+    *reader = ReaderSlot::open(reader.alloc, content);
+    match tried {
+        Try::Retry => RETRY,
+        Try::Answered(item, generation) => {
+            *out = answer_of(item, generation);
+            code_of(item)
+        }
+    }
+}
+
+/// Closes a reader.
+#[unsafe(no_mangle)]
+pub extern "C" fn latchsym_reader_close(reader: &mut ReaderSlot)
+    ensures { reader.new.is_open ≡ false }
+{
+    if reader.is_open {
+        let _content = reader.take();
+    }
+}

@@ -1,0 +1,108 @@
+//! Opening a table: all of it, or nothing where memory is refused.
+
+ghost use Rattle.std.specs.Prelude.{◌≡◌, ◌≢◌, All, IfOk, IfErr, false, length, true, vec_len};
+ghost use Rattle.order_laws.specs.Refusals.{number_of};
+ghost use Rattle.latch_table.specs.Readers.{ReaderState};
+ghost use Rattle.latchsym_ffi.specs.Tables.{AreOpened, HoldsReader, IsOpened, RefusesTable};
+
+use crate::answers::{DONE, NOT_SO};
+use crate::reader_slots::ReaderSlot;
+use crate::table_contents::{TableReader, TableWriter};
+use crate::writer_slots::WriterSlot;
+use latch_table::{Reader, open};
+use order_laws::{HalfOpen, Refusal};
+use std::alloc::{AllocError, Global};
+use word_arena::Layout;
+
+/// A writer and its readers, each in a box.
+#[derive(Drop)]
+pub struct Boxes {
+    writer: Box<TableWriter, Global>,
+    readers: Vec<Box<TableReader, Global>>,
+}
+
+/// Each reader in a box.
+fn boxed(
+    alloc: Global,
+    readers: Vec<Reader<HalfOpen>>,
+) -> Result<Vec<Box<TableReader, Global>>, AllocError>
+    ensures count { IfOk result (λ boxes. vec_len boxes ≡ vec_len readers) }
+    ensures each { (r : ReaderState) → All (λ x. x ≡ r) readers.items
+        → IfOk result (λ boxes. All (λ b. b.value.inner ≡ r) boxes.items) }
+{
+    let mut boxes = Vec::with_capacity(alloc, readers.len())?;
+    for inner in readers {
+        boxes.push(Box::new(alloc, TableReader { inner })?)?;
+    }
+    Ok(boxes)
+}
+
+/// A table, in boxes.
+fn open_boxes(alloc: Global, nodes: u32, readers: u32) -> Result<Boxes, Refusal>
+    ensures opened { IfOk result (AreOpened nodes readers) }
+    ensures refused { IfErr result (λ e. RefusesTable nodes readers (number_of e)) }
+{
+    let layout = Layout::wide(nodes)?;
+    let (inner, all) = open::<HalfOpen>(alloc, layout, 0, readers)?;
+    let readers = boxed(alloc, all)?;
+    let writer = Box::new(alloc, TableWriter { inner })?;
+    Ok(Boxes { writer, readers })
+}
+
+/// Opens each slot with a reader of these.
+fn fill(alloc: Global, slots: &mut [ReaderSlot], readers: Vec<Box<TableReader, Global>>)
+    requires { vec_len readers ≡ length slots.old }
+    ensures count { length slots.new ≡ length slots.old }
+    ensures each { (r : ReaderState) → All (λ b. b.value.inner ≡ r) readers.items
+        → All (HoldsReader r) slots.new }
+{
+    let mut readers = readers;
+    for place in 0..slots.len() {
+        if let Some(content) = readers.pop() {
+            slots[place] = ReaderSlot::open(alloc, content);
+        }
+    }
+}
+
+/// Whether one of the slots is open.
+fn some_open(slots: &[ReaderSlot]) -> bool
+    ensures { result ≡ false → All (λ s. s.is_open ≡ false) slots.now }
+{
+    slots.iter().any(|slot| slot.is_open)
+}
+
+/// Opens an empty table of so many nodes, 1 to 65536: its writer, and a reader in each of 1 to 64
+/// slots.
+#[unsafe(no_mangle)]
+pub extern "C" fn latchsym_table_open(
+    alloc: Global,
+    nodes: u32,
+    writer: &mut WriterSlot,
+    readers: &mut [ReaderSlot],
+) -> u32
+    ensures opened { result ≡ 0 → IsOpened nodes writer.new readers.new }
+    ensures count { length readers.new ≡ length readers.old }
+    ensures were_closed { result ≡ 0 → (writer.old.is_open ≡ false)
+        × All (λ s. s.is_open ≡ false) readers.old }
+    ensures refused { result ≢ 0 → (writer.new ≡ writer.old) × (readers.new ≡ readers.old) }
+    ensures why { result ≢ 0 → result ≢ 101 → RefusesTable nodes (length readers.old) result }
+{
+    if writer.is_open || some_open(readers) {
+        return NOT_SO;
+    }
+    let Ok(count) = u32::try_from(readers.len()) else {
+        return Refusal::BadCapacity.number();
+    };
+    match open_boxes(alloc, nodes, count) {
+        Ok(boxes) => {
+            let Boxes {
+                writer: content,
+                readers: all,
+            } = boxes;
+            fill(alloc, readers, all);
+            *writer = WriterSlot::open(alloc, content);
+            DONE
+        }
+        Err(refusal) => refusal.number(),
+    }
+}
