@@ -39,3 +39,6 @@ pub use ledgers::Ledger;
 pub use served::{Answer, Served};
 pub use serving::serve;
 pub use shared::SharedWriter;
+
+#[cfg(test)]
+mod tests;
