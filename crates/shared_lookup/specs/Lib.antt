@@ -3,6 +3,8 @@
 pub mod Ledgers
 -- what a ledger keeps
 pub mod Logs
+-- a ledger that goes on with more nodes
+pub mod Enlarging
 -- what a load, an unload and the end of a module's start do to it
 pub mod Changes
 -- how many entries of a list a property holds of

@@ -22,6 +22,8 @@ use std::alloc::Global;
 use std::marker::Model;
 use word_arena::Layout;
 
+mod enlarging;
+
 /// The one writer of a table, with nothing in hand between its calls, and every update that it
 /// accepted, in order.
 #[derive(Drop)]

@@ -7,6 +7,7 @@ ghost use Rattle.latch_table.specs.declared.knowledge.Origin.TheVariants.{Start}
 ghost use Rattle.latch_table.specs.Readers.{new_reader};
 ghost use Rattle.latch_table.specs.Seats.{first_knowledge};
 ghost use Rattle.latch_table.specs.Writers.{MayOpenWith, OnTheWay, Refuses, RefusesOpening};
+ghost use Rattle.shared_lookup.specs.Enlarging.{AreReadersOf, Enlarges, RefusesEnlarging};
 ghost use Rattle.shared_lookup.specs.Ledgers.{Applies, AreAccepted, CarriesOut, RefusesUpdate};
 ghost use Rattle.shared_lookup.specs.Ledgers.{new_ledger, table_of};
 
@@ -97,6 +98,23 @@ impl RestingWriter {
     {
         let _generation = self.writer.generation();
         carry_out(&mut self.writer, g, who, u)
+    }
+
+    /// Goes on in the words of a layout, as [`Writer::enlarge`] does.
+    pub(crate) fn enlarge(
+        &mut self,
+        alloc: Global,
+        l: Layout,
+        readers: Vec<Reader<HalfOpen>>,
+    ) -> Result<Vec<Reader<HalfOpen>>, (Refusal, Vec<Reader<HalfOpen>>)>
+        requires readers { AreReadersOf self.old readers.items }
+        ensures enlarged { IfOk result (λ all. Enlarges self.old l self.new all.items) }
+        ensures refusal { IfErr result (λ e. RefusesEnlarging self.old l e.0) }
+        ensures handed_back { IfErr result (λ e. e.1 ≡ readers) }
+        ensures unchanged { OnErr result (self.new ≡ self.old) }
+    {
+        let _generation = self.writer.generation();
+        self.writer.enlarge(alloc, l, readers)
     }
 
     /// What a key lies in.

@@ -1,6 +1,7 @@
 //! What the tests share.
 
 mod changes;
+mod enlarging;
 mod serving;
 
 use modules::{Catalog, ModuleLine, Part, RegionLine, SymbolLine, SymbolLines};
@@ -40,7 +41,7 @@ fn catalog<'a>(
     let mut symbols = SymbolLines::new(alloc);
     symbols.push(symbol(0xffffffff81000000, b"_stext", None))?;
     symbols.push(symbol(0xffffffff81002000, b"_end", None))?;
-    let (catalog, _) = Catalog::build_with(alloc, &modules, regions, &symbols)?;
+    let (catalog, _) = Catalog::build_with(alloc, &modules, regions, symbols)?;
     Ok(catalog)
 }
 

@@ -1,0 +1,83 @@
+-- A writer at rest that goes on with more nodes.
+use Rattle.std.proofs.Common.{◌≡◌, ℕ, ◌+◌, ◌*◌, ◌≤◌, false, List, [], length, take, None, refl, sym, ◌∙◌, ap, subst, arith}
+use Rattle.std.specs.Prelude.{All, Result, Ok, Err, IfOk, OnErr, nat_lt, ◌==◌}
+use Rattle.std.proofs.lemmas.Bool.{ltb-false, le-ltb}
+use Rattle.std.proofs.lemmas.Bool.Decides.{nat_tests}
+use Rattle.order_laws.specs.declared.items.Item.{Item}
+use Rattle.order_laws.specs.Orders.{Order, half_open}
+use Rattle.atomic_table.specs.Seated.{TableId}
+use Rattle.word_arena.specs.declared.layouts.Layout.{Layout}
+use Rattle.word_arena.specs.Layouts.{capacity_of, limit_of}
+use Rattle.latch_core.specs.declared.updates.Update.{Update}
+use Rattle.latch_core.specs.declared.updates.Update.TheVariants.{Insert, Erase, Batch}
+use Rattle.latch_core.specs.Updates.{refuses}
+use Rattle.latch_core.specs.Histories.{replay}
+use Rattle.latch_core.specs.Invariants.{IsSound}
+use Rattle.latch_core.proofs.TestLemmas.{all_tests, none_holds}
+use Rattle.latch_table.specs.Readers.{ReaderState}
+use Rattle.latch_table.specs.Seats.{blank_reader}
+use Rattle.latch_table.specs.Writers.{WriterState, known}
+use Rattle.latch_table.specs.Enlarging.{Enlarges}
+use Rattle.shared_lookup.specs.Ledgers.{LedgerState, AreAccepted, IsResting, ledger_state}
+use Rattle.shared_lookup.specs.Enlarging.{enlarged_ledger, reader_beside}
+
+not_below : (n n' a b : ℕ) → n ≤ n' → a ≡ b → nat_lt n a ≡ false → nat_lt n' b ≡ false
+not_below n n' a b more same e =
+    le-ltb n' b (let f = ltb-false n a e in omega (arith, f, more, same))
+
+not_full : (n n' a : ℕ) → n ≤ n' → a ≤ n → (a == n) ≡ false → (a == n') ≡ false
+not_full n n' a more few e = grind (arith, nat_tests)
+
+-- an update that nothing stands against, where there is no more than n items, is not refused with
+-- more nodes and a greater limit
+pub none_wider : {K : Type 0} (o : Order K) (n n' limit limit' seq : ℕ) (table : List Item) (u : Update) → n ≤ n' → limit ≤ limit' → length table ≤ n
+    → refuses o n limit false table seq u ≡ None → refuses o n' limit' false table seq u ≡ None
+none_wider o n n' limit limit' seq table (Insert i) more later few e =
+    let h = none_holds (all_tests o n limit false table seq (Insert i)) e in
+    let f = not_full n n' (length table) more few h.1.1.1.0 in
+    let s = not_below limit limit' (seq + 2) (seq + 2) later refl h.1.1.1.1.0 in
+    rw (h.1.0, h.1.1.0, f, s) refl
+none_wider o n n' limit limit' seq table (Erase a) more later few e =
+    let h = none_holds (all_tests o n limit false table seq (Erase a)) e in
+    let s = not_below limit limit' (seq + 2) (seq + 2) later refl h.1.1.0 in
+    rw (h.1.0, s) refl
+none_wider o n n' limit limit' seq table (Batch erase insert) more later few e =
+    let h = none_holds (all_tests o n limit false table seq (Batch erase insert)) e in
+    let f = not_below n n' (length table + length insert) (length table + length insert) more refl h.1.1.1.1.0 in
+    let s = not_below limit limit' (seq + 2) (seq + 2) later refl h.1.1.1.1.1.0 in
+    rw (h.1.0, h.1.1.0, h.1.1.1.0, f, s) refl
+
+-- a log stays accepted with more nodes and a greater limit
+pub accepted_wider : (w : LedgerState) (place : TableId) (l : Layout) → w.capacity ≤ capacity_of l → w.limit ≤ limit_of l
+    → ((j : ℕ) → length (replay half_open [] (take j w.log)) ≤ w.capacity) → AreAccepted w → AreAccepted (enlarged_ledger place l w)
+accepted_wider w place l more later few all j u e =
+    none_wider half_open w.capacity (capacity_of l) w.limit (limit_of l) _ _ u more later (few j) (all j u e)
+
+module _ (w : WriterState) (l : Layout) (w' : WriterState) (readers : List ReaderState) (e : Enlarges w l w' readers)
+    (resting : IsResting w) (sound : IsSound half_open w.capacity (2 * w.base) w.history w.latch) where
+  -- the ledger is the same, but for its words
+  pub same_ledger : ledger_state w' ≡ enlarged_ledger w'.place l (ledger_state w)
+  same_ledger = ap ledger_state e.state
+
+  all_shown : known w' ≡ w'.history
+  all_shown = e.shown ∙ resting.shown ∙ sym (ap (λ (v : WriterState). v.history) e.state)
+
+  -- and rests again
+  pub rests_enlarged : IsResting w'
+  rests_enlarged =
+      record {
+        rests = ap (λ (v : WriterState). v.latch.hand) e.state ∙ resting.rests;
+        shown = all_shown;
+        accepted = subst AreAccepted (sym same_ledger) (accepted_wider (ledger_state w) w'.place l e.may.1.0 e.may.1.1 (λ j. (sound.tables j).1) resting.accepted);
+      }
+
+  -- its readers will know the whole log
+  pub know_the_log : All (λ x. x ≡ reader_beside (ledger_state w')) readers
+  know_the_log = subst (λ (us : List Update). All (λ x. x ≡ record { place = w'.place; knowledge = blank_reader w'.base w'.capacity us }) readers) all_shown e.readers
+
+-- a writer at rest that was asked to go on with more nodes rests
+pub rests_after_enlarging : {R E : Type 0} (w : WriterState) (l : Layout) (w' : WriterState) (resting : IsResting w)
+    (sound : IsSound half_open w.capacity (2 * w.base) w.history w.latch) (given : R → List ReaderState) (r : Result R E)
+    → IfOk r (λ all. Enlarges w l w' (given all)) → OnErr r (w' ≡ w) → IsResting w'
+rests_after_enlarging w l w' resting sound given (Ok all) ok err = rests_enlarged w l w' (given all) ok resting sound
+rests_after_enlarging w l w' resting sound given (Err e) ok err = subst IsResting (sym err) resting

@@ -1,0 +1,36 @@
+//! A ledger whose table goes on in more words.
+
+ghost use Rattle.std.specs.Prelude.{◌≡◌, OnErr, IfOk, IfErr};
+ghost use Rattle.shared_lookup.specs.Enlarging.{AreReadersOf, Enlarges, RefusesEnlarging};
+
+use crate::ledgers::Ledger;
+use latch_table::Reader;
+use order_laws::{HalfOpen, Refusal};
+use std::alloc::Global;
+use word_arena::Layout;
+
+impl Ledger {
+    /// Goes on with the nodes and the greatest sequence of a layout, in a new row of words: the
+    /// table, its generation and the log stay. Takes all readers of the old row, which is given up
+    /// with them, and hands out as many of the new one.
+    ///
+    /// Refused by [`Refusal::BadCapacity`] where the layout has fewer nodes or a smaller greatest
+    /// sequence, and else by [`Refusal::OutOfMemory`]; a refusal changes nothing and hands the same
+    /// readers back.
+    pub fn enlarge(
+        &mut self,
+        alloc: Global,
+        l: Layout,
+        readers: Vec<Reader<HalfOpen>>,
+    ) -> Result<Vec<Reader<HalfOpen>>, (Refusal, Vec<Reader<HalfOpen>>)>
+        requires readers { AreReadersOf self.old readers.items }
+        ensures enlarged { IfOk result (λ all. Enlarges self.old l self.new all.items) }
+        ensures refusal { IfErr result (λ e. RefusesEnlarging self.old l e.0) }
+        ensures handed_back { IfErr result (λ e. e.1 ≡ readers) }
+        ensures unchanged { OnErr result (self.new ≡ self.old) }
+    {
+        let readers = self.writer.enlarge(alloc, l, readers)?;
+        self.layout = l;
+        Ok(readers)
+    }
+}
