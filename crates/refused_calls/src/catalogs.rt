@@ -1,15 +1,20 @@
-//! `Catalog::build_with` and `load`.
+//! `Catalog::build_with` and `load`, and `Ledger::change` by that catalog.
 
 ghost use Rattle.std.specs.Prelude.{◌≡◌, true, All};
 ghost use Rattle.modules.specs.Lines.{fits, region_fits};
 
-use crate::End;
+use crate::{End, ledgers};
 use modules::{Catalog, Held, ModuleLine, Part, RegionLine, SymbolLine, SymbolLines};
 use order_laws::Refusal;
 use std::alloc::Global;
 use std::io::Print;
 
 const NAME: &[u8] = b"module";
+
+/// Where the regions of the module begin.
+const CORE: u64 = 0x4000_0000;
+
+const INIT: u64 = 0x5000_0000;
 
 /// So many symbols of the kernel itself.
 fn symbols(alloc: Global, count: u32) -> Result<SymbolLines<'static>, Refusal> {
@@ -29,7 +34,7 @@ fn symbols(alloc: Global, count: u32) -> Result<SymbolLines<'static>, Refusal> {
 fn modules() -> [ModuleLine<'static>; 1] {
     [ModuleLine {
         name: NAME,
-        base: 0x4000_0000,
+        base: CORE,
         size: 0x1000,
     }]
 }
@@ -38,19 +43,20 @@ fn regions() -> [RegionLine<'static>; 2] {
     let core = RegionLine {
         name: NAME,
         part: Part::Core,
-        base: 0x4000_0000,
+        base: CORE,
         size: 0x1000,
     };
     let init = RegionLine {
         name: NAME,
         part: Part::Init,
-        base: 0x5000_0000,
+        base: INIT,
         size: 0x1000,
     };
     [core, init]
 }
 
-/// The catalog with so many symbols, built once more where memory was refused, and the update that loads its module.
+/// The catalog with so many symbols, built once more where memory was refused, the update that
+/// loads its module, and the changes of a ledger.
 fn build(
     rt: &impl Print,
     alloc: Global,
@@ -79,7 +85,7 @@ fn build(
         answered => answered?,
     };
     println!(rt; "load: {:?}", loaded)?;
-    Ok(())
+    ledgers::change_all(rt, alloc, &catalog, &[CORE, INIT])
 }
 
 /// Builds a catalog of so many symbols.

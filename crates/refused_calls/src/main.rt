@@ -10,6 +10,7 @@
 
 mod catalogs;
 mod growth;
+mod ledgers;
 mod tables;
 mod updates;
 mod worlds;
@@ -47,6 +48,7 @@ fn call_all(rt: &HostRuntime, alloc: Global, items: u32) -> Result<(), End> {
     writers::call_all(rt, alloc, layout, &updates)?;
     worlds::call_all(rt, alloc, layout, &updates)?;
     tables::call_all(rt, alloc, layout, &updates)?;
+    ledgers::call_all(rt, alloc, layout, &updates)?;
     growth::call_all(rt, alloc, layout)?;
     catalogs::call_all(rt, alloc, items)
 }

@@ -32,7 +32,8 @@ fn read_by(reader: &mut Reader<HalfOpen>, capacity: u32) -> u64 {
     sum
 }
 
-fn with(sum: u64, found: Option<Item>, generation: u64) -> u64 {
+/// A sum with one answer more.
+pub(crate) fn with(sum: u64, found: Option<Item>, generation: u64) -> u64 {
     let tag = found.map_or(7, |item| item.tag);
     sum.wrapping_mul(31)
         .wrapping_add(tag)
