@@ -8,7 +8,7 @@ build latchsym
 cc -O2 -o "$work/random" "$top/tests/random/random.c"
 mkdir "$work/inputs"
 if ! "$work/random" "$program" "$work/inputs" "${RUNS:-10000}" "${SEED:-1}" \
-    "$top"/examples/*/*.trace "$top"/examples/listings/*.{modules,kallsyms,regions,addresses}; then
+    "$top"/examples/*/*.{trace,script} "$top"/examples/listings/*.{modules,kallsyms,regions,addresses}; then
     cp -r "$work/inputs" "${TMPDIR:-/tmp}/latchsym-random"
     echo "random: the input is kept in ${TMPDIR:-/tmp}/latchsym-random"
     exit 1
