@@ -31,6 +31,8 @@ returns-else-addr-item-clause-is c =
 pub returns-then-addr-item-clause-holds : goal.returns-then-addr-item-clause-holds
 returns-then-addr-item-clause-holds c =
     let items = c.self.inside.items.items in
-    let parts : IsSplit items c.args.addr c.split_at-split.result = subst (λ (l : List Item). IsSplit l c.args.addr c.split_at-split.result) c.deref.ensures.value c.split_at-split.ensures in
-    (last_begins_below c.self.inside.catalog c.self.invariant.sound items c.self.invariant.indexed c.args.addr c.split_at-split.result parts
-    c.index-item.result.now (let n = c.if-split-eq0.false in omega arith) (sym c.index-item.ensures), c.if-addr-item.true)
+    let parts : IsSplit items c.args.addr c.split_at-split.result = subst (λ (l : List Item). IsSplit l c.args.addr c.split_at-split.result) c.deref.ensures.value c.split_at-split.ensures in (
+      last_begins_below c.self.inside.catalog c.self.invariant.sound items c.self.invariant.indexed c.args.addr c.split_at-split.result parts
+          c.index-item.result.now (let n = c.if-split-eq0.false in omega arith) (sym c.index-item.ensures),
+      c.if-addr-item.true,
+    )
