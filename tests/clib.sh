@@ -58,6 +58,6 @@ objdump -dr --no-show-raw-insn "$top/crates/latchsym_ffi/out/liblatchsym_ffi.a" 
             if (name ~ /alloc|free|realloc|mmap|sbrk/) { print "clib: a call for signal handlers reaches " name; bad = 1 }
             if (!(name in known) && name !~ /^(mem(move|cpy|set|cmp)|bcmp|\..*)$/) { print "clib: a call for signal handlers reaches " name; bad = 1 }
         }
-        print "clib: calls for signal handlers reach " count - 4 " other names, none that takes memory"
+        if (!bad) print "clib: calls for signal handlers reach " count - 4 " other names, none that takes memory"
         exit bad
     }'
