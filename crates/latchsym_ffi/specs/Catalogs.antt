@@ -1,5 +1,5 @@
 -- What the calls on catalogs answer.
-use Rattle.std.specs.Prelude.{◌≡◌, ◌≢◌, ℕ, ◌⊎◌, List, true, false, Option, Some, None, Err}
+use Rattle.std.specs.Prelude.{◌≡◌, ℕ, ◌⊎◌, List, true, false, Some, None, Err}
 use Rattle.latchsym_ffi.specs.declared.catalog_slots.CatalogSlot.{CatalogSlot}
 use Rattle.latchsym_ffi.specs.declared.opening.CatalogCounts.{CatalogCounts}
 use Rattle.latchsym_ffi.specs.Opening.{AreRead, HasTooManyOfOne, Texts, region_lines}
