@@ -10,7 +10,8 @@ use Rattle.latchsym_ffi.specs.declared.finding.CatalogAnswer.{CatalogAnswer}
 use Rattle.latchsym_ffi.specs.declared.finding.Seen.{Seen}
 use Rattle.latchsym_ffi.specs.declared.finding.Told.{Told}
 
--- the item of the region that an address lies in, if any, and the symbol that it belongs to there, if any
+-- the item of the region that an address lies in, if any, and the symbol that it belongs to there,
+-- if any
 abbrev pub Known : Type 0
 Known = Option (Item × Option Found)
 

@@ -34,7 +34,8 @@ pub(crate) const NO_SYMBOL: u32 = 1;
 /// The address lies in no region.
 pub(crate) const NOTHING: u32 = 2;
 
-/// The region that an address lies in, and the symbol with the offset and the size, if there is one.
+/// The region that an address lies in, and the symbol with the offset and the size, if there is
+/// one.
 #[derive(Drop)]
 struct Seen<'c> {
     item: Item,

@@ -50,7 +50,8 @@ fn regions() -> [RegionLine<'static>; 2] {
     [core, init]
 }
 
-/// The catalog with so many symbols, built once more where memory was refused, and the update that loads its module.
+/// The catalog with so many symbols, built once more where memory was refused, and the update that
+/// loads its module.
 fn build(
     rt: &impl Print,
     alloc: Global,
