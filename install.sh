@@ -1,6 +1,7 @@
 #!/usr/bin/env bash
-# install.sh PREFIX: builds the program and the library for C, and puts them under PREFIX: bin/latchsym,
-# lib/liblatchsym.a, lib/liblatchsym.so, lib/pkgconfig/latchsym.pc and include/latchsym.h.
+# install.sh PREFIX: builds the program and the library for C, and puts them under PREFIX:
+# bin/latchsym, lib/liblatchsym.a, lib/liblatchsym.so, lib/pkgconfig/latchsym.pc and
+# include/latchsym.h.
 set -eu
 [ $# = 1 ] || { echo "usage: install.sh PREFIX" >&2 && exit 2; }
 . "$(dirname "$0")/tests/program.sh"

@@ -1,28 +1,31 @@
 /* latchsym: a catalog of the kernel's symbols, and a latched table of address ranges that readers
  * search while one writer changes it.
  *
- * Link with `pkg-config --cflags --libs latchsym`. docs/C_LIBRARY.md says what is proved of each call.
+ * Link with `pkg-config --cflags --libs latchsym`. docs/C_LIBRARY.md says what is proved of each
+ * call.
  *
  * What the caller upholds, since nothing checks it:
- * - A handle is a struct of the caller's. It is all bytes 0 (`= {0}`), which is a closed handle, or as a
- *   call of the library left it. It is never copied or moved while it is open, and never written to.
- * - A handle is given to one call at a time, and two arguments of a call are not one handle or overlap.
- *   A catalog and a reader may go to another thread between two calls, over a lock, a join or a
- *   sequentially consistent atomic, which is tested; a writer stays on the thread that opened it.
- * - The bytes of the listings lie where they are, unchanged, until the last handle of their catalog is
- *   closed.
+ * - A handle is a struct of the caller's. It is all bytes 0 (`= {0}`), which is a closed handle, or
+ *   as a call of the library left it. It is never copied or moved while it is open, and never
+ *   written to.
+ * - A handle is given to one call at a time, and two arguments of a call are not one handle or
+ *   overlap. A catalog and a reader may go to another thread between two calls, over a lock, a join
+ *   or a sequentially consistent atomic, which is tested; a writer stays on the thread that opened
+ *   it.
+ * - The bytes of the listings lie where they are, unchanged, until the last handle of their catalog
+ *   is closed.
  * - A pointer is never null, also where the length beside it is 0; what it points to is alive and
  *   aligned, and initialised where it is read.
  * - malloc, realloc and free are those of one allocator.
  *
- * A closed handle where an open one is wanted is an answer, LATCHSYM_NOT_SO, and no fault; so is an open
- * one where a closed one is wanted. A second close does nothing. A call that is refused changes nothing
- * but what is said of it here.
+ * A closed handle where an open one is wanted is an answer, LATCHSYM_NOT_SO, and no fault; so is an
+ * open one where a closed one is wanted. A second close does nothing. A call that is refused
+ * changes nothing but what is said of it here.
  *
- * From a signal handler only the calls marked "handler" may be made, each with handles that no call which
- * the signal interrupts has: they take no memory. It is proved that they answer rightly where the signal
- * comes between two calls on the table (block the signal during the writer's calls). A handler that
- * interrupts a running call of the writer is tested, and not proved.
+ * From a signal handler only the calls marked "handler" may be made, each with handles that no call
+ * which the signal interrupts has: they take no memory. It is proved that they answer rightly where
+ * the signal comes between two calls on the table (block the signal during the writer's calls). A
+ * handler that interrupts a running call of the writer is tested, and not proved.
  */
 #ifndef LATCHSYM_H
 #define LATCHSYM_H
@@ -70,7 +73,8 @@ struct latchsym_counts {
 };
 
 /* What is known of an address: the module's number (0 is the kernel itself), how far the address lies above
- * the symbol and how far the symbol reaches, both in bytes, and the lengths of the two names in bytes. */
+ * the symbol and how far the symbol reaches, both in bytes, and the lengths of the two names in
+ * bytes. */
 struct latchsym_symbol {
     uint64_t module_number, offset, size;
     size_t name_len, module_len;
@@ -99,9 +103,9 @@ uint32_t latchsym_catalog_open_with_regions(const uint8_t *modules, size_t modul
                                             uint64_t *bad_line);
 
 /* The symbol of an address, as `latchsym lookup` answers. As many bytes of each name are copied as there is
- * room for, without a 0 byte at the end; the lengths are those of the whole names. 0, LATCHSYM_NO_SYMBOL
- * (the module alone is told), LATCHSYM_NOTHING (all numbers are 0) or LATCHSYM_NOT_SO (nothing is
- * written). The time is logarithmic in regions and symbols. Handler. */
+ * room for, without a 0 byte at the end; the lengths are those of the whole names. 0,
+ * LATCHSYM_NO_SYMBOL (the module alone is told), LATCHSYM_NOTHING (all numbers are 0) or
+ * LATCHSYM_NOT_SO (nothing is written). The time is logarithmic in regions and symbols. Handler. */
 uint32_t latchsym_catalog_find(struct latchsym_catalog *, uint64_t addr, struct latchsym_symbol *out,
                                uint8_t *name, size_t name_room, uint8_t *module, size_t module_room);
 
@@ -120,7 +124,8 @@ uint32_t latchsym_table_open(uint32_t nodes, struct latchsym_writer *, struct la
                              size_t count);
 
 /* Take an update in hand: put an item in, take the item out that begins at a, or do several of both at once.
- * Readers see it from its second flip on, whole. 0, one of the refusals 1 to 7, or LATCHSYM_NOT_SO. */
+ * Readers see it from its second flip on, whole. 0, one of the refusals 1 to 7, or LATCHSYM_NOT_SO.
+ * */
 uint32_t latchsym_writer_begin_insert(struct latchsym_writer *, const struct latchsym_item *);
 uint32_t latchsym_writer_begin_erase(struct latchsym_writer *, uint64_t a);
 uint32_t latchsym_writer_begin_batch(struct latchsym_writer *, const uint64_t *erase, size_t erase_len,

@@ -1,7 +1,8 @@
 #!/usr/bin/env bash
-# Builds the library for C, and runs the programs of tests/c and examples/c with it: the table on threads and beside signals,
-# each request for memory refused, and the listings of examples/ as `latchsym lookup` answers; under valgrind and sanitizers
-# where these are there. Looks at the object code that a call for signal handlers takes no memory. Needs gcc.
+# Builds the library for C, and runs the programs of tests/c and examples/c with it: the table on
+# threads and beside signals, each request for memory refused, and the listings of examples/ as
+# `latchsym lookup` answers; under valgrind and sanitizers where these are there. Looks at the
+# object code that a call for signal handlers takes no memory. Needs gcc.
 set -eu
 . "$(dirname "$0")/program.sh"
 . "$top/tests/library.sh"
@@ -40,7 +41,8 @@ if command -v python3 >/dev/null; then
     python3 "$top/tests/c/names.py" "$shared" "$top/examples/listings"
 fi
 
-# What the calls for signal handlers may reach, by the relocations of the calls: nothing that takes or gives memory.
+# What the calls for signal handlers may reach, by the relocations of the calls: nothing that takes
+# or gives memory.
 objdump -dr --no-show-raw-insn "$top/crates/latchsym_ffi/out/liblatchsym_ffi.a" | awk '
     /^[0-9a-f]+ <.*>:$/ { from = $0; sub(/^[0-9a-f]+ </, "", from); sub(/>:$/, "", from); sub(/^\.text\./, "", from); known[from] = 1 }
     /R_X86_64_(PLT32|PC32|GOTPCREL|GOTPCRELX|REX_GOTPCRELX|64)/ {

@@ -1,7 +1,8 @@
 #!/usr/bin/env bash
-# Runs the program on 10,000 random inputs with a fixed seed (RUNS and SEED set others): bytes, lines of the examples with a few
-# bytes changed, lines near the grammars. Each run has to end by itself within its time with a status of 0 or 1, with one line on
-# standard error where it is 1 and nothing on standard output then; and the counts of a lookup have to add up. Needs a C compiler.
+# Runs the program on 10,000 random inputs with a fixed seed (RUNS and SEED set others): bytes,
+# lines of the examples with a few bytes changed, lines near the grammars. Each run has to end by
+# itself within its time with a status of 0 or 1, with one line on standard error where it is 1 and
+# nothing on standard output then; and the counts of a lookup have to add up. Needs a C compiler.
 set -eu
 . "$(dirname "$0")/program.sh"
 build latchsym

@@ -2,13 +2,13 @@
  *
  *   random PROGRAM FOLDER RUNS SEED EXAMPLE..
  *
- * FOLDER is where inputs lie. Each EXAMPLE is a file whose lines inputs are made from: its name's end tells what it is
- * (.trace, .modules, .kallsyms, .regions, .addresses, .script). Of a run that breaks a promise the input stays in
- * FOLDER, and the status is 1.
+ * FOLDER is where inputs lie. Each EXAMPLE is a file whose lines inputs are made from: its name's
+ * end tells what it is (.trace, .modules, .kallsyms, .regions, .addresses, .script). Of a run that
+ * breaks a promise the input stays in FOLDER, and the status is 1.
  *
- * The promises: a run ends within SECONDS, by itself, with status 0 or 1; with 0 nothing is on standard error; with 1 one line
- * is, which begins with `latchsym: `, and standard output is empty; the counts of a lookup add up to the lines of its listings; no
- * answer of a script is wrong. */
+ * The promises: a run ends within SECONDS, by itself, with status 0 or 1; with 0 nothing is on
+ * standard error; with 1 one line is, which begins with `latchsym: `, and standard output is empty;
+ * the counts of a lookup add up to the lines of its listings; no answer of a script is wrong. */
 #define _POSIX_C_SOURCE 200809L
 #include <fcntl.h>
 #include <stdint.h>
