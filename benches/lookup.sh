@@ -1,11 +1,12 @@
 #!/usr/bin/env bash
-# How long `lookup` takes over large listings, and how much memory it holds at once, beside another program of the same job. Both run by
-# turns; the least processor time of each counts.
+# How long `lookup` takes over large listings, and how much memory it holds at once, beside another
+# program of the same job. Both run by turns; the least processor time of each counts.
 #
 #     benches/lookup.sh FOLDER [PEER]
 #
-# FOLDER has the listings modules.txt and kallsyms.txt, and addr.1, addr.1000 and addr.100000 with an address a line. PEER is a
-# program that takes the two listings and a file of addresses. Our program takes the file by `--addresses`.
+# FOLDER has the listings modules.txt and kallsyms.txt, and addr.1, addr.1000 and addr.100000 with
+# an address a line. PEER is a program that takes the two listings and a file of addresses. Our
+# program takes the file by `--addresses`.
 set -eu
 folder=$(cd "$1" && pwd)
 peer=${2:+$(realpath "$2")}

@@ -1,7 +1,8 @@
 #!/usr/bin/env bash
-# The table for threads beside other programs of the same job: lookups and updates a second at 7, 200, 1000 and 65536 items, alone
-# and beside a writer, and the same with one reader and the writer on one core. The programs take turns; each line has the median of
-# REPEATS runs (7) of SECONDS (0.2), and the median of each run's ratio to the first program's of the same turn.
+# The table for threads beside other programs of the same job: lookups and updates a second at 7,
+# 200, 1000 and 65536 items, alone and beside a writer, and the same with one reader and the writer
+# on one core. The programs take turns; each line has the median of REPEATS runs (7) of SECONDS
+# (0.2), and the median of each run's ratio to the first program's of the same turn.
 #
 #     benches/table.sh [PEER ..]
 #

@@ -1,6 +1,7 @@
 #!/usr/bin/env bash
-# How long the program takes over a long trace, and how much memory, beside a plain Rust program of the same job
-# (peers/trace.rs). Both run by turns; the least processor time of each counts. LINES lines, a million if none is given.
+# How long the program takes over a long trace, and how much memory, beside a plain Rust program of
+# the same job (peers/trace.rs). Both run by turns; the least processor time of each counts. LINES
+# lines, a million if none is given.
 set -eu
 lines=${1:-1000000}
 . "$(dirname "$0")/../tests/program.sh"

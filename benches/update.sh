@@ -1,6 +1,7 @@
 #!/usr/bin/env bash
-# Instructions that an update takes from its beginning to its last store, in tables of 7, 200, 1000 and 65536 items, as
-# callgrind counts them: the mean over erasures and insertions in random places, PAIRS of each (2000).
+# Instructions that an update takes from its beginning to its last store, in tables of 7, 200, 1000
+# and 65536 items, as callgrind counts them: the mean over erasures and insertions in random places,
+# PAIRS of each (2000).
 set -eu
 pairs=${1:-2000}
 . "$(dirname "$0")/../tests/program.sh"

@@ -2,9 +2,10 @@
  *
  *   walk WORDS ROUNDS
  *
- * WORDS is what `bench_walk ITEMS` writes. The words are loaded in the order that readers load them in, as sequentially
- * consistent atomics. The line is that of `bench_walk ITEMS ROUNDS`, with the nodes that the same lookups visit in a red-black
- * tree of pointers, after lib/rbtree.c of Linux, into which the items were inserted in the same order. */
+ * WORDS is what `bench_walk ITEMS` writes. The words are loaded in the order that readers load them
+ * in, as sequentially consistent atomics. The line is that of `bench_walk ITEMS ROUNDS`, with the
+ * nodes that the same lookups visit in a red-black tree of pointers, after lib/rbtree.c of Linux,
+ * into which the items were inserted in the same order. */
 #include <stdint.h>
 #include <stdio.h>
 #include <stdlib.h>

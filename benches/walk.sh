@@ -1,7 +1,8 @@
 #!/usr/bin/env bash
-# Nodes visited a lookup and instructions a visited node, as callgrind counts them, in tables of 7, 200, 1000 and 65536 items
-# inserted in shuffled order; beside them the same lookups in C over the same words (walk.c), the nodes that these visit in a
-# red-black tree of pointers, and the ratio of both programs' user times, which take turns. Needs a C compiler and valgrind.
+# Nodes visited a lookup and instructions a visited node, as callgrind counts them, in tables of 7,
+# 200, 1000 and 65536 items inserted in shuffled order; beside them the same lookups in C over the
+# same words (walk.c), the nodes that these visit in a red-black tree of pointers, and the ratio of
+# both programs' user times, which take turns. Needs a C compiler and valgrind.
 set -eu
 . "$(dirname "$0")/../tests/program.sh"
 build bench_walk

@@ -1,6 +1,7 @@
 #!/usr/bin/env bash
-# Compiles the programs of tests/linear over a copy of the crates. One whose second line says `// refused: WORD` must not
-# compile, with an error that has this word; the other one must. Nothing is proved here.
+# Compiles the programs of tests/linear over a copy of the crates. One whose second line says `//
+# refused: WORD` must not compile, with an error that has this word; the other one must. Nothing is
+# proved here.
 set -eu
 top=$(cd "$(dirname "$0")/.." && pwd)
 work=$(mktemp -d)

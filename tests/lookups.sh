@@ -1,7 +1,7 @@
 #!/usr/bin/env bash
-# Looks addresses up in the listings of examples/listings/, and compares what is written with the lines beside them; cuts
-# listings at each byte and adds the counts up; reads the listings of this machine; and tries what may be wrong with the command
-# line and the files.
+# Looks addresses up in the listings of examples/listings/, and compares what is written with the
+# lines beside them; cuts listings at each byte and adds the counts up; reads the listings of this
+# machine; and tries what may be wrong with the command line and the files.
 set -eu
 . "$(dirname "$0")/program.sh"
 build latchsym
@@ -100,7 +100,8 @@ awk 'BEGIN { for (i = 1; i <= 70000; i++) printf "m%d 4096 0 - Live 0x%x\n", i, 
 head -n 65536 "$work/many" >"$work/most"
 "$program" lookup --modules "$work/most" --kallsyms empty.kallsyms 0x10000fff | head -n 2 | cmp -s - <(printf '0x10000fff ? [m65536]\nmodules 65536 hidden 0 empty 0 wraps 0 overlap 0 double 0 long 0 malformed 0\n') || fail "65536 modules"
 
-# refused STATUS LINE ARGUMENT..: nothing on standard output, this line on standard error (any, where it is empty), and this status
+# refused STATUS LINE ARGUMENT..: nothing on standard output, this line on standard error (any,
+# where it is empty), and this status
 refused() {
     local want=$1 line=$2 status=0
     shift 2

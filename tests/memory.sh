@@ -1,7 +1,8 @@
 #!/usr/bin/env bash
-# Runs the program on a long trace and on long listings under limits of its memory (`ulimit -v`), from 8 MiB on, each twice the one
-# before, until a limit is enough. Each run has to give what it gives without a limit, or nothing on standard output,
-# `latchsym: refused 7` on standard error and status 1.
+# Runs the program on a long trace and on long listings under limits of its memory (`ulimit -v`),
+# from 8 MiB on, each twice the one before, until a limit is enough. Each run has to give what it
+# gives without a limit, or nothing on standard output, `latchsym: refused 7` on standard error and
+# status 1.
 #
 # LINES_OF_INPUT is the number of the trace's lines and of the listing's symbols.
 set -eu

@@ -1,8 +1,10 @@
 #!/usr/bin/env bash
-# Refuses each request for memory of a run of the program in turn, until a run meets no refusal. Each run has to give what it
-# gives with ample memory, or nothing on standard output, `latchsym: refused 7` on standard error and status 1.
+# Refuses each request for memory of a run of the program in turn, until a run meets no refusal.
+# Each run has to give what it gives with ample memory, or nothing on standard output, `latchsym:
+# refused 7` on standard error and status 1.
 #
-# The program is linked to the C library dynamically, so a library in front of it can refuse a request. Needs a C compiler.
+# The program is linked to the C library dynamically, so a library in front of it can refuse a
+# request. Needs a C compiler.
 set -eu
 . "$(dirname "$0")/program.sh"
 build latchsym
@@ -46,8 +48,9 @@ try() {
     echo "refusals: latchsym $*: $((request - 1)) requests, $refused runs refused as a whole"
 }
 
-# run_script: the script loads.script, each request refused in turn. Its threads come to a request in any order, so a run is
-# refused as a whole, or writes the line of each refused change, of the lookup and of the totals.
+# run_script: the script loads.script, each request refused in turn. Its threads come to a request
+# in any order, so a run is refused as a whole, or writes the line of each refused change, of the
+# lookup and of the totals.
 run_script() {
     local request=0 refused=0 arguments=(run --modules basic.modules --kallsyms basic.kallsyms --readers 1 ../scripts/loads.script)
     while :; do

@@ -1,8 +1,9 @@
 #!/usr/bin/env bash
-# Refuses each request for memory of refused_calls in turn, until a run meets no refusal. Each run has to write the lines that
-# it writes with ample memory: a call that answers OutOfMemory has changed nothing, and comes to the same when it is made once
-# more. Where memory is refused for what a call is given, the run ends with `refused 7` after the lines up to there. Between the
-# lines `steps begin` and `steps end` no request comes at all. Needs a C compiler.
+# Refuses each request for memory of refused_calls in turn, until a run meets no refusal. Each run
+# has to write the lines that it writes with ample memory: a call that answers OutOfMemory has
+# changed nothing, and comes to the same when it is made once more. Where memory is refused for what
+# a call is given, the run ends with `refused 7` after the lines up to there. Between the lines
+# `steps begin` and `steps end` no request comes at all. Needs a C compiler.
 set -eu
 . "$(dirname "$0")/program.sh"
 build refused_calls
@@ -14,7 +15,8 @@ run() {
     REFUSED_REQUEST=$1 REFUSAL_MARK="$work/mark" LD_PRELOAD="$work/refuse.so" "$program" "$2" >"$work/out" 2>"$work/err" || true
 }
 
-# begins: whether out is the beginning of ample, and then `refused 7`, or an error where a line could not be written
+# begins: whether out is the beginning of ample, and then `refused 7`, or an error where a line
+# could not be written
 begins() {
     if [ "$(tail -n 1 "$work/out")" = "refused 7" ]; then
         head -n -1 "$work/out" | cmp -s - <(head -n $(($(wc -l <"$work/out") - 1)) "$work/ample")

@@ -1,6 +1,7 @@
 #!/usr/bin/env bash
-# Runs the scripts of examples/scripts/ and compares what is written with the lines beside them; runs scripts of several writers
-# beside many readers, whose last line says that nothing is wrong; and tries what may be wrong with the command line and the files.
+# Runs the scripts of examples/scripts/ and compares what is written with the lines beside them;
+# runs scripts of several writers beside many readers, whose last line says that nothing is wrong;
+# and tries what may be wrong with the command line and the files.
 set -eu
 . "$(dirname "$0")/program.sh"
 build latchsym
@@ -59,7 +60,8 @@ awk 'BEGIN {
 run --modules "$work/eight" --kallsyms /dev/null --readers 64 "$work/eight.script"
 tail -n 1 "$work/out" | grep -q '^checked 66666 wrong 0 seq ' || fail "eight writers beside 64 readers: $(tail -n 1 "$work/out")"
 
-# the names of changes and the addresses of lookups come in the order of the script, by writer and by reader
+# the names of changes and the addresses of lookups come in the order of the script, by writer and
+# by reader
 printf 'unload 8 b\nlook 2 7\nunload 1 a\n\nload 8 c\n# last\nlook 1 0x8\nlook 2 9' >"$work/order"
 run "${basic[@]}" --readers 3 "$work/order"
 printf 'refused 1 11 a\nrefused 8 11 b\nrefused 8 11 c\n1 0x8 -> - gen 0\n2 0x7 -> - gen 0\n2 0x9 -> - gen 0\nchecked 3 wrong 0 seq 0 gen 0\n' >"$work/ordered"
@@ -68,7 +70,8 @@ for readers in 1 64 0x40; do
     ends "checked 0 wrong 0 seq 0 gen 0" "${basic[@]}" --readers $readers /dev/null
 done
 
-# refused STATUS LINE ARGUMENT..: nothing on standard output, this line on standard error (any, where it is empty), and this status
+# refused STATUS LINE ARGUMENT..: nothing on standard output, this line on standard error (any,
+# where it is empty), and this status
 refused() {
     local want=$1 line=$2 status=0
     shift 2

@@ -1,8 +1,9 @@
 #!/usr/bin/env bash
-# Runs each trace of examples/traces/ and compares what it writes with the lines beside it, or with the line that reports its
-# fault. Among the lines a `*` stands for a number that depends on the tree's shape. How many steps an update takes is left to
-# the program, so the lookups of every_stop are compared with the table before the second flip up to some stop, and with the
-# table after it from there on.
+# Runs each trace of examples/traces/ and compares what it writes with the lines beside it, or with
+# the line that reports its fault. Among the lines a `*` stands for a number that depends on the
+# tree's shape. How many steps an update takes is left to the program, so the lookups of every_stop
+# are compared with the table before the second flip up to some stop, and with the table after it
+# from there on.
 set -eu
 . "$(dirname "$0")/program.sh"
 build latchsym
@@ -14,7 +15,8 @@ fail() {
     failed=1
 }
 
-# agree WANTED GOT: whether the lines are the wanted ones, a `*` among their words standing for any number
+# agree WANTED GOT: whether the lines are the wanted ones, a `*` among their words standing for any
+# number
 agree() {
     awk 'NR == FNR { want[FNR] = $0; lines = FNR; next }
         {
@@ -25,7 +27,8 @@ agree() {
         END { if (seen != lines) exit 1 }' "$1" "$2"
 }
 
-# every_stop_agrees GOT: three lookups at each stop, all at their first attempt: up to some stop the old table, then the new
+# every_stop_agrees GOT: three lookups at each stop, all at their first attempt: up to some stop the
+# old table, then the new
 every_stop_agrees() {
     awk '/^seq 4 gen 2$/ { ended = 1; next }
         !/ tries 1$/ { exit 1 }

@@ -2,13 +2,13 @@
  *
  *   random PROGRAM FOLDER RUNS SEED EXAMPLE..
  *
- * FOLDER is where inputs lie. Each EXAMPLE is a file whose lines inputs are made from: its name's end tells what it is
- * (.trace, .modules, .kallsyms, .regions, .addresses, .script). Of a run that breaks a promise the input stays in
- * FOLDER, and the status is 1.
+ * FOLDER is where inputs lie. Each EXAMPLE is a file whose lines inputs are made from: its name's
+ * end tells what it is (.trace, .modules, .kallsyms, .regions, .addresses, .script). Of a run that
+ * breaks a promise the input stays in FOLDER, and the status is 1.
  *
- * The promises: a run ends within SECONDS, by itself, with status 0 or 1; with 0 nothing is on standard error; with 1 one line
- * is, which begins with `latchsym: `, and standard output is empty, or its last line tells of a wrong answer; the counts of a
- * lookup add up to the lines of its listings. */
+ * The promises: a run ends within SECONDS, by itself, with status 0 or 1; with 0 nothing is on
+ * standard error; with 1 one line is, which begins with `latchsym: `, and standard output is empty;
+ * the counts of a lookup add up to the lines of its listings; no answer of a script is wrong. */
 #define _POSIX_C_SOURCE 200809L
 #include <fcntl.h>
 #include <stdint.h>
@@ -83,8 +83,8 @@ static const char *const trace_forms[] = {
 };
 
 static const char *const script_forms[] = {
-    "load @ ext4", "load @ xfs", "load @ m", "unload @ ext4", "unload @ m", "init @ m", "look @ @", "look @ 0xffffffffc0000018", "",
-    "# a comment",
+    "load 1 ext4", "load 2 xfs", "load 3 m", "load 4 m", "unload 8 ext4", "unload 5 m", "init 6 m", "look 1 @", "look 1 @",
+    "look 1 0xffffffffc0000018", "look 2 @", "", "# a comment",
 };
 
 /* Whether one line that is not understood spoils a file of this kind. */
@@ -211,7 +211,7 @@ static const char *fault_of(int status) {
     if (!WIFEXITED(status)) return WIFSIGNALED(status) && WTERMSIG(status) == SIGALRM ? "no end" : "a crash";
     if (WEXITSTATUS(status) > 1) return "another status";
     if (WEXITSTATUS(status) == 0) return said ? "a line on standard error with status 0" : NULL;
-    if (strstr(out, " wrong ") && !said) return strstr(out, " wrong 0 ") ? "status 1 and no wrong answer" : NULL;
+    if (!said && strstr(out, "checked ")) return "a wrong answer";
     if (written) return "output with status 1";
     if (strncmp(err, "latchsym: ", 10) || !end || end[1]) return "not one line on standard error";
     return NULL;
@@ -225,21 +225,29 @@ static const char *try_trace(char *program) {
     return fault_of(run((char *[]){program, "trace", "random.trace", NULL}));
 }
 
-static const char *try_lookup(char *program) {
-    int with_regions = below(2), with_addresses = below(2);
-    char *arguments[] = {program, "lookup", "--modules", "random.modules", "--kallsyms", "random.kallsyms", "0xffffffffc0000018", NULL, NULL, NULL, NULL, NULL};
-    char **next = arguments + 7;
+/* Random listings, with one of regions or not: the words of the command line that name them. */
+static char **put_listings(char **next) {
     make(&modules, 1);
     write_file("random.modules", &modules);
     make(&symbols, 2);
     write_file("random.kallsyms", &symbols);
-    if (with_regions) {
+    *next++ = "--modules";
+    *next++ = "random.modules";
+    *next++ = "--kallsyms";
+    *next++ = "random.kallsyms";
+    if (below(2)) {
         make(&other, 3);
         write_file("random.regions", &other);
         *next++ = "--regions";
         *next++ = "random.regions";
     }
-    if (with_addresses) {
+    return next;
+}
+
+static const char *try_lookup(char *program) {
+    char *arguments[16] = {program, "lookup"}, **next = put_listings(arguments + 2);
+    *next++ = "0xffffffffc0000018";
+    if (below(2)) {
         make(&other, 4);
         write_file("random.addresses", &other);
         *next++ = "--addresses";
@@ -251,6 +259,16 @@ static const char *try_lookup(char *program) {
     if (!adds_up(out, "modules ", lines_of(&modules))) return "counts of modules that do not add up";
     if (!adds_up(out, "symbols ", lines_of(&symbols))) return "counts of symbols that do not add up";
     return NULL;
+}
+
+static const char *try_run(char *program) {
+    char *arguments[16] = {program, "run"}, **next = put_listings(arguments + 2);
+    *next++ = "--readers";
+    *next++ = below(4) ? "2" : "1";
+    make(&other, 5);
+    write_file("random.script", &other);
+    *next++ = "random.script";
+    return fault_of(run(arguments));
 }
 
 static void add_example(const char *path) {
@@ -279,7 +297,7 @@ int main(int count, char **word) {
     state = strtoull(word[4], NULL, 0) | 1;
     for (int i = 5; i < count; i++) add_example(word[i]);
     for (long i = 0; i < runs; i++) {
-        const char *fault = i % 2 ? try_lookup(program) : try_trace(program);
+        const char *fault = i % 3 == 0 ? try_trace(program) : i % 3 == 1 ? try_lookup(program) : try_run(program);
         if (fault) {
             printf("random: run %ld: %s: see %s\n", i, fault, folder);
             return 1;

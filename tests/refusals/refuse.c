@@ -3,7 +3,8 @@
  *
  *   REFUSED_REQUEST   the number of the request to refuse, from 1 on; 0 refuses none
  *   REFUSAL_MARK      a file that is made where the request came
- *   REQUESTS_COUNTED  a file to which the number of requests so far is written at each write to standard output
+ *   REQUESTS_COUNTED a file to which the number of requests so far is written at each write to
+ *   standard output
  *
  * The requests of the loader, before the program, do not count. */
 #include <errno.h>

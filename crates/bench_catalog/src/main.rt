@@ -1,8 +1,9 @@
 //! A large catalog, for a measure of its building and of the look for a symbol.
 //!
-//! `bench_catalog MODULES SYMBOLS LOOKUPS` makes the lines of so many modules and symbols, a third of the symbols in
-//! modules and listed there in no order, builds their catalog, looks for the symbols of addresses in the modules, and
-//! writes the counts. How long each part took goes to standard error.
+//! `bench_catalog MODULES SYMBOLS LOOKUPS` makes the lines of so many modules and symbols, a third
+//! of the symbols in modules and listed there in no order, builds their catalog, looks for the
+//! symbols of addresses in the modules, and writes the counts. How long each part took goes to
+//! standard error.
 #![tactic(auto)]
 
 use bench_ranges::numbers;
@@ -135,7 +136,8 @@ fn items(alloc: Global, catalog: &Catalog, count: u32) -> Result<Vec<Item>, Allo
     Ok(items)
 }
 
-/// Looks for the symbols of `count` addresses, and answers how many were found and the sum of their sizes.
+/// Looks for the symbols of `count` addresses, and answers how many were found and the sum of their
+/// sizes.
 fn look_up_all(catalog: &Catalog, items: &[Item], count: u32) -> (u32, u64) {
     let mut found = 0u32;
     let mut sizes = 0u64;

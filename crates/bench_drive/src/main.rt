@@ -1,7 +1,8 @@
 //! The step machine over a large table, for a measure of its events.
 //!
-//! `bench_drive ITEMS ROUNDS` inserts so many ranges; in each round it erases one and inserts it again, and looks an
-//! address up beside. It writes how many events were done and how many of them are noted.
+//! `bench_drive ITEMS ROUNDS` inserts so many ranges; in each round it erases one and inserts it
+//! again, and looks an address up beside. It writes how many events were done and how many of them
+//! are noted.
 #![tactic(auto)]
 
 ghost use Rattle.std.specs.Prelude.{◌<◌};

@@ -1,5 +1,5 @@
-//! What the measuring programs look up and change: ranges in slots, random numbers, and shuffled order; and the numbers that
-//! they are given.
+//! What the measuring programs look up and change: ranges in slots, random numbers, and shuffled
+//! order; and the numbers that they are given.
 #![tactic(auto)]
 
 ghost use Rattle.std.specs.Prelude.{◌≡◌, ◌+◌, ◌*◌, ◌<◌, ◌≤◌, IfOk, length};
@@ -31,7 +31,8 @@ impl Random {
         self.0
     }
 
-    /// The next random number below this one: the high half of their product, in two steps that fit 64 bits.
+    /// The next random number below this one: the high half of their product, in two steps that fit
+    /// 64 bits.
     pub fn below(&mut self, most: u32) -> u32
         requires some { 0 < most }
         requires few { most ≤ 65536 }
@@ -43,8 +44,8 @@ impl Random {
         ((number / 4294967296 * most + low) / 4294967296) as u32
     }
 
-    /// The next random address in so many slots, with even chance in a range and in none: the high half of the product of a
-    /// random number and the slots' length.
+    /// The next random address in so many slots, with even chance in a range and in none: the high
+    /// half of the product of a random number and the slots' length.
     #[inline(always)]
     pub fn address(&mut self, slots: u32) -> u64
         requires { 0 < slots }

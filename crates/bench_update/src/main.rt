@@ -1,8 +1,8 @@
 //! Updates of a table in random places, for a measure of a writer's steps.
 //!
-//! `bench_update ITEMS PAIRS` inserts so many ranges in shuffled order; then so many times it erases the range of a random
-//! slot and inserts it again, each update from its beginning to its last store. It writes how many stores were made and a
-//! checksum of the words.
+//! `bench_update ITEMS PAIRS` inserts so many ranges in shuffled order; then so many times it
+//! erases the range of a random slot and inserts it again, each update from its beginning to its
+//! last store. It writes how many stores were made and a checksum of the words.
 #![tactic(auto)]
 
 ghost use Rattle.std.specs.Prelude.{◌≡◌, ◌<◌, ◌≤◌, IfOk, length};

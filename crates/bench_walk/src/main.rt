@@ -1,8 +1,8 @@
 //! Lookups in words that nobody changes, for a measure of a reader's steps.
 //!
-//! `bench_walk ITEMS ROUNDS` inserts so many ranges in shuffled order, looks 4096 random addresses up so many times, and writes
-//! how many lay in a range, how many loads were made and the sum of the tags that were found. `bench_walk ITEMS` alone writes
-//! the words, one on each line.
+//! `bench_walk ITEMS ROUNDS` inserts so many ranges in shuffled order, looks 4096 random addresses
+//! up so many times, and writes how many lay in a range, how many loads were made and the sum of
+//! the tags that were found. `bench_walk ITEMS` alone writes the words, one on each line.
 #![tactic(auto)]
 
 ghost use Rattle.std.specs.Prelude.{◌≡◌, IfOk, length};

@@ -9,8 +9,8 @@ use std::io::{Read, Write};
 /// A reader or a writer, and how many of its calls failed.
 ///
 /// A failed call is an error of any kind, or a write of at least one byte that takes none. The
-/// count stays at the greatest `u64` once it is there. What the device has left to be read, or holds
-/// of what was written, is that of the device inside.
+/// count stays at the greatest `u64` once it is there. What the device has left to be read, or
+/// holds of what was written, is that of the device inside.
 #[derive(Drop)]
 pub struct Counted<D> {
     device: D,

@@ -9,8 +9,8 @@ use std::io::{ErrorKind, Write};
 
 /// Writes all the bytes.
 ///
-/// The first failed call of the device ends it with an error, so an error means that the count rose.
-/// A call that was interrupted failed like any other and is not made again.
+/// The first failed call of the device ends it with an error, so an error means that the count
+/// rose. A call that was interrupted failed like any other and is not made again.
 pub fn put<W: Write>(writer: &mut Counted<W>, bytes: &[u8]) -> io::Result<()>
     ensures { Wrote W.contents writer.old writer.new result bytes.now }
 {
@@ -37,7 +37,8 @@ pub fn put_hexadecimal<W: Write>(writer: &mut Counted<W>, n: u64) -> io::Result<
     put(writer, &buffer[start..])
 }
 
-/// Writes the hexadecimal digits of a number at the end of the buffer, and answers where they begin.
+/// Writes the hexadecimal digits of a number at the end of the buffer, and answers where they
+/// begin.
 pub(crate) fn write_digits(n: u64, buffer: &mut [u8; 16]) -> usize
     ensures start { result < 16 }
     ensures written { drop result buffer.new ≡ digits 16 false n }

@@ -1,4 +1,5 @@
--- An update that begins: what was tested, the node that it takes or frees, and the stores that were planned.
+-- An update that begins: what was tested, the node that it takes or frees, and the stores that were
+-- planned.
 use Rattle.std.proofs.Common.{◌≡◌, ℕ, suc, ◌+◌, ◌*◌, ◌<◌, ◌≤◌, true, false, List, [], ◌∷◌, ◌++◌, length, refl, sym, ◌∙◌, ap, subst, inl, inr, arith, length-append}
 use Rattle.std.specs.Prelude.{All, nat_lt, insert, remove, Contains}
 use Rattle.std.proofs.lemmas.Bool.{ltb-false, lt-ltb}

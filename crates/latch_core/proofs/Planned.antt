@@ -118,8 +118,8 @@ plan_of_any : (n : ℕ) (old new : List Item) (began m : List ℕ) (ss : List St
 plan_of_any n old new began m [] some k two both = absurd (omega arith)
 plan_of_any n old new began m (s ∷ ss) some k two both = plan_of_kinds n old new began 0 m s ss k two both
 
--- what the stores of an update owe: each copy is led from the old table to the new, in these trees, by the items' words
--- and its own links
+-- what the stores of an update owe: each copy is led from the old table to the new, in these trees,
+-- by the items' words and its own links
 pub record Leading (n : ℕ) (old new : List Item) (m : List ℕ) (item_stores links0 links1 : List Store) (zero one : Nodes) : Type 0 where
   pub sized : length m ≡ words_for n
   pub even : stable (at m 0) ≡ 0
@@ -155,7 +155,8 @@ pub flip_far : (copy : ℕ) (m : List ℕ) (seq : ℕ) → Agree (IsCopyWord cop
 flip_far copy m seq w p = get_or-set_other m 0 w seq 0 (λ e. copy_not_zero copy w p e)
 
 module _ (n : ℕ) (old new : List Item) (m : List ℕ) (items ls0 ls1 : List Store) (t0 t1 : Nodes) (is : Leading n old new m items ls0 ls1 t0 t1) where
-  -- the words after the items' words, the first flip, the links of copy 0, the second flip, the links of copy 1
+  -- the words after the items' words, the first flip, the links of copy 0, the second flip, the
+  -- links of copy 1
   abbrev m1 : List ℕ
   m1 = words_after_all m items
 

@@ -17,7 +17,8 @@ use Rattle.latch_core.specs.Invariants.{IsHand, IsInHand, IsSound}
 use Rattle.word_arena.proofs.HoldsLemmas.{holds_on}
 use Rattle.latch_core.proofs.Steps.{hidden_same, flip_same, flip_adds, tables_push, replay_push}
 
--- what a step leaves, by its kind: the sequence, the number of flips, and what the stable copy holds
+-- what a step leaves, by its kind: the sequence, the number of flips, and what the stable copy
+-- holds
 record Left {K : Type 0} (o : Order K) (n start : ℕ) (us : List Update) (l : Latch) (h : Hand) (s : Store) : Type 0 where
   sequence : at (words_after l.words s) 0 + h.flips ≡ at l.words 0 + flips_after h.flips s
   flips : flips_after h.flips s ≤ 2

@@ -11,7 +11,8 @@ use Rattle.latch_core.specs.Attempts.{Outcome, Answer, Again, No_item, Stuck, cl
 use Rattle.latch_core.specs.Whole.{ran, loads_in}
 use Rattle.latch_core.proofs.Leads.{walk_visits, answers, answers_none}
 
--- the attempt comes to what the rest of the walk comes to, which has this link and as many visits as four loads each leave
+-- the attempt comes to what the rest of the walk comes to, which has this link and as many visits
+-- as four loads each leave
 pub record IsWalking {K : Type 0} (o : Order K) (m : List ℕ) (n : ℕ) (k : K) (loads link : ℕ) : Type 0 where
   pub left : ℕ
   pub few : loads + 4 * left ≡ 4 * n + 2

@@ -28,7 +28,8 @@ use Rattle.latch_core.proofs.BatchLemmas.{neither}
 use Rattle.latch_core.proofs.BeginLemmas.{idle_from}
 use Rattle.latch_core.proofs.WriterLemmas.{rest_now}
 
--- no update is in hand where a layout is taken, and it has no fewer nodes and no smaller greatest sequence
+-- no update is in hand where a layout is taken, and it has no fewer nodes and no smaller greatest
+-- sequence
 pub may_widen : (w : WriterView) (l : Layout) → why_not_widened w l ≡ None → (w.left ≡ []) × (w.capacity ≤ capacity_of l) × (w.limit ≤ limit_of l)
 may_widen w l e =
     let tests = none_holds ((in_hand w, UpdateInHand) ∷ (nat_lt (capacity_of l) w.capacity || nat_lt (limit_of l) w.limit, BadCapacity) ∷ []) e in

@@ -37,7 +37,8 @@ pub record LeadsBoth (old new : Picture) (placed : Placed) (links : List Store) 
   pub zero : LeadsBeside old new placed links
   pub one : LeadsBeside (second old) (second new) placed (mirror links)
 
--- the items of these first words are erased by these links, and their nodes stand behind those that were free
+-- the items of these first words are erased by these links, and their nodes stand behind those that
+-- were free
 pub record ErasesAll (old new : Picture) (erase : List ℕ) (links : List Store) (free free' : List ℕ) : Type 0 where
   pub table : new.table ≡ without_all erase old.table
   pub both : LeadsBoth old new [] links
@@ -45,7 +46,8 @@ pub record ErasesAll (old new : Picture) (erase : List ℕ) (links : List Store)
   pub behind : free' ≡ free ++ freed
   pub nodes : AreAllNodes old.capacity (free' ++ listed new.tree)
 
--- these items are inserted by these links, each in one of the fresh nodes, in which it was placed before
+-- these items are inserted by these links, each in one of the fresh nodes, in which it was placed
+-- before
 pub record InsertsAll {K : Type 0} (o : Order K) (old new : Picture) (insert : List Item) (placed : Placed) (links : List Store)
     (fresh free' : List ℕ) : Type 0 where
   pub table : new.table ≡ with_items o insert old.table

@@ -18,8 +18,9 @@ capacity_of_core c = c.spot.capacity
 abbrev pub key_of_core : {O K : Type 0} → ReaderCore O K → K
 key_of_core c = c.key
 
--- what is left of an attempt, by the place where the core stands: s is the first reading of the sequence, left the number
--- of visits left, i the node in hand and a, b, tag what was loaded of its item
+-- what is left of an attempt, by the place where the core stands: s is the first reading of the
+-- sequence, left the number of visits left, i the node in hand and a, b, tag what was loaded of its
+-- item
 abbrev pub left_at : {K : Type 0} → Order K → ℕ → K → ℕ → ℕ → ℕ → ℕ → ℕ → ℕ → Place → Reading
 left_at o n k s left i a b tag First = attempt o n k
 left_at o n k s left i a b tag Root = Load (root_word (stable s)) (walk o n k s n)
@@ -51,8 +52,8 @@ abbrev pub IsWanted : {O K : Type 0} → Order K → ReaderCore O K → ℕ → 
 IsWanted o c word =
     (values : List ℕ) → LeadsTo o values c → (go : ℕ → Reading) × (rest_after (attempt o (capacity_of_core c) (key_of_core c)) values ≡ Some (Load word go))
 
--- one value more leads to what the core hands back: to a core that has taken these values, at most 4n + 2; or to the end
--- of the attempt, after which a core that begins again has taken none
+-- one value more leads to what the core hands back: to a core that has taken these values, at most
+-- 4n + 2; or to the end of the attempt, after which a core that begins again has taken none
 abbrev pub LeadsOn : {O K : Type 0} → Order K → ℕ → K → List ℕ → Taken O K → Type 0
 LeadsOn o n k values (Going c) = (capacity_of_core c ≡ n) × (key_of_core c ≡ k) × LeadsTo o values c × (length values ≤ 4 * n + 2)
 LeadsOn o n k values (Retrying c) = (capacity_of_core c ≡ n) × (key_of_core c ≡ k) × IsAttempt o n k values Again × LeadsTo o [] c

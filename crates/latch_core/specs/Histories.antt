@@ -16,6 +16,7 @@ replay o table (u ∷ us) = replay o (after o table u) us
 abbrev pub table_at : {K : Type 0} → Order K → ℕ → List Update → ℕ → List Item
 table_at o start us g = replay o [] (take (g - gen start) us)
 
--- the current table: the one that word 0 names, at the generation of its number. Later updates of the list are not in it.
+-- the current table: the one that word 0 names, at the generation of its number. Later updates of
+-- the list are not in it.
 abbrev pub current_table : {K : Type 0} → Order K → ℕ → List Update → List ℕ → List Item
 current_table o start us words = table_at o start us (gen (at words 0))

@@ -9,8 +9,8 @@ use Rattle.latch_core.specs.Sequences.{stable}
 use Rattle.latch_core.specs.Attempts.{Reading, Stand}
 use Rattle.latch_core.specs.Latches.{Hand, Latch}
 
--- a reader's attempt: its first number is not above the sequence, and while it is the sequence, each value that was
--- loaded still stands in its word
+-- a reader's attempt: its first number is not above the sequence, and while it is the sequence,
+-- each value that was loaded still stands in its word
 abbrev pub IsStanding : List ℕ → Reading → List ℕ → Type 0
 IsStanding m r [] = Unit {0}
 IsStanding m r (s ∷ v) = (s ≤ at m 0) × (s ≡ at m 0 → Stand m r (s ∷ v))
@@ -19,7 +19,8 @@ IsStanding m r (s ∷ v) = (s ≤ at m 0) × (s ≡ at m 0 → Stand m r (s ∷ 
 abbrev pub AreTables : {K : Type 0} → Order K → ℕ → List Update → Type 0
 AreTables o n us = (j : ℕ) → IsTable o (replay o [] (take j us)) × (length (replay o [] (take j us)) ≤ n)
 
--- an update in hand is the last that was accepted; with none in hand the sequence counts two for each
+-- an update in hand is the last that was accepted; with none in hand the sequence counts two for
+-- each
 pub record IsHand {K : Type 0} (o : Order K) (start seq : ℕ) (us : List Update) (h : Hand) : Type 0 where
   pub count : seq + 2 ≡ start + 2 * length us + h.flips
   pub flips : h.flips ≤ 2

@@ -9,14 +9,16 @@ use Rattle.latch_core.specs.declared.updates.Update.{Update}
 use Rattle.latch_core.specs.Sequences.{stable}
 use Rattle.latch_core.specs.Updates.{after}
 
--- an update in hand: the table before it, the words when it began, how many flips it has made, how many steps are to come
+-- an update in hand: the table before it, the words when it began, how many flips it has made, how
+-- many steps are to come
 pub record Hand : Type 0 where
   pub old : List Item
   pub began : List ℕ
   pub flips : ℕ
   pub left : ℕ
 
--- the words, the table after all accepted updates, and the update in hand, which is the last of them
+-- the words, the table after all accepted updates, and the update in hand, which is the last of
+-- them
 pub record Latch : Type 0 where
   pub words : List ℕ
   pub table : List Item
@@ -26,7 +28,8 @@ pub record Latch : Type 0 where
 abbrev pub BothHold : List ℕ → ℕ → List Item → Type 0
 BothHold m n table = HoldsTable m n 0 table × HoldsTable m n 1 table
 
--- a store that no reader of the stable copy can see; an item word only where the node was free at the beginning and is free
+-- a store that no reader of the stable copy can see; an item word only where the node was free at
+-- the beginning and is free
 pub record IsHidden (n : ℕ) (m : List ℕ) (began : List ℕ) (w : ℕ) : Type 0 where
   pub in_range : w < length m
   pub not_sequence : w ≢ 0

@@ -89,8 +89,8 @@ tests_of o n table (Batch erase insert) =
 abbrev pub failed_test : {K : Type 0} → Order K → ℕ → List Item → Update → Option Refusal
 failed_test o n table u = first_that_holds (tests_of o n table u)
 
--- why an update is refused, or none: at n nodes and a greatest sequence, with an update in hand or not, at this table and
--- this sequence, from which two flips more may pass the greatest
+-- why an update is refused, or none: at n nodes and a greatest sequence, with an update in hand or
+-- not, at this table and this sequence, from which two flips more may pass the greatest
 abbrev pub refuses : {K : Type 0} → Order K → ℕ → ℕ → Bool → List Item → ℕ → Update → Option Refusal
 refuses o n limit busy table seq u =
     first_that_holds

@@ -8,8 +8,9 @@ use Rattle.word_arena.specs.NodesCode.{nodes_code}
 use Rattle.rb_words.specs.Rows.{item_code}
 use Rattle.latch_core.specs.PlanViews.{store_code}
 
--- the number of nodes and the greatest sequence; the sequence; the table after all accepted updates, and the trees that copy
--- 0 and copy 1 have when the update in hand is at its end; the stores that are left until then
+-- the number of nodes and the greatest sequence; the sequence; the table after all accepted
+-- updates, and the trees that copy 0 and copy 1 have when the update in hand is at its end; the
+-- stores that are left until then
 pub record WriterView : Type 0 where
   pub capacity : ℕ
   pub limit : ℕ

@@ -47,7 +47,8 @@ abbrev pub StaysShallow : ℕ → List ℕ → List Store → Type 0
 StaysShallow n m [] = IsShallow n m
 StaysShallow n m (s ∷ ss) = IsShallow n m × StaysShallow n (words_after m s) ss
 
--- the core pictures a latch: the stores that are left carry the update in hand to its end, and then the memory is at rest
+-- the core pictures a latch: the stores that are left carry the update in hand to its end, and then
+-- the memory is at rest
 pub record Pictures (w : WriterView) (l : Latch) : Type 0 where
   pub plan : IsPlan w.capacity l w.left
   pub at_rest : AtRest w (words_after_all l.words w.left)
@@ -55,8 +56,8 @@ pub record Pictures (w : WriterView) (l : Latch) : Type 0 where
   pub sequence : at l.words 0 ≡ w.sequence
   pub shallow : StaysShallow w.capacity l.words w.left
 
--- a store that may be made next: on each latch that the core pictures it is a step of the update in hand, and with none
--- left no update is in hand
+-- a store that may be made next: on each latch that the core pictures it is a step of the update in
+-- hand, and with none left no update is in hand
 abbrev pub MayBeNext : WriterView → Option Store → Type 0
 MayBeNext w next =
     (l : Latch) → Pictures w l → MatchOption next (l.hand ≡ None) (λ s. (h : Hand) × (l.hand ≡ Some h) × MayStep w.capacity l h s)
@@ -96,8 +97,8 @@ sequence_after seq s = if s.word == 0 then s.value else seq
 abbrev pub stepped_writer : WriterView → Store → WriterView
 stepped_writer w s = record w { sequence = sequence_after w.sequence s; left = drop 1 w.left }
 
--- Both copies are in step: they list the same nodes with the same items, and these and the free nodes are all that there
--- are. The stores that are left lie in the memory.
+-- Both copies are in step: they list the same nodes with the same items, and these and the free
+-- nodes are all that there are. The stores that are left lie in the memory.
 pub record AreInStep (n : ℕ) (zero one : Picture) (free : List ℕ) (left : List Store) : Type 0 where
   pub zero_capacity : zero.capacity ≡ n
   pub zero_copy : zero.copy ≡ 0
@@ -108,8 +109,8 @@ pub record AreInStep (n : ℕ) (zero one : Picture) (free : List ℕ) (left : Li
   pub nodes : AreAllNodes n (free ++ listed zero.tree)
   pub in_range : All (λ s. s.word < words_for n) left
 
--- the new core has the update in hand: its table is the one after it, and on each latch that the old core pictures the stores
--- that it planned carry the update out
+-- the new core has the update in hand: its table is the one after it, and on each latch that the
+-- old core pictures the stores that it planned carry the update out
 pub record HasBegun {K : Type 0} (o : Order K) (old : WriterView) (u : Update) (new : WriterView) : Type 0 where
   pub rest : new ≡ record old { table = after o old.table u; zero_tree = new.zero_tree; one_tree = new.one_tree; left = new.left }
   pub some : 0 < length new.left

@@ -1,7 +1,8 @@
 //! A whole attempt in locals.
 //!
-//! [`ReaderCore`](crate::ReaderCore) stops at each load, since each may be a step of its own. Where nothing is between two loads
-//! a reader goes through its attempt in one function, which keeps the copy, the link and the visits left in locals:
+//! [`ReaderCore`](crate::ReaderCore) stops at each load, since each may be a step of its own. Where
+//! nothing is between two loads a reader goes through its attempt in one function, which keeps the
+//! copy, the link and the visits left in locals:
 //!
 //! ```text
 //! sequence s -> root of copy s % 2 -> link 0: the key is in no item
@@ -33,7 +34,8 @@ pub enum Attempted {
 
 ghost use Rattle.latch_core.specs.Whole.{ran, loads_in, outcome_of};
 
-/// Makes an attempt in words that stand still, and counts its loads. The second load of the sequence is counted and not made.
+/// Makes an attempt in words that stand still, and counts its loads. The second load of the
+/// sequence is counted and not made.
 pub fn attempt_in<O: TreeOrder>(words: &[u64], l: Layout, key: O::Key) -> (Attempted, u32)
     requires { length words.now ≡ words_for (capacity_of l) }
     ensures outcome { outcome_of result.0 ≡ ran words.now (attempt O.order (capacity_of l) key) }

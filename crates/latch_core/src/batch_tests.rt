@@ -82,8 +82,8 @@ impl<O: TreeOrder> Table<O> {
     }
 }
 
-// The rows of a batch: two items at once; a batch that would pass the capacity, although it erases; one item for another; and
-// refusals.
+// The rows of a batch: two items at once; a batch that would pass the capacity, although it erases;
+// one item for another; and refusals.
 #[test]
 fn rows_of_batches(rt: HostRuntime) -> Result<(), Fail> {
     let alloc = rt.alloc();
@@ -147,7 +147,8 @@ fn refusals_of_batches_and_the_empty_one(rt: HostRuntime) -> Result<(), Fail> {
     Ok(())
 }
 
-// At each stop of the update in hand, all keys find what the plain table at the lookup's generation has.
+// At each stop of the update in hand, all keys find what the plain table at the lookup's generation
+// has.
 fn all_or_none<O: TreeOrder<Key = u64>>(
     rt: &impl Abort,
     table: &mut Table<O>,
@@ -268,7 +269,8 @@ fn some_update(alloc: Global, state: &mut u64) -> Result<Update, Fail> {
     }
 }
 
-// Updates that are drawn are refused as the definitions say, and the others leave the table that they say.
+// Updates that are drawn are refused as the definitions say, and the others leave the table that
+// they say.
 fn run_at_random<O: TreeOrder>(
     rt: &impl Abort,
     alloc: Global,

@@ -1,4 +1,5 @@
-//! What holds of every attempt and of every step of a writer, as contracts of functions that do nothing.
+//! What holds of every attempt and of every step of a writer, as contracts of functions that do
+//! nothing.
 
 ghost use Rattle.std.specs.Prelude.{◌≡◌, ℕ, ◌+◌, ◌*◌, ◌^◌, ◌<◌, ◌≤◌, ◌⊎◌, false, List, [], ◌∷◌, ◌++◌, length, Some, None};
 ghost use Rattle.order_laws.specs.declared.items.Item.{Item};
@@ -18,8 +19,9 @@ ghost use Rattle.latch_core.specs.Widening.{widened_latch};
 
 use order_laws::TreeOrder;
 
-/// An attempt whose values all stand in one memory answers what the key finds in the table of the stable copy, with the
-/// generation of the sequence, and takes at most four loads for each item and three.
+/// An attempt whose values all stand in one memory answers what the key finds in the table of the
+/// stable copy, with the generation of the sequence, and takes at most four loads for each item and
+/// three.
 pub fn attempt_answers<O: TreeOrder>()
     ensures { (m : List ℕ) (n : ℕ) (k : O.Key) (table : List Item) (tree : Nodes) (values : List ℕ) (out : Outcome)
         → Holds m n (stable (at m 0)) table tree → IsTable O.order table → length table ≤ n
@@ -27,7 +29,8 @@ pub fn attempt_answers<O: TreeOrder>()
         → (out ≡ Answer (look O.order k table) (gen (at m 0))) × (length values ≤ 4 * length table + 3) }
 {}
 
-/// An attempt whose values so far all stand in one memory, and that is not at its end, has taken fewer than that.
+/// An attempt whose values so far all stand in one memory, and that is not at its end, has taken
+/// fewer than that.
 pub fn attempt_is_short<O: TreeOrder>()
     ensures { (m : List ℕ) (n : ℕ) (k : O.Key) (table : List Item) (tree : Nodes) (values : List ℕ) (word : ℕ) (go : ℕ → Reading)
         → Holds m n (stable (at m 0)) table tree → IsTable O.order table → length table ≤ n
@@ -35,8 +38,9 @@ pub fn attempt_is_short<O: TreeOrder>()
         → length values < 4 * length table + 3 }
 {}
 
-/// Where the stable copy's tree is red-black, an attempt takes at most four loads for each node on a way down and three, and no
-/// way down is longer than twice the binary logarithm of the number of items and one.
+/// Where the stable copy's tree is red-black, an attempt takes at most four loads for each node on
+/// a way down and three, and no way down is longer than twice the binary logarithm of the number of
+/// items and one.
 pub fn attempt_is_shallow<O: TreeOrder>()
     ensures deep { (m : List ℕ) (n : ℕ) (table : List Item) (tree : Nodes)
         → Holds m n (stable (at m 0)) table tree → CanBeRedBlack tree
@@ -58,8 +62,9 @@ pub fn attempt_ends<O: TreeOrder>()
         → rest_after (attempt O.order n k) values ≡ Some (Load word go) → length values ≤ 4 * n + 2 }
 {}
 
-/// While the sequence is what an attempt read first, each value that it loaded still stands in its word: each step that
-/// the writer may make keeps this, and so does each load of the word that the attempt asks for.
+/// While the sequence is what an attempt read first, each value that it loaded still stands in its
+/// word: each step that the writer may make keeps this, and so does each load of the word that the
+/// attempt asks for.
 pub fn loaded_values_stand<O: TreeOrder>()
     ensures step { (n : ℕ) (k : O.Key) (l : Latch) (h : Hand) (s : Store) (values : List ℕ)
         → 0 < length l.words → MayStep n l h s

@@ -1,10 +1,11 @@
 //! The reader and the writer of a latched tree as pure machines.
 //!
-//! A tree cannot be changed by one store, so whoever walks it while the writer changes it may find half of a
-//! change. A sequence lock has readers try again until the writer is done; but a reader in an interrupt that
-//! stopped the writer would try for ever. A *latch* (`raw_write_seqcount_latch` of include/linux/seqlock.h,
-//! include/linux/rbtree_latch.h) keeps two copies of the tree behind one counter, the *sequence* in word 0, whose
-//! lowest bit names the *stable copy*: the one that readers walk and that the writer leaves alone.
+//! A tree cannot be changed by one store, so whoever walks it while the writer changes it may find
+//! half of a change. A sequence lock has readers try again until the writer is done; but a reader
+//! in an interrupt that stopped the writer would try for ever. A *latch*
+//! (`raw_write_seqcount_latch` of include/linux/seqlock.h, include/linux/rbtree_latch.h) keeps two
+//! copies of the tree behind one counter, the *sequence* in word 0, whose lowest bit names the
+//! *stable copy*: the one that readers walk and that the writer leaves alone.
 //!
 //! ```text
 //!   sequence        2k                  2k + 1              2k + 2
@@ -15,25 +16,28 @@
 //!                             first flip            second flip
 //! ```
 //!
-//! **Two equal readings are enough.** An attempt loads the sequence, walks the stable copy that it names and loads the
-//! sequence again. The sequence only rises, so where both are equal no flip came between, and the writer has
-//! stored nothing but links of the other copy and words of nodes that no link led to. So each value that the
-//! attempt loaded still stands in its word at its last load: the attempt is one in a memory that stood still, and
-//! its stable copy holds the table that the sequence names. Where they differ a new attempt begins.
+//! **Two equal readings are enough.** An attempt loads the sequence, walks the stable copy that it
+//! names and loads the sequence again. The sequence only rises, so where both are equal no flip
+//! came between, and the writer has stored nothing but links of the other copy and words of nodes
+//! that no link led to. So each value that the attempt loaded still stands in its word at its last
+//! load: the attempt is one in a memory that stood still, and its stable copy holds the table that
+//! the sequence names. Where they differ a new attempt begins.
 //!
-//! **An item's words serve both copies.** A node has three words for its item and two links for each copy. The item's
-//! words are stored once, while no link of either copy leads to the node. An erase takes the node out of copy 0 and
-//! then out of copy 1 and leaves its words as they are. From then on the node is free: the next update, which begins
-//! after the last store of this one, may store another item there. A reader that still stands on the node began
-//! two flips ago, so its second reading differs and what it loaded is thrown away.
+//! **An item's words serve both copies.** A node has three words for its item and two links for
+//! each copy. The item's words are stored once, while no link of either copy leads to the node. An
+//! erase takes the node out of copy 0 and then out of copy 1 and leaves its words as they are. From
+//! then on the node is free: the next update, which begins after the last store of this one, may
+//! store another item there. A reader that still stands on the node began two flips ago, so its
+//! second reading differs and what it loaded is thrown away.
 //!
-//! **A walk over torn words ends.** Between two flips a reader may load words of different updates, and the links may lead
-//! it anywhere. So each link is compared with the number of nodes and visits are counted: an attempt ends after at most
-//! `4N + 3` loads, whatever it loads.
+//! **A walk over torn words ends.** Between two flips a reader may load words of different updates,
+//! and the links may lead it anywhere. So each link is compared with the number of nodes and visits
+//! are counted: an attempt ends after at most `4N + 3` loads, whatever it loads.
 //!
-//! **Not promised:** that a reader beside a writer that never rests ever returns, though it tries again at most once for each
-//! flip; anything of weak memory orders. Here a reader is given one value of one word at a time and the writer hands
-//! out one store at a time; neither knows where the words are kept, nor how steps interleave.
+//! **Not promised:** that a reader beside a writer that never rests ever returns, though it tries
+//! again at most once for each flip; anything of weak memory orders. Here a reader is given one
+//! value of one word at a time and the writer hands out one store at a time; neither knows where
+//! the words are kept, nor how steps interleave.
 #![tactic(auto)]
 
 pub mod attempts;

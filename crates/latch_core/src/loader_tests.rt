@@ -9,7 +9,8 @@ use word_arena::{Layout, apply};
 
 const NODES: u32 = 5;
 
-/// Words that are loaded one at a time, with what was loaded; where it `moves`, the sequence has gone on when an attempt ends.
+/// Words that are loaded one at a time, with what was loaded; where it `moves`, the sequence has
+/// gone on when an attempt ends.
 #[derive(Drop)]
 struct Recording<'a, R: Abort> {
     rt: &'a R,

@@ -1,7 +1,8 @@
 //! A whole attempt over words that are loaded one at a time, and may change between two loads.
 //!
-//! It goes the way of [`attempt_in`](crate::attempt_in). Whoever keeps the words hands in a [`Loader`], which may keep them as
-//! atomic words; the values that it loads, whatever they are, are those of an attempt.
+//! It goes the way of [`attempt_in`](crate::attempt_in). Whoever keeps the words hands in a
+//! [`Loader`], which may keep them as atomic words; the values that it loads, whatever they are,
+//! are those of an attempt.
 
 ghost use Rattle.std.specs.Prelude.{◌≡◌, ℕ, ◌+◌, ◌*◌, ◌<◌, ◌≤◌, ◌++◌, ◌∷◌, [], List, Some, length};
 ghost use Rattle.word_arena.specs.Layouts.{capacity_of};
@@ -80,7 +81,8 @@ pub fn attempt_by<O: TreeOrder, L: Loader<O>>(
     (came_to, loads + 1)
 }
 
-/// Walks the copy that is stable at the first reading of the sequence, and counts the loads with that reading.
+/// Walks the copy that is stable at the first reading of the sequence, and counts the loads with
+/// that reading.
 #[inline(always)]
 fn walk_by<O: TreeOrder, L: Loader<O>>(
     loader: &mut L,

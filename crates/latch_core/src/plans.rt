@@ -89,7 +89,8 @@ impl Plan {
         self.stores.reserve(count)
     }
 
-    /// Makes room for an update of one item, where none are left: here and in the picture of copy 0.
+    /// Makes room for an update of one item, where none are left: here and in the picture of
+    /// copy 0.
     #[inline(always)]
     pub fn reserve_with<O: TreeOrder>(&mut self, shape: &mut Shape<O>) -> Result<(), Refusal>
         requires { self.old.left ≡ [] }
@@ -104,8 +105,8 @@ impl Plan {
         Ok(self.reserve(2 * STORES + 2)?)
     }
 
-    /// Takes in the stores that insert an item in a free node, unless it meets one of the table. Answers whether it does;
-    /// then what is pictured of copy 0 stays, and no stores are left.
+    /// Takes in the stores that insert an item in a free node, unless it meets one of the table.
+    /// Answers whether it does; then what is pictured of copy 0 stays, and no stores are left.
     ///
     /// Takes no memory. The item must be valid.
     pub fn insert<O: TreeOrder>(
@@ -145,8 +146,8 @@ impl Plan {
         false
     }
 
-    /// Takes in the stores that erase the item of a first word, if there is one, and answers its node. With none, what is
-    /// pictured of copy 0 stays, and no stores are left.
+    /// Takes in the stores that erase the item of a first word, if there is one, and answers its
+    /// node. With none, what is pictured of copy 0 stays, and no stores are left.
     ///
     /// Takes no memory.
     pub fn erase<O: TreeOrder>(
@@ -190,8 +191,8 @@ impl Plan {
         append(&mut self.stores, stores);
     }
 
-    /// Takes in all that follows the stores of items: the first flip, the links of copy 0, the second flip, the same links in
-    /// copy 1.
+    /// Takes in all that follows the stores of items: the first flip, the links of copy 0, the
+    /// second flip, the same links in copy 1.
     #[inline(always)]
     pub fn close(&mut self, l: Layout, sequence: u64, links: &[Store])
         requires links_only { AreLinkStores (capacity_of l) 0 links.now }
@@ -243,8 +244,8 @@ fn item_and_flip(stores: &mut Vec<Store>, node: u32, item: Item, sequence: u64)
     stores.push_reserved(flip_to(sequence));
 }
 
-/// Appends the store that makes this number the sequence, and for each store of copy 0 from the place `from` on that of
-/// copy 1.
+/// Appends the store that makes this number the sequence, and for each store of copy 0 from the
+/// place `from` on that of copy 1.
 #[inline(always)]
 fn flip_and_mirror(l: Layout, stores: &mut Vec<Store>, sequence: u64, from: usize)
     requires place { from ≤ vec_len stores.old }

@@ -13,9 +13,10 @@ use word_arena::{Layout, places};
 
 /// A lookup in hand: its key, and where it stands in its attempt.
 ///
-/// An attempt reads the sequence, walks the stable copy and reads the sequence again (`read_seqcount_latch` and
-/// `read_seqcount_latch_retry` of include/linux/seqlock.h, `__lt_find` of include/linux/rbtree_latch.h). What it does
-/// next depends on its key and on the values that it was given, and on nothing else.
+/// An attempt reads the sequence, walks the stable copy and reads the sequence again
+/// (`read_seqcount_latch` and `read_seqcount_latch_retry` of include/linux/seqlock.h, `__lt_find`
+/// of include/linux/rbtree_latch.h). What it does next depends on its key and on the values that it
+/// was given, and on nothing else.
 #[derive(Drop)]
 pub struct ReaderCore<O: TreeOrder> {
     key: O::Key,
@@ -111,8 +112,8 @@ impl<O: TreeOrder> ReaderCore<O> {
 
     /// Takes the value of the wanted word.
     ///
-    /// A core that goes on was given at most 4N + 2 values in its attempt, whatever they were; one that begins again was
-    /// given none in its new attempt.
+    /// A core that goes on was given at most 4N + 2 values in its attempt, whatever they were; one
+    /// that begins again was given none in its new attempt.
     pub fn take(mut self, value: u64) -> Taken<O>
         ensures same { IsSameLookup self result }
         ensures shorter { IsShorter self result }

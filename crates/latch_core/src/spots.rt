@@ -27,7 +27,8 @@ pub enum Place {
     Stuck,
 }
 
-/// The first reading of the sequence, the node in hand with the words of its item, and how many visits are left.
+/// The first reading of the sequence, the node in hand with the words of its item, and how many
+/// visits are left.
 #[derive(Clone, Copy, Debug, Drop)]
 pub struct Spot {
     pub first: u64,

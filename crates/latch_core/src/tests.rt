@@ -180,8 +180,8 @@ fn the_least_lookup_and_both_ends_of_a_range(rt: HostRuntime) -> Result<(), Fail
     Ok(())
 }
 
-// The reader loads an item's first word and the words of the item that later takes its node, and would find its key in
-// that mixture; its second reading of the sequence differs from the first.
+// The reader loads an item's first word and the words of the item that later takes its node, and
+// would find its key in that mixture; its second reading of the sequence differs from the first.
 #[test]
 fn a_torn_item_is_not_answered(rt: HostRuntime) -> Result<(), Fail> {
     let l = Layout::new(1)?;
@@ -269,7 +269,8 @@ const KEYS: [u64; 9] = [
     0, 0x500, 0x1000, 0x17ff, 0x1fff, 0x2000, 0x3000, 0x3fff, 0x4000,
 ];
 
-// Each key is found as it lies in the table after so many of the updates, and under that generation.
+// Each key is found as it lies in the table after so many of the updates, and under that
+// generation.
 fn finds_all(
     rt: &impl Abort,
     alloc: Global,
@@ -286,7 +287,8 @@ fn finds_all(
     Ok(())
 }
 
-// Carries the update out that comes after so many others, and looks the keys up at each of its stops.
+// Carries the update out that comes after so many others, and looks the keys up at each of its
+// stops.
 fn carry_out_by_stops(
     rt: &impl Abort,
     alloc: Global,
@@ -307,7 +309,8 @@ fn carry_out_by_stops(
     Ok(())
 }
 
-// At each stop of each update, a lookup answers for the old table before the second flip and for the new one from it on.
+// At each stop of each update, a lookup answers for the old table before the second flip and for
+// the new one from it on.
 #[test]
 fn an_order_whose_key_is_a_struct(rt: HostRuntime) -> Result<(), Fail> {
     let mut latch = Latch::<Ranges>::open(&rt, rt.alloc(), Layout::new(4)?, 0)?;

@@ -26,13 +26,13 @@ use std::alloc::Global;
 use std::marker::Model;
 use word_arena::{Layout, Store, TreeCopy};
 
-/// The writer's side of a latch (`latch_tree_insert`, `latch_tree_erase` and `raw_write_seqcount_latch` of
-/// include/linux/rbtree_latch.h and include/linux/seqlock.h).
+/// The writer's side of a latch (`latch_tree_insert`, `latch_tree_erase` and
+/// `raw_write_seqcount_latch` of include/linux/rbtree_latch.h and include/linux/seqlock.h).
 ///
-/// An update flips the sequence, changes copy 0, flips again and changes copy 1 in the same way, so one picture serves both
-/// copies. All stores are planned when the update begins, and all memory is taken then; after that
-/// [`next`](WriterCore::next) tells one store and [`did`](WriterCore::did) is told that it was made. One update is in hand at
-/// a time.
+/// An update flips the sequence, changes copy 0, flips again and changes copy 1 in the same way, so
+/// one picture serves both copies. All stores are planned when the update begins, and all memory is
+/// taken then; after that [`next`](WriterCore::next) tells one store and [`did`](WriterCore::did)
+/// is told that it was made. One update is in hand at a time.
 #[derive(Drop)]
 pub struct WriterCore<O: TreeOrder> {
     layout: Layout,
@@ -71,8 +71,8 @@ impl<O: TreeOrder> Model for WriterCore<O> {
 impl<O: TreeOrder> WriterCore<O> {
     /// The writer of an empty table, at an opening sequence.
     ///
-    /// Refused by [`Refusal::BadCapacity`] where the sequence is odd or above the layout's limit, and else by
-    /// [`Refusal::OutOfMemory`].
+    /// Refused by [`Refusal::BadCapacity`] where the sequence is odd or above the layout's limit,
+    /// and else by [`Refusal::OutOfMemory`].
     pub fn open(alloc: Global, l: Layout, start: u64) -> Result<Self, Refusal>
         ensures opened { IfOk result (λ w. w ≡ opening_writer l start) }
         ensures may { IfOk result (λ w. MayOpen l start) }
@@ -92,13 +92,13 @@ impl<O: TreeOrder> WriterCore<O> {
         })
     }
 
-    /// Goes on with the nodes and the greatest sequence of a layout: the table and the sequence stay,
-    /// and the nodes that come in addition are free.
+    /// Goes on with the nodes and the greatest sequence of a layout: the table and the sequence
+    /// stay, and the nodes that come in addition are free.
     ///
     /// The list of free nodes gets its memory here. Whoever keeps the words puts seven words of 0
     /// behind them for each new node. Refused by [`Refusal::UpdateInHand`], then by
-    /// [`Refusal::BadCapacity`] where the layout has fewer nodes or a smaller greatest sequence, and
-    /// last by [`Refusal::OutOfMemory`]; a refusal changes nothing.
+    /// [`Refusal::BadCapacity`] where the layout has fewer nodes or a smaller greatest sequence,
+    /// and last by [`Refusal::OutOfMemory`]; a refusal changes nothing.
     pub fn widen(&mut self, l: Layout) -> Result<(), Refusal>
         ensures accepted { OnOk result (why_not_widened self.old l ≡ None) }
         ensures widened { OnOk result (self.new ≡ widened_writer self.old l) }
@@ -115,8 +115,8 @@ impl<O: TreeOrder> WriterCore<O> {
         Ok(())
     }
 
-    /// Why [`widen`](WriterCore::widen) would refuse a layout before it asks for memory; none where it
-    /// would ask.
+    /// Why [`widen`](WriterCore::widen) would refuse a layout before it asks for memory; none where
+    /// it would ask.
     pub fn why_not_widened(&self, l: Layout) -> Option<Refusal>
         ensures { result ≡ why_not_widened self.now l }
     {
@@ -131,9 +131,10 @@ impl<O: TreeOrder> WriterCore<O> {
 
     /// Takes an update in hand, and answers how many stores it takes.
     ///
-    /// The stores are planned and all memory is taken here. Refused by [`Refusal::UpdateInHand`], then by
-    /// [`Refusal::BadItem`], then by [`Refusal::Overlap`] or [`Refusal::NoSuchItem`], by [`Refusal::Full`], by
-    /// [`Refusal::SequenceSpent`] and last by [`Refusal::OutOfMemory`]; a refusal changes nothing.
+    /// The stores are planned and all memory is taken here. Refused by [`Refusal::UpdateInHand`],
+    /// then by [`Refusal::BadItem`], then by [`Refusal::Overlap`] or [`Refusal::NoSuchItem`], by
+    /// [`Refusal::Full`], by [`Refusal::SequenceSpent`] and last by [`Refusal::OutOfMemory`]; a
+    /// refusal changes nothing.
     pub fn begin(&mut self, u: Update) -> Result<u64, Refusal>
         ensures accepted { IfOk result (λ left. why_refused O.order self.old u ≡ None) }
         ensures begun { IfOk result (λ left. (left ≡ length self.new.left)
@@ -318,9 +319,11 @@ impl<O: TreeOrder> WriterCore<O> {
         }
     }
 
-    /// Plans to insert an item in a free node, which both copies then link. Answers whether it could.
+    /// Plans to insert an item in a free node, which both copies then link. Answers whether it
+    /// could.
     ///
-    /// The way down to the item's place tells whether it meets one of the table, so that is not asked before.
+    /// The way down to the item's place tells whether it meets one of the table, so that is not
+    /// asked before.
     fn insert(&mut self, item: Item) -> bool
         ensures accepted { IsTrue result
             → why_refused O.order self.old (Update.Insert item) ≡ None }
@@ -347,8 +350,8 @@ impl<O: TreeOrder> WriterCore<O> {
         true
     }
 
-    /// Plans to erase the item of a first word, if there is one: both copies leave out its node, which is free afterwards.
-    /// Answers whether it could.
+    /// Plans to erase the item of a first word, if there is one: both copies leave out its node,
+    /// which is free afterwards. Answers whether it could.
     fn erase(&mut self, a: u64) -> bool
         ensures accepted { IsTrue result → why_refused O.order self.old (Update.Erase a) ≡ None }
         ensures begun { IsTrue result → HasBegun O.order self.old (Update.Erase a) self.new }
@@ -370,7 +373,8 @@ impl<O: TreeOrder> WriterCore<O> {
 
     /// Plans to erase the items of some first words and to insert some items.
     ///
-    /// The inserted items go into nodes that were free before, so none goes into a node that is erased here.
+    /// The inserted items go into nodes that were free before, so none goes into a node that is
+    /// erased here.
     fn batch(&mut self, erase: &[u64], insert: &[Item]) -> Result<(), Refusal>
         requires accepted { why_refused O.order self.old (Update.Batch erase.now insert.now) ≡ None }
         ensures begun { OnOk result
@@ -397,7 +401,8 @@ impl<O: TreeOrder> WriterCore<O> {
 
     /// The store to be made next; none where no update is in hand.
     ///
-    /// Its word lies in the memory. On any words that the core pictures it is a step that a writer may make.
+    /// Its word lies in the memory. On any words that the core pictures it is a step that a writer
+    /// may make.
     #[inline(always)]
     pub fn next(&self) -> Option<Store>
         ensures which { result ≡ next_store self.now }
@@ -422,8 +427,9 @@ impl<O: TreeOrder> WriterCore<O> {
         self.step_on();
     }
 
-    /// The next store, which counts as made: [`next`](WriterCore::next) and [`did`](WriterCore::did) in one, for a writer
-    /// that makes each store before it asks for another.
+    /// The next store, which counts as made: [`next`](WriterCore::next) and
+    /// [`did`](WriterCore::did) in one, for a writer that makes each store before it asks for
+    /// another.
     #[inline(always)]
     pub fn step(&mut self) -> Option<Store>
         ensures which { result ≡ next_store self.old }
@@ -506,8 +512,8 @@ impl<O: TreeOrder> WriterCore<O> {
     }
 }
 
-/// Makes room for an update of so many items: in the picture, in the list of what is planned for one of them, and in the
-/// plan. Hands out an empty list with room for all their stores of links.
+/// Makes room for an update of so many items: in the picture, in the list of what is planned for
+/// one of them, and in the plan. Hands out an empty list with room for all their stores of links.
 fn reserve_all<O: TreeOrder>(
     shape: &mut Shape<O>,
     planned: &mut Vec<Store>,

@@ -1,4 +1,5 @@
--- What events do to the latch: each accepted update is the last of the history, and each flip adds one to the sequence.
+-- What events do to the latch: each accepted update is the last of the history, and each flip adds
+-- one to the sequence.
 use Rattle.std.proofs.Common.{◌≡◌, ℕ, suc, zero, ◌+◌, ◌-◌, ◌<◌, ◌≤◌, Bool, false, cond, List, [], ◌∷◌, ◌++◌, length, take, drop, Option, Some, None, refl, sym, ◌∙◌, ap, subst, inl, ⊎_elim, arith, append-nil}
 use Rattle.std.specs.Prelude.{◌==◌, is_some, count_by}
 use Rattle.std.specs.FinMap.{get}

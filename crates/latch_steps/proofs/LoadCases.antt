@@ -1,5 +1,6 @@
--- What one load makes of a lookup in hand, by cases: whatever holds of a lookup whose attempt goes on, of one that has to try
--- again and of one that returns the look of its key, holds of what the load leads to.
+-- What one load makes of a lookup in hand, by cases: whatever holds of a lookup whose attempt goes
+-- on, of one that has to try again and of one that returns the look of its key, holds of what the
+-- load leads to.
 use Rattle.std.proofs.Common.{◌≡◌, ℕ, ◌-◌, ◌≤◌, List, [], ◌∷◌, ◌++◌, length, Some, refl, sym, ◌∙◌, ap, subst}
 use Rattle.order_laws.specs.declared.items.Item.{Item}
 use Rattle.order_laws.specs.Orders.{Order, IsLawful}
@@ -16,7 +17,8 @@ use Rattle.latch_core.proofs.AttemptLemmas.{standing_push, answer_first}
 use Rattle.latch_steps.specs.Runs.{LookupInHand, Moment}
 use Rattle.latch_steps.specs.Steps.{AfterLoad, Goes, Retries, Returns, with_value, next_attempt, return_of, after_value, load_left, after_load}
 
--- a lookup in hand: while its first number is word 0 its values stand, and its attempt asks for a word
+-- a lookup in hand: while its first number is word 0 its values stand, and its attempt asks for a
+-- word
 pub record IsGoing {K : Type 0} (o : Order K) (n : ℕ) (m : List ℕ)
     (l : LookupInHand K) : Type 0 where
   pub standing : IsStanding m (attempt o n l.key) l.values

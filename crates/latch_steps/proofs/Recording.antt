@@ -199,7 +199,8 @@ module _ {O K : Type 0} (o : Order K) (keeps : Bool) (c : Command K) (old : Reco
       repeats_ended c h.run most (did e r one.0) h.unended (let t = h.turns in omega arith) same (sym tested ∙ holds),
     )
 
--- with an update in hand the writer makes as many steps as it is asked for, and with none it makes none
+-- with an update in hand the writer makes as many steps as it is asked for, and with none it makes
+-- none
 pub within_some : (h : Option Hand) (most : ℕ) → is_some h ≡ true → most ≡ writes_within h most
 within_some None most e = absurd (cc)
 within_some (Some h) most e = refl

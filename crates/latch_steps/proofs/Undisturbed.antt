@@ -1,4 +1,5 @@
--- A lookup that the writer leaves alone returns at its first attempt, and each other attempt needs a flip.
+-- A lookup that the writer leaves alone returns at its first attempt, and each other attempt needs
+-- a flip.
 use Rattle.std.proofs.Common.{◌≡◌, ◌≢◌, ℕ, ◌+◌, ◌-◌, ◌*◌, ◌^◌, ◌<◌, ◌≤◌, true, false, cond, List, [], ◌∷◌, ◌++◌, length, take, Option, Some, None, refl, sym, ◌∙◌, ap, subst, arith, length-append, append_assoc}
 use Rattle.std.specs.Prelude.{◌==◌}
 use Rattle.std.specs.FinMap.{get}
@@ -105,7 +106,8 @@ module _ {K : Type 0} (o : Order K) (law : IsLawful o) (n limit : ℕ) (m : List
       (λ moved. absurd (moved c.stand))
       (λ st. c.first))
 
-  -- a step that is neither a load of this reader nor a step of the writer says nothing of the lookup
+  -- a step that is neither a load of this reader nor a step of the writer says nothing of the
+  -- lookup
   passes : (left : ℕ) (d : Done K) (run : List (Done K)) → is_step d.reply ≡ false
       → is_load_of r d.event ≡ false → ReturnsWithin left (replies_to r (up_to_next_step run))
       → ReturnsWithin left (replies_to r (up_to_next_step (d ∷ run)))

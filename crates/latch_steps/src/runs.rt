@@ -90,8 +90,8 @@ pub fn drive_notes<O: TreeOrder>(
     Ok(notes)
 }
 
-/// How many of the commands ask for loads, of which each may return a lookup: a list of notes that has
-/// this room need not move while it grows.
+/// How many of the commands ask for loads, of which each may return a lookup: a list of notes that
+/// has this room need not move while it grows.
 fn reads_among<K>(commands: &[Command<K>]) -> usize
     ensures { result ≤ length commands.now }
 {

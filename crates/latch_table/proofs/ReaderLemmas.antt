@@ -1,4 +1,5 @@
--- What a reader knows stays true under each step of the writer, and each of its own loads adds to it.
+-- What a reader knows stays true under each step of the writer, and each of its own loads adds to
+-- it.
 use Rattle.std.proofs.Common.{◌≡◌, ℕ, suc, ◌+◌, ◌*◌, ◌<◌, ◌≤◌, List, [], ◌∷◌, ◌++◌, length, Some, refl, sym, ◌∙◌, ap, subst, inl, ⊎_elim, arith, le_refl, append_assoc, append-nil}
 use mathlib.Core.List.{IsPrefix}
 use Rattle.order_laws.specs.Orders.{Order, IsLawful}

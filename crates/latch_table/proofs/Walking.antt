@@ -129,7 +129,8 @@ at_link o n k s before e walked values cap same made rest =
 pub leaves_node : {K : Type 0} (o : Order K) (n : ℕ) (k : K) (s : ℕ) (before e : ReaderKnowledge) (walked : Walked) (count : ℕ) → IsAt o n k s before e count (closing s (found_by walked)) → HasWalked o k s before e walked
 leaves_node o n k s before e walked count at_e = at_link o n k s before e walked at_e.values at_e.capacity at_e.same at_e.made at_e.inside.rest
 
--- a walk that ends at a link: at link 0, or at one that leads to no node or after as many visits as there are nodes
+-- a walk that ends at a link: at link 0, or at one that leads to no node or after as many visits as
+-- there are nodes
 pub walks_off : {K : Type 0} (o : Order K) (n : ℕ) (k : K) (s : ℕ) (before e : ReaderKnowledge) (count link : ℕ) (walked : Walked) → IsOn o n k s before e count link → ((left : ℕ) → count + 4 * left ≡ 4 * n + 2 → walk o n k s left link ≡ closing s (found_by walked)) → HasWalked o k s before e walked
 walks_off o n k s before e count link walked on ends =
     at_link o n k s before e walked on.values on.capacity on.same on.made (on.going.rest ∙ ap Some (ends on.going.left on.going.few))

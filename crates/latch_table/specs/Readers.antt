@@ -39,8 +39,8 @@ pub record Attempted {K : Type 0} (o : Order K) (k : K) (e : ReaderKnowledge) (o
   pub loads : e.ended ≡ loads_of (attempt o e.capacity k) values
   pub few : length values ≤ 4 * e.capacity + 3
 
--- the answer is what the key lies in, in the table after the updates that the reader now knows, which are those of
--- the generation g
+-- the answer is what the key lies in, in the table after the updates that the reader now knows,
+-- which are those of the generation g
 pub record Answers {K : Type 0} (o : Order K) (k : K) (e : ReaderKnowledge) (x : Option Item) (g : ℕ) : Type 0 where
   pub floored : KnowsFloor e
   pub counted : e.base + length e.known ≡ g

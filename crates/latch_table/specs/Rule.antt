@@ -34,8 +34,8 @@ abbrev pub Rises : ℕ → List ℕ → ℕ → Type 0
 Rises low [] top = low ≤ top
 Rises low (x ∷ xs) top = (low ≤ x) × Rises x xs top
 
--- where the reader's last step ended an attempt with its first sequence, the attempt answers, from the table after what
--- it knows
+-- where the reader's last step ended an attempt with its first sequence, the attempt answers, from
+-- the table after what it knows
 abbrev pub EndsRight : {K : Type 0} → Order K → ReaderKnowledge → Type 0
 EndsRight {K} o e =
     (k : K) (s : ℕ) (v : List ℕ) (out : Outcome)
@@ -75,8 +75,8 @@ abbrev pub SeatKnows : {K : Type 0} → Order K → ℕ → ℕ → List ℕ →
 SeatKnows o n base words known writer_seat seat v =
     WriterPart n base words known writer_seat seat v.writer × ReaderPart o n base words known v.reader
 
--- The rule of the shared words: there are updates that were shown, of which the stable copy holds the table; one seat
--- alone may be the writer's; and what each seat knows is true.
+-- The rule of the shared words: there are updates that were shown, of which the stable copy holds
+-- the table; one seat alone may be the writer's; and what each seat knows is true.
 pub record KnowledgeHolds {S K : Type 0} (o : Order K) (n base : ℕ) (s : State S Knowledge) : Type 0 where
   pub known : List Update
   pub writer_seat : ℕ

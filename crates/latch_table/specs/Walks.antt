@@ -13,7 +13,8 @@ MayLoad o k e word =
     (first : ℕ) × (values : List ℕ) × (e.loads ≡ loads_of (attempt o e.capacity k) (first ∷ values))
     × Wants o e.capacity k (first ∷ values) word
 
--- it has loaded words and learnt nothing else, and its attempt has the second reading of the sequence left
+-- it has loaded words and learnt nothing else, and its attempt has the second reading of the
+-- sequence left
 pub record HasWalked {K : Type 0} (o : Order K) (k : K) (first : ℕ) (before e : ReaderKnowledge)
     (walked : Walked) : Type 0 where
   pub same : e ≡ record before { loads = e.loads; ended = e.ended }

@@ -27,9 +27,9 @@ use Rattle.latch_table.specs.declared.writers.Did.TheVariants.{Flip, Store}
 use Rattle.latch_core.specs.Standing.{loads_of}
 use Rattle.latch_table.specs.Seats.{writer_of, writing}
 
--- The writer, as clauses see it: its table, how many readers came with it, the opening generation, the number of nodes
--- and the greatest sequence; all accepted updates; the words, the table after these updates and the update in hand; the
--- loads of its last lookup
+-- The writer, as clauses see it: its table, how many readers came with it, the opening generation,
+-- the number of nodes and the greatest sequence; all accepted updates; the words, the table after
+-- these updates and the update in hand; the loads of its last lookup
 pub record WriterState : Type 0 where
   pub place : TableId
   pub readers : ℕ

@@ -1,8 +1,8 @@
 //! The table in a larger row of words.
 //!
 //! The writer alone stores, so with no update in hand it copies the words as they stand, and puts 0
-//! in those of the new nodes. All memory is taken before anything changes; then the writer goes over
-//! to the new row, and the old row is freed with the readers that it has.
+//! in those of the new nodes. All memory is taken before anything changes; then the writer goes
+//! over to the new row, and the old row is freed with the readers that it has.
 
 ghost use Rattle.std.specs.Prelude.{◌≡◌, ◌≤◌, [], length, OnErr, IfOk, IfErr};
 ghost use Rattle.word_arena.specs.Layouts.{capacity_of};
@@ -49,8 +49,8 @@ fn copied<O: TreeOrder>(
 
 impl<O: TreeOrder> Writer<O> {
     /// Goes on with the nodes and the greatest sequence of a layout, in a new row of words: the
-    /// table, the updates that were shown and the generation stay. Takes all readers of the old row,
-    /// which is given up with them, and hands out as many of the new one.
+    /// table, the updates that were shown and the generation stay. Takes all readers of the old
+    /// row, which is given up with them, and hands out as many of the new one.
     ///
     /// Refused by [`Refusal::UpdateInHand`], then by [`Refusal::BadCapacity`] where the layout has
     /// fewer nodes or a smaller greatest sequence, and last by [`Refusal::OutOfMemory`]; a refusal

@@ -95,8 +95,8 @@ fn a_full_table_is_enlarged(rt: HostRuntime) -> Result<(), Fail> {
     Ok(())
 }
 
-// At its last sequence a table goes on with a wide layout, here of the most nodes that there may be.
-// From then on it takes none with 32-bit sequences.
+// At its last sequence a table goes on with a wide layout, here of the most nodes that there may
+// be. From then on it takes none with 32-bit sequences.
 #[test]
 fn a_wide_layout(rt: HostRuntime) -> Result<(), Fail> {
     let alloc = rt.alloc();

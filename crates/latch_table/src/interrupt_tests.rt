@@ -1,5 +1,6 @@
-//! A table of 64 nodes at each stop of 64 inserts, 32 erasures and ten batches that exchange three items. At each stop the
-//! writer looks up from within its update, as an interrupt does that stopped it, and a reader looks up beside it.
+//! A table of 64 nodes at each stop of 64 inserts, 32 erasures and ten batches that exchange three
+//! items. At each stop the writer looks up from within its update, as an interrupt does that
+//! stopped it, and a reader looks up beside it.
 
 use crate::{Did, InHand, Reader, Try, Writer, open};
 use latch_core::{Entries, Update};

@@ -44,8 +44,8 @@ pub struct WriterKnowledge {
     pub loads: [(u64, u64); 0],
 }
 
-/// What one seat knows: the writer's seat as the writer, a reader's as a reader, and both while the two
-/// are joined.
+/// What one seat knows: the writer's seat as the writer, a reader's as a reader, and both while the
+/// two are joined.
 pub struct Knowledge {
     pub writer: Option<WriterKnowledge>,
     pub reader: Option<ReaderKnowledge>,

@@ -1,8 +1,9 @@
 //! The latched table over words that threads share: one writer, and readers that never wait.
 //!
-//! [`open`] makes a row of atomic words with one [`Writer`] and some [`Reader`]s, each of which may go
-//! to a thread of its own. Readers look keys up while the writer changes the tree; neither takes a lock.
-//! The algorithm is that of `latch_core`: here each of its loads and stores is one atomic step on a word.
+//! [`open`] makes a row of atomic words with one [`Writer`] and some [`Reader`]s, each of which may
+//! go to a thread of its own. Readers look keys up while the writer changes the tree; neither takes
+//! a lock. The algorithm is that of `latch_core`: here each of its loads and stores is one atomic
+//! step on a word.
 //!
 //! ```text
 //!                      words that all threads share
@@ -17,11 +18,11 @@
 //! ```
 //!
 //! **Who holds which seat.** A step on the words is made through a *seat*, a token of no bytes. The
-//! writer holds the one seat that may store; each reader holds a seat that only loads. A seat cannot be
-//! copied, so there is one writer, and a reader is used by one thread at a time.
+//! writer holds the one seat that may store; each reader holds a seat that only loads. A seat
+//! cannot be copied, so there is one writer, and a reader is used by one thread at a time.
 //!
-//! **What a seat knows.** Each seat carries facts that only a proof reads (`specs/Seats.antt`), and a
-//! step on a word is the only way to learn:
+//! **What a seat knows.** Each seat carries facts that only a proof reads (`specs/Seats.antt`), and
+//! a step on a word is the only way to learn:
 //!
 //! | Step | What its seat then knows |
 //! |---|---|
@@ -33,19 +34,22 @@
 //! | a reader meets the writer ([`meet`]) | the reader: all updates that were shown |
 //! | the writer copies a word | nothing more |
 //!
-//! **The rule of the words** (`specs/Rule.antt`) holds between any two steps of any threads: the stable
-//! copy holds the table after the updates that were shown, as many as the sequence says; what each seat
-//! knows is true; and while the sequence is what a reader first loaded in its attempt, each value that it
-//! loaded since still stands in its word. A step of the writer keeps it, since the writer stores nothing
-//! that a reader of the stable copy can reach. So a reader that loads the same number again knows that
-//! its whole attempt stood still, and its answer is that of the table after the updates that were shown.
+//! **The rule of the words** (`specs/Rule.antt`) holds between any two steps of any threads: the
+//! stable copy holds the table after the updates that were shown, as many as the sequence says;
+//! what each seat knows is true; and while the sequence is what a reader first loaded in its
+//! attempt, each value that it loaded since still stands in its word. A step of the writer keeps
+//! it, since the writer stores nothing that a reader of the stable copy can reach. So a reader that
+//! loads the same number again knows that its whole attempt stood still, and its answer is that of
+//! the table after the updates that were shown.
 //!
-//! **A larger table** ([`Writer::enlarge`]) is a new row of words. Between two updates the writer copies
-//! the words, puts those of the new nodes behind them, and its seat of the new row begins with what its
-//! seat of the old one knew. New readers part from it; the old ones are given up with their row.
+//! **A larger table** ([`Writer::enlarge`]) is a new row of words. Between two updates the writer
+//! copies the words, puts those of the new nodes behind them, and its seat of the new row begins
+//! with what its seat of the old one knew. New readers part from it; the old ones are given up with
+//! their row.
 //!
-//! **Not promised:** that [`Reader::find`] returns beside a writer that never rests; an order between
-//! readers that met nobody; anything of weak memory orders: each step is sequentially consistent.
+//! **Not promised:** that [`Reader::find`] returns beside a writer that never rests; an order
+//! between readers that met nobody; anything of weak memory orders: each step is sequentially
+//! consistent.
 #![tactic(auto)]
 
 pub mod enlarging;

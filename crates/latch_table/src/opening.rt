@@ -80,8 +80,8 @@ fn opening_words(alloc: Global, l: Layout, start: u64) -> Result<Vec<u64>, Alloc
 
 /// An empty table, with its sequence at `start`: its writer, and so many readers.
 ///
-/// The start is a sequence. Refused by [`Refusal::BadCapacity`] where it is odd or above the layout's
-/// limit, or the readers are not 1 to 64; and else by [`Refusal::OutOfMemory`].
+/// The start is a sequence. Refused by [`Refusal::BadCapacity`] where it is odd or above the
+/// layout's limit, or the readers are not 1 to 64; and else by [`Refusal::OutOfMemory`].
 pub fn open<O: TreeOrder>(
     alloc: Global,
     l: Layout,

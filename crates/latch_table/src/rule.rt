@@ -9,8 +9,8 @@ use order_laws::TreeOrder;
 use std::alloc::Global;
 use std::marker::{Brand, PhantomData};
 
-/// The rule: the stable copy holds the table after the updates that were shown, and what each seat knows
-/// is true.
+/// The rule: the stable copy holds the table after the updates that were shown, and what each seat
+/// knows is true.
 pub struct Latched<O> {
     order: PhantomData<O>,
 }
@@ -87,8 +87,8 @@ impl NamesUpdate for Brand {
     ghost update = { Erase 0 };
 }
 
-/// The writer takes an update in hand. A seat learns only at a step on a word, so this one loads the
-/// sequence.
+/// The writer takes an update in hand. A seat learns only at a step on a word, so this one loads
+/// the sequence.
 pub struct TakeUpdate<O, J> {
     order: PhantomData<O>,
     update: PhantomData<J>,

@@ -147,7 +147,8 @@ none_meet items table apart =
     list_any_none (λ i. meets half_open i table) items
     (λ k d lt. none_meets (get_or items k d) table (λ x m. apart x (get_or items k d) m (Contains-get_or items k d lt)))
 
--- the update that inserts some items is accepted where these are apart from each other and from all others, and have room
+-- the update that inserts some items is accepted where these are apart from each other and from all
+-- others, and have room
 pub inserts_accepted : (n limit : ℕ) (items table : List Item) (seq : ℕ) → 0 < length items → ((i : Item) → Contains items i → i.a < i.b)
     → some_overlap half_open items ≡ false → ((x i : Item) → Contains table x → Contains items i → half_open.apart x i ≡ true)
     → length table + length items ≤ n → seq + 2 ≤ limit → refuses half_open n limit false table seq (update_of [] items) ≡ None

@@ -39,7 +39,8 @@ abbrev pub listings_app : App
 listings_app =
     with_rule (with_rule (new_app (codes "lookup")) (option_rule (codes "modules"))) (option_rule (codes "kallsyms"))
 
--- lookup --modules FILE --kallsyms FILE [--regions FILE] [--addresses FILE] [--kernel START END] [ADDR]..
+-- lookup --modules FILE --kallsyms FILE [--regions FILE] [--addresses FILE] [--kernel START END]
+-- [ADDR]..
 abbrev pub lookup_app : App
 lookup_app =
     with_rule

@@ -65,7 +65,8 @@ pub record Reported {D : Type 0} (contents : D → Option (List ℕ)) (old new :
   pub outcome : Appends (contents (device_of old)) (contents (device_of new)) line ⊎ Rose (failures_of old) (failures_of new)
   pub never_falls : failures_of old ≤ failures_of new
 
--- The program's status after a job with this outcome, and what it has said of it: nothing of a success.
+-- The program's status after a job with this outcome, and what it has said of it: nothing of a
+-- success.
 abbrev pub Concluded : {D : Type 0} → (D → Option (List ℕ)) → Job → Counted D → Counted D
     → Result (Unit {0}) Fault → ℕ → Type 0
 Concluded contents job old new (Ok _) status = (status ≡ 0) × (new ≡ old)

@@ -31,8 +31,9 @@ files_of (Run job) =
 abbrev pub file_at : Job → ℕ → Option Text
 file_at job place = option_and_then (λ f. f) (slice_get (files_of job) place)
 
--- to look the addresses up that these words are, and behind them those of a file, in the listings of
--- modules and of symbols in two files, and of regions in a third, where these symbols bound the kernel
+-- to look the addresses up that these words are, and behind them those of a file, in the listings
+-- of modules and of symbols in two files, and of regions in a third, where these symbols bound the
+-- kernel
 pub record LookupWords : Type 0 where
   pub modules : Text
   pub kallsyms : Text
@@ -41,7 +42,8 @@ pub record LookupWords : Type 0 where
   pub kernel : BoundNames
   pub addresses : List Text
 
--- to do what the script in a file says, with as many readers as a word says, over listings in two or three files
+-- to do what the script in a file says, with as many readers as a word says, over listings in two
+-- or three files
 pub record RunWords : Type 0 where
   pub modules : Text
   pub kallsyms : Text

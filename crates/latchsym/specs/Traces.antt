@@ -59,8 +59,8 @@ pub record IsRunText (o : Order ℕ) (said : Contents) (written : List ℕ) : Ty
       ≡ flat_map note_text (notes_of run)
       ++ end_text (at (last_of (opening said.header.capacity said.header.start) run).latch.words 0)
 
--- The bytes that are read and those that are written: the lines are a header and commands, and what is written is the
--- text of a run of these commands.
+-- The bytes that are read and those that are written: the lines are a header and commands, and what
+-- is written is the text of a run of these commands.
 pub record IsTraceText (read written : List ℕ) : Type 0 where
   pub said : Contents
   pub reads : trace_of read ≡ Ok said
@@ -73,8 +73,9 @@ pub record IsTraceWith (P : Header → Type 0) (read : List ℕ) : Type 0 where
   pub reads : trace_of read ≡ Ok said
   pub header : P said.header
 
--- What an engine answers that ran a trace of these contents from one state of the writer to another.
--- Every fault but a failed write leaves the writer as it was, and a call of it failed then alone.
+-- What an engine answers that ran a trace of these contents from one state of the writer to
+-- another. Every fault but a failed write leaves the writer as it was, and a call of it failed then
+-- alone.
 abbrev pub AnswersIn : {W : Type 0} → Order ℕ → (W → Option (List ℕ)) → Contents
     → Counted W → Counted W → Result (Unit {0}) Fault → Type 0
 AnswersIn o contents said w w' (Ok _) =
@@ -85,8 +86,8 @@ AnswersIn o contents said w w' (Err (Refused refusal.BadCapacity)) = (w' ≡ w) 
 AnswersIn o contents said w w' (Err Write) = Rose (failures_of w) (failures_of w') × HeaderMayOpen said.header
 AnswersIn o contents said w w' (Err _) = ⊥
 
--- The same of an engine that also read the trace, where the bytes of the reader are known. A call of
--- the reader failed where the answer says so, and else none.
+-- The same of an engine that also read the trace, where the bytes of the reader are known. A call
+-- of the reader failed where the answer says so, and else none.
 abbrev pub Answers : {R W : Type 0} → (R → Option (List ℕ)) → (W → Option (List ℕ))
     → Counted R → Counted R → Counted W → Counted W → Result (Unit {0}) Fault → Type 0
 Answers remaining contents r r' w w' (Ok _) =

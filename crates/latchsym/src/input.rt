@@ -5,7 +5,8 @@ use std::io;
 use std::io::{ErrorKind, Read, Stdin};
 
 /// A file that was to be opened, or the standard input. Where a file cannot be opened, reading it
-/// fails, so that of several files the first in the order of reading is the one whose fault is told.
+/// fails, so that of several files the first in the order of reading is the one whose fault is
+/// told.
 #[derive(Drop)]
 pub enum Input {
     Opened(File),

@@ -61,8 +61,8 @@ pub fn put_module_counts<W: Write>(
     put(writer, b"\n")
 }
 
-/// Writes the counts of the listing of symbols: the kept ones, and the others by the cause for which
-/// they were skipped.
+/// Writes the counts of the listing of symbols: the kept ones, and the others by the cause for
+/// which they were skipped.
 pub fn put_symbol_counts<W: Write>(
     writer: &mut Counted<W>,
     skipped: &SymbolCounts,

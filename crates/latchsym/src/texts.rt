@@ -1,7 +1,7 @@
 //! The lines that a trace writes, byte for byte, with no memory taken.
 //!
-//! Lines are gathered in a block of memory that the caller gives, which goes to the writer whenever the next line might
-//! not fit: a call of the writer costs as much as a whole line.
+//! Lines are gathered in a block of memory that the caller gives, which goes to the writer whenever
+//! the next line might not fit: a call of the writer costs as much as a whole line.
 ghost use Rattle.std.specs.Prelude.{◌≡◌, ◌+◌, ◌≤◌, ◌++◌, [], OnOk, decimal, flat_map, vec_len, vec_capacity};
 ghost use Rattle.devices.specs.Exact.{Wrote};
 ghost use Rattle.order_laws.specs.Refusals.{number_of};

@@ -9,7 +9,6 @@ use mir.Syntax.{impl, tnil, dnil}
 use mir.Raw.{raw as bare}
 use mir.Val.{Val, vptr, vnull, vbool, vstruct, vcons, vnil, of_list, has_ty, WT}
 use base.Logic.{never, fst∗}
-use base.Fml.{ftrue}
 use types.Logic.{Logic, sem}
 use types.Kit.{Item, Goal, Seq, Step, step, ‵, ◌$◌, move, drop, fsplit, fjoin, fpick, fpack, rewrite, feq_i, feq_l}
 use denote.RattleType.{RattleType, Valss}
@@ -30,7 +29,6 @@ use Rattle.std_heap.specs.contracts.Global as Heap
 use Rattle.std_heap.specs.contracts.GlobalAllocator.TheImpl.{ghosts, dict}
 use Rattle.std_heap.proofs.Global.TheLaws as heap
 use Rattle.loose.specs.contracts.Loose as Loose
-use Rattle.loose.proofs.Values.{both_tt}
 use Rattle.latchsym_ffi.specs.contracts.table_contents.TableWriter as Content
 use Rattle.latchsym_ffi.specs.contracts.writer_handles.WriterHandle as Handle
 

@@ -1,5 +1,5 @@
 -- What the calls on catalogs answer.
-use Rattle.std.specs.Prelude.{◌≡◌, ◌≢◌, ℕ, ◌⊎◌, List, true, false, Option, Some, None, Err}
+use Rattle.std.specs.Prelude.{◌≡◌, ℕ, ◌⊎◌, List, true, false, Some, None, Err}
 use Rattle.latchsym_ffi.specs.declared.catalog_slots.CatalogSlot.{CatalogSlot}
 use Rattle.latchsym_ffi.specs.declared.opening.CatalogCounts.{CatalogCounts}
 use Rattle.latchsym_ffi.specs.Opening.{AreRead, HasTooManyOfOne, Texts, region_lines}
@@ -15,7 +15,8 @@ three_texts modules kallsyms regions = record { modules = modules; kallsyms = ka
 abbrev pub Opens : Texts → CatalogSlot → CatalogSlot → CatalogCounts → Type 0
 Opens t s s' n = (s.is_open ≡ false) × (s'.is_open ≡ true) × AreRead t s'.handle.value n
 
--- a refusal for want of memory, of too many region lines, or of a bad line of the listing of regions
+-- a refusal for want of memory, of too many region lines, or of a bad line of the listing of
+-- regions
 abbrev pub Refuses : Texts → ℕ → ℕ → Type 0
 Refuses t bad result =
     (result ≡ 7) ⊎ ((result ≡ 14) × HasTooManyOfOne t) ⊎ ((result ≡ 15) × (region_lines t.regions ≡ Err bad))

@@ -10,12 +10,17 @@ use Rattle.latchsym_ffi.specs.declared.finding.CatalogAnswer.{CatalogAnswer}
 use Rattle.latchsym_ffi.specs.declared.finding.Seen.{Seen}
 use Rattle.latchsym_ffi.specs.declared.finding.Told.{Told}
 
--- the item of the region that an address lies in, if any, and the symbol that it belongs to there, if any
+-- the item of the region that an address lies in, if any, and the symbol that it belongs to there,
+-- if any
 abbrev pub Known : Type 0
 Known = Option (Item × Option Found)
 
 abbrev pub known_at : CatalogEntries → ℕ → Known
 known_at c addr = option_map (λ i. (i, symbol_at c i addr)) (item_at c addr)
+
+-- the same in an item that a table has for the address
+abbrev pub known_in : CatalogEntries → ℕ → Option Item → Known
+known_in c addr x = option_map (λ i. (i, symbol_at c i addr)) x
 
 abbrev pub shown_seen : Seen → Item × Option Found
 shown_seen s = (s.item, option_map seen s.found)

@@ -1,13 +1,12 @@
 -- What lookups answer.
-use Rattle.std.specs.Prelude.{◌≡◌, ℕ, Option, Some, None}
-use Rattle.std.specs.Option.{option_map}
+use Rattle.std.specs.Prelude.{◌≡◌, ℕ, List, Option, Some, None}
 use Rattle.order_laws.specs.declared.items.Item.{Item}
 use Rattle.latch_table.specs.declared.readers.Try.{Try}
 use Rattle.latch_table.specs.declared.readers.Try.TheVariants.{Answered, Retry}
 use Rattle.modules.specs.Entries.{CatalogEntries}
-use Rattle.symbols.specs.Found.{symbol_at}
+use Rattle.latchsym_ffi.specs.declared.finding.CatalogAnswer.{CatalogAnswer}
 use Rattle.latchsym_ffi.specs.declared.lookups.TableAnswer.{TableAnswer}
-use Rattle.latchsym_ffi.specs.Finding.{Known, known_code}
+use Rattle.latchsym_ffi.specs.Finding.{answer_of, copied, known_code, known_in, owner_named, symbol_named}
 
 -- an item and a generation, as they are told; all numbers of no item are 0
 abbrev pub answer_from : Option Item → ℕ → TableAnswer
@@ -29,6 +28,18 @@ abbrev pub Shows : Try → TableAnswer → TableAnswer → Type 0
 Shows (Answered x g) old new = new ≡ answer_from x g
 Shows Retry old new = new ≡ old
 
--- what is known of an address in an item that a table has for it
-abbrev pub known_in : CatalogEntries → ℕ → Option Item → Known
-known_in c addr x = option_map (λ i. (i, symbol_at c i addr)) x
+-- the number of an attempt with a name: that of what is known, or that another is to be made
+abbrev pub name_code : CatalogEntries → ℕ → Try → ℕ
+name_code c addr (Answered x g) = known_code (known_in c addr x)
+name_code c addr Retry = 3
+
+-- what an attempt with a name tells of the symbol
+abbrev pub Names : CatalogEntries → ℕ → Try → CatalogAnswer → CatalogAnswer → Type 0
+Names c addr (Answered x g) old new = new ≡ answer_of c (known_in c addr x)
+Names c addr Retry old new = new ≡ old
+
+-- and of its name and its module's, in rooms for them
+abbrev pub Copies : CatalogEntries → ℕ → Try → List ℕ → List ℕ → List ℕ → List ℕ → Type 0
+Copies c addr (Answered x g) name name' owner owner' =
+    (name' ≡ copied (symbol_named (known_in c addr x)) name) × (owner' ≡ copied (owner_named c (known_in c addr x)) owner)
+Copies c addr Retry name name' owner owner' = (name' ≡ name) × (owner' ≡ owner)

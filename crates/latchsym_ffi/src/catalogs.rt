@@ -53,7 +53,8 @@ fn open_in(
     }
 }
 
-/// Opens the catalog of the listings of modules and of symbols, and tells how many lines went where.
+/// Opens the catalog of the listings of modules and of symbols, and tells how many lines went
+/// where.
 #[unsafe(no_mangle)]
 pub extern "C" fn latchsym_catalog_open(
     alloc: Global,

@@ -1,8 +1,8 @@
 //! What is known of an address.
 
-ghost use Rattle.std.specs.Prelude.{◌≡◌};
+ghost use Rattle.std.specs.Prelude.{◌≡◌, ◌≤◌, ◌<◌, IfSome};
 ghost use Rattle.std.specs.Option.{option_map};
-ghost use Rattle.latchsym_ffi.specs.Finding.{Tells, answer_of, copied, known_at, known_code, module_name, owner_named, shown_seen, symbol_named};
+ghost use Rattle.latchsym_ffi.specs.Finding.{Tells, answer_of, copied, known_at, known_code, known_in, module_name, owner_named, shown_seen, symbol_named};
 
 use modules::{Catalog, Symbol};
 use order_laws::Item;
@@ -34,7 +34,8 @@ pub(crate) const NO_SYMBOL: u32 = 1;
 /// The address lies in no region.
 pub(crate) const NOTHING: u32 = 2;
 
-/// The region that an address lies in, and the symbol with the offset and the size, if there is one.
+/// The region that an address lies in, and the symbol with the offset and the size, if there is
+/// one.
 #[derive(Drop)]
 struct Seen<'c> {
     item: Item,
@@ -79,11 +80,11 @@ fn seek<'c>(catalog: &'c IndexedCatalog<'static>, addr: u64) -> Option<Seen<'c>>
     })
 }
 
-/// What is told of an address.
-fn told_of(catalog: &IndexedCatalog<'static>, addr: u64) -> Told
-    ensures { Tells catalog.now (known_at catalog.now addr) result }
+/// What is told of what was seen.
+fn told_of(catalog: &Catalog<'static>, seen: Option<Seen<'_>>) -> Told
+    ensures { Tells catalog.now (option_map shown_seen seen.entry) result }
 {
-    let Some(Seen { item, found }) = seek(catalog, addr) else {
+    let Some(Seen { item, found }) = seen else {
         return Told {
             code: NOTHING,
             answer: CatalogAnswer {
@@ -97,7 +98,7 @@ fn told_of(catalog: &IndexedCatalog<'static>, addr: u64) -> Told
             owner: &[],
         };
     };
-    let owner = name_of(catalog.catalog(), item.tag);
+    let owner = name_of(catalog, item.tag);
     let (code, symbol, offset, size) = match found {
         Some((symbol, offset, size)) => (FOUND, symbol.name, offset, size),
         None => (NO_SYMBOL, b"".as_slice(), 0, 0),
@@ -130,9 +131,43 @@ pub(crate) fn find(
     ensures name { name.new ≡ copied (symbol_named (known_at catalog.now addr)) name.old }
     ensures owner { owner.new ≡ copied (owner_named catalog.now (known_at catalog.now addr)) owner.old }
 {
-    let told = told_of(catalog, addr);
+    let told = told_of(catalog.catalog(), seek(catalog, addr));
     *out = told.answer;
     copy_name(name, told.symbol);
     copy_name(owner, told.owner);
     told.code
+}
+
+/// The same of an address in an item that a table has for it, if any.
+pub(crate) fn find_in(
+    catalog: &IndexedCatalog<'static>,
+    item: Option<Item>,
+    addr: u64,
+    out: &mut CatalogAnswer,
+    name: &mut [u8],
+    owner: &mut [u8],
+) -> u32
+    requires { IfSome item (λ i. (i.a ≤ addr) × (addr < i.b)) }
+    ensures code { result ≡ known_code (known_in catalog.now addr item) }
+    ensures answer { out.new ≡ answer_of catalog.now (known_in catalog.now addr item) }
+    ensures name { name.new ≡ copied (symbol_named (known_in catalog.now addr item)) name.old }
+    ensures owner { owner.new ≡ copied (owner_named catalog.now (known_in catalog.now addr item)) owner.old }
+{
+    let told = told_of(catalog.catalog(), seen_in(catalog.catalog(), item, addr));
+    *out = told.answer;
+    copy_name(name, told.symbol);
+    copy_name(owner, told.owner);
+    told.code
+}
+
+/// The symbol in an item, if there is an item.
+fn seen_in<'c>(catalog: &'c Catalog<'static>, item: Option<Item>, addr: u64) -> Option<Seen<'c>>
+    requires { IfSome item (λ i. (i.a ≤ addr) × (addr < i.b)) }
+    ensures { option_map shown_seen result ≡ known_in catalog.now addr item }
+{
+    let item = item?;
+    Some(Seen {
+        item,
+        found: symbol_of(catalog, item, addr),
+    })
 }

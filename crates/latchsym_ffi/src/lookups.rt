@@ -6,10 +6,12 @@ ghost use Rattle.order_laws.specs.Orders.{half_open};
 ghost use Rattle.latch_table.specs.declared.readers.Try.{Try};
 ghost use Rattle.latch_table.specs.Readers.{Tried};
 ghost use Rattle.latch_table.specs.Writers.{Finds};
-ghost use Rattle.latchsym_ffi.specs.Lookups.{Shows, answer_from, found_code, try_code};
+ghost use Rattle.latchsym_ffi.specs.Catalogs.{Stays};
+ghost use Rattle.latchsym_ffi.specs.Lookups.{Copies, Names, Shows, answer_from, found_code, name_code, try_code};
 
 use crate::answers::{DONE, NOT_SO};
-use crate::finding::NOTHING;
+use crate::catalog_slots::CatalogSlot;
+use crate::finding::{CatalogAnswer, NOTHING, find_in};
 use crate::reader_slots::ReaderSlot;
 use crate::writer_slots::WriterSlot;
 use latch_table::Try;
@@ -109,6 +111,43 @@ pub extern "C" fn latchsym_reader_try_find(
             code_of(item)
         }
     }
+}
+
+/// One attempt to find the item that an address lies in, and the symbol of the catalog in it.
+#[unsafe(no_mangle)]
+pub extern "C" fn latchsym_reader_find_name(
+    reader: &mut ReaderSlot,
+    catalog: &mut CatalogSlot,
+    addr: u64,
+    item: &mut TableAnswer,
+    out: &mut CatalogAnswer,
+    name: &mut [u8],
+    owner: &mut [u8],
+) -> u32
+    ensures open { reader.new.is_open ≡ reader.old.is_open }
+    ensures stays { Stays catalog.old catalog.new }
+    ensures found { reader.old.is_open ≡ true → catalog.old.is_open ≡ true → (t : Try)
+        × Tried half_open addr reader.old.handle.value.inner.knowledge reader.new.handle.value.inner.knowledge t
+        × (result ≡ name_code catalog.old.handle.value addr t) × Shows t item.old item.new
+        × Names catalog.old.handle.value addr t out.old out.new
+        × Copies catalog.old.handle.value addr t name.old name.new owner.old owner.new }
+    ensures no_reader { reader.old.is_open ≡ false → result ≡ 101 }
+    ensures no_catalog { catalog.old.is_open ≡ false → result ≡ 101 }
+{
+    if !reader.is_open || !catalog.is_open {
+        return NOT_SO;
+    }
+    let mut content = reader.take();
+    let tried = content.inner.try_find(addr);
+    *reader = ReaderSlot::open(reader.alloc, content);
+    let Try::Answered(found, generation) = tried else {
+        return RETRY;
+    };
+    *item = answer_of(found, generation);
+    let shared = catalog.take();
+    let result = find_in(shared.indexed(), found, addr, out, name, owner);
+    *catalog = CatalogSlot::open(catalog.alloc, shared);
+    result
 }
 
 /// Closes a reader.

@@ -1,6 +1,6 @@
 //! What C calls, of a writer's updates.
 
-ghost use Rattle.std.specs.Prelude.{◌≡◌, ◌≢◌, ◌⊎◌, Option, map, true, false};
+ghost use Rattle.std.specs.Prelude.{◌≡◌, ◌≢◌, ◌⊎◌, IfOk, Option, map, true, false};
 ghost use Rattle.order_laws.specs.Orders.{half_open};
 ghost use Rattle.latch_core.specs.declared.updates.Update.TheVariants.{Batch, Erase, Insert};
 ghost use Rattle.latch_table.specs.declared.writers.Did.{Did};
@@ -87,6 +87,59 @@ pub extern "C" fn latchsym_writer_begin_erase(
     }
     let mut content = writer.take();
     let result = begin(&mut content.inner, Update::Erase(a));
+    *writer = WriterSlot::open(writer.alloc, content);
+    result
+}
+
+/// The items as the table has them.
+fn items_from(alloc: Global, items: &[TableItem]) -> Result<Vec<Item>, AllocError>
+    ensures { IfOk result (λ v. v.items ≡ map item_from items.now) }
+{
+    items
+        .iter()
+        .map(|item| Item {
+            a: item.a,
+            b: item.b,
+            tag: item.tag,
+        })
+        .collect(alloc)
+}
+
+/// The batch that takes out the items of these first addresses, and puts in these items.
+fn batch_of(alloc: Global, erase: &[u64], insert: &[TableItem]) -> Result<Update, AllocError>
+    ensures { IfOk result (λ u. u ≡ Batch erase.now (map item_from insert.now)) }
+{
+    Ok(Update::Batch {
+        erase: Entries::new(Vec::from_slice(alloc, erase)?)?,
+        insert: Entries::new(items_from(alloc, insert)?)?,
+    })
+}
+
+/// Begins to take out the items of these first addresses and to put in these items, in one update.
+#[unsafe(no_mangle)]
+pub extern "C" fn latchsym_writer_begin_batch(
+    alloc: Global,
+    writer: &mut WriterSlot,
+    erase: &[u64],
+    insert: &[TableItem],
+) -> u32
+    ensures open { writer.new.is_open ≡ writer.old.is_open }
+    ensures begun { writer.old.is_open ≡ true → result ≡ 0 → Begins half_open
+        writer.old.handle.value.inner (Batch erase.now (map item_from insert.now)) writer.new.handle.value.inner }
+    ensures unchanged { writer.old.is_open ≡ true → result ≢ 0
+        → writer.new.handle.value ≡ writer.old.handle.value }
+    ensures refused { writer.old.is_open ≡ true → result ≢ 0 → result ≢ 7
+        → RefusesAs writer.old.handle.value.inner (Batch erase.now (map item_from insert.now)) result }
+    ensures closed { writer.old.is_open ≡ false → result ≡ 101 }
+{
+    if !writer.is_open {
+        return NOT_SO;
+    }
+    let Ok(update) = batch_of(alloc, erase, insert) else {
+        return Refusal::OutOfMemory.number();
+    };
+    let mut content = writer.take();
+    let result = begin(&mut content.inner, update);
     *writer = WriterSlot::open(writer.alloc, content);
     result
 }

@@ -1,4 +1,5 @@
--- What a file of addresses says: a number on each line, or the number of the first line that is not in the grammar.
+-- What a file of addresses says: a number on each line, or the number of the first line that is not
+-- in the grammar.
 use Rattle.std.specs.Prelude.{ℕ, List, Result}
 use Rattle.listing.specs.Lines.{lines_of}
 use Rattle.listing.specs.Numbers.{number_of}

@@ -1,4 +1,5 @@
--- What a trace says: the header and the commands, or the number of the first line that is not in the grammar.
+-- What a trace says: the header and the commands, or the number of the first line that is not in
+-- the grammar.
 use Rattle.std.specs.Prelude.{ℕ, List, [], ◌∷◌, Option, Some, None, Result, Ok, Err}
 use Rattle.latch_steps.specs.declared.commands.Command.{Command}
 use Rattle.listing.specs.declared.header.Header.{Header}

@@ -34,7 +34,8 @@ IsTraceBy [] trace = ⊥
 IsTraceBy (first ∷ lines) trace =
     (header_of first ≡ Some trace.header) × AreSaidBy (command_by trace.header.version) lines trace.commands
 
--- the line with this number is the first that is not in the grammar; a trace of no lines has a bad line 1
+-- the line with this number is the first that is not in the grammar; a trace of no lines has a bad
+-- line 1
 abbrev pub IsFirstBad : List (List ℕ) → ℕ → Type 0
 IsFirstBad [] n = n ≡ 1
 IsFirstBad (first ∷ lines) n =
@@ -46,7 +47,8 @@ abbrev pub IsRegionListingBy : List (List ℕ) → List ListedRegion → Type 0
 IsRegionListingBy [] regions = ⊥
 IsRegionListingBy (first ∷ lines) regions = (is_regions_header first ≡ true) × AreSaidBy region_by lines regions
 
--- the line with this number is the first that is not in the grammar; a listing of no lines has a bad line 1
+-- the line with this number is the first that is not in the grammar; a listing of no lines has a
+-- bad line 1
 abbrev pub IsFirstBadRegion : List (List ℕ) → ℕ → Type 0
 IsFirstBadRegion [] n = n ≡ 1
 IsFirstBadRegion (first ∷ lines) n =

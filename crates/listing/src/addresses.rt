@@ -33,9 +33,10 @@ fn said_by(line: &[u8]) -> Said<u64>
 
 /// Reads a file of addresses, in their order.
 ///
-/// Each line is a NUMBER (as [`number`] reads it), or is passed over: it is empty, or a comment that
-/// begins with `#`. No line, also no comment, has more than [`LONGEST_LINE`](crate::LONGEST_LINE)
-/// bytes. Bytes behind the last line's end are a line too. A file of no bytes has no address.
+/// Each line is a NUMBER (as [`number`] reads it), or is passed over: it is empty, or a comment
+/// that begins with `#`. No line, also no comment, has more than
+/// [`LONGEST_LINE`](crate::LONGEST_LINE) bytes. Bytes behind the last line's end are a line too. A
+/// file of no bytes has no address.
 pub fn read_addresses<R: Read>(
     alloc: Global,
     reader: &mut Counted<R>,

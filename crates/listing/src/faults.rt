@@ -19,7 +19,8 @@ pub enum LineFault {
     OutOfMemory,
     /// The reader failed.
     Read,
-    /// The number of the first line that is not in the grammar. The first line of a text has number 1.
+    /// The number of the first line that is not in the grammar. The first line of a text has
+    /// number 1.
     BadLine(u64),
 }
 

@@ -28,7 +28,8 @@ impl Version {
         }
     }
 
-    /// Whether a trace of this version is run on a table whose sequence may go up to the wide limit.
+    /// Whether a trace of this version is run on a table whose sequence may go up to the wide
+    /// limit.
     pub fn is_wide(self) -> bool
         ensures { result ≡ is_wide self }
     {

@@ -10,7 +10,8 @@ use std::io::Read;
 /// How many bytes are asked of the reader at once.
 const BLOCK: usize = 65536;
 
-/// Reads all that a reader has left. The first call that fails ends it, also one that was interrupted.
+/// Reads all that a reader has left. The first call that fails ends it, also one that was
+/// interrupted.
 pub fn read_whole<R: Read>(alloc: Global, reader: &mut Counted<R>) -> Result<Vec<u8>, ReadFault>
     ensures bytes { IfOk result (λ bytes. IfSome (R.remaining (device_of reader.old)) (λ left. bytes.items ≡ left)) }
 

@@ -11,14 +11,15 @@ ghost use Rattle.listing.specs.Trace.{trace_of};
 ghost use Rattle.listing.specs.Understood.{AreSaidBy, IsFirstBad, IsFirstBadFrom, IsFirstBadRegion, IsRegionListingBy, IsTraceBy};
 
 /// A text is a trace exactly where each of its lines is in the grammar, and its commands are then
-/// those of its lines, in their order; otherwise the line that is named is the first one that is not.
+/// those of its lines, in their order; otherwise the line that is named is the first one that is
+/// not.
 pub fn trace_by_its_lines()
     ensures { (bytes : List ℕ) → MatchResult (trace_of bytes) (IsTraceBy (lines_of bytes)) (IsFirstBad (lines_of bytes)) }
 {}
 
-/// A text is a listing of regions exactly where each of its lines is in the grammar, and its regions
-/// are then those of its lines, in their order; otherwise the line that is named is the first one
-/// that is not.
+/// A text is a listing of regions exactly where each of its lines is in the grammar, and its
+/// regions are then those of its lines, in their order; otherwise the line that is named is the
+/// first one that is not.
 pub fn regions_by_their_lines()
     ensures { (text : List ℕ) → MatchResult (regions_of text) (IsRegionListingBy (lines_of text)) (IsFirstBadRegion (lines_of text)) }
 {}

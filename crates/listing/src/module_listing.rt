@@ -122,10 +122,10 @@ fn module_in<'a>(line: &'a [u8]) -> Result<ModuleLine<'a>, SkippedModule>
 ///
 /// Words are parted by blanks and tabs, any number of them. A line is skipped as long where it has
 /// more than [`LONGEST_LINE`](crate::LONGEST_LINE) bytes, else as malformed where it has fewer than
-/// six words, or the second is not 1 to 20 decimal digits of a 64-bit number (the size) or the sixth
-/// not `0x` and 1 to 16 hexadecimal digits (the base), else as hidden where the base is 0, as empty
-/// where the size is 0, and as one that wraps where the region goes past the greatest address. The
-/// names are those of the text.
+/// six words, or the second is not 1 to 20 decimal digits of a 64-bit number (the size) or the
+/// sixth not `0x` and 1 to 16 hexadecimal digits (the base), else as hidden where the base is 0, as
+/// empty where the size is 0, and as one that wraps where the region goes past the greatest
+/// address. The names are those of the text.
 pub fn read_modules<'a>(
     alloc: Global,
     text: &'a [u8],

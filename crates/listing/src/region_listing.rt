@@ -95,9 +95,9 @@ fn said_by<'a>(line: &'a [u8]) -> Said<RegionLine<'a>>
 /// The first line is `latchregions 1`. Each later line is `NAME PART BASE SIZE` with exactly one
 /// blank between two words, or is passed over: it is empty, or a comment that begins with `#`. NAME
 /// is one byte or more and has no blank, PART is `core` or `init`, BASE and SIZE are NUMBERs other
-/// than 0 (as [`number`] reads them) with a sum of at most the greatest `u64`. No line has more than
-/// [`LONGEST_LINE`](crate::LONGEST_LINE) bytes. Any other line is [`LineFault::BadLine`], the first
-/// of them, and a text of no bytes has a bad line 1. No reader is asked here, so that
+/// than 0 (as [`number`] reads them) with a sum of at most the greatest `u64`. No line has more
+/// than [`LONGEST_LINE`](crate::LONGEST_LINE) bytes. Any other line is [`LineFault::BadLine`], the
+/// first of them, and a text of no bytes has a bad line 1. No reader is asked here, so that
 /// [`LineFault::Read`] is never answered. The names are those of the text.
 pub fn read_regions<'a>(alloc: Global, text: &'a [u8]) -> Result<Vec<RegionLine<'a>>, LineFault>
     ensures regions { GivesInGrammar (λ regions. regions.items) result (regions_of text.now) }

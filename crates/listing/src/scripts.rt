@@ -135,11 +135,11 @@ fn said_by<'a>(line: &'a [u8], readers: u32) -> Said<ScriptLine<'a>>
 ///
 /// Each line is `load W NAME`, `unload W NAME`, `init W NAME` or `look R ADDR` with exactly one
 /// blank between two words, or is passed over: it is empty, or a comment that begins with `#`. W is
-/// a NUMBER from 1 to [`MOST_WRITERS`], R one from 1 to `readers` and ADDR any NUMBER (as [`number`]
-/// reads them); NAME is one byte or more and has no blank. No line, also no comment, has more than
-/// [`LONGEST_LINE`](crate::LONGEST_LINE) bytes. Bytes behind the last line's end are a line too. Any
-/// other line is [`LineFault::BadLine`], the first of them. No reader is asked here, so that
-/// [`LineFault::Read`] is never answered. The names are those of the text.
+/// a NUMBER from 1 to [`MOST_WRITERS`], R one from 1 to `readers` and ADDR any NUMBER (as
+/// [`number`] reads them); NAME is one byte or more and has no blank. No line, also no comment, has
+/// more than [`LONGEST_LINE`](crate::LONGEST_LINE) bytes. Bytes behind the last line's end are a
+/// line too. Any other line is [`LineFault::BadLine`], the first of them. No reader is asked here,
+/// so that [`LineFault::Read`] is never answered. The names are those of the text.
 pub fn read_script<'a>(
     alloc: Global,
     text: &'a [u8],

@@ -27,12 +27,13 @@ pub struct TraceFile {
 
 /// Reads a trace.
 ///
-/// Line 1 is the header, `latchtrace VERSION ORDER CAPACITY` with START behind it or not. Each later
-/// line is empty, a comment that begins with `#`, or one of `insert LO HI TAG`, `erase LO`,
-/// `write K`, `write flip`, `write end`, `start R ADDR`, `read R K` and, from version 2 on,
-/// `batch E I ..` with E first words and three numbers for each of I items behind it, with exactly
-/// one blank between two words. No line, also no comment, has more than [`LONGEST_LINE`](crate::LONGEST_LINE)
-/// bytes. Bytes behind the last line's end are a line too; a trace of no bytes has a bad line 1.
+/// Line 1 is the header, `latchtrace VERSION ORDER CAPACITY` with START behind it or not. Each
+/// later line is empty, a comment that begins with `#`, or one of `insert LO HI TAG`, `erase LO`,
+/// `write K`, `write flip`, `write end`, `start R ADDR`, `read R K` and, from version 2 on, `batch
+/// E I ..` with E first words and three numbers for each of I items behind it, with exactly one
+/// blank between two words. No line, also no comment, has more than
+/// [`LONGEST_LINE`](crate::LONGEST_LINE) bytes. Bytes behind the last line's end are a line too; a
+/// trace of no bytes has a bad line 1.
 pub fn read_trace<R: Read>(alloc: Global, reader: &mut Counted<R>) -> Result<TraceFile, LineFault>
     ensures trace { IfSome (R.remaining (device_of reader.old)) (λ bytes. Gives contents_of result (trace_of bytes)) }
 

@@ -33,7 +33,8 @@ before_or_after r s h k = grind (arith, nat_tests)
 pub after_other : (r s : ℕ × ℕ) → is_apart r s ≡ true → s.0 < r.1 → s.1 ≤ r.0
 after_other r s h k = grind (arith, nat_tests)
 
--- where the region with the greatest start below b ends at a or before it, all are apart from a .. b
+-- where the region with the greatest start below b ends at a or before it, all are apart from a ..
+-- b
 pub apart_from_last : (m : BTreeMap ℕ ℕ) → IsOrdered nat_cmp m → IsSpread m.entries → (a b s e : ℕ) → get nat_cmp m s ≡ Some e → ((q : ℕ) → q < b → IsSome (get nat_cmp m q) → q ≤ s) → e ≤ a → list_all (is_apart (a, b)) m.entries ≡ true
 apart_from_last m ordered spread a b s e found last ends =
     list_all-from_AllPass (is_apart (a, b)) m.entries (λ k d lt.

@@ -7,8 +7,9 @@ use Rattle.modules.specs.Listed.{ListedModule, ListedRegion}
 use Rattle.modules.specs.Placed.{PlacedModule, placed}
 use Rattle.modules.specs.Regions.{are_beside, lie_apart}
 
--- the region of the kernel itself, the accepted modules in the order of their lines, how many other lines have the name
--- of one accepted before them, and how many of the rest have regions that meet each other or those taken before them
+-- the region of the kernel itself, the accepted modules in the order of their lines, how many other
+-- lines have the name of one accepted before them, and how many of the rest have regions that meet
+-- each other or those taken before them
 pub record Accepted : Type 0 where
   pub built_in : Option (ℕ × ℕ)
   pub modules : List PlacedModule

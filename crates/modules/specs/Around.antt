@@ -8,7 +8,8 @@ use Rattle.modules.specs.Entries.{SymbolEntry}
 abbrev pub is_nearest : List SymbolEntry → ℕ → SymbolEntry → Bool
 is_nearest symbols addr s = nat_le s.addr addr && list_all (λ t. nat_le t.addr s.addr || nat_lt addr t.addr) symbols
 
--- the symbol of the greatest address that is not above this one, the first listed among equal addresses
+-- the symbol of the greatest address that is not above this one, the first listed among equal
+-- addresses
 abbrev pub symbol_below : List SymbolEntry → ℕ → Option SymbolEntry
 symbol_below symbols addr = find (is_nearest symbols addr) symbols
 

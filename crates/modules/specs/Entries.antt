@@ -7,7 +7,8 @@ pub record SymbolEntry : Type 0 where
   pub addr : ℕ
   pub name : List ℕ
 
--- a module's name, its regions in their order, the part that each of them is, and its symbols in the order listed
+-- a module's name, its regions in their order, the part that each of them is, and its symbols in
+-- the order listed
 pub record ModuleEntry : Type 0 where
   pub name : List ℕ
   pub regions : List (ℕ × ℕ)

@@ -8,7 +8,8 @@ pub record ListedModule : Type 0 where
   pub base : ℕ
   pub size : ℕ
 
--- the name of a module, the part of it that a region is, the region's first address, and how many bytes it has
+-- the name of a module, the part of it that a region is, the region's first address, and how many
+-- bytes it has
 pub record ListedRegion : Type 0 where
   pub name : List ℕ
   pub part : Part

@@ -16,7 +16,8 @@ start_where passes regions parts = option_and_then (start_at regions) (position 
 abbrev pub first_start : (Part → Bool) → ModuleEntry → Option ℕ
 first_start passes m = start_where passes m.regions m.parts
 
--- the first addresses of the core regions, where these are asked for, and of the init regions, where these are, in order
+-- the first addresses of the core regions, where these are asked for, and of the init regions,
+-- where these are, in order
 abbrev pub starts_of : Bool → Bool → List (ℕ × ℕ) → List Part → List ℕ
 starts_of core init [] parts = []
 starts_of core init (r ∷ rs) [] = []

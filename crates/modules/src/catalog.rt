@@ -26,8 +26,8 @@ pub struct BuildCounts {
     pub modules: u64,
     /// Lines with the name of a line that was accepted before.
     pub double: u64,
-    /// Other lines of modules whose regions are not all apart from each other, from the region of the kernel itself
-    /// and from those of the modules accepted before.
+    /// Other lines of modules whose regions are not all apart from each other, from the region of
+    /// the kernel itself and from those of the modules accepted before.
     pub overlap: u64,
     /// Lines of the listing of regions that an accepted module has its regions from.
     pub regions: u64,
@@ -48,8 +48,9 @@ pub struct Held {
     pub init: bool,
 }
 
-/// The kernel itself as number 0, where the listing of symbols has its region, and the accepted modules from number 1
-/// on in the order of their lines. Their regions lie apart and no two of the modules have one name. It does not change.
+/// The kernel itself as number 0, where the listing of symbols has its region, and the accepted
+/// modules from number 1 on in the order of their lines. Their regions lie apart and no two of the
+/// modules have one name. It does not change.
 #[derive(Drop)]
 pub struct Catalog<'a> {
     pub(crate) built_in: Option<Module<'a>>,
@@ -90,8 +91,8 @@ impl<'a> Catalog<'a> {
         Ok(assemble(alloc, &KernelBounds::usual(), modules, &regions, symbols)?)
     }
 
-    /// Builds the catalog of three listings, in which the kernel itself lies from `_stext` up to `_end`: that of
-    /// [`Catalog::build_between`] with these names.
+    /// Builds the catalog of three listings, in which the kernel itself lies from `_stext` up to
+    /// `_end`: that of [`Catalog::build_between`] with these names.
     pub fn build_with(
         alloc: Global,
         modules: &[ModuleLine<'a>],
@@ -109,16 +110,18 @@ impl<'a> Catalog<'a> {
         Catalog::build_between(alloc, &KernelBounds::usual(), modules, regions, symbols)
     }
 
-    /// Builds the catalog of three listings, of which each module line and each region line has a region
-    /// ([`ModuleLine::fits`], [`RegionLine::fits`]).
+    /// Builds the catalog of three listings, of which each module line and each region line has a
+    /// region ([`ModuleLine::fits`], [`RegionLine::fits`]).
     ///
-    /// A module lies in the regions of the region lines of its name, in their order, if one of them is of its core, and
-    /// else in the region of its own line. A module line is skipped as double where a line accepted before has its
-    /// name, else as overlap where its regions are not all apart from each other, from that of the kernel itself and
-    /// from those of the modules accepted before. The kernel's region is from the first symbol without a module of the
-    /// one name of `names` up to the first of the other, where both are there in this order. A symbol is kept where it
-    /// lies in a region of its module, or of the kernel itself if it has none, and is stray otherwise. A region line is
-    /// stray where its module is not accepted, or has no line of a core region.
+    /// A module lies in the regions of the region lines of its name, in their order, if one of them
+    /// is of its core, and else in the region of its own line. A module line is skipped as double
+    /// where a line accepted before has its name, else as overlap where its regions are not all
+    /// apart from each other, from that of the kernel itself and from those of the modules accepted
+    /// before. The kernel's region is from the first symbol without a module of the one name of
+    /// `names` up to the first of the other, where both are there in this order. A symbol is kept
+    /// where it lies in a region of its module, or of the kernel itself if it has none, and is
+    /// stray otherwise. A region line is stray where its module is not accepted, or has no line of
+    /// a core region.
     ///
     /// Refused by [`Refusal::TooManyRegions`] where more than 7 region lines have one name, and by
     /// [`Refusal::OutOfMemory`].
@@ -155,8 +158,8 @@ impl<'a> Catalog<'a> {
         }
     }
 
-    /// The number of the module of this name. The name `-` is that of the kernel itself alone, also where a module has
-    /// it.
+    /// The number of the module of this name. The name `-` is that of the kernel itself alone, also
+    /// where a module has it.
     pub fn number_of(&self, name: &[u8]) -> Option<u64>
         ensures { result ≡ number_of self.now name.now }
     {
@@ -181,8 +184,8 @@ impl<'a> Catalog<'a> {
 
     /// The update that loads a module: all its regions are put in, with its number as the tag.
     ///
-    /// Refused by [`Refusal::UnknownModule`], else by [`Refusal::AlreadyLoaded`] where its core is held, else by
-    /// [`Refusal::OutOfMemory`]. A module of one region takes no memory.
+    /// Refused by [`Refusal::UnknownModule`], else by [`Refusal::AlreadyLoaded`] where its core is
+    /// held, else by [`Refusal::OutOfMemory`]. A module of one region takes no memory.
     pub fn load(&self, number: u64, held: Held) -> Result<Update, Refusal>
         ensures { GivesOrLacksMemory (load_of self.now number held) result }
     {
@@ -195,10 +198,11 @@ impl<'a> Catalog<'a> {
         inserting(*self.modules.allocator(), module.regions(), number)
     }
 
-    /// The update that unloads a module: its core regions are taken out, and its init regions where they are held.
+    /// The update that unloads a module: its core regions are taken out, and its init regions where
+    /// they are held.
     ///
-    /// Refused by [`Refusal::UnknownModule`], else by [`Refusal::NotLoaded`] where its core is not held, else by
-    /// [`Refusal::OutOfMemory`]. One region takes no memory.
+    /// Refused by [`Refusal::UnknownModule`], else by [`Refusal::NotLoaded`] where its core is not
+    /// held, else by [`Refusal::OutOfMemory`]. One region takes no memory.
     pub fn unload(&self, number: u64, held: Held) -> Result<Update, Refusal>
         ensures { GivesOrLacksMemory (unload_of self.now number held) result }
     {
@@ -214,8 +218,9 @@ impl<'a> Catalog<'a> {
 
     /// The update that ends a module's start: its init regions are taken out.
     ///
-    /// Refused by [`Refusal::UnknownModule`], else by [`Refusal::NotLoaded`] where its core is not held, else by
-    /// [`Refusal::NoInit`] where no init region of it is, else by [`Refusal::OutOfMemory`]. One region takes no memory.
+    /// Refused by [`Refusal::UnknownModule`], else by [`Refusal::NotLoaded`] where its core is not
+    /// held, else by [`Refusal::NoInit`] where no init region of it is, else by
+    /// [`Refusal::OutOfMemory`]. One region takes no memory.
     pub fn drop_init(&self, number: u64, held: Held) -> Result<Update, Refusal>
         ensures { GivesOrLacksMemory (drop_init_of self.now number held) result }
     {

@@ -24,8 +24,8 @@ pub fn each_kept_line_is_in_one_module()
         sum_by (λ m. length m.symbols) (entries_of c) ≡ (counts_of names modules regions symbols).symbols }
 {}
 
-/// In the catalog of lines that fit, each module has 1 to 7 regions and one of its core, the regions have addresses and
-/// lie apart, and no two modules from number 1 on have one name.
+/// In the catalog of lines that fit, each module has 1 to 7 regions and one of its core, the
+/// regions have addresses and lie apart, and no two modules from number 1 on have one name.
 pub fn every_catalog_is_sound()
     ensures { (names : BoundNames) (modules : List ListedModule) (regions : List ListedRegion) (symbols : List ListedSymbol)
         → All (λ l. fits l ≡ true) modules → All (λ l. region_fits l ≡ true) regions → are_few regions ≡ true

@@ -9,8 +9,8 @@ use std::marker::Model;
 /// A region's first address, and its end, which is excluded.
 pub type Region = (u64, u64);
 
-/// Whether there is a region of so many bytes at this address: at least one byte, not at 0, and none past the greatest
-/// `u64`.
+/// Whether there is a region of so many bytes at this address: at least one byte, not at 0, and
+/// none past the greatest `u64`.
 fn is_region(base: u64, size: u64) -> bool
     ensures { result ≡ is_region base size }
 {
@@ -37,8 +37,8 @@ impl<'a> Model for ModuleLine<'a> {
 }
 
 impl<'a> ModuleLine<'a> {
-    /// Whether the line stands for a region: the base is not 0, the size is not 0, and the base plus the size is at
-    /// most the greatest `u64`.
+    /// Whether the line stands for a region: the base is not 0, the size is not 0, and the base
+    /// plus the size is at most the greatest `u64`.
     pub fn fits(&self) -> bool
         ensures { result ≡ fits self.now }
     {
@@ -110,8 +110,8 @@ impl<'a> Model for RegionLine<'a> {
 }
 
 impl<'a> RegionLine<'a> {
-    /// Whether the line stands for a region: the base is not 0, the size is not 0, and the base plus the size is at
-    /// most the greatest `u64`.
+    /// Whether the line stands for a region: the base is not 0, the size is not 0, and the base
+    /// plus the size is at most the greatest `u64`.
     pub fn fits(&self) -> bool
         ensures { result ≡ region_fits self.now }
     {

@@ -81,7 +81,8 @@ fn push_if(starts: &mut ArrayVec<u64, MOST_REGIONS>, wanted: bool, start: u64)
     }
 }
 
-/// The first addresses of the core regions, where `core` asks for them, and of the init regions, where `init` does.
+/// The first addresses of the core regions, where `core` asks for them, and of the init regions,
+/// where `init` does.
 pub(crate) fn starts_of(
     regions: &[Region],
     parts: &[Part],

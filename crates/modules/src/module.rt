@@ -20,7 +20,8 @@ use arrayvec::ArrayVec;
 use std::alloc::{AllocError, Global};
 use std::marker::Model;
 
-/// The greatest number of regions of one module, as the kernel's `enum mod_mem_type` has seven kinds of memory.
+/// The greatest number of regions of one module, as the kernel's `enum mod_mem_type` has seven
+/// kinds of memory.
 pub const MOST_REGIONS: usize = 7;
 
 /// A module of the kernel, or the kernel itself.
@@ -152,7 +153,8 @@ impl<'a> Module<'a> {
         self.parts.as_slice()
     }
 
-    /// The first address of its first region of the core, and that of its first init region, if it has one.
+    /// The first address of its first region of the core, and that of its first init region, if it
+    /// has one.
     pub fn starts(&self) -> (u64, Option<u64>)
         ensures core { Some result.0 ≡ first_start is_core self.now }
         ensures init { result.1 ≡ first_start is_init self.now }
@@ -166,7 +168,8 @@ impl<'a> Module<'a> {
         )
     }
 
-    /// The first addresses of its core regions, where `core` asks for them, and of its init regions, where `init` does.
+    /// The first addresses of its core regions, where `core` asks for them, and of its init
+    /// regions, where `init` does.
     pub(crate) fn starts_of(&self, core: bool, init: bool) -> ArrayVec<u64, MOST_REGIONS>
         ensures { result.items ≡ starts_of core init self.now.regions self.now.parts }
     {
@@ -187,8 +190,8 @@ impl<'a> Module<'a> {
         self.symbols.as_slice()
     }
 
-    /// The symbol of the greatest address that is not above `addr`, the first listed among equal addresses; and the
-    /// least address of a symbol above `addr`.
+    /// The symbol of the greatest address that is not above `addr`, the first listed among equal
+    /// addresses; and the least address of a symbol above `addr`.
     pub fn around(&self, addr: u64) -> (Option<&Symbol<'a>>, Option<u64>)
         ensures below { option_copied result.0 ≡ symbol_below self.now.symbols addr }
         ensures above { result.1 ≡ address_above self.now.symbols addr }

@@ -158,7 +158,8 @@ fn has_core(lines: &[&RegionLine]) -> bool
     any_core(lines)
 }
 
-/// The lines of a listing of regions, by name. A contract sees the list of the lines, as it was given.
+/// The lines of a listing of regions, by name. A contract sees the list of the lines, as it was
+/// given.
 #[derive(Drop)]
 pub(crate) struct RegionLines<'l, 'a> {
     pub(crate) listed: &'l [RegionLine<'a>],
@@ -216,7 +217,8 @@ impl<'l, 'a> RegionLines<'l, 'a> {
         has_core(self.named(name))
     }
 
-    /// Where a module lies: in the regions of its lines if one of them is of its core, or else in that of its own line.
+    /// Where a module lies: in the regions of its lines if one of them is of its core, or else in
+    /// that of its own line.
     pub(crate) fn place(&self, line: &ModuleLine<'a>) -> Placed<'a>
         requires few { are_few self.now ≡ true }
         requires region_fits { All (λ l. region_fits l ≡ true) self.now }

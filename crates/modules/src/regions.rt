@@ -8,8 +8,8 @@ use std::alloc::{AllocError, Global};
 use std::collections::BTreeMap;
 use std::marker::Model;
 
-/// Regions from an address up to an end that is excluded, by their first addresses. They lie apart, so that one
-/// neighbour tells whether a further region is apart from all of them.
+/// Regions from an address up to an end that is excluded, by their first addresses. They lie apart,
+/// so that one neighbour tells whether a further region is apart from all of them.
 #[derive(Drop)]
 pub(crate) struct Regions {
     ends: BTreeMap<u64, u64>,

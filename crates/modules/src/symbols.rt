@@ -58,8 +58,8 @@ fn listed_entries(alloc: Global, symbols: &[Symbol]) -> Result<Vec<IndexEntry>, 
         .collect(alloc)
 }
 
-/// The symbols by rising address. Of equal addresses the one that is listed first stands last, so that the last entry
-/// that is not above an address is the one to be found.
+/// The symbols by rising address. Of equal addresses the one that is listed first stands last, so
+/// that the last entry that is not above an address is the one to be found.
 pub(crate) fn by_address(alloc: Global, symbols: &[Symbol]) -> Result<Vec<IndexEntry>, AllocError>
     ensures { IfOk result (λ v. IsIndex symbols.now v.items) }
 {
@@ -125,8 +125,8 @@ fn listed_below(symbols: &[Symbol], addr: u64) -> usize
     symbols.partition_point(|symbol| symbol.addr < addr)
 }
 
-/// The place of the first symbol that has the address of the one at a place. Mostly it is that one itself, and then
-/// nothing is sought.
+/// The place of the first symbol that has the address of the one at a place. Mostly it is that one
+/// itself, and then nothing is sought.
 fn first_of_equal(symbols: &[Symbol], place: usize) -> usize
     requires rising { IsRising symbols.now }
     requires within { place < length symbols.now }

@@ -216,7 +216,8 @@ fn no_lines(rt: HostRuntime) -> Result<(), Fail> {
     Ok(())
 }
 
-// A module that meets the kernel, one that is named as the kernel, one that ends at the greatest address.
+// A module that meets the kernel, one that is named as the kernel, one that ends at the greatest
+// address.
 #[test]
 fn the_edges_of_the_kernel(rt: HostRuntime) -> Result<(), Fail> {
     let alloc = rt.alloc();

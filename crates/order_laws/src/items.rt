@@ -1,6 +1,7 @@
 //! What a table holds.
 
-/// Three words: for a range of addresses its first address, its end, and a number that names what lies there.
+/// Three words: for a range of addresses its first address, its end, and a number that names what
+/// lies there.
 #[derive(Clone, Copy, Debug, PartialEq, Eq, Drop)]
 pub struct Item {
     /// The first word, which names the item in its table.

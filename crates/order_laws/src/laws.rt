@@ -1,5 +1,5 @@
-//! What follows from an order's laws, as contracts of functions that do nothing; and plain slow answers of a table for
-//! tests.
+//! What follows from an order's laws, as contracts of functions that do nothing; and plain slow
+//! answers of a table for tests.
 
 ghost use Rattle.std.specs.Prelude.{◌≡◌, ◌≢◌, ◌↔◌, ◌⊎◌, ℕ, List, Option, Contains};
 ghost use Rattle.order_laws.specs.declared.items.Item.{Item};
@@ -9,7 +9,8 @@ use crate::items::Item;
 use crate::orders::TreeOrder;
 use std::cmp::Ordering;
 
-/// The item that a key is in is one alone: whatever is a lookup's answer is the one that `look` computes.
+/// The item that a key is in is one alone: whatever is a lookup's answer is the one that `look`
+/// computes.
 pub fn look_is_one<O: TreeOrder>()
     ensures { (k : O.Key) (table : List Item) (found : Option Item) → IsTable O.order table → IsLook O.order k table found → found ≡ look O.order k table }
 {}

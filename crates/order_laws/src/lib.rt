@@ -1,8 +1,9 @@
 //! Items, the orders that arrange them, and why a call is refused.
 //!
-//! A latched tree (include/linux/rbtree_latch.h) is parametric in two functions: `less`, which places an item among
-//! items, and `comp`, which places a key against an item. This crate states what the two owe each other, as laws of the
-//! trait [`TreeOrder`], and proves them for ranges of addresses with and without their end.
+//! A latched tree (include/linux/rbtree_latch.h) is parametric in two functions: `less`, which
+//! places an item among items, and `comp`, which places a key against an item. This crate states
+//! what the two owe each other, as laws of the trait [`TreeOrder`], and proves them for ranges of
+//! addresses with and without their end.
 #![tactic(auto)]
 
 pub mod closed_ranges;

@@ -6,11 +6,13 @@ ghost use Rattle.order_laws.specs.Orders.{Order, IsLawful, IsInLine};
 use crate::items::Item;
 use std::cmp::Ordering;
 
-/// An order of items, with keys that lie below, in or above an item: `less` and `comp` of `struct latch_tree_ops`.
+/// An order of items, with keys that lie below, in or above an item: `less` and `comp` of `struct
+/// latch_tree_ops`.
 ///
-/// `lawful` has what the functions owe each other on valid items that are apart. They answer for any three words, also
-/// those of no item, since a reader may load the words of two items mixed. Nothing more is asked of an order; what it
-/// offers by [`TreeOrder::in_line`] makes a table's own searches faster, and no answer different.
+/// `lawful` has what the functions owe each other on valid items that are apart. They answer for
+/// any three words, also those of no item, since a reader may load the words of two items mixed.
+/// Nothing more is asked of an order; what it offers by [`TreeOrder::in_line`] makes a table's own
+/// searches faster, and no answer different.
 pub trait TreeOrder {
     /// What is looked up.
     type Key: Copy;
@@ -38,10 +40,11 @@ pub trait TreeOrder {
     fn comp(k: Self::Key, i: &Item) -> Ordering
         ensures { result ≡ order.comp k i.now };
 
-    /// Whether first words rise along the order, and an item beyond a neighbour is apart, as ranges lie on a line.
+    /// Whether first words rise along the order, and an item beyond a neighbour is apart, as ranges
+    /// lie on a line.
     ///
-    /// An order need not say so: where it does not, a table goes through all of its items to find a first word or an item
-    /// that meets another.
+    /// An order need not say so: where it does not, a table goes through all of its items to find a
+    /// first word or an item that meets another.
     fn in_line() -> bool
         ensures { IsTrue result → IsInLine order }
     {

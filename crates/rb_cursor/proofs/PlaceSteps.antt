@@ -1,4 +1,5 @@
--- How the node of a first word is taken out, from the way down to it, as the calls of a cursor show it.
+-- How the node of a first word is taken out, from the way down to it, as the calls of a cursor show
+-- it.
 use Rattle.std.proofs.Common.{◌≡◌, ℕ, ◌+◌, ◌≤◌, ◌<◌, cond, List, [], ◌∷◌, ◌++◌, refl, ◌∙◌, ap, arith, length, append-nil, Some}
 use Rattle.std.proofs.lemmas.Bool.{le-ltb}
 use Rattle.std.specs.declared.cmp.Ordering.{Ordering}

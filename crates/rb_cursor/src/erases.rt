@@ -1,10 +1,11 @@
 //! Erases.
 //!
-//! An erase goes down once to the node. Where it has no right subtree, its left one takes its place; else the next node in
-//! order does, the first of its right subtree, which is taken out there. Where the place lost a black node, the subtree there
-//! is short: each way down has one black node less than it had. On the way up, the link to the subtree is stored where it
-//! changed, and a short one is filled (`fills`). As soon as the subtree in hand has the link that it had and is not short,
-//! nothing above changes any more, and the rest of the way is one jump.
+//! An erase goes down once to the node. Where it has no right subtree, its left one takes its
+//! place; else the next node in order does, the first of its right subtree, which is taken out
+//! there. Where the place lost a black node, the subtree there is short: each way down has one
+//! black node less than it had. On the way up, the link to the subtree is stored where it changed,
+//! and a short one is filled (`fills`). As soon as the subtree in hand has the link that it had and
+//! is not short, nothing above changes any more, and the rest of the way is one jump.
 //!
 //!           50                     60                      60
 //!          /  \                   /  \                    /  \
@@ -14,8 +15,9 @@
 //!          /                      /
 //!        60*                     .
 //!
-//! (A star marks a red node.) Of 50 the next node is 60, red, so nothing is short: 70 stores its left link, which the jump up
-//! to 50 follows; 60 stores both of its new links; and the root's link is left to the caller.
+//! (A star marks a red node.) Of 50 the next node is 60, red, so nothing is short: 70 stores its
+//! left link, which the jump up to 50 follows; 60 stores both of its new links; and the root's link
+//! is left to the caller.
 
 ghost use Rattle.std.specs.Prelude.{◌≡◌, ◌+◌, ◌<◌, ◌≤◌, [], true, Some, None, IsSome, length, vec_capacity};
 ghost use Rattle.rb_trees.specs.Trees.{shape, depth};
@@ -65,7 +67,8 @@ pub fn erase<P: Probe>(
     Some(row)
 }
 
-// Takes the node in hand out: the next node in order takes its place. Answers whether what stands there is short.
+// Takes the node in hand out: the next node in order takes its place. Answers whether what stands
+// there is short.
 fn take_node(out: &mut Vec<Store>, copy: TreeCopy, cursor: &mut Cursor) -> bool
     requires fork { is_fork cursor.old.tree ≡ true }
     requires steps { depth (shape cursor.old.tree) + length cursor.old.path ≤ 64 }

@@ -1,8 +1,9 @@
 //! Inserts.
 //!
-//! An insert goes down once to the place of the new leaf, plants it red, and goes up. At each node above, the link to the
-//! subtree is stored where it changed, and two red nodes in line are mended (`mends`). As soon as the subtree in hand has the
-//! link that it had and a black top, nothing above changes any more, and the rest of the way is one jump.
+//! An insert goes down once to the place of the new leaf, plants it red, and goes up. At each node
+//! above, the link to the subtree is stored where it changed, and two red nodes in line are mended
+//! (`mends`). As soon as the subtree in hand has the link that it had and a black top, nothing
+//! above changes any more, and the rest of the way is one jump.
 //!
 //!           50                     50                      50
 //!          /  \                   /  \                    /  \
@@ -12,8 +13,9 @@
 //!                           /                      /
 //!                          5*                     5*
 //!
-//! (A star marks a red node.) The leaf 5 is planted and linked to 10; at 20 the two red nodes 10 and 5 in line are mended; at
-//! 50, which is black, 20 is as good as it was, and the way ends there. Were 50 red, its parent would mend 50 and 20.
+//! (A star marks a red node.) The leaf 5 is planted and linked to 10; at 20 the two red nodes 10
+//! and 5 in line are mended; at 50, which is black, 20 is as good as it was, and the way ends
+//! there. Were 50 red, its parent would mend 50 and 20.
 
 ghost use Rattle.std.specs.Prelude.{◌≡◌, ◌+◌, ◌-◌, ◌<◌, ◌≤◌, [], true, false, length, vec_capacity};
 ghost use Rattle.rb_trees.specs.Trees.{tip, branch, IsCalm, shape, depth};
@@ -31,7 +33,8 @@ use rb_trees::Record;
 use word_arena::places::{left_of, right_of};
 use word_arena::{Store, TreeCopy};
 
-/// Puts a record behind those that are not greater, in a tree that is in order. The top may be red with a red child then.
+/// Puts a record behind those that are not greater, in a tree that is in order. The top may be red
+/// with a red child then.
 pub fn insert<O: TreeOrder>(
     out: &mut Vec<Store>,
     copy: TreeCopy,
@@ -116,7 +119,8 @@ fn climb(out: &mut Vec<Store>, copy: TreeCopy, cursor: &mut Cursor, added: &Reco
     ensures items { Adds out.old (insert_climb (copy_number copy) cursor.old.path 0 cursor.old.tree) out.new }
     ensures capacity { vec_capacity out.new ≡ vec_capacity out.old }
 {
-    // of the tree in hand: the links to it, whether it is red, and whether a child of it may be, too
+    // of the tree in hand: the links to it, whether it is red, and whether a child of it may be,
+    // too
     let mut before = 0;
     let mut after = added.node as u64 + 1;
     let mut red = true;

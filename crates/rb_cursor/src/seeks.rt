@@ -34,8 +34,8 @@ impl Cursor {
         self.depth = depth;
     }
 
-    /// Goes down to where an item belongs, unless it meets one on the way: then that one is in hand.
-    /// Answers whether it does, in a tree where no item beyond one that is apart can meet it.
+    /// Goes down to where an item belongs, unless it meets one on the way: then that one is in
+    /// hand. Answers whether it does, in a tree where no item beyond one that is apart can meet it.
     #[inline]
     pub fn seek_apart<O: TreeOrder>(&mut self, item: &Item) -> bool
         requires { depth (shape self.old.tree) + length self.old.path ≤ 64 }

@@ -1,5 +1,6 @@
--- The way up from the place of a removed node makes what the erase makes of the whole tree, with its stores in their order;
--- and where it comes to a subtree that is not short and has the link that it had, the rest of the way changes nothing.
+-- The way up from the place of a removed node makes what the erase makes of the whole tree, with
+-- its stores in their order; and where it comes to a subtree that is not short and has the link
+-- that it had, the rest of the way changes nothing.
 use Rattle.std.proofs.Common.{◌≡◌, ℕ, suc, ◌≤◌, true, false, cond, Bool, List, [], ◌∷◌, ◌++◌, refl, sym, ◌∙◌, ap, arith, length}
 use Rattle.std.specs.Prelude.{nat_lt}
 use Rattle.std.proofs.lemmas.Bool.{le-ltb, lt-ltb}

@@ -1,5 +1,6 @@
--- The way up from a new leaf makes what the insert makes of the whole tree, with its stores in their order; and where it
--- comes to a black node with the link that it had, the rest of the way changes nothing.
+-- The way up from a new leaf makes what the insert makes of the whole tree, with its stores in
+-- their order; and where it comes to a black node with the link that it had, the rest of the way
+-- changes nothing.
 use Rattle.std.proofs.Common.{◌≡◌, ℕ, suc, ◌+◌, true, false, cond, Bool, List, [], ◌∷◌, ◌++◌, refl, sym, ◌∙◌, ap, subst, eq-eqb}
 use Rattle.std.specs.Prelude.{if◌then◌else◌, ◌==◌}
 use Rattle.order_laws.specs.declared.items.Item.{Item}

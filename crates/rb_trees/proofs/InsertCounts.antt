@@ -67,7 +67,8 @@ black_turned_left : (l : Branches) (y : Record) (r : Branches) → is_red (turne
 black_turned_left l y tip = refl
 black_turned_left l y (branch k a x b) = refl
 
--- a tree and what an insert made of it, with so many stores: no change goes on, two nodes were recoloured, or the node is new
+-- a tree and what an insert made of it, with so many stores: no change goes on, two nodes were
+-- recoloured, or the node is new
 pub data Counted (t u : Branches) (k : ℕ) : Type 0 where
   done : IsCalm u → (is_red u ≡ true → is_red t ≡ true) → k ≤ 9 → (link (shape u) ≢ link (shape t) → k ≤ 8) → Counted t u k
   going : k ≤ 3 → link (shape u) ≡ link (shape t) → Counted t u k

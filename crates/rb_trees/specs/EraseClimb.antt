@@ -1,5 +1,5 @@
--- An erase seen from the place of the removed node: at each node above, its link is stored where it changed, and a subtree
--- that is short is filled.
+-- An erase seen from the place of the removed node: at each node above, its link is stored where it
+-- changed, and a subtree that is short is filled.
 use Rattle.std.specs.Prelude.{ℕ, suc, Bool, List, [], ◌∷◌, ◌++◌, length, nat_lt, if◌then◌else◌}
 use Rattle.word_arena.specs.declared.stores.Store.{Store}
 use Rattle.rb_trees.specs.declared.Side.{Side}

@@ -1,5 +1,5 @@
--- An erase: the next node in order takes the place of one with a right subtree, and what is one black node short on the ways
--- down is mended on the way up.
+-- An erase: the next node in order takes the place of one with a right subtree, and what is one
+-- black node short on the ways down is mended on the way up.
 use Rattle.std.specs.Prelude.{ℕ, suc, Bool, true, false, not, List, [], ◌∷◌, ◌++◌, Option, Some, None, if◌then◌else◌, ◌==◌, nat_lt}
 use Rattle.std.specs.declared.cmp.Ordering.{Ordering}
 use Rattle.std.specs.declared.cmp.Ordering.TheVariants.{Less, Equal, Greater}

@@ -1,5 +1,5 @@
--- An insert seen from the new leaf: at each node above, its link is stored where it changed, and two red nodes in line are
--- mended.
+-- An insert seen from the new leaf: at each node above, its link is stored where it changed, and
+-- two red nodes in line are mended.
 use Rattle.std.specs.Prelude.{◌≡◌, ℕ, suc, Bool, true, false, List, [], ◌∷◌, ◌++◌}
 use Rattle.word_arena.specs.declared.stores.Store.{Store}
 use Rattle.rb_trees.specs.declared.Side.{Side}

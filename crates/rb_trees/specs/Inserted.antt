@@ -58,7 +58,8 @@ abbrev pub right_mend : ℕ → Branches → List Store
 right_mend copy tip = []
 right_mend copy (branch red l y r) = if red then [] else right_mend_at copy (clash r) l y r
 
--- the tree with one record more, before the first that it is less than; its top may be red with a red child
+-- the tree with one record more, before the first that it is less than; its top may be red with a
+-- red child
 abbrev pub inserted : (Item → Item → Bool) → Record → Branches → Branches
 inserted less x tip = branch true tip x tip
 inserted less x (branch red l y r) =

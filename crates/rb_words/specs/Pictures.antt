@@ -10,7 +10,8 @@ use Rattle.word_arena.specs.NodesCode.{nodes_code}
 use Rattle.rb_trees.specs.Trees.{CanBeRedBlack}
 use Rattle.rb_words.specs.Rows.{AreDistinct, item_code}
 
--- how many nodes there are, which copy it is, what it holds and in which tree; and how many items more fit without memory
+-- how many nodes there are, which copy it is, what it holds and in which tree; and how many items
+-- more fit without memory
 pub record Picture : Type 0 where
   pub capacity : ℕ
   pub copy : ℕ
@@ -28,7 +29,8 @@ picture_code =
     (λ t. record { capacity = t.0; copy = t.1.0; table = t.1.1.0; tree = t.1.1.1.0; room = t.1.1.1.1 })
     (λ _. refl)
 
--- what is pictured can be: a table, in a red-black tree of as many nodes, each of the memory and none twice
+-- what is pictured can be: a table, in a red-black tree of as many nodes, each of the memory and
+-- none twice
 pub record IsPicture {K : Type 0} (o : Order K) (p : Picture) : Type 0 where
   pub one_copy : p.copy ≤ 1
   pub is_table : IsTable o p.table

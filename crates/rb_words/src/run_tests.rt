@@ -184,8 +184,8 @@ fn put(rt: &impl Abort, inside: &mut Vec<bool>, slot: u32, is: bool) {
     inside[slot as usize] = is;
 }
 
-// The lengths of the shortest and of the longest way from a link down to a link 0. A tree can be coloured red and black
-// just where no node has a longest way of more than twice the shortest.
+// The lengths of the shortest and of the longest way from a link down to a link 0. A tree can be
+// coloured red and black just where no node has a longest way of more than twice the shortest.
 fn ways(rt: &impl Abort, copy: TreeCopy, words: &[u64], link: u64, left: u32) -> (u32, u32)
     ensures shortest { result.0 ≤ left }
     ensures longest { result.1 ≤ left }
@@ -216,7 +216,8 @@ fn table_of(rt: &impl Abort, alloc: Global, inside: &[bool]) -> Result<Vec<Item>
     Ok(table)
 }
 
-// Both copies hold the items that are inside, in red-black trees of the height that so many items allow.
+// Both copies hold the items that are inside, in red-black trees of the height that so many items
+// allow.
 fn holds(rt: &impl Abort, alloc: Global, l: Layout, c: &Copies) -> Result<(), Fail> {
     let table = table_of(rt, alloc, &c.inside)?;
     let most = (table.len() as u128 + 1) * (table.len() as u128 + 1);
@@ -230,7 +231,8 @@ fn holds(rt: &impl Abort, alloc: Global, l: Layout, c: &Copies) -> Result<(), Fa
     Ok(())
 }
 
-// What the shape answers of a slot that has its item or has not, of the item and of the gap behind it.
+// What the shape answers of a slot that has its item or has not, of the item and of the gap behind
+// it.
 fn answers_of<O: TreeOrder>(rt: &impl Abort, shape: &Shape<O>, slot: u32, is: bool) {
     let x = item_of(slot);
     assert!(rt; shape.has(x.a) == is);
@@ -445,8 +447,8 @@ fn next_random(x: u64) -> u64 {
     x
 }
 
-// Whether a slot that has its item or has not is updated at a step: the table is filled and emptied by turns, with some
-// updates the other way.
+// Whether a slot that has its item or has not is updated at a step: the table is filled and emptied
+// by turns, with some updates the other way.
 fn is_updated(random: u64, step: u32, n: u32, is: bool) -> bool
     requires { 0 < n }
 {

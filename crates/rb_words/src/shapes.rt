@@ -40,8 +40,8 @@ pub const STORES: usize = 16;
 
 /// The writer's private picture of one copy.
 ///
-/// Readers never see it. A contract sees a `Picture`: the number of nodes, the copy, the table that the copy holds, the
-/// tree that it holds it in, and how many more items fit without memory.
+/// Readers never see it. A contract sees a `Picture`: the number of nodes, the copy, the table that
+/// the copy holds, the tree that it holds it in, and how many more items fit without memory.
 #[derive(Drop)]
 pub struct Shape<O: TreeOrder> {
     layout: Layout,
@@ -127,15 +127,17 @@ impl<O: TreeOrder> Shape<O> {
         reaches(&self.cursor.tree(), node)
     }
 
-    /// Whether some item, those with one of the first words `but` left out, is not apart from this one.
+    /// Whether some item, those with one of the first words `but` left out, is not apart from this
+    /// one.
     pub fn meets(&self, item: &Item, but: &[u64]) -> bool
         ensures { result ≡ meets O.order item.now (without_all but.now self.now.table) }
     {
         self.meets_with(item, but, false)
     }
 
-    /// The same where the first words that are left out rise: each item that is met costs a search by halves among them, so
-    /// k of them cost O((k + 1) log n + k log k) where items lie in line ([`TreeOrder::in_line`]).
+    /// The same where the first words that are left out rise: each item that is met costs a search
+    /// by halves among them, so k of them cost O((k + 1) log n + k log k) where items lie in line
+    /// ([`TreeOrder::in_line`]).
     pub fn meets_rising(&self, item: &Item, but: &[u64]) -> bool
         requires { IsNonDecreasing but.now }
         ensures { result ≡ meets O.order item.now (without_all but.now self.now.table) }
@@ -206,8 +208,9 @@ impl<O: TreeOrder> Shape<O> {
 
     /// Plans to insert an item in a free node, and pictures the copy with it.
     ///
-    /// Appends the stores of the item's words, and then those of links. Takes no memory. There must be room for one item
-    /// and for [`STORES`] stores ([`Shape::reserve`]); the item must be valid and meet none ([`Shape::meets`]).
+    /// Appends the stores of the item's words, and then those of links. Takes no memory. There must
+    /// be room for one item and for [`STORES`] stores ([`Shape::reserve`]); the item must be valid
+    /// and meet none ([`Shape::meets`]).
     pub fn plan_insert(&mut self, out: &mut Vec<Store>, node: u32, item: Item)
         requires room { 0 < self.old.room }
         requires list { vec_len out.old + STORES ≤ vec_capacity out.old }
@@ -248,11 +251,13 @@ impl<O: TreeOrder> Shape<O> {
         self.count += 1;
     }
 
-    /// Plans to insert an item in a free node, unless it meets one of the table. Answers whether it does.
+    /// Plans to insert an item in a free node, unless it meets one of the table. Answers whether it
+    /// does.
     ///
-    /// Where it meets none, it has planned what [`Shape::plan_insert`] does; where it meets one, what is pictured and what is
-    /// listed stay. Takes no memory. There must be room for one item and for [`STORES`] stores, and the item must be valid.
-    /// Where items lie in line ([`TreeOrder::in_line`]), it goes down once.
+    /// Where it meets none, it has planned what [`Shape::plan_insert`] does; where it meets one,
+    /// what is pictured and what is listed stay. Takes no memory. There must be room for one item
+    /// and for [`STORES`] stores, and the item must be valid. Where items lie in line
+    /// ([`TreeOrder::in_line`]), it goes down once.
     pub fn plan_insert_apart(&mut self, out: &mut Vec<Store>, node: u32, item: Item) -> bool
         requires room { 0 < self.old.room }
         requires list { vec_len out.old + STORES ≤ vec_capacity out.old }
@@ -318,10 +323,12 @@ impl<O: TreeOrder> Shape<O> {
         false
     }
 
-    /// Plans to erase the item of this first word, and pictures the copy without it. Answers the node that is free then.
+    /// Plans to erase the item of this first word, and pictures the copy without it. Answers the
+    /// node that is free then.
     ///
-    /// Appends stores of links alone, since the words of the item serve both copies. Takes no memory. There must be room for
-    /// [`STORES`] stores, and an item of this first word ([`Shape::has`]).
+    /// Appends stores of links alone, since the words of the item serve both copies. Takes no
+    /// memory. There must be room for [`STORES`] stores, and an item of this first word
+    /// ([`Shape::has`]).
     pub fn plan_erase(&mut self, out: &mut Vec<Store>, a: u64) -> u32
         requires list { vec_len out.old + STORES ≤ vec_capacity out.old }
         requires pictured { has a self.old.table ≡ true }
@@ -338,11 +345,12 @@ impl<O: TreeOrder> Shape<O> {
         node
     }
 
-    /// Plans to erase the item of this first word, if there is one: then it answers the node that is free then, and has
-    /// planned what [`Shape::plan_erase`] does. With none, what is pictured and what is listed stay.
+    /// Plans to erase the item of this first word, if there is one: then it answers the node that
+    /// is free then, and has planned what [`Shape::plan_erase`] does. With none, what is pictured
+    /// and what is listed stay.
     ///
-    /// Takes no memory. There must be room for [`STORES`] stores. Where first words lead ([`TreeOrder::in_line`]), it goes
-    /// down once.
+    /// Takes no memory. There must be room for [`STORES`] stores. Where first words lead
+    /// ([`TreeOrder::in_line`]), it goes down once.
     pub fn plan_erase_found(&mut self, out: &mut Vec<Store>, a: u64) -> Option<u32>
         requires list { vec_len out.old + STORES ≤ vec_capacity out.old }
         ensures found { is_some result ≡ has a self.old.table }

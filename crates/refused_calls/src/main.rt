@@ -1,11 +1,14 @@
 //! Calls that ask for memory, each made once more where it answers that memory was refused.
 //!
-//! `refused_calls ITEMS` makes such calls of the libraries on tables of so many items, and writes a line for each. A call that
-//! answers [`OutOfMemory`](order_laws::Refusal::OutOfMemory) must have changed nothing, and is made once more. So where one
-//! request of the process for memory is refused, whichever it is, the lines are those of a run with ample memory; unless it is
-//! one of the requests for what the calls are given, after which the program ends with `refused 7` as its last line.
+//! `refused_calls ITEMS` makes such calls of the libraries on tables of so many items, and writes a
+//! line for each. A call that answers [`OutOfMemory`](order_laws::Refusal::OutOfMemory) must have
+//! changed nothing, and is made once more. So where one request of the process for memory is
+//! refused, whichever it is, the lines are those of a run with ample memory; unless it is one of
+//! the requests for what the calls are given, after which the program ends with `refused 7` as its
+//! last line.
 //!
-//! Between the lines `steps begin` and `steps end` nothing asks for memory: a script counts the requests.
+//! Between the lines `steps begin` and `steps end` nothing asks for memory: a script counts the
+//! requests.
 #![tactic(auto)]
 
 mod catalogs;
@@ -22,7 +25,8 @@ use std::alloc::Global;
 use std::io;
 use word_arena::Layout;
 
-/// What ends the program before its last call: memory was refused for what a call is given, or a line was not written.
+/// What ends the program before its last call: memory was refused for what a call is given, or a
+/// line was not written.
 #[derive(Drop)]
 enum End {
     Refused(Refusal),

@@ -50,7 +50,8 @@ fn found_inside(hand: &mut InHand<'_, HalfOpen>, capacity: u32) -> u64 {
     sum
 }
 
-/// An update to its end, unless it is refused. Answers the new generation and what was found within.
+/// An update to its end, unless it is refused. Answers the new generation and what was found
+/// within.
 fn update(
     rt: &impl Print,
     writer: &mut Writer<HalfOpen>,

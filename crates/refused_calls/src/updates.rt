@@ -31,8 +31,8 @@ fn exchange(alloc: Global, places: u32) -> Result<Update, Refusal> {
     })
 }
 
-/// The items one after another; the first half erased; a batch of what is left, which is refused while its nodes are not free; and
-/// an update that is refused.
+/// The items one after another; the first half erased; a batch of what is left, which is refused
+/// while its nodes are not free; and an update that is refused.
 pub(crate) fn updates(alloc: Global, items: u32) -> Result<Vec<Update>, Refusal> {
     let mut all = Vec::new(alloc);
     for place in 0..items {

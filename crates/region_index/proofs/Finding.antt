@@ -1,6 +1,6 @@
 -- What a search of the list by rising first address finds.
 use Rattle.std.proofs.Common.{◌≡◌, ℕ, zero, suc, ◌-◌, ◌<◌, ◌≤◌, ◌⊎◌, inl, inr, ⊎_elim, true, false, nat_le, List, length, map, get_or, Option, Some, None, refl, sym, ap, subst, ◌∙◌, arith, [], ◌∷◌}
-use Rattle.std.specs.Prelude.{Contains, All}
+use Rattle.std.specs.Prelude.{Contains, All, IfSome}
 use Rattle.std.specs.List.{AllPairs}
 use Rattle.std.specs.List.Sorted.{IsPartitionPoint}
 use Rattle.std.specs.declared.cmp.Ordering.TheVariants.{Equal}
@@ -11,7 +11,7 @@ use Rattle.std.proofs.lemmas.List.Elements.{All-contains}
 use Rattle.std.proofs.lemmas.List.Sorted.{Contains-permutation, IsPermutation-sym}
 use Rattle.order_laws.specs.declared.items.Item.{Item}
 use Rattle.order_laws.specs.Orders.{half_open}
-use Rattle.order_laws.specs.Tables.{IsLook}
+use Rattle.order_laws.specs.Tables.{IsLook, look}
 use Rattle.order_laws.proofs.TableLemmas.{look_is}
 use Rattle.modules.specs.Catalogs.{IsSound}
 use Rattle.modules.specs.Entries.{CatalogEntries}
@@ -42,6 +42,14 @@ begins k i e = grind (arith, nat_tests)
 
 ends : (k : ℕ) (i : Item) → half_open.comp k i ≡ Equal → k < i.b
 ends k i e = grind (arith, nat_tests)
+
+-- an item that is found for a key holds it
+holds_key : (k : ℕ) (t : List Item) (x : Option Item) → IsLook half_open k t x → IfSome x (λ i. (i.a ≤ k) × (k < i.b))
+holds_key k t None h = tt
+holds_key k t (Some i) h = (begins k i h.1, ends k i h.1)
+
+pub found_holds : (k : ℕ) (t : List Item) (x : Option Item) → x ≡ look half_open k t → IfSome x (λ i. (i.a ≤ k) × (k < i.b))
+found_holds k t x e = holds_key k t x (subst (IsLook half_open k t) (sym e) (look_is half_open k t))
 
 beside : (x y : Item) → is_apart (region_of x) (region_of y) ≡ true → (x.b ≤ y.a) ⊎ (y.b ≤ x.a)
 beside x y h = ⊎_elim (λ lt. inr (let q : y.b ≤ x.a = grind (arith, nat_tests) in q)) (λ le. inl le) (cases_lt y.a x.b)

@@ -1,4 +1,4 @@
 -- the items of a catalog are its regions
 mod Regions
 -- what a search of the list finds
-mod Finding
+pub mod Finding

@@ -1,7 +1,7 @@
 //! The region that an address lies in, among all regions of a catalog.
 //!
-//! The regions stand in one list by rising first address. They lie apart, so an address can lie only
-//! in the last region that begins at or below it, which a binary search finds:
+//! The regions stand in one list by rising first address. They lie apart, so an address can lie
+//! only in the last region that begins at or below it, which a binary search finds:
 //!
 //! ```text
 //!      | region |      | region  |   | region |

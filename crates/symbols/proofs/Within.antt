@@ -195,7 +195,8 @@ nearest_within symbols start end addr s from below is =
 le_false : (a b : ℕ) → b < a → nat_le a b ≡ false
 le_false a b h = grind (arith, nat_tests)
 
--- where the nearest symbol of the module lies before the region, none of the region is below the address
+-- where the nearest symbol of the module lies before the region, none of the region is below the
+-- address
 pub before_within : (symbols : List SymbolEntry) (start end addr : ℕ) (s : SymbolEntry) → start ≤ addr → addr < end → symbol_below symbols addr ≡ Some s → s.addr < start → symbol_below (symbols_from symbols start end) addr ≡ None
 before_within symbols start end addr s from below is out =
     nearest_within symbols start end addr s from below is ∙ ap (λ b. cond b (Some s) None) (le_false start s.addr out)

@@ -33,13 +33,15 @@ found_in symbols end addr = option_map (found_at symbols end addr) (symbol_below
 abbrev pub symbol_at : CatalogEntries → Item → ℕ → Option Found
 symbol_at c item addr = option_and_then (λ m. found_in (symbols_from m.symbols item.a item.b) item.b addr) (module_of c item.tag)
 
--- the symbol reaches to the least address of a symbol above its own, or to the region's end where there is none
+-- the symbol reaches to the least address of a symbol above its own, or to the region's end where
+-- there is none
 abbrev pub Reaches : List SymbolEntry → ℕ → SymbolEntry → ℕ → Type 0
 Reaches symbols end s size =
     (All (λ t. t.addr ≤ s.addr) symbols × (size ≡ end - s.addr))
     ⊎ ((t : SymbolEntry) × Contains symbols t × (s.addr < t.addr) × All (λ u. (u.addr ≤ s.addr) ⊎ (t.addr ≤ u.addr)) symbols × (size ≡ t.addr - s.addr))
 
--- the symbol at a place, at or below the address, with none between them and none of its address at an earlier place
+-- the symbol at a place, at or below the address, with none between them and none of its address at
+-- an earlier place
 pub record IsFound (symbols : List SymbolEntry) (end addr : ℕ) (f : Found) : Type 0 where
   pub place : ℕ
   pub listed : slice_get symbols place ≡ Some f.symbol

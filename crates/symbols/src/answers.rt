@@ -63,11 +63,13 @@ fn write_held<W: Write>(
     write_module(writer, item.tag, module.name())
 }
 
-/// Writes the text of an answer for an address: `NAME+0xOFFSET/0xSIZE [MODULE]`, without ` [MODULE]` for the kernel
-/// itself, and `? [MODULE]` where no symbol of the module is at or below the address.
+/// Writes the text of an answer for an address: `NAME+0xOFFSET/0xSIZE [MODULE]`, without `
+/// [MODULE]` for the kernel itself, and `? [MODULE]` where no symbol of the module is at or below
+/// the address.
 ///
-/// It writes `-` where there is no item, the item does not hold the address, its tag is the number of no module, or the
-/// kernel itself has no symbol at or below the address. It takes no memory. An error is a failed call of the writer.
+/// It writes `-` where there is no item, the item does not hold the address, its tag is the number
+/// of no module, or the kernel itself has no symbol at or below the address. It takes no memory. An
+/// error is a failed call of the writer.
 pub fn write_answer<W: Write>(
     writer: &mut Counted<W>,
     catalog: &Catalog,

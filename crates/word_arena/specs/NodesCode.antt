@@ -1,4 +1,5 @@
--- A tree of node numbers as a list, from which it is built again: what a model that has a tree as its value needs.
+-- A tree of node numbers as a list, from which it is built again: what a model that has a tree as
+-- its value needs.
 use Rattle.std.specs.Prelude.{◌≡◌, ℕ, List, [], ◌∷◌, ◌++◌, Option, Some, None, refl}
 use Rattle.std.specs.Coded.{Coded, code_by, coded_ℕ, coded_list, coded_option}
 use Rattle.std.proofs.Common.{◌∙◌, ap}

@@ -1,4 +1,5 @@
--- A memory is a list of words: the sequence, the roots of two copies of a tree, and seven words for each node.
+-- A memory is a list of words: the sequence, the roots of two copies of a tree, and seven words for
+-- each node.
 use Rattle.std.specs.Prelude.{◌≡◌, ℕ, suc, ◌+◌, ◌*◌, ◌<◌, ◌⊎◌, List, [], ◌∷◌, ◌++◌, slice_index}
 use Rattle.order_laws.specs.declared.items.Item.{Item}
 
@@ -21,7 +22,8 @@ left_word copy i = 6 + 7 * i + 2 * copy
 abbrev pub right_word : ℕ → ℕ → ℕ
 right_word copy i = 7 + 7 * i + 2 * copy
 
--- the seven words of a node by their place: a, b, tag, left and right link in copy 0, left and right link in copy 1
+-- the seven words of a node by their place: a, b, tag, left and right link in copy 0, left and
+-- right link in copy 1
 abbrev pub word_of_node : ℕ → ℕ → ℕ
 word_of_node place i = 3 + place + 7 * i
 

@@ -3,7 +3,8 @@
 ghost use Rattle.std.specs.Prelude.{◌≡◌, ◌≢◌, ◌<◌, ◌+◌, ◌*◌, ℕ};
 ghost use Rattle.word_arena.specs.Words.{root_word, a_word, b_word, tag_word, left_word, right_word, word_of_node, words_for};
 
-/// Each node has seven words of its own, none of them is the sequence or a root, and the two roots differ.
+/// Each node has seven words of its own, none of them is the sequence or a root, and the two roots
+/// differ.
 pub fn words_differ()
     ensures item_words { (i : ℕ) → (a_word i ≡ word_of_node 0 i) × (b_word i ≡ word_of_node 1 i) × (tag_word i ≡ word_of_node 2 i) }
     ensures link_words { (copy i : ℕ) → (left_word copy i ≡ word_of_node (3 + 2 * copy) i) × (right_word copy i ≡ word_of_node (4 + 2 * copy) i) }

@@ -7,7 +7,8 @@ use order_laws::Refusal;
 /// The greatest number of nodes.
 pub const MOST_NODES: u32 = 65536;
 
-/// The greatest sequence of a 32-bit layout: the last even number, so that the sequence never wraps round.
+/// The greatest sequence of a 32-bit layout: the last even number, so that the sequence never wraps
+/// round.
 pub const GREATEST_SEQUENCE: u64 = 4294967294;
 
 /// The greatest sequence of a 64-bit layout: the last even number again.
@@ -29,7 +30,8 @@ impl Layout {
     ghost use Rattle.word_arena.specs.Layouts.{capacity_of, limit_of};
     ghost use Rattle.word_arena.specs.Words.{words_for};
 
-    /// A layout of `n` nodes with 32-bit sequences. Refused by [`Refusal::BadCapacity`] outside 1 to 65536.
+    /// A layout of `n` nodes with 32-bit sequences. Refused by [`Refusal::BadCapacity`] outside 1
+    /// to 65536.
     pub fn new(n: u32) -> Result<Layout, Refusal>
         ensures capacity { IfOk result (λ l. capacity_of l ≡ n) }
         ensures limit { IfOk result (λ l. limit_of l ≡ 4294967294) }
@@ -39,7 +41,8 @@ impl Layout {
         Layout::up_to(n, GREATEST_SEQUENCE)
     }
 
-    /// A layout of `n` nodes with 64-bit sequences. Refused by [`Refusal::BadCapacity`] outside 1 to 65536.
+    /// A layout of `n` nodes with 64-bit sequences. Refused by [`Refusal::BadCapacity`] outside 1
+    /// to 65536.
     pub fn wide(n: u32) -> Result<Layout, Refusal>
         ensures capacity { IfOk result (λ l. capacity_of l ≡ n) }
         ensures limit { IfOk result (λ l. limit_of l ≡ 18446744073709551614) }

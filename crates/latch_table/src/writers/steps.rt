@@ -8,8 +8,8 @@ use crate::rule::{NamesUpdate, TakeUpdate, Words};
 use latch_core::Update;
 use order_laws::TreeOrder;
 
-/// Lets the writer's seat know which update is in hand. A seat learns only at a step on a word, so it
-/// loads one.
+/// Lets the writer's seat know which update is in hand. A seat learns only at a step on a word, so
+/// it loads one.
 pub(super) fn take_update<O: TreeOrder, J: NamesUpdate>(
     words: &Words<O>,
     seat: &mut TableSeat,

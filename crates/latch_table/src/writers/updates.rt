@@ -18,8 +18,8 @@ use order_laws::{Refusal, TreeOrder};
 use std::marker::Brand;
 
 impl<O: TreeOrder> Writer<O> {
-    /// Takes an update in hand. Refused as [`WriterCore::begin`](latch_core::WriterCore::begin) refuses; a
-    /// refusal changes nothing.
+    /// Takes an update in hand. Refused as [`WriterCore::begin`](latch_core::WriterCore::begin)
+    /// refuses; a refusal changes nothing.
     pub fn begin(&mut self, u: Update) -> Result<InHand<'_, O>, Refusal>
         ensures* rests { sem 𝓛 (RestsIfErr (the_row O.row O.Key.row O.TreeOrder O.Key.Clone) self.entry
             (λ h. h.writer.ghost_name) result (λ n. n ≡ self.old)) }
@@ -63,8 +63,8 @@ impl<O: TreeOrder> Writer<O> {
     pub fn step(&mut self) -> Option<Did>
         ensures { Steps self.old self.new result }
     {
-        // The core goes on before the store, since nothing it keeps is read again after an atomic step
-        // but from memory.
+        // The core goes on before the store, since nothing it keeps is read again after an atomic
+        // step but from memory.
         let store = self.core.step()?;
         self.table
             .shared

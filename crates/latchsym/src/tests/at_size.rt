@@ -5,7 +5,8 @@ use crate::tests::traced;
 use std::alloc::{AllocError, Global};
 use std::test::Fail;
 
-/// How many items are inserted, so that every sequence up to twice as many is one at which an update begins.
+/// How many items are inserted, so that every sequence up to twice as many is one at which an
+/// update begins.
 const ITEMS: u64 = 1000;
 
 /// The reader of a lookup: numbers over the whole range, the greatest among them.
@@ -15,7 +16,8 @@ fn reader_of(item: u64) -> u64
     4294967295 - (ITEMS - 1 - item) * 4294967
 }
 
-/// Inserts one item after another and looks each up once it stands; then has a lookup of every reader in hand at once.
+/// Inserts one item after another and looks each up once it stands; then has a lookup of every
+/// reader in hand at once.
 fn large_trace(alloc: Global) -> Result<String, AllocError> {
     let mut trace = String::from_str(alloc, "latchtrace 1 halfopen 65535\n")?;
     for item in 0..ITEMS {

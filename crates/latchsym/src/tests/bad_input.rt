@@ -95,8 +95,8 @@ fn a_line_has_at_most_4096_bytes(rt: HostRuntime) -> Result<(), Fail> {
     Ok(())
 }
 
-/// A trace cut after each of its bytes is run, or has a bad line, which is its last. Cut within its header it may also
-/// open at a sequence that is not allowed.
+/// A trace cut after each of its bytes is run, or has a bad line, which is its last. Cut within its
+/// header it may also open at a sequence that is not allowed.
 #[test]
 fn a_row_cut_anywhere_is_run_or_has_a_bad_line(rt: HostRuntime) {
     for row in &ROWS {

@@ -4,7 +4,8 @@ use crate::tests::traced;
 use order_laws::Refusal;
 use std::test::Fail;
 
-/// A trace with its lines. A `*` among the words of a line stands for a number of loads that depends on the tree's shape.
+/// A trace with its lines. A `*` among the words of a line stands for a number of loads that
+/// depends on the tree's shape.
 pub(crate) struct Row {
     pub(crate) name: &'static str,
     pub(crate) trace: &'static str,

@@ -3,10 +3,12 @@ use crate::tests::traced;
 use std::alloc::{AllocError, Global};
 use std::test::Fail;
 
-/// More stops than the update has steps: it stores three words of its item and, in each copy, a root and few links.
+/// More stops than the update has steps: it stores three words of its item and, in each copy, a
+/// root and few links.
 const STOPS: usize = 40;
 
-/// A second item is inserted beside a first, stopped before its first step and after each, with three lookups at a stop.
+/// A second item is inserted beside a first, stopped before its first step and after each, with
+/// three lookups at a stop.
 fn stopped_trace(alloc: Global) -> Result<Vec<u8>, AllocError> {
     let lookups =
         b"start 1 0x3000\nread 1 100\nstart 2 0x1000\nread 2 100\nstart 3 0x5000\nread 3 100\n";
@@ -43,7 +45,8 @@ fn loads_of(line: &str, answer: &str) -> Option<u64> {
         .ok()
 }
 
-/// Every lookup answers at its first attempt: the old table up to the second flip, the new one from it on.
+/// Every lookup answers at its first attempt: the old table up to the second flip, the new one from
+/// it on.
 #[test]
 fn every_stop_has_one_table(rt: HostRuntime) -> Result<(), Fail> {
     let (answer, written) = traced(rt.alloc(), &stopped_trace(rt.alloc())?);

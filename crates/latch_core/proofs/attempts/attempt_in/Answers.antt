@@ -81,7 +81,8 @@ returns-in-Equal-clause-outcome g c =
 pub returns-in-Equal-clause-loads : goal.returns-in-Equal-clause-loads
 returns-in-Equal-clause-loads g c = sym (found g c).after
 
--- the walk ended at link 0, or at a link that leads to no node, or after as many visits as there are nodes
+-- the walk ended at link 0, or at a link that leads to no node, or after as many visits as there
+-- are nodes
 ended : (g : Over) (c : goal.Joined-link-eq0 g) → c.loop-link.link ≢ 0 → (capacity_of c.args.l < c.loop-link.link) ⊎ (4 * capacity_of c.args.l + 2 ≤ c.loop-link.loads)
 ended g c some =
     elim c.loop-link-test.branch [

@@ -1,10 +1,10 @@
-use Rattle.std.proofs.Common.{◌≡◌, ◌∙◌, ap}
+use Rattle.std.proofs.Common.{◌∙◌, ap}
 use Rattle.listing.specs.Lines.{lines_of}
 use Rattle.listing.specs.ModuleListing.{module_counts, modules_in}
-use Rattle.listing.specs.SymbolListing.{symbol_counts, symbols_in}
+use Rattle.listing.specs.SymbolListing.{symbol_counts}
 use Rattle.modules.specs.Catalogs.{catalog_of, counts_of}
 use Rattle.modules.specs.Lines.{usual_bounds}
-use Rattle.latchsym_ffi.specs.Opening.{build_counts_in, counts_in, shown_texts}
+use Rattle.latchsym_ffi.specs.Opening.{counts_in, shown_texts}
 use Rattle.latchsym_ffi.proofs.opening.catalog_between.Goals as goal
 
 pub returns-clause-opened : goal.returns-clause-opened

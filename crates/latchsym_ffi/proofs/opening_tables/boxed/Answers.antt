@@ -1,4 +1,3 @@
-use Rattle.std.proofs.Common.{length}
 use Rattle.std.specs.Vec.Iter.{into_iter_items}
 use Rattle.latchsym_ffi.proofs.Boxes.{each_made}
 use Rattle.latchsym_ffi.proofs.opening_tables.boxed.Goals as goal

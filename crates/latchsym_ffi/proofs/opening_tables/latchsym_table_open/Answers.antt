@@ -1,4 +1,4 @@
-use Rattle.std.proofs.Common.{◌≡◌, ◌∙◌, ap, subst, sym, length, rules}
+use Rattle.std.proofs.Common.{◌∙◌, ap, sym}
 use Rattle.latch_table.specs.Writers.{new_writer}
 use Rattle.latchsym_ffi.specs.Tables.{first_reader}
 use Rattle.latchsym_ffi.proofs.opening_tables.latchsym_table_open.Goals as goal

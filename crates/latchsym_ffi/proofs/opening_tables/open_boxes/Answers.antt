@@ -1,6 +1,4 @@
-use Rattle.std.proofs.Common.{◌≡◌, ◌∙◌, ap, subst, sym, rules}
-use Rattle.std.specs.Prelude.{All}
-use Rattle.latch_table.specs.Readers.{ReaderState}
+use Rattle.std.proofs.Common.{◌∙◌, ap}
 use Rattle.latchsym_ffi.specs.Tables.{first_reader}
 use Rattle.latchsym_ffi.proofs.opening_tables.open_boxes.Goals as goal
 

@@ -1,4 +1,5 @@
--- The way up from the node's place is the whole erase: the facts of PlaceSteps at the values of the calls.
+-- The way up from the node's place is the whole erase: the facts of PlaceSteps at the values of the
+-- calls.
 use Rattle.std.proofs.Common.{◌≡◌, ℕ, ◌+◌, [], ◌++◌, refl, sym, ◌∙◌, ap, arith, length, length-append, append_assoc}
 use Rattle.word_arena.specs.Copies.{copy_number}
 use Rattle.rb_trees.specs.Trees.{Branches, shape, depth}

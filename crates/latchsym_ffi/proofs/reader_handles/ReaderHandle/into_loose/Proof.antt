@@ -1,9 +1,9 @@
 use mathlib.Core.Path.{◌≡◌, refl, sym, subst}
 use mathlib.Core.List.{List, [], ◌∷◌, ◌++◌}
-use mathlib.Core.Bool.{true, false}
+use mathlib.Core.Bool.{true}
 use seplogic.Ra.Ura.{Ura}
-use mir.Val.{Val, vptr, vnull, vbool}
-use base.Logic.{SProp, ent, emp, id⊢}
+use mir.Val.{Val, vptr, vbool}
+use base.Logic.{SProp, ent, id⊢}
 use base.Fml.{ftrue, fsep}
 use prog.Memory.{Memory}
 use prog.Routine.{Routine}
@@ -14,7 +14,7 @@ use contract.Running.{tables, tables_of}
 use sound.WpLaws.{WpFn-mono}
 use types.Kit.{Item, ‵, raw, ◌⊛◌, ◌$◌, ◌∵◌, !, qed, by, move, drop, use1, join, split, fsplit, fjoin, suffices, done, rewrite}
 use types.Part.{whole, sub, agg}
-use types.Run.{stop, fld, no_more, and_then, of_opd, returns, enter, lit, true_lit}
+use types.Run.{stop, fld, no_more, and_then, of_opd, returns, enter}
 use types.ByLocal.{alloc_all, pass_all, free_all, look_at, get, get_in, sets}
 use denote.Exit.{yes}
 use denote.RawPtr.{Ptr, block_ptr}
@@ -23,9 +23,9 @@ use denote.Steps.{nothing, heard}
 use denote.Triple.Spec.{triple_of}
 use denote.Triple.Table.{entered}
 use denote.Triple.Walked.{says, Stays, stay_dropped, walk_of, ends_at, Goes-dropped, walk_Meets}
-use Rattle.loose.proofs.Values.{both, loose_good, loose_in, loose_out}
+use Rattle.loose.proofs.Values.{both, loose_good, loose_in}
 use Rattle.std_heap.specs.contracts.GlobalAllocator.TheImpl.{ghosts}
-use Rattle.latchsym_ffi.proofs.ReaderHandleValues.{R, Z, LZ, Hd, three, opened, open_good, handle_out, handle_in, closed_in, FromHandle as From}
+use Rattle.latchsym_ffi.proofs.ReaderHandleValues.{R, Z, LZ, Hd, three, open_good, handle_out, FromHandle as From}
 use Rattle.latchsym_ffi.specs.contracts.reader_handles.ReaderHandle.into_loose as F
 use Rattle.latchsym_ffi.specs.contracts.reader_handles.ReaderHandle.into_loose.Key.{name as #self}
 use Rattle.latchsym_ffi.proofs.reader_handles.ReaderHandle.into_loose.Statement as stated

@@ -1,32 +1,32 @@
-use mathlib.Core.Path.{◌≡◌, refl, sym, subst}
+use mathlib.Core.Path.{refl, sym, subst}
 use mathlib.Core.List.{List, [], ◌∷◌, ◌++◌}
-use mathlib.Core.Bool.{true, false}
+use mathlib.Core.Bool.{true}
 use seplogic.Ra.Ura.{Ura}
-use mir.Val.{Val, vptr, vnull, vbool}
-use base.Logic.{SProp, ent, emp, id⊢}
+use mir.Val.{Val, vptr, vbool}
+use base.Logic.{SProp, ent, emp}
 use base.Fml.{ftrue, fsep}
 use prog.Memory.{Memory}
 use prog.Routine.{Routine}
 use prog.Wp.{WpFn, Tables}
 use types.Logic.{Logic}
-use contract.Monad.{Fun, fact}
+use contract.Monad.{Fun}
 use contract.Running.{tables, tables_of}
 use sound.WpLaws.{WpFn-mono}
 use types.Kit.{Item, ‵, raw, ◌⊛◌, ◌$◌, ◌∵◌, !, qed, by, move, drop, use1, join, split, fsplit, fjoin, suffices, done, rewrite}
 use types.Part.{whole, sub, agg}
-use types.Run.{stop, fld, no_more, and_then, of_opd, returns, enter, lit, true_lit}
+use types.Run.{stop, fld, no_more, and_then, of_opd, returns, enter, true_lit}
 use types.ByLocal.{alloc_all, pass_all, free_all, look_at, get, get_in, sets}
 use denote.Exit.{yes}
 use Rattle.core.proofs.mem.Facts.{says_two}
-use denote.RawPtr.{Ptr, block_ptr}
+use denote.RawPtr.{Ptr}
 use denote.Signature.{type_at}
-use denote.Steps.{nothing, heard}
+use denote.Steps.{nothing}
 use denote.Triple.Spec.{triple_of}
 use denote.Triple.Table.{entered}
-use denote.Triple.Walked.{says, Stays, stay_dropped, walk_of, ends_at, Goes-dropped, walk_Meets}
-use Rattle.loose.proofs.Values.{both, loose_good, loose_in, loose_out}
+use denote.Triple.Walked.{Stays, stay_dropped, walk_of, ends_at, Goes-dropped, walk_Meets}
+use Rattle.loose.proofs.Values.{both, loose_good, loose_out}
 use Rattle.std_heap.specs.contracts.GlobalAllocator.TheImpl.{ghosts}
-use Rattle.latchsym_ffi.proofs.ReaderHandleValues.{R, Z, LZ, Hd, three, opened, open_good, handle_out, handle_in, closed_in, FromLoose as From}
+use Rattle.latchsym_ffi.proofs.ReaderHandleValues.{R, Z, LZ, Hd, three, open_good, handle_in, FromLoose as From}
 use Rattle.latchsym_ffi.specs.contracts.reader_handles.ReaderHandle.of as F
 use Rattle.latchsym_ffi.specs.contracts.reader_handles.ReaderHandle.of.Key.{name as #self}
 use Rattle.latchsym_ffi.proofs.reader_handles.ReaderHandle.of.Statement as stated

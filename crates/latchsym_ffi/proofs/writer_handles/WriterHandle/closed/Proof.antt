@@ -1,34 +1,32 @@
-use mathlib.Core.Path.{◌≡◌, refl, sym, subst}
+use mathlib.Core.Path.{refl, sym, subst}
 use mathlib.Core.List.{List, [], ◌∷◌, ◌++◌}
-use mathlib.Core.Bool.{true, false}
+use mathlib.Core.Bool.{false}
 use lib.Dec.{lit<}
 use Rattle.std.specs.Prelude.{None}
 use seplogic.Ra.Ura.{Ura}
-use mir.Val.{Val, vptr, vnull, vbool}
-use base.Logic.{SProp, ent, emp, id⊢}
+use mir.Val.{Val, vnull, vbool}
+use base.Logic.{SProp, ent, emp}
 use base.Fml.{ftrue, fsep}
 use prog.Memory.{Memory}
 use prog.Routine.{Routine}
 use prog.Wp.{WpFn, Tables}
 use types.Logic.{Logic}
-use contract.Monad.{Fun, fact}
+use contract.Monad.{Fun}
 use contract.Running.{tables, tables_of}
 use sound.WpLaws.{WpFn-mono}
 use types.Kit.{Item, ‵, raw, ◌⊛◌, ◌$◌, ◌∵◌, !, qed, by, move, drop, use1, join, split, fsplit, fjoin, suffices, done, rewrite}
-use types.Part.{whole, sub, agg}
-use types.Run.{stop, fld, no_more, and_then, of_opd, returns, enter, lit, false_lit}
-use types.ByLocal.{alloc_all, pass_all, free_all, look_at, get, get_in, sets}
+use types.Part.{agg}
+use types.Run.{no_more, and_then, returns, enter, lit, false_lit}
+use types.ByLocal.{alloc_all, pass_all, free_all, look_at, get, sets}
 use denote.Exit.{yes}
-use denote.RawPtr.{Ptr, block_ptr, null_ptr}
+use denote.RawPtr.{null_ptr}
 use Rattle.core.proofs.alloc.Calls.{handle_tells}
 use denote.Signature.{type_at}
-use denote.Steps.{nothing, heard}
+use denote.Steps.{nothing}
 use denote.Triple.Spec.{triple_of}
 use denote.Triple.Table.{entered}
 use denote.Triple.Walked.{says, Stays, stay_dropped, walk_of, ends_at, Goes-dropped, walk_Meets}
-use Rattle.loose.proofs.Values.{both, loose_good, loose_in, loose_out}
-use Rattle.std_heap.specs.contracts.GlobalAllocator.TheImpl.{ghosts}
-use Rattle.latchsym_ffi.proofs.WriterHandleValues.{R, Z, LZ, Hd, three, opened, open_good, handle_out, handle_in, closed_in, FromGlobal as From, al}
+use Rattle.latchsym_ffi.proofs.WriterHandleValues.{Z, three, open_good, closed_in, FromGlobal as From, al}
 use Rattle.latchsym_ffi.specs.contracts.writer_handles.WriterHandle.closed as F
 use Rattle.latchsym_ffi.specs.contracts.writer_handles.WriterHandle.closed.Key.{name as #self}
 use Rattle.latchsym_ffi.proofs.writer_handles.WriterHandle.closed.Statement as stated

@@ -1,0 +1,135 @@
+/* Refuses each request for memory of each call in turn: the call does without, or answers
+ * LATCHSYM_OUT_OF_MEMORY and changes nothing; and all memory is given back at the end. */
+#include <errno.h>
+#include <latchsym.h>
+#include <stdio.h>
+#include <stdlib.h>
+#include <string.h>
+
+extern void *__libc_malloc(size_t size);
+extern void *__libc_realloc(void *block, size_t size);
+extern void __libc_free(void *block);
+
+#define CHECK(x) do { if (!(x)) { printf("refused: line %d: %s\n", __LINE__, #x); exit(1); } } while (0)
+
+static long refused_request, requests, blocks;
+
+static int is_refused(void) {
+    if (!refused_request || ++requests != refused_request) return 0;
+    errno = ENOMEM;
+    return 1;
+}
+
+void *malloc(size_t size) {
+    void *block = is_refused() ? NULL : __libc_malloc(size);
+    blocks += block != NULL;
+    return block;
+}
+void *realloc(void *old, size_t size) {
+    void *block = is_refused() ? NULL : __libc_realloc(old, size);
+    blocks += block && !old;
+    return block;
+}
+void free(void *block) {
+    blocks -= block != NULL;
+    __libc_free(block);
+}
+
+static const char modules[] = "ext4 8192 1 - Live 0xffffffffc0000000\n";
+static const char kallsyms[] = "ffffffff81000000 T _stext\nffffffff81002000 T _end\nffffffffc0000010 t ext4_a\t[ext4]\n";
+static const char regions[] = "latchregions 1\next4 core 0xffffffffc0000000 8192\n";
+
+static struct latchsym_catalog catalog, other;
+static struct latchsym_writer writer;
+static struct latchsym_reader readers[3];
+static const struct latchsym_item items[] = {{0x1000, 0x2000, 1}, {0x2000, 0x3000, 1}};
+static const uint64_t starts[] = {0x1000};
+
+static uint32_t open_catalog(void) {
+    struct latchsym_counts counts;
+    uint64_t bad_line;
+    return latchsym_catalog_open_with_regions((const uint8_t *)modules, strlen(modules), (const uint8_t *)kallsyms,
+                                              strlen(kallsyms), (const uint8_t *)regions, strlen(regions), &catalog,
+                                              &counts, &bad_line);
+}
+static uint32_t share(void) { return latchsym_catalog_share(&catalog, &other); }
+static uint32_t open_table(void) { return latchsym_table_open(4, &writer, readers, 3); }
+static uint32_t insert(void) { return latchsym_writer_begin_insert(&writer, &items[0]); }
+static uint32_t batch(void) { return latchsym_writer_begin_batch(&writer, starts, 1, items, 2); }
+
+/* All handles, as they lie in memory. */
+static void handles(unsigned char *to) {
+    memcpy(to, &catalog, sizeof catalog), to += sizeof catalog;
+    memcpy(to, &other, sizeof other), to += sizeof other;
+    memcpy(to, &writer, sizeof writer), to += sizeof writer;
+    memcpy(to, readers, sizeof readers);
+}
+
+static void close_catalog(void) { latchsym_catalog_close(&catalog); }
+static void close_other(void) { latchsym_catalog_close(&other); }
+static void close_table(void) {
+    latchsym_writer_close(&writer);
+    for (int i = 0; i < 3; i++) latchsym_reader_close(&readers[i]);
+}
+static void finish(void) {
+    uint64_t generation;
+    CHECK(!latchsym_writer_finish(&writer, &generation));
+}
+static void erase_first(void) {
+    refused_request = 0;
+    finish();
+    CHECK(!latchsym_writer_begin_erase(&writer, 0x1000));
+    finish();
+}
+static void batch_back(void) {
+    const uint64_t both[] = {0x1000, 0x2000};
+    refused_request = 0;
+    finish();
+    CHECK(!latchsym_writer_begin_batch(&writer, both, 2, items, 1));
+    finish();
+}
+
+static void each_request(const char *name, uint32_t (*call)(void), void (*undo)(void)) {
+    unsigned char before[6 * sizeof writer], after[6 * sizeof writer];
+    long refused = 0;
+    for (long request = 1;; request++) {
+        long had = blocks;
+        requests = 0;
+        handles(before);
+        refused_request = request;
+        uint32_t answer = call();
+        if (answer == LATCHSYM_DONE && requests < request) break;
+        if (answer == LATCHSYM_DONE) {
+            undo();
+            continue;
+        }
+        refused_request = 0;
+        handles(after);
+        CHECK(answer == LATCHSYM_OUT_OF_MEMORY);
+        CHECK(blocks >= had && !memcmp(before, after, sizeof before));
+        refused++;
+    }
+    refused_request = 0;
+    printf("refused: %s: %ld requests\n", name, refused);
+}
+
+int main(void) {
+    struct latchsym_found found;
+    setvbuf(stdout, NULL, _IONBF, 0);
+    long had = blocks;
+    each_request("catalog_open_with_regions", open_catalog, close_catalog);
+    each_request("catalog_share", share, close_other);
+    latchsym_catalog_close(&catalog);
+    latchsym_catalog_close(&other);
+    CHECK(blocks == had);
+    each_request("table_open", open_table, close_table);
+    each_request("begin_insert", insert, erase_first);
+    finish();
+    each_request("begin_batch", batch, batch_back);
+    finish();
+    CHECK(!latchsym_reader_try_find(&readers[2], 0x2800, &found) && found.a == 0x2000);
+    for (int i = 0; i < 3; i++) latchsym_reader_close(&readers[i]);
+    latchsym_writer_close(&writer);
+    CHECK(blocks == had);
+    puts("refused: ok");
+}

@@ -1,0 +1,14 @@
+# Read behind program.sh by the scripts that use the library for C.
+
+# build_library: makes `library` the static library, with the kit's three functions over malloc in
+# it, and `shared` the shared one; ends the script where they cannot be built
+build_library() {
+    local crate=$top/crates/latchsym_ffi heap
+    (cd "$crate" && rt lib) >"$work/build" 2>&1 || { cat "$work/build" >&2 && exit 1; }
+    heap=$(dirname "$(rt doc)")/c/liblibc_c.a
+    mkdir "$work/objects"
+    (cd "$work/objects" && ar x "$crate/out/liblatchsym_ffi.a" && ar x "$heap" && ar rcs "$work/liblatchsym.a" ./*)
+    library=$work/liblatchsym.a
+    shared=$work/liblatchsym.so
+    gcc -shared -o "$shared" -Wl,--whole-archive "$library" -Wl,--no-whole-archive
+}
