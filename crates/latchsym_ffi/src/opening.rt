@@ -145,7 +145,7 @@ fn catalog_between(
         &KernelBounds::usual(),
         &module_lines,
         regions,
-        &symbol_lines,
+        symbol_lines,
     )?;
     let counts = counts_of(&skipped_modules, &skipped_symbols, &built);
     let indexed = IndexedCatalog::new(alloc, catalog, built.modules)?;
