@@ -1,4 +1,4 @@
-# Read behind program.sh by the scripts that use the library for C.
+# Read after program.sh by the scripts that use the library for C.
 
 # build_library: makes `library` the static library, with the kit's three functions over malloc in
 # it, and `shared` the shared one; ends the script where they cannot be built

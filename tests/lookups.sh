@@ -57,7 +57,7 @@ writes() {
     cmp -s "$work/out" "$name.expected" || fail "lookup $*: other lines than $name.expected"
 }
 
-# addresses of a file are those of the command line, or come behind them; `-` is the standard input
+# addresses of a file are those of the command line, or come after them; `-` is the standard input
 basic=(--modules basic.modules --kallsyms basic.kallsyms)
 head -n 2 basic.addresses >"$work/first"
 { echo '# the others' && echo && tail -n +3 basic.addresses; } >"$work/rest"
@@ -127,7 +127,7 @@ refused 1 "refused 14" --modules regions.modules --kallsyms regions.kallsyms --r
 refused 1 "no_such: cannot be read" --modules regions.modules --kallsyms regions.kallsyms --regions no_such 1
 refused 1 ".: cannot be read" --modules regions.modules --kallsyms . --regions no_such 1
 refused 2 "" --modules regions.modules --kallsyms regions.kallsyms --regions regions.regions --regions regions.regions 1
-# the file of addresses is read behind the listings, and names its first bad line
+# the file of addresses is read after the listings, and names its first bad line
 printf '16\n# a comment\n0x\n16x\n' >"$work/bad.addresses"
 printf '16\n 17\n' >"$work/blank.addresses"
 printf '%04097d\n' 1 >"$work/long.addresses"

@@ -110,7 +110,7 @@ static void put_line(struct input *input, int kind) {
         for (size_t count = 4090 + below(10); input->length - start < count && input->length < MOST_BYTES;) put(input, "7", 1);
 }
 
-/* A file of this kind: random bytes, or lines behind the header of an example. */
+/* A file of this kind: random bytes, or lines after the header of an example. */
 static void make(struct input *input, int kind) {
     input->length = 0;
     if (below(10) == 0) {
