@@ -6,7 +6,7 @@ use Rattle.std.proofs.lemmas.List.{get_or-set_same, set-get_or}
 use Rattle.std.specs.Prelude.{IsSome}
 use Rattle.slab.specs.Slab.{Slab, get, slab_len, ContainsKey, with_value}
 use Rattle.rb_trees.specs.declared.Record.{Record}
-use Rattle.rb_trees.specs.Trees.{Branches, tip, branch}
+use Rattle.rb_trees.specs.Trees.{Branches, tip}
 use Rattle.rb_cursor.specs.declared.nodes.Node.{Node}
 use Rattle.rb_cursor.specs.declared.nodes.Step.{Step}
 use Rattle.rb_trees.specs.declared.Side.{Side}
@@ -138,17 +138,6 @@ none_by i now (keyed red l k x r) path blanks h none = let e = h.tree_link in ab
 
 pub none_there : (i : Inside) (now : Zipper) → Is i → show i ≡ now → i.tree ≡ 0 → now.tree ≡ tip
 none_there i now f is none = none_by i now f.hand f.path f.blanks (held i now f is) none
-
-some_by : (s : Slab Node) (link key : ℕ) (t : Keyed) → IsLinked s t → link ≡ link_of t →
-    link ≡ suc key → get s key ≡ None → ⊥
-some_by s link key nil h a some none = omega arith
-some_by s link key (keyed red l k x r) h a some none =
-    let same : k ≡ key = omega arith in
-    let here = ap (get s) same in let there = h.0 in cc
-
-pub some_there : (i : Inside) (key : ℕ) → Is i → i.tree ≡ suc key → get i.nodes key ≡ None → ⊥
-some_there i key f some none =
-    some_by i.nodes i.tree key f.hand f.place.hand_linked f.tree_link some none
 
 -- going down on a side
 abbrev pub with_step : Inside → Side → ℕ → Inside
