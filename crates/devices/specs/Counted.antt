@@ -1,5 +1,6 @@
 -- What a clause reads of a counted device, and how its count moves.
-use Rattle.std.specs.Prelude.{◌≡◌, ℕ, ◌+◌, ◌-◌, ◌^◌, ◌<◌, ◌⊎◌, ◌&&◌, min, nat_eq, nat_lt, if◌then◌else◌, length, List, Result, Ok, Err}
+use Rattle.std.specs.Prelude.{◌≡◌, ℕ, ◌+◌, ◌-◌, ◌^◌, ◌<◌, ◌⊎◌, ◌&&◌, min, nat_eq, nat_lt}
+use Rattle.std.specs.Prelude.{if◌then◌else◌, length, List, Result, Ok, Err}
 use Rattle.devices.specs.declared.counted.Counted.{Counted}
 
 -- the reader or writer inside

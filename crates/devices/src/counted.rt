@@ -53,7 +53,8 @@ impl<R: Read> Read for Counted<R> {
 
     fn read(&mut self, buf: &mut [u8]) -> io::Result<usize>
         ensures bound { ReadsAtMost result buf.new }
-        ensures bytes { ReadConsumes (R.remaining (device_of self.old)) (R.remaining (device_of self.new)) result buf.new }
+        ensures bytes { ReadConsumes (R.remaining (device_of self.old))
+            (R.remaining (device_of self.new)) result buf.new }
 
         ensures counted { failures_of self.new ≡ after_call (failures_of self.old) result }
         ensures failed { OnErr result (Rose (failures_of self.old) (failures_of self.new)) }
@@ -74,11 +75,13 @@ impl<W: Write> Write for Counted<W> {
 
     fn write(&mut self, buf: &[u8]) -> io::Result<usize>
         ensures bound { WritesAtMost result buf.now }
-        ensures bytes { WriteAppends (W.contents (device_of self.old)) (W.contents (device_of self.new)) result buf.now }
+        ensures bytes { WriteAppends (W.contents (device_of self.old))
+            (W.contents (device_of self.new)) result buf.now }
 
         ensures counted { failures_of self.new ≡ after_write (failures_of self.old) result buf.now }
         ensures failed { OnErr result (Rose (failures_of self.old) (failures_of self.new)) }
-        ensures none_taken { IfOk result (λ n. n ≡ 0 → 0 < length buf.now → Rose (failures_of self.old) (failures_of self.new)) }
+        ensures none_taken { IfOk result (λ n. n ≡ 0 → 0 < length buf.now →
+            Rose (failures_of self.old) (failures_of self.new)) }
         ensures never_falls { failures_of self.old ≤ failures_of self.new }
     {
         let result = self.device.write(buf);

@@ -1,5 +1,6 @@
 //! A device for tests that fails at one of its calls.
-ghost use Rattle.std.specs.Prelude.{◌≡◌, ◌≢◌, ◌-◌, ◌↔◌, Some, length, IsTrue, IsErr, IsErrAnd, IfErr, IfOk};
+ghost use Rattle.std.specs.Prelude.{◌≡◌, ◌≢◌, ◌-◌, ◌↔◌, Some, length};
+ghost use Rattle.std.specs.Prelude.{IsTrue, IsErr, IsErrAnd, IfErr, IfOk};
 ghost use Rattle.std.specs.IoError.{error_kind};
 ghost use Rattle.std.specs.Io.{ReadsAtMost, WritesAtMost};
 ghost use Rattle.std.specs.Io.KnownBytes.{ReadConsumes, WriteAppends, Keeps};
@@ -58,7 +59,8 @@ impl Read for FailAt<&[u8]> {
 
     fn read(&mut self, buf: &mut [u8]) -> io::Result<usize>
         ensures bound { ReadsAtMost result buf.new }
-        ensures bytes { ReadConsumes (Some (memory_of self.old).now) (Some (memory_of self.new).now) result buf.new }
+        ensures bytes { ReadConsumes (Some (memory_of self.old).now)
+            (Some (memory_of self.new).now) result buf.new }
 
         ensures fails { IsErr result ↔ (calls_to_failure self.old ≡ 1) }
         ensures countdown { calls_to_failure self.new ≡ calls_to_failure self.old - 1 }
@@ -77,11 +79,14 @@ impl Write for FailAt<Vec<u8>> {
 
     fn write(&mut self, buf: &[u8]) -> io::Result<usize>
         ensures bound { WritesAtMost result buf.now }
-        ensures bytes { WriteAppends (Some (memory_of self.old).items) (Some (memory_of self.new).items) result buf.now }
+        ensures bytes { WriteAppends (Some (memory_of self.old).items)
+            (Some (memory_of self.new).items) result buf.now }
         ensures whole { IfOk result (λ n. n ≡ length buf.now) }
 
-        ensures fails { calls_to_failure self.old ≡ 1 → IsErrAnd result (λ e. error_kind e ≡ ErrorKind.Interrupted) }
-        ensures no_memory { calls_to_failure self.old ≢ 1 → IfErr result (λ e. error_kind e ≡ ErrorKind.OutOfMemory) }
+        ensures fails { calls_to_failure self.old ≡ 1 →
+            IsErrAnd result (λ e. error_kind e ≡ ErrorKind.Interrupted) }
+        ensures no_memory { calls_to_failure self.old ≢ 1 →
+            IfErr result (λ e. error_kind e ≡ ErrorKind.OutOfMemory) }
         ensures countdown { calls_to_failure self.new ≡ calls_to_failure self.old - 1 }
     {
         if self.is_due() {

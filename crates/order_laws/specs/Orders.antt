@@ -1,5 +1,6 @@
 -- How items are ordered, and where a key lies among them.
-use Rattle.std.specs.Prelude.{◌≡◌, ◌≢◌, ◌↔◌, ◌<◌, ℕ, Bool, true, false, not, ◌||◌, nat_lt, nat_le, if◌then◌else◌}
+use Rattle.std.specs.Prelude.{◌≡◌, ◌≢◌, ◌↔◌, ◌<◌, ℕ, Bool, true, false, not, ◌||◌}
+use Rattle.std.specs.Prelude.{nat_lt, nat_le, if◌then◌else◌}
 use Rattle.std.specs.declared.cmp.Ordering.{Ordering}
 use Rattle.std.specs.declared.cmp.Ordering.TheVariants.{Less, Equal, Greater}
 use Rattle.std.proofs.Common.{arith}
@@ -26,18 +27,23 @@ pub record IsLawful {K : Type 0} (o : Order K) : Type 0 where
   pub irreflexive : (x : Item) → o.less x x ≡ false
   pub transitive : (x y z : Item) → o.less x y ≡ true → o.less y z ≡ true → o.less x z ≡ true
   -- of two valid items that are apart exactly one is less
-  pub one_is_less : (x y : Item) → o.valid x ≡ true → o.valid y ≡ true → o.apart x y ≡ true → o.less x y ≡ not (o.less y x)
+  pub one_is_less : (x y : Item) → o.valid x ≡ true → o.valid y ≡ true → o.apart x y ≡ true →
+      o.less x y ≡ not (o.less y x)
   -- the key of an item is in it, below what it is less than, above what is less
   pub own_key : (x : Item) → o.valid x ≡ true → o.comp (o.key_of x) x ≡ Equal
-  pub key_below : (x y : Item) → o.valid x ≡ true → o.valid y ≡ true → o.apart x y ≡ true → (o.comp (o.key_of x) y ≡ Less) ↔ (o.less x y ≡ true)
-  pub key_above : (x y : Item) → o.valid x ≡ true → o.valid y ≡ true → o.apart x y ≡ true → (o.comp (o.key_of x) y ≡ Greater) ↔ (o.less y x ≡ true)
+  pub key_below : (x y : Item) → o.valid x ≡ true → o.valid y ≡ true → o.apart x y ≡ true →
+      (o.comp (o.key_of x) y ≡ Less) ↔ (o.less x y ≡ true)
+  pub key_above : (x y : Item) → o.valid x ≡ true → o.valid y ≡ true → o.apart x y ≡ true →
+      (o.comp (o.key_of x) y ≡ Greater) ↔ (o.less y x ≡ true)
   -- a key below the lesser is below the greater, and so on
   pub below_lesser : (k : K) (x y : Item) → Precedes o x y → o.comp k x ≡ Less → o.comp k y ≡ Less
-  pub above_greater : (k : K) (x y : Item) → Precedes o x y → o.comp k y ≡ Greater → o.comp k x ≡ Greater
+  pub above_greater : (k : K) (x y : Item) → Precedes o x y → o.comp k y ≡ Greater →
+      o.comp k x ≡ Greater
   pub in_lesser : (k : K) (x y : Item) → Precedes o x y → o.comp k x ≡ Equal → o.comp k y ≡ Less
   pub in_greater : (k : K) (x y : Item) → Precedes o x y → o.comp k y ≡ Equal → o.comp k x ≡ Greater
   pub symmetric : (x y : Item) → o.apart x y ≡ o.apart y x
-  pub own_first_word : (x y : Item) → o.valid x ≡ true → o.valid y ≡ true → o.apart x y ≡ true → x.a ≢ y.a
+  pub own_first_word : (x y : Item) → o.valid x ≡ true → o.valid y ≡ true → o.apart x y ≡ true →
+      x.a ≢ y.a
 
 -- what an order may offer beyond its laws: its items lie side by side, as ranges on a line do
 pub record IsInLine {K : Type 0} (o : Order K) : Type 0 where

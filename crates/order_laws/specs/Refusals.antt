@@ -1,7 +1,13 @@
 -- The numbers of the refusals.
 use Rattle.std.specs.Prelude.{ℕ}
 use Rattle.order_laws.specs.declared.refusals.Refusal.{Refusal}
-use Rattle.order_laws.specs.declared.refusals.Refusal.TheVariants.{BadItem, Overlap, NoSuchItem, Full, UpdateInHand, SequenceSpent, OutOfMemory, ReaderBusy, ReaderIdle, BadCapacity, UnknownModule, AlreadyLoaded, NotLoaded, TooManyRegions, NoInit}
+use Rattle.order_laws.specs.declared.refusals.Refusal.TheVariants.{BadItem, Overlap, NoSuchItem}
+use Rattle.order_laws.specs.declared.refusals.Refusal.TheVariants.{Full, UpdateInHand}
+use Rattle.order_laws.specs.declared.refusals.Refusal.TheVariants.{SequenceSpent, OutOfMemory}
+use Rattle.order_laws.specs.declared.refusals.Refusal.TheVariants.{ReaderBusy, ReaderIdle}
+use Rattle.order_laws.specs.declared.refusals.Refusal.TheVariants.{BadCapacity, UnknownModule}
+use Rattle.order_laws.specs.declared.refusals.Refusal.TheVariants.{AlreadyLoaded, NotLoaded}
+use Rattle.order_laws.specs.declared.refusals.Refusal.TheVariants.{TooManyRegions, NoInit}
 
 -- the number that is printed for a refusal
 abbrev pub number_of : Refusal → ℕ

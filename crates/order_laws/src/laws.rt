@@ -12,7 +12,8 @@ use std::cmp::Ordering;
 /// The item that a key is in is one alone: whatever is a lookup's answer is the one that `look`
 /// computes.
 pub fn look_is_one<O: TreeOrder>()
-    ensures { (k : O.Key) (table : List Item) (found : Option Item) → IsTable O.order table → IsLook O.order k table found → found ≡ look O.order k table }
+    ensures { (k : O.Key) (table : List Item) (found : Option Item) →
+        IsTable O.order table → IsLook O.order k table found → found ≡ look O.order k table }
 {}
 
 /// What `look` computes is a lookup's answer, in any list of items.
@@ -22,17 +23,20 @@ pub fn look_is_an_answer<O: TreeOrder>()
 
 /// A table with one item more has that item and those it had.
 pub fn with_item_adds_one<O: TreeOrder>()
-    ensures { (i x : Item) (table : List Item) → Contains (with_item O.order i table) x ↔ ((x ≡ i) ⊎ Contains table x) }
+    ensures { (i x : Item) (table : List Item) →
+        Contains (with_item O.order i table) x ↔ ((x ≡ i) ⊎ Contains table x) }
 {}
 
 /// A table without a first word has the items that have another one.
 pub fn without_leaves_the_others()
-    ensures { (a : ℕ) (x : Item) (table : List Item) → Contains (without a table) x ↔ (Contains table x × (x.a ≢ a)) }
+    ensures { (a : ℕ) (x : Item) (table : List Item) →
+        Contains (without a table) x ↔ (Contains table x × (x.a ≢ a)) }
 {}
 
 /// Two tables of the same items are one list, so a table says no more than the set of its items.
 pub fn a_table_is_its_items<O: TreeOrder>()
-    ensures { (table other : List Item) → IsTable O.order table → IsTable O.order other → ((x : Item) → Contains table x ↔ Contains other x) → table ≡ other }
+    ensures { (table other : List Item) → IsTable O.order table → IsTable O.order other →
+        ((x : Item) → Contains table x ↔ Contains other x) → table ≡ other }
 {}
 
 /// The item of the table that the key is in, found by going through all of them.

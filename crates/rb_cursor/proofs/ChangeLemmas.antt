@@ -28,7 +28,8 @@ use Rattle.rb_cursor.proofs.KeyedLemmas.{at_same}
 use Rattle.rb_cursor.proofs.KeyedLemmas.{linked_beside, path_beside, chain_beside}
 use Rattle.rb_cursor.proofs.KeyedLemmas.{steps_length}
 use Rattle.rb_cursor.proofs.KeyedLemmas.{plain_length, same_len}
-use Rattle.rb_cursor.proofs.HeldLemmas.{Is, show, Held, Moved, held, shut, joined_keyed, back}
+use Rattle.rb_cursor.proofs.SideLemmas.{read-sided, plain-joined}
+use Rattle.rb_cursor.proofs.HeldLemmas.{Is, show, Held, Moved, held, shut, back}
 use Rattle.rb_cursor.proofs.HeldLemmas.{gone_back, without_step}
 
 -- the node in hand is written anew, with the same subtrees
@@ -141,13 +142,6 @@ last_there i now f is some step key at link none =
     cc
 
 -- what is read of it
-nearest_by : (side : Side) (red : Bool) (row : Record) (link other : ℕ) (n : Node) →
-    sided_node side red row link other ≡ n → (red ≡ n.red) × (row ≡ record_of n)
-nearest_by Left red row link other n e =
-    (ap (λ (z : Node). z.red) e, ap (λ (z : Node). record_of z) e)
-nearest_by Right red row link other n e =
-    (ap (λ (z : Node). z.red) e, ap (λ (z : Node). record_of z) e)
-
 pub nearest_is : (i : Inside) (now : Zipper) → Is i → show i ≡ now → 0 < i.depth →
     (step : Step) (key : ℕ) (n : Node) → step_at i.steps (i.depth - 1) ≡ step →
     step.link ≡ suc key → get i.nodes key ≡ Some n →
@@ -161,7 +155,7 @@ nearest_is i now f is some step key n at link found =
     let same : a.key ≡ key = omega arith in
     let here = t.held.place.path_linked.0 in let there = ap (get i.nodes) same in
     let node : sided_node a.side a.red a.row (link_of f.hand) (link_of a.other) ≡ n = cc in
-    let parts = nearest_by a.side a.red a.row (link_of f.hand) (link_of a.other) n node in
+    let parts = read-sided a.side a.red a.row (link_of f.hand) (link_of a.other) n node in
     record {
       row = a.row;
       other = plain a.other;
@@ -193,11 +187,6 @@ no_path i now f is none = none_by f.hand f.path f.blanks (held i now f is)
     none_by hand (a ∷ path) blanks h = let e = h.path_steps.0 in absurd (omega arith)
 
 -- one step up, in a colour
-plain-back : (side : Side) (red : Bool) (t : Keyed) (k : ℕ) (x : Record) (other : Keyed) →
-    plain (joined_keyed side red t k x other) ≡ sided side red (plain t) x (plain other)
-plain-back Left red t k x other = refl
-plain-back Right red t k x other = refl
-
 repainted : (side : Side) (hue red : Bool) (t : Branches) (x : Record) (o : Branches) (hue' : Bool)
     (l : Branches) (y : Record) (r : Branches) → sided side hue t x o ≡ branch hue' l y r →
     branch red l y r ≡ sided side red t x o
@@ -224,7 +213,7 @@ closes i now step key red n f is some at link found =
     let r = rewrites_by (without_step i step.link) mid (back a f.hand) t.rest f.blanks key red
     (record_of n) n g link found in
     let tree = repainted a.side a.red red (plain f.hand) a.row (plain a.other) n.red r.left
-    (record_of n) r.right (sym (plain-back a.side a.red f.hand a.key a.row a.other) ∙ r.was) in
+    (record_of n) r.right (sym (plain-joined a.side a.red f.hand a.key a.row a.other) ∙ r.was) in
     record {
       is = r.moved.is;
       shows = r.moved.shows
@@ -276,7 +265,7 @@ closes_to_by i now hand (a ∷ path) blanks d h some =
     (plain_path path) i.room =
     goes_up d (plain hand) (plain_level a) (plain_path path) i.room (omega arith)
     ∙ sym (ap (λ (z : Branches). closed_to d z (plain_path path) i.room)
-    (plain-back a.side a.red hand a.key a.row a.other)) in
+    (plain-joined a.side a.red hand a.key a.row a.other)) in
     let j : Inside = record i { tree = (step_at i.steps d).link; depth = d } in
     let mid : Zipper = record { tree = t; path = plain_path path; room = i.room } in
     let there : Moved j (closed_to d t (plain_path path) i.room) = elim (cases_eq d (length path)) [

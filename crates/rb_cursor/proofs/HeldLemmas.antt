@@ -6,22 +6,25 @@ use Rattle.std.proofs.lemmas.List.{get_or-set_same, set-get_or}
 use Rattle.std.specs.Prelude.{IsSome}
 use Rattle.slab.specs.Slab.{Slab, get, slab_len, ContainsKey, with_value}
 use Rattle.rb_trees.specs.declared.Record.{Record}
-use Rattle.rb_trees.specs.Trees.{Branches, tip, branch}
+use Rattle.rb_trees.specs.Trees.{Branches, tip}
 use Rattle.rb_cursor.specs.declared.nodes.Node.{Node}
 use Rattle.rb_cursor.specs.declared.nodes.Step.{Step}
 use Rattle.rb_trees.specs.declared.Side.{Side}
-use Rattle.rb_trees.specs.declared.Side.TheVariants.{Left, Right}
 use Rattle.rb_cursor.specs.declared.cursors.Cursor.TheInside.{Inside}
 use Rattle.rb_trees.specs.Paths.{Above}
 use Rattle.rb_cursor.specs.Zippers.{Zipper}
 use Rattle.rb_trees.specs.Paths.{sided}
-use Rattle.rb_cursor.specs.Opening.{weight, OpensLeft, OpensRight}
+use Rattle.rb_cursor.specs.Sides.{child_at}
+use Rattle.rb_cursor.specs.Opening.{weight, Opens}
 use Rattle.rb_cursor.specs.Keyed.{Keyed, nil, keyed, Level, link_of, link_to, plain, plain_level}
 use Rattle.rb_cursor.specs.Keyed.{plain_path}
-use Rattle.rb_cursor.specs.Keyed.{node_of, record_of, IsLinked}
+use Rattle.rb_cursor.specs.Keyed.{sided_node, record_of, IsLinked, IsPath}
 use Rattle.rb_cursor.specs.Keyed.{tree_from}
 use Rattle.rb_cursor.specs.Writes.{no_step, step_at}
 use Rattle.rb_cursor.specs.Places.{IsPlace, AreSteps, IsCursor, path_from, shown}
+use Rattle.rb_cursor.proofs.SideLemmas.{joined_keyed, seen, parted, linked-joined, read-sided}
+use Rattle.rb_cursor.proofs.SideLemmas.{plain-joined, link-joined, uses-joined, size-joined}
+use Rattle.rb_cursor.proofs.SideLemmas.{weight-sided, child-sided}
 use Rattle.rb_cursor.proofs.KeyedLemmas.{tree_is}
 use Rattle.rb_cursor.proofs.KeyedLemmas.{path_is, steps_kept, steps_length, plain_length}
 
@@ -136,18 +139,7 @@ none_by i now (keyed red l k x r) path blanks h none = let e = h.tree_link in ab
 pub none_there : (i : Inside) (now : Zipper) → Is i → show i ≡ now → i.tree ≡ 0 → now.tree ≡ tip
 none_there i now f is none = none_by i now f.hand f.path f.blanks (held i now f is) none
 
-some_by : (s : Slab Node) (link key : ℕ) (t : Keyed) → IsLinked s t → link ≡ link_of t →
-    link ≡ suc key → get s key ≡ None → ⊥
-some_by s link key nil h a some none = omega arith
-some_by s link key (keyed red l k x r) h a some none =
-    let same : k ≡ key = omega arith in
-    let here = ap (get s) same in let there = h.0 in cc
-
-pub some_there : (i : Inside) (key : ℕ) → Is i → i.tree ≡ suc key → get i.nodes key ≡ None → ⊥
-some_there i key f some none =
-    some_by i.nodes i.tree key f.hand f.place.hand_linked f.tree_link some none
-
--- going down to the left
+-- going down on a side
 abbrev pub with_step : Inside → Side → ℕ → Inside
 with_step i side link =
     record i {
@@ -156,9 +148,10 @@ with_step i side link =
       depth = i.depth + 1;
     }
 
-pub record LeftOpened (i : Inside) (now : Zipper) (n : Node) : Type 0 where
-  pub is : Is (with_step i Left n.left)
-  pub opens : OpensLeft now (show (with_step i Left n.left)) (record { red = n.red; node = n.node })
+pub record HasOpened (i : Inside) (now : Zipper) (side : Side) (n : Node) : Type 0 where
+  pub is : Is (with_step i side (child_at side n))
+  pub opens : Opens side now (show (with_step i side (child_at side n)))
+      (record { red = n.red; node = n.node })
   pub row_is : opens.row ≡ record_of n
 
 -- the steps with one more
@@ -182,197 +175,113 @@ steps_more i side key path red row other some steps within =
     (steps_kept i.steps i.depth i.depth step path (omega arith) steps) in
     (omega arith, last, kept)
 
-left_by : (i : Inside) (now : Zipper) (hand : Keyed) (path : List Level) (blanks : List ℕ) (key : ℕ)
-    (n : Node) → Held i now hand path blanks → i.tree ≡ suc key → get i.nodes key ≡ Some n →
-    i.depth < 64 → i.depth < length i.steps → LeftOpened i now n
-left_by i now nil path blanks key n h some found room within = let e = h.tree_link in
-    absurd (omega arith)
-left_by i now (keyed red l k x r) path blanks key n h some found room within =
-    let same : k ≡ key = let e = h.tree_link in omega arith in
+opened_at : (i : Inside) (now : Zipper) (side : Side) (red : Bool) (t : Keyed) (key : ℕ) (x : Record)
+    (other : Keyed) (path : List Level) (blanks : List ℕ) (n : Node) →
+    Held i now (joined_keyed side red t key x other) path blanks → i.tree ≡ suc key →
+    get i.nodes key ≡ Some n → i.depth < 64 → i.depth < length i.steps → HasOpened i now side n
+opened_at i now side red t key x other path blanks n h some found room within =
     let p = h.place in
-    let here = p.hand_linked.0 in let there = ap (get i.nodes) same in
-    let node : node_of red l x r ≡ n = cc in
-    let a : Level = record { side = Left; red = red; key = k; row = x; other = r } in
-    let j : Inside = with_step i Left n.left in
+    let parts = parted i.nodes side red t key x other p.hand_linked in
+    let here = parts.here in
+    let node : sided_node side red x (link_of t) (link_of other) ≡ n = cc in
+    let read = read-sided side red x (link_of t) (link_of other) n node in
+    let a : Level = record { side = side; red = red; key = key; row = x; other = other } in
+    let j : Inside = with_step i side (child_at side n) in
     let new : Zipper =
-    record { tree = plain l; path = plain_level a ∷ plain_path path; room = i.room } in
-    let m : Moved j new = shut j new l (a ∷ path) blanks (record {
+    record { tree = plain t; path = plain_level a ∷ plain_path path; room = i.room } in
+    let m : Moved j new = shut j new t (a ∷ path) blanks (record {
       place = record {
-        hand_linked = p.hand_linked.1;
-        path_linked = (p.hand_linked.0, p.hand_linked.2, p.path_linked);
+        hand_linked = parts.near;
+        path_linked = (
+          parts.here,
+          parts.far,
+          subst (λ (l : ℕ). IsPath i.nodes l path) (link-joined side red t key x other)
+              p.path_linked,
+        );
         chained = p.chained;
-        apart = λ e. (let all = p.apart e in omega arith);
-        counted = omega (arith, p.counted);
+        apart = λ e. (let all = p.apart e in
+            let here = uses-joined e side red t key x other in omega arith);
+        counted = omega (arith, p.counted, size-joined side red t key x other);
         fits = p.fits;
         small = p.small;
       };
-      tree_link = sym (ap (λ (z : Node). z.left) node);
-      path_steps = steps_more i Left k path red x r h.tree_link h.path_steps within;
+      tree_link = sym (ap (child_at side) node)
+          ∙ child-sided side red x (link_of t) (link_of other);
+      path_steps = steps_more i side key path red x other some h.path_steps within;
       blank_link = h.blank_link;
       room_is = h.room_is;
       few = omega arith;
       shows = refl;
     }) in
-    let e : now.tree ≡ branch n.red (plain l) x (plain r) =
-    ap (λ (z : Zipper). z.tree) h.shows
-    ∙ ap (λ (z : Node). branch z.red (plain l) x (plain r)) node in
-    let heavy = ap weight e in
+    let e : now.tree ≡ sided side n.red (plain t) x (plain other) =
+    ap (λ (z : Zipper). z.tree) h.shows ∙ plain-joined side red t key x other
+    ∙ ap (λ (v : Bool). sided side v (plain t) x (plain other)) read.0 in
+    let heavy = ap weight e ∙ weight-sided side n.red (plain t) x (plain other) in
     let light = ap (λ (z : Zipper). weight z.tree) m.shows in
+    let up : Bool → Above = λ v. record { side = side; red = v; row = x; other = plain other } in
     record {
       is = m.is;
       opens = record {
         row = x;
-        right = plain r;
-        node = sym (ap (λ (z : Node). z.node) node);
-        was = e ∙ sym (ap (λ (z : Zipper). branch n.red z.tree x (plain r)) m.shows);
+        other = plain other;
+        node = sym (ap (λ (z : Record). z.node) read.1);
+        was = e ∙ sym (ap (λ (z : Zipper). sided side n.red z.tree x (plain other)) m.shows);
         path = ap (λ (z : Zipper). z.path) m.shows
-            ∙ ap (λ (z : Node). record {
-              side = Left;
-              red = z.red;
-              row = x;
-              other =
-                  plain r;
-            } ∷ plain_path path) node
-            ∙ sym (ap (λ (z : Zipper). record {
-              side = Left;
-              red = n.red;
-              row = x;
-              other =
-                  plain r;
-            } ∷ z.path) h.shows);
+            ∙ ap (λ (v : Bool). up v ∷ plain_path path) read.0
+            ∙ sym (ap (λ (z : Zipper). up n.red ∷ z.path) h.shows);
         room = ap (λ (z : Zipper). z.room) m.shows ∙ sym (ap (λ (z : Zipper). z.room) h.shows);
         less = omega arith;
       };
-      row_is = ap (λ (z : Node). record_of z) node;
+      row_is = read.1;
     }
 
-pub left_opened : (i : Inside) (now : Zipper) (key : ℕ) (n : Node) → Is i → show i ≡ now →
-    i.tree ≡ suc key → get i.nodes key ≡ Some n → i.depth < 64 → i.depth < length i.steps →
-    LeftOpened i now n
-left_opened i now key n f is some found room within =
-    left_by i now f.hand f.path f.blanks key n (held i now f is) some found room within
+-- the tree in hand seen from a side
+pub record HeldOn (i : Inside) (now : Zipper) (side : Side) (key : ℕ) (path : List Level)
+    (blanks : List ℕ) : Type 0 where
+  pub red : Bool
+  pub near : Keyed
+  pub row : Record
+  pub far : Keyed
+  pub held : Held i now (joined_keyed side red near key row far) path blanks
 
--- going down to the right
-pub record RightOpened (i : Inside) (now : Zipper) (n : Node) : Type 0 where
-  pub is : Is (with_step i Right n.right)
-  pub opens : OpensRight now (show (with_step i Right n.right))
-      (record { red = n.red; node = n.node })
-  pub row_is : opens.row ≡ record_of n
-
-right_by : (i : Inside) (now : Zipper) (hand : Keyed) (path : List Level) (blanks : List ℕ)
-    (key : ℕ) (n : Node) → Held i now hand path blanks → i.tree ≡ suc key →
-    get i.nodes key ≡ Some n → i.depth < 64 → i.depth < length i.steps → RightOpened i now n
-right_by i now nil path blanks key n h some found room within = let e = h.tree_link in
-    absurd (omega arith)
-right_by i now (keyed red l k x r) path blanks key n h some found room within =
-    let same : k ≡ key = let e = h.tree_link in omega arith in
-    let p = h.place in
-    let here = p.hand_linked.0 in let there = ap (get i.nodes) same in
-    let node : node_of red l x r ≡ n = cc in
-    let a : Level = record { side = Right; red = red; key = k; row = x; other = l } in
-    let j : Inside = with_step i Right n.right in
-    let new : Zipper =
-    record { tree = plain r; path = plain_level a ∷ plain_path path; room = i.room } in
-    let m : Moved j new = shut j new r (a ∷ path) blanks (record {
-      place = record {
-        hand_linked = p.hand_linked.2;
-        path_linked = (p.hand_linked.0, p.hand_linked.1, p.path_linked);
-        chained = p.chained;
-        apart = λ e. (let all = p.apart e in omega arith);
-        counted = omega (arith, p.counted);
-        fits = p.fits;
-        small = p.small;
-      };
-      tree_link = sym (ap (λ (z : Node). z.right) node);
-      path_steps = steps_more i Right k path red x l h.tree_link h.path_steps within;
-      blank_link = h.blank_link;
-      room_is = h.room_is;
-      few = omega arith;
-      shows = refl;
-    }) in
-    let e : now.tree ≡ branch n.red (plain l) x (plain r) =
-    ap (λ (z : Zipper). z.tree) h.shows
-    ∙ ap (λ (z : Node). branch z.red (plain l) x (plain r)) node in
-    let heavy = ap weight e in
-    let light = ap (λ (z : Zipper). weight z.tree) m.shows in
+pub held_on : (i : Inside) (now : Zipper) (side : Side) (key : ℕ) (f : Is i) → show i ≡ now →
+    i.tree ≡ suc key → HeldOn i now side key f.path f.blanks
+held_on i now side key f is some =
+    let v = seen side key f.hand (sym f.tree_link ∙ some) in
     record {
-      is = m.is;
-      opens = record {
-        row = x;
-        left = plain l;
-        node = sym (ap (λ (z : Node). z.node) node);
-        was = e ∙ sym (ap (λ (z : Zipper). branch n.red (plain l) x z.tree) m.shows);
-        path = ap (λ (z : Zipper). z.path) m.shows
-            ∙ ap (λ (z : Node). record {
-              side = Right;
-              red = z.red;
-              row = x;
-              other =
-                  plain l;
-            } ∷ plain_path path) node
-            ∙ sym (ap (λ (z : Zipper). record {
-              side = Right;
-              red = n.red;
-              row = x;
-              other =
-                  plain l;
-            } ∷ z.path) h.shows);
-        room = ap (λ (z : Zipper). z.room) m.shows ∙ sym (ap (λ (z : Zipper). z.room) h.shows);
-        less = omega arith;
-      };
-      row_is = ap (λ (z : Node). record_of z) node;
+      red = v.red;
+      near = v.near;
+      row = v.row;
+      far = v.far;
+      held = subst (λ (t : Keyed). Held i now t f.path f.blanks) v.is (held i now f is);
     }
 
-pub right_opened : (i : Inside) (now : Zipper) (key : ℕ) (n : Node) → Is i → show i ≡ now →
-    i.tree ≡ suc key → get i.nodes key ≡ Some n → i.depth < 64 → i.depth < length i.steps →
-    RightOpened i now n
-right_opened i now key n f is some found room within =
-    right_by i now f.hand f.path f.blanks key n (held i now f is) some found room within
+pub opened : (i : Inside) (now : Zipper) (side : Side) (key : ℕ) (n : Node) → Is i →
+    show i ≡ now → i.tree ≡ suc key → get i.nodes key ≡ Some n → i.depth < 64 →
+    i.depth < length i.steps → HasOpened i now side n
+opened i now side key n f is some found room within =
+    let v = held_on i now side key f is some in
+    opened_at i now side v.red v.near key v.row v.far f.path f.blanks n v.held some found room
+    within
 
 -- going up with nothing written
-abbrev pub joined_keyed : Side → Bool → Keyed → ℕ → Record → Keyed → Keyed
-joined_keyed Left red t k x other = keyed red t k x other
-joined_keyed Right red t k x other = keyed red other k x t
-
 abbrev pub back : Level → Keyed → Keyed
 back a t = joined_keyed a.side a.red t a.key a.row a.other
 
-plain-back : (side : Side) (red : Bool) (t : Keyed) (k : ℕ) (x : Record) (other : Keyed) →
-    plain (joined_keyed side red t k x other) ≡ sided side red (plain t) x (plain other)
-plain-back Left red t k x other = refl
-plain-back Right red t k x other = refl
-
-link-back : (side : Side) (red : Bool) (t : Keyed) (k : ℕ) (x : Record) (other : Keyed) →
-    link_of (joined_keyed side red t k x other) ≡ suc k
-link-back Left red t k x other = refl
-link-back Right red t k x other = refl
-
-place_by : (s : Slab Node) (hand : Keyed) (side : Side) (red : Bool) (k : ℕ) (x : Record)
-    (other : Keyed) (path : List Level) (blanks : List ℕ) →
-    IsPlace s hand (record { side = side; red = red; key = k; row = x; other = other } ∷ path)
-    blanks → IsPlace s (joined_keyed side red hand k x other) path blanks
-place_by s hand Left red k x other path blanks p = record {
-  hand_linked = (p.path_linked.0, p.hand_linked, p.path_linked.1);
-  path_linked = p.path_linked.2;
-  chained = p.chained;
-  apart = λ e. (let all = p.apart e in omega arith);
-  counted = omega (arith, p.counted);
-  fits = p.fits;
-  small = p.small;
-}
-place_by s hand Right red k x other path blanks p = record {
-  hand_linked = (p.path_linked.0, p.path_linked.1, p.hand_linked);
-  path_linked = p.path_linked.2;
-  chained = p.chained;
-  apart = λ e. (let all = p.apart e in omega arith);
-  counted = omega (arith, p.counted);
-  fits = p.fits;
-  small = p.small;
-}
-
 pub place_back : (s : Slab Node) (hand : Keyed) (a : Level) (path : List Level) (blanks : List ℕ) →
     IsPlace s hand (a ∷ path) blanks → IsPlace s (back a hand) path blanks
-place_back s hand a path blanks p = place_by s hand a.side a.red a.key a.row a.other path blanks p
+place_back s hand a path blanks p = record {
+  hand_linked = linked-joined s a.side a.red hand a.key a.row a.other
+      (record { here = p.path_linked.0; near = p.hand_linked; far = p.path_linked.1 });
+  path_linked = subst (λ (l : ℕ). IsPath s l path)
+      (sym (link-joined a.side a.red hand a.key a.row a.other)) p.path_linked.2;
+  chained = p.chained;
+  apart = λ e. (let all = p.apart e in
+      let here = uses-joined e a.side a.red hand a.key a.row a.other in omega arith);
+  counted = omega (arith, p.counted, size-joined a.side a.red hand a.key a.row a.other);
+  fits = p.fits;
+  small = p.small;
+}
 
 -- one step up, with nothing written
 abbrev pub without_step : Inside → ℕ → Inside
@@ -385,7 +294,7 @@ pub gone_back : (i : Inside) (now : Zipper) (hand : Keyed) (a : Level) (path : L
     path blanks
 gone_back i now hand a path blanks link h e = record {
   place = place_back i.nodes hand a path blanks h.place;
-  tree_link = e ∙ sym (link-back a.side a.red hand a.key a.row a.other);
+  tree_link = e ∙ sym (link-joined a.side a.red hand a.key a.row a.other);
   path_steps = let d : length path ≡ i.depth - 1 = omega (arith, h.path_steps.0) in
       subst (λ (e : ℕ). AreSteps i.steps e path) d h.path_steps.2;
   blank_link = h.blank_link;

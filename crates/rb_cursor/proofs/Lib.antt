@@ -1,4 +1,5 @@
 pub mod KeyedLemmas
+pub mod SideLemmas
 pub mod HeldLemmas
 pub mod ChangeLemmas
 pub mod ReadLemmas

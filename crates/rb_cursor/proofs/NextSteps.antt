@@ -15,7 +15,8 @@ use Rattle.rb_cursor.specs.Closing.{closed}
 use Rattle.rb_cursor.specs.declared.readings.Fork.{Fork}
 use Rattle.rb_cursor.specs.Keyed.{record_of}
 use Rattle.rb_cursor.specs.Readings.{IsForked}
-use Rattle.rb_cursor.specs.Opening.{OpensRight}
+use Rattle.rb_trees.specs.declared.Side.TheVariants.{Right}
+use Rattle.rb_cursor.specs.Opening.{Opens}
 use Rattle.rb_cursor.specs.Tops.{is_fork, row_of, with_row}
 
 first_is : (k : Bool) (a : Branches) (x : Record) (b : Branches) (next : Record)
@@ -49,11 +50,11 @@ with_row_at x z = record z { tree = with_row x z.tree }
 abbrev pub placed : Branches → List Above → ℕ → Zipper
 placed t path room = record { tree = t; path = path; room = room }
 
-module _ {old opened : Zipper} {top : Top} (is : OpensRight old opened top)
+module _ {old opened : Zipper} {top : Top} (is : Opens Right old opened top)
     (fork : is_fork opened.tree ≡ true) {next : Record} (first : row_of (first_place opened.tree) ≡ Some next) where
   -- the place with the next record, and what is left of the right subtree
   abbrev pub replaced : Branches
-  replaced = branch top.red is.left next (without_first opened.tree).tree
+  replaced = branch top.red is.other next (without_first opened.tree).tree
 
   pub next_placed : {taken : Zipper} → taken ≡ record opened { tree = (without_first opened.tree).tree; room = opened.room + 1 }
       → {red : Bool} → red ≡ top.red → {up : Zipper} → up ≡ closed red taken.tree taken.path taken.room
@@ -65,28 +66,28 @@ module _ {old opened : Zipper} {top : Top} (is : OpensRight old opened top)
       (closes
       ∙ ap (λ y. closed red y.tree y.path y.room) takes
       ∙ ap (λ p. closed red t p (opened.room + 1)) is.path
-      ∙ ap (λ v. placed (branch v is.left is.row t) old.path (opened.room + 1)) reds)
+      ∙ ap (λ v. placed (branch v is.other is.row t) old.path (opened.room + 1)) reds)
       ∙ ap (λ n. placed replaced old.path (n + 1)) is.room
 
   pub next_rest : right_if (without_first opened.tree).short replaced ≡ top_erased old.tree
-  next_rest = sym (ap top_erased is.was ∙ next_erased top.red is.left is.row opened.tree next fork first)
+  next_rest = sym (ap top_erased is.was ∙ next_erased top.red is.other is.row opened.tree next fork first)
 
-  pub next_links : (copy : ℕ) {lower upper : Store} → lower ≡ set_left copy next.node (link (shape is.left))
+  pub next_links : (copy : ℕ) {lower upper : Store} → lower ≡ set_left copy next.node (link (shape is.other))
       → upper ≡ set_right copy next.node (link (shape (without_first opened.tree).tree))
       → {short : Bool} → short ≡ (without_first opened.tree).short → {t : Branches} → t ≡ replaced
       → (first_links copy opened.tree ++ lower ∷ upper ∷ []) ++ right_fill_if copy short t ≡ top_erase copy old.tree
   next_links copy {lower = lower} {upper = upper} lefts rights {short = short} shorts {t = t} trees =
       ap (λ z. (first_links copy opened.tree ++ z ∷ upper ∷ []) ++ right_fill_if copy short t) lefts
-      ∙ ap (λ z. (first_links copy opened.tree ++ set_left copy next.node (link (shape is.left)) ∷ z ∷ []) ++ right_fill_if copy short t) rights
-      ∙ ap (λ v. (first_links copy opened.tree ++ set_left copy next.node (link (shape is.left)) ∷ set_right copy next.node (link (shape (without_first opened.tree).tree)) ∷ []) ++ right_fill_if copy v t) shorts
-      ∙ ap (λ v. (first_links copy opened.tree ++ set_left copy next.node (link (shape is.left)) ∷ set_right copy next.node (link (shape (without_first opened.tree).tree)) ∷ []) ++ right_fill_if copy (without_first opened.tree).short v) trees
-      ∙ sym (ap (top_erase copy) is.was ∙ next_stores copy top.red is.left is.row opened.tree next fork first)
+      ∙ ap (λ z. (first_links copy opened.tree ++ set_left copy next.node (link (shape is.other)) ∷ z ∷ []) ++ right_fill_if copy short t) rights
+      ∙ ap (λ v. (first_links copy opened.tree ++ set_left copy next.node (link (shape is.other)) ∷ set_right copy next.node (link (shape (without_first opened.tree).tree)) ∷ []) ++ right_fill_if copy v t) shorts
+      ∙ ap (λ v. (first_links copy opened.tree ++ set_left copy next.node (link (shape is.other)) ∷ set_right copy next.node (link (shape (without_first opened.tree).tree)) ∷ []) ++ right_fill_if copy (without_first opened.tree).short v) trees
+      ∙ sym (ap (top_erase copy) is.was ∙ next_stores copy top.red is.other is.row opened.tree next fork first)
 
 -- a node read and opened is the same node
-pub same_fork : {old opened : Zipper} {top : Top} {f : Fork} → IsForked old.tree f → (is : OpensRight old opened top)
-    → (f.node.now.red ≡ top.red) × (f.left ≡ is.left) × (f.right ≡ opened.tree)
+pub same_fork : {old opened : Zipper} {top : Top} {f : Fork} → IsForked old.tree f → (is : Opens Right old opened top)
+    → (f.node.now.red ≡ top.red) × (f.left ≡ is.other) × (f.right ≡ opened.tree)
 same_fork {opened = opened} {top = top} {f = f} g is =
-    let e : branch f.node.now.red f.left (record_of f.node.now) f.right ≡ branch top.red is.left is.row opened.tree = sym g.was ∙ is.was in
+    let e : branch f.node.now.red f.left (record_of f.node.now) f.right ≡ branch top.red is.other is.row opened.tree = sym g.was ∙ is.was in
     (cc, cc, cc)
 
 pub fork_there : (t : Branches) → false ≡ not (is_fork t) → is_fork t ≡ true

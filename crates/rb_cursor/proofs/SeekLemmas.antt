@@ -18,15 +18,15 @@ use Rattle.rb_trees.specs.Paths.{Above}
 use Rattle.rb_cursor.specs.Zippers.{Zipper}
 use Rattle.rb_cursor.specs.Opening.{weight}
 use Rattle.rb_cursor.specs.Keyed.{record_of}
-use Rattle.rb_cursor.specs.Children.{child_at, side_by}
+use Rattle.rb_cursor.specs.Sides.{child_at, side_by}
 use Rattle.order_laws.specs.declared.items.Item.{Item}
 use Rattle.rb_trees.specs.Paths.{past_left, past_right, way_by, place_at, place_from, way_at}
-use Rattle.rb_trees.specs.Paths.{way_from, plugged}
+use Rattle.rb_trees.specs.Paths.{way_from, plugged, sided}
 use Rattle.rb_trees.specs.Found.{met}
 use Rattle.order_laws.specs.Orders.{Order}
 use Rattle.rb_cursor.proofs.ChangeLemmas.{rewrites}
 use Rattle.rb_cursor.proofs.HeldLemmas.{same_value, written_back}
-use Rattle.rb_cursor.proofs.HeldLemmas.{Is, show, with_step, depth_is, left_opened, right_opened}
+use Rattle.rb_cursor.proofs.HeldLemmas.{Is, show, with_step, depth_is, opened}
 use Rattle.rb_cursor.proofs.HeldLemmas.{none_there}
 
 -- the fields lead by W where this zipper leads
@@ -64,68 +64,44 @@ step_fits W i start key n s some found =
     step_fits_by i.depth (show i) (depth_is i (show i) s.is refl) r.left n.red (record_of n) r.right
     r.was s.fits
 
-pub record WentLeft {X : Type 0} (W : Branches → List Above →
-    X) (i : Inside) (start : Zipper) (n : Node) : Type 0 where
-  pub sought : Sought W (with_step i Left n.left) start
-  pub less : weight (show (with_step i Left n.left)).tree < weight (show i).tree
+pub record Steps {X : Type 0} (W : Branches → List Above → X) (i now : Inside) (start : Zipper) :
+    Type 0 where
+  pub sought : Sought W now start
+  pub less : weight (show now).tree < weight (show i).tree
 
-pub goes_left : {X : Type 0} (W : Branches → List Above →
-    X) (i : Inside) (start : Zipper) (key : ℕ) (n : Node) → Sought W i start → i.tree ≡ suc key →
-    get i.nodes key ≡ Some n → i.depth < 64 →
-    ((red : Bool) (l r : Branches) (p : List Above) →
-    W (branch red l (record_of n) r) p ≡ W l (past_left red (record_of n) r ∷ p)) →
-    WentLeft W i start n
-goes_left W i start key n s some found few turn =
-    let o = left_opened i (show i) key n s.is refl some found few (omega (arith, s.long)) in
-    let j : Inside = with_step i Left n.left in
+depth_sided : (side : Side) (red : Bool) (t : Branches) (x : Record) (other : Branches) →
+    depth (shape t) < depth (shape (sided side red t x other))
+depth_sided Left red t x other = omega arith
+depth_sided Right red t x other = omega arith
+
+-- a step down on the side on which the way goes on
+goes : {X : Type 0} (W : Branches → List Above → X) (i : Inside) (start : Zipper) (key : ℕ)
+    (n : Node) (side : Side) → Sought W i start → i.tree ≡ suc key → get i.nodes key ≡ Some n →
+    i.depth < 64 →
+    ((red : Bool) (t other : Branches) (p : List Above) → W (sided side red t (record_of n) other) p
+    ≡ W t (record { side = side; red = red; row = record_of n; other = other } ∷ p)) →
+    Steps W i (with_step i side (child_at side n)) start
+goes W i start key n side s some found few turn =
+    let o = opened i (show i) side key n s.is refl some found few (omega (arith, s.long)) in
+    let j : Inside = with_step i side (child_at side n) in
     let p = (show i).path in
     let t = (show j).tree in
+    let other = o.opens.other in
     let deep = ap (λ (z : Branches). depth (shape z)) o.opens.was in
+    let deeper = depth_sided side n.red t o.opens.row other in
     let long = ap (λ (z : List Above). length z) o.opens.path in
     record {
       sought = record {
         is = o.is;
         way = ap (W t) o.opens.path
-            ∙ ap (λ (y : Record). W t (past_left n.red y o.opens.right ∷ p)) o.row_is
-            ∙ sym (turn n.red t o.opens.right p)
-            ∙ sym (ap (λ (y : Record). W (branch n.red t y o.opens.right) p) o.row_is)
+            ∙ ap (λ (y : Record). W t (record { side = side; red = n.red; row = y; other = other }
+            ∷ p)) o.row_is
+            ∙ sym (turn n.red t other p)
+            ∙ sym (ap (λ (y : Record). W (sided side n.red t y other) p) o.row_is)
             ∙ sym (ap (λ (z : Branches). W z p) o.opens.was) ∙ s.way;
         fits = (let a = s.fits in omega arith);
         room = o.opens.room ∙ s.room;
-        long = length-set i.steps i.depth (record { link = i.tree; side = Left }) ∙ s.long;
-      };
-      less = o.opens.less;
-    }
-
-pub record WentRight {X : Type 0} (W : Branches → List Above →
-    X) (i : Inside) (start : Zipper) (n : Node) : Type 0 where
-  pub sought : Sought W (with_step i Right n.right) start
-  pub less : weight (show (with_step i Right n.right)).tree < weight (show i).tree
-
-pub goes_right : {X : Type 0} (W : Branches → List Above →
-    X) (i : Inside) (start : Zipper) (key : ℕ) (n : Node) → Sought W i start → i.tree ≡ suc key →
-    get i.nodes key ≡ Some n → i.depth < 64 →
-    ((red : Bool) (l r : Branches) (p : List Above) →
-    W (branch red l (record_of n) r) p ≡ W r (past_right red l (record_of n) ∷ p)) →
-    WentRight W i start n
-goes_right W i start key n s some found few turn =
-    let o = right_opened i (show i) key n s.is refl some found few (omega (arith, s.long)) in
-    let j : Inside = with_step i Right n.right in
-    let p = (show i).path in
-    let t = (show j).tree in
-    let deep = ap (λ (z : Branches). depth (shape z)) o.opens.was in
-    let long = ap (λ (z : List Above). length z) o.opens.path in
-    record {
-      sought = record {
-        is = o.is;
-        way = ap (W t) o.opens.path
-            ∙ ap (λ (y : Record). W t (past_right n.red o.opens.left y ∷ p)) o.row_is
-            ∙ sym (turn n.red o.opens.left t p)
-            ∙ sym (ap (λ (y : Record). W (branch n.red o.opens.left y t) p) o.row_is)
-            ∙ sym (ap (λ (z : Branches). W z p) o.opens.was) ∙ s.way;
-        fits = (let a = s.fits in omega arith);
-        room = o.opens.room ∙ s.room;
-        long = length-set i.steps i.depth (record { link = i.tree; side = Right }) ∙ s.long;
+        long = length-set i.steps i.depth (record { link = i.tree; side = side }) ∙ s.long;
       };
       less = o.opens.less;
     }
@@ -223,11 +199,6 @@ pub record Went {X : Type 0} (W : Branches → List Above → X) (i : Inside) (s
   pub less : weight (show (record (with_step (written_back i key n) side link) { steps = steps })).tree
       < weight (show i).tree
 
-record Steps {X : Type 0} (W : Branches → List Above → X) (i now : Inside) (start : Zipper) :
-    Type 0 where
-  pub sought : Sought W now start
-  pub less : weight (show now).tree < weight (show i).tree
-
 went : {X : Type 0} (W : Branches → List Above → X) (i : Inside) (start : Zipper) (key : ℕ)
     (n : Node) (left : Bool) (side : Side) (link : ℕ) (steps : List Step) →
     get i.nodes key ≡ Some n → side ≡ side_by left → link ≡ child_at side n →
@@ -251,13 +222,10 @@ item_by : (less : Item → Item → Bool) (x : Item) (i : Inside) (start : Zippe
     get i.nodes key ≡ Some n → i.depth < 64 → left ≡ less x n.item →
     Steps (way_by less x) i (with_step i (side_by left) (child_at (side_by left) n)) start
 item_by less x i start key n true s some found few test =
-    let turn = way_left less x n (sym test) in
-    let g = goes_left (way_by less x) i start key n s some found few turn in
-    record { sought = g.sought; less = g.less }
+    goes (way_by less x) i start key n Left s some found few (way_left less x n (sym test))
 item_by less x i start key n false s some found few test =
-    let turn = way_right less x n (sym test) in
-    let g = goes_right (way_by less x) i start key n s some found few turn in
-    record { sought = g.sought; less = g.less }
+    goes (way_by less x) i start key n Right s some found few
+    (λ red t other. way_right less x n (sym test) red other t)
 
 pub item_goes : (less : Item → Item → Bool) (x : Item) (i : Inside) (start : Zipper) (key : ℕ)
     (n : Node) (left : Bool) (side : Side) (link : ℕ) (steps : List Step) → Sought (way_by less x) i start →
@@ -291,13 +259,12 @@ seen_by : (seen : Record → Ordering) (i : Inside) (start : Zipper) (key : ℕ)
     left ≡ is_lt (seen (record_of n)) →
     Steps (seen_way seen) i (with_step i (side_by left) (child_at (side_by left) n)) start
 seen_by seen i start key n true s some found few other test =
-    let turn = seen_left seen n (is_before (seen (record_of n)) other (sym test)) in
-    let g = goes_left (seen_way seen) i start key n s some found few turn in
-    record { sought = g.sought; less = g.less }
+    goes (seen_way seen) i start key n Left s some found few
+    (seen_left seen n (is_before (seen (record_of n)) other (sym test)))
 seen_by seen i start key n false s some found few other test =
-    let turn = seen_right seen n (is_behind (seen (record_of n)) other (sym test)) in
-    let g = goes_right (seen_way seen) i start key n s some found few turn in
-    record { sought = g.sought; less = g.less }
+    let more = is_behind (seen (record_of n)) other (sym test) in
+    goes (seen_way seen) i start key n Right s some found few
+    (λ red t beyond. seen_right seen n more red beyond t)
 
 pub seen_goes : (seen : Record → Ordering) (i : Inside) (start : Zipper) (key : ℕ) (n : Node)
     (left : Bool) (side : Side) (link : ℕ) (steps : List Step) → Sought (seen_way seen) i start → i.tree ≡ suc key →
@@ -336,13 +303,10 @@ module _ {K : Type 0} (o : Order K) (x : Item) where
       i.depth < 64 → o.apart n.item x ≡ true → left ≡ o.less x n.item →
       Steps (apart_way o x) i (with_step i (side_by left) (child_at (side_by left) n)) start
   apart_by i start key n true s some found few apart test =
-      let turn = apart_left n apart (sym test) in
-      let g = goes_left (apart_way o x) i start key n s some found few turn in
-      record { sought = g.sought; less = g.less }
+      goes (apart_way o x) i start key n Left s some found few (apart_left n apart (sym test))
   apart_by i start key n false s some found few apart test =
-      let turn = apart_right n apart (sym test) in
-      let g = goes_right (apart_way o x) i start key n s some found few turn in
-      record { sought = g.sought; less = g.less }
+      goes (apart_way o x) i start key n Right s some found few
+      (λ red t other. apart_right n apart (sym test) red other t)
 
   pub apart_goes : (i : Inside) (start : Zipper) (key : ℕ) (n : Node) (left : Bool) (side : Side)
       (link : ℕ) (steps : List Step) → Sought (apart_way o x) i start → i.tree ≡ suc key →

@@ -7,24 +7,26 @@ use Rattle.slab.specs.Slab.{Slab, get, slab_len, with_value}
 use Rattle.slab.proofs.SlabLemmas.{Updates-with_value}
 use Rattle.rb_trees.specs.declared.Record.{Record}
 use Rattle.rb_trees.specs.Trees.{Branches, tip}
-use Rattle.rb_trees.specs.Turns.{turned_right, turned_left}
 use Rattle.rb_cursor.specs.declared.nodes.Node.{Node}
 use Rattle.rb_cursor.specs.declared.nodes.Step.{Step}
 use Rattle.rb_trees.specs.declared.Side.{Side}
-use Rattle.rb_trees.specs.declared.Side.TheVariants.{Left, Right}
 use Rattle.rb_cursor.specs.declared.cursors.Cursor.TheInside.{Inside}
 use Rattle.rb_cursor.specs.Zippers.{Zipper}
-use Rattle.rb_cursor.specs.Keyed.{Keyed, nil, keyed, Level, link_of}
+use Rattle.rb_cursor.specs.Keyed.{Keyed, nil, Level, link_of}
 use Rattle.rb_cursor.specs.Keyed.{size, path_size, at_key, uses, path_uses, list_uses}
-use Rattle.rb_cursor.specs.Keyed.{node_with, node_of, sided_node, IsLinked, IsPath}
-use Rattle.rb_cursor.specs.Keyed.{IsChain}
-use Rattle.rb_cursor.specs.Writes.{with_link, led_by, led_at, step_at, LeadsOn}
+use Rattle.rb_cursor.specs.Keyed.{sided_node, plain, plain_path, IsLinked, IsPath, IsChain}
+use Rattle.rb_cursor.specs.Sides.{opposite, child_at, with_link, turned}
+use Rattle.rb_cursor.specs.Writes.{led_by, led_at, step_at, LeadsOn}
 use Rattle.rb_cursor.specs.Writes.{led}
 use Rattle.rb_cursor.specs.Places.{IsPlace, AreSteps}
 use Rattle.rb_cursor.proofs.KeyedLemmas.{at_same, linked_kept}
 use Rattle.rb_cursor.proofs.KeyedLemmas.{chain_kept, linked_beside, path_beside, chain_beside}
 use Rattle.rb_cursor.proofs.KeyedLemmas.{same_len}
-use Rattle.rb_cursor.proofs.HeldLemmas.{Is, show, Held, Moved, held, shut}
+use Rattle.rb_cursor.proofs.SideLemmas.{joined_keyed, seen, nothing, parted, linked-joined}
+use Rattle.rb_cursor.proofs.SideLemmas.{link-joined, uses-joined, size-joined, child-sided}
+use Rattle.rb_cursor.proofs.SideLemmas.{relinked, coloured-sided}
+use Rattle.rb_cursor.proofs.SideLemmas.{plain-turned, plain-lone, tip-turned}
+use Rattle.rb_cursor.proofs.HeldLemmas.{Is, show, Held, Moved, shut, held_on}
 
 -- all but the link that leads to the tree in hand, which leads elsewhere
 pub record IsLoose (s : Slab Node) (hand : Keyed) (link : ℕ) (path : List Level) (blanks : List ℕ) :
@@ -43,11 +45,6 @@ record Leads (s u : Slab Node) (path : List Level) (link : ℕ) : Type 0 where
   pub len : slab_len u ≡ slab_len s
   pub capacity : u.capacity ≡ s.capacity
   pub beside : (k : ℕ) → path_uses k path ≡ 0 → get u k ≡ get s k
-
-relinked : (side : Side) (red : Bool) (row : Record) (link new other : ℕ) →
-    with_link side new (sided_node side red row link other) ≡ sided_node side red row new other
-relinked Left red row link new other = refl
-relinked Right red row link new other = refl
 
 leads : (s u : Slab Node) (steps : List Step) (depth old new : ℕ) (path : List Level) →
     u ≡ led s steps depth new → IsPath s old path → AreSteps steps depth path →
@@ -122,361 +119,184 @@ with_turn i u link = record i { nodes = u; tree = link }
 pub leads_on : (i : Inside) → Is i → LeadsOn i.steps i.depth
 leads_on i f = leads_by i.steps i.depth f.path f.path_steps
 
--- to the right: the nodes as they are written
-abbrev pub below_right : Inside → Bool → Node → Node
-below_right i child_red lower = record lower { right = i.tree; red = child_red }
+-- the two nodes as they are written
+abbrev pub below_turned : Inside → Side → Bool → Node → Node
+below_turned i side child_red lower = record (with_link side i.tree lower) { red = child_red }
 
-abbrev pub above_right : Bool → Node → Node → Node
-above_right node_red lower upper = record upper { left = lower.right; red = node_red }
+abbrev pub above_turned : Side → Bool → Node → Node → Node
+above_turned side node_red lower upper =
+    record (with_link (opposite side) (child_at side lower) upper) { red = node_red }
 
--- what a turn to the right reads, and the slab that it leaves
-pub record TurnsRight (i : Inside) (u : Slab Node) (nk ck : ℕ) (child_red node_red : Bool)
-    (n lower upper : Node) : Type 0 where
+-- what a turn to a side reads and writes, and the slab that it leaves
+pub record TurnsTo (i : Inside) (side : Side) (u : Slab Node) (nk ck link : ℕ)
+    (child_red node_red : Bool) (n lower low upper high : Node) : Type 0 where
   pub tree : i.tree ≡ suc nk
   pub here : get i.nodes nk ≡ Some n
-  pub child : n.left ≡ suc ck
+  pub child : link ≡ child_at (opposite side) n
+  pub some : link ≡ suc ck
   pub there : get i.nodes ck ≡ Some lower
-  pub again : get (with_value i.nodes ck (below_right i child_red lower)) nk ≡ Some upper
-  pub leaves : u ≡ led
-      (with_value (with_value i.nodes ck (below_right i child_red lower)) nk
-      (above_right node_red lower upper)) i.steps i.depth n.left
+  pub low_is : low ≡ below_turned i side child_red lower
+  pub again : get (with_value i.nodes ck low) nk ≡ Some upper
+  pub high_is : high ≡ above_turned side node_red lower upper
+  pub leaves : u ≡ led (with_value (with_value i.nodes ck low) nk high) i.steps i.depth link
 
 -- what it shows then
-abbrev pub right_turned : Zipper → Bool → Bool → Zipper
-right_turned now child_red node_red = record now { tree = turned_right child_red node_red now.tree }
+abbrev pub turned_to : Zipper → Side → Bool → Bool → Zipper
+turned_to now side child_red node_red = record now { tree = turned side child_red node_red now.tree }
 
-turn_right_at : (i : Inside) (u : Slab Node) (now : Zipper) (hue red : Bool) (a b other : Keyed)
-    (x y : Record) (path : List Level) (blanks : List ℕ) (nk ck : ℕ) (child_red node_red : Bool)
-    (n lower upper : Node) → TurnsRight i u nk ck child_red node_red n lower upper →
-    Held i now (keyed red (keyed hue a ck x b) nk y other) path blanks →
-    node_with red y (suc ck) (link_of other) ≡ n →
-    Moved (with_turn i u n.left) (right_turned now child_red node_red)
-turn_right_at i u now hue red a b other x y path blanks nk ck child_red node_red n lower upper t h
-    node =
-    let found = t.there in
+turn_at : (i : Inside) (side : Side) (u : Slab Node) (now : Zipper) (hue red : Bool)
+    (a b other : Keyed) (x y : Record) (path : List Level) (blanks : List ℕ) (nk ck link : ℕ)
+    (child_red node_red : Bool) (n lower low upper high : Node) →
+    TurnsTo i side u nk ck link child_red node_red n lower low upper high →
+    Held i now (joined_keyed (opposite side) red (joined_keyed side hue b ck x a) nk y other)
+    path blanks → Moved (with_turn i u link) (turned_to now side child_red node_red)
+turn_at i side u now hue red a b other x y path blanks nk ck link child_red node_red n lower low
+    upper high t h =
     let p = h.place in
     let s = i.nodes in
-    let low : Node = node_with hue x (link_of a) (link_of b) in
-    let high : Node = node_with red y (suc ck) (link_of other) in
-    let low_is : low ≡ lower = let there = p.hand_linked.1.0 in cc in
-    let new_low : Node = node_with child_red x (link_of a) (suc nk) in
-    let new_high : Node = node_with node_red y (link_of b) (link_of other) in
+    let beyond = opposite side in
+    let inner : Keyed = joined_keyed side hue b ck x a in
+    let outer = parted s beyond red inner nk y other p.hand_linked in
+    let inside = parted s side hue b ck x a outer.near in
+    let old_low : Node = sided_node side hue x (link_of b) (link_of a) in
+    let old_high : Node = sided_node beyond red y (link_of inner) (link_of other) in
+    let new_low : Node = sided_node side child_red x (suc nk) (link_of a) in
+    let new_high : Node = sided_node beyond node_red y (link_of b) (link_of other) in
+    let lower_is : old_low ≡ lower = let here = inside.here in let there = t.there in cc in
+    let low_new : low ≡ new_low =
+    t.low_is ∙ ap (below_turned i side child_red) (sym lower_is)
+    ∙ ap (λ (m : Node). record m { red = child_red })
+    (relinked side hue x (link_of b) i.tree (link_of a))
+    ∙ coloured-sided side hue child_red x i.tree (link_of a)
+    ∙ ap (λ (l : ℕ). sided_node side child_red x l (link_of a)) t.tree in
     let v = with_value s ck new_low in
     let z = with_value v nk new_high in
     let one = at_same nk in
     let two = at_same ck in
     let most = p.apart nk in
     let most' = p.apart ck in
+    let used = uses-joined nk beyond red inner nk y other in
+    let used' = uses-joined ck beyond red inner nk y other in
+    let uses_in = uses-joined nk side hue b ck x a in
+    let uses_in' = uses-joined ck side hue b ck x a in
     let ne : nk ≢ ck = λ same. (let e = ap (λ (j : ℕ). at_key j ck) same in omega arith) in
-    let w = Updates-with_value s ck new_low (rw p.hand_linked.1.0 refl) in
-    let high_there : get v nk ≡ Some high = w.others nk ne ∙ p.hand_linked.0 in
+    let w = Updates-with_value s ck new_low (rw inside.here refl) in
+    let high_there : get v nk ≡ Some old_high = w.others nk ne ∙ outer.here in
+    let again : get v nk ≡ Some upper =
+    ap (λ (m : Node). get (with_value s ck m) nk) (sym low_new) ∙ t.again in
+    let upper_is : old_high ≡ upper = cc in
+    let high_new : high ≡ new_high =
+    t.high_is ∙ ap (λ (m : Node). above_turned side node_red m upper) (sym lower_is)
+    ∙ ap (above_turned side node_red old_low) (sym upper_is)
+    ∙ ap (λ (l : ℕ). record (with_link beyond l old_high) { red = node_red })
+    (child-sided side hue x (link_of b) (link_of a))
+    ∙ ap (λ (m : Node). record m { red = node_red })
+    (relinked beyond red y (link_of inner) (link_of b) (link_of other))
+    ∙ coloured-sided beyond red node_red y (link_of b) (link_of other) in
     let w' = Updates-with_value v nk new_high (rw high_there refl) in
-    let beside : (t : Keyed) → uses ck t ≡ 0 → uses nk t ≡ 0 → IsLinked s t →
-    IsLinked z t =
-    λ t c d g. linked_beside v z nk t w'.others d (linked_beside s v ck t w.others c g) in
-    let len : slab_len z ≡ slab_len s = same_len v nk high new_high high_there
-    ∙ same_len s ck low new_low p.hand_linked.1.0 in
-    let hand : Keyed = keyed child_red a ck x (keyed node_red b nk y other) in
+    let beside : (q : Keyed) → uses ck q ≡ 0 → uses nk q ≡ 0 → IsLinked s q → IsLinked z q =
+    λ q c d g. linked_beside v z nk q w'.others d (linked_beside s v ck q w.others c g) in
+    let len : slab_len z ≡ slab_len s = same_len v nk old_high new_high high_there
+    ∙ same_len s ck old_low new_low inside.here in
+    let sunk : Keyed = joined_keyed beyond node_red b nk y other in
+    let hand : Keyed = joined_keyed side child_red sunk ck x a in
     let loose : IsLoose z hand (suc nk) path blanks = record {
-      hand_linked = (
-        w'.others ck (λ e. ne (sym e))
-            ∙ w.changed,
-        beside a (omega arith) (omega arith) p.hand_linked.1.1,
-        (
-          w'.changed,
-          beside b (omega arith) (omega arith) p.hand_linked.1.2,
-          beside other (omega arith) (omega arith) p.hand_linked.2,
-        ),
-      );
+      hand_linked = linked-joined z side child_red sunk ck x a (record {
+        here = w'.others ck (λ e. ne (sym e)) ∙ w.changed
+            ∙ ap (λ (l : ℕ). Some (sided_node side child_red x l (link_of a)))
+            (sym (link-joined beyond node_red b nk y other));
+        near = linked-joined z beyond node_red b nk y other (record {
+          here = w'.changed;
+          near = beside b (omega arith) (omega arith) inside.near;
+          far = beside other (omega arith) (omega arith) outer.far;
+        });
+        far = beside a (omega arith) (omega arith) inside.far;
+      });
       path_linked =
           path_beside v z nk (suc nk) path w'.others (omega arith)
-          (path_beside s v ck (suc nk) path w.others (omega arith) p.path_linked);
+          (path_beside s v ck (suc nk) path w.others (omega arith)
+          (subst (λ (l : ℕ). IsPath s l path) (link-joined beyond red inner nk y other)
+          p.path_linked));
       chained = chain_beside v z nk blanks w'.others (omega arith)
           (chain_beside s v ck blanks w.others (omega arith) p.chained);
-      apart = λ e. (let all = p.apart e in omega arith);
-      counted = omega (arith, p.counted);
+      apart = λ e. (let all = p.apart e in
+          let before = uses-joined e beyond red inner nk y other in
+          let before' = uses-joined e side hue b ck x a in
+          let after = uses-joined e side child_red sunk ck x a in
+          let after' = uses-joined e beyond node_red b nk y other in omega arith);
+      counted = omega (
+        arith,
+        p.counted,
+        size-joined beyond red inner nk y other,
+        size-joined side hue b ck x a,
+        size-joined side child_red sunk ck x a,
+        size-joined beyond node_red b nk y other,
+      );
       fits = omega (arith, p.fits);
       small = omega (arith, p.small);
     } in
-    let low_new : new_low ≡ below_right i child_red lower =
-    ap (λ (l : ℕ). node_with child_red x (link_of a) l) (sym h.tree_link)
-    ∙ ap (below_right i child_red) low_is in
-    let again : get v nk ≡ Some upper = ap (λ (m : Node). get (with_value s ck m) nk) low_new
-    ∙ t.again in
-    let high_is : high ≡ upper = cc in
-    let high_new : new_high ≡ above_right node_red lower upper =
-    ap (above_right node_red low) high_is
-    ∙ ap (λ (m : Node). above_right node_red m upper) low_is in
-    let child : n.left ≡ suc ck = ap (λ (m : Node). m.left) (sym node) in
-    let nodes : u ≡ led z i.steps i.depth n.left =
+    let nodes : u ≡ led z i.steps i.depth link =
     t.leaves
-    ∙ sym (ap (λ (m : Node). led
-    (with_value (with_value s ck (below_right i child_red lower)) nk m) i.steps i.depth n.left)
-    high_new)
-    ∙ sym (ap (λ (m : Node). led (with_value (with_value s ck m) nk new_high) i.steps i.depth
-    n.left) low_new) in
-    shut (with_turn i u n.left) (right_turned now child_red node_red) hand path blanks (record {
-      place = tightened z u i.steps i.depth (suc nk) n.left hand path blanks nodes child loose
+    ∙ ap (λ (m : Node). led (with_value (with_value s ck m) nk high) i.steps i.depth link) low_new
+    ∙ ap (λ (m : Node). led (with_value v nk m) i.steps i.depth link) high_new in
+    let leads_to : link ≡ link_of hand = t.some ∙ sym (link-joined side child_red sunk ck x a) in
+    shut (with_turn i u link) (turned_to now side child_red node_red) hand path blanks (record {
+      place = tightened z u i.steps i.depth (suc nk) link hand path blanks nodes leads_to loose
           h.path_steps;
-      tree_link = child;
+      tree_link = leads_to;
       path_steps = h.path_steps;
       blank_link = h.blank_link;
       room_is = h.room_is;
       few = h.few;
-      shows = ap (λ (q : Zipper). right_turned q child_red node_red) h.shows;
+      shows = ap (λ (q : Zipper). turned_to q side child_red node_red) h.shows
+          ∙ ap (λ (q : Branches). record { tree = q; path = plain_path path; room = i.room })
+          (plain-turned side hue red child_red node_red a b other ck nk x y);
     })
 
-turn_right_by : (i : Inside) (u : Slab Node) (now : Zipper) (hand : Keyed) (path : List Level)
-    (blanks : List ℕ) (nk ck : ℕ) (child_red node_red : Bool) (n lower upper : Node) →
-    Held i now hand path blanks → TurnsRight i u nk ck child_red node_red n lower upper →
-    Moved (with_turn i u n.left) (right_turned now child_red node_red)
-turn_right_by i u now nil path blanks nk ck child_red node_red n lower upper h t = let e =
-    h.tree_link in let f = t.tree in absurd (omega arith)
-turn_right_by i u now (keyed red nil k y other) path blanks nk ck child_red node_red n lower upper h
-    t =
-    let same : k ≡ nk = let e = h.tree_link in let f = t.tree in omega arith in
-    let there = h.place.hand_linked.0 in
-    let at = ap (get i.nodes) same in
-    let here = t.here in
-    let node : node_of red nil y other ≡ n = cc in
-    let e = ap (λ (m : Node). m.left) node in
-    let f = t.child in
-    absurd (omega arith)
-turn_right_by i u now (keyed red (keyed hue a j x b) k y other) path blanks nk ck child_red node_red
-    n lower upper h t =
-    let same : k ≡ nk = let e = h.tree_link in let f = t.tree in omega arith in
-    let there = h.place.hand_linked.0 in
-    let at = ap (get i.nodes) same in
-    let here = t.here in
-    let node : node_of red (keyed hue a j x b) y other ≡ n = cc in
-    let same' : j ≡ ck = let e = ap (λ (m : Node). m.left) node in let f = t.child in omega arith in
-    let g : Held i now (keyed red (keyed hue a j x b) nk y other) path blanks =
-    subst (λ (e : ℕ). Held i now (keyed red (keyed hue a j x b) e y other) path blanks) same h in
-    let g' : Held i now (keyed red (keyed hue a ck x b) nk y other) path blanks =
-    subst (λ (e : ℕ). Held i now (keyed red (keyed hue a e x b) nk y other) path blanks) same'
-    g in
-    let node' : node_with red y (suc ck) (link_of other) ≡ n =
-    subst (λ (e : ℕ). node_of red (keyed hue a e x b) y other ≡ n) same' node in
-    turn_right_at i u now hue red a b other x y path blanks nk ck child_red node_red n lower upper t
-    g' node'
+-- the link that was read leads to the child
+near_link : (i : Inside) (now : Zipper) (side : Side) (key link : ℕ) (red : Bool) (near : Keyed)
+    (x : Record) (far : Keyed) (path : List Level) (blanks : List ℕ) (n : Node) →
+    Held i now (joined_keyed side red near key x far) path blanks → get i.nodes key ≡ Some n →
+    link ≡ child_at side n → link_of near ≡ link
+near_link i now side key link red near x far path blanks n h found is =
+    let here = (parted i.nodes side red near key x far h.place.hand_linked).here in
+    let node : sided_node side red x (link_of near) (link_of far) ≡ n = cc in
+    sym (child-sided side red x (link_of near) (link_of far)) ∙ ap (child_at side) node ∙ sym is
 
-pub turns_right : (i : Inside) (u : Slab Node) (now : Zipper) (nk ck : ℕ)
-    (child_red node_red : Bool) (n lower upper : Node) → Is i → show i ≡ now →
-    TurnsRight i u nk ck child_red node_red n lower upper →
-    Moved (with_turn i u n.left) (right_turned now child_red node_red)
-turns_right i u now nk ck child_red node_red n lower upper f shows t =
-    turn_right_by i u now f.hand f.path f.blanks nk ck child_red node_red n lower upper
-    (held i now f shows) t
+pub turns : (i : Inside) (side : Side) (u : Slab Node) (now : Zipper) (nk ck link : ℕ)
+    (child_red node_red : Bool) (n lower low upper high : Node) → Is i → show i ≡ now →
+    TurnsTo i side u nk ck link child_red node_red n lower low upper high →
+    Moved (with_turn i u link) (turned_to now side child_red node_red)
+turns i side u now nk ck link child_red node_red n lower low upper high f shows t =
+    let beyond = opposite side in
+    let v = held_on i now beyond nk f shows t.tree in
+    let down = near_link i now beyond nk link v.red v.near v.row v.far f.path f.blanks n v.held
+    t.here t.child in
+    let w = seen side ck v.near (down ∙ t.some) in
+    turn_at i side u now w.red v.red w.far w.near v.far w.row v.row f.path f.blanks nk ck link
+    child_red node_red n lower low upper high t
+    (subst (λ (q : Keyed). Held i now (joined_keyed beyond v.red q nk v.row v.far) f.path f.blanks)
+    w.is v.held)
 
 -- where there is no child to be turned up, nothing is done
-lone_right_by : (i : Inside) (now : Zipper) (hand : Keyed) (path : List Level) (blanks : List ℕ)
-    (nk : ℕ) (child_red node_red : Bool) (n : Node) → Held i now hand path blanks →
-    i.tree ≡ suc nk → get i.nodes nk ≡ Some n → n.left ≡ 0 →
-    now ≡ right_turned now child_red node_red
-lone_right_by i now nil path blanks nk child_red node_red n h some here none = let e =
-    h.tree_link in absurd (omega arith)
-lone_right_by i now (keyed red nil k y other) path blanks nk child_red node_red n h some here none =
-    let e = ap (λ (q : Zipper). q.tree) h.shows in
-    ap (λ (t : Branches). record now { tree = t }) e
-    ∙ sym (ap (λ (t : Branches). record now { tree = turned_right child_red node_red t }) e)
-lone_right_by i now (keyed red (keyed hue a j x b) k y other) path blanks nk child_red node_red n h
-    some here none =
-    let same : k ≡ nk = let e = h.tree_link in omega arith in
-    let there = h.place.hand_linked.0 in
-    let at = ap (get i.nodes) same in
-    let node : node_of red (keyed hue a j x b) y other ≡ n = cc in
-    let e = ap (λ (m : Node). m.left) node in
-    absurd (omega arith)
+pub lone : (i : Inside) (side : Side) (now : Zipper) (nk link : ℕ) (child_red node_red : Bool)
+    (n : Node) → Is i → show i ≡ now → i.tree ≡ suc nk → get i.nodes nk ≡ Some n →
+    link ≡ child_at (opposite side) n → link ≡ 0 → now ≡ turned_to now side child_red node_red
+lone i side now nk link child_red node_red n f shows some here child none =
+    let beyond = opposite side in
+    let v = held_on i now beyond nk f shows some in
+    let down = near_link i now beyond nk link v.red v.near v.row v.far f.path f.blanks n v.held
+    here child in
+    let e : now.tree ≡ plain (joined_keyed beyond v.red nil nk v.row v.far) =
+    ap (λ (q : Zipper). q.tree) v.held.shows
+    ∙ ap (λ (q : Keyed). plain (joined_keyed beyond v.red q nk v.row v.far))
+    (nothing v.near (down ∙ none)) in
+    ap (λ (q : Branches). record now { tree = q })
+    (e ∙ sym (plain-lone side v.red child_red node_red nk v.row v.far)
+    ∙ sym (ap (turned side child_red node_red) e))
 
-pub lone_right : (i : Inside) (now : Zipper) (nk : ℕ) (child_red node_red : Bool) (n : Node) →
-    Is i → show i ≡ now → i.tree ≡ suc nk → get i.nodes nk ≡ Some n → n.left ≡ 0 →
-    now ≡ right_turned now child_red node_red
-lone_right i now nk child_red node_red n f shows some here none =
-    lone_right_by i now f.hand f.path f.blanks nk child_red node_red n (held i now f shows) some
-    here none
-
-pub none_right : (now : Zipper) (child_red node_red : Bool) → now.tree ≡ tip →
-    now ≡ right_turned now child_red node_red
-none_right now child_red node_red e =
-    ap (λ (t : Branches). record now { tree = t }) e
-    ∙ sym (ap (λ (t : Branches). record now { tree = turned_right child_red node_red t }) e)
-
--- to the left: the nodes as they are written
-abbrev pub below_left : Inside → Bool → Node → Node
-below_left i child_red lower = record lower { left = i.tree; red = child_red }
-
-abbrev pub above_left : Bool → Node → Node → Node
-above_left node_red lower upper = record upper { right = lower.left; red = node_red }
-
--- what a turn to the left reads, and the slab that it leaves
-pub record TurnsLeft (i : Inside) (u : Slab Node) (nk ck : ℕ) (child_red node_red : Bool)
-    (n lower upper : Node) : Type 0 where
-  pub tree : i.tree ≡ suc nk
-  pub here : get i.nodes nk ≡ Some n
-  pub child : n.right ≡ suc ck
-  pub there : get i.nodes ck ≡ Some lower
-  pub again : get (with_value i.nodes ck (below_left i child_red lower)) nk ≡ Some upper
-  pub leaves : u ≡ led
-      (with_value (with_value i.nodes ck (below_left i child_red lower)) nk
-      (above_left node_red lower upper)) i.steps i.depth n.right
-
--- what it shows then
-abbrev pub left_turned : Zipper → Bool → Bool → Zipper
-left_turned now child_red node_red = record now { tree = turned_left child_red node_red now.tree }
-
-turn_left_at : (i : Inside) (u : Slab Node) (now : Zipper) (hue red : Bool) (a b other : Keyed)
-    (x y : Record) (path : List Level) (blanks : List ℕ) (nk ck : ℕ) (child_red node_red : Bool)
-    (n lower upper : Node) → TurnsLeft i u nk ck child_red node_red n lower upper →
-    Held i now (keyed red other nk y (keyed hue b ck x a)) path blanks →
-    node_with red y (link_of other) (suc ck) ≡ n →
-    Moved (with_turn i u n.right) (left_turned now child_red node_red)
-turn_left_at i u now hue red a b other x y path blanks nk ck child_red node_red n lower upper t h
-    node =
-    let found = t.there in
-    let p = h.place in
-    let s = i.nodes in
-    let low : Node = node_with hue x (link_of b) (link_of a) in
-    let high : Node = node_with red y (link_of other) (suc ck) in
-    let low_is : low ≡ lower = let there = p.hand_linked.2.0 in cc in
-    let new_low : Node = node_with child_red x (suc nk) (link_of a) in
-    let new_high : Node = node_with node_red y (link_of other) (link_of b) in
-    let v = with_value s ck new_low in
-    let z = with_value v nk new_high in
-    let one = at_same nk in
-    let two = at_same ck in
-    let most = p.apart nk in
-    let most' = p.apart ck in
-    let ne : nk ≢ ck = λ same. (let e = ap (λ (j : ℕ). at_key j ck) same in omega arith) in
-    let w = Updates-with_value s ck new_low (rw p.hand_linked.2.0 refl) in
-    let high_there : get v nk ≡ Some high = w.others nk ne ∙ p.hand_linked.0 in
-    let w' = Updates-with_value v nk new_high (rw high_there refl) in
-    let beside : (t : Keyed) → uses ck t ≡ 0 → uses nk t ≡ 0 → IsLinked s t →
-    IsLinked z t =
-    λ t c d g. linked_beside v z nk t w'.others d (linked_beside s v ck t w.others c g) in
-    let len : slab_len z ≡ slab_len s = same_len v nk high new_high high_there
-    ∙ same_len s ck low new_low p.hand_linked.2.0 in
-    let hand : Keyed = keyed child_red (keyed node_red other nk y b) ck x a in
-    let loose : IsLoose z hand (suc nk) path blanks = record {
-      hand_linked = (
-        w'.others ck (λ e. ne (sym e))
-            ∙ w.changed,
-        (
-          w'.changed,
-          beside other (omega arith) (omega arith) p.hand_linked.1,
-          beside b (omega arith) (omega arith) p.hand_linked.2.1,
-        ),
-        beside a (omega arith) (omega arith) p.hand_linked.2.2,
-      );
-      path_linked =
-          path_beside v z nk (suc nk) path w'.others (omega arith)
-          (path_beside s v ck (suc nk) path w.others (omega arith) p.path_linked);
-      chained = chain_beside v z nk blanks w'.others (omega arith)
-          (chain_beside s v ck blanks w.others (omega arith) p.chained);
-      apart = λ e. (let all = p.apart e in omega arith);
-      counted = omega (arith, p.counted);
-      fits = omega (arith, p.fits);
-      small = omega (arith, p.small);
-    } in
-    let low_new : new_low ≡ below_left i child_red lower =
-    ap (λ (l : ℕ). node_with child_red x l (link_of a)) (sym h.tree_link)
-    ∙ ap (below_left i child_red) low_is in
-    let again : get v nk ≡ Some upper = ap (λ (m : Node). get (with_value s ck m) nk) low_new
-    ∙ t.again in
-    let high_is : high ≡ upper = cc in
-    let high_new : new_high ≡ above_left node_red lower upper =
-    ap (above_left node_red low) high_is
-    ∙ ap (λ (m : Node). above_left node_red m upper) low_is in
-    let child : n.right ≡ suc ck = ap (λ (m : Node). m.right) (sym node) in
-    let nodes : u ≡ led z i.steps i.depth n.right =
-    t.leaves
-    ∙ sym (ap (λ (m : Node). led
-    (with_value (with_value s ck (below_left i child_red lower)) nk m) i.steps i.depth n.right)
-    high_new)
-    ∙ sym (ap (λ (m : Node). led (with_value (with_value s ck m) nk new_high) i.steps i.depth
-    n.right) low_new) in
-    shut (with_turn i u n.right) (left_turned now child_red node_red) hand path blanks (record {
-      place = tightened z u i.steps i.depth (suc nk) n.right hand path blanks nodes child loose
-          h.path_steps;
-      tree_link = child;
-      path_steps = h.path_steps;
-      blank_link = h.blank_link;
-      room_is = h.room_is;
-      few = h.few;
-      shows = ap (λ (q : Zipper). left_turned q child_red node_red) h.shows;
-    })
-
-turn_left_by : (i : Inside) (u : Slab Node) (now : Zipper) (hand : Keyed) (path : List Level)
-    (blanks : List ℕ) (nk ck : ℕ) (child_red node_red : Bool) (n lower upper : Node) →
-    Held i now hand path blanks → TurnsLeft i u nk ck child_red node_red n lower upper →
-    Moved (with_turn i u n.right) (left_turned now child_red node_red)
-turn_left_by i u now nil path blanks nk ck child_red node_red n lower upper h t = let e =
-    h.tree_link in let f = t.tree in absurd (omega arith)
-turn_left_by i u now (keyed red other k y nil) path blanks nk ck child_red node_red n lower upper h
-    t =
-    let same : k ≡ nk = let e = h.tree_link in let f = t.tree in omega arith in
-    let there = h.place.hand_linked.0 in
-    let at = ap (get i.nodes) same in
-    let here = t.here in
-    let node : node_of red other y nil ≡ n = cc in
-    let e = ap (λ (m : Node). m.right) node in
-    let f = t.child in
-    absurd (omega arith)
-turn_left_by i u now (keyed red other k y (keyed hue b j x a)) path blanks nk ck child_red node_red
-    n lower upper h t =
-    let same : k ≡ nk = let e = h.tree_link in let f = t.tree in omega arith in
-    let there = h.place.hand_linked.0 in
-    let at = ap (get i.nodes) same in
-    let here = t.here in
-    let node : node_of red other y (keyed hue b j x a) ≡ n = cc in
-    let same' : j ≡ ck = let e = ap (λ (m : Node). m.right) node in let f = t.child in
-    omega arith in
-    let g : Held i now (keyed red other nk y (keyed hue b j x a)) path blanks =
-    subst (λ (e : ℕ). Held i now (keyed red other e y (keyed hue b j x a)) path blanks) same h in
-    let g' : Held i now (keyed red other nk y (keyed hue b ck x a)) path blanks =
-    subst (λ (e : ℕ). Held i now (keyed red other nk y (keyed hue b e x a)) path blanks) same'
-    g in
-    let node' : node_with red y (link_of other) (suc ck) ≡ n =
-    subst (λ (e : ℕ). node_of red other y (keyed hue b e x a) ≡ n) same' node in
-    turn_left_at i u now hue red a b other x y path blanks nk ck child_red node_red n lower upper t
-    g' node'
-
-pub turns_left : (i : Inside) (u : Slab Node) (now : Zipper) (nk ck : ℕ) (child_red node_red : Bool)
-    (n lower upper : Node) → Is i → show i ≡ now →
-    TurnsLeft i u nk ck child_red node_red n lower upper →
-    Moved (with_turn i u n.right) (left_turned now child_red node_red)
-turns_left i u now nk ck child_red node_red n lower upper f shows t =
-    turn_left_by i u now f.hand f.path f.blanks nk ck child_red node_red n lower upper
-    (held i now f shows) t
-
--- where there is no child to be turned up, nothing is done
-lone_left_by : (i : Inside) (now : Zipper) (hand : Keyed) (path : List Level) (blanks : List ℕ)
-    (nk : ℕ) (child_red node_red : Bool) (n : Node) → Held i now hand path blanks →
-    i.tree ≡ suc nk → get i.nodes nk ≡ Some n → n.right ≡ 0 →
-    now ≡ left_turned now child_red node_red
-lone_left_by i now nil path blanks nk child_red node_red n h some here none = let e = h.tree_link in
-    absurd (omega arith)
-lone_left_by i now (keyed red other k y nil) path blanks nk child_red node_red n h some here none =
-    let e = ap (λ (q : Zipper). q.tree) h.shows in
-    ap (λ (t : Branches). record now { tree = t }) e
-    ∙ sym (ap (λ (t : Branches). record now { tree = turned_left child_red node_red t }) e)
-lone_left_by i now (keyed red other k y (keyed hue b j x a)) path blanks nk child_red node_red n h
-    some here none =
-    let same : k ≡ nk = let e = h.tree_link in omega arith in
-    let there = h.place.hand_linked.0 in
-    let at = ap (get i.nodes) same in
-    let node : node_of red other y (keyed hue b j x a) ≡ n = cc in
-    let e = ap (λ (m : Node). m.right) node in
-    absurd (omega arith)
-
-pub lone_left : (i : Inside) (now : Zipper) (nk : ℕ) (child_red node_red : Bool) (n : Node) → Is i →
-    show i ≡ now → i.tree ≡ suc nk → get i.nodes nk ≡ Some n → n.right ≡ 0 →
-    now ≡ left_turned now child_red node_red
-lone_left i now nk child_red node_red n f shows some here none =
-    lone_left_by i now f.hand f.path f.blanks nk child_red node_red n (held i now f shows) some here
-    none
-
-pub none_left : (now : Zipper) (child_red node_red : Bool) → now.tree ≡ tip →
-    now ≡ left_turned now child_red node_red
-none_left now child_red node_red e =
-    ap (λ (t : Branches). record now { tree = t }) e
-    ∙ sym (ap (λ (t : Branches). record now { tree = turned_left child_red node_red t }) e)
+pub none_turned : (side : Side) (now : Zipper) (child_red node_red : Bool) → now.tree ≡ tip →
+    now ≡ turned_to now side child_red node_red
+none_turned side now child_red node_red e =
+    ap (λ (q : Branches). record now { tree = q })
+    (e ∙ sym (tip-turned side child_red node_red) ∙ sym (ap (turned side child_red node_red) e))

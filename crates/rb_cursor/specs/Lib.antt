@@ -1,6 +1,8 @@
 -- The definitions of this crate, in the order in which to read them.
 -- what a cursor shows
 pub mod Zippers
+-- the two sides of a node
+pub mod Sides
 -- going up
 pub mod Closing
 -- going down
@@ -9,8 +11,6 @@ pub mod Opening
 pub mod Tops
 -- trees, a path and blank nodes in a slab
 pub mod Keyed
--- the side on which a way goes on, and the link there
-pub mod Children
 -- what a write of the link of the nearest node above makes of a slab
 pub mod Writes
 -- what the fields of a cursor are, and what they show

@@ -1,7 +1,7 @@
 -- The node in hand: reading it, writing it, taking it out.
 use Rattle.std.specs.Prelude.{◌≡◌, ◌+◌, ◌-◌, Bool, true, false, Option, Some, None}
 use Rattle.rb_trees.specs.declared.Record.{Record}
-use Rattle.rb_trees.specs.Trees.{Branches, tip, branch, blackened}
+use Rattle.rb_trees.specs.Trees.{Branches, tip, branch, coloured, blackened}
 use Rattle.rb_cursor.specs.declared.nodes.Top.{Top}
 use Rattle.rb_cursor.specs.Zippers.{Zipper}
 
@@ -41,8 +41,7 @@ with_row x (branch red l y r) = branch red l x r
 
 -- the node in hand red
 abbrev pub reddened : Branches → Branches
-reddened tip = tip
-reddened (branch red l x r) = branch true l x r
+reddened t = coloured true t
 
 -- the node in hand red, and its children black
 abbrev pub paled : Branches → Branches

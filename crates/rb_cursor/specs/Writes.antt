@@ -3,18 +3,14 @@ use Rattle.std.specs.Prelude.{ℕ, zero, suc, ◌<◌, List, slice_index_or, Opt
 use Rattle.slab.specs.Slab.{Slab, get, with_value}
 use Rattle.rb_cursor.specs.declared.nodes.Node.{Node}
 use Rattle.rb_trees.specs.declared.Side.{Side}
-use Rattle.rb_trees.specs.declared.Side.TheVariants.{Left, Right}
+use Rattle.rb_trees.specs.declared.Side.TheVariants.{Left}
 use Rattle.rb_cursor.specs.declared.nodes.Step.{Step}
+use Rattle.rb_cursor.specs.Sides.{with_link}
 
 -- the key that a link leads to
 abbrev pub key_of : ℕ → ℕ
 key_of zero = 0
 key_of (suc k) = k
-
--- the node with another link on this side
-abbrev pub with_link : Side → ℕ → Node → Node
-with_link Left link n = record n { left = link }
-with_link Right link n = record n { right = link }
 
 abbrev pub led_by : Slab Node → ℕ → Side → ℕ → Option Node → Slab Node
 led_by s key side link None = s

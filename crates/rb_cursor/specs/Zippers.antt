@@ -4,6 +4,7 @@ use Rattle.std.specs.Prelude.{refl}
 use Rattle.std.specs.Coded.{Coded, code_by, coded×, coded_ℕ, coded_bool, coded_list, coded_option}
 use Rattle.std.proofs.Common.{◌∙◌, ap}
 use Rattle.order_laws.specs.declared.items.Item.{Item}
+use Rattle.order_laws.specs.Items.{item_code}
 use Rattle.rb_trees.specs.declared.Record.{Record}
 use Rattle.rb_trees.specs.Trees.{Branches, tip, branch}
 use Rattle.rb_trees.specs.Paths.{Above}
@@ -38,11 +39,6 @@ side-back Right = refl
 
 abbrev pub side_code : Coded Side
 side_code = code_by Bool coded_bool is_left side_of side-back
-
-abbrev pub item_code : Coded Item
-item_code =
-    code_by (ℕ × (ℕ × ℕ)) (coded× coded_ℕ (coded× coded_ℕ coded_ℕ)) (λ i. (i.a, (i.b, i.tag)))
-    (λ p. record { a = p.0; b = p.1.0; tag = p.1.1 }) (λ _. refl)
 
 abbrev pub record_code : Coded Record
 record_code =

@@ -17,17 +17,18 @@
 
 ghost use Rattle.std.specs.Prelude.{◌≡◌, ◌+◌, ◌<◌, ◌≤◌, ◌==◌, [], length, slice_set};
 ghost use Rattle.std.specs.Prelude.{OnOk, OnErr, true, if◌then◌else◌};
-ghost use Rattle.rb_trees.specs.Trees.{tip, is_red, blackened, shape};
+ghost use Rattle.rb_trees.specs.Trees.{tip, is_red, coloured, blackened, shape};
 ghost use Rattle.rb_trees.specs.Inserted.{clash};
 ghost use Rattle.rb_trees.specs.Turns.{link, turned_right, turned_left};
-ghost use Rattle.rb_cursor.specs.Opening.{OpenedLeft, OpenedRight, HasNearest};
+ghost use Rattle.rb_cursor.specs.Sides.{turned};
+ghost use Rattle.rb_cursor.specs.Opening.{Opened, HasNearest};
 ghost use Rattle.rb_cursor.specs.Closing.{closed, closed_to, all_closed};
 ghost use Rattle.rb_cursor.specs.Tops.{HasTop, row_of, with_row, reddened};
 ghost use Rattle.rb_cursor.specs.Tops.{planted, IsThin, thinned};
 ghost use Rattle.rb_cursor.specs.Zippers.{altered};
 ghost use Rattle.rb_cursor.specs.Writes.{led, LeadsOn};
 
-use crate::nodes::{Nearest, Node, Step, Top};
+use crate::nodes::{Nearest, Node, Step, Top, opposite};
 use crate::readings::Reading;
 use order_laws::Item;
 use rb_trees::{Clash, Record, Side};
@@ -144,12 +145,12 @@ impl Cursor {
         Reading::new(&self.nodes, self.tree)
     }
 
-    /// Opens the node in hand: its left subtree is in hand then. Nothing is done where there is no
-    /// node.
+    /// Opens the node in hand: its subtree on a side is in hand then. Nothing is done where there
+    /// is no node.
     #[inline(always)]
-    pub fn open_left(&mut self) -> Option<Top>
+    pub fn open(&mut self, side: Side) -> Option<Top>
         requires { length self.old.path < 64 }
-        ensures { OpenedLeft self.old self.new result }
+        ensures { Opened side self.old self.new result }
     {
         if self.tree == 0 {
             return None;
@@ -161,40 +162,13 @@ impl Cursor {
             red: node.red,
             node: node.node,
         };
-        let left = node.left;
+        let below = node.child(side);
         self.steps[self.depth] = Step {
             link: self.tree,
-            side: Side::Left,
+            side,
         };
         self.depth += 1;
-        self.tree = left;
-        Some(top)
-    }
-
-    /// Opens the node in hand: its right subtree is in hand then. Nothing is done where there is no
-    /// node.
-    #[inline(always)]
-    pub fn open_right(&mut self) -> Option<Top>
-        requires { length self.old.path < 64 }
-        ensures { OpenedRight self.old self.new result }
-    {
-        if self.tree == 0 {
-            return None;
-        }
-        let Some(node) = self.nodes.get(self.tree as usize - 1) else {
-            unreachable!()
-        };
-        let top = Top {
-            red: node.red,
-            node: node.node,
-        };
-        let right = node.right;
-        self.steps[self.depth] = Step {
-            link: self.tree,
-            side: Side::Right,
-        };
-        self.depth += 1;
-        self.tree = right;
+        self.tree = below;
         Some(top)
     }
 
@@ -310,11 +284,7 @@ impl Cursor {
     pub fn blacken(&mut self)
         ensures { self.new ≡ altered blackened self.old }
     {
-        if self.tree == 0 {
-            return;
-        }
-        let node = &mut self.nodes[self.tree as usize - 1];
-        node.red = false;
+        self.colour(false);
     }
 
     /// Makes the node in hand red.
@@ -322,11 +292,19 @@ impl Cursor {
     pub fn redden(&mut self)
         ensures { self.new ≡ altered reddened self.old }
     {
+        self.colour(true);
+    }
+
+    // Gives the node in hand this colour.
+    #[inline(always)]
+    fn colour(&mut self, red: bool)
+        ensures { self.new ≡ altered (coloured red) self.old }
+    {
         if self.tree == 0 {
             return;
         }
-        let node = &mut self.nodes[self.tree as usize - 1];
-        node.red = true;
+        let top = &mut self.nodes[self.tree as usize - 1];
+        top.red = red;
     }
 
     /// Gives the node in hand another record.
@@ -386,26 +364,7 @@ impl Cursor {
     pub fn turn_right(&mut self, child_red: bool, node_red: bool)
         ensures { self.new ≡ altered (turned_right child_red node_red) self.old }
     {
-        let link = self.tree;
-        if link == 0 {
-            return;
-        }
-        let Some(node) = self.nodes.get(link as usize - 1) else {
-            unreachable!()
-        };
-        let child = node.left;
-        if child == 0 {
-            return;
-        }
-        let lower = &mut self.nodes[child as usize - 1];
-        let middle = lower.right;
-        lower.right = link;
-        lower.red = child_red;
-        let upper = &mut self.nodes[link as usize - 1];
-        upper.left = middle;
-        upper.red = node_red;
-        self.tree = child;
-        lead(&mut self.nodes, &self.steps, self.depth, child);
+        self.turn(Side::Right, child_red, node_red);
     }
 
     /// Puts the right child of the node in hand in its place, and the node on the left of it. The
@@ -414,6 +373,15 @@ impl Cursor {
     pub fn turn_left(&mut self, child_red: bool, node_red: bool)
         ensures { self.new ≡ altered (turned_left child_red node_red) self.old }
     {
+        self.turn(Side::Left, child_red, node_red);
+    }
+
+    // Puts the child on the other side of the node in hand in its place, and the node on this side
+    // of it.
+    #[inline(always)]
+    fn turn(&mut self, side: Side, child_red: bool, node_red: bool)
+        ensures { self.new ≡ altered (turned side child_red node_red) self.old }
+    {
         let link = self.tree;
         if link == 0 {
             return;
@@ -421,16 +389,17 @@ impl Cursor {
         let Some(node) = self.nodes.get(link as usize - 1) else {
             unreachable!()
         };
-        let child = node.right;
+        let other = opposite(side);
+        let child = node.child(other);
         if child == 0 {
             return;
         }
         let lower = &mut self.nodes[child as usize - 1];
-        let middle = lower.left;
-        lower.left = link;
+        let middle = lower.child(side);
+        lower.set_child(side, link);
         lower.red = child_red;
         let upper = &mut self.nodes[link as usize - 1];
-        upper.right = middle;
+        upper.set_child(other, middle);
         upper.red = node_red;
         self.tree = child;
         lead(&mut self.nodes, &self.steps, self.depth, child);
@@ -470,8 +439,5 @@ fn lead(nodes: &mut Slab<Node>, steps: &[Step; 64], depth: usize, link: u32)
     let Some(node) = nodes.get_mut(step.link as usize - 1) else {
         return;
     };
-    match step.side {
-        Side::Left => node.left = link,
-        Side::Right => node.right = link,
-    }
+    node.set_child(step.side, link);
 }

@@ -19,7 +19,8 @@
 //! left link, which the jump up to 50 follows; 60 stores both of its new links; and the root's link
 //! is left to the caller.
 
-ghost use Rattle.std.specs.Prelude.{◌≡◌, ◌+◌, ◌<◌, ◌≤◌, [], true, Some, None, IsSome, length, vec_capacity};
+ghost use Rattle.std.specs.Prelude.{◌≡◌, ◌+◌, ◌<◌, ◌≤◌, [], true, Some, None, IsSome};
+ghost use Rattle.std.specs.Prelude.{length, vec_capacity};
 ghost use Rattle.rb_trees.specs.Trees.{shape, depth};
 ghost use Rattle.rb_trees.specs.Paths.{first_place, path_to};
 ghost use Rattle.rb_trees.specs.Erased.{without_first, first_links};
@@ -34,7 +35,7 @@ use crate::cursors::Cursor;
 use crate::fills::{fill_right_if, lower};
 use crate::probes::Probe;
 use crate::rises::{fill, relink, rise};
-use rb_trees::Record;
+use rb_trees::{Record, Side};
 use word_arena::places::{left_of, right_of};
 use word_arena::{Store, TreeCopy};
 
@@ -48,11 +49,13 @@ pub fn erase<P: Probe>(
 ) -> Option<Record>
     requires whole { cursor.old.path ≡ [] }
     requires steps { depth (shape cursor.old.tree) ≤ 64 }
-    requires list { Fits out.old (erase_links (copy_number copy) (P.seen sought.now) cursor.old.tree) }
+    requires list { Fits out.old
+        (erase_links (copy_number copy) (P.seen sought.now) cursor.old.tree) }
     ensures row { found (P.seen sought.now) cursor.old.tree ≡ result }
-    ensures unchanged { result ≡ None → (cursor.new ≡ cursor.old) × (out.new.items ≡ out.old.items) }
-    ensures cursor { IsSome result →
-        cursor.new ≡ at_root (erased (P.seen sought.now) cursor.old.tree).tree (cursor.old.room + 1) }
+    ensures unchanged { result ≡ None →
+        (cursor.new ≡ cursor.old) × (out.new.items ≡ out.old.items) }
+    ensures cursor { IsSome result → cursor.new
+        ≡ at_root (erased (P.seen sought.now) cursor.old.tree).tree (cursor.old.room + 1) }
     ensures items { IsSome result →
         Adds out.old (erase_links (copy_number copy) (P.seen sought.now) cursor.old.tree) out.new }
     ensures capacity { vec_capacity out.new ≡ vec_capacity out.old }
@@ -87,7 +90,7 @@ fn take_node(out: &mut Vec<Store>, copy: TreeCopy, cursor: &mut Cursor) -> bool
         cursor.take_top();
         return lower(cursor, red);
     }
-    let Some(_) = cursor.open_right() else {
+    let Some(_) = cursor.open(Side::Right) else {
         unreachable!()
     };
     let next = take_first(out, copy, cursor);
@@ -152,7 +155,8 @@ fn climb(
     ensures tree { cursor.new.tree ≡ (erase_rest depth short cursor.old).tree }
     ensures path { cursor.new.path ≡ path_to depth cursor.old.path }
     ensures room { cursor.new.room ≡ cursor.old.room }
-    ensures items { Adds out.old (erase_stores (copy_number copy) depth before short cursor.old) out.new }
+    ensures items { Adds out.old
+        (erase_stores (copy_number copy) depth before short cursor.old) out.new }
     ensures capacity { vec_capacity out.new ≡ vec_capacity out.old }
 {
     let mut before = before;

@@ -26,6 +26,7 @@ ghost use Rattle.word_arena.specs.Copies.{copy_number};
 use crate::cursors::Cursor;
 use crate::relinks::{relink_left, relink_right};
 use crate::turns::{turn_left, turn_right};
+use rb_trees::Side;
 use word_arena::{Store, TreeCopy};
 
 /// What stands in the place of a node of this colour that had the tree in hand alone. Answers
@@ -63,13 +64,13 @@ fn fill_left_of_black(out: &mut Vec<Store>, copy: TreeCopy, cursor: &mut Cursor)
     let red = fork.node.red;
     if sibling.right.is_red() {
         turn_left(out, copy, cursor, red, false);
-        cursor.open_right();
+        cursor.open(Side::Right);
         cursor.blacken();
         cursor.close(red);
         return false;
     }
     let inner_red = sibling.left.is_red();
-    let Some(node) = cursor.open_right() else {
+    let Some(node) = cursor.open(Side::Right) else {
         unreachable!()
     };
     if inner_red {
@@ -102,7 +103,7 @@ fn fill_left(out: &mut Vec<Store>, copy: TreeCopy, cursor: &mut Cursor) -> bool
         return fill_left_of_black(out, copy, cursor);
     }
     turn_left(out, copy, cursor, false, true);
-    let Some(top) = cursor.open_left() else {
+    let Some(top) = cursor.open(Side::Left) else {
         unreachable!()
     };
     let before = cursor.link();
@@ -148,13 +149,13 @@ fn fill_right_of_black(out: &mut Vec<Store>, copy: TreeCopy, cursor: &mut Cursor
     let red = fork.node.red;
     if sibling.left.is_red() {
         turn_right(out, copy, cursor, red, false);
-        cursor.open_left();
+        cursor.open(Side::Left);
         cursor.blacken();
         cursor.close(red);
         return false;
     }
     let inner_red = sibling.right.is_red();
-    let Some(node) = cursor.open_left() else {
+    let Some(node) = cursor.open(Side::Left) else {
         unreachable!()
     };
     if inner_red {
@@ -187,7 +188,7 @@ fn fill_right(out: &mut Vec<Store>, copy: TreeCopy, cursor: &mut Cursor) -> bool
         return fill_right_of_black(out, copy, cursor);
     }
     turn_right(out, copy, cursor, false, true);
-    let Some(top) = cursor.open_right() else {
+    let Some(top) = cursor.open(Side::Right) else {
         unreachable!()
     };
     let before = cursor.link();

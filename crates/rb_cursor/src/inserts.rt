@@ -45,9 +45,12 @@ pub fn insert<O: TreeOrder>(
     requires calm { IsCalm cursor.old.tree }
     requires steps { depth (shape cursor.old.tree) ≤ 64 }
     requires room { 0 < cursor.old.room }
-    requires list { Fits out.old (insert_links (copy_number copy) O.order.less added cursor.old.tree) }
-    ensures cursor { cursor.new ≡ at_root (inserted O.order.less added cursor.old.tree) (cursor.old.room - 1) }
-    ensures items { Adds out.old (insert_links (copy_number copy) O.order.less added cursor.old.tree) out.new }
+    requires list { Fits out.old
+        (insert_links (copy_number copy) O.order.less added cursor.old.tree) }
+    ensures cursor { cursor.new
+        ≡ at_root (inserted O.order.less added cursor.old.tree) (cursor.old.room - 1) }
+    ensures items { Adds out.old
+        (insert_links (copy_number copy) O.order.less added cursor.old.tree) out.new }
     ensures capacity { vec_capacity out.new ≡ vec_capacity out.old }
 {
     cursor.seek_leaf::<O>(&added.item);
@@ -67,9 +70,11 @@ pub fn insert_apart<O: TreeOrder>(
     requires calm { IsCalm cursor.old.tree }
     requires steps { depth (shape cursor.old.tree) ≤ 64 }
     requires room { 0 < cursor.old.room }
-    requires list { Fits out.old (insert_links (copy_number copy) O.order.less added cursor.old.tree) }
+    requires list { Fits out.old
+        (insert_links (copy_number copy) O.order.less added cursor.old.tree) }
     ensures met { result ≡ met O.order added.item [] cursor.old.tree }
-    ensures unchanged { result ≡ true → (cursor.new ≡ cursor.old) × (out.new.items ≡ out.old.items) }
+    ensures unchanged { result ≡ true →
+        (cursor.new ≡ cursor.old) × (out.new.items ≡ out.old.items) }
     ensures cursor { result ≡ false →
         cursor.new ≡ at_root (inserted O.order.less added cursor.old.tree) (cursor.old.room - 1) }
     ensures items { result ≡ false →
@@ -114,9 +119,11 @@ fn climb(out: &mut Vec<Store>, copy: TreeCopy, cursor: &mut Cursor, added: &Reco
     requires leaf { cursor.old.tree ≡ branch true tip added.now tip }
     requires calm { IsCalmPath cursor.old.path }
     requires steps { length cursor.old.path ≤ 64 }
-    requires list { Fits out.old (insert_climb (copy_number copy) cursor.old.path 0 cursor.old.tree) }
+    requires list { Fits out.old
+        (insert_climb (copy_number copy) cursor.old.path 0 cursor.old.tree) }
     ensures cursor { cursor.new ≡ insert_topped cursor.old }
-    ensures items { Adds out.old (insert_climb (copy_number copy) cursor.old.path 0 cursor.old.tree) out.new }
+    ensures items { Adds out.old
+        (insert_climb (copy_number copy) cursor.old.path 0 cursor.old.tree) out.new }
     ensures capacity { vec_capacity out.new ≡ vec_capacity out.old }
 {
     // of the tree in hand: the links to it, whether it is red, and whether a child of it may be,

@@ -23,7 +23,7 @@ ghost use Rattle.word_arena.specs.Copies.{copy_number};
 use crate::cursors::Cursor;
 use crate::relinks::{relink_left, relink_right};
 use crate::turns::{turn_left, turn_right};
-use rb_trees::Clash;
+use rb_trees::{Clash, Side};
 use word_arena::{Store, TreeCopy};
 
 // Makes the node in hand red and its children black.
@@ -32,12 +32,12 @@ fn recolour(cursor: &mut Cursor)
     requires { length cursor.old.path < 64 }
     ensures { cursor.new ≡ altered paled cursor.old }
 {
-    let Some(_) = cursor.open_left() else {
+    let Some(_) = cursor.open(Side::Left) else {
         return;
     };
     cursor.blacken();
     cursor.close(true);
-    let Some(_) = cursor.open_right() else {
+    let Some(_) = cursor.open(Side::Right) else {
         unreachable!()
     };
     cursor.blacken();
@@ -72,7 +72,7 @@ pub fn mend_left(out: &mut Vec<Store>, copy: TreeCopy, cursor: &mut Cursor)
             if other_red {
                 return recolour(cursor);
             }
-            let Some(node) = cursor.open_left() else {
+            let Some(node) = cursor.open(Side::Left) else {
                 unreachable!()
             };
             let before = cursor.link();
@@ -112,7 +112,7 @@ pub fn mend_right(out: &mut Vec<Store>, copy: TreeCopy, cursor: &mut Cursor)
             if other_red {
                 return recolour(cursor);
             }
-            let Some(node) = cursor.open_right() else {
+            let Some(node) = cursor.open(Side::Right) else {
                 unreachable!()
             };
             let before = cursor.link();

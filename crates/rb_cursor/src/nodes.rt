@@ -1,7 +1,7 @@
 //! Nodes as the slab has them, and what a cursor tells of one.
 
 ghost use Rattle.std.specs.Prelude.{◌≡◌};
-ghost use Rattle.rb_cursor.specs.Children.{child_at, side_by};
+ghost use Rattle.rb_cursor.specs.Sides.{side_by, opposite, child_at, with_link};
 
 use order_laws::Item;
 use rb_trees::Side;
@@ -32,6 +32,17 @@ impl Node {
             Side::Right => self.right,
         }
     }
+
+    /// Another link to the subtree on a side.
+    #[inline(always)]
+    pub(crate) fn set_child(&mut self, side: Side, link: u32)
+        ensures { self.new ≡ with_link side link self.old }
+    {
+        match side {
+            Side::Left => self.left = link,
+            Side::Right => self.right = link,
+        }
+    }
 }
 
 /// The left side, or else the right one.
@@ -40,6 +51,17 @@ pub(crate) fn side_by(left: bool) -> Side
     ensures { result ≡ side_by left }
 {
     if left { Side::Left } else { Side::Right }
+}
+
+/// The other side.
+#[inline(always)]
+pub(crate) fn opposite(side: Side) -> Side
+    ensures { result ≡ opposite side }
+{
+    match side {
+        Side::Left => Side::Right,
+        Side::Right => Side::Left,
+    }
 }
 
 /// A step down: the link to the node that was opened, and the side on which the way goes on.

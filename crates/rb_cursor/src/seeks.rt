@@ -9,6 +9,7 @@ use crate::cursors::{Cursor, set_step};
 use crate::nodes::side_by;
 use crate::probes::Probe;
 use order_laws::{Item, TreeOrder};
+use rb_trees::Side;
 
 impl Cursor {
     /// Goes down to where an item belongs: behind those that are not greater, in a tree that is in
@@ -41,7 +42,8 @@ impl Cursor {
         requires { depth (shape self.old.tree) + length self.old.path ≤ 64 }
         ensures met { result ≡ met O.order item.now [] self.old.tree }
         ensures tree { result ≡ false → self.new.tree ≡ tip }
-        ensures path { result ≡ false → self.new.path ≡ way_by O.order.less item.now self.old.tree self.old.path }
+        ensures path { result ≡ false →
+            self.new.path ≡ way_by O.order.less item.now self.old.tree self.old.path }
         ensures whole { plugged self.new.path self.new.tree ≡ plugged self.old.path self.old.tree }
         ensures room { self.new.room ≡ self.old.room }
     {
@@ -104,7 +106,7 @@ impl Cursor {
             if fork.left.is_empty() {
                 return;
             }
-            let Some(_) = self.open_left() else {
+            let Some(_) = self.open(Side::Left) else {
                 unreachable!()
             };
         }

@@ -1,10 +1,8 @@
 -- The way up from a new leaf makes what the insert makes of the whole tree, with its stores in
 -- their order; and where it comes to a black node with the link that it had, the rest of the way
 -- changes nothing.
-use Rattle.std.proofs.Common.{◌≡◌, ℕ, suc, ◌+◌, true, false, cond, Bool, List, [], ◌∷◌, ◌++◌, refl, sym, ◌∙◌, ap, subst, eq-eqb}
-use Rattle.std.specs.Prelude.{if◌then◌else◌, ◌==◌}
+use Rattle.std.proofs.Common.{◌≡◌, ℕ, suc, true, false, cond, Bool, List, [], ◌∷◌, ◌++◌, refl, sym, ◌∙◌, ap, eq-eqb}
 use Rattle.order_laws.specs.declared.items.Item.{Item}
-use Rattle.word_arena.specs.declared.stores.Store.{Store}
 use Rattle.rb_trees.specs.declared.Record.{Record}
 use Rattle.rb_trees.specs.declared.Side.{Side}
 use Rattle.rb_trees.specs.declared.Side.TheVariants.{Left, Right}
@@ -16,7 +14,7 @@ use Rattle.rb_trees.specs.Inserted.{clash, recoloured, mended_left_at, mended_le
 use Rattle.rb_trees.specs.Paths.{Above, sided, joined, plugged, past_left, past_right, way_by}
 use Rattle.rb_trees.proofs.ListLemmas.{regrouped}
 use Rattle.rb_trees.proofs.InsertLemmas.{black_blackened}
-use Rattle.rb_trees.specs.InsertClimb.{relink_on, mended_on, mend_on, insert_step, insert_step_links, insert_climbed, insert_climb, is_above_red, HasBlackNeighbours, IsCalmPath}
+use Rattle.rb_trees.specs.InsertClimb.{relink_on, mended_on, mend_on, insert_step, insert_climbed, insert_climb, is_above_red, IsCalmPath}
 
 -- the tree after the whole way up
 pub insert_climbed_by : (less : Item → Item → Bool) (x : Record) (t : Branches) (path : List Above)

@@ -351,10 +351,6 @@ any_has a (branch red l y r) =
     ])
     ∙ sym split
 
-pub any_there : (a : ℕ) (t : Branches) → has a (items_of (rows t)) ≡ true → any_with a t ≡ None → ⊥
-any_there a t there none = let e : false ≡ true = ap is_some (sym none) ∙ any_has a t ∙ there in
-    absurd (cc)
-
 -- of this first word, and an item of the tree
 abbrev IsWith : ℕ → List Item → Option Item → Type 0
 IsWith a is (Some x) = Contains is x × (x.a ≡ a)

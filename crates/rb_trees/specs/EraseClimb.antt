@@ -6,7 +6,8 @@ use Rattle.rb_trees.specs.declared.Side.{Side}
 use Rattle.rb_trees.specs.declared.Side.TheVariants.{Left, Right}
 use Rattle.rb_trees.specs.Trees.{Branches, tip, branch, shape}
 use Rattle.rb_trees.specs.Turns.{link}
-use Rattle.rb_trees.specs.Erased.{Rest, whole, lowered, left_if, left_fill_if, right_if, right_fill_if, without_top, top_links}
+use Rattle.rb_trees.specs.Erased.{Rest, whole, lowered, left_if, left_fill_if, right_if}
+use Rattle.rb_trees.specs.Erased.{right_fill_if, without_top, top_links}
 use Rattle.rb_trees.specs.Paths.{Above, joined}
 use Rattle.rb_trees.specs.InsertClimb.{relink_on}
 

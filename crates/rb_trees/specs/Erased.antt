@@ -1,13 +1,15 @@
 -- An erase: the next node in order takes the place of one with a right subtree, and what is one
 -- black node short on the ways down is mended on the way up.
-use Rattle.std.specs.Prelude.{ℕ, suc, Bool, true, false, not, List, [], ◌∷◌, ◌++◌, Option, Some, None, if◌then◌else◌, ◌==◌, nat_lt}
+use Rattle.std.specs.Prelude.{ℕ, suc, Bool, true, false, not, List, [], ◌∷◌, ◌++◌}
+use Rattle.std.specs.Prelude.{Option, Some, None, if◌then◌else◌, ◌==◌, nat_lt}
 use Rattle.std.specs.declared.cmp.Ordering.{Ordering}
 use Rattle.std.specs.declared.cmp.Ordering.TheVariants.{Less, Equal, Greater}
 use Rattle.order_laws.specs.declared.items.Item.{Item}
 use Rattle.word_arena.specs.declared.stores.Store.{Store}
 use Rattle.rb_trees.specs.declared.Record.{Record}
 use Rattle.rb_trees.specs.Trees.{Branches, tip, branch, is_red, blackened, shape}
-use Rattle.rb_trees.specs.Turns.{link, set_left, set_right, turned_right, right_turn, turned_left, left_turn, relink_left, relink_right}
+use Rattle.rb_trees.specs.Turns.{link, set_left, set_right, turned_right, right_turn}
+use Rattle.rb_trees.specs.Turns.{turned_left, left_turn, relink_left, relink_right}
 
 -- what is left of a tree, and whether each way down has one black node less
 pub record Rest : Type 0 where
@@ -29,7 +31,8 @@ filled_left_of_black tip = whole tip
 filled_left_of_black (branch red l y tip) = whole (branch red l y tip)
 filled_left_of_black (branch red l y (branch k a x b)) =
     if is_red b then whole (turned_left red false (branch red l y (branch k a x (blackened b))))
-    else if is_red a then whole (turned_left red false (branch red l y (turned_right false false (branch k a x b))))
+    else if is_red a then
+    whole (turned_left red false (branch red l y (turned_right false false (branch k a x b))))
     else record { tree = branch false l y (branch true a x b); short = not red }
 
 abbrev pub left_fill_of_black : ℕ → Branches → List Store
@@ -38,7 +41,9 @@ left_fill_of_black copy (branch red l y tip) = []
 left_fill_of_black copy (branch red l y (branch k a x b)) =
     if is_red b then left_turn copy (branch red l y (branch k a x (blackened b)))
     else if is_red a then
-    (right_turn copy (branch k a x b) ++ relink_right copy y.node (suc x.node) (link (shape (turned_right false false (branch k a x b)))))
+    (right_turn copy (branch k a x b)
+    ++ relink_right copy y.node (suc x.node)
+    (link (shape (turned_right false false (branch k a x b)))))
     ++ left_turn copy (branch red l y (turned_right false false (branch k a x b)))
     else []
 
@@ -47,7 +52,8 @@ abbrev pub filled_left : Branches → Rest
 filled_left tip = whole tip
 filled_left (branch red l y tip) = whole (branch red l y tip)
 filled_left (branch red l y (branch k a x b)) =
-    if k then whole (branch false (filled_left_of_black (branch true l y a)).tree x b) else filled_left_of_black (branch red l y (branch k a x b))
+    if k then whole (branch false (filled_left_of_black (branch true l y a)).tree x b)
+    else filled_left_of_black (branch red l y (branch k a x b))
 
 abbrev pub left_fill : ℕ → Branches → List Store
 left_fill copy tip = []
@@ -55,7 +61,9 @@ left_fill copy (branch red l y tip) = []
 left_fill copy (branch red l y (branch k a x b)) =
     if k then
     left_turn copy (branch red l y (branch k a x b))
-    ++ (left_fill_of_black copy (branch true l y a) ++ relink_left copy x.node (suc y.node) (link (shape (filled_left_of_black (branch true l y a)).tree)))
+    ++ (left_fill_of_black copy (branch true l y a)
+    ++ relink_left copy x.node (suc y.node)
+    (link (shape (filled_left_of_black (branch true l y a)).tree)))
     else left_fill_of_black copy (branch red l y (branch k a x b))
 
 -- a node whose right subtree is short, and whose left child is black
@@ -64,7 +72,8 @@ filled_right_of_black tip = whole tip
 filled_right_of_black (branch red tip y r) = whole (branch red tip y r)
 filled_right_of_black (branch red (branch k a x b) y r) =
     if is_red a then whole (turned_right red false (branch red (branch k (blackened a) x b) y r))
-    else if is_red b then whole (turned_right red false (branch red (turned_left false false (branch k a x b)) y r))
+    else if is_red b then
+    whole (turned_right red false (branch red (turned_left false false (branch k a x b)) y r))
     else record { tree = branch false (branch true a x b) y r; short = not red }
 
 abbrev pub right_fill_of_black : ℕ → Branches → List Store
@@ -73,7 +82,9 @@ right_fill_of_black copy (branch red tip y r) = []
 right_fill_of_black copy (branch red (branch k a x b) y r) =
     if is_red a then right_turn copy (branch red (branch k (blackened a) x b) y r)
     else if is_red b then
-    (left_turn copy (branch k a x b) ++ relink_left copy y.node (suc x.node) (link (shape (turned_left false false (branch k a x b)))))
+    (left_turn copy (branch k a x b)
+    ++ relink_left copy y.node (suc x.node)
+    (link (shape (turned_left false false (branch k a x b)))))
     ++ right_turn copy (branch red (turned_left false false (branch k a x b)) y r)
     else []
 
@@ -82,7 +93,8 @@ abbrev pub filled_right : Branches → Rest
 filled_right tip = whole tip
 filled_right (branch red tip y r) = whole (branch red tip y r)
 filled_right (branch red (branch k a x b) y r) =
-    if k then whole (branch false a x (filled_right_of_black (branch true b y r)).tree) else filled_right_of_black (branch red (branch k a x b) y r)
+    if k then whole (branch false a x (filled_right_of_black (branch true b y r)).tree)
+    else filled_right_of_black (branch red (branch k a x b) y r)
 
 abbrev pub right_fill : ℕ → Branches → List Store
 right_fill copy tip = []
@@ -90,7 +102,9 @@ right_fill copy (branch red tip y r) = []
 right_fill copy (branch red (branch k a x b) y r) =
     if k then
     right_turn copy (branch red (branch k a x b) y r)
-    ++ (right_fill_of_black copy (branch true b y r) ++ relink_right copy x.node (suc y.node) (link (shape (filled_right_of_black (branch true b y r)).tree)))
+    ++ (right_fill_of_black copy (branch true b y r)
+    ++ relink_right copy x.node (suc y.node)
+    (link (shape (filled_right_of_black (branch true b y r)).tree)))
     else right_fill_of_black copy (branch red (branch k a x b) y r)
 
 -- a node whose left, or right, subtree may be short
@@ -115,27 +129,34 @@ first_row d (branch red l x r) = first_row x l
 abbrev pub without_first : Branches → Rest
 without_first tip = whole tip
 without_first (branch red tip x r) = lowered red r
-without_first (branch red (branch k a y b) x r) = left_if (without_first (branch k a y b)).short (branch red (without_first (branch k a y b)).tree x r)
+without_first (branch red (branch k a y b) x r) =
+    left_if (without_first (branch k a y b)).short
+    (branch red (without_first (branch k a y b)).tree x r)
 
 abbrev pub first_links : ℕ → Branches → List Store
 first_links copy tip = []
 first_links copy (branch red tip x r) = []
 first_links copy (branch red (branch k a y b) x r) =
-    (first_links copy (branch k a y b) ++ relink_left copy x.node (suc y.node) (link (shape (without_first (branch k a y b)).tree)))
-    ++ left_fill_if copy (without_first (branch k a y b)).short (branch red (without_first (branch k a y b)).tree x r)
+    (first_links copy (branch k a y b)
+    ++ relink_left copy x.node (suc y.node) (link (shape (without_first (branch k a y b)).tree)))
+    ++ left_fill_if copy (without_first (branch k a y b)).short
+    (branch red (without_first (branch k a y b)).tree x r)
 
 -- without the top
 abbrev pub without_top : Bool → Branches → Branches → Rest
 without_top red l tip = lowered red l
 without_top red l (branch k a y b) =
-    right_if (without_first (branch k a y b)).short (branch red l (first_row y a) (without_first (branch k a y b)).tree)
+    right_if (without_first (branch k a y b)).short
+    (branch red l (first_row y a) (without_first (branch k a y b)).tree)
 
 abbrev pub top_links : ℕ → Bool → Branches → Branches → List Store
 top_links copy red l tip = []
 top_links copy red l (branch k a y b) =
     (first_links copy (branch k a y b)
-    ++ set_left copy (first_row y a).node (link (shape l)) ∷ set_right copy (first_row y a).node (link (shape (without_first (branch k a y b)).tree)) ∷ [])
-    ++ right_fill_if copy (without_first (branch k a y b)).short (branch red l (first_row y a) (without_first (branch k a y b)).tree)
+    ++ set_left copy (first_row y a).node (link (shape l))
+    ∷ set_right copy (first_row y a).node (link (shape (without_first (branch k a y b)).tree)) ∷ [])
+    ++ right_fill_if copy (without_first (branch k a y b)).short
+    (branch red l (first_row y a) (without_first (branch k a y b)).tree)
 
 -- where a first word lies against a record
 abbrev pub first_word_at : ℕ → Record → Ordering
@@ -155,15 +176,21 @@ abbrev pub erased : (Record → Ordering) → Branches → Rest
 erased seen tip = whole tip
 erased seen (branch red l y r) = erased_at (seen y) red l y r (erased seen l) (erased seen r)
 
-abbrev pub links_at : ℕ → Ordering → Bool → Branches → Record → Branches → Rest → Rest → List Store → List Store → List Store
-links_at copy Less red l y r less more ss ts = (ss ++ relink_left copy y.node (link (shape l)) (link (shape less.tree))) ++ left_fill_if copy less.short (branch red less.tree y r)
+abbrev pub links_at : ℕ → Ordering → Bool → Branches → Record → Branches → Rest → Rest →
+    List Store → List Store → List Store
+links_at copy Less red l y r less more ss ts =
+    (ss ++ relink_left copy y.node (link (shape l)) (link (shape less.tree)))
+    ++ left_fill_if copy less.short (branch red less.tree y r)
 links_at copy Equal red l y r less more ss ts = top_links copy red l r
-links_at copy Greater red l y r less more ss ts = (ts ++ relink_right copy y.node (link (shape r)) (link (shape more.tree))) ++ right_fill_if copy more.short (branch red l y more.tree)
+links_at copy Greater red l y r less more ss ts =
+    (ts ++ relink_right copy y.node (link (shape r)) (link (shape more.tree)))
+    ++ right_fill_if copy more.short (branch red l y more.tree)
 
 abbrev pub erase_links : ℕ → (Record → Ordering) → Branches → List Store
 erase_links copy seen tip = []
 erase_links copy seen (branch red l y r) =
-    links_at copy (seen y) red l y r (erased seen l) (erased seen r) (erase_links copy seen l) (erase_links copy seen r)
+    links_at copy (seen y) red l y r (erased seen l) (erased seen r) (erase_links copy seen l)
+    (erase_links copy seen r)
 
 -- the record that was erased
 abbrev pub found_at : Ordering → Record → Option Record → Option Record → Option Record

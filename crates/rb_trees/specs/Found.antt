@@ -1,5 +1,6 @@
 -- Searches in a tree.
-use Rattle.std.specs.Prelude.{ℕ, Bool, false, not, ◌||◌, ◌&&◌, List, if◌then◌else◌, ◌==◌, map, Option, Some, None}
+use Rattle.std.specs.Prelude.{ℕ, Bool, false, not, ◌||◌, ◌&&◌, List, if◌then◌else◌, ◌==◌, map}
+use Rattle.std.specs.Prelude.{Option, Some, None}
 use Rattle.std.specs.List.{list_any}
 use Rattle.order_laws.specs.declared.items.Item.{Item}
 use Rattle.order_laws.specs.Orders.{Order}
@@ -23,13 +24,16 @@ first_answer None other = other
 -- an item of this first word, found by going through all
 abbrev pub any_with : ℕ → Branches → Option Item
 any_with a tip = None
-any_with a (branch red l y r) = if y.item.a == a then Some y.item else first_answer (any_with a l) (any_with a r)
+any_with a (branch red l y r) =
+    if y.item.a == a then Some y.item else first_answer (any_with a l) (any_with a r)
 
 -- whether some item of the tree, those with these first words left out, is not apart from this one,
 -- found by going through all
 abbrev pub met_any : {K : Type 0} → Order K → Item → List ℕ → Branches → Bool
 met_any o i but tip = false
-met_any o i but (branch red l y r) = (not (list_any (λ a. a == y.item.a) but) && not (o.apart y.item i)) || (met_any o i but l || met_any o i but r)
+met_any o i but (branch red l y r) =
+    (not (list_any (λ a. a == y.item.a) but) && not (o.apart y.item i))
+    || (met_any o i but l || met_any o i but r)
 
 -- whether some item of the tree, those with these first words left out, is not apart from this one:
 -- beyond an item that is apart from it there is none

@@ -6,7 +6,9 @@ use Rattle.rb_trees.specs.Turns.{link}
 -- the links inside a tree stand in the words of its nodes
 abbrev pub Inner : List ℕ → ℕ → Nodes → Type 0
 Inner m copy none = Unit {0}
-Inner m copy (fork l i r) = (at m (left_word copy i) ≡ link l) × (at m (right_word copy i) ≡ link r) × Inner m copy l × Inner m copy r
+Inner m copy (fork l i r) =
+    (at m (left_word copy i) ≡ link l) × (at m (right_word copy i) ≡ link r)
+    × Inner m copy l × Inner m copy r
 
 -- the node is one of the tree
 abbrev pub Among : Nodes → ℕ → Type 0
@@ -16,4 +18,6 @@ Among (fork l j r) i = (i ≡ j) ⊎ Among l i ⊎ Among r i
 -- no node stands twice in the tree
 abbrev pub IsSeparate : Nodes → Type 0
 IsSeparate none = Unit {0}
-IsSeparate (fork l i r) = (Among l i → ⊥) × (Among r i → ⊥) × ((j : ℕ) → Among l j → Among r j → ⊥) × IsSeparate l × IsSeparate r
+IsSeparate (fork l i r) =
+    (Among l i → ⊥) × (Among r i → ⊥) × ((j : ℕ) → Among l j → Among r j → ⊥)
+    × IsSeparate l × IsSeparate r

@@ -32,7 +32,8 @@ plugged (a ∷ path) t = plugged path (joined a a.red t)
 -- up until only so many nodes are above
 abbrev pub plugged_to : ℕ → List Above → Branches → Branches
 plugged_to d [] t = t
-plugged_to d (a ∷ path) t = if nat_lt (length path) d then t else plugged_to d path (joined a a.red t)
+plugged_to d (a ∷ path) t =
+    if nat_lt (length path) d then t else plugged_to d path (joined a a.red t)
 
 -- the path from there on
 abbrev pub path_to : ℕ → List Above → List Above

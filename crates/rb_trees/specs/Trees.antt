@@ -12,9 +12,13 @@ abbrev pub is_red : Branches → Bool
 is_red tip = false
 is_red (branch red l x r) = red
 
+-- its top in this colour
+abbrev pub coloured : Bool → Branches → Branches
+coloured red tip = tip
+coloured red (branch was l x r) = branch red l x r
+
 abbrev pub blackened : Branches → Branches
-blackened tip = tip
-blackened (branch red l x r) = branch false l x r
+blackened t = coloured false t
 
 -- the nodes without colours and items
 abbrev pub shape : Branches → Nodes

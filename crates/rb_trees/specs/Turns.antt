@@ -19,23 +19,27 @@ set_right copy node value = record { word = right_word copy node; value = value 
 abbrev pub turned_right : Bool → Bool → Branches → Branches
 turned_right child_red node_red tip = tip
 turned_right child_red node_red (branch red tip y r) = branch red tip y r
-turned_right child_red node_red (branch red (branch k a x b) y r) = branch child_red a x (branch node_red b y r)
+turned_right child_red node_red (branch red (branch k a x b) y r) =
+    branch child_red a x (branch node_red b y r)
 
 abbrev pub right_turn : ℕ → Branches → List Store
 right_turn copy tip = []
 right_turn copy (branch red tip y r) = []
-right_turn copy (branch red (branch k a x b) y r) = set_left copy y.node (link (shape b)) ∷ set_right copy x.node (suc y.node) ∷ []
+right_turn copy (branch red (branch k a x b) y r) =
+    set_left copy y.node (link (shape b)) ∷ set_right copy x.node (suc y.node) ∷ []
 
 -- the right child of a node takes its place
 abbrev pub turned_left : Bool → Bool → Branches → Branches
 turned_left child_red node_red tip = tip
 turned_left child_red node_red (branch red l y tip) = branch red l y tip
-turned_left child_red node_red (branch red l y (branch k a x b)) = branch child_red (branch node_red l y a) x b
+turned_left child_red node_red (branch red l y (branch k a x b)) =
+    branch child_red (branch node_red l y a) x b
 
 abbrev pub left_turn : ℕ → Branches → List Store
 left_turn copy tip = []
 left_turn copy (branch red l y tip) = []
-left_turn copy (branch red l y (branch k a x b)) = set_right copy y.node (link (shape a)) ∷ set_left copy x.node (suc y.node) ∷ []
+left_turn copy (branch red l y (branch k a x b)) =
+    set_right copy y.node (link (shape a)) ∷ set_left copy x.node (suc y.node) ∷ []
 
 -- a link that changed is stored
 abbrev pub relink_left : ℕ → ℕ → ℕ → ℕ → List Store
@@ -45,4 +49,5 @@ abbrev pub relink_right : ℕ → ℕ → ℕ → ℕ → List Store
 relink_right copy node before after = if before == after then [] else set_right copy node after ∷ []
 
 abbrev pub relink_root : ℕ → ℕ → ℕ → List Store
-relink_root copy before after = if before == after then [] else record { word = root_word copy; value = after } ∷ []
+relink_root copy before after =
+    if before == after then [] else record { word = root_word copy; value = after } ∷ []

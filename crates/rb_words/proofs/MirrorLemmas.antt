@@ -15,7 +15,7 @@ use Rattle.word_arena.specs.Stores.{words_after, words_after_all, IsLinkWord, Is
 use Rattle.word_arena.specs.Stores.{AreLinkStores}
 use Rattle.word_arena.proofs.WordLemmas.{of_item}
 use Rattle.word_arena.proofs.StoreLemmas.{at_stored, at_other, same_store, after_append}
-use Rattle.rb_words.specs.Pictures.{Picture, IsPicture, IsPictured}
+use Rattle.rb_words.specs.Pictures.{Picture, IsPictured}
 use Rattle.rb_words.specs.Plans.{AreLinks, item_stores, Inserts, LeadsWithItem, Erases}
 use Rattle.rb_words.specs.Plans.{LeadsByLinks}
 use Rattle.rb_words.specs.Mirrors.{mirror_word, mirror_store, mirror, second}
@@ -399,18 +399,6 @@ module _ (old new : Picture) (zero_copy : old.copy ≡ 0) (capacity : new.capaci
             (leads.leads_alone first (first_shown m shown)
             (sym (same_item n first m same node) ∙ has));
       }
-
--- what can be pictured of one copy can be of the other
-pub second_sound : {K : Type 0} (o : Order K) (p : Picture) → IsPicture o p → IsPicture o (second p)
-second_sound o p is = record {
-  one_copy = omega arith;
-  is_table = is.is_table;
-  below = is.below;
-  distinct = is.distinct;
-  as_many = is.as_many;
-  fits = is.fits;
-  balanced = is.balanced;
-}
 
 -- an insert puts the same item in the same place of both
 pub inserts_mirrored : {K : Type 0} (o : Order K) (old new : Picture) (node : ℕ) (item : Item) →

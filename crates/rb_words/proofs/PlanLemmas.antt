@@ -456,22 +456,23 @@ met_none o law line {i = i} valid t is view =
     ∙ ap (λ (p : Picture). meets o i p.table) view
 
 -- the whole of a planned insert, as a shape shows it
+pub record AfterInsert {K : Type 0} (o : Order K) (n c : ℕ) (t u : Branches) (room : ℕ) (x : Record)
+    (shown : Picture) : Type 0 where
+  pub picture : IsPicture o (picture_of n c u room)
+  pub balanced : IsRedBlack u
+  pub count : length (rows u) ≡ suc (length (rows t))
+  pub inserts : Inserts o shown (picture_of n c u room) x.node x.item
+  pub leads : LeadsWithItem shown (picture_of n c u room) x.node x.item (links_with c o x t)
+
 module _ {K : Type 0} (o : Order K) (law : IsLawful o) (n c : ℕ) (t u : Branches) (old room : ℕ)
     (x : Record) (is_u : u ≡ tree_with o x t) (more : room + 1 ≡ old)
     (is : IsPicture o (picture_of n c t old)) (good : IsRedBlack t) where
-  pub record AfterInsert (shown : Picture) : Type 0 where
-    pub picture : IsPicture o (picture_of n c u room)
-    pub balanced : IsRedBlack u
-    pub count : length (rows u) ≡ suc (length (rows t))
-    pub inserts : Inserts o shown (picture_of n c u room) x.node x.item
-    pub leads : LeadsWithItem shown (picture_of n c u room) x.node x.item (links_with c o x t)
-
   abbrev pub CanInsert : Picture → Type 0
   CanInsert shown = (x.node < shown.capacity) × (Contains (listed shown.tree) x.node → ⊥)
       × (o.valid x.item ≡ true) × (meets o x.item shown.table ≡ false)
 
   pub shown_insert : (shown : Picture) → picture_of n c t old ≡ shown → CanInsert shown →
-      AfterInsert shown
+      AfterInsert o n c t u room x shown
   shown_insert shown view can0 =
       let can : CanInsert (picture_of n c t old) = subst CanInsert (sym view) can0 in
       let v = tree_with o x t in
@@ -494,18 +495,19 @@ module _ {K : Type 0} (o : Order K) (law : IsLawful o) (n c : ℕ) (t u : Branch
       }
 
 -- and of a planned erase
+pub record AfterErase {K : Type 0} (o : Order K) (n c : ℕ) (t u : Branches) (room a node : ℕ)
+    (seen : Record → Ordering) (shown : Picture) : Type 0 where
+  pub picture : IsPicture o (picture_of n c u room)
+  pub balanced : IsRedBlack u
+  pub count : suc (length (rows u)) ≡ length (rows t)
+  pub erases : Erases shown (picture_of n c u room) a node
+  pub leads : LeadsByLinks shown (picture_of n c u room) (links_without c seen t)
+
 module _ {K Z : Type 0} (o : Order K) (law : IsLawful o) (n c : ℕ) (t u : Branches)
     (old room a node : ℕ) (from to : Vec Store Z) (takes : TakesOut c a t u node from to)
     (more : room ≡ old + 1) (is : IsPicture o (picture_of n c t old)) (good : IsRedBlack t) where
-  pub record AfterErase (shown : Picture) : Type 0 where
-    pub picture : IsPicture o (picture_of n c u room)
-    pub balanced : IsRedBlack u
-    pub count : suc (length (rows u)) ≡ length (rows t)
-    pub erases : Erases shown (picture_of n c u room) a node
-    pub leads : LeadsByLinks shown (picture_of n c u room) (links_without c takes.seen t)
-
   pub shown_erase : (shown : Picture) → picture_of n c t old ≡ shown → has a shown.table ≡ true →
-      AfterErase shown
+      AfterErase o n c t u room a node takes.seen shown
   shown_erase shown view there0 =
       let there : has a (items_of (rows t)) ≡ true =
       subst (λ s. has a s.table ≡ true) (sym view) there0 in

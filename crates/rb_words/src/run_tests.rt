@@ -113,7 +113,8 @@ fn insert_free<O: TreeOrder>(
     requires free { Contains (listed shape.old.tree) slot → ⊥ }
     ensures capacity { shape.new.capacity ≡ capacity_of l }
     ensures copy { shape.new.copy ≡ 0 }
-    ensures nodes { (i : ℕ) → Contains (listed shape.new.tree) i → (i ≡ slot) ⊎ Contains (listed shape.old.tree) i }
+    ensures nodes { (i : ℕ) → Contains (listed shape.new.tree) i →
+        (i ≡ slot) ⊎ Contains (listed shape.old.tree) i }
 {
     let x = item_of(slot);
     assert!(rt; slot < l.capacity());

@@ -3,20 +3,20 @@
 //! The tree is red-black: colours stand in the writer's nodes alone, so a change of colours stores
 //! nothing.
 
-ghost use Rattle.std.specs.Prelude.{◌≡◌, ◌↔◌, ◌+◌, ◌*◌, ◌<◌, ◌≤◌, ◌++◌, [], true, false, List, IsTrue};
-ghost use Rattle.std.specs.Prelude.{IfOk, IfErr, OnOk, IfSome, IsSome, is_some, Some, None, Contains, length};
-ghost use Rattle.std.specs.Prelude.{vec_len, vec_capacity};
+ghost use Rattle.std.specs.Prelude.{◌≡◌, ◌↔◌, ◌+◌, ◌*◌, ◌<◌, ◌≤◌, ◌++◌, [], true, false, List};
+ghost use Rattle.std.specs.Prelude.{IsTrue, IfOk, IfErr, OnOk, IfSome, IsSome, is_some, Some, None};
+ghost use Rattle.std.specs.Prelude.{Contains, length, vec_len, vec_capacity};
 ghost use Rattle.std.specs.List.Sorted.{IsNonDecreasing};
 ghost use Rattle.order_laws.specs.Tables.{IsTable, has, meets, without_all, place_for, place_of};
 ghost use Rattle.word_arena.specs.declared.stores.Store.{Store};
 ghost use Rattle.word_arena.specs.Layouts.{capacity_of};
 ghost use Rattle.word_arena.specs.Copies.{copy_number};
-ghost use Rattle.word_arena.specs.Words.{none, listed, root_word};
-ghost use Rattle.rb_words.specs.Pictures.{IsPicture};
+ghost use Rattle.word_arena.specs.Words.{listed};
+ghost use Rattle.rb_words.specs.Pictures.{IsPicture, empty_picture};
 ghost use Rattle.rb_words.specs.Wider.{IsPicturedWider};
 ghost use Rattle.rb_words.specs.Plans.{item_stores, Inserts, LeadsWithItem, Erases, LeadsByLinks};
-ghost use Rattle.rb_words.specs.TreePictures.{zipper_with, links_with, zipper_without, links_without};
-ghost use Rattle.rb_words.specs.TreePictures.{Grows, TakesOut};
+ghost use Rattle.rb_words.specs.TreePictures.{zipper_with, links_with, zipper_without};
+ghost use Rattle.rb_words.specs.TreePictures.{links_without, Grows, TakesOut};
 ghost use Rattle.rb_cursor.specs.Stores.{Fits, Adds};
 ghost use Rattle.rb_trees.specs.Trees.{IsCalm, shape, depth, rows};
 ghost use Rattle.rb_trees.specs.Erased.{found};
@@ -64,10 +64,12 @@ impl<O: TreeOrder> Model for Shape<O> {
 
     ghost coded = { picture_code };
 
-    ghost view = { λ s. picture_of (capacity_of s.layout) (copy_number s.copy) s.cursor.tree s.cursor.room };
+    ghost view = { λ s.
+        picture_of (capacity_of s.layout) (copy_number s.copy) s.cursor.tree s.cursor.room };
 
     ghost invariant = { λ s.
-        IsPicture O.order (picture_of (capacity_of s.layout) (copy_number s.copy) s.cursor.tree s.cursor.room)
+        IsPicture O.order
+        (picture_of (capacity_of s.layout) (copy_number s.copy) s.cursor.tree s.cursor.room)
         × IsRedBlack s.cursor.tree
         × (s.count ≡ length (rows s.cursor.tree))
         × (s.cursor.path ≡ []) };
@@ -76,7 +78,7 @@ impl<O: TreeOrder> Model for Shape<O> {
 impl<O: TreeOrder> Shape<O> {
     /// The picture of an empty copy. Takes no memory.
     pub fn new(alloc: Global, l: Layout, copy: TreeCopy) -> Self
-        ensures empty { result ≡ record { capacity = capacity_of l; copy = copy_number copy; table = []; tree = none; room = 0 } }
+        ensures empty { result ≡ empty_picture (capacity_of l) (copy_number copy) }
         ensures sound { IsPicture O.order result }
     {
         Shape {
@@ -219,7 +221,9 @@ impl<O: TreeOrder> Shape<O> {
         requires valid { O.order.valid item ≡ true }
         requires apart { meets O.order item self.old.table ≡ false }
         ensures pictures { Inserts O.order self.old self.new node item }
-        ensures plan { (links : List Store) × (out.new.items ≡ out.old.items ++ (item_stores node item ++ links)) × LeadsWithItem self.old self.new node item links }
+        ensures plan { (links : List Store)
+            × (out.new.items ≡ out.old.items ++ (item_stores node item ++ links))
+            × LeadsWithItem self.old self.new node item links }
         ensures few { vec_len out.new ≤ vec_len out.old + STORES }
         ensures capacity { vec_capacity out.new ≡ vec_capacity out.old }
         ensures was_sound { IsPicture O.order self.old }
@@ -265,9 +269,11 @@ impl<O: TreeOrder> Shape<O> {
         requires free { Contains (listed self.old.tree) node → ⊥ }
         requires valid { O.order.valid item ≡ true }
         ensures met { result ≡ meets O.order item self.old.table }
-        ensures unchanged { result ≡ true → (self.new ≡ self.old) × (out.new.items ≡ out.old.items) }
+        ensures unchanged { result ≡ true →
+            (self.new ≡ self.old) × (out.new.items ≡ out.old.items) }
         ensures pictures { result ≡ false → Inserts O.order self.old self.new node item }
-        ensures plan { result ≡ false → (links : List Store) × (out.new.items ≡ out.old.items ++ (item_stores node item ++ links))
+        ensures plan { result ≡ false → (links : List Store)
+            × (out.new.items ≡ out.old.items ++ (item_stores node item ++ links))
             × LeadsWithItem self.old self.new node item links }
         ensures few { vec_len out.new ≤ vec_len out.old + STORES }
         ensures capacity { vec_capacity out.new ≡ vec_capacity out.old }
@@ -298,7 +304,8 @@ impl<O: TreeOrder> Shape<O> {
         requires free { Contains (listed self.old.tree) node → ⊥ }
         requires valid { O.order.valid item ≡ true }
         ensures met { result ≡ meets O.order item self.old.table }
-        ensures unchanged { result ≡ true → (self.new ≡ self.old) × (out.new.items ≡ out.old.items) }
+        ensures unchanged { result ≡ true →
+            (self.new ≡ self.old) × (out.new.items ≡ out.old.items) }
         ensures pictures { result ≡ false → Inserts O.order self.old self.new node item }
         ensures plan { result ≡ false → (links : List Store)
             × (out.new.items ≡ out.old.items ++ links)
@@ -333,7 +340,8 @@ impl<O: TreeOrder> Shape<O> {
         requires list { vec_len out.old + STORES ≤ vec_capacity out.old }
         requires pictured { has a self.old.table ≡ true }
         ensures pictures { Erases self.old self.new a result }
-        ensures plan { (links : List Store) × (out.new.items ≡ out.old.items ++ links) × LeadsByLinks self.old self.new links }
+        ensures plan { (links : List Store)
+            × (out.new.items ≡ out.old.items ++ links) × LeadsByLinks self.old self.new links }
         ensures few { vec_len out.new ≤ vec_len out.old + STORES }
         ensures capacity { vec_capacity out.new ≡ vec_capacity out.old }
         ensures was_sound { IsPicture O.order self.old }
@@ -354,10 +362,11 @@ impl<O: TreeOrder> Shape<O> {
     pub fn plan_erase_found(&mut self, out: &mut Vec<Store>, a: u64) -> Option<u32>
         requires list { vec_len out.old + STORES ≤ vec_capacity out.old }
         ensures found { is_some result ≡ has a self.old.table }
-        ensures unchanged { result ≡ None → (self.new ≡ self.old) × (out.new.items ≡ out.old.items) }
+        ensures unchanged { result ≡ None →
+            (self.new ≡ self.old) × (out.new.items ≡ out.old.items) }
         ensures pictures { IfSome result (Erases self.old self.new a) }
-        ensures plan { IsSome result →
-            (links : List Store) × (out.new.items ≡ out.old.items ++ links) × LeadsByLinks self.old self.new links }
+        ensures plan { IsSome result → (links : List Store)
+            × (out.new.items ≡ out.old.items ++ links) × LeadsByLinks self.old self.new links }
         ensures few { vec_len out.new ≤ vec_len out.old + STORES }
         ensures capacity { vec_capacity out.new ≡ vec_capacity out.old }
         ensures was_sound { IsPicture O.order self.old }
@@ -383,8 +392,10 @@ fn with_record<O: TreeOrder>(
     requires room { 0 < cursor.old.room }
     requires list { Fits out.old (links_with (copy_number copy) O.order added cursor.old.tree) }
     ensures cursor { cursor.new ≡ zipper_with O.order added cursor.old }
-    ensures items { Adds out.old (links_with (copy_number copy) O.order added cursor.old.tree) out.new }
-    ensures len { Grows out.old (links_with (copy_number copy) O.order added cursor.old.tree) out.new }
+    ensures items { Adds out.old
+        (links_with (copy_number copy) O.order added cursor.old.tree) out.new }
+    ensures len { Grows out.old
+        (links_with (copy_number copy) O.order added cursor.old.tree) out.new }
     ensures capacity { vec_capacity out.new ≡ vec_capacity out.old }
 {
     let before = cursor.link();
@@ -407,7 +418,8 @@ fn with_record_apart<O: TreeOrder>(
     requires room { 0 < cursor.old.room }
     requires list { Fits out.old (links_with (copy_number copy) O.order added cursor.old.tree) }
     ensures met { result ≡ met O.order added.item [] cursor.old.tree }
-    ensures unchanged { result ≡ true → (cursor.new ≡ cursor.old) × (out.new.items ≡ out.old.items) }
+    ensures unchanged { result ≡ true →
+        (cursor.new ≡ cursor.old) × (out.new.items ≡ out.old.items) }
     ensures cursor { result ≡ false → cursor.new ≡ zipper_with O.order added cursor.old }
     ensures items { result ≡ false →
         Adds out.old (links_with (copy_number copy) O.order added cursor.old.tree) out.new }
@@ -438,8 +450,10 @@ fn without_word<O: TreeOrder>(
     requires list { vec_len out.old + STORES ≤ vec_capacity out.old }
     requires table { IsTable O.order (items_of (rows cursor.old.tree)) }
     ensures found { is_some result ≡ has a (items_of (rows cursor.old.tree)) }
-    ensures unchanged { result ≡ None → (cursor.new ≡ cursor.old) × (out.new.items ≡ out.old.items) }
-    ensures gone { IfSome result (λ node. TakesOut (copy_number copy) a cursor.old.tree cursor.new.tree node out.old out.new) }
+    ensures unchanged { result ≡ None →
+        (cursor.new ≡ cursor.old) × (out.new.items ≡ out.old.items) }
+    ensures gone { IfSome result (λ node.
+        TakesOut (copy_number copy) a cursor.old.tree cursor.new.tree node out.old out.new) }
     ensures path { cursor.new.path ≡ [] }
     ensures room { IsSome result → cursor.new.room ≡ cursor.old.room + 1 }
     ensures few { vec_len out.new ≤ vec_len out.old + STORES }
@@ -465,12 +479,15 @@ fn without_sought<P: Probe>(
 ) -> Option<Record>
     requires whole { cursor.old.path ≡ [] }
     requires steps { depth (shape cursor.old.tree) ≤ 64 }
-    requires list { Fits out.old (links_without (copy_number copy) (P.seen sought.now) cursor.old.tree) }
+    requires list { Fits out.old
+        (links_without (copy_number copy) (P.seen sought.now) cursor.old.tree) }
     ensures row { found (P.seen sought.now) cursor.old.tree ≡ result }
-    ensures unchanged { result ≡ None → (cursor.new ≡ cursor.old) × (out.new.items ≡ out.old.items) }
+    ensures unchanged { result ≡ None →
+        (cursor.new ≡ cursor.old) × (out.new.items ≡ out.old.items) }
     ensures cursor { IsSome result → cursor.new ≡ zipper_without (P.seen sought.now) cursor.old }
     ensures items { IsSome result →
-        Adds out.old (links_without (copy_number copy) (P.seen sought.now) cursor.old.tree) out.new }
+        Adds out.old (links_without (copy_number copy) (P.seen sought.now) cursor.old.tree)
+        out.new }
     ensures capacity { vec_capacity out.new ≡ vec_capacity out.old }
 {
     let before = cursor.link();

@@ -28,7 +28,8 @@ first_tree (t ∷ trees) = t
 abbrev pub rebuilt : List (Option ℕ) → Nodes
 rebuilt xs = first_tree (built_all [] xs)
 
-built-append : (trees : List Nodes) (xs ys : List (Option ℕ)) → built_all trees (xs ++ ys) ≡ built_all (built_all trees xs) ys
+built-append : (trees : List Nodes) (xs ys : List (Option ℕ)) →
+    built_all trees (xs ++ ys) ≡ built_all (built_all trees xs) ys
 built-append trees [] ys = refl
 built-append trees (x ∷ xs) ys = built-append (built_on trees x) xs ys
 
@@ -45,4 +46,5 @@ rebuilt-written t = ap first_tree (built-written [] t)
 
 -- a tree is stored as that list
 abbrev pub nodes_code : Coded Nodes
-nodes_code = code_by (List (Option ℕ)) (coded_list (coded_option coded_ℕ)) written rebuilt rebuilt-written
+nodes_code =
+    code_by (List (Option ℕ)) (coded_list (coded_option coded_ℕ)) written rebuilt rebuilt-written

@@ -19,7 +19,8 @@ IsItemWord i w = (w ≡ a_word i) ⊎ (w ≡ b_word i) ⊎ (w ≡ tag_word i)
 
 -- the root or a link of one copy
 abbrev pub IsLinkWord : ℕ → ℕ → ℕ → Type 0
-IsLinkWord n copy w = (w ≡ root_word copy) ⊎ ((i : ℕ) × (i < n) × ((w ≡ left_word copy i) ⊎ (w ≡ right_word copy i)))
+IsLinkWord n copy w = (w ≡ root_word copy)
+    ⊎ ((i : ℕ) × (i < n) × ((w ≡ left_word copy i) ⊎ (w ≡ right_word copy i)))
 
 -- stores of one copy's root and links
 abbrev pub AreLinkStores : ℕ → ℕ → List Store → Type 0

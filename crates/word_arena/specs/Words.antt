@@ -58,7 +58,8 @@ items m (fork l i r) = items m l ++ item_at m i ∷ items m r
 abbrev pub Leads : List ℕ → ℕ → ℕ → ℕ → Nodes → Type 0
 Leads m n copy link none = link ≡ 0
 Leads m n copy link (fork l i r) =
-    (link ≡ suc i) × (i < n) × Leads m n copy (at m (left_word copy i)) l × Leads m n copy (at m (right_word copy i)) r
+    (link ≡ suc i) × (i < n)
+    × Leads m n copy (at m (left_word copy i)) l × Leads m n copy (at m (right_word copy i)) r
 
 -- one copy holds a table, in this tree
 pub record Holds (m : List ℕ) (n copy : ℕ) (table : List Item) (tree : Nodes) : Type 0 where
@@ -68,12 +69,15 @@ pub record Holds (m : List ℕ) (n copy : ℕ) (table : List Item) (tree : Nodes
 -- a walk in one copy may come to this node
 pub data Reaches (m : List ℕ) (n copy : ℕ) : ℕ → Type 0 where
   by_root : (i : ℕ) → i < n → at m (root_word copy) ≡ suc i → Reaches m n copy i
-  by_left : (i j : ℕ) → Reaches m n copy i → j < n → at m (left_word copy i) ≡ suc j → Reaches m n copy j
-  by_right : (i j : ℕ) → Reaches m n copy i → j < n → at m (right_word copy i) ≡ suc j → Reaches m n copy j
+  by_left : (i j : ℕ) → Reaches m n copy i → j < n → at m (left_word copy i) ≡ suc j →
+      Reaches m n copy j
+  by_right : (i j : ℕ) → Reaches m n copy i → j < n → at m (right_word copy i) ≡ suc j →
+      Reaches m n copy j
 
 -- a word of this node that readers of this copy load
 abbrev pub IsWordOf : ℕ → ℕ → ℕ → Type 0
-IsWordOf copy i w = (w ≡ a_word i) ⊎ (w ≡ b_word i) ⊎ (w ≡ tag_word i) ⊎ (w ≡ left_word copy i) ⊎ (w ≡ right_word copy i)
+IsWordOf copy i w = (w ≡ a_word i) ⊎ (w ≡ b_word i) ⊎ (w ≡ tag_word i)
+    ⊎ (w ≡ left_word copy i) ⊎ (w ≡ right_word copy i)
 
 -- a word that readers of this copy may load: its root, or a word of a node that it reaches
 abbrev pub InUse : List ℕ → ℕ → ℕ → ℕ → Type 0

@@ -20,8 +20,11 @@ pub fn held_in(
     words: &[u64],
 ) -> Result<Option<Vec<Item>>, AllocError>
     requires { length words.now ≡ words_for (capacity_of l) }
-    ensures held { IfOk result (λ held. IfSome held (λ table. HoldsTable words.now (capacity_of l) (copy_number copy) table.items)) }
-    ensures none { IfOk result (λ held. IfNone held ((table : List Item) → HoldsTable words.now (capacity_of l) (copy_number copy) table → capacity_of l < length table)) }
+    ensures held { IfOk result (λ held. IfSome held (λ table.
+        HoldsTable words.now (capacity_of l) (copy_number copy) table.items)) }
+    ensures none { IfOk result (λ held. IfNone held (
+        (table : List Item) → HoldsTable words.now (capacity_of l) (copy_number copy) table →
+        capacity_of l < length table)) }
 {
     let mut found = Vec::new(alloc);
     let root = words[root_of(copy)];
@@ -42,8 +45,13 @@ fn walk(
     found: &mut Vec<Item>,
 ) -> Result<Option<u32>, AllocError>
     requires { length words.now ≡ words_for (capacity_of l) }
-    ensures tree { IfOk result (λ r. IfSome r (λ rest. (t : Nodes) × Leads words.now (capacity_of l) (copy_number copy) link t × (found.new.items ≡ found.old.items ++ items words.now t) × (rest + length (listed t) ≡ left))) }
-    ensures none { IfOk result (λ r. IfNone r ((t : Nodes) → Leads words.now (capacity_of l) (copy_number copy) link t → left < length (listed t))) }
+    ensures tree { IfOk result (λ r. IfSome r (λ rest.
+        (t : Nodes) × Leads words.now (capacity_of l) (copy_number copy) link t
+        × (found.new.items ≡ found.old.items ++ items words.now t)
+        × (rest + length (listed t) ≡ left))) }
+    ensures none { IfOk result (λ r. IfNone r (
+        (t : Nodes) → Leads words.now (capacity_of l) (copy_number copy) link t →
+        left < length (listed t))) }
     ensures fewer { IfOk result (λ r. IfSome r (λ rest. rest ≤ left)) }
 {
     if link == 0 {

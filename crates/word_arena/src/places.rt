@@ -1,7 +1,8 @@
 //! Which word holds what.
 
 ghost use Rattle.std.specs.Prelude.{◌≡◌};
-ghost use Rattle.word_arena.specs.Words.{root_word, a_word, b_word, tag_word, left_word, right_word};
+ghost use Rattle.word_arena.specs.Words.{root_word, a_word, b_word, tag_word};
+ghost use Rattle.word_arena.specs.Words.{left_word, right_word};
 ghost use Rattle.word_arena.specs.Copies.{copy_number};
 
 /// One of the two copies of the tree.

@@ -1,6 +1,8 @@
 -- The way up from the node's place is the whole erase: the facts of PlaceSteps at the values of the
 -- calls.
-use Rattle.std.proofs.Common.{◌≡◌, ℕ, ◌+◌, [], ◌++◌, refl, sym, ◌∙◌, ap, arith, length, length-append, append_assoc}
+use Rattle.std.proofs.Common.{◌≡◌, ℕ, ◌+◌, List, [], ◌++◌, refl, sym, ◌∙◌, ap, arith, length}
+use Rattle.std.proofs.Common.{length-append, append_assoc}
+use Rattle.word_arena.specs.declared.stores.Store.{Store}
 use Rattle.word_arena.specs.Copies.{copy_number}
 use Rattle.rb_trees.specs.Trees.{Branches, shape, depth}
 use Rattle.rb_trees.specs.Turns.{link}
@@ -13,6 +15,7 @@ use Rattle.rb_cursor.proofs.FirstSteps.{row_link}
 use Rattle.rb_cursor.proofs.PlaceSteps.{found_there, place_few, place_fewer, place_top, place_climbed, place_stores}
 use Rattle.rb_trees.proofs.PathLemmas.{plugged_to}
 use Rattle.rb_cursor.proofs.Stepping.{all_back}
+use Rattle.rb_cursor.proofs.erases.erase.Given.{Over}
 use Rattle.rb_cursor.proofs.erases.erase.Goals as goal
 
 pub take_node-short-requires-clause-steps : goal.take_node-short-requires-clause-steps
@@ -28,38 +31,60 @@ take_node-short-requires-clause-list g c =
     let total = simp length-append at (ap length stores) in
     omega (arith, total, ap (λ u. length (top_erase copy u)) c.seek.ensures.tree, c.requires.list)
 
+-- the path is that of the way down
+goes : (g : Over) (c : goal.After-struct_known-1 g) → c.take_node-short.new.cursor.path
+    ≡ way_at (g.P.Probe.seen c.args.sought.now) c.args.cursor.now.tree c.args.cursor.now.path
+goes g c = ap (λ (z : Zipper). z.path) c.take_node-short.ensures.cursor ∙ c.seek.ensures.path
+
+-- what stands at the node's place
+lost : (g : Over) (c : goal.After-struct_known-1 g) →
+    remaining c.take_node-short.new.cursor.tree c.take_node-short.result
+    ≡ top_erased (place_at (g.P.Probe.seen c.args.sought.now) c.args.cursor.now.tree)
+lost g c =
+    ap (λ (z : Zipper). remaining z.tree c.take_node-short.result) c.take_node-short.ensures.cursor
+    ∙ ap (remaining (top_erased c.seek.new.self.tree).tree) c.take_node-short.ensures.short
+    ∙ ap top_erased c.seek.ensures.tree
+
+-- the stores on the way up
+abbrev up : (g : Over) → goal.After-struct_known-1 g → List Store
+up g c =
+    erase_climb (copy_number c.args.copy) 0 c.take_node-short.new.cursor.path
+    (c.in-Some.row.node + 1)
+    (remaining c.take_node-short.new.cursor.tree c.take_node-short.result)
+
+-- and those at the place before them
+stores : (g : Over) (c : goal.After-struct_known-1 g) →
+    top_erase (copy_number c.args.copy) c.seek.new.self.tree ++ up g c
+    ≡ erase_links (copy_number c.args.copy) (g.P.Probe.seen c.args.sought.now) c.args.cursor.now.tree
+stores g c =
+    let seen = g.P.Probe.seen c.args.sought.now in
+    let copy = copy_number c.args.copy in
+    let t = c.args.cursor.now.tree in
+    let linked : c.in-Some.row.node + 1 ≡ link (shape (place_at seen t)) =
+    row_link (place_at seen t) c.in-Some.row (sym (c.in-Some.ensures ∙ ap row_of c.seek.ensures.tree))
+    in
+    ap (λ (u : Branches). top_erase copy u ++ up g c) c.seek.ensures.tree
+    ∙ place_stores seen t (goes g c) c.requires.whole copy linked (lost g c)
+
 pub climb-requires-clause-steps : goal.climb-requires-clause-steps
 climb-requires-clause-steps g c =
-    -- the path is that of the way down
-    let goes : c.take_node-short.new.cursor.path ≡ way_at (g.P.Probe.seen c.args.sought.now) c.args.cursor.now.tree c.args.cursor.now.path =
-    ap (λ (z : Zipper). z.path) c.take_node-short.ensures.cursor ∙ c.seek.ensures.path in
-    let less = place_fewer (g.P.Probe.seen c.args.sought.now) c.args.cursor.now.tree goes c.requires.whole
-    (sym (c.in-Some.ensures ∙ ap row_of c.seek.ensures.tree)) in
+    let less = place_fewer (g.P.Probe.seen c.args.sought.now) c.args.cursor.now.tree (goes g c)
+    c.requires.whole (sym (c.in-Some.ensures ∙ ap row_of c.seek.ensures.tree)) in
     omega (arith, less, c.requires.steps)
 
 pub climb-requires-clause-list : goal.climb-requires-clause-list
 climb-requires-clause-list g c =
-    -- the path is that of the way down
-    let goes : c.take_node-short.new.cursor.path ≡ way_at (g.P.Probe.seen c.args.sought.now) c.args.cursor.now.tree c.args.cursor.now.path =
-    ap (λ (z : Zipper). z.path) c.take_node-short.ensures.cursor ∙ c.seek.ensures.path in
-    -- what stands at the node's place
-    let lost : remaining c.take_node-short.new.cursor.tree c.take_node-short.result ≡ top_erased (place_at (g.P.Probe.seen c.args.sought.now) c.args.cursor.now.tree) =
-    ap (λ (z : Zipper). remaining z.tree c.take_node-short.result) c.take_node-short.ensures.cursor
-    ∙ ap (remaining (top_erased c.seek.new.self.tree).tree) c.take_node-short.ensures.short
-    ∙ ap top_erased c.seek.ensures.tree in
-    -- the stores there and on the way up
-    let linked : c.in-Some.row.node + 1 ≡ link (shape (place_at (g.P.Probe.seen c.args.sought.now) c.args.cursor.now.tree)) =
-    row_link (place_at (g.P.Probe.seen c.args.sought.now) c.args.cursor.now.tree) c.in-Some.row (sym (c.in-Some.ensures ∙ ap row_of c.seek.ensures.tree)) in
-    let stores : top_erase (copy_number c.args.copy) c.seek.new.self.tree
-    ++ erase_climb (copy_number c.args.copy) 0 c.take_node-short.new.cursor.path (c.in-Some.row.node + 1)
-    (remaining c.take_node-short.new.cursor.tree c.take_node-short.result)
-    ≡ erase_links (copy_number c.args.copy) (g.P.Probe.seen c.args.sought.now) c.args.cursor.now.tree =
-    ap (λ u. top_erase (copy_number c.args.copy) u ++ erase_climb (copy_number c.args.copy) 0 c.take_node-short.new.cursor.path (c.in-Some.row.node + 1) (remaining c.take_node-short.new.cursor.tree c.take_node-short.result))
-    c.seek.ensures.tree
-    ∙ place_stores (g.P.Probe.seen c.args.sought.now) c.args.cursor.now.tree goes c.requires.whole (copy_number c.args.copy) linked lost in
-    let total = simp length-append at (ap length stores) in
+    let total = simp length-append at (ap length (stores g c)) in
     let taken = simp length-append at (ap length c.take_node-short.ensures.items) in
-    omega (arith, total, taken, c.requires.list, c.args.out.now.ok.0, c.take_node-short.new.out.ok.0, c.take_node-short.ensures.capacity)
+    omega (
+      arith,
+      total,
+      taken,
+      c.requires.list,
+      c.args.out.now.ok.0,
+      c.take_node-short.new.out.ok.0,
+      c.take_node-short.ensures.capacity,
+    )
 
 pub returns-clause-row : goal.returns-clause-row
 returns-clause-row g c = found_there (g.P.Probe.seen c.args.sought.now) c.args.cursor.now.tree ∙ sym (c.in-Some.ensures ∙ ap row_of c.seek.ensures.tree)
@@ -80,49 +105,26 @@ alone t room = record { tree = t; path = []; room = room }
 
 pub returns-clause-cursor : goal.returns-clause-cursor
 returns-clause-cursor g c = λ _.
-    -- the path is that of the way down
-    let goes : c.take_node-short.new.cursor.path ≡ way_at (g.P.Probe.seen c.args.sought.now) c.args.cursor.now.tree c.args.cursor.now.path =
-    ap (λ (z : Zipper). z.path) c.take_node-short.ensures.cursor ∙ c.seek.ensures.path in
-    -- what stands at the node's place
-    let lost : remaining c.take_node-short.new.cursor.tree c.take_node-short.result ≡ top_erased (place_at (g.P.Probe.seen c.args.sought.now) c.args.cursor.now.tree) =
-    ap (λ (z : Zipper). remaining z.tree c.take_node-short.result) c.take_node-short.ensures.cursor
-    ∙ ap (remaining (top_erased c.seek.new.self.tree).tree) c.take_node-short.ensures.short
-    ∙ ap top_erased c.seek.ensures.tree in
     let seen = g.P.Probe.seen c.args.sought.now in
     let t = c.args.cursor.now.tree in
-    let path : c.climb.new.cursor.path ≡ [] = c.climb.ensures.path ∙ place_top seen t goes c.requires.whole in
+    let path : c.climb.new.cursor.path ≡ [] =
+    c.climb.ensures.path ∙ place_top seen t (goes g c.before) c.requires.whole in
     let tree : c.climb.new.cursor.tree ≡ (erased seen t).tree =
-    c.climb.ensures.tree ∙ ap (λ r. r.tree) (place_climbed seen t goes c.requires.whole lost) in
+    c.climb.ensures.tree
+    ∙ ap (λ r. r.tree) (place_climbed seen t (goes g c.before) c.requires.whole (lost g c.before)) in
     let room : c.climb.new.cursor.room ≡ c.args.cursor.now.room + 1 =
-    c.climb.ensures.room ∙ ap (λ z. z.room) c.take_node-short.ensures.cursor ∙ ap (λ n. n + 1) c.seek.ensures.room in
-    let here : Zipper = record { tree = (erased seen t).tree; path = []; room = c.args.cursor.now.room + 1 } in
-    ap (λ v. record here { tree = v; path = c.climb.new.cursor.path; room = c.climb.new.cursor.room }) tree
+    c.climb.ensures.room ∙ ap (λ z. z.room) c.take_node-short.ensures.cursor
+    ∙ ap (λ n. n + 1) c.seek.ensures.room in
+    let here : Zipper = alone (erased seen t).tree (c.args.cursor.now.room + 1) in
+    ap (λ v. record here { tree = v; path = c.climb.new.cursor.path; room = c.climb.new.cursor.room })
+    tree
     ∙ ap (λ p. record here { path = p; room = c.climb.new.cursor.room }) path
     ∙ ap (alone (erased seen t).tree) room
 
 pub returns-clause-items : goal.returns-clause-items
 returns-clause-items g c = λ _.
-    -- the path is that of the way down
-    let goes : c.take_node-short.new.cursor.path ≡ way_at (g.P.Probe.seen c.args.sought.now) c.args.cursor.now.tree c.args.cursor.now.path =
-    ap (λ (z : Zipper). z.path) c.take_node-short.ensures.cursor ∙ c.seek.ensures.path in
-    -- what stands at the node's place
-    let lost : remaining c.take_node-short.new.cursor.tree c.take_node-short.result ≡ top_erased (place_at (g.P.Probe.seen c.args.sought.now) c.args.cursor.now.tree) =
-    ap (λ (z : Zipper). remaining z.tree c.take_node-short.result) c.take_node-short.ensures.cursor
-    ∙ ap (remaining (top_erased c.seek.new.self.tree).tree) c.take_node-short.ensures.short
-    ∙ ap top_erased c.seek.ensures.tree in
-    -- the stores there and on the way up
-    let linked : c.in-Some.row.node + 1 ≡ link (shape (place_at (g.P.Probe.seen c.args.sought.now) c.args.cursor.now.tree)) =
-    row_link (place_at (g.P.Probe.seen c.args.sought.now) c.args.cursor.now.tree) c.in-Some.row (sym (c.in-Some.ensures ∙ ap row_of c.seek.ensures.tree)) in
-    let stores : top_erase (copy_number c.args.copy) c.seek.new.self.tree
-    ++ erase_climb (copy_number c.args.copy) 0 c.take_node-short.new.cursor.path (c.in-Some.row.node + 1)
-    (remaining c.take_node-short.new.cursor.tree c.take_node-short.result)
-    ≡ erase_links (copy_number c.args.copy) (g.P.Probe.seen c.args.sought.now) c.args.cursor.now.tree =
-    ap (λ u. top_erase (copy_number c.args.copy) u ++ erase_climb (copy_number c.args.copy) 0 c.take_node-short.new.cursor.path (c.in-Some.row.node + 1) (remaining c.take_node-short.new.cursor.tree c.take_node-short.result))
-    c.seek.ensures.tree
-    ∙ place_stores (g.P.Probe.seen c.args.sought.now) c.args.cursor.now.tree goes c.requires.whole (copy_number c.args.copy) linked lost in
-    let up = erase_climb (copy_number c.args.copy) 0 c.take_node-short.new.cursor.path (c.in-Some.row.node + 1)
-    (remaining c.take_node-short.new.cursor.tree c.take_node-short.result) in
     c.climb.ensures.items
-    ∙ ap (λ ss. ss ++ up) c.take_node-short.ensures.items
-    ∙ append_assoc c.args.out.now.items (top_erase (copy_number c.args.copy) c.seek.new.self.tree) up
-    ∙ ap (λ ss. c.args.out.now.items ++ ss) stores
+    ∙ ap (λ ss. ss ++ up g c.before) c.take_node-short.ensures.items
+    ∙ append_assoc c.args.out.now.items (top_erase (copy_number c.args.copy) c.seek.new.self.tree)
+    (up g c.before)
+    ∙ ap (λ ss. c.args.out.now.items ++ ss) (stores g c.before)

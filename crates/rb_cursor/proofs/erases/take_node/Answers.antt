@@ -18,29 +18,29 @@ store word value = record { word = word; value = value }
 
 -- the node that was read and then opened
 same : (c : goal.After-fill_right_if-arg-2-1)
-    → (c.in-Some.fork.node.now.red ≡ c.in-Some-open_right.field-0.red)
-    × (c.in-Some.fork.left ≡ (c.in-Some-open_right.ensures).left) × (c.in-Some.fork.right ≡ c.open_right.new.self.tree)
-same c = same_fork (subst (λ t. IsForked t c.in-Some.fork) c.tree.ensures c.in-Some.ensures) c.in-Some-open_right.ensures
+    → (c.in-Some.fork.node.now.red ≡ c.in-Some-open.field-0.red)
+    × (c.in-Some.fork.left ≡ (c.in-Some-open.ensures).other) × (c.in-Some.fork.right ≡ c.open-2.new.self.tree)
+same c = same_fork (subst (λ t. IsForked t c.in-Some.fork) c.tree.ensures c.in-Some.ensures) c.in-Some-open.ensures
 
-fork : (c : goal.After-fill_right_if-arg-2-1) → is_fork c.open_right.new.self.tree ≡ true
+fork : (c : goal.After-fill_right_if-arg-2-1) → is_fork c.open-2.new.self.tree ≡ true
 fork c = ap is_fork (sym (same c).2) ∙ fork_there c.in-Some.fork.right c.if-is_empty.ensures
 
 -- the place with the next record
 there : (c : goal.After-fill_right_if-arg-2-1)
     → c.set_row.new.self
-    ≡ placed (replaced c.in-Some-open_right.ensures (fork c) c.take_first-next.ensures.row) c.args.cursor.now.path (c.args.cursor.now.room + 1)
+    ≡ placed (replaced c.in-Some-open.ensures (fork c) c.take_first-next.ensures.row) c.args.cursor.now.path (c.args.cursor.now.room + 1)
 there c =
-    next_placed c.in-Some-open_right.ensures (fork c) c.take_first-next.ensures.row c.take_first-next.ensures.cursor (same c).0 c.close.ensures c.set_row.ensures
+    next_placed c.in-Some-open.ensures (fork c) c.take_first-next.ensures.row c.take_first-next.ensures.cursor (same c).0 c.close.ensures c.set_row.ensures
 
 links : (c : goal.After-fill_right_if-arg-2-1)
-    → ((first_links (copy_number c.args.copy) c.open_right.new.self.tree
+    → ((first_links (copy_number c.args.copy) c.open-2.new.self.tree
     ++ store c.left_of.result c.link-left.result ∷ store c.right_of.result c.link-right.result ∷ [])
     ++ right_fill_if (copy_number c.args.copy) c.take_first-next.result.short c.set_row.new.self.tree
     ≡ top_erase (copy_number c.args.copy) c.args.cursor.now.tree)
 links c =
     let copy = copy_number c.args.copy in
     let node = c.take_first-next.result.row.node in
-    next_links c.in-Some-open_right.ensures (fork c) c.take_first-next.ensures.row copy
+    next_links c.in-Some-open.ensures (fork c) c.take_first-next.ensures.row copy
     (ap (λ w. store w c.link-left.result) c.left_of.ensures
     ∙ ap (set_left copy node) (c.link-left.ensures ∙ ap (λ t. link (shape t)) (same c).1))
     (ap (λ w. store w c.link-right.result) c.right_of.ensures
@@ -67,7 +67,7 @@ fill_right_if-requires-clause-list c =
 
 pub returns-clause-cursor : goal.returns-clause-cursor
 returns-clause-cursor c =
-    let opens = c.in-Some-open_right.ensures in
+    let opens = c.in-Some-open.ensures in
     let next = c.take_first-next.ensures in
     let path = c.args.cursor.now.path in
     let room = c.args.cursor.now.room + 1 in
@@ -87,5 +87,5 @@ returns-clause-items c =
     ∙ ap (λ ss. ss ++ fill)
     (c.push_reserved-2.ensures.items
     ∙ ap (λ ss. ss ++ upper ∷ []) (c.push_reserved.ensures.items ∙ ap (λ ss. ss ++ lower ∷ []) c.take_first-next.ensures.items))
-    ∙ pushed_between c.args.out.now.items (first_links copy c.open_right.new.self.tree) lower upper fill
+    ∙ pushed_between c.args.out.now.items (first_links copy c.open-2.new.self.tree) lower upper fill
     ∙ ap (λ ss. c.args.out.now.items ++ ss) (links c.before)

@@ -1,12 +1,8 @@
-use Rattle.std.proofs.Common.{◌≡◌, ◌∙◌, refl, sym, ap, arith, true, Some, None, length, length-append}
+use Rattle.std.proofs.Common.{◌∙◌, refl, sym, ap, arith, length, length-append}
 use Rattle.std.specs.Prelude.{is_some}
 use Rattle.word_arena.specs.Copies.{copy_number}
-use Rattle.order_laws.specs.declared.items.Item.{Item}
-use Rattle.order_laws.specs.Tables.{has}
-use Rattle.rb_trees.specs.Trees.{rows}
-use Rattle.rb_trees.specs.Erased.{first_word_at, item_lies, found}
-use Rattle.rb_trees.specs.Found.{any_with, items_of}
-use Rattle.rb_trees.specs.Sought.{Sought}
+use Rattle.rb_trees.specs.Erased.{first_word_at, item_lies}
+use Rattle.rb_trees.specs.Found.{any_with}
 use Rattle.rb_trees.proofs.SoughtRows.{sought_by_word, sought_by_any, found_by_word, any_has}
 use Rattle.rb_cursor.specs.Zippers.{Zipper}
 use Rattle.rb_words.specs.TreePictures.{links_without}

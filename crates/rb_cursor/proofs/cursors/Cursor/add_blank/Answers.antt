@@ -1,8 +1,9 @@
-use Rattle.std.proofs.Common.{ℕ, refl, sym, ap, ◌∙◌, arith}
+use Rattle.std.proofs.Common.{ℕ, ◌+◌, refl, sym, ap, ◌∙◌, arith}
 use Rattle.rb_cursor.proofs.BlankLemmas.{grows, blank_node, blanked, at_failure}
 use Rattle.std.proofs.Common.{subst, Some}
 use Rattle.slab.specs.Slab.{Slab, slab_len, Updates}
 use Rattle.rb_cursor.specs.declared.nodes.Node.{Node}
+use Rattle.rb_cursor.proofs.HeldLemmas.{Moved}
 use Rattle.rb_cursor.proofs.cursors.Cursor.add_blank.Goals as goal
 
 pub invariant_of-self : goal.invariant_of-self
@@ -26,11 +27,16 @@ returns-then-key-clause-unchanged c =
     (grows c.self.inside c.reserve.new.self c.args.self.now c.self.invariant c.self.view_is
     c.reserve.ensures.rest_kept c.reserve.ensures.capacity).shows
 
-pub invariant_of-self-2 : goal.invariant_of-self-2
-invariant_of-self-2 c =
-    (blanked c.self.inside c.reserve.new.self c.insert_reserved.new.self c.args.self.now
+there : (c : goal.After-self-2-1) →
+    Moved (record c.self.inside {
+      nodes = c.insert_reserved.new.self;
+      blank = c.vacant_key-key.result + 1;
+      room = c.self.inside.room + 1;
+    }) (record c.args.self.now { room = c.args.self.now.room + 1 })
+there c =
+    blanked c.self.inside c.reserve.new.self c.insert_reserved.new.self c.args.self.now
     c.vacant_key-key.result (blank_node c.self.inside.blank) c.self.invariant c.self.view_is
-    c.reserve.ensures.rest_kept c.reserve.ensures.capacity (c.in_ok-reserve.ensures.room)
+    c.reserve.ensures.rest_kept c.reserve.ensures.capacity c.in_ok-reserve.ensures.room
     (omega (
       arith,
       c.if-len.false,
@@ -41,21 +47,10 @@ invariant_of-self-2 c =
     (subst (λ (k : ℕ). Updates c.reserve.new.self c.insert_reserved.new.self k
     (Some (blank_node c.self.inside.blank))) (c.insert_reserved.ensures.key
     ∙ sym c.vacant_key-key.ensures.value) c.insert_reserved.ensures.updates) refl
-    c.insert_reserved.ensures.len c.insert_reserved.ensures.capacity).is
+    c.insert_reserved.ensures.len c.insert_reserved.ensures.capacity
+
+pub invariant_of-self-2 : goal.invariant_of-self-2
+invariant_of-self-2 c = (there c).is
 
 pub returns-clause-more : goal.returns-clause-more
-returns-clause-more c =
-    (blanked c.self.inside c.reserve.new.self c.insert_reserved.new.self c.args.self.now
-    c.vacant_key-key.result (blank_node c.self.inside.blank) c.self.invariant c.self.view_is
-    c.reserve.ensures.rest_kept c.reserve.ensures.capacity (c.in_ok-reserve.ensures.room)
-    (omega (
-      arith,
-      c.if-len.false,
-      c.len.ensures,
-      ap (λ (z : Slab Node). slab_len z) c.reserve.ensures.rest_kept,
-    ))
-    c.vacant_key-key.ensures.vacant
-    (subst (λ (k : ℕ). Updates c.reserve.new.self c.insert_reserved.new.self k
-    (Some (blank_node c.self.inside.blank))) (c.insert_reserved.ensures.key
-    ∙ sym c.vacant_key-key.ensures.value) c.insert_reserved.ensures.updates) refl
-    c.insert_reserved.ensures.len c.insert_reserved.ensures.capacity).shows
+returns-clause-more c = (there c).shows

@@ -1,6 +1,9 @@
 use Rattle.std.proofs.Common.{◌-◌, refl, sym, ap, ◌∙◌, arith}
 use Rattle.rb_cursor.proofs.ChangeLemmas.{closes, not_closed, no_path, last_leads, last_there}
+use Rattle.slab.specs.Slab.{with_value}
+use Rattle.rb_cursor.specs.Closing.{closed}
 use Rattle.rb_cursor.specs.Writes.{step_at}
+use Rattle.rb_cursor.proofs.HeldLemmas.{Moved}
 use Rattle.std.specs.Option.{option_copied_mut}
 use Rattle.rb_cursor.proofs.cursors.Cursor.close.Goals as goal
 
@@ -24,20 +27,24 @@ unreachable-requires c =
     (omega (arith, c.if-self-eq0.false)) step (step.link - 1) refl (omega arith)
     (sym c.get_mut.ensures.value ∙ ap option_copied_mut c.in_default.is)
 
-pub invariant_of-self : goal.invariant_of-self
-invariant_of-self c =
+there : (c : goal.After-self-3-1) →
+    let step = step_at c.self.inside.steps (c.self.inside.depth - 1) in
+    Moved (record c.self.inside {
+      nodes = with_value c.self.inside.nodes (step.link - 1)
+          (record c.in-Some.node.now { red = c.args.red });
+      tree = step.link;
+      depth = c.self.inside.depth - 1;
+    }) (closed c.args.red c.args.self.now.tree c.args.self.now.path c.args.self.now.room)
+there c =
     let step = step_at c.self.inside.steps (c.self.inside.depth - 1) in
     let some = last_leads c.self.inside c.args.self.now c.self.invariant c.self.view_is
     (omega (arith, c.if-self-eq0.false)) step refl in
-    (closes c.self.inside c.args.self.now step (step.link - 1) c.args.red c.in-Some.node.now
+    closes c.self.inside c.args.self.now step (step.link - 1) c.args.red c.in-Some.node.now
     c.self.invariant c.self.view_is
-    (omega (arith, c.if-self-eq0.false)) refl (omega arith) (sym c.in-Some.ensures.value)).is
+    (omega (arith, c.if-self-eq0.false)) refl (omega arith) (sym c.in-Some.ensures.value)
+
+pub invariant_of-self : goal.invariant_of-self
+invariant_of-self c = (there c).is
 
 pub returns : goal.returns
-returns c =
-    let step = step_at c.self.inside.steps (c.self.inside.depth - 1) in
-    let some = last_leads c.self.inside c.args.self.now c.self.invariant c.self.view_is
-    (omega (arith, c.if-self-eq0.false)) step refl in
-    (closes c.self.inside c.args.self.now step (step.link - 1) c.args.red c.in-Some.node.now
-    c.self.invariant c.self.view_is
-    (omega (arith, c.if-self-eq0.false)) refl (omega arith) (sym c.in-Some.ensures.value)).shows
+returns c = (there c).shows

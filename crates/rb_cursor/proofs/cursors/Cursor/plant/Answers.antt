@@ -1,5 +1,6 @@
 use Rattle.std.proofs.Common.{◌-◌, arith}
-use Rattle.rb_cursor.proofs.HeldLemmas.{room_is, filled}
+use Rattle.rb_cursor.specs.Tops.{planted}
+use Rattle.rb_cursor.proofs.HeldLemmas.{Moved, room_is, filled}
 use Rattle.rb_cursor.proofs.BlankLemmas.{blank_leads, blank_there, plants}
 use Rattle.rb_cursor.proofs.TurnLemmas.{leads_on}
 use Rattle.rb_cursor.proofs.cursors.Cursor.plant.Goals as goal
@@ -12,7 +13,8 @@ pub index_mut-node-requires : goal.index_mut-node-requires
 index_mut-node-requires c =
     let some = blank_leads c.self.inside c.args.self.now c.self.invariant c.self.view_is
     c.requires.room in
-    filled (λ none. blank_there c.self.inside (c.self.inside.blank - 1) c.self.invariant (omega arith) none)
+    filled (λ none. blank_there c.self.inside (c.self.inside.blank - 1) c.self.invariant
+    (omega arith) none)
 
 pub overflow_sub-self : goal.overflow_sub-self
 overflow_sub-self c =
@@ -25,18 +27,22 @@ overflow_sub-self c =
 pub lead-requires-clause-leads : goal.lead-requires-clause-leads
 lead-requires-clause-leads c = leads_on c.self.inside c.self.invariant
 
-pub invariant_of-self : goal.invariant_of-self
-invariant_of-self c =
+there : (c : goal.After-lead) →
+    Moved (record c.self.inside {
+      nodes = c.lead.new.nodes;
+      tree = c.self.inside.blank;
+      blank = c.index_mut-node.result.now.left;
+      room = c.self.inside.room - 1;
+    }) (planted c.args.row c.args.self.now)
+there c =
     let some = blank_leads c.self.inside c.args.self.now c.self.invariant c.self.view_is
     c.requires.room in
-    (plants c.self.inside c.lead.new.nodes c.args.self.now (c.self.inside.blank - 1) c.args.row
+    plants c.self.inside c.lead.new.nodes c.args.self.now (c.self.inside.blank - 1) c.args.row
     c.index_mut-node.result.now c.self.invariant c.self.view_is c.requires.leaf (omega arith)
-    c.index_mut-node.ensures.value c.lead.ensures).is
+    c.index_mut-node.ensures.value c.lead.ensures
+
+pub invariant_of-self : goal.invariant_of-self
+invariant_of-self c = (there c).is
 
 pub returns : goal.returns
-returns c =
-    let some = blank_leads c.self.inside c.args.self.now c.self.invariant c.self.view_is
-    c.requires.room in
-    (plants c.self.inside c.lead.new.nodes c.args.self.now (c.self.inside.blank - 1) c.args.row
-    c.index_mut-node.result.now c.self.invariant c.self.view_is c.requires.leaf (omega arith)
-    c.index_mut-node.ensures.value c.lead.ensures).shows
+returns c = (there c).shows

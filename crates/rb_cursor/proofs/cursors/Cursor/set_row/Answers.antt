@@ -1,5 +1,5 @@
 use Rattle.std.proofs.Common.{◌-◌, sym, ap, ◌∙◌, arith}
-use Rattle.rb_cursor.proofs.ChangeLemmas.{rewrites}
+use Rattle.rb_cursor.proofs.ChangeLemmas.{Rewritten, rewrites}
 use Rattle.rb_cursor.proofs.HeldLemmas.{none_there}
 use Rattle.rb_trees.specs.Trees.{Branches}
 use Rattle.rb_cursor.specs.Tops.{with_row}
@@ -12,16 +12,19 @@ returns-then-self-eq0 c =
     ap (λ (t : Branches). record c.args.self.now { tree = t }) e
     ∙ sym (ap (λ (t : Branches). record c.args.self.now { tree = with_row c.args.row t }) e)
 
-pub invariant_of-self : goal.invariant_of-self
-invariant_of-self c =
-    (rewrites c.self.inside c.args.self.now (c.self.inside.tree - 1) c.in-Some.node.now.red
+there : (c : goal.After-self-2-1) →
+    Rewritten c.self.inside c.args.self.now (c.self.inside.tree - 1) c.in-Some.node.now.red
+    c.args.row c.in-Some.node.now
+there c =
+    rewrites c.self.inside c.args.self.now (c.self.inside.tree - 1) c.in-Some.node.now.red
     c.args.row c.in-Some.node.now c.self.invariant c.self.view_is
-    (omega (arith, c.if-self-eq0.false)) (sym c.in-Some.ensures.value)).moved.is
+    (omega (arith, c.if-self-eq0.false)) (sym c.in-Some.ensures.value)
+
+pub invariant_of-self : goal.invariant_of-self
+invariant_of-self c = (there c).moved.is
 
 pub returns : goal.returns
 returns c =
-    let r = rewrites c.self.inside c.args.self.now (c.self.inside.tree - 1) c.in-Some.node.now.red
-    c.args.row c.in-Some.node.now c.self.invariant c.self.view_is
-    (omega (arith, c.if-self-eq0.false)) (sym c.in-Some.ensures.value) in
-    r.moved.shows
-    ∙ sym (ap (λ (t : Branches). record c.args.self.now { tree = with_row c.args.row t }) r.was)
+    (there c).moved.shows
+    ∙ sym (ap (λ (t : Branches). record c.args.self.now { tree = with_row c.args.row t })
+    (there c).was)

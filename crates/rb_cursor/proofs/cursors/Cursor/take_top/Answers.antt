@@ -1,5 +1,6 @@
-use Rattle.std.proofs.Common.{◌-◌, arith}
-use Rattle.rb_cursor.proofs.HeldLemmas.{top_present}
+use Rattle.std.proofs.Common.{◌+◌, ◌-◌, arith}
+use Rattle.rb_cursor.specs.Tops.{thinned}
+use Rattle.rb_cursor.proofs.HeldLemmas.{Moved, top_present}
 use Rattle.rb_cursor.proofs.BlankLemmas.{thin_leads, room_fits, takes}
 use Rattle.rb_cursor.proofs.TurnLemmas.{leads_on}
 use Rattle.rb_cursor.proofs.cursors.Cursor.take_top.Goals as goal
@@ -25,20 +26,23 @@ overflow_add-self c =
 pub lead-requires-clause-leads : goal.lead-requires-clause-leads
 lead-requires-clause-leads c = leads_on c.self.inside c.self.invariant
 
-pub invariant_of-self : goal.invariant_of-self
-invariant_of-self c =
+there : (c : goal.After-lead) →
+    Moved (record c.self.inside {
+      nodes = c.lead.new.nodes;
+      tree = c.only_link-subtree.result;
+      blank = c.self.inside.tree;
+      room = c.self.inside.room + 1;
+    }) (thinned c.args.self.now)
+there c =
     let some = thin_leads c.self.inside c.args.self.now c.self.invariant c.self.view_is
     c.requires in
-    (takes c.self.inside c.lead.new.nodes c.args.self.now (c.self.inside.tree - 1)
-    c.only_link-subtree.result c.index_mut-node.result.now c.self.invariant c.self.view_is c.requires
-    (omega arith)
-    c.index_mut-node.ensures.value c.only_link-subtree.ensures c.lead.ensures).is
+    takes c.self.inside c.lead.new.nodes c.args.self.now (c.self.inside.tree - 1)
+    c.only_link-subtree.result c.index_mut-node.result.now c.self.invariant c.self.view_is
+    c.requires (omega arith) c.index_mut-node.ensures.value c.only_link-subtree.ensures
+    c.lead.ensures
+
+pub invariant_of-self : goal.invariant_of-self
+invariant_of-self c = (there c).is
 
 pub returns : goal.returns
-returns c =
-    let some = thin_leads c.self.inside c.args.self.now c.self.invariant c.self.view_is
-    c.requires in
-    (takes c.self.inside c.lead.new.nodes c.args.self.now (c.self.inside.tree - 1)
-    c.only_link-subtree.result c.index_mut-node.result.now c.self.invariant c.self.view_is c.requires
-    (omega arith)
-    c.index_mut-node.ensures.value c.only_link-subtree.ensures c.lead.ensures).shows
+returns c = (there c).shows

@@ -7,7 +7,8 @@ use Rattle.rb_trees.specs.declared.Record.{Record}
 use Rattle.rb_cursor.specs.Zippers.{Zipper}
 use Rattle.rb_words.specs.Pictures.{Picture}
 use Rattle.rb_words.specs.TreePictures.{links_with}
-use Rattle.rb_words.proofs.PlanLemmas.{shown_insert, few_with, few_steps}
+use Rattle.rb_words.proofs.PlanLemmas.{AfterInsert, shown_insert, few_with, few_steps}
+use Rattle.rb_words.proofs.shapes.Shape.plan_links.Given.{Over}
 use Rattle.rb_words.proofs.shapes.Shape.plan_links.Goals as goal
 
 pub with_record-requires-clause-steps : goal.with_record-requires-clause-steps
@@ -26,13 +27,17 @@ with_record-requires-clause-list g c =
           c.self.invariant.1,
     )
 
-pub invariant_of-self : goal.invariant_of-self
-invariant_of-self g c =
-    let x : Record = record { node = c.args.node; item = c.args.item } in
-    let after = shown_insert g.O.TreeOrder.order g.met.O.TreeOrder.lawful
-    (capacity_of c.self.inside.layout) (copy_number c.self.inside.copy)
-    c.self.inside.cursor.tree c.with_record.new.cursor.tree c.self.inside.cursor.room
-    c.with_record.new.cursor.room x
+-- what the shape shows with the item
+after : (g : Over) (c : goal.After-self-1 g) →
+    AfterInsert g.O.TreeOrder.order (capacity_of c.self.inside.layout)
+    (copy_number c.self.inside.copy) c.self.inside.cursor.tree c.with_record.new.cursor.tree
+    c.with_record.new.cursor.room (record { node = c.args.node; item = c.args.item })
+    c.args.self.now
+after g c =
+    shown_insert g.O.TreeOrder.order g.met.O.TreeOrder.lawful (capacity_of c.self.inside.layout)
+    (copy_number c.self.inside.copy) c.self.inside.cursor.tree c.with_record.new.cursor.tree
+    c.self.inside.cursor.room c.with_record.new.cursor.room
+    (record { node = c.args.node; item = c.args.item })
     (ap (λ (z : Zipper). z.tree) c.with_record.ensures.cursor)
     (omega (
       arith,
@@ -41,10 +46,14 @@ invariant_of-self g c =
       c.requires.room,
     ))
     c.self.invariant.0 c.self.invariant.1 c.args.self.now c.self.view_is
-    (c.requires.in_range, c.requires.free, c.requires.valid, c.requires.apart) in (
-      after.picture,
-      after.balanced,
-      omega (arith, after.count, c.self.invariant.2),
+    (c.requires.in_range, c.requires.free, c.requires.valid, c.requires.apart)
+
+pub invariant_of-self : goal.invariant_of-self
+invariant_of-self g c =
+    let shown = after g c in (
+      shown.picture,
+      shown.balanced,
+      omega (arith, shown.count, c.self.invariant.2),
       ap (λ (z : Zipper). z.path) c.with_record.ensures.cursor,
     )
 
@@ -53,22 +62,11 @@ returns g c =
     let x : Record = record { node = c.args.node; item = c.args.item } in
     let order = g.O.TreeOrder.order in
     let copy = copy_number c.self.inside.copy in
-    let after = shown_insert order g.met.O.TreeOrder.lawful (capacity_of c.self.inside.layout) copy
-    c.self.inside.cursor.tree c.with_record.new.cursor.tree c.self.inside.cursor.room
-    c.with_record.new.cursor.room x
-    (ap (λ (z : Zipper). z.tree) c.with_record.ensures.cursor)
-    (omega (
-      arith,
-      ap (λ (z : Zipper). z.room) c.with_record.ensures.cursor,
-      ap (λ (p : Picture). p.room) c.self.view_is,
-      c.requires.room,
-    ))
-    c.self.invariant.0 c.self.invariant.1 c.args.self.now c.self.view_is
-    (c.requires.in_range, c.requires.free, c.requires.valid, c.requires.apart) in
+    let shown = after g c in
     let links : List Store = links_with copy order x c.self.inside.cursor.tree in
     record {
-      pictures = after.inserts;
-      plan = (links, c.with_record.ensures.items, after.leads);
+      pictures = shown.inserts;
+      plan = (links, c.with_record.ensures.items, shown.leads);
       few = omega (
         arith,
         c.with_record.ensures.len,
@@ -76,5 +74,5 @@ returns g c =
       );
       capacity = search rules;
       was_sound = search rules;
-      sound = after.picture;
+      sound = shown.picture;
     }

@@ -8,7 +8,8 @@ use Rattle.rb_trees.specs.declared.Record.{Record}
 use Rattle.rb_cursor.specs.Zippers.{Zipper}
 use Rattle.rb_words.specs.Pictures.{Picture}
 use Rattle.rb_words.specs.TreePictures.{links_with}
-use Rattle.rb_words.proofs.PlanLemmas.{shown_insert, few_with, few_steps, met_none}
+use Rattle.rb_words.proofs.PlanLemmas.{AfterInsert, shown_insert, few_with, few_steps, met_none}
+use Rattle.rb_words.proofs.shapes.Shape.plan_links_apart.Given.{Over}
 use Rattle.rb_words.proofs.shapes.Shape.plan_links_apart.Goals as goal
 
 pub returns-then-meets-clause-met : goal.returns-then-meets-clause-met
@@ -18,7 +19,8 @@ returns-then-meets-clause-met g c =
 
 pub plan_links-requires-clause-apart : goal.plan_links-requires-clause-apart
 plan_links-requires-clause-apart g c =
-    sym (c.meets.ensures ∙ ap (meets g.O.TreeOrder.order c.args.item) (without_none c.args.self.now.table))
+    sym (c.meets.ensures
+    ∙ ap (meets g.O.TreeOrder.order c.args.item) (without_none c.args.self.now.table))
     ∙ c.if-meets.false
 
 pub returns-then-not-in_line-clause-met : goal.returns-then-not-in_line-clause-met
@@ -45,83 +47,62 @@ with_record_apart-requires-clause-list g c =
 pub returns-then-with_record_apart-clause-met : goal.returns-then-with_record_apart-clause-met
 returns-then-with_record_apart-clause-met g c =
     sym c.if-with_record_apart.true ∙ c.with_record_apart.ensures.met
-    ∙ met_none g.O.TreeOrder.order g.met.O.TreeOrder.lawful (c.in_line.ensures c.if-not-in_line.false) c.requires.valid c.self.inside.cursor.tree c.self.invariant.0.is_table c.self.view_is
+    ∙ met_none g.O.TreeOrder.order g.met.O.TreeOrder.lawful
+    (c.in_line.ensures c.if-not-in_line.false) c.requires.valid c.self.inside.cursor.tree
+    c.self.invariant.0.is_table c.self.view_is
 
-pub invariant_of-self-2 : goal.invariant_of-self-2
-invariant_of-self-2 g c =
-    let x : Record = record { node = c.args.node; item = c.args.item } in
-    let order = g.O.TreeOrder.order in
-    let copy = copy_number c.self.inside.copy in
-    let apart : meets order c.args.item c.args.self.now.table ≡ false =
-    sym (met_none order g.met.O.TreeOrder.lawful (c.in_line.ensures c.if-not-in_line.false) c.requires.valid c.self.inside.cursor.tree c.self.invariant.0.is_table c.self.view_is)
-    ∙ sym c.with_record_apart.ensures.met ∙ c.if-with_record_apart.false in
-    let after = shown_insert order g.met.O.TreeOrder.lawful (capacity_of c.self.inside.layout) copy
-    c.self.inside.cursor.tree c.with_record_apart.new.cursor.tree c.self.inside.cursor.room
-    c.with_record_apart.new.cursor.room x
-    (ap (λ (z : Zipper). z.tree) (c.with_record_apart.ensures.cursor c.if-with_record_apart.false))
+-- the item meets none
+apart : (g : Over) (c : goal.After-self-1 g) →
+    false ≡ meets g.O.TreeOrder.order c.args.item c.args.self.now.table
+apart g c =
+    sym c.if-with_record_apart.false ∙ c.with_record_apart.ensures.met
+    ∙ met_none g.O.TreeOrder.order g.met.O.TreeOrder.lawful
+    (c.in_line.ensures c.if-not-in_line.false) c.requires.valid c.self.inside.cursor.tree
+    c.self.invariant.0.is_table c.self.view_is
+
+-- what the shape shows with it
+after : (g : Over) (c : goal.After-self-1 g) →
+    AfterInsert g.O.TreeOrder.order (capacity_of c.self.inside.layout)
+    (copy_number c.self.inside.copy) c.self.inside.cursor.tree
+    c.with_record_apart.new.cursor.tree c.with_record_apart.new.cursor.room
+    (record { node = c.args.node; item = c.args.item }) c.args.self.now
+after g c =
+    let inserted = c.with_record_apart.ensures.cursor c.if-with_record_apart.false in
+    shown_insert g.O.TreeOrder.order g.met.O.TreeOrder.lawful (capacity_of c.self.inside.layout)
+    (copy_number c.self.inside.copy) c.self.inside.cursor.tree
+    c.with_record_apart.new.cursor.tree c.self.inside.cursor.room
+    c.with_record_apart.new.cursor.room (record { node = c.args.node; item = c.args.item })
+    (ap (λ (z : Zipper). z.tree) inserted)
     (omega (
       arith,
-      ap (λ (z : Zipper). z.room) (c.with_record_apart.ensures.cursor c.if-with_record_apart.false),
+      ap (λ (z : Zipper). z.room) inserted,
       ap (λ (p : Picture). p.room) c.self.view_is,
       c.requires.room,
     ))
     c.self.invariant.0 c.self.invariant.1 c.args.self.now c.self.view_is
-    (c.requires.in_range, c.requires.free, c.requires.valid, apart) in (
-      after.picture,
-      after.balanced,
-      omega (arith, after.count, c.self.invariant.2),
+    (c.requires.in_range, c.requires.free, c.requires.valid, sym (apart g c))
+
+pub invariant_of-self-2 : goal.invariant_of-self-2
+invariant_of-self-2 g c =
+    let shown = after g c in (
+      shown.picture,
+      shown.balanced,
+      omega (arith, shown.count, c.self.invariant.2),
       ap (λ (z : Zipper). z.path) (c.with_record_apart.ensures.cursor c.if-with_record_apart.false),
     )
 
 pub returns-clause-met : goal.returns-clause-met
-returns-clause-met g c =
-    sym c.if-with_record_apart.false ∙ c.with_record_apart.ensures.met
-    ∙ met_none g.O.TreeOrder.order g.met.O.TreeOrder.lawful (c.in_line.ensures c.if-not-in_line.false) c.requires.valid c.self.inside.cursor.tree c.self.invariant.0.is_table c.self.view_is
+returns-clause-met g c = apart g c
 
 pub returns-clause-pictures : goal.returns-clause-pictures
-returns-clause-pictures g c = λ _.
-    let x : Record = record { node = c.args.node; item = c.args.item } in
-    let order = g.O.TreeOrder.order in
-    let copy = copy_number c.self.inside.copy in
-    let apart : meets order c.args.item c.args.self.now.table ≡ false =
-    sym (met_none order g.met.O.TreeOrder.lawful (c.in_line.ensures c.if-not-in_line.false) c.requires.valid c.self.inside.cursor.tree c.self.invariant.0.is_table c.self.view_is)
-    ∙ sym c.with_record_apart.ensures.met ∙ c.if-with_record_apart.false in
-    let after = shown_insert order g.met.O.TreeOrder.lawful (capacity_of c.self.inside.layout) copy
-    c.self.inside.cursor.tree c.with_record_apart.new.cursor.tree c.self.inside.cursor.room
-    c.with_record_apart.new.cursor.room x
-    (ap (λ (z : Zipper). z.tree) (c.with_record_apart.ensures.cursor c.if-with_record_apart.false))
-    (omega (
-      arith,
-      ap (λ (z : Zipper). z.room) (c.with_record_apart.ensures.cursor c.if-with_record_apart.false),
-      ap (λ (p : Picture). p.room) c.self.view_is,
-      c.requires.room,
-    ))
-    c.self.invariant.0 c.self.invariant.1 c.args.self.now c.self.view_is
-    (c.requires.in_range, c.requires.free, c.requires.valid, apart) in
-    after.inserts
+returns-clause-pictures g c = λ _. (after g c).inserts
 
 pub returns-clause-plan : goal.returns-clause-plan
 returns-clause-plan g c = λ _.
     let x : Record = record { node = c.args.node; item = c.args.item } in
-    let order = g.O.TreeOrder.order in
-    let copy = copy_number c.self.inside.copy in
-    let apart : meets order c.args.item c.args.self.now.table ≡ false =
-    sym (met_none order g.met.O.TreeOrder.lawful (c.in_line.ensures c.if-not-in_line.false) c.requires.valid c.self.inside.cursor.tree c.self.invariant.0.is_table c.self.view_is)
-    ∙ sym c.with_record_apart.ensures.met ∙ c.if-with_record_apart.false in
-    let after = shown_insert order g.met.O.TreeOrder.lawful (capacity_of c.self.inside.layout) copy
-    c.self.inside.cursor.tree c.with_record_apart.new.cursor.tree c.self.inside.cursor.room
-    c.with_record_apart.new.cursor.room x
-    (ap (λ (z : Zipper). z.tree) (c.with_record_apart.ensures.cursor c.if-with_record_apart.false))
-    (omega (
-      arith,
-      ap (λ (z : Zipper). z.room) (c.with_record_apart.ensures.cursor c.if-with_record_apart.false),
-      ap (λ (p : Picture). p.room) c.self.view_is,
-      c.requires.room,
-    ))
-    c.self.invariant.0 c.self.invariant.1 c.args.self.now c.self.view_is
-    (c.requires.in_range, c.requires.free, c.requires.valid, apart) in
-    let links : List Store = links_with copy order x c.self.inside.cursor.tree in
-    (links, c.with_record_apart.ensures.items c.if-with_record_apart.false, after.leads)
+    let links : List Store =
+    links_with (copy_number c.self.inside.copy) g.O.TreeOrder.order x c.self.inside.cursor.tree in
+    (links, c.with_record_apart.ensures.items c.if-with_record_apart.false, (after g c).leads)
 
 pub returns-clause-few : goal.returns-clause-few
 returns-clause-few g c =
@@ -134,23 +115,4 @@ returns-clause-few g c =
     )
 
 pub returns-clause-sound : goal.returns-clause-sound
-returns-clause-sound g c =
-    let x : Record = record { node = c.args.node; item = c.args.item } in
-    let order = g.O.TreeOrder.order in
-    let copy = copy_number c.self.inside.copy in
-    let apart : meets order c.args.item c.args.self.now.table ≡ false =
-    sym (met_none order g.met.O.TreeOrder.lawful (c.in_line.ensures c.if-not-in_line.false) c.requires.valid c.self.inside.cursor.tree c.self.invariant.0.is_table c.self.view_is)
-    ∙ sym c.with_record_apart.ensures.met ∙ c.if-with_record_apart.false in
-    let after = shown_insert order g.met.O.TreeOrder.lawful (capacity_of c.self.inside.layout) copy
-    c.self.inside.cursor.tree c.with_record_apart.new.cursor.tree c.self.inside.cursor.room
-    c.with_record_apart.new.cursor.room x
-    (ap (λ (z : Zipper). z.tree) (c.with_record_apart.ensures.cursor c.if-with_record_apart.false))
-    (omega (
-      arith,
-      ap (λ (z : Zipper). z.room) (c.with_record_apart.ensures.cursor c.if-with_record_apart.false),
-      ap (λ (p : Picture). p.room) c.self.view_is,
-      c.requires.room,
-    ))
-    c.self.invariant.0 c.self.invariant.1 c.args.self.now c.self.view_is
-    (c.requires.in_range, c.requires.free, c.requires.valid, apart) in
-    after.picture
+returns-clause-sound g c = (after g c).picture

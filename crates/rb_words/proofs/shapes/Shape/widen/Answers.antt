@@ -5,21 +5,25 @@ use Rattle.rb_words.specs.Pictures.{Picture}
 use Rattle.rb_words.specs.Wider.{IsPicturedWider}
 use Rattle.rb_words.specs.TreePictures.{picture_of}
 use Rattle.rb_words.proofs.WiderLemmas.{picture_wider, pictured_wider}
+use Rattle.rb_words.proofs.shapes.Shape.widen.Given.{Over}
 use Rattle.rb_words.proofs.shapes.Shape.widen.Goals as goal
+
+-- the picture as it was
+abbrev before : (g : Over) → goal.After-l-1 g → Picture
+before g c =
+    let s = c.self.inside in
+    picture_of (capacity_of s.layout) (copy_number s.copy) s.cursor.tree s.cursor.room
+
+more : (g : Over) (c : goal.After-l-1 g) → capacity_of c.self.inside.layout ≤ capacity_of c.args.l
+more g c = subst (λ (q : Picture). q.capacity ≤ capacity_of c.args.l) (sym c.self.view_is) c.requires
 
 pub returns-clause-pictures : goal.returns-clause-pictures
 returns-clause-pictures g c =
-    let s = c.self.inside in
-    let p : Picture = picture_of (capacity_of s.layout) (copy_number s.copy) s.cursor.tree s.cursor.room in
     let n = capacity_of c.args.l in
-    let le : p.capacity ≤ n = subst (λ (q : Picture). q.capacity ≤ n) (sym c.self.view_is) c.requires in
-    subst (λ (q : Picture). IsPicturedWider q (record p { capacity = n })) c.self.view_is
-    (λ m is. pictured_wider p n m le is)
+    subst (λ (q : Picture). IsPicturedWider q (record (before g c) { capacity = n })) c.self.view_is
+    (λ m is. pictured_wider (before g c) n m (more g c) is)
 
 pub returns-clause-sound : goal.returns-clause-sound
 returns-clause-sound g c =
-    let s = c.self.inside in
-    let p : Picture = picture_of (capacity_of s.layout) (copy_number s.copy) s.cursor.tree s.cursor.room in
-    let n = capacity_of c.args.l in
-    let le : p.capacity ≤ n = subst (λ (q : Picture). q.capacity ≤ n) (sym c.self.view_is) c.requires in
-    picture_wider g.O.TreeOrder.order p n le c.self.invariant.0
+    picture_wider g.O.TreeOrder.order (before g c) (capacity_of c.args.l) (more g c)
+    c.self.invariant.0
