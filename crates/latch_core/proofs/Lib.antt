@@ -14,7 +14,7 @@ pub mod ChangeLemmas
 pub mod ClashLemmas
 pub mod WriterLemmas
 pub mod BeginLemmas
-pub mod BatchBegins
+pub mod BothLemmas
 pub mod Shallow
 pub mod Standing
 pub mod WideningLemmas

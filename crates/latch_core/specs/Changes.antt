@@ -12,6 +12,7 @@ use Rattle.rb_words.specs.Plans.{item_stores}
 use Rattle.rb_words.specs.Mirrors.{mirror, second}
 use Rattle.rb_words.specs.Rows.{AreDistinct}
 use Rattle.latch_core.specs.Updates.{with_items}
+use Rattle.latch_core.specs.Plans.{update_stores}
 use Rattle.latch_core.specs.FreeNodes.{AreAllNodes}
 
 -- items, each with the node that it goes into; the stores of their words; and that these stand
@@ -30,16 +31,26 @@ pub record LeadsBeside (old new : Picture) (placed : Placed) (links : List Store
   pub capacity : new.capacity ≡ old.capacity
   pub copy : new.copy ≡ old.copy
   pub links_only : AreLinkStores old.capacity old.copy links
-  pub leads : (m : List ℕ) → IsPictured m old → HasPlaced m placed → IsPictured (words_after_all m links) new
+  pub leads : (m : List ℕ) → IsPictured m old → HasPlaced m placed
+      → IsPictured (words_after_all m links) new
 
 -- and, mirrored, the second copy
 pub record LeadsBoth (old new : Picture) (placed : Placed) (links : List Store) : Type 0 where
   pub zero : LeadsBeside old new placed links
   pub one : LeadsBeside (second old) (second new) placed (mirror links)
 
+-- These stores change both copies in the same way, from a sequence on: they place the items, flip,
+-- lead copy 0 by links, flip again, and lead copy 1 by the same links, mirrored.
+pub record PlansBoth (old new : Picture) (seq : ℕ) (placed : Placed) (stores : List Store)
+    : Type 0 where
+  pub links : List Store
+  pub listed_stores : stores ≡ update_stores seq (placing_stores placed) links (mirror links)
+  pub both : LeadsBoth old new placed links
+
 -- the items of these first words are erased by these links, and their nodes stand behind those that
 -- were free
-pub record ErasesAll (old new : Picture) (erase : List ℕ) (links : List Store) (free free' : List ℕ) : Type 0 where
+pub record ErasesAll (old new : Picture) (erase : List ℕ) (links : List Store)
+    (free free' : List ℕ) : Type 0 where
   pub table : new.table ≡ without_all erase old.table
   pub both : LeadsBoth old new [] links
   pub freed : List ℕ
@@ -48,8 +59,8 @@ pub record ErasesAll (old new : Picture) (erase : List ℕ) (links : List Store)
 
 -- these items are inserted by these links, each in one of the fresh nodes, in which it was placed
 -- before
-pub record InsertsAll {K : Type 0} (o : Order K) (old new : Picture) (insert : List Item) (placed : Placed) (links : List Store)
-    (fresh free' : List ℕ) : Type 0 where
+pub record InsertsAll {K : Type 0} (o : Order K) (old new : Picture) (insert : List Item)
+    (placed : Placed) (links : List Store) (fresh free' : List ℕ) : Type 0 where
   pub table : new.table ≡ with_items o insert old.table
   pub both : LeadsBoth old new placed links
   pub in_fresh : AllByRecursion (λ p. Contains fresh p.0) placed

@@ -1,6 +1,6 @@
 //! The stores of an update, in the order in which they are made.
 
-ghost use Rattle.std.specs.Prelude.{◌≡◌, ◌+◌, ◌-◌, ◌*◌, ◌^◌, ◌<◌, ◌≤◌, ◌++◌, ◌∷◌, [], List, true, false, Some, None, IsSome, IfSome, is_some, OnOk, IfErr, Contains, take, drop, length, slice_get, vec_len, vec_capacity};
+ghost use Rattle.std.specs.Prelude.{◌≡◌, ◌+◌, ◌-◌, ◌*◌, ◌^◌, ◌<◌, ◌≤◌, ◌++◌, ◌∷◌, [], true, false, Some, None, IsSome, IfSome, is_some, OnOk, IfErr, Contains, take, drop, length, slice_get, vec_len, vec_capacity};
 ghost use Rattle.order_laws.specs.Tables.{has, meets};
 ghost use Rattle.word_arena.specs.declared.stores.Store.{Store};
 ghost use Rattle.word_arena.specs.Layouts.{capacity_of};
@@ -8,8 +8,9 @@ ghost use Rattle.word_arena.specs.Stores.{AreLinkStores};
 ghost use Rattle.word_arena.specs.Words.{listed};
 ghost use Rattle.rb_words.specs.Mirrors.{mirror, mirror_store};
 ghost use Rattle.rb_words.specs.Pictures.{IsPicture};
-ghost use Rattle.rb_words.specs.Plans.{item_stores, Inserts, LeadsWithItem, Erases, LeadsByLinks};
+ghost use Rattle.rb_words.specs.Plans.{item_stores, Inserts, Erases};
 ghost use Rattle.latch_core.specs.Plans.{update_stores, flip_to};
+ghost use Rattle.latch_core.specs.Changes.{PlansBoth};
 
 use order_laws::{Item, Refusal, TreeOrder};
 use rb_words::{STORES, Shape, item_stores, mirrored};
@@ -35,7 +36,8 @@ impl Model for Plan {
 
     ghost coded = { plan_code };
 
-    ghost view = { λ p. plan_view p.stores.items p.made (vec_capacity p.stores - vec_len p.stores) };
+    ghost view = { λ p.
+        plan_view p.stores.items p.made (vec_capacity p.stores - vec_len p.stores) };
 
     ghost invariant = { λ p. p.made ≤ vec_len p.stores };
 }
@@ -128,9 +130,8 @@ impl Plan {
         ensures met { result ≡ meets O.order item shape.old.table }
         ensures unchanged { result ≡ true → (shape.new ≡ shape.old) × (self.new.left ≡ []) }
         ensures pictures { result ≡ false → Inserts O.order shape.old shape.new node item }
-        ensures plan { result ≡ false → (links : List Store)
-            × (self.new.left ≡ update_stores sequence (item_stores node item) links (mirror links))
-            × LeadsWithItem shape.old shape.new node item links }
+        ensures both { result ≡ false
+            → PlansBoth shape.old shape.new sequence ((node, item) ∷ []) self.new.left }
         ensures few { result ≡ false → length self.new.left ≤ 2 * STORES + 2 }
         ensures was_sound { IsPicture O.order shape.old }
         ensures sound { IsPicture O.order shape.new }
@@ -164,9 +165,8 @@ impl Plan {
         ensures found { is_some result ≡ has a shape.old.table }
         ensures unchanged { result ≡ None → (shape.new ≡ shape.old) × (self.new.left ≡ []) }
         ensures pictures { IfSome result (Erases shape.old shape.new a) }
-        ensures plan { IsSome result → (links : List Store)
-            × (self.new.left ≡ update_stores sequence [] links (mirror links))
-            × LeadsByLinks shape.old shape.new links }
+        ensures both { IsSome result
+            → PlansBoth shape.old shape.new sequence [] self.new.left }
         ensures few { IsSome result → length self.new.left ≤ 2 * STORES + 2 }
         ensures was_sound { IsPicture O.order shape.old }
         ensures sound { IsPicture O.order shape.new }
@@ -198,7 +198,8 @@ impl Plan {
         requires links_only { AreLinkStores (capacity_of l) 0 links.now }
         requires room { 2 * length links.now + 2 ≤ self.old.room }
         requires counts { sequence + 2 < 2 ^ 64 }
-        ensures { self.new.left ≡ update_stores sequence self.old.left links.now (mirror links.now) }
+        ensures { self.new.left
+            ≡ update_stores sequence self.old.left links.now (mirror links.now) }
     {
         self.stores.push_reserved(flip_to(sequence + 1));
         append(&mut self.stores, links);
@@ -251,7 +252,8 @@ fn flip_and_mirror(l: Layout, stores: &mut Vec<Store>, sequence: u64, from: usiz
     requires place { from ≤ vec_len stores.old }
     requires links_only { AreLinkStores (capacity_of l) 0 (drop from stores.old.items) }
     requires room { 2 * vec_len stores.old + 1 ≤ vec_capacity stores.old + from }
-    ensures items { stores.new.items ≡ stores.old.items ++ flip_to sequence ∷ mirror (drop from stores.old.items) }
+    ensures items { stores.new.items
+        ≡ stores.old.items ++ flip_to sequence ∷ mirror (drop from stores.old.items) }
     ensures len { vec_len stores.new + from ≡ 2 * vec_len stores.old + 1 }
     ensures capacity { vec_capacity stores.new ≡ vec_capacity stores.old }
 {

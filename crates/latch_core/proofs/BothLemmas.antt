@@ -1,0 +1,274 @@
+-- An update whose items are placed in free nodes, and whose links lead both copies: the stores that
+-- are planned for it carry it out.
+use Rattle.std.proofs.Common.{◌≡◌, ◌≢◌, ℕ, ◌+◌, ◌*◌, ◌<◌, ◌≤◌, List, [], ◌∷◌, ◌++◌, length, take, refl, sym, ◌∙◌, ap, subst, inl, inr, arith, length-set}
+use Rattle.std.specs.Prelude.{All, Contains, map}
+use Rattle.std.specs.List.{AllByRecursion}
+use Rattle.std.proofs.lemmas.List.{take-append-le, take_all}
+use Rattle.std.proofs.lemmas.List.Elements.{All-from_recursion, Contains-append_right}
+use Rattle.order_laws.specs.declared.items.Item.{Item}
+use Rattle.order_laws.specs.Orders.{Order}
+use Rattle.order_laws.specs.Tables.{place_for, place_of}
+use Rattle.order_laws.proofs.TableLemmas.{all_weaker}
+use Rattle.word_arena.specs.declared.stores.Store.{Store}
+use Rattle.word_arena.specs.Words.{at, words_for, item_at, a_word, b_word, tag_word, Holds, IsUnreached, listed}
+use Rattle.word_arena.specs.Stores.{words_after, words_after_all, IsItemWord, AreLinkStores}
+use Rattle.word_arena.proofs.WordLemmas.{one_item, item_place}
+use Rattle.word_arena.proofs.StoreLemmas.{length_after, untouched, at_stored, at_other}
+use Rattle.word_arena.proofs.HoldsLemmas.{tree_untouched}
+use Rattle.rb_trees.specs.Trees.{CanBeRedBlack}
+use Rattle.rb_words.specs.Pictures.{Picture, IsPictured}
+use Rattle.rb_words.specs.Plans.{Inserts, Erases, item_stores}
+use Rattle.rb_words.specs.Mirrors.{mirror, second}
+use Rattle.rb_words.specs.Rows.{AreDistinct}
+use Rattle.latch_core.specs.declared.updates.Update.{Update}
+use Rattle.latch_core.specs.declared.updates.Update.TheVariants.{Insert, Erase, Batch}
+use Rattle.latch_core.specs.Sequences.{stable}
+use Rattle.latch_core.specs.Updates.{after, size_of, with_items}
+use Rattle.latch_core.specs.Plans.{update_stores}
+use Rattle.latch_core.specs.FreeNodes.{AreAllNodes}
+use Rattle.latch_core.specs.Changes.{Placed, placing_stores, HasPlaced, PlansBoth, ErasesAll, InsertsAll}
+use Rattle.latch_core.specs.WriterViews.{WriterView}
+use Rattle.latch_core.specs.Writers.{AreInStep, HasBegun}
+use Rattle.latch_core.proofs.Steps.{after_insert, after_erase}
+use Rattle.latch_core.proofs.NodeLemmas.{node_taken, node_freed}
+use Rattle.latch_core.proofs.ChangeLemmas.{same_item, all_append, both_then, free_node}
+use Rattle.latch_core.proofs.Planned.{Leading, IsFreeStore, AreFreeStores, items_unused}
+use Rattle.latch_core.proofs.BeginLemmas.{update_in_range, update_length, has_begun}
+use Rattle.latch_core.proofs.WriterLemmas.{unlisted}
+
+-- the words of a placed item stand in its node
+one_placed : (m : List ℕ) (n node : ℕ) (i : Item) → length m ≡ words_for n → node < n → item_at (words_after_all m (item_stores node i)) node ≡ i
+one_placed m n node i sized lt =
+    let m1 = words_after m (record { word = a_word node; value = i.a }) in
+    let m2 = words_after m1 (record { word = b_word node; value = i.b }) in
+    let s1 = length-set m (a_word node) i.a ∙ sized in
+    let s2 = length-set m1 (b_word node) i.b ∙ s1 in
+    let a : at (words_after m2 (record { word = tag_word node; value = i.tag })) (a_word node) ≡ i.a =
+    (at_other m2 (tag_word node) i.tag (a_word node) (λ e. absurd (omega arith)) ∙ at_other m1 (b_word node) i.b (a_word node) (λ e. absurd (omega arith)) ∙ at_stored m (a_word node) i.a (omega (arith, sized))) in
+    let b : at (words_after m2 (record { word = tag_word node; value = i.tag })) (b_word node) ≡ i.b =
+    (at_other m2 (tag_word node) i.tag (b_word node) (λ e. absurd (omega arith)) ∙ at_stored m1 (b_word node) i.b (omega (arith, s1))) in
+    let t : at (words_after m2 (record { word = tag_word node; value = i.tag })) (tag_word node) ≡ i.tag = at_stored m2 (tag_word node) i.tag (omega (arith, s2)) in
+    λ k. record { a = a k; b = b k; tag = t k }
+
+others_away : (node : ℕ) (placed : Placed) → AllByRecursion (λ y. node ≢ y) (map (λ (p : ℕ × Item). p.0) placed) → AllByRecursion (λ (s : Store). IsItemWord node s.word → ⊥) (placing_stores placed)
+others_away node [] h = tt
+others_away node (p ∷ rest) h =
+    let no : (w : ℕ) → IsItemWord p.0 w → IsItemWord node w → ⊥ = (λ w a b. h.0 (sym (one_item node p.0 w b a))) in
+    all_append (λ (s : Store). IsItemWord node s.word → ⊥) (item_stores p.0 p.1) (placing_stores rest)
+    (no (a_word p.0) (inl refl), (no (b_word p.0) (inr (inl refl)), (no (tag_word p.0) (inr (inr refl)), tt)))
+    (others_away node rest h.1)
+
+pub all_placed : (m : List ℕ) (n : ℕ) (placed : Placed) → length m ≡ words_for n → AllByRecursion (λ (p : ℕ × Item). p.0 < n) placed → AreDistinct (map (λ (p : ℕ × Item). p.0) placed) → HasPlaced (words_after_all m (placing_stores placed)) placed
+all_placed m n [] sized lt d = tt
+all_placed m n (p ∷ rest) sized lt d =
+    let m1 = words_after_all m (item_stores p.0 p.1) in
+    let s1 : length m1 ≡ words_for n = length_after m (item_stores p.0 p.1) ∙ sized in (
+      same_item m1 (words_after_all m1 (placing_stores rest)) p.0 (untouched (IsItemWord p.0) m1 (placing_stores rest) (others_away p.0 rest d.0)) ∙ one_placed m n p.0 p.1 sized lt.0,
+      all_placed m1 n rest s1 lt.1 d.1,
+    )
+
+-- stores of placed items are stores of free nodes, and lie in the memory
+pub free_placed : (m : List ℕ) (n : ℕ) (placed : Placed) → AllByRecursion (λ (p : ℕ × Item). (p.0 < n) × IsUnreached m n p.0) placed → AreFreeStores m n (placing_stores placed)
+free_placed m n [] h = tt
+free_placed m n (p ∷ rest) h =
+    all_append (IsFreeStore m n) (item_stores p.0 p.1) (placing_stores rest)
+    ((p.0, h.0.0, h.0.1, inl refl), ((p.0, h.0.0, h.0.1, inr (inl refl)), ((p.0, h.0.0, h.0.1, inr (inr refl)), tt)))
+    (free_placed m n rest h.1)
+
+placed_within : (n : ℕ) (placed : Placed) → AllByRecursion (λ (p : ℕ × Item). p.0 < n) placed → AllByRecursion (λ (s : Store). s.word < words_for n) (placing_stores placed)
+placed_within n [] h = tt
+placed_within n (p ∷ rest) h =
+    all_append (λ (s : Store). s.word < words_for n) (item_stores p.0 p.1) (placing_stores rest)
+    ((item_place n p.0 _ h.0 (inl refl)).1, ((item_place n p.0 _ h.0 (inr (inl refl))).1, ((item_place n p.0 _ h.0 (inr (inr refl))).1, tt)))
+    (placed_within n rest h.1)
+
+-- the same picture with other room
+abbrev pub with_room : Picture → ℕ → Picture
+with_room p r = record p { room = r }
+
+pictured : (m : List ℕ) (n copy r : ℕ) (p : Picture) → length m ≡ words_for n → p.capacity ≡ n
+    → p.copy ≡ copy → Holds m n copy p.table p.tree → IsPictured m (with_room p r)
+pictured m n copy r p sized ec ek holds =
+    record {
+      sized = sized ∙ ap words_for (sym ec);
+      holds =
+          subst (λ k. Holds m k p.copy p.table p.tree) (sym ec)
+          (subst (λ c. Holds m n c p.table p.tree) (sym ek) holds);
+    }
+
+unpictured : (m : List ℕ) (n copy : ℕ) (table : List Item) (p : Picture) → p.capacity ≡ n
+    → p.copy ≡ copy → p.table ≡ table → IsPictured m p → Holds m n copy table p.tree
+unpictured m n copy table p ec ek et is =
+    subst (λ k. Holds m k copy table p.tree) ec
+    (subst (λ c. Holds m p.capacity c table p.tree) ek
+    (subst (λ t. Holds m p.capacity p.copy t p.tree) et is.holds))
+
+-- what is planned for an update of a core at rest whose free nodes are these: its items are placed
+-- in free nodes, the stores lead both copies to the table after it, and these nodes are free then
+pub record PlansUpdate {K : Type 0} (o : Order K) (n : ℕ) (old new : Picture) (u : Update)
+    (free free' : List ℕ) (placed : Placed) (seq : ℕ) (stores : List Store) : Type 0 where
+  pub plan : PlansBoth old new seq placed stores
+  pub in_free : AllByRecursion (λ p. Contains free p.0) placed
+  pub distinct : AreDistinct (map (λ p. p.0) placed)
+  pub table : new.table ≡ after o old.table u
+  pub nodes : AreAllNodes n (free' ++ listed new.tree)
+
+module _ {K : Type 0} (o : Order K) (n : ℕ) (zero new : Picture) (r : ℕ) (u : Update)
+    (free free' : List ℕ) (placed : Placed) (seq : ℕ) (stores left : List Store)
+    (step : AreInStep n zero (second zero) free left)
+    (planned : PlansUpdate o n (with_room zero r) new u free free' placed seq stores) where
+  links_zero : AreLinkStores n 0 planned.plan.links
+  links_zero =
+      subst (λ k. AreLinkStores k 0 planned.plan.links) step.zero_capacity
+      (subst (λ c. AreLinkStores zero.capacity c planned.plan.links) step.zero_copy
+      planned.plan.both.zero.links_only)
+
+  links_one : AreLinkStores n 1 (mirror planned.plan.links)
+  links_one =
+      subst (λ k. AreLinkStores k 1 (mirror planned.plan.links)) step.zero_capacity
+      planned.plan.both.one.links_only
+
+  within : AllByRecursion (λ (p : ℕ × Item). p.0 < n) placed
+  within =
+      all_weaker (λ (p : ℕ × Item). Contains free p.0) (λ (p : ℕ × Item). p.0 < n)
+      (λ p c. (free_node n free (listed zero.tree) p.0 step.nodes c).0) placed planned.in_free
+
+  -- both copies stay in step
+  pub planned_step : AreInStep n new (second new) free' stores
+  planned_step =
+      let both = planned.plan.both in
+      let stored = update_in_range n seq (placing_stores placed) planned.plan.links (mirror planned.plan.links)
+      (All-from_recursion (λ (s : Store). s.word < words_for n) (placing_stores placed) (placed_within n placed within))
+      links_zero links_one in
+      record {
+        zero_capacity = both.zero.capacity ∙ step.zero_capacity;
+        zero_copy = both.zero.copy ∙ step.zero_copy;
+        one_capacity = both.one.capacity ∙ step.one_capacity;
+        one_copy = refl;
+        same_table = refl;
+        same_nodes = refl;
+        nodes = planned.nodes;
+        in_range = subst (All (λ (s : Store). s.word < words_for n)) (sym planned.plan.listed_stores) stored;
+      }
+
+  -- and the stores lead each copy from the old table to the new
+  leading : (m : List ℕ) → length m ≡ words_for n → stable (at m 0) ≡ 0
+      → Holds m n 0 zero.table zero.tree → Holds m n 1 zero.table zero.tree
+      → ((node : ℕ) → (Contains (listed zero.tree) node → ⊥) → IsUnreached m n node)
+      → CanBeRedBlack zero.tree × CanBeRedBlack new.tree
+      → Leading n zero.table (after o zero.table u) m (placing_stores placed) planned.plan.links
+      (mirror planned.plan.links) new.tree new.tree
+  leading m sized even holds0 holds1 unreached red =
+      let both = planned.plan.both in
+      let items = placing_stores placed in
+      let free_stores =
+      free_placed m n placed
+      (all_weaker (λ (p : ℕ × Item). Contains free p.0) (λ (p : ℕ × Item). (p.0 < n) × IsUnreached m n p.0)
+      (λ p c. let is = free_node n free (listed zero.tree) p.0 step.nodes c in (is.0, unreached p.0 is.1)) placed planned.in_free) in
+      let unused = items_unused m n items free_stores in
+      let m1 = words_after_all m items in
+      let sized1 = length_after m items ∙ sized in
+      let stand = all_placed m n placed sized within planned.distinct in
+      let zero1 : Holds m1 n 0 zero.table zero.tree = tree_untouched m n 0 zero.table zero.tree items unused.0 holds0 in
+      let one1 : Holds m1 n 1 zero.table zero.tree = tree_untouched m n 1 zero.table zero.tree items unused.1 holds1 in
+      let then0 = both.zero.leads m1 (pictured m1 n 0 r zero sized1 step.zero_capacity step.zero_copy zero1) stand in
+      let then1 = both.one.leads m1 (pictured m1 n 1 r (second zero) sized1 step.one_capacity refl one1) stand in
+      record {
+        sized = sized;
+        even = even;
+        both_old = ((zero.tree, holds0), (zero.tree, holds1));
+        old_trees = (zero.tree, zero.tree, holds0, holds1, red.0, red.0);
+        new_tree = red.1;
+        items_free = free_stores;
+        links_zero = links_zero;
+        links_one = links_one;
+        leads_zero =
+            unpictured (words_after_all m1 planned.plan.links) n 0 (after o zero.table u) new
+            (both.zero.capacity ∙ step.zero_capacity) (both.zero.copy ∙ step.zero_copy) planned.table then0;
+        leads_one =
+            unpictured (words_after_all m1 (mirror planned.plan.links)) n 1 (after o zero.table u) (second new)
+            (both.one.capacity ∙ step.one_capacity) refl planned.table then1;
+      }
+
+-- the core has the update in hand
+pub planned_begun : {K : Type 0} (o : Order K) (w : WriterView) (zero new : Picture) (r : ℕ) (u : Update)
+    (free free' : List ℕ) (placed : Placed) (stores : List Store)
+    → w.left ≡ [] → w.table ≡ zero.table → w.zero_tree ≡ zero.tree → w.one_tree ≡ zero.tree
+    → AreInStep w.capacity zero (second zero) free w.left
+    → PlansUpdate o w.capacity (with_room zero r) new u free free' placed w.sequence stores
+    → length stores ≤ 2 * (16 * size_of u) + 2
+    → CanBeRedBlack zero.tree × CanBeRedBlack new.tree
+    → HasBegun o w u (record w { table = new.table; zero_tree = new.tree; one_tree = new.tree; left = stores })
+planned_begun o w zero new r u free free' placed stores idle et e0 e1 step planned few red =
+    let n = w.capacity in
+    let links = planned.plan.links in
+    let table = ap (λ t. after o t u) et in
+    let short = update_length w.sequence (placing_stores placed) links (mirror links) in
+    let same = ap length planned.plan.listed_stores in
+    subst (λ ss. HasBegun o w u (record w { table = new.table; zero_tree = new.tree; one_tree = new.tree; left = ss })) (sym planned.plan.listed_stores)
+    (has_begun o w u (placing_stores placed) links (mirror links) new.table new.tree new.tree (planned.table ∙ sym table) idle
+    (omega (arith, few, short, same))
+    (λ l p at_rest.
+    let holds0 = subst (λ t. Holds l.words n 0 zero.table t) e0 (subst (λ t. Holds l.words n 0 t w.zero_tree) et at_rest.zero) in
+    let holds1 = subst (λ t. Holds l.words n 1 zero.table t) e1 (subst (λ t. Holds l.words n 1 t w.one_tree) et at_rest.one) in
+    let same_nodes : listed w.one_tree ≡ listed w.zero_tree = ap listed (e1 ∙ sym e0) in
+    let unreached : (node : ℕ) → (Contains (listed zero.tree) node → ⊥) → IsUnreached l.words n node =
+    (λ node off. unlisted w l.words node at_rest same_nodes (λ c. off (subst (λ t. Contains (listed t) node) e0 c))) in
+    subst (λ t. Leading n t (after o t u) l.words (placing_stores placed) links (mirror links) new.tree new.tree) (sym et)
+    (leading o n zero new r u free free' placed w.sequence stores w.left step planned l.words at_rest.sized at_rest.even holds0 holds1 unreached red)))
+
+-- an insert
+pub insert_planned : {K : Type 0} (o : Order K) (n : ℕ) (zero z new : Picture) (r node : ℕ) (item : Item)
+    (free free' : List ℕ) (seq : ℕ) (stores left : List Store)
+    → AreInStep n zero (second zero) free left → free ≡ free' ++ node ∷ [] → z ≡ with_room zero r
+    → Inserts o z new node item → PlansBoth z new seq ((node, item) ∷ []) stores
+    → PlansUpdate o n (with_room zero r) new (Insert item) free free' ((node, item) ∷ []) seq stores
+insert_planned o n zero z new r node item free free' seq stores left step taken is ins plan =
+    let inserts : Inserts o (with_room zero r) new node item = subst (λ p. Inserts o p new node item) is ins in
+    let in_order : AreAllNodes n ((free' ++ node ∷ []) ++ listed zero.tree) = subst (λ xs. AreAllNodes n (xs ++ listed zero.tree)) taken step.nodes in
+    record {
+      plan = subst (λ p. PlansBoth p new seq ((node, item) ∷ []) stores) is plan;
+      in_free = (subst (λ xs. Contains xs node) (sym taken) (Contains-append_right free' (node ∷ []) node (0, omega arith, refl)), tt);
+      distinct = (tt, tt);
+      table = inserts.table ∙ sym (after_insert o zero.table item);
+      nodes = subst (λ ns. AreAllNodes n (free' ++ ns)) (sym inserts.in_order) (node_taken n node (place_for o item zero.table) free' (listed zero.tree) in_order);
+    }
+
+-- an erase
+pub erase_planned : {K : Type 0} (o : Order K) (n : ℕ) (zero z new : Picture) (r a node : ℕ)
+    (free : List ℕ) (seq : ℕ) (stores left : List Store)
+    → AreInStep n zero (second zero) free left → z ≡ with_room zero r
+    → Erases z new a node → PlansBoth z new seq [] stores
+    → PlansUpdate o n (with_room zero r) new (Erase a) free (free ++ node ∷ []) [] seq stores
+erase_planned o n zero z new r a node free seq stores left step is er plan =
+    let erases : Erases (with_room zero r) new a node = subst (λ p. Erases p new a node) is er in
+    record {
+      plan = subst (λ p. PlansBoth p new seq [] stores) is plan;
+      in_free = tt;
+      distinct = tt;
+      table = erases.table ∙ sym (after_erase o zero.table a);
+      nodes = subst (λ ns. AreAllNodes n ((free ++ node ∷ []) ++ ns)) (sym erases.in_order) (node_freed n node (place_of a zero.table) free (listed zero.tree) erases.at_place step.nodes);
+    }
+
+-- a batch: erases, and then inserts in nodes that were free before them
+pub batch_planned : {K : Type 0} (o : Order K) (n : ℕ) (zero z0 z1 z2 : Picture) (r : ℕ) (erase : List ℕ) (insert : List Item) (placed : Placed)
+    (xs ys : List Store) (free free1 free2 : List ℕ) (seq : ℕ) (stores left : List Store)
+    → AreInStep n zero (second zero) free left → z0 ≡ with_room zero r
+    → ErasesAll z0 z1 erase xs free free1 → InsertsAll o z1 z2 insert placed ys (take (length free) free1) free2
+    → stores ≡ update_stores seq (placing_stores placed) (xs ++ ys) (mirror (xs ++ ys))
+    → PlansUpdate o n (with_room zero r) z2 (Batch erase insert) free free2 placed seq stores
+batch_planned o n zero z0 z1 z2 r erase insert placed xs ys free free1 free2 seq stores left step is erases inserts listed_stores =
+    let erased : ErasesAll (with_room zero r) z1 erase xs free free1 = subst (λ p. ErasesAll p z1 erase xs free free1) is erases in
+    let fresh : take (length free) free1 ≡ free = ap (take (length free)) erased.behind ∙ take-append-le (length free) free erased.freed (omega arith) ∙ take_all (length free) free (omega arith) in
+    let same_capacity : z1.capacity ≡ n = erased.both.zero.capacity ∙ step.zero_capacity in
+    record {
+      plan = record {
+        links = xs ++ ys;
+        listed_stores = listed_stores;
+        both = both_then (with_room zero r) z1 z2 [] placed xs ys step.zero_copy erased.both inserts.both;
+      };
+      in_free = subst (λ ns. AllByRecursion (λ (p : ℕ × Item). Contains ns p.0) placed) fresh inserts.in_fresh;
+      distinct = inserts.distinct;
+      table = inserts.table ∙ ap (with_items o insert) erased.table;
+      nodes = subst (λ k. AreAllNodes k (free2 ++ listed z2.tree)) same_capacity inserts.nodes;
+    }
