@@ -12,7 +12,7 @@ use Rattle.latch_steps.specs.declared.events.Event.{Event}
 use Rattle.latch_steps.specs.declared.events.Event.TheVariants.{Begin, Write, Start, Read}
 use Rattle.latch_steps.specs.declared.replies.Reply.{Reply}
 use Rattle.latch_steps.specs.Runs.{LookupInHand, Moment, Done, opening, last_of}
-use Rattle.latch_steps.specs.Steps.{more, Begins, Writes, AfterLoad, Goes, Retries, Returns, after_load, start_done, load_done, read_done, Step, Run}
+use Rattle.latch_steps.specs.Steps.{machine, more, Begins, Writes, AfterLoad, Goes, Retries, Returns, after_load, start_done, load_done, read_done, Step, Run}
 
 module _ {K : Type 0} (o : Order K) (n limit : ℕ) where
   begin_counts : (w w' : Moment K) (u : Update) (why : Option Refusal) (reply : Reply K) → Begins o n w u why reply w' → w'.events ≡ more w.events
@@ -36,13 +36,13 @@ module _ {K : Type 0} (o : Order K) (n limit : ℕ) where
   read_counts w r None = refl
   read_counts w r (Some l) = load_counts w r (after_load o n w r l)
 
-  step_counts : (w w' : Moment K) (e : Event K) (reply : Reply K) → Step o n limit w e reply w' → w'.events ≡ more w.events
+  step_counts : (w w' : Moment K) (e : Event K) (reply : Reply K) → Step (machine o n limit) w e reply w' → w'.events ≡ more w.events
   step_counts w w' (Begin u) reply s = begin_counts w w' u (refuses o n limit (is_some w.latch.hand) w.latch.table (at w.latch.words 0) u) reply s
   step_counts w w' Write reply s = write_counts w w' w.latch.hand reply s
   step_counts w w' (Start r k) reply s = ap (λ (p : Reply K × Moment K). p.1.events) (sym s) ∙ start_counts w r k (get w.lookups r)
   step_counts w w' (Read r) reply s = ap (λ (p : Reply K × Moment K). p.1.events) (sym s) ∙ read_counts w r (get w.lookups r)
 
-  run_counts : (run : List (Done K)) (w : Moment K) → Run o n limit w run → (last_of w run).events < 2 ^ 64 - 1 → w.events + length run ≡ (last_of w run).events
+  run_counts : (run : List (Done K)) (w : Moment K) → Run (machine o n limit) w run → (last_of w run).events < 2 ^ 64 - 1 → w.events + length run ≡ (last_of w run).events
   run_counts [] w steps below = omega arith
   run_counts (d ∷ run) w steps below =
       let one : d.after.events ≡ min (w.events + 1) 18446744073709551615 = step_counts w d.after d.event d.reply steps.0 in
@@ -50,7 +50,7 @@ module _ {K : Type 0} (o : Order K) (n limit : ℕ) where
       omega arith
 
 -- a run whose count is below the greatest has as many events
-pub few_counted : {K : Type 0} (o : Order K) (n limit start : ℕ) (run : List (Done K)) → Run o n limit (opening n start) run → (last_of (opening n start) run).events < 2 ^ 64 - 1 → length run < 2 ^ 64
+pub few_counted : {K : Type 0} (o : Order K) (n limit start : ℕ) (run : List (Done K)) → Run (machine o n limit) (opening n start) run → (last_of (opening n start) run).events < 2 ^ 64 - 1 → length run < 2 ^ 64
 few_counted {K = K} o n limit start run steps below =
     let w0 : Moment K = opening n start in
     let exact = run_counts o n limit run w0 steps below in

@@ -26,10 +26,10 @@ use Rattle.latch_steps.specs.declared.replies.Returned.{Returned}
 use Rattle.latch_steps.specs.declared.replies.Reply.TheVariants.{Started, Loaded, Returned as Gave}
 use Rattle.latch_steps.specs.declared.worlds.World.{World}
 use Rattle.latch_steps.specs.Runs.{LookupInHand, Moment, Done, did, last_of, history}
-use Rattle.latch_steps.specs.Steps.{more, with_lookups, new_lookup, with_value, after_value, load_left, start_done, load_done, read_done, Run}
+use Rattle.latch_steps.specs.Steps.{machine, more, with_lookups, new_lookup, with_value, after_value, load_left, start_done, load_done, read_done, Run}
 use Rattle.latch_steps.specs.Lookups.{IsInHand, lookup_at}
 use Rattle.latch_steps.specs.Worlds.{Shows, layout_in, IsAfter}
-use Rattle.latch_steps.specs.AtOnce.{IsFound, IsNear, Finds, LooksUp, NeverLooksUp}
+use Rattle.latch_steps.specs.AtOnce.{IsFound, IsNear, Finds, LooksUp, NeverLooksUp, table_in}
 use Rattle.latch_steps.proofs.Readers.{get_insert_same, get_insert_other, get_remove_same, get_remove_other}
 use Rattle.latch_steps.proofs.Showing.{shown_none}
 use Rattle.latch_steps.proofs.Settling.{run_sound, none_accepted, all_push}
@@ -57,7 +57,7 @@ pub record Ending {K : Type 0} (o : Order K) (n limit : ℕ) (r : ℕ) (w : Mome
   pub run : List (Done K)
   pub done : Moment K
   pub reads : AllByRecursion (λ d. d.event ≡ Read r) run
-  pub steps : Run o n limit w (run ++ did (Read r) (Gave (returned_after r w l answer g loads)) done ∷ [])
+  pub steps : Run (machine o n limit) w (run ++ did (Read r) (Gave (returned_after r w l answer g loads)) done ∷ [])
   pub latch : done.latch ≡ w.latch
   pub events : done.events ≡ later loads w.events
   pub gone : get done.lookups r ≡ None
@@ -130,7 +130,7 @@ module _ {O K : Type 0} (o : Order K) (law : IsLawful o) (old : World O K) (r : 
         reads = h.reads;
         steps = (
           ap (start_done w r k) none_there,
-          subst (λ x. Run o n (limit_of old.layout) w' (h.run ++ did (Read r) (Gave x) h.done ∷ [])) (λ i. record { reader = r; key = k; answer = answer; generation = g; first = sym count i; last = end i; loads = few i; tries = 1 }) h.steps,
+          subst (λ x. Run (machine o n (limit_of old.layout)) w' (h.run ++ did (Read r) (Gave x) h.done ∷ [])) (λ i. record { reader = r; key = k; answer = answer; generation = g; first = sym count i; last = end i; loads = few i; tries = 1 }) h.steps,
         );
         shows = record {
           capacity = s.capacity;
@@ -164,13 +164,13 @@ module _ {O K : Type 0} (o : Order K) (law : IsLawful o) (old : World O K) (r : 
 
     pub look_right : (answer : Option Item) (g loads first last : ℕ)
         → LooksUp o old k answer g loads
-        → IsFound o start' us (at h.moment.latch.words 0) r k (record { reader = r; key = k; answer = answer; generation = g; first = first; last = last; loads = loads; tries = 1 })
+        → IsFound o (table_in h) (gen (at h.moment.latch.words 0)) r k (record { reader = r; key = k; answer = answer; generation = g; first = first; last = last; loads = loads; tries = 1 })
     look_right answer g loads first last found =
         let same = sym found.comes_to ∙ right_answer in
-        record { reader = refl; key = refl; answer = cc; generation = cc; tries = refl; loads = few_loads answer g loads found }
+        record { reader = refl; key = refl; look = record { answer = cc; generation = cc; tries = refl; loads = few_loads answer g loads found } }
 
     pub look_near : (answer : Option Item) (g loads first last : ℕ) → LooksUp o old k answer g loads
-        → IsNear o start' us (at h.moment.latch.words 0)
+        → IsNear (table_in h)
         (record { reader = r; key = k; answer = answer; generation = g; first = first; last = last; loads = loads; tries = 1 })
     look_near answer g loads first last found =
         let n = capacity_of old.layout in

@@ -16,7 +16,7 @@ use Rattle.latch_steps.specs.declared.lookups.Lookup.{Lookup}
 use Rattle.latch_steps.specs.declared.lookups.Loaded.TheVariants.{Going, Retrying, Returned as Ended}
 use Rattle.latch_steps.specs.declared.lookups.Held.TheVariants.{Going as Holds, Returned as Ends}
 use Rattle.latch_steps.specs.Runs.{LookupInHand, Moment, Done, did, last_of}
-use Rattle.latch_steps.specs.Steps.{more, with_lookups, after_load, load_done, read_done, Run}
+use Rattle.latch_steps.specs.Steps.{machine, more, with_lookups, after_load, load_done, read_done, Run}
 use Rattle.latch_steps.specs.Traces.{kept, events_of, note_of, notes_of}
 use Rattle.latch_steps.specs.Lookups.{IsInHand, IsLookupOf, LoadsTo, lookup_at}
 use Rattle.latch_steps.specs.HeldLookups.{lookup_of, notes_of_held, IsHolding, LoadsOn, LoadsFrom, ReadsOn}
@@ -39,7 +39,7 @@ use Rattle.latch_steps.proofs.Recording.{run_append, last_append, notes_append, 
 -- loads so far, none of which returned
 pub record Loading {O K : Type 0} (o : Order K) (n limit : ℕ) (w : Moment K) (r : ℕ) (most turn : ℕ) (c : Lookup O K) (count : ℕ) : Type 0 where
   pub run : List (Done K)
-  pub steps : Run o n limit w run
+  pub steps : Run (machine o n limit) w run
   pub unended : Unended (ToRead r most) run
   pub turns : length run ≡ turn
   pub notes : notes_of run ≡ []
@@ -65,7 +65,7 @@ module _ {O K : Type 0} (o : Order K) (n limit : ℕ) (w : Moment K) (r most : �
     in_hand : (l : LookupInHand K) × (get v.lookups r ≡ Some l) × IsLookupOf o n c l
     in_hand = shown o n (Some c) (get v.lookups r) c refl h.holding.lookup
 
-    run_on : (reply : Reply K) (v' : Moment K) → load_done v r (after_load o n v r in_hand.0) ≡ (reply, v') → Run o n limit w (h.run ++ did (Read r) reply v' ∷ [])
+    run_on : (reply : Reply K) (v' : Moment K) → load_done v r (after_load o n v r in_hand.0) ≡ (reply, v') → Run (machine o n limit) w (h.run ++ did (Read r) reply v' ∷ [])
     run_on reply v' reads = run_append o n limit w h.run (did (Read r) reply v' ∷ []) h.steps (ap (read_done o n v r) in_hand.1 ∙ reads, tt)
 
     holds_on : (c' : Option (Lookup O K)) (reply : Reply K) (v' : Moment K) → v'.latch ≡ v.latch → IsInHand o n c' (get v'.lookups r) → ((q : ℕ) → q ≢ r → get v'.lookups q ≡ get v.lookups q) → v'.events ≡ more v.events → IsHolding o n w (last_of w (h.run ++ did (Read r) reply v' ∷ [])) r c' next
@@ -95,7 +95,7 @@ module _ {O K : Type 0} (o : Order K) (n limit : ℕ) (w : Moment K) (r most : �
         let g = loads in_hand.0 in_hand.2 in
         loads_more c' Retried g.0 g.1 (ap (load_done v r) (g.2 v (ap (λ l. l.words) h.holding.latch ∙ same))) refl (λ x. refl)
 
-    pub load_ends : (words : List ℕ) → w.latch.words ≡ words → (x : Returned K) → turn < most → ((l : LookupInHand K) → IsLookupOf o n c l → LoadsTo {O = O} o n words r next l (Ended x)) → LoadsOn {O = O} o n limit w r most (Ends x) (turn + 1) next
+    pub load_ends : (words : List ℕ) → w.latch.words ≡ words → (x : Returned K) → turn < most → ((l : LookupInHand K) → IsLookupOf o n c l → LoadsTo {O = O} o n words r next l (Ended x)) → LoadsOn {O = O} (machine o n limit) w r most (record { held = Ends x; count = turn + 1; events = next })
     load_ends words same x lt loads =
         let v' = with_lookups v (remove v.lookups r) in
         let reads = ap (load_done v r) (loads in_hand.0 in_hand.2 v (ap (λ l. l.words) h.holding.latch ∙ same) (ap more (sym h.holding.events) ∙ sym counts)) in
@@ -108,7 +108,7 @@ module _ {O K : Type 0} (o : Order K) (n limit : ℕ) (w : Moment K) (r most : �
           holding = holds_on None (Gave x) v' refl (subst (IsInHand {O = O} o n None) (sym (get_remove_same v.lookups r)) tt) (λ q ne. get_remove_other v.lookups q r ne) refl;
         }
 
-  pub all_loaded : (c : Lookup O K) (count turn : ℕ) → Loading o n limit w r most turn c count → turn ≡ most → LoadsOn o n limit w r most (Holds c) most count
+  pub all_loaded : (c : Lookup O K) (count turn : ℕ) → Loading o n limit w r most turn c count → turn ≡ most → LoadsOn (machine o n limit) w r most (record { held = Holds c; count = most; events = count })
   all_loaded c count turn h e =
       record { run = h.run; made = h.turns ∙ e; steps = h.steps; repeats = repeats_full (ToRead r most) h.run most h.unended (h.turns ∙ e); notes = h.notes; holding = h.holding }
 
@@ -126,7 +126,7 @@ module _ {O K : Type 0} (o : Order K) (c : World O K) (r : ℕ) where
       }
 
   -- a reader without a lookup is refused once
-  pub idle_reads : (most : ℕ) (new : World O K) → lookup_at c.lookups r ≡ None → Does o c (Read r) (Refused ReaderIdle) new → (w : Moment K) → Shows o c w → ReadsOn o c w r most 1 (Some (ToRefuse ReaderIdle)) new
+  pub idle_reads : (most : ℕ) (new : World O K) → lookup_at c.lookups r ≡ None → Does o c (Read r) (Refused ReaderIdle) new → (w : Moment K) → Shows o c w → ReadsOn o c w r most (1, Some (ToRefuse ReaderIdle)) new
   idle_reads most new free does w s =
       let d = does w s in
       let none_there : get w.lookups r ≡ None = shown_none o (capacity_of c.layout) (lookup_at c.lookups r) (get w.lookups r) free (s.lookups r) in
@@ -143,8 +143,8 @@ module _ {O K : Type 0} (o : Order K) (c : World O K) (r : ℕ) where
 
   module _ (lk : Lookup O K) (there : Some lk ≡ lookup_at c.lookups r) (words : List ℕ) (same : words ≡ c.words.items) (most loads count : ℕ) (ds : BTreeMap ℕ (Option (Lookup O K))) (w : Moment K) (s : Shows o c w) where
     reads : (h : Held O K) (found : Option (Note K)) → notes_of_held h ≡ cons_option found [] → ((q : ℕ) → lookup_at ds q ≡ cond (is_at (nat_cmp r) q) (lookup_of h) (lookup_at c.lookups q))
-        → LoadsFrom o words lk r most c.events h loads count
-        → ReadsOn o c w r most loads found (record c { lookups = ds; events = count })
+        → LoadsFrom o words lk r most c.events (record { held = h; count = loads; events = count })
+        → ReadsOn o c w r most (loads, found) (record c { lookups = ds; events = count })
     reads h found quiet e made =
         let here = shown o (capacity_of c.layout) (lookup_at c.lookups r) (get w.lookups r) lk there (s.lookups r) in
         let within : most ≡ reads_within (get w.lookups r) most = ap (λ f. reads_within f most) (sym here.1) in
@@ -152,13 +152,13 @@ module _ {O K : Type 0} (o : Order K) (c : World O K) (r : ℕ) where
         record { run = l.run; made = l.made; steps = l.steps; repeats = subst (λ m. Repeats (ToRead r most) m l.run) within l.repeats; notes = l.notes ∙ quiet; shows = held_shows w (last_of w l.run) (lookup_of h) ds count s l.holding e }
 
     pub reads_hold : (next : Lookup O K) → ((q : ℕ) → lookup_at ds q ≡ cond (is_at (nat_cmp r) q) (Some next) (lookup_at c.lookups q))
-        → LoadsFrom o words lk r most c.events (Holds next) loads count
-        → ReadsOn o c w r most loads None (record c { lookups = ds; events = count })
+        → LoadsFrom o words lk r most c.events (record { held = Holds next; count = loads; events = count })
+        → ReadsOn o c w r most (loads, None) (record c { lookups = ds; events = count })
     reads_hold next e made = reads (Holds next) None refl e made
 
     pub reads_end : (x : Returned K) → ((q : ℕ) → lookup_at ds q ≡ cond (is_at (nat_cmp r) q) None (lookup_at c.lookups q))
-        → LoadsFrom {O = O} o words lk r most c.events (Ends x) loads count
-        → ReadsOn o c w r most loads (Some (ToNote x)) (record c { lookups = ds; events = count })
+        → LoadsFrom {O = O} o words lk r most c.events (record { held = Ends x; count = loads; events = count })
+        → ReadsOn o c w r most (loads, Some (ToNote x)) (record c { lookups = ds; events = count })
     reads_end x e made = reads (Ends x) (Some (ToNote x)) refl e made
 
 -- the events of a command's run are its own again and again
@@ -167,7 +167,7 @@ events_repeat c [] most h = refl
 events_repeat c (d ∷ run) most h = ap (λ e. e ∷ events_of run) h.1 ∙ ap (λ es. event_of c ∷ es) (events_repeat c run _ h.2)
 
 -- a recorder takes a reader's loads in as its command asks for them
-pub reads_recorded : {O K : Type 0} (o : Order K) (keeps : Bool) (old new : Recorder O K) (w : Moment K) (r most loads : ℕ) (note : Option (Note K)) → Shows o old.world w → ReadsOn o old.world w r most loads note new.world → layout_in new.world ≡ layout_in old.world → new.events.items ≡ old.events.items ++ kept keeps (replicate loads (Read r)) → new.notes.items ≡ old.notes.items ++ cons_option note [] → Obeys o keeps (ToRead r most) old new w (reads_within (get w.lookups r) most)
+pub reads_recorded : {O K : Type 0} (o : Order K) (keeps : Bool) (old new : Recorder O K) (w : Moment K) (r most loads : ℕ) (note : Option (Note K)) → Shows o old.world w → ReadsOn o old.world w r most (loads, note) new.world → layout_in new.world ≡ layout_in old.world → new.events.items ≡ old.events.items ++ kept keeps (replicate loads (Read r)) → new.notes.items ≡ old.notes.items ++ cons_option note [] → Obeys o keeps (ToRead r most) old new w (reads_within (get w.lookups r) most)
 reads_recorded {K = K} o keeps old new w r most loads note s h lay logged noted =
     let c : Command K = ToRead r most in
     let left = reads_within (get w.lookups r) most in

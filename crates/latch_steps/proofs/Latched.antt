@@ -22,7 +22,7 @@ use Rattle.latch_core.specs.Invariants.{IsSound}
 use Rattle.latch_core.proofs.Steps.{hidden_same, flip_adds}
 use Rattle.latch_core.proofs.Sound.{sound_step, sound_begin}
 use Rattle.latch_steps.specs.Runs.{LookupInHand, Moment, Done, accepted, moment_at}
-use Rattle.latch_steps.specs.Steps.{Begins, Writes, AfterLoad, Goes, Retries, Returns, after_load, start_done, load_done, read_done, Step, Run}
+use Rattle.latch_steps.specs.Steps.{machine, Begins, Writes, AfterLoad, Goes, Retries, Returns, after_load, start_done, load_done, read_done, Step, Run}
 use Rattle.latch_steps.specs.Quiet.{is_step, is_flip, flips_between}
 
 -- a reply that is no step of the writer, and a moment with the same latch
@@ -80,7 +80,7 @@ module _ {K : Type 0} (o : Order K) (n start : ℕ) (us : List Update) (w : Mome
       at_rest (Some h) e = absurd (cc)
 
   pub step_sound : IsLawful o → (limit : ℕ) (e : Event K) (reply : Reply K) (w' : Moment K)
-      → Step o n limit w e reply w' → IsSound o n start (us ++ accepted e reply) w'.latch
+      → Step (machine o n limit) w e reply w' → IsSound o n start (us ++ accepted e reply) w'.latch
   step_sound law limit (Begin u) reply w' s = begins_sound law limit u _ refl reply w' s
   step_sound law limit Write reply w' s = writes_sound w.latch.hand refl reply w' s
   step_sound law limit (Start r k) reply w' s = kept w' (subst (KeepsLatch w) s (start_keeps w r k (get w.lookups r))).0
@@ -125,7 +125,7 @@ module _ {K : Type 0} (n : ℕ) (w : Moment K) (sized : 0 < length w.latch.words
       subst (λ r. Adds w r w') (sym er) (subst (λ v. Adds w (Begun left) v) (sym ew) (let e : at w.latch.words 0 ≡ at w.latch.words 0 + 0 = omega arith in e))
 
   step_adds : (o : Order K) (limit : ℕ) (e : Event K) (reply : Reply K) (w' : Moment K)
-      → Step o n limit w e reply w' → Adds w reply w'
+      → Step (machine o n limit) w e reply w' → Adds w reply w'
   step_adds o limit (Begin u) reply w' s = begins_adds o u _ reply w' s
   step_adds o limit Write reply w' s = writes_adds _ reply w' s
   step_adds o limit (Start r k) reply w' s = keeps_adds reply w' (subst (KeepsLatch w) s (start_keeps w r k (get w.lookups r)))
@@ -139,7 +139,7 @@ abbrev flips : {K : Type 0} → Done K → Bool
 flips d = is_flip d.reply
 
 flips_upto : {K : Type 0} (o : Order K) → IsLawful o → (n limit start : ℕ) (us : List Update)
-    (w : Moment K) (run : List (Done K)) → IsSound o n start us w.latch → Run o n limit w run
+    (w : Moment K) (run : List (Done K)) → IsSound o n start us w.latch → Run (machine o n limit) w run
     → (i : ℕ) → i ≤ length run
     → sequence_at w run i ≡ at w.latch.words 0 + count_by flips (take i run)
 flips_upto o law n limit start us w run ok steps zero within = omega arith
@@ -172,7 +172,7 @@ count_between run i m =
 
 -- between two moments of a run
 pub flips_counted : {K : Type 0} (o : Order K) → IsLawful o → (n limit start : ℕ) (us : List Update)
-    (w : Moment K) (run : List (Done K)) → IsSound o n start us w.latch → Run o n limit w run
+    (w : Moment K) (run : List (Done K)) → IsSound o n start us w.latch → Run (machine o n limit) w run
     → (i j : ℕ) → i ≤ j → j ≤ length run
     → sequence_at w run j ≡ sequence_at w run i + flips_between run i j
 flips_counted o law n limit start us w run ok steps i j le within =

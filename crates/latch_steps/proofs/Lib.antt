@@ -10,6 +10,7 @@ mod Showing
 mod Counting
 mod Recording
 mod HeldLoads
+mod Promising
 mod Settling
 mod Finding
 mod PlainRuns

@@ -19,7 +19,7 @@ use Rattle.word_arena.specs.Words.{at}
 use Rattle.latch_core.specs.Sequences.{gen}
 use Rattle.latch_core.specs.Latches.{Hand, begun}
 use Rattle.latch_steps.specs.Runs.{LookupInHand, Moment, accepted}
-use Rattle.latch_steps.specs.Steps.{more, counted, with_latch, with_lookups, Begins, Writes, start_done, load_done, read_done, Step}
+use Rattle.latch_steps.specs.Steps.{machine, more, counted, with_latch, with_lookups, Begins, Writes, start_done, load_done, read_done, Step}
 use Rattle.latch_core.specs.Invariants.{IsSound}
 use Rattle.latch_steps.proofs.LoadCases.{IsGoing, none_loaded, by_sound_load}
 use Rattle.latch_core.proofs.Steps.{standing_step}
@@ -182,7 +182,7 @@ begin_leads {K = K} o law n limit start us c w ok room u None e reply w' (left, 
 
 pub step_leads : {K : Type 0} (o : Order K) → IsLawful o → (n limit start : ℕ) (us : List Update)
     (c : ℕ) (w : Moment K) → IsWorld o n start us c w → more c ≡ c + 1 → (e : Event K)
-    (reply : Reply K) (w' : Moment K) → Step o n limit w e reply w'
+    (reply : Reply K) (w' : Moment K) → Step (machine o n limit) w e reply w'
     → Leads_to o n start (us ++ accepted e reply) (c + 1) w' reply
 step_leads o law n limit start us c w ok room (Begin u) reply w' s = begin_leads o law n limit start us c w ok room u _ refl reply w' s
 step_leads o law n limit start us c w ok room Write reply w' s = subst (λ vs. Leads_to o n start vs (c + 1) w' reply) (sym (append-nil us)) (write_leads o law n start us c w ok room w.latch.hand refl reply w' s)

@@ -17,7 +17,7 @@ use Rattle.latch_core.specs.Attempts.{Load, attempt, rest_after, Stand}
 use Rattle.latch_core.specs.Latches.{Hand, Latch}
 use Rattle.word_arena.specs.Stores.{words_after}
 use Rattle.latch_steps.specs.Runs.{LookupInHand, Moment, opening, Done, accepted, history}
-use Rattle.latch_steps.specs.Steps.{more, Begins, Writes, after_load, start_done, load_done, read_done, Step, Run}
+use Rattle.latch_steps.specs.Steps.{machine, more, Begins, Writes, after_load, start_done, load_done, read_done, Step, Run}
 use Rattle.latch_steps.specs.Quiet.{flips_between, IsPatientReply, IsQuiet}
 use Rattle.latch_core.specs.Invariants.{IsStanding}
 use Rattle.latch_core.proofs.Steps.{sequence_after}
@@ -139,7 +139,7 @@ module _ {K : Type 0} (o : Order K) (law : IsLawful o) (n limit start : ℕ) (us
   begin_goes u None reply w' (left, some, bound, er, ew) = subst GoesTo (λ i. (sym er i, sym ew i)) (record { lookups = tried; now = tt })
 
   step_goes : (e : Event K) (reply : Reply K) (w' : Moment K)
-      → seqs (more w.events) ≡ at w'.latch.words 0 → Step o n limit w e reply w'
+      → seqs (more w.events) ≡ at w'.latch.words 0 → Step (machine o n limit) w e reply w'
       → Goes_on seqs w' reply
   step_goes (Begin u) reply w' there s = begin_goes u _ reply w' s
   step_goes Write reply w' there s = write_goes w.latch.hand reply w' s
@@ -165,7 +165,7 @@ patient_run : {K : Type 0} (o : Order K) → IsLawful o → (n limit start : ℕ
     (all : List (Done K)) → Counts w0 all → (run : List (Done K)) (us : List Update) (c : ℕ)
     (w : Moment K) → IsLeft w0 all c w run → IsWorld o n start us c w
     → AreTried (sequence_at w0 all) (at w.latch.words 0) w.lookups → c + length run < 2 ^ 64
-    → Run o n limit w run → AllByRecursion (λ (d : Done K). IsPatientReply all d.reply) run
+    → Run (machine o n limit) w run → AllByRecursion (λ (d : Done K). IsPatientReply all d.reply) run
 patient_run o law n limit start w0 all counts [] us c w left ok tried room steps = tt
 patient_run o law n limit start w0 all counts (d ∷ run) us c w left ok tried room steps =
     let one : more c ≡ c + 1 = omega arith in
@@ -181,7 +181,7 @@ patient_run o law n limit start w0 all counts (d ∷ run) us c w left ok tried r
 
 -- every run from the opening is quiet
 pub quiet : {K : Type 0} (o : Order K) → IsLawful o → (n limit start : ℕ) → stable start ≡ 0
-    → (run : List (Done K)) → length run < 2 ^ 64 → Run o n limit (opening n start) run
+    → (run : List (Done K)) → length run < 2 ^ 64 → Run (machine o n limit) (opening n start) run
     → IsQuiet o start run
 quiet {K = K} o law n limit start even run room steps =
     let w0 : Moment K = opening n start in
@@ -194,7 +194,7 @@ quiet {K = K} o law n limit start even run room steps =
 
 -- and near, where the writer keeps its trees red-black
 pub near : {K : Type 0} (o : Order K) → IsLawful o → (n limit start : ℕ) → stable start ≡ 0
-    → (run : List (Done K)) → length run < 2 ^ 64 → Run o n limit (opening n start) run
+    → (run : List (Done K)) → length run < 2 ^ 64 → Run (machine o n limit) (opening n start) run
     → AreShallow n run → AreNear o start (history run) run
 near o law n limit start even run room steps low =
     near_run o law n limit start (history run) run [] 0 (opening n start) (opening_world o n start even) (omega arith) steps low refl

@@ -22,7 +22,7 @@ use Rattle.latch_steps.specs.declared.events.Event.{Event}
 use Rattle.latch_steps.specs.declared.events.Event.TheVariants.{Begin, Write, Start, Read}
 use Rattle.latch_steps.specs.declared.replies.Reply.{Reply}
 use Rattle.latch_steps.specs.Runs.{LookupInHand, Moment, Done, accepted, last_of, opening}
-use Rattle.latch_steps.specs.Steps.{with_lookups, Begins, Writes, AfterLoad, Goes, Retries, Returns, return_of, after_load, start_done, load_done, read_done, Step, Run}
+use Rattle.latch_steps.specs.Steps.{machine, with_lookups, Begins, Writes, AfterLoad, Goes, Retries, Returns, return_of, after_load, start_done, load_done, read_done, Step, Run}
 use Rattle.latch_steps.specs.Expands.{event_of, most_of, Repeats}
 use Rattle.latch_steps.specs.Plain.{IsPlainEvent, IsPlain, ArePlain, IsLookAfter, IsLookReply, AreLooksAfter}
 use Rattle.latch_steps.proofs.LoadCases.{IsGoing, none_loaded, by_load}
@@ -128,7 +128,7 @@ module _ {K : Type 0} (o : Order K) (law : IsLawful o) (n start : ℕ) (us : Lis
       (λ st. (gone r, exact r l is st))
 
   step_exact : (limit : ℕ) (e : Event K) (reply : Reply K) (w' : Moment K)
-      → Step o n limit w e reply w' → IsPlainEvent w e → Leads (reply, w')
+      → Step (machine o n limit) w e reply w' → IsPlainEvent w e → Leads (reply, w')
   step_exact limit (Begin u) reply w' s plain = begin_leads u _ reply w' plain s
   step_exact limit Write reply w' s plain = write_leads w.latch.hand reply w' plain s
   step_exact limit (Start r k) reply w' s plain = subst Leads s (start_leads r k (get w.lookups r) refl plain)
@@ -136,7 +136,7 @@ module _ {K : Type 0} (o : Order K) (law : IsLawful o) (n start : ℕ) (us : Lis
 
 exact_run : {K : Type 0} (o : Order K) → IsLawful o → (n limit start : ℕ) (us : List Update)
     (w : Moment K) (run : List (Done K)) → IsSound o n start us w.latch → AreAlone o n w
-    → Run o n limit w run → IsPlain w run → AreLooksAfter o start us run
+    → Run (machine o n limit) w run → IsPlain w run → AreLooksAfter o start us run
 exact_run o law n limit start us w [] ok alone steps plain = tt
 exact_run o law n limit start us w (d ∷ run) ok alone steps plain =
     let leads = step_exact o law n start us w ok alone limit d.event d.reply d.after steps.0 plain.0 in
@@ -145,7 +145,7 @@ exact_run o law n limit start us w (d ∷ run) ok alone steps plain =
 
 -- every plain run from the opening is exact
 pub exact_where_plain : {K : Type 0} (o : Order K) → IsLawful o → (n limit start : ℕ)
-    (run : List (Done K)) → stable start ≡ 0 → Run o n limit (opening n start) run
+    (run : List (Done K)) → stable start ≡ 0 → Run (machine o n limit) (opening n start) run
     → IsPlain (opening n start) run → AreLooksAfter o start [] run
 exact_where_plain {K = K} o law n limit start run even steps plain =
     let w0 : Moment K = opening n start in
@@ -194,19 +194,19 @@ module _ {K : Type 0} (o : Order K) (n limit : ℕ) where
     read_plain (Some l) = load_plain (after_load o n w r l)
 
   step_plain_write : (w : Moment K) (d : Done K) → d.event ≡ Write
-      → Step o n limit w d.event d.reply d.after → IsPlainEvent w Write → IsPlainEvent d.after Write
+      → Step (machine o n limit) w d.event d.reply d.after → IsPlainEvent w Write → IsPlainEvent d.after Write
   step_plain_write w d same step plain =
-      writes_plain w w.latch.hand d.reply d.after (subst (λ e. Step o n limit w e d.reply d.after) same step) plain
+      writes_plain w w.latch.hand d.reply d.after (subst (λ e. Step (machine o n limit) w e d.reply d.after) same step) plain
 
   step_plain_read : (w : Moment K) (r : ℕ) (d : Done K) → d.event ≡ Read r
-      → Step o n limit w d.event d.reply d.after → IsPlainEvent w (Read r) → IsPlainEvent d.after (Read r)
+      → Step (machine o n limit) w d.event d.reply d.after → IsPlainEvent w (Read r) → IsPlainEvent d.after (Read r)
   step_plain_read w r d same step plain =
-      let s : read_done o n w r (get w.lookups r) ≡ (d.reply, d.after) = subst (λ e. Step o n limit w e d.reply d.after) same step in
+      let s : read_done o n w r (get w.lookups r) ≡ (d.reply, d.after) = subst (λ e. Step (machine o n limit) w e d.reply d.after) same step in
       subst (λ (done : Reply K × Moment K). IsPlainEvent done.1 (Read r)) s (read_plain w r plain (get w.lookups r))
 
   -- a command's part of the run, where nothing else is in hand before it
   writing_plain : (c : Command K) → event_of c ≡ Write → (w : Moment K) (most : ℕ) (run : List (Done K))
-      → Run o n limit w run → Repeats c most run → IsPlainEvent w Write → IsPlain w run
+      → Run (machine o n limit) w run → Repeats c most run → IsPlainEvent w Write → IsPlain w run
   writing_plain c is w most [] steps again plain = tt
   writing_plain c is w most (d ∷ run) steps again plain =
       let same : d.event ≡ Write = again.1 ∙ is in (
@@ -214,7 +214,7 @@ module _ {K : Type 0} (o : Order K) (n limit : ℕ) where
         writing_plain c is d.after _ run steps.1 again.2 (step_plain_write w d same steps.0 plain),
       )
 
-  reading_plain : (r most' : ℕ) (w : Moment K) (most : ℕ) (run : List (Done K)) → Run o n limit w run
+  reading_plain : (r most' : ℕ) (w : Moment K) (most : ℕ) (run : List (Done K)) → Run (machine o n limit) w run
       → Repeats (ToRead r most') most run → IsPlainEvent w (Read r) → IsPlain w run
   reading_plain r most' w most [] steps again plain = tt
   reading_plain r most' w most (d ∷ run) steps again plain = (
@@ -228,7 +228,7 @@ module _ {K : Type 0} (o : Order K) (n limit : ℕ) where
   once_plain e w (d ∷ []) once plain = (subst (IsPlainEvent w) (sym once) plain, tt)
   once_plain e w (d ∷ d' ∷ run) once plain = absurd once
 
-  part_plain : (c : Command K) (w : Moment K) (run : List (Done K)) → Run o n limit w run
+  part_plain : (c : Command K) (w : Moment K) (run : List (Done K)) → Run (machine o n limit) w run
       → Repeats c (most_of w c) run → IsPlainEvent w (event_of c) → IsPlain w run
   part_plain (ToBegin u) w run steps again plain = once_plain (Begin u) w run (begun_once u run again) plain
   part_plain (ToWrite most) w run steps again plain = writing_plain (ToWrite most) refl w _ run steps again plain
@@ -243,17 +243,17 @@ module _ {K : Type 0} (o : Order K) (n limit : ℕ) where
   plain_append w [] next a b = b
   plain_append w (d ∷ run) next a b = (a.0, plain_append d.after run next a.1 b)
 
-  run_parts : (w : Moment K) (run next : List (Done K)) → Run o n limit w (run ++ next)
-      → Run o n limit w run × Run o n limit (last_of w run) next
+  run_parts : (w : Moment K) (run next : List (Done K)) → Run (machine o n limit) w (run ++ next)
+      → Run (machine o n limit) w run × Run (machine o n limit) (last_of w run) next
   run_parts w [] next steps = (tt, steps)
   run_parts w (d ∷ run) next steps = let rest = run_parts d.after run next steps.1 in ((steps.0, rest.0), rest.1)
 
   -- plain commands make a plain run
   pub commands_plain : (cs : List (Command K)) (w : Moment K) (run : List (Done K))
-      → Run o n limit w run → ArePlain w cs run → IsPlain w run
+      → Run (machine o n limit) w run → ArePlain w cs run → IsPlain w run
   commands_plain [] w run steps plain = subst (IsPlain w) (sym plain) tt
   commands_plain (c ∷ cs) w run steps plain =
-      let part = plain.1 in
-      let parts = run_parts w part.0 part.1 (subst (Run o n limit w) part.2 steps) in
-      subst (IsPlain w) (sym part.2)
-      (plain_append w part.0 part.1 (part_plain c w part.0 parts.0 part.3 plain.0) (commands_plain cs (last_of w part.0) part.1 parts.1 part.4))
+      let h = plain.1 in
+      let parts = run_parts w h.part h.rest (subst (Run (machine o n limit) w) h.whole steps) in
+      subst (IsPlain w) (sym h.whole)
+      (plain_append w h.part h.rest (part_plain c w h.part parts.0 h.repeats plain.0) (commands_plain cs (last_of w h.part) h.rest parts.1 h.goes_on))

@@ -8,7 +8,6 @@ use Rattle.order_laws.specs.declared.refusals.Refusal.{Refusal}
 use Rattle.order_laws.specs.Orders.{Order}
 use Rattle.word_arena.specs.declared.layouts.Layout.{Layout}
 use Rattle.word_arena.specs.Layouts.{capacity_of, limit_of}
-use Rattle.word_arena.specs.Words.{at}
 use Rattle.std.specs.FinMap.{get}
 use Rattle.latch_core.specs.Latches.{Hand, Latch}
 use Rattle.latch_core.specs.Writers.{IsShallow}
@@ -18,7 +17,6 @@ use Rattle.latch_steps.specs.declared.events.Event.TheVariants.{Begin, Write, St
 use Rattle.latch_steps.specs.declared.commands.Command.{Command}
 use Rattle.latch_steps.specs.declared.commands.Command.TheVariants.{Read as ToRead}
 use Rattle.latch_steps.specs.Near.{AreShallow}
-use Rattle.latch_steps.specs.declared.replies.Note.{Note}
 use Rattle.latch_steps.specs.declared.replies.Reply.{Reply}
 use Rattle.latch_steps.specs.declared.worlds.World.{World}
 use Rattle.latch_steps.specs.declared.traces.Recorder.{Recorder}
@@ -26,10 +24,10 @@ use Rattle.latch_steps.specs.declared.traces.Trace.{Trace}
 use Rattle.latch_steps.specs.declared.traces.Notes.{Notes}
 use Rattle.latch_steps.specs.Traces.{IsTraceOf, AreNotesOf, kept, events_of, note_of, notes_of}
 use Rattle.latch_steps.specs.Runs.{Moment, Done, did, opening, last_of}
-use Rattle.latch_steps.specs.Steps.{read_done, Step, Run}
+use Rattle.latch_steps.specs.Steps.{machine, machine_of, read_done, Step, Run}
 use Rattle.latch_steps.specs.Worlds.{Shows, layout_in}
 use Rattle.latch_steps.specs.WorldSteps.{Does, MayDo, Steps, gives_up}
-use Rattle.latch_steps.specs.Recorders.{Records, Obeys, IsWriting}
+use Rattle.latch_steps.specs.Recorders.{IsNew, IsWhole, AreWhole, Records, Obeys, IsWriting}
 use Rattle.latch_steps.specs.Expands.{event_of, most_of, writes_within, ends, Repeats, Expand}
 use Rattle.latch_steps.proofs.Latched.{KeepsLatch, read_keeps}
 
@@ -38,7 +36,7 @@ module _ {K : Type 0} where
   last_append w [] next = refl
   last_append w (d ∷ run) next = last_append d.after run next
 
-  pub run_append : (o : Order K) (n limit : ℕ) (w : Moment K) (run next : List (Done K)) → Run o n limit w run → Run o n limit (last_of w run) next → Run o n limit w (run ++ next)
+  pub run_append : (o : Order K) (n limit : ℕ) (w : Moment K) (run next : List (Done K)) → Run (machine o n limit) w run → Run (machine o n limit) (last_of w run) next → Run (machine o n limit) w (run ++ next)
   run_append o n limit w [] next a b = b
   run_append o n limit w (d ∷ run) next a b = (a.0, run_append o n limit d.after run next a.1 b)
 
@@ -53,9 +51,6 @@ module _ {K : Type 0} where
   pub notes_append : (run next : List (Done K)) → notes_of (run ++ next) ≡ notes_of run ++ notes_of next
   notes_append run next = filter_map-append (λ (d : Done K). note_of d.reply) run next
 
-  pub noted : (r : Reply K) (notes new : List (Note K)) (found : Option (Note K)) → note_of r ≡ found → new ≡ notes ++ cons_option found [] → new ≡ notes ++ cons_option (note_of r) []
-  noted r notes new found e h = h ∙ ap (λ f. notes ++ cons_option f []) (sym e)
-
 -- red-black trees at the moments of a run
 module _ {K : Type 0} where
   shallow_append : (n : ℕ) (run next : List (Done K)) → AreShallow n run → AreShallow n next → AreShallow n (run ++ next)
@@ -63,10 +58,10 @@ module _ {K : Type 0} where
   shallow_append n (d ∷ run) next a b = (a.0, shallow_append n run next a.1 b)
 
   -- loads leave the words as they are
-  pub reads_shallow : (o : Order K) (n limit r most : ℕ) (run : List (Done K)) (w : Moment K) (left : ℕ) → Run o n limit w run → Repeats (ToRead r most) left run → IsShallow n w.latch.words → AreShallow n run
+  pub reads_shallow : (o : Order K) (n limit r most : ℕ) (run : List (Done K)) (w : Moment K) (left : ℕ) → Run (machine o n limit) w run → Repeats (ToRead r most) left run → IsShallow n w.latch.words → AreShallow n run
   reads_shallow o n limit r most [] w left steps again low = tt
   reads_shallow o n limit r most (d ∷ run) w left steps again low =
-      let read : read_done o n w r (get w.lookups r) ≡ (d.reply, d.after) = subst (λ e. Step o n limit w e d.reply d.after) again.1 steps.0 in
+      let read : read_done o n w r (get w.lookups r) ≡ (d.reply, d.after) = subst (λ e. Step (machine o n limit) w e d.reply d.after) again.1 steps.0 in
       let keeps = subst (KeepsLatch w) read (read_keeps o n w r (get w.lookups r)) in
       let low' : IsShallow n d.after.latch.words = subst (λ (l : Latch). IsShallow n l.words) (sym keeps.0) low in
       (low', reads_shallow o n limit r most run d.after _ steps.1 again.2 low')
@@ -75,7 +70,6 @@ module _ {K : Type 0} where
 pub shows_shallow : {O K : Type 0} {o : Order K} (c : World O K) (w : Moment K) → Shows o c w → IsShallow (capacity_of (layout_in c)) w.latch.words
 shows_shallow c w s = subst (λ n. IsShallow n w.latch.words) s.capacity (stays_now c.writer.capacity w.latch.words c.writer.left s.writer.shallow)
 
--- an event that is not given up
 -- what is kept of two lists one after another
 pub kept_append : {X : Type 0} (keeps : Bool) (xs ys : List X) → kept keeps (xs ++ ys) ≡ kept keeps xs ++ kept keeps ys
 kept_append true xs ys = refl
@@ -85,6 +79,7 @@ kept_none : {X : Type 0} (keeps : Bool) → kept {X = X} keeps [] ≡ []
 kept_none true = refl
 kept_none false = refl
 
+-- an event that is not given up
 module _ {O K : Type 0} (o : Order K) (keeps : Bool) where
   may_does : (old new : World O K) (e : Event K) (r : Reply K) → MayDo o old e r new → gives_up r ≡ false → Does o old e r new
   may_does old new e r may stays = ⊎_elim (λ d. d) (λ up. let f : gives_up r ≡ true = ap gives_up up.0 in absurd (cc)) may
@@ -108,7 +103,7 @@ module _ {O K : Type 0} (o : Order K) (keeps : Bool) where
   records_append old mid new w run next a b =
       record {
         layout = b.layout ∙ a.layout;
-        steps = run_append o (capacity_of (layout_in old.world)) (limit_of (layout_in old.world)) w run next a.steps (subst (λ l. Run o (capacity_of l) (limit_of l) (last_of w run) next) a.layout b.steps);
+        steps = run_append o (capacity_of (layout_in old.world)) (limit_of (layout_in old.world)) w run next a.steps (subst (λ l. Run (machine_of o l) (last_of w run) next) a.layout b.steps);
         events = b.events ∙ ap (λ xs. xs ++ kept keeps (events_of next)) a.events ∙ append_assoc old.events.items (kept keeps (events_of run)) (kept keeps (events_of next)) ∙ ap (λ xs. old.events.items ++ xs) (sym (ap (kept keeps) (events_append run next) ∙ kept_append keeps (events_of run) (events_of next)));
         notes = b.notes ∙ ap (λ xs. xs ++ notes_of next) a.notes ∙ append_assoc old.notes.items (notes_of run) (notes_of next) ∙ ap (λ xs. old.notes.items ++ xs) (sym (notes_append run next));
         shows = subst (Shows o new.world) (sym (last_append w run next)) b.shows;
@@ -142,21 +137,23 @@ module _ {K : Type 0} (c : Command K) where
 -- one command more
 module _ {K : Type 0} where
   pub expand_push : (w : Moment K) (cs : List (Command K)) (c : Command K) (run next : List (Done K)) → Expand w cs run → Repeats c (most_of (last_of w run) c) next → Expand w (cs ++ c ∷ []) (run ++ next)
-  expand_push w [] c run next e h = (
-    next,
-    [],
-    ap (λ xs. xs ++ next) e ∙ sym (append-nil next),
-    subst (λ xs. Repeats c (most_of (last_of w xs) c) next) e h,
-    refl,
-  )
-  expand_push w (d ∷ cs) c run next (mine, rest, e, g, others) h =
-      let there : last_of w run ≡ last_of (last_of w mine) rest = ap (last_of w) e ∙ last_append w mine rest in (
-        mine,
-        rest ++ next,
-        ap (λ xs. xs ++ next) e ∙ append_assoc mine rest next,
-        g,
-        expand_push (last_of w mine) cs c rest next others (subst (λ v. Repeats c (most_of v c) next) there h),
-      )
+  expand_push w [] c run next e h =
+      record {
+        part = next;
+        rest = [];
+        whole = ap (λ xs. xs ++ next) e ∙ sym (append-nil next);
+        repeats = subst (λ xs. Repeats c (most_of (last_of w xs) c) next) e h;
+        goes_on = refl;
+      }
+  expand_push w (d ∷ cs) c run next e h =
+      let there : last_of w run ≡ last_of (last_of w e.part) e.rest = ap (last_of w) e.whole ∙ last_append w e.part e.rest in
+      record {
+        part = e.part;
+        rest = e.rest ++ next;
+        whole = ap (λ xs. xs ++ next) e.whole ∙ append_assoc e.part e.rest next;
+        repeats = e.repeats;
+        goes_on = expand_push (last_of w e.part) cs c e.rest next e.goes_on (subst (λ v. Repeats c (most_of v c) next) there h);
+      }
 
 -- a recorder that repeats a command's event
 pub record Repeating {O K : Type 0} (o : Order K) (keeps : Bool) (c : Command K) (old now : Recorder O K) (turn : ℕ) (w : Moment K) : Type 0 where
@@ -215,24 +212,23 @@ obeyed_writing o keeps old new (Ok x) to_flip most c d same is count obeys = λ 
 obeyed_writing o keeps old new (Err e) to_flip most c d same is count obeys = tt
 
 -- from the opening on
-pub trace_of : {O K : Type 0} (o : Order K) (l : Layout) (start : ℕ) (r0 r1 : Recorder O K) (t : Trace O K) (run : List (Done K)) → layout_in r0.world ≡ l → r0.events.items ≡ [] → r0.notes.items ≡ [] → Records o true r0 (opening (capacity_of l) start) r1 run → t.events.items ≡ r1.events.items → t.notes.items ≡ r1.notes.items → ((w : Moment K) → Shows o r1.world w → t.sequence ≡ at w.latch.words 0) → IsTraceOf o l start t run
-trace_of {K = K} o l start r0 r1 t run lay none_done none_noted h ee en eq =
-    let w0 : Moment K = opening (capacity_of l) start in
-    record {
-      steps = subst (λ a. Run o (capacity_of a) (limit_of a) w0 run) lay h.steps;
-      events = ee ∙ h.events ∙ ap (λ xs. xs ++ events_of run) none_done;
-      notes = en ∙ h.notes ∙ ap (λ xs. xs ++ notes_of run) none_noted;
-      sequence = eq (last_of w0 run) h.shows;
-    }
+module _ {O K : Type 0} (o : Order K) (l : Layout) (start : ℕ) (r0 r1 : Recorder O K) (run : List (Done K)) (new : IsNew o l start r0) where
+  pub trace_of : (t : Trace O K) → IsWhole o r1 t → Records o true r0 (opening (capacity_of l) start) r1 run → IsTraceOf o l start t run
+  trace_of t whole h =
+      record {
+        steps = subst (λ a. Run (machine_of o a) (opening (capacity_of l) start) run) new.layout h.steps;
+        events = whole.events ∙ h.events ∙ ap (λ xs. xs ++ events_of run) new.events;
+        notes = whole.notes ∙ h.notes ∙ ap (λ xs. xs ++ notes_of run) new.notes;
+        sequence = whole.sequence (last_of (opening (capacity_of l) start) run) h.shows;
+      }
 
-pub notes_of_run : {O K : Type 0} (o : Order K) (keeps : Bool) (l : Layout) (start : ℕ) (r0 r1 : Recorder O K) (t : Notes O K) (run : List (Done K)) → layout_in r0.world ≡ l → r0.notes.items ≡ [] → Records o keeps r0 (opening (capacity_of l) start) r1 run → t.notes.items ≡ r1.notes.items → ((w : Moment K) → Shows o r1.world w → t.sequence ≡ at w.latch.words 0) → AreNotesOf o l start t run
-notes_of_run {K = K} o keeps l start r0 r1 t run lay none_noted h en eq =
-    let w0 : Moment K = opening (capacity_of l) start in
-    record {
-      steps = subst (λ a. Run o (capacity_of a) (limit_of a) w0 run) lay h.steps;
-      notes = en ∙ h.notes ∙ ap (λ xs. xs ++ notes_of run) none_noted;
-      sequence = eq (last_of w0 run) h.shows;
-    }
+  pub notes_of_run : (keeps : Bool) (t : Notes O K) → AreWhole o r1 t → Records o keeps r0 (opening (capacity_of l) start) r1 run → AreNotesOf o l start t run
+  notes_of_run keeps t whole h =
+      record {
+        steps = subst (λ a. Run (machine_of o a) (opening (capacity_of l) start) run) new.layout h.steps;
+        notes = whole.notes ∙ h.notes ∙ ap (λ xs. xs ++ notes_of run) new.notes;
+        sequence = whole.sequence (last_of (opening (capacity_of l) start) run) h.shows;
+      }
 
 -- a trace with so few events is of a run with so few
 pub few_done : {O K : Type 0} (o : Order K) (l : Layout) (start : ℕ) (t : Trace O K) (run : List (Done K)) → IsTraceOf o l start t run → length t.events.items < 2 ^ 64 → length run < 2 ^ 64

@@ -14,7 +14,7 @@ use Rattle.word_arena.specs.Words.{at}
 use Rattle.latch_core.specs.Sequences.{gen, stable}
 use Rattle.latch_core.specs.Latches.{Hand, Latch}
 use Rattle.latch_steps.specs.Runs.{Moment, Done, opening, accepted, history, moment_at}
-use Rattle.latch_steps.specs.Steps.{Run}
+use Rattle.latch_steps.specs.Steps.{machine, Run}
 use Rattle.latch_steps.specs.Safe.{IsSafeReply, IsSafe}
 use Rattle.latch_core.specs.Invariants.{IsInHand, IsSound}
 use Rattle.latch_core.proofs.Sound.{sound_opening}
@@ -50,12 +50,13 @@ module _ {K : Type 0} (w0 : Moment K) (all : List (Done K)) where
       → moment_at w0 all c ≡ w
   moment_there c w run h = ap (moment_at w0 all) (let f : c ≡ c + 0 = omega arith in f) ∙ h.moments 0
 
-safe_reply : {K : Type 0} (o : Order K) (start : ℕ) (us whole rest : List Update) (c : ℕ)
-    (w0 w : Moment K) (all : List (Done K)) → whole ≡ us ++ rest
-    → gen (at w.latch.words 0) - gen start ≤ length us → c ≤ length all → moment_at w0 all c ≡ w
-    → (r : Reply K) → IsRight o start us c w r → IsSafeReply o start whole w0 all r
-safe_reply o start us whole rest c w0 w all e within in_run there (Gave x) h =
-    let same : current_table o start whole w.latch.words ≡ current_table o start us w.latch.words =
+safe_reply : {K : Type 0} (o : Order K) (n start : ℕ) (us rest : List Update) (c : ℕ)
+    (w : Moment K) (all : List (Done K)) → history all ≡ us ++ rest
+    → gen (at w.latch.words 0) - gen start ≤ length us → c ≤ length all
+    → moment_at (opening n start) all c ≡ w → (r : Reply K) → IsRight o start us c w r
+    → IsSafeReply o n start all r
+safe_reply o n start us rest c w all e within in_run there (Gave x) h =
+    let same : current_table o start (history all) w.latch.words ≡ current_table o start us w.latch.words =
     ap (replay o []) (ap (take (gen (at w.latch.words 0) - gen start)) e ∙ take-append-le (gen (at w.latch.words 0) - gen start) us rest within) in
     record {
       events = c;
@@ -63,24 +64,25 @@ safe_reply o start us whole rest c w0 w all e within in_run there (Gave x) h =
       not_after = (let l = h.last in omega arith);
       in_run = in_run;
       generation_is = h.generation ∙ ap (λ v. gen (at v.latch.words 0)) (sym there);
-      answer_is = h.answer ∙ ap (look o x.key) (sym same) ∙ ap (λ v. look o x.key (current_table o start whole v.latch.words)) (sym there);
+      answer_is = h.answer ∙ ap (look o x.key) (sym same) ∙ ap (λ v. look o x.key (current_table o start (history all) v.latch.words)) (sym there);
     }
-safe_reply o start us whole rest c w0 w all e within in_run there _ h = tt
+safe_reply o n start us rest c w all e within in_run there _ h = tt
 
-safe_run : {K : Type 0} (o : Order K) → IsLawful o → (n limit start : ℕ) (whole : List Update)
-    (w0 : Moment K) (all run : List (Done K)) (us : List Update) (c : ℕ) (w : Moment K)
-    → IsLeft w0 all c w run → IsWorld o n start us c w → c + length run < 2 ^ 64
-    → Run o n limit w run → whole ≡ us ++ history run
-    → AllByRecursion (λ (d : Done K). IsSafeReply o start whole w0 all d.reply) run
-safe_run o law n limit start whole w0 all [] us c w left ok room steps e = tt
-safe_run o law n limit start whole w0 all (d ∷ run) us c w left ok room steps e =
+safe_run : {K : Type 0} (o : Order K) → IsLawful o → (n limit start : ℕ)
+    (all run : List (Done K)) (us : List Update) (c : ℕ) (w : Moment K)
+    → IsLeft (opening n start) all c w run → IsWorld o n start us c w → c + length run < 2 ^ 64
+    → Run (machine o n limit) w run → history all ≡ us ++ history run
+    → AllByRecursion (λ (d : Done K). IsSafeReply o n start all d.reply) run
+safe_run o law n limit start all [] us c w left ok room steps e = tt
+safe_run o law n limit start all (d ∷ run) us c w left ok room steps e =
     let leads = step_leads o law n limit start us c w ok (omega arith) d.event d.reply d.after steps.0 in
     let us' = us ++ accepted d.event d.reply in
-    let e' : whole ≡ us' ++ history run = e ∙ sym (append_assoc us (accepted d.event d.reply) (history run)) in
+    let w0 : Moment _ = opening n start in
+    let e' : history all ≡ us' ++ history run = e ∙ sym (append_assoc us (accepted d.event d.reply) (history run)) in
     let left' = left_next w0 all c w d run left in
     let count = left'.count in (
-      safe_reply o start us' whole (history run) (c + 1) w0 d.after all e' (gen_within o n start us' d.after.latch leads.world.latch) (omega arith) (moment_there w0 all (c + 1) d.after run left') d.reply leads.right,
-      safe_run o law n limit start whole w0 all run us' (c + 1) d.after left' leads.world (omega arith) steps.1 e',
+      safe_reply o n start us' (history run) (c + 1) d.after all e' (gen_within o n start us' d.after.latch leads.world.latch) (omega arith) (moment_there w0 all (c + 1) d.after run left') d.reply leads.right,
+      safe_run o law n limit start all run us' (c + 1) d.after left' leads.world (omega arith) steps.1 e',
     )
 
 pub opening_world : {K : Type 0} (o : Order K) (n start : ℕ) → stable start ≡ 0
@@ -91,8 +93,8 @@ opening_world {K = K} o n start even =
 
 -- every run from the opening is safe
 pub safe : {K : Type 0} (o : Order K) → IsLawful o → (n limit start : ℕ) → stable start ≡ 0
-    → (run : List (Done K)) → length run < 2 ^ 64 → Run o n limit (opening n start) run
+    → (run : List (Done K)) → length run < 2 ^ 64 → Run (machine o n limit) (opening n start) run
     → IsSafe o n start run
 safe {K = K} o law n limit start even run room steps =
     let w0 : Moment K = opening n start in
-    safe_run o law n limit start (history run) w0 run run [] 0 w0 (all_left w0 run) (opening_world o n start even) (omega arith) steps refl
+    safe_run o law n limit start run run [] 0 w0 (all_left w0 run) (opening_world o n start even) (omega arith) steps refl

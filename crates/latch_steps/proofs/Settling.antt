@@ -18,8 +18,8 @@ use Rattle.latch_steps.specs.declared.replies.Reply.TheVariants.{Wrote, Refused}
 use Rattle.order_laws.specs.declared.refusals.Refusal.TheVariants.{OutOfMemory}
 use Rattle.latch_steps.specs.declared.worlds.World.{World}
 use Rattle.latch_steps.specs.Runs.{Moment, Done, did, last_of, accepted, history}
-use Rattle.latch_steps.specs.Steps.{Run}
-use Rattle.latch_steps.specs.Worlds.{Shows, IsAtRest, layout_in, IsAfter}
+use Rattle.latch_steps.specs.Steps.{machine, machine_of, Run}
+use Rattle.latch_steps.specs.Worlds.{StaysAfter, Shows, IsAtRest, layout_in, IsAfter, machine_in}
 use Rattle.latch_steps.specs.WorldSteps.{Does, GivesUp, Steps}
 use Rattle.latch_steps.specs.AtOnce.{IsSettled, Settles}
 use Rattle.latch_steps.proofs.Latched.{step_sound}
@@ -27,7 +27,7 @@ use Rattle.latch_steps.proofs.Recording.{run_append, last_append}
 
 -- a run keeps the latch sound
 pub run_sound : {K : Type 0} (o : Order K) → IsLawful o → (n limit start : ℕ) (us : List Update)
-    (w : Moment K) (run : List (Done K)) → IsSound o n start us w.latch → Run o n limit w run
+    (w : Moment K) (run : List (Done K)) → IsSound o n start us w.latch → Run (machine o n limit) w run
     → IsSound o n start (us ++ history run) (last_of w run).latch
 run_sound o law n limit start us w [] ok steps = subst (λ vs. IsSound o n start vs w.latch) (sym (append-nil us)) ok
 run_sound o law n limit start us w (d ∷ run) ok steps =
@@ -57,7 +57,7 @@ rest_is_current o n start us l ok rest =
 pub record Writing {O K : Type 0} (o : Order K) (old now : World O K) (w : Moment K) : Type 0 where
   pub run : List (Done K)
   pub writes : AllByRecursion (λ d. d.event ≡ Write) run
-  pub steps : Run o (capacity_of (layout_in old)) (limit_of (layout_in old)) w run
+  pub steps : Run (machine_in o old) w run
   pub shows : Shows o now (last_of w run)
 
 module _ {O K : Type 0} (o : Order K) (old : World O K) where
@@ -69,7 +69,7 @@ module _ {O K : Type 0} (o : Order K) (old : World O K) where
   one_write now new s w h lay does =
       let d = does (last_of w h.run) h.shows in
       let one : Done K = did Write (Wrote s) d.0 in
-      let step = subst (λ l. Run o (capacity_of l) (limit_of l) (last_of w h.run) (one ∷ [])) lay (d.1, tt) in
+      let step = subst (λ l. Run (machine_of o l) (last_of w h.run) (one ∷ [])) lay (d.1, tt) in
       record {
         run = h.run ++ one ∷ [];
         writes = all_push (λ (x : Done K). x.event ≡ Write) h.run one h.writes refl;
@@ -123,3 +123,10 @@ module _ {O K : Type 0} (o : Order K) (law : IsLawful o) (old new : World O K) (
   step_after Write r s = does_after Write r s
   step_after (Start q k) r s = ⊎_elim (does_after (Start q k) r) (refused_after (Start q k) r refl) s
   step_after (Read q) r s = does_after (Read q) r s
+
+-- the same of an event under another name
+pub event_after : {O K : Type 0} (o : Order K) → IsLawful o → (old new : World O K)
+    → layout_in new ≡ layout_in old → (e e' : Event K) → e ≡ e' → (r : Reply K)
+    → Steps o old e' r new → StaysAfter o old e r new
+event_after {K = K} o law old new lay e e' is r s = λ start us h.
+    step_after o law old new lay start us h e r (subst (λ (x : Event K). Steps o old x r new) (sym is) s)

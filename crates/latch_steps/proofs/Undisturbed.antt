@@ -20,7 +20,7 @@ use Rattle.latch_core.specs.Sequences.{gen, stable}
 use Rattle.latch_core.specs.Attempts.{Reading, Load, attempt, rest_after, Stand}
 use Rattle.latch_core.specs.Latches.{Hand}
 use Rattle.latch_steps.specs.Runs.{LookupInHand, Moment, Done, did, accepted, history}
-use Rattle.latch_steps.specs.Steps.{more, counted, new_lookup, with_value, Begins, Writes, AfterLoad, Goes, Retries, Returns, after_load, start_done, load_done, read_done, Step, Run}
+use Rattle.latch_steps.specs.Steps.{machine, more, counted, new_lookup, with_value, Begins, Writes, AfterLoad, Goes, Retries, Returns, after_load, start_done, load_done, read_done, Step, Run}
 use Rattle.latch_steps.specs.Quiet.{is_step, is_load_of, up_to_next_step, replies_to, ReturnsWithin, ReturnsFromStart, AreUndisturbed}
 use Rattle.std.proofs.lemmas.List.{take-append-le}
 use Rattle.latch_steps.proofs.LoadCases.{IsGoing, none_loaded, by_load}
@@ -133,12 +133,12 @@ module _ {K : Type 0} (o : Order K) (law : IsLawful o) (n limit : ℕ) (m : List
   begin_passes w u None reply w' (left, some, bound, er, ew) = ap is_step er
 
   undisturbed : (run : List (Done K)) (w : Moment K) (left : ℕ) (c : IsCalm o n m w r)
-      → length c.l.values + left ≡ most → Run o n limit w run
+      → length c.l.values + left ≡ most → Run (machine o n limit) w run
       → ReturnsWithin left (replies_to r (up_to_next_step run))
   undisturbed [] w left c total steps = tt
   undisturbed (d ∷ run) w left c total steps = by d.event d.reply steps.0 (λ left' c' e. undisturbed run d.after left' c' e steps.1)
     where
-      by : (e : Event K) (reply : Reply K) → Step o n limit w e reply d.after
+      by : (e : Event K) (reply : Reply K) → Step (machine o n limit) w e reply d.after
           → ((left' : ℕ) (c' : IsCalm o n m d.after r) → length c'.l.values + left' ≡ most → ReturnsWithin left' (replies_to r (up_to_next_step run)))
           → ReturnsWithin left (replies_to r (up_to_next_step (did e reply d.after ∷ run)))
       by (Begin u) reply step go =
@@ -173,7 +173,7 @@ module _ {K : Type 0} (o : Order K) (law : IsLawful o) (n limit start : ℕ) (wh
 
   from_start : (run : List (Done K)) (us : List Update) (c : ℕ) (w w' : Moment K) (e : Event K)
       (reply : Reply K) (most : ℕ) → Below w' most → 0 < most → IsWorld o n start us c w'
-      → Step o n limit w e reply w' → Run o n limit w' run → ReturnsFromStart most e reply run
+      → Step (machine o n limit) w e reply w' → Run (machine o n limit) w' run → ReturnsFromStart most e reply run
   from_start run us c w w' (Start r k) Started most below some ok step steps = by (get w.lookups r) step
     where
       by : (found : Option (LookupInHand K)) → start_done w r k found ≡ (Started, w')
@@ -203,7 +203,7 @@ module _ {K : Type 0} (o : Order K) (law : IsLawful o) (n limit start : ℕ) (wh
       sym (ap (replay o []) (ap (take g) split ∙ take-append-le g us rest (gen_within o n start us w.latch ok.latch)))
 
   pub quiet_run : (run : List (Done K)) (us : List Update) (c : ℕ) (w : Moment K)
-      → IsWorld o n start us c w → c + length run < 2 ^ 64 → Run o n limit w run
+      → IsWorld o n start us c w → c + length run < 2 ^ 64 → Run (machine o n limit) w run
       → whole ≡ us ++ history run → AreUndisturbed o start whole run
   quiet_run [] us c w ok room steps e = tt
   quiet_run (d ∷ run) us c w ok room steps e =
@@ -222,7 +222,7 @@ module _ {K : Type 0} (o : Order K) (law : IsLawful o) (n limit start : ℕ) (wh
 
   -- and near, where each of its moments has its stable copy in a red-black tree
   pub near_run : (run : List (Done K)) (us : List Update) (c : ℕ) (w : Moment K)
-      → IsWorld o n start us c w → c + length run < 2 ^ 64 → Run o n limit w run → AreShallow n run
+      → IsWorld o n start us c w → c + length run < 2 ^ 64 → Run (machine o n limit) w run → AreShallow n run
       → whole ≡ us ++ history run → AreNear o start whole run
   near_run [] us c w ok room steps low e = tt
   near_run (d ∷ run) us c w ok room steps low e =

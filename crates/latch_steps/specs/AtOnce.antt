@@ -1,6 +1,6 @@
 -- What a world does at once: the writer's steps up to the end of an update, and a lookup from its
 -- start to its return.
-use Rattle.std.specs.Prelude.{◌≡◌, ℕ, ◌+◌, ◌≤◌, List, [], ◌∷◌, ◌++◌, Option, None, Result, IfErr, is_some, ◌⊎◌, true, ◌≢◌, ◌*◌, ◌^◌, length}
+use Rattle.std.specs.Prelude.{◌≡◌, ℕ, ◌+◌, ◌≤◌, List, [], ◌∷◌, ◌++◌, Option, None, Result, IfErr, is_some, ◌⊎◌, true, ◌≢◌, ◌*◌, length}
 use Rattle.std.specs.FinMap.{get}
 use Rattle.latch_core.specs.declared.updates.Update.{Update}
 use Rattle.order_laws.specs.declared.items.Item.{Item}
@@ -12,49 +12,50 @@ use Rattle.latch_steps.specs.declared.replies.Reply.TheVariants.{Started, Return
 use Rattle.order_laws.specs.Orders.{Order}
 use Rattle.word_arena.specs.Words.{at, words_for}
 use Rattle.latch_core.specs.Attempts.{Answer, Again, attempt}
-use Rattle.word_arena.specs.Layouts.{capacity_of, limit_of}
+use Rattle.word_arena.specs.Layouts.{capacity_of}
 use Rattle.latch_steps.specs.declared.worlds.World.{World}
 use Rattle.latch_steps.specs.Runs.{Moment, Done, did, last_of}
 use Rattle.latch_steps.specs.Steps.{Run, counted}
 use Rattle.std.specs.List.{AllByRecursion}
-use Rattle.order_laws.specs.Tables.{look}
 use Rattle.latch_core.specs.Sequences.{gen}
-use Rattle.latch_core.specs.Histories.{table_at, current_table}
+use Rattle.latch_core.specs.Histories.{current_table}
 use Rattle.latch_core.specs.Whole.{ran, loads_in}
-use Rattle.latch_steps.specs.Worlds.{Shows, layout_in, IsAfter}
+use Rattle.latch_steps.specs.Near.{IsDepth}
+use Rattle.latch_steps.specs.Plain.{IsLookIn}
+use Rattle.latch_steps.specs.Worlds.{Shows, layout_in, machine_in, IsAfter}
+
+-- the current table of a world after these updates
+abbrev pub table_in : {O K : Type 0} {o : Order K} {start' : ℕ} {us : List Update} {c : World O K}
+    → IsAfter o start' us c → List Item
+table_in {o = o} {start' = start'} {us = us} h = current_table o start' us h.moment.latch.words
 
 -- nothing is in hand, and the current table is the one after all of them
 pub record IsSettled {O K : Type 0} (o : Order K) (start' : ℕ) (us : List Update)
     (c : World O K) : Type 0 where
   pub after : IsAfter o start' us c
   pub rest : after.moment.latch.hand ≡ None
-  pub current : current_table o start' us after.moment.latch.words ≡ after.moment.latch.table
+  pub current : table_in after ≡ after.moment.latch.table
 
 -- writes lead from each moment that the old world shows to one with nothing in hand
 pub record Settles {O K : Type 0} (o : Order K) (old : World O K) (w : Moment K)
     (new : World O K) : Type 0 where
   pub run : List (Done K)
   pub writes : AllByRecursion (λ d. d.event ≡ Write) run
-  pub steps : Run o (capacity_of (layout_in old)) (limit_of (layout_in old)) w run
+  pub steps : Run (machine_in o old) w run
   pub shows : Shows o new (last_of w run)
   pub rest : (last_of w run).latch.hand ≡ None
 
--- what a lookup returns that no step of the writer meets: after these updates, at this sequence
-pub record IsFound {K : Type 0} (o : Order K) (start' : ℕ) (us : List Update) (seq r : ℕ) (k : K)
+-- what a lookup of this key by this reader returns that no step of the writer meets, in this table
+-- of this generation
+pub record IsFound {K : Type 0} (o : Order K) (table : List Item) (g r : ℕ) (k : K)
     (x : Returned K) : Type 0 where
   pub reader : x.reader ≡ r
   pub key : x.key ≡ k
-  pub answer : x.answer ≡ look o k (table_at o start' us (gen seq))
-  pub generation : x.generation ≡ gen seq
-  pub tries : x.tries ≡ 1
-  pub loads : x.loads ≤ 4 * length (table_at o start' us (gen seq)) + 3
+  pub look : IsLookIn o table g x
 
--- and its loads are four for each node on a way down at most, and three; no way down is longer than
--- twice the binary logarithm of the number of items and one
-abbrev pub IsNear : {K : Type 0} → Order K → ℕ → List Update → ℕ → Returned K → Type 0
-IsNear o start' us seq x =
-    let q = length (table_at o start' us (gen seq)) in
-    (d : ℕ) × (2 ^ d ≤ (q + 1) * (q + 1)) × (x.loads ≤ 4 * d + 3)
+-- and its loads are four for each node on a way down at most, and three
+abbrev pub IsNear : {K : Type 0} → List Item → Returned K → Type 0
+IsNear table x = (depth : ℕ) × IsDepth (length table) depth × (x.loads ≤ 4 * depth + 3)
 
 -- a start and reads lead from a moment to the return of the lookup
 pub record Finds {O K : Type 0} (o : Order K) (old : World O K) (w : Moment K) (r : ℕ) (k : K)
@@ -64,7 +65,7 @@ pub record Finds {O K : Type 0} (o : Order K) (old : World O K) (w : Moment K) (
   pub done : Moment K
   pub reads : AllByRecursion (λ d. d.event ≡ Read r) run
   pub steps :
-      Run o (capacity_of (layout_in old)) (limit_of (layout_in old)) w
+      Run (machine_in o old) w
       (did (Start r k) Started begun ∷ run ++ did (Read r) (Gave x) done ∷ [])
   pub shows : Shows o new done
 
@@ -105,12 +106,12 @@ IsSettledFromAny o old new =
 abbrev pub IsFoundFromAny : {O K : Type 0} → Order K → World O K → ℕ → K → Returned K → Type 0
 IsFoundFromAny o old r k x =
     (start : ℕ) (us : List Update) (h : IsAfter o start us old)
-    → IsFound o start us (at h.moment.latch.words 0) r k x
+    → IsFound o (table_in h) (gen (at h.moment.latch.words 0)) r k x
 
 abbrev pub IsNearFromAny : {O K : Type 0} → Order K → World O K → Returned K → Type 0
 IsNearFromAny o old x =
     (start : ℕ) (us : List Update) (h : IsAfter o start us old)
-    → IsNear o start us (at h.moment.latch.words 0) x
+    → IsNear (table_in h) x
 
 abbrev pub KeepsUpdates : {O K : Type 0} → Order K → World O K → World O K → Type 0
 KeepsUpdates o old new =

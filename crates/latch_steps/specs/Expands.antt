@@ -64,9 +64,16 @@ Repeats c most (d ∷ run) =
     (0 < most) × (d.event ≡ event_of c)
     × Repeats c (if ends c d.reply d.after then 0 else most - 1) run
 
+-- a run from a moment is a part that repeats a command's event as the command says, and a rest
+pub record IsPartAndRest {K : Type 0} (w : Moment K) (c : Command K)
+    (IsRest : Moment K → List (Done K) → Type 0) (run : List (Done K)) : Type 0 where
+  pub part : List (Done K)
+  pub rest : List (Done K)
+  pub whole : run ≡ part ++ rest
+  pub repeats : Repeats c (most_of w c) part
+  pub goes_on : IsRest (last_of w part) rest
+
 -- one part of the run for each command
 abbrev pub Expand : {K : Type 0} → Moment K → List (Command K) → List (Done K) → Type 0
 Expand w [] run = run ≡ []
-Expand {K} w (c ∷ cs) run =
-    (mine : List (Done K)) × (rest : List (Done K)) × (run ≡ mine ++ rest)
-    × Repeats c (most_of w c) mine × Expand (last_of w mine) cs rest
+Expand w (c ∷ cs) run = IsPartAndRest w c (λ v rest. Expand v cs rest) run

@@ -5,16 +5,16 @@ use Rattle.std.specs.FinMap.{get}
 use Rattle.latch_steps.specs.declared.replies.Note.{Note}
 use Rattle.latch_steps.specs.declared.replies.Note.TheVariants.{Returned as ToNote}
 use Rattle.order_laws.specs.Orders.{Order}
-use Rattle.word_arena.specs.Layouts.{capacity_of, limit_of}
 use Rattle.latch_steps.specs.declared.lookups.Lookup.{Lookup}
 use Rattle.latch_steps.specs.declared.worlds.World.{World}
 use Rattle.latch_steps.specs.Runs.{Moment, Done, last_of}
-use Rattle.latch_steps.specs.Steps.{Run}
+use Rattle.latch_steps.specs.Steps.{Machine, machine, Run}
 use Rattle.latch_steps.specs.Lookups.{IsInHand}
 use Rattle.std.specs.List.{cons_option}
-use Rattle.latch_steps.specs.Worlds.{Shows, layout_in}
+use Rattle.latch_steps.specs.Worlds.{Shows, machine_in}
 use Rattle.latch_steps.specs.declared.commands.Command.TheVariants.{Read as ToRead}
 use Rattle.latch_steps.specs.declared.lookups.Held.{Held}
+use Rattle.latch_steps.specs.declared.lookups.Loads.{Loads}
 use Rattle.latch_steps.specs.declared.lookups.Held.TheVariants.{Going, Returned}
 use Rattle.latch_steps.specs.Traces.{notes_of}
 use Rattle.latch_steps.specs.Expands.{Repeats, reads_within}
@@ -37,37 +37,37 @@ pub record IsHolding {O K : Type 0} (o : Order K) (n : ℕ) (w v : Moment K) (r 
   pub others : (q : ℕ) → q ≢ r → get v.lookups q ≡ get w.lookups q
   pub events : count ≡ v.events
 
--- so many loads of the reader from a moment, as one command asks for them
-pub record LoadsOn {O K : Type 0} (o : Order K) (n limit : ℕ) (w : Moment K) (r most : ℕ)
-    (h : Held O K) (loads count : ℕ) : Type 0 where
+-- loads of the reader from a moment, as one command asks for them, came to this
+pub record LoadsOn {O K : Type 0} (m : Machine K) (w : Moment K) (r most : ℕ)
+    (loads : Loads O K) : Type 0 where
   pub run : List (Done K)
-  pub made : length run ≡ loads
-  pub steps : Run o n limit w run
+  pub made : length run ≡ loads.count
+  pub steps : Run m w run
   pub repeats : Repeats (ToRead r most) most run
-  pub notes : notes_of run ≡ notes_of_held h
-  pub holding : IsHolding o n w (last_of w run) r (lookup_of h) count
+  pub notes : notes_of run ≡ notes_of_held loads.held
+  pub holding : IsHolding m.order m.capacity w (last_of w run) r (lookup_of loads.held) loads.events
 
--- they are made so from each moment of these words that has this lookup in hand, after so many
+-- they came to it from each moment of these words that has this lookup in hand, after so many
 -- events
-abbrev pub LoadsFrom : {O K : Type 0} → Order K → List ℕ → Lookup O K → ℕ → ℕ → ℕ
-    → Held O K → ℕ → ℕ → Type 0
-LoadsFrom {O} {K} o words c r most events h loads count =
+abbrev pub LoadsFrom :
+    {O K : Type 0} → Order K → List ℕ → Lookup O K → ℕ → ℕ → ℕ → Loads O K → Type 0
+LoadsFrom {O} {K} o words c r most events loads =
     (n limit : ℕ) (w : Moment K) → w.latch.words ≡ words
     → IsInHand o n (Some c) (get w.lookups r) → events ≡ w.events
-    → LoadsOn o n limit w r most h loads count
+    → LoadsOn (machine o n limit) w r most loads
 
--- the same of a whole world, from a moment that it shows
+-- the same of a whole world, from a moment that it shows: how many loads, and what is to be noted
 pub record ReadsOn {O K : Type 0} (o : Order K) (old : World O K) (w : Moment K) (r most : ℕ)
-    (loads : ℕ) (note : Option (Note K)) (new : World O K) : Type 0 where
+    (reads : ℕ × Option (Note K)) (new : World O K) : Type 0 where
   pub run : List (Done K)
-  pub made : length run ≡ loads
-  pub steps : Run o (capacity_of (layout_in old)) (limit_of (layout_in old)) w run
+  pub made : length run ≡ reads.0
+  pub steps : Run (machine_in o old) w run
   pub repeats : Repeats (ToRead r most) (reads_within (get w.lookups r) most) run
-  pub notes : notes_of run ≡ cons_option note []
+  pub notes : notes_of run ≡ cons_option reads.1 []
   pub shows : Shows o new (last_of w run)
 
 -- and from each moment that it shows
-abbrev pub ReadsFromAny : {O K : Type 0} → Order K → World O K → ℕ → ℕ → ℕ → Option (Note K)
-    → World O K → Type 0
-ReadsFromAny {O} {K} o old r most loads note new =
-    (w : Moment K) → Shows o old w → ReadsOn o old w r most loads note new
+abbrev pub ReadsFromAny :
+    {O K : Type 0} → Order K → World O K → ℕ → ℕ → ℕ × Option (Note K) → World O K → Type 0
+ReadsFromAny {O} {K} o old r most reads new =
+    (w : Moment K) → Shows o old w → ReadsOn o old w r most reads new

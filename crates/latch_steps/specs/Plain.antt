@@ -1,6 +1,7 @@
 -- Plain runs: each update is ended at once, and each lookup read to its end at once.
-use Rattle.std.specs.Prelude.{◌≡◌, ℕ, ◌+◌, ◌*◌, ◌≤◌, List, [], ◌∷◌, ◌++◌, length, true, is_some}
+use Rattle.std.specs.Prelude.{◌≡◌, ℕ, ◌+◌, ◌≤◌, List, [], ◌∷◌, ◌++◌, length, true, is_some}
 use Rattle.std.specs.FinMap.{get}
+use Rattle.order_laws.specs.declared.items.Item.{Item}
 use Rattle.order_laws.specs.Orders.{Order}
 use Rattle.order_laws.specs.Tables.{look}
 use Rattle.latch_core.specs.declared.updates.Update.{Update}
@@ -12,8 +13,9 @@ use Rattle.latch_steps.specs.declared.events.Event.TheVariants.{Write, Read}
 use Rattle.latch_steps.specs.declared.replies.Returned.{Returned}
 use Rattle.latch_steps.specs.declared.replies.Reply.{Reply}
 use Rattle.latch_steps.specs.declared.replies.Reply.TheVariants.{Returned as Gave}
-use Rattle.latch_steps.specs.Runs.{Moment, Done, accepted, last_of}
-use Rattle.latch_steps.specs.Expands.{event_of, most_of, Repeats}
+use Rattle.latch_steps.specs.Runs.{Moment, Done, accepted}
+use Rattle.latch_steps.specs.Quiet.{most_loads}
+use Rattle.latch_steps.specs.Expands.{event_of, IsPartAndRest}
 
 -- while an update is in hand only the writer steps, and while a reader has a lookup in hand only it
 pub record IsPlainEvent {K : Type 0} (w : Moment K) (e : Event K) : Type 0 where
@@ -29,19 +31,21 @@ IsPlain w (d ∷ run) = IsPlainEvent w d.event × IsPlain d.after run
 -- by writes up to its end, and a start by reads of the same reader that end the lookup
 abbrev pub ArePlain : {K : Type 0} → Moment K → List (Command K) → List (Done K) → Type 0
 ArePlain w [] run = run ≡ []
-ArePlain {K} w (c ∷ cs) run =
-    IsPlainEvent w (event_of c)
-    × ((mine : List (Done K)) × (rest : List (Done K)) × (run ≡ mine ++ rest)
-    × Repeats c (most_of w c) mine × ArePlain (last_of w mine) cs rest)
+ArePlain w (c ∷ cs) run =
+    IsPlainEvent w (event_of c) × IsPartAndRest w c (λ v rest. ArePlain v cs rest) run
 
--- a lookup gives that of the table after these updates, with their generation, at its first attempt
--- and within four loads for each item and three
-pub record IsLookAfter {K : Type 0} (o : Order K) (start : ℕ) (us : List Update)
-    (x : Returned K) : Type 0 where
-  pub answer : x.answer ≡ look o x.key (replay o [] us)
-  pub generation : x.generation ≡ gen start + length us
+-- a lookup gives that of its key in this table, with this generation, at its first attempt and
+-- within four loads for each item and three
+pub record IsLookIn {K : Type 0} (o : Order K) (table : List Item) (g : ℕ) (x : Returned K)
+    : Type 0 where
+  pub answer : x.answer ≡ look o x.key table
+  pub generation : x.generation ≡ g
   pub tries : x.tries ≡ 1
-  pub loads : x.loads ≤ 4 * length (replay o [] us) + 3
+  pub loads : x.loads ≤ most_loads table
+
+-- that of the table after these updates, with their generation
+abbrev pub IsLookAfter : {K : Type 0} → Order K → ℕ → List Update → Returned K → Type 0
+IsLookAfter o start us x = IsLookIn o (replay o [] us) (gen start + length us) x
 
 -- nothing is said of other replies
 abbrev pub IsLookReply : {K : Type 0} → Order K → ℕ → List Update → Reply K → Type 0

@@ -7,8 +7,8 @@ use Rattle.latch_core.specs.Sequences.{stable}
 use Rattle.latch_steps.specs.declared.commands.Command.{Command}
 use Rattle.latch_steps.specs.declared.traces.Trace.{Trace}
 use Rattle.latch_steps.specs.declared.traces.Notes.{Notes}
-use Rattle.latch_steps.specs.Runs.{Done, opening, history}
-use Rattle.latch_steps.specs.Steps.{Run}
+use Rattle.latch_steps.specs.Runs.{Done, history, opening}
+use Rattle.latch_steps.specs.Steps.{machine, Run}
 use Rattle.latch_steps.specs.Safe.{IsSafe}
 use Rattle.latch_steps.specs.Quiet.{IsQuiet}
 use Rattle.latch_steps.specs.Near.{AreNear}
@@ -66,7 +66,7 @@ pub record AreNotesOfCommands {O K : Type 0} (o : Order K) (l : Layout) (start :
 abbrev pub AllRunsAre : {K : Type 0} → Order K → (ℕ → ℕ → List (Done K) → Type 0) → Type 0
 AllRunsAre {K} o Right =
     (n limit start : ℕ) (run : List (Done K)) → stable start ≡ 0 → length run < 2 ^ 64
-    → Run o n limit (opening n start) run → Right n start run
+    → Run (machine o n limit) (opening n start) run → Right n start run
 
 -- every such run is safe
 abbrev pub AllRunsAreSafe : {K : Type 0} → Order K → Type 0
@@ -80,11 +80,11 @@ AllRunsAreQuiet o = AllRunsAre o (λ n start run. IsQuiet o start run)
 abbrev pub AllPlainRunsAreExact : {K : Type 0} → Order K → Type 0
 AllPlainRunsAreExact {K} o =
     (n limit start : ℕ) (run : List (Done K)) → stable start ≡ 0
-    → Run o n limit (opening n start) run → IsExactWherePlain o n start run
+    → Run (machine o n limit) (opening n start) run → IsExactWherePlain o n start run
 
 -- whatever run carries out plain commands is plain
 abbrev pub PlainCommandsRunPlainly : {K : Type 0} → Order K → Type 0
 PlainCommandsRunPlainly {K} o =
     (n limit start : ℕ) (commands : List (Command K)) (run : List (Done K))
-    → Run o n limit (opening n start) run → ArePlain (opening n start) commands run
+    → Run (machine o n limit) (opening n start) run → ArePlain (opening n start) commands run
     → IsPlain (opening n start) run

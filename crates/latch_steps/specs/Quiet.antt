@@ -1,6 +1,7 @@
 -- What is promised of a lookup that the writer leaves alone.
 use Rattle.std.specs.Prelude.{◌≡◌, ℕ, ◌+◌, ◌-◌, ◌*◌, ◌<◌, ◌≤◌, Bool, true, false, List, [], ◌∷◌, length, take, drop, count_by, if◌then◌else◌, ◌==◌}
 use Rattle.std.specs.List.{AllByRecursion}
+use Rattle.order_laws.specs.declared.items.Item.{Item}
 use Rattle.order_laws.specs.Orders.{Order}
 use Rattle.latch_core.specs.declared.updates.Update.{Update}
 use Rattle.latch_core.specs.Histories.{current_table}
@@ -8,7 +9,7 @@ use Rattle.latch_steps.specs.declared.events.Event.{Event}
 use Rattle.latch_steps.specs.declared.events.Event.TheVariants.{Start, Read}
 use Rattle.latch_steps.specs.declared.replies.Reply.{Reply}
 use Rattle.latch_steps.specs.declared.replies.Reply.TheVariants.{Wrote, Started, Loaded, Returned as Gave}
-use Rattle.latch_steps.specs.Runs.{Moment, Done, history}
+use Rattle.latch_steps.specs.Runs.{Done, history}
 
 -- whether the writer made a step
 abbrev pub is_step : {K : Type 0} → Reply K → Bool
@@ -51,15 +52,15 @@ ReturnsFromStart most (Start r k) Started rest =
     ReturnsWithin most (replies_to r (up_to_next_step rest))
 ReturnsFromStart most _ _ rest = Unit {0}
 
--- four for each item of the current table, and three
-abbrev pub most_loads : {K : Type 0} → Order K → ℕ → List Update → Moment K → ℕ
-most_loads o start us w = 4 * length (current_table o start us w.latch.words) + 3
+-- four for each item of a table, and three
+abbrev pub most_loads : List Item → ℕ
+most_loads table = 4 * length table + 3
 
--- each lookup of the run returns so, within so many loads at its start
+-- each lookup of the run returns so, within these loads of the current table at its start
 abbrev pub AreUndisturbed : {K : Type 0} → Order K → ℕ → List Update → List (Done K) → Type 0
 AreUndisturbed o start us [] = Unit {0}
 AreUndisturbed o start us (d ∷ rest) =
-    ReturnsFromStart (most_loads o start us d.after) d.event d.reply rest
+    ReturnsFromStart (most_loads (current_table o start us d.after.latch.words)) d.event d.reply rest
     × AreUndisturbed o start us rest
 
 -- how many flips there were after event number i, up to and with event number j

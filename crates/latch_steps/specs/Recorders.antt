@@ -1,28 +1,53 @@
 -- What a recorder keeps of a run.
-use Rattle.std.specs.Prelude.{◌≡◌, ℕ, List, [], ◌∷◌, ◌++◌, replicate, Bool, ◌&&◌, ◌||◌, is_none}
+use Rattle.std.specs.Prelude.{◌≡◌, ℕ, ◌<◌, ◌^◌, List, [], ◌∷◌, ◌++◌, length, replicate, Bool, ◌&&◌, ◌||◌, is_none}
 use Rattle.std.specs.FinMap.{get}
 use Rattle.latch_steps.specs.declared.events.Event.{Event}
 use Rattle.latch_steps.specs.declared.events.Event.TheVariants.{Write}
 use Rattle.latch_steps.specs.declared.replies.Reply.{Reply}
 use Rattle.order_laws.specs.Orders.{Order}
-use Rattle.word_arena.specs.Layouts.{capacity_of, limit_of}
-use Rattle.latch_steps.specs.Runs.{Moment, Done, did, last_of}
+use Rattle.word_arena.specs.declared.layouts.Layout.{Layout}
+use Rattle.word_arena.specs.Layouts.{capacity_of}
+use Rattle.latch_core.specs.Writers.{MayOpen}
+use Rattle.latch_steps.specs.Runs.{Moment, Done, did, last_of, opening}
 use Rattle.latch_steps.specs.Steps.{Run}
-use Rattle.latch_steps.specs.Worlds.{Shows, layout_in}
+use Rattle.latch_steps.specs.Worlds.{Shows, layout_in, machine_in, HasSequence, HasFewEvents}
 use Rattle.latch_steps.specs.Traces.{kept, events_of, notes_of}
 use Rattle.latch_steps.specs.Expands.{Repeats, event_of, ends, most_of, reads_within}
 use Rattle.latch_steps.specs.declared.commands.Command.{Command}
 use Rattle.latch_steps.specs.declared.commands.Command.TheVariants.{Read as ToRead}
+use Rattle.latch_steps.specs.declared.traces.Notes.{Notes}
 use Rattle.latch_steps.specs.declared.traces.Recorder.{Recorder}
+use Rattle.latch_steps.specs.declared.traces.Trace.{Trace}
 use Rattle.latch_steps.specs.Quiet.{is_flip}
 use Rattle.latch_steps.specs.Near.{AreShallow}
+
+-- a recorder before any event, with nothing recorded
+pub record IsNew {O K : Type 0} (o : Order K) (l : Layout) (start : ℕ) (r : Recorder O K)
+    : Type 0 where
+  pub layout : layout_in r.world ≡ l
+  pub shows : Shows o r.world (opening (capacity_of l) start)
+  pub events : r.events.items ≡ []
+  pub notes : r.notes.items ≡ []
+  pub opened : MayOpen l start
+
+-- a trace of all that was recorded, and the notes of it where the events were counted
+pub record IsWhole {O K : Type 0} (o : Order K) (r : Recorder O K) (t : Trace O K) : Type 0 where
+  pub events : t.events.items ≡ r.events.items
+  pub few : length t.events.items < 2 ^ 64
+  pub notes : t.notes.items ≡ r.notes.items
+  pub sequence : HasSequence o r.world t.sequence
+
+pub record AreWhole {O K : Type 0} (o : Order K) (r : Recorder O K) (t : Notes O K) : Type 0 where
+  pub few : HasFewEvents o r.world
+  pub notes : t.notes.items ≡ r.notes.items
+  pub sequence : HasSequence o r.world t.sequence
 
 -- from a moment that its world shows, a recorder did this run, over red-black trees, kept its
 -- events where it keeps them, and noted its replies
 pub record Records {O K : Type 0} (o : Order K) (keeps : Bool) (old : Recorder O K)
     (w : Moment K) (new : Recorder O K) (run : List (Done K)) : Type 0 where
   pub layout : layout_in new.world ≡ layout_in old.world
-  pub steps : Run o (capacity_of (layout_in old.world)) (limit_of (layout_in old.world)) w run
+  pub steps : Run (machine_in o old.world) w run
   pub events : new.events.items ≡ old.events.items ++ kept keeps (events_of run)
   pub notes : new.notes.items ≡ old.notes.items ++ notes_of run
   pub shows : Shows o new.world (last_of w run)

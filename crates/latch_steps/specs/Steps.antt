@@ -6,6 +6,7 @@ use Rattle.latch_core.specs.declared.updates.Update.{Update}
 use Rattle.order_laws.specs.declared.items.Item.{Item}
 use Rattle.order_laws.specs.declared.refusals.Refusal.{Refusal}
 use Rattle.order_laws.specs.declared.refusals.Refusal.TheVariants.{ReaderBusy, ReaderIdle}
+use Rattle.word_arena.specs.declared.layouts.Layout.{Layout}
 use Rattle.word_arena.specs.declared.stores.Store.{Store}
 use Rattle.latch_steps.specs.declared.events.Event.{Event}
 use Rattle.latch_steps.specs.declared.events.Event.TheVariants.{Begin, Write, Start, Read}
@@ -14,10 +15,24 @@ use Rattle.latch_steps.specs.declared.replies.Reply.{Reply}
 use Rattle.latch_steps.specs.declared.replies.Reply.TheVariants.{Begun, Wrote, Idle, Started, Loaded, Retried, Returned as Gave, Refused}
 use Rattle.order_laws.specs.Orders.{Order}
 use Rattle.latch_core.specs.Updates.{refuses, most_steps}
+use Rattle.word_arena.specs.Layouts.{capacity_of, limit_of}
 use Rattle.word_arena.specs.Words.{at}
 use Rattle.latch_core.specs.Attempts.{Answer, Again, Reading, Load, Ends, attempt, rest_after}
 use Rattle.latch_core.specs.Latches.{Hand, Latch, MayStep, stepped, begun}
 use Rattle.latch_steps.specs.Runs.{LookupInHand, Moment, Done}
+
+-- a step machine: the order of its items, how many nodes it has, and its greatest sequence
+pub record Machine (K : Type 0) : Type 0 where
+  pub order : Order K
+  pub capacity : ℕ
+  pub limit : ℕ
+
+abbrev pub machine : {K : Type 0} → Order K → ℕ → ℕ → Machine K
+machine o capacity limit = record { order = o; capacity = capacity; limit = limit }
+
+-- that of an order and a layout
+abbrev pub machine_of : {K : Type 0} → Order K → Layout → Machine K
+machine_of o l = machine o (capacity_of l) (limit_of l)
 
 -- counts stay at the greatest
 abbrev pub more : ℕ → ℕ
@@ -25,15 +40,15 @@ more count = min (count + 1) 18446744073709551615
 
 -- after one event more, with nothing else changed
 abbrev pub counted : {K : Type 0} → Moment K → Moment K
-counted w = record { latch = w.latch; lookups = w.lookups; events = more w.events }
+counted w = record w { events = more w.events }
 
 -- and with another latch
 abbrev pub with_latch : {K : Type 0} → Moment K → Latch → Moment K
-with_latch w l = record { latch = l; lookups = w.lookups; events = more w.events }
+with_latch w l = record w { latch = l; events = more w.events }
 
 -- and with other lookups in hand
 abbrev pub with_lookups : {K : Type 0} → Moment K → FinMap nat_cmp (LookupInHand K) → Moment K
-with_lookups w ls = record { latch = w.latch; lookups = ls; events = more w.events }
+with_lookups w ls = record w { lookups = ls; events = more w.events }
 
 -- A begin: an update is accepted or refused; how many steps an accepted one takes is the writer's
 -- choice, within a bound
@@ -64,24 +79,10 @@ start_done w r k None =
 
 -- a lookup after one load more: with its value, before its next attempt, or as it returns
 abbrev pub with_value : {K : Type 0} → LookupInHand K → ℕ → LookupInHand K
-with_value l value =
-    record {
-      key = l.key;
-      first = l.first;
-      loads = more l.loads;
-      tries = l.tries;
-      values = l.values ++ value ∷ [];
-    }
+with_value l value = record l { loads = more l.loads; values = l.values ++ value ∷ [] }
 
 abbrev pub next_attempt : {K : Type 0} → LookupInHand K → LookupInHand K
-next_attempt l =
-    record {
-      key = l.key;
-      first = l.first;
-      loads = more l.loads;
-      tries = more l.tries;
-      values = [];
-    }
+next_attempt l = record l { loads = more l.loads; tries = more l.tries; values = [] }
 
 abbrev pub return_of : {K : Type 0} → Moment K → ℕ → LookupInHand K → Option Item → ℕ → Returned K
 return_of w r l x g =
@@ -130,17 +131,19 @@ abbrev pub read_done :
 read_done o n w r None = (Refused ReaderIdle, counted w)
 read_done o n w r (Some l) = load_done w r (after_load o n w r l)
 
+-- why an update is refused at a latch, or none
+abbrev pub refusal_of : {K : Type 0} → Machine K → Latch → Update → Option Refusal
+refusal_of m l u = refuses m.order m.capacity m.limit (is_some l.hand) l.table (at l.words 0) u
+
 -- One event leads from a moment to another, with this reply. A start and a load are determined; how
 -- many steps an update takes and what they are is the writer's choice.
-abbrev pub Step : {K : Type 0} → Order K → ℕ → ℕ → Moment K → Event K → Reply K → Moment K → Type 0
-Step o n limit w (Begin u) reply w' =
-    let l = w.latch in
-    Begins o n w u (refuses o n limit (is_some l.hand) l.table (at l.words 0) u) reply w'
-Step o n limit w Write reply w' = Writes n w w.latch.hand reply w'
-Step o n limit w (Start r k) reply w' = start_done w r k (get w.lookups r) ≡ (reply, w')
-Step o n limit w (Read r) reply w' = read_done o n w r (get w.lookups r) ≡ (reply, w')
+abbrev pub Step : {K : Type 0} → Machine K → Moment K → Event K → Reply K → Moment K → Type 0
+Step m w (Begin u) reply w' = Begins m.order m.capacity w u (refusal_of m w.latch u) reply w'
+Step m w Write reply w' = Writes m.capacity w w.latch.hand reply w'
+Step m w (Start r k) reply w' = start_done w r k (get w.lookups r) ≡ (reply, w')
+Step m w (Read r) reply w' = read_done m.order m.capacity w r (get w.lookups r) ≡ (reply, w')
 
 -- each step of a run leads on from the moment before it
-abbrev pub Run : {K : Type 0} → Order K → ℕ → ℕ → Moment K → List (Done K) → Type 0
-Run o n limit w [] = Unit {0}
-Run o n limit w (d ∷ run) = Step o n limit w d.event d.reply d.after × Run o n limit d.after run
+abbrev pub Run : {K : Type 0} → Machine K → Moment K → List (Done K) → Type 0
+Run m w [] = Unit {0}
+Run m w (d ∷ run) = Step m w d.event d.reply d.after × Run m d.after run

@@ -8,9 +8,9 @@ use Rattle.latch_steps.specs.declared.replies.Note.TheVariants.{Returned as ToNo
 use Rattle.order_laws.specs.Orders.{Order}
 use Rattle.word_arena.specs.Words.{at}
 use Rattle.word_arena.specs.declared.layouts.Layout.{Layout}
-use Rattle.word_arena.specs.Layouts.{capacity_of, limit_of}
+use Rattle.word_arena.specs.Layouts.{capacity_of}
 use Rattle.latch_steps.specs.Runs.{Done, last_of, opening}
-use Rattle.latch_steps.specs.Steps.{Run}
+use Rattle.latch_steps.specs.Steps.{machine_of, Run}
 use Rattle.latch_steps.specs.declared.traces.Trace.{Trace}
 use Rattle.latch_steps.specs.declared.traces.Notes.{Notes}
 
@@ -37,7 +37,7 @@ notes_of run = filter_map (λ d. note_of d.reply) run
 -- the trace of this run from the opening: its events and its notes in order, and its last sequence
 pub record IsTraceOf {O K : Type 0} (o : Order K) (l : Layout) (start : ℕ) (t : Trace O K)
     (run : List (Done K)) : Type 0 where
-  pub steps : Run o (capacity_of l) (limit_of l) (opening (capacity_of l) start) run
+  pub steps : Run (machine_of o l) (opening (capacity_of l) start) run
   pub events : t.events.items ≡ events_of run
   pub notes : t.notes.items ≡ notes_of run
   pub sequence : t.sequence ≡ at (last_of (opening (capacity_of l) start) run).latch.words 0
@@ -45,6 +45,6 @@ pub record IsTraceOf {O K : Type 0} (o : Order K) (l : Layout) (start : ℕ) (t 
 -- the notes of this run from the opening, in order, and its last sequence
 pub record AreNotesOf {O K : Type 0} (o : Order K) (l : Layout) (start : ℕ) (t : Notes O K)
     (run : List (Done K)) : Type 0 where
-  pub steps : Run o (capacity_of l) (limit_of l) (opening (capacity_of l) start) run
+  pub steps : Run (machine_of o l) (opening (capacity_of l) start) run
   pub notes : t.notes.items ≡ notes_of run
   pub sequence : t.sequence ≡ at (last_of (opening (capacity_of l) start) run).latch.words 0

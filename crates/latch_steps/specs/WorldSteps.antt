@@ -1,5 +1,5 @@
 -- What one event does to a world, and when it may be given up for want of memory.
-use Rattle.std.specs.Prelude.{◌≡◌, ℕ, None, is_some, ◌⊎◌, Bool, true, false}
+use Rattle.std.specs.Prelude.{◌≡◌, None, ◌⊎◌, Bool, true, false}
 use Rattle.std.specs.FinMap.{get}
 use Rattle.order_laws.specs.declared.refusals.Refusal.TheVariants.{OutOfMemory}
 use Rattle.latch_steps.specs.declared.events.Event.{Event}
@@ -7,13 +7,10 @@ use Rattle.latch_steps.specs.declared.events.Event.TheVariants.{Begin, Write, St
 use Rattle.latch_steps.specs.declared.replies.Reply.{Reply}
 use Rattle.latch_steps.specs.declared.replies.Reply.TheVariants.{Refused}
 use Rattle.order_laws.specs.Orders.{Order}
-use Rattle.latch_core.specs.Updates.{refuses}
-use Rattle.word_arena.specs.Words.{at}
-use Rattle.word_arena.specs.Layouts.{capacity_of, limit_of}
 use Rattle.latch_steps.specs.declared.worlds.World.{World}
 use Rattle.latch_steps.specs.Runs.{Moment}
-use Rattle.latch_steps.specs.Steps.{Step}
-use Rattle.latch_steps.specs.Worlds.{Shows, layout_in}
+use Rattle.latch_steps.specs.Steps.{Machine, Step, refusal_of}
+use Rattle.latch_steps.specs.Worlds.{Shows, machine_in}
 
 -- from each moment that the old world shows, the event leads by a step of the definitions to one
 -- that the new world shows
@@ -21,15 +18,14 @@ abbrev pub Does : {O K : Type 0} → Order K → World O K → Event K → Reply
 Does {O} {K} o old e reply new =
     (w : Moment K) → Shows o old w
     → (next : Moment K)
-    × Step o (capacity_of (layout_in old)) (limit_of (layout_in old)) w e reply next
+    × Step (machine_in o old) w e reply next
     × Shows o new next
 
 -- nothing stands against the event but want of memory, which only these two may lack
-abbrev pub IsUnopposed : {K : Type 0} → Order K → ℕ → ℕ → Moment K → Event K → Type 0
-IsUnopposed o n limit w (Begin u) =
-    let l = w.latch in refuses o n limit (is_some l.hand) l.table (at l.words 0) u ≡ None
-IsUnopposed o n limit w (Start r k) = get w.lookups r ≡ None
-IsUnopposed o n limit w _ = ⊥
+abbrev pub IsUnopposed : {K : Type 0} → Machine K → Moment K → Event K → Type 0
+IsUnopposed m w (Begin u) = refusal_of m w.latch u ≡ None
+IsUnopposed m w (Start r k) = get w.lookups r ≡ None
+IsUnopposed m w _ = ⊥
 
 -- a reply that is for want of memory
 abbrev pub gives_up : {K : Type 0} → Reply K → Bool
@@ -41,7 +37,7 @@ abbrev pub GivesUp : {O K : Type 0} → Order K → World O K → Event K → Re
 GivesUp {O} {K} o old e reply new =
     (reply ≡ Refused OutOfMemory)
     × ((w : Moment K) → Shows o old w
-    → IsUnopposed o (capacity_of (layout_in old)) (limit_of (layout_in old)) w e × Shows o new w)
+    → IsUnopposed (machine_in o old) w e × Shows o new w)
 
 -- it does the event, or gives it up
 abbrev pub MayDo : {O K : Type 0} → Order K → World O K → Event K → Reply K → World O K → Type 0

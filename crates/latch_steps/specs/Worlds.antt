@@ -15,12 +15,17 @@ use Rattle.latch_core.specs.Writers.{Pictures}
 use Rattle.latch_steps.specs.declared.lookups.Lookup.{Lookup}
 use Rattle.latch_steps.specs.declared.worlds.World.{World}
 use Rattle.latch_steps.specs.Runs.{LookupInHand, Moment, accepted}
+use Rattle.latch_steps.specs.Steps.{Machine, machine_of}
 use Rattle.latch_steps.specs.Lookups.{IsInHand, lookup_at}
 use Rattle.latch_core.specs.Invariants.{IsSound}
 
 -- the layout of a world
 abbrev pub layout_in : {O K : Type 0} → World O K → Layout
 layout_in c = c.layout
+
+-- its machine
+abbrev pub machine_in : {O K : Type 0} → Order K → World O K → Machine K
+machine_in o c = machine_of o (layout_in c)
 
 -- each reader has the lookup in hand that the moment has
 abbrev pub AreInHand : {O K : Type 0} → Order K → ℕ → (ℕ → Option (Lookup O K))

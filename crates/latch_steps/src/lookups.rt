@@ -39,6 +39,16 @@ pub(crate) enum Held<O: TreeOrder> {
     Returned(Returned<O::Key>),
 }
 
+/// What some loads of a lookup come to.
+pub(crate) struct Loads<O: TreeOrder> {
+    /// What they make of it.
+    pub(crate) held: Held<O>,
+    /// How many they are.
+    pub(crate) count: u32,
+    /// How many events there are then.
+    pub(crate) events: u64,
+}
+
 impl<O: TreeOrder> Lookup<O> {
     ghost use Rattle.latch_steps.specs.Lookups.{IsLookupOf, LoadsAny};
     ghost use Rattle.latch_steps.specs.HeldLookups.{LoadsFrom};
@@ -55,16 +65,9 @@ impl<O: TreeOrder> Lookup<O> {
         }
     }
 
-    /// Loads of the reader, at most so many and up to its return, after `events` events. Answers
-    /// what they make of the lookup, how many they are, and how many events there are then.
-    pub(crate) fn load_on(
-        self,
-        words: &[u64],
-        reader: u32,
-        most: u32,
-        mut events: u64,
-    ) -> (Held<O>, u32, u64)
-        ensures { LoadsFrom O.order words.now self reader most events result.0 result.1 result.2 }
+    /// Loads of the reader, at most so many and up to its return, after `events` events.
+    pub(crate) fn load_on(self, words: &[u64], reader: u32, most: u32, mut events: u64) -> Loads<O>
+        ensures { LoadsFrom O.order words.now self reader most events result }
     {
         let mut lookup = self;
         for turn in 0..most {
@@ -72,10 +75,20 @@ impl<O: TreeOrder> Lookup<O> {
             match lookup.load(words, reader, events) {
                 Loaded::Going(next) => lookup = next,
                 Loaded::Retrying(next) => lookup = next,
-                Loaded::Returned(returned) => return (Held::Returned(returned), turn + 1, events),
+                Loaded::Returned(returned) => {
+                    return Loads {
+                        held: Held::Returned(returned),
+                        count: turn + 1,
+                        events,
+                    };
+                }
             }
         }
-        (Held::Going(lookup), most, events)
+        Loads {
+            held: Held::Going(lookup),
+            count: most,
+            events,
+        }
     }
 
     /// One load of the reader, which is event number `last`.

@@ -1,11 +1,9 @@
 //! Whole runs, and what they leave.
 
-ghost use Rattle.std.specs.Prelude.{◌≡◌, ◌<◌, ◌^◌, [], ◌++◌, length, false, IfOk, IfErr, OnOk};
+ghost use Rattle.std.specs.Prelude.{◌≡◌, [], ◌++◌, false, IfOk, IfErr, OnOk};
 ghost use Rattle.std.specs.List.{cons_option};
-ghost use Rattle.word_arena.specs.Layouts.{capacity_of};
-ghost use Rattle.latch_core.specs.Writers.{MayOpen, IsOpeningRefused};
+ghost use Rattle.latch_core.specs.Writers.{IsOpeningRefused};
 ghost use Rattle.latch_steps.specs.declared.events.Event.TheVariants.{Begin};
-ghost use Rattle.latch_steps.specs.Runs.{opening};
 ghost use Rattle.latch_steps.specs.Traces.{note_of};
 ghost use Rattle.latch_steps.specs.WorldSteps.{gives_up};
 ghost use Rattle.latch_steps.specs.Recorders.{KeepsTimes};
@@ -86,7 +84,8 @@ fn keep<K: Copy, const KEEPS: bool>(
     event: &Event<K>,
     times: u32,
 ) -> Result<(), Refusal>
-    ensures kept { OnOk result (KeepsTimes KEEPS event.now times events.old.items events.new.items) }
+    ensures kept { OnOk result
+        (KeepsTimes KEEPS event.now times events.old.items events.new.items) }
     ensures refusal { IfErr result (λ e. e ≡ Refusal.OutOfMemory) }
 {
     if KEEPS {
@@ -103,7 +102,8 @@ fn keep_beginning<K: Copy, const KEEPS: bool>(
     events: &mut Vec<Event<K>>,
     update: &Update,
 ) -> Result<(), Refusal>
-    ensures kept { OnOk result (KeepsTimes KEEPS (Begin update.now) 1 events.old.items events.new.items) }
+    ensures kept { OnOk result
+        (KeepsTimes KEEPS (Begin update.now) 1 events.old.items events.new.items) }
     ensures refusal { IfErr result (λ e. e ≡ Refusal.OutOfMemory) }
 {
     if KEEPS {
@@ -114,7 +114,8 @@ fn keep_beginning<K: Copy, const KEEPS: bool>(
 
 /// Notes a reply. Refused by [`Refusal::OutOfMemory`] alone, also where that is the reply.
 fn keep_note<K: Copy>(notes: &mut Vec<Note<K>>, reply: &Reply<K>) -> Result<(), Refusal>
-    ensures noted { OnOk result (notes.new.items ≡ notes.old.items ++ cons_option (note_of reply.now) []) }
+    ensures noted { OnOk result
+        (notes.new.items ≡ notes.old.items ++ cons_option (note_of reply.now) []) }
     ensures goes_on { OnOk result (gives_up reply.now ≡ false) }
     ensures refusal { IfErr result (λ e. e ≡ Refusal.OutOfMemory) }
 {
@@ -128,15 +129,12 @@ fn keep_note<K: Copy>(notes: &mut Vec<Note<K>>, reply: &Reply<K>) -> Result<(), 
 }
 
 impl<O: TreeOrder> Recorder<O> {
-    ghost use Rattle.latch_steps.specs.Worlds.{Shows, layout_in, HasSequence, HasFewEvents};
+    ghost use Rattle.latch_steps.specs.Recorders.{IsNew, IsWhole, AreWhole};
     ghost use Rattle.latch_steps.specs.Recorders.{RecordsOne, ObeysFromAny, ObeysWriting, ObeysReading, EndsAt};
 
     /// A world before any event, with nothing recorded, and room for so many notes.
     pub(crate) fn open(alloc: Global, l: Layout, start: u64, room: usize) -> Result<Self, Refusal>
-        ensures layout { IfOk result (λ r. layout_in r.world ≡ l) }
-        ensures shows { IfOk result (λ r. Shows O.order r.world (opening (capacity_of l) start)) }
-        ensures none { IfOk result (λ r. (r.events.items ≡ []) × (r.notes.items ≡ [])) }
-        ensures may { IfOk result (λ r. MayOpen l start) }
+        ensures new { IfOk result (IsNew O.order l start) }
         ensures refusal { IfErr result (IsOpeningRefused l start) }
     {
         let world = World::open(alloc, l, start)?;
@@ -163,7 +161,8 @@ impl<O: TreeOrder> Recorder<O> {
 
     /// The writer takes an update in hand, which is recorded as an event.
     fn begin<const KEEPS: bool>(&mut self, update: &Update) -> Result<Reply<O::Key>, Refusal>
-        ensures recorded { IfOk result (RecordsOne O.order KEEPS (Begin update.now) self.old self.new) }
+        ensures recorded { IfOk result
+            (RecordsOne O.order KEEPS (Begin update.now) self.old self.new) }
         ensures refusal { IfErr result (λ e. e ≡ Refusal.OutOfMemory) }
     {
         keep_beginning::<O::Key, KEEPS>(&mut self.events, update)?;
@@ -247,10 +246,7 @@ impl<O: TreeOrder> Recorder<O> {
 
     /// What was recorded, with the sequence as it is now.
     pub(crate) fn finish(self) -> Trace<O>
-        ensures events { result.events.items ≡ self.events.items }
-        ensures few { length result.events.items < 2 ^ 64 }
-        ensures notes { result.notes.items ≡ self.notes.items }
-        ensures sequence { HasSequence O.order self.world result.sequence }
+        ensures { IsWhole O.order self result }
     {
         let sequence = self.world.sequence();
         Trace {
@@ -263,9 +259,7 @@ impl<O: TreeOrder> Recorder<O> {
     /// What was noted, with the sequence as it is now. A run of 2 to the power 64
     /// events less one, or of more, is refused as too large.
     pub(crate) fn finish_notes(self) -> Result<Notes<O>, Refusal>
-        ensures few { OnOk result (HasFewEvents O.order self.world) }
-        ensures notes { IfOk result (λ t. t.notes.items ≡ self.notes.items) }
-        ensures sequence { IfOk result (λ t. HasSequence O.order self.world t.sequence) }
+        ensures notes { IfOk result (AreWhole O.order self) }
         ensures refusal { IfErr result (λ e. e ≡ Refusal.OutOfMemory) }
     {
         if !self.world.is_counting() {

@@ -9,7 +9,7 @@ ghost use Rattle.latch_steps.specs.declared.events.Event.TheVariants.{Begin, Wri
 ghost use Rattle.latch_steps.specs.Runs.{Moment, accepted, opening};
 
 use crate::events::Event;
-use crate::lookups::{Held, Loaded, Lookup};
+use crate::lookups::{Held, Loaded, Loads, Lookup};
 use crate::replies::{Note, Reply, Returned};
 use crate::words::{opening_words, put, word_at};
 use latch_core::{Attempted, Update, WriterCore, attempt_in};
@@ -256,7 +256,7 @@ impl<O: TreeOrder> World<O> {
     /// The lookup is looked up once and held apart while its loads run.
     pub(crate) fn read_on(&mut self, reader: u32, most: u32) -> (u32, Option<Note<O::Key>>)
         ensures layout { layout_in self.new ≡ layout_in self.old }
-        ensures reads { ReadsFromAny O.order self.old reader most result.0 result.1 self.new }
+        ensures reads { ReadsFromAny O.order self.old reader most result self.new }
     {
         let Some(place) = self.lookups.get_mut(&reader) else {
             self.events = self.events.saturating_add(1);
@@ -266,19 +266,18 @@ impl<O: TreeOrder> World<O> {
             self.events = self.events.saturating_add(1);
             return (1, Some(Note::Refused(Refusal::ReaderIdle)));
         };
-        let (held, loads, events) = lookup.load_on(
-            self.words.as_slice(),
-            reader,
-            most,
-            self.events,
-        );
+        let Loads {
+            held,
+            count,
+            events,
+        } = lookup.load_on(self.words.as_slice(), reader, most, self.events);
         self.events = events;
         match held {
             Held::Going(next) => {
                 *place = Some(next);
-                (loads, None)
+                (count, None)
             }
-            Held::Returned(returned) => (loads, Some(Note::Returned(returned))),
+            Held::Returned(returned) => (count, Some(Note::Returned(returned))),
         }
     }
 

@@ -11,14 +11,13 @@ use Rattle.order_laws.specs.Orders.{half_open}
 use Rattle.order_laws.specs.Tables.{look}
 use Rattle.word_arena.specs.declared.layouts.Layout.{Layout}
 use Rattle.word_arena.specs.Layouts.{capacity_of, limit_of}
-use Rattle.word_arena.specs.Words.{at}
 use Rattle.latch_core.specs.declared.updates.Update.{Update}
 use Rattle.latch_core.specs.Invariants.{IsSound as IsSoundLatch}
 use Rattle.latch_steps.specs.declared.worlds.World.{World}
 use Rattle.latch_steps.specs.declared.replies.Returned.{Returned}
 use Rattle.latch_steps.specs.Runs.{Moment, opening}
 use Rattle.latch_steps.specs.Worlds.{IsAfter, Shows, layout_in}
-use Rattle.latch_steps.specs.AtOnce.{Finds, IsFound, IsNotBegun}
+use Rattle.latch_steps.specs.AtOnce.{Finds, IsFoundFromAny, IsNotBegun, table_in}
 use Rattle.modules.specs.Catalogs.{IsSound, regions_of}
 use Rattle.modules.specs.Entries.{CatalogEntries}
 use Rattle.latchsym.specs.LoadedWorlds.{Holds, HoldsBelow, Inserts}
@@ -54,13 +53,13 @@ opened c (Err e) l sound lay shows after room limit = tt
 -- a lookup in an idle world finds the item that holds the address, and leaves the world idle
 module _ (items : List Item) (old new : World HalfOpen ℕ) (h : Holds items old) where
   pub right_item : (r addr : ℕ) (x : Returned ℕ)
-      → ((start : ℕ) (us : List Update) (a : IsAfter half_open start us old) → IsFound half_open start us (at a.moment.latch.words 0) r addr x)
+      → IsFoundFromAny half_open old r addr x
       → x.answer ≡ look half_open addr items
   right_item r addr x found =
       let a = h.idle.after in
       let n = capacity_of (layout_in old) in
       let f = found 0 h.updates a in
-      f.answer
+      f.look.answer ∙ ap (λ k. look half_open k (table_in a)) f.key
       ∙ ap (look half_open addr) (current_at_rest half_open n 0 h.updates a.moment.latch a.sound h.idle.rest)
       ∙ look_in_table h.updates items h.inserts (table_at_rest half_open n 0 h.updates a.moment.latch a.sound) addr
 

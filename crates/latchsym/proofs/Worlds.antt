@@ -22,7 +22,7 @@ use Rattle.latch_steps.specs.declared.replies.Returned.{Returned}
 use Rattle.latch_steps.specs.declared.lookups.Lookup.{Lookup}
 use Rattle.latch_steps.specs.declared.worlds.World.{World}
 use Rattle.latch_steps.specs.Runs.{LookupInHand, Moment, Done, did, last_of}
-use Rattle.latch_steps.specs.Steps.{AfterLoad, Goes, Retries, Returns, Run, Step, Writes, after_load, load_done, read_done, start_done, new_lookup, more}
+use Rattle.latch_steps.specs.Steps.{machine, AfterLoad, Goes, Retries, Returns, Run, Step, Writes, after_load, load_done, read_done, start_done, new_lookup, more}
 use Rattle.latch_steps.specs.Lookups.{IsInHand as IsHeld}
 use Rattle.latch_steps.specs.Worlds.{Shows}
 
@@ -49,10 +49,10 @@ write_keeps n w None reply v step = ap (λ m. m.lookups) step.1
 write_keeps n w (Some h) reply v step = ap (λ m. m.lookups) step.3
 
 pub writes_keep : {K : Type 0} (o : Order K) (n limit : ℕ) (w : Moment K) (run : List (Done K))
-    → AllByRecursion (λ d. d.event ≡ Write) run → Run o n limit w run → (last_of w run).lookups ≡ w.lookups
+    → AllByRecursion (λ d. d.event ≡ Write) run → Run (machine o n limit) w run → (last_of w run).lookups ≡ w.lookups
 writes_keep o n limit w [] all steps = refl
 writes_keep o n limit w (d ∷ run) all steps =
-    let one = subst (λ e. Step o n limit w e d.reply d.after) all.0 steps.0 in
+    let one = subst (λ e. Step (machine o n limit) w e d.reply d.after) all.0 steps.0 in
     writes_keep o n limit d.after run all.1 steps.1 ∙ write_keeps n w w.latch.hand d.reply d.after one
 
 -- a map at a key, after a change at another and at this one
@@ -110,18 +110,18 @@ module _ {K : Type 0} (r : ℕ) where
 
   -- reads, and the one that returns
   pub reads_to_end : (o : Order K) (n limit : ℕ) (w : Moment K) (run : List (Done K)) (x : Returned K) (done : Moment K)
-      → AllByRecursion (λ d. d.event ≡ Read r) run → Run o n limit w (run ++ did (Read r) (Gave x) done ∷ [])
+      → AllByRecursion (λ d. d.event ≡ Read r) run → Run (machine o n limit) w (run ++ did (Read r) (Gave x) done ∷ [])
       → Reads r w (Gave x, done)
   reads_to_end o n limit w [] x done all steps = one_read o n w done (Gave x) steps.0
   reads_to_end o n limit w (d ∷ run) x done all steps =
-      let one = one_read o n w d.after d.reply (subst (λ e. Step o n limit w e d.reply d.after) all.0 steps.0) in
+      let one = one_read o n w d.after d.reply (subst (λ e. Step (machine o n limit) w e d.reply d.after) all.0 steps.0) in
       let rest = reads_to_end o n limit d.after run x done all.1 steps.1 in
       record { differs = differs_twice w d.after done one.differs rest.differs; ends = rest.ends }
 
   -- the whole lookup
   pub found_at_end : (o : Order K) (n limit : ℕ) (w begun : Moment K) (k : K) (run : List (Done K)) (x : Returned K) (done : Moment K)
       → AllByRecursion (λ d. d.event ≡ Read r) run
-      → Run o n limit w (did (Start r k) Started begun ∷ run ++ did (Read r) (Gave x) done ∷ [])
+      → Run (machine o n limit) w (did (Start r k) Started begun ∷ run ++ did (Read r) (Gave x) done ∷ [])
       → Reads r w (Gave x, done)
   found_at_end o n limit w begun k run x done all steps =
       let first = subst (λ (p : Reply K × Moment K). Differs r w p.1) steps.0 (start_differs w k (get w.lookups r)) in

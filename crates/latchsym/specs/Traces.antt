@@ -8,7 +8,7 @@ use Rattle.order_laws.specs.declared.refusals.Refusal.TheVariants as refusal
 use Rattle.word_arena.specs.declared.layouts.TheConstants.{MOST_NODES, GREATEST_SEQUENCE, GREATEST_WIDE_SEQUENCE}
 use Rattle.word_arena.specs.Words.{at}
 use Rattle.latch_steps.specs.Runs.{Done, history, last_of, opening}
-use Rattle.latch_steps.specs.Steps.{Run}
+use Rattle.latch_steps.specs.Steps.{machine, Run}
 use Rattle.latch_steps.specs.Traces.{notes_of}
 use Rattle.latch_steps.specs.Expands.{Expand}
 use Rattle.latch_steps.specs.Safe.{IsSafe}
@@ -48,7 +48,7 @@ order_by false = half_open
 -- where it is plain each lookup is that of one table.
 pub record IsRunText (o : Order ℕ) (said : Contents) (written : List ℕ) : Type 0 where
   pub run : List (Done ℕ)
-  pub steps : Run o said.header.capacity (greatest_of said.header.version)
+  pub steps : Run (machine o said.header.capacity (greatest_of said.header.version))
       (opening said.header.capacity said.header.start) run
   pub expands : Expand (opening said.header.capacity said.header.start) said.commands run
   pub safe : IsSafe o said.header.capacity said.header.start run

@@ -1,6 +1,6 @@
 -- A writer at rest that goes on with more nodes.
 use Rattle.std.proofs.Common.{◌≡◌, ℕ, ◌+◌, ◌*◌, ◌≤◌, false, List, [], length, take, None, refl, sym, ◌∙◌, ap, subst, arith}
-use Rattle.std.specs.Prelude.{All, Result, Ok, Err, IfOk, OnErr, nat_lt, ◌==◌}
+use Rattle.std.specs.Prelude.{Result, Ok, Err, IfOk, OnErr, nat_lt, ◌==◌}
 use Rattle.std.proofs.lemmas.Bool.{ltb-false, le-ltb}
 use Rattle.std.proofs.lemmas.Bool.Decides.{nat_tests}
 use Rattle.order_laws.specs.declared.items.Item.{Item}
@@ -15,11 +15,10 @@ use Rattle.latch_core.specs.Histories.{replay}
 use Rattle.latch_core.specs.Invariants.{IsSound}
 use Rattle.latch_core.proofs.TestLemmas.{all_tests, none_holds}
 use Rattle.latch_table.specs.Readers.{ReaderState}
-use Rattle.latch_table.specs.Seats.{blank_reader}
 use Rattle.latch_table.specs.Writers.{WriterState, known}
 use Rattle.latch_table.specs.Enlarging.{Enlarges}
 use Rattle.shared_lookup.specs.Ledgers.{LedgerState, AreAccepted, IsResting, ledger_state}
-use Rattle.shared_lookup.specs.Enlarging.{enlarged_ledger, reader_beside}
+use Rattle.shared_lookup.specs.Enlarging.{enlarged_ledger}
 
 not_below : (n n' a b : ℕ) → n ≤ n' → a ≡ b → nat_lt n a ≡ false → nat_lt n' b ≡ false
 not_below n n' a b more same e =
@@ -70,10 +69,6 @@ module _ (w : WriterState) (l : Layout) (w' : WriterState) (readers : List Reade
         shown = all_shown;
         accepted = subst AreAccepted (sym same_ledger) (accepted_wider (ledger_state w) w'.place l e.may.1.0 e.may.1.1 (λ j. (sound.tables j).1) resting.accepted);
       }
-
-  -- its readers will know the whole log
-  pub know_the_log : All (λ x. x ≡ reader_beside (ledger_state w')) readers
-  know_the_log = subst (λ (us : List Update). All (λ x. x ≡ record { place = w'.place; knowledge = blank_reader w'.base w'.capacity us }) readers) all_shown e.readers
 
 -- a writer at rest that was asked to go on with more nodes rests
 pub rests_after_enlarging : {R E : Type 0} (w : WriterState) (l : Layout) (w' : WriterState) (resting : IsResting w)

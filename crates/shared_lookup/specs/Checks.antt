@@ -1,5 +1,6 @@
 -- How the answers are checked.
-use Rattle.std.specs.Prelude.{◌≡◌, ℕ, ◌+◌, ◌<◌, Bool, true, false, ◌&&◌, ◌||◌, not, nat_eq, nat_lt, List, [], length, take, count_by, min, slice_index_or, Option, Some, None}
+use Rattle.std.specs.Prelude.{◌≡◌, ℕ, ◌+◌, ◌<◌, Bool, ◌&&◌, ◌||◌, not, nat_eq, nat_lt, List, [], length, take, count_by, min, slice_index_or, Option, None}
+use Rattle.std.specs.Option.{option_eq}
 use Rattle.std.specs.List.Sorted.{IsNonDecreasingBy}
 use Rattle.order_laws.specs.declared.items.Item.{Item}
 use Rattle.order_laws.specs.Orders.{half_open}
@@ -12,10 +13,7 @@ use Rattle.shared_lookup.specs.Servings.{Outcome, has_generation}
 
 -- both are none, or items of the same words
 abbrev pub is_same : Option Item → Option Item → Bool
-is_same None None = true
-is_same None (Some j) = false
-is_same (Some i) None = false
-is_same (Some i) (Some j) = nat_eq i.a j.a && nat_eq i.b j.b && nat_eq i.tag j.tag
+is_same = option_eq (λ i j. nat_eq i.a j.a && nat_eq i.b j.b && nat_eq i.tag j.tag)
 
 -- the answer is wrong, as a test
 abbrev pub is_wrong_answer : List Update → Answer → Bool

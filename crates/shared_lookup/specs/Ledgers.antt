@@ -63,10 +63,6 @@ abbrev pub AreAccepted : LedgerState → Type 0
 AreAccepted l =
     (j : ℕ) (u : Update) → slice_get l.log j ≡ Some u → why_not (with_first j l) u ≡ None
 
--- a ledger of the same table without any update
-abbrev pub blank_of : LedgerState → LedgerState
-blank_of l = with_first 0 l
-
 -- a new ledger
 abbrev pub new_ledger : TableId → Layout → ℕ → ℕ → LedgerState
 new_ledger place l start readers =

@@ -49,7 +49,8 @@ pub record EachIsAnswered (keys : List (Vec ℕ)) (answers : List (Vec Answer)) 
   pub same : length answers ≡ length keys
   pub told : length ended ≡ length keys
   pub each : (reader : ℕ) (list : Vec ℕ) (found : Vec Answer) (end : Bool)
-      → slice_get keys reader ≡ Some list → slice_get answers reader ≡ Some found → slice_get ended reader ≡ Some end
+      → slice_get keys reader ≡ Some list → slice_get answers reader ≡ Some found
+      → slice_get ended reader ≡ Some end
       → AreAnswered reader list.items found.items end
 
 -- an answer of a generation that the log does not come to, or not what the key lies in at its

@@ -145,7 +145,7 @@ impl Ledger {
         ensures log { result.now ≡ self.now.log }
         ensures accepted { AreAccepted self.now }
     {
-        let _readers = self.writer.readers();
+        self.writer.log_is_accepted();
         self.log.as_slice()
     }
 
@@ -168,7 +168,7 @@ impl Ledger {
         ensures accepts { IfOk result (λ w. AreAccepted (with_log self.now.log w)) }
         ensures refusal { IfErr result (λ e. e ≡ OutOfMemory) }
     {
-        let _readers = self.writer.readers();
+        self.writer.log_is_accepted();
         let (table, _) = RestingWriter::open(alloc, self.layout, self.start, 1)?;
         Ok(table)
     }

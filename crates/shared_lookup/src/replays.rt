@@ -7,7 +7,7 @@
 ghost use Rattle.std.specs.Prelude.{◌≡◌, ◌≤◌, [], take, length, count_by, IfOk, IfErr, OnOk};
 ghost use Rattle.std.specs.List.Sorted.{IsPermutation};
 ghost use Rattle.order_laws.specs.declared.refusals.Refusal.TheVariants.{OutOfMemory};
-ghost use Rattle.shared_lookup.specs.Checks.{AreInOrder, is_same, is_wrong_answer, with_log};
+ghost use Rattle.shared_lookup.specs.Checks.{AreInOrder, is_wrong_answer, with_log};
 ghost use Rattle.shared_lookup.specs.Ledgers.{AreAccepted};
 ghost use Rattle.shared_lookup.specs.Servings.{entries};
 
@@ -15,7 +15,7 @@ use crate::gates::Open;
 use crate::resting::RestingWriter;
 use crate::served::Answer;
 use latch_core::Update;
-use order_laws::{Item, Refusal};
+use order_laws::Refusal;
 use std::alloc::{AllocError, Global};
 
 /// The answers of all lists, one list after another.
@@ -37,17 +37,6 @@ fn by_generation(alloc: Global, answers: &[Vec<Answer>]) -> Result<Vec<Answer>, 
     let mut all = flattened(alloc, answers)?;
     all.sort_unstable_by_key(|answer| answer.generation);
     Ok(all)
-}
-
-/// Whether both are the same item, or none.
-fn is_same(x: Option<Item>, y: Option<Item>) -> bool
-    ensures { result ≡ is_same x y }
-{
-    match (x, y) {
-        (None, None) => true,
-        (Some(i), Some(j)) => i.a == j.a && i.b == j.b && i.tag == j.tag,
-        (_, _) => false,
-    }
 }
 
 /// Brings a table that has made the first `done` updates of the log on to the first `count`.
@@ -93,7 +82,7 @@ fn is_wrong(
     let count = answer.generation as usize;
     replay_up_to(table, log, done, count)?;
     let found = table.find(answer.key);
-    Ok((!is_same(answer.item, found), count))
+    Ok((answer.item != found, count))
 }
 
 /// How many answers are wrong, of answers in order, by a table that has made no update.

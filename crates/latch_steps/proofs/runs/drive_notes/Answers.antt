@@ -1,53 +1,50 @@
-use Rattle.std.proofs.Common.{false, ◌++◌, [], take, refl, subst, arith}
+use Rattle.std.proofs.Common.{false, subst, arith}
 use Rattle.std.proofs.lemmas.List.{take_all}
 use Rattle.word_arena.specs.Layouts.{capacity_of, limit_of}
 use Rattle.latch_steps.specs.Runs.{last_of, opening}
 use Rattle.latch_steps.specs.Expands.{Expand}
 use Rattle.latch_steps.proofs.SafeRuns.{safe}
 use Rattle.latch_steps.proofs.Patient.{quiet, near}
-use Rattle.latch_steps.specs.Near.{AreShallow}
-use Rattle.latch_steps.proofs.Recording.{records_none, records_append, notes_of_run, expand_push, one_more_taken}
+use Rattle.latch_steps.proofs.Promising.{obeyed_none, obeyed_more, shallow}
+use Rattle.latch_steps.proofs.Recording.{notes_of_run}
 use Rattle.latch_steps.proofs.Counting.{few_counted}
 use Rattle.latch_steps.proofs.PlainRuns.{exact_where_plain}
 use Rattle.latch_steps.proofs.runs.drive_notes.Goals as goal
 
 pub loop-command-init : goal.loop-command-init
-loop-command-init g c = ([], records_none g.O.TreeOrder.order false c.in_ok-recorder.recorder (opening (capacity_of c.args.l) c.args.start) c.in_ok-recorder.ensures.shows, refl)
+loop-command-init g c =
+    obeyed_none g.O.TreeOrder.order false (opening (capacity_of c.args.l) c.args.start)
+    c.in_ok-recorder.recorder c.in_ok-recorder.ensures.new.shows
 
 pub loop-command-preserved : goal.loop-command-preserved
 loop-command-preserved g c =
-    let w0 = opening (capacity_of c.args.l) c.args.start in
-    let h = c.loop-command.invariant in
-    let d = c.in_ok-obey.ensures.obeyed (last_of w0 h.0) h.1.shows in
-    let xs = c.args.commands.now in
-    let i = c.loop-command.command-index in
-    let taken = one_more_taken xs i c.command-item.result (omega arith) c.command-item.is in (
-      h.0 ++ d.0,
-      records_append g.O.TreeOrder.order false c.in_ok-recorder.recorder c.loop-command.recorder c.obey.new.self w0 h.0 d.0 h.1 d.1,
-      subst (λ cs. Expand w0 cs (h.0 ++ d.0)) taken (expand_push w0 (take i xs) c.command-item.result h.0 d.0 h.2 d.2),
-    )
+    obeyed_more g.O.TreeOrder.order false (opening (capacity_of c.args.l) c.args.start)
+    c.in_ok-recorder.recorder c.loop-command.recorder c.obey.new.self c.args.commands.now
+    c.loop-command.command-index c.command-item.result (omega arith) c.command-item.is
+    c.loop-command.invariant c.in_ok-obey.ensures.obeyed
 
 pub returns-clause-notes : goal.returns-clause-notes
 returns-clause-notes g c =
     let o = g.O.TreeOrder.order in
     let law = g.met.O.TreeOrder.lawful in
     let l = c.args.l in
+    let n = capacity_of l in
+    let limit = limit_of l in
     let start = c.args.start in
-    let even = c.in_ok-recorder.ensures.may.0 in
-    let lay = c.in_ok-recorder.ensures.layout in
+    let new = c.in_ok-recorder.ensures.new in
+    let even = new.opened.0 in
     let h = c.loop-command.invariant in
     let all = take_all c.loop-command.command-index c.args.commands.now (omega arith) in
-    let w0 = opening (capacity_of l) start in
-    let told = c.in_ok-notes.ensures in
-    let noted = notes_of_run o false l start c.in_ok-recorder.recorder c.loop-command.recorder c.in_ok-notes.notes h.0 lay c.in_ok-recorder.ensures.none.1 h.1 told.notes told.sequence in
-    let low = subst (λ a. AreShallow (capacity_of a) h.0) lay h.1.shallow in
-    let few = few_counted o (capacity_of l) (limit_of l) start h.0 noted.steps (told.few (last_of w0 h.0) h.1.shows) in
+    let whole = c.in_ok-notes.ensures.notes in
+    let noted = notes_of_run o l start c.in_ok-recorder.recorder c.loop-command.recorder h.run new false c.in_ok-notes.notes whole h.records in
+    let few = few_counted o n limit start h.run noted.steps (whole.few (last_of (opening n start) h.run) h.records.shows) in
+    let low = shallow o law l start c.in_ok-recorder.recorder new c.loop-command.recorder h.run h.records in
     record {
-      run = h.0;
+      run = h.run;
       notes = noted;
-      expands = subst (λ cs. Expand w0 cs h.0) all h.2;
-      safe = safe o law (capacity_of l) (limit_of l) start even h.0 few noted.steps;
-      quiet = quiet o law (capacity_of l) (limit_of l) start even h.0 few noted.steps;
-      near = near o law (capacity_of l) (limit_of l) start even h.0 few noted.steps low;
-      plain = exact_where_plain o law (capacity_of l) (limit_of l) start h.0 even noted.steps;
+      expands = subst (λ cs. Expand (opening n start) cs h.run) all h.expands;
+      safe = safe o law n limit start even h.run few noted.steps;
+      quiet = quiet o law n limit start even h.run few noted.steps;
+      near = near o law n limit start even h.run few noted.steps low;
+      plain = exact_where_plain o law n limit start h.run even noted.steps;
     }

@@ -1,15 +1,18 @@
-use Rattle.std.proofs.Common.{true, ◌∙◌, ◌++◌, ◌∷◌, [], refl, ap, subst, arith}
+use Rattle.std.proofs.Common.{true, ◌∙◌, ◌++◌, ◌∷◌, [], refl, ap, arith}
 use Rattle.std.proofs.lemmas.List.{take_all}
 use Rattle.word_arena.specs.Layouts.{capacity_of}
 use Rattle.latch_steps.specs.Runs.{did, last_of, opening}
-use Rattle.latch_steps.proofs.SafeRuns.{safe}
-use Rattle.latch_steps.proofs.Patient.{quiet, near}
-use Rattle.latch_steps.specs.Near.{AreShallow}
-use Rattle.latch_steps.proofs.Recording.{records_none, records_append, events_append, trace_of, few_done, one_more_taken}
+use Rattle.latch_steps.proofs.Promising.{safe_trace, quiet_trace, near_trace}
+use Rattle.latch_steps.proofs.Recording.{records_none, records_append, events_append, trace_of, one_more_taken}
 use Rattle.latch_steps.proofs.runs.run.Goals as goal
 
 pub loop-event-init : goal.loop-event-init
-loop-event-init g c = ([], records_none g.O.TreeOrder.order true c.in_ok-recorder.recorder (opening (capacity_of c.args.l) c.args.start) c.in_ok-recorder.ensures.shows, refl)
+loop-event-init g c = (
+  [],
+  records_none g.O.TreeOrder.order true c.in_ok-recorder.recorder
+      (opening (capacity_of c.args.l) c.args.start) c.in_ok-recorder.ensures.new.shows,
+  refl,
+)
 
 pub loop-event-preserved : goal.loop-event-preserved
 loop-event-preserved g c =
@@ -25,38 +28,31 @@ loop-event-preserved g c =
 
 pub returns-clause-events : goal.returns-clause-events
 returns-clause-events g c =
-    let none = c.in_ok-recorder.ensures.none in
     let h = c.loop-event.invariant in
-    (trace_of g.O.TreeOrder.order c.args.l c.args.start c.in_ok-recorder.recorder c.loop-event.recorder c.finish.result h.0
-    c.in_ok-recorder.ensures.layout none.0 none.1 h.1 c.finish.ensures.events c.finish.ensures.notes c.finish.ensures.sequence).events
+    (trace_of g.O.TreeOrder.order c.args.l c.args.start c.in_ok-recorder.recorder c.loop-event.recorder
+    h.0 c.in_ok-recorder.ensures.new c.finish.result c.finish.ensures h.1).events
     ∙ h.2 ∙ take_all c.loop-event.event-index c.args.events.now (omega arith)
 
 pub returns-clause-traces : goal.returns-clause-traces
 returns-clause-traces g c =
-    let none = c.in_ok-recorder.ensures.none in
     let h = c.loop-event.invariant in (
       h.0,
-      trace_of g.O.TreeOrder.order c.args.l c.args.start c.in_ok-recorder.recorder c.loop-event.recorder c.finish.result h.0
-          c.in_ok-recorder.ensures.layout none.0 none.1 h.1 c.finish.ensures.events c.finish.ensures.notes c.finish.ensures.sequence,
+      trace_of g.O.TreeOrder.order c.args.l c.args.start c.in_ok-recorder.recorder c.loop-event.recorder
+          h.0 c.in_ok-recorder.ensures.new c.finish.result c.finish.ensures h.1,
     )
 
 pub returns-clause-safe : goal.returns-clause-safe
-returns-clause-safe g c = λ run h.
-    let o = g.O.TreeOrder.order in
-    safe o g.met.O.TreeOrder.lawful _ _ c.args.start c.in_ok-recorder.ensures.may.0 run (few_done o c.args.l c.args.start c.finish.result run h c.finish.ensures.few) h.steps
+returns-clause-safe g c =
+    safe_trace g.O.TreeOrder.order g.met.O.TreeOrder.lawful c.args.l c.args.start c.in_ok-recorder.recorder
+    c.in_ok-recorder.ensures.new c.finish.result c.finish.ensures.few
 
 pub returns-clause-quiet : goal.returns-clause-quiet
-returns-clause-quiet g c = λ run h.
-    let o = g.O.TreeOrder.order in
-    quiet o g.met.O.TreeOrder.lawful _ _ c.args.start c.in_ok-recorder.ensures.may.0 run (few_done o c.args.l c.args.start c.finish.result run h c.finish.ensures.few) h.steps
+returns-clause-quiet g c =
+    quiet_trace g.O.TreeOrder.order g.met.O.TreeOrder.lawful c.args.l c.args.start c.in_ok-recorder.recorder
+    c.in_ok-recorder.ensures.new c.finish.result c.finish.ensures.few
 
 pub returns-clause-near : goal.returns-clause-near
 returns-clause-near g c =
-    let o = g.O.TreeOrder.order in
-    let none = c.in_ok-recorder.ensures.none in
     let h = c.loop-event.invariant in
-    let t = trace_of o c.args.l c.args.start c.in_ok-recorder.recorder c.loop-event.recorder c.finish.result h.0
-    c.in_ok-recorder.ensures.layout none.0 none.1 h.1 c.finish.ensures.events c.finish.ensures.notes c.finish.ensures.sequence in
-    let low = subst (λ l. AreShallow (capacity_of l) h.0) c.in_ok-recorder.ensures.layout h.1.shallow in
-    let few = few_done o c.args.l c.args.start c.finish.result h.0 t c.finish.ensures.few in
-    (h.0, t, near o g.met.O.TreeOrder.lawful _ _ c.args.start c.in_ok-recorder.ensures.may.0 h.0 few t.steps low)
+    near_trace g.O.TreeOrder.order g.met.O.TreeOrder.lawful c.args.l c.args.start c.in_ok-recorder.recorder
+    c.in_ok-recorder.ensures.new c.loop-event.recorder c.finish.result h.0 c.finish.ensures h.1

@@ -10,7 +10,7 @@ returns-in_ok-push-clause-read g c = λ w s.
     let o = g.O.TreeOrder.order in
     let old = c.args.self.now in
     reads_recorded o (not (eqb g.row.KEEPS 0)) old (record { world = c.read_on-loads.new.self; events = c.keep.new.events; notes = c.push.new.self }) w c.args.reader c.args.most c.read_on-loads.result.0 (Some c.in-Some.note) s
-    (subst (λ (note : Option (Note g.row.O-Key.Denot)). ReadsOn o old.world w c.args.reader c.args.most c.read_on-loads.result.0 note c.read_on-loads.new.self) c.in-Some.is (c.read_on-loads.ensures.reads w s))
+    (subst (λ (note : Option (Note g.row.O-Key.Denot)). ReadsOn o old.world w c.args.reader c.args.most (c.read_on-loads.result.0, note) c.read_on-loads.new.self) c.in-Some.is (c.read_on-loads.ensures.reads w s))
     c.read_on-loads.ensures.layout c.in_ok-keep.ensures.kept c.in_ok-push.ensures.items
 
 pub returns-in_default-clause-read : goal.returns-in_default-clause-read
@@ -18,5 +18,5 @@ returns-in_default-clause-read g c = λ w s.
     let o = g.O.TreeOrder.order in
     let old = c.args.self.now in
     reads_recorded o (not (eqb g.row.KEEPS 0)) old (record { world = c.read_on-loads.new.self; events = c.keep.new.events; notes = old.notes }) w c.args.reader c.args.most c.read_on-loads.result.0 None s
-    (subst (λ (note : Option (Note g.row.O-Key.Denot)). ReadsOn o old.world w c.args.reader c.args.most c.read_on-loads.result.0 note c.read_on-loads.new.self) c.in_default.is (c.read_on-loads.ensures.reads w s))
+    (subst (λ (note : Option (Note g.row.O-Key.Denot)). ReadsOn o old.world w c.args.reader c.args.most (c.read_on-loads.result.0, note) c.read_on-loads.new.self) c.in_default.is (c.read_on-loads.ensures.reads w s))
     c.read_on-loads.ensures.layout c.in_ok-keep.ensures.kept (sym (append-nil old.notes.items))

@@ -20,16 +20,8 @@ returns-clause-shows g c =
 
 pub returns-clause-after : goal.returns-clause-after
 returns-clause-after g c =
-    let ok = c.in_ok-writer.ensures in
     record {
       moment = opening (capacity_of c.args.l) c.args.start;
-      shows = record {
-        capacity = ap (λ (v : WriterView). v.capacity) ok.opened;
-        limit = ap (λ (v : WriterView). v.limit) ok.opened;
-        words = c.in_ok-words.ensures;
-        writer = ok.pictures;
-        lookups = none_in_hand g.O.TreeOrder.order (capacity_of c.args.l) c.new.result c.new.ensures.empty;
-        events = refl;
-      };
-      sound = sound_opening g.O.TreeOrder.order (capacity_of c.args.l) c.args.start ok.may.0;
+      shows = returns-clause-shows g c;
+      sound = sound_opening g.O.TreeOrder.order (capacity_of c.args.l) c.args.start c.in_ok-writer.ensures.may.0;
     }

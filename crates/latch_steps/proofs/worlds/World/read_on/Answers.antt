@@ -29,15 +29,15 @@ pub returns-in-Going-clause-reads : goal.returns-in-Going-clause-reads
 returns-in-Going-clause-reads g c = λ w s.
     let o = g.O.TreeOrder.order in
     let there = sym c.in-Some-take.is ∙ c.take.ensures.value ∙ ap option_flatten c.in-Some.ensures.value in
-    reads_hold o c.args.self.now c.args.reader c.in-Some-take.lookup there c.as_slice.result.now c.as_slice.ensures.value c.args.most c.load_on-held.result.1 c.load_on-held.result.2 _ w s c.in-Going.next
+    reads_hold o c.args.self.now c.args.reader c.in-Some-take.lookup there c.as_slice.result.now c.as_slice.ensures.value c.args.most c.load_on-held.result.count c.load_on-held.result.events _ w s c.in-Going.next
     (lookup_set c.args.self.now.lookups (c.get_mut.follows.lender (Some c.in-Going.next)) c.args.reader (Some c.in-Going.next) ((c.get_mut.follows.holds (Some c.in-Going.next)).3 (subst IsSome c.in-Some.ensures.value refl)).0)
-    (subst (λ (h : Held g.row.O.Denot g.row.O-Key.Denot). LoadsFrom o c.as_slice.result.now c.in-Some-take.lookup c.args.reader c.args.most c.args.self.now.events h c.load_on-held.result.1 c.load_on-held.result.2) c.in-Going.is c.load_on-held.ensures)
+    (subst (λ (h : Held g.row.O.Denot g.row.O-Key.Denot). LoadsFrom o c.as_slice.result.now c.in-Some-take.lookup c.args.reader c.args.most c.args.self.now.events (record c.load_on-held.result { held = h })) c.in-Going.is c.load_on-held.ensures)
 
 pub returns-in-Returned-clause-reads : goal.returns-in-Returned-clause-reads
 returns-in-Returned-clause-reads g c = λ w s.
     let o = g.O.TreeOrder.order in
     let there = sym c.in-Some-take.is ∙ c.take.ensures.value ∙ ap option_flatten c.in-Some.ensures.value in
     let none = lookup_set c.args.self.now.lookups (c.get_mut.follows.lender c.take.new.self) c.args.reader c.take.new.self ((c.get_mut.follows.holds c.take.new.self).3 (subst IsSome c.in-Some.ensures.value refl)).0 in
-    reads_end o c.args.self.now c.args.reader c.in-Some-take.lookup there c.as_slice.result.now c.as_slice.ensures.value c.args.most c.load_on-held.result.1 c.load_on-held.result.2 _ w s c.in-Returned.returned
+    reads_end o c.args.self.now c.args.reader c.in-Some-take.lookup there c.as_slice.result.now c.as_slice.ensures.value c.args.most c.load_on-held.result.count c.load_on-held.result.events _ w s c.in-Returned.returned
     (λ q. none q ∙ ap (λ p. cond (is_at (nat_cmp c.args.reader) q) p (lookup_at c.args.self.now.lookups q)) c.take.ensures.after)
-    (subst (λ (h : Held g.row.O.Denot g.row.O-Key.Denot). LoadsFrom o c.as_slice.result.now c.in-Some-take.lookup c.args.reader c.args.most c.args.self.now.events h c.load_on-held.result.1 c.load_on-held.result.2) c.in-Returned.is c.load_on-held.ensures)
+    (subst (λ (h : Held g.row.O.Denot g.row.O-Key.Denot). LoadsFrom o c.as_slice.result.now c.in-Some-take.lookup c.args.reader c.args.most c.args.self.now.events (record c.load_on-held.result { held = h })) c.in-Returned.is c.load_on-held.ensures)
