@@ -23,7 +23,8 @@ pub record IsIndex (symbols : List SymbolEntry) (index : List IndexEntry) : Type
 pub record IsSplit (index : List IndexEntry) (addr place : ℕ) : Type 0 where
   pub bound : place ≤ length index
   pub below : (k : ℕ) (d : IndexEntry) → k < place → (slice_index_or index k d).addr ≤ addr
-  pub above : (k : ℕ) (d : IndexEntry) → place ≤ k → k < length index → addr < (slice_index_or index k d).addr
+  pub above : (k : ℕ) (d : IndexEntry) → place ≤ k → k < length index
+      → addr < (slice_index_or index k d).addr
 
 -- the symbols stand by rising address
 abbrev pub IsRising : List SymbolEntry → Type 0
@@ -33,13 +34,15 @@ IsRising symbols = IsNonDecreasingBy (λ s. s.addr) symbols
 pub record IsSplitOf (symbols : List SymbolEntry) (addr place : ℕ) : Type 0 where
   pub bound : place ≤ length symbols
   pub below : (k : ℕ) (d : SymbolEntry) → k < place → (slice_index_or symbols k d).addr ≤ addr
-  pub above : (k : ℕ) (d : SymbolEntry) → place ≤ k → k < length symbols → addr < (slice_index_or symbols k d).addr
+  pub above : (k : ℕ) (d : SymbolEntry) → place ≤ k → k < length symbols
+      → addr < (slice_index_or symbols k d).addr
 
 -- the symbols below the place are below the address, and the others are not
 pub record IsFirstOf (symbols : List SymbolEntry) (addr place : ℕ) : Type 0 where
   pub bound : place ≤ length symbols
   pub below : (k : ℕ) (d : SymbolEntry) → k < place → (slice_index_or symbols k d).addr < addr
-  pub others : (k : ℕ) (d : SymbolEntry) → place ≤ k → k < length symbols → addr ≤ (slice_index_or symbols k d).addr
+  pub others : (k : ℕ) (d : SymbolEntry) → place ≤ k → k < length symbols
+      → addr ≤ (slice_index_or symbols k d).addr
 
 -- the first of the symbols that have the address of the one at a place
 abbrev pub IsFirstAt : List SymbolEntry → ℕ → ℕ → Type 0
@@ -47,6 +50,7 @@ IsFirstAt symbols place first =
     (d : SymbolEntry) → IsFirstOf symbols (slice_index_or symbols place d).addr first
 
 -- the symbols are indexed, or stand by rising address as they are listed
-pub record IsOrdered (symbols : List SymbolEntry) (by_address : Option (Vec IndexEntry)) : Type 0 where
+pub record IsOrdered (symbols : List SymbolEntry)
+    (by_address : Option (Vec IndexEntry)) : Type 0 where
   pub rising : by_address ≡ None → IsRising symbols
   pub indexed : (v : Vec IndexEntry) → by_address ≡ Some v → IsIndex symbols v.items

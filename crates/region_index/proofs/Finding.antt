@@ -15,10 +15,11 @@ use Rattle.order_laws.specs.Tables.{IsLook, look}
 use Rattle.order_laws.proofs.TableLemmas.{look_is}
 use Rattle.modules.specs.Catalogs.{IsSound}
 use Rattle.modules.specs.Entries.{CatalogEntries}
+use Rattle.modules.specs.Items.{items_of}
 use Rattle.modules.specs.Regions.{is_apart}
+use Rattle.modules.proofs.Items.{all_regions, in_map, region_of}
 use Rattle.region_index.specs.Indexes.{IsIndexOf, IsSplit}
-use Rattle.region_index.specs.Items.{item_at, items_of}
-use Rattle.region_index.proofs.Regions.{all_regions, in_map, region_of}
+use Rattle.region_index.specs.Items.{item_at}
 
 le_from_leb : (a b : ℕ) → nat_le a b ≡ true → a ≤ b
 le_from_leb a b h = grind (arith, nat_tests)

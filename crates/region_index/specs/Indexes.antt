@@ -3,7 +3,7 @@ use Rattle.std.specs.Prelude.{ℕ, ◌≤◌, ◌<◌, List, length, slice_index
 use Rattle.std.specs.List.Sorted.{IsNonDecreasingBy, IsPermutation}
 use Rattle.order_laws.specs.declared.items.Item.{Item}
 use Rattle.modules.specs.Entries.{CatalogEntries}
-use Rattle.region_index.specs.Items.{items_of}
+use Rattle.modules.specs.Items.{items_of}
 
 pub record IsIndexOf (c : CatalogEntries) (items : List Item) : Type 0 where
   pub same : IsPermutation (items_of c) items
@@ -13,4 +13,5 @@ pub record IsIndexOf (c : CatalogEntries) (items : List Item) : Type 0 where
 pub record IsSplit (items : List Item) (addr place : ℕ) : Type 0 where
   pub bound : place ≤ length items
   pub below : (k : ℕ) (d : Item) → k < place → (slice_index_or items k d).a ≤ addr
-  pub above : (k : ℕ) (d : Item) → place ≤ k → k < length items → addr < (slice_index_or items k d).a
+  pub above : (k : ℕ) (d : Item) → place ≤ k → k < length items
+      → addr < (slice_index_or items k d).a
