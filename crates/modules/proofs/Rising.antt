@@ -13,14 +13,6 @@ use Rattle.modules.specs.Entries.{SymbolEntry}
 use Rattle.modules.specs.Index.{IsRising, IsSplitOf, IsFirstOf, IsFirstAt}
 use Rattle.modules.proofs.Indexing.{find_first, find_none, le_from_leb, lt_from_leb, lt_from_ltb, nearest_test, below_nearest, and_parts, le_is_true, le_is_false, next_test, lt_is_true, lt_is_false}
 
-pub IsSplitOf-from_partition : (symbols : List SymbolEntry) (addr split : ℕ) → split ≤ length symbols → IsPartitionPoint (λ s. nat_le s.addr addr ≡ true) (λ s. nat_le s.addr addr ≡ false) symbols split → IsSplitOf symbols addr split
-IsSplitOf-from_partition symbols addr split bound point =
-    record {
-      bound = bound;
-      below = λ k d lt. le_from_leb (get_or symbols k d).addr addr (point.0 k d (omega arith) lt);
-      above = λ k d le lt. lt_from_leb (get_or symbols k d).addr addr (point.1 k d le lt);
-    }
-
 le_from_ltb : (a b : ℕ) → nat_lt a b ≡ false → b ≤ a
 le_from_ltb a b h = grind (arith, nat_tests)
 

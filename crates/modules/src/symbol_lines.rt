@@ -57,11 +57,7 @@ impl<'a> Model for SymbolLines<'a> {
 
 impl<'a> Run<'a> {
     /// A run of one line.
-    fn of(
-        alloc: Global,
-        owner: Option<&'a [u8]>,
-        symbol: Symbol<'a>,
-    ) -> Result<Run<'a>, AllocError>
+    fn of(alloc: Global, owner: Option<&'a [u8]>, symbol: Symbol<'a>) -> Result<Run<'a>, AllocError>
         ensures { IfOk result
             (λ r. lines_of r ≡ one_line (option_copied owner.entry) symbol.entry) }
     {
