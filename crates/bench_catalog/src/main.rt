@@ -136,7 +136,7 @@ fn items(alloc: Global, catalog: &Catalog, count: u32) -> Result<Vec<Item>, Allo
     Ok(items)
 }
 
-/// Looks for the symbols of `count` addresses, and answers how many were found and the sum of their
+/// Looks for the symbols of `count` addresses, and returns how many were found and the sum of their
 /// sizes.
 fn look_up_all(catalog: &Catalog, items: &[Item], count: u32) -> (u32, u64) {
     let mut found = 0u32;
@@ -148,9 +148,9 @@ fn look_up_all(catalog: &Catalog, items: &[Item], count: u32) -> (u32, u64) {
         let item = items[i as usize % items.len()];
         let addr = item.a.wrapping_add(spread(u64::from(i)) % SIZE);
         if item.a <= addr && addr < item.b {
-            if let Some((_, _, size)) = symbol_of(catalog, item, addr) {
+            if let Some(symbol) = symbol_of(catalog, item, addr) {
                 found = found.saturating_add(1);
-                sizes = sizes.saturating_add(size);
+                sizes = sizes.saturating_add(symbol.size);
             }
         }
     }

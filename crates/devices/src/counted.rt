@@ -6,6 +6,9 @@ ghost use Rattle.std.specs.Io.KnownBytes.{ReadConsumes, WriteAppends, Keeps};
 use std::io;
 use std::io::{Read, Write};
 
+/// How many bytes are asked of a reader, or gathered for a writer, at once.
+pub const BLOCK: usize = 65536;
+
 /// A reader or a writer, and how many of its calls failed.
 ///
 /// A failed call is an error of any kind, or a write of at least one byte that takes none. The

@@ -11,7 +11,7 @@ mod exact;
 mod fail_at;
 mod gathered;
 
-pub use counted::Counted;
+pub use counted::{BLOCK, Counted};
 pub use exact::{put, put_hexadecimal};
 pub use fail_at::FailAt;
 pub use gathered::{LONGEST_HEXADECIMAL, append, append_hexadecimal};

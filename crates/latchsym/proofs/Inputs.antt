@@ -50,7 +50,7 @@ module _ (P : Result Inputs (ℕ × ℕ) → Type 0) (names : BoundNames) (given
       (subst (λ s. Known (record { modules = t.modules.items; kallsyms = s; regions = z })) g
       (subst (λ s. Known (record { modules = t.modules.items; kallsyms = t.kallsyms.items; regions = s })) h p))
 
--- what was answered behind three readers that did not fail
+-- what was answered after three readers that did not fail
 module _ {W A : Type 0} (contents : W → Option (List ℕ)) (inner known : Option (Result Inputs (ℕ × ℕ))) (all : (P : Result Inputs (ℕ × ℕ) → Type 0) → IfSome inner P → IfSome known P) (m k r : ℕ × ℕ) (m_same : m.1 ≡ m.0) (k_same : k.1 ≡ k.0) (r_same : r.1 ≡ r.0) (old new : Option (Counted A)) (w w' : Counted W) where
   abbrev counts : Failures
   counts = m ∷ k ∷ r ∷ (failures_in old, failures_in new) ∷ []

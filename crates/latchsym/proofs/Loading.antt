@@ -29,14 +29,15 @@ use Rattle.latch_steps.specs.AtOnce.{IsSettled, Settles}
 use Rattle.modules.specs.Building.{place_of}
 use Rattle.modules.specs.Catalogs.{IsSound, entries_of, module_of}
 use Rattle.modules.specs.Entries.{CatalogEntries, ModuleEntry}
+use Rattle.modules.specs.Items.{items_at, items_below, items_of}
 use Rattle.modules.specs.Loads.{GivesOrLacksMemory, item_of, load_of, loaded, update_of}
 use Rattle.modules.specs.Parts.{is_core}
 use Rattle.modules.specs.Placed.{IsPlaced, PlacedModule}
 use Rattle.modules.specs.declared.catalog.Held.{Held}
 use Rattle.modules.specs.declared.lines.Part.{Part}
-use Rattle.latchsym.specs.CatalogTables.{items_at, items_below, items_of}
+use Rattle.modules.proofs.Items.{one_number_more}
 use Rattle.latchsym.specs.LoadedWorlds.{HoldsBelow, Inserts}
-use Rattle.latchsym.proofs.Regions.{has_addresses, is_apart_from, none_overlap, one_number_more, some_left}
+use Rattle.latchsym.proofs.Regions.{has_addresses, is_apart_from, none_overlap, some_left}
 use Rattle.latchsym.proofs.Loads.{erases_none, in_table, inserts_accepted, inserts_these, one_update_more, table_length}
 use Rattle.latchsym.proofs.Worlds.{NoLookup, same_readers, sequence_at_rest, writes_keep}
 

@@ -1,4 +1,4 @@
--- What a parse by the program's command answers.
+-- What a parse by the program's command gives.
 use Rattle.std.proofs.Common.{◌≡◌, ◌∙◌, ◌||◌, ap, sym, List, [], Option, Some, None, Result, Ok, Err, true, false, refl, subst, inl, inr}
 use Rattle.std.specs.Borrow.{Bor}
 use Rattle.std.specs.Prelude.{Box, option_map}

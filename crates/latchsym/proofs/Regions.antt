@@ -1,8 +1,7 @@
--- The items of a catalog are its regions.
-use Rattle.std.proofs.Common.{◌≡◌, ℕ, zero, suc, ◌+◌, ◌-◌, ◌<◌, ◌≤◌, List, [], ◌∷◌, ◌++◌, length, map, flat_map, get_or, Option, Some, None, refl, sym, ◌∙◌, ap, subst, arith, append-nil, add-one, length-append}
-use Rattle.std.specs.Prelude.{Bool, true, false, ◌||◌, All, Contains, slice_get}
+-- The items of a module number, between those of the lesser and those of the greater ones.
+use Rattle.std.proofs.Common.{◌≡◌, ℕ, suc, ◌+◌, ◌-◌, ◌<◌, ◌≤◌, List, [], ◌∷◌, ◌++◌, length, map, flat_map, get_or, refl, sym, ◌∙◌, ap, subst, arith, length-append}
+use Rattle.std.specs.Prelude.{Bool, true, false, ◌||◌, All, Contains}
 use Rattle.std.specs.List.{AllPairs, range_with_len}
-use Rattle.std.specs.Option.{option_map_or, option_to_list}
 use Rattle.std.proofs.lemmas.List.{map-append, length-map, get_or_append_left, get_or-append-add, get_or_default}
 use Rattle.std.proofs.lemmas.List.Elements.{All-contains, Contains-append_left, Contains-append_right}
 use Rattle.std.proofs.lemmas.Grind.{flat_map-append}
@@ -10,33 +9,12 @@ use Rattle.order_laws.specs.declared.items.Item.{Item}
 use Rattle.order_laws.specs.Orders.{half_open, half_open_lawful}
 use Rattle.order_laws.specs.Tables.{meets}
 use Rattle.latch_core.specs.Updates.{some_overlap}
-use Rattle.modules.specs.Catalogs.{IsSound, module_of, regions_of}
-use Rattle.modules.specs.Entries.{CatalogEntries, ModuleEntry}
+use Rattle.modules.specs.Catalogs.{IsSound, regions_of}
+use Rattle.modules.specs.Entries.{CatalogEntries}
+use Rattle.modules.specs.Items.{items_at, items_below, items_of}
 use Rattle.modules.specs.Regions.{is_apart}
-use Rattle.modules.specs.Loads.{item_of}
-use Rattle.latchsym.specs.CatalogTables.{items_at, items_below, items_of}
+use Rattle.modules.proofs.Items.{all_regions, from_nought, in_map, region_of}
 use Rattle.latchsym.proofs.Loads.{none_meets}
-
--- the region of an item
-abbrev pub region_of : Item → ℕ × ℕ
-region_of i = (i.a, i.b)
-
--- so many numbers, and then more
-pub range_append : (a k m : ℕ) → range_with_len a (k + m) ≡ range_with_len a k ++ range_with_len (a + k) m
-range_append a zero m = ap (λ n. range_with_len a n) (let e : zero + m ≡ m = omega arith in e) ∙ ap (λ n. range_with_len n m) (let e : a ≡ a + zero = omega arith in e)
-range_append a (suc k) m =
-    ap (range_with_len a) (let e : suc k + m ≡ suc (k + m) = omega arith in e)
-    ∙ ap (λ l. a ∷ l) (range_append (a + 1) k m)
-    ∙ ap (λ n. a ∷ (range_with_len (a + 1) k ++ range_with_len n m)) (let e : a + 1 + k ≡ a + suc k = omega arith in e)
-
-from_nought : (k m : ℕ) → range_with_len 0 (k + m) ≡ range_with_len 0 k ++ range_with_len k m
-from_nought k m = range_append 0 k m ∙ ap (λ n. range_with_len 0 k ++ range_with_len n m) (let e : 0 + k ≡ k = omega arith in e)
-
-pub one_number_more : (c : CatalogEntries) (k : ℕ) → items_below c (k + 1) ≡ items_below c k ++ items_at c k
-one_number_more c k =
-    ap (flat_map (items_at c)) (from_nought k 1)
-    ∙ flat_map-append (items_at c) (range_with_len 0 k) (k ∷ [])
-    ∙ ap (λ l. items_below c k ++ l) (append-nil (items_at c k))
 
 -- the items of a number, between those of the lesser and those of the greater ones
 pub rest_of : CatalogEntries → ℕ → List Item
@@ -49,46 +27,6 @@ parted_at c k le =
     ap (items_below c) (let e : length c.modules + 1 ≡ k + suc n = omega arith in e)
     ∙ ap (flat_map (items_at c)) (from_nought k (suc n))
     ∙ flat_map-append (items_at c) (range_with_len 0 k) (range_with_len k (suc n))
-
--- the regions of the items are those of the module
-regions_again : (k : ℕ) (rs : List (ℕ × ℕ)) → map region_of (map (item_of k) rs) ≡ rs
-regions_again k [] = refl
-regions_again k (r ∷ rs) = ap (λ l. r ∷ l) (regions_again k rs)
-
-regions_at : (c : CatalogEntries) (k : ℕ) (m : ModuleEntry) → module_of c k ≡ Some m → map region_of (items_at c k) ≡ m.regions
-regions_at c k m e = ap (λ o. map region_of (option_map_or (λ m. map (item_of k) m.regions) o [])) e ∙ regions_again k m.regions
-
--- the modules from a place on
-regions_from : (c : CatalogEntries) (ms : List ModuleEntry) (s : ℕ)
-    → ((i : ℕ) (m : ModuleEntry) → slice_get ms i ≡ Some m → module_of c (s + i) ≡ Some m)
-    → map region_of (flat_map (items_at c) (range_with_len s (length ms))) ≡ flat_map (λ m. m.regions) ms
-regions_from c [] s h = refl
-regions_from c (m ∷ ms) s h =
-    let here = subst (λ k. module_of c k ≡ Some m) (let e : s + 0 ≡ s = omega arith in e) (h 0 m refl) in
-    let there : (i : ℕ) (x : ModuleEntry) → slice_get ms i ≡ Some x → module_of c (s + 1 + i) ≡ Some x =
-    λ i x e. subst (λ k. module_of c k ≡ Some x) (let q : s + suc i ≡ s + 1 + i = omega arith in q) (h (suc i) x e) in
-    map-append region_of (items_at c s) (flat_map (items_at c) (range_with_len (s + 1) (length ms)))
-    ∙ ap (λ l. l ++ map region_of (flat_map (items_at c) (range_with_len (s + 1) (length ms)))) (regions_at c s m here)
-    ∙ ap (λ l. m.regions ++ l) (regions_from c ms (s + 1) there)
-
-module_at : (c : CatalogEntries) (i k : ℕ) (m : ModuleEntry) → k ≡ 1 + i → slice_get c.modules i ≡ Some m → module_of c k ≡ Some m
-module_at c i zero m e is = absurd (omega arith)
-module_at c i (suc j) m e is = subst (λ p. slice_get c.modules p ≡ Some m) (let q : i ≡ j = omega arith in q) is
-
-built_in_regions : (c : CatalogEntries) → map region_of (items_at c 0) ≡ flat_map (λ m. m.regions) (option_to_list c.built_in)
-built_in_regions c = go c.built_in
-  where
-    go : (o : Option ModuleEntry) → map region_of (option_map_or (λ m. map (item_of 0) m.regions) o []) ≡ flat_map (λ m. m.regions) (option_to_list o)
-    go None = refl
-    go (Some m) = regions_again 0 m.regions ∙ sym (append-nil m.regions)
-
-pub all_regions : (c : CatalogEntries) → map region_of (items_of c) ≡ regions_of c
-all_regions c =
-    ap (λ n. map region_of (items_below c n)) (add-one (length c.modules))
-    ∙ map-append region_of (items_at c 0) (flat_map (items_at c) (range_with_len 1 (length c.modules)))
-    ∙ ap (λ l. l ++ map region_of (flat_map (items_at c) (range_with_len 1 (length c.modules)))) (built_in_regions c)
-    ∙ ap (λ l. flat_map (λ m. m.regions) (option_to_list c.built_in) ++ l) (regions_from c c.modules 1 (λ i m e. module_at c i (1 + i) m refl e))
-    ∙ sym (flat_map-append (λ (m : ModuleEntry). m.regions) (option_to_list c.built_in) c.modules)
 
 pub as_many : (c : CatalogEntries) → length (items_of c) ≡ length (regions_of c)
 as_many c = sym (length-map (items_of c) region_of) ∙ ap length (all_regions c)
@@ -113,11 +51,6 @@ pairs_right R xs ys all i j d less lt =
     let r = all (length xs + i) (length xs + j) d (omega arith) (omega (arith, length-append xs ys)) in
     subst (λ b. R (get_or ys i d) b) (get_or-append-add xs ys j d)
     (subst (λ a. R a (get_or (xs ++ ys) (length xs + j) d)) (get_or-append-add xs ys i d) r)
-
-in_map : {X Y : Type 0} (f : X → Y) (xs : List X) (x : X) → Contains xs x → Contains (map f xs) (f x)
-in_map f (y ∷ xs) x (zero, lt, is) = (zero, omega arith, ap f is)
-in_map f (y ∷ xs) x (suc k, lt, is) = let (j, less, there) = in_map f xs x (k, omega arith, is) in (suc j, omega arith, there)
-in_map f [] x (k, lt, is) = absurd (omega arith)
 
 neither_holds : (a b : Bool) → a ≡ false → b ≡ false → (a || b) ≡ false
 neither_holds a b p q = rw (p, q) refl

@@ -135,7 +135,7 @@ module _ {K : Type 0} (r : ℕ) where
       (λ ne. h.differs.others q ne ∙ none q)
       (cases_eq q r)
 
--- with nothing in hand the sequence names all accepted updates
+-- with nothing pending the sequence names all accepted updates
 pub sequence_at_rest : {K : Type 0} (o : Order K) (n start : ℕ) (us : List Update) (l : Latch)
     → IsSound o n start us l → l.hand ≡ None → at l.words 0 ≡ start + 2 * length us
 sequence_at_rest o n start us l ok rest = subst (IsInHand o start (at l.words 0) us) rest ok.in_hand
@@ -147,7 +147,7 @@ current_at_rest o n start us l ok rest =
     let all : length us ≤ gen (at l.words 0) - gen start = (let ev : start % 2 ≡ 0 = ok.even in omega arith) in
     ap (replay o []) (take_all (gen (at l.words 0) - gen start) us all)
 
--- before any update none is in hand
+-- before any update none is pending
 pub none_begun : {K : Type 0} (o : Order K) (n start : ℕ) (l : Latch) → IsSound o n start [] l → l.hand ≡ None
 none_begun o n start l ok = go l.hand ok.in_hand
   where

@@ -20,7 +20,7 @@ behind contents old mid new u (Err e) t more first second = record {
   never_falls = omega (arith, first.never_falls, second.never_falls);
 }
 
--- a text behind one that was written
+-- a text after one that was written
 pub then : {D E : Type 0} {contents : D → Option (List ℕ)} {old mid new : Counted D} {first last : Result (Unit {0}) E} {u : Unit {0}} {t more : List ℕ} → first ≡ Ok u → Wrote contents old mid first t
     → Wrote contents mid new last more → Wrote contents old new last (t ++ more)
 then {D} {E} {contents} {old} {mid} {new} {first} {last} {u} {t} {more} is wrote = behind contents old mid new u last t more (subst (λ r. Wrote contents old mid r t) is wrote)

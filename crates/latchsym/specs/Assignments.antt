@@ -10,6 +10,7 @@ use Rattle.modules.specs.Entries.{CatalogEntries}
 use Rattle.shared_lookup.specs.declared.changes.Change.{Change}
 use Rattle.shared_lookup.specs.declared.changes.Change.TheVariants.{Load, Unload, DropInit}
 use Rattle.latchsym.specs.declared.assignments.Assignments.{Assignments}
+use Rattle.latchsym.specs.declared.assignments.TheConstants.{ABSENT_MODULE}
 
 -- the entries with this number, in order
 abbrev pub listed_for : {T : Type 0} → ℕ → List (ℕ × T) → List T
@@ -24,7 +25,7 @@ pub record AreListed {T : Type 0} (count : ℕ) (entries : List (ℕ × T))
 
 -- the number of the module of this name, or one that no module has
 abbrev pub number_for : CatalogEntries → List ℕ → ℕ
-number_for c name = unwrap_or (number_of c name) 4294967295
+number_for c name = unwrap_or (number_of c name) ABSENT_MODULE
 
 -- the writer of a line and its change
 abbrev pub change_in : CatalogEntries → ScriptLine → Option (ℕ × Change)

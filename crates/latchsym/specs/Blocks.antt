@@ -13,9 +13,10 @@ pub record Appended {A : Type 0} (old new : Vec ℕ A) (most : ℕ) (text : List
 
 -- At Ok the writer has taken the first bytes of what the block held and the text after it, the
 -- block has the rest, and no call of the writer failed. An error is a failed call of the writer.
-pub record Gathered {D E : Type 0} (contents : D → Option (List ℕ)) (old new : Counted D) (before after : List ℕ)
-    (result : Result (Unit {0}) E) (text : List ℕ) : Type 0 where
-  pub ok : OnOk result ((taken : List ℕ) × (taken ++ after ≡ before ++ text) × Appends (contents (device_of old)) (contents (device_of new)) taken)
+pub record Gathered {D E : Type 0} (contents : D → Option (List ℕ)) (old new : Counted D)
+    (before after : List ℕ) (result : Result (Unit {0}) E) (text : List ℕ) : Type 0 where
+  pub ok : OnOk result ((taken : List ℕ) × (taken ++ after ≡ before ++ text)
+      × Appends (contents (device_of old)) (contents (device_of new)) taken)
   pub none_failed : OnOk result (NoneFailed old new)
   pub failed : OnErr result (Rose (failures_of old) (failures_of new))
   pub never_falls : failures_of old ≤ failures_of new

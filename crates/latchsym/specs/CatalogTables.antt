@@ -1,26 +1,21 @@
--- The table of a catalog: an item for each region, and the item that holds an address.
-use Rattle.std.specs.Prelude.{ℕ, ◌+◌, List, [], length, map}
-use Rattle.std.specs.List.{flat_map, range_with_len}
-use Rattle.std.specs.Option.{option_map_or}
+-- The table of a catalog's regions, and the answer that it has for an address.
+use Rattle.std.specs.Prelude.{ℕ, ◌<◌, ◌≤◌, List, length}
 use Rattle.order_laws.specs.declared.items.Item.{Item}
 use Rattle.order_laws.specs.Orders.{half_open}
 use Rattle.order_laws.specs.Tables.{look}
-use Rattle.modules.specs.Catalogs.{module_of}
+use Rattle.word_arena.specs.declared.layouts.TheConstants.{MOST_NODES}
+use Rattle.modules.specs.Catalogs.{regions_of}
 use Rattle.modules.specs.Entries.{CatalogEntries}
-use Rattle.modules.specs.Loads.{item_of}
+use Rattle.modules.specs.Items.{items_of}
 use Rattle.latchsym.specs.declared.table.Answer.{Answer}
 
--- the items of the module of a number, if there is one
-abbrev pub items_at : CatalogEntries → ℕ → List Item
-items_at c number = option_map_or (λ m. map (item_of number) m.regions) (module_of c number) []
+-- a table may have a node for each region
+abbrev pub HasFewRegions : CatalogEntries → Type 0
+HasFewRegions c = length (regions_of c) ≤ MOST_NODES
 
--- the items of the modules whose numbers are below this one
-abbrev pub items_below : CatalogEntries → ℕ → List Item
-items_below c number = flat_map (items_at c) (range_with_len 0 number)
-
--- the items of all regions, those of the kernel itself first
-abbrev pub items_of : CatalogEntries → List Item
-items_of c = items_below c (length c.modules + 1)
+-- there are more regions than a table may have nodes
+abbrev pub HasManyRegions : CatalogEntries → Type 0
+HasManyRegions c = MOST_NODES < length (regions_of c)
 
 -- an address, and the item among these that holds it
 abbrev pub answer_in : List Item → ℕ → Answer

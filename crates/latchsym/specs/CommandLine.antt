@@ -37,7 +37,8 @@ trace_app = with_rule (new_app (codes "trace")) (word_rule (codes "file"))
 -- the options of a lookup that have to be given
 abbrev pub listings_app : App
 listings_app =
-    with_rule (with_rule (new_app (codes "lookup")) (option_rule (codes "modules"))) (option_rule (codes "kallsyms"))
+    with_rule (with_rule (new_app (codes "lookup")) (option_rule (codes "modules")))
+    (option_rule (codes "kallsyms"))
 
 -- lookup --modules FILE --kallsyms FILE [--regions FILE] [--addresses FILE] [--kernel START END]
 -- [ADDR]..
@@ -45,7 +46,8 @@ abbrev pub lookup_app : App
 lookup_app =
     with_rule
     (with_rule
-    (with_rule (with_rule listings_app (optional_rule (codes "regions"))) (optional_rule (codes "addresses")))
+    (with_rule (with_rule listings_app (optional_rule (codes "regions")))
+    (optional_rule (codes "addresses")))
     (pair_rule (codes "kernel")))
     (words_rule (codes "address"))
 
@@ -54,7 +56,8 @@ abbrev pub run_options_app : App
 run_options_app =
     with_rule
     (with_rule
-    (with_rule (with_rule (new_app (codes "run")) (option_rule (codes "modules"))) (option_rule (codes "kallsyms")))
+    (with_rule (with_rule (new_app (codes "run")) (option_rule (codes "modules")))
+    (option_rule (codes "kallsyms")))
     (optional_rule (codes "regions")))
     (option_rule (codes "readers"))
 
@@ -67,7 +70,10 @@ abbrev pub top_app : App
 top_app = on_top (λ s. record s { subcommand_required = true }) (new_app (codes "latchsym"))
 
 abbrev pub latchsym_app : App
-latchsym_app = with_subcommand (with_subcommand (with_subcommand top_app trace_app.top) lookup_app.top) run_app.top
+latchsym_app =
+    with_subcommand
+    (with_subcommand (with_subcommand top_app trace_app.top) lookup_app.top)
+    run_app.top
 
 -- the command reads words as `app` does
 abbrev pub IsCommand : App → Command → Type 0

@@ -39,7 +39,7 @@ bad_line_text file line = file ++ codes ": line " ++ decimal line ++ codes " is 
 abbrev pub unread_text : Text → List ℕ
 unread_text file = file ++ codes ": cannot be read\n"
 
--- what is said of a fault that is about this file, behind the program's name
+-- what is said of a fault that is about this file, after the program's name
 abbrev pub message_text : Text → Fault → List ℕ
 message_text file (Refused refusal) = refused_text (refusals.number_of refusal)
 message_text file (BadLine place line) = bad_line_text file line
@@ -61,8 +61,10 @@ abbrev pub file_of : Job → Fault → Text
 file_of job fault = unwrap_or (option_and_then (file_at job) (place_of fault)) []
 
 -- the writer has taken this line and nothing else, or a call of it failed
-pub record Reported {D : Type 0} (contents : D → Option (List ℕ)) (old new : Counted D) (line : List ℕ) : Type 0 where
-  pub outcome : Appends (contents (device_of old)) (contents (device_of new)) line ⊎ Rose (failures_of old) (failures_of new)
+pub record Reported {D : Type 0} (contents : D → Option (List ℕ)) (old new : Counted D)
+    (line : List ℕ) : Type 0 where
+  pub outcome : Appends (contents (device_of old)) (contents (device_of new)) line
+      ⊎ Rose (failures_of old) (failures_of new)
   pub never_falls : failures_of old ≤ failures_of new
 
 -- The program's status after a job with this outcome, and what it has said of it: nothing of a

@@ -25,13 +25,14 @@ files_of (Lookup job) =
     Some job.modules.now ∷ Some job.kallsyms.now ∷ option_map (λ f. f.now) job.regions
     ∷ option_map (λ f. f.now) job.address_file ∷ []
 files_of (Run job) =
-    Some job.modules.now ∷ Some job.kallsyms.now ∷ option_map (λ f. f.now) job.regions ∷ Some job.script.now ∷ []
+    Some job.modules.now ∷ Some job.kallsyms.now ∷ option_map (λ f. f.now) job.regions
+    ∷ Some job.script.now ∷ []
 
 -- the file at a place among them
 abbrev pub file_at : Job → ℕ → Option Text
 file_at job place = option_and_then (λ f. f) (slice_get (files_of job) place)
 
--- to look the addresses up that these words are, and behind them those of a file, in the listings
+-- to look the addresses up that these words are, and after them those of a file, in the listings
 -- of modules and of symbols in two files, and of regions in a third, where these symbols bound the
 -- kernel
 pub record LookupWords : Type 0 where
@@ -62,7 +63,7 @@ abbrev pub asked_trace : Option Text → Asked
 asked_trace (Some file) = ForTrace file
 asked_trace None = ForNothing
 
--- the names behind `--kernel`, or the usual ones where it is not given
+-- the names after `--kernel`, or the usual ones where it is not given
 abbrev pub bounds_in : List Text → Option BoundNames
 bounds_in [] = Some usual_bounds
 bounds_in (start ∷ end ∷ []) = Some (record { start = start; end = end })
@@ -102,7 +103,8 @@ run_in _ _ _ _ _ = ForNothing
 
 abbrev pub asked_run : List Row → Asked
 asked_run rows =
-    run_in (first_of (codes "modules") rows) (first_of (codes "kallsyms") rows) (first_of (codes "regions") rows)
+    run_in (first_of (codes "modules") rows) (first_of (codes "kallsyms") rows)
+    (first_of (codes "regions") rows)
     (first_of (codes "readers") rows) (first_of (codes "script") rows)
 
 -- what a subcommand of this name, with these values, asks for
@@ -178,7 +180,8 @@ HasNoAddress asked = (l : LookupWords) × (asked ≡ ForLookup l) × (lacks_addr
 
 -- a run is asked for whose number of readers is this word, which is none
 abbrev pub HasBadReaders : Asked → Text → Type 0
-HasBadReaders asked word = (r : RunWords) × (asked ≡ ForRun r) × (r.readers ≡ word) × (readers_of word ≡ None)
+HasBadReaders asked word =
+    (r : RunWords) × (asked ≡ ForRun r) × (r.readers ≡ word) × (readers_of word ≡ None)
 
 -- the answer where this is asked for
 abbrev pub AnswersAsked : Asked → Result Job JobFault → Type 0
@@ -196,7 +199,8 @@ AnswersMatches entered result = AnswersAsked (asked_by entered) result
 
 -- the numbers that words are, or the first word that is none
 abbrev pub AreNumbers : List Text → Result (Vec ℕ) JobFault → Type 0
-AreNumbers words (Ok numbers) = (find is_no_number words ≡ None) × (numbers.items ≡ filter_map number_of words)
+AreNumbers words (Ok numbers) =
+    (find is_no_number words ≡ None) × (numbers.items ≡ filter_map number_of words)
 AreNumbers words (Err OutOfMemory) = Unit {0}
 AreNumbers words (Err (BadAddress word)) = find is_no_number words ≡ Some word.now
 AreNumbers words (Err _) = ⊥
@@ -215,10 +219,12 @@ AnswersWords words (Ok job) =
 AnswersWords words (Err OutOfMemory) = Unit {0}
 AnswersWords words (Err (CommandLine e)) = IsAmong (kind_of e) (fault_of latchsym_app words)
 AnswersWords words (Err (BadAddress word)) =
-    (fault_of latchsym_app words ≡ []) × HasBadAddress (asked_by (subcommand_of latchsym_app words)) word.now
+    (fault_of latchsym_app words ≡ [])
+    × HasBadAddress (asked_by (subcommand_of latchsym_app words)) word.now
 AnswersWords words (Err NoAddress) =
     (fault_of latchsym_app words ≡ []) × HasNoAddress (asked_by (subcommand_of latchsym_app words))
 AnswersWords words (Err (BadReaders word)) =
-    (fault_of latchsym_app words ≡ []) × HasBadReaders (asked_by (subcommand_of latchsym_app words)) word.now
+    (fault_of latchsym_app words ≡ [])
+    × HasBadReaders (asked_by (subcommand_of latchsym_app words)) word.now
 AnswersWords words (Err NoJob) =
     (fault_of latchsym_app words ≡ []) × (asked_by (subcommand_of latchsym_app words) ≡ ForNothing)

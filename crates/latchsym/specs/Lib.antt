@@ -11,7 +11,7 @@ pub mod Blocks
 pub mod Faults
 -- what is written for a trace that is read
 pub mod Traces
--- the table of a catalog: an item for each region, and the item that holds an address
+-- the table of a catalog's regions, and the answer that it has for an address
 pub mod CatalogTables
 -- a world that holds the regions of modules
 pub mod LoadedWorlds

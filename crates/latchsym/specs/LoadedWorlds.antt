@@ -13,11 +13,12 @@ use Rattle.latch_core.specs.declared.updates.Update.{Update}
 use Rattle.latch_core.specs.Updates.{erased, inserted}
 use Rattle.latch_steps.specs.declared.worlds.World.{World}
 use Rattle.latch_steps.specs.Worlds.{IsAfter, layout_in}
-use Rattle.modules.specs.Catalogs.{IsSound, regions_of}
+use Rattle.modules.specs.Catalogs.{IsSound}
 use Rattle.modules.specs.Entries.{CatalogEntries}
-use Rattle.latchsym.specs.CatalogTables.{items_below, items_of}
+use Rattle.modules.specs.Items.{items_below, items_of}
+use Rattle.latchsym.specs.CatalogTables.{HasManyRegions}
 
--- the world comes after these updates, with no update and no lookup in hand
+-- the world comes after these updates, with no pending update and no lookup in hand
 pub record IsIdle (updates : List Update) (w : World HalfOpen ℕ) : Type 0 where
   pub after : IsAfter half_open 0 updates w
   pub rest : after.moment.latch.hand ≡ None
@@ -46,8 +47,8 @@ pub record HoldsBelow (c : CatalogEntries) (number : ℕ) (w : World HalfOpen �
   pub holds : Holds (items_below c number) w
   pub room : HasRoomFor c w
 
--- a table of all regions is refused where there are too many, and else for want of memory
+-- a table of all regions is refused where there are too many, and else when out of memory
 abbrev pub IsRefusedFor : CatalogEntries → Refusal → Type 0
-IsRefusedFor c BadCapacity = 65536 < length (regions_of c)
+IsRefusedFor c BadCapacity = HasManyRegions c
 IsRefusedFor c OutOfMemory = Unit {0}
 IsRefusedFor c _ = ⊥

@@ -54,7 +54,7 @@ abbrev pub listed_addresses : Option (List ℕ) → Result (List ℕ) ℕ
 listed_addresses None = Ok []
 listed_addresses (Some text) = addresses_of text
 
--- the addresses of the command line, and behind them those of the file
+-- the addresses of the command line, and after them those of the file
 abbrev pub all_addresses : List ℕ → Option (List ℕ) → Result (List ℕ) ℕ
 all_addresses given text = after_front given (listed_addresses text)
 
@@ -78,7 +78,7 @@ inputs_behind names given t (Err n) file = Some (Err (2, n))
 inputs_behind names given t (Ok regions) file =
     option_map (λ text. inputs_with names t regions (all_addresses given text)) file
 
--- the inputs that these texts are, behind the names and the addresses of the command line
+-- the inputs that these texts are, after the names and the addresses of the command line
 abbrev pub inputs_of : BoundNames → List ℕ → Option (Option (List ℕ)) → Texts
     → Option (Result Inputs (ℕ × ℕ))
 inputs_of names given file t = inputs_behind names given t (region_lines t.regions) file
@@ -100,17 +100,20 @@ lines_in i = unwrap_or i.regions []
 -- the catalog that the listings say, and how many of their entries went where
 unfoldable pub catalog_in : Inputs → CatalogEntries
 catalog_in i =
-    catalog_of i.names (modules_in (lines_of i.modules)) (lines_in i) (symbols_in (lines_of i.kallsyms))
+    catalog_of i.names (modules_in (lines_of i.modules)) (lines_in i)
+    (symbols_in (lines_of i.kallsyms))
 
 unfoldable pub counts_in : Inputs → BuildCounts
 counts_in i =
-    counts_of i.names (modules_in (lines_of i.modules)) (lines_in i) (symbols_in (lines_of i.kallsyms))
+    counts_of i.names (modules_in (lines_of i.modules)) (lines_in i)
+    (symbols_in (lines_of i.kallsyms))
 
 -- a reader that may be there: how many of its calls failed, and what it gives, where that is known
 abbrev pub failures_in : {A : Type 0} → Option (Counted A) → ℕ
 failures_in reader = option_map_or failures_of reader 0
 
-abbrev pub known_text : {A : Type 0} → (A → Option (List ℕ)) → Option (Counted A) → Option (Option (List ℕ))
+abbrev pub known_text : {A : Type 0} → (A → Option (List ℕ)) → Option (Counted A)
+    → Option (Option (List ℕ))
 known_text remaining None = Some None
 known_text remaining (Some reader) = option_map (λ text. Some text) (remaining (device_of reader))
 

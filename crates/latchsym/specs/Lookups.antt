@@ -1,5 +1,5 @@
 -- What is written for the listings and the addresses that are asked for.
-use Rattle.std.specs.Prelude.{◌≡◌, ℕ, zero, suc, ◌≤◌, ◌<◌, ◌⊎◌, List, [], ◌∷◌, ◌++◌, length, map, flat_map, Bool, true, false, if◌then◌else◌, is_some, Option, Some, None, Result, Ok, Err, IfSome}
+use Rattle.std.specs.Prelude.{◌≡◌, ℕ, zero, suc, ◌⊎◌, List, [], ◌∷◌, ◌++◌, map, flat_map, Bool, true, false, if◌then◌else◌, is_some, Option, Some, None, Result, Ok, Err, IfSome}
 use Rattle.std.specs.Global.{Vec}
 use Rattle.std.specs.Option.{option_map}
 use Rattle.std.specs.Io.KnownBytes.{Appends}
@@ -10,10 +10,9 @@ use Rattle.listing.specs.Lines.{lines_of}
 use Rattle.listing.specs.ModuleListing.{module_counts}
 use Rattle.listing.specs.SymbolListing.{symbol_counts}
 use Rattle.modules.specs.declared.catalog.BuildCounts.{BuildCounts}
-use Rattle.modules.specs.Catalogs.{regions_of}
 use Rattle.modules.specs.Listed.{ListedRegion}
 use Rattle.modules.specs.Placed.{are_few}
-use Rattle.latchsym.specs.CatalogTables.{answer_at}
+use Rattle.latchsym.specs.CatalogTables.{HasFewRegions, HasManyRegions, answer_at}
 use Rattle.latchsym.specs.LookupInputs.{Inputs, all_addresses, catalog_in, counts_in, failures_in, lines_in, region_lines}
 use Rattle.latchsym.specs.LookupTexts.{answer_line, modules_line, regions_line, symbols_line}
 use Rattle.latchsym.specs.declared.fault.Fault.{Fault}
@@ -40,10 +39,10 @@ lookup_text i =
 
 -- no module has too many region lines, and a table of all regions has so many nodes at most
 abbrev pub FitsTable : Inputs → Type 0
-FitsTable i = (are_few (lines_in i) ≡ true) × (length (regions_of (catalog_in i)) ≤ 65536)
+FitsTable i = (are_few (lines_in i) ≡ true) × HasFewRegions (catalog_in i)
 
 abbrev pub HasTooManyRegions : Inputs → Type 0
-HasTooManyRegions i = (are_few (lines_in i) ≡ true) × (65536 < length (regions_of (catalog_in i)))
+HasTooManyRegions i = (are_few (lines_in i) ≡ true) × HasManyRegions (catalog_in i)
 
 -- more than seven region lines have one name
 abbrev pub HasTooManyOfOne : Inputs → Type 0
@@ -65,7 +64,8 @@ counts_text l =
     ++ regions_line_of l.has_regions l.built
 
 -- the writer has taken the lines of these inputs
-abbrev pub IsWritten : {W : Type 0} → (W → Option (List ℕ)) → Counted W → Counted W → Inputs → Type 0
+abbrev pub IsWritten : {W : Type 0} → (W → Option (List ℕ)) → Counted W → Counted W
+    → Inputs → Type 0
 IsWritten contents w w' i =
     FitsTable i × Appends (contents (device_of w)) (contents (device_of w')) (lookup_text i)
 
@@ -88,7 +88,8 @@ GivesLines text (Err (BadLine place n)) = (place ≡ 2) × (region_lines text �
 GivesLines text (Err _) = ⊥
 
 -- the addresses of both places, where the text of the file is known, or why they are not there
-abbrev pub GivesAddresses : List ℕ → Option (Option (List ℕ)) → ℕ → ℕ → Result (Vec ℕ) Fault → Type 0
+abbrev pub GivesAddresses : List ℕ → Option (Option (List ℕ)) → ℕ → ℕ
+    → Result (Vec ℕ) Fault → Type 0
 GivesAddresses given known before after (Ok v) =
     (after ≡ before) × IfSome known (λ text. all_addresses given text ≡ Ok v.items)
 GivesAddresses given known before after (Err (Refused refusal.OutOfMemory)) = after ≡ before
@@ -101,9 +102,11 @@ GivesAddresses given known before after (Err _) = ⊥
 abbrev pub Failures : Type 0
 Failures = List (ℕ × ℕ)
 
-abbrev pub failures_between : {M K R A : Type 0} → LookupReaders M K R A → LookupReaders M K R A → Failures
+abbrev pub failures_between : {M K R A : Type 0} → LookupReaders M K R A → LookupReaders M K R A
+    → Failures
 failures_between old new =
-    (failures_of old.modules, failures_of new.modules) ∷ (failures_of old.kallsyms, failures_of new.kallsyms)
+    (failures_of old.modules, failures_of new.modules)
+    ∷ (failures_of old.kallsyms, failures_of new.kallsyms)
     ∷ (failures_in old.regions, failures_in new.regions)
     ∷ (failures_in old.addresses, failures_in new.addresses) ∷ []
 
@@ -137,13 +140,15 @@ HoldsOf P (Err bad) = ⊥
 abbrev pub IsLinesPlace : ℕ → Type 0
 IsLinesPlace place = (place ≡ 2) ⊎ (place ≡ 3)
 
--- What an engine answers that also read the inputs, where these are known. A call of a reader
+-- What an engine returns that also read the inputs, where these are known. A call of a reader
 -- failed where the answer says so, and else none.
-abbrev pub Answers : {W : Type 0} → (W → Option (List ℕ)) → Option (Result Inputs (ℕ × ℕ)) → Failures
+abbrev pub Answers : {W : Type 0} → (W → Option (List ℕ)) → Option (Result Inputs (ℕ × ℕ))
+    → Failures
     → Counted W → Counted W → Result (Unit {0}) Fault → Type 0
 Answers contents known counts w w' (Ok _) =
     NoReaderFailed counts × NoneFailed w w' × IfSome known (HoldsOf (IsWritten contents w w'))
-Answers contents known counts w w' (Err (Refused refusal.OutOfMemory)) = NoReaderFailed counts × (w' ≡ w)
+Answers contents known counts w w' (Err (Refused refusal.OutOfMemory)) =
+    NoReaderFailed counts × (w' ≡ w)
 Answers contents known counts w w' (Err (Refused refusal.BadCapacity)) =
     NoReaderFailed counts × (w' ≡ w) × IfSome known (HoldsOf HasTooManyRegions)
 Answers contents known counts w w' (Err (Refused refusal.TooManyRegions)) =

@@ -53,7 +53,8 @@ checked_of answers = min (sum_by (λ list. length list.items) answers) greatest
 unfoldable pub totals_text : ℕ → ℕ → ℕ → List ℕ
 totals_text checked wrong updates =
     count_text (codes "checked ") checked ++ count_text (codes " wrong ") wrong
-    ++ count_text (codes " seq ") (min (updates * 2) greatest) ++ count_text (codes " gen ") updates ++ codes "\n"
+    ++ count_text (codes " seq ") (min (updates * 2) greatest)
+    ++ count_text (codes " gen ") updates ++ codes "\n"
 
 -- the refused changes of each writer, the answers of each reader, and how many there are
 abbrev pub run_text : CatalogEntries → List (Vec (List ℕ)) → Served → List ℕ

@@ -1,27 +1,28 @@
 -- What is written for a script and the listings that it is run over.
-use Rattle.std.specs.Prelude.{◌≡◌, ◌⊎◌, ℕ, ◌<◌, ◌≤◌, ◌==◌, false, if◌then◌else◌, List, length, Option, Result, Ok, Err}
+use Rattle.std.specs.Prelude.{◌≡◌, ◌⊎◌, ℕ, ◌<◌, ◌≤◌, ◌==◌, false, if◌then◌else◌, List, Option, Result, Ok, Err}
 use Rattle.std.specs.Io.KnownBytes.{Appends}
 use Rattle.std.specs.List.{list_any}
 use Rattle.devices.specs.declared.counted.Counted.{Counted}
 use Rattle.devices.specs.Counted.{NoneFailed, Rose, device_of, failures_of}
 use Rattle.listing.specs.declared.scripts.ScriptLine.{ScriptLine}
 use Rattle.listing.specs.Scripts.{script_of}
-use Rattle.modules.specs.Catalogs.{regions_of}
 use Rattle.modules.specs.Entries.{CatalogEntries}
 use Rattle.order_laws.specs.declared.refusals.Refusal.TheVariants as refusal
 use Rattle.shared_lookup.specs.Servings.{EachHasOutcome, EachIsAnswered, IsWrongCount}
 use Rattle.shared_lookup.specs.declared.served.Served.{Served}
 use Rattle.latchsym.specs.Assignments.{IsAssigned}
+use Rattle.latchsym.specs.CatalogTables.{HasFewRegions}
 use Rattle.latchsym.specs.LookupInputs.{Inputs, catalog_in}
 use Rattle.latchsym.specs.Lookups.{HasTooManyOfOne}
 use Rattle.latchsym.specs.RunTexts.{run_text}
 use Rattle.latchsym.specs.declared.assignments.Assignments.{Assignments}
+use Rattle.latchsym.specs.declared.command_line.TheConstants.{MOST_READERS}
 use Rattle.latchsym.specs.declared.fault.Fault.{Fault}
 use Rattle.latchsym.specs.declared.fault.Fault.TheVariants.{Refused, BadLine, Write}
 
 -- a table can have the regions of the catalog, and so many readers
 abbrev pub MayRun : CatalogEntries → ℕ → Type 0
-MayRun c readers = (length (regions_of c) ≤ 65536) × (0 < readers) × (readers ≤ 64)
+MayRun c readers = HasFewRegions c × (0 < readers) × (readers ≤ MOST_READERS)
 
 -- What the writers and readers came back with for what they were assigned. No list of addresses
 -- ended early.
@@ -45,7 +46,8 @@ IsRun contents c readers lines w w' status =
     × Appends (contents (device_of w)) (contents (device_of w')) (run_text c a.names.items s))
 
 -- What is answered to these lines. Every fault but a failed write leaves the writer as it was.
-abbrev pub AnswersLines : {W : Type 0} → (W → Option (List ℕ)) → CatalogEntries → ℕ → List ScriptLine
+abbrev pub AnswersLines : {W : Type 0} → (W → Option (List ℕ)) → CatalogEntries → ℕ
+    → List ScriptLine
     → Counted W → Counted W → Result ℕ Fault → Type 0
 AnswersLines contents c readers lines w w' (Ok status) =
     NoneFailed w w' × IsRun contents c readers lines w w' status
@@ -83,8 +85,10 @@ abbrev pub RunsScript : {W : Type 0} → (W → Option (List ℕ)) → ℕ → L
 RunsScript contents readers text w w' (Ok status) =
     (c : CatalogEntries) × (lines : List ScriptLine) × (script_of readers text ≡ Ok lines)
     × NoneFailed w w' × IsRun contents c readers lines w w' status
-RunsScript contents readers text w w' (Err (Refused refusal.BadCapacity)) = IsUnderstood readers text
-RunsScript contents readers text w w' (Err (Refused refusal.TooManyRegions)) = IsUnderstood readers text
+RunsScript contents readers text w w' (Err (Refused refusal.BadCapacity)) =
+    IsUnderstood readers text
+RunsScript contents readers text w w' (Err (Refused refusal.TooManyRegions)) =
+    IsUnderstood readers text
 RunsScript contents readers text w w' (Err (BadLine place n)) =
     (place ≡ 2) ⊎ ((place ≡ 3) × (script_of readers text ≡ Err n))
 RunsScript contents readers text w w' (Err Write) = IsUnderstood readers text

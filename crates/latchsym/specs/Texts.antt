@@ -14,14 +14,18 @@ tag_text answer = option_map_or (λ item. decimal item.tag) answer (codes "-")
 
 -- R ADDR -> TAG
 abbrev pub found_text : ℕ → ℕ → Option Item → List ℕ
-found_text reader key answer = decimal reader ++ codes " " ++ hexadecimal key ++ codes " -> " ++ tag_text answer
+found_text reader key answer =
+    decimal reader ++ codes " " ++ hexadecimal key ++ codes " -> " ++ tag_text answer
 
--- gen J loads S tries T, behind a blank
+-- gen J loads S tries T, after a blank
 abbrev pub counts_text : ℕ → ℕ → ℕ → List ℕ
-counts_text generation loads tries = codes " gen " ++ decimal generation ++ codes " loads " ++ decimal loads ++ codes " tries " ++ decimal tries
+counts_text generation loads tries =
+    codes " gen " ++ decimal generation ++ codes " loads " ++ decimal loads
+    ++ codes " tries " ++ decimal tries
 
 abbrev pub returned_text : Returned ℕ → List ℕ
-returned_text r = found_text r.reader r.key r.answer ++ counts_text r.generation r.loads r.tries ++ codes "\n"
+returned_text r =
+    found_text r.reader r.key r.answer ++ counts_text r.generation r.loads r.tries ++ codes "\n"
 
 abbrev pub refused_text : ℕ → List ℕ
 refused_text n = codes "refused " ++ decimal n ++ codes "\n"
@@ -32,4 +36,5 @@ note_text (Refused refusal) = refused_text (number_of refusal)
 
 -- the last line: the sequence, and the generation, which is half of it
 abbrev pub end_text : ℕ → List ℕ
-end_text sequence = codes "seq " ++ decimal sequence ++ codes " gen " ++ decimal (sequence / 2) ++ codes "\n"
+end_text sequence =
+    codes "seq " ++ decimal sequence ++ codes " gen " ++ decimal (sequence / 2) ++ codes "\n"

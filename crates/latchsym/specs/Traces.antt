@@ -73,17 +73,20 @@ pub record IsTraceWith (P : Header → Type 0) (read : List ℕ) : Type 0 where
   pub reads : trace_of read ≡ Ok said
   pub header : P said.header
 
--- What an engine answers that ran a trace of these contents from one state of the writer to
+-- What an engine returns that ran a trace of these contents from one state of the writer to
 -- another. Every fault but a failed write leaves the writer as it was, and a call of it failed then
 -- alone.
 abbrev pub AnswersIn : {W : Type 0} → Order ℕ → (W → Option (List ℕ)) → Contents
     → Counted W → Counted W → Result (Unit {0}) Fault → Type 0
 AnswersIn o contents said w w' (Ok _) =
     NoneFailed w w' × HeaderMayOpen said.header
-    × ((text : List ℕ) × IsRunText o said text × Appends (contents (device_of w)) (contents (device_of w')) text)
+    × ((text : List ℕ) × IsRunText o said text
+    × Appends (contents (device_of w)) (contents (device_of w')) text)
 AnswersIn o contents said w w' (Err (Refused refusal.OutOfMemory)) = w' ≡ w
-AnswersIn o contents said w w' (Err (Refused refusal.BadCapacity)) = (w' ≡ w) × HeaderMayNotOpen said.header
-AnswersIn o contents said w w' (Err Write) = Rose (failures_of w) (failures_of w') × HeaderMayOpen said.header
+AnswersIn o contents said w w' (Err (Refused refusal.BadCapacity)) =
+    (w' ≡ w) × HeaderMayNotOpen said.header
+AnswersIn o contents said w w' (Err Write) =
+    Rose (failures_of w) (failures_of w') × HeaderMayOpen said.header
 AnswersIn o contents said w w' (Err _) = ⊥
 
 -- The same of an engine that also read the trace, where the bytes of the reader are known. A call
@@ -94,7 +97,8 @@ Answers remaining contents r r' w w' (Ok _) =
     NoneFailed r r' × NoneFailed w w'
     × IfSome (remaining (device_of r)) (λ read. (text : List ℕ) × IsTraceText read text
     × Appends (contents (device_of w)) (contents (device_of w')) text)
-Answers remaining contents r r' w w' (Err (Refused refusal.OutOfMemory)) = NoneFailed r r' × (w' ≡ w)
+Answers remaining contents r r' w w' (Err (Refused refusal.OutOfMemory)) =
+    NoneFailed r r' × (w' ≡ w)
 Answers remaining contents r r' w w' (Err (Refused refusal.BadCapacity)) =
     NoneFailed r r' × (w' ≡ w) × IfSome (remaining (device_of r)) (IsTraceWith HeaderMayNotOpen)
 Answers remaining contents r r' w w' (Err (Refused _)) = ⊥

@@ -256,7 +256,8 @@ fn job_of_subcommand<'a>(
 }
 
 fn trace_job<'a>(found: &ArgMatches<'a>) -> Result<Job<'a>, JobFault<'a>>
-    ensures { AnswersAsked (asked_trace (first_of (codes "file") (rows_of (found_of found.now)))) result }
+    ensures { AnswersAsked
+        (asked_trace (first_of (codes "file") (rows_of (found_of found.now)))) result }
 {
     match value_of(found, "file") {
         Some(file) => Ok(Job::Trace { file }),

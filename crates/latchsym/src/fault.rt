@@ -106,7 +106,7 @@ impl From<AllocError> for Fault {
     }
 }
 
-/// Ends a job: answers the program's status, 0 where the job succeeded. Where it failed, writes the
+/// Ends a job: returns the program's status, 0 where the job succeeded. Where it failed, writes the
 /// line that says why.
 pub fn conclude<W: Write>(outcome: Result<(), Fault>, job: &Job<'_>, writer: &mut Counted<W>) -> u8
     ensures { Concluded W.contents job.now writer.old writer.new outcome result }
@@ -117,11 +117,12 @@ pub fn conclude<W: Write>(outcome: Result<(), Fault>, job: &Job<'_>, writer: &mu
     }
 }
 
-/// Writes the line that says why the job failed, and answers the program's status. Where the writer
+/// Writes the line that says why the job failed, and returns the program's status. Where the writer
 /// fails too, the status is all that there is to tell.
 pub fn report<W: Write>(fault: &Fault, job: &Job<'_>, writer: &mut Counted<W>) -> u8
     ensures status { result ≡ 1 }
-    ensures line { Reported W.contents writer.old writer.new (fault_text (file_of job.now fault.now) fault.now) }
+    ensures line { Reported W.contents writer.old writer.new
+        (fault_text (file_of job.now fault.now) fault.now) }
 {
     let file = file_of(fault, job);
     let _ = put_fault(fault, file.as_bytes(), writer);

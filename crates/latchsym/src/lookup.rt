@@ -63,7 +63,7 @@ pub struct LookupInputs<'a> {
     pub kallsyms: &'a [u8],
     /// The lines of the listing of regions, where there is one.
     pub regions: Option<Vec<RegionLine<'a>>>,
-    /// The addresses of the command line, and behind them those of the file.
+    /// The addresses of the command line, and after them those of the file.
     pub addresses: Vec<u64>,
 }
 
@@ -80,7 +80,7 @@ pub struct Listings<'a> {
 
 /// Looks addresses up in the listings of modules and of symbols, and writes a line for each address
 /// and a line of counts for each listing. A listing of regions may say where modules lie, and a
-/// file of addresses which are looked up behind the given ones. The kernel's own region lies
+/// file of addresses which are looked up after the given ones. The kernel's own region lies
 /// between the symbols of these names.
 ///
 /// All is read, and all answers are there, before the first byte is written; so every fault but a
@@ -130,7 +130,8 @@ pub(crate) fn read_at<R: Read>(
     reader: &mut Counted<R>,
     place: u64,
 ) -> Result<Vec<u8>, Fault>
-    ensures bytes { IfOk result (λ bytes. IfSome (R.remaining (device_of reader.old)) (λ left. bytes.items ≡ left)) }
+    ensures bytes { IfOk result
+        (λ bytes. IfSome (R.remaining (device_of reader.old)) (λ left. bytes.items ≡ left)) }
     ensures read { IsReadAs place (failures_of reader.old) (failures_of reader.new) result }
 {
     match read_whole(alloc, reader) {
@@ -182,7 +183,7 @@ pub(crate) fn region_lines_in(
     }
 }
 
-/// The addresses that are given, and behind them those of the file, where there is one.
+/// The addresses that are given, and after them those of the file, where there is one.
 fn all_addresses<A: Read>(
     alloc: Global,
     given: &[u64],
@@ -221,7 +222,7 @@ fn answer_with<W: Write>(
 }
 
 /// Reads the lines of the first two listings, and builds the catalog of all three. Refused where
-/// more than 7 region lines have one name, and for want of memory.
+/// more than 7 region lines have one name, and when out of memory.
 #[tactic(auto, unfolding(crate::specs::LookupInputs::catalog_in, crate::specs::LookupInputs::counts_in))]
 pub(crate) fn listings_in<'a>(
     alloc: Global,

@@ -18,7 +18,8 @@ pub fn put_answers<W: Write>(
     catalog: &Catalog,
     answers: &[Answer],
 ) -> io::Result<()>
-    ensures { Wrote W.contents writer.old writer.new result (flat_map (answer_line catalog.now) answers.now) }
+    ensures { Wrote W.contents writer.old writer.new result
+        (flat_map (answer_line catalog.now) answers.now) }
 {
     for answer in answers {
         put_answer(writer, catalog, answer)?;

@@ -23,7 +23,7 @@ mod trace;
 
 use clap::Error;
 use command_line::{Job, JobFault, LookupJob, RunJob, job_of};
-use devices::{Counted, put};
+use devices::{BLOCK, Counted, put};
 use fault::{Fault, conclude, report, report_before_job};
 use input::Input;
 use lookup::{LookupReaders, lookup_engine};
@@ -35,9 +35,6 @@ use std::sync::Wait;
 use std::thread::Threads;
 use std::{env, fs};
 use trace::trace_engine;
-
-/// How many bytes of the lines of a lookup or of a run go to the standard output at once.
-const OUTPUT_BLOCK: usize = 65536;
 
 /// The program's status where the command line is at fault.
 const MISUSED: u8 = 2;
@@ -63,7 +60,7 @@ fn words_of(rt: &HostRuntime) -> Result<Vec<String>, ErrorKind> {
         .map_err(|_| ErrorKind::OutOfMemory)
 }
 
-/// Does the job, and answers the program's status. The host that may start threads and wait for
+/// Does the job, and returns the program's status. The host that may start threads and wait for
 /// them is taken beside the one that reads and writes, since a script alone needs it.
 fn run<T: Threads + Wait + Sync>(
     rt: &HostRuntime,
@@ -90,7 +87,7 @@ fn run_trace(rt: &HostRuntime, file: &str) -> Result<(), Fault> {
 
 /// Looks addresses up. The buffer for the output is there before anything is read.
 fn run_lookup(rt: &HostRuntime, job: &LookupJob<'_>) -> Result<(), Fault> {
-    let Ok(buffer) = BufWriter::with_capacity(rt.alloc(), OUTPUT_BLOCK, rt.stdout()) else {
+    let Ok(buffer) = BufWriter::with_capacity(rt.alloc(), BLOCK, rt.stdout()) else {
         return Err(Fault::Refused(Refusal::OutOfMemory));
     };
     let mut writer = Counted::new(buffer);
@@ -110,7 +107,7 @@ fn run_script<T: Threads + Wait + Sync>(
     threads: &T,
     job: &RunJob<'_>,
 ) -> Result<u8, Fault> {
-    let Ok(buffer) = BufWriter::with_capacity(rt.alloc(), OUTPUT_BLOCK, rt.stdout()) else {
+    let Ok(buffer) = BufWriter::with_capacity(rt.alloc(), BLOCK, rt.stdout()) else {
         return Err(Fault::Refused(Refusal::OutOfMemory));
     };
     let mut writer = Counted::new(buffer);
@@ -146,7 +143,7 @@ fn open_for(
     })
 }
 
-/// Opens a file to be read. Refused for want of memory alone: a file that cannot be opened for
+/// Opens a file to be read. Refused only when out of memory: a file that cannot be opened for
 /// another reason fails when it is read.
 fn open(rt: &HostRuntime, file: &str) -> Result<Counted<Input>, Fault> {
     match fs::open(rt, file) {
@@ -158,7 +155,7 @@ fn open(rt: &HostRuntime, file: &str) -> Result<Counted<Input>, Fault> {
     }
 }
 
-/// Says why the command line gives no job, and answers the program's status.
+/// Says why the command line gives no job, and returns the program's status.
 fn refuse(rt: &HostRuntime, fault: JobFault<'_>, errors: &mut Counted<Stderr>) -> u8 {
     match fault {
         JobFault::OutOfMemory => report_before_job(&Fault::Refused(Refusal::OutOfMemory), errors),

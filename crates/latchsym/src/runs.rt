@@ -50,7 +50,7 @@ const SCRIPT_PLACE: u64 = 3;
 /// accepted.
 ///
 /// All is read, done and checked before the first byte is written, so every fault but a failed
-/// write leaves the writer as it was. Refused for want of memory also where a reader's thread was
+/// write leaves the writer as it was. Refused when out of memory, also where a reader's thread was
 /// not started or has not all its answers. docs/FORMATS.md has the files and the lines.
 pub fn run_engine<T: Threads + Wait + Sync, M: Read, K: Read, R: Read, S: Read, W: Write>(
     rt: &T,
@@ -100,7 +100,7 @@ fn run_with<T: Threads + Wait + Sync, W: Write>(
 }
 
 /// Does what these lines of a script for so many readers say, writes the lines of what came back,
-/// and answers the program's status, 1 where something is wrong.
+/// and returns the program's status, 1 where something is wrong.
 fn run_lines<T: Threads + Wait + Sync, W: Write>(
     rt: &T,
     alloc: Global,
@@ -127,7 +127,7 @@ fn run_lines<T: Threads + Wait + Sync, W: Write>(
     }
 }
 
-/// Whether some list of addresses ended for want of memory.
+/// Whether some list of addresses ended out of memory.
 fn has_ended(ended: &[bool]) -> bool
     ensures { result ≡ list_any (λ e. e) ended.now }
 {

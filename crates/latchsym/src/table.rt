@@ -1,8 +1,8 @@
 //! The table of a catalog: every region, loaded into a world, and the items that hold addresses.
 ghost use Rattle.std.specs.Prelude.{◌≡◌, ◌+◌, ◌≤◌, List, length, map, IfOk, IfErr};
 ghost use Rattle.order_laws.specs.declared.items.Item.{Item};
-ghost use Rattle.modules.specs.Catalogs.{regions_of};
-ghost use Rattle.latchsym.specs.CatalogTables.{answer_at, answer_in, items_of};
+ghost use Rattle.modules.specs.Items.{items_of};
+ghost use Rattle.latchsym.specs.CatalogTables.{answer_at, answer_in, HasFewRegions};
 ghost use Rattle.latchsym.specs.LoadedWorlds.{Holds, HoldsBelow, IsRefusedFor};
 
 use latch_steps::{Event, Reply, World};
@@ -30,7 +30,7 @@ pub fn answers_of(
 ) -> Result<Vec<Answer>, Refusal>
     requires { modules ≡ length catalog.now.modules }
     ensures answers { IfOk result (λ v. v.items ≡ map (answer_at catalog.now) addresses.now) }
-    ensures fits { IfOk result (λ _. length (regions_of catalog.now) ≤ 65536) }
+    ensures fits { IfOk result (λ _. HasFewRegions catalog.now) }
     ensures refusal { IfErr result (IsRefusedFor catalog.now) }
 {
     let mut world = open_for(alloc, catalog)?;
@@ -46,7 +46,7 @@ pub fn answers_of(
 /// A world with a node for each region of the catalog, and with at least one.
 fn open_for(alloc: Global, catalog: &Catalog) -> Result<World<HalfOpen>, Refusal>
     ensures holds { IfOk result (HoldsBelow catalog.now 0) }
-    ensures fits { IfOk result (λ _. length (regions_of catalog.now) ≤ 65536) }
+    ensures fits { IfOk result (λ _. HasFewRegions catalog.now) }
     ensures refusal { IfErr result (IsRefusedFor catalog.now) }
 {
     let Ok(nodes) = u32::try_from(catalog.regions().max(1)) else {
@@ -90,11 +90,14 @@ fn load(world: &mut World<HalfOpen>, catalog: &Catalog, number: u64) -> Result<(
     Ok(())
 }
 
-/// Looks one address up. No step of the writer comes between, so the first attempt answers.
+/// Looks one address up. No step of the writer comes between, so the first attempt returns.
 fn look_up(world: &mut World<HalfOpen>, addr: u64) -> Result<Answer, Refusal>
-    ensures found { (items : List Item) → Holds items world.old → IfOk result (λ a. a ≡ answer_in items addr) }
-    ensures holds { (items : List Item) → Holds items world.old → IfOk result (λ _. Holds items world.new) }
-    ensures refusal { (items : List Item) → Holds items world.old → IfErr result (λ e. e ≡ Refusal.OutOfMemory) }
+    ensures found { (items : List Item) → Holds items world.old
+        → IfOk result (λ a. a ≡ answer_in items addr) }
+    ensures holds { (items : List Item) → Holds items world.old
+        → IfOk result (λ _. Holds items world.new) }
+    ensures refusal { (items : List Item) → Holds items world.old
+        → IfErr result (λ e. e ≡ Refusal.OutOfMemory) }
 {
     let found = world.find_now(0, addr)?;
     Ok(Answer {

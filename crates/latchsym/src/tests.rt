@@ -14,7 +14,7 @@ use crate::trace::trace_engine;
 use devices::Counted;
 use std::alloc::Global;
 
-/// What the engine answers for a trace, and what it writes.
+/// What the engine returns for a trace, and what it writes.
 fn traced(alloc: Global, trace: &[u8]) -> (Result<(), Fault>, Vec<u8>) {
     let mut reader = Counted::new(trace);
     let mut writer = Counted::new(Vec::new(alloc));

@@ -29,7 +29,8 @@ pub fn put_notes<W: Write>(
 ) -> io::Result<()>
     requires { LONGEST_LINE ≤ vec_capacity block.old }
     ensures capacity { LONGEST_LINE ≤ vec_capacity block.new }
-    ensures gathered { Gathered W.contents writer.old writer.new block.old.items block.new.items result (flat_map note_text notes.now) }
+    ensures gathered { Gathered W.contents writer.old writer.new block.old.items block.new.items
+        result (flat_map note_text notes.now) }
 {
     for note in notes {
         make_room(writer, block)?;
@@ -43,7 +44,8 @@ fn make_room<W: Write>(writer: &mut Counted<W>, block: &mut Vec<u8>) -> io::Resu
     requires { LONGEST_LINE ≤ vec_capacity block.old }
     ensures capacity { LONGEST_LINE ≤ vec_capacity block.new }
     ensures room { OnOk result (vec_len block.new + LONGEST_LINE ≤ vec_capacity block.new) }
-    ensures gathered { Gathered W.contents writer.old writer.new block.old.items block.new.items result [] }
+    ensures gathered { Gathered W.contents writer.old writer.new block.old.items block.new.items
+        result [] }
 {
     if block.capacity() - block.len() < LONGEST_LINE {
         put(writer, block)?;

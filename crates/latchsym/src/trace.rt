@@ -3,12 +3,13 @@ ghost use Rattle.std.specs.Prelude.{◌≡◌, ◌<◌, ◌≤◌, ◌++◌, ◌
 ghost use Rattle.devices.specs.Exact.{Wrote};
 ghost use Rattle.listing.specs.Trace.{contents_of};
 ghost use Rattle.word_arena.specs.Layouts.{capacity_of, limit_of};
+ghost use Rattle.word_arena.specs.declared.layouts.TheConstants.{MOST_NODES};
 ghost use Rattle.latchsym.specs.Texts.{end_text, note_text};
 ghost use Rattle.latchsym.specs.Traces.{Answers, AnswersIn, greatest_of};
 
 use crate::fault::Fault;
 use crate::texts::{append_end, put_notes};
-use devices::{Counted, put};
+use devices::{BLOCK, Counted, put};
 use latch_steps::{Note, drive_notes};
 use listing::{TraceFile, Version, read_trace};
 use order_laws::{Closed, HalfOpen, Refusal, TreeOrder};
@@ -16,9 +17,6 @@ use std::alloc::Global;
 use std::io;
 use std::io::{Read, Write};
 use word_arena::Layout;
-
-/// How many bytes of lines go to the writer at once.
-const BLOCK: usize = 65536;
 
 /// Runs a trace, and writes a line for each lookup that returned and for each refusal, and the line
 /// of the last sequence.
@@ -58,7 +56,7 @@ fn run_in<O: TreeOrder<Key = u64>, W: Write>(
 fn layout_for(version: Version, capacity: u32) -> Result<Layout, Refusal>
     ensures capacity { IfOk result (λ l. capacity_of l ≡ capacity) }
     ensures limit { IfOk result (λ l. limit_of l ≡ greatest_of version) }
-    ensures refused { IsErr result ↔ ((capacity ≡ 0) ⊎ (65536 < capacity)) }
+    ensures refused { IsErr result ↔ ((capacity ≡ 0) ⊎ (MOST_NODES < capacity)) }
     ensures refusal { IfErr result (λ e. e ≡ Refusal.BadCapacity) }
 {
     if version.is_wide() {
@@ -77,7 +75,8 @@ fn put_trace<W: Write>(
 ) -> io::Result<()>
     requires empty { block.old.items ≡ [] }
     requires room { BLOCK ≤ vec_capacity block.old }
-    ensures { Wrote W.contents writer.old writer.new result (flat_map note_text notes.now ++ end_text sequence) }
+    ensures { Wrote W.contents writer.old writer.new result
+        (flat_map note_text notes.now ++ end_text sequence) }
 {
     put_notes(writer, block, notes)?;
     put(writer, block)?;

@@ -1,4 +1,4 @@
--- Where the first line of a text ends, behind its first tab.
+-- Where the first line of a text ends, after its first tab.
 use Rattle.std.proofs.Common.{◌≡◌, ℕ, ◌+◌, ◌-◌, ◌<◌, ◌≤◌, Bool, true, ◌||◌, ◌==◌, List, length, get_or, take, drop, sym, ap, ◌∙◌, ⊎_elim, arith, length-drop}
 use Rattle.std.proofs.lemmas.Bool.{cases_order}
 use Rattle.std.proofs.lemmas.Bool.Decides.{nat_tests}
@@ -11,7 +11,7 @@ or_left a b h = rw h
 same_byte : (a b : ℕ) → (a == b) ≡ true → a ≡ b
 same_byte a b h = grind (arith, nat_tests)
 
--- what stands behind a place
+-- what stands after a place
 abbrev pub behind : ℕ → List ℕ → List ℕ
 behind place xs = take (length xs - (place + 1)) (drop (place + 1) xs)
 
@@ -21,7 +21,7 @@ byte_behind xs place k = ap (λ (l : List ℕ). get_or l k 0) (take_rest xs (pla
 length_behind : (xs : List ℕ) (place : ℕ) → length (behind place xs) ≡ length xs - (place + 1)
 length_behind xs place = ap (λ (l : List ℕ). length l) (take_rest xs (place + 1)) ∙ length-drop (place + 1) xs
 
--- no line ends up to so many bytes behind a tab
+-- no line ends up to so many bytes after a tab
 no_end : (xs : List ℕ) (place m : ℕ) → Nowhere (Passes (is_byte2 10 9) xs) 0 place → (get_or xs place 0 ≡ 10 → ⊥) → Nowhere (Passes (is_byte 10) (behind place xs)) 0 m → Nowhere (Passes (is_byte 10) xs) 0 (place + 1 + m)
 no_end xs place m before tab none k low high passes =
     ⊎_elim
@@ -34,7 +34,7 @@ no_end xs place m before tab none k low high passes =
     differs)
     (cases_order k place)
 
--- the end that is found behind a tab is that of the line
+-- the end that is found after a tab is that of the line
 pub end_behind : (xs : List ℕ) (place more : ℕ) → NoneBefore (Passes (is_byte2 10 9) xs) 0 (length xs) place → (get_or xs place 0 ≡ 10 → ⊥) → NoneBefore (Passes (is_byte 10) (behind place xs)) 0 (length (behind place xs)) more → Passes (is_byte 10) (behind place xs) more
     → NoneBefore (Passes (is_byte 10) xs) 0 (length xs) (place + 1 + more) × Passes (is_byte 10) xs (place + 1 + more)
 end_behind xs place more first tab end passes = (

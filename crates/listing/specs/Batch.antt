@@ -7,7 +7,8 @@ use Rattle.listing.specs.Numbers.{number_of}
 -- the numbers that words are, if each of them is one
 abbrev pub numbers_of : List (List ℕ) → Option (List ℕ)
 numbers_of [] = Some []
-numbers_of (word ∷ words) = option_and_then (λ n. option_map (λ ns. n ∷ ns) (numbers_of words)) (number_of word)
+numbers_of (word ∷ words) =
+    option_and_then (λ n. option_map (λ ns. n ∷ ns) (numbers_of words)) (number_of word)
 
 -- the items of which each is three numbers
 abbrev pub items_of : List ℕ → List Item
@@ -22,6 +23,6 @@ batch_with (erased ∷ inserted ∷ numbers) =
     else None
 batch_with _ = None
 
--- what the words behind `batch` are: numbers, of which the first two say how many the others are
+-- what the words after `batch` are: numbers, of which the first two say how many the others are
 abbrev pub batch_of : List (List ℕ) → Option (List ℕ × List Item)
 batch_of words = option_and_then batch_with (numbers_of words)

@@ -14,7 +14,8 @@ use Rattle.listing.specs.Numbers.{number_of, short_number_of, count_of}
 
 -- `insert LO HI TAG`
 abbrev pub insert_with : Option ℕ → Option ℕ → Option ℕ → Option (Command ℕ)
-insert_with (Some low) (Some high) (Some tag) = Some (Begin (Insert (record { a = low; b = high; tag = tag })))
+insert_with (Some low) (Some high) (Some tag) =
+    Some (Begin (Insert (record { a = low; b = high; tag = tag })))
 insert_with _ _ _ = None
 
 abbrev pub insert_of : List (List ℕ) → Option (Command ℕ)

@@ -26,9 +26,10 @@ abbrev pub module_with : List ℕ → Option ℕ → Option ℕ → Option Liste
 module_with name (Some size) (Some base) = Some (record { name = name; base = base; size = size })
 module_with name _ _ = None
 
--- `NAME SIZE USES USERS STATE BASE`, and whatever stands behind
+-- `NAME SIZE USES USERS STATE BASE`, and whatever stands after
 abbrev pub module_of_words : List (List ℕ) → Option ListedModule
-module_of_words (name ∷ size ∷ uses ∷ users ∷ state ∷ base ∷ more) = module_with name (numeral 10 20 size) (base_of base)
+module_of_words (name ∷ size ∷ uses ∷ users ∷ state ∷ base ∷ more) =
+    module_with name (numeral 10 20 size) (base_of base)
 module_of_words _ = None
 
 -- a module that has a region
@@ -45,7 +46,9 @@ formed (Some m) = placed m
 
 -- the module that a line is, or the first cause for which it is skipped
 abbrev pub module_of : List ℕ → Result ListedModule SkippedModule
-module_of line = if nat_lt longest_line (length line) then Err Long else formed (module_of_words (runs_of line))
+module_of line =
+    if nat_lt longest_line (length line) then Err Long
+    else formed (module_of_words (runs_of line))
 
 abbrev pub is_skipped : SkippedModule → Result ListedModule SkippedModule → Bool
 is_skipped Long (Err Long) = true

@@ -7,14 +7,17 @@ use Rattle.std.specs.Str.Parse.{digits_value}
 -- 1 to `most` digits, of a value below 2 ^ 64
 abbrev pub numeral : ℕ → ℕ → List ℕ → Option ℕ
 numeral radix most digits =
-    if nat_lt 0 (length digits) && nat_le (length digits) most && list_all (λ c. is_digit c radix) digits
+    if nat_lt 0 (length digits) && nat_le (length digits) most
+    && list_all (λ c. is_digit c radix) digits
     && nat_lt (digits_value radix digits) (2 ^ 64)
     then Some (digits_value radix digits)
     else None
 
 -- 1 to 20 decimal digits, or `0x` and 1 to 16 hexadecimal digits of either case
 abbrev pub number_of : List ℕ → Option ℕ
-number_of word = if starts_with nat_eq word (codes "0x") then numeral 16 16 (drop 2 word) else numeral 10 20 word
+number_of word =
+    if starts_with nat_eq word (codes "0x") then numeral 16 16 (drop 2 word)
+    else numeral 10 20 word
 
 -- the number, where it lies between two others
 abbrev pub between : ℕ → ℕ → Option ℕ → Option ℕ

@@ -30,14 +30,16 @@ region_of_parts name _ _ _ = None
 -- a name has at least one byte
 abbrev pub region_with : List ℕ → List ℕ → List ℕ → List ℕ → Option ListedRegion
 region_with name part base size =
-    if nat_lt 0 (length name) then region_of_parts name (part_of part) (number_of base) (number_of size) else None
+    if nat_lt 0 (length name)
+    then region_of_parts name (part_of part) (number_of base) (number_of size)
+    else None
 
 -- `NAME PART BASE SIZE`
 abbrev pub region_of_words : List (List ℕ) → Option ListedRegion
 region_of_words (name ∷ part ∷ base ∷ size ∷ []) = region_with name part base size
 region_of_words _ = None
 
--- the region that a line behind the first is, if it is one
+-- the region that a line after the first is, if it is one
 abbrev pub region_by : List ℕ → Option ListedRegion
 region_by line = region_of_words (words_of line)
 
@@ -48,7 +50,8 @@ is_regions_header line = bytes_eq line (codes "latchregions 1")
 -- line 1 is the header, also where there is no line
 abbrev pub regions_of_lines : List (List ℕ) → Result (List ListedRegion) ℕ
 regions_of_lines [] = Err 1
-regions_of_lines (first ∷ lines) = if is_regions_header first then entries_from region_by 2 lines else Err 1
+regions_of_lines (first ∷ lines) =
+    if is_regions_header first then entries_from region_by 2 lines else Err 1
 
 abbrev pub regions_of : List ℕ → Result (List ListedRegion) ℕ
 regions_of text = regions_of_lines (lines_of text)

@@ -33,8 +33,12 @@ look_with _ _ = None
 -- what three words are, where there are so many readers
 abbrev pub script_line_with : ℕ → List ℕ → List ℕ → List ℕ → Option ScriptLine
 script_line_with readers verb actor what =
-    if bytes_eq verb (codes "look") then look_with (between 1 readers (number_of actor)) (number_of what)
-    else option_and_then (λ writer. change_by verb writer what) (between 1 most_writers (number_of actor))
+    if bytes_eq verb (codes "look")
+    then look_with (between 1 readers (number_of actor)) (number_of what)
+    else
+    option_and_then
+    (λ writer. change_by verb writer what)
+    (between 1 most_writers (number_of actor))
 
 -- `load W NAME`, `unload W NAME`, `init W NAME` and `look R ADDR`
 abbrev pub script_line_of : ℕ → List (List ℕ) → Option ScriptLine

@@ -8,7 +8,8 @@ abbrev pub taken_by : {T E : Type 0} → (List ℕ → Result T E) → List (Lis
 taken_by said lines = filter_map (λ line. result_ok (said line)) lines
 
 -- how many lines are skipped for a cause
-abbrev pub skipped_by : {T E : Type 0} → (Result T E → Bool) → (List ℕ → Result T E) → List (List ℕ) → ℕ
+abbrev pub skipped_by : {T E : Type 0} → (Result T E → Bool) → (List ℕ → Result T E)
+    → List (List ℕ) → ℕ
 skipped_by is_cause said lines = count_by (λ line. is_cause (said line)) lines
 
 -- one more where it is so

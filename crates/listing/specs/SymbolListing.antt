@@ -11,7 +11,7 @@ use Rattle.listing.specs.declared.symbol_listing.SymbolCounts.{SymbolCounts}
 use Rattle.listing.specs.declared.symbol_listing.SkippedSymbol.{SkippedSymbol}
 use Rattle.listing.specs.declared.symbol_listing.SkippedSymbol.TheVariants.{Long, Malformed, Hidden}
 
--- what stands before the first such byte, and what stands behind it
+-- what stands before the first such byte, and what stands after it
 abbrev pub cut_at : ℕ → List ℕ → Option (List ℕ × List ℕ)
 cut_at b [] = None
 cut_at b (x ∷ xs) = if x == b then Some ([], xs) else option_map (λ p. (x ∷ p.0, p.1)) (cut_at b xs)
@@ -21,7 +21,8 @@ abbrev pub bracketed : List ℕ → Option (List ℕ)
 bracketed text =
     let last = length text - 1 in
     let name = slice_range text 1 last in
-    if nat_lt 2 (length text) && slice_index text 0 == 91 && slice_index text last == 93 && not (list_any (λ b. b == 9) name)
+    if nat_lt 2 (length text) && slice_index text 0 == 91 && slice_index text last == 93
+    && not (list_any (λ b. b == 9) name)
     then Some name
     else None
 
@@ -33,15 +34,16 @@ symbol_with owner (letter ∷ blank ∷ first ∷ name) addr =
     else None
 symbol_with owner _ addr = None
 
--- the address that a text begins with, and what stands behind the blank after it
+-- the address that a text begins with, and what stands after the blank that ends it
 abbrev pub address_in : List ℕ → Option (ℕ × List ℕ)
-address_in text = option_and_then (λ p. option_map (λ addr. (addr, p.1)) (numeral 16 16 p.0)) (cut_at 32 text)
+address_in text =
+    option_and_then (λ p. option_map (λ addr. (addr, p.1)) (numeral 16 16 p.0)) (cut_at 32 text)
 
 -- `ADDRESS LETTER NAME`
 abbrev pub symbol_named : Option (List ℕ) → List ℕ → Option ListedSymbol
 symbol_named owner text = option_and_then (λ p. symbol_with owner p.1 p.0) (address_in text)
 
--- `ADDRESS LETTER NAME` before a tab, and `[MODULE]` behind it
+-- `ADDRESS LETTER NAME` before a tab, and `[MODULE]` after it
 abbrev pub symbol_in_module : List ℕ × List ℕ → Option ListedSymbol
 symbol_in_module p = option_and_then (λ owner. symbol_named (Some owner) p.0) (bracketed p.1)
 
@@ -56,7 +58,9 @@ formed (Some s) = if s.addr == 0 then Err Hidden else Ok s
 
 -- the symbol that a line is, or the first cause for which it is skipped
 abbrev pub symbol_of : List ℕ → Result ListedSymbol SkippedSymbol
-symbol_of line = if nat_lt longest_line (length line) then Err Long else formed (symbol_before (cut_at 9 line) line)
+symbol_of line =
+    if nat_lt longest_line (length line) then Err Long
+    else formed (symbol_before (cut_at 9 line) line)
 
 abbrev pub is_skipped : SkippedSymbol → Result ListedSymbol SkippedSymbol → Bool
 is_skipped Long (Err Long) = true

@@ -35,16 +35,18 @@ fn said_by(line: &[u8]) -> Said<u64>
 ///
 /// Each line is a NUMBER (as [`number`] reads it), or is passed over: it is empty, or a comment
 /// that begins with `#`. No line, also no comment, has more than
-/// [`LONGEST_LINE`](crate::LONGEST_LINE) bytes. Bytes behind the last line's end are a line too. A
+/// [`LONGEST_LINE`](crate::LONGEST_LINE) bytes. Bytes after the last line's end are a line too. A
 /// file of no bytes has no address.
 pub fn read_addresses<R: Read>(
     alloc: Global,
     reader: &mut Counted<R>,
 ) -> Result<Vec<u64>, LineFault>
-    ensures addresses { IfSome (R.remaining (device_of reader.old)) (λ bytes. Gives (λ addresses. addresses.items) result (addresses_of bytes)) }
-
-    ensures read { IsErrOf result LineFault.Read → Rose (failures_of reader.old) (failures_of reader.new) }
-    ensures none_failed { result ≢ Err LineFault.Read → failures_of reader.new ≡ failures_of reader.old }
+    ensures addresses { IfSome (R.remaining (device_of reader.old))
+        (λ bytes. Gives (λ addresses. addresses.items) result (addresses_of bytes)) }
+    ensures read { IsErrOf result LineFault.Read
+        → Rose (failures_of reader.old) (failures_of reader.new) }
+    ensures none_failed { result ≢ Err LineFault.Read
+        → failures_of reader.new ≡ failures_of reader.old }
     ensures never_falls { failures_of reader.old ≤ failures_of reader.new }
 {
     let bytes = read_whole(alloc, reader)?;

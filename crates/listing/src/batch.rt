@@ -19,10 +19,11 @@ pub(crate) struct BatchLine {
     pub(crate) insert: Vec<Item>,
 }
 
-/// The batch that the words behind `batch` are: the numbers E and I, then E numbers, then three for
+/// The batch that the words after `batch` are: the numbers E and I, then E numbers, then three for
 /// each of I items, and no more.
 pub(crate) fn batch_in(alloc: Global, arguments: &[u8]) -> Result<Option<BatchLine>, AllocError>
-    ensures { IfOk result (λ batch. option_map (λ b. (b.erase.items, b.insert.items)) batch ≡ batch_of (words_of arguments.now)) }
+    ensures { IfOk result (λ batch. option_map (λ b. (b.erase.items, b.insert.items)) batch
+        ≡ batch_of (words_of arguments.now)) }
 {
     let Some(numbers) = numbers_in(alloc, arguments)? else {
         return Ok(None);
@@ -41,7 +42,8 @@ pub(crate) fn batch_in(alloc: Global, arguments: &[u8]) -> Result<Option<BatchLi
 
 /// The numbers that the words of a line are, if each of them is one.
 fn numbers_in(alloc: Global, line: &[u8]) -> Result<Option<Vec<u64>>, AllocError>
-    ensures { IfOk result (λ numbers. option_map (λ ns. ns.items) numbers ≡ numbers_of (words_of line.now)) }
+    ensures { IfOk result
+        (λ numbers. option_map (λ ns. ns.items) numbers ≡ numbers_of (words_of line.now)) }
 {
     let mut numbers = Vec::new(alloc);
     let mut rest = line;
@@ -58,9 +60,11 @@ fn numbers_in(alloc: Global, line: &[u8]) -> Result<Option<Vec<u64>>, AllocError
     }
 }
 
-/// The first numbers, and those of the items behind them, where there are just as many.
+/// The first numbers, and those of the items after them, where there are just as many.
 fn parts(numbers: &[u64], erased: u64, inserted: u64) -> Option<(&[u64], &[u64])>
-    ensures { MatchOption result (length numbers.now ≢ erased + 3 * inserted) (λ p. (length numbers.now ≡ erased + 3 * inserted) × (p.0.now ≡ take erased numbers.now) × (p.1.now ≡ drop erased numbers.now)) }
+    ensures { MatchOption result (length numbers.now ≢ erased + 3 * inserted)
+        (λ p. (length numbers.now ≡ erased + 3 * inserted) × (p.0.now ≡ take erased numbers.now)
+        × (p.1.now ≡ drop erased numbers.now)) }
 {
     let erased = usize::try_from(erased).ok()?;
     if erased > numbers.len() {

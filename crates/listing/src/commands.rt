@@ -16,7 +16,7 @@ use latch_steps::Command;
 use order_laws::Item;
 use std::alloc::{AllocError, Global};
 
-/// What a line behind the header says, in a trace of this version.
+/// What a line after the header says, in a trace of this version.
 pub(crate) fn said_by(
     alloc: Global,
     version: Version,

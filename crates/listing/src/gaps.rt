@@ -6,9 +6,10 @@ ghost use Rattle.listing.specs.ModuleListing.{is_gap, runs_of};
 use arrayvec::ArrayVec;
 use memchr::memchr2;
 
-/// Cuts the line at its first blank or tab, and gives what stands behind it.
+/// Cuts the line at its first blank or tab, and gives what stands after it.
 fn cut_at_gap(line: &[u8]) -> (&[u8], Option<&[u8]>)
-    ensures cut { MatchOption result.1 (slice_split is_gap line.now ≡ result.0.now ∷ []) (λ rest. slice_split is_gap line.now ≡ result.0.now ∷ slice_split is_gap rest.now) }
+    ensures cut { MatchOption result.1 (slice_split is_gap line.now ≡ result.0.now ∷ [])
+        (λ rest. slice_split is_gap line.now ≡ result.0.now ∷ slice_split is_gap rest.now) }
     ensures shorter { IfSome result.1 (λ rest. length rest.now < length line.now) }
 {
     match memchr2(b' ', b'\t', line) {
@@ -17,9 +18,10 @@ fn cut_at_gap(line: &[u8]) -> (&[u8], Option<&[u8]>)
     }
 }
 
-/// The first word of a line, and what stands behind it.
+/// The first word of a line, and what stands after it.
 fn next_word(line: &[u8]) -> Option<(&[u8], &[u8])>
-    ensures { MatchOption result (runs_of line.now ≡ []) (λ p. runs_of line.now ≡ p.0.now ∷ runs_of p.1.now) }
+    ensures { MatchOption result (runs_of line.now ≡ [])
+        (λ p. runs_of line.now ≡ p.0.now ∷ runs_of p.1.now) }
 {
     let mut rest = line;
     loop {

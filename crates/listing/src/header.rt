@@ -53,7 +53,7 @@ pub struct Header {
     pub start: u64,
 }
 
-/// The header that a line is: `latchtrace VERSION ORDER CAPACITY`, and START behind it or not.
+/// The header that a line is: `latchtrace VERSION ORDER CAPACITY`, and START after it or not.
 #[tactic(auto, using(crate::proofs::Forms::header_too_long))]
 pub(crate) fn header_in(line: &[u8]) -> Option<Header>
     ensures { result ≡ header_of line.now }

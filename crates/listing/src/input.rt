@@ -3,20 +3,19 @@ ghost use Rattle.std.specs.Prelude.{◌≡◌, ◌≢◌, ◌≤◌, Err, IfOk, 
 ghost use Rattle.devices.specs.Counted.{device_of, failures_of, Rose};
 
 use crate::ReadFault;
-use devices::Counted;
+use devices::{BLOCK, Counted};
 use std::alloc::Global;
 use std::io::Read;
-
-/// How many bytes are asked of the reader at once.
-const BLOCK: usize = 65536;
 
 /// Reads all that a reader has left. The first call that fails ends it, also one that was
 /// interrupted.
 pub fn read_whole<R: Read>(alloc: Global, reader: &mut Counted<R>) -> Result<Vec<u8>, ReadFault>
-    ensures bytes { IfOk result (λ bytes. IfSome (R.remaining (device_of reader.old)) (λ left. bytes.items ≡ left)) }
-
-    ensures read { IsErrOf result ReadFault.Read → Rose (failures_of reader.old) (failures_of reader.new) }
-    ensures none_failed { result ≢ Err ReadFault.Read → failures_of reader.new ≡ failures_of reader.old }
+    ensures bytes { IfOk result
+        (λ bytes. IfSome (R.remaining (device_of reader.old)) (λ left. bytes.items ≡ left)) }
+    ensures read { IsErrOf result ReadFault.Read
+        → Rose (failures_of reader.old) (failures_of reader.new) }
+    ensures none_failed { result ≢ Err ReadFault.Read
+        → failures_of reader.new ≡ failures_of reader.old }
     ensures never_falls { failures_of reader.old ≤ failures_of reader.new }
 {
     let mut bytes = Vec::new(alloc);

@@ -14,19 +14,24 @@ ghost use Rattle.listing.specs.Understood.{AreSaidBy, IsFirstBad, IsFirstBadFrom
 /// those of its lines, in their order; otherwise the line that is named is the first one that is
 /// not.
 pub fn trace_by_its_lines()
-    ensures { (bytes : List ℕ) → MatchResult (trace_of bytes) (IsTraceBy (lines_of bytes)) (IsFirstBad (lines_of bytes)) }
+    ensures { (bytes : List ℕ)
+        → MatchResult (trace_of bytes) (IsTraceBy (lines_of bytes)) (IsFirstBad (lines_of bytes)) }
 {}
 
 /// A text is a listing of regions exactly where each of its lines is in the grammar, and its
 /// regions are then those of its lines, in their order; otherwise the line that is named is the
 /// first one that is not.
 pub fn regions_by_their_lines()
-    ensures { (text : List ℕ) → MatchResult (regions_of text) (IsRegionListingBy (lines_of text)) (IsFirstBadRegion (lines_of text)) }
+    ensures { (text : List ℕ)
+        → MatchResult (regions_of text) (IsRegionListingBy (lines_of text))
+        (IsFirstBadRegion (lines_of text)) }
 {}
 
 /// The same of a file of addresses.
 pub fn addresses_by_their_lines()
-    ensures { (text : List ℕ) → MatchResult (addresses_of text) (AreSaidBy number_of (lines_of text)) (IsFirstBadFrom number_of 1 (lines_of text)) }
+    ensures { (text : List ℕ)
+        → MatchResult (addresses_of text) (AreSaidBy number_of (lines_of text))
+        (IsFirstBadFrom number_of 1 (lines_of text)) }
 {}
 
 /// The same of a script, for any number of readers.
@@ -38,6 +43,8 @@ pub fn script_by_its_lines()
 
 /// Each line of a listing is taken, or is counted for one cause for which it is skipped.
 pub fn each_listed_line_is_counted_once()
-    ensures modules { (text : List ℕ) → let lines = lines_of text in length (modules_in lines) + modules_skipped (module_counts lines) ≡ length lines }
-    ensures symbols { (text : List ℕ) → let lines = lines_of text in length (symbols_in lines) + symbols_skipped (symbol_counts lines) ≡ length lines }
+    ensures modules { (text : List ℕ) → let lines = lines_of text in
+        length (modules_in lines) + modules_skipped (module_counts lines) ≡ length lines }
+    ensures symbols { (text : List ℕ) → let lines = lines_of text in
+        length (symbols_in lines) + symbols_skipped (symbol_counts lines) ≡ length lines }
 {}

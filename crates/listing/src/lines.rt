@@ -20,9 +20,10 @@ pub(crate) fn cut_line(bytes: &[u8]) -> (&[u8], &[u8])
     }
 }
 
-/// Cuts off the first word of a line, and gives what stands behind the blank after it.
+/// Cuts off the first word of a line, and gives what stands after the blank that ends it.
 pub(crate) fn cut_word(line: &[u8]) -> (&[u8], Option<&[u8]>)
-    ensures cut { MatchOption result.1 (words_of line.now ≡ result.0.now ∷ []) (λ rest. words_of line.now ≡ result.0.now ∷ words_of rest.now) }
+    ensures cut { MatchOption result.1 (words_of line.now ≡ result.0.now ∷ [])
+        (λ rest. words_of line.now ≡ result.0.now ∷ words_of rest.now) }
     ensures shorter { IfSome result.1 (λ rest. length rest.now < length line.now) }
 {
     match memchr(b' ', line) {

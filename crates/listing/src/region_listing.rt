@@ -74,7 +74,7 @@ fn region_in<'a>(line: &'a [u8]) -> Option<RegionLine<'a>>
     region_in_words(&words_in(line)?)
 }
 
-/// What a line behind the first says.
+/// What a line after the first says.
 fn said_by<'a>(line: &'a [u8]) -> Said<RegionLine<'a>>
     ensures { result ≡ said_by region_by line.now }
 {
@@ -113,9 +113,10 @@ pub fn read_regions<'a>(alloc: Global, text: &'a [u8]) -> Result<Vec<RegionLine<
     regions_in(alloc, rest)
 }
 
-/// The regions that the lines behind the first are.
+/// The regions that the lines after the first are.
 fn regions_in<'a>(alloc: Global, text: &'a [u8]) -> Result<Vec<RegionLine<'a>>, LineFault>
-    ensures { GivesInGrammar (λ regions. regions.items) result (entries_from region_by 2 (lines_of text.now)) }
+    ensures { GivesInGrammar (λ regions. regions.items) result
+        (entries_from region_by 2 (lines_of text.now)) }
 {
     let mut regions = Vec::new(alloc);
     let mut rest = text;

@@ -77,7 +77,8 @@ fn make_change<'a>(verb: &[u8], writer: u32, name: &'a [u8]) -> Option<ScriptLin
 
 /// `look R ADDR`
 fn make_look<'a>(reader: &[u8], address: &[u8], readers: u32) -> Option<ScriptLine<'a>>
-    ensures { result ≡ look_with (between 1 readers (number_of reader.now)) (number_of address.now) }
+    ensures { result
+        ≡ look_with (between 1 readers (number_of reader.now)) (number_of address.now) }
 {
     Some(ScriptLine::Look {
         reader: number_up_to(reader, readers)?,
@@ -137,7 +138,7 @@ fn said_by<'a>(line: &'a [u8], readers: u32) -> Said<ScriptLine<'a>>
 /// blank between two words, or is passed over: it is empty, or a comment that begins with `#`. W is
 /// a NUMBER from 1 to [`MOST_WRITERS`], R one from 1 to `readers` and ADDR any NUMBER (as
 /// [`number`] reads them); NAME is one byte or more and has no blank. No line, also no comment, has
-/// more than [`LONGEST_LINE`](crate::LONGEST_LINE) bytes. Bytes behind the last line's end are a
+/// more than [`LONGEST_LINE`](crate::LONGEST_LINE) bytes. Bytes after the last line's end are a
 /// line too. Any other line is [`LineFault::BadLine`], the first of them. No reader is asked here,
 /// so that [`LineFault::Read`] is never answered. The names are those of the text.
 pub fn read_script<'a>(

@@ -60,7 +60,8 @@ impl SymbolCounts {
 /// once, since a search pays off in a long text, and most lines have no tab.
 #[inline(always)]
 fn tab_and_end(bytes: &[u8]) -> (Option<usize>, Option<usize>)
-    ensures tab { IsFirst (Passes (is_byte 9) bytes.now) 0 (unwrap_or result.1 (length bytes.now)) result.0 }
+    ensures tab { IsFirst (Passes (is_byte 9) bytes.now) 0
+        (unwrap_or result.1 (length bytes.now)) result.0 }
     ensures end { IsFirstByte (is_byte 10) bytes.now result.1 }
 {
     let Some(place) = memchr2(b'\n', b'\t', bytes) else {
@@ -90,7 +91,7 @@ fn cut_tabbed_line(bytes: &[u8]) -> (&[u8], Option<usize>, &[u8])
     }
 }
 
-/// What stands before the first such byte, and what stands behind it.
+/// What stands before the first such byte, and what stands after it.
 #[inline(always)]
 fn cut(text: &[u8], byte: u8) -> Option<(&[u8], &[u8])>
     ensures { option_map (λ p. (p.0.now, p.1.now)) result ≡ cut_at byte text.now }
@@ -114,8 +115,8 @@ fn name_in_brackets(text: &[u8]) -> Option<&[u8]>
     }
 }
 
-/// The address that a text begins with, and what stands behind the blank after it. Most addresses
-/// have all sixteen digits, and then the blank need not be sought.
+/// The address that a text begins with, and what stands after the blank that ends it. Most
+/// addresses have all sixteen digits, and then the blank need not be sought.
 #[inline(always)]
 fn cut_address(text: &[u8]) -> Option<(u64, &[u8])>
     ensures { option_map (λ p. (p.0, p.1.now)) result ≡ address_in text.now }

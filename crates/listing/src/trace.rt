@@ -27,18 +27,20 @@ pub struct TraceFile {
 
 /// Reads a trace.
 ///
-/// Line 1 is the header, `latchtrace VERSION ORDER CAPACITY` with START behind it or not. Each
+/// Line 1 is the header, `latchtrace VERSION ORDER CAPACITY` with START after it or not. Each
 /// later line is empty, a comment that begins with `#`, or one of `insert LO HI TAG`, `erase LO`,
 /// `write K`, `write flip`, `write end`, `start R ADDR`, `read R K` and, from version 2 on, `batch
-/// E I ..` with E first words and three numbers for each of I items behind it, with exactly one
+/// E I ..` with E first words and three numbers for each of I items after it, with exactly one
 /// blank between two words. No line, also no comment, has more than
-/// [`LONGEST_LINE`](crate::LONGEST_LINE) bytes. Bytes behind the last line's end are a line too; a
+/// [`LONGEST_LINE`](crate::LONGEST_LINE) bytes. Bytes after the last line's end are a line too; a
 /// trace of no bytes has a bad line 1.
 pub fn read_trace<R: Read>(alloc: Global, reader: &mut Counted<R>) -> Result<TraceFile, LineFault>
-    ensures trace { IfSome (R.remaining (device_of reader.old)) (λ bytes. Gives contents_of result (trace_of bytes)) }
-
-    ensures read { IsErrOf result LineFault.Read → Rose (failures_of reader.old) (failures_of reader.new) }
-    ensures none_failed { result ≢ Err LineFault.Read → failures_of reader.new ≡ failures_of reader.old }
+    ensures trace { IfSome (R.remaining (device_of reader.old))
+        (λ bytes. Gives contents_of result (trace_of bytes)) }
+    ensures read { IsErrOf result LineFault.Read
+        → Rose (failures_of reader.old) (failures_of reader.new) }
+    ensures none_failed { result ≢ Err LineFault.Read
+        → failures_of reader.new ≡ failures_of reader.old }
     ensures never_falls { failures_of reader.old ≤ failures_of reader.new }
 {
     let bytes = read_whole(alloc, reader)?;
@@ -60,13 +62,14 @@ fn trace_in(alloc: Global, bytes: &[u8]) -> Result<TraceFile, LineFault>
     Ok(TraceFile { header, commands })
 }
 
-/// The commands that the lines behind the header are.
+/// The commands that the lines after the header are.
 fn commands_in(
     alloc: Global,
     version: Version,
     bytes: &[u8],
 ) -> Result<Vec<Command<u64>>, LineFault>
-    ensures { GivesInGrammar (λ commands. commands.items) result (entries_from (command_by version) 2 (lines_of bytes.now)) }
+    ensures { GivesInGrammar (λ commands. commands.items) result
+        (entries_from (command_by version) 2 (lines_of bytes.now)) }
 {
     let mut commands = Vec::new(alloc);
     let mut rest = bytes;

@@ -1,8 +1,7 @@
 -- One more module.
-use Rattle.std.proofs.Common.{◌≡◌, ℕ, ◌+◌, Bool, true, false, ◌&&◌, ◌||◌, cond, List, [], ◌∷◌, ◌++◌, length, Some, None, Option, refl, sym, ap, ◌∙◌, ⊎_elim, arith, length-append, add-zero, add-one, map, take, drop, drop-cons, get_or, ◌<◌}
+use Rattle.std.proofs.Common.{◌≡◌, ℕ, ◌+◌, Bool, true, false, ◌&&◌, ◌||◌, cond, List, [], ◌∷◌, ◌++◌, length, Some, None, Option, refl, sym, ap, ◌∙◌, ⊎_elim, arith, length-append, add-zero, add-one, take, drop, drop-cons, get_or, ◌<◌}
 use Rattle.std.specs.Prelude.{is_some}
-use Rattle.std.specs.List.{flat_map, list_any, list_all, position_from}
-use Rattle.std.specs.Option.{option_to_list}
+use Rattle.std.specs.List.{list_any, list_all, position_from}
 use Rattle.std.specs.Str.{bytes_eq}
 use Rattle.std.specs.Cmp.Lexicographic.{bytes_decides, slice_cmp}
 use Rattle.std.proofs.lemmas.Bool.{cases_Bool, false_from_ne_true}
@@ -85,7 +84,7 @@ total-after_module a m =
       ]
     ]
 
--- what the map of names answers is what the definitions ask
+-- what the map of names gives is what the definitions ask
 pub found_in : (a : Admission) → IsTied a → (name query : List ℕ) (r : Bool) → r ≡ is_some (get_by (λ k. slice_cmp nat_cmp query k.now) a.places) → query ≡ name → list_any (bytes_eq name) (names_of (shown a).modules) ≡ r
 found_in a tied name query r answers is =
     sym (is_some-position_from (bytes_eq name) 0 (names_of (shown a).modules)) ∙ sym (ap is_some (tied.placed name)) ∙ ap (λ (w : List ℕ). is_some (get_by (λ k. slice_cmp nat_cmp w k.now) a.places)) (sym is) ∙ sym answers

@@ -1,5 +1,5 @@
 -- One more run of symbol lines.
-use Rattle.std.proofs.Common.{◌≡◌, ℕ, ◌+◌, ◌<◌, ◌≤◌, Bool, false, cond, List, [], ◌++◌, length, get_or, map, not, Some, None, Ok, Err, Option, Result, refl, sym, ap, subst, ◌∙◌, ⊎_elim, arith, length-append}
+use Rattle.std.proofs.Common.{◌≡◌, ℕ, ◌+◌, ◌<◌, ◌≤◌, Bool, false, cond, List, ◌++◌, length, get_or, map, not, Some, None, Ok, Err, Option, Result, refl, sym, ap, subst, ◌∙◌, ⊎_elim, arith, length-append}
 use Rattle.std.specs.Prelude.{filter, count_by, IfOk, OnOk}
 use Rattle.std.specs.Borrow.{Bor}
 use Rattle.std.specs.Global.{Vec}
@@ -23,7 +23,7 @@ use Rattle.modules.specs.declared.gathering.Gathered.{Gathered}
 use Rattle.modules.specs.declared.gathering.Owner.{Owner}
 use Rattle.modules.specs.declared.gathering.Owner.TheVariants as owner
 use Rattle.modules.specs.declared.symbol_lines.Run.{Run}
-use Rattle.modules.proofs.Homes.{that_run, that_none, count_run, count_rest, filter_nothing, kept_unnamed, kept_nowhere, kept_there, belongs_there}
+use Rattle.modules.proofs.Homes.{that_run, that_none, count_run, count_rest, kept_unnamed, kept_nowhere, kept_there, belongs_there}
 use Rattle.modules.proofs.Keeping.{no_home, only_home, place_within}
 use Rattle.modules.proofs.Running.{that-lettered, count-lettered}
 

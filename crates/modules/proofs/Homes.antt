@@ -1,6 +1,6 @@
 -- Which lines of a run are kept, and where.
-use Rattle.std.proofs.Common.{◌≡◌, ℕ, ◌+◌, ◌<◌, Bool, true, false, ◌&&◌, ◌||◌, cond, not, List, [], ◌∷◌, ◌++◌, length, get_or, map, Some, None, Option, refl, sym, ap, ◌∙◌, ⊎_elim, arith}
-use Rattle.std.specs.Prelude.{filter, count_by, slice_get}
+use Rattle.std.proofs.Common.{◌≡◌, ℕ, ◌+◌, ◌<◌, Bool, true, false, ◌||◌, cond, not, List, [], ◌∷◌, length, get_or, map, Some, None, Option, refl, sym, ap, ◌∙◌, ⊎_elim, arith}
+use Rattle.std.specs.Prelude.{filter, count_by}
 use Rattle.std.specs.List.{list_any, position_from}
 use Rattle.std.specs.Option.{option_map_or}
 use Rattle.std.specs.Str.{bytes_eq}
@@ -10,13 +10,12 @@ use Rattle.std.proofs.lemmas.List.Sums.{sum_by-cons}
 use Rattle.std.proofs.lemmas.Option.{slice_get-get_or}
 use Rattle.modules.specs.Accepted.{Accepted, names_of}
 use Rattle.modules.specs.Entries.{SymbolEntry}
-use Rattle.modules.specs.Gathering.{BelongsOnlyAt, owner_for, lies_for}
-use Rattle.modules.specs.Kept.{AreDistinct, belongs, is_built_in, is_kept, lies_in, symbols_that, entry_of}
+use Rattle.modules.specs.Gathering.{lies_for}
+use Rattle.modules.specs.Kept.{AreDistinct, belongs, is_kept, lies_in, symbols_that, entry_of}
 use Rattle.modules.specs.Listed.{ListedSymbol}
 use Rattle.modules.specs.Placed.{PlacedModule}
 use Rattle.modules.specs.Regions.{holds}
 use Rattle.modules.specs.Runs.{unlettered}
-use Rattle.modules.specs.declared.gathering.Owner.{Owner}
 use Rattle.modules.specs.declared.gathering.Owner.TheVariants as owner
 use Rattle.modules.proofs.Keeping.{no_home, place_within, only_home, belongs_at}
 

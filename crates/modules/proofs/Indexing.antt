@@ -18,7 +18,7 @@ use Rattle.std.proofs.lemmas.List.Folds.{list_any_at}
 use Rattle.std.proofs.lemmas.List.Sums.{AllPass-from_list_all, list_all-from_AllPass}
 use Rattle.modules.specs.Around.{is_nearest, symbol_below, is_next, address_above}
 use Rattle.modules.specs.Entries.{SymbolEntry}
-use Rattle.modules.specs.Index.{comes_before, entries_of, IsIndex, IsSplit}
+use Rattle.modules.specs.Index.{comes_before, entries_of, IsIndex, IsSplit, IsSplitBy}
 use Rattle.modules.specs.declared.symbols.IndexEntry.{IndexEntry}
 
 -- the order of the index by numbers
@@ -105,12 +105,15 @@ le_from_leb a b h = grind (arith, nat_tests)
 pub lt_from_leb : (a b : ℕ) → nat_le a b ≡ false → b < a
 lt_from_leb a b h = grind (arith, nat_tests)
 
-pub IsSplit-from_partition : (index : List IndexEntry) (addr split : ℕ) → split ≤ length index → IsPartitionPoint (λ e. nat_le e.addr addr ≡ true) (λ e. nat_le e.addr addr ≡ false) index split → IsSplit index addr split
-IsSplit-from_partition index addr split bound point =
+-- a partition by a test of the measure splits the list
+pub IsSplitBy-from_partition : {A : Type 0} (measure : A → ℕ) (xs : List A) (addr split : ℕ) → split ≤ length xs
+    → IsPartitionPoint (λ x. nat_le (measure x) addr ≡ true) (λ x. nat_le (measure x) addr ≡ false) xs split
+    → IsSplitBy measure xs addr split
+IsSplitBy-from_partition measure xs addr split bound point =
     record {
       bound = bound;
-      below = λ k d lt. le_from_leb (get_or index k d).addr addr (point.0 k d (omega arith) lt);
-      above = λ k d le lt. lt_from_leb (get_or index k d).addr addr (point.1 k d le lt);
+      below = λ k d lt. le_from_leb (measure (get_or xs k d)) addr (point.0 k d (omega arith) lt);
+      above = λ k d le lt. lt_from_leb (measure (get_or xs k d)) addr (point.1 k d le lt);
     }
 
 -- ---- the symbol that is not above an address

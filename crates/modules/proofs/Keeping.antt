@@ -20,7 +20,7 @@ use Rattle.modules.specs.Placed.{PlacedModule}
 use Rattle.modules.specs.declared.admission.Admission.{Admission}
 use Rattle.modules.proofs.Admitting.{is_some-position_from}
 
--- what the map of names answers is the place of the name
+-- what the map of names gives is the place of the name
 pub found_at : (a : Admission) → IsTied a → (name query : List ℕ) (o : Option ℕ) → o ≡ get_by (λ k. slice_cmp nat_cmp query k.now) a.places → query ≡ name → position_from (bytes_eq name) 0 (names_of (shown a).modules) ≡ o
 found_at a tied name query o answers is = sym (tied.placed name) ∙ ap (λ (w : List ℕ). get_by (λ k. slice_cmp nat_cmp w k.now) a.places) (sym is) ∙ sym answers
 

@@ -14,3 +14,4 @@ pub mod Soundness
 pub mod Makings
 pub mod Counting
 pub mod Loading
+pub mod Items

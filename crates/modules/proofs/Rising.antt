@@ -1,5 +1,5 @@
 -- Symbols that are listed by rising address.
-use Rattle.std.proofs.Common.{◌≡◌, ℕ, ◌-◌, ◌+◌, ◌<◌, ◌≤◌, ◌⊎◌, Bool, true, false, ◌||◌, nat_lt, nat_le, nat_eq, List, length, get_or, Some, None, refl, sym, ap, subst, ◌∙◌, inl, inr, ⊎_elim, arith}
+use Rattle.std.proofs.Common.{◌≡◌, ℕ, ◌-◌, ◌<◌, ◌≤◌, ◌⊎◌, true, false, ◌||◌, nat_lt, nat_le, List, length, get_or, Some, None, sym, ap, subst, ◌∙◌, inl, inr, ⊎_elim, arith}
 use Rattle.std.specs.Prelude.{slice_get}
 use Rattle.std.specs.Option.{option_map}
 use Rattle.std.specs.List.Sorted.{IsPartitionPoint}
@@ -11,15 +11,7 @@ use Rattle.std.proofs.lemmas.Option.{slice_get_cases}
 use Rattle.modules.specs.Around.{is_nearest, symbol_below, is_next, address_above}
 use Rattle.modules.specs.Entries.{SymbolEntry}
 use Rattle.modules.specs.Index.{IsRising, IsSplitOf, IsFirstOf, IsFirstAt}
-use Rattle.modules.proofs.Indexing.{find_first, find_none, le_from_leb, lt_from_leb, lt_from_ltb, nearest_test, below_nearest, and_parts, le_is_true, le_is_false, next_test, above_next, lt_is_true, lt_is_false}
-
-pub IsSplitOf-from_partition : (symbols : List SymbolEntry) (addr split : ℕ) → split ≤ length symbols → IsPartitionPoint (λ s. nat_le s.addr addr ≡ true) (λ s. nat_le s.addr addr ≡ false) symbols split → IsSplitOf symbols addr split
-IsSplitOf-from_partition symbols addr split bound point =
-    record {
-      bound = bound;
-      below = λ k d lt. le_from_leb (get_or symbols k d).addr addr (point.0 k d (omega arith) lt);
-      above = λ k d le lt. lt_from_leb (get_or symbols k d).addr addr (point.1 k d le lt);
-    }
+use Rattle.modules.proofs.Indexing.{find_first, find_none, le_from_leb, lt_from_leb, lt_from_ltb, nearest_test, below_nearest, and_parts, le_is_true, le_is_false, next_test, lt_is_true, lt_is_false}
 
 le_from_ltb : (a b : ℕ) → nat_lt a b ≡ false → b ≤ a
 le_from_ltb a b h = grind (arith, nat_tests)

@@ -13,7 +13,7 @@ use Rattle.modules.specs.Entries.{SymbolEntry}
 use Rattle.modules.specs.Kept.{symbols_that, entry_of}
 use Rattle.modules.specs.Lines.{first_address}
 use Rattle.modules.specs.Listed.{ListedSymbol}
-use Rattle.modules.specs.Runs.{unlettered, lines_of, lines_of_all, with_letter, lines_in, AreLettered}
+use Rattle.modules.specs.Runs.{unlettered, lines_of, lines_of_all, with_letter}
 use Rattle.modules.specs.declared.symbol_lines.Run.{Run}
 
 -- one line more, with its letter
@@ -109,7 +109,7 @@ pub first_of_none : (m : Option (Bor (List ℕ))) (name : List ℕ) (ss : List S
 first_of_none None name ss none = sym (first_of_kernel name ss)
 first_of_none (Some owner) name ss none = cc
 
--- the run at a place stands between the runs before it and those behind it
+-- the run at a place stands between the runs before it and those after it
 pub lines_of_all-at : (runs : List Run) (i : ℕ) (d : Run) → i < length runs → lines_of_all runs ≡ lines_of_all (take i runs) ++ (lines_of (get_or runs i d) ++ lines_of_all (drop (suc i) runs))
 lines_of_all-at [] i d lt = absurd (omega arith)
 lines_of_all-at (r ∷ runs) zero d lt = refl

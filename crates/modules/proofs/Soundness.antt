@@ -1,5 +1,5 @@
 -- The accepted modules have distinct names and regions that lie apart.
-use Rattle.std.proofs.Common.{◌≡◌, ◌≢◌, ℕ, ◌+◌, ◌^◌, ◌<◌, ◌≤◌, Bool, true, false, ◌&&◌, nat_lt, nat_eq, not, cond, List, [], ◌∷◌, ◌++◌, length, get_or, map, Some, None, Option, refl, sym, ap, ◌∙◌, subst, arith, append_assoc, length-append}
+use Rattle.std.proofs.Common.{◌≡◌, ◌≢◌, ℕ, ◌+◌, ◌<◌, ◌≤◌, Bool, true, false, ◌&&◌, nat_lt, cond, List, [], ◌∷◌, ◌++◌, length, get_or, map, Some, None, Option, refl, sym, ap, ◌∙◌, subst, arith, append_assoc, length-append}
 use Rattle.std.specs.Prelude.{All, IfSome, fold, is_some, codes}
 use Rattle.std.specs.Cmp.Lexicographic.{bytes_decides}
 use Rattle.std.specs.List.{AllPairs, flat_map, list_any, list_all}
@@ -15,8 +15,8 @@ use Rattle.std.proofs.lemmas.List.Quantifiers.{all_pairs_push}
 use Rattle.std.proofs.lemmas.List.Sums.{AllPass-from_list_all}
 use Rattle.modules.specs.Accepted.{Accepted, accepted_of, after_module, names_of, none_yet, taken}
 use Rattle.modules.specs.Building.{built_in_with, kernel_at, place_of}
-use Rattle.modules.specs.Catalogs.{IsSound, built_in_of, catalog_of, entry_for, regions_of}
-use Rattle.modules.specs.Entries.{CatalogEntries, ModuleEntry, SymbolEntry}
+use Rattle.modules.specs.Catalogs.{IsSound, built_in_of, catalog_of, entry_for}
+use Rattle.modules.specs.Entries.{ModuleEntry, SymbolEntry}
 use Rattle.modules.specs.Kept.{AreDistinct, is_built_in, symbols_that}
 use Rattle.modules.specs.Lines.{fits, region_fits, first_address, built_in_region}
 use Rattle.modules.specs.Listed.{BoundNames, ListedModule, ListedRegion, ListedSymbol}

@@ -1,7 +1,6 @@
 -- Each module has a region of its core.
-use Rattle.std.proofs.Common.{◌≡◌, ℕ, ◌<◌, Bool, true, false, List, [], ◌∷◌, length, get_or, Some, None, Option, refl, sym, ap, ◌∙◌, arith}
+use Rattle.std.proofs.Common.{◌≡◌, ℕ, ◌<◌, true, List, length, get_or, Some, None, Option, refl, sym, ap, ◌∙◌, arith}
 use Rattle.std.specs.Prelude.{is_some, position, slice_get}
-use Rattle.std.specs.List.{list_any, position_from}
 use Rattle.std.specs.Option.{option_and_then, option_map}
 use Rattle.std.proofs.lemmas.Iterator.Adapters.{position_from-zero}
 use Rattle.std.proofs.lemmas.List.Quantifiers.{position-Some}
@@ -10,7 +9,7 @@ use Rattle.modules.specs.Building.{place_of}
 use Rattle.modules.specs.Entries.{ModuleEntry}
 use Rattle.modules.specs.Parts.{is_core}
 use Rattle.modules.specs.Placed.{IsPlaced}
-use Rattle.modules.specs.Starts.{first_start, start_at, start_where}
+use Rattle.modules.specs.Starts.{first_start, start_at}
 use Rattle.modules.specs.declared.lines.Part.{Part}
 use Rattle.modules.specs.declared.lines.Part.TheVariants.{Core}
 use Rattle.modules.proofs.Admitting.{is_some-position_from}

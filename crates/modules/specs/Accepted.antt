@@ -31,9 +31,11 @@ none_yet built_in = record { built_in = built_in; modules = []; double = 0; over
 abbrev pub after_module : Accepted → PlacedModule → Accepted
 after_module a m =
     if list_any (bytes_eq m.name) (names_of a.modules) then record a { double = a.double + 1 }
-    else if lie_apart m.regions && are_beside (taken a) m.regions then record a { modules = a.modules ++ m ∷ [] }
+    else if lie_apart m.regions && are_beside (taken a) m.regions
+    then record a { modules = a.modules ++ m ∷ [] }
     else record a { overlap = a.overlap + 1 }
 
 -- each line in turn, at the regions of its module
 abbrev pub accepted_of : Option (ℕ × ℕ) → List ListedRegion → List ListedModule → Accepted
-accepted_of built_in regions lines = fold after_module (none_yet built_in) (map (placed regions) lines)
+accepted_of built_in regions lines =
+    fold after_module (none_yet built_in) (map (placed regions) lines)

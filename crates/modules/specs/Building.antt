@@ -12,7 +12,12 @@ kernel_at region = record { name = codes "-"; regions = region ∷ []; parts = C
 
 -- a module where it lies, with these symbols
 abbrev pub module_with : PlacedModule → List SymbolEntry → ModuleEntry
-module_with m symbols = record { name = m.name; regions = m.regions; parts = m.parts; symbols = symbols }
+module_with m symbols = record {
+  name = m.name;
+  regions = m.regions;
+  parts = m.parts;
+  symbols = symbols;
+}
 
 -- a module without its symbols
 abbrev pub place_of : ModuleEntry → PlacedModule
@@ -20,12 +25,17 @@ place_of m = record { name = m.name; regions = m.regions; parts = m.parts }
 
 -- the kernel itself, with these symbols
 abbrev pub built_in_with : Option (ℕ × ℕ) → List SymbolEntry → Option ModuleEntry
-built_in_with built_in symbols = option_map (λ region. module_with (kernel_at region) symbols) built_in
+built_in_with built_in symbols =
+    option_map (λ region. module_with (kernel_at region) symbols) built_in
 
 -- for each list the module at its place, with the list
 abbrev pub EachMade : List PlacedModule → List (Vec SymbolEntry) → List ModuleEntry → Type 0
-EachMade places lists modules = (j : ℕ) (p : PlacedModule) (d : Vec SymbolEntry) (m : ModuleEntry) → j < length lists → slice_index_or modules j m ≡ module_with (slice_index_or places j p) (slice_index_or lists j d).items
+EachMade places lists modules = (j : ℕ) (p : PlacedModule) (d : Vec SymbolEntry) (m : ModuleEntry)
+    → j < length lists
+    → slice_index_or modules j m
+    ≡ module_with (slice_index_or places j p) (slice_index_or lists j d).items
 
-pub record AreModules (places : List PlacedModule) (lists : List (Vec SymbolEntry)) (modules : List ModuleEntry) : Type 0 where
+pub record AreModules (places : List PlacedModule) (lists : List (Vec SymbolEntry))
+    (modules : List ModuleEntry) : Type 0 where
   pub same : length modules ≡ length lists
   pub each : EachMade places lists modules

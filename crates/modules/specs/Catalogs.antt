@@ -1,11 +1,11 @@
 -- The catalog of the listings, and what is asked of it.
-use Rattle.std.specs.Prelude.{◌≡◌, ◌⊎◌, false, ℕ, ◌+◌, zero, suc, Bool, not, if◌then◌else◌, List, ◌++◌, [], length, slice_get, map, count_by, codes, All, Option}
+use Rattle.std.specs.Prelude.{◌≡◌, ◌⊎◌, false, ℕ, ◌+◌, zero, suc, not, if◌then◌else◌, List, ◌++◌, length, slice_get, map, count_by, codes, All, Option}
 use Rattle.std.specs.List.{flat_map, position_from}
 use Rattle.std.specs.Option.{option_map, option_to_list}
 use Rattle.std.specs.Str.{bytes_eq}
 use Rattle.order_laws.specs.declared.refusals.Refusal.{Refusal}
 use Rattle.order_laws.specs.declared.refusals.Refusal.TheVariants.{OutOfMemory, TooManyRegions}
-use Rattle.modules.specs.Accepted.{Accepted, accepted_of}
+use Rattle.modules.specs.Accepted.{accepted_of}
 use Rattle.modules.specs.Building.{built_in_with, module_with, place_of}
 use Rattle.modules.specs.Entries.{CatalogEntries, ModuleEntry}
 use Rattle.modules.specs.Kept.{AreDistinct, belongs, is_built_in, is_kept, is_used, symbols_that}
@@ -25,13 +25,18 @@ abbrev pub entry_for : List ListedSymbol → PlacedModule → ModuleEntry
 entry_for symbols m = module_with m (symbols_that (belongs m) symbols)
 
 -- the kernel itself where it has a region, and the accepted modules
-abbrev pub catalog_of : BoundNames → List ListedModule → List ListedRegion → List ListedSymbol → CatalogEntries
+abbrev pub catalog_of : BoundNames → List ListedModule → List ListedRegion → List ListedSymbol
+    → CatalogEntries
 catalog_of names modules regions symbols =
     let a = accepted_of (built_in_region names symbols) regions modules in
-    record { built_in = built_in_of (built_in_region names symbols) symbols; modules = map (entry_for symbols) a.modules }
+    record {
+      built_in = built_in_of (built_in_region names symbols) symbols;
+      modules = map (entry_for symbols) a.modules;
+    }
 
 -- how many lines went where
-abbrev pub counts_of : BoundNames → List ListedModule → List ListedRegion → List ListedSymbol → BuildCounts
+abbrev pub counts_of : BoundNames → List ListedModule → List ListedRegion → List ListedSymbol
+    → BuildCounts
 counts_of names modules regions symbols =
     let a = accepted_of (built_in_region names symbols) regions modules in
     record {
@@ -59,7 +64,7 @@ pub record IsSound (c : CatalogEntries) : Type 0 where
   pub apart : AreApart (regions_of c)
   pub distinct : AreDistinct (names_in c.modules)
 
--- want of memory, or more than seven region lines of one name
+-- out of memory, or more than seven region lines of one name
 abbrev pub IsBuildRefusal : List ListedRegion → Refusal → Type 0
 IsBuildRefusal regions e =
     (e ≡ OutOfMemory) ⊎ ((e ≡ TooManyRegions) × (are_few regions ≡ false))

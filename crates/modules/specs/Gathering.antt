@@ -18,17 +18,23 @@ use Rattle.modules.specs.declared.symbol_lines.Run.{Run}
 
 -- the symbol belongs to no accepted module other than that at this place
 abbrev pub BelongsOnlyAt : Accepted → ListedSymbol → ℕ → Type 0
-BelongsOnlyAt a s place = (j : ℕ) (m : PlacedModule) → j < length a.modules → j ≢ place → belongs (slice_index_or a.modules j m) s ≡ false
+BelongsOnlyAt a s place =
+    (j : ℕ) (m : PlacedModule) → j < length a.modules → j ≢ place
+    → belongs (slice_index_or a.modules j m) s ≡ false
 
 -- whose symbols the lines of a module of this name are
 abbrev pub owner_for : Accepted → Option (List ℕ) → Owner
 owner_for a None = owner.BuiltIn
-owner_for a (Some name) = option_map_or (λ place. owner.Module place) (position_from (bytes_eq name) 0 (names_of a.modules)) owner.Nobody
+owner_for a (Some name) =
+    option_map_or (λ place. owner.Module place)
+    (position_from (bytes_eq name) 0 (names_of a.modules))
+    owner.Nobody
 
 -- a symbol of this owner is kept at this address
 abbrev pub lies_for : Accepted → Owner → ℕ → Bool
 lies_for a owner.BuiltIn addr = option_map_or (λ r. holds r addr) a.built_in false
-lies_for a (owner.Module place) addr = option_map_or (λ m. lies_in m addr) (slice_get a.modules place) false
+lies_for a (owner.Module place) addr =
+    option_map_or (λ m. lies_in m addr) (slice_get a.modules place) false
 lies_for a owner.Nobody addr = false
 
 -- there is a list for the owner
@@ -39,19 +45,26 @@ HasRoom g owner.Nobody = Unit {0}
 
 -- the lists of all modules but that at the place are as they were
 abbrev pub OthersStay : ℕ → Gathered → Gathered → Type 0
-OthersStay place g h = (j : ℕ) (d : Vec SymbolEntry) → j ≢ place → slice_index_or h.modules.items j d ≡ slice_index_or g.modules.items j d
+OthersStay place g h =
+    (j : ℕ) (d : Vec SymbolEntry) → j ≢ place
+    → slice_index_or h.modules.items j d ≡ slice_index_or g.modules.items j d
 
 -- the list at the place has these symbols more
 abbrev pub Grows : ℕ → List SymbolEntry → Gathered → Gathered → Type 0
-Grows place kept g h = (d : Vec SymbolEntry) → (slice_index_or h.modules.items place d).items ≡ (slice_index_or g.modules.items place d).items ++ kept
+Grows place kept g h =
+    (d : Vec SymbolEntry)
+    → (slice_index_or h.modules.items place d).items
+    ≡ (slice_index_or g.modules.items place d).items ++ kept
 
 -- the list of the owner has these symbols more, and the other lists are as they were
 abbrev pub Keeps : Owner → List SymbolEntry → Gathered → Gathered → Type 0
-Keeps owner.BuiltIn kept g h = (h.built_in.items ≡ g.built_in.items ++ kept) × (h.modules.items ≡ g.modules.items)
+Keeps owner.BuiltIn kept g h =
+    (h.built_in.items ≡ g.built_in.items ++ kept) × (h.modules.items ≡ g.modules.items)
 Keeps (owner.Module place) kept g h =
     (h.built_in.items ≡ g.built_in.items) × (length h.modules.items ≡ length g.modules.items)
     × Grows place kept g h × OthersStay place g h
-Keeps owner.Nobody kept g h = (h.built_in.items ≡ g.built_in.items) × (h.modules.items ≡ g.modules.items)
+Keeps owner.Nobody kept g h =
+    (h.built_in.items ≡ g.built_in.items) × (h.modules.items ≡ g.modules.items)
 
 -- the counts are as they were
 abbrev pub CountsStay : Gathered → Gathered → Type 0
@@ -71,7 +84,8 @@ pub record KeepsRun (a : Accepted) (r : Run) (g h : Gathered) : Type 0 where
 pub record IsEmptyFor (modules : ℕ) (g : Gathered) : Type 0 where
   pub built_in : g.built_in.items ≡ []
   pub lists : length g.modules.items ≡ modules
-  pub each : (j : ℕ) (d : Vec SymbolEntry) → j < modules → (slice_index_or g.modules.items j d).items ≡ []
+  pub each : (j : ℕ) (d : Vec SymbolEntry) → j < modules
+      → (slice_index_or g.modules.items j d).items ≡ []
   pub kept : g.kept ≡ 0
   pub stray : g.stray ≡ 0
 
@@ -79,6 +93,8 @@ pub record IsEmptyFor (modules : ℕ) (g : Gathered) : Type 0 where
 pub record Gathers (a : Accepted) (symbols : List ListedSymbol) (g : Gathered) : Type 0 where
   pub built_in : g.built_in.items ≡ symbols_that (is_built_in a.built_in) symbols
   pub lists : length g.modules.items ≡ length a.modules
-  pub each : (j : ℕ) (d : Vec SymbolEntry) (m : PlacedModule) → j < length a.modules → (slice_index_or g.modules.items j d).items ≡ symbols_that (belongs (slice_index_or a.modules j m)) symbols
+  pub each : (j : ℕ) (d : Vec SymbolEntry) (m : PlacedModule) → j < length a.modules
+      → (slice_index_or g.modules.items j d).items
+      ≡ symbols_that (belongs (slice_index_or a.modules j m)) symbols
   pub kept : g.kept ≡ count_by (is_kept a) symbols
   pub stray : g.stray ≡ count_by (λ s. not (is_kept a s)) symbols

@@ -7,7 +7,7 @@ use Rattle.std.specs.Ordering.{nat_cmp, is_lt}
 use Rattle.modules.specs.Listed.{ListedRegion}
 use Rattle.modules.specs.Placed.{lines_named}
 
--- the lines behind the references
+-- the lines that are referred to
 abbrev pub lines_at : List (Bor ListedRegion) → List ListedRegion
 lines_at index = map (λ l. l.now) index
 
@@ -21,7 +21,9 @@ pub record IsGrouped (regions : List ListedRegion) (index : List (Bor ListedRegi
   pub listed : (name : List ℕ) → lines_named name (lines_at index) ≡ lines_named name regions
 
 -- the lines below the place pass, and the others do not
-pub record IsCut (passes : Bor ListedRegion → Bool) (index : List (Bor ListedRegion)) (place : ℕ) : Type 0 where
+pub record IsCut (passes : Bor ListedRegion → Bool) (index : List (Bor ListedRegion))
+    (place : ℕ) : Type 0 where
   pub bound : place ≤ length index
   pub below : (k : ℕ) (d : Bor ListedRegion) → k < place → passes (slice_index_or index k d) ≡ true
-  pub others : (k : ℕ) (d : Bor ListedRegion) → place ≤ k → k < length index → passes (slice_index_or index k d) ≡ false
+  pub others : (k : ℕ) (d : Bor ListedRegion) → place ≤ k → k < length index
+      → passes (slice_index_or index k d) ≡ false

@@ -39,4 +39,5 @@ symbols_that passes symbols = map entry_of (filter passes symbols)
 
 -- a region line of an accepted module that has a core line
 abbrev pub is_used : Accepted → List ListedRegion → ListedRegion → Bool
-is_used a regions r = list_any (bytes_eq r.name) (names_of a.modules) && has_core (lines_named r.name regions)
+is_used a regions r =
+    list_any (bytes_eq r.name) (names_of a.modules) && has_core (lines_named r.name regions)

@@ -41,5 +41,7 @@ pub mod Modules
 pub mod Catalogs
 -- what a load, an unload, and the end of a module's start change
 pub mod Loads
+-- an item for each region of a catalog
+pub mod Items
 -- what a catalog keeps
 pub mod Sound

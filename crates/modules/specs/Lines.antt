@@ -25,14 +25,17 @@ bounds_of l = (l.base, l.base + l.size)
 
 -- the address of the first line without a module that has this name
 abbrev pub first_address : List ℕ → List ListedSymbol → Option ℕ
-first_address name lines = option_map (λ l. l.addr) (find (λ l. is_none l.owner && bytes_eq l.name name) lines)
+first_address name lines =
+    option_map (λ l. l.addr) (find (λ l. is_none l.owner && bytes_eq l.name name) lines)
 
 -- from the first symbol of the one name up to the first of the other, where both are there in this
 -- order
 abbrev pub built_in_region : BoundNames → List ListedSymbol → Option (ℕ × ℕ)
 built_in_region names lines =
     option_and_then
-    (λ start. option_and_then (λ end. if nat_lt start end then Some (start, end) else None) (first_address names.end lines))
+    (λ start. option_and_then
+    (λ end. if nat_lt start end then Some (start, end) else None)
+    (first_address names.end lines))
     (first_address names.start lines)
 
 -- the names where none are given

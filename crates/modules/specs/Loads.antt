@@ -1,5 +1,5 @@
 -- What a load, an unload, and the end of a module's start change.
-use Rattle.std.specs.Prelude.{◌≡◌, ℕ, Bool, true, false, ◌&&◌, ◌||◌, ◌⊎◌, not, nat_eq, length, if◌then◌else◌, List, [], ◌∷◌, map, Option, Some, None, Result, Ok, Err}
+use Rattle.std.specs.Prelude.{◌≡◌, ℕ, Bool, true, false, ◌&&◌, ◌⊎◌, not, nat_eq, length, if◌then◌else◌, List, [], ◌∷◌, map, Result, Ok, Err}
 use Rattle.std.specs.List.{list_any}
 use Rattle.std.specs.Option.{option_map_or}
 use Rattle.std.specs.Str.{bytes_eq}
@@ -29,18 +29,23 @@ item_of number r = record { a = r.0; b = r.1; tag = number }
 
 -- all regions of a module that is not held are put in
 abbrev pub loaded : ℕ → Held → ModuleEntry → Result Update Refusal
-loaded number held m = if held.core then Err AlreadyLoaded else Ok (update_of [] (map (item_of number) m.regions))
+loaded number held m =
+    if held.core then Err AlreadyLoaded else Ok (update_of [] (map (item_of number) m.regions))
 
 -- of a module that is held the core regions are taken out, and the init regions where they are held
 abbrev pub unloaded : Held → ModuleEntry → Result Update Refusal
 unloaded held m =
-    if held.core then Ok (update_of (starts_of true held.init m.regions m.parts) []) else Err NotLoaded
+    if held.core then Ok (update_of (starts_of true held.init m.regions m.parts) [])
+    else Err NotLoaded
 
 -- of a module that is held with init regions these are taken out
 abbrev pub init_dropped : Held → ModuleEntry → Result Update Refusal
 init_dropped held m =
     if held.core
-    then (if held.init && list_any is_init m.parts then Ok (update_of (starts_of false true m.regions m.parts) []) else Err NoInit)
+    then
+    (if held.init && list_any is_init m.parts
+    then Ok (update_of (starts_of false true m.regions m.parts) [])
+    else Err NoInit)
     else Err NotLoaded
 
 abbrev pub load_of : CatalogEntries → ℕ → Held → Result Update Refusal
@@ -50,7 +55,8 @@ abbrev pub unload_of : CatalogEntries → ℕ → Held → Result Update Refusal
 unload_of c number held = option_map_or (unloaded held) (module_of c number) (Err UnknownModule)
 
 abbrev pub drop_init_of : CatalogEntries → ℕ → Held → Result Update Refusal
-drop_init_of c number held = option_map_or (init_dropped held) (module_of c number) (Err UnknownModule)
+drop_init_of c number held =
+    option_map_or (init_dropped held) (module_of c number) (Err UnknownModule)
 
 -- a batch takes memory; nothing else does
 abbrev pub TakesMemory : Result Update Refusal → Type 0
@@ -59,7 +65,7 @@ TakesMemory (Ok (Erase a)) = ⊥
 TakesMemory (Ok (Batch erase insert)) = Unit {0}
 TakesMemory (Err e) = ⊥
 
--- what is asked for, or want of memory in place of a batch
+-- what is asked for, or out of memory in place of a batch
 abbrev pub GivesOrLacksMemory : Result Update Refusal → Result Update Refusal → Type 0
 GivesOrLacksMemory asked given = (given ≡ asked) ⊎ ((given ≡ Err OutOfMemory) × TakesMemory asked)
 
@@ -83,7 +89,8 @@ same_items number (r ∷ rs) (i ∷ is) =
 abbrev pub is_erasing : List ℕ → Update → Bool
 is_erasing starts (Insert i) = false
 is_erasing starts (Erase a) = bytes_eq starts (a ∷ [])
-is_erasing starts (Batch erase insert) = not (nat_eq (length starts) 1) && none_left insert && bytes_eq starts erase
+is_erasing starts (Batch erase insert) =
+    not (nat_eq (length starts) 1) && none_left insert && bytes_eq starts erase
 
 -- the update puts in the items of these regions, and does nothing else
 abbrev pub is_inserting : ℕ → List (ℕ × ℕ) → Update → Bool

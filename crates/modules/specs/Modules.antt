@@ -6,7 +6,12 @@ use Rattle.modules.specs.Placed.{IsPlaced}
 use Rattle.modules.specs.declared.module.Module.TheInside.{Inside}
 
 abbrev pub shown : Inside → ModuleEntry
-shown m = record { name = m.name.now; regions = m.regions.items; parts = m.parts.items; symbols = m.symbols.items }
+shown m = record {
+  name = m.name.now;
+  regions = m.regions.items;
+  parts = m.parts.items;
+  symbols = m.symbols.items;
+}
 
 -- it has regions of its core, and its symbols can be searched
 pub record IsWhole (m : Inside) : Type 0 where

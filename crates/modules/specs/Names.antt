@@ -12,7 +12,8 @@ names_in modules = map (λ m. m.name) modules
 
 -- the name at one place is less than that at another
 abbrev pub is_less : List (List ℕ) → ℕ → ℕ → Bool
-is_less names i j = is_lt (slice_cmp nat_cmp (slice_index_or names i []) (slice_index_or names j []))
+is_less names i j =
+    is_lt (slice_cmp nat_cmp (slice_index_or names i []) (slice_index_or names j []))
 
 -- the places of the names in the order of the names
 pub record IsNameIndex (names : List (List ℕ)) (index : List ℕ) : Type 0 where

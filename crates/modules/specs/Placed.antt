@@ -32,7 +32,11 @@ placed_alone line = record { name = line.name; regions = region_of line ∷ []; 
 
 -- a module that lies where region lines say
 abbrev pub placed_by : List ListedRegion → ListedModule → PlacedModule
-placed_by lines line = record { name = line.name; regions = map bounds_of lines; parts = map (λ r. r.part) lines }
+placed_by lines line = record {
+  name = line.name;
+  regions = map bounds_of lines;
+  parts = map (λ r. r.part) lines;
+}
 
 -- a module lies where the region lines of its name say, if one of them is of a core region
 abbrev pub placed_with : List ListedRegion → ListedModule → PlacedModule

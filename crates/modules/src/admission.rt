@@ -1,16 +1,16 @@
 //! Which lines of the listing of modules are accepted.
 
-ghost use Rattle.std.specs.Prelude.{◌≡◌, ℕ, Bool, ◌+◌, ◌<◌, ◌^◌, ◌&&◌, true, All, IfSome, IfOk, OnOk};
+ghost use Rattle.std.specs.Prelude.{◌≡◌, ℕ, Bool, ◌+◌, ◌<◌, ◌^◌, ◌&&◌, true, All, IfOk, OnOk};
 ghost use Rattle.std.specs.List.{list_all};
 ghost use Rattle.modules.specs.Lines.{fits, region_fits};
 ghost use Rattle.modules.specs.Accepted.{none_yet, after_module, accepted_of};
 ghost use Rattle.modules.specs.Admissions.{shown, IsTied};
-ghost use Rattle.modules.specs.Placed.{are_few, IsPlaced};
+ghost use Rattle.modules.specs.Placed.{are_few};
 ghost use Rattle.modules.specs.Regions.{is_apart, are_beside, lie_apart};
 
-use crate::lines::{ModuleLine, Region};
+use crate::lines::ModuleLine;
 use crate::placing::{Placed, RegionLines};
-use crate::regions::Regions;
+use crate::regions::{Region, Regions};
 use std::alloc::{AllocError, Global};
 use std::collections::BTreeMap;
 
@@ -31,18 +31,11 @@ pub(crate) struct Admission<'a> {
     pub(crate) overlap: u64,
 }
 
-/// Whether no address lies in both regions.
-fn is_apart(r: Region, s: Region) -> bool
-    ensures { result ≡ is_apart r s }
-{
-    r.1 <= s.0 || s.1 <= r.0
-}
-
 /// Whether no address lies in the region and in one of the others.
 fn is_apart_from(region: Region, others: &[Region]) -> bool
     ensures { result ≡ list_all (is_apart region) others.now }
 {
-    others.iter().all(|other| is_apart(region, *other))
+    others.iter().all(|other| region.is_apart(*other))
 }
 
 /// Whether no two of the regions have an address in common.
@@ -57,17 +50,13 @@ fn lie_apart(regions: &[Region]) -> bool
 
 /// Whether no address lies in one of these regions and in one that is taken.
 fn are_beside(taken: &Regions, regions: &[Region]) -> bool
-    requires { All (λ r. r.0 < r.1) regions.now }
     ensures { result ≡ are_beside taken.now regions.now }
 {
-    regions
-        .iter()
-        .all(|region| taken.is_apart(region.0, region.1))
+    regions.iter().all(|region| taken.is_apart(*region))
 }
 
 /// Whether the regions lie apart from each other and from those that are taken.
 fn are_free(taken: &Regions, regions: &[Region]) -> bool
-    requires { All (λ r. r.0 < r.1) regions.now }
     ensures { result ≡ (lie_apart regions.now && are_beside taken.now regions.now) }
 {
     lie_apart(regions) && are_beside(taken, regions)
@@ -75,26 +64,25 @@ fn are_free(taken: &Regions, regions: &[Region]) -> bool
 
 /// Takes the regions in, each after the others.
 fn take_all(taken: &mut Regions, regions: &[Region]) -> Result<(), AllocError>
-    requires valid { All (λ r. r.0 < r.1) regions.now }
     requires apart { lie_apart regions.now ≡ true }
     requires beside { are_beside taken.old regions.now ≡ true }
-    ensures { OnOk result ((p : ℕ × ℕ → Bool) → list_all p taken.new ≡ (list_all p taken.old && list_all p regions.now)) }
+    ensures { OnOk result ((p : ℕ × ℕ → Bool)
+        → list_all p taken.new ≡ (list_all p taken.old && list_all p regions.now)) }
 {
     for region in regions {
-        taken.insert(region.0, region.1)?;
+        taken.insert(*region)?;
     }
     Ok(())
 }
 
 impl<'a> Admission<'a> {
     fn new(alloc: Global, built_in: Option<Region>) -> Result<Admission<'a>, AllocError>
-        requires { IfSome built_in (λ r. r.0 < r.1) }
         ensures none { IfOk result (λ a. shown a ≡ none_yet built_in) }
         ensures tied { IfOk result IsTied }
     {
         let mut taken = Regions::new(alloc);
-        if let Some((start, end)) = built_in {
-            taken.insert(start, end)?;
+        if let Some(region) = built_in {
+            taken.insert(region)?;
         }
         Ok(Admission {
             built_in,
@@ -108,7 +96,6 @@ impl<'a> Admission<'a> {
 
     /// Accepts the module, or counts why it is not accepted.
     fn take_module(&mut self, placed: Placed<'a>) -> Result<(), AllocError>
-        requires placed { IsPlaced placed }
         requires tied { IsTied self.old }
         requires counts { self.old.double + self.old.overlap + 1 < 2 ^ 64 }
         ensures after { OnOk result (shown self.new ≡ after_module (shown self.old) placed.entry) }
@@ -140,7 +127,6 @@ pub(crate) fn admit<'a>(
     requires fit { All (λ l. fits l ≡ true) lines.now }
     requires regions_fit { All (λ l. region_fits l ≡ true) regions.now }
     requires few { are_few regions.now ≡ true }
-    requires region { IfSome built_in (λ r. r.0 < r.1) }
     ensures admitted { IfOk result (λ a. shown a ≡ accepted_of built_in regions.now lines.now) }
     ensures tied { IfOk result IsTied }
 {

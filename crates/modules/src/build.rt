@@ -13,10 +13,11 @@ ghost use Rattle.modules.specs.Placed.{are_few, IsPlaced};
 use crate::admission::{Admission, admit};
 use crate::catalog::{BuildCounts, Catalog};
 use crate::gathering::gather;
-use crate::lines::{KernelBounds, ModuleLine, Region, RegionLine};
+use crate::lines::{KernelBounds, ModuleLine, RegionLine};
 use crate::module::Module;
 use crate::names::by_name;
 use crate::placing::{Placed, RegionLines};
+use crate::regions::Region;
 use crate::symbol_lines::{SymbolLines, built_in_region};
 use crate::symbols::Symbol;
 use std::alloc::{AllocError, Global};
@@ -56,7 +57,8 @@ fn modules_from<'a>(
 
 /// How many regions the kernel itself and the modules have.
 fn regions_in(built_in: Option<&Module>, modules: &[Module]) -> usize
-    ensures { result ≡ from_bool (is_some built_in.entry) + length (flat_map (λ m. m.regions) modules.now) }
+    ensures { result
+        ≡ from_bool (is_some built_in.entry) + length (flat_map (λ m. m.regions) modules.now) }
 {
     let mut count = usize::from(built_in.is_some());
     for module in modules {
@@ -96,8 +98,10 @@ pub(crate) fn assemble<'a>(
     requires fit { All (λ l. fits l ≡ true) modules.now }
     requires regions_fit { All (λ l. region_fits l ≡ true) regions.now }
     requires few { are_few regions.now ≡ true }
-    ensures built { IfOk result (λ r. r.0 ≡ catalog_of names.now modules.now regions.now symbols.entry) }
-    ensures counted { IfOk result (λ r. r.1 ≡ counts_of names.now modules.now regions.now symbols.entry) }
+    ensures built { IfOk result
+        (λ r. r.0 ≡ catalog_of names.now modules.now regions.now symbols.entry) }
+    ensures counted { IfOk result
+        (λ r. r.1 ≡ counts_of names.now modules.now regions.now symbols.entry) }
     ensures sound { IfOk result (λ r. IsSound r.0) }
 {
     let built_in = built_in_region(&symbols, names);

@@ -82,8 +82,10 @@ impl<'a> Catalog<'a> {
         symbols: SymbolLines<'a>,
     ) -> Result<(Catalog<'a>, BuildCounts), Refusal>
         requires { All (λ l. fits l ≡ true) modules.now }
-        ensures built { IfOk result (λ r. r.0 ≡ catalog_of usual_bounds modules.now [] symbols.entry) }
-        ensures counted { IfOk result (λ r. r.1 ≡ counts_of usual_bounds modules.now [] symbols.entry) }
+        ensures built { IfOk result
+            (λ r. r.0 ≡ catalog_of usual_bounds modules.now [] symbols.entry) }
+        ensures counted { IfOk result
+            (λ r. r.1 ≡ counts_of usual_bounds modules.now [] symbols.entry) }
         ensures sound { IfOk result (λ r. IsSound r.0) }
         ensures refused { IfErr result (λ e. e ≡ Refusal.OutOfMemory) }
     {
@@ -101,8 +103,10 @@ impl<'a> Catalog<'a> {
     ) -> Result<(Catalog<'a>, BuildCounts), Refusal>
         requires fit { All (λ l. fits l ≡ true) modules.now }
         requires regions_fit { All (λ l. region_fits l ≡ true) regions.now }
-        ensures built { IfOk result (λ r. r.0 ≡ catalog_of usual_bounds modules.now regions.now symbols.entry) }
-        ensures counted { IfOk result (λ r. r.1 ≡ counts_of usual_bounds modules.now regions.now symbols.entry) }
+        ensures built { IfOk result
+            (λ r. r.0 ≡ catalog_of usual_bounds modules.now regions.now symbols.entry) }
+        ensures counted { IfOk result
+            (λ r. r.1 ≡ counts_of usual_bounds modules.now regions.now symbols.entry) }
         ensures sound { IfOk result (λ r. IsSound r.0) }
         ensures few { IfOk result (λ _. are_few regions.now ≡ true) }
         ensures refused { IfErr result (IsBuildRefusal regions.now) }
@@ -134,8 +138,10 @@ impl<'a> Catalog<'a> {
     ) -> Result<(Catalog<'a>, BuildCounts), Refusal>
         requires fit { All (λ l. fits l ≡ true) modules.now }
         requires regions_fit { All (λ l. region_fits l ≡ true) regions.now }
-        ensures built { IfOk result (λ r. r.0 ≡ catalog_of names.now modules.now regions.now symbols.entry) }
-        ensures counted { IfOk result (λ r. r.1 ≡ counts_of names.now modules.now regions.now symbols.entry) }
+        ensures built { IfOk result
+            (λ r. r.0 ≡ catalog_of names.now modules.now regions.now symbols.entry) }
+        ensures counted { IfOk result
+            (λ r. r.1 ≡ counts_of names.now modules.now regions.now symbols.entry) }
         ensures sound { IfOk result (λ r. IsSound r.0) }
         ensures few { IfOk result (λ _. are_few regions.now ≡ true) }
         ensures refused { IfErr result (IsBuildRefusal regions.now) }

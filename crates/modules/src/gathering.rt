@@ -66,7 +66,7 @@ impl<'a> Gathered<'a> {
         })
     }
 
-    /// Puts symbols behind those of their owner.
+    /// Puts symbols after those of their owner.
     fn put(&mut self, owner: Owner, symbols: Vec<Symbol<'a>>) -> Result<(), AllocError>
         requires room { HasRoom self.old owner }
         ensures lists { OnOk result (Keeps owner symbols.entry.items self.old self.new) }
@@ -98,7 +98,7 @@ impl<'a> Gathered<'a> {
     }
 }
 
-/// Puts symbols behind others. Where there are no others, the list is taken over as it is.
+/// Puts symbols after others. Where there are no others, the list is taken over as it is.
 fn join<'a>(list: &mut Vec<Symbol<'a>>, symbols: Vec<Symbol<'a>>) -> Result<(), AllocError>
     ensures { OnOk result (list.new.items ≡ list.old.items ++ symbols.entry.items) }
 {
@@ -130,7 +130,7 @@ fn lies_at(admission: &Admission, owner: Owner, addr: u64) -> bool
 {
     match owner {
         Owner::BuiltIn => match admission.built_in {
-            Some((start, end)) => start <= addr && addr < end,
+            Some(region) => region.holds(addr),
             None => false,
         },
         Owner::Module(place) => match admission.modules.get(place) {

@@ -8,26 +8,37 @@ ghost use Rattle.modules.specs.Placed.{are_few};
 
 /// Each line of each listing is counted once.
 pub fn each_line_is_counted_once()
-    ensures modules { (names : BoundNames) (modules : List ListedModule) (regions : List ListedRegion) (symbols : List ListedSymbol)
-        → let n = counts_of names modules regions symbols in n.modules + n.double + n.overlap ≡ length modules }
-    ensures regions { (names : BoundNames) (modules : List ListedModule) (regions : List ListedRegion) (symbols : List ListedSymbol)
-        → let n = counts_of names modules regions symbols in n.regions + n.stray_regions ≡ length regions }
-    ensures symbols { (names : BoundNames) (modules : List ListedModule) (regions : List ListedRegion) (symbols : List ListedSymbol)
-        → let n = counts_of names modules regions symbols in n.symbols + n.stray ≡ length symbols }
+    ensures modules { (names : BoundNames) (modules : List ListedModule)
+        (regions : List ListedRegion) (symbols : List ListedSymbol)
+        → let n = counts_of names modules regions symbols in
+        n.modules + n.double + n.overlap ≡ length modules }
+    ensures regions { (names : BoundNames) (modules : List ListedModule)
+        (regions : List ListedRegion) (symbols : List ListedSymbol)
+        → let n = counts_of names modules regions symbols in
+        n.regions + n.stray_regions ≡ length regions }
+    ensures symbols { (names : BoundNames) (modules : List ListedModule)
+        (regions : List ListedRegion) (symbols : List ListedSymbol)
+        → let n = counts_of names modules regions symbols in
+        n.symbols + n.stray ≡ length symbols }
 {}
 
 /// Each kept line is the symbol of one module: the modules have as many symbols as lines were kept.
 pub fn each_kept_line_is_in_one_module()
-    ensures { (names : BoundNames) (modules : List ListedModule) (regions : List ListedRegion) (symbols : List ListedSymbol)
-        → All (λ l. fits l ≡ true) modules → All (λ l. region_fits l ≡ true) regions → are_few regions ≡ true
+    ensures { (names : BoundNames) (modules : List ListedModule) (regions : List ListedRegion)
+        (symbols : List ListedSymbol)
+        → All (λ l. fits l ≡ true) modules → All (λ l. region_fits l ≡ true) regions
+        → are_few regions ≡ true
         → let c = catalog_of names modules regions symbols in
-        sum_by (λ m. length m.symbols) (entries_of c) ≡ (counts_of names modules regions symbols).symbols }
+        sum_by (λ m. length m.symbols) (entries_of c)
+        ≡ (counts_of names modules regions symbols).symbols }
 {}
 
 /// In the catalog of lines that fit, each module has 1 to 7 regions and one of its core, the
 /// regions have addresses and lie apart, and no two modules from number 1 on have one name.
 pub fn every_catalog_is_sound()
-    ensures { (names : BoundNames) (modules : List ListedModule) (regions : List ListedRegion) (symbols : List ListedSymbol)
-        → All (λ l. fits l ≡ true) modules → All (λ l. region_fits l ≡ true) regions → are_few regions ≡ true
+    ensures { (names : BoundNames) (modules : List ListedModule) (regions : List ListedRegion)
+        (symbols : List ListedSymbol)
+        → All (λ l. fits l ≡ true) modules → All (λ l. region_fits l ≡ true) regions
+        → are_few regions ≡ true
         → IsSound (catalog_of names modules regions symbols) }
 {}

@@ -16,8 +16,9 @@ pub mod symbol_lines;
 pub mod symbols;
 
 pub use catalog::{BuildCounts, Catalog, Held};
-pub use lines::{KernelBounds, ModuleLine, Part, Region, RegionLine, SymbolLine};
+pub use lines::{KernelBounds, ModuleLine, Part, RegionLine, SymbolLine};
 pub use module::{MOST_REGIONS, Module};
+pub use regions::Region;
 pub use symbol_lines::SymbolLines;
 pub use symbols::Symbol;
 

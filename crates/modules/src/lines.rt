@@ -4,10 +4,8 @@ ghost use Rattle.std.specs.Prelude.{◌≡◌, true};
 ghost use Rattle.modules.specs.Lines.{fits, region_of, region_fits, bounds_of, is_region, usual_bounds};
 ghost use Rattle.modules.specs.Parts.{is_core, is_init, is_of};
 
+use crate::regions::Region;
 use std::marker::Model;
-
-/// A region's first address, and its end, which is excluded.
-pub type Region = (u64, u64);
 
 /// Whether there is a region of so many bytes at this address: at least one byte, not at 0, and
 /// none past the greatest `u64`.
@@ -50,7 +48,7 @@ impl<'a> ModuleLine<'a> {
         requires { fits self.now ≡ true }
         ensures { result ≡ region_of self.now }
     {
-        (self.base, self.base + self.size)
+        Region::new(self.base, self.base + self.size)
     }
 }
 
@@ -130,7 +128,7 @@ impl<'a> RegionLine<'a> {
         requires { region_fits self.now ≡ true }
         ensures { result ≡ bounds_of self.now }
     {
-        (self.base, self.base + self.size)
+        Region::new(self.base, self.base + self.size)
     }
 }
 
@@ -154,7 +152,12 @@ impl<'a> Model for SymbolLine<'a> {
 
     ghost Value = { ListedSymbol };
 
-    ghost view = { λ l. record { addr = l.addr; letter = l.letter; name = l.name.now; owner = option_copied l.module } };
+    ghost view = { λ l. record {
+      addr = l.addr;
+      letter = l.letter;
+      name = l.name.now;
+      owner = option_copied l.module;
+    } };
 }
 
 /// The names of the two symbols that bound the region of the kernel itself.

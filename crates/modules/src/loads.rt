@@ -9,8 +9,9 @@ ghost use Rattle.std.specs.Str.{bytes_eq};
 ghost use Rattle.modules.specs.Loads.{GivesOrLacksMemory, is_erasing, is_inserting, item_of, same_items, update_of};
 ghost use Rattle.modules.specs.Starts.{starts_of};
 
-use crate::lines::{Part, Region};
+use crate::lines::Part;
 use crate::module::MOST_REGIONS;
+use crate::regions::Region;
 use arrayvec::ArrayVec;
 use latch_core::{Entries, Update};
 use order_laws::{Item, Refusal};
@@ -21,8 +22,8 @@ pub(crate) fn item_of(region: Region, number: u64) -> Item
     ensures { result ≡ item_of number region }
 {
     Item {
-        a: region.0,
-        b: region.1,
+        a: region.start(),
+        b: region.end(),
         tag: number,
     }
 }
@@ -71,7 +72,7 @@ pub(crate) fn erasing(alloc: Global, starts: &[u64]) -> Result<Update, Refusal>
     })
 }
 
-/// Puts the address behind these where it is wanted.
+/// Puts the address after these where it is wanted.
 fn push_if(starts: &mut ArrayVec<u64, MOST_REGIONS>, wanted: bool, start: u64)
     requires { array_vec_len starts.old < 7 }
     ensures { starts.new.items ≡ starts.old.items ++ (if wanted then start ∷ [] else []) }
@@ -96,7 +97,7 @@ pub(crate) fn starts_of(
     let mut starts = ArrayVec::new();
     for (place, part) in parts.iter().enumerate() {
         let wanted = part.is_of(core, init);
-        push_if(&mut starts, wanted, regions[place].0);
+        push_if(&mut starts, wanted, regions[place].start());
     }
     starts
 }
@@ -132,8 +133,8 @@ fn same_items(regions: &[Region], number: u64, items: &[Item]) -> bool
         [region, regions @ ..] => match items {
             [] => false,
             [item, items @ ..] => {
-                item.a == region.0
-                    && item.b == region.1
+                item.a == region.start()
+                    && item.b == region.end()
                     && item.tag == number
                     && same_items(regions, number, items)
             }

@@ -10,9 +10,10 @@ ghost use Rattle.modules.specs.Parts.{is_core, is_init};
 ghost use Rattle.modules.specs.Placed.{IsPlaced};
 ghost use Rattle.modules.specs.Starts.{first_start, start_at, start_where, starts_of};
 
-use crate::lines::{Part, Region};
+use crate::lines::Part;
 use crate::loads::starts_of;
 use crate::placing::Placed;
+use crate::regions::Region;
 use crate::symbols::{
     IndexEntry, Symbol, around_as_listed, around_in_index, by_address, is_rising,
 };
@@ -89,7 +90,7 @@ fn first_init(parts: &[Part]) -> Option<usize>
 fn start_at(regions: &[Region], place: usize) -> Option<u64>
     ensures { result ≡ start_at regions.now place }
 {
-    regions.get(place).map(|region| region.0)
+    regions.get(place).map(|region| region.start())
 }
 
 fn core_start(regions: &[Region], parts: &[Part]) -> Option<u64>
@@ -138,7 +139,7 @@ impl<'a> Module<'a> {
         self.name
     }
 
-    /// The first address and the excluded end of each of its 1 to 7 regions, in order.
+    /// Its 1 to 7 regions, in order.
     pub fn regions(&self) -> &[Region]
         ensures regions { result.now ≡ self.now.regions }
         ensures placed { IsPlaced (place_of self.now) }

@@ -24,7 +24,8 @@ fn name_at<'a>(modules: &[Module<'a>], place: usize) -> &'a [u8]
 
 /// How the name at one place compares to that at another.
 fn compare_places(modules: &[Module], x: usize, y: usize) -> Ordering
-    ensures { result ≡ slice_cmp nat_cmp (slice_index_or (names_in modules.now) x []) (slice_index_or (names_in modules.now) y []) }
+    ensures { result ≡ slice_cmp nat_cmp (slice_index_or (names_in modules.now) x [])
+        (slice_index_or (names_in modules.now) y []) }
 {
     name_at(modules, x).cmp(name_at(modules, y))
 }

@@ -21,8 +21,9 @@ ghost use Rattle.modules.specs.Parts.{is_core};
 ghost use Rattle.modules.specs.Placed.{are_few, has_core, lines_named, placed};
 ghost use Rattle.modules.specs.declared.lines.Part.TheVariants.{Core};
 
-use crate::lines::{ModuleLine, Part, Region, RegionLine};
+use crate::lines::{ModuleLine, Part, RegionLine};
 use crate::module::MOST_REGIONS;
+use crate::regions::Region;
 use arrayvec::ArrayVec;
 use std::alloc::{AllocError, Global};
 use std::cmp::Ordering;
@@ -43,7 +44,11 @@ impl<'a> Model for Placed<'a> {
 
     ghost Value = { PlacedModule };
 
-    ghost view = { λ p. record { name = p.name.now; regions = p.regions.items; parts = p.parts.items } };
+    ghost view = { λ p. record {
+      name = p.name.now;
+      regions = p.regions.items;
+      parts = p.parts.items;
+    } };
 }
 
 impl<'a> Placed<'a> {
@@ -61,7 +66,7 @@ impl<'a> Placed<'a> {
         self.regions
             .as_slice()
             .iter()
-            .any(|(start, end)| *start <= addr && addr < *end)
+            .any(|region| region.holds(addr))
     }
 
     /// A module with one region, of its core.
@@ -83,7 +88,11 @@ impl<'a> Placed<'a> {
     fn in_lines(name: &'a [u8], lines: &[&RegionLine]) -> Placed<'a>
         requires few { length lines.now ≤ 7 }
         requires fit { All (λ l. region_fits l.now ≡ true) lines.now }
-        ensures { result ≡ record { name = name.now; regions = map bounds_of (lines_at lines.now); parts = map (λ l. l.part) (lines_at lines.now) } }
+        ensures { result ≡ record {
+          name = name.now;
+          regions = map bounds_of (lines_at lines.now);
+          parts = map (λ l. l.part) (lines_at lines.now);
+        } }
     {
         let mut regions = ArrayVec::new();
         let mut parts = ArrayVec::new();

@@ -15,7 +15,8 @@ ghost use Rattle.std.specs.Option.{option_copied, option_map};
 ghost use Rattle.std.specs.Str.{bytes_eq};
 ghost use Rattle.modules.specs.Runs.{lines_of, lines_of_all, one_line};
 
-use crate::lines::{KernelBounds, Region, SymbolLine};
+use crate::lines::{KernelBounds, SymbolLine};
+use crate::regions::Region;
 use crate::symbols::Symbol;
 use std::alloc::{AllocError, Global};
 use std::marker::Model;
@@ -56,17 +57,16 @@ impl<'a> Model for SymbolLines<'a> {
 
 impl<'a> Run<'a> {
     /// A run of one line.
-    fn of(
-        alloc: Global,
-        module: Option<&'a [u8]>,
-        symbol: Symbol<'a>,
-    ) -> Result<Run<'a>, AllocError>
+    fn of(alloc: Global, owner: Option<&'a [u8]>, symbol: Symbol<'a>) -> Result<Run<'a>, AllocError>
         ensures { IfOk result
-            (λ r. lines_of r ≡ one_line (option_copied module.entry) symbol.entry) }
+            (λ r. lines_of r ≡ one_line (option_copied owner.entry) symbol.entry) }
     {
         let mut symbols = Vec::with_capacity(alloc, 1)?;
         symbols.push(symbol)?;
-        Ok(Run { module, symbols })
+        Ok(Run {
+            module: owner,
+            symbols,
+        })
     }
 
     /// The address of its first symbol of this name, where it is of the kernel itself.
@@ -90,25 +90,25 @@ fn first_named(symbols: &[Symbol], name: &[u8]) -> Option<u64>
         .map(|symbol| symbol.addr)
 }
 
-/// Puts a symbol of this module behind all runs. An error leaves the lines as they were.
+/// Puts a symbol of this module after all runs. An error leaves the lines as they were.
 #[inline(always)]
 fn put_line<'a>(
     runs: &mut Vec<Run<'a>>,
     last: &mut Run<'a>,
-    module: Option<&'a [u8]>,
+    owner: Option<&'a [u8]>,
     symbol: Symbol<'a>,
 ) -> Result<(), AllocError>
     ensures pushed { OnOk result (lines_of_all (runs.new.items ++ last.new ∷ [])
         ≡ lines_of_all (runs.old.items ++ last.old ∷ [])
-        ++ one_line (option_copied module.entry) symbol.entry) }
+        ++ one_line (option_copied owner.entry) symbol.entry) }
     ensures err { OnErr result (lines_of_all (runs.new.items ++ last.new ∷ [])
         ≡ lines_of_all (runs.old.items ++ last.old ∷ [])) }
 {
-    if last.module == module {
+    if last.module == owner {
         last.symbols.push(symbol)?;
         return Ok(());
     }
-    let next = Run::of(*runs.allocator(), module, symbol)?;
+    let next = Run::of(*runs.allocator(), owner, symbol)?;
     runs.reserve(1)?;
     runs.push(mem::replace(last, next)).unwrap();
     Ok(())
@@ -137,7 +137,7 @@ impl<'a> SymbolLines<'a> {
         self.letters.len()
     }
 
-    /// Puts a line behind these. An error leaves these as they were.
+    /// Puts a line after these. An error leaves these as they were.
     #[inline(always)]
     pub fn push(&mut self, line: SymbolLine<'a>) -> Result<(), AllocError>
         ensures pushed { OnOk result (self.new ≡ self.old ++ line.entry ∷ []) }
@@ -183,7 +183,7 @@ pub(crate) fn built_in_region(lines: &SymbolLines, names: &KernelBounds) -> Opti
     let start = first_address(lines, names.start)?;
     let end = first_address(lines, names.end)?;
     if start < end {
-        Some((start, end))
+        Some(Region::new(start, end))
     } else {
         None
     }

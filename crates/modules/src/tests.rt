@@ -1,7 +1,8 @@
 //! Catalogs of small listings.
 
 use crate::{
-    BuildCounts, Catalog, Held, KernelBounds, ModuleLine, Part, RegionLine, SymbolLine, SymbolLines,
+    BuildCounts, Catalog, Held, KernelBounds, ModuleLine, Part, Region, RegionLine, SymbolLine,
+    SymbolLines,
 };
 use latch_core::{Entries, Update};
 use order_laws::{Item, Refusal};
@@ -154,7 +155,10 @@ fn numbers_and_names(rt: HostRuntime) -> Result<(), Fail> {
 fn the_parts_of_a_module(rt: HostRuntime) -> Result<(), Fail> {
     let (catalog, _) = a_module_and_the_kernel(&rt, rt.alloc())?;
     let ext4 = catalog.module(1).ok_or("no module 1")?;
-    assert_eq!(rt; ext4.regions(), [(FIRST, 0xffff_ffff_c000_1000)].as_slice());
+    assert_eq!(rt;
+        ext4.regions(),
+        [Region::new(FIRST, 0xffff_ffff_c000_1000)].as_slice()
+    );
     assert_eq!(rt; ext4.symbols().len(), 3);
     let second = &ext4.symbols()[1];
     assert_eq!(rt; second.name, b"ext4_b".as_slice());
@@ -315,9 +319,9 @@ fn a_module_of_several_regions(rt: HostRuntime) -> Result<(), Fail> {
     assert_eq!(rt;
         m.regions(),
         [
-            (M_CORE, M_CORE + 4096),
-            (M_DATA, M_DATA + 4096),
-            (M_INIT, M_INIT + 4096)
+            Region::new(M_CORE, M_CORE + 4096),
+            Region::new(M_DATA, M_DATA + 4096),
+            Region::new(M_INIT, M_INIT + 4096)
         ]
         .as_slice()
     );
@@ -396,7 +400,7 @@ fn stray_region_lines(rt: HostRuntime) -> Result<(), Fail> {
     };
     assert_eq!(rt; counts, expected);
     let n = catalog.module(2).ok_or("no module 2")?;
-    assert_eq!(rt; n.regions(), [(0x2000, 0x2100)].as_slice());
+    assert_eq!(rt; n.regions(), [Region::new(0x2000, 0x2100)].as_slice());
     assert_eq!(rt; n.starts(), (0x2000, None));
     Ok(())
 }
@@ -451,7 +455,7 @@ fn the_kernel_between_named_symbols(rt: HostRuntime) -> Result<(), Fail> {
     let (catalog, counts) = Catalog::build_between(alloc, &names, &[], &[], bounded)?;
     assert_eq!(rt;
         catalog.module(0).ok_or("no kernel")?.regions(),
-        [(0x1000, 0x2000)].as_slice()
+        [Region::new(0x1000, 0x2000)].as_slice()
     );
     assert_eq!(rt; (counts.symbols, counts.stray), (2, 1));
     let (usual, _) = Catalog::build(alloc, &[], lines(alloc, &symbols)?)?;

@@ -2,7 +2,6 @@
 use Rattle.std.proofs.Common.{◌≡◌, ℕ, zero, suc, ◌-◌, ◌<◌, ◌≤◌, ◌⊎◌, inl, inr, ⊎_elim, true, false, nat_le, List, length, map, get_or, Option, Some, None, refl, sym, ap, subst, ◌∙◌, arith, [], ◌∷◌}
 use Rattle.std.specs.Prelude.{Contains, All, IfSome}
 use Rattle.std.specs.List.{AllPairs}
-use Rattle.std.specs.List.Sorted.{IsPartitionPoint}
 use Rattle.std.specs.declared.cmp.Ordering.TheVariants.{Equal}
 use Rattle.std.proofs.lemmas.Bool.{cases_lt}
 use Rattle.std.proofs.lemmas.Bool.Decides.{nat_tests}
@@ -15,24 +14,11 @@ use Rattle.order_laws.specs.Tables.{IsLook, look}
 use Rattle.order_laws.proofs.TableLemmas.{look_is}
 use Rattle.modules.specs.Catalogs.{IsSound}
 use Rattle.modules.specs.Entries.{CatalogEntries}
+use Rattle.modules.specs.Items.{items_of}
 use Rattle.modules.specs.Regions.{is_apart}
+use Rattle.modules.proofs.Items.{all_regions, in_map, region_of}
 use Rattle.region_index.specs.Indexes.{IsIndexOf, IsSplit}
-use Rattle.region_index.specs.Items.{item_at, items_of}
-use Rattle.region_index.proofs.Regions.{all_regions, in_map, region_of}
-
-le_from_leb : (a b : ℕ) → nat_le a b ≡ true → a ≤ b
-le_from_leb a b h = grind (arith, nat_tests)
-
-lt_from_leb : (a b : ℕ) → nat_le a b ≡ false → b < a
-lt_from_leb a b h = grind (arith, nat_tests)
-
-pub IsSplit-from_partition : (items : List Item) (addr split : ℕ) → split ≤ length items → IsPartitionPoint (λ i. nat_le i.a addr ≡ true) (λ i. nat_le i.a addr ≡ false) items split → IsSplit items addr split
-IsSplit-from_partition items addr split bound point =
-    record {
-      bound = bound;
-      below = λ k d lt. le_from_leb (get_or items k d).a addr (point.0 k d (omega arith) lt);
-      above = λ k d le lt. lt_from_leb (get_or items k d).a addr (point.1 k d le lt);
-    }
+use Rattle.region_index.specs.Items.{item_at}
 
 equal_inside : (k : ℕ) (i : Item) → i.a ≤ k → k < i.b → half_open.comp k i ≡ Equal
 equal_inside k i le lt = grind (arith, nat_tests)

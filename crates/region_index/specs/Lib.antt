@@ -1,5 +1,5 @@
 -- The definitions of this crate, in the order in which to read them.
--- the items of a catalog, and the one that an address lies in
+-- the item of a catalog that an address lies in
 pub mod Items
 -- the list by rising first address
 pub mod Indexes

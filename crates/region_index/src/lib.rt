@@ -11,9 +11,10 @@
 
 ghost use Rattle.std.specs.Prelude.{◌≡◌, ◌≤◌, ◌<◌, ◌++◌, length, map, IfOk, IfSome};
 ghost use Rattle.std.specs.List.Sorted.{IsNonDecreasingBy};
+ghost use Rattle.modules.specs.Items.{items_at, items_below, items_of};
 ghost use Rattle.modules.specs.Loads.{item_of};
 ghost use Rattle.region_index.specs.Indexes.{IsSplit};
-ghost use Rattle.region_index.specs.Items.{item_at, items_at, items_below, items_of};
+ghost use Rattle.region_index.specs.Items.{item_at};
 
 use modules::{Catalog, Region};
 use order_laws::Item;
@@ -39,21 +40,22 @@ impl<'a> Model for IndexedCatalog<'a> {
     ghost invariant = { IsWhole };
 }
 
-/// Puts the items of a module's regions behind the others.
+/// Puts the items of a module's regions after the others.
 fn push_regions(items: &mut Vec<Item>, regions: &[Region], number: u64) -> Result<(), AllocError>
-    ensures { IfOk result (λ _. items.new.items ≡ items.old.items ++ map (item_of number) regions.now) }
+    ensures { IfOk result
+        (λ _. items.new.items ≡ items.old.items ++ map (item_of number) regions.now) }
 {
     for region in regions {
         items.push(Item {
-            a: region.0,
-            b: region.1,
+            a: region.start(),
+            b: region.end(),
             tag: number,
         })?;
     }
     Ok(())
 }
 
-/// Puts the items of the module of this number behind the others, if there is one.
+/// Puts the items of the module of this number after the others, if there is one.
 fn push_items(items: &mut Vec<Item>, catalog: &Catalog, number: u64) -> Result<(), AllocError>
     ensures { IfOk result (λ _. items.new.items ≡ items.old.items ++ items_at catalog.now number) }
 {
@@ -85,7 +87,7 @@ fn split_at(items: &[Item], addr: u64) -> usize
 
 impl<'a> IndexedCatalog<'a> {
     /// Indexes the regions of a catalog of so many modules, the kernel itself not counted. Refused
-    /// for want of memory alone.
+    /// only when out of memory.
     pub fn new(
         alloc: Global,
         catalog: Catalog<'a>,

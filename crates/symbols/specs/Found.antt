@@ -1,6 +1,5 @@
 -- The symbol that an address belongs to.
 use Rattle.std.specs.Prelude.{◌≡◌, ◌≢◌, ℕ, ◌-◌, ◌<◌, ◌≤◌, ◌⊎◌, All, Contains, List, filter, Option, Some, slice_get, slice_index_or, unwrap_or}
-use Rattle.std.specs.Borrow.{Bor}
 use Rattle.std.specs.Option.{option_map, option_and_then}
 use Rattle.order_laws.specs.declared.items.Item.{Item}
 use Rattle.modules.specs.Around.{symbol_below, address_above}
@@ -14,12 +13,13 @@ pub record Found : Type 0 where
   pub offset : ℕ
   pub size : ℕ
 
-abbrev pub seen : Bor SymbolEntry × ℕ × ℕ → Found
-seen f = record { symbol = f.0.now; offset = f.1; size = f.2 }
-
 -- the symbol reaches to the least address of a symbol above its own, or to the region's end
 abbrev pub found_at : List SymbolEntry → ℕ → ℕ → SymbolEntry → Found
-found_at symbols end addr s = record { symbol = s; offset = addr - s.addr; size = unwrap_or (address_above symbols s.addr) end - s.addr }
+found_at symbols end addr s = record {
+  symbol = s;
+  offset = addr - s.addr;
+  size = unwrap_or (address_above symbols s.addr) end - s.addr;
+}
 
 -- the symbols from an address up to an end that is excluded, in the order listed
 abbrev pub symbols_from : List SymbolEntry → ℕ → ℕ → List SymbolEntry
@@ -31,14 +31,18 @@ found_in symbols end addr = option_map (found_at symbols end addr) (symbol_below
 
 -- of the kept symbols of the item's module that lie in the item
 abbrev pub symbol_at : CatalogEntries → Item → ℕ → Option Found
-symbol_at c item addr = option_and_then (λ m. found_in (symbols_from m.symbols item.a item.b) item.b addr) (module_of c item.tag)
+symbol_at c item addr =
+    option_and_then
+    (λ m. found_in (symbols_from m.symbols item.a item.b) item.b addr)
+    (module_of c item.tag)
 
 -- the symbol reaches to the least address of a symbol above its own, or to the region's end where
 -- there is none
 abbrev pub Reaches : List SymbolEntry → ℕ → SymbolEntry → ℕ → Type 0
 Reaches symbols end s size =
     (All (λ t. t.addr ≤ s.addr) symbols × (size ≡ end - s.addr))
-    ⊎ ((t : SymbolEntry) × Contains symbols t × (s.addr < t.addr) × All (λ u. (u.addr ≤ s.addr) ⊎ (t.addr ≤ u.addr)) symbols × (size ≡ t.addr - s.addr))
+    ⊎ ((t : SymbolEntry) × Contains symbols t × (s.addr < t.addr)
+    × All (λ u. (u.addr ≤ s.addr) ⊎ (t.addr ≤ u.addr)) symbols × (size ≡ t.addr - s.addr))
 
 -- the symbol at a place, at or below the address, with none between them and none of its address at
 -- an earlier place
@@ -47,6 +51,7 @@ pub record IsFound (symbols : List SymbolEntry) (end addr : ℕ) (f : Found) : T
   pub listed : slice_get symbols place ≡ Some f.symbol
   pub below : f.symbol.addr ≤ addr
   pub nearest : All (λ s. (s.addr ≤ f.symbol.addr) ⊎ (addr < s.addr)) symbols
-  pub first : (k : ℕ) (d : SymbolEntry) → k < place → (slice_index_or symbols k d).addr ≢ f.symbol.addr
+  pub first : (k : ℕ) (d : SymbolEntry) → k < place
+      → (slice_index_or symbols k d).addr ≢ f.symbol.addr
   pub offset : f.offset ≡ addr - f.symbol.addr
   pub reaches : Reaches symbols end f.symbol f.size

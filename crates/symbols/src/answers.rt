@@ -4,28 +4,24 @@ ghost use Rattle.std.specs.Prelude.{◌≤◌, ◌<◌};
 ghost use Rattle.devices.specs.Exact.{Wrote};
 ghost use Rattle.symbols.specs.Answers.{answer_text, held_text, symbol_text, module_text};
 
-use crate::find::symbol_in;
+use crate::find::{FoundSymbol, symbol_in};
 use devices::{Counted, put, put_hexadecimal};
-use modules::{Catalog, Symbol};
+use modules::Catalog;
 use order_laws::Item;
 use std::io;
 use std::io::Write;
 
 /// Writes `NAME+0xOFFSET/0xSIZE`.
 #[tactic(auto, unfolding(crate::specs::Answers::symbol_text))]
-fn write_symbol<W: Write>(
-    writer: &mut Counted<W>,
-    symbol: &Symbol,
-    offset: u64,
-    size: u64,
-) -> io::Result<()>
-    ensures { Wrote W.contents writer.old writer.new result (symbol_text symbol.now offset size) }
+fn write_symbol<W: Write>(writer: &mut Counted<W>, found: &FoundSymbol) -> io::Result<()>
+    ensures { Wrote W.contents writer.old writer.new result (symbol_text found.now) }
 {
+    let symbol = found.symbol;
     put(writer, symbol.name)?;
     put(writer, b"+")?;
-    put_hexadecimal(writer, offset)?;
+    put_hexadecimal(writer, found.offset)?;
     put(writer, b"/")?;
-    put_hexadecimal(writer, size)
+    put_hexadecimal(writer, found.size)
 }
 
 /// Writes ` [MODULE]`, or nothing for number 0.
@@ -56,7 +52,7 @@ fn write_held<W: Write>(
         return put(writer, b"-");
     };
     match symbol_in(module, item.a, item.b, addr) {
-        Some((symbol, offset, size)) => write_symbol(writer, symbol, offset, size)?,
+        Some(found) => write_symbol(writer, &found)?,
         None if item.tag == 0 => return put(writer, b"-"),
         None => put(writer, b"?")?,
     }

@@ -9,5 +9,6 @@ ghost use Rattle.symbols.specs.Found.{IsFound, found_in};
 /// Nothing is found exactly where all symbols lie above the address.
 pub fn a_found_symbol_is_the_nearest()
     ensures { (symbols : List SymbolEntry) (end addr : ℕ)
-        → MatchOption (found_in symbols end addr) (All (λ s. addr < s.addr) symbols) (IsFound symbols end addr) }
+        → MatchOption (found_in symbols end addr) (All (λ s. addr < s.addr) symbols)
+        (IsFound symbols end addr) }
 {}

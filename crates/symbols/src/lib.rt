@@ -6,7 +6,7 @@ pub mod find;
 pub mod laws;
 
 pub use answers::write_answer;
-pub use find::symbol_of;
+pub use find::{FoundSymbol, symbol_of};
 
 #[cfg(test)]
 mod tests;

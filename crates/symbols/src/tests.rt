@@ -169,11 +169,10 @@ fn texts_within_a_region(rt: HostRuntime) -> Result<(), Fail> {
 #[test]
 fn symbols_of_addresses(rt: HostRuntime) -> Result<(), Fail> {
     let catalog = small_catalog(&rt, rt.alloc())?;
-    let (symbol, offset, size) = symbol_of(&catalog, EXT4, 0xffff_ffff_c000_0018).ok_or(
-        "no symbol",
-    )?;
+    let found = symbol_of(&catalog, EXT4, 0xffff_ffff_c000_0018).ok_or("no symbol")?;
+    let symbol = found.symbol;
     assert_eq!(rt; symbol.name, b"ext4_a".as_slice());
-    assert_eq!(rt; (offset, size), (0x8, 0x30));
+    assert_eq!(rt; (found.offset, found.size), (0x8, 0x30));
     assert!(rt; symbol_of(&catalog, EXT4, 0xffff_ffff_c000_0008).is_none());
     Ok(())
 }

@@ -32,7 +32,7 @@ fn text_bounds() -> KernelBounds<'static> {
     }
 }
 
-/// What the engine answers for a file of addresses and a listing of regions, and what it writes.
+/// What the engine returns for a file of addresses and a listing of regions, and what it writes.
 fn looked_up<A: Read + Drop>(
     alloc: Global,
     names: &KernelBounds<'_>,

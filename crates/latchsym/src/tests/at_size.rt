@@ -1,4 +1,4 @@
-//! Want of memory is not invented at some size: no contract can rule that out, so these runs do.
+//! Out of memory is not invented at some size: no contract can rule that out, so these runs do.
 ghost use Rattle.std.specs.Prelude.{◌<◌, ◌≤◌};
 
 use crate::tests::traced;
@@ -70,7 +70,7 @@ fn nothing_is_refused_at_size(rt: HostRuntime) -> Result<(), Fail> {
 /// The items of the largest batch, as many as a line has room for.
 const LARGEST_BATCH: u64 = 290;
 
-/// So many first words, each behind a blank.
+/// So many first words, each after a blank.
 fn first_words(alloc: Global, count: u64) -> Result<String, AllocError> {
     let mut words = String::new(alloc);
     for low in 1..=count {
@@ -79,7 +79,7 @@ fn first_words(alloc: Global, count: u64) -> Result<String, AllocError> {
     Ok(words)
 }
 
-/// So many items with this tag, each behind a blank.
+/// So many items with this tag, each after a blank.
 fn items(alloc: Global, count: u64, tag: u64) -> Result<String, AllocError>
     requires { count ≤ LARGEST_BATCH }
 {
@@ -91,7 +91,7 @@ fn items(alloc: Global, count: u64, tag: u64) -> Result<String, AllocError>
 }
 
 /// Batches of every size up to the largest, each of which takes the place of the one before it, and
-/// a lookup behind each.
+/// a lookup after each.
 fn batches_trace(alloc: Global) -> Result<String, AllocError> {
     let mut trace = String::from_str(alloc, "latchtrace 3 halfopen 1024\n")?;
     for size in 0..=LARGEST_BATCH {

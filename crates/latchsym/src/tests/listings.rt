@@ -43,7 +43,7 @@ fn readers_of<M, K>(modules: M, kallsyms: K) -> LookupReaders<M, K, &'static [u8
     }
 }
 
-/// What the engine answers for these readers, and what it writes.
+/// What the engine returns for these readers, and what it writes.
 fn answered<M: Read + Drop, K: Read + Drop, R: Read + Drop, A: Read + Drop>(
     alloc: Global,
     mut readers: LookupReaders<M, K, R, A>,
@@ -55,7 +55,7 @@ fn answered<M: Read + Drop, K: Read + Drop, R: Read + Drop, A: Read + Drop>(
     (answer, writer.into_inner())
 }
 
-/// What the engine answers for these listings, and what it writes.
+/// What the engine returns for these listings, and what it writes.
 fn looked_up(
     alloc: Global,
     modules: &[u8],
@@ -197,7 +197,7 @@ fn counts_add_up(alloc: Global, modules: &[u8], symbols: &[u8]) -> Result<bool, 
     Ok(answer.is_ok() && of_modules == lines_in(modules) && of_symbols == lines_in(symbols))
 }
 
-/// The number of lines; bytes behind the last line's end are one too.
+/// The number of lines; bytes after the last line's end are one too.
 fn lines_in(text: &[u8]) -> u64 {
     let mut lines = 0u64;
     let mut is_in_line = false;

@@ -20,7 +20,7 @@ const SYMBOLS: &[u8] = b"ffffffffc0000010 t ext4_a\t[ext4]\n\
 
 const SCRIPT: &[u8] = b"load 1 ext4\nload 1 ext4\nload 1 nfs\nlook 1 0xffffffffc0000018\n";
 
-/// What comes of [`SCRIPT`] where the lookup is before the load, and where it is behind it.
+/// What comes of [`SCRIPT`] where the lookup is before the load, and where it is after it.
 const BEFORE: &[u8] = b"refused 1 12 ext4\nrefused 1 11 nfs\n\
     1 0xffffffffc0000018 -> - gen 0\nchecked 1 wrong 0 seq 2 gen 1\n";
 
@@ -40,7 +40,7 @@ fn readers_of<S>(
     }
 }
 
-/// What the engine answers for these readers, and what it writes.
+/// What the engine returns for these readers, and what it writes.
 fn answered<
     T: Threads + Wait + Sync,
     M: Read + Drop,

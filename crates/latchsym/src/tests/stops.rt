@@ -24,7 +24,7 @@ fn stopped_trace(alloc: Global) -> Result<Vec<u8>, AllocError> {
     Ok(trace)
 }
 
-/// What a lookup of a key answers at a stop in this generation, but for its loads.
+/// What a lookup of a key returns at a stop in this generation, but for its loads.
 fn answer_at(generation: u64, key: u64) -> Option<&'static str> {
     match (generation, key) {
         (1, 0) => Some("1 0x3000 -> 9 gen 1 loads "),
@@ -45,7 +45,7 @@ fn loads_of(line: &str, answer: &str) -> Option<u64> {
         .ok()
 }
 
-/// Every lookup answers at its first attempt: the old table up to the second flip, the new one from
+/// Every lookup returns at its first attempt: the old table up to the second flip, the new one from
 /// it on.
 #[test]
 fn every_stop_has_one_table(rt: HostRuntime) -> Result<(), Fail> {

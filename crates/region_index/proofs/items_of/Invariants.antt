@@ -1,5 +1,5 @@
 use Rattle.std.proofs.Common.{◌≡◌}
-use Rattle.region_index.specs.Items.{items_below}
+use Rattle.modules.specs.Items.{items_below}
 use Rattle.region_index.proofs.items_of.Given as goal
 
 abbrev pub invariant-loop-number : goal.invariant-loop-number

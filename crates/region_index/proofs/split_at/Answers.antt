@@ -1,10 +1,10 @@
 use Rattle.std.proofs.Common.{nat_le, rules}
 use Rattle.std.proofs.lemmas.List.Sorted.{IsPartitionPoint-from_clause, IsPartitionedBy-leb}
 use Rattle.order_laws.specs.declared.items.Item.{Item}
-use Rattle.region_index.proofs.Finding.{IsSplit-from_partition}
+use Rattle.modules.proofs.Indexing.{IsSplitBy-from_partition}
 use Rattle.region_index.proofs.split_at.Goals as goal
 
 pub returns : goal.returns
 returns c =
-    IsSplit-from_partition c.args.items.now c.args.addr c.partition_point.result c.partition_point.ensures.bound
+    IsSplitBy-from_partition (λ (i : Item). i.a) c.args.items.now c.args.addr c.partition_point.result c.partition_point.ensures.bound
     (IsPartitionPoint-from_clause (λ (i : Item). nat_le i.a c.args.addr) c.args.items.now c.partition_point.result c.partition_point.ensures.partitioned (IsPartitionedBy-leb (λ (i : Item). i.a) c.args.items.now c.args.addr c.requires) (λ a r q k. search rules))

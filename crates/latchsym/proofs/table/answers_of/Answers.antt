@@ -1,6 +1,6 @@
 use Rattle.std.proofs.Common.{arith, rules, subst, sym}
 use Rattle.std.proofs.lemmas.Grind.{common_steps}
-use Rattle.latchsym.specs.CatalogTables.{items_of}
+use Rattle.modules.specs.Items.{items_of}
 use Rattle.latchsym.specs.LoadedWorlds.{IsRefusedFor}
 use Rattle.latchsym.proofs.table.answers_of.Goals as goal
 

@@ -1,5 +1,6 @@
 use Rattle.std.proofs.Common.{◌≡◌, map, take}
-use Rattle.latchsym.specs.CatalogTables.{answer_at, items_of}
+use Rattle.modules.specs.Items.{items_of}
+use Rattle.latchsym.specs.CatalogTables.{answer_at}
 use Rattle.latchsym.specs.LoadedWorlds.{Holds}
 use Rattle.latchsym.proofs.table.answers_of.Given as goal
 

@@ -7,7 +7,7 @@ use Rattle.modules.specs.Listed.{ListedSymbol}
 use Rattle.listing.proofs.Cutting.{cut_here, cut_nowhere}
 use Rattle.listing.proofs.symbol_listing.symbol_in_form.Goals as goal
 
--- the parts of a line before and behind its first tab
+-- the parts of a line before and after its first tab
 parts_at : (line : List ℕ) (tab : Option ℕ) (place : ℕ) → IsFirstByte (is_byte 9) line tab → tab ≡ Some place → cut_at 9 line ≡ Some (take place line, drop (place + 1) line)
 parts_at line tab place first is =
     let (low, found) = subst (λ t. IsFirstByte (is_byte 9) line t) is first in

@@ -1,21 +1,12 @@
-use Rattle.std.proofs.Common.{◌≡◌, ℕ, ◌+◌, List, take, sym, ap, subst, ◌∙◌}
+use Rattle.std.proofs.Common.{◌≡◌, ◌+◌, take, sym, ap, ◌∙◌}
 use Rattle.std.specs.Prelude.{fold}
 use Rattle.std.proofs.lemmas.List.Sums.{fold_more}
 use Rattle.modules.specs.Accepted.{Accepted, after_module, none_yet}
 use Rattle.modules.specs.Admissions.{shown}
-use Rattle.modules.specs.Lines.{fits}
 use Rattle.modules.specs.Listed.{ListedModule}
-use Rattle.modules.specs.Placed.{IsPlaced, PlacedModule, placed}
+use Rattle.modules.specs.Placed.{PlacedModule, placed}
 use Rattle.modules.proofs.Admitting.{total, total-after_module}
-use Rattle.modules.proofs.Lying.{IsPlaced-placed}
-use Rattle.modules.proofs.Soundness.{fold_placed}
 use Rattle.modules.proofs.admission.admit.Goals as goal
-
-pub take_module-requires-clause-placed : goal.take_module-requires-clause-placed
-take_module-requires-clause-placed c =
-    let line = c.line-item.result in
-    let fit : fits line ≡ _ = ap fits c.line-item.is ∙ c.requires.fit c.loop-line.line-index line c.loop-line-test.true in
-    subst IsPlaced (sym c.place.ensures) (IsPlaced-placed c.args.regions.now line fit c.requires.regions_fit c.requires.few)
 
 pub loop-line-preserved : goal.loop-line-preserved
 loop-line-preserved c =

@@ -1,7 +1,4 @@
-use Rattle.std.proofs.Common.{◌≡◌, Err, Ok, Result, rules}
-use Rattle.latch_core.specs.declared.updates.Update.{Update}
-use Rattle.order_laws.specs.declared.refusals.Refusal.{Refusal}
-use Rattle.order_laws.specs.declared.refusals.Refusal.TheVariants.{OutOfMemory}
+use Rattle.std.proofs.Common.{rules}
 use Rattle.modules.proofs.Loading.{many_given, many_lacks}
 use Rattle.modules.proofs.loads.inserting_many.Goals as goal
 

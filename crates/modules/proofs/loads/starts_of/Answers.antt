@@ -10,9 +10,21 @@ loop-place-preserved c =
     let regions = c.args.regions.now in
     let parts = c.args.parts.now in
     let place = c.loop-place.place in
-    let start : ℕ = (get_or regions place (0, 0)).0 in
+    let r : ℕ × ℕ = c.index-regions-place.result in
+    let start : ℕ = (get_or regions place r).0 in
+    let here : c.start.result ≡ start =
+    c.start.ensures ∙ ap (λ (x : ℕ × ℕ). x.0) c.index-regions-place.is in
     let done : List ℕ = starts_of c.args.core c.args.init (take place regions) (take place parts) in
+    let before : List ℕ = c.loop-place.starts.items in
+    let wanted = c.is_of-wanted.result in
     record {
-      starts = c.push_if.ensures ∙ ap (λ (xs : List ℕ). xs ++ cond c.is_of-wanted.result (start ∷ []) []) i.starts ∙ ap (λ b. done ++ cond b (start ∷ []) []) c.is_of-wanted.ensures ∙ sym (starts_more c.args.core c.args.init regions parts place (0, 0) Core (omega (arith, c.requires.same)) (omega arith));
-      few = let h = ap (λ (xs : List ℕ). length xs) c.push_if.ensures in let k : length (c.loop-place.starts.items ++ cond c.is_of-wanted.result (start ∷ []) []) ≤ length c.loop-place.starts.items + 1 = length_more c.loop-place.starts.items c.is_of-wanted.result start in omega arith;
+      starts = c.push_if.ensures
+          ∙ ap (λ s. before ++ cond wanted (s ∷ []) []) here
+          ∙ ap (λ (xs : List ℕ). xs ++ cond wanted (start ∷ []) []) i.starts
+          ∙ ap (λ b. done ++ cond b (start ∷ []) []) c.is_of-wanted.ensures
+          ∙ sym (starts_more c.args.core c.args.init regions parts place r Core (omega (arith, c.requires.same)) (omega arith));
+      few = let h = ap (λ (xs : List ℕ). length xs) c.push_if.ensures in
+          let k : length (before ++ cond wanted (c.start.result ∷ []) []) ≤ length before + 1 =
+          length_more before wanted c.start.result in
+          omega arith;
     }

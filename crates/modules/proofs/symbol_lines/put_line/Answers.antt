@@ -9,8 +9,8 @@ pub returns-then-eq-clause-pushed : goal.returns-then-eq-clause-pushed
 returns-then-eq-clause-pushed c =
     let runs = c.args.runs.now.items in
     let last = c.args.last.now in
-    let more = lines_of-more last.module c.args.module last.symbols.items c.push.new.self.items c.args.symbol (same_owner last.module c.args.module (sym c.eq.ensures ∙ c.if-eq.true)) c.in_ok-push.ensures.items in
+    let more = lines_of-more last.module c.args.owner last.symbols.items c.push.new.self.items c.args.symbol (same_owner last.module c.args.owner (sym c.eq.ensures ∙ c.if-eq.true)) c.in_ok-push.ensures.items in
     lines_of_all-last runs (record last { symbols = c.push.new.self })
     ∙ ap (λ (ls : List ListedSymbol). lines_of_all runs ++ ls) more
-    ∙ sym (append_assoc (lines_of_all runs) (lines_of last) (unlettered (option_copied c.args.module) c.args.symbol ∷ []))
-    ∙ ap (λ (ls : List ListedSymbol). ls ++ unlettered (option_copied c.args.module) c.args.symbol ∷ []) (sym (lines_of_all-last runs last))
+    ∙ sym (append_assoc (lines_of_all runs) (lines_of last) (unlettered (option_copied c.args.owner) c.args.symbol ∷ []))
+    ∙ ap (λ (ls : List ListedSymbol). ls ++ unlettered (option_copied c.args.owner) c.args.symbol ∷ []) (sym (lines_of_all-last runs last))

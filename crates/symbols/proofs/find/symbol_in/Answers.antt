@@ -3,7 +3,7 @@ use Rattle.std.specs.Prelude.{unwrap_or}
 use Rattle.std.specs.Option.{option_copied, option_map}
 use Rattle.modules.specs.Around.{address_above, symbol_below}
 use Rattle.modules.specs.Entries.{SymbolEntry}
-use Rattle.symbols.specs.Found.{found_at, seen, symbols_from}
+use Rattle.symbols.specs.Found.{found_at, symbols_from}
 use Rattle.symbols.proofs.Nearest.{above_gt, below_le, found_is}
 use Rattle.symbols.proofs.Within.{before_within, none_within, reach_within, some_within}
 use Rattle.symbols.proofs.find.symbol_in.Goals as goal
@@ -16,7 +16,7 @@ returns-in_err-symbol c =
     let addr = c.args.addr in
     let below : symbol_below symbols addr ≡ None = sym c.around-above.ensures.below ∙ ap (λ (o : Option (Bor SymbolEntry)). option_copied o) c.in_err-symbol.was in
     let none : c.from_residual.result ≡ None = search rules in
-    ap (option_map seen) none ∙ sym (ap (option_map (found_at (symbols_from symbols start end) end addr)) (none_within symbols start end addr c.requires.from c.requires.below below))
+    none ∙ sym (ap (option_map (found_at (symbols_from symbols start end) end addr)) (none_within symbols start end addr c.requires.from c.requires.below below))
 
 pub returns-then-symbol-start : goal.returns-then-symbol-start
 returns-then-symbol-start c =

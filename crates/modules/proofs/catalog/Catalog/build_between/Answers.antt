@@ -1,8 +1,6 @@
-use Rattle.std.proofs.Common.{◌≡◌, List, ap, subst, ◌∙◌}
-use Rattle.std.specs.Prelude.{IfOk}
+use Rattle.std.proofs.Common.{List, ap, ◌∙◌}
 use Rattle.modules.specs.Catalogs.{counts_of}
-use Rattle.modules.specs.Lines.{usual_bounds}
-use Rattle.modules.specs.Listed.{BoundNames, ListedRegion}
+use Rattle.modules.specs.Listed.{ListedRegion}
 use Rattle.modules.proofs.catalog.Catalog.build_between.Goals as goal
 
 pub returns-clause-counted : goal.returns-clause-counted

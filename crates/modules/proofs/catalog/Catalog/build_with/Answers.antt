@@ -1,8 +1,7 @@
-use Rattle.std.proofs.Common.{◌≡◌, List, ap, subst, ◌∙◌}
+use Rattle.std.proofs.Common.{◌≡◌, subst}
 use Rattle.std.specs.Prelude.{IfOk}
 use Rattle.modules.specs.Catalogs.{catalog_of, counts_of}
-use Rattle.modules.specs.Lines.{usual_bounds}
-use Rattle.modules.specs.Listed.{BoundNames, ListedRegion}
+use Rattle.modules.specs.Listed.{BoundNames}
 use Rattle.modules.proofs.catalog.Catalog.build_with.Goals as goal
 
 pub returns-clause-counted : goal.returns-clause-counted

@@ -1,4 +1,4 @@
-use Rattle.std.proofs.Common.{◌≡◌, List, ◌∙◌, sym, subst}
+use Rattle.std.proofs.Common.{List, sym, subst}
 use Rattle.modules.specs.Entries.{SymbolEntry}
 use Rattle.modules.specs.Index.{IsIndex}
 use Rattle.modules.specs.declared.symbols.IndexEntry.{IndexEntry}

@@ -1,4 +1,4 @@
-use Rattle.std.proofs.Common.{◌≡◌, ℕ, ◌∙◌, List, None, sym, ap}
+use Rattle.std.proofs.Common.{ℕ, ◌∙◌, List, sym, ap}
 use Rattle.modules.specs.Modules.{shown}
 use Rattle.modules.specs.Parts.{is_core}
 use Rattle.modules.specs.Starts.{start_where}

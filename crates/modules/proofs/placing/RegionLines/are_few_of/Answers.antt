@@ -1,7 +1,6 @@
 use Rattle.std.proofs.Common.{◌≡◌, length, nat_le, sym, ap, ◌∙◌}
 use Rattle.std.specs.Borrow.{Bor}
 use Rattle.std.proofs.lemmas.List.{length-map}
-use Rattle.modules.specs.Grouped.{lines_at}
 use Rattle.modules.specs.Listed.{ListedRegion}
 use Rattle.modules.specs.Placed.{lines_named}
 use Rattle.modules.proofs.placing.RegionLines.are_few_of.Goals as goal

@@ -8,8 +8,8 @@ use Rattle.std.proofs.lemmas.Grind.{flat_map-append}
 use Rattle.order_laws.specs.declared.items.Item.{Item}
 use Rattle.modules.specs.Catalogs.{module_of, regions_of}
 use Rattle.modules.specs.Entries.{CatalogEntries, ModuleEntry}
+use Rattle.modules.specs.Items.{items_at, items_below, items_of}
 use Rattle.modules.specs.Loads.{item_of}
-use Rattle.region_index.specs.Items.{items_at, items_below, items_of}
 
 -- the region of an item
 abbrev pub region_of : Item → ℕ × ℕ
@@ -23,7 +23,7 @@ range_append a (suc k) m =
     ∙ ap (λ l. a ∷ l) (range_append (a + 1) k m)
     ∙ ap (λ n. a ∷ (range_with_len (a + 1) k ++ range_with_len n m)) (let e : a + 1 + k ≡ a + suc k = omega arith in e)
 
-from_nought : (k m : ℕ) → range_with_len 0 (k + m) ≡ range_with_len 0 k ++ range_with_len k m
+pub from_nought : (k m : ℕ) → range_with_len 0 (k + m) ≡ range_with_len 0 k ++ range_with_len k m
 from_nought k m = range_append 0 k m ∙ ap (λ n. range_with_len 0 k ++ range_with_len n m) (let e : 0 + k ≡ k = omega arith in e)
 
 pub one_number_more : (c : CatalogEntries) (k : ℕ) → items_below c (k + 1) ≡ items_below c k ++ items_at c k
