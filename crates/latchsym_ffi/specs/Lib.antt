@@ -13,3 +13,5 @@ pub mod Updates
 pub mod Lookups
 -- what the opening of a table gives
 pub mod Tables
+-- what the enlarging of a table gives
+pub mod Enlarging

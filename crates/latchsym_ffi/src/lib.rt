@@ -20,6 +20,7 @@ mod answers;
 mod catalog_handles;
 mod catalog_slots;
 mod catalogs;
+mod enlarging;
 mod finding;
 mod lookups;
 mod open_catalogs;
