@@ -9,9 +9,8 @@
  *   as a call of the library left it. It is never copied or moved while it is open, and never
  *   written to.
  * - A handle is given to one call at a time, and two arguments of a call are not one handle or
- *   overlap. A catalog and a reader may go to another thread between two calls, over a lock, a join
- *   or a sequentially consistent atomic, which is tested; a writer stays on the thread that opened
- *   it.
+ *   overlap. Between two calls any handle may go to another thread, over a lock, the start or the
+ *   join of a thread, or a sequentially consistent atomic.
  * - The bytes of the listings lie where they are, unchanged, until the last handle of their catalog
  *   is closed.
  * - A pointer is never null, also where the length beside it is 0; what it points to is alive and

@@ -6,6 +6,7 @@ ghost use Rattle.std.specs.Prelude.{◌≡◌, ◌≢◌, ◌↔◌, All, IfOk, 
 ghost use Rattle.latch_table.specs.Readers.{ReaderState};
 ghost use Rattle.latchsym_ffi.specs.Enlarging.{AreItsReaders, IsEnlarged, IsMoved, RefusesMoving, RefusesNodes};
 ghost use Rattle.latchsym_ffi.specs.Tables.{HoldsReader};
+ghost use Rattle.latchsym_ffi.specs.Slots.{writer_in};
 
 use crate::answers::{DONE, NOT_SO};
 use crate::reader_slots::ReaderSlot;
@@ -96,12 +97,12 @@ pub extern "C" fn latchsym_table_enlarge(
     ensures open { writer.new.is_open ≡ writer.old.is_open }
     ensures count { length readers.new ≡ length readers.old }
     ensures enlarged { writer.old.is_open ≡ true → result ≡ 0
-        → AreItsReaders writer.old.handle.value.inner readers.old
-        × IsEnlarged nodes writer.old.handle.value.inner writer.new.handle.value.inner readers.new }
+        → AreItsReaders (writer_in writer.old) readers.old
+        × IsEnlarged nodes (writer_in writer.old) (writer_in writer.new) readers.new }
     ensures unchanged { writer.old.is_open ≡ true → result ≢ 0
         → (writer.new.handle.value ≡ writer.old.handle.value) × (readers.new ≡ readers.old) }
     ensures why { writer.old.is_open ≡ true → result ≢ 0
-        → RefusesNodes nodes writer.old.handle.value.inner readers.old result }
+        → RefusesNodes nodes (writer_in writer.old) readers.old result }
     ensures closed { writer.old.is_open ≡ false → (result ≡ 101) × (readers.new ≡ readers.old) }
 {
     if !writer.is_open {

@@ -29,6 +29,7 @@ mod opening_tables;
 mod reader_handles;
 mod reader_slots;
 mod table_contents;
+mod threads;
 mod updates;
 mod writer_handles;
 mod writer_slots;
