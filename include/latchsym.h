@@ -9,9 +9,8 @@
  *   as a call of the library left it. It is never copied or moved while it is open, and never
  *   written to.
  * - A handle is given to one call at a time, and two arguments of a call are not one handle or
- *   overlap. A catalog and a reader may go to another thread between two calls, over a lock, a join
- *   or a sequentially consistent atomic, which is tested; a writer stays on the thread that opened
- *   it.
+ *   overlap. Between two calls any handle may go to another thread, over a lock, the start or the
+ *   join of a thread, or a sequentially consistent atomic.
  * - The bytes of the listings lie where they are, unchanged, until the last handle of their catalog
  *   is closed.
  * - A pointer is never null, also where the length beside it is 0; what it points to is alive and
@@ -58,7 +57,7 @@ enum {
     LATCHSYM_UPDATE_IN_HAND = 5, /* an update has begun and is not at its end */
     LATCHSYM_SEQUENCE_SPENT = 6, /* after 2^63 updates */
     LATCHSYM_OUT_OF_MEMORY = 7,
-    LATCHSYM_BAD_CAPACITY = 10,     /* nodes not 1 to 65536, or readers not 1 to 64 */
+    LATCHSYM_BAD_CAPACITY = 10,     /* nodes not 1 to 65536, or fewer than before, or readers not 1 to 64 */
     LATCHSYM_TOO_MANY_REGIONS = 14, /* more than 7 region lines have one name */
     LATCHSYM_BAD_LINE = 15,         /* a line of the listing of regions is not one */
     LATCHSYM_NOT_SO = 101           /* closed where open is wanted, or open where closed is wanted */
@@ -137,6 +136,16 @@ uint32_t latchsym_writer_step(struct latchsym_writer *);
 
 /* The steps that are left, and the generation after them. 0 or LATCHSYM_NOT_SO. */
 uint32_t latchsym_writer_finish(struct latchsym_writer *, uint64_t *generation);
+
+/* Goes on with so many nodes, no fewer than before and at most 65536, in new words: the items and the
+ * generation stay. Takes a handle for each reader that the table was opened with, all open; they go
+ * on in the new words. 0, LATCHSYM_UPDATE_IN_HAND, LATCHSYM_BAD_CAPACITY, LATCHSYM_OUT_OF_MEMORY, or
+ * LATCHSYM_NOT_SO where one of the handles is closed, or they are not as many as the readers are.
+ *
+ * It is not checked whether a reader is one of this table. One of another table goes over to this
+ * one, and one of this table that is not given keeps the table as it was. */
+uint32_t latchsym_table_enlarge(uint32_t nodes, struct latchsym_writer *, struct latchsym_reader *readers,
+                                size_t count);
 
 /* What readers find now, also amid an update. 0, LATCHSYM_NOTHING or LATCHSYM_NOT_SO. */
 uint32_t latchsym_writer_find(struct latchsym_writer *, uint64_t addr, struct latchsym_found *out);

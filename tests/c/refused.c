@@ -54,6 +54,7 @@ static uint32_t open_catalog(void) {
 }
 static uint32_t share(void) { return latchsym_catalog_share(&catalog, &other); }
 static uint32_t open_table(void) { return latchsym_table_open(4, &writer, readers, 3); }
+static uint32_t enlarge(void) { return latchsym_table_enlarge(8, &writer, readers, 3); }
 static uint32_t insert(void) { return latchsym_writer_begin_insert(&writer, &items[0]); }
 static uint32_t batch(void) { return latchsym_writer_begin_batch(&writer, starts, 1, items, 2); }
 
@@ -71,6 +72,7 @@ static void close_table(void) {
     latchsym_writer_close(&writer);
     for (int i = 0; i < 3; i++) latchsym_reader_close(&readers[i]);
 }
+static void leave(void) {}
 static void finish(void) {
     uint64_t generation;
     CHECK(!latchsym_writer_finish(&writer, &generation));
@@ -127,6 +129,8 @@ int main(void) {
     finish();
     each_request("begin_batch", batch, batch_back);
     finish();
+    CHECK(!latchsym_reader_try_find(&readers[2], 0x2800, &found) && found.a == 0x2000);
+    each_request("table_enlarge", enlarge, leave);
     CHECK(!latchsym_reader_try_find(&readers[2], 0x2800, &found) && found.a == 0x2000);
     for (int i = 0; i < 3; i++) latchsym_reader_close(&readers[i]);
     latchsym_writer_close(&writer);

@@ -1,5 +1,5 @@
-/* The table by its calls: an update step by step, three readers on threads beside the writer, a batch, closed
- * handles, and a timer's signal that looks up between the writer's calls and inside them. */
+/* The table by its calls: an update step by step, three readers on threads beside the writer, a batch, a larger
+ * table, closed handles, and a timer's signal that looks up between the writer's calls and inside them. */
 #define _GNU_SOURCE
 #include <latchsym.h>
 #include <pthread.h>
@@ -140,6 +140,40 @@ static void a_batch(int k) {
     CHECK(latchsym_reader_try_find(&readers[0], 0x2fff, &found) == LATCHSYM_NOTHING);
 }
 
+/* A full table takes one more item once it is larger; readers go on, and a refusal changes nothing. */
+static void a_larger_table(void) {
+    const struct latchsym_item items[] = {{0x1000, 0x2000, 1}, {0x2000, 0x3000, 2}, {0x3000, 0x4000, 3}};
+    struct latchsym_writer small = {0};
+    struct latchsym_reader its[2] = {{{0}}}, one = {{0}};
+    struct latchsym_found found;
+    uint64_t generation;
+    CHECK(latchsym_table_enlarge(4, &small, its, 2) == LATCHSYM_NOT_SO);
+    CHECK(latchsym_table_open(2, &small, its, 2) == LATCHSYM_DONE);
+    CHECK(!latchsym_writer_begin_batch(&small, &generation, 0, items, 2));
+    CHECK(latchsym_table_enlarge(4, &small, its, 2) == LATCHSYM_UPDATE_IN_HAND);
+    CHECK(!latchsym_writer_finish(&small, &generation) && generation == 1);
+    CHECK(latchsym_writer_begin_insert(&small, &items[2]) == LATCHSYM_FULL);
+    CHECK(latchsym_table_enlarge(0, &small, its, 2) == LATCHSYM_BAD_CAPACITY);
+    CHECK(latchsym_table_enlarge(1, &small, its, 2) == LATCHSYM_BAD_CAPACITY);
+    CHECK(latchsym_table_enlarge(65537, &small, its, 2) == LATCHSYM_BAD_CAPACITY);
+    CHECK(latchsym_table_enlarge(4, &small, its, 1) == LATCHSYM_NOT_SO);
+    CHECK(latchsym_table_enlarge(4, &small, &one, 1) == LATCHSYM_NOT_SO);
+    CHECK(!latchsym_reader_try_find(&its[1], 0x2fff, &found) && found.tag == 2 && found.generation == 1);
+    CHECK(latchsym_table_enlarge(4, &small, its, 2) == LATCHSYM_DONE);
+    for (int i = 0; i < 2; i++)
+        CHECK(!latchsym_reader_try_find(&its[i], 0x2fff, &found) && found.tag == 2 && found.generation == 1);
+    CHECK(!latchsym_writer_begin_insert(&small, &items[2]) && !latchsym_writer_finish(&small, &generation));
+    for (int i = 0; i < 2; i++)
+        CHECK(!latchsym_reader_try_find(&its[i], 0x3000, &found) && found.tag == 3 && found.generation == 2);
+    CHECK(!latchsym_writer_find(&small, 0x1000, &found) && found.tag == 1 && found.generation == 2);
+    latchsym_reader_close(&its[0]);
+    CHECK(latchsym_table_enlarge(8, &small, its, 2) == LATCHSYM_NOT_SO);
+    latchsym_writer_close(&small);
+    CHECK(latchsym_table_enlarge(8, &small, its, 2) == LATCHSYM_NOT_SO);
+    CHECK(!latchsym_reader_try_find(&its[1], 0x3000, &found) && found.tag == 3);
+    latchsym_reader_close(&its[1]);
+}
+
 int main(int argc, char **argv) {
     long signals = argc > 1 ? atol(argv[1]) : 10000;
     closed_handles();
@@ -151,6 +185,7 @@ int main(int argc, char **argv) {
     int k = beside_threads(3);
     if (signals) k = beside_signals(beside_signals(k, 1, signals), 0, signals);
     a_batch(k);
+    a_larger_table();
     latchsym_writer_close(&writer);
     for (int i = 0; i < READERS; i++) latchsym_reader_close(&readers[i]), latchsym_reader_close(&readers[i]);
     puts("table: ok");

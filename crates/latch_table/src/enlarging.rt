@@ -73,8 +73,9 @@ impl<O: TreeOrder> Writer<O> {
         }
     }
 
-    /// The same, but that it leaves the old readers alone.
-    fn move_to(&mut self, alloc: Global, l: Layout) -> Result<Vec<Reader<O>>, Refusal>
+    /// The same, but that it leaves the old readers alone: they keep the old row, in which nothing
+    /// changes any more.
+    pub fn move_to(&mut self, alloc: Global, l: Layout) -> Result<Vec<Reader<O>>, Refusal>
         ensures enlarged { IfOk result (λ all. Enlarges self.old l self.new all.items) }
         ensures refusal { IfErr result (RefusesEnlarging self.old l) }
         ensures unchanged { OnErr result (self.new ≡ self.old) }

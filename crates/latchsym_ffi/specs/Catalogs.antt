@@ -9,7 +9,7 @@ abbrev pub two_texts : List ℕ → List ℕ → Texts
 two_texts modules kallsyms = record { modules = modules; kallsyms = kallsyms; regions = None }
 
 abbrev pub three_texts : List ℕ → List ℕ → List ℕ → Texts
-three_texts modules kallsyms regions = record { modules = modules; kallsyms = kallsyms; regions = Some regions }
+three_texts modules kallsyms regions = record (two_texts modules kallsyms) { regions = Some regions }
 
 -- the slot was closed, and now holds the catalog of the texts, with their counts
 abbrev pub Opens : Texts → CatalogSlot → CatalogSlot → CatalogCounts → Type 0
@@ -19,7 +19,9 @@ Opens t s s' n = (s.is_open ≡ false) × (s'.is_open ≡ true) × AreRead t s'.
 -- regions
 abbrev pub Refuses : Texts → ℕ → ℕ → Type 0
 Refuses t bad result =
-    (result ≡ 7) ⊎ ((result ≡ 14) × HasTooManyOfOne t) ⊎ ((result ≡ 15) × (region_lines t.regions ≡ Err bad))
+    (result ≡ 7)
+    ⊎ ((result ≡ 14) × HasTooManyOfOne t)
+    ⊎ ((result ≡ 15) × (region_lines t.regions ≡ Err bad))
 
 -- the slot holds what it held
 abbrev pub Stays : CatalogSlot → CatalogSlot → Type 0

@@ -25,7 +25,7 @@ known_in c addr x = option_map (λ i. (i, symbol_at c i addr)) x
 abbrev pub shown_seen : Seen → Item × Option Found
 shown_seen s = (s.item, option_map seen s.found)
 
--- the number that is answered
+-- the number that is returned
 abbrev pub known_code : Known → ℕ
 known_code None = 2
 known_code (Some (i, None)) = 1
@@ -44,11 +44,22 @@ abbrev pub owner_named : CatalogEntries → Known → List ℕ
 owner_named c None = []
 owner_named c (Some (i, f)) = module_name c i.tag
 
--- the numbers that are answered
+abbrev pub nothing_told : CatalogAnswer
+nothing_told = record { module_number = 0; offset = 0; size = 0; name_len = 0; module_len = 0 }
+
+-- the numbers that are returned
 abbrev pub answer_of : CatalogEntries → Known → CatalogAnswer
-answer_of c None = record { module_number = 0; offset = 0; size = 0; name_len = 0; module_len = 0 }
-answer_of c (Some (i, None)) = record { module_number = i.tag; offset = 0; size = 0; name_len = 0; module_len = length (module_name c i.tag) }
-answer_of c (Some (i, Some f)) = record { module_number = i.tag; offset = f.offset; size = f.size; name_len = length f.symbol.name; module_len = length (module_name c i.tag) }
+answer_of c None = nothing_told
+answer_of c (Some (i, None)) =
+    record nothing_told { module_number = i.tag; module_len = length (module_name c i.tag) }
+answer_of c (Some (i, Some f)) =
+    record {
+      module_number = i.tag;
+      offset = f.offset;
+      size = f.size;
+      name_len = length f.symbol.name;
+      module_len = length (module_name c i.tag);
+    }
 
 -- what is told of what is known
 pub record Tells (c : CatalogEntries) (k : Known) (t : Told) : Type 0 where

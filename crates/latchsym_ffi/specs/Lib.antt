@@ -1,6 +1,8 @@
 -- The definitions of this crate, in the order in which to read them.
 -- what a handle owns
 pub mod Owning
+-- what an open slot holds
+pub mod Slots
 -- what the bytes of the listings say
 pub mod Opening
 -- what is known of an address, and what is told of it
@@ -13,3 +15,5 @@ pub mod Updates
 pub mod Lookups
 -- what the opening of a table gives
 pub mod Tables
+-- what the enlarging of a table gives
+pub mod Enlarging

@@ -41,5 +41,6 @@ Names c addr Retry old new = new ≡ old
 -- and of its name and its module's, in rooms for them
 abbrev pub Copies : CatalogEntries → ℕ → Try → List ℕ → List ℕ → List ℕ → List ℕ → Type 0
 Copies c addr (Answered x g) name name' owner owner' =
-    (name' ≡ copied (symbol_named (known_in c addr x)) name) × (owner' ≡ copied (owner_named c (known_in c addr x)) owner)
+    (name' ≡ copied (symbol_named (known_in c addr x)) name)
+    × (owner' ≡ copied (owner_named c (known_in c addr x)) owner)
 Copies c addr Retry name name' owner owner' = (name' ≡ name) × (owner' ≡ owner)

@@ -27,7 +27,12 @@ pub record Texts : Type 0 where
   pub regions : Option (List ℕ)
 
 abbrev pub shown_texts : CatalogTexts → Texts
-shown_texts t = record { modules = t.modules.now; kallsyms = t.kallsyms.now; regions = option_copied t.regions }
+shown_texts t =
+    record {
+      modules = t.modules.now;
+      kallsyms = t.kallsyms.now;
+      regions = option_copied t.regions;
+    }
 
 -- the region lines of a listing that may be there, or the number of its first bad line
 abbrev pub region_lines : Option (List ℕ) → Result (List ListedRegion) ℕ
@@ -56,15 +61,22 @@ counts_in m s b = record {
 
 -- the catalog of the listings and of region lines
 abbrev pub catalog_in : Texts → List ListedRegion → CatalogEntries
-catalog_in t lines = catalog_of usual_bounds (modules_in (lines_of t.modules)) lines (symbols_in (lines_of t.kallsyms))
+catalog_in t lines =
+    catalog_of usual_bounds (modules_in (lines_of t.modules)) lines
+    (symbols_in (lines_of t.kallsyms))
 
 abbrev pub build_counts_in : Texts → List ListedRegion → BuildCounts
-build_counts_in t lines = counts_of usual_bounds (modules_in (lines_of t.modules)) lines (symbols_in (lines_of t.kallsyms))
+build_counts_in t lines =
+    counts_of usual_bounds (modules_in (lines_of t.modules)) lines
+    (symbols_in (lines_of t.kallsyms))
 
 -- the catalog and the counts are those of the texts with these region lines
-pub record IsOpened (t : Texts) (lines : List ListedRegion) (c : CatalogEntries) (n : CatalogCounts) : Type 0 where
+pub record IsOpened (t : Texts) (lines : List ListedRegion) (c : CatalogEntries) (n : CatalogCounts)
+    : Type 0 where
   pub catalog : c ≡ catalog_in t lines
-  pub counts : n ≡ counts_in (module_counts (lines_of t.modules)) (symbol_counts (lines_of t.kallsyms)) (build_counts_in t lines)
+  pub counts :
+      n ≡ counts_in (module_counts (lines_of t.modules)) (symbol_counts (lines_of t.kallsyms))
+      (build_counts_in t lines)
 
 -- the same with the region lines that the texts have, of which no more than seven have one name
 pub record AreRead (t : Texts) (c : CatalogEntries) (n : CatalogCounts) : Type 0 where
@@ -82,7 +94,8 @@ GivesRegions text (Err _) = ⊥
 
 -- more than seven region lines have one name
 abbrev pub HasTooManyOfOne : Texts → Type 0
-HasTooManyOfOne t = (lines : List ListedRegion) × (region_lines t.regions ≡ Ok lines) × (are_few lines ≡ false)
+HasTooManyOfOne t =
+    (lines : List ListedRegion) × (region_lines t.regions ≡ Ok lines) × (are_few lines ≡ false)
 
 -- why the texts are refused
 abbrev pub RefusesTexts : Texts → CatalogFault → Type 0

@@ -24,6 +24,8 @@ pub struct CatalogHandle {
     ghost value: { CatalogEntries } by { the_row.coded },
 }
 
+unsafe impl Send for CatalogHandle {}
+
 impl Model for CatalogHandle {
     ghost also_owns = { λ h. owns_if h.is_open h.alloc the_row h.at h.value };
 }

@@ -38,7 +38,8 @@ fn open_in(
     ensures opened { result ≡ 0 → Opens (shown_texts texts.now) out.old out.new counts.new }
     ensures refused { result ≢ 0 → (out.new ≡ out.old) × (counts.new ≡ counts.old) }
     ensures not_so { out.old.is_open ≡ true → result ≡ 101 }
-    ensures why { out.old.is_open ≡ false → result ≢ 0 → Refuses (shown_texts texts.now) bad_line.new result }
+    ensures why { out.old.is_open ≡ false → result ≢ 0
+        → Refuses (shown_texts texts.now) bad_line.new result }
 {
     if out.is_open {
         return NOT_SO;
@@ -63,7 +64,8 @@ pub extern "C" fn latchsym_catalog_open(
     out: &mut CatalogSlot,
     counts: &mut CatalogCounts,
 ) -> u32
-    ensures opened { result ≡ 0 → Opens (two_texts modules.now kallsyms.now) out.old out.new counts.new }
+    ensures opened { result ≡ 0
+        → Opens (two_texts modules.now kallsyms.now) out.old out.new counts.new }
     ensures refused { result ≢ 0 → (out.new ≡ out.old) × (counts.new ≡ counts.old) }
     ensures not_so { out.old.is_open ≡ true → result ≡ 101 }
     ensures why { out.old.is_open ≡ false → result ≢ 0 → result ≡ 7 }
@@ -88,7 +90,8 @@ pub extern "C" fn latchsym_catalog_open_with_regions(
     counts: &mut CatalogCounts,
     bad_line: &mut u64,
 ) -> u32
-    ensures opened { result ≡ 0 → Opens (three_texts modules.now kallsyms.now regions.now) out.old out.new counts.new }
+    ensures opened { result ≡ 0
+        → Opens (three_texts modules.now kallsyms.now regions.now) out.old out.new counts.new }
     ensures refused { result ≢ 0 → (out.new ≡ out.old) × (counts.new ≡ counts.old) }
     ensures not_so { out.old.is_open ≡ true → result ≡ 101 }
     ensures why { out.old.is_open ≡ false → result ≢ 0
@@ -112,13 +115,14 @@ pub extern "C" fn latchsym_catalog_find(
     owner: &mut [u8],
 ) -> u32
     ensures stays { Stays catalog.old catalog.new }
-    ensures code { catalog.old.is_open ≡ true → result ≡ known_code (known_at catalog.old.handle.value addr) }
+    ensures code { catalog.old.is_open ≡ true
+        → result ≡ known_code (known_at catalog.old.handle.value addr) }
     ensures answer { catalog.old.is_open ≡ true
         → out.new ≡ answer_of catalog.old.handle.value (known_at catalog.old.handle.value addr) }
     ensures name { catalog.old.is_open ≡ true
         → name.new ≡ copied (symbol_named (known_at catalog.old.handle.value addr)) name.old }
-    ensures owner { catalog.old.is_open ≡ true → owner.new
-        ≡ copied (owner_named catalog.old.handle.value (known_at catalog.old.handle.value addr)) owner.old }
+    ensures owner { let c = catalog.old.handle.value in
+        catalog.old.is_open ≡ true → owner.new ≡ copied (owner_named c (known_at c addr)) owner.old }
     ensures closed { catalog.old.is_open ≡ false
         → (result ≡ 101) × (out.new ≡ out.old) × (name.new ≡ name.old) × (owner.new ≡ owner.old) }
 {

@@ -129,7 +129,8 @@ pub(crate) fn find(
     ensures code { result ≡ known_code (known_at catalog.now addr) }
     ensures answer { out.new ≡ answer_of catalog.now (known_at catalog.now addr) }
     ensures name { name.new ≡ copied (symbol_named (known_at catalog.now addr)) name.old }
-    ensures owner { owner.new ≡ copied (owner_named catalog.now (known_at catalog.now addr)) owner.old }
+    ensures owner { owner.new
+        ≡ copied (owner_named catalog.now (known_at catalog.now addr)) owner.old }
 {
     let told = told_of(catalog.catalog(), seek(catalog, addr));
     *out = told.answer;
@@ -151,7 +152,8 @@ pub(crate) fn find_in(
     ensures code { result ≡ known_code (known_in catalog.now addr item) }
     ensures answer { out.new ≡ answer_of catalog.now (known_in catalog.now addr item) }
     ensures name { name.new ≡ copied (symbol_named (known_in catalog.now addr item)) name.old }
-    ensures owner { owner.new ≡ copied (owner_named catalog.now (known_in catalog.now addr item)) owner.old }
+    ensures owner { owner.new
+        ≡ copied (owner_named catalog.now (known_in catalog.now addr item)) owner.old }
 {
     let told = told_of(catalog.catalog(), seen_in(catalog.catalog(), item, addr));
     *out = told.answer;

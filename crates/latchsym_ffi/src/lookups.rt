@@ -8,6 +8,7 @@ ghost use Rattle.latch_table.specs.Readers.{Tried};
 ghost use Rattle.latch_table.specs.Writers.{Finds};
 ghost use Rattle.latchsym_ffi.specs.Catalogs.{Stays};
 ghost use Rattle.latchsym_ffi.specs.Lookups.{Copies, Names, Shows, answer_from, found_code, name_code, try_code};
+ghost use Rattle.latchsym_ffi.specs.Slots.{reader_in, writer_in};
 
 use crate::answers::{DONE, NOT_SO};
 use crate::catalog_slots::CatalogSlot;
@@ -69,7 +70,7 @@ pub extern "C" fn latchsym_writer_find(
 ) -> u32
     ensures open { writer.new.is_open ≡ writer.old.is_open }
     ensures found { writer.old.is_open ≡ true → (x : Option Item)
-        × Finds half_open writer.old.handle.value.inner addr writer.new.handle.value.inner (x, out.new.generation)
+        × Finds half_open (writer_in writer.old) addr (writer_in writer.new) (x, out.new.generation)
         × (result ≡ found_code x) × (out.new ≡ answer_from x out.new.generation) }
     ensures closed { writer.old.is_open ≡ false → (result ≡ 101) × (out.new ≡ out.old) }
 {
@@ -92,9 +93,9 @@ pub extern "C" fn latchsym_reader_try_find(
 ) -> u32
     ensures open { reader.new.is_open ≡ reader.old.is_open }
     ensures place { reader.old.is_open ≡ true
-        → reader.new.handle.value.inner.place ≡ reader.old.handle.value.inner.place }
+        → (reader_in reader.new).place ≡ (reader_in reader.old).place }
     ensures tried { reader.old.is_open ≡ true → (t : Try)
-        × Tried half_open addr reader.old.handle.value.inner.knowledge reader.new.handle.value.inner.knowledge t
+        × Tried half_open addr (reader_in reader.old).knowledge (reader_in reader.new).knowledge t
         × (result ≡ try_code t) × Shows t out.old out.new }
     ensures closed { reader.old.is_open ≡ false → (result ≡ 101) × (out.new ≡ out.old) }
 {
@@ -127,7 +128,7 @@ pub extern "C" fn latchsym_reader_find_name(
     ensures open { reader.new.is_open ≡ reader.old.is_open }
     ensures stays { Stays catalog.old catalog.new }
     ensures found { reader.old.is_open ≡ true → catalog.old.is_open ≡ true → (t : Try)
-        × Tried half_open addr reader.old.handle.value.inner.knowledge reader.new.handle.value.inner.knowledge t
+        × Tried half_open addr (reader_in reader.old).knowledge (reader_in reader.new).knowledge t
         × (result ≡ name_code catalog.old.handle.value addr t) × Shows t item.old item.new
         × Names catalog.old.handle.value addr t out.old out.new
         × Copies catalog.old.handle.value addr t name.old name.new owner.old owner.new }

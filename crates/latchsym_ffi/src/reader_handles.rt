@@ -21,6 +21,8 @@ pub struct ReaderHandle {
     ghost value: { TableReader } by { the_row.coded },
 }
 
+unsafe impl Send for ReaderHandle {}
+
 impl Model for ReaderHandle {
     ghost also_owns = { λ h. owns_if h.is_open h.alloc the_row h.at h.value };
 }

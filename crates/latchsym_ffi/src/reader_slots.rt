@@ -4,6 +4,8 @@ ghost use Rattle.std.specs.Prelude.{◌≡◌, true, false};
 
 use crate::reader_handles::ReaderHandle;
 use crate::table_contents::TableReader;
+use latch_table::Reader;
+use order_laws::HalfOpen;
 use std::alloc::Global;
 use std::mem;
 
@@ -18,7 +20,7 @@ pub struct ReaderSlot {
 }
 
 impl ReaderSlot {
-    fn closed(alloc: Global) -> ReaderSlot
+    pub(crate) fn closed(alloc: Global) -> ReaderSlot
         ensures { result.is_open ≡ false }
     {
         ReaderSlot {
@@ -48,5 +50,16 @@ impl ReaderSlot {
         let alloc = self.alloc;
         let ReaderSlot { handle, .. } = mem::replace(self, ReaderSlot::closed(alloc));
         handle.into_box()
+    }
+
+    /// Puts another reader in place of the one that it holds.
+    pub(crate) fn change(&mut self, reader: Reader<HalfOpen>)
+        requires open { self.old.is_open ≡ true }
+        ensures open { self.new.is_open ≡ true }
+        ensures value { self.new.handle.value.inner ≡ reader }
+    {
+        let mut content = self.take();
+        content.inner = reader;
+        *self = ReaderSlot::open(self.alloc, content);
     }
 }

@@ -6,6 +6,7 @@ ghost use Rattle.latch_core.specs.declared.updates.Update.TheVariants.{Batch, Er
 ghost use Rattle.latch_table.specs.declared.writers.Did.{Did};
 ghost use Rattle.latch_table.specs.Writers.{Begins, Finishes, Steps};
 ghost use Rattle.latchsym_ffi.specs.Updates.{RefusesAs, did_code, item_from};
+ghost use Rattle.latchsym_ffi.specs.Slots.{writer_in};
 
 use crate::answers::{DONE, NOT_SO};
 use crate::table_contents::TableWriter;
@@ -47,10 +48,10 @@ pub extern "C" fn latchsym_writer_begin_insert(
 ) -> u32
     ensures open { writer.new.is_open ≡ writer.old.is_open }
     ensures begun { writer.old.is_open ≡ true → result ≡ 0 → Begins half_open
-        writer.old.handle.value.inner (Insert (item_from item.now)) writer.new.handle.value.inner }
+        (writer_in writer.old) (Insert (item_from item.now)) (writer_in writer.new) }
     ensures refused { writer.old.is_open ≡ true → result ≢ 0
         → (writer.new.handle.value ≡ writer.old.handle.value)
-        × RefusesAs writer.old.handle.value.inner (Insert (item_from item.now)) result }
+        × RefusesAs (writer_in writer.old) (Insert (item_from item.now)) result }
     ensures closed { writer.old.is_open ≡ false → result ≡ 101 }
 {
     if !writer.is_open {
@@ -76,10 +77,10 @@ pub extern "C" fn latchsym_writer_begin_erase(
 ) -> u32
     ensures open { writer.new.is_open ≡ writer.old.is_open }
     ensures begun { writer.old.is_open ≡ true → result ≡ 0 → Begins half_open
-        writer.old.handle.value.inner (Erase a) writer.new.handle.value.inner }
+        (writer_in writer.old) (Erase a) (writer_in writer.new) }
     ensures refused { writer.old.is_open ≡ true → result ≢ 0
         → (writer.new.handle.value ≡ writer.old.handle.value)
-        × RefusesAs writer.old.handle.value.inner (Erase a) result }
+        × RefusesAs (writer_in writer.old) (Erase a) result }
     ensures closed { writer.old.is_open ≡ false → result ≡ 101 }
 {
     if !writer.is_open {
@@ -124,12 +125,13 @@ pub extern "C" fn latchsym_writer_begin_batch(
     insert: &[TableItem],
 ) -> u32
     ensures open { writer.new.is_open ≡ writer.old.is_open }
-    ensures begun { writer.old.is_open ≡ true → result ≡ 0 → Begins half_open
-        writer.old.handle.value.inner (Batch erase.now (map item_from insert.now)) writer.new.handle.value.inner }
+    ensures begun { writer.old.is_open ≡ true → result ≡ 0
+        → Begins half_open (writer_in writer.old) (Batch erase.now (map item_from insert.now))
+        (writer_in writer.new) }
     ensures unchanged { writer.old.is_open ≡ true → result ≢ 0
         → writer.new.handle.value ≡ writer.old.handle.value }
     ensures refused { writer.old.is_open ≡ true → result ≢ 0 → result ≢ 7
-        → RefusesAs writer.old.handle.value.inner (Batch erase.now (map item_from insert.now)) result }
+        → RefusesAs (writer_in writer.old) (Batch erase.now (map item_from insert.now)) result }
     ensures closed { writer.old.is_open ≡ false → result ≡ 101 }
 {
     if !writer.is_open {
@@ -150,7 +152,7 @@ pub extern "C" fn latchsym_writer_begin_batch(
 pub extern "C" fn latchsym_writer_step(writer: &mut WriterSlot) -> u32
     ensures open { writer.new.is_open ≡ writer.old.is_open }
     ensures step { writer.old.is_open ≡ true → (d : Option Did) × (result ≡ did_code d)
-        × Steps writer.old.handle.value.inner writer.new.handle.value.inner d }
+        × Steps (writer_in writer.old) (writer_in writer.new) d }
     ensures closed { writer.old.is_open ≡ false → result ≡ 101 }
 {
     if !writer.is_open {
@@ -172,8 +174,9 @@ pub extern "C" fn latchsym_writer_step(writer: &mut WriterSlot) -> u32
 pub extern "C" fn latchsym_writer_finish(writer: &mut WriterSlot, generation: &mut u64) -> u32
     ensures open { writer.new.is_open ≡ writer.old.is_open }
     ensures finished { writer.old.is_open ≡ true → (result ≡ 0)
-        × Finishes writer.old.handle.value.inner writer.new.handle.value.inner generation.new }
-    ensures closed { writer.old.is_open ≡ false → (result ≡ 101) × (generation.new ≡ generation.old) }
+        × Finishes (writer_in writer.old) (writer_in writer.new) generation.new }
+    ensures closed { writer.old.is_open ≡ false
+        → (result ≡ 101) × (generation.new ≡ generation.old) }
 {
     if !writer.is_open {
         return NOT_SO;

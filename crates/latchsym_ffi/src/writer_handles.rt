@@ -21,6 +21,8 @@ pub struct WriterHandle {
     ghost value: { TableWriter } by { the_row.coded },
 }
 
+unsafe impl Send for WriterHandle {}
+
 impl Model for WriterHandle {
     ghost also_owns = { λ h. owns_if h.is_open h.alloc the_row h.at h.value };
 }

@@ -18,7 +18,7 @@ pub struct WriterSlot {
 }
 
 impl WriterSlot {
-    fn closed(alloc: Global) -> WriterSlot
+    pub(crate) fn closed(alloc: Global) -> WriterSlot
         ensures { result.is_open ≡ false }
     {
         WriterSlot {

@@ -1,0 +1,13 @@
+use Rattle.std.proofs.Common.{rules}
+use Rattle.latch_table.specs.Enlarging.{reader_beside}
+use Rattle.latchsym_ffi.proofs.enlarging.enlarge.Goals as goal
+
+pub returns-in-Ok-clause-enlarged : goal.returns-in-Ok-clause-enlarged
+returns-in-Ok-clause-enlarged c zero = (
+  search rules,
+  record {
+    readers = c.in-Ok.all.items;
+    moved = c.in-Ok.ensures.moved;
+    each = c.exchange.ensures.each (reader_beside c.move_writer.new.writer) c.in-Ok.ensures.moved.enlarges.readers;
+  },
+)

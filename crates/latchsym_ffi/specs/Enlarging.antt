@@ -1,0 +1,39 @@
+-- What the enlarging of a table gives.
+use Rattle.std.specs.Prelude.{◌≡◌, ℕ, ◌<◌, ◌≤◌, ◌⊎◌, true, All, List, length}
+use Rattle.order_laws.specs.declared.refusals.Refusal.{Refusal}
+use Rattle.order_laws.specs.declared.refusals.Refusal.TheVariants.{BadCapacity}
+use Rattle.order_laws.specs.Refusals.{number_of}
+use Rattle.word_arena.specs.declared.layouts.Layout.{Layout}
+use Rattle.latch_table.specs.Enlarging.{Enlarges, RefusesEnlarging, reader_beside}
+use Rattle.latch_table.specs.Readers.{ReaderState}
+use Rattle.latch_table.specs.Writers.{WriterState}
+use Rattle.latchsym_ffi.specs.declared.reader_slots.ReaderSlot.{ReaderSlot}
+use Rattle.latchsym_ffi.specs.Tables.{HoldsReader, IsWide}
+
+-- as many slots as the writer has readers, and all of them open
+abbrev pub AreItsReaders : WriterState → List ReaderSlot → Type 0
+AreItsReaders w slots = (length slots ≡ w.readers) × All (λ s. s.is_open ≡ true) slots
+
+-- the writer goes on with so many nodes, and with these readers
+pub record IsMoved (nodes : ℕ) (w w' : WriterState) (readers : List ReaderState) : Type 0 where
+  pub layout : Layout
+  pub wide : IsWide nodes layout
+  pub enlarges : Enlarges w layout w' readers
+
+-- the same, and each of the slots holds such a reader
+pub record IsEnlarged (nodes : ℕ) (w w' : WriterState) (slots : List ReaderSlot) : Type 0 where
+  pub readers : List ReaderState
+  pub moved : IsMoved nodes w w' readers
+  pub each : All (HoldsReader (reader_beside w')) slots
+
+-- the number of nodes is not 1 to 65536, or else the writer refuses them
+abbrev pub RefusesMoving : ℕ → WriterState → Refusal → Type 0
+RefusesMoving nodes w e =
+    ((e ≡ BadCapacity) × ((0 < nodes) × (nodes ≤ 65536) → ⊥))
+    ⊎ ((l : Layout) × IsWide nodes l × RefusesEnlarging w l e)
+
+-- the slots are not those of its readers, or else the number is that of such a refusal
+abbrev pub RefusesNodes : ℕ → WriterState → List ReaderSlot → ℕ → Type 0
+RefusesNodes nodes w slots result =
+    ((result ≡ 101) × (AreItsReaders w slots → ⊥))
+    ⊎ (AreItsReaders w slots × ((e : Refusal) × (result ≡ number_of e) × RefusesMoving nodes w e))
