@@ -17,12 +17,12 @@
  *   aligned, and initialised where it is read.
  * - malloc, realloc and free are those of one allocator.
  *
- * A closed handle where an open one is wanted is an answer, LATCHSYM_NOT_SO, and no fault; so is an
- * open one where a closed one is wanted. A second close does nothing. A call that is refused
+ * A closed handle where an open one is wanted is no fault: the call returns LATCHSYM_NOT_SO. So is
+ * an open one where a closed one is wanted. A second close does nothing. A call that is refused
  * changes nothing but what is said of it here.
  *
  * From a signal handler only the calls marked "handler" may be made, each with handles that no call
- * which the signal interrupts has: they take no memory. It is proved that they answer rightly where
+ * which the signal interrupts has: they take no memory. It is proved that they return rightly where
  * the signal comes between two calls on the table (block the signal during the writer's calls). A
  * handler that interrupts a running call of the writer is tested, and not proved.
  */
@@ -41,14 +41,14 @@ struct latchsym_catalog { struct latchsym_handle handle; };
 struct latchsym_writer { struct latchsym_handle handle; };
 struct latchsym_reader { struct latchsym_handle handle; };
 
-/* Answers. Those from 1 to 14 of a call that opens or begins are refusals. */
+/* What calls return. Numbers from 1 to 14 of a call that opens, begins or enlarges are refusals. */
 enum {
     LATCHSYM_DONE = 0,      /* done; of a search: found */
-    LATCHSYM_NO_SYMBOL = 1, /* of a search for a name: a region is there, but no symbol at or below */
+    LATCHSYM_NO_SYMBOL = 1, /* of a search for a name: in a region, but no symbol at or below */
     LATCHSYM_NOTHING = 2,   /* of a search: nothing is there */
     LATCHSYM_RETRY = 3,     /* of a search by a reader: the writer flipped meanwhile, try again */
-    LATCHSYM_AT_END = 0,    /* of a step: no update is in hand, or it is at its end */
-    LATCHSYM_FLIP = 1,      /* of a step: the sequence was flipped; readers see the update from the second on */
+    LATCHSYM_AT_END = 0,    /* of a step: no update is pending, or it is at its end */
+    LATCHSYM_FLIP = 1,      /* of a step: a flip of the sequence; the second shows the update */
     LATCHSYM_STORE = 2,     /* of a step: another word was stored */
     LATCHSYM_BAD_ITEM = 1,  /* refusals: the item is empty */
     LATCHSYM_OVERLAP = 2,   /* the item overlaps one of the table */
@@ -57,10 +57,10 @@ enum {
     LATCHSYM_UPDATE_IN_HAND = 5, /* an update has begun and is not at its end */
     LATCHSYM_SEQUENCE_SPENT = 6, /* after 2^63 updates */
     LATCHSYM_OUT_OF_MEMORY = 7,
-    LATCHSYM_BAD_CAPACITY = 10,     /* nodes not 1 to 65536, or fewer than before, or readers not 1 to 64 */
+    LATCHSYM_BAD_CAPACITY = 10, /* nodes not 1 to 65536 or fewer than before; readers not 1 to 64 */
     LATCHSYM_TOO_MANY_REGIONS = 14, /* more than 7 region lines have one name */
     LATCHSYM_BAD_LINE = 15,         /* a line of the listing of regions is not one */
-    LATCHSYM_NOT_SO = 101           /* closed where open is wanted, or open where closed is wanted */
+    LATCHSYM_NOT_SO = 101           /* closed where open is wanted, or the other way round */
 };
 
 /* How many lines of each listing went where, as `latchsym lookup` prints them. */
@@ -71,9 +71,9 @@ struct latchsym_counts {
     uint64_t regions, regions_stray;
 };
 
-/* What is known of an address: the module's number (0 is the kernel itself), how far the address lies above
- * the symbol and how far the symbol reaches, both in bytes, and the lengths of the two names in
- * bytes. */
+/* What is known of an address: the module's number (0 is the kernel itself), how far the address
+ * lies above the symbol and how far the symbol reaches, both in bytes, and the lengths of the two
+ * names in bytes. */
 struct latchsym_symbol {
     uint64_t module_number, offset, size;
     size_t name_len, module_len;
@@ -82,13 +82,14 @@ struct latchsym_symbol {
 /* Addresses from a up to b, which is excluded, and a number of the caller's. */
 struct latchsym_item { uint64_t a, b, tag; };
 
-/* The item that was found (0, 0, 0 where none was), and the generation: how many updates were shown. */
+/* The item that was found (0, 0, 0 where none was), and the generation: how many updates were
+ * shown. */
 struct latchsym_found { uint64_t a, b, tag, generation; };
 
 /* ---- the catalog ---- */
 
-/* Opens the catalog of listings in the forms of /proc/modules and /proc/kallsyms, in a closed handle.
- * 0, LATCHSYM_OUT_OF_MEMORY or LATCHSYM_NOT_SO. Counts are written at 0 alone. */
+/* Opens the catalog of listings in the forms of /proc/modules and /proc/kallsyms, in a closed
+ * handle. 0, LATCHSYM_OUT_OF_MEMORY or LATCHSYM_NOT_SO. Counts are written at 0 alone. */
 uint32_t latchsym_catalog_open(const uint8_t *modules, size_t modules_len, const uint8_t *kallsyms,
                                size_t kallsyms_len, struct latchsym_catalog *out,
                                struct latchsym_counts *counts);
@@ -98,15 +99,16 @@ uint32_t latchsym_catalog_open(const uint8_t *modules, size_t modules_len, const
 uint32_t latchsym_catalog_open_with_regions(const uint8_t *modules, size_t modules_len,
                                             const uint8_t *kallsyms, size_t kallsyms_len,
                                             const uint8_t *regions, size_t regions_len,
-                                            struct latchsym_catalog *out, struct latchsym_counts *counts,
-                                            uint64_t *bad_line);
+                                            struct latchsym_catalog *out,
+                                            struct latchsym_counts *counts, uint64_t *bad_line);
 
-/* The symbol of an address, as `latchsym lookup` answers. As many bytes of each name are copied as there is
- * room for, without a 0 byte at the end; the lengths are those of the whole names. 0,
+/* The symbol of an address, as `latchsym lookup` prints it. As many bytes of each name are copied
+ * as there is room for, without a 0 byte at the end; the lengths are those of the whole names. 0,
  * LATCHSYM_NO_SYMBOL (the module alone is told), LATCHSYM_NOTHING (all numbers are 0) or
  * LATCHSYM_NOT_SO (nothing is written). The time is logarithmic in regions and symbols. Handler. */
-uint32_t latchsym_catalog_find(struct latchsym_catalog *, uint64_t addr, struct latchsym_symbol *out,
-                               uint8_t *name, size_t name_room, uint8_t *module, size_t module_room);
+uint32_t latchsym_catalog_find(struct latchsym_catalog *, uint64_t addr,
+                               struct latchsym_symbol *out, uint8_t *name, size_t name_room,
+                               uint8_t *module, size_t module_room);
 
 /* Opens another handle of the same catalog, for another thread. 0, LATCHSYM_OUT_OF_MEMORY or
  * LATCHSYM_NOT_SO. */
@@ -117,35 +119,38 @@ void latchsym_catalog_close(struct latchsym_catalog *);
 
 /* ---- the table ---- */
 
-/* Opens an empty table of 1 to 65536 nodes: its writer, and a reader in each of 1 to 64 closed handles; all
- * of them or none. 0, LATCHSYM_BAD_CAPACITY, LATCHSYM_OUT_OF_MEMORY or LATCHSYM_NOT_SO. */
-uint32_t latchsym_table_open(uint32_t nodes, struct latchsym_writer *, struct latchsym_reader *readers,
-                             size_t count);
+/* Opens an empty table of 1 to 65536 nodes: its writer, and a reader in each of 1 to 64 closed
+ * handles; all of them or none. 0, LATCHSYM_BAD_CAPACITY, LATCHSYM_OUT_OF_MEMORY or
+ * LATCHSYM_NOT_SO. */
+uint32_t latchsym_table_open(uint32_t nodes, struct latchsym_writer *,
+                             struct latchsym_reader *readers, size_t count);
 
-/* Take an update in hand: put an item in, take the item out that begins at a, or do several of both at once.
- * Readers see it from its second flip on, whole. 0, one of the refusals 1 to 7, or LATCHSYM_NOT_SO.
- * */
+/* Begin an update: put an item in, take the item out that begins at a, or do several of
+ * both at once. Readers see it from its second flip on, whole. 0, one of the refusals 1 to 7, or
+ * LATCHSYM_NOT_SO. */
 uint32_t latchsym_writer_begin_insert(struct latchsym_writer *, const struct latchsym_item *);
 uint32_t latchsym_writer_begin_erase(struct latchsym_writer *, uint64_t a);
-uint32_t latchsym_writer_begin_batch(struct latchsym_writer *, const uint64_t *erase, size_t erase_len,
-                                     const struct latchsym_item *insert, size_t insert_len);
+uint32_t latchsym_writer_begin_batch(struct latchsym_writer *, const uint64_t *erase,
+                                     size_t erase_len, const struct latchsym_item *insert,
+                                     size_t insert_len);
 
-/* One step of the update in hand: LATCHSYM_AT_END, LATCHSYM_FLIP, LATCHSYM_STORE or LATCHSYM_NOT_SO. Handler,
- * where no other call on the writer runs. */
+/* One step of the pending update: LATCHSYM_AT_END, LATCHSYM_FLIP, LATCHSYM_STORE or
+ * LATCHSYM_NOT_SO. Handler, where no other call on the writer runs. */
 uint32_t latchsym_writer_step(struct latchsym_writer *);
 
 /* The steps that are left, and the generation after them. 0 or LATCHSYM_NOT_SO. */
 uint32_t latchsym_writer_finish(struct latchsym_writer *, uint64_t *generation);
 
-/* Goes on with so many nodes, no fewer than before and at most 65536, in new words: the items and the
- * generation stay. Takes a handle for each reader that the table was opened with, all open; they go
- * on in the new words. 0, LATCHSYM_UPDATE_IN_HAND, LATCHSYM_BAD_CAPACITY, LATCHSYM_OUT_OF_MEMORY, or
- * LATCHSYM_NOT_SO where one of the handles is closed, or they are not as many as the readers are.
+/* Goes on with so many nodes, no fewer than before and at most 65536, in new words: the items and
+ * the generation stay. Takes a handle for each reader that the table was opened with, all open;
+ * they go on in the new words. 0, LATCHSYM_UPDATE_IN_HAND, LATCHSYM_BAD_CAPACITY,
+ * LATCHSYM_OUT_OF_MEMORY, or LATCHSYM_NOT_SO where one of the handles is closed, or they are not
+ * as many as the readers are.
  *
  * It is not checked whether a reader is one of this table. One of another table goes over to this
  * one, and one of this table that is not given keeps the table as it was. */
-uint32_t latchsym_table_enlarge(uint32_t nodes, struct latchsym_writer *, struct latchsym_reader *readers,
-                                size_t count);
+uint32_t latchsym_table_enlarge(uint32_t nodes, struct latchsym_writer *,
+                                struct latchsym_reader *readers, size_t count);
 
 /* What readers find now, also amid an update. 0, LATCHSYM_NOTHING or LATCHSYM_NOT_SO. */
 uint32_t latchsym_writer_find(struct latchsym_writer *, uint64_t addr, struct latchsym_found *out);
@@ -153,15 +158,17 @@ uint32_t latchsym_writer_find(struct latchsym_writer *, uint64_t addr, struct la
 /* Closes the writer. Readers that are open keep the table as it is. */
 void latchsym_writer_close(struct latchsym_writer *);
 
-/* One attempt to find the item of an address. 0, LATCHSYM_NOTHING, LATCHSYM_RETRY (nothing is written) or
- * LATCHSYM_NOT_SO. Beside a writer at rest the first attempt answers. Handler. */
-uint32_t latchsym_reader_try_find(struct latchsym_reader *, uint64_t addr, struct latchsym_found *out);
+/* One attempt to find the item of an address. 0, LATCHSYM_NOTHING, LATCHSYM_RETRY (nothing is
+ * written) or LATCHSYM_NOT_SO. It is never LATCHSYM_RETRY beside a writer at rest. Handler. */
+uint32_t latchsym_reader_try_find(struct latchsym_reader *, uint64_t addr,
+                                  struct latchsym_found *out);
 
-/* The same, and the symbol in the item that was found, whose tag is taken as the number of a module of the
- * catalog. Also LATCHSYM_NO_SYMBOL. Handler. */
-uint32_t latchsym_reader_find_name(struct latchsym_reader *, struct latchsym_catalog *, uint64_t addr,
-                                   struct latchsym_found *item, struct latchsym_symbol *out, uint8_t *name,
-                                   size_t name_room, uint8_t *module, size_t module_room);
+/* The same, and the symbol in the item that was found, whose tag is taken as the number of a
+ * module of the catalog. Also LATCHSYM_NO_SYMBOL. Handler. */
+uint32_t latchsym_reader_find_name(struct latchsym_reader *, struct latchsym_catalog *,
+                                   uint64_t addr, struct latchsym_found *item,
+                                   struct latchsym_symbol *out, uint8_t *name, size_t name_room,
+                                   uint8_t *module, size_t module_room);
 
 /* Closes a reader. */
 void latchsym_reader_close(struct latchsym_reader *);

@@ -31,7 +31,7 @@ fn are_its_readers(writer: &Writer<HalfOpen>, slots: &[ReaderSlot]) -> bool
 }
 
 /// Puts a reader of these in each slot, in place of the one that it holds.
-fn exchange(slots: &mut [ReaderSlot], readers: Vec<Reader<HalfOpen>>)
+fn replace_readers(slots: &mut [ReaderSlot], readers: Vec<Reader<HalfOpen>>)
     requires count { vec_len readers ≡ length slots.old }
     requires open { All (λ s. s.is_open ≡ true) slots.old }
     ensures count { length slots.new ≡ length slots.old }
@@ -41,7 +41,7 @@ fn exchange(slots: &mut [ReaderSlot], readers: Vec<Reader<HalfOpen>>)
     let mut readers = readers;
     for place in 0..slots.len() {
         if let Some(reader) = readers.pop() {
-            slots[place].change(reader);
+            slots[place].replace_reader(reader);
         }
     }
 }
@@ -78,7 +78,7 @@ fn enlarge(
     }
     match move_writer(alloc, nodes, writer) {
         Ok(all) => {
-            exchange(readers, all);
+            replace_readers(readers, all);
             DONE
         }
         Err(refusal) => refusal.number(),

@@ -53,7 +53,7 @@ impl ReaderSlot {
     }
 
     /// Puts another reader in place of the one that it holds.
-    pub(crate) fn change(&mut self, reader: Reader<HalfOpen>)
+    pub(crate) fn replace_reader(&mut self, reader: Reader<HalfOpen>)
         requires open { self.old.is_open ≡ true }
         ensures open { self.new.is_open ≡ true }
         ensures value { self.new.handle.value.inner ≡ reader }

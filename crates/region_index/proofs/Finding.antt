@@ -2,6 +2,7 @@
 use Rattle.std.proofs.Common.{◌≡◌, ℕ, zero, suc, ◌-◌, ◌<◌, ◌≤◌, ◌⊎◌, inl, inr, ⊎_elim, true, false, nat_le, List, length, map, get_or, Option, Some, None, refl, sym, ap, subst, ◌∙◌, arith, [], ◌∷◌}
 use Rattle.std.specs.Prelude.{Contains, All, IfSome}
 use Rattle.std.specs.List.{AllPairs}
+use Rattle.std.specs.List.Sorted.{IsNonDecreasingBy}
 use Rattle.std.specs.declared.cmp.Ordering.TheVariants.{Equal}
 use Rattle.std.proofs.lemmas.Bool.{cases_lt}
 use Rattle.std.proofs.lemmas.Bool.Decides.{nat_tests}
@@ -19,6 +20,18 @@ use Rattle.modules.specs.Regions.{is_apart}
 use Rattle.modules.proofs.Items.{all_regions, in_map, region_of}
 use Rattle.region_index.specs.Indexes.{IsIndexOf, IsSplit}
 use Rattle.region_index.specs.Items.{item_at}
+
+-- where the items rise, their neighbours tell a place
+pub IsSplit-between : (items : List Item) (addr split : ℕ) → IsNonDecreasingBy (λ i. i.a) items → split ≤ length items
+    → ((d : Item) → 0 < split → (get_or items (split - 1) d).a ≤ addr)
+    → ((d : Item) → split < length items → addr < (get_or items split d).a)
+    → IsSplit items addr split
+IsSplit-between items addr split rising bound last next =
+    record {
+      bound = bound;
+      below = λ k d lt. let rises = rising k (split - 1) d (omega arith) (omega arith) in let begins = last d (omega arith) in omega arith;
+      above = λ k d le lt. let rises = rising split k d le lt in let begins = next d (omega arith) in omega arith;
+    }
 
 equal_inside : (k : ℕ) (i : Item) → i.a ≤ k → k < i.b → half_open.comp k i ≡ Equal
 equal_inside k i le lt = grind (arith, nat_tests)

@@ -78,10 +78,16 @@ fn items_of(alloc: Global, catalog: &Catalog, modules: u64) -> Result<Vec<Item>,
 }
 
 /// How many items begin at or below the address.
+///
+/// The kernel itself mostly lies below all modules, and most addresses are its own: one comparison
+/// tells them.
 fn split_at(items: &[Item], addr: u64) -> usize
     requires { IsNonDecreasingBy (λ i. i.a) items.now }
     ensures { IsSplit items.now addr result }
 {
+    if items.len() > 1 && addr < items[1].a {
+        return if items[0].a <= addr { 1 } else { 0 };
+    }
     items.partition_point(|item| item.a <= addr)
 }
 

@@ -3,7 +3,7 @@ use Rattle.std.specs.Prelude.{All}
 use Rattle.std.specs.List.{AllWithin}
 use Rattle.latch_table.specs.Readers.{ReaderState}
 use Rattle.latchsym_ffi.specs.Tables.{HoldsReader}
-use Rattle.latchsym_ffi.proofs.enlarging.exchange.Given as goal
+use Rattle.latchsym_ffi.proofs.enlarging.replace_readers.Given as goal
 
 abbrev pub invariant-loop-place : goal.invariant-loop-place
 invariant-loop-place l =
