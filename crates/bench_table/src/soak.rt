@@ -2,7 +2,7 @@
 
 use crate::faults::Fault;
 use bench_ranges::{Random, addresses, ranges, shuffle};
-use latch_core::{Entries, Update};
+use latch_core::Update;
 use latch_table::{Reader, Writer, open};
 use order_laws::{HalfOpen, Item, Refusal};
 use std::alloc::{AllocError, Global};
@@ -55,10 +55,7 @@ fn push_exchanges(
             b: range.b,
             tag: range.b,
         };
-        updates.push(Update::Batch {
-            erase: Entries::new([range.a].to_vec(alloc)?)?,
-            insert: Entries::new([other].to_vec(alloc)?)?,
-        })?;
+        updates.push(Update::batch(alloc, &[range.a], &[other])?)?;
     }
     Ok(())
 }

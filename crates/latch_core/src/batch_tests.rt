@@ -3,7 +3,7 @@ ghost use Rattle.std.specs.Prelude.{◌<◌};
 use crate::attempts::Attempted;
 use crate::sequences::generation;
 use crate::tests::{Address, Ranges};
-use crate::{Entries, Update, WriterCore, attempt_in, plain};
+use crate::{Update, WriterCore, attempt_in, plain};
 use order_laws::laws::look_through;
 use order_laws::{Closed, HalfOpen, Item, Refusal, TreeOrder};
 use std::alloc::Global;
@@ -19,14 +19,6 @@ fn item(a: u64, b: u64, tag: u64) -> Item {
 pub fn in_row(i: u64) -> Item {
     let a = (i % 4096 + 1) * 0x100;
     item(a, a + 0x100, i)
-}
-
-/// A batch of these first words and items.
-fn batch(alloc: Global, erase: &[u64], insert: &[Item]) -> Result<Update, Fail> {
-    Ok(Update::Batch {
-        erase: Entries::new(erase.to_vec(alloc)?)?,
-        insert: Entries::new(insert.to_vec(alloc)?)?,
-    })
 }
 
 /// A writer and its words.
@@ -89,7 +81,7 @@ fn rows_of_batches(rt: HostRuntime) -> Result<(), Fail> {
     let alloc = rt.alloc();
     let mut table = Table::<HalfOpen>::open(&rt, alloc, Layout::new(4)?, 0)?;
     let two = [item(0x10, 0x20, 1), item(0x30, 0x40, 2)];
-    let left = table.writer.begin(batch(alloc, &[], &two)?)?;
+    let left = table.writer.begin(Update::batch(alloc, &[], &two)?)?;
     for _ in 0..left {
         let found = if table.generation() == 0 {
             None
@@ -104,7 +96,7 @@ fn rows_of_batches(rt: HostRuntime) -> Result<(), Fail> {
     for (capacity, refused) in [(1, Some(Refusal::Full)), (2, None)] {
         let mut small = Table::<HalfOpen>::open(&rt, alloc, Layout::new(capacity)?, 0)?;
         small.carry_out(&rt, Update::Insert(item(0x10, 0x20, 1)))?;
-        let renamed = batch(alloc, &[0x10], &[item(0x10, 0x20, 2)])?;
+        let renamed = Update::batch(alloc, &[0x10], &[item(0x10, 0x20, 2)])?;
         assert_eq!(rt; small.carry_out(&rt, renamed).err(), refused);
         let tag = if refused.is_some() { 1 } else { 2 };
         assert_eq!(rt; small.find(&rt, 0x10).0, Some(item(0x10, 0x20, tag)));
@@ -129,19 +121,19 @@ fn refusals_of_batches_and_the_empty_one(rt: HostRuntime) -> Result<(), Fail> {
         (&[0x10], &[], Refusal::NoSuchItem),
         (&[0x10], &[one, bad], Refusal::BadItem),
     ] {
-        let u = batch(alloc, erase, insert)?;
+        let u = Update::batch(alloc, erase, insert)?;
         let why = plain::refuses::<HalfOpen>(l, false, &[], 0, &u);
         assert_eq!(rt; why, Some(refused));
         assert_eq!(rt; table.carry_out(&rt, u).err(), why);
     }
-    assert_eq!(rt; table.carry_out(&rt, batch(alloc, &[], &[])?)?, 2);
+    assert_eq!(rt; table.carry_out(&rt, Update::batch(alloc, &[], &[])?)?, 2);
     assert_eq!(rt; (table.generation(), table.writer.len()), (1, 0));
-    table.carry_out(&rt, batch(alloc, &[], &[beside, one])?)?;
-    let twice = batch(alloc, &[0x10, 0x20, 0x10], &[])?;
+    table.carry_out(&rt, Update::batch(alloc, &[], &[beside, one])?)?;
+    let twice = Update::batch(alloc, &[0x10, 0x20, 0x10], &[])?;
     assert_eq!(rt; table.carry_out(&rt, twice), Err(Refusal::NoSuchItem));
-    let half = batch(alloc, &[0x10], &[across])?;
+    let half = Update::batch(alloc, &[0x10], &[across])?;
     assert_eq!(rt; table.carry_out(&rt, half), Err(Refusal::Overlap));
-    table.carry_out(&rt, batch(alloc, &[0x20, 0x10], &[across])?)?;
+    table.carry_out(&rt, Update::batch(alloc, &[0x20, 0x10], &[across])?)?;
     assert_eq!(rt; table.find(&rt, 0x20), (Some(across), 3));
     assert_eq!(rt; table.find(&rt, 0x10), (None, 3));
     Ok(())
@@ -191,8 +183,8 @@ fn a_stop_at_each_step_of_a_batch(rt: HostRuntime) -> Result<(), Fail> {
         0xb00,
     ];
     let updates = [
-        batch(alloc, &[], &seven)?,
-        batch(alloc, &[0x200, 0x700, 0x400], &four)?,
+        Update::batch(alloc, &[], &seven)?,
+        Update::batch(alloc, &[0x200, 0x700, 0x400], &four)?,
     ];
     for (done, u) in updates.iter().enumerate() {
         let before = plain::replay::<HalfOpen>(alloc, &updates[..done])?;
@@ -214,7 +206,7 @@ fn the_wide_sequence(rt: HostRuntime) -> Result<(), Fail> {
     for u in [
         Update::Insert(item(0x30, 0x40, 2)),
         Update::Erase(0x10),
-        batch(rt.alloc(), &[0x10], &[])?,
+        Update::batch(rt.alloc(), &[0x10], &[])?,
     ] {
         assert_eq!(rt; table.carry_out(&rt, u), Err(Refusal::SequenceSpent));
     }
@@ -261,10 +253,7 @@ fn some_update(alloc: Global, state: &mut u64) -> Result<Update, Fail> {
             for _ in 0..draw(state, 5) {
                 insert.push(some_item(state))?;
             }
-            Ok(Update::Batch {
-                erase: Entries::new(erase)?,
-                insert: Entries::new(insert)?,
-            })
+            Ok(Update::batch(alloc, &erase, &insert)?)
         }
     }
 }

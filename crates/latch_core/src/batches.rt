@@ -2,7 +2,7 @@
 
 ghost use Rattle.std.specs.Prelude.{◌≡◌, IfOk};
 
-use std::alloc::AllocError;
+use std::alloc::{AllocError, Global};
 use std::marker::Model;
 
 /// First words or items of one update.
@@ -63,11 +63,17 @@ impl<T: Eq> Eq for Entries<T> {
 }
 
 impl<T: Copy> Entries<T> {
+    /// These entries, copied.
+    pub fn from_slice(alloc: Global, items: &[T]) -> Result<Self, AllocError>
+        ensures { IfOk result (λ entries. entries ≡ items.now) }
+    {
+        Entries::new(Vec::from_slice(alloc, items)?)
+    }
+
     /// The same entries once more.
     pub fn copy(&self) -> Result<Self, AllocError>
         ensures { IfOk result (λ entries. entries ≡ self.now) }
     {
-        let items = Vec::from_slice(*self.items.allocator(), self.as_slice())?;
-        Entries::new(items)
+        Entries::from_slice(*self.items.allocator(), self.as_slice())
     }
 }

@@ -4,6 +4,7 @@ ghost use Rattle.std.specs.Prelude.{◌≡◌, IfOk, IfErr};
 
 use crate::batches::Entries;
 use order_laws::{Item, Refusal};
+use std::alloc::{AllocError, Global};
 
 /// One change of the table, which readers see whole or not at all.
 #[derive(Debug, PartialEq, Eq, Drop)]
@@ -20,6 +21,16 @@ pub enum Update {
 }
 
 impl Update {
+    /// The batch of these first words and items.
+    pub fn batch(alloc: Global, erase: &[u64], insert: &[Item]) -> Result<Update, AllocError>
+        ensures { IfOk result (λ u. u ≡ Update.Batch erase.now insert.now) }
+    {
+        Ok(Update::Batch {
+            erase: Entries::from_slice(alloc, erase)?,
+            insert: Entries::from_slice(alloc, insert)?,
+        })
+    }
+
     /// The same update once more. Refused by [`Refusal::OutOfMemory`] alone.
     pub fn copy(&self) -> Result<Update, Refusal>
         ensures same { IfOk result (λ u. u ≡ self.now) }

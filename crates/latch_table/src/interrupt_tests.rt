@@ -3,7 +3,7 @@
 //! stopped it, and a reader looks up beside it.
 
 use crate::{Did, InHand, Reader, Try, Writer, open};
-use latch_core::{Entries, Update};
+use latch_core::Update;
 use order_laws::{HalfOpen, Item};
 use std::alloc::Global;
 use std::process::Abort;
@@ -125,10 +125,7 @@ fn erasures(
 fn exchange(alloc: Global, first: u64) -> Result<Update, Fail> {
     let erase = [1, 3, 5].map(|place| item(first.saturating_add(place)).a);
     let insert = [0, 2, 4].map(|place| item(first.saturating_add(place)));
-    Ok(Update::Batch {
-        erase: Entries::new(erase.to_vec(alloc)?)?,
-        insert: Entries::new(insert.to_vec(alloc)?)?,
-    })
+    Ok(Update::batch(alloc, &erase, &insert)?)
 }
 
 #[test]
