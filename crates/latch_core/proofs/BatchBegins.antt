@@ -2,13 +2,14 @@
 use Rattle.std.proofs.Common.{◌≡◌, ◌≢◌, ℕ, ◌+◌, ◌*◌, ◌<◌, ◌≤◌, false, List, [], ◌∷◌, ◌++◌, length, take, None, refl, sym, ◌∙◌, ap, subst, inl, inr, arith, length-set}
 use Rattle.std.specs.Prelude.{Contains, map, nat_lt}
 use Rattle.std.specs.List.{AllByRecursion}
-use Rattle.std.proofs.lemmas.Bool.{ltb-false}
+use Rattle.std.proofs.lemmas.Bool.{ltb-false, or_parts}
 use Rattle.std.proofs.lemmas.List.{take-append-le, take_all, length-map}
 use Rattle.std.proofs.lemmas.List.Elements.{All-from_recursion}
 use Rattle.order_laws.specs.declared.items.Item.{Item}
 use Rattle.order_laws.specs.Orders.{Order}
 use Rattle.order_laws.specs.Tables.{without_all}
-use Rattle.order_laws.proofs.TableLemmas.{all_weaker}
+use Rattle.order_laws.proofs.Each.{all_append, all_weaker}
+use Rattle.word_arena.proofs.LinkLemmas.{same_item}
 use Rattle.word_arena.specs.declared.stores.Store.{Store}
 use Rattle.word_arena.specs.Words.{at, words_for, item_at, a_word, b_word, tag_word, listed, Holds, IsUnreached}
 use Rattle.word_arena.specs.Stores.{words_after, words_after_all, IsItemWord, AreLinkStores}
@@ -29,8 +30,7 @@ use Rattle.latch_core.specs.Changes.{Placed, placing_stores, HasPlaced, LeadsBot
 use Rattle.latch_core.specs.WriterViews.{WriterView}
 use Rattle.latch_core.specs.Writers.{AreInStep, HasBegun, why_refused}
 use Rattle.latch_core.proofs.TestLemmas.{NoneHolds, all_tests, none_holds}
-use Rattle.latch_core.proofs.BatchLemmas.{neither}
-use Rattle.latch_core.proofs.ChangeLemmas.{same_item, all_append, both_then, free_node}
+use Rattle.latch_core.proofs.ChangeLemmas.{both_then, free_node}
 use Rattle.latch_core.proofs.Planned.{Leading, IsFreeStore, AreFreeStores, items_unused}
 use Rattle.latch_core.proofs.BeginLemmas.{Accepted, accepted_by, with_room, pictured, unpictured, update_in_range, has_begun}
 use Rattle.latch_core.proofs.WriterLemmas.{unlisted}
@@ -49,8 +49,8 @@ pub accepted_batch : {K : Type 0} (o : Order K) (w : WriterView) (erase : List �
 accepted_batch o w erase insert e =
     let tests = all_tests o w.capacity w.limit (nat_lt 0 (length w.left)) w.table w.sequence (Batch erase insert) in
     let h : NoneHolds tests = none_holds tests e in
-    let words = neither (some_missing erase w.table) (some_twice erase) h.1.1.0 in
-    let items = neither (some_overlap o insert) (some_meet o insert (without_all erase w.table)) h.1.1.1.0 in
+    let words = or_parts (some_missing erase w.table) (some_twice erase) h.1.1.0 in
+    let items = or_parts (some_overlap o insert) (some_meet o insert (without_all erase w.table)) h.1.1.1.0 in
     record {
       accepted = accepted_by w h.0 h.1.1.1.1.1.0;
       valid = h.1.0;

@@ -1,18 +1,19 @@
 -- An update that begins: what was tested, the node that it takes or frees, and the stores that were
 -- planned.
-use Rattle.std.proofs.Common.{◌≡◌, ℕ, suc, ◌+◌, ◌*◌, ◌<◌, ◌≤◌, true, false, List, [], ◌∷◌, ◌++◌, length, refl, sym, ◌∙◌, ap, subst, inl, inr, arith, length-append}
+use Rattle.std.proofs.Common.{◌≡◌, ℕ, ◌+◌, ◌*◌, ◌<◌, ◌≤◌, false, List, [], ◌∷◌, ◌++◌, length, refl, sym, ◌∙◌, ap, subst, inl, inr, arith, length-append}
 use Rattle.std.specs.Prelude.{All, nat_lt, insert, remove, Contains}
-use Rattle.std.proofs.lemmas.Bool.{ltb-false, lt-ltb}
+use Rattle.std.proofs.lemmas.Bool.{ltb-false}
 use Rattle.std.proofs.lemmas.List.Elements.{All-append, All-cons, All-nil, All-from_recursion}
 use Rattle.std.proofs.Math.Nat.{mul-le-mul_right}
 use Rattle.order_laws.specs.declared.items.Item.{Item}
 use Rattle.order_laws.specs.Orders.{Order}
 use Rattle.order_laws.specs.Tables.{place_for, place_of, with_item, without}
-use Rattle.order_laws.proofs.TableLemmas.{all_weaker}
+use Rattle.order_laws.proofs.Lists.{nil-from_length}
+use Rattle.word_arena.proofs.LinkLemmas.{links_in_range}
 use Rattle.word_arena.specs.declared.stores.Store.{Store}
 use Rattle.word_arena.specs.Words.{at, words_for, Nodes, Holds, IsUnreached, listed}
-use Rattle.word_arena.specs.Stores.{words_after_all, IsLinkWord, AreLinkStores}
-use Rattle.word_arena.proofs.WordLemmas.{link_place, item_place}
+use Rattle.word_arena.specs.Stores.{words_after_all, AreLinkStores}
+use Rattle.word_arena.proofs.WordLemmas.{item_place}
 use Rattle.word_arena.proofs.StoreLemmas.{after_append}
 use Rattle.rb_trees.specs.Trees.{CanBeRedBlack}
 use Rattle.rb_words.specs.Pictures.{Picture, IsPictured}
@@ -29,23 +30,14 @@ use Rattle.latch_core.proofs.Planned.{Leading}
 use Rattle.latch_core.proofs.NodeLemmas.{last_is_free, node_taken, node_freed}
 use Rattle.latch_core.proofs.WriterLemmas.{begun_pictures, rest_now}
 
-pub idle_by : (xs : List Store) → length xs ≤ 0 → nat_lt 0 (length xs) ≡ false
-idle_by [] e = refl
-idle_by (x ∷ xs) e = absurd (omega arith)
-
 -- what an accepted update has passed
 pub record Accepted (w : WriterView) : Type 0 where
   pub idle : w.left ≡ []
   pub counts : w.sequence + 2 ≤ w.limit
 
-pub idle_from : (xs : List Store) → nat_lt 0 (length xs) ≡ false → xs ≡ []
-idle_from [] e = refl
-idle_from (x ∷ xs) e =
-    absurd (let more : nat_lt 0 (suc (length xs)) ≡ true = lt-ltb 0 (suc (length xs)) (omega arith) in let f : true ≡ false = sym more ∙ e in cc)
-
 pub accepted_by : (w : WriterView) → nat_lt 0 (length w.left) ≡ false → nat_lt w.limit (w.sequence + 2) ≡ false → Accepted w
 accepted_by w busy spent =
-    record { idle = idle_from w.left busy; counts = ltb-false w.limit (w.sequence + 2) spent }
+    record { idle = nil-from_length w.left busy; counts = ltb-false w.limit (w.sequence + 2) spent }
 
 -- the free node that an insert takes
 pub taken_node : (n : ℕ) (zero one : Picture) (free rest : List ℕ) (node : ℕ) (left : List Store) → AreInStep n zero one free left → free ≡ rest ++ node ∷ [] → (node < n) × (Contains (listed zero.tree) node → ⊥) × (Contains (listed one.tree) node → ⊥)
@@ -61,11 +53,6 @@ items_in_range n node i lt =
 
 pub links_of : (n copy : ℕ) (p : Picture) (links : List Store) → p.capacity ≡ n → p.copy ≡ copy → AreLinks p links → AreLinkStores n copy links
 links_of n copy p links ec ek are = subst (λ k. AreLinkStores k copy links) ec (subst (λ c. AreLinkStores p.capacity c links) ek are.words)
-
-links_in_range : (n copy : ℕ) (links : List Store) → copy ≤ 1 → AreLinkStores n copy links → All (λ (s : Store). s.word < words_for n) links
-links_in_range n copy links one are =
-    All-from_recursion (λ (s : Store). s.word < words_for n) links
-    (all_weaker (λ (s : Store). IsLinkWord n copy s.word) (λ (s : Store). s.word < words_for n) (λ s a. (link_place n copy s.word one a).1) links are)
 
 flip_in_range : (n seq : ℕ) (links : List Store) → All (λ (s : Store). s.word < words_for n) links → All (λ (s : Store). s.word < words_for n) (flip_to seq ∷ links)
 flip_in_range n seq links all = All-cons (λ (s : Store). s.word < words_for n) (flip_to seq) links (omega arith) all

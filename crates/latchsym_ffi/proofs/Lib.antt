@@ -2,5 +2,3 @@
 pub mod CatalogHandleValues
 pub mod WriterHandleValues
 pub mod ReaderHandleValues
--- what each of some boxes holds
-mod Boxes

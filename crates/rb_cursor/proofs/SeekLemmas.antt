@@ -24,6 +24,7 @@ use Rattle.rb_trees.specs.Paths.{past_left, past_right, way_by, place_at, place_
 use Rattle.rb_trees.specs.Paths.{way_from, plugged}
 use Rattle.rb_trees.specs.Found.{met}
 use Rattle.order_laws.specs.Orders.{Order}
+use Rattle.order_laws.proofs.Orderings.{Greater-from_tests, Less-from_is_lt}
 use Rattle.rb_cursor.proofs.ChangeLemmas.{rewrites}
 use Rattle.rb_cursor.proofs.HeldLemmas.{same_value, written_back}
 use Rattle.rb_cursor.proofs.HeldLemmas.{Is, show, with_step, depth_is, left_opened, right_opened}
@@ -270,32 +271,17 @@ item_goes less x i start key n left side link steps s some found test here there
     (item_by less x i start key n left s some found few test)
 
 -- a step of the way of what is sought
-is_before : (o : Ordering) → is_eq o ≡ false → is_lt o ≡ true → o ≡ Less
-is_before Less other test = refl
-is_before Equal other test = absurd (cc)
-is_before Greater other test = absurd (cc)
-
-is_behind : (o : Ordering) → is_eq o ≡ false → is_lt o ≡ false → o ≡ Greater
-is_behind Less other test = absurd (cc)
-is_behind Equal other test = absurd (cc)
-is_behind Greater other test = refl
-
-pub is_at : (o : Ordering) → is_eq o ≡ true → o ≡ Equal
-is_at Less test = absurd (cc)
-is_at Equal test = refl
-is_at Greater test = absurd (cc)
-
 seen_by : (seen : Record → Ordering) (i : Inside) (start : Zipper) (key : ℕ) (n : Node)
     (left : Bool) → Sought (seen_way seen) i start → i.tree ≡ suc key →
     get i.nodes key ≡ Some n → i.depth < 64 → is_eq (seen (record_of n)) ≡ false →
     left ≡ is_lt (seen (record_of n)) →
     Steps (seen_way seen) i (with_step i (side_by left) (child_at (side_by left) n)) start
 seen_by seen i start key n true s some found few other test =
-    let turn = seen_left seen n (is_before (seen (record_of n)) other (sym test)) in
+    let turn = seen_left seen n (Less-from_is_lt (seen (record_of n)) other (sym test)) in
     let g = goes_left (seen_way seen) i start key n s some found few turn in
     record { sought = g.sought; less = g.less }
 seen_by seen i start key n false s some found few other test =
-    let turn = seen_right seen n (is_behind (seen (record_of n)) other (sym test)) in
+    let turn = seen_right seen n (Greater-from_tests (seen (record_of n)) other (sym test)) in
     let g = goes_right (seen_way seen) i start key n s some found few turn in
     record { sought = g.sought; less = g.less }
 

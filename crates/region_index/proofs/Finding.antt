@@ -1,18 +1,19 @@
 -- What a search of the list by rising first address finds.
-use Rattle.std.proofs.Common.{◌≡◌, ℕ, zero, suc, ◌-◌, ◌<◌, ◌≤◌, ◌⊎◌, inl, inr, ⊎_elim, true, false, nat_le, List, length, map, get_or, Option, Some, None, refl, sym, ap, subst, ◌∙◌, arith, [], ◌∷◌}
-use Rattle.std.specs.Prelude.{Contains, All, IfSome}
+use Rattle.std.proofs.Common.{◌≡◌, ℕ, ◌-◌, ◌<◌, ◌≤◌, ◌⊎◌, inl, inr, ⊎_elim, true, false, nat_le, List, length, map, get_or, Option, Some, None, refl, sym, ap, subst, ◌∙◌, arith}
+use Rattle.std.specs.Prelude.{Contains, All}
 use Rattle.std.specs.List.{AllPairs}
 use Rattle.std.specs.List.Sorted.{IsPartitionPoint}
-use Rattle.std.specs.declared.cmp.Ordering.TheVariants.{Equal}
-use Rattle.std.proofs.lemmas.Bool.{cases_lt}
+use Rattle.std.proofs.lemmas.Bool.{cases_lt, leb-false, leb-true}
 use Rattle.std.proofs.lemmas.Bool.Decides.{nat_tests}
 use Rattle.std.proofs.lemmas.List.{get_or_default, length-map}
 use Rattle.std.proofs.lemmas.List.Elements.{All-contains}
 use Rattle.std.proofs.lemmas.List.Sorted.{Contains-permutation, IsPermutation-sym}
 use Rattle.order_laws.specs.declared.items.Item.{Item}
 use Rattle.order_laws.specs.Orders.{half_open}
-use Rattle.order_laws.specs.Tables.{IsLook, look}
+use Rattle.order_laws.specs.Tables.{IsLook}
 use Rattle.order_laws.proofs.TableLemmas.{look_is}
+use Rattle.order_laws.proofs.Lists.{get_or-map_default}
+use Rattle.order_laws.proofs.HalfOpenLemmas.{begins, ends, equal_inside}
 use Rattle.modules.specs.Catalogs.{IsSound}
 use Rattle.modules.specs.Entries.{CatalogEntries}
 use Rattle.modules.specs.Regions.{is_apart}
@@ -20,45 +21,16 @@ use Rattle.region_index.specs.Indexes.{IsIndexOf, IsSplit}
 use Rattle.region_index.specs.Items.{item_at, items_of}
 use Rattle.region_index.proofs.Regions.{all_regions, in_map, region_of}
 
-le_from_leb : (a b : ℕ) → nat_le a b ≡ true → a ≤ b
-le_from_leb a b h = grind (arith, nat_tests)
-
-lt_from_leb : (a b : ℕ) → nat_le a b ≡ false → b < a
-lt_from_leb a b h = grind (arith, nat_tests)
-
 pub IsSplit-from_partition : (items : List Item) (addr split : ℕ) → split ≤ length items → IsPartitionPoint (λ i. nat_le i.a addr ≡ true) (λ i. nat_le i.a addr ≡ false) items split → IsSplit items addr split
 IsSplit-from_partition items addr split bound point =
     record {
       bound = bound;
-      below = λ k d lt. le_from_leb (get_or items k d).a addr (point.0 k d (omega arith) lt);
-      above = λ k d le lt. lt_from_leb (get_or items k d).a addr (point.1 k d le lt);
+      below = λ k d lt. leb-true (get_or items k d).a addr (point.0 k d (omega arith) lt);
+      above = λ k d le lt. leb-false (get_or items k d).a addr (point.1 k d le lt);
     }
-
-equal_inside : (k : ℕ) (i : Item) → i.a ≤ k → k < i.b → half_open.comp k i ≡ Equal
-equal_inside k i le lt = grind (arith, nat_tests)
-
-begins : (k : ℕ) (i : Item) → half_open.comp k i ≡ Equal → i.a ≤ k
-begins k i e = grind (arith, nat_tests)
-
-ends : (k : ℕ) (i : Item) → half_open.comp k i ≡ Equal → k < i.b
-ends k i e = grind (arith, nat_tests)
-
--- an item that is found for a key holds it
-holds_key : (k : ℕ) (t : List Item) (x : Option Item) → IsLook half_open k t x → IfSome x (λ i. (i.a ≤ k) × (k < i.b))
-holds_key k t None h = tt
-holds_key k t (Some i) h = (begins k i h.1, ends k i h.1)
-
-pub found_holds : (k : ℕ) (t : List Item) (x : Option Item) → x ≡ look half_open k t → IfSome x (λ i. (i.a ≤ k) × (k < i.b))
-found_holds k t x e = holds_key k t x (subst (IsLook half_open k t) (sym e) (look_is half_open k t))
 
 beside : (x y : Item) → is_apart (region_of x) (region_of y) ≡ true → (x.b ≤ y.a) ⊎ (y.b ≤ x.a)
 beside x y h = ⊎_elim (λ lt. inr (let q : y.b ≤ x.a = grind (arith, nat_tests) in q)) (λ le. inl le) (cases_lt y.a x.b)
-
--- the place of an element of a list is also that of what is made of it
-made_at : {X Y : Type 0} (f : X → Y) (xs : List X) (i : ℕ) (d : X) → get_or (map f xs) i (f d) ≡ f (get_or xs i d)
-made_at f [] i d = refl
-made_at f (x ∷ xs) zero d = refl
-made_at f (x ∷ xs) (suc i) d = made_at f xs i d
 
 module _ (c : CatalogEntries) (sound : IsSound c) where
   pairs : AllPairs (λ r s. is_apart r s ≡ true) (map region_of (items_of c))
@@ -68,8 +40,8 @@ module _ (c : CatalogEntries) (sound : IsSound c) where
   earlier : (x y : Item) (i j : ℕ) → i < j → j < length (items_of c) → get_or (items_of c) i x ≡ x → get_or (items_of c) j y ≡ y → (x.b ≤ y.a) ⊎ (y.b ≤ x.a)
   earlier x y i j less lt at there =
       let r = pairs i j (region_of x) less (omega (arith, length-map (items_of c) region_of)) in
-      let e : get_or (map region_of (items_of c)) i (region_of x) ≡ region_of x = made_at region_of (items_of c) i x ∙ ap region_of at in
-      let f : get_or (map region_of (items_of c)) j (region_of x) ≡ region_of y = made_at region_of (items_of c) j x ∙ ap region_of (get_or_default (items_of c) j x y lt ∙ there) in
+      let e : get_or (map region_of (items_of c)) i (region_of x) ≡ region_of x = get_or-map_default region_of (items_of c) i x ∙ ap region_of at in
+      let f : get_or (map region_of (items_of c)) j (region_of x) ≡ region_of y = get_or-map_default region_of (items_of c) j x ∙ ap region_of (get_or_default (items_of c) j x y lt ∙ there) in
       beside x y (subst (λ b. is_apart (region_of x) b ≡ true) f (subst (λ a. is_apart a (get_or (map region_of (items_of c)) j (region_of x)) ≡ true) e r))
 
   other_side : (x y : Item) → (y.b ≤ x.a) ⊎ (x.b ≤ y.a) → (x.b ≤ y.a) ⊎ (y.b ≤ x.a)

@@ -1,12 +1,13 @@
 use Rattle.std.proofs.Common.{false, ◌++◌, [], take, refl, subst, arith}
 use Rattle.std.proofs.lemmas.List.{take_all}
+use Rattle.order_laws.proofs.Lists.{take_push}
 use Rattle.word_arena.specs.Layouts.{capacity_of, limit_of}
 use Rattle.latch_steps.specs.Runs.{last_of, opening}
 use Rattle.latch_steps.specs.Expands.{Expand}
 use Rattle.latch_steps.proofs.SafeRuns.{safe}
 use Rattle.latch_steps.proofs.Patient.{quiet, near}
 use Rattle.latch_steps.specs.Near.{AreShallow}
-use Rattle.latch_steps.proofs.Recording.{records_none, records_append, notes_of_run, expand_push, one_more_taken}
+use Rattle.latch_steps.proofs.Recording.{records_none, records_append, notes_of_run, expand_push}
 use Rattle.latch_steps.proofs.Counting.{few_counted}
 use Rattle.latch_steps.proofs.PlainRuns.{exact_where_plain}
 use Rattle.latch_steps.proofs.runs.drive_notes.Goals as goal
@@ -21,7 +22,7 @@ loop-command-preserved g c =
     let d = c.in_ok-obey.ensures.obeyed (last_of w0 h.0) h.1.shows in
     let xs = c.args.commands.now in
     let i = c.loop-command.command-index in
-    let taken = one_more_taken xs i c.command-item.result (omega arith) c.command-item.is in (
+    let taken = take_push xs i c.command-item.result (omega arith) c.command-item.is in (
       h.0 ++ d.0,
       records_append g.O.TreeOrder.order false c.in_ok-recorder.recorder c.loop-command.recorder c.obey.new.self w0 h.0 d.0 h.1 d.1,
       subst (λ cs. Expand w0 cs (h.0 ++ d.0)) taken (expand_push w0 (take i xs) c.command-item.result h.0 d.0 h.2 d.2),

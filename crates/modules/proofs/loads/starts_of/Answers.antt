@@ -1,7 +1,8 @@
 use Rattle.std.proofs.Common.{◌≡◌, ℕ, ◌+◌, ◌≤◌, cond, List, [], ◌∷◌, ◌++◌, length, get_or, take, sym, ap, ◌∙◌, arith}
+use Rattle.order_laws.proofs.Lists.{length-picked}
 use Rattle.modules.specs.Starts.{starts_of}
 use Rattle.modules.specs.declared.lines.Part.TheVariants.{Core}
-use Rattle.modules.proofs.Loading.{length_more, starts_more}
+use Rattle.modules.proofs.Loading.{starts_more}
 use Rattle.modules.proofs.loads.starts_of.Goals as goal
 
 pub loop-place-preserved : goal.loop-place-preserved
@@ -14,5 +15,5 @@ loop-place-preserved c =
     let done : List ℕ = starts_of c.args.core c.args.init (take place regions) (take place parts) in
     record {
       starts = c.push_if.ensures ∙ ap (λ (xs : List ℕ). xs ++ cond c.is_of-wanted.result (start ∷ []) []) i.starts ∙ ap (λ b. done ++ cond b (start ∷ []) []) c.is_of-wanted.ensures ∙ sym (starts_more c.args.core c.args.init regions parts place (0, 0) Core (omega (arith, c.requires.same)) (omega arith));
-      few = let h = ap (λ (xs : List ℕ). length xs) c.push_if.ensures in let k : length (c.loop-place.starts.items ++ cond c.is_of-wanted.result (start ∷ []) []) ≤ length c.loop-place.starts.items + 1 = length_more c.loop-place.starts.items c.is_of-wanted.result start in omega arith;
+      few = let h = ap (λ (xs : List ℕ). length xs) c.push_if.ensures in let k : length (c.loop-place.starts.items ++ cond c.is_of-wanted.result (start ∷ []) []) ≤ length c.loop-place.starts.items + 1 = length-picked c.loop-place.starts.items c.is_of-wanted.result start in omega arith;
     }

@@ -1,5 +1,7 @@
 use Rattle.std.proofs.Common.{sym}
-use Rattle.modules.proofs.Spreading.{apart_from_none, tested_by_last, below_from_Less, Less_from_below, not_below}
+use Rattle.std.proofs.lemmas.Map.Keys.{ge_from_not_lt}
+use Rattle.order_laws.proofs.Orderings.{Less-from_lt, lt-from_Less}
+use Rattle.modules.proofs.Spreading.{apart_from_none, tested_by_last}
 use Rattle.modules.proofs.regions.Regions.is_apart.Goals as goal
 
 pub returns-in-Some : goal.returns-in-Some
@@ -9,10 +11,10 @@ returns-in-Some c =
     let e = c.in-Some.last_end.now in
     let within = c.range.ensures.in_range tt in
     let last = within.3 (s, e) c.next_back.new.self c.in-Some.ensures.steps in
-    rw (← c.self.view_is) (tested_by_last m c.range.ensures.ordered c.self.invariant c.args.start c.args.end s e last.1 (below_from_Less s c.args.end last.0.1) (λ q below found. not_below s q (within.4 (s, e) c.next_back.new.self c.in-Some.ensures.steps q (tt, Less_from_below q c.args.end below) found)))
+    rw (← c.self.view_is) (tested_by_last m c.range.ensures.ordered c.self.invariant c.args.start c.args.end s e last.1 (lt-from_Less s c.args.end last.0.1) (λ q below found. ge_from_not_lt s q (within.4 (s, e) c.next_back.new.self c.in-Some.ensures.steps q (tt, Less-from_lt q c.args.end below) found)))
 
 pub returns-in-None : goal.returns-in-None
 returns-in-None c =
     let m = c.self.inside.ends in
     let within = c.range.ensures.in_range tt in
-    rw (← c.self.view_is) (sym (apart_from_none m c.range.ensures.ordered c.args.start c.args.end (λ q below. within.5 c.in-None.ensures.steps.0 q (tt, Less_from_below q c.args.end below))))
+    rw (← c.self.view_is) (sym (apart_from_none m c.range.ensures.ordered c.args.start c.args.end (λ q below. within.5 c.in-None.ensures.steps.0 q (tt, Less-from_lt q c.args.end below))))

@@ -1,9 +1,9 @@
 use Rattle.std.proofs.Common.{◌-◌, List, sym, ap, ◌∙◌, arith}
+use Rattle.order_laws.proofs.Orderings.{Equal-from_is_eq}
 use Rattle.rb_trees.specs.Trees.{Branches}
 use Rattle.rb_trees.specs.Paths.{Above}
 use Rattle.rb_cursor.specs.Keyed.{record_of}
 use Rattle.rb_cursor.proofs.SeekLemmas.{step_fits, seen_way, seen_goes, seen_ends, seen_misses}
-use Rattle.rb_cursor.proofs.SeekLemmas.{is_at}
 use Rattle.rb_cursor.proofs.cursors.Cursor.seek.Goals as goal
 
 pub set_step-requires : goal.set_step-requires
@@ -42,7 +42,7 @@ returns-then-is_at-clause-tree g c =
     (record c.loop-link.self-inside { tree = c.loop-link.link; depth = c.loop-link.depth })
     c.args.self.now (c.loop-link.link - 1) c.index_mut-node.result.now
     c.loop-link.invariant (omega (arith, c.loop-link-test.true)) c.index_mut-node.ensures.value
-    (is_at (g.P.Probe.seen c.args.sought.now (record_of c.index_mut-node.result.now))
+    (Equal-from_is_eq (g.P.Probe.seen c.args.sought.now (record_of c.index_mut-node.result.now))
     (sym (c.is_at.ensures c.index_mut-node.result.now.node) ∙ c.if-is_at.true)))
 
 pub returns-then-is_at-clause-path : goal.returns-then-is_at-clause-path
@@ -52,7 +52,7 @@ returns-then-is_at-clause-path g c =
     (record c.loop-link.self-inside { tree = c.loop-link.link; depth = c.loop-link.depth })
     c.args.self.now (c.loop-link.link - 1) c.index_mut-node.result.now
     c.loop-link.invariant (omega (arith, c.loop-link-test.true)) c.index_mut-node.ensures.value
-    (is_at (g.P.Probe.seen c.args.sought.now (record_of c.index_mut-node.result.now))
+    (Equal-from_is_eq (g.P.Probe.seen c.args.sought.now (record_of c.index_mut-node.result.now))
     (sym (c.is_at.ensures c.index_mut-node.result.now.node) ∙ c.if-is_at.true)))
 
 pub returns-clause-tree : goal.returns-clause-tree
