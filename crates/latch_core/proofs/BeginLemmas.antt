@@ -1,19 +1,23 @@
 -- An update that begins: what was tested, the node that an insert takes, and what the core then
 -- has in hand.
-use Rattle.std.proofs.Common.{◌≡◌, ℕ, suc, ◌+◌, ◌*◌, ◌<◌, ◌≤◌, true, false, List, [], ◌∷◌, ◌++◌, length, None, refl, sym, ◌∙◌, ap, subst, arith, length-append}
-use Rattle.std.specs.Prelude.{All, nat_lt, insert, Contains}
-use Rattle.std.proofs.lemmas.Bool.{ltb-false, lt-ltb}
-use Rattle.std.proofs.lemmas.List.Elements.{All-append, All-cons, All-from_recursion}
+use Rattle.std.proofs.Common.{◌≡◌, ℕ, suc, ◌+◌, ◌*◌, ◌<◌, ◌≤◌, true, false, List, [], ◌∷◌, ◌++◌, length, None, refl, sym, ◌∙◌, ap, subst, arith, length-append, inl, inr}
+use Rattle.std.specs.Prelude.{All, nat_lt, insert, Contains, remove}
+use Rattle.std.proofs.lemmas.Bool.{ltb-false, or_parts}
+use Rattle.std.proofs.lemmas.List.Elements.{All-append, All-cons, All-from_recursion, All-nil}
 use Rattle.std.proofs.Math.Nat.{mul-le-mul_right}
 use Rattle.order_laws.specs.declared.items.Item.{Item}
 use Rattle.order_laws.specs.Orders.{Order}
-use Rattle.order_laws.specs.Tables.{without_all}
-use Rattle.order_laws.proofs.TableLemmas.{all_weaker}
+use Rattle.order_laws.specs.Tables.{without_all, place_for, place_of, with_item, without}
 use Rattle.word_arena.specs.declared.stores.Store.{Store}
-use Rattle.word_arena.specs.Words.{words_for, Nodes, listed}
-use Rattle.word_arena.specs.Stores.{IsLinkWord, AreLinkStores}
-use Rattle.word_arena.proofs.WordLemmas.{link_place}
-use Rattle.rb_words.specs.Pictures.{Picture}
+use Rattle.word_arena.specs.Words.{words_for, Nodes, listed, at, Holds, IsUnreached}
+use Rattle.word_arena.specs.Stores.{IsLinkWord, AreLinkStores, words_after_all}
+use Rattle.word_arena.proofs.WordLemmas.{link_place, item_place}
+use Rattle.rb_words.specs.Pictures.{Picture, IsPictured}
+use Rattle.order_laws.proofs.Lists.{nil-from_length}
+use Rattle.word_arena.proofs.LinkLemmas.{links_in_range}
+use Rattle.word_arena.proofs.StoreLemmas.{after_append}
+use Rattle.rb_trees.specs.Trees.{CanBeRedBlack}
+use Rattle.rb_words.specs.Plans.{Inserts, Erases, LeadsWithItem, LeadsByLinks, AreLinks, item_stores}
 use Rattle.latch_core.specs.declared.updates.Update.{Update}
 use Rattle.latch_core.specs.declared.updates.Update.TheVariants.{Batch}
 use Rattle.latch_core.specs.Updates.{after, size_of, some_invalid, some_missing, some_twice, some_overlap, some_meet}
@@ -23,28 +27,18 @@ use Rattle.latch_core.specs.FreeNodes.{AreAllNodes}
 use Rattle.latch_core.specs.WriterViews.{WriterView}
 use Rattle.latch_core.specs.Writers.{AtRest, Pictures, HasBegun, AreInStep, why_refused}
 use Rattle.latch_core.proofs.TestLemmas.{NoneHolds, all_tests, none_holds}
-use Rattle.latch_core.proofs.BatchLemmas.{neither}
 use Rattle.latch_core.proofs.Planned.{Leading}
 use Rattle.latch_core.proofs.NodeLemmas.{last_is_free}
 use Rattle.latch_core.proofs.WriterLemmas.{begun_pictures, rest_now}
-
-pub idle_by : (xs : List Store) → length xs ≤ 0 → nat_lt 0 (length xs) ≡ false
-idle_by [] e = refl
-idle_by (x ∷ xs) e = absurd (omega arith)
 
 -- what an accepted update has passed
 pub record Accepted (w : WriterView) : Type 0 where
   pub idle : w.left ≡ []
   pub counts : w.sequence + 2 ≤ w.limit
 
-pub idle_from : (xs : List Store) → nat_lt 0 (length xs) ≡ false → xs ≡ []
-idle_from [] e = refl
-idle_from (x ∷ xs) e =
-    absurd (let more : nat_lt 0 (suc (length xs)) ≡ true = lt-ltb 0 (suc (length xs)) (omega arith) in let f : true ≡ false = sym more ∙ e in cc)
-
 pub accepted_by : (w : WriterView) → nat_lt 0 (length w.left) ≡ false → nat_lt w.limit (w.sequence + 2) ≡ false → Accepted w
 accepted_by w busy spent =
-    record { idle = idle_from w.left busy; counts = ltb-false w.limit (w.sequence + 2) spent }
+    record { idle = nil-from_length w.left busy; counts = ltb-false w.limit (w.sequence + 2) spent }
 
 -- what an accepted batch has passed
 pub record AcceptedBatch {K : Type 0} (o : Order K) (w : WriterView) (erase : List ℕ) (insert : List Item) : Type 0 where
@@ -60,8 +54,8 @@ pub accepted_batch : {K : Type 0} (o : Order K) (w : WriterView) (erase : List �
 accepted_batch o w erase insert e =
     let tests = all_tests o w.capacity w.limit (nat_lt 0 (length w.left)) w.table w.sequence (Batch erase insert) in
     let h : NoneHolds tests = none_holds tests e in
-    let words = neither (some_missing erase w.table) (some_twice erase) h.1.1.0 in
-    let items = neither (some_overlap o insert) (some_meet o insert (without_all erase w.table)) h.1.1.1.0 in
+    let words = or_parts (some_missing erase w.table) (some_twice erase) h.1.1.0 in
+    let items = or_parts (some_overlap o insert) (some_meet o insert (without_all erase w.table)) h.1.1.1.0 in
     record {
       accepted = accepted_by w h.0 h.1.1.1.1.1.0;
       valid = h.1.0;
@@ -80,10 +74,6 @@ taken_node n zero one free rest node left step e =
     last_is_free n node rest (listed zero.tree) (subst (λ xs. AreAllNodes n (xs ++ listed zero.tree)) e step.nodes)
 
 -- the stores lie in the memory
-links_in_range : (n copy : ℕ) (links : List Store) → copy ≤ 1 → AreLinkStores n copy links → All (λ (s : Store). s.word < words_for n) links
-links_in_range n copy links one are =
-    All-from_recursion (λ (s : Store). s.word < words_for n) links
-    (all_weaker (λ (s : Store). IsLinkWord n copy s.word) (λ (s : Store). s.word < words_for n) (λ s a. (link_place n copy s.word one a).1) links are)
 
 flip_in_range : (n seq : ℕ) (links : List Store) → All (λ (s : Store). s.word < words_for n) links → All (λ (s : Store). s.word < words_for n) (flip_to seq ∷ links)
 flip_in_range n seq links all = All-cons (λ (s : Store). s.word < words_for n) (flip_to seq) links (omega arith) all

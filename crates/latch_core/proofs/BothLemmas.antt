@@ -8,7 +8,8 @@ use Rattle.std.proofs.lemmas.List.Elements.{All-from_recursion, Contains-append_
 use Rattle.order_laws.specs.declared.items.Item.{Item}
 use Rattle.order_laws.specs.Orders.{Order}
 use Rattle.order_laws.specs.Tables.{place_for, place_of}
-use Rattle.order_laws.proofs.TableLemmas.{all_weaker}
+use Rattle.order_laws.proofs.Each.{all_append, all_weaker}
+use Rattle.word_arena.proofs.LinkLemmas.{same_item}
 use Rattle.word_arena.specs.declared.stores.Store.{Store}
 use Rattle.word_arena.specs.Words.{at, words_for, item_at, a_word, b_word, tag_word, Holds, IsUnreached, listed}
 use Rattle.word_arena.specs.Stores.{words_after, words_after_all, IsItemWord, AreLinkStores}
@@ -31,7 +32,7 @@ use Rattle.latch_core.specs.WriterViews.{WriterView}
 use Rattle.latch_core.specs.Writers.{AreInStep, HasBegun}
 use Rattle.latch_core.proofs.Steps.{after_insert, after_erase}
 use Rattle.latch_core.proofs.NodeLemmas.{node_taken, node_freed}
-use Rattle.latch_core.proofs.ChangeLemmas.{same_item, all_append, both_then, free_node}
+use Rattle.latch_core.proofs.ChangeLemmas.{both_then, free_node}
 use Rattle.latch_core.proofs.Planned.{Leading, IsFreeStore, AreFreeStores, items_unused}
 use Rattle.latch_core.proofs.BeginLemmas.{update_in_range, update_length, has_begun}
 use Rattle.latch_core.proofs.WriterLemmas.{unlisted}

@@ -1,21 +1,25 @@
 -- Several changes of both copies, one after another.
-use Rattle.std.proofs.Common.{◌≡◌, ◌≢◌, ℕ, suc, ◌+◌, ◌-◌, ◌<◌, ◌≤◌, true, false, cond, List, [], ◌∷◌, ◌++◌, length, take, drop, get_or, zero, refl, sym, ◌∙◌, ap, subst, inl, inr, ⊎_elim, arith, append_assoc}
-use Rattle.std.specs.Prelude.{not, ◌||◌, ◌==◌, map, Contains, insert, slice_set, slice_index_or}
+use Rattle.std.proofs.Common.{◌≡◌, ◌≢◌, ℕ, ◌+◌, ◌-◌, ◌<◌, ◌≤◌, true, false, List, [], ◌∷◌, ◌++◌, length, take, drop, get_or, zero, refl, sym, ◌∙◌, ap, subst, inl, inr, arith, append_assoc}
+use Rattle.std.specs.Prelude.{not, ◌==◌, map, Contains, insert}
 use Rattle.std.specs.List.{AllByRecursion, list_any, swap_remove}
 use Rattle.std.proofs.lemmas.List.Elements.{All-contains_itself, recursion_from_All}
-use Rattle.std.proofs.lemmas.Bool.{eq-eqb, ne_eqb, eqb-true, cases_eq}
-use Rattle.std.proofs.lemmas.List.{map-append, take_more, append-nil, take-take, take-set}
+use Rattle.std.proofs.lemmas.Bool.{not-false, or_parts}
+use Rattle.std.proofs.lemmas.List.{map-append, take_more, append-nil, drop_more}
 use Rattle.std.proofs.lemmas.List.Sorted.{IsPermutation-trans, IsPermutation-append_left, IsPermutation-append_comm, IsPermutation-swap_remove}
 use Rattle.order_laws.specs.declared.items.Item.{Item}
 use Rattle.order_laws.specs.Orders.{Order, IsLawful}
-use Rattle.order_laws.specs.Tables.{without, without_all, with_item, has, place_for, place_of}
-use Rattle.order_laws.proofs.TableLemmas.{all_weaker, all_left, all_right, length_without}
+use Rattle.order_laws.specs.Tables.{without, with_item, has, place_for, place_of}
 use Rattle.order_laws.proofs.PlaceLemmas.{without_none}
+use Rattle.order_laws.proofs.Each.{all_append, all_left, all_right, all_weaker}
+use Rattle.order_laws.proofs.Lists.{take-swap_remove}
+use Rattle.order_laws.proofs.Tests.{all_fail}
+use Rattle.order_laws.proofs.WithoutLemmas.{all_has_without, length_without_one, without_more}
+use Rattle.word_arena.proofs.LinkLemmas.{same_item}
 use Rattle.word_arena.specs.declared.stores.Store.{Store}
-use Rattle.word_arena.specs.Words.{item_at, listed, a_word, b_word, tag_word}
+use Rattle.word_arena.specs.Words.{item_at, listed}
 use Rattle.word_arena.specs.Stores.{words_after_all, AreLinkStores, IsLinkWord, IsItemWord}
 use Rattle.word_arena.proofs.WordLemmas.{link_no_item}
-use Rattle.word_arena.proofs.StoreLemmas.{Agree, after_append, untouched}
+use Rattle.word_arena.proofs.StoreLemmas.{after_append, untouched}
 use Rattle.rb_words.specs.Pictures.{Picture, IsPictured}
 use Rattle.rb_words.specs.Plans.{Inserts, Erases, LeadsWithItem, LeadsByLinks, item_stores}
 use Rattle.rb_words.specs.Mirrors.{mirror, mirror_store, second}
@@ -24,23 +28,14 @@ use Rattle.rb_words.proofs.MirrorLemmas.{inserts_mirrored, with_item_mirrored, e
 use Rattle.latch_core.specs.Updates.{some_missing, some_twice, some_invalid, some_overlap, some_meet, with_items}
 use Rattle.latch_core.specs.FreeNodes.{AreAllNodes}
 use Rattle.latch_core.specs.Changes.{Placed, placing_stores, HasPlaced, LeadsBeside, LeadsBoth, ErasesAll, InsertsAll}
-use Rattle.latch_core.proofs.BatchLemmas.{neither, none_of, not_false, AreApart, AreOff, all_valid, all_apart, all_off, still_off}
+use Rattle.latch_core.proofs.BatchLemmas.{AreApart, AreOff, all_valid, all_apart, all_off, still_off}
 use Rattle.latch_core.proofs.NodeLemmas.{moved_nodes, node_freed, node_taken, last_is_free}
-
--- links leave the words of items as they are
-pub same_item : (m m' : List ℕ) (i : ℕ) → Agree (IsItemWord i) m m' → item_at m' i ≡ item_at m i
-same_item m m' i same =
-    λ k. record { a = same (a_word i) (inl refl) k; b = same (b_word i) (inr (inl refl)) k; tag = same (tag_word i) (inr (inr refl)) k }
 
 placed_kept : (m : List ℕ) (n copy : ℕ) (links : List Store) → copy ≤ 1 → AreLinkStores n copy links → (placed : Placed) → HasPlaced m placed → HasPlaced (words_after_all m links) placed
 placed_kept m n copy links c are placed h =
     all_weaker (λ (p : ℕ × Item). item_at m p.0 ≡ p.1) (λ (p : ℕ × Item). item_at (words_after_all m links) p.0 ≡ p.1)
     (λ p e. same_item m (words_after_all m links) p.0 (untouched (IsItemWord p.0) m links (all_weaker (λ (s : Store). IsLinkWord n copy s.word) (λ (s : Store). IsItemWord p.0 s.word → ⊥) (λ s l i. link_no_item n copy p.0 s.word c l i) links are)) ∙ e)
     placed h
-
-pub all_append : {X : Type 0} (P : X → Type 0) (xs ys : List X) → AllByRecursion P xs → AllByRecursion P ys → AllByRecursion P (xs ++ ys)
-all_append P [] ys a b = b
-all_append P (x ∷ xs) ys a b = (a.0, all_append P xs ys a.1 b)
 
 -- one change after another
 pub beside_then : (a b c : Picture) (p q : Placed) (xs ys : List Store) → a.copy ≤ 1 → LeadsBeside a b p xs → LeadsBeside b c q ys → LeadsBeside a c (p ++ q) (xs ++ ys)
@@ -96,59 +91,9 @@ both_erase a b w node links e er leads =
       one = beside_erase (second a) (second b) w node (mirror links) (erases_mirrored a b w node e er) (by_links_mirrored a b e er.capacity er.copy links leads);
     }
 
--- without one first word more
-without_more : (gone : List ℕ) (a : ℕ) (xs : List Item) → without_all (gone ++ a ∷ []) xs ≡ without a (without_all gone xs)
-without_more gone a [] = refl
-without_more gone a (x ∷ xs) =
-    ap (λ b. cond (not b) (x ∷ without_all (gone ++ a ∷ []) xs) (without_all (gone ++ a ∷ []) xs)) (any_more gone x.a)
-    ∙ (elim (list_any (λ b. b == x.a) gone) as (λ g. cond (not (g || (x.a == a))) (x ∷ without_all (gone ++ a ∷ []) xs) (without_all (gone ++ a ∷ []) xs) ≡ without a (cond (not g) (x ∷ without_all gone xs) (without_all gone xs))) [
-      | true ↦ without_more gone a xs
-      | false ↦
-          elim (x.a == a) as (λ e. cond (not e) (x ∷ without_all (gone ++ a ∷ []) xs) (without_all (gone ++ a ∷ []) xs) ≡ cond (not e) (x ∷ without a (without_all gone xs)) (without a (without_all gone xs))) [
-            | true ↦ without_more gone a xs
-            | false ↦ ap (λ ys. x ∷ ys) (without_more gone a xs)
-          ]
-    ])
-  where
-    flipped : (c w : ℕ) → ((c == w) || false) ≡ (w == c)
-    flipped c w =
-        ⊎_elim
-        (λ same. ap (λ b. b || false) (eq-eqb c w same) ∙ sym (eq-eqb w c (sym same)))
-        (λ differ. ap (λ b. b || false) (ne_eqb c w differ) ∙ sym (ne_eqb w c (λ e. differ (sym e))))
-        (cases_eq c w)
-
-    any_more : (gone : List ℕ) (w : ℕ) → list_any (λ b. b == w) (gone ++ a ∷ []) ≡ (list_any (λ b. b == w) gone || (w == a))
-    any_more [] w = flipped a w
-    any_more (b ∷ rest) w =
-        elim (b == w) as (λ e. (e || list_any (λ b. b == w) (rest ++ a ∷ [])) ≡ ((e || list_any (λ b. b == w) rest) || (w == a))) [
-          | true ↦ refl
-          | false ↦ any_more rest w
-        ]
-
--- a table without a first word has the other ones still
-has_without : (a b : ℕ) (xs : List Item) → b ≢ a → has b xs ≡ true → has b (without a xs) ≡ true
-has_without a b [] ne h = absurd (cc)
-has_without a b (x ∷ xs) ne h =
-    elim (x.a == a) as (λ e. (x.a == a) ≡ e → has b (cond (not e) (x ∷ without a xs) (without a xs)) ≡ true) [
-      | true ↦ λ is.
-          let other : (x.a == b) ≡ false = ne_eqb x.a b (λ f. ne (sym f ∙ eqb-true x.a a is)) in
-          has_without a b xs ne (ap (λ c. c || has b xs) (sym other) ∙ h)
-      | false ↦ λ is.
-          elim (x.a == b) as (λ e. (e || has b xs) ≡ true → (e || has b (without a xs)) ≡ true) [
-            | true ↦ λ f. refl
-            | false ↦ λ f. has_without a b xs ne f
-          ] h
-    ] refl
-
-all_has_without : (a : ℕ) (rest : List ℕ) (xs : List Item) → list_any (λ b. b == a) rest ≡ false → AllByRecursion (λ b. has b xs ≡ true) rest → AllByRecursion (λ b. has b (without a xs) ≡ true) rest
-all_has_without a [] xs d h = tt
-all_has_without a (b ∷ rest) xs d h =
-    let both = neither (b == a) (list_any (λ c. c == a) rest) d in
-    (has_without a b xs (λ e. absurd (let f : true ≡ false = sym (eq-eqb b a e) ∙ both.0 in cc)) h.0, all_has_without a rest xs both.1 h.1)
-
 pub all_there : (words : List ℕ) (xs : List Item) → some_missing words xs ≡ false → AllByRecursion (λ b. has b xs ≡ true) words
 all_there words xs e =
-    all_weaker (λ b. not (has b xs) ≡ false) (λ b. has b xs ≡ true) (λ b f. not_false (has b xs) f) words (none_of (λ b. not (has b xs)) words e)
+    all_weaker (λ b. not (has b xs) ≡ false) (λ b. has b xs ≡ true) (λ b f. not-false (has b xs) f) words (all_fail (λ b. not (has b xs)) words e)
 
 -- as many of the first words are erased
 pub record Erasing (old now : Picture) (erase : List ℕ) (j : ℕ) (out out' : List Store) (free free' : List ℕ) : Type 0 where
@@ -174,7 +119,7 @@ erasing_more : (old now next : Picture) (before : List ℕ) (a : ℕ) (rest : Li
     → Erases now next a node → LeadsByLinks now next links
     → (out' ++ links ≡ out ++ (more ++ links)) × ErasesAll old next (before ++ a ∷ []) (more ++ links) free (free' ++ node ∷ []) × AllByRecursion (λ b. has b next.table ≡ true) rest × (some_twice rest ≡ false)
 erasing_more old now next before a rest node out out' free free' links first more appended done there once er leads =
-    let two = neither (list_any (λ b. b == a) rest) (some_twice rest) once in
+    let two = or_parts (list_any (λ b. b == a) rest) (some_twice rest) once in
     let copy : now.copy ≡ 0 = done.both.zero.copy ∙ first in (
       ap (λ xs. xs ++ links) appended ∙ append_assoc out more links,
       record {
@@ -188,19 +133,12 @@ erasing_more old now next before a rest node out out' free free' links first mor
       two.1,
     )
 
-pub drop_here : {X : Type 0} (xs : List X) (j : ℕ) (d : X) → j < length xs → drop j xs ≡ get_or xs j d ∷ drop (j + 1) xs
-drop_here [] j d lt = absurd (omega arith)
-drop_here (x ∷ xs) zero d lt = let one : 0 + 1 ≡ 1 = omega arith in ap (λ k. x ∷ drop k (x ∷ xs)) (sym one)
-drop_here (x ∷ xs) (suc j) d lt =
-    let one : suc j + 1 ≡ suc (j + 1) = omega arith in
-    drop_here xs j d (omega (arith, lt)) ∙ ap (λ k. get_or xs j d ∷ drop k (x ∷ xs)) (sym one)
-
 pub erasing_step : (old now next : Picture) (erase : List ℕ) (j a node : ℕ) (out out' out'' : List Store) (free free' free'' : List ℕ) (links : List Store)
     → old.copy ≡ 0 → j < length erase → a ≡ get_or erase j 0 → Erasing old now erase j out out' free free'
     → Erases now next a node → out'' ≡ out' ++ links → LeadsByLinks now next links → free'' ≡ free' ++ node ∷ []
     → Erasing old next erase (j + 1) out out'' free free''
 erasing_step old now next erase j a node out out' out'' free free' free'' links first lt is state er eo leads ef =
-    let here : drop j erase ≡ a ∷ drop (j + 1) erase = drop_here erase j 0 lt ∙ ap (λ b. b ∷ drop (j + 1) erase) (sym is) in
+    let here : drop j erase ≡ a ∷ drop (j + 1) erase = drop_more erase j 0 lt ∙ ap (λ b. b ∷ drop (j + 1) erase) (sym is) in
     let front : take (j + 1) erase ≡ take j erase ++ a ∷ [] = take_more erase j 0 lt ∙ ap (λ b. take j erase ++ b ∷ []) (sym is) in
     let s = erasing_more old now next (take j erase) a (drop (j + 1) erase) node out out' free free' links first state.more state.appended state.done (subst (AllByRecursion (λ b. has b now.table ≡ true)) here state.there) (ap some_twice (sym here) ∙ state.once) er leads in
     record {
@@ -210,12 +148,6 @@ erasing_step old now next erase j a node out out' out'' free free' free'' links 
       there = s.2;
       once = s.3;
     }
-
--- the first of some nodes, when one beyond them was taken out
-take_swapped : (xs : List ℕ) (i d : ℕ) → i < length xs → take i (swap_remove xs i d) ≡ take i xs
-take_swapped xs i d lt =
-    take-take i (length xs - 1) (slice_set xs i (slice_index_or xs (length xs - 1) d)) (omega arith)
-    ∙ take-set xs i (slice_index_or xs (length xs - 1) d)
 
 -- a node that is taken out of the free ones
 pub taken_out : (n : ℕ) (free nodes : List ℕ) (i node : ℕ) → i < length free → node ≡ get_or free i node → AreAllNodes n (free ++ nodes) → AreAllNodes n ((swap_remove free i node ++ node ∷ []) ++ nodes)
@@ -291,7 +223,7 @@ pub inserting_step : {K : Type 0} (o : Order K) → IsLawful o → (old now next
     → left'' ≡ left' ++ item_stores node item → out'' ≡ out' ++ links → free'' ≡ swap_remove free' (fresh - 1 - j) node
     → Inserting o old next insert (j + 1) fresh left left'' out out'' free free''
 inserting_step o law old now next insert j fresh item d node left left' left'' out out' out'' free free' free'' links first lt room within is taken state ins leads el eo ef =
-    let here : drop j insert ≡ item ∷ drop (j + 1) insert = drop_here insert j d lt ∙ ap (λ b. b ∷ drop (j + 1) insert) (sym is) in
+    let here : drop j insert ≡ item ∷ drop (j + 1) insert = drop_more insert j d lt ∙ ap (λ b. b ∷ drop (j + 1) insert) (sym is) in
     let front : take (j + 1) insert ≡ take j insert ++ item ∷ [] = take_more insert j d lt ∙ ap (λ b. take j insert ++ b ∷ []) (sym is) in
     let fresh_node = next_node o old now insert j fresh left left' out out' free free' node state room within taken in
     let copy : now.copy ≡ 0 = state.done.both.zero.copy ∙ first in
@@ -325,7 +257,7 @@ inserting_step o law old now next insert j fresh item d node left left' left'' o
           (let same : fresh - (j + 1) ≡ fresh - 1 - j = omega arith in
           let more : fresh - j ≡ fresh - 1 - j + 1 = omega arith in
           let firsts : take (fresh - j) free' ≡ take (fresh - 1 - j) free' ++ node ∷ [] = ap (λ k. take k free') more ∙ take_more free' (fresh - 1 - j) node within ∙ ap (λ x. take (fresh - 1 - j) free' ++ x ∷ []) (sym taken) in
-          subst (AllByRecursion (λ x. Contains (take fresh free) x)) (sym (ap (λ k. take k (swap_remove free' (fresh - 1 - j) node)) same ∙ take_swapped free' (fresh - 1 - j) node within))
+          subst (AllByRecursion (λ x. Contains (take fresh free) x)) (sym (ap (λ k. take k (swap_remove free' (fresh - 1 - j) node)) same ∙ take-swap_remove free' (fresh - 1 - j) node within))
           (all_left (λ x. Contains (take fresh free) x) (take (fresh - 1 - j) free') (node ∷ []) (subst (AllByRecursion (λ x. Contains (take fresh free) x)) firsts state.first)));
     }
   where
@@ -338,19 +270,10 @@ pub free_node : (n : ℕ) (free nodes : List ℕ) (node : ℕ) → AreAllNodes n
 free_node n free nodes node are is =
     last_is_free n node (swap_remove free is.0 node) nodes (taken_out n free nodes is.0 node is.1 (sym is.2) are)
 
--- as many first words as there are items at most
-length_without_one : (a : ℕ) (xs : List Item) → has a xs ≡ true → length (without a xs) + 1 ≤ length xs
-length_without_one a [] h = absurd (cc)
-length_without_one a (x ∷ xs) h =
-    elim (x.a == a) as (λ e. (e || has a xs) ≡ true → length (cond (not e) (x ∷ without a xs) (without a xs)) + 1 ≤ length (x ∷ xs)) [
-      | true ↦ λ f. omega (arith, length_without a xs)
-      | false ↦ λ f. omega (arith, length_without_one a xs f)
-    ] h
-
 few_there : (words : List ℕ) (xs : List Item) → AllByRecursion (λ b. has b xs ≡ true) words → some_twice words ≡ false → length words ≤ length xs
 few_there [] xs h once = omega arith
 few_there (a ∷ rest) xs h once =
-    let two = neither (list_any (λ b. b == a) rest) (some_twice rest) once in
+    let two = or_parts (list_any (λ b. b == a) rest) (some_twice rest) once in
     omega (arith, few_there rest (without a xs) (all_has_without a rest xs two.0 h.1) two.1, length_without_one a xs h.0)
 
 pub few_words : (words : List ℕ) (xs : List Item) → some_missing words xs ≡ false → some_twice words ≡ false → length words ≤ length xs

@@ -3,20 +3,22 @@ use Rattle.std.proofs.Common.{◌≡◌, ◌≢◌, ℕ, suc, zero, ◌+◌, ◌
 use Rattle.std.specs.Prelude.{Bool, not, ◌||◌, ◌==◌, nat_lt}
 use Rattle.std.specs.List.{AllByRecursion, IsDistinct, list_any}
 use Rattle.std.specs.List.Sorted.{IsPermutation, IsNonDecreasingBy}
-use Rattle.std.proofs.lemmas.Bool.{eq-eqb, ne_eqb, cases_eq}
+use Rattle.std.proofs.lemmas.Bool.{eq-eqb, ne_eqb, cases_eq, or_parts}
 use Rattle.std.proofs.lemmas.List.Sorted.{IsPermutation-sym, IsNonDecreasingBy-drop, list_any-IsPermutation}
 use Rattle.std.proofs.lemmas.Map.Keys.{IsDistinct-IsPermutation}
+use Rattle.std.proofs.lemmas.List.{drop_more}
 use Rattle.order_laws.specs.declared.items.Item.{Item}
 use Rattle.order_laws.specs.Orders.{Order, Precedes, IsLawful, IsInLine}
 use Rattle.order_laws.specs.Tables.{has, meets}
 use Rattle.order_laws.specs.declared.refusals.Refusal.TheVariants.{BadItem, Overlap, NoSuchItem, Full}
-use Rattle.order_laws.proofs.TableLemmas.{all_weaker}
 use Rattle.order_laws.proofs.LeftOutLemmas.{without_moved}
+use Rattle.order_laws.proofs.Bools.{same_by_false}
+use Rattle.order_laws.proofs.Each.{all_drop, all_not_below, all_weaker, rest_in_order}
+use Rattle.order_laws.proofs.Tests.{all_fail, list_any-all_fail}
+use Rattle.order_laws.proofs.Numbers.{eqb-flip}
 use Rattle.latch_core.specs.declared.updates.Update.TheVariants.{Batch}
 use Rattle.latch_core.specs.Updates.{first_that_holds, failed_test, some_invalid, some_twice, some_overlap, some_meet}
-use Rattle.rb_words.proofs.ListLemmas.{all_drop}
-use Rattle.latch_core.proofs.BatchLemmas.{neither, none_of, all_apart, no_meeting}
-use Rattle.latch_core.proofs.ChangeLemmas.{drop_here}
+use Rattle.latch_core.proofs.BatchLemmas.{all_apart, no_meeting}
 
 -- some entry clashes with one behind it
 abbrev clash : {X : Type 0} → (X → X → Bool) → List X → Bool
@@ -26,25 +28,16 @@ clash e (x ∷ rest) = list_any (e x) rest || clash e rest
 clash_distinct : {X : Type 0} (e : X → X → Bool) (xs : List X) → clash e xs ≡ false → IsDistinct e xs
 unfolding IsDistinct
 clash_distinct e [] h = tt
-clash_distinct e (x ∷ rest) h = let two = neither (list_any (e x) rest) (clash e rest) h in (none_of (e x) rest two.0, clash_distinct e rest two.1)
-
-none_any : {X : Type 0} (test : X → Bool) (xs : List X) → AllByRecursion (λ x. test x ≡ false) xs → list_any test xs ≡ false
-none_any test [] h = refl
-none_any test (x ∷ xs) h = ap (λ b. b || list_any test xs) h.0 ∙ none_any test xs h.1
+clash_distinct e (x ∷ rest) h = let two = or_parts (list_any (e x) rest) (clash e rest) h in (all_fail (e x) rest two.0, clash_distinct e rest two.1)
 
 distinct_clash : {X : Type 0} (e : X → X → Bool) (xs : List X) → IsDistinct e xs → clash e xs ≡ false
 unfolding IsDistinct
 distinct_clash e [] h = refl
-distinct_clash e (x ∷ rest) h = ap (λ b. b || clash e rest) (none_any (e x) rest h.0) ∙ distinct_clash e rest h.1
-
-same_bool : (a b : Bool) → (a ≡ false → b ≡ false) → (b ≡ false → a ≡ false) → a ≡ b
-same_bool false b f h = sym (f refl)
-same_bool true true f h = refl
-same_bool true false f h = h refl
+distinct_clash e (x ∷ rest) h = ap (λ b. b || clash e rest) (list_any-all_fail (e x) rest h.0) ∙ distinct_clash e rest h.1
 
 clash_moved : {X : Type 0} (e : X → X → Bool) → ((x y : X) → e x y ≡ e y x) → (xs ys : List X) → IsPermutation xs ys → clash e xs ≡ clash e ys
 clash_moved e flips xs ys p =
-    same_bool (clash e xs) (clash e ys)
+    same_by_false (clash e xs) (clash e ys)
     (λ h. distinct_clash e ys (IsDistinct-IsPermutation e flips xs ys p (clash_distinct e xs h)))
     (λ h. distinct_clash e xs (IsDistinct-IsPermutation e flips ys xs (IsPermutation-sym xs ys p) (clash_distinct e ys h)))
 
@@ -56,16 +49,9 @@ overlap_clash : {K : Type 0} (o : Order K) (xs : List Item) → some_overlap o x
 overlap_clash o [] = refl
 overlap_clash o (i ∷ rest) = ap (λ r. meets o i rest || r) (overlap_clash o rest)
 
-flipped : (a b : ℕ) → (b == a) ≡ (a == b)
-flipped a b =
-    ⊎_elim
-    (λ same. eq-eqb b a (sym same) ∙ sym (eq-eqb a b same))
-    (λ differ. ne_eqb b a (λ e. differ (sym e)) ∙ sym (ne_eqb a b differ))
-    (cases_eq a b)
-
 -- in another order of the list they clash alike
 pub twice_moved : (xs ys : List ℕ) → IsPermutation xs ys → some_twice xs ≡ some_twice ys
-twice_moved xs ys p = twice_clash xs ∙ clash_moved (λ a b. b == a) flipped xs ys p ∙ sym (twice_clash ys)
+twice_moved xs ys p = twice_clash xs ∙ clash_moved (λ a b. b == a) (λ a b. eqb-flip b a) xs ys p ∙ sym (twice_clash ys)
 
 -- and the tests of a batch go by its first words in any order
 pub tests_moved : {K : Type 0} (o : Order K) (n : ℕ) (table : List Item) (words words' : List ℕ) (insert : List Item) → IsPermutation words words' → failed_test o n table (Batch words insert) ≡ failed_test o n table (Batch words' insert)
@@ -84,24 +70,13 @@ tests_moved o n table words words' insert p =
 pub overlap_moved : {K : Type 0} (o : Order K) → IsLawful o → (xs ys : List Item) → IsPermutation xs ys → some_overlap o xs ≡ some_overlap o ys
 overlap_moved o law xs ys p = overlap_clash o xs ∙ clash_moved (λ i x. not (o.apart x i)) (λ i x. ap not (law.symmetric x i)) xs ys p ∙ sym (overlap_clash o ys)
 
--- what stands behind the first of a sorted list is not below it
-all_from : {X : Type 0} (P : X → Type 0) (xs : List X) → ((j : ℕ) (d : X) → j < length xs → P (get_or xs j d)) → AllByRecursion P xs
-all_from P [] f = tt
-all_from P (x ∷ xs) f = (f zero x (omega arith), all_from P xs (λ j d lt. f (suc j) d (omega (arith, lt))))
-
-not_below : {X : Type 0} (n : X → ℕ) (x : X) (xs : List X) → IsNonDecreasingBy n (x ∷ xs) → AllByRecursion (λ y. n x ≤ n y) xs
-not_below n x xs sorted = all_from (λ y. n x ≤ n y) xs (λ j d lt. sorted zero (suc j) d (omega arith) (omega (arith, lt)))
-
-tail_sorted : {X : Type 0} (n : X → ℕ) (x : X) (xs : List X) → IsNonDecreasingBy n (x ∷ xs) → IsNonDecreasingBy n xs
-tail_sorted n x xs sorted i j d le lt = sorted (suc i) (suc j) d (omega (arith, le)) (omega (arith, lt))
-
 -- a number that is not its neighbour stands nowhere behind it
 pub twice_next : (x y : ℕ) (rest : List ℕ) → IsNonDecreasingBy (λ a. a) (x ∷ y ∷ rest) → y ≢ x → some_twice (x ∷ y ∷ rest) ≡ some_twice (y ∷ rest)
 twice_next x y rest sorted ne =
-    let front = not_below (λ a. a) x (y ∷ rest) sorted in
-    let behind = not_below (λ a. a) y rest (tail_sorted (λ a. a) x (y ∷ rest) sorted) in
+    let front = all_not_below (λ a. a) x (y ∷ rest) sorted in
+    let behind = all_not_below (λ a. a) y rest (rest_in_order (λ a. a) x (y ∷ rest) sorted) in
     let le : x ≤ y = front.0 in
-    let none = none_any (λ b. b == x) (y ∷ rest) (ne_eqb y x ne, all_weaker (λ b. y ≤ b) (λ b. (b == x) ≡ false) (λ b l. ne_eqb b x (λ e. absurd (ne (let up : y ≤ b = l in omega (arith, le, up, e))))) rest behind) in
+    let none = list_any-all_fail (λ b. b == x) (y ∷ rest) (ne_eqb y x ne, all_weaker (λ b. y ≤ b) (λ b. (b == x) ≡ false) (λ b l. ne_eqb b x (λ e. absurd (ne (let up : y ≤ b = l in omega (arith, le, up, e))))) rest behind) in
     ap (λ b. b || some_twice (y ∷ rest)) none
 
 -- an item that is apart from its neighbour is apart from all behind it, where these are
@@ -124,8 +99,8 @@ module _ {K : Type 0} (o : Order K) (law : IsLawful o) (line : IsInLine o) where
 
   pub overlap_next : (x y : Item) (rest : List Item) → AllByRecursion (λ i. o.valid i ≡ true) (x ∷ y ∷ rest) → IsNonDecreasingBy (λ (i : Item). i.a) (x ∷ y ∷ rest) → o.apart y x ≡ true → some_overlap o (x ∷ y ∷ rest) ≡ some_overlap o (y ∷ rest)
   overlap_next x y rest valid sorted apart =
-      let front = not_below (λ (i : Item). i.a) x (y ∷ rest) sorted in
-      let behind = not_below (λ (i : Item). i.a) y rest (tail_sorted (λ (i : Item). i.a) x (y ∷ rest) sorted) in
+      let front = all_not_below (λ (i : Item). i.a) x (y ∷ rest) sorted in
+      let behind = all_not_below (λ (i : Item). i.a) y rest (rest_in_order (λ (i : Item). i.a) x (y ∷ rest) sorted) in
       elim (some_overlap o (y ∷ rest)) as (λ b. some_overlap o (y ∷ rest) ≡ b → (meets o x (y ∷ rest) || b) ≡ b) [
         | true ↦ λ e. (elim (meets o x (y ∷ rest)) as (λ b. (b || true) ≡ true) [ true ↦ refl | false ↦ refl ])
         | false ↦ λ e.
@@ -141,8 +116,8 @@ twice_on words p some lt sorted ne same =
     let y = get_or words p 0 in
     let up : p - 1 + 1 ≡ p = omega (arith, some) in
     let there : p + 1 - 1 ≡ p = omega arith in
-    let here = drop_here words p 0 lt in
-    let pair = drop_here words (p - 1) 0 (omega (arith, lt)) ∙ ap (λ k. x ∷ drop k words) up ∙ ap (λ xs. x ∷ xs) here in
+    let here = drop_more words p 0 lt in
+    let pair = drop_more words (p - 1) 0 (omega (arith, lt)) ∙ ap (λ k. x ∷ drop k words) up ∙ ap (λ xs. x ∷ xs) here in
     ap (λ k. some_twice (drop k words)) there ∙ ap some_twice here
     ∙ sym (twice_next x y (drop (p + 1) words) (subst (IsNonDecreasingBy (λ a. a)) pair (IsNonDecreasingBy-drop (λ a. a) (p - 1) words sorted)) ne)
     ∙ sym (ap some_twice pair) ∙ same
@@ -153,8 +128,8 @@ overlap_on o law line items p d some lt valid sorted apart same =
     let y = get_or items p d in
     let up : p - 1 + 1 ≡ p = omega (arith, some) in
     let there : p + 1 - 1 ≡ p = omega arith in
-    let here = drop_here items p d lt in
-    let pair = drop_here items (p - 1) d (omega (arith, lt)) ∙ ap (λ k. x ∷ drop k items) up ∙ ap (λ xs. x ∷ xs) here in
+    let here = drop_more items p d lt in
+    let pair = drop_more items (p - 1) d (omega (arith, lt)) ∙ ap (λ k. x ∷ drop k items) up ∙ ap (λ xs. x ∷ xs) here in
     ap (λ k. some_overlap o (drop k items)) there ∙ ap (some_overlap o) here
     ∙ sym (overlap_next o law line x y (drop (p + 1) items) (subst (AllByRecursion (λ i. o.valid i ≡ true)) pair (all_drop (λ i. o.valid i ≡ true) items (p - 1) valid)) (subst (IsNonDecreasingBy (λ (i : Item). i.a)) pair (IsNonDecreasingBy-drop (λ (i : Item). i.a) (p - 1) items sorted)) apart)
     ∙ sym (ap (some_overlap o) pair) ∙ same

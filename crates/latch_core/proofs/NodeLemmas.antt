@@ -1,35 +1,29 @@
 -- The nodes of a memory, and what an insert and an erase leave free.
 use Rattle.std.proofs.Common.{◌≡◌, ℕ, ◌+◌, ◌<◌, false, true, List, [], ◌∷◌, ◌++◌, length, get_or, Some, refl, sym, ◌∙◌, subst, arith, length-append, append_assoc}
-use Rattle.std.specs.Prelude.{All, nat_eq, Contains, insert, remove, slice_get}
-use Rattle.std.specs.List.{IsDistinct, list_any}
+use Rattle.std.specs.Prelude.{nat_eq, Contains, insert, remove, slice_get}
+use Rattle.std.specs.List.{IsDistinct}
 use Rattle.std.specs.List.Sorted.{IsPermutation}
 use Rattle.std.specs.Cmp.{nat_eq_equiv}
-use Rattle.std.proofs.lemmas.Bool.{ne_eqb, eq-eqb}
+use Rattle.std.proofs.lemmas.Bool.{eq-eqb}
 use Rattle.std.proofs.lemmas.Bool.Decides.{nat_tests}
 use Rattle.std.proofs.lemmas.Option.{slice_get_within, slice_get-get_or}
 use Rattle.std.proofs.lemmas.Map.Keys.{IsDistinct-IsPermutation, IsDistinct-push, IsDistinct-head}
-use Rattle.std.proofs.lemmas.List.Elements.{All-nil, All-push, All-weaker, All-tail, All-head, Contains-append_left}
+use Rattle.std.proofs.lemmas.List.Elements.{All-nil, All-push, All-weaker, All-head, Contains-append_left}
 use Rattle.std.proofs.lemmas.List.Sorted.{IsPermutation-insert, IsPermutation-remove, IsPermutation-append_comm, IsPermutation-append_right, All-permutation, length_permutation}
-use Rattle.order_laws.proofs.TableLemmas.{all_at}
+use Rattle.order_laws.proofs.Each.{all_at}
+use Rattle.order_laws.proofs.Lists.{pushed_before}
+use Rattle.order_laws.proofs.Tests.{list_any-above}
 use Rattle.latch_core.specs.FreeNodes.{AreAllNodes}
 
 pub no_nodes : AreAllNodes 0 []
 unfolding IsDistinct
 no_nodes = record { below = All-nil (λ i. i < 0); distinct = tt; as_many = refl }
 
--- a number that is above all is equal to none
-all_below_differ : (i : ℕ) (xs : List ℕ) → All (λ x. x < i) xs → list_any (nat_eq i) xs ≡ false
-all_below_differ i [] h = refl
-all_below_differ i (x ∷ xs) h =
-    let lt : x < i = All-head (λ x. x < i) x xs h in
-    let no : nat_eq i x ≡ false = ne_eqb i x (λ e. absurd (omega arith)) in
-    rw no (all_below_differ i xs (All-tail (λ x. x < i) x xs h))
-
 pub one_node_more : (i : ℕ) (xs : List ℕ) → AreAllNodes i xs → AreAllNodes (i + 1) (xs ++ i ∷ [])
 one_node_more i xs are =
     record {
       below = All-push (λ x. x < i + 1) xs i (All-weaker (λ x. x < i) (λ x. x < i + 1) (λ x lt. omega arith) xs are.below) (omega arith);
-      distinct = IsDistinct-push nat_eq_equiv xs i are.distinct (all_below_differ i xs are.below);
+      distinct = IsDistinct-push nat_eq_equiv xs i are.distinct (list_any-above i xs are.below);
       as_many = omega (arith, length-append xs (i ∷ []), are.as_many);
     }
 
@@ -42,14 +36,10 @@ moved_nodes n xs ys p are =
       as_many = length_permutation xs ys p ∙ are.as_many;
     }
 
--- a free node, and the rest of them before the nodes of a tree
-free_first : (node : ℕ) (rest nodes : List ℕ) → (rest ++ node ∷ []) ++ nodes ≡ rest ++ node ∷ nodes
-free_first node rest nodes = append_assoc rest (node ∷ []) nodes
-
 -- the last free node is one of the memory's and none of the tree's
 pub last_is_free : (n node : ℕ) (rest nodes : List ℕ) → AreAllNodes n ((rest ++ node ∷ []) ++ nodes) → (node < n) × (Contains nodes node → ⊥)
 last_is_free n node rest nodes are =
-    let first = moved_nodes n (rest ++ node ∷ nodes) (node ∷ nodes ++ rest) (IsPermutation-append_comm rest (node ∷ nodes)) (subst (AreAllNodes n) (free_first node rest nodes) are) in (
+    let first = moved_nodes n (rest ++ node ∷ nodes) (node ∷ nodes ++ rest) (IsPermutation-append_comm rest (node ∷ nodes)) (subst (AreAllNodes n) (pushed_before node rest nodes) are) in (
       All-head (λ i. i < n) node (nodes ++ rest) first.below,
       λ is.
           let differ : nat_eq node node ≡ false = all_at (λ y. nat_eq node y ≡ false) (nodes ++ rest) node (IsDistinct-head nat_eq node (nodes ++ rest) first.distinct) (Contains-append_left nodes rest node is) in
@@ -60,7 +50,7 @@ last_is_free n node rest nodes are =
 -- one node more is free
 pub one_free_more : (i : ℕ) (free nodes : List ℕ) → AreAllNodes i (free ++ nodes) → AreAllNodes (i + 1) ((free ++ i ∷ []) ++ nodes)
 one_free_more i free nodes are =
-    subst (AreAllNodes (i + 1)) (sym (free_first i free nodes))
+    subst (AreAllNodes (i + 1)) (sym (pushed_before i free nodes))
     (moved_nodes (i + 1) (free ++ (nodes ++ i ∷ [])) (free ++ i ∷ nodes)
     (IsPermutation-append_right free (nodes ++ i ∷ []) (i ∷ nodes) (IsPermutation-append_comm nodes (i ∷ [])))
     (subst (AreAllNodes (i + 1)) (append_assoc free nodes (i ∷ [])) (one_node_more i (free ++ nodes) are)))
@@ -70,14 +60,14 @@ pub node_taken : (n node place : ℕ) (rest nodes : List ℕ) → AreAllNodes n 
 node_taken n node place rest nodes are =
     moved_nodes n (rest ++ node ∷ nodes) (rest ++ insert nodes place node)
     (IsPermutation-append_right rest (node ∷ nodes) (insert nodes place node) (IsPermutation-insert nodes place node))
-    (subst (AreAllNodes n) (free_first node rest nodes) are)
+    (subst (AreAllNodes n) (pushed_before node rest nodes) are)
 
 -- and comes back
 pub node_freed : (n node place : ℕ) (free nodes : List ℕ) → slice_get nodes place ≡ Some node → AreAllNodes n (free ++ nodes) → AreAllNodes n ((free ++ node ∷ []) ++ remove nodes place)
 node_freed n node place free nodes is are =
     let within : place < length nodes = slice_get_within nodes place node is in
     let here : node ≡ get_or nodes place node = (let e = sym is ∙ slice_get-get_or nodes place node within in cc) in
-    subst (AreAllNodes n) (sym (free_first node free (remove nodes place)))
+    subst (AreAllNodes n) (sym (pushed_before node free (remove nodes place)))
     (moved_nodes n (free ++ nodes) (free ++ node ∷ remove nodes place)
     (IsPermutation-append_right free nodes (node ∷ remove nodes place) (IsPermutation-remove nodes place node within here))
     are)

@@ -1,9 +1,10 @@
 -- One step of a plan.
-use Rattle.std.proofs.Common.{◌≡◌, ℕ, suc, zero, ◌+◌, ◌-◌, ◌<◌, ◌≤◌, true, false, cond, List, [], ◌∷◌, ◌++◌, length, length-drop, get_or, take, drop, Some, None, refl, sym, ◌∙◌, ap, subst, arith}
+use Rattle.std.proofs.Common.{◌≡◌, ℕ, suc, ◌+◌, ◌-◌, ◌<◌, ◌≤◌, true, false, cond, List, [], ◌∷◌, ◌++◌, length, length-drop, get_or, take, drop, Some, None, refl, sym, ◌∙◌, ap, subst, arith}
 use Rattle.std.specs.Prelude.{◌==◌, slice_get}
 use Rattle.std.proofs.lemmas.Bool.{eqb-true}
-use Rattle.std.specs.List.{AllByRecursion}
-use Rattle.std.proofs.lemmas.List.{take_more, get_or-drop, get_or_append_left, map-append}
+use Rattle.std.proofs.lemmas.List.{take_more, map-append}
+use Rattle.order_laws.proofs.Each.{all_get_or}
+use Rattle.order_laws.proofs.Lists.{first_and_rest, get_or-drop_append}
 use Rattle.word_arena.specs.declared.stores.Store.{Store}
 use Rattle.word_arena.specs.Words.{words_for}
 use Rattle.word_arena.specs.Stores.{IsLinkWord, AreLinkStores}
@@ -11,16 +12,6 @@ use Rattle.word_arena.proofs.WordLemmas.{link_place}
 use Rattle.rb_words.specs.Mirrors.{mirror, mirror_store}
 use Rattle.latch_core.specs.Latches.{Hand, Latch, stepped}
 use Rattle.latch_core.specs.Plans.{IsPlan}
-
-pub drop_more : {X : Type 0} (i : ℕ) (xs : List X) → drop (i + 1) xs ≡ drop 1 (drop i xs)
-drop_more zero xs = let one : 0 + 1 ≡ 1 = omega arith in ap (λ j. drop j xs) one
-drop_more (suc i) [] = let one : suc i + 1 ≡ suc (i + 1) = omega arith in ap (λ j. drop j []) one
-drop_more (suc i) (x ∷ xs) = let one : suc i + 1 ≡ suc (i + 1) = omega arith in ap (λ j. drop j (x ∷ xs)) one ∙ drop_more i xs
-
--- the first store, and the rest
-pub first_and_rest : (xs : List Store) (s : Store) → slice_get xs 0 ≡ Some s → xs ≡ s ∷ drop 1 xs
-first_and_rest [] s e = absurd (cc)
-first_and_rest (x ∷ xs) s e = let same : x ≡ s = cc in ap (λ y. y ∷ xs) same
 
 -- a plan's first store is a step that the writer may make, after which the rest is the plan
 pub plan_step : (n : ℕ) (l : Latch) (h : Hand) (s : Store) (xs : List Store) → IsPlan n l xs → l.hand ≡ Some h → slice_get xs 0 ≡ Some s → IsPlan n (stepped l h s) (drop 1 xs)
@@ -56,12 +47,6 @@ plan_left n l h (s ∷ t ∷ ss) plan e =
     let less : plan.0.left - 1 ≡ length (t ∷ ss) = ap (λ (k : Hand). k.left) g ∙ rest in
     ap (λ (k : Hand). k.left) (sym same) ∙ (let two : plan.0.left ≡ suc (suc (length ss)) = omega arith in two)
 
--- a list's store from a place on, where the list goes on behind it
-link_at : (xs ys : List Store) (from place : ℕ) (d : Store) → from ≤ place → place < length xs → get_or (drop from xs) (place - from) d ≡ get_or (xs ++ ys) place d
-link_at xs ys from place d above below =
-    let at_place : from + (place - from) ≡ place = omega arith in
-    get_or-drop from xs (place - from) d ∙ ap (λ k. get_or xs k d) at_place ∙ sym (get_or_append_left xs ys d place below)
-
 -- one link more of copy 1
 pub mirror_more : (xs ys : List Store) (from place : ℕ) (d : Store) → from ≤ place → place < length xs
     → mirror (take (place + 1 - from) (drop from xs)) ≡ mirror (take (place - from) (drop from xs)) ++ mirror_store (get_or (xs ++ ys) place d) ∷ []
@@ -71,27 +56,12 @@ mirror_more xs ys from place d above below =
     ap (λ k. mirror (take k (drop from xs))) step
     ∙ ap mirror (take_more (drop from xs) (place - from) d within)
     ∙ map-append mirror_store (take (place - from) (drop from xs)) (get_or (drop from xs) (place - from) d ∷ [])
-    ∙ ap (λ s. mirror (take (place - from) (drop from xs)) ++ mirror_store s ∷ []) (link_at xs ys from place d above below)
+    ∙ ap (λ s. mirror (take (place - from) (drop from xs)) ++ mirror_store s ∷ []) (get_or-drop_append xs ys from place d above below)
 
 -- the word of a link of copy 0 and that of copy 1 beside it are in range
-at_all : (P : Store → Type 0) (xs : List Store) (i : ℕ) (d : Store) → AllByRecursion P xs → i < length xs → P (get_or xs i d)
-at_all P [] i d all lt = absurd (omega arith)
-at_all P (x ∷ xs) zero d all lt = all.0
-at_all P (x ∷ xs) (suc i) d all lt = at_all P xs i d all.1 (omega arith)
-
 pub link_fits : (n : ℕ) (xs ys : List Store) (from place : ℕ) (d : Store) → n ≤ 65536 → from ≤ place → place < length xs → AreLinkStores n 0 (drop from xs) → (get_or (xs ++ ys) place d).word + 2 < 18446744073709551616
 link_fits n xs ys from place d most above below are =
     let within : place - from < length (drop from xs) = omega (arith, length-drop from xs) in
-    let is = at_all (λ (s : Store). IsLinkWord n 0 s.word) (drop from xs) (place - from) d are within in
+    let is = all_get_or (λ (s : Store). IsLinkWord n 0 s.word) (drop from xs) (place - from) d are within in
     let lt : (get_or (drop from xs) (place - from) d).word < words_for n = (link_place n 0 (get_or (drop from xs) (place - from) d).word (omega arith) is).1 in
-    subst (λ (s : Store). s.word + 2 < 18446744073709551616) (link_at xs ys from place d above below) (omega (arith, lt, most))
-
--- what stands from a place on, where the list goes on behind it
-take_whole : (xs ys : List Store) → take (length xs) (xs ++ ys) ≡ xs
-take_whole [] ys = refl
-take_whole (x ∷ xs) ys = ap (λ zs. x ∷ zs) (take_whole xs ys)
-
-pub links_kept : (xs ys : List Store) (from : ℕ) → from ≤ length xs → take (length xs - from) (drop from (xs ++ ys)) ≡ drop from xs
-links_kept xs ys zero le = let e : length xs - 0 ≡ length xs = omega arith in ap (λ k. take k (xs ++ ys)) e ∙ take_whole xs ys
-links_kept [] ys (suc from) le = absurd (omega arith)
-links_kept (x ∷ xs) ys (suc from) le = let e : suc (length xs) - suc from ≡ length xs - from = omega arith in ap (λ k. take k (drop from (xs ++ ys))) e ∙ links_kept xs ys from (omega arith)
+    subst (λ (s : Store). s.word + 2 < 18446744073709551616) (get_or-drop_append xs ys from place d above below) (omega (arith, lt, most))

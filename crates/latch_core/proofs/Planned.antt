@@ -4,10 +4,11 @@ use Rattle.std.specs.Prelude.{◌⊎◌, ◌==◌}
 use Rattle.std.specs.List.{AllByRecursion}
 use Rattle.std.proofs.lemmas.Bool.{ne_eqb}
 use Rattle.order_laws.specs.declared.items.Item.{Item}
-use Rattle.order_laws.proofs.TableLemmas.{all_weaker}
+use Rattle.order_laws.proofs.Each.{all_weaker}
+use Rattle.word_arena.proofs.LinkLemmas.{links_elsewhere, links_not_zero, zero_kept}
 use Rattle.word_arena.specs.declared.stores.Store.{Store}
 use Rattle.word_arena.specs.Words.{at, words_for, root_word, left_word, right_word, Nodes, Holds, Reaches, by_root, by_left, by_right, InUse, IsUnreached}
-use Rattle.word_arena.specs.Stores.{IsItemWord, words_after, words_after_all, IsLinkWord, AreLinkStores}
+use Rattle.word_arena.specs.Stores.{IsItemWord, words_after, words_after_all, AreLinkStores}
 use Rattle.word_arena.proofs.WordLemmas.{IsCopyWord, in_copy, one_item, link_no_item, link_no_other, link_place, item_place, item_not_zero, item_not_root, item_not_left, item_not_right, copy_not_zero, unused_item}
 use Rattle.word_arena.proofs.StoreLemmas.{Agree, length_after, after_append, untouched, agree_after}
 use Rattle.word_arena.proofs.HoldsLemmas.{holds_untouched, tree_agree}
@@ -136,20 +137,11 @@ pub record Leading (n : ℕ) (old new : List Item) (m : List ℕ) (item_stores l
 pub items_not_zero : (m : List ℕ) (n : ℕ) (ss : List Store) → AreFreeStores m n ss → AllByRecursion (λ (s : Store). s.word ≢ 0) ss
 items_not_zero m n ss are = all_weaker (IsFreeStore m n) (λ (s : Store). s.word ≢ 0) (λ s a. item_not_zero a.0 s.word a.3) ss are
 
-pub links_not_zero : (n copy : ℕ) (ss : List Store) → copy ≤ 1 → AreLinkStores n copy ss → AllByRecursion (λ (s : Store). s.word ≢ 0) ss
-links_not_zero n copy ss c are = all_weaker (λ (s : Store). IsLinkWord n copy s.word) (λ (s : Store). s.word ≢ 0) (λ s a. (link_place n copy s.word c a).0) ss are
-
 pub items_unused : (m : List ℕ) (n : ℕ) (ss : List Store) → AreFreeStores m n ss → AllByRecursion (λ (s : Store). InUse m n 0 s.word → ⊥) ss × AllByRecursion (λ (s : Store). InUse m n 1 s.word → ⊥) ss
 items_unused m n ss are = (
   all_weaker (IsFreeStore m n) (λ (s : Store). InUse m n 0 s.word → ⊥) (λ s a. unused_item m n 0 a.0 s.word (omega arith) a.2.0 a.3) ss are,
   all_weaker (IsFreeStore m n) (λ (s : Store). InUse m n 1 s.word → ⊥) (λ s a. unused_item m n 1 a.0 s.word (omega arith) a.2.1 a.3) ss are,
 )
-
-pub links_elsewhere : (n copy other : ℕ) (ss : List Store) → copy + other ≡ 1 → AreLinkStores n copy ss → AllByRecursion (λ (s : Store). IsCopyWord other s.word → ⊥) ss
-links_elsewhere n copy other ss c are = all_weaker (λ (s : Store). IsLinkWord n copy s.word) (λ (s : Store). IsCopyWord other s.word → ⊥) (λ s a. link_no_other n copy other s.word c a) ss are
-
-pub zero_kept : (m : List ℕ) (ss : List Store) → AllByRecursion (λ (s : Store). s.word ≢ 0) ss → at (words_after_all m ss) 0 ≡ at m 0
-zero_kept m ss away = untouched (λ w. w ≡ 0) m ss away 0 refl
 
 pub flip_far : (copy : ℕ) (m : List ℕ) (seq : ℕ) → Agree (IsCopyWord copy) m (words_after m (flip_to seq))
 flip_far copy m seq w p = get_or-set_other m 0 w seq 0 (λ e. copy_not_zero copy w p e)

@@ -3,11 +3,11 @@ use Rattle.std.proofs.Common.{◌≡◌, ◌≢◌, ℕ, ◌+◌, ◌*◌, List,
 use Rattle.std.specs.List.{AllByRecursion}
 use Rattle.std.proofs.lemmas.List.{get_or-replicate}
 use Rattle.order_laws.specs.declared.items.Item.{Item}
-use Rattle.order_laws.proofs.TableLemmas.{all_weaker}
+use Rattle.order_laws.proofs.Each.{all_append}
+use Rattle.word_arena.proofs.LinkLemmas.{leads_one, links_elsewhere, links_not_zero, not_in_use, zero_kept}
 use Rattle.word_arena.specs.declared.stores.Store.{Store}
-use Rattle.word_arena.specs.Words.{at, Nodes, none, fork, root_word, left_word, right_word, Leads, Holds, InUse}
+use Rattle.word_arena.specs.Words.{at, Nodes, none, root_word, Holds, InUse}
 use Rattle.word_arena.specs.Stores.{words_after, words_after_all}
-use Rattle.word_arena.proofs.WordLemmas.{IsCopyWord, in_copy}
 use Rattle.word_arena.proofs.StoreLemmas.{after_append}
 use Rattle.word_arena.proofs.HoldsLemmas.{tree_untouched, tree_agree}
 use Rattle.rb_trees.specs.Trees.{tip, CanBeRedBlack}
@@ -15,7 +15,7 @@ use Rattle.latch_core.specs.Sequences.{stable}
 use Rattle.latch_core.specs.Latches.{opening_latch}
 use Rattle.latch_core.specs.Plans.{flip_to, update_stores}
 use Rattle.latch_core.specs.Writers.{IsShallow, StaysShallow}
-use Rattle.latch_core.proofs.Planned.{Leading, items_not_zero, links_not_zero, items_unused, links_elsewhere, zero_kept, flip_far, odd2, even4, new0_4, words_front}
+use Rattle.latch_core.proofs.Planned.{Leading, items_not_zero, items_unused, flip_far, odd2, even4, new0_4, words_front}
 
 -- before each of these stores
 abbrev pub EachShallow : ℕ → List ℕ → List Store → Type 0
@@ -34,10 +34,6 @@ stays_end : (n : ℕ) (m : List ℕ) (xs : List Store) → EachShallow n m xs �
 stays_end n m [] a b = b
 stays_end n m (x ∷ xs) a b = (a.0, stays_end n (words_after m x) xs a.1 b)
 
-all_join : {X : Type 0} (P : X → Type 0) (xs ys : List X) → AllByRecursion P xs → AllByRecursion P ys → AllByRecursion P (xs ++ ys)
-all_join P [] ys a b = b
-all_join P (x ∷ xs) ys a b = (a.0, all_join P xs ys a.1 b)
-
 -- stores that keep away from what is in use in the stable copy
 module _ (n : ℕ) (m : List ℕ) (c : ℕ) (table : List Item) (t : Nodes) (now : stable (at m 0) ≡ c) (holds : Holds m n c table t) (good : CanBeRedBlack t) where
   abbrev Away : List Store → Type 0
@@ -51,14 +47,11 @@ module _ (n : ℕ) (m : List ℕ) (c : ℕ) (table : List Item) (t : Nodes) (now
   each_from : (done rest : List Store) → Away done → Away rest → EachShallow n (words_after_all m done) rest
   each_from done [] a b = tt
   each_from done (s ∷ ss) a b =
-      let more : Away (done ++ s ∷ []) = (all_join (λ (s : Store). InUse m n c s.word → ⊥) done (s ∷ []) a.0 (b.0.0, tt), all_join (λ (s : Store). s.word ≢ 0) done (s ∷ []) a.1 (b.1.0, tt)) in
+      let more : Away (done ++ s ∷ []) = (all_append (λ (s : Store). InUse m n c s.word → ⊥) done (s ∷ []) a.0 (b.0.0, tt), all_append (λ (s : Store). s.word ≢ 0) done (s ∷ []) a.1 (b.1.0, tt)) in
       (shallow_after done a, subst (λ w. EachShallow n w ss) (after_append m done (s ∷ [])) (each_from (done ++ s ∷ []) ss more (b.0.1, b.1.1)))
 
   pub each_shallow : (ss : List Store) → Away ss → EachShallow n m ss
   each_shallow ss away = each_from [] ss (tt, tt) away
-
-not_in_use : (m : List ℕ) (n c : ℕ) (ss : List Store) → AllByRecursion (λ (s : Store). IsCopyWord c s.word → ⊥) ss → AllByRecursion (λ (s : Store). InUse m n c s.word → ⊥) ss
-not_in_use m n c ss h = all_weaker (λ (s : Store). IsCopyWord c s.word → ⊥) (λ (s : Store). InUse m n c s.word → ⊥) (λ s a u. a (in_copy m n c s.word u)) ss h
 
 module _ (n : ℕ) (old new : List Item) (m : List ℕ) (items ls0 ls1 : List Store) (t0 t1 : Nodes) (is : Leading n old new m items ls0 ls1 t0 t1) where
   pub update_shallow : StaysShallow n m (update_stores (at m 0) items ls0 ls1)
@@ -98,19 +91,6 @@ opening_shallow n start even left e =
     let good : CanBeRedBlack none = (tip, record { black = refl; calm = tt; even = tt }, refl) in
     let now : IsShallow n m = ([], none, record { leads = root; listed_items = refl }, good) in
     subst (StaysShallow n m) (sym e) now
-
--- a link leads to one tree alone
-leads_one : (m : List ℕ) (n c w : ℕ) (t u : Nodes) → Leads m n c w t → Leads m n c w u → t ≡ u
-leads_one m n c w none none h k = refl
-leads_one m n c w none (fork l i r) h k = absurd (omega (arith, h, k.0))
-leads_one m n c w (fork l i r) none h k = absurd (omega (arith, h.0, k))
-leads_one m n c w (fork l i r) (fork a j b) h k =
-    let same : i ≡ j = omega (arith, h.0, k.0) in
-    let left : Leads m n c (at m (left_word c i)) a = subst (λ v. Leads m n c (at m (left_word c v)) a) (sym same) k.2 in
-    let right : Leads m n c (at m (right_word c i)) b = subst (λ v. Leads m n c (at m (right_word c v)) b) (sym same) k.3 in
-    let el = leads_one m n c (at m (left_word c i)) l a h.2 left in
-    let er = leads_one m n c (at m (right_word c i)) r b h.3 right in
-    λ d. fork (el d) (same d) (er d)
 
 -- whichever table and tree the stable copy holds, the tree is red-black
 pub shallow_tree : (n : ℕ) (m : List ℕ) (table : List Item) (t : Nodes) → Holds m n (stable (at m 0)) table t → IsShallow n m → CanBeRedBlack t

@@ -3,8 +3,9 @@
 use Rattle.std.proofs.Common.{◌≡◌, ℕ, suc, ◌+◌, ◌*◌, ◌<◌, ◌≤◌, List, [], ◌∷◌, ◌++◌, length, Some, refl, sym, ◌∙◌, ap, subst, inl, inr, ⊎_elim, arith}
 use Rattle.order_laws.specs.Orders.{Order, IsLawful}
 use Rattle.order_laws.specs.Tables.{look}
+use Rattle.word_arena.proofs.LinkLemmas.{reaches_on}
 use Rattle.word_arena.specs.declared.stores.Store.{Store}
-use Rattle.word_arena.specs.Words.{at, root_word, left_word, right_word, Reaches, by_root, by_left, by_right, InUse}
+use Rattle.word_arena.specs.Words.{at, root_word, left_word, right_word, Reaches, by_root, by_left, by_right, InUse, a_word, b_word, tag_word}
 use Rattle.word_arena.specs.Stores.{words_after}
 use Rattle.latch_core.specs.Sequences.{gen, stable}
 use Rattle.latch_core.specs.Attempts.{Reading, Load, Ends, Outcome, Answer, attempt, rest_after, IsAttempt, Stand}
@@ -15,12 +16,6 @@ use Rattle.latch_core.proofs.Readings.{AllLoads}
 use Rattle.latch_core.proofs.Steps.{hidden_same, attempt_uses, sequence_after}
 use Rattle.latch_core.proofs.Walks.{attempt_answers, attempt_loads}
 use Rattle.latch_core.specs.Standing.{loads_of, IsKept, StandAll, IsSteady, IsLatched}
-
--- a walk comes to the same nodes where the words in use are the same
-pub reaches_on : (m m' : List ℕ) (n copy : ℕ) → ((w : ℕ) → InUse m n copy w → at m' w ≡ at m w) → (i : ℕ) → Reaches m n copy i → Reaches m' n copy i
-reaches_on m m' n copy same _ (by_root i lt e) = by_root i lt (same (root_word copy) (inl refl) ∙ e)
-reaches_on m m' n copy same _ (by_left i j r lt e) = by_left i j (reaches_on m m' n copy same i r) lt (same (left_word copy i) (inr (i, r, inr (inr (inr (inl refl))))) ∙ e)
-reaches_on m m' n copy same _ (by_right i j r lt e) = by_right i j (reaches_on m m' n copy same i r) lt (same (right_word copy i) (inr (i, r, inr (inr (inr (inr refl))))) ∙ e)
 
 -- a store that is hidden from readers leaves what is kept
 kept_hidden : (n : ℕ) (m began : List ℕ) (s : Store) → IsHidden n m began s.word → (w : ℕ) → IsKept n m w → IsKept n (words_after m s) w

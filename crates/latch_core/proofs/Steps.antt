@@ -1,7 +1,7 @@
 -- What the writer's steps keep.
 use Rattle.std.proofs.Common.{◌≡◌, ◌≢◌, ℕ, ◌+◌, ◌<◌, ◌≤◌, false, List, [], ◌∷◌, ◌++◌, length, take, Some, None, refl, sym, ◌∙◌, ap, subst, inl, inr, ⊎_elim, arith, length-append, get_or-set_other, get_or-set_same}
 use Rattle.std.specs.Prelude.{◌⊎◌, ◌==◌, not, slice_set}
-use Rattle.std.proofs.lemmas.Bool.{cases_lt, eqb-false, ltb-false}
+use Rattle.std.proofs.lemmas.Bool.{cases_lt, eqb-false, ltb-false, not-false, or_parts}
 use Rattle.std.proofs.lemmas.List.{take-append-le, take_all}
 use Rattle.order_laws.specs.declared.items.Item.{Item}
 use Rattle.word_arena.specs.declared.stores.Store.{Store}
@@ -20,8 +20,9 @@ use Rattle.latch_core.specs.Invariants.{IsStanding, AreTables}
 use Rattle.word_arena.proofs.WordLemmas.{used_not_zero}
 use Rattle.order_laws.proofs.PlaceLemmas.{not_meeting, without_none, without_one}
 use Rattle.order_laws.proofs.TableLemmas.{with_item_table, without_table, length_with_item, length_without}
+use Rattle.order_laws.proofs.WithoutLemmas.{length_without_all, without_all_table}
 use Rattle.latch_core.proofs.TestLemmas.{NoneHolds, all_tests, none_holds}
-use Rattle.latch_core.proofs.BatchLemmas.{neither, not_false, all_valid, all_apart, all_off, with_items_table, without_all_table, length_with_items, length_without_all}
+use Rattle.latch_core.proofs.BatchLemmas.{all_valid, all_apart, all_off, with_items_table, length_with_items}
 use Rattle.latch_core.proofs.Readings.{AllLoads, stand_on, stand_push}
 use Rattle.latch_core.proofs.Walks.{walk_uses}
 
@@ -86,13 +87,13 @@ accepted_table o law n limit table seq (Insert i) e t fits =
     let (valid, free, ne) : (not (o.valid i) ≡ false) × (meets o i table ≡ false) × ((length table == n) ≡ false) = (let h : NoneHolds (all_tests o n limit false table seq (Insert i)) = none_holds (all_tests o n limit false table seq (Insert i)) e in (h.1.0, h.1.1.0, h.1.1.1.0)) in
     let differ : length table ≢ n = eqb-false (length table) n ne in
     subst (λ new. IsTable o new × (length new ≤ n)) (sym (after_insert o table i))
-    (with_item_table o law i table (not_false (o.valid i) valid) (not_meeting o i table free) t, omega (arith, length_with_item o i table))
+    (with_item_table o law i table (not-false (o.valid i) valid) (not_meeting o i table free) t, omega (arith, length_with_item o i table))
 accepted_table o law n limit table seq (Erase a) e t fits =
     subst (λ new. IsTable o new × (length new ≤ n)) (sym (after_erase o table a)) (without_table o a table t, omega (arith, length_without a table))
 accepted_table o law n limit table seq (Batch erase insert) e t fits =
     let rest = without_all erase table in
     let h : NoneHolds (all_tests o n limit false table seq (Batch erase insert)) = none_holds (all_tests o n limit false table seq (Batch erase insert)) e in
-    let overlaps = neither (some_overlap o insert) (some_meet o insert rest) h.1.1.1.0 in
+    let overlaps = or_parts (some_overlap o insert) (some_meet o insert rest) h.1.1.1.0 in
     let full = ltb-false n (length table + length insert) h.1.1.1.1.0 in (
       with_items_table o law insert rest (all_valid o insert h.1.0) (all_apart o insert overlaps.0) (all_off o insert rest overlaps.1) (without_all_table o erase table t),
       omega (arith, length_with_items o insert rest, length_without_all erase table),

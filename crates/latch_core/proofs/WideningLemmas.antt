@@ -1,9 +1,11 @@
 -- A latch that has more nodes is pictured and sound as it was.
 use Rattle.std.proofs.Common.{◌≡◌, ℕ, ◌≤◌, List, [], ◌∷◌, None, sym, ◌∙◌, ap, subst, arith, length-append}
 use Rattle.std.specs.Prelude.{◌-◌, ◌*◌, ◌||◌, nat_lt, replicate}
-use Rattle.std.proofs.lemmas.Bool.{ltb-false}
+use Rattle.std.proofs.lemmas.Bool.{ltb-false, or_parts}
+use Rattle.std.proofs.lemmas.List.Elements.{All-weaker}
 use Rattle.order_laws.specs.Orders.{Order}
 use Rattle.order_laws.specs.declared.refusals.Refusal.TheVariants.{BadCapacity, UpdateInHand}
+use Rattle.order_laws.proofs.Lists.{nil-from_length}
 use Rattle.word_arena.specs.declared.layouts.Layout.{Layout}
 use Rattle.word_arena.specs.Layouts.{capacity_of, limit_of}
 use Rattle.word_arena.specs.Words.{at, Holds, HoldsTable}
@@ -19,8 +21,6 @@ use Rattle.latch_core.specs.WriterViews.{WriterView}
 use Rattle.latch_core.specs.Writers.{IsShallow, StaysShallow, Pictures, in_hand}
 use Rattle.latch_core.specs.Widening.{why_not_widened, widened_writer, widened_latch, PicturesWidened}
 use Rattle.latch_core.proofs.TestLemmas.{none_holds}
-use Rattle.latch_core.proofs.BatchLemmas.{neither}
-use Rattle.latch_core.proofs.BeginLemmas.{idle_from}
 use Rattle.latch_core.proofs.WriterLemmas.{rest_now}
 
 -- no update is in hand where a layout is taken, and it has no fewer nodes and no smaller greatest
@@ -28,8 +28,8 @@ use Rattle.latch_core.proofs.WriterLemmas.{rest_now}
 pub may_widen : (w : WriterView) (l : Layout) → why_not_widened w l ≡ None → (w.left ≡ []) × (w.capacity ≤ capacity_of l) × (w.limit ≤ limit_of l)
 may_widen w l e =
     let tests = none_holds ((in_hand w, UpdateInHand) ∷ (nat_lt (capacity_of l) w.capacity || nat_lt (limit_of l) w.limit, BadCapacity) ∷ []) e in
-    let smaller = neither (nat_lt (capacity_of l) w.capacity) (nat_lt (limit_of l) w.limit) tests.1.0 in
-    (idle_from w.left tests.0, ltb-false (capacity_of l) w.capacity smaller.0, ltb-false (limit_of l) w.limit smaller.1)
+    let smaller = or_parts (nat_lt (capacity_of l) w.capacity) (nat_lt (limit_of l) w.limit) tests.1.0 in
+    (nil-from_length w.left tests.0, ltb-false (capacity_of l) w.capacity smaller.0, ltb-false (limit_of l) w.limit smaller.1)
 
 -- the sequence is in the first word, which stays
 same_sequence : (n n' : ℕ) (m : List ℕ) → at (wider_words n n' m) 0 ≡ at m 0

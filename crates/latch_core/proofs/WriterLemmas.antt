@@ -3,6 +3,7 @@ use Rattle.std.proofs.Common.{◌≡◌, ℕ, suc, ◌+◌, ◌*◌, ◌%◌, �
 use Rattle.std.specs.Prelude.{◌==◌, MatchOption, is_some, nat_lt, slice_get, Contains, slice_set}
 use Rattle.std.proofs.lemmas.Bool.{lt-ltb, cases_eq, eq-eqb, ne_eqb}
 use Rattle.order_laws.specs.Orders.{Order}
+use Rattle.order_laws.proofs.Lists.{first_and_rest}
 use Rattle.std.proofs.lemmas.List.{get_or-replicate, length-replicate}
 use Rattle.word_arena.specs.declared.layouts.Layout.{Layout}
 use Rattle.word_arena.specs.Layouts.{capacity_of}
@@ -20,7 +21,7 @@ use Rattle.latch_core.specs.WriterViews.{WriterView}
 use Rattle.latch_core.specs.Writers.{AtRest, StaysShallow, Pictures, next_store, why_refused, sequence_after, stepped_writer, opening_writer}
 use Rattle.latch_core.proofs.Planned.{Leading, update_plan, update_zero, update_one, update_sequence}
 use Rattle.latch_core.proofs.Shallow.{update_shallow, opening_shallow}
-use Rattle.latch_core.proofs.PlanLemmas.{first_and_rest, plan_step, plan_left}
+use Rattle.latch_core.proofs.PlanLemmas.{plan_step, plan_left}
 
 -- the next store, and whether there is an update in hand
 plan_next : (n : ℕ) (l : Latch) (xs : List Store) → IsPlan n l xs → MatchOption (slice_get xs 0) (l.hand ≡ None) (λ s. (h : Hand) × (l.hand ≡ Some h) × MayStep n l h s)

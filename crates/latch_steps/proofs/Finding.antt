@@ -7,6 +7,8 @@ use Rattle.std.proofs.lemmas.Bool.{cases_eq}
 use Rattle.order_laws.specs.declared.items.Item.{Item}
 use Rattle.order_laws.specs.Orders.{Order, IsLawful}
 use Rattle.order_laws.specs.Tables.{look}
+use Rattle.order_laws.proofs.Each.{all_push}
+use Rattle.order_laws.proofs.Maps.{get-insert_other, get-insert_same, get-remove_other, get-remove_same}
 use Rattle.word_arena.specs.Layouts.{capacity_of, limit_of}
 use Rattle.word_arena.specs.Words.{at, words_for}
 use Rattle.word_arena.proofs.StoreLemmas.{length_after}
@@ -30,9 +32,8 @@ use Rattle.latch_steps.specs.Steps.{machine, more, with_lookups, new_lookup, wit
 use Rattle.latch_steps.specs.Lookups.{IsInHand, lookup_at}
 use Rattle.latch_steps.specs.Worlds.{Shows, layout_in, IsAfter}
 use Rattle.latch_steps.specs.AtOnce.{IsFound, IsNear, Finds, LooksUp, NeverLooksUp, table_in}
-use Rattle.latch_steps.proofs.Readers.{get_insert_same, get_insert_other, get_remove_same, get_remove_other}
 use Rattle.latch_steps.proofs.Showing.{shown_none}
-use Rattle.latch_steps.proofs.Settling.{run_sound, none_accepted, all_push}
+use Rattle.latch_steps.proofs.Settling.{run_sound, none_accepted}
 use Rattle.latch_steps.proofs.Recording.{last_append}
 
 -- a count after so many steps
@@ -86,14 +87,14 @@ module _ {K : Type 0} (o : Order K) (n limit : ℕ) (m : List ℕ) (r : ℕ) whe
         steps = (read_step w l word go (Ends (Answer answer g)) words there going (is ∙ ap Ends comes), tt);
         latch = refl;
         events = refl;
-        gone = get_remove_same w.lookups r;
-        others = λ q ne. get_remove_other w.lookups q r ne;
+        gone = get-remove_same w.lookups r;
+        others = λ q ne. get-remove_other w.lookups q r ne;
       }
   ending (Load word' go') w l word go answer g words there going is comes =
       let l' : LookupInHand K = with_value l (at m word) in
       let w' = with_lookups w (insert w.lookups r l') in
       let left = rest_push (attempt o n l.key) l.values word go (at m word) going ∙ ap Some is in
-      let h = ending (go' (at m word')) w' l' word' go' answer g words (get_insert_same w.lookups r l') left refl comes in
+      let h = ending (go' (at m word')) w' l' word' go' answer g words (get-insert_same w.lookups r l') left refl comes in
       record {
         run = did (Read r) Loaded w' ∷ h.run;
         done = h.done;
@@ -102,7 +103,7 @@ module _ {K : Type 0} (o : Order K) (n limit : ℕ) (m : List ℕ) (r : ℕ) whe
         latch = h.latch;
         events = h.events;
         gone = h.gone;
-        others = λ q ne. h.others q ne ∙ get_insert_other w.lookups q r l' ne;
+        others = λ q ne. h.others q ne ∙ get-insert_other w.lookups q r l' ne;
       }
 
 module _ {O K : Type 0} (o : Order K) (law : IsLawful o) (old : World O K) (r : ℕ) (k : K) where
@@ -119,7 +120,7 @@ module _ {O K : Type 0} (o : Order K) (law : IsLawful o) (old : World O K) (r : 
       let none_there : get w.lookups r ≡ None = shown_none o n (lookup_at old.lookups r) (get w.lookups r) free (s.lookups r) in
       let l : LookupInHand K = new_lookup k (more w.events) in
       let w' = with_lookups w (insert w.lookups r l) in
-      let h = ending o n (limit_of old.layout) m r _ w' l 0 _ answer g (sym s.words) (get_insert_same w.lookups r l) refl refl found.comes_to in
+      let h = ending o n (limit_of old.layout) m r _ w' l 0 _ answer g (sym s.words) (get-insert_same w.lookups r l) refl refl found.comes_to in
       let count : first ≡ more w.events = ef ∙ ap more s.events in
       let few : later (loads_in m (attempt o n k)) 0 ≡ loads = later_is (loads_in m (attempt o n k)) 0 (omega arith) ∙ (let c = found.counts in omega arith) in
       let end : later (loads_in m (attempt o n k)) (more w.events) ≡ last = later_is (loads_in m (attempt o n k)) (more w.events) (omega arith) ∙ (let c = found.counts in omega arith) in
@@ -141,7 +142,7 @@ module _ {O K : Type 0} (o : Order K) (law : IsLawful o) (old : World O K) (r : 
               ⊎_elim
               (λ same. subst (λ j. IsInHand {O = O} o n (lookup_at old.lookups j) (get h.done.lookups j)) (sym same)
               (subst (λ x. IsInHand {O = O} o n x (get h.done.lookups r)) (sym free) (subst (IsInHand {O = O} o n None) (sym h.gone) tt)))
-              (λ ne. subst (λ x. IsInHand {O = O} o n (lookup_at old.lookups q) x) (sym (h.others q ne ∙ get_insert_other w.lookups q r l ne)) (s.lookups q))
+              (λ ne. subst (λ x. IsInHand {O = O} o n (lookup_at old.lookups q) x) (sym (h.others q ne ∙ get-insert_other w.lookups q r l ne)) (s.lookups q))
               (cases_eq q r);
           events = sym end ∙ sym h.events;
         };

@@ -4,6 +4,7 @@ use Rattle.std.specs.Ordering.{nat_cmp}
 use Rattle.std.specs.FinMap.{get, insert, remove}
 use Rattle.order_laws.specs.declared.refusals.Refusal.TheVariants.{ReaderIdle}
 use Rattle.order_laws.specs.Orders.{Order}
+use Rattle.order_laws.proofs.Maps.{get-insert_other, get-insert_same, get-remove_other, get-remove_same}
 use Rattle.latch_steps.specs.declared.events.Event.TheVariants.{Read}
 use Rattle.latch_steps.specs.declared.commands.Command.{Command}
 use Rattle.latch_steps.specs.declared.commands.Command.TheVariants.{Read as ToRead}
@@ -20,7 +21,7 @@ use Rattle.latch_steps.specs.Steps.{machine, more, with_lookups, after_load, loa
 use Rattle.latch_steps.specs.Traces.{kept, events_of, note_of, notes_of}
 use Rattle.latch_steps.specs.Lookups.{IsInHand, IsLookupOf, LoadsTo, lookup_at}
 use Rattle.latch_steps.specs.HeldLookups.{lookup_of, notes_of_held, IsHolding, LoadsOn, LoadsFrom, ReadsOn}
-use Rattle.latch_steps.proofs.Readers.{get_insert_same, get_insert_other, get_remove_same, get_remove_other, in_hand_at}
+use Rattle.latch_steps.proofs.Readers.{in_hand_at}
 use Rattle.latch_core.specs.Latches.{Latch}
 use Rattle.latch_core.specs.Writers.{Pictures}
 use Rattle.word_arena.specs.Layouts.{capacity_of, limit_of}
@@ -82,7 +83,7 @@ module _ {O K : Type 0} (o : Order K) (n limit : ℕ) (w : Moment K) (r most : �
           unended = unended_push (ToRead r most) h.run (did (Read r) reply v') h.unended refl (goes v');
           turns = length-append h.run (did (Read r) reply v' ∷ []) ∙ ap (λ j. j + 1) h.turns;
           notes = notes_append h.run (did (Read r) reply v' ∷ []) ∙ ap (λ xs. xs ++ notes_of (did (Read r) reply v' ∷ [])) h.notes ∙ ap (λ f. cons_option f []) quiet;
-          holding = holds_on (Some c') reply v' refl (subst (IsInHand o n (Some c')) (sym (get_insert_same v.lookups r l')) is) (λ q ne. get_insert_other v.lookups q r l' ne) refl;
+          holding = holds_on (Some c') reply v' refl (subst (IsInHand o n (Some c')) (sym (get-insert_same v.lookups r l')) is) (λ q ne. get-insert_other v.lookups q r l' ne) refl;
         }
 
     pub load_goes : (words : List ℕ) → w.latch.words ≡ words → (c' : Lookup O K) → ((l : LookupInHand K) → IsLookupOf o n c l → LoadsTo o n words r next l (Going c')) → Loading o n limit w r most (turn + 1) c' next
@@ -105,7 +106,7 @@ module _ {O K : Type 0} (o : Order K) (n limit : ℕ) (w : Moment K) (r most : �
           steps = run_on (Gave x) v' reads;
           repeats = repeats_ended (ToRead r most) h.run most (did (Read r) (Gave x) v') h.unended (let t = h.turns in omega arith) refl refl;
           notes = notes_append h.run (did (Read r) (Gave x) v' ∷ []) ∙ ap (λ xs. xs ++ notes_of (did (Read r) (Gave x) v' ∷ [])) h.notes;
-          holding = holds_on None (Gave x) v' refl (subst (IsInHand {O = O} o n None) (sym (get_remove_same v.lookups r)) tt) (λ q ne. get_remove_other v.lookups q r ne) refl;
+          holding = holds_on None (Gave x) v' refl (subst (IsInHand {O = O} o n None) (sym (get-remove_same v.lookups r)) tt) (λ q ne. get-remove_other v.lookups q r ne) refl;
         }
 
   pub all_loaded : (c : Lookup O K) (count turn : ℕ) → Loading o n limit w r most turn c count → turn ≡ most → LoadsOn (machine o n limit) w r most (record { held = Holds c; count = most; events = count })

@@ -4,7 +4,7 @@ use Rattle.std.proofs.Common.{◌≡◌, ℕ, suc, zero, ◌+◌, ◌-◌, ◌<�
 use Rattle.std.specs.Prelude.{◌==◌, is_some, count_by}
 use Rattle.std.specs.FinMap.{get}
 use Rattle.std.proofs.lemmas.Bool.{eq-eqb, ne_eqb}
-use Rattle.std.proofs.lemmas.List.{drop-take}
+use Rattle.std.proofs.lemmas.List.{drop-take, take-take}
 use Rattle.std.proofs.lemmas.List.Sums.{sum_by-append, sum_by-take-drop}
 use Rattle.word_arena.specs.declared.stores.Store.{Store}
 use Rattle.latch_core.specs.declared.updates.Update.{Update}
@@ -151,23 +151,13 @@ flips_upto o law n limit start us w (d ∷ run) ok steps (suc i) within =
     sum_by-append (λ x. cond (flips x) 1 0) (d ∷ []) (take i run) ∙ (let f : 0 + cond (flips d) 1 0 ≡ cond (flips d) 1 0 = omega arith in ap (λ j. j + count_by flips (take i run)) f) in
     omega arith
 
-front_of : {X : Type 0} (i m : ℕ) (xs : List X) → take i (take (i + m) xs) ≡ take i xs
-front_of zero m xs = refl
-front_of {X = X} (suc i) m [] =
-    let more : suc (i + m) ≡ suc i + m = omega arith in
-    let none : List X = [] in
-    subst (λ p. take (suc i) (take p none) ≡ take (suc i) none) more refl
-front_of (suc i) m (y ∷ ys) =
-    let more : suc (i + m) ≡ suc i + m = omega arith in
-    subst (λ p. take (suc i) (take p (y ∷ ys)) ≡ take (suc i) (y ∷ ys)) more (ap (λ zs. y ∷ zs) (front_of i m ys))
-
 count_between : {K : Type 0} (run : List (Done K)) (i m : ℕ)
     → count_by flips (take (i + m) run) ≡ count_by flips (take i run) + count_by flips (take m (drop i run))
 count_between run i m =
     let f = λ (d : Done _). cond (flips d) 1 0 in
     let parts = sum_by-take-drop f (take (i + m) run) i in
     let back = drop-take i m run in
-    let front : take i (take (i + m) run) ≡ take i run = front_of i m run in
+    let front : take i (take (i + m) run) ≡ take i run = take-take i (i + m) run (omega arith) in
     sym parts ∙ (λ j. count_by flips (front j) + count_by flips (back j))
 
 -- between two moments of a run

@@ -7,6 +7,7 @@ use Rattle.std.proofs.lemmas.Bool.{cases_eq}
 use Rattle.order_laws.specs.Orders.{Order, IsLawful}
 use Rattle.order_laws.specs.Tables.{look}
 use Rattle.order_laws.specs.declared.refusals.Refusal.{Refusal}
+use Rattle.order_laws.proofs.Maps.{get-insert_other, get-insert_same, get-remove_other, get-remove_same}
 use Rattle.word_arena.specs.Words.{at}
 use Rattle.latch_core.specs.declared.updates.Update.{Update}
 use Rattle.latch_core.specs.Sequences.{gen, stable}
@@ -27,7 +28,6 @@ use Rattle.latch_steps.specs.Expands.{event_of, most_of, Repeats}
 use Rattle.latch_steps.specs.Plain.{IsPlainEvent, IsPlain, ArePlain, IsLookAfter, IsLookReply, AreLooksAfter}
 use Rattle.latch_steps.proofs.LoadCases.{IsGoing, none_loaded, by_load}
 use Rattle.latch_steps.proofs.Latched.{step_sound}
-use Rattle.latch_steps.proofs.Readers.{get_insert_same, get_insert_other, get_remove_same, get_remove_other}
 use Rattle.latch_steps.proofs.Settling.{rest_is_current}
 
 -- a lookup in hand at its first attempt, since whose start the writer has had nothing in hand
@@ -56,10 +56,10 @@ module _ {K : Type 0} (o : Order K) (law : IsLawful o) (n start : ℕ) (us : Lis
   set r new is q l there =
       ⊎_elim
       (λ same.
-      let f : Some new ≡ Some l = sym (get_insert_same w.lookups r new) ∙ sym (ap (get (insert w.lookups r new)) same) ∙ there in
+      let f : Some new ≡ Some l = sym (get-insert_same w.lookups r new) ∙ sym (ap (get (insert w.lookups r new)) same) ∙ there in
       let g : new ≡ l = cc in
       subst (IsAlone o n w.latch) g is)
-      (λ ne. alone q l (sym (get_insert_other w.lookups q r new ne) ∙ there))
+      (λ ne. alone q l (sym (get-insert_other w.lookups q r new ne) ∙ there))
       (cases_eq q r)
 
   gone : (r : ℕ) → AreAlone o n (with_lookups w (remove w.lookups r))
@@ -67,9 +67,9 @@ module _ {K : Type 0} (o : Order K) (law : IsLawful o) (n start : ℕ) (us : Lis
       ⊎_elim
       (λ same.
       let nothing : Option (LookupInHand K) = None in
-      let f : nothing ≡ Some l = sym (get_remove_same w.lookups r) ∙ sym (ap (get (remove w.lookups r)) same) ∙ there in
+      let f : nothing ≡ Some l = sym (get-remove_same w.lookups r) ∙ sym (ap (get (remove w.lookups r)) same) ∙ there in
       absurd (cc))
-      (λ ne. alone q l (sym (get_remove_other w.lookups q r ne) ∙ there))
+      (λ ne. alone q l (sym (get-remove_other w.lookups q r ne) ∙ there))
       (cases_eq q r)
 
   begin_leads : (u : Update) (why : Option Refusal) (reply : Reply K) (w' : Moment K)
@@ -185,9 +185,9 @@ module _ {K : Type 0} (o : Order K) (n limit : ℕ) where
         }
 
     load_plain : (x : AfterLoad K) → IsPlainEvent (load_done w r x).1 (Read r)
-    load_plain (Goes l) = other_lookups _ refl (λ q ne. get_insert_other w.lookups q r l ne)
-    load_plain (Retries l) = other_lookups _ refl (λ q ne. get_insert_other w.lookups q r l ne)
-    load_plain (Returns x) = other_lookups _ refl (λ q ne. get_remove_other w.lookups q r ne)
+    load_plain (Goes l) = other_lookups _ refl (λ q ne. get-insert_other w.lookups q r l ne)
+    load_plain (Retries l) = other_lookups _ refl (λ q ne. get-insert_other w.lookups q r l ne)
+    load_plain (Returns x) = other_lookups _ refl (λ q ne. get-remove_other w.lookups q r ne)
 
     read_plain : (found : Option (LookupInHand K)) → IsPlainEvent (read_done o n w r found).1 (Read r)
     read_plain None = other_lookups _ refl (λ q ne. refl)

@@ -1,5 +1,6 @@
 -- What a recorder did from the opening on, and what is promised of its trace.
 use Rattle.std.proofs.Common.{◌≡◌, ℕ, ◌+◌, ◌^◌, ◌<◌, Bool, true, List, [], ◌++◌, length, take, get_or, refl, subst}
+use Rattle.order_laws.proofs.Lists.{take_push}
 use Rattle.order_laws.specs.Orders.{Order, IsLawful}
 use Rattle.word_arena.specs.declared.layouts.Layout.{Layout}
 use Rattle.word_arena.specs.Layouts.{capacity_of, limit_of}
@@ -12,7 +13,7 @@ use Rattle.latch_steps.specs.Expands.{Expand}
 use Rattle.latch_steps.specs.Worlds.{Shows}
 use Rattle.latch_steps.specs.Promises.{IsSafeTrace, IsQuietTrace, IsNearTrace}
 use Rattle.latch_steps.specs.Recorders.{IsNew, IsWhole, Records, ObeysFromAny}
-use Rattle.latch_steps.proofs.Recording.{records_none, records_append, trace_of, few_done, expand_push, one_more_taken}
+use Rattle.latch_steps.proofs.Recording.{records_none, records_append, trace_of, few_done, expand_push}
 use Rattle.latch_steps.proofs.SafeRuns.{safe}
 use Rattle.latch_steps.proofs.Patient.{quiet, near}
 
@@ -37,7 +38,7 @@ module _ {O K : Type 0} (o : Order K) (keeps : Bool) (w : Moment K) (old : Recor
       record {
         run = h.run ++ d.0;
         records = records_append o keeps old now new w h.run d.0 h.records d.1;
-        expands = subst (λ cs. Expand w cs (h.run ++ d.0)) (one_more_taken commands i c there is) more;
+        expands = subst (λ cs. Expand w cs (h.run ++ d.0)) (take_push commands i c there is) more;
       }
 
 module _ {O K : Type 0} (o : Order K) (law : IsLawful o) (l : Layout) (start : ℕ) (r0 : Recorder O K) (new : IsNew o l start r0) where

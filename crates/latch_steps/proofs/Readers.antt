@@ -1,38 +1,17 @@
 -- Lookups in hand by reader, and a change at one reader.
 use Rattle.std.proofs.Common.{◌≡◌, ◌≢◌, ℕ, Bool, true, false, cond, Option, Some, None, refl, sym, ◌∙◌, ap, subst, ⊎_elim, arith}
-use Rattle.std.specs.Ordering.{nat_cmp, eq_by_cmp}
-use Rattle.std.specs.Cmp.{nat_cmp_total}
+use Rattle.std.specs.Ordering.{nat_cmp}
 use Rattle.std.specs.Option.{option_flatten}
 use Rattle.std.specs.BTreeMap.{BTreeMap, get as tree_get, is_at}
-use Rattle.std.specs.FinMap.{FinMap, get, insert, remove, get-insert, get-remove}
+use Rattle.std.specs.FinMap.{FinMap, get, insert, remove}
 use Rattle.std.proofs.lemmas.Bool.{cases_eq}
 use Rattle.std.proofs.lemmas.Bool.Decides.{nat_tests}
 use Rattle.order_laws.specs.Orders.{Order}
+use Rattle.order_laws.proofs.Maps.{get-insert_other, get-insert_same, get-remove_other, get-remove_same}
 use Rattle.latch_steps.specs.declared.lookups.Lookup.{Lookup}
 use Rattle.latch_steps.specs.Runs.{LookupInHand}
 use Rattle.latch_steps.specs.Lookups.{IsInHand, IsLookupOf, lookup_at}
 use Rattle.latch_steps.specs.Worlds.{AreInHand}
-
--- a map at a key, after a change at another and at this one
-apart_keys : (q r : ℕ) → q ≢ r → eq_by_cmp nat_cmp q r ≡ false
-apart_keys q r ne = grind (arith, nat_tests)
-
-one_key : (r : ℕ) → eq_by_cmp nat_cmp r r ≡ true
-one_key r = grind (arith, nat_tests)
-
-module _ {X : Type 0} where
-  pub get_insert_same : (m : FinMap nat_cmp X) (r : ℕ) (x : X) → get (insert m r x) r ≡ Some x
-  get_insert_same m r x = get-insert nat_cmp_total m r x r ∙ ap (λ b. cond b (Some x) (get m r)) (one_key r)
-
-  pub get_insert_other : (m : FinMap nat_cmp X) (q r : ℕ) (x : X) → q ≢ r
-      → get (insert m r x) q ≡ get m q
-  get_insert_other m q r x ne = get-insert nat_cmp_total m r x q ∙ ap (λ b. cond b (Some x) (get m q)) (apart_keys q r ne)
-
-  pub get_remove_other : (m : FinMap nat_cmp X) (q r : ℕ) → q ≢ r → get (remove m r) q ≡ get m q
-  get_remove_other m q r ne = get-remove nat_cmp_total m r q ∙ ap (λ b. cond b None (get m q)) (apart_keys q r ne)
-
-  pub get_remove_same : (m : FinMap nat_cmp X) (r : ℕ) → get (remove m r) r ≡ None
-  get_remove_same m r = get-remove nat_cmp_total m r r ∙ ap (λ b. cond b None (get m r)) (one_key r)
 
 -- the code's map and that of a moment, changed at one reader alone
 module _ {O K : Type 0} (o : Order K) (n : ℕ) where
@@ -57,13 +36,13 @@ module _ {O K : Type 0} (o : Order K) (n : ℕ) where
       → ((q : ℕ) → ds q ≡ cond (is_at (nat_cmp r) q) (Some new) (cs q)) → IsLookupOf o n new l
       → AreInHand o n ds (insert ls r l)
   in_hand_set cs ds ls r new l h e is =
-      in_hand_at cs ds ls (insert ls r l) r (Some new) h e (subst (IsInHand o n (Some new)) (sym (get_insert_same ls r l)) is) (λ q ne. get_insert_other ls q r l ne)
+      in_hand_at cs ds ls (insert ls r l) r (Some new) h e (subst (IsInHand o n (Some new)) (sym (get-insert_same ls r l)) is) (λ q ne. get-insert_other ls q r l ne)
 
   pub in_hand_remove : (cs ds : ℕ → Option (Lookup O K)) (ls : FinMap nat_cmp (LookupInHand K))
       (r : ℕ) → AreInHand o n cs ls → ((q : ℕ) → ds q ≡ cond (is_at (nat_cmp r) q) None (cs q))
       → AreInHand o n ds (remove ls r)
   in_hand_remove cs ds ls r h e =
-      in_hand_at cs ds ls (remove ls r) r None h e (subst (IsInHand {O = O} o n None) (sym (get_remove_same ls r)) tt) (λ q ne. get_remove_other ls q r ne)
+      in_hand_at cs ds ls (remove ls r) r None h e (subst (IsInHand {O = O} o n None) (sym (get-remove_same ls r)) tt) (λ q ne. get-remove_other ls q r ne)
 
 -- the readers' places after a change at one of them
 module _ {O K : Type 0} (old new : BTreeMap ℕ (Option (Lookup O K))) (r : ℕ) (place : Option (Lookup O K)) (e : (q : ℕ) → tree_get nat_cmp new q ≡ cond (is_at (nat_cmp r) q) (Some place) (tree_get nat_cmp old q)) where

@@ -1,8 +1,7 @@
 -- Runs one after another, and what a recorder keeps of them.
-use Rattle.std.proofs.Common.{◌≡◌, ℕ, ◌+◌, ◌-◌, ◌^◌, ◌<◌, Bool, true, false, cond, List, [], ◌∷◌, ◌++◌, length, replicate, take, get_or, Option, Some, None, Result, Ok, Err, refl, sym, ◌∙◌, ap, subst, ⊎_elim, arith, append_assoc, append-nil, length-append}
+use Rattle.std.proofs.Common.{◌≡◌, ℕ, ◌+◌, ◌-◌, ◌^◌, ◌<◌, Bool, true, false, cond, List, [], ◌∷◌, ◌++◌, length, replicate, Option, Some, None, Result, Ok, Err, refl, sym, ◌∙◌, ap, subst, ⊎_elim, arith, append_assoc, append-nil, length-append}
 use Rattle.std.specs.Prelude.{is_some, OnOk}
 use Rattle.std.specs.List.{cons_option}
-use Rattle.std.proofs.lemmas.List.{take_more}
 use Rattle.std.proofs.lemmas.List.Elements.{filter_map-append}
 use Rattle.order_laws.specs.declared.refusals.Refusal.{Refusal}
 use Rattle.order_laws.specs.Orders.{Order}
@@ -233,6 +232,3 @@ module _ {O K : Type 0} (o : Order K) (l : Layout) (start : ℕ) (r0 r1 : Record
 -- a trace with so few events is of a run with so few
 pub few_done : {O K : Type 0} (o : Order K) (l : Layout) (start : ℕ) (t : Trace O K) (run : List (Done K)) → IsTraceOf o l start t run → length t.events.items < 2 ^ 64 → length run < 2 ^ 64
 few_done o l start t run h few = omega (arith, events_length run, ap length h.events)
-
-pub one_more_taken : {X : Type 0} (xs : List X) (i : ℕ) (x : X) → i < length xs → x ≡ get_or xs i x → take i xs ++ x ∷ [] ≡ take (i + 1) xs
-one_more_taken xs i x lt is = ap (λ y. take i xs ++ y ∷ []) is ∙ sym (take_more xs i x lt)

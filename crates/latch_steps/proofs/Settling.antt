@@ -16,6 +16,7 @@ use Rattle.latch_steps.specs.declared.events.Event.TheVariants.{Begin, Write, St
 use Rattle.latch_steps.specs.declared.replies.Reply.{Reply}
 use Rattle.latch_steps.specs.declared.replies.Reply.TheVariants.{Wrote, Refused}
 use Rattle.order_laws.specs.declared.refusals.Refusal.TheVariants.{OutOfMemory}
+use Rattle.order_laws.proofs.Each.{all_push}
 use Rattle.latch_steps.specs.declared.worlds.World.{World}
 use Rattle.latch_steps.specs.Runs.{Moment, Done, did, last_of, accepted, history}
 use Rattle.latch_steps.specs.Steps.{machine, machine_of, Run}
@@ -39,11 +40,6 @@ pub none_accepted : {K : Type 0} (f : Event K) → ((r : Reply K) → accepted f
     → (run : List (Done K)) → AllByRecursion (λ d. d.event ≡ f) run → history run ≡ []
 none_accepted f without [] h = refl
 none_accepted f without (d ∷ run) h = ap (λ us. us ++ history run) (ap (λ x. accepted x d.reply) h.0 ∙ without d.reply) ∙ none_accepted f without run h.1
-
-pub all_push : {X : Type 0} (P : X → Type 0) (xs : List X) (x : X) → AllByRecursion P xs → P x
-    → AllByRecursion P (xs ++ x ∷ [])
-all_push P [] x h p = (p, tt)
-all_push P (y ∷ xs) x h p = (h.0, all_push P xs x h.1 p)
 
 -- with nothing in hand the sequence names all accepted updates
 pub rest_is_current : {K : Type 0} (o : Order K) (n start : ℕ) (us : List Update) (l : Latch)

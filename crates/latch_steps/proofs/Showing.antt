@@ -291,7 +291,3 @@ none_in_hand {O} {K} o n m e r =
     let nowhere : tree_get nat_cmp m r ≡ None = rw e refl in
     let free : lookup_at m r ≡ None = ap option_flatten nowhere in
     subst (λ x. IsInHand {O = O} o n x (get no r)) (sym free) (subst (IsInHand {O = O} o n None) (sym (get-empty nat_cmp r)) tt)
-
-pub no_lookup : {X : Type 0} (x : Option X) → is_some x ≡ false → x ≡ None
-no_lookup None e = refl
-no_lookup (Some x) e = absurd (cc)

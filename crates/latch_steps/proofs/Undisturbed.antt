@@ -14,6 +14,7 @@ use Rattle.latch_steps.specs.declared.replies.Reply.{Reply}
 use Rattle.latch_steps.specs.declared.replies.Reply.TheVariants.{Started, Loaded, Returned as Gave, Refused}
 use Rattle.order_laws.specs.Orders.{Order, IsLawful}
 use Rattle.order_laws.specs.Tables.{IsTable}
+use Rattle.order_laws.proofs.Maps.{get-insert_other, get-insert_same, get-remove_other}
 use Rattle.latch_core.specs.Histories.{replay, current_table}
 use Rattle.word_arena.specs.Words.{at, Nodes, Holds}
 use Rattle.latch_core.specs.Sequences.{gen, stable}
@@ -26,7 +27,6 @@ use Rattle.std.proofs.lemmas.List.{take-append-le}
 use Rattle.latch_steps.proofs.LoadCases.{IsGoing, none_loaded, by_load}
 use Rattle.latch_steps.proofs.Latched.{KeepsLatch, read_keeps, start_keeps}
 use Rattle.latch_steps.proofs.Moments.{IsWorld, step_leads}
-use Rattle.latch_steps.proofs.Readers.{get_insert_same, get_insert_other, get_remove_other}
 use Rattle.latch_steps.proofs.SafeRuns.{gen_within}
 use Rattle.latch_core.proofs.Walks.{attempt_below, attempt_below_depth, few_deep_any}
 use Rattle.latch_core.proofs.Shallow.{shallow_tree}
@@ -64,13 +64,13 @@ module _ {K : Type 0} (o : Order K) (law : IsLawful o) (n limit : ℕ) (m : List
   start_calm w q k (Some l) e c = kept w (counted w) refl refl c
   start_calm w q k None e c =
       let ne : r ≢ q = (λ same. let f : get w.lookups r ≡ None = ap (get w.lookups) same ∙ e in let g = c.in_hand in absurd (cc)) in
-      kept w _ refl (get_insert_other w.lookups r q _ ne) c
+      kept w _ refl (get-insert_other w.lookups r q _ ne) c
 
   load_calm : (w : Moment K) (q : ℕ) → r ≢ q → (x : AfterLoad K) (c : IsCalm o n m w r)
       → Kept (length c.l.values) (load_done w q x)
-  load_calm w q ne (Goes l) c = kept w _ refl (get_insert_other w.lookups r q l ne) c
-  load_calm w q ne (Retries l) c = kept w _ refl (get_insert_other w.lookups r q l ne) c
-  load_calm w q ne (Returns x) c = kept w _ refl (get_remove_other w.lookups r q ne) c
+  load_calm w q ne (Goes l) c = kept w _ refl (get-insert_other w.lookups r q l ne) c
+  load_calm w q ne (Retries l) c = kept w _ refl (get-insert_other w.lookups r q l ne) c
+  load_calm w q ne (Returns x) c = kept w _ refl (get-remove_other w.lookups r q ne) c
 
   other_calm : (w : Moment K) (q : ℕ) → r ≢ q → (found : Option (LookupInHand K))
       (c : IsCalm o n m w r) → Kept (length c.l.values) (read_done o n w q found)
@@ -95,7 +95,7 @@ module _ {K : Type 0} (o : Order K) (law : IsLawful o) (n limit : ℕ) (m : List
           record {
             words = c.words;
             l = with_value c.l (at m c.asks.word);
-            in_hand = get_insert_same w.lookups r _;
+            in_hand = get-insert_same w.lookups r _;
             first = c.first;
             stand = push c.stand;
             asks = asks;
@@ -186,7 +186,7 @@ module _ {K : Type 0} (o : Order K) (law : IsLawful o) (n limit start : ℕ) (wh
           record {
             words = refl;
             l = new_lookup k (more w.events);
-            in_hand = ap (λ done. get done.1.lookups r) (sym e) ∙ get_insert_same w.lookups r _;
+            in_hand = ap (λ done. get done.1.lookups r) (sym e) ∙ get-insert_same w.lookups r _;
             first = refl;
             stand = tt;
             asks = none_loaded o n m _ refl;

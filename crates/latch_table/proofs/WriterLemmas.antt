@@ -10,6 +10,7 @@ use Rattle.atomic_table.specs.Seated.{TableId}
 use Rattle.order_laws.specs.Orders.{Order, IsLawful}
 use Rattle.order_laws.specs.Tables.{look}
 use Rattle.order_laws.specs.declared.items.Item.{Item}
+use Rattle.order_laws.proofs.Lists.{first_and_rest}
 use Rattle.word_arena.specs.declared.stores.Store.{Store}
 use Rattle.word_arena.specs.Words.{at, words_for, HoldsTable}
 use Rattle.word_arena.specs.Stores.{words_after}
@@ -24,7 +25,6 @@ use Rattle.latch_core.specs.WriterViews.{WriterView}
 use Rattle.latch_core.specs.Writers.{Pictures, next_store, why_refused, in_hand, stepped_writer, HasBegun}
 use Rattle.latch_core.proofs.Steps.{hidden_same, flip_adds}
 use Rattle.latch_core.proofs.Sound.{flips_of_flip, flips_of_store, sound_step, sound_begin}
-use Rattle.latch_core.proofs.PlanLemmas.{first_and_rest}
 use Rattle.latch_core.proofs.WriterLemmas.{next_may, did_pictures, refuses_pictured}
 use Rattle.latch_table.specs.declared.knowledge.WriterKnowledge.{WriterKnowledge}
 use Rattle.latch_table.specs.declared.knowledge.Knowledge.{Knowledge}

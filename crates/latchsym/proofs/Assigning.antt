@@ -11,11 +11,6 @@ use Rattle.listing.specs.Scripts.{most_writers}
 use Rattle.latchsym.specs.declared.assignments.Assignments.{Assignments}
 use Rattle.latchsym.specs.Assignments.{AreListed, IsAssigned, change_in, key_in, name_in}
 
--- what holds where a call succeeded that did
-pub known : {A B E : Type 0} (P : Type 0) (first : Result A E) (a : A) (last : Result B E) → first ≡ Ok a → IfOk first (λ _. P) → IfOk last (λ _. P)
-known {A} {B} {E} P first a (Ok b) is holds = subst (λ r. IfOk r (λ _. P)) is holds
-known {A} {B} {E} P first a (Err e) is holds = tt
-
 module _ {T : Type 0} (f : ScriptLine → Option T) (lines : List ScriptLine) (line : ScriptLine) where
   pub one_more : (x : T) → f line ≡ Some x → filter_map f (lines ++ line ∷ []) ≡ filter_map f lines ++ x ∷ []
   one_more x is = filter_map-append f lines (line ∷ []) ∙ ap (λ o. filter_map f lines ++ cons_option o []) is

@@ -1,6 +1,5 @@
 mod ParseLemmas
 mod Writing
-mod Gathering
 mod Worlds
 mod Loads
 mod Regions
@@ -10,5 +9,4 @@ mod Inputs
 mod Addresses
 mod Asked
 mod Assigning
-mod RunWriting
 mod Running

@@ -12,7 +12,9 @@ use Rattle.order_laws.specs.Orders.{Order, half_open, half_open_lawful}
 use Rattle.order_laws.specs.Tables.{IsTable, IsLook, look, meets, with_item, without_all}
 use Rattle.order_laws.proofs.PlaceLemmas.{without_none}
 use Rattle.order_laws.proofs.SetLemmas.{in_with_item}
-use Rattle.order_laws.proofs.TableLemmas.{length_with_item, look_is, look_only, member_more, members}
+use Rattle.order_laws.proofs.TableLemmas.{length_with_item, look_is, look_only}
+use Rattle.order_laws.proofs.Lists.{append_nil_left, append_nil_right}
+use Rattle.order_laws.proofs.Members.{Contains-cons_cases, Contains-none, Contains-rest}
 use Rattle.latch_core.specs.declared.updates.Update.{Update}
 use Rattle.latch_core.specs.declared.updates.Update.TheVariants.{Insert}
 use Rattle.latch_core.specs.Histories.{replay}
@@ -20,32 +22,21 @@ use Rattle.latch_core.specs.Updates.{after, erased, first_that_holds, inserted, 
 use Rattle.modules.specs.Loads.{update_of}
 use Rattle.latchsym.specs.LoadedWorlds.{Inserts}
 
-none_left : {X : Type 0} (xs ys : List X) → xs ++ ys ≡ [] → xs ≡ []
-none_left [] ys e = refl
-none_left (x ∷ xs) ys e = absurd (let f = ap length e in omega arith)
-
-none_right : {X : Type 0} (xs ys : List X) → xs ++ ys ≡ [] → ys ≡ []
-none_right [] ys e = e
-none_right (x ∷ xs) ys e = absurd (let f = ap length e in omega arith)
-
-nothing : {X : Type 0} (x : X) → Contains [] x → ⊥
-nothing x h = omega (arith, h.1)
-
 -- the items of a table with more of them
 module _ {K : Type 0} (o : Order K) (x : Item) where
   from_items : (is table : List Item) → Contains (with_items o is table) x → Contains is x ⊎ Contains table x
   from_items [] table h = inr h
   from_items (i ∷ is) table h =
-      ⊎_elim (λ m. inl (member_more i x is m))
+      ⊎_elim (λ m. inl (Contains-rest i x is m))
       (λ m. ⊎_elim (λ e. inl (0, omega arith, sym e)) (λ q. inr q) ((in_with_item o i x table).0 m))
       (from_items is (with_item o i table) h)
 
   to_items : (is table : List Item) → Contains is x ⊎ Contains table x → Contains (with_items o is table) x
-  to_items [] table h = ⊎_elim (λ m. absurd (nothing x m)) (λ m. m) h
+  to_items [] table h = ⊎_elim (λ m. absurd (Contains-none x m)) (λ m. m) h
   to_items (i ∷ is) table h =
       to_items is (with_item o i table)
       (⊎_elim
-      (λ m. ⊎_elim (λ e. inr ((in_with_item o i x table).1 (inl (sym e)))) (λ q. inl q) (members i x is m))
+      (λ m. ⊎_elim (λ e. inr ((in_with_item o i x table).1 (inl (sym e)))) (λ q. inl q) (Contains-cons_cases i x is m))
       (λ m. inr ((in_with_item o i x table).1 (inr m)))
       h)
 
@@ -62,20 +53,20 @@ module _ {K : Type 0} (o : Order K) where
   from_replay : (x : Item) (us : List Update) (table : List Item) → flat_map erased us ≡ [] → Contains (replay o table us) x → Contains table x ⊎ Contains (flat_map inserted us) x
   from_replay x [] table none h = inl h
   from_replay x (u ∷ us) table none h =
-      let first = none_left (erased u) (flat_map erased us) none in
+      let first = append_nil_left (erased u) (flat_map erased us) none in
       ⊎_elim
       (λ m. ⊎_elim (λ q. inr (Contains-append_left (inserted u) (flat_map inserted us) x q)) (λ q. inl q)
       (from_items o x (inserted u) table (subst (λ t. Contains t x) (after_inserts o table u first) m)))
       (λ m. inr (Contains-append_right (inserted u) (flat_map inserted us) x m))
-      (from_replay x us (after o table u) (none_right (erased u) (flat_map erased us) none) h)
+      (from_replay x us (after o table u) (append_nil_right (erased u) (flat_map erased us) none) h)
 
   to_replay : (x : Item) (us : List Update) (table : List Item) → flat_map erased us ≡ [] → Contains table x ⊎ Contains (flat_map inserted us) x → Contains (replay o table us) x
-  to_replay x [] table none h = ⊎_elim (λ m. m) (λ m. absurd (nothing x m)) h
+  to_replay x [] table none h = ⊎_elim (λ m. m) (λ m. absurd (Contains-none x m)) h
   to_replay x (u ∷ us) table none h =
-      let first = none_left (erased u) (flat_map erased us) none in
+      let first = append_nil_left (erased u) (flat_map erased us) none in
       let put : Contains (inserted u) x ⊎ Contains table x → Contains (after o table u) x =
       λ m. subst (λ t. Contains t x) (sym (after_inserts o table u first)) (to_items o x (inserted u) table m) in
-      to_replay x us (after o table u) (none_right (erased u) (flat_map erased us) none)
+      to_replay x us (after o table u) (append_nil_right (erased u) (flat_map erased us) none)
       (⊎_elim
       (λ m. inl (put (inr m)))
       (λ m. ⊎_elim (λ q. inl (put (inl q))) (λ q. inr q) (Contains-append_cases (inserted u) (flat_map inserted us) x m))
@@ -84,12 +75,12 @@ module _ {K : Type 0} (o : Order K) where
   length_replay : (us : List Update) (table : List Item) → flat_map erased us ≡ [] → length (replay o table us) ≡ length table + length (flat_map inserted us)
   length_replay [] table none = omega arith
   length_replay (u ∷ us) table none =
-      let first = none_left (erased u) (flat_map erased us) none in
-      omega (arith, length_replay us (after o table u) (none_right (erased u) (flat_map erased us) none), ap length (after_inserts o table u first), length_items o (inserted u) table, length-append (inserted u) (flat_map inserted us))
+      let first = append_nil_left (erased u) (flat_map erased us) none in
+      omega (arith, length_replay us (after o table u) (append_nil_right (erased u) (flat_map erased us) none), ap length (after_inserts o table u first), length_items o (inserted u) table, length-append (inserted u) (flat_map inserted us))
 
 module _ {K : Type 0} (o : Order K) (us : List Update) (items : List Item) (h : Inserts us items) where
   pub in_table : (x : Item) → Contains (replay o [] us) x → Contains items x
-  in_table x m = ⊎_elim (λ q. absurd (nothing x q)) (λ q. subst (λ l. Contains l x) h.inserted q) (from_replay o x us [] h.erased m)
+  in_table x m = ⊎_elim (λ q. absurd (Contains-none x q)) (λ q. subst (λ l. Contains l x) h.inserted q) (from_replay o x us [] h.erased m)
 
   pub all_in_table : (x : Item) → Contains items x → Contains (replay o [] us) x
   all_in_table x m = to_replay o x us [] h.erased (inr (subst (λ l. Contains l x) (sym h.inserted) m))

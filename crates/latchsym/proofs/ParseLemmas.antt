@@ -3,6 +3,7 @@ use Rattle.std.proofs.Common.{◌≡◌, ◌∙◌, ◌||◌, ap, sym, List, [],
 use Rattle.std.specs.Borrow.{Bor}
 use Rattle.std.specs.Prelude.{Box, option_map}
 use Rattle.std.specs.Box.{box_value}
+use Rattle.order_laws.proofs.Options.{Some-from_parts}
 use Rattle.clap.specs.declared.parser.matches.ArgMatches.TheViews.{out-ArgMatches, out-SubCommand}
 use Rattle.clap.specs.declared.parser.matches.SubCommand.{SubCommand}
 use Rattle.clap.specs.Built.{AddsSubcommand}
@@ -91,13 +92,6 @@ named : {Z : Type 0} (o : Option (Box SubCommand Z)) → option_map (λ b. (out-
 named None = refl
 named (Some b) = refl
 
-both : (o : Option (Text × List Row)) (name : Text) (rows : List Row) → Some name ≡ option_map (λ p. p.0) o → Some rows ≡ option_map (λ p. p.1) o → o ≡ Some (name, rows)
-both None name rows e f = absurd (cc)
-both (Some p) name rows e f =
-    let a : p.0 ≡ name = cc in
-    let b : p.1 ≡ rows = cc in
-    ap Some (λ i. (a i, b i))
-
 pub entered_is : (m : ArgMatches) (name : Text) (rows : List Row) → Some name ≡ subcommand_name_of m → Some rows ≡ option_map (λ p. p.1) (subcommand_rows_of m)
     → subcommand_rows_of m ≡ Some (name, rows)
-entered_is m name rows e f = both (subcommand_rows_of m) name rows (e ∙ named (out-ArgMatches m).subcommand) f
+entered_is m name rows e f = Some-from_parts (subcommand_rows_of m) name rows (e ∙ named (out-ArgMatches m).subcommand) f

@@ -1,14 +1,12 @@
 -- What the events of a lookup do to an idle world.
-use Rattle.std.proofs.Common.{◌≡◌, ◌≢◌, ℕ, ◌+◌, ◌-◌, ◌*◌, ◌%◌, ◌≤◌, true, false, cond, List, [], ◌∷◌, ◌++◌, length, Option, Some, None, refl, sym, ◌∙◌, ap, subst, ⊎_elim, arith}
+use Rattle.std.proofs.Common.{◌≡◌, ◌≢◌, ℕ, ◌+◌, ◌-◌, ◌*◌, ◌%◌, ◌≤◌, List, [], ◌∷◌, ◌++◌, length, Option, Some, None, refl, sym, ◌∙◌, ap, subst, ⊎_elim, arith}
 use Rattle.std.specs.List.{AllByRecursion}
-use Rattle.std.specs.Ordering.{nat_cmp, eq_by_cmp}
-use Rattle.std.specs.Cmp.{nat_cmp_total}
-use Rattle.std.specs.FinMap.{FinMap, get, insert, remove, get-insert, get-remove}
+use Rattle.std.specs.FinMap.{get}
 use Rattle.std.proofs.lemmas.Bool.{cases_eq}
-use Rattle.std.proofs.lemmas.Bool.Decides.{nat_tests}
 use Rattle.std.proofs.lemmas.List.{take_all}
 use Rattle.order_laws.specs.Orders.{Order}
 use Rattle.order_laws.specs.Tables.{IsTable}
+use Rattle.order_laws.proofs.Maps.{get-insert_other, get-remove_other, get-remove_same}
 use Rattle.word_arena.specs.Words.{at}
 use Rattle.latch_core.specs.declared.updates.Update.{Update}
 use Rattle.latch_core.specs.Sequences.{gen}
@@ -23,7 +21,6 @@ use Rattle.latch_steps.specs.declared.lookups.Lookup.{Lookup}
 use Rattle.latch_steps.specs.declared.worlds.World.{World}
 use Rattle.latch_steps.specs.Runs.{LookupInHand, Moment, Done, did, last_of}
 use Rattle.latch_steps.specs.Steps.{machine, AfterLoad, Goes, Retries, Returns, Run, Step, Writes, after_load, load_done, read_done, start_done, new_lookup, more}
-use Rattle.latch_steps.specs.Lookups.{IsInHand as IsHeld}
 use Rattle.latch_steps.specs.Worlds.{Shows}
 
 -- no lookup is in hand
@@ -55,23 +52,6 @@ writes_keep o n limit w (d ∷ run) all steps =
     let one = subst (λ e. Step (machine o n limit) w e d.reply d.after) all.0 steps.0 in
     writes_keep o n limit d.after run all.1 steps.1 ∙ write_keeps n w w.latch.hand d.reply d.after one
 
--- a map at a key, after a change at another and at this one
-apart_keys : (q r : ℕ) → q ≢ r → eq_by_cmp nat_cmp q r ≡ false
-apart_keys q r ne = grind (arith, nat_tests)
-
-one_key : (r : ℕ) → eq_by_cmp nat_cmp r r ≡ true
-one_key r = grind (arith, nat_tests)
-
-module _ {X : Type 0} where
-  inserted_other : (m : FinMap nat_cmp X) (q r : ℕ) (x : X) → q ≢ r → get (insert m r x) q ≡ get m q
-  inserted_other m q r x ne = get-insert nat_cmp_total m r x q ∙ ap (λ b. cond b (Some x) (get m q)) (apart_keys q r ne)
-
-  removed_other : (m : FinMap nat_cmp X) (q r : ℕ) → q ≢ r → get (remove m r) q ≡ get m q
-  removed_other m q r ne = get-remove nat_cmp_total m r q ∙ ap (λ b. cond b None (get m q)) (apart_keys q r ne)
-
-  removed_same : (m : FinMap nat_cmp X) (r : ℕ) → get (remove m r) r ≡ None
-  removed_same m r = get-remove nat_cmp_total m r r ∙ ap (λ b. cond b None (get m r)) (one_key r)
-
 -- one moment differs from another in the lookup of one reader at most
 pub record Differs {K : Type 0} (r : ℕ) (w v : Moment K) : Type 0 where
   pub latch : v.latch ≡ w.latch
@@ -89,13 +69,13 @@ pub record Reads {K : Type 0} (r : ℕ) (w : Moment K) (done : Reply K × Moment
 
 module _ {K : Type 0} (r : ℕ) where
   start_differs : (w : Moment K) (k : K) (found : Option (LookupInHand K)) → Differs r w (start_done w r k found).1
-  start_differs w k None = record { latch = refl; others = λ q ne. inserted_other w.lookups q r (new_lookup k (more w.events)) ne }
+  start_differs w k None = record { latch = refl; others = λ q ne. get-insert_other w.lookups q r (new_lookup k (more w.events)) ne }
   start_differs w k (Some l) = record { latch = refl; others = λ q ne. refl }
 
   load_reads : (w : Moment K) (next : AfterLoad K) → Reads r w (load_done w r next)
-  load_reads w (Goes l) = record { differs = record { latch = refl; others = λ q ne. inserted_other w.lookups q r l ne }; ends = tt }
-  load_reads w (Retries l) = record { differs = record { latch = refl; others = λ q ne. inserted_other w.lookups q r l ne }; ends = tt }
-  load_reads w (Returns x) = record { differs = record { latch = refl; others = λ q ne. removed_other w.lookups q r ne }; ends = removed_same w.lookups r }
+  load_reads w (Goes l) = record { differs = record { latch = refl; others = λ q ne. get-insert_other w.lookups q r l ne }; ends = tt }
+  load_reads w (Retries l) = record { differs = record { latch = refl; others = λ q ne. get-insert_other w.lookups q r l ne }; ends = tt }
+  load_reads w (Returns x) = record { differs = record { latch = refl; others = λ q ne. get-remove_other w.lookups q r ne }; ends = get-remove_same w.lookups r }
 
   read_reads : (o : Order K) (n : ℕ) (w : Moment K) (found : Option (LookupInHand K)) → Reads r w (read_done o n w r found)
   read_reads o n w None = record { differs = record { latch = refl; others = λ q ne. refl }; ends = tt }

@@ -6,7 +6,6 @@ use Rattle.devices.specs.Counted.{device_of, failures_of}
 use Rattle.listing.specs.Addresses.{addresses_of}
 use Rattle.listing.specs.Lines.{lines_of}
 use Rattle.listing.specs.ModuleListing.{modules_in}
-use Rattle.listing.specs.RegionListing.{regions_of as listed_regions}
 use Rattle.listing.specs.Said.{after_front}
 use Rattle.listing.specs.SymbolListing.{symbols_in}
 use Rattle.modules.specs.declared.catalog.BuildCounts.{BuildCounts}

@@ -28,6 +28,7 @@ use Rattle.latchsym_ffi.specs.Owning.{owns_if}
 use Rattle.std_heap.specs.contracts.Global as Heap
 use Rattle.std_heap.specs.contracts.GlobalAllocator.TheImpl.{ghosts, dict}
 use Rattle.std_heap.proofs.Global.TheLaws as heap
+use Rattle.order_laws.proofs.Bools.{T-and_true}
 use Rattle.loose.specs.contracts.Loose as Loose
 use Rattle.latchsym_ffi.specs.contracts.open_catalogs.OpenCatalog as Content
 use Rattle.latchsym_ffi.specs.contracts.catalog_handles.CatalogHandle as Handle
@@ -63,12 +64,8 @@ three u v w = vstruct (vcons u (vcons v (vcons w vnil)))
 abbrev pub opened : ℕ → ℕ → Z.Denot → R.Denot → Hd.Denot
 opened b o a x = record { at = block_ptr b o; alloc = a; is_open = true; value = x }
 
-and_tt : (x : Bool) → T x → T (x && true)
-and_tt true s = tt
-and_tt false s = absurd s
-
 pub open_good : (u : Val) (wt : WT u) (y : Bool) (h : Val) → Good (layout Z) h → T (has_ty (layout Z) h && true) × WT (three u h (vbool y))
-open_good u wt y h fits = (and_tt (has_ty (layout Z) h) fits.0, (wt, (fits.1, (tt, tt))))
+open_good u wt y h fits = (T-and_true (has_ty (layout Z) h) fits.0, (wt, (fits.1, (tt, tt))))
 
 module _ {M : Type 1} {𝓤 : Ura M} {𝓛 : Logic 𝓤} {K : Type 0} {Γ : List (Item 𝓤)} {G : Goal 𝓤 𝓛.H} where
   pub handle_out : K → (d : Hd.Denot) (vs : List Val) → d.is_open ≡ true

@@ -7,7 +7,6 @@ use Rattle.listing.specs.declared.module_listing.ModuleCounts.{ModuleCounts}
 use Rattle.listing.specs.declared.symbol_listing.SymbolCounts.{SymbolCounts}
 use Rattle.listing.specs.Lines.{lines_of}
 use Rattle.listing.specs.ModuleListing.{module_counts, modules_in}
-use Rattle.listing.specs.RegionListing.{regions_of as listed_regions}
 use Rattle.listing.specs.SymbolListing.{symbol_counts, symbols_in}
 use Rattle.modules.specs.Catalogs.{catalog_of, counts_of}
 use Rattle.modules.specs.Entries.{CatalogEntries}

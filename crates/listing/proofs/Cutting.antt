@@ -4,17 +4,13 @@ use Rattle.std.specs.List.{slice_split, onto_first}
 use Rattle.std.specs.Option.{option_map}
 use Rattle.listing.specs.SymbolListing.{cut_at}
 use Rattle.std.proofs.lemmas.List.Splits.{slice_split-cons_yes, slice_split-cons_no}
+use Rattle.std.proofs.lemmas.Bool.{false_from_ne_true}
 use Rattle.memchr.specs.Find.{Nowhere, Passes, is_byte}
 use Rattle.listing.specs.Lines.{lines_of, words_of}
 
 module _ (p : ℕ → Bool) where
-  -- a place that does not pass fails
-  fails : (b : Bool) → ¬ (b ≡ true) → b ≡ false
-  fails true h = absurd (h refl)
-  fails false h = refl
-
   first_fails : (x : ℕ) (xs : List ℕ) (n : ℕ) → 0 < n → Nowhere (Passes p (x ∷ xs)) 0 n → p x ≡ false
-  first_fails x xs n h none = fails (p x) (none 0 (omega arith) h)
+  first_fails x xs n h none = false_from_ne_true (p x) (none 0 (omega arith) h)
 
   later : (x : ℕ) (xs : List ℕ) (n : ℕ) → Nowhere (Passes p (x ∷ xs)) 0 (suc n) → Nowhere (Passes p xs) 0 n
   later x xs n none k low high passes = none (suc k) (omega arith) (omega arith) passes

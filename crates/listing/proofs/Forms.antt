@@ -1,7 +1,8 @@
 -- Words of another number than that of a form are not of this form.
-use Rattle.std.proofs.Common.{cond, ◌≡◌, ◌≢◌, ℕ, ◌<◌, ◌≤◌, Bool, true, false, List, [], ◌∷◌, length, map, None, Option, refl, ap, arith, Bor, slice_index_or}
+use Rattle.std.proofs.Common.{◌≡◌, ◌≢◌, ℕ, ◌<◌, ◌≤◌, List, [], ◌∷◌, length, map, None, Option, refl, ap, arith, Bor, slice_index_or}
 use Rattle.std.specs.Str.{bytes_eq}
 use Rattle.std.specs.Prelude.{codes}
+use Rattle.order_laws.proofs.Options.{cond-None}
 use Rattle.listing.specs.Header.{header_of_words, header_with}
 use Rattle.listing.specs.Numbers.{count_of, number_of, short_number_of}
 use Rattle.listing.specs.Commands.{command_of, erase_of, erase_with, insert_of, insert_with, read_of, read_with, start_of, start_with, write_of, write_with}
@@ -72,11 +73,6 @@ read_two (a ∷ []) w same = absurd (omega arith)
 read_two (a ∷ b ∷ []) w same = refl
 read_two (a ∷ b ∷ c ∷ words) w same = absurd (omega arith)
 
--- a choice between two that are nothing is nothing
-nothing : {C : Type 0} → (b : Bool) (x y : Option C) → x ≡ None → y ≡ None → cond b x y ≡ None
-nothing true x y p q = p
-nothing false x y p q = q
-
 pub command_long : (words : List (List ℕ)) → 5 < length words → command_of words ≡ None
 command_long [] many = refl
 command_long (a ∷ []) many = absurd (omega arith)
@@ -84,11 +80,11 @@ command_long (a ∷ b ∷ []) many = absurd (omega arith)
 command_long (a ∷ b ∷ c ∷ []) many = absurd (omega arith)
 command_long (a ∷ b ∷ c ∷ d ∷ []) many = absurd (omega arith)
 command_long (word ∷ b ∷ c ∷ d ∷ e ∷ words) many =
-    nothing (bytes_eq word (codes "insert")) _ _ refl
-    (nothing (bytes_eq word (codes "erase")) _ _ refl
-    (nothing (bytes_eq word (codes "write")) _ _ refl
-    (nothing (bytes_eq word (codes "start")) _ _ refl
-    (nothing (bytes_eq word (codes "read")) _ _ refl refl))))
+    cond-None (bytes_eq word (codes "insert")) _ _ refl
+    (cond-None (bytes_eq word (codes "erase")) _ _ refl
+    (cond-None (bytes_eq word (codes "write")) _ _ refl
+    (cond-None (bytes_eq word (codes "start")) _ _ refl
+    (cond-None (bytes_eq word (codes "read")) _ _ refl refl))))
 
 pub header_short : (words : Words) → length words < 4 → header_of_words (map (λ w. w.now) words) ≡ None
 header_short [] few = refl

@@ -1,5 +1,5 @@
 -- One more line of a listing.
-use Rattle.std.proofs.Common.{◌≡◌, ℕ, suc, ◌==◌, ◌+◌, ◌≤◌, ◌<◌, Bool, true, false, cond, List, [], ◌∷◌, ◌++◌, length, Ok, Err, Result, Option, Some, None, refl, sym, ap, ◌∙◌, arith, append_assoc, length-append}
+use Rattle.std.proofs.Common.{◌≡◌, ℕ, suc, ◌==◌, ◌+◌, ◌≤◌, ◌<◌, Bool, true, false, cond, List, [], ◌∷◌, ◌++◌, length, Ok, Err, Result, Option, Some, None, refl, ap, ◌∙◌, arith, length-append}
 use Rattle.std.specs.Prelude.{sum_by, count_by}
 use Rattle.std.specs.List.{onto_first, filter_map, cons_option}
 use Rattle.std.specs.Option.{option_to_list}
@@ -7,14 +7,11 @@ use Rattle.std.specs.Result.{result_ok}
 use Rattle.std.proofs.lemmas.List.{append-nil}
 use Rattle.std.proofs.lemmas.List.Elements.{filter_map-append}
 use Rattle.std.proofs.lemmas.List.Sums.{sum_by-append, sum_by-cons}
+use Rattle.order_laws.proofs.Lists.{length-onto_first}
 use Rattle.listing.specs.Lines.{lines_of}
 use Rattle.listing.specs.Skipping.{one_more, skipped_by, taken_by}
 
 -- ---- lines are no more than bytes
-
-length-onto_first : (x : ℕ) (lines : List (List ℕ)) → length (onto_first x lines) ≤ length lines + 1
-length-onto_first x [] = omega arith
-length-onto_first x (line ∷ lines) = omega arith
 
 pub lines_few : (bytes : List ℕ) → length (lines_of bytes) ≤ length bytes
 lines_few [] = omega arith
@@ -41,7 +38,3 @@ module _ {T E : Type 0} (said : List ℕ → Result T E) where
 
   pub skipped_first : (is_cause : Result T E → Bool) (line : List ℕ) (lines : List (List ℕ)) → skipped_by is_cause said (line ∷ lines) ≡ cond (is_cause (said line)) 1 0 + skipped_by is_cause said lines
   skipped_first is_cause line lines = sum_by-cons (λ l. cond (is_cause (said l)) 1 0) line lines
-
--- one more of the lines that are left was gone through
-pub through_more : (text done rest after : List (List ℕ)) (line : List ℕ) → done ++ rest ≡ text → rest ≡ line ∷ after → (done ++ line ∷ []) ++ after ≡ text
-through_more text done rest after line joined cut = append_assoc done (line ∷ []) after ∙ ap (λ ls. done ++ ls) (sym cut) ∙ joined

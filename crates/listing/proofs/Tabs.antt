@@ -1,15 +1,8 @@
 -- Where the first line of a text ends, after its first tab.
-use Rattle.std.proofs.Common.{◌≡◌, ℕ, ◌+◌, ◌-◌, ◌<◌, ◌≤◌, Bool, true, ◌||◌, ◌==◌, List, length, get_or, take, drop, sym, ap, ◌∙◌, ⊎_elim, arith, length-drop}
-use Rattle.std.proofs.lemmas.Bool.{cases_order}
-use Rattle.std.proofs.lemmas.Bool.Decides.{nat_tests}
+use Rattle.std.proofs.Common.{◌≡◌, ℕ, ◌+◌, ◌-◌, ◌<◌, ◌≤◌, ◌==◌, List, length, get_or, take, drop, sym, ap, ◌∙◌, ⊎_elim, arith, length-drop}
+use Rattle.std.proofs.lemmas.Bool.{cases_order, eqb-true, or_left}
 use Rattle.std.proofs.lemmas.List.{get_or-drop, take_rest}
 use Rattle.memchr.specs.Find.{IsFirstByte, NoneBefore, Nowhere, Passes, is_byte, is_byte2}
-
-or_left : (a b : Bool) → a ≡ true → (a || b) ≡ true
-or_left a b h = rw h
-
-same_byte : (a b : ℕ) → (a == b) ≡ true → a ≡ b
-same_byte a b h = grind (arith, nat_tests)
 
 -- what stands after a place
 abbrev pub behind : ℕ → List ℕ → List ℕ
@@ -25,7 +18,7 @@ length_behind xs place = ap (λ (l : List ℕ). length l) (take_rest xs (place +
 no_end : (xs : List ℕ) (place m : ℕ) → Nowhere (Passes (is_byte2 10 9) xs) 0 place → (get_or xs place 0 ≡ 10 → ⊥) → Nowhere (Passes (is_byte 10) (behind place xs)) 0 m → Nowhere (Passes (is_byte 10) xs) 0 (place + 1 + m)
 no_end xs place m before tab none k low high passes =
     ⊎_elim
-    (λ same. tab (same_byte (get_or xs place 0) 10 (ap (λ (i : ℕ). get_or xs i 0 == 10) (sym same) ∙ passes)))
+    (λ same. tab (eqb-true (get_or xs place 0) 10 (ap (λ (i : ℕ). get_or xs i 0 == 10) (sym same) ∙ passes)))
     (λ differs. ⊎_elim
     (λ less. before k low less (or_left (get_or xs k 0 == 10) (get_or xs k 0 == 9) passes))
     (λ more.

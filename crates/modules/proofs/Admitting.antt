@@ -1,19 +1,21 @@
 -- One more module.
-use Rattle.std.proofs.Common.{◌≡◌, ℕ, ◌+◌, Bool, true, false, ◌&&◌, ◌||◌, cond, List, [], ◌∷◌, ◌++◌, length, Some, None, Option, refl, sym, ap, ◌∙◌, ⊎_elim, arith, length-append, add-zero, add-one, take, drop, drop-cons, get_or, ◌<◌}
+use Rattle.std.proofs.Common.{◌≡◌, ℕ, ◌+◌, Bool, true, false, ◌&&◌, ◌||◌, cond, List, [], ◌∷◌, ◌++◌, length, Some, None, Option, refl, sym, ap, ◌∙◌, ⊎_elim, arith, length-append, add-zero, add-one, take, drop, drop-cons, get_or, ◌<◌, map}
 use Rattle.std.specs.Prelude.{is_some}
 use Rattle.std.specs.List.{list_any, list_all, position_from}
 use Rattle.std.specs.Str.{bytes_eq}
-use Rattle.std.specs.Cmp.Lexicographic.{bytes_decides, slice_cmp}
-use Rattle.std.proofs.lemmas.Bool.{cases_Bool, false_from_ne_true}
+use Rattle.std.specs.Cmp.Lexicographic.{slice_cmp}
+use Rattle.std.proofs.lemmas.Bool.{and_from, and_parts}
 use Rattle.std.specs.BTreeMap.{get_by}
 use Rattle.std.specs.Ordering.{nat_cmp}
 use Rattle.std.proofs.lemmas.List.{map-append, length-map}
 use Rattle.std.proofs.lemmas.List.Folds.{list_all-append, list_all_more}
+use Rattle.order_laws.proofs.Bools.{and_rotate}
+use Rattle.order_laws.proofs.Tests.{is_some-position_from, list_all-each_agree, position_from-new}
 use Rattle.modules.specs.Accepted.{Accepted, after_module, names_of, taken}
 use Rattle.modules.specs.Placed.{PlacedModule}
 use Rattle.modules.specs.Regions.{are_beside, is_apart, lie_apart}
 use Rattle.modules.specs.Admissions.{shown, IsTied}
-use Rattle.modules.proofs.Soundness.{and_parts, both, taken_more, turned}
+use Rattle.modules.proofs.Soundness.{taken_more, turned}
 use Rattle.modules.specs.declared.admission.Admission.{Admission}
 
 pub after_double : (a : Accepted) (m : PlacedModule) → list_any (bytes_eq m.name) (names_of a.modules) ≡ true → after_module a m ≡ record a { double = a.double + 1 }
@@ -24,47 +26,6 @@ after_overlap a m h k = rw (h, k)
 
 pub after_accepted : (a : Accepted) (m : PlacedModule) → list_any (bytes_eq m.name) (names_of a.modules) ≡ false → (lie_apart m.regions && are_beside (taken a) m.regions) ≡ true → after_module a m ≡ record a { modules = a.modules ++ m ∷ [] }
 after_accepted a m h k = rw (h, k)
-
--- a place is found exactly where some element passes
-pub is_some-position_from : {A : Type 0} (test : A → Bool) (i : ℕ) (xs : List A) → is_some (position_from test i xs) ≡ list_any test xs
-is_some-position_from test i [] = refl
-is_some-position_from test i (x ∷ xs) =
-    elim (test x) as (λ b. is_some (cond b (Some i) (position_from test (i + 1) xs)) ≡ (b || list_any test xs))
-    [ true ↦ refl | false ↦ is_some-position_from test (i + 1) xs ]
-
--- one more element at the end
-pub position_from-push : {A : Type 0} (test : A → Bool) (i : ℕ) (xs : List A) (y : A) → position_from test i (xs ++ y ∷ []) ≡ cond (is_some (position_from test i xs)) (position_from test i xs) (cond (test y) (Some (i + length xs)) None)
-position_from-push test i [] y = rw (add-zero) refl
-position_from-push test i (x ∷ xs) y =
-    elim (test x) as (λ b. cond b (Some i) (position_from test (i + 1) (xs ++ y ∷ [])) ≡ cond (is_some (cond b (Some i) (position_from test (i + 1) xs))) (cond b (Some i) (position_from test (i + 1) xs)) (cond (test y) (Some (i + length (x ∷ xs))) None)) [
-      | true ↦ refl
-      | false ↦ let n : i + length (x ∷ xs) ≡ (i + 1) + length xs = omega arith in rw n (position_from-push test (i + 1) xs y)
-    ]
-
-kept_or_none : {A : Type 0} (o : Option A) → o ≡ cond (is_some o) o None
-kept_or_none None = refl
-kept_or_none (Some x) = refl
-
-last_place : (b1 b2 : Bool) (n m : ℕ) (o : Option ℕ) → b1 ≡ true → b2 ≡ true → is_some o ≡ false → n ≡ m → cond b1 (Some n) o ≡ cond (is_some o) o (cond b2 (Some m) None)
-last_place b1 b2 n m o h k none e = rw (h, k, none) (ap (λ x. Some x) e)
-
-same_place : (b1 b2 : Bool) (n m : ℕ) (o : Option ℕ) → b1 ≡ false → b2 ≡ false → cond b1 (Some n) o ≡ cond (is_some o) o (cond b2 (Some m) None)
-same_place b1 b2 n m o h k = rw (h, k) (kept_or_none o)
-
--- the place of a name once one more name that was not there stands at the end
-pub placed_after : (names : List (List ℕ)) (new name : List ℕ) (n : ℕ) → list_any (bytes_eq new) names ≡ false → n ≡ length names → cond (bytes_eq new name) (Some n) (position_from (bytes_eq name) 0 names) ≡ position_from (bytes_eq name) 0 (names ++ new ∷ [])
-placed_after names new name n absent last =
-    rw (position_from-push (bytes_eq name) 0 names new)
-    (⊎_elim
-    (λ same.
-    let is : new ≡ name = (bytes_decides new name).0 same in
-    let back : bytes_eq name new ≡ true = (bytes_decides name new).1 (sym is) in
-    let none : is_some (position_from (bytes_eq name) 0 names) ≡ false = is_some-position_from (bytes_eq name) 0 names ∙ ap (λ w. list_any (bytes_eq w) names) (sym is) ∙ absent in
-    last_place (bytes_eq new name) (bytes_eq name new) n (0 + length names) (position_from (bytes_eq name) 0 names) same back none (omega arith))
-    (λ other.
-    let back : bytes_eq name new ≡ false = false_from_ne_true (bytes_eq name new) (λ t. let turned : bytes_eq new name ≡ true = (bytes_decides new name).1 (sym ((bytes_decides name new).0 t)) in cc) in
-    same_place (bytes_eq new name) (bytes_eq name new) n (0 + length names) (position_from (bytes_eq name) 0 names) other back)
-    (cases_Bool (bytes_eq new name)))
 
 -- what all regions that are taken pass, once a module was accepted
 pub list_all-taken_after : (p : ℕ × ℕ → Bool) (a : Accepted) (m : PlacedModule) → list_all p (taken (record a { modules = a.modules ++ m ∷ [] })) ≡ (list_all p (taken a) && list_all p m.regions)
@@ -89,13 +50,8 @@ pub found_in : (a : Admission) → IsTied a → (name query : List ℕ) (r : Boo
 found_in a tied name query r answers is =
     sym (is_some-position_from (bytes_eq name) 0 (names_of (shown a).modules)) ∙ sym (ap is_some (tied.placed name)) ∙ ap (λ (w : List ℕ). is_some (get_by (λ k. slice_cmp nat_cmp w k.now) a.places)) (sym is) ∙ sym answers
 
--- and so do the regions
-beside_as : (p : ℕ × ℕ → ℕ × ℕ → Bool) (xs ys rs : List (ℕ × ℕ)) → ((q : ℕ × ℕ → Bool) → list_all q xs ≡ list_all q ys) → list_all (λ r. list_all (p r) xs) rs ≡ list_all (λ r. list_all (p r) ys) rs
-beside_as p xs ys [] same = refl
-beside_as p xs ys (r ∷ rs) same = ap (λ b. b && list_all (λ x. list_all (p x) xs) rs) (same (p r)) ∙ ap (λ b. list_all (p r) ys && b) (beside_as p xs ys rs same)
-
 pub free_in : (a : Admission) → IsTied a → (regions : List (ℕ × ℕ)) → are_beside (taken (shown a)) regions ≡ are_beside a.taken regions
-free_in a tied regions = sym (beside_as is_apart a.taken (taken (shown a)) regions tied.free)
+free_in a tied regions = sym (list_all-each_agree is_apart a.taken (taken (shown a)) regions tied.free)
 
 -- the map of names and the regions once a module was accepted
 pub IsTied-accepted : (a : Admission) (m : PlacedModule) → IsTied a → (n : Admission) → shown n ≡ record (shown a) { modules = (shown a).modules ++ m ∷ [] } → list_any (bytes_eq m.name) (names_of (shown a).modules) ≡ false → (k : ℕ) → k ≡ length (shown a).modules
@@ -106,30 +62,20 @@ IsTied-accepted a m tied n shows absent k last names regions =
     record {
       placed = λ name.
           let names_are : names_of (shown n).modules ≡ names_of (shown a).modules ++ m.name ∷ [] = ap (λ (s : Accepted). names_of s.modules) shows ∙ map-append (λ (l : PlacedModule). l.name) (shown a).modules (m ∷ []) in
-          names name ∙ ap (λ (o : Option ℕ). cond (bytes_eq m.name name) (Some k) o) (tied.placed name) ∙ placed_after (names_of (shown a).modules) m.name name k absent (last ∙ sym (length-map (shown a).modules (λ (l : PlacedModule). l.name))) ∙ ap (position_from (bytes_eq name) 0) (sym names_are);
+          names name ∙ ap (λ (o : Option ℕ). cond (bytes_eq m.name name) (Some k) o) (tied.placed name) ∙ position_from-new (names_of (shown a).modules) m.name name k absent (last ∙ sym (length-map (shown a).modules (λ (l : PlacedModule). l.name))) ∙ ap (position_from (bytes_eq name) 0) (sym names_are);
       free = λ p.
           regions p ∙ ap (λ w. w && list_all p m.regions) (tied.free p) ∙ sym (list_all-taken_after p (shown a) m) ∙ ap (λ (s : Accepted). list_all p (taken s)) (sym shows);
     }
 
 -- ---- the regions of a module, taken one after the other
 
-last_first : (x y z : Bool) → (z && (x && y)) ≡ (x && (y && z))
-last_first true true true = refl
-last_first true true false = refl
-last_first true false true = refl
-last_first true false false = refl
-last_first false true true = refl
-last_first false true false = refl
-last_first false false true = refl
-last_first false false false = refl
-
 beside_next : (now next : List (ℕ × ℕ)) (r : ℕ × ℕ) (rs : List (ℕ × ℕ)) → ((p : ℕ × ℕ → Bool) → list_all p next ≡ (p r && list_all p now)) → list_all (is_apart r) rs ≡ true → are_beside now rs ≡ true → are_beside next rs ≡ true
 beside_next now next r [] more apart beside = refl
 beside_next now next r (x ∷ xs) more apart beside =
     let aparts = and_parts (is_apart r x) (list_all (is_apart r) xs) apart in
     let besides = and_parts (list_all (is_apart x) now) (are_beside now xs) beside in
-    both (list_all (is_apart x) next) (are_beside next xs)
-    (more (is_apart x) ∙ both (is_apart x r) (list_all (is_apart x) now) (turned r x aparts.0) besides.0)
+    and_from (list_all (is_apart x) next) (are_beside next xs)
+    (more (is_apart x) ∙ and_from (is_apart x r) (list_all (is_apart x) now) (turned r x aparts.0) besides.0)
     (beside_next now next r xs more aparts.1 besides.1)
 
 pub record IsTaking (old now : List (ℕ × ℕ)) (i : ℕ) (rs : List (ℕ × ℕ)) : Type 0 where
@@ -147,5 +93,5 @@ taking old now next i rs d lt before more =
     record {
       apart = lies.1;
       beside = beside_next now next r rest more lies.0 besides.1;
-      all = λ p. more p ∙ ap (λ b. p r && b) (before.all p) ∙ last_first (list_all p old) (list_all p (take i rs)) (p r) ∙ ap (λ b. list_all p old && b) (sym (list_all_more p rs i d lt));
+      all = λ p. more p ∙ ap (λ b. p r && b) (before.all p) ∙ and_rotate (list_all p old) (list_all p (take i rs)) (p r) ∙ ap (λ b. list_all p old && b) (sym (list_all_more p rs i d lt));
     }

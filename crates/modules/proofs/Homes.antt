@@ -8,6 +8,8 @@ use Rattle.std.proofs.lemmas.Bool.{cases_Bool, cases_eq}
 use Rattle.std.proofs.lemmas.List.Folds.{list_any_at, list_any_none}
 use Rattle.std.proofs.lemmas.List.Sums.{sum_by-cons}
 use Rattle.std.proofs.lemmas.Option.{slice_get-get_or}
+use Rattle.std.proofs.Math.Bool.{or-false}
+use Rattle.order_laws.proofs.Bools.{count_either}
 use Rattle.modules.specs.Accepted.{Accepted, names_of}
 use Rattle.modules.specs.Entries.{SymbolEntry}
 use Rattle.modules.specs.Gathering.{lies_for}
@@ -50,31 +52,23 @@ count_run p q o is (s ∷ ss) =
     ∙ ap (λ n. cond (q s) 1 0 + n) (count_run p q o is ss)
     ∙ sym (length_filter q s ss)
 
-one_of : (b : Bool) → cond b 1 0 + cond (not b) 1 0 ≡ 1
-one_of true = refl
-one_of false = refl
-
 pub count_rest : (p : ListedSymbol → Bool) (q : SymbolEntry → Bool) (o : Option (List ℕ)) → ((s : SymbolEntry) → p (unlettered o s) ≡ q s) → (ss : List SymbolEntry) → count_by (λ l. not (p l)) (map (unlettered o) ss) + length (filter q ss) ≡ length ss
 count_rest p q o is [] = refl
 count_rest p q o is (s ∷ ss) =
     let first : count_by (λ l. not (p l)) (map (unlettered o) (s ∷ ss)) ≡ cond (not (q s)) 1 0 + count_by (λ l. not (p l)) (map (unlettered o) ss) =
     sum_by-cons (λ (l : ListedSymbol). cond (not (p l)) 1 0) (unlettered o s) (map (unlettered o) ss) ∙ ap (λ b. cond (not b) 1 0 + count_by (λ l. not (p l)) (map (unlettered o) ss)) (is s) in
     let rest : count_by (λ l. not (p l)) (map (unlettered o) ss) + length (filter q ss) ≡ length ss = count_rest p q o is ss in
-    omega (arith, first, rest, one_of (q s), length_filter q s ss)
+    omega (arith, first, rest, count_either (q s), length_filter q s ss)
 
 no_lines : (a : Accepted) (s : ListedSymbol) → ((j : ℕ) (m : PlacedModule) → j < length a.modules → belongs (get_or a.modules j m) s ≡ false) → list_any (λ m. belongs m s) a.modules ≡ false
 no_lines a s none = list_any_none (λ (m : PlacedModule). belongs m s) a.modules none
-
-or_false : (b : Bool) → (b || false) ≡ b
-or_false true = refl
-or_false false = refl
 
 -- a line of the kernel itself is kept where its region has it
 pub kept_unnamed : (a : Accepted) (s : SymbolEntry) → is_kept a (unlettered None s) ≡ lies_for a owner.BuiltIn s.addr
 kept_unnamed a s =
     let b : Bool = option_map_or (λ r. holds r s.addr) a.built_in false in
     let none : list_any (λ m. belongs m (unlettered None s)) a.modules ≡ false = no_lines a (unlettered None s) (λ j m lt. refl) in
-    ap (λ c. b || c) none ∙ or_false b
+    ap (λ c. b || c) none ∙ or-false b
 
 -- that of a module which was not accepted is not
 pub kept_nowhere : (a : Accepted) (name : List ℕ) → position_from (bytes_eq name) 0 (names_of a.modules) ≡ None → (s : SymbolEntry) → is_kept a (unlettered (Some name) s) ≡ false

@@ -1,17 +1,18 @@
 -- Which updates a load, an unload, and the end of a module's start give.
-use Rattle.std.proofs.Common.{◌≡◌, ℕ, ◌+◌, ◌<◌, ◌≤◌, Bool, true, false, ◌&&◌, ◌||◌, ◌⊎◌, not, nat_eq, cond, zero, suc, List, [], ◌∷◌, ◌++◌, length, get_or, map, take, Some, None, Ok, Err, Option, Result, refl, sym, ap, subst, ◌∙◌, inl, inr, ⊎_elim, arith, length-append, add-one}
+use Rattle.std.proofs.Common.{◌≡◌, ℕ, ◌+◌, ◌<◌, ◌≤◌, Bool, true, false, ◌&&◌, ◌||◌, ◌⊎◌, not, nat_eq, cond, zero, suc, List, [], ◌∷◌, ◌++◌, length, get_or, map, take, Some, None, Ok, Err, Option, Result, refl, sym, ap, subst, ◌∙◌, inl, inr, ⊎_elim, arith, length-append, add-one, drop}
 use Rattle.std.specs.Cmp.Lexicographic.{bytes_decides}
 use Rattle.std.specs.List.{list_any}
 use Rattle.std.specs.Option.{option_map_or}
 use Rattle.std.specs.Str.{bytes_eq}
-use Rattle.std.proofs.lemmas.Bool.{cases_Bool}
-use Rattle.std.proofs.lemmas.Bool.Decides.{nat_tests}
+use Rattle.std.proofs.lemmas.Bool.{and_from, and_parts, eqb-true, not-true, or_cases, or_left, or_right, eq-eqb}
 use Rattle.std.proofs.lemmas.List.{length-map}
 use Rattle.latch_core.specs.declared.updates.Update.{Update}
 use Rattle.latch_core.specs.declared.updates.Update.TheVariants.{Insert, Erase, Batch}
 use Rattle.order_laws.specs.declared.items.Item.{Item}
 use Rattle.order_laws.specs.declared.refusals.Refusal.{Refusal}
 use Rattle.order_laws.specs.declared.refusals.Refusal.TheVariants.{OutOfMemory, UnknownModule}
+use Rattle.order_laws.proofs.Bools.{and_by_second, or_by_first, or_by_second}
+use Rattle.order_laws.proofs.Numbers.{eqb-one_false, eqb-one_more}
 use Rattle.modules.specs.Entries.{ModuleEntry}
 use Rattle.modules.specs.Loads.{GivesOrLacksMemory, GivesSome, TakesMemory, init_dropped, is_erasing, is_inserting, item_of, loaded, none_left, same_items, unloaded, update_of}
 use Rattle.modules.specs.Parts.{is_init, is_of}
@@ -35,16 +36,6 @@ starts_more core init (x ∷ xs) (y ∷ ys) (suc i) r p lt lp =
 
 -- ---- the items of regions
 
-same_self : (n : ℕ) → nat_eq n n ≡ true
-same_self n = grind (arith, nat_tests)
-
-eq_from : (a b : ℕ) → nat_eq a b ≡ true → a ≡ b
-eq_from a b h = grind (arith, nat_tests)
-
-and_parts : (a b : Bool) → (a && b) ≡ true → (a ≡ true) × (b ≡ true)
-and_parts true b h = (refl, h)
-and_parts false b h = absurd (cc)
-
 item_is : (number : ℕ) (r : ℕ × ℕ) (i : Item) → i.a ≡ r.0 → i.b ≡ r.1 → i.tag ≡ number → item_of number r ≡ i
 item_is number r i a b tag =
     ap (λ x. let k : Item = record { a = x; b = r.1; tag = number } in k) (sym a)
@@ -59,22 +50,18 @@ items_from number (r ∷ rs) (i ∷ is) h =
     let rest = and_parts (nat_eq i.a r.0 && nat_eq i.b r.1 && nat_eq i.tag number) (same_items number rs is) h in
     let tags = and_parts (nat_eq i.a r.0 && nat_eq i.b r.1) (nat_eq i.tag number) rest.0 in
     let ends = and_parts (nat_eq i.a r.0) (nat_eq i.b r.1) tags.0 in
-    ap (λ x. x ∷ map (item_of number) rs) (item_is number r i (eq_from i.a r.0 ends.0) (eq_from i.b r.1 ends.1) (eq_from i.tag number tags.1))
+    ap (λ x. x ∷ map (item_of number) rs) (item_is number r i (eqb-true i.a r.0 ends.0) (eqb-true i.b r.1 ends.1) (eqb-true i.tag number tags.1))
     ∙ ap (λ xs. i ∷ xs) (items_from number rs is rest.1)
 
 pub items_same : (number : ℕ) (rs : List (ℕ × ℕ)) → same_items number rs (map (item_of number) rs) ≡ true
 items_same number [] = refl
-items_same number (r ∷ rs) = rw (same_self r.0, same_self r.1, same_self number) (items_same number rs)
+items_same number (r ∷ rs) = rw (eq-eqb r.0 r.0 refl, eq-eqb r.1 r.1 refl, eq-eqb number number refl) (items_same number rs)
 
 -- ---- the updates
 
 none_from : {A : Type 0} (xs : List A) → none_left xs ≡ true → xs ≡ []
 none_from [] h = refl
 none_from (x ∷ xs) h = absurd (cc)
-
-not_from : (b : Bool) → not b ≡ true → b ≡ false
-not_from true h = absurd (cc)
-not_from false h = refl
 
 erase_batch : (starts : List ℕ) → nat_eq (length starts) 1 ≡ false → update_of starts [] ≡ Batch starts []
 erase_batch [] h = refl
@@ -92,17 +79,14 @@ erasing_from starts (Erase a) h = ap (λ (s : List ℕ). update_of s []) ((bytes
 erasing_from starts (Batch erase insert) h =
     let last = and_parts (not (nat_eq (length starts) 1) && none_left insert) (bytes_eq starts erase) h in
     let first = and_parts (not (nat_eq (length starts) 1)) (none_left insert) last.0 in
-    erase_batch starts (not_from (nat_eq (length starts) 1) first.0)
+    erase_batch starts (not-true (nat_eq (length starts) 1) first.0)
     ∙ ap (λ (s : List ℕ). Batch s []) ((bytes_decides starts erase).0 last.1)
     ∙ ap (λ (is : List Item). Batch erase is) (sym (none_from insert first.1))
-
-two_or_more : (n : ℕ) → not (nat_eq (suc (suc n)) 1) ≡ true
-two_or_more n = grind (arith, nat_tests)
 
 erasing_self : (starts : List ℕ) → is_erasing starts (update_of starts []) ≡ true
 erasing_self [] = refl
 erasing_self (a ∷ []) = (bytes_decides (a ∷ []) (a ∷ [])).1 refl
-erasing_self (a ∷ b ∷ rest) = rw (two_or_more (length rest), (bytes_decides (a ∷ b ∷ rest) (a ∷ b ∷ rest)).1 refl) refl
+erasing_self (a ∷ b ∷ rest) = rw (eqb-one_more (length rest), (bytes_decides (a ∷ b ∷ rest) (a ∷ b ∷ rest)).1 refl) refl
 
 pub erasing_of : (starts : List ℕ) (u : Update) → update_of starts [] ≡ u → is_erasing starts u ≡ true
 erasing_of starts u h = subst (λ (v : Update). is_erasing starts v ≡ true) h (erasing_self starts)
@@ -113,14 +97,14 @@ inserting_from number rs (Erase a) h = absurd (cc)
 inserting_from number rs (Batch erase insert) h =
     let last = and_parts (not (nat_eq (length rs) 1) && none_left erase) (same_items number rs insert) h in
     let first = and_parts (not (nat_eq (length rs) 1)) (none_left erase) last.0 in
-    insert_batch (map (item_of number) rs) (ap (λ n. nat_eq n 1) (length-map rs (item_of number)) ∙ not_from (nat_eq (length rs) 1) first.0)
+    insert_batch (map (item_of number) rs) (ap (λ n. nat_eq n 1) (length-map rs (item_of number)) ∙ not-true (nat_eq (length rs) 1) first.0)
     ∙ ap (λ (is : List Item). Batch [] is) (items_from number rs insert last.1)
     ∙ ap (λ (s : List ℕ). Batch s insert) (sym (none_from erase first.1))
 
 inserting_self : (number : ℕ) (rs : List (ℕ × ℕ)) → is_inserting number rs (update_of [] (map (item_of number) rs)) ≡ true
 inserting_self number [] = refl
 inserting_self number (r ∷ []) = items_same number (r ∷ [])
-inserting_self number (r ∷ s ∷ rest) = rw (two_or_more (length rest)) (items_same number (r ∷ s ∷ rest))
+inserting_self number (r ∷ s ∷ rest) = rw (eqb-one_more (length rest)) (items_same number (r ∷ s ∷ rest))
 
 pub inserting_of : (number : ℕ) (rs : List (ℕ × ℕ)) (u : Update) → update_of [] (map (item_of number) rs) ≡ u → is_inserting number rs u ≡ true
 inserting_of number rs u h = subst (λ (v : Update). is_inserting number rs v ≡ true) h (inserting_self number rs)
@@ -153,27 +137,16 @@ load_from number m u h = (record { core = false; init = false }, ap (λ (v : Upd
 pub load_to : (number : ℕ) (m : ModuleEntry) (u : Update) → GivesSome (asked (loaded number) (Some m)) u → is_inserting number m.regions u ≡ true
 load_to number m u g = inserting_of number m.regions u (chosen g.0.core _ (update_of [] (map (item_of number) m.regions)) u g.1)
 
-either : (a b : Bool) → (a || b) ≡ true → (a ≡ true) ⊎ (b ≡ true)
-either true b h = inl refl
-either false b h = inr h
-
-or_first : (a b : Bool) → a ≡ true → (a || b) ≡ true
-or_first a b h = rw h refl
-
-or_second : (a b : Bool) → b ≡ true → (a || b) ≡ true
-or_second true b h = refl
-or_second false b h = h
-
 pub unload_from : (m : ModuleEntry) (u : Update) → (is_erasing (starts_of true false m.regions m.parts) u || is_erasing (starts_of true true m.regions m.parts) u) ≡ true → GivesSome (asked unloaded (Some m)) u
 unload_from m u h =
     ⊎_elim
     (λ without. (record { core = true; init = false }, ap (λ (v : Update). Ok v) (erasing_from (starts_of true false m.regions m.parts) u without)))
     (λ with_init. (record { core = true; init = true }, ap (λ (v : Update). Ok v) (erasing_from (starts_of true true m.regions m.parts) u with_init)))
-    (either (is_erasing (starts_of true false m.regions m.parts) u) (is_erasing (starts_of true true m.regions m.parts) u) h)
+    (or_cases (is_erasing (starts_of true false m.regions m.parts) u) (is_erasing (starts_of true true m.regions m.parts) u) h)
 
 by_init : (m : ModuleEntry) (u : Update) (init : Bool) → is_erasing (starts_of true init m.regions m.parts) u ≡ true → (is_erasing (starts_of true false m.regions m.parts) u || is_erasing (starts_of true true m.regions m.parts) u) ≡ true
-by_init m u true h = or_second (is_erasing (starts_of true false m.regions m.parts) u) (is_erasing (starts_of true true m.regions m.parts) u) h
-by_init m u false h = or_first (is_erasing (starts_of true false m.regions m.parts) u) (is_erasing (starts_of true true m.regions m.parts) u) h
+by_init m u true h = or_right (is_erasing (starts_of true false m.regions m.parts) u) (is_erasing (starts_of true true m.regions m.parts) u) h
+by_init m u false h = or_left (is_erasing (starts_of true false m.regions m.parts) u) (is_erasing (starts_of true true m.regions m.parts) u) h
 
 pub unload_to : (m : ModuleEntry) (u : Update) → GivesSome (asked unloaded (Some m)) u → (is_erasing (starts_of true false m.regions m.parts) u || is_erasing (starts_of true true m.regions m.parts) u) ≡ true
 unload_to m u g = by_init m u g.0.init (erasing_of (starts_of true g.0.init m.regions m.parts) u (chosen_not g.0.core _ (update_of (starts_of true g.0.init m.regions m.parts) []) u g.1))
@@ -189,30 +162,12 @@ held_init true true false e d v u h = absurd (cc)
 held_init true false some e d v u h = absurd (cc)
 held_init false init some e d v u h = absurd (cc)
 
-both : (a b : Bool) → a ≡ true → b ≡ true → (a && b) ≡ true
-both a b h k = rw (h, k) refl
-
 pub drop_to : (m : ModuleEntry) (u : Update) → GivesSome (asked init_dropped (Some m)) u → (list_any is_init m.parts && is_erasing (starts_of false true m.regions m.parts) u) ≡ true
 drop_to m u g =
     let parts = held_init g.0.core g.0.init (list_any is_init m.parts) _ _ (update_of (starts_of false true m.regions m.parts) []) u g.1 in
-    both (list_any is_init m.parts) (is_erasing (starts_of false true m.regions m.parts) u) parts.0 (erasing_of (starts_of false true m.regions m.parts) u parts.1)
+    and_from (list_any is_init m.parts) (is_erasing (starts_of false true m.regions m.parts) u) parts.0 (erasing_of (starts_of false true m.regions m.parts) u parts.1)
 
 -- ---- the answers of the catalog
-
-either_true : (r a b : Bool) → r ≡ a → r ≡ true → r ≡ (a || b)
-either_true r a b is holds = holds ∙ sym (or_first a b (sym is ∙ holds))
-
-second_alone : (a b : Bool) → a ≡ false → (a || b) ≡ b
-second_alone a b h = rw h refl
-
-either_false : (s r a b : Bool) → s ≡ a → s ≡ false → r ≡ b → r ≡ (a || b)
-either_false s r a b is fails second = second ∙ sym (second_alone a b (sym is ∙ fails))
-
-second_of_both : (a b : Bool) → a ≡ true → (a && b) ≡ b
-second_of_both a b h = rw h refl
-
-both_true : (s r a b : Bool) → s ≡ a → s ≡ true → r ≡ b → r ≡ (a && b)
-both_true s r a b is holds second = second ∙ sym (second_of_both a b (sym is ∙ holds))
 
 abbrev pub Answers : Bool → (Held → Result Update Refusal) → Update → Type 0
 Answers r f u = (r ≡ true → GivesSome f u) × (GivesSome f u → r ≡ true)
@@ -226,23 +181,20 @@ unload_answers o m u r at is =
     subst (λ (p : Option ModuleEntry). Answers r (asked unloaded p) u) at (λ holds. unload_from m u (sym is ∙ holds), λ g. is ∙ unload_to m u g)
 
 pub unload_answers_first : (o : Option ModuleEntry) (m : ModuleEntry) (u : Update) (r : Bool) → Some m ≡ o → r ≡ is_erasing (starts_of true false m.regions m.parts) u → r ≡ true → Answers r (asked unloaded o) u
-unload_answers_first o m u r at is holds = unload_answers o m u r at (either_true r (is_erasing (starts_of true false m.regions m.parts) u) (is_erasing (starts_of true true m.regions m.parts) u) is holds)
+unload_answers_first o m u r at is holds = unload_answers o m u r at (or_by_first r (is_erasing (starts_of true false m.regions m.parts) u) (is_erasing (starts_of true true m.regions m.parts) u) is holds)
 
 pub unload_answers_second : (o : Option ModuleEntry) (m : ModuleEntry) (u : Update) (s r : Bool) → Some m ≡ o → s ≡ is_erasing (starts_of true false m.regions m.parts) u → s ≡ false → r ≡ is_erasing (starts_of true true m.regions m.parts) u → Answers r (asked unloaded o) u
-unload_answers_second o m u s r at first fails second = unload_answers o m u r at (either_false s r (is_erasing (starts_of true false m.regions m.parts) u) (is_erasing (starts_of true true m.regions m.parts) u) first fails second)
+unload_answers_second o m u s r at first fails second = unload_answers o m u r at (or_by_second s r (is_erasing (starts_of true false m.regions m.parts) u) (is_erasing (starts_of true true m.regions m.parts) u) first fails second)
 
 pub drop_answers : (o : Option ModuleEntry) (m : ModuleEntry) (u : Update) (s r : Bool) → Some m ≡ o → s ≡ list_any is_init m.parts → s ≡ true → r ≡ is_erasing (starts_of false true m.regions m.parts) u → Answers r (asked init_dropped o) u
 drop_answers o m u s r at has holds is =
-    let both_are = both_true s r (list_any is_init m.parts) (is_erasing (starts_of false true m.regions m.parts) u) has holds is in
+    let both_are = and_by_second s r (list_any is_init m.parts) (is_erasing (starts_of false true m.regions m.parts) u) has holds is in
     subst (λ (p : Option ModuleEntry). Answers r (asked init_dropped p) u) at (λ true_is. drop_from m u (sym both_are ∙ true_is), λ g. both_are ∙ drop_to m u g)
 
 -- ---- several regions put in
 
-not_one : (n : ℕ) → (n ≡ 1 → ⊥) → nat_eq n 1 ≡ false
-not_one n h = ⊎_elim (λ one. absurd (h (eq_from n 1 one))) (λ other. other) (cases_Bool (nat_eq n 1))
-
 batch_of : (number : ℕ) (rs : List (ℕ × ℕ)) → (length rs ≡ 1 → ⊥) → update_of [] (map (item_of number) rs) ≡ Batch [] (map (item_of number) rs)
-batch_of number rs several = insert_batch (map (item_of number) rs) (ap (λ n. nat_eq n 1) (length-map rs (item_of number)) ∙ not_one (length rs) several)
+batch_of number rs several = insert_batch (map (item_of number) rs) (ap (λ n. nat_eq n 1) (length-map rs (item_of number)) ∙ eqb-one_false (length rs) several)
 
 pub many_given : (number : ℕ) (rs : List (ℕ × ℕ)) (erase : List ℕ) (insert : List Item) → (length rs ≡ 1 → ⊥) → erase ≡ [] → insert ≡ map (item_of number) rs → GivesOrLacksMemory (Ok (update_of [] (map (item_of number) rs))) (Ok (Batch erase insert))
 many_given number rs erase insert several none is =
@@ -250,7 +202,3 @@ many_given number rs erase insert several none is =
 
 pub many_lacks : (number : ℕ) (rs : List (ℕ × ℕ)) (r : Result Update Refusal) → (length rs ≡ 1 → ⊥) → r ≡ Err OutOfMemory → GivesOrLacksMemory (Ok (update_of [] (map (item_of number) rs))) r
 many_lacks number rs r several lacks = inr (lacks, subst (λ (u : Update). TakesMemory (Ok u)) (sym (batch_of number rs several)) tt)
-
-pub length_more : (xs : List ℕ) (b : Bool) (y : ℕ) → length (xs ++ cond b (y ∷ []) []) ≤ length xs + 1
-length_more xs true y = omega (arith, length-append xs (y ∷ []))
-length_more xs false y = omega (arith, length-append {A = ℕ} xs [])

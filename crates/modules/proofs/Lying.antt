@@ -1,13 +1,15 @@
 -- Each module has 1 to 7 regions.
-use Rattle.std.proofs.Common.{◌≡◌, ℕ, ◌+◌, ◌^◌, ◌<◌, ◌≤◌, ◌⊎◌, Bool, true, false, ◌||◌, nat_le, cond, suc, List, [], ◌∷◌, length, get_or, map, refl, sym, ap, ◌∙◌, inl, inr, ⊎_elim, arith}
+use Rattle.std.proofs.Common.{◌≡◌, ℕ, ◌+◌, ◌^◌, ◌<◌, ◌≤◌, ◌⊎◌, Bool, true, false, ◌||◌, nat_le, cond, suc, List, [], ◌∷◌, length, get_or, map, refl, sym, ap, ◌∙◌, inl, inr, ⊎_elim, arith, ◌&&◌, nat_lt, nat_eq, not, zero, subst}
 use Rattle.std.specs.Prelude.{All, filter}
 use Rattle.std.specs.Cmp.Lexicographic.{bytes_decides}
 use Rattle.std.specs.List.{list_any}
 use Rattle.std.specs.Str.{bytes_eq}
+use Rattle.std.proofs.lemmas.Bool.{cases_Bool, leb-true}
 use Rattle.std.proofs.lemmas.Bool.Decides.{nat_tests}
 use Rattle.std.proofs.lemmas.List.{length-map}
 use Rattle.std.proofs.lemmas.List.Elements.{All-nil, All-cons, All-map, All-filter}
 use Rattle.std.proofs.lemmas.List.Sums.{AllPass-from_list_all}
+use Rattle.order_laws.proofs.Tests.{some_passes}
 use Rattle.modules.specs.Lines.{bounds_of, fits, is_region, region_fits, region_of}
 use Rattle.modules.specs.Listed.{ListedModule, ListedRegion}
 use Rattle.modules.specs.Parts.{is_core}
@@ -15,18 +17,6 @@ use Rattle.modules.specs.Placed.{IsPlaced, are_few, has_core, lines_named, place
 
 pub region_parts : (base size : ℕ) → is_region base size ≡ true → (base < base + size) × (base + size < 2 ^ 64)
 region_parts base size h = (grind (arith, nat_tests), grind (arith, nat_tests))
-
--- an element that passes, or none
-one_that_passes : {A : Type 0} (p : A → Bool) (xs : List A) → (length (filter p xs) ≡ 0) ⊎ ((k : ℕ) × (k < length xs) × ((d : A) → p (get_or xs k d) ≡ true))
-one_that_passes p [] = inl refl
-one_that_passes p (x ∷ xs) =
-    elim (p x) as (λ b. p x ≡ b → (length (cond b (x ∷ filter p xs) (filter p xs)) ≡ 0) ⊎ ((k : ℕ) × (k < length (x ∷ xs)) × ((d : _) → p (get_or (x ∷ xs) k d) ≡ true))) [
-      | true ↦ λ yes. inr (0, omega arith, λ d. yes)
-      | false ↦ λ no. ⊎_elim (λ none. inl none) (λ some. inr (suc some.0, omega (arith, some.1), λ d. some.2 d)) (one_that_passes p xs)
-    ] refl
-
-le_from : (a b : ℕ) → nat_le a b ≡ true → a ≤ b
-le_from a b h = grind (arith, nat_tests)
 
 -- where no name has more than seven lines, this one has not
 pub few_named : (regions : List ListedRegion) (name : List ℕ) → are_few regions ≡ true → length (lines_named name regions) ≤ 7
@@ -37,8 +27,8 @@ few_named regions name few =
     let d : ListedRegion = get_or regions some.0 (first_of regions some.0 some.1) in
     let is : (get_or regions some.0 d).name ≡ name = (bytes_decides (get_or regions some.0 d).name name).0 (some.2 d) in
     let at : nat_le (length (lines_named (get_or regions some.0 d).name regions)) 7 ≡ true = AllPass-from_list_all (λ (r : ListedRegion). nat_le (length (lines_named r.name regions)) 7) regions few some.0 d some.1 in
-    le_from (length (lines_named name regions)) 7 (ap (λ (n : List ℕ). nat_le (length (lines_named n regions)) 7) (sym is) ∙ at))
-    (one_that_passes (λ (r : ListedRegion). bytes_eq r.name name) regions)
+    leb-true (length (lines_named name regions)) 7 (ap (λ (n : List ℕ). nat_le (length (lines_named n regions)) 7) (sym is) ∙ at))
+    (some_passes (λ (r : ListedRegion). bytes_eq r.name name) regions)
   where
     first_of : (xs : List ListedRegion) (k : ℕ) → k < length xs → ListedRegion
     first_of [] k lt = absurd (omega arith)

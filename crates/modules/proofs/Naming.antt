@@ -1,5 +1,5 @@
 -- A name among names that are distinct.
-use Rattle.std.proofs.Common.{◌≡◌, ℕ, ◌+◌, ◌<◌, true, false, List, [], ◌∷◌, ◌++◌, zero, suc, add-zero, length, get_or, Some, None, refl, sym, ap, ◌∙◌, ⊎_elim, arith, zero-add}
+use Rattle.std.proofs.Common.{◌≡◌, ℕ, ◌+◌, ◌<◌, true, false, List, [], length, get_or, Some, None, refl, sym, ap, ◌∙◌, ⊎_elim, arith, zero-add}
 use Rattle.std.specs.Prelude.{All, is_some}
 use Rattle.std.specs.declared.cmp.Ordering.TheVariants.{Less, Equal, Greater}
 use Rattle.std.specs.Cmp.Lexicographic.{bytes_decides, slice_cmp}
@@ -8,16 +8,16 @@ use Rattle.std.specs.List.Sorted.{IsPartitionPoint}
 use Rattle.std.specs.Ordering.{nat_cmp}
 use Rattle.std.specs.Str.{bytes_eq}
 use Rattle.std.proofs.lemmas.Bool.{cases_lt, cases_order}
-use Rattle.std.proofs.lemmas.Bool.Decides.{nat_tests}
 use Rattle.std.proofs.lemmas.Iterator.Adapters.{position_from-zero}
 use Rattle.std.proofs.lemmas.List.Folds.{list_any_at}
 use Rattle.std.proofs.lemmas.List.FromFn.{length-range_with_len, get_or-range_with_len}
 use Rattle.std.proofs.lemmas.List.Quantifiers.{position-Some}
 use Rattle.std.proofs.lemmas.List.Sorted.{All-permutation, IsPermutation-sym}
 use Rattle.std.proofs.lemmas.Map.Lookups.{exact_bytes}
+use Rattle.order_laws.proofs.Orderings.{slice_cmp-same}
+use Rattle.order_laws.proofs.Tests.{is_some-position_from}
 use Rattle.modules.specs.Kept.{AreDistinct}
 use Rattle.modules.specs.Names.{IsNameIndex}
-use Rattle.modules.proofs.Admitting.{is_some-position_from}
 
 -- each entry of the index is a place
 pub place_in : (names : List (List ℕ)) (index : List ℕ) → IsNameIndex names index → All (λ p. p < length names) index
@@ -57,10 +57,6 @@ pub found : (names : List (List ℕ)) (index : List ℕ) → IsNameIndex names i
 found names index is distinct name at lt equal =
     sym (place_is names name (get_or index at 0) distinct (place_in names index is at 0 lt) (exact_bytes (get_or names (get_or index at 0) []) name equal))
 
-cmp_same : (xs : List ℕ) → slice_cmp nat_cmp xs xs ≡ Equal
-cmp_same [] = refl
-cmp_same (x ∷ xs) = let first : nat_cmp x x ≡ Equal = grind (arith, nat_tests) in rw first (cmp_same xs)
-
 pub absent : (names : List (List ℕ)) (index : List ℕ) → IsNameIndex names index → (name : List ℕ) (split : ℕ) → IsPartitionPoint (λ k. slice_cmp nat_cmp (get_or names k []) name ≡ Less) (λ k. slice_cmp nat_cmp (get_or names k []) name ≡ Greater) index split → None ≡ position_from (bytes_eq name) 0 names
 absent names index is name split point =
     let other : All (λ k. slice_cmp nat_cmp (get_or names k []) name ≡ Equal → ⊥) index = λ i d lt. ⊎_elim
@@ -72,13 +68,6 @@ absent names index is name split point =
       | Some j ↦ λ at.
           let there = position-Some (bytes_eq name) names j [] (position_from-zero (bytes_eq name) names ∙ at) in
           let same : name ≡ get_or names j [] = (bytes_decides name (get_or names j [])).0 there.1 in
-          let equal : slice_cmp nat_cmp (get_or names j []) name ≡ Equal = ap (λ (w : List ℕ). slice_cmp nat_cmp w name) (sym same) ∙ cmp_same name in
+          let equal : slice_cmp nat_cmp (get_or names j []) name ≡ Equal = ap (λ (w : List ℕ). slice_cmp nat_cmp w name) (sym same) ∙ slice_cmp-same name in
           absurd (all_places names index is (λ k. slice_cmp nat_cmp (get_or names k []) name ≡ Equal → ⊥) other j there.0 equal)
     ] refl
-
-pub range_more : (a n : ℕ) → range_with_len a (n + 1) ≡ range_with_len a n ++ (a + n) ∷ []
-range_more a zero = rw add-zero refl
-range_more a (suc n) =
-    let one : suc n + 1 ≡ suc (n + 1) = omega arith in
-    let last : (a + 1) + n ≡ a + suc n = omega arith in
-    rw (one, ← last) (ap (λ xs. a ∷ xs) (range_more (a + 1) n))

@@ -3,25 +3,23 @@ use Rattle.std.proofs.Common.{◌≡◌, ℕ, ◌-◌, ◌<◌, ◌≤◌, ◌�
 use Rattle.std.specs.Prelude.{slice_get}
 use Rattle.std.specs.Option.{option_map}
 use Rattle.std.specs.List.Sorted.{IsPartitionPoint}
-use Rattle.std.proofs.lemmas.Bool.{cases_lt, false_from_ne_true}
-use Rattle.std.proofs.lemmas.Bool.Decides.{nat_tests}
+use Rattle.std.proofs.lemmas.Bool.{cases_lt, false_from_ne_true, and_parts, le-leb, le-ltb, leb-false, leb-true, lt-leb, lt-ltb, ltb-false, ltb-true}
 use Rattle.std.proofs.lemmas.List.{get_or_default}
 use Rattle.std.proofs.lemmas.List.Sums.{AllPass-from_list_all, list_all-from_AllPass}
 use Rattle.std.proofs.lemmas.Option.{slice_get_cases}
+use Rattle.order_laws.proofs.Numbers.{le_or_past, le_unless_past, least_above}
+use Rattle.order_laws.proofs.Tests.{find-first, find-none}
 use Rattle.modules.specs.Around.{is_nearest, symbol_below, is_next, address_above}
 use Rattle.modules.specs.Entries.{SymbolEntry}
 use Rattle.modules.specs.Index.{IsRising, IsSplitOf, IsFirstOf, IsFirstAt}
-use Rattle.modules.proofs.Indexing.{find_first, find_none, le_from_leb, lt_from_leb, lt_from_ltb, nearest_test, below_nearest, and_parts, le_is_true, le_is_false, next_test, lt_is_true, lt_is_false}
 
-le_from_ltb : (a b : ℕ) → nat_lt a b ≡ false → b ≤ a
-le_from_ltb a b h = grind (arith, nat_tests)
 
 pub IsFirstOf-from_partition : (symbols : List SymbolEntry) (addr split : ℕ) → split ≤ length symbols → IsPartitionPoint (λ s. nat_lt s.addr addr ≡ true) (λ s. nat_lt s.addr addr ≡ false) symbols split → IsFirstOf symbols addr split
 IsFirstOf-from_partition symbols addr split bound point =
     record {
       bound = bound;
-      below = λ k d lt. lt_from_ltb (get_or symbols k d).addr addr (point.0 k d (omega arith) lt);
-      others = λ k d le lt. le_from_ltb (get_or symbols k d).addr addr (point.1 k d le lt);
+      below = λ k d lt. ltb-true (get_or symbols k d).addr addr (point.0 k d (omega arith) lt);
+      others = λ k d le lt. ltb-false (get_or symbols k d).addr addr (point.1 k d le lt);
     }
 
 -- the first symbol is the first of its address
@@ -49,9 +47,9 @@ above_is_first symbols place s t rising within some above d =
 
 pub none_below : (symbols : List SymbolEntry) (addr : ℕ) → IsSplitOf symbols addr 0 → symbol_below symbols addr ≡ None
 none_below symbols addr split =
-    find_none (is_nearest symbols addr) symbols (λ j s lt.
+    find-none (is_nearest symbols addr) symbols (λ j s lt.
     let over : addr < (get_or symbols j s).addr = split.above j s (omega arith) lt in
-    rw (le_is_false (get_or symbols j s).addr addr over))
+    rw (lt-leb (get_or symbols j s).addr addr over))
 
 -- the first of those that have the address of the last one below
 record IsFound (symbols : List SymbolEntry) (addr split first : ℕ) (s : SymbolEntry) : Type 0 where
@@ -82,13 +80,13 @@ first_below symbols addr split first s rising parts some is =
     (λ before. inl (subst (λ (x : SymbolEntry). (get_or symbols j t).addr ≤ x.addr) (get_or_default symbols (split - 1) t s (omega arith)) (rising j (split - 1) t (omega arith) (omega arith))))
     (λ after. inr (parts.above j t after lt))
     (cases_lt j split) in
-    find_first (is_nearest symbols addr) symbols first s found.within
-    (let le : nat_le (get_or symbols first s).addr addr ≡ true = rw its (le_is_true a addr low) in
-    rw le (list_all-from_AllPass (λ (t : SymbolEntry). nat_le t.addr (get_or symbols first s).addr || nat_lt addr t.addr) symbols (λ j t lt. rw its (nearest_test (get_or symbols j t).addr a addr (near j t lt)))))
+    find-first (is_nearest symbols addr) symbols first s found.within
+    (let le : nat_le (get_or symbols first s).addr addr ≡ true = rw its (le-leb a addr low) in
+    rw le (list_all-from_AllPass (λ (t : SymbolEntry). nat_le t.addr (get_or symbols first s).addr || nat_lt addr t.addr) symbols (λ j t lt. rw its (le_or_past (get_or symbols j t).addr a addr (near j t lt)))))
     (λ k less. false_from_ne_true (is_nearest symbols addr (get_or symbols k s)) (λ yes.
     let both = and_parts (nat_le (get_or symbols k s).addr addr) _ yes in
     let test = AllPass-from_list_all (λ (t : SymbolEntry). nat_le t.addr (get_or symbols k s).addr || nat_lt addr t.addr) symbols both.1 (split - 1) s (omega arith) in
-    let upper : a ≤ (get_or symbols k s).addr = below_nearest a (get_or symbols k s).addr addr test low in
+    let upper : a ≤ (get_or symbols k s).addr = le_unless_past a (get_or symbols k s).addr addr test low in
     let under : (get_or symbols k s).addr < a = is.below k s less in
     absurd (omega arith)))
 
@@ -97,21 +95,21 @@ first_below symbols addr split first s rising parts some is =
 first_above : (symbols : List SymbolEntry) (addr split : ℕ) → IsRising symbols → IsSplitOf symbols addr split → (s : SymbolEntry) → split < length symbols → address_above symbols addr ≡ Some (get_or symbols split s).addr
 first_above symbols addr split rising parts s within =
     let high : addr < (get_or symbols split s).addr = parts.above split s (omega arith) within in
-    ap (option_map (λ (t : SymbolEntry). t.addr)) (find_first (is_next symbols addr) symbols split s within
-    (let lt : nat_lt addr (get_or symbols split s).addr ≡ true = lt_is_true addr (get_or symbols split s).addr high in
-    rw lt (list_all-from_AllPass (λ (t : SymbolEntry). nat_le t.addr addr || nat_le (get_or symbols split s).addr t.addr) symbols (λ j t l. next_test (get_or symbols split s).addr (get_or symbols j t).addr addr (⊎_elim
+    ap (option_map (λ (t : SymbolEntry). t.addr)) (find-first (is_next symbols addr) symbols split s within
+    (let lt : nat_lt addr (get_or symbols split s).addr ≡ true = lt-ltb addr (get_or symbols split s).addr high in
+    rw lt (list_all-from_AllPass (λ (t : SymbolEntry). nat_le t.addr addr || nat_le (get_or symbols split s).addr t.addr) symbols (λ j t l. least_above (get_or symbols split s).addr (get_or symbols j t).addr addr (⊎_elim
     (λ before. inl (parts.below j t before))
     (λ after. inr (subst (λ (x : SymbolEntry). x.addr ≤ (get_or symbols j t).addr) (get_or_default symbols split t s within) (rising split j t after l)))
     (cases_lt j split)))))
     (λ k less.
     let under : (get_or symbols k s).addr ≤ addr = parts.below k s less in
-    rw (lt_is_false addr (get_or symbols k s).addr under)))
+    rw (le-ltb addr (get_or symbols k s).addr under)))
 
 none_above : (symbols : List SymbolEntry) (addr split : ℕ) → IsSplitOf symbols addr split → length symbols ≤ split → address_above symbols addr ≡ None
 none_above symbols addr split parts all =
-    ap (option_map (λ (s : SymbolEntry). s.addr)) (find_none (is_next symbols addr) symbols (λ j s lt.
+    ap (option_map (λ (s : SymbolEntry). s.addr)) (find-none (is_next symbols addr) symbols (λ j s lt.
     let under : (get_or symbols j s).addr ≤ addr = parts.below j s (omega arith) in
-    rw (lt_is_false addr (get_or symbols j s).addr under)))
+    rw (le-ltb addr (get_or symbols j s).addr under)))
 
 pub above_in : (symbols : List SymbolEntry) (addr split : ℕ) → IsRising symbols → IsSplitOf symbols addr split → option_map (λ s. s.addr) (slice_get symbols split) ≡ address_above symbols addr
 above_in symbols addr split rising parts =

@@ -1,10 +1,9 @@
 -- Lines that have the name of their module by their run, and their letter beside it.
 use Rattle.std.proofs.Common.{◌≡◌, ℕ, zero, suc, ◌<◌, ◌+◌, Bool, true, false, ◌&&◌, cond, List, [], ◌∷◌, ◌++◌, length, map, take, drop, get_or, Some, None, Option, refl, sym, ap, ◌∙◌, arith, append_assoc}
-use Rattle.std.specs.Prelude.{filter, find, count_by, is_none, is_some, nat_eq}
+use Rattle.std.specs.Prelude.{filter, find, count_by, is_none, is_some}
 use Rattle.std.specs.Borrow.{Bor}
-use Rattle.std.specs.Cmp.Lexicographic.{pointwise, same_text}
 use Rattle.std.specs.List.{zip}
-use Rattle.std.specs.Option.{option_copied, option_eq, option_map}
+use Rattle.std.specs.Option.{option_copied, option_map}
 use Rattle.std.specs.Str.{bytes_eq}
 use Rattle.std.proofs.lemmas.List.{map-append, append-nil}
 use Rattle.std.proofs.lemmas.List.Sums.{sum_by-cons}
@@ -114,13 +113,6 @@ pub lines_of_all-at : (runs : List Run) (i : ℕ) (d : Run) → i < length runs 
 lines_of_all-at [] i d lt = absurd (omega arith)
 lines_of_all-at (r ∷ runs) zero d lt = refl
 lines_of_all-at (r ∷ runs) (suc i) d lt = ap (λ xs. lines_of r ++ xs) (lines_of_all-at runs i d (omega arith)) ∙ sym (append_assoc (lines_of r) (lines_of_all (take i runs)) (lines_of (get_or runs i d) ++ lines_of_all (drop (suc i) runs)))
-
--- two modules whose names are equal
-pub same_owner : (m n : Option (Bor (List ℕ))) → option_eq (λ x y. pointwise nat_eq x.now y.now) m n ≡ true → option_copied m ≡ option_copied n
-same_owner None None same = refl
-same_owner None (Some o) same = cc
-same_owner (Some o) None same = cc
-same_owner (Some o) (Some p) same = ap Some (same_text o.now p.now (sym same))
 
 -- one symbol more in the last run
 pub lines_of-more : (m n : Option (Bor (List ℕ))) (ss ts : List SymbolEntry) (s : SymbolEntry) → option_copied m ≡ option_copied n → ts ≡ ss ++ s ∷ [] → map (unlettered (option_copied m)) ts ≡ map (unlettered (option_copied m)) ss ++ unlettered (option_copied n) s ∷ []

@@ -1,8 +1,8 @@
 -- The accepted modules have distinct names and regions that lie apart.
-use Rattle.std.proofs.Common.{◌≡◌, ◌≢◌, ℕ, ◌+◌, ◌<◌, ◌≤◌, Bool, true, false, ◌&&◌, nat_lt, cond, List, [], ◌∷◌, ◌++◌, length, get_or, map, Some, None, Option, refl, sym, ap, ◌∙◌, subst, arith, append_assoc, length-append}
+use Rattle.std.proofs.Common.{◌≡◌, ◌≢◌, ℕ, ◌+◌, ◌<◌, ◌≤◌, Bool, true, false, ◌&&◌, nat_lt, cond, List, [], ◌∷◌, ◌++◌, length, get_or, map, Some, None, Option, refl, sym, ap, ◌∙◌, subst, arith, append_assoc, length-append, ◌^◌, nat_eq, not}
 use Rattle.std.specs.Prelude.{All, IfSome, fold, is_some, codes}
 use Rattle.std.specs.Cmp.Lexicographic.{bytes_decides}
-use Rattle.std.specs.List.{AllPairs, flat_map, list_any, list_all}
+use Rattle.std.specs.List.{flat_map, list_any, list_all}
 use Rattle.std.specs.Option.{option_to_list, option_and_then}
 use Rattle.std.specs.Int.{from_bool}
 use Rattle.std.specs.Str.{bytes_eq}
@@ -13,6 +13,8 @@ use Rattle.std.proofs.lemmas.List.Elements.{All-nil, All-push, All-head, All-tai
 use Rattle.std.proofs.lemmas.List.Folds.{list_all-append, list_any_at}
 use Rattle.std.proofs.lemmas.List.Quantifiers.{all_pairs_push}
 use Rattle.std.proofs.lemmas.List.Sums.{AllPass-from_list_all}
+use Rattle.std.proofs.lemmas.Bool.{and_from, and_parts}
+use Rattle.order_laws.proofs.Pairs.{AllPairs-few}
 use Rattle.modules.specs.Accepted.{Accepted, accepted_of, after_module, names_of, none_yet, taken}
 use Rattle.modules.specs.Building.{built_in_with, kernel_at, place_of}
 use Rattle.modules.specs.Catalogs.{IsSound, built_in_of, catalog_of, entry_for}
@@ -34,13 +36,6 @@ pub record IsGood (a : Accepted) : Type 0 where
 pub turned : (r s : ℕ × ℕ) → is_apart r s ≡ true → is_apart s r ≡ true
 turned r s h = grind (arith, nat_tests)
 
-pub and_parts : (a b : Bool) → (a && b) ≡ true → (a ≡ true) × (b ≡ true)
-and_parts true b h = (refl, h)
-and_parts false b h = absurd (cc)
-
-pub both : (a b : Bool) → a ≡ true → b ≡ true → (a && b) ≡ true
-both a b h k = rw (h, k)
-
 pub AreApart-push : (regions : List (ℕ × ℕ)) (r : ℕ × ℕ) → AreApart regions → r.0 < r.1 → list_all (is_apart r) regions ≡ true → AreApart (regions ++ r ∷ [])
 AreApart-push regions r apart valid beside =
     record {
@@ -60,8 +55,8 @@ beside_more taken r [] h k = refl
 beside_more taken r (x ∷ xs) h k =
     let old = and_parts (list_all (is_apart x) taken) (are_beside taken xs) h in
     let new = and_parts (is_apart r x) (list_all (is_apart r) xs) k in
-    let first : list_all (is_apart x) (taken ++ r ∷ []) ≡ true = list_all-append (is_apart x) taken (r ∷ []) ∙ both (list_all (is_apart x) taken) (is_apart x r && true) old.0 (both (is_apart x r) true (turned r x new.0) refl) in
-    both (list_all (is_apart x) (taken ++ r ∷ [])) (are_beside (taken ++ r ∷ []) xs) first (beside_more taken r xs old.1 new.1)
+    let first : list_all (is_apart x) (taken ++ r ∷ []) ≡ true = list_all-append (is_apart x) taken (r ∷ []) ∙ and_from (list_all (is_apart x) taken) (is_apart x r && true) old.0 (and_from (is_apart x r) true (turned r x new.0) refl) in
+    and_from (list_all (is_apart x) (taken ++ r ∷ [])) (are_beside (taken ++ r ∷ []) xs) first (beside_more taken r xs old.1 new.1)
 
 -- regions that lie apart, and beside those taken, are taken too
 pub AreApart-append : (taken rs : List (ℕ × ℕ)) → AreApart taken → All (λ r. r.0 < r.1) rs → lie_apart rs ≡ true → are_beside taken rs ≡ true → AreApart (taken ++ rs)
@@ -101,21 +96,18 @@ pub IsGood-fold : (a : Accepted) (ms : List PlacedModule) → IsGood a → All I
 IsGood-fold a [] good all = good
 IsGood-fold a (m ∷ ms) good all = IsGood-fold (after_module a m) ms (IsGood-after_module a m good (All-head IsPlaced m ms all)) (All-tail IsPlaced m ms all)
 
-none_pairs : {A : Type 0} (R : A → A → Type 0) (xs : List A) → length xs ≤ 1 → AllPairs R xs
-none_pairs R xs short = λ i j d lt within. absurd (omega arith)
-
 pub IsGood-none : (built_in : Option (ℕ × ℕ)) → IfSome built_in (λ r. r.0 < r.1) → IsGood (none_yet built_in)
 IsGood-none None valid =
     record {
       places = All-nil IsPlaced;
-      distinct = none_pairs (λ (x y : List ℕ). x ≢ y) [] (omega arith);
-      apart = record { valid = All-nil (λ (x : ℕ × ℕ). x.0 < x.1); apart = none_pairs (λ (x y : ℕ × ℕ). is_apart x y ≡ true) [] (omega arith) };
+      distinct = AllPairs-few (λ (x y : List ℕ). x ≢ y) [] (omega arith);
+      apart = record { valid = All-nil (λ (x : ℕ × ℕ). x.0 < x.1); apart = AllPairs-few (λ (x y : ℕ × ℕ). is_apart x y ≡ true) [] (omega arith) };
     }
 IsGood-none (Some r) valid =
     record {
       places = All-nil IsPlaced;
-      distinct = none_pairs (λ (x y : List ℕ). x ≢ y) [] (omega arith);
-      apart = record { valid = All-cons (λ (x : ℕ × ℕ). x.0 < x.1) r [] valid (All-nil (λ (x : ℕ × ℕ). x.0 < x.1)); apart = none_pairs (λ (x y : ℕ × ℕ). is_apart x y ≡ true) (r ∷ []) (omega arith) };
+      distinct = AllPairs-few (λ (x y : List ℕ). x ≢ y) [] (omega arith);
+      apart = record { valid = All-cons (λ (x : ℕ × ℕ). x.0 < x.1) r [] valid (All-nil (λ (x : ℕ × ℕ). x.0 < x.1)); apart = AllPairs-few (λ (x y : ℕ × ℕ). is_apart x y ≡ true) (r ∷ []) (omega arith) };
     }
 
 picked : (start end : ℕ) → IfSome {T = ℕ × ℕ} (cond (nat_lt start end) (Some (start, end)) None) (λ r. r.0 < r.1)

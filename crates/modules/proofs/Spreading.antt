@@ -1,13 +1,10 @@
 -- A region beside regions that are spread.
-use Rattle.std.proofs.Common.{◌≡◌, ℕ, ◌<◌, ◌≤◌, Bool, true, false, ◌&&◌, cond, ◌⊎◌, nat_le, List, [], ◌∷◌, get_or, Some, None, Option, refl, sym, ap, ◌∙◌, inl, inr, ⊎_elim, arith}
+use Rattle.std.proofs.Common.{◌≡◌, ℕ, ◌<◌, ◌≤◌, true, false, nat_le, get_or, Some, None, refl, sym, ap, ◌∙◌, ⊎_elim, arith}
 use Rattle.std.specs.Prelude.{Contains, IsSome}
-use Rattle.std.specs.declared.cmp.Ordering.{Ordering}
-use Rattle.std.specs.declared.cmp.Ordering.TheVariants.{Less, Equal, Greater}
 use Rattle.std.specs.List.{list_all}
-use Rattle.std.specs.Ordering.{nat_cmp, is_eq, is_lt, match_ordering}
-use Rattle.std.specs.BTreeMap.{BTreeMap, IsOrdered, Updates, get, insert_entry, is_at}
-use Rattle.std.specs.Map.{lookup}
-use Rattle.std.proofs.lemmas.Bool.{cases_lt, cases_order, cases_eq}
+use Rattle.std.specs.Ordering.{nat_cmp}
+use Rattle.std.specs.BTreeMap.{BTreeMap, IsOrdered, Updates, get}
+use Rattle.std.proofs.lemmas.Bool.{cases_lt, cases_order}
 use Rattle.std.proofs.lemmas.Bool.Decides.{nat_tests}
 use Rattle.std.proofs.lemmas.Cmp.{nat_cmp_total}
 use Rattle.std.proofs.lemmas.List.Elements.{Contains-get_or, All-contains}
@@ -15,6 +12,7 @@ use Rattle.std.proofs.lemmas.List.Sums.{AllPass-from_list_all, list_all-from_All
 use Rattle.std.proofs.lemmas.List.Folds.{list_all_at}
 use Rattle.std.proofs.lemmas.Map.Lookups.{exact_unsigned}
 use Rattle.std.proofs.lemmas.Map.Views.{All-found, btree_map_get_iff}
+use Rattle.order_laws.proofs.Maps.{inserted_cases}
 use Rattle.modules.specs.Regions.{is_apart}
 use Rattle.modules.specs.Spread.{IsSpread}
 
@@ -83,26 +81,6 @@ absent_from_apart m ordered spread a b some apart =
           absurd (cc)
     ] refl
 
-inserted_step : (p : ℕ × ℕ → Bool) (e : ℕ × ℕ) (es rest : List (ℕ × ℕ)) (k v : ℕ) (found : Option ℕ) (o : Ordering) → cond (is_eq o) (Some e.1) found ≡ None → (found ≡ None → list_all p rest ≡ (p (k, v) && list_all p es)) → list_all p (match_ordering o ((k, v) ∷ e ∷ es) ((e.0, v) ∷ es) (e ∷ rest)) ≡ (p (k, v) && (p e && list_all p es))
-inserted_step p e es rest k v found Less h ih = refl
-inserted_step p e es rest k v found Equal h ih = absurd (cc)
-inserted_step p e es rest k v found Greater h ih = let is : list_all p rest ≡ (p (k, v) && list_all p es) = ih h in grind arith
-
--- a test of all regions after one more was put in
-pub list_all-insert_entry : (p : ℕ × ℕ → Bool) (es : List (ℕ × ℕ)) (k v : ℕ) → lookup (is_at (nat_cmp k)) es ≡ None → list_all p (insert_entry nat_cmp es k v) ≡ (p (k, v) && list_all p es)
-list_all-insert_entry p [] k v h = refl
-list_all-insert_entry p (e ∷ es) k v h = inserted_step p e es (insert_entry nat_cmp es k v) k v (lookup (is_at (nat_cmp k)) es) (nat_cmp k e.0) h (λ none. list_all-insert_entry p es k v none)
-
--- what is below a key in the maps' order
-pub below_from_Less : (q b : ℕ) → nat_cmp q b ≡ Less → q < b
-below_from_Less q b h = grind (arith, nat_tests)
-
-pub Less_from_below : (q b : ℕ) → q < b → nat_cmp q b ≡ Less
-Less_from_below q b h = grind (arith, nat_tests)
-
-pub not_below : (s q : ℕ) → is_lt (nat_cmp s q) ≡ false → q ≤ s
-not_below s q h = grind (arith, nat_tests)
-
 -- the test by one neighbour
 pub tested_by_last : (m : BTreeMap ℕ ℕ) → IsOrdered nat_cmp m → IsSpread m.entries → (a b s e : ℕ) → get nat_cmp m s ≡ Some e → s < b → ((q : ℕ) → q < b → IsSome (get nat_cmp m q) → q ≤ s) → nat_le e a ≡ list_all (is_apart (a, b)) m.entries
 tested_by_last m ordered spread a b s e found below last =
@@ -110,15 +88,6 @@ tested_by_last m ordered spread a b s e found below last =
     (λ over. let is : list_all (is_apart (a, b)) m.entries ≡ false = meets_from_found m ordered a b s e found below over in rw is (grind (arith, nat_tests)))
     (λ ends. let is : list_all (is_apart (a, b)) m.entries ≡ true = apart_from_last m ordered spread a b s e found last ends in rw is (grind (arith, nat_tests)))
     (cases_lt a e)
-
--- an entry of the map after an insert is the new one or an old one
-inserted_cases : (m n : BTreeMap ℕ ℕ) → IsOrdered nat_cmp m → IsOrdered nat_cmp n → (a b : ℕ) → Updates nat_cmp m n a (Some b) → (r : ℕ × ℕ) → Contains n.entries r → ((r.0 ≡ a) × (r.1 ≡ b)) ⊎ Contains m.entries r
-inserted_cases m n om on a b updates r there =
-    let now : get nat_cmp n r.0 ≡ Some r.1 = (btree_map_get_iff nat_cmp_total exact_unsigned n on r.0 r.1).1 there in
-    ⊎_elim
-    (λ same. inl (same, let is : Some r.1 ≡ Some b = sym now ∙ ap (get nat_cmp n) same ∙ updates.1 in cc))
-    (λ other. inr ((btree_map_get_iff nat_cmp_total exact_unsigned m om r.0 r.1).0 (sym (updates.2 r.0 (grind (arith, nat_tests))) ∙ now)))
-    (cases_eq r.0 a)
 
 -- regions stay spread where one more that is apart from all is put in
 pub IsSpread-inserted : (m n : BTreeMap ℕ ℕ) → IsOrdered nat_cmp m → IsOrdered nat_cmp n → (a b : ℕ) → a < b → IsSpread m.entries → list_all (is_apart (a, b)) m.entries ≡ true → Updates nat_cmp m n a (Some b) → IsSpread n.entries

@@ -1,11 +1,12 @@
 -- Where items stand in a table.
-use Rattle.std.proofs.Common.{◌≡◌, ◌≢◌, ℕ, suc, ◌<◌, ◌≤◌, true, false, cond, List, [], ◌∷◌, length, refl, sym, ◌∙◌, ap, subst, ⊎_elim, arith}
+use Rattle.std.proofs.Common.{◌≡◌, ◌≢◌, ℕ, suc, ◌<◌, ◌≤◌, true, false, cond, List, [], ◌∷◌, length, refl, sym, ◌∙◌, ap, subst, arith}
 use Rattle.std.specs.Prelude.{not, ◌||◌, ◌==◌, Some, insert, remove, slice_get}
 use Rattle.std.specs.List.{AllByRecursion}
-use Rattle.std.proofs.lemmas.Bool.{eq-eqb, eqb-true, ne_eqb, cases_eq}
+use Rattle.std.proofs.lemmas.Bool.{eqb-true, ne_eqb}
 use Rattle.order_laws.specs.declared.items.Item.{Item}
 use Rattle.order_laws.specs.Orders.{Order, Precedes, IsLawful}
 use Rattle.order_laws.specs.Tables.{IsTable, with_item, without, without_all, place_for, place_of, has, meets}
+use Rattle.order_laws.proofs.Numbers.{eqb-flip}
 
 -- a table with one item more has it at its place
 pub with_place : {K : Type 0} (o : Order K) (i : Item) (xs : List Item) → with_item o i xs ≡ insert xs (place_for o i xs) i
@@ -48,13 +49,6 @@ without_place o law a (x ∷ xs) t h =
       | true ↦ λ e f. kept_all o law a x xs (eqb-true x.a a e) t.1
       | false ↦ λ e f. ap (λ ys. x ∷ ys) (without_place o law a xs t.2 f)
     ] refl h
-
-eqb-flip : (a b : ℕ) → (a == b) ≡ (b == a)
-eqb-flip a b =
-    ⊎_elim
-    (λ same. eq-eqb a b same ∙ sym (eq-eqb b a (sym same)))
-    (λ differ. ne_eqb a b differ ∙ sym (ne_eqb b a (λ e. differ (sym e))))
-    (cases_eq a b)
 
 -- without no item, and without one
 pub without_none : (xs : List Item) → without_all [] xs ≡ xs

@@ -1,51 +1,15 @@
 -- What follows from an order's laws for tables.
-use Rattle.std.proofs.Common.{◌≡◌, ◌≢◌, ℕ, suc, zero, ◌+◌, ◌≤◌, Bool, true, false, cond, List, [], ◌∷◌, ◌++◌, length, Option, Some, None, refl, sym, ◌∙◌, ap, subst, inl, inr, ⊎_elim, arith}
-use Rattle.std.specs.Prelude.{◌⊎◌, Contains, not, filter, ◌==◌}
+use Rattle.std.proofs.Common.{◌≡◌, ◌≢◌, ℕ, suc, ◌+◌, ◌≤◌, true, false, cond, List, [], ◌∷◌, ◌++◌, length, Option, Some, None, refl, sym, ◌∙◌, ap, subst, ⊎_elim, arith}
+use Rattle.std.specs.Prelude.{not, ◌==◌}
 use Rattle.std.specs.List.{AllByRecursion}
 use Rattle.std.specs.Ordering.{is_eq}
-use Rattle.std.specs.declared.cmp.Ordering.{Ordering}
 use Rattle.std.specs.declared.cmp.Ordering.TheVariants.{Less, Equal, Greater}
-use Rattle.std.proofs.lemmas.List.Elements.{All-from_recursion, Contains-append_cases, All-contains}
 use Rattle.order_laws.specs.declared.items.Item.{Item}
 use Rattle.order_laws.specs.Orders.{Order, Precedes, IsLawful}
 use Rattle.order_laws.specs.Tables.{IsTable, look, IsLook, with_item, without}
-
-pub all_left : {X : Type 0} (P : X → Type 0) (xs ys : List X) → AllByRecursion P (xs ++ ys) → AllByRecursion P xs
-all_left P [] ys h = tt
-all_left P (x ∷ xs) ys h = (h.0, all_left P xs ys h.1)
-
-pub all_right : {X : Type 0} (P : X → Type 0) (xs ys : List X) → AllByRecursion P (xs ++ ys) → AllByRecursion P ys
-all_right P [] ys h = h
-all_right P (x ∷ xs) ys h = all_right P xs ys h.1
-
-pub all_weaker : {X : Type 0} (P Q : X → Type 0) → ((x : X) → P x → Q x) → (xs : List X) → AllByRecursion P xs → AllByRecursion Q xs
-all_weaker P Q f [] h = tt
-all_weaker P Q f (x ∷ xs) h = (f x h.0, all_weaker P Q f xs h.1)
-
-pub all_at : {X : Type 0} (P : X → Type 0) (xs : List X) (x : X) → AllByRecursion P xs → Contains xs x → P x
-all_at P xs x h is = All-contains P xs x (All-from_recursion P xs h) is
-
--- a member of a list is its head or of its rest
-pub one_member : {X : Type 0} (x y : X) → Contains (x ∷ []) y → x ≡ y
-one_member x y (zero, lt, e) = e
-one_member x y (suc k, lt, e) = absurd (omega arith)
-
-pub members : {X : Type 0} (x y : X) (xs : List X) → Contains (x ∷ xs) y → (x ≡ y) ⊎ Contains xs y
-members x y xs h = ⊎_elim (λ e. inl (one_member x y e)) (λ e. inr e) (Contains-append_cases (x ∷ []) xs y h)
-
-not_equal : (r : Ordering) → r ≢ Equal → is_eq r ≡ false
-not_equal Less h = refl
-not_equal Equal h = absurd (h refl)
-not_equal Greater h = refl
-
-pub is_equal : (r : Ordering) → r ≡ Equal → is_eq r ≡ true
-is_equal r e = ap is_eq e
-
-less_not_equal : (r : Ordering) → r ≡ Less → is_eq r ≡ false
-less_not_equal r e = ap is_eq e
-
-greater_not_equal : (r : Ordering) → r ≡ Greater → is_eq r ≡ false
-greater_not_equal r e = ap is_eq e
+use Rattle.order_laws.proofs.Each.{all_at, all_filtered, all_left, all_right, all_weaker}
+use Rattle.order_laws.proofs.Members.{Contains-cons_cases, Contains-rest}
+use Rattle.order_laws.proofs.Orderings.{cases_ordering, greater_not_equal, is_equal, less_not_equal, not_equal}
 
 -- where a table is parted at an item
 pub record Parted {K : Type 0} (o : Order K) (xs : List Item) (x : Item) (ys : List Item) : Type 0 where
@@ -107,20 +71,11 @@ module _ {K : Type 0} (o : Order K) (law : IsLawful o) where
       let b : Precedes o x y = all_at (Precedes o x) xs y t.1 is in
       let e : is_eq (o.comp k x) ≡ false = greater_not_equal (o.comp k x) (law.in_greater k x y b h.1) in
       rw e (look_only k xs (Some y) t.2 (is, h.1)))
-      (members x y xs h.0)
-
--- a member of the rest is one of the list
-pub member_more : {X : Type 0} (x y : X) (xs : List X) → Contains xs y → Contains (x ∷ xs) y
-member_more x y xs is = (suc is.0, omega (arith, is.1), is.2)
+      (Contains-cons_cases x y xs h.0)
 
 is_look_more : {K : Type 0} (o : Order K) (k : K) (x : Item) (xs : List Item) (r : Option Item) → o.comp k x ≢ Equal → IsLook o k xs r → IsLook o k (x ∷ xs) r
-is_look_more o k x xs None ne h = λ y is. ⊎_elim (λ e. subst (λ z. o.comp k z ≢ Equal) e ne) (λ in'. h y in') (members x y xs is)
-is_look_more o k x xs (Some y) ne h = (member_more x y xs h.0, h.1)
-
-cases_ordering : (r : Ordering) → (r ≡ Equal) ⊎ (r ≢ Equal)
-cases_ordering Less = inr (λ e. absurd (cc))
-cases_ordering Equal = inl refl
-cases_ordering Greater = inr (λ e. absurd (cc))
+is_look_more o k x xs None ne h = λ y is. ⊎_elim (λ e. subst (λ z. o.comp k z ≢ Equal) e ne) (λ in'. h y in') (Contains-cons_cases x y xs is)
+is_look_more o k x xs (Some y) ne h = (Contains-rest x y xs h.0, h.1)
 
 -- and look gives one, in any list
 pub look_is : {K : Type 0} (o : Order K) (k : K) (table : List Item) → IsLook o k table (look o k table)
@@ -132,20 +87,12 @@ look_is o k (x ∷ xs) =
     (cases_ordering (o.comp k x))
 
 -- what updates keep
-all_with_item : {K : Type 0} (o : Order K) (P : Item → Type 0) (i : Item) (xs : List Item) → P i → AllByRecursion P xs → AllByRecursion P (with_item o i xs)
+pub all_with_item : {K : Type 0} (o : Order K) (P : Item → Type 0) (i : Item) (xs : List Item) → P i → AllByRecursion P xs → AllByRecursion P (with_item o i xs)
 all_with_item o P i [] p h = (p, tt)
 all_with_item o P i (x ∷ xs) p h =
     elim (o.less i x) as (λ b. AllByRecursion P (cond b (i ∷ x ∷ xs) (x ∷ with_item o i xs))) [
       | true ↦ (p, h)
       | false ↦ (h.0, all_with_item o P i xs p h.1)
-    ]
-
-all_filtered : {X : Type 0} (P : X → Type 0) (test : X → Bool) (xs : List X) → AllByRecursion P xs → AllByRecursion P (filter test xs)
-all_filtered P test [] h = tt
-all_filtered P test (x ∷ xs) h =
-    elim (test x) as (λ b. AllByRecursion P (cond b (x ∷ filter test xs) (filter test xs))) [
-      | true ↦ (h.0, all_filtered P test xs h.1)
-      | false ↦ all_filtered P test xs h.1
     ]
 
 pub length_with_item : {K : Type 0} (o : Order K) (i : Item) (xs : List Item) → length (with_item o i xs) ≡ length xs + 1

@@ -2,9 +2,9 @@
 use Rattle.std.proofs.Common.{◌≡◌, ℕ, suc, ◌+◌, ◌-◌, ◌^◌, ◌<◌, ◌≤◌, Bool, true, false}
 use Rattle.std.proofs.Common.{List, [], ◌∷◌, length, if◌then◌else◌, Some, None}
 use Rattle.std.proofs.Common.{inl, inr, refl, sym, ap, subst, ◌∙◌, arith}
-use Rattle.std.specs.Prelude.{◌==◌, Result, Ok, Err, OnErr}
+use Rattle.std.specs.Prelude.{◌==◌}
 use Rattle.std.proofs.lemmas.Bool.{cases_eq}
-use Rattle.std.proofs.lemmas.Bool.Decides.{nat_tests}
+use Rattle.order_laws.proofs.Numbers.{if_suc}
 use Rattle.slab.specs.Slab.{Slab, get, slab_len, with_value, Updates}
 use Rattle.slab.proofs.SlabLemmas.{Updates-with_value}
 use Rattle.rb_trees.specs.declared.Record.{Record}
@@ -140,9 +140,6 @@ record IsOnly (red : Bool) (l : Keyed) (x : Record) (r : Keyed) (only : Keyed) :
   pub size_is : size only ≡ size l + size r
   pub uses_is : (i : ℕ) → uses i only ≡ uses i l + uses i r
 
-some_link : (k a b : ℕ) → (if suc k == 0 then a else b) ≡ b
-some_link k a b = grind (arith, nat_tests)
-
 only_by : (red : Bool) (l : Keyed) (x : Record) (r : Keyed) →
     IsThin (branch red (plain l) x (plain r)) → (only : Keyed) × IsOnly red l x r only
 only_by red nil x r thin = (
@@ -162,7 +159,7 @@ only_by red (keyed hue a k y b) x r thin =
       l,
       record {
         tree = refl;
-        link = some_link k (link_of r) (suc k);
+        link = if_suc k (link_of r) (suc k);
         linked = λ s g h. g;
         size_is = (let e = ap size none in omega arith);
         uses_is = λ i. (let e = ap (uses i) none in omega arith);
@@ -326,8 +323,3 @@ blanked i v u now key n f shows grown more room small vacant w left len capacity
       few = h.few;
       shows = ap (λ (q : Zipper). record q { room = q.room + 1 }) h.shows;
     })
-
--- what holds anyhow holds after a failure
-pub at_failure : {T E : Type 0} (r : Result T E) {P : Type 0} → P → OnErr r P
-at_failure (Ok x) p = tt
-at_failure (Err e) p = p

@@ -1,10 +1,8 @@
 -- Going up from the tree in hand, and writes of the node in hand.
-use Rattle.std.proofs.Common.{◌≡◌, ℕ, suc, ◌-◌, ◌<◌, ◌≤◌, Bool, true, false}
+use Rattle.std.proofs.Common.{◌≡◌, ℕ, suc, ◌-◌, ◌<◌, ◌≤◌, Bool}
 use Rattle.std.proofs.Common.{List, [], ◌∷◌, length, if◌then◌else◌, Some, None}
 use Rattle.std.proofs.Common.{inl, inr, refl, sym, ap, subst, ◌∙◌, arith}
-use Rattle.std.specs.Prelude.{nat_lt}
-use Rattle.std.proofs.lemmas.Bool.{cases_eq}
-use Rattle.std.proofs.lemmas.Bool.Decides.{nat_tests}
+use Rattle.std.proofs.lemmas.Bool.{cases_eq, le-ltb, lt-ltb}
 use Rattle.slab.specs.Slab.{Slab, get, with_value}
 use Rattle.slab.proofs.SlabLemmas.{Updates-with_value}
 use Rattle.rb_trees.specs.declared.Record.{Record}
@@ -228,24 +226,18 @@ not_closed red now e =
     ∙ sym (ap (λ (p : List Above). closed red now.tree p now.room) e)
 
 -- up to some node
-not_below : (m d : ℕ) → d ≤ m → nat_lt m d ≡ false
-not_below m d h = grind (arith, nat_tests)
-
-below : (m d : ℕ) → m < d → nat_lt m d ≡ true
-below m d h = grind (arith, nat_tests)
-
 pub stays_closed : (d : ℕ) (t : Branches) (p : List Above) (room : ℕ) → length p ≤ d →
     closed_to d t p room ≡ record { tree = t; path = p; room = room }
 stays_closed d t [] room h = refl
 stays_closed d t (a ∷ p) room h =
     ap (λ (b : Bool). if b then record { tree = t; path = a ∷ p; room = room }
-    else closed_to d (joined a a.red t) p room) (below (length p) d (omega arith))
+    else closed_to d (joined a a.red t) p room) (lt-ltb (length p) d (omega arith))
 
 goes_up : (d : ℕ) (t : Branches) (a : Above) (p : List Above) (room : ℕ) → d ≤ length p →
     closed_to d t (a ∷ p) room ≡ closed_to d (joined a a.red t) p room
 goes_up d t a p room h =
     ap (λ (b : Bool). if b then record { tree = t; path = a ∷ p; room = room }
-    else closed_to d (joined a a.red t) p room) (not_below (length p) d h)
+    else closed_to d (joined a a.red t) p room) (le-ltb (length p) d h)
 
 pub closed_to_none : (t : Branches) (p : List Above) (room : ℕ) →
     closed_to 0 t p room ≡ record { tree = plugged p t; path = []; room = room }

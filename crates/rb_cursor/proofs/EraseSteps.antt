@@ -1,6 +1,7 @@
 -- The way up of an erase, as the calls of a cursor show it.
 use Rattle.std.proofs.Common.{◌≡◌, ℕ, suc, ◌+◌, ◌≤◌, ◌<◌, Bool, false, List, [], ◌++◌}
 use Rattle.std.proofs.Common.{sym, ◌∙◌, ap, subst, arith, length, length-append, append-nil}
+use Rattle.order_laws.proofs.Lists.{regrouped}
 use Rattle.word_arena.specs.declared.stores.Store.{Store}
 use Rattle.rb_trees.specs.Trees.{shape}
 use Rattle.rb_trees.specs.Turns.{link}
@@ -9,7 +10,6 @@ use Rattle.rb_trees.specs.Paths.{joined, path_to, plugged_to}
 use Rattle.rb_trees.specs.InsertClimb.{relink_on}
 use Rattle.rb_trees.specs.EraseClimb.{remaining, filled_on, fill_on, erase_step}
 use Rattle.rb_trees.specs.EraseClimb.{erase_climbed, erase_climb}
-use Rattle.rb_trees.proofs.ListLemmas.{regrouped}
 use Rattle.rb_trees.proofs.InsertClimbLemmas.{link_sided}
 use Rattle.rb_trees.proofs.EraseClimbLemmas.{climbed_on, climb_on, path_on, erase_settled, erase_settled_links}
 use Rattle.rb_trees.proofs.EraseClimbLemmas.{erase_ended, erase_ended_links, plugged_ended}

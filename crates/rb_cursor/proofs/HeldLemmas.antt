@@ -3,7 +3,6 @@ use Rattle.std.proofs.Common.{◌≡◌, ℕ, suc, ◌+◌, ◌-◌, ◌<◌, �
 use Rattle.std.proofs.Common.{List, [], ◌∷◌, length, Option, Some, None, is_some}
 use Rattle.std.proofs.Common.{count_by, set, refl, sym, ap, subst, ◌∙◌, arith}
 use Rattle.std.proofs.lemmas.List.{get_or-set_same, set-get_or}
-use Rattle.std.specs.Prelude.{IsSome}
 use Rattle.slab.specs.Slab.{Slab, get, slab_len, ContainsKey, with_value}
 use Rattle.rb_trees.specs.declared.Record.{Record}
 use Rattle.rb_trees.specs.Trees.{Branches, tip}
@@ -314,10 +313,6 @@ present_by s link key (keyed red l k x r) h a some =
 pub top_present : (i : Inside) (key : ℕ) → Is i → i.tree ≡ suc key → ContainsKey i.nodes key
 top_present i key f some =
     present_by i.nodes i.tree key f.hand f.place.hand_linked f.tree_link some
-
-pub filled : {X : Type 0} {o : Option X} → (o ≡ None → ⊥) → IsSome o
-filled {o = None} h = absurd (h refl)
-filled {o = Some x} h = refl
 
 -- a value written back is no change
 pub same_value : (s : Slab Node) (key : ℕ) (n : Node) → get s key ≡ Some n →

@@ -3,6 +3,7 @@ use Rattle.std.proofs.Common.{◌≡◌, ℕ, suc, ◌+◌, ◌≤◌, Bool, tru
 use Rattle.std.proofs.Common.{sym, ◌∙◌, ap, subst, arith, length, length-append, append-nil}
 use Rattle.word_arena.specs.declared.stores.Store.{Store}
 use Rattle.order_laws.specs.declared.items.Item.{Item}
+use Rattle.order_laws.proofs.Lists.{regrouped}
 use Rattle.rb_trees.specs.declared.Record.{Record}
 use Rattle.rb_trees.specs.declared.Clash.TheVariants.{Nowhere}
 use Rattle.rb_trees.specs.Trees.{Branches, tip, branch, is_red, shape, IsCalm, depth}
@@ -11,7 +12,6 @@ use Rattle.rb_trees.specs.Inserted.{clash, inserted, insert_links}
 use Rattle.rb_trees.specs.Paths.{Above, joined, plugged, way_by}
 use Rattle.rb_trees.specs.InsertClimb.{relink_on, mended_on, mend_on, insert_step}
 use Rattle.rb_trees.specs.InsertClimb.{insert_climbed, insert_climb, IsCalmPath, is_above_red}
-use Rattle.rb_trees.proofs.ListLemmas.{regrouped}
 use Rattle.rb_trees.proofs.PathLemmas.{plugged_by, short_by}
 use Rattle.rb_trees.proofs.InsertClimbLemmas.{insert_climbed_by, insert_climb_by, calm_path}
 use Rattle.rb_trees.proofs.InsertClimbLemmas.{IsStill, still_above, still_climbed, still_climb, still_black}

@@ -7,7 +7,6 @@ pub mod TurnLemmas
 pub mod BlankLemmas
 pub mod SeekLemmas
 pub mod Stepping
-pub mod LeftOut
 pub mod InsertSteps
 pub mod EraseSteps
 pub mod FirstSteps

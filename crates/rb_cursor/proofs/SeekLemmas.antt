@@ -1,8 +1,5 @@
 -- Going down by fields alone: what a seek has come to leads to the same place as where it began.
-use Rattle.std.proofs.Common.{◌≡◌, ℕ, suc, ◌+◌, ◌<◌, ◌≤◌, Bool, true, false, List, [], ◌∷◌}
-use Rattle.std.proofs.Common.{length, if◌then◌else◌, Some, refl, sym, ap, subst, ◌∙◌}
-use Rattle.std.proofs.Common.{arith}
-use Rattle.std.proofs.Common.{length-set}
+use Rattle.std.proofs.Common.{◌≡◌, ℕ, suc, ◌+◌, ◌<◌, ◌≤◌, Bool, true, false, List, [], ◌∷◌, length, if◌then◌else◌, Some, refl, sym, ap, subst, ◌∙◌, arith, length-set}
 use Rattle.slab.specs.Slab.{Slab, get}
 use Rattle.rb_trees.specs.declared.Record.{Record}
 use Rattle.std.specs.Ordering.{is_eq, is_lt}
@@ -14,20 +11,17 @@ use Rattle.rb_cursor.specs.declared.nodes.Step.{Step}
 use Rattle.rb_trees.specs.declared.Side.{Side}
 use Rattle.rb_trees.specs.declared.Side.TheVariants.{Left, Right}
 use Rattle.rb_cursor.specs.declared.cursors.Cursor.TheInside.{Inside}
-use Rattle.rb_trees.specs.Paths.{Above}
+use Rattle.rb_trees.specs.Paths.{Above, past_left, past_right, way_by, place_at, place_from, way_at, way_from, plugged, sided}
 use Rattle.rb_cursor.specs.Zippers.{Zipper}
 use Rattle.rb_cursor.specs.Opening.{weight}
 use Rattle.rb_cursor.specs.Keyed.{record_of}
 use Rattle.rb_cursor.specs.Sides.{child_at, side_by}
 use Rattle.order_laws.specs.declared.items.Item.{Item}
-use Rattle.rb_trees.specs.Paths.{past_left, past_right, way_by, place_at, place_from, way_at}
-use Rattle.rb_trees.specs.Paths.{way_from, plugged, sided}
 use Rattle.rb_trees.specs.Found.{met}
 use Rattle.order_laws.specs.Orders.{Order}
+use Rattle.order_laws.proofs.Orderings.{Greater-from_tests, Less-from_is_lt}
 use Rattle.rb_cursor.proofs.ChangeLemmas.{rewrites}
-use Rattle.rb_cursor.proofs.HeldLemmas.{same_value, written_back}
-use Rattle.rb_cursor.proofs.HeldLemmas.{Is, show, with_step, depth_is, opened}
-use Rattle.rb_cursor.proofs.HeldLemmas.{none_there}
+use Rattle.rb_cursor.proofs.HeldLemmas.{same_value, written_back, Is, show, with_step, depth_is, opened, none_there}
 
 -- the fields lead by W where this zipper leads
 pub record Sought {X : Type 0} (W : Branches → List Above →
@@ -238,21 +232,6 @@ item_goes less x i start key n left side link steps s some found test here there
     (item_by less x i start key n left s some found few test)
 
 -- a step of the way of what is sought
-is_before : (o : Ordering) → is_eq o ≡ false → is_lt o ≡ true → o ≡ Less
-is_before Less other test = refl
-is_before Equal other test = absurd (cc)
-is_before Greater other test = absurd (cc)
-
-is_behind : (o : Ordering) → is_eq o ≡ false → is_lt o ≡ false → o ≡ Greater
-is_behind Less other test = absurd (cc)
-is_behind Equal other test = absurd (cc)
-is_behind Greater other test = refl
-
-pub is_at : (o : Ordering) → is_eq o ≡ true → o ≡ Equal
-is_at Less test = absurd (cc)
-is_at Equal test = refl
-is_at Greater test = absurd (cc)
-
 seen_by : (seen : Record → Ordering) (i : Inside) (start : Zipper) (key : ℕ) (n : Node)
     (left : Bool) → Sought (seen_way seen) i start → i.tree ≡ suc key →
     get i.nodes key ≡ Some n → i.depth < 64 → is_eq (seen (record_of n)) ≡ false →
@@ -260,9 +239,9 @@ seen_by : (seen : Record → Ordering) (i : Inside) (start : Zipper) (key : ℕ)
     Steps (seen_way seen) i (with_step i (side_by left) (child_at (side_by left) n)) start
 seen_by seen i start key n true s some found few other test =
     goes (seen_way seen) i start key n Left s some found few
-    (seen_left seen n (is_before (seen (record_of n)) other (sym test)))
+    (seen_left seen n (Less-from_is_lt (seen (record_of n)) other (sym test)))
 seen_by seen i start key n false s some found few other test =
-    let more = is_behind (seen (record_of n)) other (sym test) in
+    let more = Greater-from_tests (seen (record_of n)) other (sym test) in
     goes (seen_way seen) i start key n Right s some found few
     (λ red t beyond. seen_right seen n more red beyond t)
 

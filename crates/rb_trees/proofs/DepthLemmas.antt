@@ -1,6 +1,5 @@
 -- How deep a red-black tree is.
 use Rattle.std.proofs.Common.{◌≡◌, ℕ, suc, ◌+◌, ◌*◌, ◌≤◌, ◌^◌, true, false, Bool, sym, subst, arith, length}
-use Rattle.std.specs.Prelude.{max}
 use Rattle.std.proofs.lemmas.Nat.{pow-add}
 use Rattle.std.proofs.Math.Nat.{pow-suc, pow-le-pow_right, mul-le-mul}
 use Rattle.word_arena.specs.Words.{Nodes, listed}
@@ -11,9 +10,6 @@ use Rattle.rb_trees.specs.Trees.{Branches, tip, branch, is_red, shape, height, I
 abbrev pub extra : Bool → ℕ
 extra true = 1
 extra false = 0
-
-max_le : (a b c : ℕ) → a ≤ c → b ≤ c → max a b ≤ c
-max_le a b c p q = omega arith
 
 most : (t : Branches) → depth (shape t) ≤ 2 * height t + extra (is_red t) → depth (shape t) ≤ 2 * height t + 1
 most t = elim (is_red t) as (λ b. depth (shape t) ≤ 2 * height t + extra b → depth (shape t) ≤ 2 * height t + 1) [
@@ -30,11 +26,11 @@ depth_by_height tip c e = omega arith
 depth_by_height (branch true l x r) c e =
     let il = least l c.0 (depth_by_height l c.2 e.1) in
     let jr = least r c.1 (depth_by_height r c.3 e.2) in
-    omega (arith, max_le (depth (shape l)) (depth (shape r)) (2 * height l) il (omega (arith, jr, e.0)))
+    omega (arith, il, jr, e.0)
 depth_by_height (branch false l x r) c e =
     let il = most l (depth_by_height l c.0 e.1) in
     let jr = most r (depth_by_height r c.1 e.2) in
-    omega (arith, max_le (depth (shape l)) (depth (shape r)) (2 * height l + 1) il (omega (arith, jr, e.0)))
+    omega (arith, il, jr, e.0)
 
 -- as many nodes at least as a full tree of the black ones has
 pub size_by_height : (t : Branches) → IsEven t → 2 ^ height t ≤ suc (size (shape t))

@@ -6,6 +6,7 @@ use Rattle.std.specs.Prelude.{nat_lt}
 use Rattle.std.proofs.lemmas.Bool.{le-ltb, lt-ltb}
 use Rattle.std.specs.declared.cmp.Ordering.{Ordering}
 use Rattle.std.specs.declared.cmp.Ordering.TheVariants.{Less, Equal, Greater}
+use Rattle.order_laws.proofs.Lists.{regrouped}
 use Rattle.rb_trees.specs.declared.Record.{Record}
 use Rattle.rb_trees.specs.declared.Side.{Side}
 use Rattle.rb_trees.specs.declared.Side.TheVariants.{Left, Right}
@@ -14,7 +15,6 @@ use Rattle.rb_trees.specs.Turns.{link, relink_left, relink_right}
 use Rattle.rb_trees.specs.Erased.{Rest, whole, left_if, left_fill_if, right_if, right_fill_if, first_row, without_first, first_links, erased_at, erased, links_at, erase_links}
 use Rattle.rb_trees.specs.Paths.{Above, joined, plugged_to, path_to, past_left, past_right, place_from, place_at, way_from, way_at, first_place, first_way}
 use Rattle.rb_trees.specs.EraseClimb.{filled_on, fill_on, erase_step, erase_step_links, erase_climbed, erase_climb, top_erased, top_erase, first_erased}
-use Rattle.rb_trees.proofs.ListLemmas.{regrouped}
 use Rattle.rb_trees.proofs.InsertClimbLemmas.{relink_same, link_sided}
 
 -- a step that is still below the depth is taken

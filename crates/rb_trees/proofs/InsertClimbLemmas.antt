@@ -3,6 +3,8 @@
 -- changes nothing.
 use Rattle.std.proofs.Common.{◌≡◌, ℕ, suc, true, false, cond, Bool, List, [], ◌∷◌, ◌++◌, refl, sym, ◌∙◌, ap, eq-eqb}
 use Rattle.order_laws.specs.declared.items.Item.{Item}
+use Rattle.order_laws.proofs.Bools.{false_by_contrary}
+use Rattle.order_laws.proofs.Lists.{regrouped}
 use Rattle.rb_trees.specs.declared.Record.{Record}
 use Rattle.rb_trees.specs.declared.Side.{Side}
 use Rattle.rb_trees.specs.declared.Side.TheVariants.{Left, Right}
@@ -12,7 +14,6 @@ use Rattle.rb_trees.specs.Trees.{Branches, tip, branch, is_red, blackened, shape
 use Rattle.rb_trees.specs.Turns.{link, set_left, set_right, turned_right, turned_left, relink_left, relink_right}
 use Rattle.rb_trees.specs.Inserted.{clash, recoloured, mended_left_at, mended_left, left_mend_at, left_mend, mended_right_at, mended_right, right_mend_at, right_mend, inserted, insert_links}
 use Rattle.rb_trees.specs.Paths.{Above, sided, joined, plugged, past_left, past_right, way_by}
-use Rattle.rb_trees.proofs.ListLemmas.{regrouped}
 use Rattle.rb_trees.proofs.InsertLemmas.{black_blackened}
 use Rattle.rb_trees.specs.InsertClimb.{relink_on, mended_on, mend_on, insert_step, insert_climbed, insert_climb, is_above_red, IsCalmPath}
 
@@ -99,10 +100,6 @@ clash_sided Right false t y other f g = refl
 clash_sided Right true t y other f g =
     ap (λ v. cond v ClashLeft (cond (is_red t) ClashRight Nowhere)) (g refl) ∙ ap (λ v. cond v ClashRight Nowhere) (f refl)
 
-contrary : (v w : Bool) → (v ≡ true → w ≡ false) → w ≡ true → v ≡ false
-contrary true w f e = let g : w ≡ false = f refl in absurd (cc)
-contrary false w f e = refl
-
 -- a tree and a path without two red nodes in line but those that the path alone does not show
 pub record IsStill (path : List Above) (t : Branches) : Type 0 where
   pub calm : IsCalmPath path
@@ -112,7 +109,7 @@ pub record IsStill (path : List Above) (t : Branches) : Type 0 where
 pub still_above : (a : Above) (path : List Above) (t : Branches) → IsStill (a ∷ path) t → IsStill path (joined a a.red t)
 still_above a path t is = record {
   calm = is.calm.1;
-  inside = clash_sided a.side a.red t a.row a.other (contrary (is_red t) a.red is.between) (λ e. (is.calm.0 e).0);
+  inside = clash_sided a.side a.red t a.row a.other (false_by_contrary (is_red t) a.red is.between) (λ e. (is.calm.0 e).0);
   between = λ e. (is.calm.0 (sym (red_sided a.side a.red t a.row a.other) ∙ e)).1;
 }
 
@@ -155,7 +152,7 @@ calm_parts (a ∷ path) t c =
     let i = calm_parts path (joined a a.red t) c in
     let j = calm_sided a.side a.red t a.row a.other i.1 in
     let above : a.red ≡ true → is_above_red path ≡ false =
-    λ e. contrary (is_above_red path) (is_red (joined a a.red t)) i.2 (red_sided a.side a.red t a.row a.other ∙ e) in
+    λ e. false_by_contrary (is_above_red path) (is_red (joined a a.red t)) i.2 (red_sided a.side a.red t a.row a.other ∙ e) in
     (((λ e. ((j.1 e).0, above e)), i.0), j.0, λ e. (j.1 e).1)
 
 pub calm_path : (path : List Above) (t : Branches) → IsCalm (plugged path t) → IsCalmPath path

@@ -3,6 +3,7 @@ use Rattle.std.proofs.Common.{◌≡◌, ◌≢◌, ℕ, suc, ◌+◌, ◌≤◌
 use Rattle.std.specs.Prelude.{◌==◌}
 use Rattle.std.proofs.lemmas.Bool.{eq-eqb}
 use Rattle.order_laws.specs.declared.items.Item.{Item}
+use Rattle.order_laws.proofs.Lists.{length-append_nil}
 use Rattle.word_arena.specs.declared.stores.Store.{Store}
 use Rattle.word_arena.specs.Words.{root_word}
 use Rattle.rb_trees.specs.declared.Record.{Record}
@@ -101,9 +102,6 @@ linked_right c i t u ss h =
       | fresh k ↦ low (omega (arith, sum, one, k))
     ]
 
-none_longer : (ss : List Store) (k : ℕ) → length ss ≤ k → length (ss ++ []) ≤ k
-none_longer ss k h = omega (arith, length-append ss [])
-
 not_red : (t u : Branches) → (is_red u ≡ true → is_red t ≡ true) → is_red t ≡ false → is_red u ≡ false
 not_red t u f e = elim (is_red u) as (λ v. is_red u ≡ v → v ≡ false) [ true ↦ λ g. let h = f g in absurd (cc) | false ↦ λ g. refl ] refl
 
@@ -132,11 +130,11 @@ module _ (c : ℕ) where
 
   -- a black node over a subtree that may have a red top with a red child
   left_low : (l u : Branches) (y : Record) (r : Branches) (ss : List Store) → length ss ≤ 3 → (k : Clash) (h : ℕ) → Sound (mended_left_at k u y r) h → Counted (branch false l y r) (mended_left_at k u y r) (length (ss ++ left_mend_at c k u y r))
-  left_low l u y r ss small Nowhere h s = going (none_longer ss 3 small) refl
+  left_low l u y r ss small Nowhere h s = going (length-append_nil ss 3 small) refl
   left_low l u y r ss small Left h s =
       let turn = right_turn c (branch false u y r) in
       elim (is_red r) as (λ v. Sound (cond v (recoloured u y r) (turned_right false true (branch false u y r))) h → Counted (branch false l y r) (cond v (recoloured u y r) (turned_right false true (branch false u y r))) (length (ss ++ cond v [] turn))) [
-        | true ↦ λ z. going (none_longer ss 3 small) refl
+        | true ↦ λ z. going (length-append_nil ss 3 small) refl
         | false ↦ λ z. let n : length (ss ++ turn) ≤ 5 = omega (arith, length-append ss turn, right_turn_two c (branch false u y r), small) in
             done z.0 (λ e. let b = black_turned_right u y r in absurd (cc)) (omega (arith, n)) (λ ne. omega (arith, n))
       ] s
@@ -145,17 +143,17 @@ module _ (c : ℕ) where
       let turn = (left_turn c u ++ relink_left c y.node (link (shape u)) (link (shape w))) ++ right_turn c (branch false w y r) in
       let five = left_mend_five Right u y r in
       elim (is_red r) as (λ v. length (cond v [] turn) ≤ 5 → Sound (cond v (recoloured u y r) (turned_right false true (branch false w y r))) h → Counted (branch false l y r) (cond v (recoloured u y r) (turned_right false true (branch false w y r))) (length (ss ++ cond v [] turn))) [
-        | true ↦ λ f z. going (none_longer ss 3 small) refl
+        | true ↦ λ f z. going (length-append_nil ss 3 small) refl
         | false ↦ λ f z. let n : length (ss ++ turn) ≤ 8 = omega (arith, length-append ss turn, f, small) in
             done z.0 (λ e. let b = black_turned_right w y r in absurd (cc)) (omega (arith, n)) (λ ne. n)
       ] five s
 
   right_low : (l : Branches) (y : Record) (r u : Branches) (ss : List Store) → length ss ≤ 3 → (k : Clash) (h : ℕ) → Sound (mended_right_at k l y u) h → Counted (branch false l y r) (mended_right_at k l y u) (length (ss ++ right_mend_at c k l y u))
-  right_low l y r u ss small Nowhere h s = going (none_longer ss 3 small) refl
+  right_low l y r u ss small Nowhere h s = going (length-append_nil ss 3 small) refl
   right_low l y r u ss small Right h s =
       let turn = left_turn c (branch false l y u) in
       elim (is_red l) as (λ v. Sound (cond v (recoloured l y u) (turned_left false true (branch false l y u))) h → Counted (branch false l y r) (cond v (recoloured l y u) (turned_left false true (branch false l y u))) (length (ss ++ cond v [] turn))) [
-        | true ↦ λ z. going (none_longer ss 3 small) refl
+        | true ↦ λ z. going (length-append_nil ss 3 small) refl
         | false ↦ λ z. let n : length (ss ++ turn) ≤ 5 = omega (arith, length-append ss turn, left_turn_two c (branch false l y u), small) in
             done z.0 (λ e. let b = black_turned_left l y u in absurd (cc)) (omega (arith, n)) (λ ne. omega (arith, n))
       ] s
@@ -164,7 +162,7 @@ module _ (c : ℕ) where
       let turn = (right_turn c u ++ relink_right c y.node (link (shape u)) (link (shape w))) ++ left_turn c (branch false l y w) in
       let five = right_mend_five Left l y u in
       elim (is_red l) as (λ v. length (cond v [] turn) ≤ 5 → Sound (cond v (recoloured l y u) (turned_left false true (branch false l y w))) h → Counted (branch false l y r) (cond v (recoloured l y u) (turned_left false true (branch false l y w))) (length (ss ++ cond v [] turn))) [
-        | true ↦ λ f z. going (none_longer ss 3 small) refl
+        | true ↦ λ f z. going (length-append_nil ss 3 small) refl
         | false ↦ λ f z. let n : length (ss ++ turn) ≤ 8 = omega (arith, length-append ss turn, f, small) in
             done z.0 (λ e. let b = black_turned_left l y w in absurd (cc)) (omega (arith, n)) (λ ne. n)
       ] five s
@@ -172,26 +170,26 @@ module _ (c : ℕ) where
   left_counted : (red : Bool) (l u : Branches) (y : Record) (r : Branches) (ss : List Store) → IsCalm (branch red l y r) → IsEven (branch red l y r) → Grown l u → Linked l u (length ss) → Counted (branch red l y r) (mended_left (branch red u y r)) (length (ss ++ left_mend c (branch red u y r)))
   left_counted true l u y r ss cl el g h =
       elim h as (λ _. Counted (branch true l y r) (branch true u y r) (length (ss ++ []))) [
-        | still cu red k ↦ done (not_red l u red cl.0, cl.1, cu, cl.3) (λ e. refl) (none_longer ss 9 k) (λ ne. absurd (ne refl))
-        | low k ↦ going (none_longer ss 3 k) refl
+        | still cu red k ↦ done (not_red l u red cl.0, cl.1, cu, cl.3) (λ e. refl) (length-append_nil ss 9 k) (λ ne. absurd (ne refl))
+        | low k ↦ going (length-append_nil ss 3 k) refl
       ]
   left_counted false l u y r ss cl el g h =
       elim h as (λ _. Counted (branch false l y r) (mended_left_at (clash u) u y r) (length (ss ++ left_mend_at c (clash u) u y r))) [
         | still cu red k ↦ subst (λ v. Counted (branch false l y r) (mended_left_at v u y r) (length (ss ++ left_mend_at c v u y r))) (sym (calm_no_clash u cu))
-            (done (cu, cl.1) (λ e. absurd (cc)) (none_longer ss 9 k) (λ ne. absurd (ne refl)))
+            (done (cu, cl.1) (λ e. absurd (cc)) (length-append_nil ss 9 k) (λ ne. absurd (ne refl)))
         | low k ↦ left_low l u y r ss k (clash u) (suc (height u)) (mended_left_sound u y r g.near cl.1 g.even el.2 (g.same ∙ el.0))
       ]
 
   right_counted : (red : Bool) (l : Branches) (y : Record) (r u : Branches) (ss : List Store) → IsCalm (branch red l y r) → IsEven (branch red l y r) → Grown r u → Linked r u (length ss) → Counted (branch red l y r) (mended_right (branch red l y u)) (length (ss ++ right_mend c (branch red l y u)))
   right_counted true l y r u ss cl el g h =
       elim h as (λ _. Counted (branch true l y r) (branch true l y u) (length (ss ++ []))) [
-        | still cu red k ↦ done (cl.0, not_red r u red cl.1, cl.2, cu) (λ e. refl) (none_longer ss 9 k) (λ ne. absurd (ne refl))
-        | low k ↦ going (none_longer ss 3 k) refl
+        | still cu red k ↦ done (cl.0, not_red r u red cl.1, cl.2, cu) (λ e. refl) (length-append_nil ss 9 k) (λ ne. absurd (ne refl))
+        | low k ↦ going (length-append_nil ss 3 k) refl
       ]
   right_counted false l y r u ss cl el g h =
       elim h as (λ _. Counted (branch false l y r) (mended_right_at (clash u) l y u) (length (ss ++ right_mend_at c (clash u) l y u))) [
         | still cu red k ↦ subst (λ v. Counted (branch false l y r) (mended_right_at v l y u) (length (ss ++ right_mend_at c v l y u))) (sym (calm_no_clash u cu))
-            (done (cl.0, cu) (λ e. absurd (cc)) (none_longer ss 9 k) (λ ne. absurd (ne refl)))
+            (done (cl.0, cu) (λ e. absurd (cc)) (length-append_nil ss 9 k) (λ ne. absurd (ne refl)))
         | low k ↦ right_low l y r u ss k (clash u) (suc (height l)) (mended_right_sound l y u cl.0 g.near el.1 g.even (el.0 ∙ sym g.same))
       ]
 

@@ -5,7 +5,8 @@ use Rattle.std.specs.List.{AllByRecursion}
 use Rattle.std.proofs.lemmas.Bool.{eqb-true}
 use Rattle.std.proofs.lemmas.List.{map-append}
 use Rattle.std.proofs.lemmas.List.Elements.{Contains-append_left, Contains-append_right}
-use Rattle.order_laws.proofs.TableLemmas.{all_left, all_right, member_more}
+use Rattle.order_laws.proofs.Each.{all_append, all_left, all_right}
+use Rattle.order_laws.proofs.Members.{Contains-rest}
 use Rattle.word_arena.specs.declared.stores.Store.{Store}
 use Rattle.word_arena.specs.Words.{Nodes, none, fork, at, root_word, left_word, right_word, item_at, items, listed, words_for, Leads}
 use Rattle.word_arena.specs.Stores.{words_after_all, IsLinkWord, AreLinkStores}
@@ -53,21 +54,17 @@ pub owns_values : (n c : ℕ) (P : ℕ → Type 0) (ss : List Store) → Owns n 
 owns_values n c P [] h = tt
 owns_values n c P (s ∷ ss) h = (h.0.1, owns_values n c P ss h.1)
 
-all_both : {X : Type 0} (P : X → Type 0) (xs ys : List X) → AllByRecursion P xs → AllByRecursion P ys → AllByRecursion P (xs ++ ys)
-all_both P [] ys h k = k
-all_both P (x ∷ xs) ys h k = (h.0, all_both P xs ys h.1 k)
-
 -- with the link of the root
 module _ (n c : ℕ) (small : c ≤ 1) (P : ℕ → Type 0) (below : (i : ℕ) → P i → i < n) (t u : Nodes) (ss : List Store) (q : Relinks n c P t u ss) where
   root_fits : link u ≤ n
   root_fits = link_fits n u (λ i a. below i (q.within i a))
 
   pub root_links : AreLinkStores n c (ss ++ relink_root c (link t) (link u))
-  root_links = all_both (λ (s : Store). IsLinkWord n c s.word) ss (relink_root c (link t) (link u)) (owns_links n c P below ss q.owns)
+  root_links = all_append (λ (s : Store). IsLinkWord n c s.word) ss (relink_root c (link t) (link u)) (owns_links n c P below ss q.owns)
       (elim (link t == link u) as (λ b. AreLinkStores n c (cond b [] (record { word = root_word c; value = link u } ∷ []))) [ true ↦ tt | false ↦ (inl refl, tt) ])
 
   pub root_values : AllByRecursion (λ (s : Store). s.value ≤ n) (ss ++ relink_root c (link t) (link u))
-  root_values = all_both (λ (s : Store). s.value ≤ n) ss (relink_root c (link t) (link u)) (owns_values n c P ss q.owns)
+  root_values = all_append (λ (s : Store). s.value ≤ n) ss (relink_root c (link t) (link u)) (owns_values n c P ss q.owns)
       (elim (link t == link u) as (λ b. AllByRecursion (λ (s : Store). s.value ≤ n) (cond b [] (record { word = root_word c; value = link u } ∷ []))) [ true ↦ tt | false ↦ (root_fits, tt) ])
 
   pub root_leads : (m : List ℕ) → length m ≡ words_for n → Leads m n c (at m (root_word c)) t → Leads (words_after_all m (ss ++ relink_root c (link t) (link u))) n c (at (words_after_all m (ss ++ relink_root c (link t) (link u))) (root_word c)) u
@@ -100,7 +97,7 @@ pub among_listed : (t : Nodes) (i : ℕ) → Among t i → Contains (listed t) i
 among_listed none i a = absurd a
 among_listed (fork l j r) i a =
     ⊎_elim (λ e. Contains-append_right (listed l) (j ∷ listed r) i (0, omega arith, sym e))
-    (⊎_elim (λ b. Contains-append_left (listed l) (j ∷ listed r) i (among_listed l i b)) (λ b. Contains-append_right (listed l) (j ∷ listed r) i (member_more j i (listed r) (among_listed r i b)))) a
+    (⊎_elim (λ b. Contains-append_left (listed l) (j ∷ listed r) i (among_listed l i b)) (λ b. Contains-append_right (listed l) (j ∷ listed r) i (Contains-rest j i (listed r) (among_listed r i b)))) a
 
 -- items as a list
 pub items_rows : (m : List ℕ) (t : Branches) → items m (shape t) ≡ map (λ r. item_at m r.node) (rows t)

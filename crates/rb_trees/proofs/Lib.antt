@@ -11,7 +11,6 @@ pub mod MeetRows
 pub mod InsertCounts
 pub mod EraseCounts
 pub mod LeadsLemmas
-pub mod ListLemmas
 pub mod PathLemmas
 pub mod InsertClimbLemmas
 pub mod EraseClimbLemmas

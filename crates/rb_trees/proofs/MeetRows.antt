@@ -2,25 +2,15 @@
 use Rattle.std.proofs.Common.{◌≡◌, ℕ, true, false, cond, Bool, List, [], ◌∷◌, ◌++◌, refl, sym, ◌∙◌, ap}
 use Rattle.std.specs.Prelude.{◌==◌, ◌||◌, ◌&&◌, not}
 use Rattle.std.specs.List.{AllByRecursion, list_any}
+use Rattle.std.proofs.Math.Bool.{or-false, or-true}
 use Rattle.order_laws.specs.declared.items.Item.{Item}
 use Rattle.order_laws.specs.Orders.{Order, Precedes, IsLawful, IsInLine}
 use Rattle.order_laws.specs.Tables.{IsTable, meets, without_all}
-use Rattle.order_laws.proofs.TableLemmas.{all_weaker}
+use Rattle.order_laws.proofs.Bools.{or_assoc, or_swap}
+use Rattle.order_laws.proofs.Each.{all_weaker}
 use Rattle.rb_trees.specs.Trees.{Branches, tip, branch, rows}
 use Rattle.rb_trees.specs.Found.{items_of, met, met_any}
 use Rattle.rb_trees.proofs.PlaceRows.{parts, items_append}
-
-or_false : (b : Bool) → (b || false) ≡ b
-or_false b = elim b as (λ v. (v || false) ≡ v) [ true ↦ refl | false ↦ refl ]
-
-or_true : (b : Bool) → (b || true) ≡ true
-or_true b = elim b as (λ v. (v || true) ≡ true) [ true ↦ refl | false ↦ refl ]
-
-or_assoc : (a b c : Bool) → (a || (b || c)) ≡ ((a || b) || c)
-or_assoc a b c = elim a as (λ v. (v || (b || c)) ≡ ((v || b) || c)) [ true ↦ refl | false ↦ refl ]
-
-or_swap : (a b c : Bool) → (a || (b || c)) ≡ (b || (a || c))
-or_swap a b c = elim a as (λ v. (v || (b || c)) ≡ (b || (v || c))) [ true ↦ sym (or_true b) | false ↦ refl ]
 
 module _ {K : Type 0} (o : Order K) (i : Item) (but : List ℕ) where
   abbrev Meets : List Item → Bool
@@ -64,7 +54,7 @@ module _ {K : Type 0} (o : Order K) (i : Item) (but : List ℕ) where
   meeting_head z is js e =
       elim (gone z) as (λ g. (not g || (Meets is || Meets js)) ≡ (Meets is || meets o i (cond (not g) (z ∷ without_all but js) (without_all but js)))) [
         | true ↦ refl
-        | false ↦ rw e (sym (or_true (Meets is)))
+        | false ↦ rw e (sym (or-true (Meets is)))
       ]
 
   pub met_any_meets : (t : Branches) → met_any o i but t ≡ meets o i (without_all but (items_of (rows t)))
@@ -102,7 +92,7 @@ module _ {K : Type 0} (o : Order K) (i : Item) (but : List ℕ) where
               elim (o.less i y.item) as (λ v. o.less i y.item ≡ v → cond v (met o i but l) (met o i but r) ≡ Meets (items_of (rows l ++ y ∷ rows r))) [
                 | true ↦ λ b.
                     let none : Meets (y.item ∷ js) ≡ false = meets_none (y.item ∷ js) (a, all_weaker (Precedes o y.item) (λ z. o.apart z i ≡ true) (λ z q. apart_above y.item z q a b) js p.behind) in
-                    il ∙ sym (split ∙ ap (λ v. Meets is || v) none ∙ or_false (Meets is))
+                    il ∙ sym (split ∙ ap (λ v. Meets is || v) none ∙ or-false (Meets is))
                 | false ↦ λ b.
                     let none : Meets is ≡ false = meets_none is (all_weaker (λ z. Precedes o z y.item) (λ z. o.apart z i ≡ true) (λ z q. apart_below y.item z q a b) is p.before) in
                     ir ∙ sym (split ∙ ap (λ v. v || Meets (y.item ∷ js)) none ∙ apart_head y.item js a)

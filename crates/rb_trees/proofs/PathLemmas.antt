@@ -1,9 +1,10 @@
 -- The ways down lead to places of the tree that they began in, and are no longer than it is deep.
-use Rattle.std.proofs.Common.{◌≡◌, ℕ, suc, ◌+◌, ◌≤◌, true, false, cond, Bool, List, ◌∷◌, refl, arith, length}
+use Rattle.std.proofs.Common.{◌≡◌, suc, ◌+◌, ◌≤◌, true, false, cond, Bool, List, ◌∷◌, refl, arith, length}
 use Rattle.std.specs.Prelude.{max}
 use Rattle.std.specs.declared.cmp.Ordering.{Ordering}
 use Rattle.std.specs.declared.cmp.Ordering.TheVariants.{Less, Equal, Greater}
 use Rattle.order_laws.specs.declared.items.Item.{Item}
+use Rattle.order_laws.proofs.Numbers.{suc-max_left, suc-max_right}
 use Rattle.rb_trees.specs.declared.Record.{Record}
 use Rattle.rb_trees.specs.Trees.{Branches, tip, branch, shape, depth}
 use Rattle.rb_trees.specs.Paths.{Above, plugged, past_left, past_right, place_from, way_from, way_by, way_at, place_at, first_way, first_place}
@@ -40,12 +41,6 @@ plugged_first (branch red tip y r) path = refl
 plugged_first (branch red (branch k a x b) y r) path =
     plugged_first (branch k a x b) (past_left red y r ∷ path)
 
-left_short : (w n a b : ℕ) → w ≤ suc n + a → w ≤ n + suc (max a b)
-left_short w n a b h = omega arith
-
-right_short : (w n a b : ℕ) → w ≤ suc n + b → w ≤ n + suc (max a b)
-right_short w n a b h = omega arith
-
 pub short_by : (less : Item → Item → Bool) (x : Item) (t : Branches) (path : List Above)
     → length (way_by less x t path) ≤ length path + depth (shape t)
 short_by less x tip path = omega arith
@@ -54,10 +49,10 @@ short_by less x (branch red l y r) path =
     length (cond v (way_by less x l (past_left red y r ∷ path)) (way_by less x r (past_right red l y ∷ path)))
     ≤ length path + suc (max (depth (shape l)) (depth (shape r)))) [
       | true ↦
-          left_short (length (way_by less x l (past_left red y r ∷ path))) (length path) (depth (shape l)) (depth (shape r))
+          suc-max_left (length (way_by less x l (past_left red y r ∷ path))) (length path) (depth (shape l)) (depth (shape r))
           (short_by less x l (past_left red y r ∷ path))
       | false ↦
-          right_short (length (way_by less x r (past_right red l y ∷ path))) (length path) (depth (shape l)) (depth (shape r))
+          suc-max_right (length (way_by less x r (past_right red l y ∷ path))) (length path) (depth (shape l)) (depth (shape r))
           (short_by less x r (past_right red l y ∷ path))
     ]
 
@@ -70,11 +65,11 @@ short_to seen (branch red l y r) path =
     + depth (shape (place_from v (place_at seen l) (branch red l y r) (place_at seen r)))
     ≤ length path + suc (max (depth (shape l)) (depth (shape r)))) [
       | Less ↦
-          left_short (length (way_at seen l (past_left red y r ∷ path)) + depth (shape (place_at seen l)))
+          suc-max_left (length (way_at seen l (past_left red y r ∷ path)) + depth (shape (place_at seen l)))
           (length path) (depth (shape l)) (depth (shape r)) (short_to seen l (past_left red y r ∷ path))
       | Equal ↦ omega arith
       | Greater ↦
-          right_short (length (way_at seen r (past_right red l y ∷ path)) + depth (shape (place_at seen r)))
+          suc-max_right (length (way_at seen r (past_right red l y ∷ path)) + depth (shape (place_at seen r)))
           (length path) (depth (shape l)) (depth (shape r)) (short_to seen r (past_right red l y ∷ path))
     ]
 
@@ -83,5 +78,5 @@ pub short_first : (t : Branches) (path : List Above)
 short_first tip path = omega arith
 short_first (branch red tip y r) path = omega arith
 short_first (branch red (branch k a x b) y r) path =
-    left_short (length (first_way (branch k a x b) (past_left red y r ∷ path)) + depth (shape (first_place (branch k a x b))))
+    suc-max_left (length (first_way (branch k a x b) (past_left red y r ∷ path)) + depth (shape (first_place (branch k a x b))))
     (length path) (depth (shape (branch k a x b))) (depth (shape r)) (short_first (branch k a x b) (past_left red y r ∷ path))

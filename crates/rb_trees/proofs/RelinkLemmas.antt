@@ -3,6 +3,7 @@ use Rattle.std.proofs.Common.{◌≡◌, ◌≢◌, ℕ, suc, ◌<◌, ◌≤◌
 use Rattle.std.specs.Prelude.{◌⊎◌, ◌==◌, slice_set}
 use Rattle.std.specs.List.{AllByRecursion}
 use Rattle.std.proofs.lemmas.Bool.{eqb-true}
+use Rattle.word_arena.proofs.LinkLemmas.{left_differs, left_in, left_not_right, right_differs, right_in}
 use Rattle.word_arena.specs.declared.stores.Store.{Store}
 use Rattle.word_arena.specs.Words.{Nodes, none, fork, at, left_word, right_word, words_for}
 use Rattle.word_arena.specs.Stores.{words_after_all}
@@ -56,21 +57,6 @@ inner_kept n c P m ss h (fork l i r) apart is = (
 pub link_fits : (n : ℕ) (t : Nodes) → ((i : ℕ) → Among t i → i < n) → link t ≤ n
 link_fits n none below = omega arith
 link_fits n (fork l i r) below = omega (arith, below i (inl refl))
-
-pub left_in : (n c i : ℕ) → c ≤ 1 → i < n → left_word c i < words_for n
-left_in n c i small lt = omega arith
-
-pub right_in : (n c i : ℕ) → c ≤ 1 → i < n → right_word c i < words_for n
-right_in n c i small lt = omega arith
-
-pub left_not_right : (c i j : ℕ) → left_word c i ≢ right_word c j
-left_not_right c i j e = absurd (omega arith)
-
-pub left_differs : (c i j : ℕ) → i ≢ j → left_word c i ≢ left_word c j
-left_differs c i j ne e = ne (omega arith)
-
-pub right_differs : (c i j : ℕ) → i ≢ j → right_word c i ≢ right_word c j
-right_differs c i j ne e = ne (omega arith)
 
 module _ (n c : ℕ) (small : c ≤ 1) where
   -- nothing is stored

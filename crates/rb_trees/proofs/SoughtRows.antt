@@ -5,16 +5,19 @@ use Rattle.std.proofs.Common.{◌∷◌, ◌++◌, Option, Some, None, refl, sym
 use Rattle.std.proofs.Common.{arith}
 use Rattle.std.specs.Prelude.{◌==◌, ◌||◌, not, nat_lt, is_some, remove, slice_get, Contains}
 use Rattle.std.specs.List.{AllByRecursion}
-use Rattle.std.proofs.lemmas.Bool.{eq-eqb, eqb-true, ne_eqb, ltb-true, lt-ltb, cases_lt}
+use Rattle.std.proofs.lemmas.Bool.{eq-eqb, eqb-true, ne_eqb, ltb-true, ltb-false}
 use Rattle.std.proofs.lemmas.List.Elements.{Contains-append_cases, Contains-append_left}
 use Rattle.std.proofs.lemmas.List.Elements.{Contains-append_right}
 use Rattle.std.specs.declared.cmp.Ordering.{Ordering}
 use Rattle.std.specs.declared.cmp.Ordering.TheVariants.{Less, Equal, Greater}
+use Rattle.std.proofs.Math.Bool.{or-true}
 use Rattle.order_laws.specs.declared.items.Item.{Item}
 use Rattle.order_laws.specs.Orders.{Order, Precedes, IsLawful, IsInLine}
 use Rattle.order_laws.specs.Tables.{IsTable, place_of, has}
-use Rattle.order_laws.proofs.TableLemmas.{all_weaker, all_right, all_at, members, member_more}
 use Rattle.order_laws.proofs.TableLemmas.{parted}
+use Rattle.order_laws.proofs.Each.{all_at, all_right, all_weaker}
+use Rattle.order_laws.proofs.Members.{Contains-cons_cases, Contains-rest}
+use Rattle.order_laws.proofs.WithoutLemmas.{has_either}
 use Rattle.rb_trees.specs.declared.Record.{Record}
 use Rattle.rb_trees.specs.Trees.{Branches, tip, branch, rows}
 use Rattle.rb_trees.specs.Erased.{first_word_at, item_lies, erased_at, erased, found_at, found}
@@ -184,10 +187,6 @@ module _ {K : Type 0} (o : Order K) (line : IsInLine o) (a : ℕ) where
   abbrev InOrder : Branches → Type 0
   InOrder t = IsTable o (items_of (rows t))
 
-  not_less : (m n : ℕ) → nat_lt m n ≡ false → n ≤ m
-  not_less m n e = ⊎_elim (λ lt. let t : nat_lt m n ≡ true = lt-ltb m n lt in absurd (cc))
-      (λ ge. ge) (cases_lt m n)
-
   words_lead : Guides a (first_word_at a) InOrder
   words_lead red l y r t =
       let p = parts o (rows l) y (rows r) t in
@@ -213,7 +212,7 @@ module _ {K : Type 0} (o : Order K) (line : IsInLine o) (a : ℕ) where
               | false ↦ λ f.
                   let ne : y.item.a ≢ a = (λ g. let h : (a == y.item.a) ≡ true =
                   eq-eqb a y.item.a (sym g) in absurd (cc)) in
-                  let le : y.item.a ≤ a = not_less a y.item.a f in
+                  let le : y.item.a ≤ a = ltb-false a y.item.a f in
                   to_right (ne_eqb y.item.a a ne)
                   (all_weaker (λ z. Precedes o z y.item) (λ (z : Item). (z.a == a) ≡ false)
                   (λ z q. ne_eqb z.a a (λ g. let w = line.first_words_rise z y.item q in
@@ -243,7 +242,7 @@ module _ {K : Type 0} (o : Order K) (law : IsLawful o) (i : Item) where
       (λ same. subst (λ z. AllByRecursion (Precedes o z) ys) same
       (all_right (Precedes o x) xs ys t.1))
       (λ in_xs. across xs ys t.2 in_xs)
-      (members x i xs is)
+      (Contains-cons_cases x i xs is)
 
   -- and an item of the second is preceded by each of the first
   all_before : (xs ys : List Item) → IsTable o (xs ++ ys) → Contains ys i →
@@ -291,7 +290,7 @@ module _ {K : Type 0} (o : Order K) (law : IsLawful o) (i : Item) where
   at_right l y r t tr is =
       let before : AllByRecursion (λ z. Precedes o z i) (items_of (rows l)) =
       all_before (items_of (rows l)) (y.item ∷ items_of (rows r)) t
-      (member_more y.item i (items_of (rows r)) is) in
+      (Contains-rest y.item i (items_of (rows r)) is) in
       let b : Precedes o y.item i = all_at (Precedes o y.item) (items_of (rows r)) i
       (parted o (items_of (rows l)) y.item (items_of (rows r)) t).behind is in
       let more : o.less i y.item ≡ false =
@@ -310,7 +309,7 @@ module _ {K : Type 0} (o : Order K) (law : IsLawful o) (i : Item) where
       ⊎_elim
       (λ is. at_left l y r t p.left is)
       (λ b. ⊎_elim (λ same. at_here l y r t same) (λ is. at_right l y r t p.right is)
-      (members y.item i (items_of (rows r)) b))
+      (Contains-cons_cases y.item i (items_of (rows r)) b))
       (Contains-append_cases (items_of (rows l)) (y.item ∷ items_of (rows r)) i
       (subst (λ zs. Contains zs i) split h.1))
 
@@ -321,18 +320,9 @@ module _ {K : Type 0} (o : Order K) (law : IsLawful o) (i : Item) where
       sought i.a (item_lies o.less i) HasItem item_leads t (is, there) has_a
 
 -- a search through all items finds one of the first word, if there is one
-or_true : (b : Bool) → (b || true) ≡ true
-or_true b = elim b as (λ v. (v || true) ≡ true) [ true ↦ refl | false ↦ refl ]
-
 either_is_some : (p q : Option Item) → is_some (first_answer p q) ≡ (is_some p || is_some q)
 either_is_some (Some x) q = refl
 either_is_some None q = refl
-
-has_either : (a : ℕ) (is js : List Item) → has a (is ++ js) ≡ (has a is || has a js)
-has_either a [] js = refl
-has_either a (z ∷ is) js =
-    elim (z.a == a) as (λ b. (b || has a (is ++ js)) ≡ ((b || has a is) || has a js))
-    [ true ↦ refl | false ↦ has_either a is js ]
 
 pub any_has : (a : ℕ) (t : Branches) → is_some (any_with a t) ≡ has a (items_of (rows t))
 any_has a tip = refl
@@ -344,7 +334,7 @@ any_has a (branch red l y r) =
     (elim (y.item.a == a) as (λ b. is_some
     (cond b (Some y.item) (first_answer (any_with a l) (any_with a r)))
     ≡ (has a (items_of (rows l)) || (b || has a (items_of (rows r))))) [
-      | true ↦ sym (or_true (has a (items_of (rows l))))
+      | true ↦ sym (or-true (has a (items_of (rows l))))
       | false ↦ either_is_some (any_with a l) (any_with a r)
           ∙ ap (λ b. b || is_some (any_with a r)) (any_has a l)
           ∙ ap (λ b. has a (items_of (rows l)) || b) (any_has a r)

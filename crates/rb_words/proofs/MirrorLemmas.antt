@@ -8,6 +8,7 @@ use Rattle.std.specs.List.{AllByRecursion}
 use Rattle.std.proofs.lemmas.Bool.{ne_eqb, cases_eq}
 use Rattle.order_laws.specs.declared.items.Item.{Item}
 use Rattle.order_laws.specs.Orders.{Order}
+use Rattle.order_laws.proofs.Numbers.{below_suc}
 use Rattle.word_arena.specs.declared.stores.Store.{Store}
 use Rattle.word_arena.specs.Words.{Nodes, none, fork, words_for, at, item_at, items, Leads, Holds}
 use Rattle.word_arena.specs.Words.{root_word, left_word, right_word, a_word, b_word, tag_word}
@@ -248,11 +249,6 @@ record Copied (k : ℕ) (m m' : List ℕ) : Type 0 where
   items : (i w : ℕ) → IsItemWord i w → at m w ≡ at m' w
 
 -- one more node: at the node copied last its own links, at those before it theirs
-last_or_before : (P : ℕ → Type 0) (k : ℕ) → P k → ((i : ℕ) → i < k → P i) → (i : ℕ) → i < suc k →
-    P i
-last_or_before P k last before i lt =
-    ⊎_elim (λ e. subst P (sym e) last) (λ ne. before i (omega (arith, lt, ne))) (cases_eq i k)
-
 copied_next : (n k : ℕ) (m m' : List ℕ) → k < n → length m ≡ words_for n → Copied k m m' →
     Copied (suc k) m (slice_set (slice_set m' (left_word 0 k) (at m (left_word 1 k)))
     (right_word 0 k) (at m (right_word 1 k)))
@@ -273,10 +269,10 @@ copied_next n k m m' lt sized is =
     record {
       as_long = length-set m1 wr vr ∙ length-set m' wl vl ∙ is.as_long;
       root = is.root ∙ stays (root_word 0) (λ e. absurd (omega arith)) (λ e. absurd (omega arith));
-      left = last_or_before (λ i. at m (left_word 1 i) ≡ at m2 (left_word 0 i)) k here_left
+      left = below_suc (λ i. at m (left_word 1 i) ≡ at m2 (left_word 0 i)) k here_left
           (λ i il. is.left i il ∙ stays (left_word 0 i) (λ e. absurd (omega (arith, il, e)))
           (λ e. absurd (omega arith)));
-      right = last_or_before (λ i. at m (right_word 1 i) ≡ at m2 (right_word 0 i)) k here_right
+      right = below_suc (λ i. at m (right_word 1 i) ≡ at m2 (right_word 0 i)) k here_right
           (λ i il. is.right i il ∙ stays (right_word 0 i) (λ e. absurd (omega arith))
           (λ e. absurd (omega (arith, il, e))));
       items = λ i w of.

@@ -1,8 +1,8 @@
 -- What planned changes make of the picture, and that the plan's stores lead a copy there.
-use Rattle.std.proofs.Common.{◌≡◌, ◌≢◌, ℕ, suc, zero, ◌+◌, ◌*◌, ◌^◌, ◌<◌, ◌≤◌, true, false, List}
+use Rattle.std.proofs.Common.{◌≡◌, ◌≢◌, ℕ, suc, ◌+◌, ◌*◌, ◌^◌, ◌<◌, ◌≤◌, true, false, List}
 use Rattle.std.proofs.Common.{[], ◌∷◌, ◌++◌, length, map, Some, refl, sym, ◌∙◌, ap}
 use Rattle.std.proofs.Common.{subst, inl, inr, ⊎_elim, arith, length-set, length-append}
-use Rattle.std.specs.Prelude.{◌↔◌, ◌==◌, ◌||◌, Bool, Contains, insert, remove, slice_get}
+use Rattle.std.specs.Prelude.{◌↔◌, ◌==◌, ◌||◌, Contains, insert, remove, slice_get}
 use Rattle.std.specs.Prelude.{slice_set, is_some}
 use Rattle.std.specs.Option.{option_map}
 use Rattle.std.specs.declared.vec.Vec.{Vec}
@@ -11,23 +11,25 @@ use Rattle.std.specs.List.{AllByRecursion}
 use Rattle.std.proofs.Math.Nat.{pow-le-pow_right, mul-le-mul}
 use Rattle.std.proofs.lemmas.Option.{slice_get-map}
 use Rattle.std.proofs.lemmas.List.{length-map}
-use Rattle.std.proofs.lemmas.Bool.{eqb-true, eq-eqb, or_cases, cases_lt}
+use Rattle.std.proofs.lemmas.Bool.{eqb-true, eq-eqb, or_cases, cases_lt, or_left, or_right}
 use Rattle.std.proofs.lemmas.List.Elements.{Contains-append_left, Contains-append_right}
 use Rattle.std.proofs.lemmas.List.Elements.{Contains-append_cases}
 use Rattle.order_laws.specs.declared.items.Item.{Item}
 use Rattle.order_laws.specs.Orders.{Order, IsLawful, IsInLine}
 use Rattle.order_laws.specs.Tables.{IsTable, with_item, without, place_for, place_of, has, meets}
-use Rattle.order_laws.proofs.TableLemmas.{all_left, all_right, all_weaker, members, member_more}
 use Rattle.order_laws.proofs.TableLemmas.{with_item_table, without_table}
 use Rattle.order_laws.proofs.PlaceLemmas.{with_place, without_place, not_meeting, place_of_has}
 use Rattle.order_laws.proofs.PlaceLemmas.{place_of_fits, without_none}
+use Rattle.order_laws.proofs.Each.{all_differ, all_get, all_insert, all_left, all_remove, all_right}
+use Rattle.order_laws.proofs.Lists.{is_some-slice_get, length-insert, length-remove_at, map-insert, map-remove}
+use Rattle.order_laws.proofs.Members.{Contains-cons_cases, Contains-insert, Contains-insert_cases, Contains-remove, Contains-rest}
+use Rattle.word_arena.proofs.LinkLemmas.{item_kept}
 use Rattle.word_arena.specs.declared.stores.Store.{Store}
 use Rattle.word_arena.specs.Words.{Nodes, none, fork, words_for, a_word, b_word}
 use Rattle.word_arena.specs.Words.{tag_word, item_at, listed, Reaches, InUse}
-use Rattle.word_arena.specs.Stores.{words_after_all, IsItemWord, IsLinkWord, AreLinkStores}
-use Rattle.word_arena.proofs.WordLemmas.{unused_item, link_no_item}
+use Rattle.word_arena.specs.Stores.{words_after_all, AreLinkStores}
+use Rattle.word_arena.proofs.WordLemmas.{unused_item}
 use Rattle.word_arena.proofs.StoreLemmas.{length_after, after_append, at_stored, at_other}
-use Rattle.word_arena.proofs.StoreLemmas.{untouched}
 use Rattle.word_arena.proofs.HoldsLemmas.{tree_untouched}
 use Rattle.word_arena.proofs.ReachLemmas.{reached_listed}
 use Rattle.rb_trees.specs.declared.Record.{Record}
@@ -57,10 +59,7 @@ use Rattle.rb_words.specs.Plans.{AreLinks, Inserts, LeadsWithItem, Erases, Leads
 use Rattle.rb_words.specs.Plans.{item_stores}
 use Rattle.rb_words.specs.TreePictures.{picture_of, tree_with, links_with, tree_without}
 use Rattle.rb_words.specs.TreePictures.{links_without, TakesOut}
-use Rattle.rb_words.proofs.ListLemmas.{all_insert, all_remove, all_get, distinct_insert}
-use Rattle.rb_words.proofs.ListLemmas.{distinct_remove, map-insert, map-remove, member_insert}
-use Rattle.rb_words.proofs.ListLemmas.{insert_member, member_remove, remove_member, away_of_absent}
-use Rattle.rb_words.proofs.ListLemmas.{distinct_fit}
+use Rattle.rb_words.proofs.ListLemmas.{distinct_insert, distinct_remove, distinct_fit, member_remove}
 
 -- distinct nodes, by the tree
 distinct_parts : (xs ys : List ℕ) → AreDistinct (xs ++ ys) →
@@ -85,16 +84,6 @@ separate (fork l i r) h =
     )
 
 -- links leave the items
-item_kept : (m : List ℕ) (n c : ℕ) (links : List Store) (i : ℕ) → c ≤ 1 → AreLinkStores n c links →
-    item_at (words_after_all m links) i ≡ item_at m i
-item_kept m n c links i small are =
-    let away = all_weaker (λ (s : Store). IsLinkWord n c s.word) (λ s. IsItemWord i s.word → ⊥)
-    (λ s l. link_no_item n c i s.word small l) links are in
-    let ea = untouched (IsItemWord i) m links away (a_word i) (inl refl) in
-    let eb = untouched (IsItemWord i) m links away (b_word i) (inr (inl refl)) in
-    let et = untouched (IsItemWord i) m links away (tag_word i) (inr (inr refl)) in
-    λ d. record { a = ea d; b = eb d; tag = et d }
-
 stored_kept : (m : List ℕ) (n c : ℕ) (links : List Store) (rs : List Record) → c ≤ 1 →
     AreLinkStores n c links → Stored m rs → Stored (words_after_all m links) rs
 stored_kept m n c links [] small are h = tt
@@ -167,7 +156,7 @@ module _ {K : Type 0} (o : Order K) (law : IsLawful o) (n c : ℕ) (t : Branches
       let distinct_new : AreDistinct (listed (shape u)) =
       subst AreDistinct (sym listed_with)
       (distinct_insert (listed (shape t)) p x.node is.distinct
-      (away_of_absent (listed (shape t)) x.node free)) in
+      (all_differ (listed (shape t)) x.node free)) in
       let many = as_many_rows u in
       record {
         one_copy = is.one_copy;
@@ -190,10 +179,10 @@ module _ {K : Type 0} (o : Order K) (law : IsLawful o) (n c : ℕ) (t : Branches
         copy = refl;
         table = items_with;
         nodes = λ i. (
-          (λ h. member_insert (listed (shape t)) p x.node i
+          (λ h. Contains-insert_cases (listed (shape t)) p x.node i
               (subst (λ xs. Contains xs i) listed_with h)),
           (λ h. subst (λ xs. Contains xs i) (sym listed_with)
-              (insert_member (listed (shape t)) p x.node i h)),
+              (Contains-insert (listed (shape t)) p x.node i h)),
         );
         in_order = listed_with;
         room = more;
@@ -376,7 +365,7 @@ module _ {K : Type 0} (o : Order K) (law : IsLawful o) (n c : ℕ) (t : Branches
             (λ h. member_remove (listed (shape t)) p x.node i is.distinct node_at
                 (subst (λ xs. Contains xs i) listed_without h)),
             (λ h. subst (λ xs. Contains xs i) (sym listed_without)
-                (remove_member (listed (shape t)) p x.node i node_at h)),
+                (Contains-remove (listed (shape t)) p x.node i node_at h)),
           );
           in_order = listed_without;
           at_place = node_at;
@@ -408,44 +397,26 @@ reach_listed i (branch red l y r) e =
     (λ b. Contains-append_left (listed (shape l)) (y.node ∷ listed (shape r)) i
     (reach_listed i l b))
     (λ b. Contains-append_right (listed (shape l)) (y.node ∷ listed (shape r)) i
-    (member_more y.node i (listed (shape r)) (reach_listed i r b)))
+    (Contains-rest y.node i (listed (shape r)) (reach_listed i r b)))
     (or_cases (has_node i l) (has_node i r) h))
     (or_cases (y.node == i) (has_node i l || has_node i r) e)
-
-or_second : (a b : Bool) → b ≡ true → (a || b) ≡ true
-or_second a b e = elim a as (λ v. (v || b) ≡ true) [ true ↦ refl | false ↦ e ]
-
-or_first : (a b : Bool) → a ≡ true → (a || b) ≡ true
-or_first a b e = rw e refl
 
 listed_reach : (i : ℕ) (t : Branches) → Contains (listed (shape t)) i → has_node i t ≡ true
 listed_reach i tip is = let n = is.1 in absurd (omega (arith, n))
 listed_reach i (branch red l y r) is =
     ⊎_elim
-    (λ b. or_second (y.node == i) (has_node i l || has_node i r)
-    (or_first (has_node i l) (has_node i r) (listed_reach i l b)))
+    (λ b. or_right (y.node == i) (has_node i l || has_node i r)
+    (or_left (has_node i l) (has_node i r) (listed_reach i l b)))
     (λ b.
     ⊎_elim
-    (λ e. or_first (y.node == i) (has_node i l || has_node i r) (eq-eqb y.node i e))
-    (λ d. or_second (y.node == i) (has_node i l || has_node i r)
-    (or_second (has_node i l) (has_node i r) (listed_reach i r d)))
-    (members y.node i (listed (shape r)) b))
+    (λ e. or_left (y.node == i) (has_node i l || has_node i r) (eq-eqb y.node i e))
+    (λ d. or_right (y.node == i) (has_node i l || has_node i r)
+    (or_right (has_node i l) (has_node i r) (listed_reach i r d)))
+    (Contains-cons_cases y.node i (listed (shape r)) b))
     (Contains-append_cases (listed (shape l)) (y.node ∷ listed (shape r)) i is)
 
 pub reaches_shown : (i : ℕ) (t : Branches) → (has_node i t ≡ true) ↔ Contains (listed (shape t)) i
 reaches_shown i t = (reach_listed i t, listed_reach i t)
-
-length_insert : {X : Type 0} (xs : List X) (i : ℕ) (x : X) →
-    length (insert xs i x) ≡ suc (length xs)
-length_insert xs zero x = refl
-length_insert [] (suc i) x = refl
-length_insert (y ∷ xs) (suc i) x = ap suc (length_insert xs i x)
-
-length_removed : {X : Type 0} (xs : List X) (i : ℕ) (x : X) → slice_get xs i ≡ Some x →
-    suc (length (remove xs i)) ≡ length xs
-length_removed [] i x e = absurd (cc)
-length_removed (y ∷ xs) zero x e = refl
-length_removed (y ∷ xs) (suc i) x e = ap suc (length_removed xs i x e)
 
 -- the search on the one way down tells of the pictured table
 pub met_none : {K : Type 0} (o : Order K) → IsLawful o → IsInLine o → {i : Item} →
@@ -478,7 +449,7 @@ module _ {K : Type 0} (o : Order K) (law : IsLawful o) (n c : ℕ) (t u : Branch
       let v = tree_with o x t in
       let count_v : length (rows v) ≡ suc (length (rows t)) =
       ap length (rows_with o law n c t old room more is good x can.0 can.1 can.2 can.3)
-      ∙ length_insert (rows t) (place_for o x.item (items_of (rows t))) x in
+      ∙ length-insert (rows t) (place_for o x.item (items_of (rows t))) x in
       record {
         picture = subst (λ w. IsPicture o (picture_of n c w room)) (sym is_u)
             (picture_with o law n c t old room more is good x can.0 can.1 can.2 can.3);
@@ -518,7 +489,7 @@ module _ {K Z : Type 0} (o : Order K) (law : IsLawful o) (n c : ℕ) (t u : Bran
       sym takes.sought.finds ∙ takes.finds in
       let count_v : suc (length (rows (tree_without seen t))) ≡ length (rows t) =
       ap (λ xs. suc (length xs)) takes.sought.erases
-      ∙ length_removed (rows t) (place_of a (items_of (rows t))) x at_p in
+      ∙ length-remove_at (rows t) (place_of a (items_of (rows t))) x at_p in
       let erases : Erases before (picture_of n c u room) a x.node =
       subst (λ w. Erases before (picture_of n c w room) a x.node) (sym takes.tree)
       (erases_without o law n c t old room more is good a seen takes.sought there x takes.finds)
@@ -552,16 +523,11 @@ few_steps o n c t room small is =
     (λ le. le)
     (cases_lt 64 d)
 
-get_some : {X : Type 0} (xs : List X) (i : ℕ) → i < length xs → is_some (slice_get xs i) ≡ true
-get_some [] i lt = absurd (omega (arith, lt))
-get_some (x ∷ xs) zero lt = refl
-get_some (x ∷ xs) (suc i) lt = get_some xs i (omega (arith, lt))
-
 -- a record that was found is there
 pub found_there : (a : ℕ) (seen : Record → Ordering) (t : Branches) → Sought a seen t →
     has a (items_of (rows t)) ≡ true → is_some (found seen t) ≡ true
 found_there a seen t sought there =
-    ap is_some sought.finds ∙ get_some (rows t) (place_of a (items_of (rows t)))
+    ap is_some sought.finds ∙ is_some-slice_get (rows t) (place_of a (items_of (rows t)))
     (omega (
       arith,
       place_of_fits a (items_of (rows t)) there,

@@ -1,18 +1,20 @@
 -- What a search of the list by rising first address finds.
-use Rattle.std.proofs.Common.{◌≡◌, ℕ, zero, suc, ◌-◌, ◌<◌, ◌≤◌, ◌⊎◌, inl, inr, ⊎_elim, true, false, nat_le, List, length, map, get_or, Option, Some, None, refl, sym, ap, subst, ◌∙◌, arith, [], ◌∷◌}
-use Rattle.std.specs.Prelude.{Contains, All, IfSome}
+use Rattle.std.proofs.Common.{◌≡◌, ℕ, ◌-◌, ◌<◌, ◌≤◌, ◌⊎◌, inl, inr, ⊎_elim, true, false, nat_le, List, length, map, get_or, Option, Some, None, refl, sym, ap, subst, ◌∙◌, arith}
+use Rattle.std.specs.Prelude.{Contains, All}
 use Rattle.std.specs.List.{AllPairs}
-use Rattle.std.specs.List.Sorted.{IsNonDecreasingBy}
+use Rattle.std.specs.List.Sorted.{IsNonDecreasingBy, IsPartitionPoint}
 use Rattle.std.specs.declared.cmp.Ordering.TheVariants.{Equal}
-use Rattle.std.proofs.lemmas.Bool.{cases_lt}
+use Rattle.std.proofs.lemmas.Bool.{cases_lt, leb-false, leb-true}
 use Rattle.std.proofs.lemmas.Bool.Decides.{nat_tests}
 use Rattle.std.proofs.lemmas.List.{get_or_default, length-map}
 use Rattle.std.proofs.lemmas.List.Elements.{All-contains}
 use Rattle.std.proofs.lemmas.List.Sorted.{Contains-permutation, IsPermutation-sym}
 use Rattle.order_laws.specs.declared.items.Item.{Item}
 use Rattle.order_laws.specs.Orders.{half_open}
-use Rattle.order_laws.specs.Tables.{IsLook, look}
+use Rattle.order_laws.specs.Tables.{IsLook}
 use Rattle.order_laws.proofs.TableLemmas.{look_is}
+use Rattle.order_laws.proofs.Lists.{get_or-map_default}
+use Rattle.order_laws.proofs.HalfOpenLemmas.{begins, ends, equal_inside}
 use Rattle.modules.specs.Catalogs.{IsSound}
 use Rattle.modules.specs.Entries.{CatalogEntries}
 use Rattle.modules.specs.Items.{items_of}
@@ -33,31 +35,8 @@ IsSplit-between items addr split rising bound last next =
       above = λ k d le lt. let rises = rising split k d le lt in let begins = next d (omega arith) in omega arith;
     }
 
-equal_inside : (k : ℕ) (i : Item) → i.a ≤ k → k < i.b → half_open.comp k i ≡ Equal
-equal_inside k i le lt = grind (arith, nat_tests)
-
-begins : (k : ℕ) (i : Item) → half_open.comp k i ≡ Equal → i.a ≤ k
-begins k i e = grind (arith, nat_tests)
-
-ends : (k : ℕ) (i : Item) → half_open.comp k i ≡ Equal → k < i.b
-ends k i e = grind (arith, nat_tests)
-
--- an item that is found for a key holds it
-holds_key : (k : ℕ) (t : List Item) (x : Option Item) → IsLook half_open k t x → IfSome x (λ i. (i.a ≤ k) × (k < i.b))
-holds_key k t None h = tt
-holds_key k t (Some i) h = (begins k i h.1, ends k i h.1)
-
-pub found_holds : (k : ℕ) (t : List Item) (x : Option Item) → x ≡ look half_open k t → IfSome x (λ i. (i.a ≤ k) × (k < i.b))
-found_holds k t x e = holds_key k t x (subst (IsLook half_open k t) (sym e) (look_is half_open k t))
-
 beside : (x y : Item) → is_apart (region_of x) (region_of y) ≡ true → (x.b ≤ y.a) ⊎ (y.b ≤ x.a)
 beside x y h = ⊎_elim (λ lt. inr (let q : y.b ≤ x.a = grind (arith, nat_tests) in q)) (λ le. inl le) (cases_lt y.a x.b)
-
--- the place of an element of a list is also that of what is made of it
-made_at : {X Y : Type 0} (f : X → Y) (xs : List X) (i : ℕ) (d : X) → get_or (map f xs) i (f d) ≡ f (get_or xs i d)
-made_at f [] i d = refl
-made_at f (x ∷ xs) zero d = refl
-made_at f (x ∷ xs) (suc i) d = made_at f xs i d
 
 module _ (c : CatalogEntries) (sound : IsSound c) where
   pairs : AllPairs (λ r s. is_apart r s ≡ true) (map region_of (items_of c))
@@ -67,8 +46,8 @@ module _ (c : CatalogEntries) (sound : IsSound c) where
   earlier : (x y : Item) (i j : ℕ) → i < j → j < length (items_of c) → get_or (items_of c) i x ≡ x → get_or (items_of c) j y ≡ y → (x.b ≤ y.a) ⊎ (y.b ≤ x.a)
   earlier x y i j less lt at there =
       let r = pairs i j (region_of x) less (omega (arith, length-map (items_of c) region_of)) in
-      let e : get_or (map region_of (items_of c)) i (region_of x) ≡ region_of x = made_at region_of (items_of c) i x ∙ ap region_of at in
-      let f : get_or (map region_of (items_of c)) j (region_of x) ≡ region_of y = made_at region_of (items_of c) j x ∙ ap region_of (get_or_default (items_of c) j x y lt ∙ there) in
+      let e : get_or (map region_of (items_of c)) i (region_of x) ≡ region_of x = get_or-map_default region_of (items_of c) i x ∙ ap region_of at in
+      let f : get_or (map region_of (items_of c)) j (region_of x) ≡ region_of y = get_or-map_default region_of (items_of c) j x ∙ ap region_of (get_or_default (items_of c) j x y lt ∙ there) in
       beside x y (subst (λ b. is_apart (region_of x) b ≡ true) f (subst (λ a. is_apart a (get_or (map region_of (items_of c)) j (region_of x)) ≡ true) e r))
 
   other_side : (x y : Item) → (y.b ≤ x.a) ⊎ (x.b ≤ y.a) → (x.b ≤ y.a) ⊎ (y.b ≤ x.a)

@@ -1,10 +1,8 @@
 -- Counts of lists that are put together.
 use Rattle.std.proofs.Common.{◌≡◌, ℕ, suc, zero, ◌+◌, ◌-◌, ◌^◌, ◌<◌, Bool, true, false, List, [], ◌∷◌, ◌++◌, length, map, take, drop, get_or, min, refl, sym, ◌∙◌, ap, subst, cond, inl, inr, ⊎_elim, arith, length-append}
-use Rattle.std.specs.Prelude.{count_by, zip}
+use Rattle.std.specs.Prelude.{count_by}
 use Rattle.std.specs.Global.{Vec}
-use Rattle.std.specs.List.{range_with_len}
 use Rattle.std.proofs.lemmas.Grind.{flat_map-append}
-use Rattle.std.proofs.lemmas.Slice.Zip.{get_or-zip, length-zip}
 use Rattle.std.proofs.lemmas.List.{take_more, append-nil}
 use Rattle.std.proofs.lemmas.List.Recursion.{is_count_by}
 use Rattle.shared_lookup.specs.Counts.{Counts, CountsUpTo}
@@ -50,21 +48,6 @@ module _ {X : Type 0} (holds : X → Type 0) where
   counts_of f is not xs =
       subst (λ n. Counts holds xs n) (is_count_by (tests f) f refl (λ x ys. refl) xs) (counts_tests f is not xs)
 
--- one entry more of two lists side by side
-pub zip_more : {A B : Type 0} (xs : List A) (ys : List B) (i : ℕ) (d : A) (e : B) → i < length xs → i < length ys
-    → take (i + 1) (zip xs ys) ≡ take i (zip xs ys) ++ (get_or xs i d, get_or ys i e) ∷ []
-zip_more xs ys i d e l m =
-    let there : i < length (zip xs ys) = (let n = length-zip xs ys in omega (arith, n, l, m)) in
-    take_more (zip xs ys) i (d, e) there
-    ∙ ap (λ p. take i (zip xs ys) ++ p ∷ []) (get_or-zip xs ys i (d, e) l m)
-
--- two lists side by side, each put together of two
-pub zip_append : {A B : Type 0} (xs xs' : List A) (ys ys' : List B) → length ys ≡ length xs → zip (xs ++ xs') (ys ++ ys') ≡ zip xs ys ++ zip xs' ys'
-zip_append [] xs' [] ys' e = refl
-zip_append [] xs' (y ∷ ys) ys' e = absurd (omega arith)
-zip_append (x ∷ xs) xs' [] ys' e = absurd (omega arith)
-zip_append (x ∷ xs) xs' (y ∷ ys) ys' e = ap (λ zs. (x, y) ∷ zs) (zip_append xs xs' ys ys' (omega arith))
-
 -- the entries of one list more
 pub entries_more : {X : Type 0} (lists : List (Vec X)) (i : ℕ) (list : Vec X) → i < length lists → list ≡ get_or lists i list
     → entries (take (i + 1) lists) ≡ entries (take i lists) ++ list.items
@@ -73,15 +56,6 @@ entries_more lists i list l e =
     ∙ flat_map-append (λ (v : Vec _). v.items) (take i lists) (get_or lists i list ∷ [])
     ∙ ap (λ (v : Vec _). entries (take i lists) ++ (v.items ++ [])) (sym e)
     ∙ ap (λ xs. entries (take i lists) ++ xs) (append-nil list.items)
-
--- the lists at one place of two lists of lists of the same lengths
-pub same_at : {X Y : Type 0} (xs : List (Vec X)) (ys : List (Vec Y)) → map (λ (v : Vec Y). length v.items) ys ≡ map (λ (v : Vec X). length v.items) xs
-    → (i : ℕ) (x : Vec X) (y : Vec Y) → i < length xs → x ≡ get_or xs i x → y ≡ get_or ys i y → length y.items ≡ length x.items
-same_at [] ys e i x y l ex ey = absurd (omega arith)
-same_at (a ∷ xs) [] e i x y l ex ey = absurd (let f = ap length e in omega arith)
-same_at (a ∷ xs) (b ∷ ys) e zero x y l ex ey =
-    rw ex (rw ey (ap (λ ns. get_or ns 0 0) e))
-same_at (a ∷ xs) (b ∷ ys) e (suc i) x y l ex ey = same_at xs ys (ap (λ ns. drop 1 ns) e) i x y (omega arith) ex ey
 
 -- as many entries of the first lists
 pub entries_same : {X Y : Type 0} (xs : List (Vec X)) (ys : List (Vec Y)) → map (λ (v : Vec Y). length v.items) ys ≡ map (λ (v : Vec X). length v.items) xs
@@ -95,21 +69,3 @@ entries_same (a ∷ xs) (b ∷ ys) e (suc i) =
     let here : length b.items ≡ length a.items = ap (λ ns. get_or ns 0 0) e in
     let rest = entries_same xs ys (ap (λ ns. drop 1 ns) e) i in
     length-append b.items (entries (take i ys)) ∙ (λ j. here j + rest j) ∙ sym (length-append a.items (entries (take i xs)))
-
--- as many lists
-pub lists_same : {X Y : Type 0} (xs : List (Vec X)) (ys : List (Vec Y)) → map (λ (v : Vec Y). length v.items) ys ≡ map (λ (v : Vec X). length v.items) xs
-    → length ys ≡ length xs
-lists_same [] [] e = refl
-lists_same [] (b ∷ ys) e = absurd (let f = ap length e in omega arith)
-lists_same (a ∷ xs) [] e = absurd (let f = ap length e in omega arith)
-lists_same (a ∷ xs) (b ∷ ys) e = ap suc (lists_same xs ys (ap (λ ns. drop 1 ns) e))
-
--- one number more
-range_on : (a n : ℕ) → range_with_len a (n + 1) ≡ range_with_len a n ++ (a + n) ∷ []
-range_on a zero = ap (λ (k : ℕ). k ∷ []) (omega arith)
-range_on a (suc n) =
-    let more : range_with_len a (suc n + 1) ≡ a ∷ range_with_len (a + 1) (n + 1) = ap (range_with_len a) (let e : suc n + 1 ≡ suc (n + 1) = omega arith in e) in
-    more ∙ ap (λ (ks : List ℕ). a ∷ ks) (range_on (a + 1) n ∙ ap (λ (k : ℕ). range_with_len (a + 1) n ++ k ∷ []) (omega arith))
-
-pub range_more : (n : ℕ) → range_with_len 0 (n + 1) ≡ range_with_len 0 n ++ n ∷ []
-range_more n = range_on 0 n ∙ ap (λ (k : ℕ). range_with_len 0 n ++ k ∷ []) (omega arith)

@@ -1,10 +1,11 @@
 -- A writer at rest that goes on with more nodes.
 use Rattle.std.proofs.Common.{◌≡◌, ℕ, ◌+◌, ◌*◌, ◌≤◌, false, List, [], length, take, None, refl, sym, ◌∙◌, ap, subst, arith}
-use Rattle.std.specs.Prelude.{Result, Ok, Err, IfOk, OnErr, nat_lt, ◌==◌}
+use Rattle.std.specs.Prelude.{Result, Ok, Err, IfOk, OnErr, nat_lt, ◌==◌, All}
 use Rattle.std.proofs.lemmas.Bool.{ltb-false, le-ltb}
 use Rattle.std.proofs.lemmas.Bool.Decides.{nat_tests}
 use Rattle.order_laws.specs.declared.items.Item.{Item}
 use Rattle.order_laws.specs.Orders.{Order, half_open}
+use Rattle.order_laws.proofs.Numbers.{eqb-false_wider, ltb-false_wider}
 use Rattle.atomic_table.specs.Seated.{TableId}
 use Rattle.word_arena.specs.declared.layouts.Layout.{Layout}
 use Rattle.word_arena.specs.Layouts.{capacity_of, limit_of}
@@ -20,30 +21,23 @@ use Rattle.latch_table.specs.Enlarging.{Enlarges}
 use Rattle.shared_lookup.specs.Ledgers.{LedgerState, AreAccepted, IsResting, ledger_state}
 use Rattle.shared_lookup.specs.Enlarging.{enlarged_ledger}
 
-not_below : (n n' a b : ℕ) → n ≤ n' → a ≡ b → nat_lt n a ≡ false → nat_lt n' b ≡ false
-not_below n n' a b more same e =
-    le-ltb n' b (let f = ltb-false n a e in omega (arith, f, more, same))
-
-not_full : (n n' a : ℕ) → n ≤ n' → a ≤ n → (a == n) ≡ false → (a == n') ≡ false
-not_full n n' a more few e = grind (arith, nat_tests)
-
 -- an update that nothing stands against, where there is no more than n items, is not refused with
 -- more nodes and a greater limit
 pub none_wider : {K : Type 0} (o : Order K) (n n' limit limit' seq : ℕ) (table : List Item) (u : Update) → n ≤ n' → limit ≤ limit' → length table ≤ n
     → refuses o n limit false table seq u ≡ None → refuses o n' limit' false table seq u ≡ None
 none_wider o n n' limit limit' seq table (Insert i) more later few e =
     let h = none_holds (all_tests o n limit false table seq (Insert i)) e in
-    let f = not_full n n' (length table) more few h.1.1.1.0 in
-    let s = not_below limit limit' (seq + 2) (seq + 2) later refl h.1.1.1.1.0 in
+    let f = eqb-false_wider n n' (length table) more few h.1.1.1.0 in
+    let s = ltb-false_wider limit limit' (seq + 2) (seq + 2) later refl h.1.1.1.1.0 in
     rw (h.1.0, h.1.1.0, f, s) refl
 none_wider o n n' limit limit' seq table (Erase a) more later few e =
     let h = none_holds (all_tests o n limit false table seq (Erase a)) e in
-    let s = not_below limit limit' (seq + 2) (seq + 2) later refl h.1.1.0 in
+    let s = ltb-false_wider limit limit' (seq + 2) (seq + 2) later refl h.1.1.0 in
     rw (h.1.0, s) refl
 none_wider o n n' limit limit' seq table (Batch erase insert) more later few e =
     let h = none_holds (all_tests o n limit false table seq (Batch erase insert)) e in
-    let f = not_below n n' (length table + length insert) (length table + length insert) more refl h.1.1.1.1.0 in
-    let s = not_below limit limit' (seq + 2) (seq + 2) later refl h.1.1.1.1.1.0 in
+    let f = ltb-false_wider n n' (length table + length insert) (length table + length insert) more refl h.1.1.1.1.0 in
+    let s = ltb-false_wider limit limit' (seq + 2) (seq + 2) later refl h.1.1.1.1.1.0 in
     rw (h.1.0, h.1.1.0, h.1.1.1.0, f, s) refl
 
 -- a log stays accepted with more nodes and a greater limit

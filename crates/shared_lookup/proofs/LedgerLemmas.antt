@@ -1,9 +1,10 @@
 -- A writer at rest, before an update and after it.
-use Rattle.std.proofs.Common.{◌≡◌, ℕ, suc, zero, ◌+◌, ◌*◌, ◌<◌, List, [], ◌∷◌, ◌++◌, length, take, Option, Some, None, refl, sym, ◌∙◌, ap, subst, inl, inr, ⊎_elim, arith}
-use Rattle.std.specs.Prelude.{◌⊎◌, IfOk, OnErr, is_some, slice_get, Result, Ok, Err}
+use Rattle.std.proofs.Common.{◌≡◌, ℕ, ◌+◌, ◌*◌, List, [], ◌∷◌, ◌++◌, length, take, Option, None, sym, ◌∙◌, ap, subst, ⊎_elim, arith}
+use Rattle.std.specs.Prelude.{IfOk, OnErr, is_some, Result, Ok, Err}
 use Rattle.std.proofs.lemmas.List.{take-append-le, take_all}
 use Rattle.order_laws.specs.declared.refusals.Refusal.{Refusal}
 use Rattle.order_laws.specs.Orders.{half_open}
+use Rattle.order_laws.proofs.Lists.{slice_get-push_cases}
 use Rattle.word_arena.specs.Words.{at}
 use Rattle.latch_core.specs.declared.updates.Update.{Update}
 use Rattle.latch_core.specs.Updates.{refuses}
@@ -11,15 +12,6 @@ use Rattle.latch_core.specs.Latches.{Hand}
 use Rattle.latch_core.specs.Invariants.{IsSound, IsInHand}
 use Rattle.latch_table.specs.Writers.{WriterState, why}
 use Rattle.shared_lookup.specs.Ledgers.{LedgerState, AreAccepted, CarriesOut, IsResting, ledger_state, sequence_of, why_not, with_entry}
-
--- an entry of a list with one more at its end
-pub get_snoc : {X : Type 0} (xs : List X) (u v : X) (j : ℕ) → slice_get (xs ++ u ∷ []) j ≡ Some v
-    → ((j < length xs) × (slice_get xs j ≡ Some v)) ⊎ ((j ≡ length xs) × (u ≡ v))
-get_snoc [] u v zero e = inr (refl, cc)
-get_snoc [] u v (suc j) e = absurd cc
-get_snoc (x ∷ xs) u v zero e = inl (omega arith, e)
-get_snoc (x ∷ xs) u v (suc j) e =
-    ⊎_elim (λ k. inl (let l = k.0 in omega arith, k.1)) (λ k. inr (ap suc k.0, k.1)) (get_snoc xs u v j e)
 
 -- a log stays accepted with an update that nothing stands against
 pub accepted_entry : (l : LedgerState) (u : Update) → AreAccepted l → why_not l u ≡ None → AreAccepted (with_entry u l)
@@ -32,7 +24,7 @@ accepted_entry l u all none j v e =
     let first : take j (l.log ++ u ∷ []) ≡ l.log =
     take-append-le j l.log (u ∷ []) (let h = k.0 in omega arith) ∙ take_all j l.log (let h = k.0 in omega arith) in
     subst (λ (us : List Update). why_not (record l { log = us }) v ≡ None) (sym first) (subst (λ (x : Update). why_not l x ≡ None) k.1 none))
-    (get_snoc l.log u v j e)
+    (slice_get-push_cases l.log u v j e)
 
 module _ (w : WriterState) (resting : IsResting w) (sound : IsSound half_open w.capacity (2 * w.base) w.history w.latch) where
   sequence_is : at w.latch.words 0 ≡ sequence_of (ledger_state w)

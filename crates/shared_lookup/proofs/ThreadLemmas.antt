@@ -1,26 +1,14 @@
 -- Lists of threads, one thread more at a time.
-use Rattle.std.proofs.Common.{◌≡◌, ℕ, zero, suc, ◌+◌, ◌<◌, Bool, List, [], ◌∷◌, ◌++◌, length, take, get_or, Some, refl, sym, ◌∙◌, ap, subst, ⊎_elim, arith, length-append}
-use Rattle.std.specs.Prelude.{slice_get}
+use Rattle.std.proofs.Common.{◌≡◌, ℕ, ◌+◌, ◌<◌, Bool, List, [], ◌∷◌, ◌++◌, length, take, get_or, sym, ◌∙◌, ap, subst, ⊎_elim, arith, length-append}
 use Rattle.std.specs.Global.{Vec}
 use Rattle.std.proofs.lemmas.List.{take_more, length-take-le}
 use Rattle.std.proofs.lemmas.Option.{get_or_from_slice_get}
+use Rattle.order_laws.proofs.Lists.{slice_get-between, slice_get-push_cases, slice_get_some}
+use Rattle.order_laws.proofs.Pairs.{both_pushed}
 use Rattle.shared_lookup.specs.declared.served.Answer.{Answer}
 use Rattle.shared_lookup.specs.declared.threads.ReaderThread.{ReaderThread}
 use Rattle.shared_lookup.specs.Servings.{AreAnswered, EachIsAnswered}
 use Rattle.shared_lookup.specs.Threads.{AreReading}
-use Rattle.shared_lookup.proofs.LedgerLemmas.{get_snoc}
-
-pub both_more : {A B : Type 0} (P : ℕ → A → B → Type 0) (xs : List A) (ys : List B) (x : A) (y : B) → length ys ≡ length xs
-    → ((i : ℕ) (a : A) (b : B) → slice_get xs i ≡ Some a → slice_get ys i ≡ Some b → P i a b) → P (length xs) x y
-    → (i : ℕ) (a : A) (b : B) → slice_get (xs ++ x ∷ []) i ≡ Some a → slice_get (ys ++ y ∷ []) i ≡ Some b → P i a b
-both_more P xs ys x y same each last i a b ea eb =
-    ⊎_elim
-    (λ p. ⊎_elim (λ q. each i a b p.1 q.1) (λ q. absurd (let l = p.0 in let m = q.0 in omega arith)) (get_snoc ys y b i eb))
-    (λ p. ⊎_elim
-    (λ q. absurd (let l = p.0 in let m = q.0 in omega arith))
-    (λ q. subst (λ k. P k a b) (sym p.0) (subst (λ z. P (length xs) z b) p.1 (subst (λ z. P (length xs) x z) q.1 last)))
-    (get_snoc ys y b i eb))
-    (get_snoc xs x a i ea)
 
 -- the thread of one list of keys more
 pub reading_more : (keys : List (Vec ℕ)) (i : ℕ) (list : Vec ℕ) (rs : List ReaderThread) (r : ReaderThread) → i < length keys → list ≡ get_or keys i list
@@ -30,7 +18,7 @@ reading_more keys i list rs r less is all count er ek =
     subst (λ (ks : List (Vec ℕ)). AreReading ks (rs ++ r ∷ [])) (sym some)
     (record {
       same = length-append rs (r ∷ []) ∙ (let s = all.same in omega (arith, s)) ∙ sym (length-append (take i keys) (list ∷ []));
-      each = both_more (λ place (k : Vec ℕ) (t : ReaderThread). (t.reader ≡ place) × (t.keys.now ≡ k.items)) (take i keys) rs list r all.same all.each
+      each = both_pushed (λ place (k : Vec ℕ) (t : ReaderThread). (t.reader ≡ place) × (t.keys.now ≡ k.items)) (take i keys) rs list r all.same all.each
           (er ∙ (let s = all.same in omega (arith, s, count)), ek);
     })
 
@@ -45,9 +33,9 @@ answered_more keys list answers found ended end all last =
       each = λ i k f e ek ef ee.
           ⊎_elim
           (λ p. ⊎_elim
-          (λ q. ⊎_elim (λ s. all.each i k f e p.1 q.1 s.1) (λ s. absurd (let l = p.0 in let m = s.0 in let n = all.told in omega arith)) (get_snoc ended end e i ee))
+          (λ q. ⊎_elim (λ s. all.each i k f e p.1 q.1 s.1) (λ s. absurd (let l = p.0 in let m = s.0 in let n = all.told in omega arith)) (slice_get-push_cases ended end e i ee))
           (λ q. absurd (let l = p.0 in let m = q.0 in let n = all.same in omega arith))
-          (get_snoc answers found f i ef))
+          (slice_get-push_cases answers found f i ef))
           (λ p. ⊎_elim
           (λ q. absurd (let l = p.0 in let m = q.0 in let n = all.same in omega arith))
           (λ q. ⊎_elim
@@ -57,20 +45,10 @@ answered_more keys list answers found ended end all last =
           (subst (λ (z : Vec ℕ). AreAnswered (length keys) z.items f.items e) p.1
           (subst (λ (z : Vec Answer). AreAnswered (length keys) list.items z.items e) q.1
           (subst (λ z. AreAnswered (length keys) list.items found.items z) s.1 last))))
-          (get_snoc ended end e i ee))
-          (get_snoc answers found f i ef))
-          (get_snoc keys list k i ek);
+          (slice_get-push_cases ended end e i ee))
+          (slice_get-push_cases answers found f i ef))
+          (slice_get-push_cases keys list k i ek);
     }
-
--- there is an entry at a place within a list
-entry_at : {X : Type 0} (xs : List X) (i : ℕ) → i < length xs → (x : X) × (slice_get xs i ≡ Some x)
-entry_at [] i l = absurd (omega arith)
-entry_at (x ∷ xs) zero l = (x, refl)
-entry_at (x ∷ xs) (suc i) l = entry_at xs i (omega arith)
-
-entry_between : {X : Type 0} (xs ys : List X) (y : X) → slice_get (xs ++ y ∷ ys) (length xs) ≡ Some y
-entry_between [] ys y = refl
-entry_between (x ∷ xs) ys y = entry_between xs ys y
 
 -- one thread more has come back
 pub joined_more : (keys : List (Vec ℕ)) (done rest : List ReaderThread) (r : ReaderThread) (answers : List (Vec Answer)) (found : Vec Answer) (ended : List Bool) (end : Bool)
@@ -80,9 +58,9 @@ pub joined_more : (keys : List (Vec ℕ)) (done rest : List ReaderThread) (r : R
 joined_more keys done rest r answers found ended end reading all last =
     let n = length done in
     let less : n < length keys = (let s = reading.same in let m = length-append done (r ∷ rest) in omega (arith, s, m)) in
-    let e = entry_at keys n less in
+    let e = slice_get_some keys n less in
     let list = e.0 in
-    let of = reading.each n list r e.1 (entry_between done rest r) in
+    let of = reading.each n list r e.1 (slice_get-between done rest r) in
     let some : take (n + 1) keys ≡ take n keys ++ list ∷ [] =
     take_more keys n list less ∙ ap (λ (k : Vec ℕ). take n keys ++ k ∷ []) (get_or_from_slice_get keys n list list e.1) in
     let more : take (length (done ++ r ∷ [])) keys ≡ take n keys ++ list ∷ [] =

@@ -1,37 +1,26 @@
 -- What is found for an address, by places.
-use Rattle.std.proofs.Common.{◌≡◌, ℕ, ◌-◌, ◌<◌, ◌≤◌, ◌⊎◌, Bool, true, false, ◌&&◌, ◌||◌, nat_lt, nat_le, cond, zero, suc, List, [], ◌∷◌, length, get_or, Some, None, Option, refl, sym, ap, ◌∙◌, inl, inr, ⊎_elim, arith}
+use Rattle.std.proofs.Common.{◌≡◌, ℕ, ◌-◌, ◌<◌, ◌≤◌, Bool, true, false, ◌&&◌, ◌||◌, nat_lt, nat_le, cond, zero, suc, List, [], ◌∷◌, length, get_or, Some, None, Option, refl, sym, ap, ◌∙◌, inl, inr, ⊎_elim, arith}
 use Rattle.std.specs.Prelude.{All, Contains, MatchOption, find, slice_get, unwrap_or}
 use Rattle.std.specs.List.{list_all, list_any}
 use Rattle.std.specs.Option.{option_map}
-use Rattle.std.proofs.lemmas.Bool.{cases_Bool, cases_lt, false≢true, false_from_ne_true}
-use Rattle.std.proofs.lemmas.Bool.Decides.{nat_tests}
+use Rattle.std.proofs.lemmas.Bool.{cases_Bool, cases_lt, false≢true, and_from, and_parts, le-leb, leb-true, lt-ltb, ltb-true}
 use Rattle.std.proofs.lemmas.Option.{get_or_from_slice_get, slice_get-get_or, slice_get_within}
-use Rattle.std.proofs.lemmas.List.Elements.{All-contains, All-cons, All-nil}
+use Rattle.std.proofs.lemmas.List.Elements.{All-contains, All-cons}
 use Rattle.std.proofs.lemmas.List.Folds.{list_any_at}
 use Rattle.std.proofs.lemmas.List.Sums.{AllPass-from_list_all, list_all-from_AllPass}
+use Rattle.order_laws.proofs.Bools.{left_of_or, or_from_cases}
+use Rattle.order_laws.proofs.Members.{Contains-slice_get, Contains-head, Contains-rest}
+use Rattle.order_laws.proofs.Numbers.{le_or_past_cases, least_above_cases}
+use Rattle.order_laws.proofs.Tests.{All-from_find, All-from_list_any, find-passes}
 use Rattle.modules.specs.Around.{is_nearest, is_next, symbol_below}
 use Rattle.modules.specs.Entries.{SymbolEntry}
 use Rattle.symbols.specs.Found.{IsFound, Reaches, found_at, found_in}
-use Rattle.symbols.proofs.Nearest.{find_passes}
 
 -- of the elements that pass, one of the least measure
 pub record IsLeast {A : Type 0} (passes : A → Bool) (measure : A → ℕ) (xs : List A) (x : A) : Type 0 where
   pub there : Contains xs x
   pub passing : passes x ≡ true
   pub least : All (λ y. passes y ≡ true → measure x ≤ measure y) xs
-
-in_rest : {A : Type 0} (x : A) (xs : List A) (y : A) → Contains xs y → Contains (x ∷ xs) y
-in_rest x xs y there = (suc there.0, omega (arith, there.1), there.2)
-
-in_front : {A : Type 0} (x : A) (xs : List A) → Contains (x ∷ xs) x
-in_front x xs = (0, omega arith, refl)
-
-none_pass : {A : Type 0} (p : A → Bool) (xs : List A) → list_any p xs ≡ false → All (λ y. p y ≡ false) xs
-none_pass p xs none = λ k d lt. false_from_ne_true (p (get_or xs k d)) (λ yes. let some : list_any p xs ≡ true = list_any_at p xs k d lt yes in cc)
-
-or_first : (a b : Bool) → (a || b) ≡ true → b ≡ false → a ≡ true
-or_first true b h k = refl
-or_first false b h k = absurd (cc)
 
 pub least_in : {A : Type 0} (p : A → Bool) (m : A → ℕ) (xs : List A) → list_any p xs ≡ true → (x : A) × IsLeast p m xs x
 least_in p m [] some = absurd (cc)
@@ -44,7 +33,7 @@ least_in p m (x ∷ xs) some =
     (λ less. (
       x,
       record {
-        there = in_front x xs;
+        there = Contains-head x x xs refl;
         passing = yes;
         least = All-cons (λ y. p y ≡ true → m x ≤ m y) x xs (λ _. omega arith) (λ k d lt passes. let b : m best.0 ≤ m (get_or xs k d) = best.1.least k d lt passes in omega arith);
       },
@@ -52,7 +41,7 @@ least_in p m (x ∷ xs) some =
     (λ least. (
       best.0,
       record {
-        there = in_rest x xs best.0 best.1.there;
+        there = Contains-rest x best.0 xs best.1.there;
         passing = best.1.passing;
         least = All-cons (λ y. p y ≡ true → m best.0 ≤ m y) x xs (λ _. least) best.1.least;
       },
@@ -61,7 +50,7 @@ least_in p m (x ∷ xs) some =
     (λ no. (
       best.0,
       record {
-        there = in_rest x xs best.0 best.1.there;
+        there = Contains-rest x best.0 xs best.1.there;
         passing = best.1.passing;
         least = All-cons (λ y. p y ≡ true → m best.0 ≤ m y) x xs (λ yes. absurd (cc)) best.1.least;
       },
@@ -70,9 +59,9 @@ least_in p m (x ∷ xs) some =
     (λ none. (
       x,
       record {
-        there = in_front x xs;
-        passing = or_first (p x) (list_any p xs) some none;
-        least = All-cons (λ y. p y ≡ true → m x ≤ m y) x xs (λ _. omega arith) (λ k d lt passes. let fails : p (get_or xs k d) ≡ false = none_pass p xs none k d lt in absurd (cc));
+        there = Contains-head x x xs refl;
+        passing = left_of_or (p x) (list_any p xs) some none;
+        least = All-cons (λ y. p y ≡ true → m x ≤ m y) x xs (λ _. omega arith) (λ k d lt passes. let fails : p (get_or xs k d) ≡ false = All-from_list_any p xs none k d lt in absurd (cc));
       },
     ))
     (cases_Bool (list_any p xs))
@@ -103,43 +92,7 @@ find_place p (y ∷ ys) x h =
     before_rest p y ys k first others zero d lt = first
     before_rest p y ys k first others (suc j) d lt = others j d (omega arith)
 
-pub find_nowhere : {A : Type 0} (p : A → Bool) (xs : List A) → find p xs ≡ None → All (λ x. p x ≡ false) xs
-find_nowhere p [] h = All-nil (λ x. p x ≡ false)
-find_nowhere p (y ∷ ys) h =
-    elim (p y) as (λ b. p y ≡ b → cond b (Some y) (find p ys) ≡ None → All (λ x. p x ≡ false) (y ∷ ys)) [
-      | true ↦ λ _ is. absurd (cc)
-      | false ↦ λ fails rest. All-cons (λ x. p x ≡ false) y ys fails (find_nowhere p ys rest)
-    ] refl h
-
-contains_at : {A : Type 0} (xs : List A) (k : ℕ) (x : A) → slice_get xs k ≡ Some x → Contains xs x
-contains_at xs k x at = (k, slice_get_within xs k x at, get_or_from_slice_get xs k x x at)
-
 -- ---- of symbols
-
-le_true : (a b : ℕ) → a ≤ b → nat_le a b ≡ true
-le_true a b h = grind (arith, nat_tests)
-
-le_from : (a b : ℕ) → nat_le a b ≡ true → a ≤ b
-le_from a b h = grind (arith, nat_tests)
-
-lt_true : (a b : ℕ) → a < b → nat_lt a b ≡ true
-lt_true a b h = grind (arith, nat_tests)
-
-lt_from : (a b : ℕ) → nat_lt a b ≡ true → a < b
-lt_from a b h = grind (arith, nat_tests)
-
-either_true : (a b : Bool) → (a ≡ true) ⊎ (b ≡ true) → (a || b) ≡ true
-either_true true b h = refl
-either_true false b h = ⊎_elim (λ k. absurd (cc)) (λ k. k) h
-
-both_true : (a b : Bool) → a ≡ true → b ≡ true → (a && b) ≡ true
-both_true a b h k = rw (h, k)
-
-one_of : (t s q : ℕ) → (nat_le t s || nat_lt q t) ≡ true → (t ≤ s) ⊎ (q < t)
-one_of t s q h = ⊎_elim (λ over. inr over) (λ under. inl (grind (arith, nat_tests))) (cases_lt q t)
-
-other_of : (u t s : ℕ) → (nat_le u s || nat_le t u) ≡ true → (u ≤ s) ⊎ (t ≤ u)
-other_of u t s h = ⊎_elim (λ over. inr (grind (arith, nat_tests))) (λ under. inl under) (cases_lt s u)
 
 -- where nothing is found, all symbols lie above the address
 all_above : (symbols : List SymbolEntry) (addr : ℕ) → symbol_below symbols addr ≡ None → All (λ s. addr < s.addr) symbols
@@ -147,16 +100,16 @@ all_above symbols addr none = λ k d lt.
     ⊎_elim
     (λ over. over)
     (λ under.
-    let some : list_any (λ (s : SymbolEntry). nat_le s.addr addr) symbols ≡ true = list_any_at (λ (s : SymbolEntry). nat_le s.addr addr) symbols k d lt (le_true (get_or symbols k d).addr addr under) in
+    let some : list_any (λ (s : SymbolEntry). nat_le s.addr addr) symbols ≡ true = list_any_at (λ (s : SymbolEntry). nat_le s.addr addr) symbols k d lt (le-leb (get_or symbols k d).addr addr under) in
     let best = least_in (λ (s : SymbolEntry). nat_le s.addr addr) (λ (s : SymbolEntry). addr - s.addr) symbols some in
-    let low : best.0.addr ≤ addr = le_from best.0.addr addr best.1.passing in
-    let near : is_nearest symbols addr best.0 ≡ true = both_true (nat_le best.0.addr addr) (list_all (λ (t : SymbolEntry). nat_le t.addr best.0.addr || nat_lt addr t.addr) symbols) best.1.passing (list_all-from_AllPass (λ (t : SymbolEntry). nat_le t.addr best.0.addr || nat_lt addr t.addr) symbols (λ j e l. ⊎_elim
-    (λ above. either_true (nat_le (get_or symbols j e).addr best.0.addr) (nat_lt addr (get_or symbols j e).addr) (inr (lt_true addr (get_or symbols j e).addr above)))
+    let low : best.0.addr ≤ addr = leb-true best.0.addr addr best.1.passing in
+    let near : is_nearest symbols addr best.0 ≡ true = and_from (nat_le best.0.addr addr) (list_all (λ (t : SymbolEntry). nat_le t.addr best.0.addr || nat_lt addr t.addr) symbols) best.1.passing (list_all-from_AllPass (λ (t : SymbolEntry). nat_le t.addr best.0.addr || nat_lt addr t.addr) symbols (λ j e l. ⊎_elim
+    (λ above. or_from_cases (nat_le (get_or symbols j e).addr best.0.addr) (nat_lt addr (get_or symbols j e).addr) (inr (lt-ltb addr (get_or symbols j e).addr above)))
     (λ below.
-    let less : addr - best.0.addr ≤ addr - (get_or symbols j e).addr = best.1.least j e l (le_true (get_or symbols j e).addr addr below) in
-    either_true (nat_le (get_or symbols j e).addr best.0.addr) (nat_lt addr (get_or symbols j e).addr) (inl (le_true (get_or symbols j e).addr best.0.addr (omega arith))))
+    let less : addr - best.0.addr ≤ addr - (get_or symbols j e).addr = best.1.least j e l (le-leb (get_or symbols j e).addr addr below) in
+    or_from_cases (nat_le (get_or symbols j e).addr best.0.addr) (nat_lt addr (get_or symbols j e).addr) (inl (le-leb (get_or symbols j e).addr best.0.addr (omega arith))))
     (cases_lt addr (get_or symbols j e).addr))) in
-    let far : is_nearest symbols addr best.0 ≡ false = All-contains (λ (s : SymbolEntry). is_nearest symbols addr s ≡ false) symbols best.0 (find_nowhere (is_nearest symbols addr) symbols none) best.1.there in
+    let far : is_nearest symbols addr best.0 ≡ false = All-contains (λ (s : SymbolEntry). is_nearest symbols addr s ≡ false) symbols best.0 (All-from_find (is_nearest symbols addr) symbols none) best.1.there in
     absurd (cc))
     (cases_lt addr (get_or symbols k d).addr)
 
@@ -165,30 +118,26 @@ none_over : (symbols : List SymbolEntry) (addr : ℕ) → find (is_next symbols 
 none_over symbols addr none = λ k d lt.
     ⊎_elim
     (λ over.
-    let some : list_any (λ (s : SymbolEntry). nat_lt addr s.addr) symbols ≡ true = list_any_at (λ (s : SymbolEntry). nat_lt addr s.addr) symbols k d lt (lt_true addr (get_or symbols k d).addr over) in
+    let some : list_any (λ (s : SymbolEntry). nat_lt addr s.addr) symbols ≡ true = list_any_at (λ (s : SymbolEntry). nat_lt addr s.addr) symbols k d lt (lt-ltb addr (get_or symbols k d).addr over) in
     let best = least_in (λ (s : SymbolEntry). nat_lt addr s.addr) (λ (s : SymbolEntry). s.addr) symbols some in
-    let next : is_next symbols addr best.0 ≡ true = both_true (nat_lt addr best.0.addr) (list_all (λ (t : SymbolEntry). nat_le t.addr addr || nat_le best.0.addr t.addr) symbols) best.1.passing (list_all-from_AllPass (λ (t : SymbolEntry). nat_le t.addr addr || nat_le best.0.addr t.addr) symbols (λ j e l. ⊎_elim
+    let next : is_next symbols addr best.0 ≡ true = and_from (nat_lt addr best.0.addr) (list_all (λ (t : SymbolEntry). nat_le t.addr addr || nat_le best.0.addr t.addr) symbols) best.1.passing (list_all-from_AllPass (λ (t : SymbolEntry). nat_le t.addr addr || nat_le best.0.addr t.addr) symbols (λ j e l. ⊎_elim
     (λ above.
-    let least : best.0.addr ≤ (get_or symbols j e).addr = best.1.least j e l (lt_true addr (get_or symbols j e).addr above) in
-    either_true (nat_le (get_or symbols j e).addr addr) (nat_le best.0.addr (get_or symbols j e).addr) (inr (le_true best.0.addr (get_or symbols j e).addr least)))
-    (λ below. either_true (nat_le (get_or symbols j e).addr addr) (nat_le best.0.addr (get_or symbols j e).addr) (inl (le_true (get_or symbols j e).addr addr below)))
+    let least : best.0.addr ≤ (get_or symbols j e).addr = best.1.least j e l (lt-ltb addr (get_or symbols j e).addr above) in
+    or_from_cases (nat_le (get_or symbols j e).addr addr) (nat_le best.0.addr (get_or symbols j e).addr) (inr (le-leb best.0.addr (get_or symbols j e).addr least)))
+    (λ below. or_from_cases (nat_le (get_or symbols j e).addr addr) (nat_le best.0.addr (get_or symbols j e).addr) (inl (le-leb (get_or symbols j e).addr addr below)))
     (cases_lt addr (get_or symbols j e).addr))) in
-    let not_next : is_next symbols addr best.0 ≡ false = All-contains (λ (s : SymbolEntry). is_next symbols addr s ≡ false) symbols best.0 (find_nowhere (is_next symbols addr) symbols none) best.1.there in
+    let not_next : is_next symbols addr best.0 ≡ false = All-contains (λ (s : SymbolEntry). is_next symbols addr s ≡ false) symbols best.0 (All-from_find (is_next symbols addr) symbols none) best.1.there in
     absurd (cc))
     (λ under. under)
     (cases_lt addr (get_or symbols k d).addr)
-
-and_parts : (a b : Bool) → (a && b) ≡ true → (a ≡ true) × (b ≡ true)
-and_parts true b h = (refl, h)
-and_parts false b h = absurd (cc)
 
 reach_of : (symbols : List SymbolEntry) (end : ℕ) (s : SymbolEntry) (o : Option SymbolEntry) → find (is_next symbols s.addr) symbols ≡ o → Reaches symbols end s (unwrap_or (option_map (λ (t : SymbolEntry). t.addr) o) end - s.addr)
 reach_of symbols end s None none = inl (none_over symbols s.addr none, refl)
 reach_of symbols end s (Some t) is =
     let there = find_place (is_next symbols s.addr) symbols t is in
-    let passes = and_parts (nat_lt s.addr t.addr) (list_all (λ (u : SymbolEntry). nat_le u.addr s.addr || nat_le t.addr u.addr) symbols) (find_passes (is_next symbols s.addr) symbols t is) in
+    let passes = and_parts (nat_lt s.addr t.addr) (list_all (λ (u : SymbolEntry). nat_le u.addr s.addr || nat_le t.addr u.addr) symbols) (find-passes (is_next symbols s.addr) symbols t is) in
     let others = AllPass-from_list_all (λ (u : SymbolEntry). nat_le u.addr s.addr || nat_le t.addr u.addr) symbols passes.1 in
-    inr (t, contains_at symbols there.0 t there.1.at, lt_from s.addr t.addr passes.0, (λ k d lt. other_of (get_or symbols k d).addr t.addr s.addr (others k d lt)), refl)
+    inr (t, Contains-slice_get symbols there.0 t there.1.at, ltb-true s.addr t.addr passes.0, (λ k d lt. least_above_cases (get_or symbols k d).addr t.addr s.addr (others k d lt)), refl)
 
 pub found_by_place : (symbols : List SymbolEntry) (end addr : ℕ) → MatchOption (found_in symbols end addr) (All (λ s. addr < s.addr) symbols) (IsFound symbols end addr)
 found_by_place symbols end addr =
@@ -196,15 +145,15 @@ found_by_place symbols end addr =
       | None ↦ λ none. all_above symbols addr none
       | Some s ↦ λ is.
           let there = find_place (is_nearest symbols addr) symbols s is in
-          let yes : is_nearest symbols addr s ≡ true = find_passes (is_nearest symbols addr) symbols s is in
+          let yes : is_nearest symbols addr s ≡ true = find-passes (is_nearest symbols addr) symbols s is in
           let passes = and_parts (nat_le s.addr addr) (list_all (λ (t : SymbolEntry). nat_le t.addr s.addr || nat_lt addr t.addr) symbols) yes in
           let others = AllPass-from_list_all (λ (t : SymbolEntry). nat_le t.addr s.addr || nat_lt addr t.addr) symbols passes.1 in
           let test : ℕ → Bool = λ a. nat_le a addr && list_all (λ (t : SymbolEntry). nat_le t.addr a || nat_lt addr t.addr) symbols in
           record {
             place = there.0;
             listed = there.1.at;
-            below = le_from s.addr addr passes.0;
-            nearest = λ k d lt. one_of (get_or symbols k d).addr s.addr addr (others k d lt);
+            below = leb-true s.addr addr passes.0;
+            nearest = λ k d lt. le_or_past_cases (get_or symbols k d).addr s.addr addr (others k d lt);
             first = λ k d lt same. let no : test (get_or symbols k d).addr ≡ false = there.1.before k d lt in let so : test (get_or symbols k d).addr ≡ test s.addr = ap test same in let sure : test s.addr ≡ true = yes in false≢true (sym no ∙ so ∙ sure);
             offset = refl;
             reaches = reach_of symbols end s (find (is_next symbols s.addr) symbols) refl;

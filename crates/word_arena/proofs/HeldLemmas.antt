@@ -1,20 +1,8 @@
 -- A walk over all of a tree: a link leads to one tree alone, of as many nodes as the walk visits.
 use Rattle.std.proofs.Common.{◌≡◌, ◌≢◌, ℕ, suc, ◌+◌, ◌-◌, ◌<◌, List, [], ◌∷◌, ◌++◌, length, refl, sym, ◌∙◌, ap, subst, append_assoc, length-append, arith}
-use Rattle.std.specs.Prelude.{Result, Option, Ok, Err, Some, None, IfOk, IfSome, IfNone}
 use Rattle.order_laws.specs.declared.items.Item.{Item}
 use Rattle.word_arena.specs.Words.{at, root_word, left_word, right_word, Nodes, none, fork, listed, Leads, HoldsTable}
 use Rattle.word_arena.proofs.HoldsLemmas.{size_items, size_listed}
-
--- what follows of an answer
-pub if_some_more : {T E : Type 0} (r : Result (Option T) E) (P Q : T → Type 0) → ((x : T) → P x → Q x) → IfOk r (λ o. IfSome o P) → IfOk r (λ o. IfSome o Q)
-if_some_more (Ok (Some x)) P Q f h = f x h
-if_some_more (Ok None) P Q f h = tt
-if_some_more (Err e) P Q f h = tt
-
-pub if_none_more : {T E : Type 0} (r : Result (Option T) E) (P Q : Type 0) → (P → Q) → IfOk r (λ o. IfNone o P) → IfOk r (λ o. IfNone o Q)
-if_none_more (Ok (Some x)) P Q f h = tt
-if_none_more (Ok None) P Q f h = f h
-if_none_more (Err e) P Q f h = tt
 
 module _ (m : List ℕ) (n c : ℕ) where
   pub leads_once : (link : ℕ) (t u : Nodes) → Leads m n c link t → Leads m n c link u → t ≡ u

@@ -4,3 +4,4 @@ pub mod HoldsLemmas
 pub mod ReachLemmas
 pub mod HeldLemmas
 pub mod WiderLemmas
+pub mod LinkLemmas

@@ -1,9 +1,10 @@
 -- A walk comes to the nodes of the tree and to no others.
-use Rattle.std.proofs.Common.{◌≡◌, ℕ, suc, ◌<◌, ◌≤◌, List, [], ◌∷◌, ◌++◌, sym, ◌∙◌, subst, inl, inr, ⊎_elim, arith}
+use Rattle.std.proofs.Common.{◌≡◌, ℕ, suc, ◌<◌, ◌≤◌, List, ◌∷◌, sym, ◌∙◌, subst, inl, inr, ⊎_elim, arith}
 use Rattle.std.specs.Prelude.{◌⊎◌, Contains}
 use Rattle.std.specs.List.{AllByRecursion}
 use Rattle.std.proofs.lemmas.List.Elements.{Contains-append_left, Contains-append_right, Contains-append_cases}
-use Rattle.order_laws.proofs.TableLemmas.{members, member_more}
+use Rattle.order_laws.proofs.Each.{all_append}
+use Rattle.order_laws.proofs.Members.{Contains-cons_cases, Contains-rest}
 use Rattle.word_arena.specs.Words.{at, root_word, left_word, right_word, Nodes, none, fork, listed, Leads, Reaches, by_root, by_left, by_right}
 use Rattle.word_arena.specs.Stores.{IsItemWord}
 use Rattle.word_arena.proofs.WordLemmas.{item_not_root, item_not_left, item_not_right}
@@ -48,10 +49,6 @@ reached_in m n copy t h _ (by_root i lt e) = at_top m n copy t _ i h e
 reached_in m n copy t h _ (by_left i j r lt e) = let b = below m n copy t _ i h (reached_in m n copy t h i r) in b.in_left j (at_top m n copy b.l _ j b.leads_left e)
 reached_in m n copy t h _ (by_right i j r lt e) = let b = below m n copy t _ i h (reached_in m n copy t h i r) in b.in_right j (at_top m n copy b.r _ j b.leads_right e)
 
-all_join : {X : Type 0} (P : X → Type 0) (xs ys : List X) → AllByRecursion P xs → AllByRecursion P ys → AllByRecursion P (xs ++ ys)
-all_join P [] ys a b = b
-all_join P (x ∷ xs) ys a b = (a.0, all_join P xs ys a.1 b)
-
 -- a node of the tree is one of those listed, and the other way round
 pub in_listed : (t : Nodes) (i : ℕ) → IsIn t i → Contains (listed t) i
 in_listed none i is = absurd is
@@ -60,7 +57,7 @@ in_listed (fork l j r) i is =
     (λ e. Contains-append_right (listed l) (j ∷ listed r) i (0, omega arith, sym e))
     (⊎_elim
     (λ p. Contains-append_left (listed l) (j ∷ listed r) i (in_listed l i p))
-    (λ p. Contains-append_right (listed l) (j ∷ listed r) i (member_more j i (listed r) (in_listed r i p))))
+    (λ p. Contains-append_right (listed l) (j ∷ listed r) i (Contains-rest j i (listed r) (in_listed r i p))))
     is
 
 pub listed_in : (t : Nodes) (i : ℕ) → Contains (listed t) i → IsIn t i
@@ -68,7 +65,7 @@ listed_in none i is = absurd (omega (arith, is.1))
 listed_in (fork l j r) i is =
     ⊎_elim
     (λ a. inr (inl (listed_in l i a)))
-    (λ b. ⊎_elim (λ e. inl (sym e)) (λ c. inr (inr (listed_in r i c))) (members j i (listed r) b))
+    (λ b. ⊎_elim (λ e. inl (sym e)) (λ c. inr (inr (listed_in r i c))) (Contains-cons_cases j i (listed r) b))
     (Contains-append_cases (listed l) (j ∷ listed r) i is)
 
 -- a walk comes to no node that is not listed
@@ -85,4 +82,4 @@ reach_back m m' n copy node c same _ (by_right i j r lt e) = by_right i j (reach
 pub listed_below : (m : List ℕ) (n copy link : ℕ) (t : Nodes) → Leads m n copy link t → AllByRecursion (λ i. i < n) (listed t)
 listed_below m n copy link none h = tt
 listed_below m n copy link (fork l i r) h =
-    all_join (λ j. j < n) (listed l) (i ∷ listed r) (listed_below m n copy (at m (left_word copy i)) l h.2) (h.1, listed_below m n copy (at m (right_word copy i)) r h.3)
+    all_append (λ j. j < n) (listed l) (i ∷ listed r) (listed_below m n copy (at m (left_word copy i)) l h.2) (h.1, listed_below m n copy (at m (right_word copy i)) r h.3)

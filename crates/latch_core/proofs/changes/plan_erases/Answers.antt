@@ -1,11 +1,11 @@
 use Rattle.std.proofs.Common.{◌≡◌, get_or, true, refl, subst, arith, length-append}
 use Rattle.std.specs.List.{AllByRecursion}
-use Rattle.std.proofs.lemmas.List.{take_all}
+use Rattle.std.proofs.lemmas.List.{take_all, drop_more}
 use Rattle.std.proofs.lemmas.Option.{slice_get_within}
 use Rattle.order_laws.specs.Tables.{has, place_of}
 use Rattle.word_arena.specs.Words.{listed}
 use Rattle.latch_core.specs.Changes.{ErasesAll}
-use Rattle.latch_core.proofs.ChangeLemmas.{drop_here, erasing_none, erasing_step}
+use Rattle.latch_core.proofs.ChangeLemmas.{erasing_none, erasing_step}
 use Rattle.latch_core.proofs.changes.plan_erases.Goals as goal
 
 pub loop-a-init : goal.loop-a-init
@@ -26,7 +26,7 @@ plan_erase-node-requires-clause-list g c =
 
 pub plan_erase-node-requires-clause-pictured : goal.plan_erase-node-requires-clause-pictured
 plan_erase-node-requires-clause-pictured g c =
-    (subst (AllByRecursion (λ b. has b c.loop-a.shape.table ≡ true)) (drop_here c.args.erase.now c.loop-a.a-index 0 c.loop-a-test.true) c.loop-a.invariant.state.there).0
+    (subst (AllByRecursion (λ b. has b c.loop-a.shape.table ≡ true)) (drop_more c.args.erase.now c.loop-a.a-index 0 c.loop-a-test.true) c.loop-a.invariant.state.there).0
 
 pub push_reserved-requires : goal.push_reserved-requires
 push_reserved-requires g c =

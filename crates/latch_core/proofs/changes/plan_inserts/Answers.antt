@@ -1,11 +1,11 @@
 use Rattle.std.proofs.Common.{◌≡◌, ◌<◌, ◌-◌, ◌++◌, length, take, drop, get_or, true, refl, sym, ◌∙◌, ap, subst, arith, length-append}
 use Rattle.std.specs.List.{AllByRecursion}
-use Rattle.std.proofs.lemmas.List.{take_all}
+use Rattle.std.proofs.lemmas.List.{take_all, drop_more}
 use Rattle.order_laws.specs.declared.items.Item.{Item}
 use Rattle.rb_words.specs.Plans.{item_stores}
 use Rattle.latch_core.specs.Changes.{InsertsAll}
 use Rattle.latch_core.proofs.BatchLemmas.{AreOff, no_meeting}
-use Rattle.latch_core.proofs.ChangeLemmas.{drop_here, next_node, inserting_none, inserting_step}
+use Rattle.latch_core.proofs.ChangeLemmas.{next_node, inserting_none, inserting_step}
 use Rattle.latch_core.proofs.changes.plan_inserts.Goals as goal
 
 pub loop-taken-init : goal.loop-taken-init
@@ -56,14 +56,14 @@ plan_insert-requires-clause-free g c =
 pub plan_insert-requires-clause-valid : goal.plan_insert-requires-clause-valid
 plan_insert-requires-clause-valid g c =
     let none : Item = record { a = 0; b = 0; tag = 0 } in
-    let here = drop_here c.args.insert.now c.loop-taken.taken none c.loop-taken-test.true in
+    let here = drop_more c.args.insert.now c.loop-taken.taken none c.loop-taken-test.true in
     (subst (AllByRecursion (λ i. g.O.TreeOrder.order.valid i ≡ true)) here c.loop-taken.invariant.state.valid).0
 
 pub plan_insert-requires-clause-apart : goal.plan_insert-requires-clause-apart
 plan_insert-requires-clause-apart g c =
     let o = g.O.TreeOrder.order in
     let none : Item = record { a = 0; b = 0; tag = 0 } in
-    let here = drop_here c.args.insert.now c.loop-taken.taken none c.loop-taken-test.true in
+    let here = drop_more c.args.insert.now c.loop-taken.taken none c.loop-taken-test.true in
     no_meeting o (get_or c.args.insert.now c.loop-taken.taken none) c.loop-taken.shape.table
     (subst (λ xs. AreOff o xs c.loop-taken.shape.table) here c.loop-taken.invariant.state.off).0
 

@@ -1,10 +1,11 @@
 use Rattle.std.proofs.Common.{◌≡◌, ◌+◌, ◌-◌, ◌<◌, ◌++◌, ◌∷◌, [], length, get_or, take, drop, sym, refl, ◌∙◌, ap, subst, arith, append_assoc}
 use Rattle.std.proofs.lemmas.List.{append-nil}
+use Rattle.order_laws.proofs.Lists.{take-drop_append}
 use Rattle.word_arena.specs.declared.stores.Store.{Store}
 use Rattle.word_arena.specs.Layouts.{capacity_of}
 use Rattle.rb_words.specs.Mirrors.{mirror, mirror_store}
 use Rattle.latch_core.specs.Plans.{flip_to}
-use Rattle.latch_core.proofs.PlanLemmas.{mirror_more, link_fits, links_kept}
+use Rattle.latch_core.proofs.PlanLemmas.{mirror_more, link_fits}
 use Rattle.latch_core.proofs.plans.flip_and_mirror.Goals as goal
 
 pub loop-place-init : goal.loop-place-init
@@ -74,7 +75,7 @@ returns-clause-items c =
     omega (arith, kept.below, c.push_reserved.ensures.len, c.loop-place-test.false, c.len-end.ensures, c.args.stores.now.ok.0) in
     kept.items
     ∙ (λ i. flipped i ++ mirror (take (at_end i - from) (drop from (flipped i))))
-    ∙ ap (λ links. (before ++ flip ∷ []) ++ mirror links) (links_kept before (flip ∷ []) from (omega (arith, c.requires.place, c.args.stores.now.ok.0)))
+    ∙ ap (λ links. (before ++ flip ∷ []) ++ mirror links) (take-drop_append before (flip ∷ []) from (omega (arith, c.requires.place, c.args.stores.now.ok.0)))
     ∙ append_assoc before (flip ∷ []) (mirror (drop from before))
 
 pub returns-clause-len : goal.returns-clause-len

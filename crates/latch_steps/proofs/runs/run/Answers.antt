@@ -1,9 +1,13 @@
 use Rattle.std.proofs.Common.{true, ◌∙◌, ◌++◌, ◌∷◌, [], refl, ap, arith}
 use Rattle.std.proofs.lemmas.List.{take_all}
+use Rattle.order_laws.proofs.Lists.{take_push}
 use Rattle.word_arena.specs.Layouts.{capacity_of}
 use Rattle.latch_steps.specs.Runs.{did, last_of, opening}
 use Rattle.latch_steps.proofs.Promising.{safe_trace, quiet_trace, near_trace}
-use Rattle.latch_steps.proofs.Recording.{records_none, records_append, events_append, trace_of, one_more_taken}
+use Rattle.latch_steps.proofs.Recording.{records_none, records_append, events_append, trace_of, few_done}
+use Rattle.latch_steps.proofs.SafeRuns.{safe}
+use Rattle.latch_steps.proofs.Patient.{quiet, near}
+use Rattle.latch_steps.specs.Near.{AreShallow}
 use Rattle.latch_steps.proofs.runs.run.Goals as goal
 
 pub loop-event-init : goal.loop-event-init
@@ -23,7 +27,7 @@ loop-event-preserved g c =
       h.0 ++ one ∷ [],
       records_append g.O.TreeOrder.order true c.in_ok-recorder.recorder c.loop-event.recorder c.record.new.self w0 h.0 (one ∷ []) h.1 d.1,
       events_append h.0 (one ∷ []) ∙ ap (λ es. es ++ c.event-item.result ∷ []) h.2
-          ∙ one_more_taken c.args.events.now c.loop-event.event-index c.event-item.result (omega arith) c.event-item.is,
+          ∙ take_push c.args.events.now c.loop-event.event-index c.event-item.result (omega arith) c.event-item.is,
     )
 
 pub returns-clause-events : goal.returns-clause-events

@@ -1,7 +1,7 @@
 use Rattle.std.proofs.Common.{[]}
 use Rattle.order_laws.specs.Orders.{half_open}
+use Rattle.order_laws.proofs.HalfOpenLemmas.{found_holds}
 use Rattle.latch_core.specs.Histories.{replay}
-use Rattle.region_index.proofs.Finding.{found_holds}
 use Rattle.latchsym_ffi.proofs.lookups.latchsym_reader_find_name.Goals as goal
 
 pub find_in-result-requires : goal.find_in-result-requires

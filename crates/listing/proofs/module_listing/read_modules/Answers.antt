@@ -1,11 +1,12 @@
 use Rattle.std.proofs.Common.{◌≡◌, ℕ, List, [], ◌∷◌, ◌++◌, length, Ok, Err, refl, sym, ap, subst, ◌∙◌, arith, length-append}
 use Rattle.std.specs.Prelude.{All, true}
+use Rattle.order_laws.proofs.Lists.{moved_over}
 use Rattle.modules.specs.Lines.{fits}
 use Rattle.modules.specs.Listed.{ListedModule}
 use Rattle.listing.specs.Lines.{lines_of}
 use Rattle.listing.specs.ModuleListing.{module_of, modules_in, module_counts, modules_skipped, counts_after}
 use Rattle.listing.specs.declared.module_listing.ModuleCounts.{ModuleCounts}
-use Rattle.listing.proofs.LineCounts.{lines_few, through_more}
+use Rattle.listing.proofs.LineCounts.{lines_few}
 use Rattle.listing.proofs.ModuleLines.{each_once, module_counts_more, module_taken, module_skipped, modules_fit}
 use Rattle.listing.proofs.module_listing.read_modules.Goals as goal
 
@@ -22,7 +23,7 @@ loop-rest-preserved-in_ok-push-in-Ok c =
     let is : module_of line ≡ Ok m = sym c.in-Ok.ensures in
     let same : module_counts done ≡ counts_after (module_counts done) (Ok m) = refl in (
       done ++ line ∷ [],
-      through_more (lines_of c.args.text.now) done (lines_of c.loop-rest.rest.now) (lines_of c.cut_line.result.1.now) line joined c.cut_line.ensures.line,
+      moved_over (lines_of c.args.text.now) done (lines_of c.loop-rest.rest.now) (lines_of c.cut_line.result.1.now) line joined c.cut_line.ensures.line,
       c.in_ok-push-in-Ok.ensures.items ∙ ap (λ (ms : List ListedModule). ms ++ m ∷ []) taken ∙ sym (module_taken done line m is),
       counted ∙ same ∙ ap (counts_after (module_counts done)) (sym is) ∙ sym (module_counts_more done line),
     )
@@ -33,7 +34,7 @@ loop-rest-preserved c =
     let line = c.cut_line.result.0.now in
     let is : module_of line ≡ Err c.in-Err.cause = sym c.in-Err.ensures in (
       done ++ line ∷ [],
-      through_more (lines_of c.args.text.now) done (lines_of c.loop-rest.rest.now) (lines_of c.cut_line.result.1.now) line joined c.cut_line.ensures.line,
+      moved_over (lines_of c.args.text.now) done (lines_of c.loop-rest.rest.now) (lines_of c.cut_line.result.1.now) line joined c.cut_line.ensures.line,
       taken ∙ sym (module_skipped done line c.in-Err.cause is),
       c.count.ensures ∙ ap (λ (n : ModuleCounts). counts_after n (Err c.in-Err.cause)) counted ∙ ap (counts_after (module_counts done)) (sym is) ∙ sym (module_counts_more done line),
     )

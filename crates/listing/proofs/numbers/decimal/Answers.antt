@@ -1,6 +1,7 @@
 use Rattle.std.proofs.Common.{rules, ◌≤◌, ◌+◌, ◌*◌, ◌^◌, ap, sym, ◌∙◌, Some, arith, get_or}
 use Rattle.std.specs.Char.{digit_value, is_digit}
-use Rattle.listing.proofs.Values.{overflows, at_end, all_at_end, is_value}
+use Rattle.order_laws.proofs.Digits.{digits_value_after-end, list_all-end}
+use Rattle.listing.proofs.Values.{overflows, is_value}
 use Rattle.listing.proofs.numbers.decimal.Goals as goal
 
 pub returns-in_err-checked_mul : goal.returns-in_err-checked_mul
@@ -17,6 +18,6 @@ returns-in_err-value c =
 
 pub returns : goal.returns
 returns c =
-    let e = at_end 10 c.loop-byte.value c.loop-byte.byte-index c.args.text.now c.loop-byte-test.false c.loop-byte.invariant.value in
-    let all = all_at_end (λ b. is_digit b 10) c.loop-byte.byte-index c.args.text.now c.loop-byte-test.false c.loop-byte.invariant.tested in
+    let e = digits_value_after-end 10 c.loop-byte.value c.loop-byte.byte-index c.args.text.now c.loop-byte-test.false c.loop-byte.invariant.value in
+    let all = list_all-end (λ b. is_digit b 10) c.loop-byte.byte-index c.args.text.now c.loop-byte-test.false c.loop-byte.invariant.tested in
     ap Some e ∙ sym (is_value 10 20 c.args.text.now (search rules) c.if-text-gt-DECIMAL_DIGITS.false all (omega (arith, e, c.loop-byte.invariant.fits)))

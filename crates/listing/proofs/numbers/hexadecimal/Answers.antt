@@ -1,7 +1,8 @@
 use Rattle.std.proofs.Common.{◌≡◌, ◌<◌, ◌+◌, ◌*◌, ◌^◌, Some, get_or, ap, sym, ◌∙◌, arith, rules}
 use Rattle.std.specs.Char.{digit_value, is_digit}
 use Rattle.std.proofs.lemmas.Grind.{common_steps}
-use Rattle.listing.proofs.Values.{digit_fits, next_digit, at_end, all_at_end, is_value}
+use Rattle.order_laws.proofs.Digits.{digit_fits, digits_value_after-end, list_all-end, next_digit}
+use Rattle.listing.proofs.Values.{is_value}
 use Rattle.listing.proofs.numbers.hexadecimal.Goals as goal
 
 pub overflow_mul-value : goal.overflow_mul-value
@@ -28,6 +29,6 @@ loop-byte-preserved c =
 pub returns : goal.returns
 returns c =
     let i = c.loop-byte.invariant in
-    let e = at_end 16 c.loop-byte.value c.loop-byte.byte-index c.args.text.now c.loop-byte-test.false i.value in
-    let all = all_at_end (λ b. is_digit b 16) c.loop-byte.byte-index c.args.text.now c.loop-byte-test.false i.tested in
+    let e = digits_value_after-end 16 c.loop-byte.value c.loop-byte.byte-index c.args.text.now c.loop-byte-test.false i.value in
+    let all = list_all-end (λ b. is_digit b 16) c.loop-byte.byte-index c.args.text.now c.loop-byte-test.false i.tested in
     ap Some e ∙ sym (is_value 16 16 c.args.text.now (search rules) (omega (arith, i.few)) all (omega (arith, e)))

@@ -3,8 +3,9 @@ use Rattle.std.proofs.lemmas.Bool.{lt-ltb}
 use Rattle.std.specs.Char.{is_digit}
 use Rattle.std.specs.List.{list_all}
 use Rattle.std.specs.Str.Parse.{digits_value}
+use Rattle.order_laws.proofs.Digits.{half_fits}
 use Rattle.listing.specs.Numbers.{numeral}
-use Rattle.listing.proofs.Values.{half_fits, is_sixteen}
+use Rattle.listing.proofs.Values.{is_sixteen}
 use Rattle.listing.proofs.numbers.sixteen_digits.Goals as goal
 
 pub overflow_mul-result : goal.overflow_mul-result

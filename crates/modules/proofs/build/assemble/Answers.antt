@@ -2,6 +2,7 @@ use Rattle.std.proofs.Common.{◌≡◌, ℕ, ◌+◌, ◌-◌, ◌<◌, List, O
 use Rattle.std.specs.Prelude.{IfSome, count_by, is_some}
 use Rattle.std.specs.Int.{from_bool}
 use Rattle.std.specs.List.{flat_map}
+use Rattle.order_laws.proofs.Tests.{count_by-either}
 use Rattle.modules.specs.Accepted.{Accepted, accepted_of, none_yet}
 use Rattle.modules.specs.Admissions.{shown}
 use Rattle.modules.specs.Building.{AreModules}
@@ -11,7 +12,6 @@ use Rattle.modules.specs.Kept.{is_used}
 use Rattle.modules.specs.Lines.{built_in_region, first_address}
 use Rattle.modules.specs.Listed.{ListedRegion}
 use Rattle.modules.specs.Placed.{placed}
-use Rattle.modules.proofs.Counting.{count_by-both}
 use Rattle.modules.proofs.Soundness.{IsGood, accepted_good, built_in_kept, valid_built_in, count_of_regions, kernel_one, IsSound-catalog_of}
 use Rattle.modules.proofs.Makings.{catalog_from, counts_from}
 use Rattle.modules.proofs.build.assemble.Goals as goal
@@ -67,7 +67,7 @@ returns-clause-counted c =
     let a : shown c.in_ok-admission.admission ≡ accepted_of (built_in_region names symbols) regions c.args.modules.now = c.in_ok-admission.ensures.admitted ∙ ap (λ (b : Option (ℕ × ℕ)). accepted_of b regions c.args.modules.now) c.built_in_region-built_in.ensures in
     let used : ℕ = c.used_in-used.result in
     let len : length c.regions.inside.listed.now ≡ length regions = ap (λ (rs : List ListedRegion). length rs) c.regions.view_is in
-    let strays : length c.regions.inside.listed.now - used ≡ count_by (λ r. not (is_used (shown c.in_ok-admission.admission) regions r)) regions = omega (arith, count_by-both (is_used (shown c.in_ok-admission.admission) regions) regions, c.used_in-used.ensures) in
+    let strays : length c.regions.inside.listed.now - used ≡ count_by (λ r. not (is_used (shown c.in_ok-admission.admission) regions r)) regions = omega (arith, count_by-either (is_used (shown c.in_ok-admission.admission) regions) regions, c.used_in-used.ensures) in
     counts_from c.in_ok-admission.admission c.in_ok-gathered.gathered names c.args.modules.now regions symbols c.len.result used (length c.regions.inside.listed.now - used) a c.in_ok-gathered.ensures (c.len.ensures ∙ c.in_ok-admission.admission.modules.ok.0) c.used_in-used.ensures strays
 
 pub returns-clause-sound : goal.returns-clause-sound

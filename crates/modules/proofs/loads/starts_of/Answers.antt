@@ -1,7 +1,8 @@
 use Rattle.std.proofs.Common.{◌≡◌, ℕ, ◌+◌, ◌≤◌, cond, List, [], ◌∷◌, ◌++◌, length, get_or, take, sym, ap, ◌∙◌, arith}
+use Rattle.order_laws.proofs.Lists.{length-picked}
 use Rattle.modules.specs.Starts.{starts_of}
 use Rattle.modules.specs.declared.lines.Part.TheVariants.{Core}
-use Rattle.modules.proofs.Loading.{length_more, starts_more}
+use Rattle.modules.proofs.Loading.{starts_more}
 use Rattle.modules.proofs.loads.starts_of.Goals as goal
 
 pub loop-place-preserved : goal.loop-place-preserved
@@ -25,6 +26,6 @@ loop-place-preserved c =
           ∙ sym (starts_more c.args.core c.args.init regions parts place r Core (omega (arith, c.requires.same)) (omega arith));
       few = let h = ap (λ (xs : List ℕ). length xs) c.push_if.ensures in
           let k : length (before ++ cond wanted (c.start.result ∷ []) []) ≤ length before + 1 =
-          length_more before wanted c.start.result in
+          length-picked before wanted c.start.result in
           omega arith;
     }

@@ -1,8 +1,8 @@
 use Rattle.std.proofs.Common.{[], ◌∷◌, ◌++◌, ap, sym, ◌∙◌, zero-add}
 use Rattle.std.specs.List.{range_with_len}
-use Rattle.modules.proofs.Naming.{range_more}
+use Rattle.order_laws.proofs.Ranges.{range-push}
 use Rattle.modules.proofs.names.places.Goals as goal
 
 pub loop-place-preserved : goal.loop-place-preserved
 loop-place-preserved c =
-    c.in_ok-push.ensures.items ∙ ap (λ xs. xs ++ c.loop-place.place ∷ []) c.loop-place.invariant ∙ ap (λ n. range_with_len 0 c.loop-place.place ++ n ∷ []) (sym (zero-add c.loop-place.place)) ∙ sym (range_more 0 c.loop-place.place)
+    c.in_ok-push.ensures.items ∙ ap (λ xs. xs ++ c.loop-place.place ∷ []) c.loop-place.invariant ∙ ap (λ n. range_with_len 0 c.loop-place.place ++ n ∷ []) (sym (zero-add c.loop-place.place)) ∙ sym (range-push 0 c.loop-place.place)

@@ -1,13 +1,13 @@
 -- The next record in the place, and the stores of its links: the facts of NextSteps at the values
 -- of the calls.
 use Rattle.std.proofs.Common.{◌≡◌, ℕ, ◌+◌, true, [], ◌∷◌, ◌++◌, sym, ◌∙◌, ap, subst, arith, length, length-append}
+use Rattle.order_laws.proofs.Lists.{pushed_between}
 use Rattle.word_arena.specs.Copies.{copy_number}
 use Rattle.word_arena.specs.declared.stores.Store.{Store}
 use Rattle.rb_trees.specs.Trees.{shape}
 use Rattle.rb_trees.specs.Turns.{link, set_left, set_right}
 use Rattle.rb_trees.specs.Erased.{first_links, right_if, right_fill_if}
 use Rattle.rb_trees.specs.EraseClimb.{top_erase}
-use Rattle.rb_trees.proofs.ListLemmas.{pushed_between}
 use Rattle.rb_cursor.specs.Tops.{is_fork}
 use Rattle.rb_cursor.specs.Readings.{IsForked}
 use Rattle.rb_cursor.proofs.NextSteps.{placed, replaced, next_placed, next_rest, next_links, same_fork, fork_there}

@@ -1,9 +1,9 @@
 use Rattle.std.proofs.Common.{◌∙◌}
-use Rattle.rb_cursor.proofs.LeftOut.{told_by_halves}
+use Rattle.order_laws.proofs.Tests.{list_any-binary_search}
 use Rattle.rb_cursor.proofs.searches.is_left_out.Goals as goal
 
 pub returns-then-rising : goal.returns-then-rising
 returns-then-rising c =
     c.is_ok.ensures.value
-    ∙ told_by_halves c.args.but.now c.args.a c.binary_search.result
+    ∙ list_any-binary_search c.args.but.now c.args.a c.binary_search.result
     c.binary_search.ensures.position (c.requires c.if-rising.true)

@@ -1,9 +1,10 @@
 use Rattle.std.proofs.Common.{◌≡◌, ◌∙◌, ◌+◌, ◌<◌, ap, length, get_or, min, sym, subst, arith}
 use Rattle.std.specs.Prelude.{count_by}
 use Rattle.std.specs.List.{range_with_len}
+use Rattle.order_laws.proofs.Ranges.{range-push_from_zero}
 use Rattle.shared_lookup.specs.Counts.{CountsUpTo}
 use Rattle.shared_lookup.specs.Servings.{IsWrongEntry, entries, has_generation}
-use Rattle.shared_lookup.proofs.CountLemmas.{range_more, up_to_yes, up_to_no}
+use Rattle.shared_lookup.proofs.CountLemmas.{up_to_yes, up_to_no}
 use Rattle.shared_lookup.proofs.outcomes.wrong_entries.Goals.{then-time-ne1, else-time-ne1}
 use Rattle.shared_lookup.proofs.outcomes.wrong_entries.Goals as goal
 
@@ -17,7 +18,7 @@ loop-time-preserved c =
     let less : i < length c.in_ok-times.times.items = subst (λ (xs : _). i < length xs) value c.loop-time-test.true in
     let time : get_or now i 0 ≡ min 255 (count_by (has_generation (i + 1)) all) = ap (λ xs. get_or xs i 0) value ∙ c.in_ok-times.ensures.1 i less in
     let r = c.if-time-ne1.wrong in
-    subst (λ (zs : _). CountsUpTo P zs r) (sym (range_more i))
+    subst (λ (zs : _). CountsUpTo P zs r) (sym (range-push_from_zero i))
     (elim c.if-time-ne1.branch [
       | then-time-ne1 w ↦ up_to_yes P (range_with_len 0 i) i c.loop-time.wrong r c.loop-time.invariant (λ e. w.if-time-ne1.true (omega (arith, time, e))) (w.wrong-is ∙ w.saturating_add-wrong.ensures)
       | else-time-ne1 w ↦ up_to_no P (range_with_len 0 i) i c.loop-time.wrong r c.loop-time.invariant (λ h. h (let one = w.if-time-ne1.false in omega (arith, time, one))) w.wrong-is

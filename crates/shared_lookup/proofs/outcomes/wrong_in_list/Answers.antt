@@ -2,9 +2,10 @@ use Rattle.std.proofs.Common.{◌≤◌, length, take, sym, subst, arith, ◌∙
 use Rattle.std.specs.Prelude.{zip}
 use Rattle.std.proofs.lemmas.Slice.Zip.{length-zip}
 use Rattle.std.proofs.lemmas.List.{take_all}
+use Rattle.order_laws.proofs.Pairs.{take-zip_more}
 use Rattle.shared_lookup.specs.Counts.{CountsUpTo}
 use Rattle.shared_lookup.specs.Servings.{IsWrongChange}
-use Rattle.shared_lookup.proofs.CountLemmas.{zip_more, up_to_yes, up_to_no}
+use Rattle.shared_lookup.proofs.CountLemmas.{up_to_yes, up_to_no}
 use Rattle.shared_lookup.proofs.outcomes.wrong_in_list.Goals.{then-is_wrong, else-is_wrong}
 use Rattle.shared_lookup.proofs.outcomes.wrong_in_list.Goals as goal
 
@@ -16,7 +17,7 @@ loop-place-preserved c =
     let i = c.loop-place.place in
     let less = c.loop-place-test.true in
     let same = c.requires in
-    let step = zip_more xs ys i _ _ less (omega (arith, less, same)) in
+    let step = take-zip_more xs ys i _ _ less (omega (arith, less, same)) in
     subst (λ zs. CountsUpTo P zs c.if-is_wrong.wrong) (sym step)
     (elim c.if-is_wrong.branch [
       | then-is_wrong w ↦ up_to_yes P (take i (zip xs ys)) _ c.loop-place.wrong c.if-is_wrong.wrong c.loop-place.invariant (c.is_wrong.ensures.0 w.if-is_wrong.true) (w.wrong-is ∙ w.saturating_add-wrong.ensures)

@@ -1,9 +1,9 @@
 use Rattle.std.proofs.Common.{◌≡◌, ◌∙◌, ◌++◌, ◌∷◌, [], ℕ, List, length, Some, refl, ap, sym, subst, ⊎_elim, arith, length-append, get_or}
 use Rattle.std.specs.Prelude.{slice_get}
 use Rattle.std.proofs.lemmas.Option.{get_or_from_slice_get}
+use Rattle.order_laws.proofs.Lists.{slice_get-push_cases}
 use Rattle.shared_lookup.specs.declared.served.Answer.{Answer}
 use Rattle.shared_lookup.specs.Servings.{IsAnswerTo}
-use Rattle.shared_lookup.proofs.LedgerLemmas.{get_snoc}
 use Rattle.shared_lookup.proofs.threads.look_up.Goals as goal
 
 -- an answer more, at the place of its key
@@ -21,7 +21,7 @@ answer_more reader keys old new before er ep ek place key a k h =
       place_is = sym (ap (λ (x : Answer). x.place) q.1) ∙ ep ∙ sym q.0;
       key_is = sym (ap (λ (x : Answer). x.key) q.1) ∙ ek ∙ ap (λ i. get_or keys i 0) (sym q.0) ∙ key_is;
     })
-    (get_snoc old new a place h)
+    (slice_get-push_cases old new a place h)
 
 pub loop-index-preserved : goal.loop-index-preserved
 loop-index-preserved g c =

@@ -1,10 +1,11 @@
 use Rattle.std.proofs.Common.{◌≡◌, ◌+◌, ◌-◌, ◌<◌, [], ◌∷◌, ◌++◌, length, suc, ◌∙◌, ap, subst, length-append, arith}
 use Rattle.std.specs.Prelude.{IfSome, IfNone}
 use Rattle.order_laws.specs.declared.items.Item.{Item}
+use Rattle.order_laws.proofs.Options.{IfNone-weaker, IfSome-weaker}
 use Rattle.word_arena.specs.Layouts.{capacity_of}
 use Rattle.word_arena.specs.Copies.{copy_number}
 use Rattle.word_arena.specs.Words.{at, item_at, Nodes, fork, listed, items, Leads}
-use Rattle.word_arena.proofs.HeldLemmas.{past_no_tree, some_visit, left_too_large, right_too_large, three_parts, if_some_more, if_none_more}
+use Rattle.word_arena.proofs.HeldLemmas.{past_no_tree, some_visit, left_too_large, right_too_large, three_parts}
 use Rattle.word_arena.proofs.held.+walk.Goals as goal
 use Rattle.word_arena.proofs.held.+walk.Goals.{then-link-capacity-via-then-link-capacity, then-link-capacity-via-else-link-capacity+then-left-eq0}
 
@@ -42,7 +43,7 @@ returns-clause-tree t c =
     let item : Item = record { a = at m c.a_of.result; b = at m c.b_of.result; tag = at m c.tag_of.result } in
     let is_item : item ≡ item_at m node = λ d. record { a = at m (c.a_of.ensures d); b = at m (c.b_of.ensures d); tag = at m (c.tag_of.ensures d) } in
     let pushed : c.push.new.self.items ≡ c.walk.new.found.items ++ item_at m node ∷ [] = c.in_ok-push.ensures.items ∙ ap (λ i. c.walk.new.found.items ++ i ∷ []) is_item in
-    if_some_more c.walk-2.result
+    IfSome-weaker c.walk-2.result
     (λ rest. (r : Nodes) × Leads m n copy (at m c.right_of.result) r × (c.walk-2.new.found.items ≡ c.push.new.self.items ++ items m r) × (rest + length (listed r) ≡ c.in-Some.rest))
     (λ rest. (u : Nodes) × Leads m n copy c.args.link u × (c.walk-2.new.found.items ≡ c.args.found.now.items ++ items m u) × (rest + length (listed u) ≡ c.args.left))
     (λ rest (r, leads, appended, count).
@@ -63,7 +64,7 @@ returns-clause-none t c =
     let less : (l : Nodes) × Leads m n copy (at m c.left_of.result) l × (c.walk.new.found.items ≡ c.args.found.now.items ++ items m l) × (c.in-Some.rest + length (listed l) ≡ c.args.left - 1) =
     subst (λ o. IfSome o (λ rest. (l : Nodes) × Leads m n copy (at m c.left_of.result) l × (c.walk.new.found.items ≡ c.args.found.now.items ++ items m l) × (rest + length (listed l) ≡ c.args.left - 1))) c.in-Some.is c.in_ok-rest.ensures.tree in
     let leads_left = subst (λ w. Leads m n copy (at m w) less.0) c.left_of.ensures less.1 in
-    if_none_more c.walk-2.result
+    IfNone-weaker c.walk-2.result
     ((u : Nodes) → Leads m n copy (at m c.right_of.result) u → c.in-Some.rest < length (listed u))
     ((u : Nodes) → Leads m n copy c.args.link u → c.args.left < length (listed u))
     (λ large u h.

@@ -1,7 +1,7 @@
-use Rattle.std.proofs.Common.{◌∙◌, ap, drop}
+use Rattle.std.proofs.Common.{◌∙◌, ap, drop, sym}
+use Rattle.std.proofs.lemmas.List.{drop-drop}
 use Rattle.latch_core.specs.PlanViews.{PlanView}
-use Rattle.latch_core.proofs.PlanLemmas.{drop_more}
 use Rattle.latch_core.proofs.plans.Plan.advance.Goals as goal
 
 pub returns-clause-left : goal.returns-clause-left
-returns-clause-left c = drop_more c.self.inside.made c.self.inside.stores.items ∙ ap (λ (p : PlanView). drop 1 p.left) c.self.view_is
+returns-clause-left c = sym (drop-drop 1 c.self.inside.made c.self.inside.stores.items) ∙ ap (λ (p : PlanView). drop 1 p.left) c.self.view_is

@@ -1,5 +1,5 @@
 use Rattle.std.proofs.Common.{◌∙◌, refl, sym, arith}
-use Rattle.latch_steps.proofs.Showing.{no_lookup}
+use Rattle.order_laws.proofs.Options.{None-from_is_none}
 use Rattle.latch_steps.proofs.Finding.{look_found, look_right, look_near, look_never, after_found}
 use Rattle.latch_steps.proofs.worlds.World.find_now.Goals as goal
 
@@ -9,7 +9,7 @@ returns-in_default-clause-refusal g c = λ start us h.
 
 pub returns-clause-finds : goal.returns-clause-finds
 returns-clause-finds g c =
-    let free = no_lookup _ (sym c.is_looking-is_busy.ensures ∙ c.if-is_busy.false) in
+    let free = None-from_is_none _ (sym c.is_looking-is_busy.ensures ∙ c.if-is_busy.false) in
     let fits = c.in-Some.ensures.fits in
     look_found g.O.TreeOrder.order g.met.O.TreeOrder.lawful c.args.self.now c.args.reader c.args.key
     c.in-Some.answer c.in-Some.generation c.in-Some.loads c.saturating_add-first.result c.saturating_add-self-2.result
@@ -25,7 +25,7 @@ returns-clause-near g c = λ start us h.
 
 pub returns-clause-after : goal.returns-clause-after
 returns-clause-after g c =
-    let free = no_lookup _ (sym c.is_looking-is_busy.ensures ∙ c.if-is_busy.false) in
+    let free = None-from_is_none _ (sym c.is_looking-is_busy.ensures ∙ c.if-is_busy.false) in
     let fits = c.in-Some.ensures.fits in
     let finds = look_found g.O.TreeOrder.order g.met.O.TreeOrder.lawful c.args.self.now c.args.reader c.args.key
     c.in-Some.answer c.in-Some.generation c.in-Some.loads c.saturating_add-first.result c.saturating_add-self-2.result

@@ -1,5 +1,6 @@
 use Rattle.std.proofs.Common.{Some, ◌∙◌, sym}
-use Rattle.latch_steps.proofs.Showing.{busy, starts, no_lookup}
+use Rattle.order_laws.proofs.Options.{None-from_is_none}
+use Rattle.latch_steps.proofs.Showing.{busy, starts}
 use Rattle.latch_steps.proofs.Readers.{lookup_set}
 use Rattle.latch_steps.proofs.worlds.World.start.Goals as goal
 
@@ -10,6 +11,6 @@ returns-then-is_looking-clause-steps g c =
 pub returns-in-Ok-clause-steps : goal.returns-in-Ok-clause-steps
 returns-in-Ok-clause-steps g c =
     starts g.O.TreeOrder.order c.args.self.now c.args.reader c.saturating_add-first.result c.args.key c.start-lookup.result c.insert.new.self
-    (no_lookup _ (sym c.is_looking.ensures ∙ c.if-is_looking.false)) c.start-lookup.ensures
+    (None-from_is_none _ (sym c.is_looking.ensures ∙ c.if-is_looking.false)) c.start-lookup.ensures
     (lookup_set c.args.self.now.lookups c.insert.new.self c.args.reader (Some c.start-lookup.result) c.in-Ok.ensures.updates.0)
     c.saturating_add-first.ensures

@@ -1,12 +1,12 @@
 use Rattle.std.proofs.Common.{◌∷◌, ◌++◌, [], IfOk, subst}
+use Rattle.order_laws.proofs.Options.{IfOk-Ok}
 use Rattle.latchsym.specs.Assignments.{AreListed}
 use Rattle.listing.specs.Scripts.{most_writers}
-use Rattle.latchsym.proofs.Assigning.{known}
 use Rattle.latchsym.proofs.assignments.Assignments.add_change.Goals as goal
 
 pub returns-clause-changes : goal.returns-clause-changes
 returns-clause-changes c = λ entries listed.
-    known _ c.enlist.result c.in_ok-enlist.field-0 c.enlist-2.result c.in_ok-enlist.was (c.enlist.ensures most_writers entries listed)
+    IfOk-Ok _ c.enlist.result c.in_ok-enlist.field-0 c.enlist-2.result c.in_ok-enlist.was (c.enlist.ensures most_writers entries listed)
 
 pub returns-clause-names : goal.returns-clause-names
 returns-clause-names c = λ entries listed.

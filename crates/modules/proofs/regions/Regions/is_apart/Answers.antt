@@ -1,5 +1,7 @@
 use Rattle.std.proofs.Common.{sym}
-use Rattle.modules.proofs.Spreading.{apart_from_none, tested_by_last, below_from_Less, Less_from_below, not_below}
+use Rattle.std.proofs.lemmas.Map.Keys.{ge_from_not_lt}
+use Rattle.order_laws.proofs.Orderings.{Less-from_lt, lt-from_Less}
+use Rattle.modules.proofs.Spreading.{apart_from_none, tested_by_last}
 use Rattle.modules.proofs.regions.Regions.is_apart.Goals as goal
 
 pub returns-in-Some : goal.returns-in-Some
@@ -12,9 +14,9 @@ returns-in-Some c =
     let last = within.3 (s, e) c.next_back.new.self c.in-Some.ensures.steps in
     rw (← c.self.view_is, ← c.region.view_is)
     (tested_by_last m c.range.ensures.ordered c.self.invariant r.start r.end s e last.1
-    (below_from_Less s r.end last.0.1)
-    (λ q below found. not_below s q
-    (within.4 (s, e) c.next_back.new.self c.in-Some.ensures.steps q (tt, Less_from_below q r.end below) found)))
+    (lt-from_Less s r.end last.0.1)
+    (λ q below found. ge_from_not_lt s q
+    (within.4 (s, e) c.next_back.new.self c.in-Some.ensures.steps q (tt, Less-from_lt q r.end below) found)))
 
 pub returns-in-None : goal.returns-in-None
 returns-in-None c =
@@ -23,4 +25,4 @@ returns-in-None c =
     let within = c.range.ensures.in_range tt in
     rw (← c.self.view_is, ← c.region.view_is)
     (sym (apart_from_none m c.range.ensures.ordered r.start r.end
-    (λ q below. within.5 c.in-None.ensures.steps.0 q (tt, Less_from_below q r.end below))))
+    (λ q below. within.5 c.in-None.ensures.steps.0 q (tt, Less-from_lt q r.end below))))

@@ -1,6 +1,6 @@
-use Rattle.std.proofs.Common.{ℕ, ◌+◌, refl, sym, ap, ◌∙◌, arith}
-use Rattle.rb_cursor.proofs.BlankLemmas.{grows, blank_node, blanked, at_failure}
-use Rattle.std.proofs.Common.{subst, Some}
+use Rattle.std.proofs.Common.{ℕ, ◌+◌, refl, sym, ap, ◌∙◌, arith, subst, Some}
+use Rattle.rb_cursor.proofs.BlankLemmas.{grows, blank_node, blanked}
+use Rattle.order_laws.proofs.Options.{OnErr-from}
 use Rattle.slab.specs.Slab.{Slab, slab_len, Updates}
 use Rattle.rb_cursor.specs.declared.nodes.Node.{Node}
 use Rattle.rb_cursor.proofs.HeldLemmas.{Moved}
@@ -15,7 +15,7 @@ pub returns-in_err-reserve-clause-unchanged : goal.returns-in_err-reserve-clause
 returns-in_err-reserve-clause-unchanged c =
     let m = grows c.self.inside c.reserve.new.self c.args.self.now c.self.invariant c.self.view_is
     c.reserve.ensures.rest_kept c.reserve.ensures.capacity in
-    at_failure c.from_residual.result m.shows
+    OnErr-from c.from_residual.result m.shows
 
 pub invariant_of-self-then-key : goal.invariant_of-self-then-key
 invariant_of-self-then-key c =

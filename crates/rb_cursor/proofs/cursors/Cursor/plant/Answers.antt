@@ -1,6 +1,7 @@
 use Rattle.std.proofs.Common.{◌-◌, arith}
 use Rattle.rb_cursor.specs.Tops.{planted}
-use Rattle.rb_cursor.proofs.HeldLemmas.{Moved, room_is, filled}
+use Rattle.rb_cursor.proofs.HeldLemmas.{Moved, room_is}
+use Rattle.order_laws.proofs.Options.{IsSome-from_ne}
 use Rattle.rb_cursor.proofs.BlankLemmas.{blank_leads, blank_there, plants}
 use Rattle.rb_cursor.proofs.TurnLemmas.{leads_on}
 use Rattle.rb_cursor.proofs.cursors.Cursor.plant.Goals as goal
@@ -13,7 +14,7 @@ pub index_mut-node-requires : goal.index_mut-node-requires
 index_mut-node-requires c =
     let some = blank_leads c.self.inside c.args.self.now c.self.invariant c.self.view_is
     c.requires.room in
-    filled (λ none. blank_there c.self.inside (c.self.inside.blank - 1) c.self.invariant
+    IsSome-from_ne (λ none. blank_there c.self.inside (c.self.inside.blank - 1) c.self.invariant
     (omega arith) none)
 
 pub overflow_sub-self : goal.overflow_sub-self

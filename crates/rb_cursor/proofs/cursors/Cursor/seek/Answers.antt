@@ -3,9 +3,9 @@ use Rattle.rb_trees.specs.Trees.{Branches}
 use Rattle.rb_trees.specs.Paths.{Above}
 use Rattle.rb_cursor.specs.Keyed.{record_of}
 use Rattle.rb_cursor.proofs.HeldLemmas.{show, written_back}
-use Rattle.rb_cursor.proofs.SeekLemmas.{Went, step_fits, seen_way, seen_goes, seen_ends}
-use Rattle.rb_cursor.proofs.SeekLemmas.{seen_misses, is_at}
+use Rattle.rb_cursor.proofs.SeekLemmas.{Went, step_fits, seen_way, seen_goes, seen_ends, seen_misses}
 use Rattle.rb_cursor.proofs.cursors.Cursor.seek.Given.{Over}
+use Rattle.order_laws.proofs.Orderings.{Equal-from_is_eq}
 use Rattle.rb_cursor.proofs.cursors.Cursor.seek.Goals as goal
 
 pub set_step-requires : goal.set_step-requires
@@ -49,7 +49,7 @@ found g c =
     (record c.loop-link.self-inside { tree = c.loop-link.link; depth = c.loop-link.depth })
     c.args.self.now (c.loop-link.link - 1) c.index_mut-node.result.now
     c.loop-link.invariant (omega (arith, c.loop-link-test.true)) c.index_mut-node.ensures.value
-    (is_at (g.P.Probe.seen c.args.sought.now (record_of c.index_mut-node.result.now))
+    (Equal-from_is_eq (g.P.Probe.seen c.args.sought.now (record_of c.index_mut-node.result.now))
     (sym (c.is_at.ensures c.index_mut-node.result.now.node) ∙ c.if-is_at.true))
 
 missed : (g : Over) (c : goal.After-self-3-1 g) →

@@ -1,0 +1,201 @@
+-- Facts about lists and the places in them alone.
+use Rattle.std.proofs.Common.{◌++◌, ◌+◌, ◌-◌, ◌<◌, ◌∙◌, ◌∷◌, ◌≡◌, ◌≤◌, Bool, List, Some, [], ap, append-nil, append_assoc, arith, cond, drop, false, get_or, inl, inr, length, length-append, map, refl, suc, sym, take, true, zero, ℕ, ⊎_elim}
+use Rattle.std.specs.Prelude.{◌⊎◌, insert, is_some, nat_lt, remove, slice_get, slice_index_or, slice_set}
+use Rattle.std.specs.Global.{Vec}
+use Rattle.std.specs.List.{onto_first, swap_remove}
+use Rattle.std.proofs.lemmas.Bool.{lt-ltb}
+use Rattle.std.proofs.lemmas.List.{get_or-drop, get_or_append_left, take-set, take-take, take_more}
+
+-- ---- joined lists
+
+-- the two ways that four lists are joined: from the inside out, and one after another
+pub regrouped : {A : Type 0} (xs ys zs rest : List A)
+    → xs ++ ((ys ++ zs) ++ rest) ≡ ((xs ++ ys) ++ zs) ++ rest
+regrouped xs ys zs rest = simp append_assoc
+
+-- an element between two lists
+pub pushed_before : {X : Type 0} (x : X) (xs ys : List X) → (xs ++ x ∷ []) ++ ys ≡ xs ++ x ∷ ys
+pushed_before x xs ys = append_assoc xs (x ∷ []) ys
+
+-- two elements pushed one after another, and more after them
+pub pushed_twice : {A : Type 0} (xs : List A) (y z : A) (rest : List A)
+    → ((xs ++ y ∷ []) ++ z ∷ []) ++ rest ≡ xs ++ y ∷ z ∷ rest
+pushed_twice xs y z rest = simp append_assoc
+
+-- two elements pushed between two lists
+pub pushed_between : {A : Type 0} (xs ys : List A) (y z : A) (zs : List A)
+    → (((xs ++ ys) ++ y ∷ []) ++ z ∷ []) ++ zs ≡ xs ++ ((ys ++ y ∷ z ∷ []) ++ zs)
+pushed_between xs ys y z zs = simp append_assoc
+
+-- one element of the rest goes over to the front
+pub moved_over : {X : Type 0} (all done rest after : List X) (x : X) → done ++ rest ≡ all
+    → rest ≡ x ∷ after → (done ++ x ∷ []) ++ after ≡ all
+moved_over all done rest after x joined cut = append_assoc done (x ∷ []) after ∙ ap (λ xs. done ++ xs) (sym cut) ∙ joined
+
+-- what was taken of a list, the rest of it, and one list more
+pub gathered : {A : Type 0} (before taken mid more rest new text so_far : List A)
+    → taken ++ mid ≡ before ++ so_far → more ++ rest ≡ mid ++ [] → new ≡ rest ++ text
+    → (taken ++ more) ++ new ≡ before ++ (so_far ++ text)
+gathered before taken mid more rest new text so_far first second third =
+    ap (λ l. (taken ++ more) ++ l) third
+    ∙ append_assoc taken more (rest ++ text)
+    ∙ ap (λ l. taken ++ l) (sym (append_assoc more rest text) ∙ ap (λ l. l ++ text) (second ∙ append-nil mid))
+    ∙ sym (append_assoc taken mid text) ∙ ap (λ l. l ++ text) first ∙ append_assoc before so_far text
+
+pub append_nil_left : {X : Type 0} (xs ys : List X) → xs ++ ys ≡ [] → xs ≡ []
+append_nil_left [] ys e = refl
+append_nil_left (x ∷ xs) ys e = absurd (let f = ap length e in omega arith)
+
+pub append_nil_right : {X : Type 0} (xs ys : List X) → xs ++ ys ≡ [] → ys ≡ []
+append_nil_right [] ys e = e
+append_nil_right (x ∷ xs) ys e = absurd (let f = ap length e in omega arith)
+
+-- an element pushed, or none
+pub length-picked : {X : Type 0} (xs : List X) (b : Bool) (y : X)
+    → length (xs ++ cond b (y ∷ []) []) ≤ length xs + 1
+length-picked {X} xs true y = omega (arith, length-append xs (y ∷ []))
+length-picked {X} xs false y = omega (arith, length-append {A = X} xs [])
+
+pub length-cond_cons : {A : Type 0} (b : Bool) (x : A) (xs : List A)
+    → length (cond b (x ∷ xs) xs) ≡ cond b 1 0 + length xs
+length-cond_cons true x xs = omega arith
+length-cond_cons false x xs = omega arith
+
+pub length-append_nil : {X : Type 0} (ss : List X) (k : ℕ) → length ss ≤ k → length (ss ++ []) ≤ k
+length-append_nil ss k h = omega (arith, length-append ss [])
+
+pub ltb-length_nil : {X : Type 0} (xs : List X) → length xs ≤ 0 → nat_lt 0 (length xs) ≡ false
+ltb-length_nil [] e = refl
+ltb-length_nil (x ∷ xs) e = absurd (omega arith)
+
+pub nil-from_length : {X : Type 0} (xs : List X) → nat_lt 0 (length xs) ≡ false → xs ≡ []
+nil-from_length [] e = refl
+nil-from_length (x ∷ xs) e =
+    absurd (let more : nat_lt 0 (suc (length xs)) ≡ true = lt-ltb 0 (suc (length xs)) (omega arith) in let f : true ≡ false = sym more ∙ e in cc)
+
+pub length-onto_first : (x : ℕ) (lines : List (List ℕ))
+    → length (onto_first x lines) ≤ length lines + 1
+length-onto_first x [] = omega arith
+length-onto_first x (line ∷ lines) = omega arith
+
+-- lists of as long lists are as long
+pub length-map_same : {X Y : Type 0} (xs : List (Vec X)) (ys : List (Vec Y))
+    → map (λ (v : Vec Y). length v.items) ys ≡ map (λ (v : Vec X). length v.items) xs
+    → length ys ≡ length xs
+length-map_same [] [] e = refl
+length-map_same [] (b ∷ ys) e = absurd (let f = ap length e in omega arith)
+length-map_same (a ∷ xs) [] e = absurd (let f = ap length e in omega arith)
+length-map_same (a ∷ xs) (b ∷ ys) e = ap suc (length-map_same xs ys (ap (λ ns. drop 1 ns) e))
+
+pub length-map_same_at : {X Y : Type 0} (xs : List (Vec X)) (ys : List (Vec Y))
+    → map (λ (v : Vec Y). length v.items) ys ≡ map (λ (v : Vec X). length v.items) xs
+    → (i : ℕ) (x : Vec X) (y : Vec Y) → i < length xs → x ≡ get_or xs i x → y ≡ get_or ys i y → length y.items ≡ length x.items
+length-map_same_at [] ys e i x y l ex ey = absurd (omega arith)
+length-map_same_at (a ∷ xs) [] e i x y l ex ey = absurd (let f = ap length e in omega arith)
+length-map_same_at (a ∷ xs) (b ∷ ys) e zero x y l ex ey =
+    rw ex (rw ey (ap (λ ns. get_or ns 0 0) e))
+length-map_same_at (a ∷ xs) (b ∷ ys) e (suc i) x y l ex ey = length-map_same_at xs ys (ap (λ ns. drop 1 ns) e) i x y (omega arith) ex ey
+
+-- ---- the front of a list, and one element more of it
+
+pub take_push : {X : Type 0} (xs : List X) (i : ℕ) (x : X) → i < length xs → x ≡ get_or xs i x
+    → take i xs ++ x ∷ [] ≡ take (i + 1) xs
+take_push xs i x lt is = ap (λ y. take i xs ++ y ∷ []) is ∙ sym (take_more xs i x lt)
+
+-- the front of a list, after an element beyond it was taken out
+pub take-swap_remove : {X : Type 0} (xs : List X) (i : ℕ) (d : X) → i < length xs
+    → take i (swap_remove xs i d) ≡ take i xs
+take-swap_remove xs i d lt =
+    take-take i (length xs - 1) (slice_set xs i (slice_index_or xs (length xs - 1) d)) (omega arith)
+    ∙ take-set xs i (slice_index_or xs (length xs - 1) d)
+
+pub take-append_whole : {X : Type 0} (xs ys : List X) → take (length xs) (xs ++ ys) ≡ xs
+take-append_whole [] ys = refl
+take-append_whole (x ∷ xs) ys = ap (λ zs. x ∷ zs) (take-append_whole xs ys)
+
+pub take-drop_append : {X : Type 0} (xs ys : List X) (from : ℕ) → from ≤ length xs
+    → take (length xs - from) (drop from (xs ++ ys)) ≡ drop from xs
+take-drop_append xs ys zero le = let e : length xs - 0 ≡ length xs = omega arith in ap (λ k. take k (xs ++ ys)) e ∙ take-append_whole xs ys
+take-drop_append [] ys (suc from) le = absurd (omega arith)
+take-drop_append (x ∷ xs) ys (suc from) le = let e : suc (length xs) - suc from ≡ length xs - from = omega arith in ap (λ k. take k (drop from (xs ++ ys))) e ∙ take-drop_append xs ys from (omega arith)
+
+pub get_or-drop_append : {X : Type 0} (xs ys : List X) (from place : ℕ) (d : X) → from ≤ place
+    → place < length xs → get_or (drop from xs) (place - from) d ≡ get_or (xs ++ ys) place d
+get_or-drop_append xs ys from place d above below =
+    let at_place : from + (place - from) ≡ place = omega arith in
+    get_or-drop from xs (place - from) d ∙ ap (λ k. get_or xs k d) at_place ∙ sym (get_or_append_left xs ys d place below)
+
+-- ---- the element at a place
+
+-- a list is parted at a place
+pub parted_at : {X : Type 0} (xs : List X) (i : ℕ) (x : X) → slice_get xs i ≡ Some x
+    → xs ≡ take i xs ++ x ∷ drop (suc i) xs
+parted_at [] i x e = absurd (cc)
+parted_at (y ∷ xs) zero x e = let same : y ≡ x = cc in ap (λ z. z ∷ xs) same
+parted_at (y ∷ xs) (suc i) x e = ap (λ ys. y ∷ ys) (parted_at xs i x e)
+
+pub first_and_rest : {X : Type 0} (xs : List X) (s : X) → slice_get xs 0 ≡ Some s
+    → xs ≡ s ∷ drop 1 xs
+first_and_rest [] s e = absurd (cc)
+first_and_rest (x ∷ xs) s e = let same : x ≡ s = cc in ap (λ y. y ∷ xs) same
+
+pub is_some-slice_get : {X : Type 0} (xs : List X) (i : ℕ) → i < length xs
+    → is_some (slice_get xs i) ≡ true
+is_some-slice_get [] i lt = absurd (omega (arith, lt))
+is_some-slice_get (x ∷ xs) zero lt = refl
+is_some-slice_get (x ∷ xs) (suc i) lt = is_some-slice_get xs i (omega (arith, lt))
+
+pub slice_get_some : {X : Type 0} (xs : List X) (i : ℕ) → i < length xs
+    → (x : X) × (slice_get xs i ≡ Some x)
+slice_get_some [] i l = absurd (omega arith)
+slice_get_some (x ∷ xs) zero l = (x, refl)
+slice_get_some (x ∷ xs) (suc i) l = slice_get_some xs i (omega arith)
+
+pub slice_get-between : {X : Type 0} (xs ys : List X) (y : X)
+    → slice_get (xs ++ y ∷ ys) (length xs) ≡ Some y
+slice_get-between [] ys y = refl
+slice_get-between (x ∷ xs) ys y = slice_get-between xs ys y
+
+-- an entry of a list with one more at its end
+pub slice_get-push_cases : {X : Type 0} (xs : List X) (u v : X) (j : ℕ)
+    → slice_get (xs ++ u ∷ []) j ≡ Some v
+    → ((j < length xs) × (slice_get xs j ≡ Some v)) ⊎ ((j ≡ length xs) × (u ≡ v))
+slice_get-push_cases [] u v zero e = inr (refl, cc)
+slice_get-push_cases [] u v (suc j) e = absurd cc
+slice_get-push_cases (x ∷ xs) u v zero e = inl (omega arith, e)
+slice_get-push_cases (x ∷ xs) u v (suc j) e =
+    ⊎_elim (λ k. inl (let l = k.0 in omega arith, k.1)) (λ k. inr (ap suc k.0, k.1)) (slice_get-push_cases xs u v j e)
+
+-- the place of an element of a list is also that of what is made of it
+pub get_or-map_default : {X Y : Type 0} (f : X → Y) (xs : List X) (i : ℕ) (d : X)
+    → get_or (map f xs) i (f d) ≡ f (get_or xs i d)
+get_or-map_default f [] i d = refl
+get_or-map_default f (x ∷ xs) zero d = refl
+get_or-map_default f (x ∷ xs) (suc i) d = get_or-map_default f xs i d
+
+-- ---- an element put in, or taken out, at a place
+
+pub length-insert : {X : Type 0} (xs : List X) (i : ℕ) (x : X) →
+    length (insert xs i x) ≡ suc (length xs)
+length-insert xs zero x = refl
+length-insert [] (suc i) x = refl
+length-insert (y ∷ xs) (suc i) x = ap suc (length-insert xs i x)
+
+pub length-remove_at : {X : Type 0} (xs : List X) (i : ℕ) (x : X) → slice_get xs i ≡ Some x →
+    suc (length (remove xs i)) ≡ length xs
+length-remove_at [] i x e = absurd (cc)
+length-remove_at (y ∷ xs) zero x e = refl
+length-remove_at (y ∷ xs) (suc i) x e = ap suc (length-remove_at xs i x e)
+
+pub map-insert : {X Y : Type 0} (f : X → Y) (xs : List X) (i : ℕ) (x : X)
+    → map f (insert xs i x) ≡ insert (map f xs) i (f x)
+map-insert f xs zero x = refl
+map-insert f [] (suc i) x = refl
+map-insert f (y ∷ xs) (suc i) x = ap (λ ys. f y ∷ ys) (map-insert f xs i x)
+
+pub map-remove : {X Y : Type 0} (f : X → Y) (xs : List X) (i : ℕ)
+    → map f (remove xs i) ≡ remove (map f xs) i
+map-remove f [] zero = refl
+map-remove f (y ∷ xs) zero = refl
+map-remove f [] (suc i) = refl
+map-remove f (y ∷ xs) (suc i) = ap (λ ys. f y ∷ ys) (map-remove f xs i)
