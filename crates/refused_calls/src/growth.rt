@@ -1,13 +1,15 @@
-//! `Writer::enlarge`.
+//! `Writer::enlarge` and `Ledger::enlarge`.
 
-ghost use Rattle.std.specs.Prelude.{◌≡◌};
-ghost use Rattle.latch_table.specs.Enlarging.{AreReadersOf};
+ghost use Rattle.latch_table.specs.Enlarging.{AreReadersOf as AreReadersOfWriter};
+ghost use Rattle.shared_lookup.specs.Enlarging.{AreReadersOf};
 
 use crate::End;
+use crate::tables::with;
 use crate::updates::{KEYS, key};
 use latch_core::Update;
 use latch_table::{Reader, Try, Writer, open};
 use order_laws::{HalfOpen, Item, Refusal};
+use shared_lookup::{Ledger, Open};
 use std::alloc::Global;
 use std::io::Print;
 use word_arena::Layout;
@@ -25,21 +27,39 @@ const SECOND: Item = Item {
     tag: 2,
 };
 
+/// What can go on with more nodes.
+trait Growing: Drop {
+    fn insert(&mut self, item: Item) -> Result<(), Refusal>;
+
+    /// Goes on with a layout, or hands the same back with the refusal.
+    fn enlarge(self, alloc: Global, l: Layout) -> Result<Self, (Refusal, Self)>;
+
+    /// What the key lies in, in one number.
+    fn find(&mut self, k: u64) -> u64;
+}
+
+/// A sum with what a reader finds, where it answers.
+fn with_answer(sum: u64, answer: Try) -> u64 {
+    match answer {
+        Try::Answered(found, generation) => with(sum, found, generation),
+        Try::Retry => sum,
+    }
+}
+
 /// A writer with all of its readers.
 #[derive(Drop)]
 struct Table {
     writer: Writer<HalfOpen>,
     readers: Vec<Reader<HalfOpen>>,
-    ghost whole: { AreReadersOf writer readers.items },
+    ghost whole: { AreReadersOfWriter writer readers.items },
 }
 
-impl Table {
+impl Growing for Table {
     fn insert(&mut self, item: Item) -> Result<(), Refusal> {
         self.writer.begin(Update::Insert(item))?.finish();
         Ok(())
     }
 
-    /// Goes on with a layout, or hands the table back with the refusal.
     fn enlarge(self, alloc: Global, l: Layout) -> Result<Table, (Refusal, Table)> {
         let Table {
             mut writer,
@@ -51,32 +71,68 @@ impl Table {
         }
     }
 
-    /// What the writer and a reader find at the keys, in one number.
-    fn account(&mut self) -> u64 {
-        let mut sum: u64 = 0;
-        for place in 0..KEYS {
-            let (found, generation) = self.writer.find(key(place, KEYS));
-            sum = sum
-                .wrapping_mul(31)
-                .wrapping_add(found.map_or(7, |item| item.tag))
-                .wrapping_add(generation);
-            if let Some(reader) = self.readers.first_mut() {
-                if reader.try_find(key(place, KEYS)) == Try::Answered(found, generation) {
-                    sum = sum.wrapping_add(1);
-                }
-            }
+    fn find(&mut self, k: u64) -> u64 {
+        let (found, generation) = self.writer.find(k);
+        let sum = with(0, found, generation);
+        match self.readers.first_mut() {
+            Some(reader) => with_answer(sum, reader.try_find(k)),
+            None => sum,
         }
-        sum
     }
 }
 
+/// A ledger with all of its readers.
+#[derive(Drop)]
+struct LedgerTable {
+    ledger: Ledger,
+    readers: Vec<Reader<HalfOpen>>,
+    ghost whole: { AreReadersOf ledger readers.items },
+}
+
+impl Growing for LedgerTable {
+    fn insert(&mut self, item: Item) -> Result<(), Refusal> {
+        self.ledger.apply(&Open, 0, Update::Insert(item))?;
+        Ok(())
+    }
+
+    fn enlarge(self, alloc: Global, l: Layout) -> Result<LedgerTable, (Refusal, LedgerTable)> {
+        let LedgerTable {
+            mut ledger,
+            readers,
+        } = self;
+        match ledger.enlarge(alloc, l, readers) {
+            Ok(readers) => Ok(LedgerTable { ledger, readers }),
+            Err((refusal, readers)) => Err((refusal, LedgerTable { ledger, readers })),
+        }
+    }
+
+    fn find(&mut self, k: u64) -> u64 {
+        let entries = self.ledger.log().len() as u64;
+        match self.readers.first_mut() {
+            Some(reader) => with_answer(entries, reader.try_find(k)),
+            None => entries,
+        }
+    }
+}
+
+/// What is found at the keys, in one number.
+fn account<T: Growing>(table: &mut T) -> u64 {
+    let mut sum: u64 = 0;
+    for place in 0..KEYS {
+        sum = sum
+            .wrapping_mul(31)
+            .wrapping_add(table.find(key(place, KEYS)));
+    }
+    sum
+}
+
 /// Enlarges a table, and once more where memory was refused.
-fn enlarge(rt: &impl Print, alloc: Global, l: Layout, mut table: Table) -> Result<Table, End> {
-    let before = table.account();
+fn enlarge<T: Growing>(rt: &impl Print, alloc: Global, l: Layout, mut table: T) -> Result<T, End> {
+    let before = account(&mut table);
     match table.enlarge(alloc, l) {
         Ok(table) => Ok(table),
         Err((_, mut table)) => {
-            if table.account() != before {
+            if account(&mut table) != before {
                 println!(rt; "enlarge: changed by a refusal")?;
             }
             match table.enlarge(alloc, l) {
@@ -87,20 +143,22 @@ fn enlarge(rt: &impl Print, alloc: Global, l: Layout, mut table: Table) -> Resul
     }
 }
 
-/// Opens a table with an item, enlarges it and inserts another.
+/// Inserts an item into a table of this layout, enlarges it and inserts another.
+fn grow<T: Growing>(rt: &impl Print, alloc: Global, l: Layout, mut table: T) -> Result<(), End> {
+    table.insert(FIRST)?;
+    println!(rt; "enlarge: found {}", account(&mut table))?;
+    let wider = Layout::wide(l.capacity().saturating_add(1))?;
+    let mut table = enlarge(rt, alloc, wider, table)?;
+    println!(rt; "enlarge: found {}", account(&mut table))?;
+    table.insert(SECOND)?;
+    println!(rt; "enlarge: found {}", account(&mut table))?;
+    Ok(())
+}
+
+/// Opens a table and a ledger and enlarges each.
 pub(crate) fn call_all(rt: &impl Print, alloc: Global, l: Layout) -> Result<(), End> {
     let (writer, readers) = open(alloc, l, 0, 2)?;
-    let mut table = Table { writer, readers };
-    table.insert(FIRST)?;
-    println!(rt; "enlarge: found {}", table.account())?;
-    let mut table = enlarge(
-        rt,
-        alloc,
-        Layout::wide(l.capacity().saturating_add(1))?,
-        table,
-    )?;
-    println!(rt; "enlarge: found {}", table.account())?;
-    table.insert(SECOND)?;
-    println!(rt; "enlarge: found {}", table.account())?;
-    Ok(())
+    grow(rt, alloc, l, Table { writer, readers })?;
+    let (ledger, readers) = Ledger::open(alloc, l, 0, 2)?;
+    grow(rt, alloc, l, LedgerTable { ledger, readers })
 }
