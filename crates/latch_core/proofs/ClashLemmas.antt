@@ -104,9 +104,6 @@ twice_next x y rest sorted ne =
     let none = none_any (λ b. b == x) (y ∷ rest) (ne_eqb y x ne, all_weaker (λ b. y ≤ b) (λ b. (b == x) ≡ false) (λ b l. ne_eqb b x (λ e. absurd (ne (let up : y ≤ b = l in omega (arith, le, up, e))))) rest behind) in
     ap (λ b. b || some_twice (y ∷ rest)) none
 
-pub twice_here : (x y : ℕ) (rest : List ℕ) → y ≡ x → some_twice (x ∷ y ∷ rest) ≡ true
-twice_here x y rest e = ap (λ b. (b || list_any (λ b. b == x) rest) || some_twice (y ∷ rest)) (eq-eqb y x e)
-
 -- an item that is apart from its neighbour is apart from all behind it, where these are
 module _ {K : Type 0} (o : Order K) (law : IsLawful o) (line : IsInLine o) where
   precedes : (x y : Item) → o.valid x ≡ true → o.valid y ≡ true → o.apart x y ≡ true → x.a ≤ y.a → Precedes o x y
@@ -136,9 +133,6 @@ module _ {K : Type 0} (o : Order K) (law : IsLawful o) (line : IsInLine o) where
             let p = precedes x y valid.0 valid.1.0 (law.symmetric x y ∙ apart) front.0 in
             ap (λ b. b || false) (no_meeting o x (y ∷ rest) (apart, beyond x y rest p valid.1.0 valid.1.1 behind all.0))
       ] refl
-
-pub overlap_here : {K : Type 0} (o : Order K) (x y : Item) (rest : List Item) → o.apart y x ≡ false → some_overlap o (x ∷ y ∷ rest) ≡ true
-overlap_here o x y rest e = ap (λ b. (not b || meets o x rest) || some_overlap o (y ∷ rest)) e
 
 -- one place further in a sorted list
 pub twice_on : (words : List ℕ) (p : ℕ) → 1 ≤ p → p < length words → IsNonDecreasingBy (λ a. a) words → get_or words p 0 ≢ get_or words (p - 1) 0 → some_twice (drop (p - 1) words) ≡ some_twice words → some_twice (drop (p + 1 - 1) words) ≡ some_twice words

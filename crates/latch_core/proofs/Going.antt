@@ -3,8 +3,6 @@ use Rattle.std.proofs.Common.{◌≡◌, ◌≢◌, ℕ, ◌+◌, ◌-◌, ◌*�
 use Rattle.std.specs.declared.cmp.Ordering.{Ordering}
 use Rattle.order_laws.specs.declared.items.Item.{Item}
 use Rattle.order_laws.specs.Orders.{Order}
-use Rattle.word_arena.specs.Words.{root_word}
-use Rattle.latch_core.specs.Sequences.{stable}
 use Rattle.latch_core.specs.Attempts.{Reading, Load, turn, visit, walk, attempt, rest_after}
 use Rattle.latch_core.specs.Whole.{Wants}
 use Rattle.latch_core.proofs.Readings.{rest_push}
@@ -23,15 +21,6 @@ pub record IsIn {K : Type 0} (o : Order K) (n : ℕ) (k : K) (values : List ℕ)
   pub rest : rest_after (attempt o n k) values ≡ Some go
 
 module _ {K : Type 0} (o : Order K) (n : ℕ) (k : K) (s : ℕ) where
-  pub wants_root : (values : List ℕ) (copy word : ℕ) → values ≡ s ∷ [] → copy ≡ stable s → word ≡ root_word copy → Wants o n k values word
-  wants_root values copy word e f g =
-      (walk o n k s n, ap (rest_after (attempt o n k)) e ∙ ap (λ w. Some (Load w (walk o n k s n))) (sym (g ∙ ap root_word f)))
-
-  pub going_starts : (values new : List ℕ) (link : ℕ) → values ≡ s ∷ [] → new ≡ values ++ link ∷ [] → IsGoing o n k s new 2 link
-  going_starts values new link e f =
-      let g : new ≡ s ∷ (link ∷ []) = f ∙ ap (λ v. v ++ link ∷ []) e in
-      record { left = n; few = omega arith; counted = ap length g; rest = ap (rest_after (attempt o n k)) g }
-
   -- one value more
   pub goes_in : (values new : List ℕ) (loads word value : ℕ) (go : ℕ → Reading) → IsIn o n k values loads (Load word go) → new ≡ values ++ value ∷ [] → IsIn o n k new (loads + 1) (go value)
   goes_in values new loads word value go h e =
@@ -54,9 +43,6 @@ module _ {K : Type 0} (o : Order K) (n : ℕ) (k : K) (s : ℕ) where
   goes_on values new loads link next w some room h =
       let f = w.few in
       record { left = w.left - 1; few = omega arith; counted = h.counted; rest = h.rest }
-
-  pub wants_in : (n' : ℕ) (values : List ℕ) (word : ℕ) → n' ≡ n → Wants o n k values word → Wants o n' k values word
-  wants_in n' values word e h = subst (λ q. Wants o q k values word) (sym e) h
 
   -- the rest of a visit, by the item that was loaded
   pub turned : (values : List ℕ) (loads i : ℕ) (x : Item) (go : ℕ → Reading) (c c' : Ordering) → c ≡ c' → IsIn o n k values loads (turn s i x go c) → IsIn o n k values loads (turn s i x go c')

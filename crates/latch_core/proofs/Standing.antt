@@ -1,23 +1,20 @@
 -- What a reader has loaded stands through each step of the writer, and leads to words that are
 -- kept.
-use Rattle.std.proofs.Common.{◌≡◌, ◌≢◌, ℕ, suc, zero, ◌+◌, ◌*◌, ◌<◌, ◌≤◌, true, false, cond, List, [], ◌∷◌, ◌++◌, length, Some, None, refl, sym, ◌∙◌, ap, subst, inl, inr, ⊎_elim, arith}
-use Rattle.std.specs.Prelude.{◌⊎◌, nat_lt}
-use Rattle.std.specs.declared.cmp.Ordering.TheVariants.{Less, Equal, Greater}
-use Rattle.order_laws.specs.declared.items.Item.{Item}
+use Rattle.std.proofs.Common.{◌≡◌, ℕ, suc, ◌+◌, ◌*◌, ◌<◌, ◌≤◌, List, [], ◌∷◌, ◌++◌, length, Some, refl, sym, ◌∙◌, ap, subst, inl, inr, ⊎_elim, arith}
 use Rattle.order_laws.specs.Orders.{Order, IsLawful}
 use Rattle.order_laws.specs.Tables.{look}
 use Rattle.word_arena.specs.declared.stores.Store.{Store}
-use Rattle.word_arena.specs.Words.{at, root_word, left_word, right_word, a_word, b_word, tag_word, Reaches, by_root, by_left, by_right, InUse}
+use Rattle.word_arena.specs.Words.{at, root_word, left_word, right_word, Reaches, by_root, by_left, by_right, InUse}
 use Rattle.word_arena.specs.Stores.{words_after}
 use Rattle.latch_core.specs.Sequences.{gen, stable}
-use Rattle.latch_core.specs.Attempts.{Reading, Load, Ends, Found, Item_found, No_item, Stuck, Outcome, Answer, Again, outcome, closing, turn, visit, walk, attempt, rest_after, IsAttempt, Stand}
+use Rattle.latch_core.specs.Attempts.{Reading, Load, Ends, Outcome, Answer, attempt, rest_after, IsAttempt, Stand}
 use Rattle.latch_core.specs.Histories.{replay}
 use Rattle.latch_core.specs.declared.updates.Update.{Update}
 use Rattle.latch_core.specs.Latches.{Hand, Latch, IsHidden, MayStep}
-use Rattle.latch_core.proofs.Readings.{AllLoads, rest_push}
+use Rattle.latch_core.proofs.Readings.{AllLoads}
 use Rattle.latch_core.proofs.Steps.{hidden_same, attempt_uses, sequence_after}
 use Rattle.latch_core.proofs.Walks.{attempt_answers, attempt_loads}
-use Rattle.latch_core.specs.Standing.{loads_of, IsKept, StandAll, IsSteady, IsLatched, Closes}
+use Rattle.latch_core.specs.Standing.{loads_of, IsKept, StandAll, IsSteady, IsLatched}
 
 -- a walk comes to the same nodes where the words in use are the same
 pub reaches_on : (m m' : List ℕ) (n copy : ℕ) → ((w : ℕ) → InUse m n copy w → at m' w ≡ at m w) → (i : ℕ) → Reaches m n copy i → Reaches m' n copy i
@@ -98,41 +95,3 @@ latched_answers o law n base k m known v out latched whole st =
       attempt_answers o law m n k table latched.holds.0 latched.holds.1 latched.is_table latched.fits v out stand whole,
       attempt_loads o law m n k table latched.holds.0 latched.holds.1 latched.is_table latched.fits v stand,
     )
-
--- after its first number an attempt reads the sequence once more, at its end
-walk_closes : {K : Type 0} (o : Order K) (n : ℕ) (k : K) (s left link : ℕ) → Closes s (walk o n k s left link)
-walk_closes o n k s left zero = inl (refl, (No_item, λ t. refl))
-walk_closes o n k s zero (suc i) = inl (refl, (Stuck, λ t. refl))
-walk_closes o n k s (suc left) (suc i) =
-    elim (nat_lt i n) as (λ c. Closes s (cond c (visit o k s i (walk o n k s left)) (closing s Stuck))) [
-      | false ↦ inl (refl, (Stuck, λ t. refl))
-      | true ↦
-          inr (
-            (λ e. omega arith),
-            λ a. inr (
-              (λ e. omega arith),
-              λ b. inr (
-                (λ e. omega arith),
-                λ c. elim (o.comp k (record { a = a; b = b; tag = c })) as (λ d. Closes s (turn s i (record { a = a; b = b; tag = c }) (walk o n k s left) d)) [
-                  | Less ↦ inr ((λ e. omega arith), λ p. walk_closes o n k s left p)
-                  | Equal ↦ inl (refl, (Item_found (record { a = a; b = b; tag = c }), λ t. refl))
-                  | Greater ↦ inr ((λ e. omega arith), λ p. walk_closes o n k s left p)
-                ],
-              ),
-            ),
-          )
-    ]
-
-closes_after : (s : ℕ) (r : Reading) (v : List ℕ) (w : ℕ) (go : ℕ → Reading) → Closes s r → rest_after r v ≡ Some (Load w go) → Closes s (Load w go)
-closes_after s (Load w' go') [] w go c e = subst (Closes s) (let g : Load w' go' ≡ Load w go = cc in g) c
-closes_after s (Ends out) [] w go c e = absurd c
-closes_after s (Load w' go') (x ∷ v) w go c e =
-    ⊎_elim (λ z. let over : rest_after (Ends (outcome s x z.1.0)) v ≡ Some (Load w go) = ap (λ q. rest_after q v) (sym (z.1.1 x)) ∙ e in past s x z.1.0 v w go over) (λ z. closes_after s (go' x) v w go (z.1 x) e) c
-  where
-    past : (s x : ℕ) (f : Found) (v : List ℕ) (w : ℕ) (go : ℕ → Reading) → rest_after (Ends (outcome s x f)) v ≡ Some (Load w go) → Closes s (Load w go)
-    past s x f [] w go e = absurd (cc)
-    past s x f (y ∷ v) w go e = absurd (cc)
-closes_after s (Ends out) (x ∷ v) w go c e = absurd c
-
-pub attempt_closes : {K : Type 0} (o : Order K) (n : ℕ) (k : K) (s : ℕ) (v : List ℕ) (w : ℕ) (go : ℕ → Reading) → rest_after (attempt o n k) (s ∷ v) ≡ Some (Load w go) → Closes s (Load w go)
-attempt_closes o n k s v w go e = closes_after s (Load (root_word (stable s)) (walk o n k s n)) v w go (inr ((λ z. omega arith), λ p. walk_closes o n k s n p)) e

@@ -1,27 +1,22 @@
 -- A latch that has more nodes is pictured and sound as it was.
-use Rattle.std.proofs.Common.{◌≡◌, ℕ, ◌<◌, ◌≤◌, List, [], ◌∷◌, ◌++◌, length, None, refl, sym, ◌∙◌, ap, subst, arith, length-append}
+use Rattle.std.proofs.Common.{◌≡◌, ℕ, ◌≤◌, List, [], ◌∷◌, None, sym, ◌∙◌, ap, subst, arith, length-append}
 use Rattle.std.specs.Prelude.{◌-◌, ◌*◌, ◌||◌, nat_lt, replicate}
 use Rattle.std.proofs.lemmas.Bool.{ltb-false}
-use Rattle.std.proofs.lemmas.List.Elements.{All-weaker}
 use Rattle.order_laws.specs.Orders.{Order}
 use Rattle.order_laws.specs.declared.refusals.Refusal.TheVariants.{BadCapacity, UpdateInHand}
 use Rattle.word_arena.specs.declared.layouts.Layout.{Layout}
-use Rattle.word_arena.specs.declared.stores.Store.{Store}
 use Rattle.word_arena.specs.Layouts.{capacity_of, limit_of}
-use Rattle.word_arena.specs.Words.{at, words_for, Holds, HoldsTable, listed}
+use Rattle.word_arena.specs.Words.{at, Holds, HoldsTable}
 use Rattle.word_arena.specs.Wider.{wider_words}
 use Rattle.word_arena.proofs.WiderLemmas.{at_wider, length_wider, holds_wider, table_wider}
-use Rattle.rb_words.specs.Pictures.{Picture}
-use Rattle.rb_words.specs.Mirrors.{second}
 use Rattle.latch_core.specs.declared.updates.Update.{Update}
 use Rattle.latch_core.specs.Sequences.{gen, stable}
 use Rattle.latch_core.specs.Histories.{replay, table_at}
 use Rattle.latch_core.specs.Latches.{Latch}
 use Rattle.latch_core.specs.Invariants.{IsInHand, IsSound}
-use Rattle.latch_core.specs.FreeNodes.{AreAllNodes}
 use Rattle.latch_core.specs.Standing.{IsLatched}
 use Rattle.latch_core.specs.WriterViews.{WriterView}
-use Rattle.latch_core.specs.Writers.{IsShallow, StaysShallow, Pictures, AreInStep, in_hand}
+use Rattle.latch_core.specs.Writers.{IsShallow, StaysShallow, Pictures, in_hand}
 use Rattle.latch_core.specs.Widening.{why_not_widened, widened_writer, widened_latch, PicturesWidened}
 use Rattle.latch_core.proofs.TestLemmas.{none_holds}
 use Rattle.latch_core.proofs.BatchLemmas.{neither}
@@ -70,20 +65,6 @@ widened_pictures w l idle le latch p rest =
       sequence = same ∙ p.sequence;
       shallow = shallow_wider n n' m le shallow;
     })
-
--- the nodes behind those that there were are free
-pub widened_step : (n n' : ℕ) (p : Picture) (free free' : List ℕ) (left : List Store) → n ≤ n' → AreInStep n p (second p) free left → AreAllNodes n' (free' ++ listed p.tree) → AreInStep n' (record p { capacity = n' }) (second (record p { capacity = n' })) free' left
-widened_step n n' p free free' left le is nodes =
-    record {
-      zero_capacity = refl;
-      zero_copy = is.zero_copy;
-      one_capacity = refl;
-      one_copy = refl;
-      same_table = refl;
-      same_nodes = refl;
-      nodes = nodes;
-      in_range = All-weaker (λ (s : Store). s.word < words_for n) (λ s. s.word < words_for n') (λ s lt. omega (arith, lt, le)) left is.in_range;
-    }
 
 -- a sound latch stays sound
 pub widened_sound : {K : Type 0} (o : Order K) (n n' start : ℕ) (us : List Update) (l : Latch) → n ≤ n' → IsSound o n start us l → IsSound o n' start us (widened_latch n n' l)

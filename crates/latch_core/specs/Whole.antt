@@ -2,11 +2,9 @@
 use Rattle.std.specs.Prelude.{◌≡◌, ℕ, suc, List, Some}
 use Rattle.order_laws.specs.Orders.{Order}
 use Rattle.word_arena.specs.Words.{at}
-use Rattle.latch_core.specs.Attempts.{Outcome, Answer, Again, Reading, Load, Ends, Found, Item_found, No_item, Stuck, attempt, rest_after}
+use Rattle.latch_core.specs.Attempts.{Outcome, Answer, Again, Reading, Load, Ends, attempt, rest_after}
 use Rattle.latch_core.specs.declared.attempts.Attempted.{Attempted}
 use Rattle.latch_core.specs.declared.attempts.Attempted.TheVariants.{Answered, Failed}
-use Rattle.latch_core.specs.declared.loaders.Walked.{Walked}
-use Rattle.latch_core.specs.declared.loaders.Walked.TheVariants.{At, Nowhere, Lost}
 
 -- what it comes to in words that stand still, where each load gives what its word holds
 abbrev pub ran : List ℕ → Reading → Outcome
@@ -25,14 +23,9 @@ outcome_of Failed = Again
 
 -- an attempt that loaded these values goes on with a load of this word
 abbrev pub Wants : {K : Type 0} → Order K → ℕ → K → List ℕ → ℕ → Type 0
-Wants o n k values word = (go : ℕ → Reading) × (rest_after (attempt o n k) values ≡ Some (Load word go))
+Wants o n k values word =
+    (go : ℕ → Reading) × (rest_after (attempt o n k) values ≡ Some (Load word go))
 
 -- or is not at its end yet
 abbrev pub GoesOn : {K : Type 0} → Order K → ℕ → K → List ℕ → Type 0
 GoesOn o n k values = (word : ℕ) × Wants o n k values word
-
--- how a walk ended
-abbrev pub found_by : Walked → Found
-found_by (At item) = Item_found item
-found_by Nowhere = No_item
-found_by Lost = Stuck

@@ -47,9 +47,6 @@ pub mod batches;
 mod changes;
 mod clashes;
 pub mod laws;
-#[cfg(test)]
-mod loader_tests;
-pub mod loaders;
 mod nodes;
 pub mod plain;
 mod plans;
@@ -65,7 +62,6 @@ pub mod writers;
 
 pub use attempts::{Attempted, attempt_in};
 pub use batches::Entries;
-pub use loaders::{Loader, Walked, attempt_by};
 pub use readers::{ReaderCore, Taken};
 pub use updates::Update;
 pub use writers::WriterCore;

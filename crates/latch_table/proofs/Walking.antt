@@ -9,12 +9,11 @@ use Rattle.order_laws.specs.declared.items.Item.{Item}
 use Rattle.order_laws.specs.Orders.{Order}
 use Rattle.order_laws.specs.Tables.{look}
 use Rattle.latch_core.specs.declared.updates.Update.{Update}
-use Rattle.latch_core.specs.declared.loaders.Walked.{Walked}
 use Rattle.word_arena.specs.Words.{root_word}
 use Rattle.latch_core.specs.Sequences.{gen, stable}
 use Rattle.latch_core.specs.Histories.{replay}
 use Rattle.latch_core.specs.Attempts.{Reading, Load, Ends, No_item, Stuck, Outcome, Answer, Again, outcome, closing, turn, visit, walk, attempt, rest_after, IsAttempt}
-use Rattle.latch_core.specs.Whole.{Wants, found_by}
+use Rattle.latch_core.specs.Whole.{Wants}
 use Rattle.latch_core.proofs.Readings.{rest_push}
 use Rattle.latch_core.proofs.Walks.{attempt_length}
 use Rattle.latch_core.proofs.Going.{IsGoing, IsIn, goes_in, goes_on, in_node, wants}
@@ -26,7 +25,8 @@ use Rattle.latch_table.specs.declared.readers.Try.TheVariants.{Answered, Retry}
 use Rattle.latch_table.specs.Seats.{reading, reader_of, with_sequence, with_word}
 use Rattle.latch_table.specs.Rule.{LoadsSequence, as_reader}
 use Rattle.latch_table.specs.Readers.{Grows, Attempted, Tried, Searched, Searches}
-use Rattle.latch_table.specs.Walks.{MayLoad, HasWalked}
+use Rattle.latch_table.specs.declared.readers.attempts.Walked.{Walked}
+use Rattle.latch_table.specs.Walks.{MayLoad, HasWalked, found_by}
 use Rattle.latch_table.proofs.ReaderLemmas.{prefix_along, prefix_whole}
 
 -- a reader's seat after a load
@@ -128,22 +128,6 @@ at_link o n k s before e walked values cap same made rest =
 
 pub leaves_node : {K : Type 0} (o : Order K) (n : ℕ) (k : K) (s : ℕ) (before e : ReaderKnowledge) (walked : Walked) (count : ℕ) → IsAt o n k s before e count (closing s (found_by walked)) → HasWalked o k s before e walked
 leaves_node o n k s before e walked count at_e = at_link o n k s before e walked at_e.values at_e.capacity at_e.same at_e.made at_e.inside.rest
-
--- a walk that ends at a link: at link 0, or at one that leads to no node or after as many visits as
--- there are nodes
-pub walks_off : {K : Type 0} (o : Order K) (n : ℕ) (k : K) (s : ℕ) (before e : ReaderKnowledge) (count link : ℕ) (walked : Walked) → IsOn o n k s before e count link → ((left : ℕ) → count + 4 * left ≡ 4 * n + 2 → walk o n k s left link ≡ closing s (found_by walked)) → HasWalked o k s before e walked
-walks_off o n k s before e count link walked on ends =
-    at_link o n k s before e walked on.values on.capacity on.same on.made (on.going.rest ∙ ap Some (ends on.going.left on.going.few))
-
-pub ends_nowhere : {K : Type 0} (o : Order K) (n : ℕ) (k : K) (s left link : ℕ) → link ≡ 0 → walk o n k s left link ≡ closing s No_item
-ends_nowhere o n k s left link is = ap (walk o n k s left) is
-
-pub ends_lost : {K : Type 0} (o : Order K) (n : ℕ) (k : K) (s left link : ℕ) → link ≢ 0 → (n < link) ⊎ (left ≡ 0) → walk o n k s left link ≡ closing s Stuck
-ends_lost o n k s left zero some why = absurd (some refl)
-ends_lost o n k s zero (suc i) some why = refl
-ends_lost o n k s (suc left) (suc i) some why =
-    let beyond : nat_lt i n ≡ false = le-ltb i n (⊎_elim (λ far. omega arith) (λ none. absurd (omega arith)) why) in
-    ap (λ b. cond b (visit o k s i (walk o n k s left)) (closing s Stuck)) beyond
 
 -- the second reading of the sequence
 module _ {K : Type 0} (o : Order K) (k : K) (before begun e : ReaderKnowledge) (s : ℕ) (walked : Walked) (all : List Update) (first : LoadsSequence o before s all) (is_begun : begun ≡ with_sequence s all before) (walk_is : HasWalked o k s begun e walked) where

@@ -268,17 +268,6 @@ module _ {S K : Type 0} (o : Order K) (place : TableId) (readers : ℕ) (m : Me 
   pub table_rests : IsTied o m core here → here.latch.hand ≡ None → core.table ≡ replay o [] (known here)
   table_rests tied resting = tied.sound.table_is ∙ ap (replay o []) (sym (all_shown tied resting))
 
-  -- and so it is where no store is left
-  pub steps_none : IsTied o m core here → next_store core ≡ None → Steps here here None
-  steps_none tied none =
-      let resting : here.latch.hand ≡ None = ap (λ ss. hand_of ss p) (no_store core.left none) in
-      let counted : at p.picture 0 ≡ 2 * p.base + 2 * length p.accepted = subst (IsInHand o (2 * p.base) (at p.picture 0) p.accepted) resting tied.sound.in_hand in
-      (resting, refl, all_shown tied resting, omega arith)
-    where
-      no_store : (left : List Store) → slice_get left 0 ≡ None → left ≡ []
-      no_store [] e = refl
-      no_store (s ∷ ss) e = absurd (cc)
-
 -- an update begins at rest
 idle : {K : Type 0} (o : Order K) (w : WriterView) (u : Update) → why_refused o w u ≡ None → w.left ≡ []
 idle o w u accepted = none_left w.left refl

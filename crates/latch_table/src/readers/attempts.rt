@@ -13,11 +13,21 @@ ghost use Rattle.latch_table.specs.Walks.{MayLoad, HasWalked};
 use super::Try;
 use crate::knowledge::TableSeat;
 use crate::rule::{LoadSequence, LoadWord, Words};
-use latch_core::Walked;
 use latch_core::sequences::{generation, stable_copy};
 use order_laws::{Item, TreeOrder};
 use std::cmp::Ordering;
 use word_arena::{Layout, places};
+
+/// How a walk ended.
+#[derive(Clone, Copy, Drop)]
+pub(super) enum Walked {
+    /// At the item that the key is in.
+    At(Item),
+    /// At link 0.
+    Nowhere,
+    /// At a link that leads to no node, or after as many visits as there are nodes.
+    Lost,
+}
 
 /// One attempt through a seat.
 pub(super) fn attempt<O: TreeOrder>(

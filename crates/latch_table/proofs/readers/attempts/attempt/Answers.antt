@@ -1,12 +1,12 @@
 use Rattle.std.proofs.Common.{Some, None, ap, sym, ◌∙◌, subst, arith}
 use Rattle.latch_core.specs.Sequences.{gen}
 use Rattle.latch_core.specs.Attempts.{outcome}
-use Rattle.latch_core.specs.Whole.{found_by}
 use Rattle.latch_core.proofs.Leads.{answers, answers_none, again, again_none}
 use Rattle.latch_table.specs.declared.knowledge.ReaderKnowledge.{ReaderKnowledge}
 use Rattle.latch_table.specs.declared.readers.Try.TheVariants.{Answered, Retry}
 use Rattle.latch_table.specs.Seats.{reader_of, with_sequence}
 use Rattle.latch_table.specs.Readers.{Tried}
+use Rattle.latch_table.specs.Walks.{found_by}
 use Rattle.latch_table.proofs.RuleLemmas.{allows_sequence}
 use Rattle.latch_table.proofs.Walking.{still_reading, answers_now, retries_now}
 use Rattle.latch_table.proofs.readers.attempts.attempt.Goals as goal
