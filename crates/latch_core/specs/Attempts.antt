@@ -51,7 +51,8 @@ visit o k s i go =
 abbrev pub walk : {K : Type 0} → Order K → ℕ → K → ℕ → ℕ → ℕ → Reading
 walk o n k s left zero = closing s No_item
 walk o n k s zero (suc i) = closing s Stuck
-walk o n k s (suc left) (suc i) = if nat_lt i n then visit o k s i (walk o n k s left) else closing s Stuck
+walk o n k s (suc left) (suc i) =
+    if nat_lt i n then visit o k s i (walk o n k s left) else closing s Stuck
 
 -- one attempt, at a capacity of n nodes
 abbrev pub attempt : {K : Type 0} → Order K → ℕ → K → Reading

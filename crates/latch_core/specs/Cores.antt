@@ -5,9 +5,11 @@ use Rattle.order_laws.specs.Orders.{Order}
 use Rattle.word_arena.specs.Words.{root_word, b_word, tag_word, left_word, right_word}
 use Rattle.latch_core.specs.Sequences.{stable}
 use Rattle.latch_core.specs.Attempts.{Answer, Again, Reading, Load, Item_found, No_item, Stuck as Is_stuck, closing, turn, visit, walk, attempt, rest_after, IsAttempt}
+use Rattle.latch_core.specs.Whole.{Wants}
 use Rattle.latch_core.specs.declared.readers.ReaderCore.{ReaderCore}
 use Rattle.latch_core.specs.declared.readers.Taken.{Taken}
 use Rattle.latch_core.specs.declared.readers.Taken.TheVariants.{Going, Retrying, Returned}
+use Rattle.latch_core.specs.declared.spots.Spot.{Spot}
 use Rattle.latch_core.specs.declared.spots.Place.{Place}
 use Rattle.latch_core.specs.declared.spots.Place.TheVariants.{First, Root, WordA, WordB, Tag, Left, Right, Found, Missing, Stuck}
 
@@ -18,50 +20,59 @@ capacity_of_core c = c.spot.capacity
 abbrev pub key_of_core : {O K : Type 0} → ReaderCore O K → K
 key_of_core c = c.key
 
--- what is left of an attempt, by the place where the core stands: s is the first reading of the
--- sequence, left the number of visits left, i the node in hand and a, b, tag what was loaded of its
--- item
-abbrev pub left_at : {K : Type 0} → Order K → ℕ → K → ℕ → ℕ → ℕ → ℕ → ℕ → ℕ → Place → Reading
-left_at o n k s left i a b tag First = attempt o n k
-left_at o n k s left i a b tag Root = Load (root_word (stable s)) (walk o n k s n)
-left_at o n k s left i a b tag WordA = visit o k s i (walk o n k s left)
-left_at o n k s left i a b tag WordB =
-    Load (b_word i) (λ b'. Load (tag_word i) (λ tag'.
-    let x : Item = record { a = a; b = b'; tag = tag' } in
-    turn s i x (walk o n k s left) (o.comp k x)))
-left_at o n k s left i a b tag Tag =
-    Load (tag_word i) (λ tag'.
-    let x : Item = record { a = a; b = b; tag = tag' } in
-    turn s i x (walk o n k s left) (o.comp k x))
-left_at o n k s left i a b tag Left = Load (left_word (stable s) i) (walk o n k s left)
-left_at o n k s left i a b tag Right = Load (right_word (stable s) i) (walk o n k s left)
-left_at o n k s left i a b tag Found = closing s (Item_found (record { a = a; b = b; tag = tag }))
-left_at o n k s left i a b tag Missing = closing s No_item
-left_at o n k s left i a b tag Stuck = closing s Is_stuck
+-- the walk of a key that goes on from a spot, by the link that it follows
+abbrev pub walk_from : {K : Type 0} → Order K → K → Spot → ℕ → Reading
+walk_from o k s = walk o s.capacity k s.first s.left
+
+-- what is left of a key's attempt that stands at a spot, by the place whose value it waits for
+abbrev pub left_at : {K : Type 0} → Order K → K → Spot → Place → Reading
+left_at o k s First = attempt o s.capacity k
+left_at o k s Root = Load (root_word (stable s.first)) (walk o s.capacity k s.first s.capacity)
+left_at o k s WordA = visit o k s.first s.node (walk_from o k s)
+left_at o k s WordB =
+    Load (b_word s.node) (λ b. Load (tag_word s.node) (λ tag.
+    let x : Item = record { a = s.a; b = b; tag = tag } in
+    turn s.first s.node x (walk_from o k s) (o.comp k x)))
+left_at o k s Tag =
+    Load (tag_word s.node) (λ tag.
+    let x : Item = record { a = s.a; b = s.b; tag = tag } in
+    turn s.first s.node x (walk_from o k s) (o.comp k x))
+left_at o k s Left = Load (left_word (stable s.first) s.node) (walk_from o k s)
+left_at o k s Right = Load (right_word (stable s.first) s.node) (walk_from o k s)
+left_at o k s Found = closing s.first (Item_found (record { a = s.a; b = s.b; tag = s.tag }))
+left_at o k s Missing = closing s.first No_item
+left_at o k s Stuck = closing s.first Is_stuck
 
 -- what is left of the core's attempt
 abbrev pub remaining : {O K : Type 0} → Order K → ReaderCore O K → Reading
-remaining o c = left_at o c.spot.capacity c.key c.spot.first c.spot.left c.spot.node c.spot.a c.spot.b c.spot.tag c.spot.place
+remaining o c = left_at o c.key c.spot c.spot.place
 
 -- these values lead from the start of the core's key to the core
 abbrev pub LeadsTo : {O K : Type 0} → Order K → List ℕ → ReaderCore O K → Type 0
-LeadsTo o values c = rest_after (attempt o (capacity_of_core c) (key_of_core c)) values ≡ Some (remaining o c)
+LeadsTo o values c =
+    rest_after (attempt o (capacity_of_core c) (key_of_core c)) values ≡ Some (remaining o c)
 
 -- whatever values led to the core, its attempt goes on with a load of this word
 abbrev pub IsWanted : {O K : Type 0} → Order K → ReaderCore O K → ℕ → Type 0
 IsWanted o c word =
-    (values : List ℕ) → LeadsTo o values c → (go : ℕ → Reading) × (rest_after (attempt o (capacity_of_core c) (key_of_core c)) values ≡ Some (Load word go))
+    (values : List ℕ) → LeadsTo o values c → Wants o (capacity_of_core c) (key_of_core c) values word
 
 -- one value more leads to what the core hands back: to a core that has taken these values, at most
 -- 4n + 2; or to the end of the attempt, after which a core that begins again has taken none
 abbrev pub LeadsOn : {O K : Type 0} → Order K → ℕ → K → List ℕ → Taken O K → Type 0
-LeadsOn o n k values (Going c) = (capacity_of_core c ≡ n) × (key_of_core c ≡ k) × LeadsTo o values c × (length values ≤ 4 * n + 2)
-LeadsOn o n k values (Retrying c) = (capacity_of_core c ≡ n) × (key_of_core c ≡ k) × IsAttempt o n k values Again × LeadsTo o [] c
+LeadsOn o n k values (Going c) =
+    (capacity_of_core c ≡ n) × (key_of_core c ≡ k)
+    × LeadsTo o values c × (length values ≤ 4 * n + 2)
+LeadsOn o n k values (Retrying c) =
+    (capacity_of_core c ≡ n) × (key_of_core c ≡ k)
+    × IsAttempt o n k values Again × LeadsTo o [] c
 LeadsOn o n k values (Returned answer g) = IsAttempt o n k values (Answer answer g)
 
 -- whatever values led to the core, this one leads on to what it hands back
 abbrev pub LeadsBy : {O K : Type 0} → Order K → ReaderCore O K → ℕ → Taken O K → Type 0
-LeadsBy o c value taken = (values : List ℕ) → LeadsTo o values c → LeadsOn o (capacity_of_core c) (key_of_core c) (values ++ value ∷ []) taken
+LeadsBy o c value taken =
+    (values : List ℕ) → LeadsTo o values c
+    → LeadsOn o (capacity_of_core c) (key_of_core c) (values ++ value ∷ []) taken
 
 -- how many loads a core makes at most before its attempt ends
 abbrev pub most_at : ℕ → ℕ → Place → ℕ
@@ -91,6 +102,8 @@ StartsAgain o _ = Unit {0}
 
 -- a core that is handed back looks the same key up among as many nodes
 abbrev pub IsSameLookup : {O K : Type 0} → ReaderCore O K → Taken O K → Type 0
-IsSameLookup old (Going c) = (capacity_of_core c ≡ capacity_of_core old) × (key_of_core c ≡ key_of_core old)
-IsSameLookup old (Retrying c) = (capacity_of_core c ≡ capacity_of_core old) × (key_of_core c ≡ key_of_core old)
+IsSameLookup old (Going c) =
+    (capacity_of_core c ≡ capacity_of_core old) × (key_of_core c ≡ key_of_core old)
+IsSameLookup old (Retrying c) =
+    (capacity_of_core c ≡ capacity_of_core old) × (key_of_core c ≡ key_of_core old)
 IsSameLookup old (Returned answer g) = Unit {0}

@@ -17,11 +17,13 @@ IsStanding m r (s ∷ v) = (s ≤ at m 0) × (s ≡ at m 0 → Stand m r (s ∷ 
 
 -- each replay is a table, and fits
 abbrev pub AreTables : {K : Type 0} → Order K → ℕ → List Update → Type 0
-AreTables o n us = (j : ℕ) → IsTable o (replay o [] (take j us)) × (length (replay o [] (take j us)) ≤ n)
+AreTables o n us =
+    (j : ℕ) → IsTable o (replay o [] (take j us)) × (length (replay o [] (take j us)) ≤ n)
 
 -- an update in hand is the last that was accepted; with none in hand the sequence counts two for
 -- each
-pub record IsHand {K : Type 0} (o : Order K) (start seq : ℕ) (us : List Update) (h : Hand) : Type 0 where
+pub record IsHand {K : Type 0} (o : Order K) (start seq : ℕ) (us : List Update) (h : Hand)
+    : Type 0 where
   pub count : seq + 2 ≡ start + 2 * length us + h.flips
   pub flips : h.flips ≤ 2
   pub last : 0 < length us
@@ -32,7 +34,8 @@ IsInHand o start seq us None = seq ≡ start + 2 * length us
 IsInHand o start seq us (Some h) = IsHand o start seq us h
 
 -- the latch after these updates: the stable copy holds the table that the sequence names
-pub record IsSound {K : Type 0} (o : Order K) (n start : ℕ) (us : List Update) (l : Latch) : Type 0 where
+pub record IsSound {K : Type 0} (o : Order K) (n start : ℕ) (us : List Update) (l : Latch)
+    : Type 0 where
   pub even : stable start ≡ 0
   pub sized : 0 < length l.words
   pub tables : AreTables o n us

@@ -57,16 +57,19 @@ flips_after flips s = if s.word == 0 then flips + 1 else flips
 
 -- the writer may make this step; the last one leaves two flips and the new table in both copies
 pub record MayStep (n : ℕ) (l : Latch) (h : Hand) (s : Store) : Type 0 where
-  pub kind : IsHidden n l.words h.began s.word ⊎ (IsFirstFlip n l.words h s ⊎ IsSecondFlip n l.words h l.table s)
+  pub kind : IsHidden n l.words h.began s.word
+      ⊎ (IsFirstFlip n l.words h s ⊎ IsSecondFlip n l.words h l.table s)
   pub at_end : h.left ≡ 1 → (flips_after h.flips s ≡ 2) × BothHold (words_after l.words s) n l.table
 
 -- and leaves this
 abbrev pub stepped : Latch → Hand → Store → Latch
 stepped l h s =
-    record {
+    record l {
       words = words_after l.words s;
-      table = l.table;
-      hand = if h.left == 1 then None else Some (record { old = h.old; began = h.began; flips = flips_after h.flips s; left = h.left - 1 });
+      hand =
+          if h.left == 1
+          then None
+          else Some (record h { flips = flips_after h.flips s; left = h.left - 1 });
     }
 
 -- before any step: the sequence at its start, and all other words 0
@@ -76,4 +79,7 @@ opening_latch n start = record { words = start ∷ replicate (7 * n + 2) 0; tabl
 -- an update is accepted; how many steps it takes is the writer's choice
 abbrev pub begun : {K : Type 0} → Order K → Latch → Update → ℕ → Latch
 begun o l u left =
-    record { words = l.words; table = after o l.table u; hand = Some (record { old = l.table; began = l.words; flips = 0; left = left }) }
+    record l {
+      table = after o l.table u;
+      hand = Some (record { old = l.table; began = l.words; flips = 0; left = left });
+    }

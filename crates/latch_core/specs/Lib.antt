@@ -21,10 +21,10 @@ pub mod Changes
 pub mod Writers
 -- a writer's core at rest that goes on with more nodes
 pub mod Widening
--- what a reader's core has still to do, and how the values that it takes lead it on
-pub mod Cores
 -- whole attempts
 pub mod Whole
+-- what a reader's core has still to do, and how the values that it takes lead it on
+pub mod Cores
 -- what a writer's core shows
 pub mod WriterViews
 -- what a writer's list of stores shows

@@ -10,10 +10,22 @@ pub record PlanView : Type 0 where
 
 -- a store and a view are stored as the tuples of their fields
 abbrev pub store_code : Coded Store
-store_code = code_by (ℕ × ℕ) (coded× coded_ℕ coded_ℕ) (λ s. (s.word, s.value)) (λ p. record { word = p.0; value = p.1 }) (λ _. refl)
+store_code =
+    code_by
+    (ℕ × ℕ)
+    (coded× coded_ℕ coded_ℕ)
+    (λ s. (s.word, s.value))
+    (λ p. record { word = p.0; value = p.1 })
+    (λ _. refl)
 
 abbrev pub plan_code : Coded PlanView
-plan_code = code_by (List Store × ℕ) (coded× (coded_list store_code) coded_ℕ) (λ p. (p.left, p.room)) (λ p. record { left = p.0; room = p.1 }) (λ _. refl)
+plan_code =
+    code_by
+    (List Store × ℕ)
+    (coded× (coded_list store_code) coded_ℕ)
+    (λ p. (p.left, p.room))
+    (λ p. record { left = p.0; room = p.1 })
+    (λ _. refl)
 
 -- of the stores of an update so many were made, and a list has this room behind them
 abbrev pub plan_view : List Store → ℕ → ℕ → PlanView

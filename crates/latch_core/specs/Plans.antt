@@ -15,4 +15,5 @@ flip_to seq = record { word = 0; value = seq }
 -- the stores of an update from a sequence on: item words of free nodes, the first flip, links of
 -- copy 0, the second flip, links of copy 1
 abbrev pub update_stores : ℕ → List Store → List Store → List Store → List Store
-update_stores seq item_stores links0 links1 = item_stores ++ flip_to (seq + 1) ∷ links0 ++ flip_to (seq + 2) ∷ links1
+update_stores seq item_stores links0 links1 =
+    item_stores ++ flip_to (seq + 1) ∷ links0 ++ flip_to (seq + 2) ∷ links1

@@ -25,7 +25,16 @@ abbrev pub writer_code : Coded WriterView
 writer_code =
     code_by
     (ℕ × (ℕ × (ℕ × (List Item × (Nodes × (Nodes × List Store))))))
-    (coded× coded_ℕ (coded× coded_ℕ (coded× coded_ℕ (coded× (coded_list item_code) (coded× nodes_code (coded× nodes_code (coded_list store_code)))))))
+    (coded× coded_ℕ (coded× coded_ℕ (coded× coded_ℕ (coded× (coded_list item_code)
+    (coded× nodes_code (coded× nodes_code (coded_list store_code)))))))
     (λ w. (w.capacity, (w.limit, (w.sequence, (w.table, (w.zero_tree, (w.one_tree, w.left)))))))
-    (λ t. record { capacity = t.0; limit = t.1.0; sequence = t.1.1.0; table = t.1.1.1.0; zero_tree = t.1.1.1.1.0; one_tree = t.1.1.1.1.1.0; left = t.1.1.1.1.1.1 })
+    (λ t. record {
+      capacity = t.0;
+      limit = t.1.0;
+      sequence = t.1.1.0;
+      table = t.1.1.1.0;
+      zero_tree = t.1.1.1.1.0;
+      one_tree = t.1.1.1.1.1.0;
+      left = t.1.1.1.1.1.1;
+    })
     (λ _. refl)

@@ -40,7 +40,9 @@ pub record AtRest (w : WriterView) (m : List ℕ) : Type 0 where
 
 -- the stable copy holds a table in a red-black tree
 abbrev pub IsShallow : ℕ → List ℕ → Type 0
-IsShallow n m = (table : List Item) × (tree : Nodes) × Holds m n (stable (at m 0)) table tree × CanBeRedBlack tree
+IsShallow n m =
+    (table : List Item) × (tree : Nodes)
+    × Holds m n (stable (at m 0)) table tree × CanBeRedBlack tree
 
 -- now, and after each of these stores
 abbrev pub StaysShallow : ℕ → List ℕ → List Store → Type 0
@@ -60,26 +62,38 @@ pub record Pictures (w : WriterView) (l : Latch) : Type 0 where
 -- hand, and with none left no update is in hand
 abbrev pub MayBeNext : WriterView → Option Store → Type 0
 MayBeNext w next =
-    (l : Latch) → Pictures w l → MatchOption next (l.hand ≡ None) (λ s. (h : Hand) × (l.hand ≡ Some h) × MayStep w.capacity l h s)
+    (l : Latch) → Pictures w l
+    → MatchOption next (l.hand ≡ None) (λ s. (h : Hand) × (l.hand ≡ Some h) × MayStep w.capacity l h s)
 
 -- the next store leads from what the one core pictures to what the other does
 abbrev pub LeadsFrom : WriterView → WriterView → Type 0
 LeadsFrom old new =
-    (l : Latch) (h : Hand) (s : Store) → Pictures old l → l.hand ≡ Some h → next_store old ≡ Some s → Pictures new (stepped l h s)
+    (l : Latch) (h : Hand) (s : Store)
+    → Pictures old l → l.hand ≡ Some h → next_store old ≡ Some s → Pictures new (stepped l h s)
 
 -- the latch that is pictured refuses what the core refuses
 abbrev pub RefusesAsPictured : {K : Type 0} → Order K → WriterView → Update → Type 0
 RefusesAsPictured o w u =
-    (l : Latch) → Pictures w l → refuses o w.capacity w.limit (is_some l.hand) l.table (at l.words 0) u ≡ why_refused o w u
+    (l : Latch) → Pictures w l
+    → refuses o w.capacity w.limit (is_some l.hand) l.table (at l.words 0) u ≡ why_refused o w u
 
 -- an update is refused by what its tests say, and else for want of memory
 abbrev pub IsRefusedBy : {K : Type 0} → Order K → WriterView → Update → Refusal → Type 0
-IsRefusedBy o w u e = (why_refused o w u ≡ Some e) ⊎ ((why_refused o w u ≡ None) × (e ≡ OutOfMemory))
+IsRefusedBy o w u e =
+    (why_refused o w u ≡ Some e) ⊎ ((why_refused o w u ≡ None) × (e ≡ OutOfMemory))
 
 -- a core that has made nothing
 abbrev pub opening_writer : Layout → ℕ → WriterView
 opening_writer l start =
-    record { capacity = capacity_of l; limit = limit_of l; sequence = start; table = []; zero_tree = none; one_tree = none; left = [] }
+    record {
+      capacity = capacity_of l;
+      limit = limit_of l;
+      sequence = start;
+      table = [];
+      zero_tree = none;
+      one_tree = none;
+      left = [];
+    }
 
 -- an opening sequence is even and not above the limit
 abbrev pub MayOpen : Layout → ℕ → Type 0
@@ -87,7 +101,8 @@ MayOpen l start = (stable start ≡ 0) × (start ≤ limit_of l)
 
 -- an opening is refused by its sequence, and else for want of memory
 abbrev pub IsOpeningRefused : Layout → ℕ → Refusal → Type 0
-IsOpeningRefused l start e = ((e ≡ BadCapacity) × (MayOpen l start → ⊥)) ⊎ ((e ≡ OutOfMemory) × MayOpen l start)
+IsOpeningRefused l start e =
+    ((e ≡ BadCapacity) × (MayOpen l start → ⊥)) ⊎ ((e ≡ OutOfMemory) × MayOpen l start)
 
 -- the sequence after a store
 abbrev pub sequence_after : ℕ → Store → ℕ
@@ -111,8 +126,14 @@ pub record AreInStep (n : ℕ) (zero one : Picture) (free : List ℕ) (left : Li
 
 -- the new core has the update in hand: its table is the one after it, and on each latch that the
 -- old core pictures the stores that it planned carry the update out
-pub record HasBegun {K : Type 0} (o : Order K) (old : WriterView) (u : Update) (new : WriterView) : Type 0 where
-  pub rest : new ≡ record old { table = after o old.table u; zero_tree = new.zero_tree; one_tree = new.one_tree; left = new.left }
+pub record HasBegun {K : Type 0} (o : Order K) (old : WriterView) (u : Update) (new : WriterView)
+    : Type 0 where
+  pub rest : new ≡ record old {
+    table = after o old.table u;
+    zero_tree = new.zero_tree;
+    one_tree = new.one_tree;
+    left = new.left;
+  }
   pub some : 0 < length new.left
   pub few : length new.left ≤ most_steps old.capacity u
   -- at most 16 for each item in each copy, and two flips

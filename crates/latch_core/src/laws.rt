@@ -23,18 +23,22 @@ use order_laws::TreeOrder;
 /// stable copy, with the generation of the sequence, and takes at most four loads for each item and
 /// three.
 pub fn attempt_answers<O: TreeOrder>()
-    ensures { (m : List ℕ) (n : ℕ) (k : O.Key) (table : List Item) (tree : Nodes) (values : List ℕ) (out : Outcome)
+    ensures { (m : List ℕ) (n : ℕ) (k : O.Key) (table : List Item) (tree : Nodes)
+        → (values : List ℕ) (out : Outcome)
         → Holds m n (stable (at m 0)) table tree → IsTable O.order table → length table ≤ n
         → Stand m (attempt O.order n k) values → IsAttempt O.order n k values out
-        → (out ≡ Answer (look O.order k table) (gen (at m 0))) × (length values ≤ 4 * length table + 3) }
+        → (out ≡ Answer (look O.order k table) (gen (at m 0)))
+        × (length values ≤ 4 * length table + 3) }
 {}
 
 /// An attempt whose values so far all stand in one memory, and that is not at its end, has taken
 /// fewer than that.
 pub fn attempt_is_short<O: TreeOrder>()
-    ensures { (m : List ℕ) (n : ℕ) (k : O.Key) (table : List Item) (tree : Nodes) (values : List ℕ) (word : ℕ) (go : ℕ → Reading)
+    ensures { (m : List ℕ) (n : ℕ) (k : O.Key) (table : List Item) (tree : Nodes)
+        → (values : List ℕ) (word : ℕ) (go : ℕ → Reading)
         → Holds m n (stable (at m 0)) table tree → IsTable O.order table → length table ≤ n
-        → Stand m (attempt O.order n k) values → rest_after (attempt O.order n k) values ≡ Some (Load word go)
+        → Stand m (attempt O.order n k) values
+        → rest_after (attempt O.order n k) values ≡ Some (Load word go)
         → length values < 4 * length table + 3 }
 {}
 
@@ -45,10 +49,12 @@ pub fn attempt_is_shallow<O: TreeOrder>()
     ensures deep { (m : List ℕ) (n : ℕ) (table : List Item) (tree : Nodes)
         → Holds m n (stable (at m 0)) table tree → CanBeRedBlack tree
         → 2 ^ depth tree ≤ (length table + 1) * (length table + 1) }
-    ensures whole { (m : List ℕ) (n : ℕ) (k : O.Key) (table : List Item) (tree : Nodes) (values : List ℕ)
+    ensures whole { (m : List ℕ) (n : ℕ) (k : O.Key) (table : List Item) (tree : Nodes)
+        → (values : List ℕ)
         → Holds m n (stable (at m 0)) table tree → IsTable O.order table → length table ≤ n
         → Stand m (attempt O.order n k) values → length values ≤ 4 * depth tree + 3 }
-    ensures part { (m : List ℕ) (n : ℕ) (k : O.Key) (table : List Item) (tree : Nodes) (values : List ℕ)
+    ensures part { (m : List ℕ) (n : ℕ) (k : O.Key) (table : List Item) (tree : Nodes)
+        → (values : List ℕ)
         → Holds m n (stable (at m 0)) table tree → IsTable O.order table → length table ≤ n
         → Stand m (attempt O.order n k) values → GoesOn O.order n k values
         → length values < 4 * depth tree + 3 }
@@ -59,7 +65,8 @@ pub fn attempt_ends<O: TreeOrder>()
     ensures whole { (n : ℕ) (k : O.Key) (values : List ℕ) (rest : Reading)
         → rest_after (attempt O.order n k) values ≡ Some rest → length values ≤ 4 * n + 3 }
     ensures part { (n : ℕ) (k : O.Key) (values : List ℕ) (word : ℕ) (go : ℕ → Reading)
-        → rest_after (attempt O.order n k) values ≡ Some (Load word go) → length values ≤ 4 * n + 2 }
+        → rest_after (attempt O.order n k) values ≡ Some (Load word go)
+        → length values ≤ 4 * n + 2 }
 {}
 
 /// While the sequence is what an attempt read first, each value that it loaded still stands in its
@@ -68,26 +75,32 @@ pub fn attempt_ends<O: TreeOrder>()
 pub fn loaded_values_stand<O: TreeOrder>()
     ensures step { (n : ℕ) (k : O.Key) (l : Latch) (h : Hand) (s : Store) (values : List ℕ)
         → 0 < length l.words → MayStep n l h s
-        → IsStanding l.words (attempt O.order n k) values → IsStanding (words_after l.words s) (attempt O.order n k) values }
+        → IsStanding l.words (attempt O.order n k) values
+        → IsStanding (words_after l.words s) (attempt O.order n k) values }
     ensures load { (m : List ℕ) (n : ℕ) (k : O.Key) (values : List ℕ) (word : ℕ) (go : ℕ → Reading)
         → rest_after (attempt O.order n k) values ≡ Some (Load word go)
-        → IsStanding m (attempt O.order n k) values → IsStanding m (attempt O.order n k) (values ++ at m word ∷ []) }
+        → IsStanding m (attempt O.order n k) values
+        → IsStanding m (attempt O.order n k) (values ++ at m word ∷ []) }
 {}
 
 /// A step of the writer leaves the sequence as it is, or adds 1.
 pub fn sequence_never_falls()
     ensures { (n : ℕ) (l : Latch) (h : Hand) (s : Store) → 0 < length l.words → MayStep n l h s
-        → (at (words_after l.words s) 0 ≡ at l.words 0) ⊎ (at (words_after l.words s) 0 ≡ at l.words 0 + 1) }
+        → (at (words_after l.words s) 0 ≡ at l.words 0)
+        ⊎ (at (words_after l.words s) 0 ≡ at l.words 0 + 1) }
 {}
 
 /// At the opening, after each step, after each update that begins and with more nodes, the stable
 /// copy holds the table that the sequence names.
 pub fn latch_stays_sound<O: TreeOrder>()
-    ensures opening { (n start : ℕ) → stable start ≡ 0 → IsSound O.order n start [] (opening_latch n start) }
+    ensures opening { (n start : ℕ) → stable start ≡ 0
+        → IsSound O.order n start [] (opening_latch n start) }
     ensures step { (n start : ℕ) (us : List Update) (l : Latch) (h : Hand) (s : Store)
-        → IsSound O.order n start us l → l.hand ≡ Some h → MayStep n l h s → IsSound O.order n start us (stepped l h s) }
+        → IsSound O.order n start us l → l.hand ≡ Some h → MayStep n l h s
+        → IsSound O.order n start us (stepped l h s) }
     ensures begin { (n limit start : ℕ) (us : List Update) (l : Latch) (u : Update) (left : ℕ)
-        → IsSound O.order n start us l → l.hand ≡ None → refuses O.order n limit false l.table (at l.words 0) u ≡ None
+        → IsSound O.order n start us l → l.hand ≡ None
+        → refuses O.order n limit false l.table (at l.words 0) u ≡ None
         → IsSound O.order n start (us ++ u ∷ []) (begun O.order l u left) }
     ensures widen { (n n' start : ℕ) (us : List Update) (l : Latch)
         → n ≤ n' → IsSound O.order n start us l

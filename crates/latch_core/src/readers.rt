@@ -3,7 +3,7 @@
 ghost use Rattle.std.specs.Prelude.{◌≡◌, ◌+◌, ◌*◌, ◌<◌, ◌≤◌, [], Some};
 ghost use Rattle.word_arena.specs.Layouts.{capacity_of};
 ghost use Rattle.word_arena.specs.Words.{words_for};
-ghost use Rattle.latch_core.specs.Attempts.{attempt, walk};
+ghost use Rattle.latch_core.specs.Attempts.{attempt};
 
 use crate::sequences::{generation, stable_copy};
 use crate::spots::{Place, Spot};
@@ -34,7 +34,7 @@ pub enum Taken<O: TreeOrder> {
 }
 
 impl<O: TreeOrder> ReaderCore<O> {
-    ghost use Rattle.latch_core.specs.Cores.{capacity_of_core, key_of_core, remaining, LeadsTo, IsWanted, LeadsBy, most_loads, IsSameLookup, IsShorter, StartsAgain};
+    ghost use Rattle.latch_core.specs.Cores.{capacity_of_core, key_of_core, walk_from, remaining, LeadsTo, IsWanted, LeadsBy, most_loads, IsSameLookup, IsShorter, StartsAgain};
 
     /// A lookup of `k` that was given nothing yet.
     pub fn start(l: Layout, k: O::Key) -> Self
@@ -95,8 +95,7 @@ impl<O: TreeOrder> ReaderCore<O> {
         ensures capacity { capacity_of_core result ≡ capacity_of_core self }
         ensures key { key_of_core result ≡ key_of_core self }
         ensures shorter { most_loads result ≤ 4 * self.spot.left + 1 }
-        ensures leads { remaining O.order result
-            ≡ walk O.order (capacity_of_core self) (key_of_core self) self.spot.first self.spot.left link }
+        ensures leads { remaining O.order result ≡ walk_from O.order self.key self.spot link }
     {
         if link == 0 {
             self.spot.place = Place::Missing;
@@ -165,7 +164,8 @@ impl<O: TreeOrder> ReaderCore<O> {
     fn again(mut self) -> Self
         ensures capacity { capacity_of_core result ≡ capacity_of_core self }
         ensures key { key_of_core result ≡ key_of_core self }
-        ensures whole { remaining O.order result ≡ attempt O.order (capacity_of_core result) (key_of_core result) }
+        ensures whole { remaining O.order result
+            ≡ attempt O.order (capacity_of_core result) (key_of_core result) }
     {
         self.spot.place = Place::First;
         self
@@ -173,7 +173,8 @@ impl<O: TreeOrder> ReaderCore<O> {
 
     /// The item of the node in hand, as it was loaded.
     fn item(&self) -> Item
-        ensures { result ≡ record { a = self.now.spot.a; b = self.now.spot.b; tag = self.now.spot.tag } }
+        ensures { result
+            ≡ record { a = self.now.spot.a; b = self.now.spot.b; tag = self.now.spot.tag } }
     {
         Item {
             a: self.spot.a,

@@ -64,7 +64,8 @@ impl<O: TreeOrder> Model for WriterCore<O> {
       left = w.plan.left;
     } };
 
-    ghost invariant = { λ w. AreInStep (capacity_of w.layout) w.shape (second w.shape) w.free.items w.plan.left
+    ghost invariant = { λ w.
+        AreInStep (capacity_of w.layout) w.shape (second w.shape) w.free.items w.plan.left
         × (capacity_of w.layout ≤ vec_capacity w.free) };
 }
 

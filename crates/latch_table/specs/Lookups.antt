@@ -13,8 +13,8 @@ use Rattle.latch_table.specs.declared.knowledge.WriterKnowledge.{WriterKnowledge
 use Rattle.latch_core.specs.Standing.{loads_of}
 
 -- one attempt in the writer's picture, with these loads, that finds what the key lies in
-pub record FindsIn {K : Type 0} (o : Order K) (n : ℕ) (k : K) (p : WriterKnowledge) (loads : List (ℕ × ℕ))
-    (r : Option Item × ℕ) : Type 0 where
+pub record FindsIn {K : Type 0} (o : Order K) (n : ℕ) (k : K) (p : WriterKnowledge)
+    (loads : List (ℕ × ℕ)) (r : Option Item × ℕ) : Type 0 where
   pub found : r.0 ≡ look o k (replay o [] p.known)
   pub generation : r.1 ≡ gen (at p.picture 0)
   pub values : List ℕ
@@ -23,8 +23,8 @@ pub record FindsIn {K : Type 0} (o : Order K) (n : ℕ) (k : K) (p : WriterKnowl
   pub few : length values ≤ 4 * length (replay o [] p.known) + 3
 
 -- the lookup on its way: what it has loaded of the writer's picture led to the core
-pub record Looking {O K : Type 0} (o : Order K) (n : ℕ) (k : K) (p : WriterKnowledge) (made : List (ℕ × ℕ))
-    (core : ReaderCore O K) : Type 0 where
+pub record Looking {O K : Type 0} (o : Order K) (n : ℕ) (k : K) (p : WriterKnowledge)
+    (made : List (ℕ × ℕ)) (core : ReaderCore O K) : Type 0 where
   pub values : List ℕ
   pub loads : made ≡ loads_of (attempt o n k) values
   pub stand : Stand p.picture (attempt o n k) values

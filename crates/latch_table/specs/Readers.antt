@@ -33,7 +33,8 @@ abbrev pub KnowsFloor : ReaderKnowledge → Type 0
 KnowsFloor e = IsPrefix e.floor e.known
 
 -- its last step ended one attempt, which had this outcome
-pub record Attempted {K : Type 0} (o : Order K) (k : K) (e : ReaderKnowledge) (out : Outcome) : Type 0 where
+pub record Attempted {K : Type 0} (o : Order K) (k : K) (e : ReaderKnowledge) (out : Outcome)
+    : Type 0 where
   pub values : List ℕ
   pub whole : IsAttempt o e.capacity k values out
   pub loads : e.ended ≡ loads_of (attempt o e.capacity k) values
@@ -41,7 +42,8 @@ pub record Attempted {K : Type 0} (o : Order K) (k : K) (e : ReaderKnowledge) (o
 
 -- the answer is what the key lies in, in the table after the updates that the reader now knows,
 -- which are those of the generation g
-pub record Answers {K : Type 0} (o : Order K) (k : K) (e : ReaderKnowledge) (x : Option Item) (g : ℕ) : Type 0 where
+pub record Answers {K : Type 0} (o : Order K) (k : K) (e : ReaderKnowledge) (x : Option Item) (g : ℕ)
+    : Type 0 where
   pub floored : KnowsFloor e
   pub counted : e.base + length e.known ≡ g
   pub found : x ≡ look o k (replay o [] e.known)
@@ -56,7 +58,8 @@ Tried o k e e' Retry =
     × Grows e e' × Attempted o k e' Again × KnowsFloor e'
 
 -- one or more attempts, of which the last answered
-abbrev pub Searched : {K : Type 0} → Order K → K → ReaderKnowledge → ReaderKnowledge → Option Item × ℕ → Type 0
+abbrev pub Searched : {K : Type 0} → Order K → K → ReaderKnowledge → ReaderKnowledge
+    → Option Item × ℕ → Type 0
 Searched o k e e' r =
     (more : List ℕ) × (s : ℕ) × (e'.seen ≡ (e.seen ++ more) ++ s ∷ s ∷ []) × (gen s ≡ r.1)
     × Grows e e' × Attempted o k e' (Answer r.0 r.1) × Answers o k e' r.0 r.1

@@ -44,8 +44,8 @@ EndsRight {K} o e =
     → out ≡ Answer (look o k (replay o [] e.known)) (gen s)
 
 -- what a reader knows is true of these words, and of the updates that were shown
-pub record ReaderKnows {K : Type 0} (o : Order K) (n base : ℕ) (words : List ℕ) (known : List Update)
-    (e : ReaderKnowledge) : Type 0 where
+pub record ReaderKnows {K : Type 0} (o : Order K) (n base : ℕ) (words : List ℕ)
+    (known : List Update) (e : ReaderKnowledge) : Type 0 where
   pub based : e.base ≡ base
   pub capacity : e.capacity ≡ n
   pub begins : IsPrefix e.known known
@@ -56,7 +56,8 @@ pub record ReaderKnows {K : Type 0} (o : Order K) (n base : ℕ) (words : List �
   pub right : EndsRight o e
 
 -- the one writer knows all words, and the updates that were shown
-pub record WriterKnows (n base : ℕ) (words : List ℕ) (known : List Update) (p : WriterKnowledge) : Type 0 where
+pub record WriterKnows (n base : ℕ) (words : List ℕ) (known : List Update) (p : WriterKnowledge)
+    : Type 0 where
   pub based : p.base ≡ base
   pub capacity : p.capacity ≡ n
   pub picture : p.picture ≡ words
@@ -67,17 +68,21 @@ WriterPart n base words known writer_seat seat None = Unit {0}
 WriterPart n base words known writer_seat seat (Some p) =
     (seat ≡ writer_seat) × WriterKnows n base words known p
 
-abbrev pub ReaderPart : {K : Type 0} → Order K → ℕ → ℕ → List ℕ → List Update → Option ReaderKnowledge → Type 0
+abbrev pub ReaderPart : {K : Type 0} → Order K → ℕ → ℕ → List ℕ → List Update
+    → Option ReaderKnowledge → Type 0
 ReaderPart o n base words known None = Unit {0}
 ReaderPart o n base words known (Some e) = ReaderKnows o n base words known e
 
-abbrev pub SeatKnows : {K : Type 0} → Order K → ℕ → ℕ → List ℕ → List Update → ℕ → ℕ → Knowledge → Type 0
+abbrev pub SeatKnows : {K : Type 0} → Order K → ℕ → ℕ → List ℕ → List Update → ℕ → ℕ → Knowledge
+    → Type 0
 SeatKnows o n base words known writer_seat seat v =
-    WriterPart n base words known writer_seat seat v.writer × ReaderPart o n base words known v.reader
+    WriterPart n base words known writer_seat seat v.writer
+    × ReaderPart o n base words known v.reader
 
 -- The rule of the shared words: there are updates that were shown, of which the stable copy holds
 -- the table; one seat alone may be the writer's; and what each seat knows is true.
-pub record KnowledgeHolds {S K : Type 0} (o : Order K) (n base : ℕ) (s : State S Knowledge) : Type 0 where
+pub record KnowledgeHolds {S K : Type 0} (o : Order K) (n base : ℕ) (s : State S Knowledge)
+    : Type 0 where
   pub known : List Update
   pub writer_seat : ℕ
   pub latched : IsLatched o n base s.words known
@@ -87,10 +92,12 @@ pub record KnowledgeHolds {S K : Type 0} (o : Order K) (n base : ℕ) (s : State
 -- a new row of these words keeps the rule
 abbrev pub Opens : {K : Type 0} → Order K → Origin → List ℕ → Type 0
 Opens o from words =
-    KnowledgeHolds {S = Unit {0}} o (capacity_in from) (base_in from) (opening words [] (first_knowledge from))
+    KnowledgeHolds {S = Unit {0}} o (capacity_in from) (base_in from)
+    (opening words [] (first_knowledge from))
 
 -- what a load of word 0 tells a reader that then knows these updates
-pub record LoadsSequence {K : Type 0} (o : Order K) (e : ReaderKnowledge) (s : ℕ) (known : List Update) : Type 0 where
+pub record LoadsSequence {K : Type 0} (o : Order K) (e : ReaderKnowledge) (s : ℕ)
+    (known : List Update) : Type 0 where
   pub begins : IsPrefix e.known known
   pub floored : IsPrefix e.floor known
   pub counted : e.base + length known ≡ gen s
@@ -105,7 +112,8 @@ module _ {S : Type 0} where
   as_reader e m = (record { writer = m.0.writer; reader = Some e }, m.1)
 
   -- a reader loads word 0; joined to the writer, it then knows all that the writer knows
-  abbrev pub sequence_loaded : {K : Type 0} → Order K → Step S → Me S Knowledge → ℕ → Me S Knowledge → Type 0
+  abbrev pub sequence_loaded : {K : Type 0} → Order K → Step S → Me S Knowledge → ℕ
+      → Me S Knowledge → Type 0
   sequence_loaded o st m s m' =
       (known : List Update)
       × LoadsSequence o (reader_of m.0) s known
@@ -117,23 +125,27 @@ module _ {S : Type 0} where
   word_loaded st m x m' = m' ≡ as_reader (with_word st.word x (reader_of m.0)) m
 
   -- the writer loads a word, and then knows this
-  abbrev pub loaded_by_writer : Step S → Me S Knowledge → ℕ → WriterKnowledge → Me S Knowledge → Type 0
+  abbrev pub loaded_by_writer : Step S → Me S Knowledge → ℕ → WriterKnowledge → Me S Knowledge
+      → Type 0
   loaded_by_writer st m x p m' = (x ≡ at (writer_of m.0).picture st.word) × (m' ≡ as_writer p m)
 
   -- the first load of a lookup, and a later one
   abbrev pub lookup_begun : Step S → Me S Knowledge → ℕ → Me S Knowledge → Type 0
-  lookup_begun st m x m' = loaded_by_writer st m x (with_loads ((st.word, x) ∷ []) (writer_of m.0)) m'
+  lookup_begun st m x m' =
+      loaded_by_writer st m x (with_loads ((st.word, x) ∷ []) (writer_of m.0)) m'
 
   abbrev pub writer_loaded : Step S → Me S Knowledge → ℕ → Me S Knowledge → Type 0
   writer_loaded st m x m' =
-      loaded_by_writer st m x (with_loads ((writer_of m.0).loads ++ (st.word, x) ∷ []) (writer_of m.0)) m'
+      let p = writer_of m.0 in
+      loaded_by_writer st m x (with_loads (p.loads ++ (st.word, x) ∷ []) p) m'
 
   -- the writer copies a word
   abbrev pub word_copied : Step S → Me S Knowledge → ℕ → Me S Knowledge → Type 0
   word_copied st m x m' = (x ≡ at (writer_of m.0).picture st.word) × (m' ≡ m)
 
   -- the load by which the writer's seat learns which update is in hand
-  abbrev pub update_taken : {K : Type 0} → Order K → Update → Step S → Me S Knowledge → ℕ → Me S Knowledge → Type 0
+  abbrev pub update_taken : {K : Type 0} → Order K → Update → Step S → Me S Knowledge → ℕ
+      → Me S Knowledge → Type 0
   update_taken o u st m x m' = loaded_by_writer st m x (with_update o u (writer_of m.0)) m'
 
   -- the writer stores

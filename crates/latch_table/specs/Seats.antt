@@ -16,7 +16,15 @@ use Rattle.latch_table.specs.declared.knowledge.Origin.TheVariants.{Start, Moved
 -- a reader that has loaded nothing
 abbrev pub blank_reader : ℕ → ℕ → List Update → ReaderKnowledge
 blank_reader base n floor =
-    record { base = base; capacity = n; seen = []; known = []; floor = floor; loads = []; ended = [] }
+    record {
+      base = base;
+      capacity = n;
+      seen = [];
+      known = [];
+      floor = floor;
+      loads = [];
+      ended = [];
+    }
 
 -- a writer that has taken no update
 abbrev pub blank_writer : ℕ → ℕ → WriterKnowledge
@@ -83,7 +91,12 @@ reader_alone v = record { writer = None; reader = v.reader }
 -- a reader that has loaded the sequence s, and then knows these updates
 abbrev pub with_sequence : ℕ → List Update → ReaderKnowledge → ReaderKnowledge
 with_sequence s known e =
-    record e { seen = e.seen ++ s ∷ []; known = known; loads = (0, s) ∷ []; ended = e.loads ++ (0, s) ∷ [] }
+    record e {
+      seen = e.seen ++ s ∷ [];
+      known = known;
+      loads = (0, s) ∷ [];
+      ended = e.loads ++ (0, s) ∷ [];
+    }
 
 -- and one that has loaded the value x from another word
 abbrev pub with_word : ℕ → ℕ → ReaderKnowledge → ReaderKnowledge

@@ -75,7 +75,8 @@ writer_state place readers v core =
     }
 
 -- the core pictures the words, and the seat knows the updates that were shown
-pub record IsTied {S K : Type 0} (o : Order K) (m : Me S Knowledge) (core : WriterView) (w : WriterState) : Type 0 where
+pub record IsTied {S K : Type 0} (o : Order K) (m : Me S Knowledge) (core : WriterView)
+    (w : WriterState) : Type 0 where
   pub alone : m ≡ (writing (writer_of m.0), [])
   pub capacity : (writer_of m.0).capacity ≡ w.capacity
   pub pictures : Pictures core w.latch
@@ -113,7 +114,8 @@ Begins o w u w' =
 -- one step of the update in hand, of the kinds that a writer may make; or it is at its end
 abbrev pub Steps : WriterState → WriterState → Option Did → Type 0
 Steps w w' None =
-    (w.latch.hand ≡ None) × (w' ≡ w) × (known w ≡ w.history) × (gen (at w.latch.words 0) ≡ w.base + length w.history)
+    (w.latch.hand ≡ None) × (w' ≡ w) × (known w ≡ w.history)
+    × (gen (at w.latch.words 0) ≡ w.base + length w.history)
 Steps w w' (Some did) =
     (left_of w'.latch.hand + 1 ≡ left_of w.latch.hand)
     × ((h : Hand) × (s : Stored) × (w.latch.hand ≡ Some h) × MayStep w.capacity w.latch h s
@@ -126,7 +128,8 @@ OnTheWay w w' = w' ≡ record w { latch = w'.latch }
 -- nothing is in hand, and all accepted updates were shown
 abbrev pub Finishes : WriterState → WriterState → ℕ → Type 0
 Finishes w w' g =
-    OnTheWay w w' × (w'.latch.hand ≡ None) × (known w' ≡ w.history) × (g ≡ w.base + length w.history)
+    OnTheWay w w' × (w'.latch.hand ≡ None) × (known w' ≡ w.history)
+    × (g ≡ w.base + length w.history)
 
 -- one attempt of the writer, which finds what the key lies in after the updates that were shown
 abbrev pub Finds : {K : Type 0} → Order K → WriterState → K → WriterState → Option Item × ℕ → Type 0
@@ -134,7 +137,8 @@ Finds o w k w' r =
     (w' ≡ record w { loads = w'.loads })
     × (r.0 ≡ look o k (replay o [] (known w))) × (r.1 ≡ gen (at w.latch.words 0))
     × ((v : List ℕ) × IsAttempt o w.capacity k v (Answer r.0 r.1)
-    × (w'.loads ≡ loads_of (attempt o w.capacity k) v) × (length v ≤ 4 * length (replay o [] (known w)) + 3))
+    × (w'.loads ≡ loads_of (attempt o w.capacity k) v)
+    × (length v ≤ 4 * length (replay o [] (known w)) + 3))
 
 -- a writer that has shown nothing
 abbrev pub new_writer : TableId → Layout → ℕ → ℕ → WriterState

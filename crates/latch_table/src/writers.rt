@@ -33,7 +33,8 @@ impl<O: TreeOrder> Model for Writer<O> {
 
     ghost invariant = { λ w. (w.seat.table_id ≡ (arc_value w.table).shared.table_id)
         × (w.seat.table_id.words ≡ words_for w.core.capacity)
-        × IsTied O.order w.seat.me w.core (writer_state w.seat.table_id w.readers w.seat.me.0 w.core) };
+        × IsTied O.order w.seat.me w.core
+        (writer_state w.seat.table_id w.readers w.seat.me.0 w.core) };
 }
 
 /// An update in hand. It cannot be dropped: [`finish`](InHand::finish) brings it to its end, and

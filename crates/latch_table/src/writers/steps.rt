@@ -20,7 +20,8 @@ pub(super) fn take_update<O: TreeOrder, J: NamesUpdate>(
     requires some { 0 < seat.old.table_id.words }
     requires writes { seat.old.me ≡ (writing (writer_of seat.old.me.0), []) }
     ensures table { seat.new.table_id ≡ seat.old.table_id }
-    ensures view { seat.new.me ≡ (writing (with_update O.order update.now (writer_of seat.old.me.0)), []) }
+    ensures view { seat.new.me
+        ≡ (writing (with_update O.order update.now (writer_of seat.old.me.0)), []) }
 {
     words.load::<TakeUpdate<O, J>>(seat, 0);
 }

@@ -21,8 +21,8 @@ impl<O: TreeOrder> Writer<O> {
     /// Takes an update in hand. Refused as [`WriterCore::begin`](latch_core::WriterCore::begin)
     /// refuses; a refusal changes nothing.
     pub fn begin(&mut self, u: Update) -> Result<InHand<'_, O>, Refusal>
-        ensures* rests { sem 𝓛 (RestsIfErr (the_row O.row O.Key.row O.TreeOrder O.Key.Clone) self.entry
-            (λ h. h.writer.ghost_name) result (λ n. n ≡ self.old)) }
+        ensures* rests { sem 𝓛 (RestsIfErr (the_row O.row O.Key.row O.TreeOrder O.Key.Clone)
+            self.entry (λ h. h.writer.ghost_name) result (λ n. n ≡ self.old)) }
         ensures same_reference { IfOk result (λ h. h.writer.ghost_name ≡ self.entry.ghost_name) }
         ensures begun { IfOk result (λ h. Begins O.order self.old u h.writer.now) }
         ensures refused { IfErr result (Refuses O.order self.old u) }
@@ -47,7 +47,8 @@ impl<O: TreeOrder> Writer<O> {
     /// Whether an item of the table after all accepted updates has this first word.
     pub fn holds(&self, a: u64) -> bool
         ensures is { result ≡ has a self.now.latch.table }
-        ensures rests { self.now.latch.hand ≡ None → result ≡ has a (replay O.order [] (known self.now)) }
+        ensures rests { self.now.latch.hand ≡ None
+            → result ≡ has a (replay O.order [] (known self.now)) }
     {
         self.core.holds(a)
     }

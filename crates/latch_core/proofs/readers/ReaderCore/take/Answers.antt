@@ -36,12 +36,13 @@ returns-after-comp-clause-leads g c = λ values leads.
     let o = g.O.TreeOrder.order in
     let s = c.args.self in
     let h = next_from o s Tag _ _ c.args.value values c.in-Tag.is refl leads in
+    let spot = record s.spot { tag = c.args.value; place = c.match-comp.self } in
     let on = h ∙ ap Some (elim c.match-comp.branch [
-      | in-Less w ↦ turned o s.spot.capacity s.key s.spot.first s.spot.left s.spot.node s.spot.a s.spot.b c.args.value _ Less _ (w.in-Less.ensures ∙ ap (o.comp s.key) c.item.ensures) w.self-is
-      | in-Equal w ↦ turned o s.spot.capacity s.key s.spot.first s.spot.left s.spot.node s.spot.a s.spot.b c.args.value _ Equal _ (w.in-Equal.ensures ∙ ap (o.comp s.key) c.item.ensures) w.self-is
-      | in-Greater w ↦ turned o s.spot.capacity s.key s.spot.first s.spot.left s.spot.node s.spot.a s.spot.b c.args.value _ Greater _ (w.in-Greater.ensures ∙ ap (o.comp s.key) c.item.ensures) w.self-is
+      | in-Less w ↦ turned o s.key spot _ Less _ (w.in-Less.ensures ∙ ap (o.comp s.key) c.item.ensures) w.self-is
+      | in-Equal w ↦ turned o s.key spot _ Equal _ (w.in-Equal.ensures ∙ ap (o.comp s.key) c.item.ensures) w.self-is
+      | in-Greater w ↦ turned o s.key spot _ Greater _ (w.in-Greater.ensures ∙ ap (o.comp s.key) c.item.ensures) w.self-is
     ]) in
-    (refl, refl, on, values_of_place o s.spot.capacity s.key s.spot.first s.spot.left s.spot.node s.spot.a s.spot.b c.args.value c.match-comp.self (values ++ c.args.value ∷ []) on)
+    (refl, refl, on, values_of_place o s.key spot c.match-comp.self (values ++ c.args.value ∷ []) on)
 
 pub returns-in-Left-clause-leads : goal.returns-in-Left-clause-leads
 returns-in-Left-clause-leads g c = λ values leads.
