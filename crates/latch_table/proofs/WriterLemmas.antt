@@ -1,6 +1,6 @@
 -- The writer's core, its seat and the update in hand, from one call to the next.
 use Rattle.std.proofs.Common.{◌≡◌, ◌≢◌, ℕ, suc, ◌+◌, ◌-◌, ◌*◌, ◌%◌, ◌<◌, ◌≤◌, true, false, cond, List, [], ◌∷◌, ◌++◌, length, take, drop, Option, Some, None, refl, sym, ◌∙◌, ap, subst, inl, inr, ⊎_elim, arith, length-append, length-set}
-use Rattle.std.specs.Prelude.{◌⊎◌, ◌==◌, ◌&&◌, MatchOption, nat_lt, slice_get}
+use Rattle.std.specs.Prelude.{◌⊎◌, ◌==◌, ◌&&◌, MatchOption, nat_lt}
 use Rattle.std.proofs.lemmas.Bool.{eq-eqb, ne_eqb, lt-ltb}
 use Rattle.std.proofs.lemmas.List.{take-append-le, take-append-drop, take_all, length-take-le}
 use mathlib.Core.Option as maybe

@@ -19,7 +19,7 @@ use std::cmp::Ordering;
 use word_arena::{Layout, places};
 
 /// How a walk ended.
-#[derive(Drop)]
+#[derive(Clone, Copy, Drop)]
 pub(super) enum Walked {
     /// At the item that the key is in.
     At(Item),
