@@ -53,7 +53,7 @@ impl Fault {
     }
 
     /// The number that stands for the fault: that of the refusal, 15 for a bad line, 16 where a
-    /// reader or the writer failed.
+    /// reader or the writer failed. The program writes texts; who runs an engine has the number.
     pub fn number(&self) -> u32
         ensures { result ≡ number_of self.now }
     {
@@ -74,7 +74,8 @@ impl Fault {
         }
     }
 
-    /// The line that the fault is about, if it is about one.
+    /// The line that the fault is about, if it is about one. The program has it from the text of
+    /// the fault; who runs an engine has it here.
     pub fn line(&self) -> Option<u64>
         ensures { result ≡ line_of self.now }
     {

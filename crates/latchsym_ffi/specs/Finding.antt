@@ -4,7 +4,7 @@ use Rattle.std.specs.Option.{option_map, option_map_or}
 use Rattle.order_laws.specs.declared.items.Item.{Item}
 use Rattle.modules.specs.Catalogs.{module_of}
 use Rattle.modules.specs.Entries.{CatalogEntries}
-use Rattle.symbols.specs.Found.{Found, seen, symbol_at}
+use Rattle.symbols.specs.Found.{Found, symbol_at}
 use Rattle.region_index.specs.Items.{item_at}
 use Rattle.latchsym_ffi.specs.declared.finding.CatalogAnswer.{CatalogAnswer}
 use Rattle.latchsym_ffi.specs.declared.finding.Seen.{Seen}
@@ -23,7 +23,7 @@ abbrev pub known_in : CatalogEntries → ℕ → Option Item → Known
 known_in c addr x = option_map (λ i. (i, symbol_at c i addr)) x
 
 abbrev pub shown_seen : Seen → Item × Option Found
-shown_seen s = (s.item, option_map seen s.found)
+shown_seen s = (s.item, s.found)
 
 -- the number that is returned
 abbrev pub known_code : Known → ℕ

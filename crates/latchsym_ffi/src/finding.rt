@@ -4,10 +4,10 @@ ghost use Rattle.std.specs.Prelude.{◌≡◌, ◌≤◌, ◌<◌, IfSome};
 ghost use Rattle.std.specs.Option.{option_map};
 ghost use Rattle.latchsym_ffi.specs.Finding.{Tells, answer_of, copied, known_at, known_code, known_in, module_name, owner_named, shown_seen, symbol_named};
 
-use modules::{Catalog, Symbol};
+use modules::Catalog;
 use order_laws::Item;
 use region_index::IndexedCatalog;
-use symbols::symbol_of;
+use symbols::{FoundSymbol, symbol_of};
 
 /// What is told of an address.
 #[repr(C)]
@@ -34,12 +34,11 @@ pub(crate) const NO_SYMBOL: u32 = 1;
 /// The address lies in no region.
 pub(crate) const NOTHING: u32 = 2;
 
-/// The region that an address lies in, and the symbol with the offset and the size, if there is
-/// one.
+/// The region that an address lies in, and the symbol that it belongs to, if there is one.
 #[derive(Drop)]
 struct Seen<'c> {
     item: Item,
-    found: Option<(&'c Symbol<'static>, u64, u64)>,
+    found: Option<FoundSymbol<'c, 'static>>,
 }
 
 /// What is told of an address, with the names.
@@ -100,7 +99,10 @@ fn told_of(catalog: &Catalog<'static>, seen: Option<Seen<'_>>) -> Told
     };
     let owner = name_of(catalog, item.tag);
     let (code, symbol, offset, size) = match found {
-        Some((symbol, offset, size)) => (FOUND, symbol.name, offset, size),
+        Some(found) => {
+            let symbol = found.symbol;
+            (FOUND, symbol.name, found.offset, found.size)
+        }
         None => (NO_SYMBOL, b"".as_slice(), 0, 0),
     };
     Told {

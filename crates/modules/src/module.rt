@@ -147,7 +147,7 @@ impl<'a> Module<'a> {
         self.regions.as_slice()
     }
 
-    /// The part that each of its regions is.
+    /// The part that each of its regions is, for who lists a catalog.
     pub fn parts(&self) -> &[Part]
         ensures { result.now ≡ self.now.parts }
     {
@@ -184,7 +184,7 @@ impl<'a> Module<'a> {
         has_init(self.parts.as_slice())
     }
 
-    /// The symbols that lie in the regions, in the order listed.
+    /// The symbols that lie in the regions, in the order listed, for who lists a catalog.
     pub fn symbols(&self) -> &[Symbol<'a>]
         ensures { result.now ≡ self.now.symbols }
     {
