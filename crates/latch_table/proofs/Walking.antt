@@ -1,19 +1,18 @@
 -- One attempt of a reader: a walk, whose loads are those of its seat.
-use Rattle.std.proofs.Common.{◌≡◌, ◌≢◌, ℕ, zero, suc, ◌+◌, ◌-◌, ◌*◌, ◌<◌, ◌≤◌, false, cond, List, [], ◌∷◌, ◌++◌, Option, Some, refl, sym, ◌∙◌, ap, subst, ⊎_elim, arith, append_assoc, append-nil}
-use Rattle.std.specs.Prelude.{◌⊎◌, nat_lt}
-use Rattle.std.proofs.lemmas.Bool.{le-ltb}
+use Rattle.std.proofs.Common.{◌≡◌, ◌≢◌, ℕ, ◌+◌, ◌-◌, ◌*◌, ◌<◌, ◌≤◌, List, [], ◌∷◌, ◌++◌, Option, Some, refl, sym, ◌∙◌, ap, subst, arith, append_assoc, append-nil}
 use mathlib.Core.List.{IsPrefix}
 use Rattle.atomic_table.specs.Table.{Me}
 use Rattle.std.specs.declared.cmp.Ordering.{Ordering}
 use Rattle.order_laws.specs.declared.items.Item.{Item}
 use Rattle.order_laws.specs.Orders.{Order}
 use Rattle.order_laws.specs.Tables.{look}
+use Rattle.order_laws.proofs.Lists.{IsPrefix-along, IsPrefix-whole}
 use Rattle.latch_core.specs.declared.updates.Update.{Update}
 use Rattle.latch_core.specs.declared.loaders.Walked.{Walked}
 use Rattle.word_arena.specs.Words.{root_word}
 use Rattle.latch_core.specs.Sequences.{gen, stable}
 use Rattle.latch_core.specs.Histories.{replay}
-use Rattle.latch_core.specs.Attempts.{Reading, Load, Ends, No_item, Stuck, Outcome, Answer, Again, outcome, closing, turn, visit, walk, attempt, rest_after, IsAttempt}
+use Rattle.latch_core.specs.Attempts.{Reading, Load, Ends, No_item, Outcome, Answer, Again, outcome, closing, turn, visit, walk, attempt, rest_after, IsAttempt}
 use Rattle.latch_core.specs.Whole.{Wants, found_by}
 use Rattle.latch_core.proofs.Readings.{rest_push}
 use Rattle.latch_core.proofs.Walks.{attempt_length}
@@ -27,7 +26,6 @@ use Rattle.latch_table.specs.Seats.{reading, reader_of, with_sequence, with_word
 use Rattle.latch_table.specs.Rule.{LoadsSequence, as_reader}
 use Rattle.latch_table.specs.Readers.{Grows, Attempted, Tried, Searched, Searches}
 use Rattle.latch_table.specs.Walks.{MayLoad, HasWalked}
-use Rattle.latch_table.proofs.ReaderLemmas.{prefix_along, prefix_whole}
 
 -- a reader's seat after a load
 pub still_reading : {S : Type 0} (m m' : Me S Knowledge) (e : ReaderKnowledge) → m ≡ (reading (reader_of m.0), []) → m' ≡ as_reader e m → (m' ≡ (reading (reader_of m'.0), [])) × (reader_of m'.0 ≡ e)
@@ -138,13 +136,6 @@ walks_off o n k s before e count link walked on ends =
 pub ends_nowhere : {K : Type 0} (o : Order K) (n : ℕ) (k : K) (s left link : ℕ) → link ≡ 0 → walk o n k s left link ≡ closing s No_item
 ends_nowhere o n k s left link is = ap (walk o n k s left) is
 
-pub ends_lost : {K : Type 0} (o : Order K) (n : ℕ) (k : K) (s left link : ℕ) → link ≢ 0 → (n < link) ⊎ (left ≡ 0) → walk o n k s left link ≡ closing s Stuck
-ends_lost o n k s left zero some why = absurd (some refl)
-ends_lost o n k s zero (suc i) some why = refl
-ends_lost o n k s (suc left) (suc i) some why =
-    let beyond : nat_lt i n ≡ false = le-ltb i n (⊎_elim (λ far. omega arith) (λ none. absurd (omega arith)) why) in
-    ap (λ b. cond b (visit o k s i (walk o n k s left)) (closing s Stuck)) beyond
-
 -- the second reading of the sequence
 module _ {K : Type 0} (o : Order K) (k : K) (before begun e : ReaderKnowledge) (s : ℕ) (walked : Walked) (all : List Update) (first : LoadsSequence o before s all) (is_begun : begun ≡ with_sequence s all before) (walk_is : HasWalked o k s begun e walked) where
   module _ (t : ℕ) (known : List Update) (looks : LoadsSequence o e t known) where
@@ -171,7 +162,7 @@ module _ {K : Type 0} (o : Order K) (k : K) (before begun e : ReaderKnowledge) (
       base = ap (λ (z : ReaderKnowledge). z.base) along;
       capacity = ap (λ (z : ReaderKnowledge). z.capacity) along;
       floor = ap (λ (z : ReaderKnowledge). z.floor) along;
-      known = prefix_along before.known e.known known (subst (IsPrefix before.known) (sym (ap (λ (z : ReaderKnowledge). z.known) along)) first.begins) looks.begins;
+      known = IsPrefix-along before.known e.known known (subst (IsPrefix before.known) (sym (ap (λ (z : ReaderKnowledge). z.known) along)) first.begins) looks.begins;
     }
 
     seen_now : e'.seen ≡ before.seen ++ s ∷ t ∷ []
@@ -215,10 +206,10 @@ module _ {K : Type 0} (o : Order K) (k : K) (before begun e : ReaderKnowledge) (
 
 -- one attempt after another
 grows_along : (a b c : ReaderKnowledge) → Grows a b → Grows b c → Grows a c
-grows_along a b c p q = record { base = q.base ∙ p.base; capacity = q.capacity ∙ p.capacity; floor = q.floor ∙ p.floor; known = prefix_along a.known b.known c.known p.known q.known }
+grows_along a b c p q = record { base = q.base ∙ p.base; capacity = q.capacity ∙ p.capacity; floor = q.floor ∙ p.floor; known = IsPrefix-along a.known b.known c.known p.known q.known }
 
 pub searches_none : (e : ReaderKnowledge) → Searches e e
-searches_none e = ([], sym (append-nil e.seen), record { base = refl; capacity = refl; floor = refl; known = prefix_whole e.known })
+searches_none e = ([], sym (append-nil e.seen), record { base = refl; capacity = refl; floor = refl; known = IsPrefix-whole e.known })
 
 module _ {K : Type 0} (o : Order K) (k : K) where
   pub searches_more : (a b c : ReaderKnowledge) → Searches a b → Tried o k b c Retry → Searches a c

@@ -9,13 +9,13 @@ use Rattle.std.proofs.lemmas.Grind.{flat_map-append}
 use Rattle.order_laws.specs.declared.items.Item.{Item}
 use Rattle.order_laws.specs.Orders.{half_open, half_open_lawful}
 use Rattle.order_laws.specs.Tables.{meets}
+use Rattle.order_laws.proofs.MeetLemmas.{none_meets}
 use Rattle.latch_core.specs.Updates.{some_overlap}
 use Rattle.modules.specs.Catalogs.{IsSound, module_of, regions_of}
 use Rattle.modules.specs.Entries.{CatalogEntries, ModuleEntry}
 use Rattle.modules.specs.Regions.{is_apart}
 use Rattle.modules.specs.Loads.{item_of}
 use Rattle.latchsym.specs.CatalogTables.{items_at, items_below, items_of}
-use Rattle.latchsym.proofs.Loads.{none_meets}
 
 -- the region of an item
 abbrev pub region_of : Item → ℕ × ℕ
