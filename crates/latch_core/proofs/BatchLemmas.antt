@@ -1,15 +1,15 @@
 -- Several items at once: what the tests of a batch say, and the table after it.
-use Rattle.std.proofs.Common.{◌≡◌, ◌+◌, true, false, List, [], ◌∷◌, length, refl, ◌∙◌, ap, arith}
-use Rattle.std.specs.Prelude.{not, ◌||◌}
+use Rattle.std.proofs.Common.{◌≡◌, ◌+◌, true, false, List, [], ◌∷◌, length, ◌∙◌, arith}
+use Rattle.std.specs.Prelude.{not}
 use Rattle.std.specs.List.{AllByRecursion}
 use Rattle.std.proofs.lemmas.Bool.{not-false, or_parts}
 use Rattle.order_laws.specs.declared.items.Item.{Item}
 use Rattle.order_laws.specs.Orders.{Order, IsLawful}
 use Rattle.order_laws.specs.Tables.{IsTable, with_item, meets}
-use Rattle.order_laws.proofs.PlaceLemmas.{not_meeting}
 use Rattle.order_laws.proofs.TableLemmas.{with_item_table, length_with_item, all_with_item}
 use Rattle.order_laws.proofs.Each.{all_weaker}
 use Rattle.order_laws.proofs.Tests.{all_fail}
+use Rattle.order_laws.proofs.MeetLemmas.{not_meeting}
 use Rattle.latch_core.specs.Updates.{with_items, some_invalid, some_overlap, some_meet}
 
 -- items that are all valid, apart from each other, and apart from those of a table
@@ -35,10 +35,6 @@ pub all_off : {K : Type 0} (o : Order K) (items table : List Item) → some_meet
 all_off o items table e =
     all_weaker (λ i. meets o i table ≡ false) (λ i. AllByRecursion (λ x. o.apart x i ≡ true) table) (λ i f. not_meeting o i table f) items
     (all_fail (λ i. meets o i table) items e)
-
-pub no_meeting : {K : Type 0} (o : Order K) (i : Item) (table : List Item) → AllByRecursion (λ x. o.apart x i ≡ true) table → meets o i table ≡ false
-no_meeting o i [] h = refl
-no_meeting o i (x ∷ xs) h = ap (λ b. not b || meets o i xs) h.0 ∙ no_meeting o i xs h.1
 
 pub length_with_items : {K : Type 0} (o : Order K) (items table : List Item) → length (with_items o items table) ≡ length items + length table
 length_with_items o [] table = omega arith

@@ -16,9 +16,10 @@ use Rattle.order_laws.proofs.Bools.{same_by_false}
 use Rattle.order_laws.proofs.Each.{all_drop, all_not_below, all_weaker, rest_in_order}
 use Rattle.order_laws.proofs.Tests.{all_fail, list_any-all_fail}
 use Rattle.order_laws.proofs.Numbers.{eqb-flip}
+use Rattle.order_laws.proofs.MeetLemmas.{no_meeting}
 use Rattle.latch_core.specs.declared.updates.Update.TheVariants.{Batch}
 use Rattle.latch_core.specs.Updates.{first_that_holds, failed_test, some_invalid, some_twice, some_overlap, some_meet}
-use Rattle.latch_core.proofs.BatchLemmas.{all_apart, no_meeting}
+use Rattle.latch_core.proofs.BatchLemmas.{all_apart}
 
 -- some entry clashes with one behind it
 abbrev clash : {X : Type 0} → (X → X → Bool) → List X → Bool

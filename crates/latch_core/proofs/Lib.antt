@@ -19,3 +19,4 @@ pub mod Shallow
 pub mod Standing
 pub mod WideningLemmas
 pub mod AttemptLemmas
+pub mod HistoryLemmas

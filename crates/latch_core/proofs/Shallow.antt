@@ -4,7 +4,8 @@ use Rattle.std.specs.List.{AllByRecursion}
 use Rattle.std.proofs.lemmas.List.{get_or-replicate}
 use Rattle.order_laws.specs.declared.items.Item.{Item}
 use Rattle.order_laws.proofs.Each.{all_append}
-use Rattle.word_arena.proofs.LinkLemmas.{leads_one, links_elsewhere, links_not_zero, not_in_use, zero_kept}
+use Rattle.word_arena.proofs.HeldLemmas.{leads_once}
+use Rattle.word_arena.proofs.LinkLemmas.{links_elsewhere, links_not_zero, not_in_use, zero_kept}
 use Rattle.word_arena.specs.declared.stores.Store.{Store}
 use Rattle.word_arena.specs.Words.{at, Nodes, none, root_word, Holds, InUse}
 use Rattle.word_arena.specs.Stores.{words_after, words_after_all}
@@ -95,7 +96,7 @@ opening_shallow n start even left e =
 -- whichever table and tree the stable copy holds, the tree is red-black
 pub shallow_tree : (n : ℕ) (m : List ℕ) (table : List Item) (t : Nodes) → Holds m n (stable (at m 0)) table t → IsShallow n m → CanBeRedBlack t
 shallow_tree n m table t holds low =
-    subst CanBeRedBlack (leads_one m n (stable (at m 0)) (at m (root_word (stable (at m 0)))) low.1 t low.2.leads holds.leads) low.3
+    subst CanBeRedBlack (leads_once m n (stable (at m 0)) (at m (root_word (stable (at m 0)))) low.1 t low.2.leads holds.leads) low.3
 
 pub stays_now : (n : ℕ) (m : List ℕ) (ss : List Store) → StaysShallow n m ss → IsShallow n m
 stays_now n m [] h = h

@@ -18,9 +18,10 @@ use Rattle.latch_core.specs.Latches.{Hand, Latch, IsHidden, MayStep}
 use Rattle.word_arena.specs.Stores.{words_after}
 use Rattle.latch_core.specs.Invariants.{IsStanding, AreTables}
 use Rattle.word_arena.proofs.WordLemmas.{used_not_zero}
-use Rattle.order_laws.proofs.PlaceLemmas.{not_meeting, without_none, without_one}
+use Rattle.order_laws.proofs.PlaceLemmas.{without_none, without_one}
 use Rattle.order_laws.proofs.TableLemmas.{with_item_table, without_table, length_with_item, length_without}
 use Rattle.order_laws.proofs.WithoutLemmas.{length_without_all, without_all_table}
+use Rattle.order_laws.proofs.MeetLemmas.{not_meeting}
 use Rattle.latch_core.proofs.TestLemmas.{NoneHolds, all_tests, none_holds}
 use Rattle.latch_core.proofs.BatchLemmas.{all_valid, all_apart, all_off, with_items_table, length_with_items}
 use Rattle.latch_core.proofs.Readings.{AllLoads, stand_on, stand_push}

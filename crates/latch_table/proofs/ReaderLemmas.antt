@@ -1,9 +1,10 @@
 -- What a reader knows stays true under each step of the writer, and each of its own loads adds to
 -- it.
-use Rattle.std.proofs.Common.{◌≡◌, ℕ, suc, ◌+◌, ◌*◌, ◌<◌, ◌≤◌, List, [], ◌∷◌, ◌++◌, length, Some, refl, sym, ◌∙◌, ap, subst, inl, ⊎_elim, arith, le_refl, append_assoc, append-nil}
+use Rattle.std.proofs.Common.{◌≡◌, ℕ, suc, ◌+◌, ◌*◌, ◌<◌, ◌≤◌, List, [], ◌∷◌, ◌++◌, length, Some, refl, sym, ◌∙◌, ap, subst, inl, ⊎_elim, arith, le_refl}
 use mathlib.Core.List.{IsPrefix}
 use Rattle.order_laws.specs.Orders.{Order, IsLawful}
 use Rattle.order_laws.specs.Tables.{look}
+use Rattle.order_laws.proofs.Lists.{IsPrefix-along, IsPrefix-whole}
 use Rattle.word_arena.specs.declared.stores.Store.{Store}
 use Rattle.word_arena.specs.Words.{at}
 use Rattle.word_arena.specs.Stores.{words_after}
@@ -30,12 +31,6 @@ rises_end low (x ∷ xs) top r = (r.0, rises_end x xs top r.1)
 pub last_end : (low : ℕ) (xs : List ℕ) (n : ℕ) → last_or low (xs ++ n ∷ []) ≡ n
 last_end low [] n = refl
 last_end low (x ∷ xs) n = last_end x xs n
-
-pub prefix_whole : (xs : List Update) → IsPrefix xs xs
-prefix_whole xs = ([], append-nil xs)
-
-pub prefix_along : (xs ys zs : List Update) → IsPrefix xs ys → IsPrefix ys zs → IsPrefix xs zs
-prefix_along xs ys zs p q = (p.0 ++ q.0, sym (append_assoc xs p.0 q.0) ∙ (ap (λ (z : List Update). z ++ q.0) p.1 ∙ q.1))
 
 -- the value of the last load
 abbrev last_value : ℕ → List (ℕ × ℕ) → ℕ
@@ -68,8 +63,8 @@ module _ {K : Type 0} (o : Order K) where
       let rises' : at l.words 0 ≤ at (words_after l.words s) 0 = ⊎_elim (λ same. omega (arith, same.1)) (λ one. omega (arith, one)) (sequence_after n l h s sized may) in record {
         based = see.based;
         capacity = see.capacity;
-        begins = prefix_along e.known known known' see.begins more;
-        floored = prefix_along e.floor known known' see.floored more;
+        begins = IsPrefix-along e.known known known' see.begins more;
+        floored = IsPrefix-along e.floor known known' see.floored more;
         counted = see.counted;
         rises = rises_more (2 * base) e.seen (at l.words 0) (at (words_after l.words s) 0) rises' see.rises;
         steady = steady_step n l h s sized may e.loads see.steady;
@@ -92,7 +87,7 @@ module _ {K : Type 0} (o : Order K) where
       let last : last_or (2 * e.base) (e.seen ++ at m 0 ∷ []) ≡ at m 0 = last_end (2 * e.base) e.seen (at m 0) in record {
         based = see.based;
         capacity = see.capacity;
-        begins = prefix_whole known;
+        begins = IsPrefix-whole known;
         floored = see.floored;
         counted = latched.counted ∙ ap gen (sym last);
         rises = rises_end (2 * base) e.seen (at m 0) see.rises;
@@ -130,7 +125,7 @@ module _ {K : Type 0} (o : Order K) where
     based = refl;
     capacity = refl;
     begins = (known, refl);
-    floored = prefix_whole known;
+    floored = IsPrefix-whole known;
     counted = omega arith;
     rises = omega arith;
     steady = tt;

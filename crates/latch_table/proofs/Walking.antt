@@ -6,6 +6,7 @@ use Rattle.std.specs.declared.cmp.Ordering.{Ordering}
 use Rattle.order_laws.specs.declared.items.Item.{Item}
 use Rattle.order_laws.specs.Orders.{Order}
 use Rattle.order_laws.specs.Tables.{look}
+use Rattle.order_laws.proofs.Lists.{IsPrefix-along, IsPrefix-whole}
 use Rattle.latch_core.specs.declared.updates.Update.{Update}
 use Rattle.word_arena.specs.Words.{root_word}
 use Rattle.latch_core.specs.Sequences.{gen, stable}
@@ -25,7 +26,6 @@ use Rattle.latch_table.specs.Rule.{LoadsSequence, as_reader}
 use Rattle.latch_table.specs.Readers.{Grows, Attempted, Tried, Searched, Searches}
 use Rattle.latch_table.specs.declared.readers.attempts.Walked.{Walked}
 use Rattle.latch_table.specs.Walks.{MayLoad, HasWalked, found_by}
-use Rattle.latch_table.proofs.ReaderLemmas.{prefix_along, prefix_whole}
 
 -- a reader's seat after a load
 pub still_reading : {S : Type 0} (m m' : Me S Knowledge) (e : ReaderKnowledge) → m ≡ (reading (reader_of m.0), []) → m' ≡ as_reader e m → (m' ≡ (reading (reader_of m'.0), [])) × (reader_of m'.0 ≡ e)
@@ -153,7 +153,7 @@ module _ {K : Type 0} (o : Order K) (k : K) (before begun e : ReaderKnowledge) (
       base = ap (λ (z : ReaderKnowledge). z.base) along;
       capacity = ap (λ (z : ReaderKnowledge). z.capacity) along;
       floor = ap (λ (z : ReaderKnowledge). z.floor) along;
-      known = prefix_along before.known e.known known (subst (IsPrefix before.known) (sym (ap (λ (z : ReaderKnowledge). z.known) along)) first.begins) looks.begins;
+      known = IsPrefix-along before.known e.known known (subst (IsPrefix before.known) (sym (ap (λ (z : ReaderKnowledge). z.known) along)) first.begins) looks.begins;
     }
 
     seen_now : e'.seen ≡ before.seen ++ s ∷ t ∷ []
@@ -197,10 +197,10 @@ module _ {K : Type 0} (o : Order K) (k : K) (before begun e : ReaderKnowledge) (
 
 -- one attempt after another
 grows_along : (a b c : ReaderKnowledge) → Grows a b → Grows b c → Grows a c
-grows_along a b c p q = record { base = q.base ∙ p.base; capacity = q.capacity ∙ p.capacity; floor = q.floor ∙ p.floor; known = prefix_along a.known b.known c.known p.known q.known }
+grows_along a b c p q = record { base = q.base ∙ p.base; capacity = q.capacity ∙ p.capacity; floor = q.floor ∙ p.floor; known = IsPrefix-along a.known b.known c.known p.known q.known }
 
 pub searches_none : (e : ReaderKnowledge) → Searches e e
-searches_none e = ([], sym (append-nil e.seen), record { base = refl; capacity = refl; floor = refl; known = prefix_whole e.known })
+searches_none e = ([], sym (append-nil e.seen), record { base = refl; capacity = refl; floor = refl; known = IsPrefix-whole e.known })
 
 module _ {K : Type 0} (o : Order K) (k : K) where
   pub searches_more : (a b c : ReaderKnowledge) → Searches a b → Tried o k b c Retry → Searches a c

@@ -10,7 +10,7 @@ use Rattle.atomic_table.specs.Seated.{TableId}
 use Rattle.order_laws.specs.Orders.{Order, IsLawful}
 use Rattle.order_laws.specs.Tables.{look}
 use Rattle.order_laws.specs.declared.items.Item.{Item}
-use Rattle.order_laws.proofs.Lists.{first_and_rest}
+use Rattle.order_laws.proofs.Lists.{first_and_rest, IsPrefix-whole}
 use Rattle.word_arena.specs.declared.stores.Store.{Store}
 use Rattle.word_arena.specs.Words.{at, words_for, HoldsTable}
 use Rattle.word_arena.specs.Stores.{words_after}
@@ -34,7 +34,6 @@ use Rattle.latch_table.specs.Lookups.{FindsIn}
 use Rattle.latch_table.specs.Seats.{writer_of, writing, with_store, with_loads, with_update, shown_after}
 use Rattle.latch_table.specs.Rule.{KnowledgeHolds, as_writer, word_stored}
 use Rattle.latch_table.proofs.RuleLemmas.{allows_store}
-use Rattle.latch_table.proofs.ReaderLemmas.{prefix_whole}
 use Rattle.latch_table.specs.declared.writers.Did.{Did}
 use Rattle.latch_table.specs.declared.writers.Did.TheVariants.{Flip, Store as ToStore}
 use Rattle.latch_table.specs.Writers.{WriterState, known, left_of, did_of, Steps, Finds, Begins, hand_of, writer_state, IsTied, begun_state, stepped_state}
@@ -95,7 +94,7 @@ shown_grows : (g w : ℕ) (p : WriterKnowledge) → p.known ≡ take g p.accepte
 shown_grows g w p was =
     elim (w == 0 && stable (at p.picture 0) == 1) as (λ b. IsPrefix p.known (cond b p.accepted p.known)) [
       | true ↦ (drop g p.accepted, ap (λ (z : List Update). z ++ drop g p.accepted) was ∙ take-append-drop g p.accepted)
-      | false ↦ prefix_whole p.known
+      | false ↦ IsPrefix-whole p.known
     ]
 
 -- the hand after a step: none after the last

@@ -1,83 +1,22 @@
 -- What updates that insert items leave in a table, and when one more is accepted.
-use Rattle.std.proofs.Common.{◌≡◌, ℕ, ◌+◌, ◌<◌, ◌≤◌, Bool, true, false, List, [], ◌∷◌, ◌++◌, length, flat_map, get_or, Option, Some, None, refl, sym, ◌∙◌, ap, subst, inl, inr, ⊎_elim, arith, append-nil, length-append}
-use Rattle.std.specs.Prelude.{◌⊎◌, ◌==◌, ◌||◌, Contains, not, nat_lt}
-use Rattle.std.proofs.lemmas.Bool.{lt-ltb}
+use Rattle.std.proofs.Common.{◌≡◌, ℕ, ◌+◌, ◌<◌, ◌≤◌, true, false, List, [], ◌∷◌, ◌++◌, length, Option, Some, None, refl, sym, ◌∙◌, ap, subst, inr, ⊎_elim, arith, append-nil, length-append}
+use Rattle.std.specs.Prelude.{Contains, nat_lt}
 use Rattle.std.proofs.lemmas.Bool.Decides.{nat_tests}
 use Rattle.std.proofs.lemmas.Grind.{flat_map-append}
-use Rattle.std.proofs.lemmas.List.Elements.{Contains-get_or, Contains-append_cases, Contains-append_left, Contains-append_right}
-use Rattle.std.proofs.lemmas.List.Folds.{list_any_none}
 use Rattle.order_laws.specs.declared.items.Item.{Item}
-use Rattle.order_laws.specs.declared.refusals.Refusal.TheVariants.{BadItem, Overlap, Full, NoSuchItem, SequenceSpent, UpdateInHand}
 use Rattle.order_laws.specs.Orders.{Order, half_open, half_open_lawful}
-use Rattle.order_laws.specs.Tables.{IsTable, IsLook, look, meets, with_item, without_all}
+use Rattle.order_laws.specs.Tables.{IsTable, IsLook, look, without_all}
 use Rattle.order_laws.proofs.PlaceLemmas.{without_none}
-use Rattle.order_laws.proofs.SetLemmas.{in_with_item}
-use Rattle.order_laws.proofs.TableLemmas.{length_with_item, look_is, look_only}
-use Rattle.order_laws.proofs.Lists.{append_nil_left, append_nil_right}
-use Rattle.order_laws.proofs.Members.{Contains-cons_cases, Contains-none, Contains-rest}
+use Rattle.order_laws.proofs.TableLemmas.{look_is, look_only}
+use Rattle.order_laws.proofs.Members.{Contains-none}
+use Rattle.latch_core.proofs.HistoryLemmas.{all_are_valid, from_replay, insert_accepted, length_replay, no_test_holds, none_meet, to_replay}
 use Rattle.latch_core.specs.declared.updates.Update.{Update}
-use Rattle.latch_core.specs.declared.updates.Update.TheVariants.{Insert}
 use Rattle.latch_core.specs.Histories.{replay}
-use Rattle.latch_core.specs.Updates.{after, erased, first_that_holds, inserted, refuses, some_invalid, some_meet, some_overlap, with_items}
+use Rattle.latch_core.specs.Updates.{erased, inserted, refuses, some_invalid, some_meet, some_overlap}
 use Rattle.modules.specs.Loads.{update_of}
 use Rattle.latchsym.specs.LoadedWorlds.{Inserts}
 
--- the items of a table with more of them
-module _ {K : Type 0} (o : Order K) (x : Item) where
-  from_items : (is table : List Item) → Contains (with_items o is table) x → Contains is x ⊎ Contains table x
-  from_items [] table h = inr h
-  from_items (i ∷ is) table h =
-      ⊎_elim (λ m. inl (Contains-rest i x is m))
-      (λ m. ⊎_elim (λ e. inl (0, omega arith, sym e)) (λ q. inr q) ((in_with_item o i x table).0 m))
-      (from_items is (with_item o i table) h)
-
-  to_items : (is table : List Item) → Contains is x ⊎ Contains table x → Contains (with_items o is table) x
-  to_items [] table h = ⊎_elim (λ m. absurd (Contains-none x m)) (λ m. m) h
-  to_items (i ∷ is) table h =
-      to_items is (with_item o i table)
-      (⊎_elim
-      (λ m. ⊎_elim (λ e. inr ((in_with_item o i x table).1 (inl (sym e)))) (λ q. inl q) (Contains-cons_cases i x is m))
-      (λ m. inr ((in_with_item o i x table).1 (inr m)))
-      h)
-
-length_items : {K : Type 0} (o : Order K) (is table : List Item) → length (with_items o is table) ≡ length is + length table
-length_items o [] table = omega arith
-length_items o (i ∷ is) table = omega (arith, length_items o is (with_item o i table), length_with_item o i table)
-
--- an update that erases nothing
-after_inserts : {K : Type 0} (o : Order K) (table : List Item) (u : Update) → erased u ≡ [] → after o table u ≡ with_items o (inserted u) table
-after_inserts o table u none = ap (with_items o (inserted u)) (ap (λ gone. without_all gone table) none ∙ without_none table)
-
 -- a list of updates that erase nothing
-module _ {K : Type 0} (o : Order K) where
-  from_replay : (x : Item) (us : List Update) (table : List Item) → flat_map erased us ≡ [] → Contains (replay o table us) x → Contains table x ⊎ Contains (flat_map inserted us) x
-  from_replay x [] table none h = inl h
-  from_replay x (u ∷ us) table none h =
-      let first = append_nil_left (erased u) (flat_map erased us) none in
-      ⊎_elim
-      (λ m. ⊎_elim (λ q. inr (Contains-append_left (inserted u) (flat_map inserted us) x q)) (λ q. inl q)
-      (from_items o x (inserted u) table (subst (λ t. Contains t x) (after_inserts o table u first) m)))
-      (λ m. inr (Contains-append_right (inserted u) (flat_map inserted us) x m))
-      (from_replay x us (after o table u) (append_nil_right (erased u) (flat_map erased us) none) h)
-
-  to_replay : (x : Item) (us : List Update) (table : List Item) → flat_map erased us ≡ [] → Contains table x ⊎ Contains (flat_map inserted us) x → Contains (replay o table us) x
-  to_replay x [] table none h = ⊎_elim (λ m. m) (λ m. absurd (Contains-none x m)) h
-  to_replay x (u ∷ us) table none h =
-      let first = append_nil_left (erased u) (flat_map erased us) none in
-      let put : Contains (inserted u) x ⊎ Contains table x → Contains (after o table u) x =
-      λ m. subst (λ t. Contains t x) (sym (after_inserts o table u first)) (to_items o x (inserted u) table m) in
-      to_replay x us (after o table u) (append_nil_right (erased u) (flat_map erased us) none)
-      (⊎_elim
-      (λ m. inl (put (inr m)))
-      (λ m. ⊎_elim (λ q. inl (put (inl q))) (λ q. inr q) (Contains-append_cases (inserted u) (flat_map inserted us) x m))
-      h)
-
-  length_replay : (us : List Update) (table : List Item) → flat_map erased us ≡ [] → length (replay o table us) ≡ length table + length (flat_map inserted us)
-  length_replay [] table none = omega arith
-  length_replay (u ∷ us) table none =
-      let first = append_nil_left (erased u) (flat_map erased us) none in
-      omega (arith, length_replay us (after o table u) (append_nil_right (erased u) (flat_map erased us) none), ap length (after_inserts o table u first), length_items o (inserted u) table, length-append (inserted u) (flat_map inserted us))
-
 module _ {K : Type 0} (o : Order K) (us : List Update) (items : List Item) (h : Inserts us items) where
   pub in_table : (x : Item) → Contains (replay o [] us) x → Contains items x
   in_table x m = ⊎_elim (λ q. absurd (Contains-none x q)) (λ q. subst (λ l. Contains l x) h.inserted q) (from_replay o x us [] h.erased m)
@@ -108,35 +47,6 @@ one_update_more us items more u h puts none some =
       erased = flat_map-append erased us (u ∷ []) ∙ ap (λ l. l ++ (erased u ++ [])) h.erased ∙ append-nil (erased u) ∙ none;
       few = let f = h.few in omega (arith, length-append us (u ∷ []), length-append items more);
     }
-
-pub none_meets : (i : Item) (table : List Item) → ((x : Item) → Contains table x → half_open.apart x i ≡ true) → meets half_open i table ≡ false
-none_meets i table h =
-    list_any_none (λ x. not (half_open.apart x i)) table (λ k d lt. ap not (h (get_or table k d) (Contains-get_or table k d lt)))
-
--- an item that is apart from all others is accepted where there is room for it
-pub insert_accepted : (n limit : ℕ) (i : Item) (table : List Item) (seq : ℕ) → i.a < i.b → ((x : Item) → Contains table x → half_open.apart x i ≡ true)
-    → length table < n → seq + 2 ≤ limit → refuses half_open n limit false table seq (Insert i) ≡ None
-insert_accepted n limit i table seq valid apart room left =
-    let v : nat_lt i.a i.b ≡ true = lt-ltb i.a i.b valid in
-    let m = none_meets i table apart in
-    let f : (length table == n) ≡ false = grind (arith, nat_tests) in
-    let s : nat_lt limit (seq + 2) ≡ false = grind (arith, nat_tests) in
-    rw (v, m, f, s) refl
-
--- of the tests of a batch none holds
-no_test_holds : (invalid overlap meet full spent : Bool) → invalid ≡ false → overlap ≡ false → meet ≡ false → full ≡ false → spent ≡ false
-    → first_that_holds ((false, UpdateInHand) ∷ (invalid, BadItem) ∷ (false, NoSuchItem) ∷ (overlap || meet, Overlap) ∷ (full, Full) ∷ (spent, SequenceSpent) ∷ []) ≡ None
-no_test_holds invalid overlap meet full spent a b c d e = rw (a, b, c, d, e) refl
-
-all_are_valid : (items : List Item) → ((i : Item) → Contains items i → i.a < i.b) → some_invalid half_open items ≡ false
-all_are_valid items valid =
-    list_any_none (λ i. not (nat_lt i.a i.b)) items
-    (λ k d lt. ap not (lt-ltb (get_or items k d).a (get_or items k d).b (valid (get_or items k d) (Contains-get_or items k d lt))))
-
-none_meet : (items table : List Item) → ((x i : Item) → Contains table x → Contains items i → half_open.apart x i ≡ true) → some_meet half_open items table ≡ false
-none_meet items table apart =
-    list_any_none (λ i. meets half_open i table) items
-    (λ k d lt. none_meets (get_or items k d) table (λ x m. apart x (get_or items k d) m (Contains-get_or items k d lt)))
 
 -- the update that inserts some items is accepted where these are apart from each other and from all
 -- others, and have room

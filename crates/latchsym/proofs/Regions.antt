@@ -8,13 +8,13 @@ use Rattle.std.proofs.lemmas.Grind.{flat_map-append}
 use Rattle.order_laws.specs.declared.items.Item.{Item}
 use Rattle.order_laws.specs.Orders.{half_open, half_open_lawful}
 use Rattle.order_laws.specs.Tables.{meets}
+use Rattle.order_laws.proofs.MeetLemmas.{none_meets}
 use Rattle.latch_core.specs.Updates.{some_overlap}
 use Rattle.modules.specs.Catalogs.{IsSound, regions_of}
 use Rattle.modules.specs.Entries.{CatalogEntries}
 use Rattle.modules.specs.Items.{items_at, items_below, items_of}
 use Rattle.modules.specs.Regions.{is_apart}
 use Rattle.modules.proofs.Items.{all_regions, from_nought, in_map, region_of}
-use Rattle.latchsym.proofs.Loads.{none_meets}
 
 -- the items of a number, between those of the lesser and those of the greater ones
 pub rest_of : CatalogEntries → ℕ → List Item

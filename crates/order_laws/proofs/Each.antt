@@ -1,5 +1,5 @@
 -- Facts about what each element of a list has, as `AllByRecursion` says it.
-use Rattle.std.proofs.Common.{◌++◌, ◌<◌, ◌∷◌, ◌≡◌, ◌≢◌, ◌≤◌, Bool, List, Some, [], arith, cond, drop, eqb, false, get_or, length, subst, suc, take, true, zero, ℕ, ⊎_elim}
+use Rattle.std.proofs.Common.{◌++◌, ◌<◌, ◌∷◌, ◌≡◌, ◌≢◌, ◌≤◌, Bool, List, Some, [], arith, cond, drop, eqb, false, get_or, length, subst, suc, true, zero, ℕ, ⊎_elim}
 use Rattle.std.specs.Prelude.{Contains, filter, insert, remove, slice_get}
 use Rattle.std.specs.List.{AllByRecursion, list_any}
 use Rattle.std.specs.List.Sorted.{IsNonDecreasingBy}
@@ -50,7 +50,7 @@ all_filtered P test (x ∷ xs) h =
       | false ↦ all_filtered P test xs h.1
     ]
 
--- ---- with an element put in or taken out, a front, a rest, and the element at a place
+-- ---- with an element put in or taken out, a rest, and the element at a place
 
 module _ {X : Type 0} (P : X → Type 0) where
   pub all_insert : (xs : List X) (i : ℕ) (x : X) → AllByRecursion P xs → P x
@@ -64,11 +64,6 @@ module _ {X : Type 0} (P : X → Type 0) where
   all_remove (y ∷ xs) zero h = h.1
   all_remove [] (suc i) h = tt
   all_remove (y ∷ xs) (suc i) h = (h.0, all_remove xs i h.1)
-
-  pub all_take : (xs : List X) (i : ℕ) → AllByRecursion P xs → AllByRecursion P (take i xs)
-  all_take xs zero h = tt
-  all_take [] (suc i) h = tt
-  all_take (y ∷ xs) (suc i) h = (h.0, all_take xs i h.1)
 
   pub all_drop : (xs : List X) (i : ℕ) → AllByRecursion P xs → AllByRecursion P (drop i xs)
   all_drop xs zero h = h

@@ -14,6 +14,7 @@ pub mod Digits
 -- laws of orders and tables
 pub mod TableLemmas
 pub mod PlaceLemmas
+pub mod MeetLemmas
 pub mod SetLemmas
 pub mod LeftOutLemmas
 pub mod WithoutLemmas

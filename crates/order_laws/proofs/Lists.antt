@@ -5,6 +5,7 @@ use Rattle.std.specs.Global.{Vec}
 use Rattle.std.specs.List.{onto_first, swap_remove}
 use Rattle.std.proofs.lemmas.Bool.{lt-ltb}
 use Rattle.std.proofs.lemmas.List.{get_or-drop, get_or_append_left, take-set, take-take, take_more}
+use mathlib.Core.List.{IsPrefix}
 
 -- ---- joined lists
 
@@ -50,16 +51,18 @@ pub append_nil_right : {X : Type 0} (xs ys : List X) → xs ++ ys ≡ [] → ys 
 append_nil_right [] ys e = e
 append_nil_right (x ∷ xs) ys e = absurd (let f = ap length e in omega arith)
 
+pub IsPrefix-whole : {X : Type 0} (xs : List X) → IsPrefix xs xs
+IsPrefix-whole xs = ([], append-nil xs)
+
+pub IsPrefix-along : {X : Type 0} (xs ys zs : List X) → IsPrefix xs ys → IsPrefix ys zs
+    → IsPrefix xs zs
+IsPrefix-along xs ys zs p q = (p.0 ++ q.0, sym (append_assoc xs p.0 q.0) ∙ (ap (λ z. z ++ q.0) p.1 ∙ q.1))
+
 -- an element pushed, or none
 pub length-picked : {X : Type 0} (xs : List X) (b : Bool) (y : X)
     → length (xs ++ cond b (y ∷ []) []) ≤ length xs + 1
 length-picked {X} xs true y = omega (arith, length-append xs (y ∷ []))
 length-picked {X} xs false y = omega (arith, length-append {A = X} xs [])
-
-pub length-cond_cons : {A : Type 0} (b : Bool) (x : A) (xs : List A)
-    → length (cond b (x ∷ xs) xs) ≡ cond b 1 0 + length xs
-length-cond_cons true x xs = omega arith
-length-cond_cons false x xs = omega arith
 
 pub length-append_nil : {X : Type 0} (ss : List X) (k : ℕ) → length ss ≤ k → length (ss ++ []) ≤ k
 length-append_nil ss k h = omega (arith, length-append ss [])

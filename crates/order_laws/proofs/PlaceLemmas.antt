@@ -5,7 +5,7 @@ use Rattle.std.specs.List.{AllByRecursion}
 use Rattle.std.proofs.lemmas.Bool.{eqb-true, ne_eqb}
 use Rattle.order_laws.specs.declared.items.Item.{Item}
 use Rattle.order_laws.specs.Orders.{Order, Precedes, IsLawful}
-use Rattle.order_laws.specs.Tables.{IsTable, with_item, without, without_all, place_for, place_of, has, meets}
+use Rattle.order_laws.specs.Tables.{IsTable, with_item, without, without_all, place_for, place_of, has}
 use Rattle.order_laws.proofs.Numbers.{eqb-flip}
 
 -- a table with one item more has it at its place
@@ -63,15 +63,6 @@ without_one a (x ∷ xs) =
       | true ↦ without_one a xs
       | false ↦ ap (λ ys. x ∷ ys) (without_one a xs)
     ])
-
--- an item that meets none is apart from each
-pub not_meeting : {K : Type 0} (o : Order K) (i : Item) (xs : List Item) → meets o i xs ≡ false → AllByRecursion (λ x. o.apart x i ≡ true) xs
-not_meeting o i [] e = tt
-not_meeting o i (x ∷ xs) e =
-    elim (o.apart x i) as (λ b. o.apart x i ≡ b → (not b || meets o i xs) ≡ false → AllByRecursion (λ y. o.apart y i ≡ true) (x ∷ xs)) [
-      | true ↦ λ is f. (is, not_meeting o i xs f)
-      | false ↦ λ is f. absurd (cc)
-    ] refl e
 
 -- the item at the place of a first word has it
 pub place_of_has : (a : ℕ) (xs : List Item) (i : Item) → has a xs ≡ true → slice_get xs (place_of a xs) ≡ Some i → i.a ≡ a

@@ -1,4 +1,5 @@
 pub mod RowLemmas
+pub mod ListedRows
 pub mod InsertLemmas
 pub mod EraseLemmas
 pub mod DepthLemmas

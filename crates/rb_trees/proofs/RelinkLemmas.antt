@@ -3,7 +3,8 @@ use Rattle.std.proofs.Common.{◌≡◌, ◌≢◌, ℕ, suc, ◌<◌, ◌≤◌
 use Rattle.std.specs.Prelude.{◌⊎◌, ◌==◌, slice_set}
 use Rattle.std.specs.List.{AllByRecursion}
 use Rattle.std.proofs.lemmas.Bool.{eqb-true}
-use Rattle.word_arena.proofs.LinkLemmas.{left_differs, left_in, left_not_right, right_differs, right_in}
+use Rattle.word_arena.proofs.WordLemmas.{left_not_left, left_not_right, right_not_right}
+use Rattle.word_arena.proofs.LinkLemmas.{left_in, right_in}
 use Rattle.word_arena.specs.declared.stores.Store.{Store}
 use Rattle.word_arena.specs.Words.{Nodes, none, fork, at, left_word, right_word, words_for}
 use Rattle.word_arena.specs.Stores.{words_after_all}
@@ -200,12 +201,12 @@ module _ (n c : ℕ) (small : c ≤ 1) where
           owns = (((y, py, inl refl), fb), (((x, px, inr refl), fy), tt));
           leads = λ m sized is.
               let m1 = slice_set m (left_word c y) (link b) in (
-                at_other m1 (right_word c x) (suc y) (left_word c x) (left_not_right c x x) ∙ at_other m (left_word c y) (link b) (left_word c x) (left_differs c x y ne) ∙ is.2.0,
+                at_other m1 (right_word c x) (suc y) (left_word c x) (left_not_right c x x) ∙ at_other m (left_word c y) (link b) (left_word c x) (left_not_left c x y ne) ∙ is.2.0,
                 at_stored m1 (right_word c x) (suc y) (omega (arith, right_in n c x small (below x px), length-set m (left_word c y) (link b), sized)),
                 inner_kept n c (λ i. (i ≡ x) ⊎ (i ≡ y)) m ss owns a (λ i h. ⊎_elim (λ e. s.0 (subst (Among a) e h)) (λ e. sep.0 (inr (inl (subst (Among a) e h))))) is.2.2,
                 (
                   at_other m1 (right_word c x) (suc y) (left_word c y) (left_not_right c y x) ∙ at_stored m (left_word c y) (link b) (omega (arith, left_in n c y small (below y py), sized)),
-                  at_other m1 (right_word c x) (suc y) (right_word c y) (right_differs c y x (λ e. ne (sym e))) ∙ at_other m (left_word c y) (link b) (right_word c y) (λ q. left_not_right c y y (sym q)) ∙ is.1,
+                  at_other m1 (right_word c x) (suc y) (right_word c y) (right_not_right c y x (λ e. ne (sym e))) ∙ at_other m (left_word c y) (link b) (right_word c y) (λ q. left_not_right c y y (sym q)) ∙ is.1,
                   inner_kept n c (λ i. (i ≡ x) ⊎ (i ≡ y)) m ss owns b (λ i h. ⊎_elim (λ e. s.1 (subst (Among b) e h)) (λ e. sep.0 (inr (inr (subst (Among b) e h))))) is.2.3,
                   inner_kept n c (λ i. (i ≡ x) ⊎ (i ≡ y)) m ss owns r (λ i h. ⊎_elim (λ e. sep.2 i (inl e) h) (λ e. sep.1 (subst (Among r) e h))) is.3,
                 ),
@@ -239,9 +240,9 @@ module _ (n c : ℕ) (small : c ≤ 1) where
           leads = λ m sized is.
               let m1 = slice_set m (right_word c y) (link b) in (
                 at_stored m1 (left_word c x) (suc y) (omega (arith, left_in n c x small (below x px), length-set m (right_word c y) (link b), sized)),
-                at_other m1 (left_word c x) (suc y) (right_word c x) (λ q. left_not_right c x x (sym q)) ∙ at_other m (right_word c y) (link b) (right_word c x) (right_differs c x y ne) ∙ is.3.1,
+                at_other m1 (left_word c x) (suc y) (right_word c x) (λ q. left_not_right c x x (sym q)) ∙ at_other m (right_word c y) (link b) (right_word c x) (right_not_right c x y ne) ∙ is.3.1,
                 (
-                  at_other m1 (left_word c x) (suc y) (left_word c y) (left_differs c y x (λ e. ne (sym e))) ∙ at_other m (right_word c y) (link b) (left_word c y) (left_not_right c y y) ∙ is.0,
+                  at_other m1 (left_word c x) (suc y) (left_word c y) (left_not_left c y x (λ e. ne (sym e))) ∙ at_other m (right_word c y) (link b) (left_word c y) (left_not_right c y y) ∙ is.0,
                   at_other m1 (left_word c x) (suc y) (right_word c y) (λ q. left_not_right c x y (sym q)) ∙ at_stored m (right_word c y) (link b) (omega (arith, right_in n c y small (below y py), sized)),
                   inner_kept n c (λ i. (i ≡ x) ⊎ (i ≡ y)) m ss owns a (λ i h. ⊎_elim (λ e. sep.2 i h (inl e)) (λ e. sep.0 (subst (Among a) e h))) is.2,
                   inner_kept n c (λ i. (i ≡ x) ⊎ (i ≡ y)) m ss owns b (λ i h. ⊎_elim (λ e. s.0 (subst (Among b) e h)) (λ e. sep.1 (inr (inl (subst (Among b) e h))))) is.3.2,

@@ -2,7 +2,7 @@
 use Rattle.std.proofs.Common.{◌≡◌, ◌≢◌, ℕ, suc, ◌+◌, ◌*◌, ◌^◌, ◌<◌, ◌≤◌, true, false, List}
 use Rattle.std.proofs.Common.{[], ◌∷◌, ◌++◌, length, map, Some, refl, sym, ◌∙◌, ap}
 use Rattle.std.proofs.Common.{subst, inl, inr, ⊎_elim, arith, length-set, length-append}
-use Rattle.std.specs.Prelude.{◌↔◌, ◌==◌, ◌||◌, Contains, insert, remove, slice_get}
+use Rattle.std.specs.Prelude.{Contains, insert, remove, slice_get}
 use Rattle.std.specs.Prelude.{slice_set, is_some}
 use Rattle.std.specs.Option.{option_map}
 use Rattle.std.specs.declared.vec.Vec.{Vec}
@@ -11,18 +11,18 @@ use Rattle.std.specs.List.{AllByRecursion}
 use Rattle.std.proofs.Math.Nat.{pow-le-pow_right, mul-le-mul}
 use Rattle.std.proofs.lemmas.Option.{slice_get-map}
 use Rattle.std.proofs.lemmas.List.{length-map}
-use Rattle.std.proofs.lemmas.Bool.{eqb-true, eq-eqb, or_cases, cases_lt, or_left, or_right}
-use Rattle.std.proofs.lemmas.List.Elements.{Contains-append_left, Contains-append_right}
-use Rattle.std.proofs.lemmas.List.Elements.{Contains-append_cases}
+use Rattle.std.proofs.lemmas.Bool.{cases_lt}
 use Rattle.order_laws.specs.declared.items.Item.{Item}
 use Rattle.order_laws.specs.Orders.{Order, IsLawful, IsInLine}
 use Rattle.order_laws.specs.Tables.{IsTable, with_item, without, place_for, place_of, has, meets}
 use Rattle.order_laws.proofs.TableLemmas.{with_item_table, without_table}
-use Rattle.order_laws.proofs.PlaceLemmas.{with_place, without_place, not_meeting, place_of_has}
+use Rattle.order_laws.proofs.PlaceLemmas.{with_place, without_place, place_of_has}
 use Rattle.order_laws.proofs.PlaceLemmas.{place_of_fits, without_none}
 use Rattle.order_laws.proofs.Each.{all_differ, all_get, all_insert, all_left, all_remove, all_right}
 use Rattle.order_laws.proofs.Lists.{is_some-slice_get, length-insert, length-remove_at, map-insert, map-remove}
-use Rattle.order_laws.proofs.Members.{Contains-cons_cases, Contains-insert, Contains-insert_cases, Contains-remove, Contains-rest}
+use Rattle.order_laws.proofs.Members.{Contains-insert, Contains-insert_cases, Contains-remove}
+use Rattle.order_laws.proofs.MeetLemmas.{not_meeting}
+use Rattle.rb_trees.proofs.ListedRows.{as_many_rows}
 use Rattle.word_arena.proofs.LinkLemmas.{item_kept}
 use Rattle.word_arena.specs.declared.stores.Store.{Store}
 use Rattle.word_arena.specs.Words.{Nodes, none, fork, words_for, a_word, b_word}
@@ -33,13 +33,13 @@ use Rattle.word_arena.proofs.StoreLemmas.{length_after, after_append, at_stored,
 use Rattle.word_arena.proofs.HoldsLemmas.{tree_untouched}
 use Rattle.word_arena.proofs.ReachLemmas.{reached_listed}
 use Rattle.rb_trees.specs.declared.Record.{Record}
-use Rattle.rb_trees.specs.Trees.{Branches, tip, branch, blackened, shape, rows, depth, IsRedBlack}
+use Rattle.rb_trees.specs.Trees.{Branches, blackened, shape, rows, depth, IsRedBlack}
 use Rattle.rb_trees.specs.Turns.{link, relink_root}
 use Rattle.rb_trees.specs.Inserted.{inserted, insert_links}
 use Rattle.rb_trees.specs.Erased.{erase_links, found}
 use Rattle.rb_trees.specs.Sought.{Sought}
 use Rattle.rb_trees.specs.Linked.{Among, IsSeparate}
-use Rattle.rb_trees.specs.Found.{items_of, has_node, met}
+use Rattle.rb_trees.specs.Found.{items_of, met}
 use Rattle.rb_trees.proofs.MeetRows.{met_meets}
 use Rattle.rb_trees.proofs.RowLemmas.{rows_blackened}
 use Rattle.rb_trees.proofs.InsertLemmas.{inserted_red_black}
@@ -108,10 +108,6 @@ item_put m n node i lt sized =
     ∙ at_stored m1 wb i.b (omega (arith, len1)) in
     let et = at_stored m2 wt i.tag (omega (arith, len2)) in
     λ d. record { a = ea d; b = eb d; tag = et d }
-
-as_many_rows : (t : Branches) → length (listed (shape t)) ≡ length (items_of (rows t))
-as_many_rows t = ap length (listed_rows t) ∙ length-map (rows t) (λ r. r.node)
-    ∙ sym (length-map (rows t) (λ r. r.item))
 
 -- a record more
 module _ {K : Type 0} (o : Order K) (law : IsLawful o) (n c : ℕ) (t : Branches) (old room : ℕ)
@@ -384,39 +380,6 @@ few_without c seen t =
     let k = erased_lost c seen t in
     let root = with_root_link c (link (shape t)) (link (shape u)) (length ss) 12 k.all k.moved in
     omega (arith, length-append ss (relink_root c (link (shape t)) (link (shape u))), root)
-
--- the walk over all nodes
-reach_listed : (i : ℕ) (t : Branches) → has_node i t ≡ true → Contains (listed (shape t)) i
-reach_listed i tip e = absurd (cc)
-reach_listed i (branch red l y r) e =
-    ⊎_elim
-    (λ h. Contains-append_right (listed (shape l)) (y.node ∷ listed (shape r)) i
-    (0, omega arith, eqb-true y.node i h))
-    (λ h.
-    ⊎_elim
-    (λ b. Contains-append_left (listed (shape l)) (y.node ∷ listed (shape r)) i
-    (reach_listed i l b))
-    (λ b. Contains-append_right (listed (shape l)) (y.node ∷ listed (shape r)) i
-    (Contains-rest y.node i (listed (shape r)) (reach_listed i r b)))
-    (or_cases (has_node i l) (has_node i r) h))
-    (or_cases (y.node == i) (has_node i l || has_node i r) e)
-
-listed_reach : (i : ℕ) (t : Branches) → Contains (listed (shape t)) i → has_node i t ≡ true
-listed_reach i tip is = let n = is.1 in absurd (omega (arith, n))
-listed_reach i (branch red l y r) is =
-    ⊎_elim
-    (λ b. or_right (y.node == i) (has_node i l || has_node i r)
-    (or_left (has_node i l) (has_node i r) (listed_reach i l b)))
-    (λ b.
-    ⊎_elim
-    (λ e. or_left (y.node == i) (has_node i l || has_node i r) (eq-eqb y.node i e))
-    (λ d. or_right (y.node == i) (has_node i l || has_node i r)
-    (or_right (has_node i l) (has_node i r) (listed_reach i r d)))
-    (Contains-cons_cases y.node i (listed (shape r)) b))
-    (Contains-append_cases (listed (shape l)) (y.node ∷ listed (shape r)) i is)
-
-pub reaches_shown : (i : ℕ) (t : Branches) → (has_node i t ≡ true) ↔ Contains (listed (shape t)) i
-reaches_shown i t = (reach_listed i t, listed_reach i t)
 
 -- the search on the one way down tells of the pictured table
 pub met_none : {K : Type 0} (o : Order K) → IsLawful o → IsInLine o → {i : Item} →

@@ -8,17 +8,14 @@ use Rattle.std.proofs.Math.ListN.{get_or-append}
 use Rattle.std.proofs.Math.Seq.{get_or-append_seam}
 use Rattle.std.proofs.lemmas.List.{take_more, append-nil}
 use Rattle.order_laws.specs.declared.items.Item.{Item}
-use Rattle.order_laws.specs.Orders.{Order, half_open}
+use Rattle.order_laws.specs.Orders.{half_open}
 use Rattle.order_laws.specs.Tables.{look}
+use Rattle.latch_core.proofs.HistoryLemmas.{replay_append}
 use Rattle.latch_core.specs.declared.updates.Update.{Update}
 use Rattle.latch_core.specs.Updates.{after}
 use Rattle.latch_core.specs.Histories.{replay}
 use Rattle.latch_core.proofs.Steps.{replay_push}
 use Rattle.table_replay.specs.Schedules.{times, first_of, table_after, IsRound, AreTables}
-
-replay_append : {K : Type 0} (o : Order K) (table : List Item) (us vs : List Update) → replay o table (us ++ vs) ≡ replay o (replay o table us) vs
-replay_append o table [] vs = refl
-replay_append o table (u ∷ us) vs = replay_append o (after o table u) us vs
 
 -- whole rounds change no table
 pub times_closed : (rounds : ℕ) (us : List Update) → IsRound us → table_after (times rounds us) ≡ []

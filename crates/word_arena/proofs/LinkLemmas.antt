@@ -1,5 +1,5 @@
 -- Where link words lie, and what stores of links leave as it was.
-use Rattle.std.proofs.Common.{◌+◌, ◌<◌, ◌∙◌, ◌≡◌, ◌≢◌, ◌≤◌, List, arith, inl, inr, refl, subst, sym, ℕ}
+use Rattle.std.proofs.Common.{◌+◌, ◌<◌, ◌∙◌, ◌≡◌, ◌≢◌, ◌≤◌, List, arith, inl, inr, refl, ℕ}
 use Rattle.std.specs.Prelude.{All}
 use Rattle.std.specs.List.{AllByRecursion}
 use Rattle.std.proofs.lemmas.List.Elements.{All-from_recursion}
@@ -7,7 +7,7 @@ use Rattle.order_laws.proofs.Each.{all_weaker}
 use Rattle.word_arena.proofs.StoreLemmas.{Agree, untouched}
 use Rattle.word_arena.proofs.WordLemmas.{IsCopyWord, in_copy, link_no_item, link_no_other, link_place}
 use Rattle.word_arena.specs.Stores.{AreLinkStores, IsItemWord, IsLinkWord, words_after_all}
-use Rattle.word_arena.specs.Words.{InUse, Leads, Nodes, Reaches, a_word, at, b_word, by_left, by_right, by_root, fork, item_at, left_word, none, right_word, root_word, tag_word, words_for}
+use Rattle.word_arena.specs.Words.{InUse, Reaches, a_word, at, b_word, by_left, by_right, by_root, item_at, left_word, right_word, root_word, tag_word, words_for}
 use Rattle.word_arena.specs.declared.stores.Store.{Store}
 
 pub left_in : (n c i : ℕ) → c ≤ 1 → i < n → left_word c i < words_for n
@@ -15,15 +15,6 @@ left_in n c i small lt = omega arith
 
 pub right_in : (n c i : ℕ) → c ≤ 1 → i < n → right_word c i < words_for n
 right_in n c i small lt = omega arith
-
-pub left_not_right : (c i j : ℕ) → left_word c i ≢ right_word c j
-left_not_right c i j e = absurd (omega arith)
-
-pub left_differs : (c i j : ℕ) → i ≢ j → left_word c i ≢ left_word c j
-left_differs c i j ne e = ne (omega arith)
-
-pub right_differs : (c i j : ℕ) → i ≢ j → right_word c i ≢ right_word c j
-right_differs c i j ne e = ne (omega arith)
 
 pub links_in_range : (n copy : ℕ) (links : List Store) → copy ≤ 1 → AreLinkStores n copy links
     → All (λ (s : Store). s.word < words_for n) links
@@ -53,19 +44,6 @@ pub not_in_use : (m : List ℕ) (n c : ℕ) (ss : List Store)
     → AllByRecursion (λ (s : Store). InUse m n c s.word → ⊥) ss
 not_in_use m n c ss h = all_weaker (λ (s : Store). IsCopyWord c s.word → ⊥) (λ (s : Store). InUse m n c s.word → ⊥) (λ s a u. a (in_copy m n c s.word u)) ss h
 
--- a link leads to one tree alone
-pub leads_one : (m : List ℕ) (n c w : ℕ) (t u : Nodes) → Leads m n c w t → Leads m n c w u → t ≡ u
-leads_one m n c w none none h k = refl
-leads_one m n c w none (fork l i r) h k = absurd (omega (arith, h, k.0))
-leads_one m n c w (fork l i r) none h k = absurd (omega (arith, h.0, k))
-leads_one m n c w (fork l i r) (fork a j b) h k =
-    let same : i ≡ j = omega (arith, h.0, k.0) in
-    let left : Leads m n c (at m (left_word c i)) a = subst (λ v. Leads m n c (at m (left_word c v)) a) (sym same) k.2 in
-    let right : Leads m n c (at m (right_word c i)) b = subst (λ v. Leads m n c (at m (right_word c v)) b) (sym same) k.3 in
-    let el = leads_one m n c (at m (left_word c i)) l a h.2 left in
-    let er = leads_one m n c (at m (right_word c i)) r b h.3 right in
-    λ d. fork (el d) (same d) (er d)
-
 -- a walk comes to the same nodes where the words in use are the same
 pub reaches_on : (m m' : List ℕ) (n copy : ℕ) → ((w : ℕ) → InUse m n copy w → at m' w ≡ at m w)
     → (i : ℕ) → Reaches m n copy i → Reaches m' n copy i
@@ -75,7 +53,8 @@ reaches_on m m' n copy same _ (by_right i j r lt e) = by_right i j (reaches_on m
 
 -- links leave the items
 pub item_kept : (m : List ℕ) (n c : ℕ) (links : List Store) (i : ℕ) → c ≤ 1
-    → AreLinkStores n c links → item_at (words_after_all m links) i ≡ item_at m i
+    → AreLinkStores n c links →
+    item_at (words_after_all m links) i ≡ item_at m i
 item_kept m n c links i small are =
     let away = all_weaker (λ (s : Store). IsLinkWord n c s.word) (λ s. IsItemWord i s.word → ⊥)
     (λ s l. link_no_item n c i s.word small l) links are in

@@ -102,6 +102,12 @@ unused_item m n copy node w c free is u =
     ⊎_elim (λ e. let x = of_item node w is in let xe = x.2 in absurd (omega arith))
     (λ (j, r, h). free (subst (Reaches m n copy) (one_node copy node j w c is h) r)) u
 
--- no left link of a copy is a right one
+-- the links of one copy differ from one another
 pub left_not_right : (copy i j : ℕ) → left_word copy i ≢ right_word copy j
 left_not_right copy i j e = absurd (omega arith)
+
+pub left_not_left : (copy i j : ℕ) → i ≢ j → left_word copy i ≢ left_word copy j
+left_not_left copy i j ne e = ne (omega arith)
+
+pub right_not_right : (copy i j : ℕ) → i ≢ j → right_word copy i ≢ right_word copy j
+right_not_right copy i j ne e = ne (omega arith)

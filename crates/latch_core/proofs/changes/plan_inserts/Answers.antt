@@ -2,9 +2,10 @@ use Rattle.std.proofs.Common.{◌≡◌, ◌<◌, ◌-◌, ◌++◌, length, tak
 use Rattle.std.specs.List.{AllByRecursion}
 use Rattle.std.proofs.lemmas.List.{take_all, drop_more}
 use Rattle.order_laws.specs.declared.items.Item.{Item}
+use Rattle.order_laws.proofs.MeetLemmas.{no_meeting}
 use Rattle.rb_words.specs.Plans.{item_stores}
 use Rattle.latch_core.specs.Changes.{InsertsAll}
-use Rattle.latch_core.proofs.BatchLemmas.{AreOff, no_meeting}
+use Rattle.latch_core.proofs.BatchLemmas.{AreOff}
 use Rattle.latch_core.proofs.ChangeLemmas.{next_node, inserting_none, inserting_step}
 use Rattle.latch_core.proofs.changes.plan_inserts.Goals as goal
 
