@@ -13,7 +13,6 @@ use Rattle.modules.specs.Around.{is_nearest, symbol_below, is_next, address_abov
 use Rattle.modules.specs.Entries.{SymbolEntry}
 use Rattle.modules.specs.Index.{IsRising, IsSplitOf, IsFirstOf, IsFirstAt}
 
-
 pub IsFirstOf-from_partition : (symbols : List SymbolEntry) (addr split : ℕ) → split ≤ length symbols → IsPartitionPoint (λ s. nat_lt s.addr addr ≡ true) (λ s. nat_lt s.addr addr ≡ false) symbols split → IsFirstOf symbols addr split
 IsFirstOf-from_partition symbols addr split bound point =
     record {
