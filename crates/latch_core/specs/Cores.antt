@@ -4,7 +4,7 @@ use Rattle.order_laws.specs.declared.items.Item.{Item}
 use Rattle.order_laws.specs.Orders.{Order}
 use Rattle.word_arena.specs.Words.{root_word, b_word, tag_word, left_word, right_word}
 use Rattle.latch_core.specs.Sequences.{stable}
-use Rattle.latch_core.specs.Attempts.{Answer, Again, Reading, Load, Item_found, No_item, closing, turn, visit, walk, attempt, rest_after, IsAttempt}
+use Rattle.latch_core.specs.Attempts.{Answer, Again, Reading, Load, Item_found, No_item, closing, turn, visit, walk, attempt, rest_after, IsAttempt, Stuck as Is_stuck}
 use Rattle.latch_core.specs.Whole.{Wants}
 use Rattle.latch_core.specs.declared.readers.ReaderCore.{ReaderCore}
 use Rattle.latch_core.specs.declared.readers.Taken.{Taken}

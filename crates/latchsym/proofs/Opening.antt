@@ -23,6 +23,7 @@ use Rattle.latchsym.specs.LoadedWorlds.{Holds, HoldsBelow, Inserts}
 use Rattle.latchsym.proofs.Regions.{as_many}
 use Rattle.latchsym.proofs.Loads.{look_in_table}
 use Rattle.latchsym.proofs.Worlds.{NoLookup, current_at_rest, found_at_end, none_at_end, none_begun, same_readers, table_at_rest}
+use Rattle.latch_core.specs.Invariants.{IsSound as IsSoundLatch}
 
 no_updates : Inserts [] []
 no_updates = record { inserted = refl; erased = refl; few = omega arith }

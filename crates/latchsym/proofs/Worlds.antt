@@ -22,6 +22,7 @@ use Rattle.latch_steps.specs.declared.worlds.World.{World}
 use Rattle.latch_steps.specs.Runs.{LookupInHand, Moment, Done, did, last_of}
 use Rattle.latch_steps.specs.Steps.{machine, AfterLoad, Goes, Retries, Returns, Run, Step, Writes, after_load, load_done, read_done, start_done, new_lookup, more}
 use Rattle.latch_steps.specs.Worlds.{Shows}
+use Rattle.latch_steps.specs.Lookups.{IsInHand as IsHeld}
 
 -- no lookup is in hand
 abbrev pub NoLookup : {K : Type 0} → Moment K → Type 0

@@ -15,6 +15,7 @@ use Rattle.modules.specs.Listed.{BoundNames, ListedRegion}
 use Rattle.latchsym.specs.declared.lookup.ListingTexts.{ListingTexts}
 use Rattle.latchsym.specs.declared.lookup.LookupInputs.{LookupInputs}
 use Rattle.latchsym.specs.declared.lookup.LookupReaders.{LookupReaders}
+use Rattle.listing.specs.RegionListing.{regions_of as listed_regions}
 
 -- the texts of the listings, of which that of regions may be missing
 pub record Texts : Type 0 where

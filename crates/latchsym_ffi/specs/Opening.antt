@@ -18,6 +18,7 @@ use Rattle.latchsym_ffi.specs.declared.opening.CatalogCounts.{CatalogCounts}
 use Rattle.latchsym_ffi.specs.declared.opening.CatalogFault.{CatalogFault}
 use Rattle.latchsym_ffi.specs.declared.opening.CatalogFault.TheVariants.{BadLine, Refused}
 use Rattle.latchsym_ffi.specs.declared.opening.CatalogTexts.{CatalogTexts}
+use Rattle.listing.specs.RegionListing.{regions_of as listed_regions}
 
 -- the bytes of the listings, of which that of regions may be missing
 pub record Texts : Type 0 where

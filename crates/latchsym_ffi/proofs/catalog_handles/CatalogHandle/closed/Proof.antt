@@ -26,7 +26,7 @@ use denote.Steps.{nothing}
 use denote.Triple.Spec.{triple_of}
 use denote.Triple.Table.{entered}
 use denote.Triple.Walked.{says, Stays, stay_dropped, walk_of, ends_at, Goes-dropped, walk_Meets}
-use Rattle.latchsym_ffi.proofs.CatalogHandleValues.{Z, three, open_good, closed_in, al}
+use Rattle.latchsym_ffi.proofs.CatalogHandleValues.{Z, three, open_good, closed_in, al, FromGlobal as From}
 use Rattle.latchsym_ffi.specs.contracts.catalog_handles.CatalogHandle.closed as F
 use Rattle.latchsym_ffi.specs.contracts.catalog_handles.CatalogHandle.closed.Key.{name as #self}
 use Rattle.latchsym_ffi.proofs.catalog_handles.CatalogHandle.closed.Statement as stated

@@ -25,7 +25,7 @@ use denote.Steps.{nothing}
 use denote.Triple.Spec.{triple_of}
 use denote.Triple.Table.{entered}
 use denote.Triple.Walked.{says, Stays, stay_dropped, walk_of, ends_at, Goes-dropped, walk_Meets}
-use Rattle.latchsym_ffi.proofs.ReaderHandleValues.{Z, three, open_good, closed_in, al}
+use Rattle.latchsym_ffi.proofs.ReaderHandleValues.{Z, three, open_good, closed_in, al, FromGlobal as From}
 use Rattle.latchsym_ffi.specs.contracts.reader_handles.ReaderHandle.closed as F
 use Rattle.latchsym_ffi.specs.contracts.reader_handles.ReaderHandle.closed.Key.{name as #self}
 use Rattle.latchsym_ffi.proofs.reader_handles.ReaderHandle.closed.Statement as stated

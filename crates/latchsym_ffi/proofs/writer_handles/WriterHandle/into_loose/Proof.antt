@@ -25,7 +25,7 @@ use denote.Triple.Table.{entered}
 use denote.Triple.Walked.{says, Stays, stay_dropped, walk_of, ends_at, Goes-dropped, walk_Meets}
 use Rattle.loose.proofs.Values.{both, loose_good, loose_in}
 use Rattle.std_heap.specs.contracts.GlobalAllocator.TheImpl.{ghosts}
-use Rattle.latchsym_ffi.proofs.WriterHandleValues.{R, Z, LZ, Hd, three, open_good, handle_out}
+use Rattle.latchsym_ffi.proofs.WriterHandleValues.{R, Z, LZ, Hd, three, open_good, handle_out, FromHandle as From}
 use Rattle.latchsym_ffi.specs.contracts.writer_handles.WriterHandle.into_loose as F
 use Rattle.latchsym_ffi.specs.contracts.writer_handles.WriterHandle.into_loose.Key.{name as #self}
 use Rattle.latchsym_ffi.proofs.writer_handles.WriterHandle.into_loose.Statement as stated
