@@ -1,23 +1,19 @@
 -- An update that begins: what was tested, the node that an insert takes, and what the core then
 -- has in hand.
-use Rattle.std.proofs.Common.{◌≡◌, ℕ, suc, ◌+◌, ◌*◌, ◌<◌, ◌≤◌, true, false, List, [], ◌∷◌, ◌++◌, length, None, refl, sym, ◌∙◌, ap, subst, arith, length-append, inl, inr}
-use Rattle.std.specs.Prelude.{All, nat_lt, insert, Contains, remove}
+use Rattle.std.proofs.Common.{◌≡◌, ℕ, ◌+◌, ◌*◌, ◌<◌, ◌≤◌, false, List, [], ◌∷◌, ◌++◌, length, None, ap, subst, arith, length-append}
+use Rattle.std.specs.Prelude.{All, nat_lt, insert, Contains}
 use Rattle.std.proofs.lemmas.Bool.{ltb-false, or_parts}
-use Rattle.std.proofs.lemmas.List.Elements.{All-append, All-cons, All-from_recursion, All-nil}
+use Rattle.std.proofs.lemmas.List.Elements.{All-append, All-cons}
 use Rattle.std.proofs.Math.Nat.{mul-le-mul_right}
 use Rattle.order_laws.specs.declared.items.Item.{Item}
 use Rattle.order_laws.specs.Orders.{Order}
-use Rattle.order_laws.specs.Tables.{without_all, place_for, place_of, with_item, without}
+use Rattle.order_laws.specs.Tables.{without_all}
 use Rattle.word_arena.specs.declared.stores.Store.{Store}
-use Rattle.word_arena.specs.Words.{words_for, Nodes, listed, at, Holds, IsUnreached}
-use Rattle.word_arena.specs.Stores.{IsLinkWord, AreLinkStores, words_after_all}
-use Rattle.word_arena.proofs.WordLemmas.{link_place, item_place}
-use Rattle.rb_words.specs.Pictures.{Picture, IsPictured}
+use Rattle.word_arena.specs.Words.{words_for, Nodes, listed}
+use Rattle.word_arena.specs.Stores.{AreLinkStores}
+use Rattle.rb_words.specs.Pictures.{Picture}
 use Rattle.order_laws.proofs.Lists.{nil-from_length}
 use Rattle.word_arena.proofs.LinkLemmas.{links_in_range}
-use Rattle.word_arena.proofs.StoreLemmas.{after_append}
-use Rattle.rb_trees.specs.Trees.{CanBeRedBlack}
-use Rattle.rb_words.specs.Plans.{Inserts, Erases, LeadsWithItem, LeadsByLinks, AreLinks, item_stores}
 use Rattle.latch_core.specs.declared.updates.Update.{Update}
 use Rattle.latch_core.specs.declared.updates.Update.TheVariants.{Batch}
 use Rattle.latch_core.specs.Updates.{after, size_of, some_invalid, some_missing, some_twice, some_overlap, some_meet}

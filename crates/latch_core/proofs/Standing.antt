@@ -5,7 +5,7 @@ use Rattle.order_laws.specs.Orders.{Order, IsLawful}
 use Rattle.order_laws.specs.Tables.{look}
 use Rattle.word_arena.proofs.LinkLemmas.{reaches_on}
 use Rattle.word_arena.specs.declared.stores.Store.{Store}
-use Rattle.word_arena.specs.Words.{at, root_word, left_word, right_word, Reaches, by_root, by_left, by_right, InUse, a_word, b_word, tag_word}
+use Rattle.word_arena.specs.Words.{at, InUse}
 use Rattle.word_arena.specs.Stores.{words_after}
 use Rattle.latch_core.specs.Sequences.{gen, stable}
 use Rattle.latch_core.specs.Attempts.{Reading, Load, Ends, Outcome, Answer, attempt, rest_after, IsAttempt, Stand}

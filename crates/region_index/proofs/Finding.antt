@@ -1,10 +1,9 @@
 -- What a search of the list by rising first address finds.
-use Rattle.std.proofs.Common.{◌≡◌, ℕ, ◌-◌, ◌<◌, ◌≤◌, ◌⊎◌, inl, inr, ⊎_elim, true, false, nat_le, List, length, map, get_or, Option, Some, None, refl, sym, ap, subst, ◌∙◌, arith}
+use Rattle.std.proofs.Common.{◌≡◌, ℕ, ◌-◌, ◌<◌, ◌≤◌, ◌⊎◌, inl, inr, ⊎_elim, true, List, length, map, get_or, Option, Some, None, refl, sym, ap, subst, ◌∙◌, arith}
 use Rattle.std.specs.Prelude.{Contains, All}
 use Rattle.std.specs.List.{AllPairs}
-use Rattle.std.specs.List.Sorted.{IsNonDecreasingBy, IsPartitionPoint}
-use Rattle.std.specs.declared.cmp.Ordering.TheVariants.{Equal}
-use Rattle.std.proofs.lemmas.Bool.{cases_lt, leb-false, leb-true}
+use Rattle.std.specs.List.Sorted.{IsNonDecreasingBy}
+use Rattle.std.proofs.lemmas.Bool.{cases_lt}
 use Rattle.std.proofs.lemmas.Bool.Decides.{nat_tests}
 use Rattle.std.proofs.lemmas.List.{get_or_default, length-map}
 use Rattle.std.proofs.lemmas.List.Elements.{All-contains}
