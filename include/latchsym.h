@@ -17,7 +17,7 @@
  *   aligned, and initialised where it is read.
  * - malloc, realloc and free are those of one allocator.
  *
- * A closed handle where an open one is wanted is no fault: the call returns LATCHSYM_NOT_SO. So is
+ * A closed handle where an open one is wanted is no fault: the call returns LATCHSYM_BAD_HANDLE. So is
  * an open one where a closed one is wanted. A second close does nothing. A call that is refused
  * changes nothing but what is said of it here.
  *
@@ -60,7 +60,7 @@ enum {
     LATCHSYM_BAD_CAPACITY = 10, /* nodes not 1 to 65536 or fewer than before; readers not 1 to 64 */
     LATCHSYM_TOO_MANY_REGIONS = 14, /* more than 7 region lines have one name */
     LATCHSYM_BAD_LINE = 15,         /* a line of the listing of regions is not one */
-    LATCHSYM_NOT_SO = 101           /* closed where open is wanted, or the other way round */
+    LATCHSYM_BAD_HANDLE = 101           /* closed where open is wanted, or the other way round */
 };
 
 /* How many lines of each listing went where, as `latchsym lookup` prints them. */
@@ -89,7 +89,7 @@ struct latchsym_found { uint64_t a, b, tag, generation; };
 /* ---- the catalog ---- */
 
 /* Opens the catalog of listings in the forms of /proc/modules and /proc/kallsyms, in a closed
- * handle. 0, LATCHSYM_OUT_OF_MEMORY or LATCHSYM_NOT_SO. Counts are written at 0 alone. */
+ * handle. 0, LATCHSYM_OUT_OF_MEMORY or LATCHSYM_BAD_HANDLE. Counts are written at 0 alone. */
 uint32_t latchsym_catalog_open(const uint8_t *modules, size_t modules_len, const uint8_t *kallsyms,
                                size_t kallsyms_len, struct latchsym_catalog *out,
                                struct latchsym_counts *counts);
@@ -105,13 +105,13 @@ uint32_t latchsym_catalog_open_with_regions(const uint8_t *modules, size_t modul
 /* The symbol of an address, as `latchsym lookup` prints it. As many bytes of each name are copied
  * as there is room for, without a 0 byte at the end; the lengths are those of the whole names. 0,
  * LATCHSYM_NO_SYMBOL (the module alone is told), LATCHSYM_NOTHING (all numbers are 0) or
- * LATCHSYM_NOT_SO (nothing is written). The time is logarithmic in regions and symbols. Handler. */
+ * LATCHSYM_BAD_HANDLE (nothing is written). The time is logarithmic in regions and symbols. Handler. */
 uint32_t latchsym_catalog_find(struct latchsym_catalog *, uint64_t addr,
                                struct latchsym_symbol *out, uint8_t *name, size_t name_room,
                                uint8_t *module, size_t module_room);
 
 /* Opens another handle of the same catalog, for another thread. 0, LATCHSYM_OUT_OF_MEMORY or
- * LATCHSYM_NOT_SO. */
+ * LATCHSYM_BAD_HANDLE. */
 uint32_t latchsym_catalog_share(struct latchsym_catalog *, struct latchsym_catalog *out);
 
 /* Closes a handle; the catalog is freed with its last one. */
@@ -121,13 +121,13 @@ void latchsym_catalog_close(struct latchsym_catalog *);
 
 /* Opens an empty table of 1 to 65536 nodes: its writer, and a reader in each of 1 to 64 closed
  * handles; all of them or none. 0, LATCHSYM_BAD_CAPACITY, LATCHSYM_OUT_OF_MEMORY or
- * LATCHSYM_NOT_SO. */
+ * LATCHSYM_BAD_HANDLE. */
 uint32_t latchsym_table_open(uint32_t nodes, struct latchsym_writer *,
                              struct latchsym_reader *readers, size_t count);
 
 /* Begin an update: put an item in, take the item out that begins at a, or do several of
  * both at once. Readers see it from its second flip on, whole. 0, one of the refusals 1 to 7, or
- * LATCHSYM_NOT_SO. */
+ * LATCHSYM_BAD_HANDLE. */
 uint32_t latchsym_writer_begin_insert(struct latchsym_writer *, const struct latchsym_item *);
 uint32_t latchsym_writer_begin_erase(struct latchsym_writer *, uint64_t a);
 uint32_t latchsym_writer_begin_batch(struct latchsym_writer *, const uint64_t *erase,
@@ -135,16 +135,16 @@ uint32_t latchsym_writer_begin_batch(struct latchsym_writer *, const uint64_t *e
                                      size_t insert_len);
 
 /* One step of the pending update: LATCHSYM_AT_END, LATCHSYM_FLIP, LATCHSYM_STORE or
- * LATCHSYM_NOT_SO. Handler, where no other call on the writer runs. */
+ * LATCHSYM_BAD_HANDLE. Handler, where no other call on the writer runs. */
 uint32_t latchsym_writer_step(struct latchsym_writer *);
 
-/* The steps that are left, and the generation after them. 0 or LATCHSYM_NOT_SO. */
+/* The steps that are left, and the generation after them. 0 or LATCHSYM_BAD_HANDLE. */
 uint32_t latchsym_writer_finish(struct latchsym_writer *, uint64_t *generation);
 
 /* Goes on with so many nodes, no fewer than before and at most 65536, in new words: the items and
  * the generation stay. Takes a handle for each reader that the table was opened with, all open;
  * they go on in the new words. 0, LATCHSYM_UPDATE_IN_HAND, LATCHSYM_BAD_CAPACITY,
- * LATCHSYM_OUT_OF_MEMORY, or LATCHSYM_NOT_SO where one of the handles is closed, or they are not
+ * LATCHSYM_OUT_OF_MEMORY, or LATCHSYM_BAD_HANDLE where one of the handles is closed, or they are not
  * as many as the readers are.
  *
  * It is not checked whether a reader is one of this table. One of another table goes over to this
@@ -152,14 +152,14 @@ uint32_t latchsym_writer_finish(struct latchsym_writer *, uint64_t *generation);
 uint32_t latchsym_table_enlarge(uint32_t nodes, struct latchsym_writer *,
                                 struct latchsym_reader *readers, size_t count);
 
-/* What readers find now, also amid an update. 0, LATCHSYM_NOTHING or LATCHSYM_NOT_SO. */
+/* What readers find now, also amid an update. 0, LATCHSYM_NOTHING or LATCHSYM_BAD_HANDLE. */
 uint32_t latchsym_writer_find(struct latchsym_writer *, uint64_t addr, struct latchsym_found *out);
 
 /* Closes the writer. Readers that are open keep the table as it is. */
 void latchsym_writer_close(struct latchsym_writer *);
 
 /* One attempt to find the item of an address. 0, LATCHSYM_NOTHING, LATCHSYM_RETRY (nothing is
- * written) or LATCHSYM_NOT_SO. It is never LATCHSYM_RETRY beside a writer at rest. Handler. */
+ * written) or LATCHSYM_BAD_HANDLE. It is never LATCHSYM_RETRY beside a writer at rest. Handler. */
 uint32_t latchsym_reader_try_find(struct latchsym_reader *, uint64_t addr,
                                   struct latchsym_found *out);
 

@@ -33,13 +33,13 @@ static void closed_handles(void) {
     struct latchsym_found found = {1, 2, 3, 4};
     struct latchsym_reader none = {0};
     uint64_t generation = 9;
-    CHECK(latchsym_writer_step(&writer) == LATCHSYM_NOT_SO);
-    CHECK(latchsym_writer_finish(&writer, &generation) == LATCHSYM_NOT_SO && generation == 9);
-    CHECK(latchsym_writer_begin_insert(&writer, &first) == LATCHSYM_NOT_SO);
-    CHECK(latchsym_writer_begin_erase(&writer, 1) == LATCHSYM_NOT_SO);
-    CHECK(latchsym_writer_begin_batch(&writer, &generation, 0, &first, 1) == LATCHSYM_NOT_SO);
-    CHECK(latchsym_writer_find(&writer, 1, &found) == LATCHSYM_NOT_SO && found.a == 1);
-    CHECK(latchsym_reader_try_find(&none, 1, &found) == LATCHSYM_NOT_SO && found.generation == 4);
+    CHECK(latchsym_writer_step(&writer) == LATCHSYM_BAD_HANDLE);
+    CHECK(latchsym_writer_finish(&writer, &generation) == LATCHSYM_BAD_HANDLE && generation == 9);
+    CHECK(latchsym_writer_begin_insert(&writer, &first) == LATCHSYM_BAD_HANDLE);
+    CHECK(latchsym_writer_begin_erase(&writer, 1) == LATCHSYM_BAD_HANDLE);
+    CHECK(latchsym_writer_begin_batch(&writer, &generation, 0, &first, 1) == LATCHSYM_BAD_HANDLE);
+    CHECK(latchsym_writer_find(&writer, 1, &found) == LATCHSYM_BAD_HANDLE && found.a == 1);
+    CHECK(latchsym_reader_try_find(&none, 1, &found) == LATCHSYM_BAD_HANDLE && found.generation == 4);
     latchsym_reader_close(&none);
     latchsym_writer_close(&writer);
 }
@@ -147,7 +147,7 @@ static void a_larger_table(void) {
     struct latchsym_reader its[2] = {{{0}}}, one = {{0}};
     struct latchsym_found found;
     uint64_t generation;
-    CHECK(latchsym_table_enlarge(4, &small, its, 2) == LATCHSYM_NOT_SO);
+    CHECK(latchsym_table_enlarge(4, &small, its, 2) == LATCHSYM_BAD_HANDLE);
     CHECK(latchsym_table_open(2, &small, its, 2) == LATCHSYM_DONE);
     CHECK(!latchsym_writer_begin_batch(&small, &generation, 0, items, 2));
     CHECK(latchsym_table_enlarge(4, &small, its, 2) == LATCHSYM_UPDATE_IN_HAND);
@@ -156,8 +156,8 @@ static void a_larger_table(void) {
     CHECK(latchsym_table_enlarge(0, &small, its, 2) == LATCHSYM_BAD_CAPACITY);
     CHECK(latchsym_table_enlarge(1, &small, its, 2) == LATCHSYM_BAD_CAPACITY);
     CHECK(latchsym_table_enlarge(65537, &small, its, 2) == LATCHSYM_BAD_CAPACITY);
-    CHECK(latchsym_table_enlarge(4, &small, its, 1) == LATCHSYM_NOT_SO);
-    CHECK(latchsym_table_enlarge(4, &small, &one, 1) == LATCHSYM_NOT_SO);
+    CHECK(latchsym_table_enlarge(4, &small, its, 1) == LATCHSYM_BAD_HANDLE);
+    CHECK(latchsym_table_enlarge(4, &small, &one, 1) == LATCHSYM_BAD_HANDLE);
     CHECK(!latchsym_reader_try_find(&its[1], 0x2fff, &found) && found.tag == 2 && found.generation == 1);
     CHECK(latchsym_table_enlarge(4, &small, its, 2) == LATCHSYM_DONE);
     for (int i = 0; i < 2; i++)
@@ -167,9 +167,9 @@ static void a_larger_table(void) {
         CHECK(!latchsym_reader_try_find(&its[i], 0x3000, &found) && found.tag == 3 && found.generation == 2);
     CHECK(!latchsym_writer_find(&small, 0x1000, &found) && found.tag == 1 && found.generation == 2);
     latchsym_reader_close(&its[0]);
-    CHECK(latchsym_table_enlarge(8, &small, its, 2) == LATCHSYM_NOT_SO);
+    CHECK(latchsym_table_enlarge(8, &small, its, 2) == LATCHSYM_BAD_HANDLE);
     latchsym_writer_close(&small);
-    CHECK(latchsym_table_enlarge(8, &small, its, 2) == LATCHSYM_NOT_SO);
+    CHECK(latchsym_table_enlarge(8, &small, its, 2) == LATCHSYM_BAD_HANDLE);
     CHECK(!latchsym_reader_try_find(&its[1], 0x3000, &found) && found.tag == 3);
     latchsym_reader_close(&its[1]);
 }
@@ -180,7 +180,7 @@ int main(int argc, char **argv) {
     CHECK(latchsym_table_open(0, &writer, readers, READERS) == LATCHSYM_BAD_CAPACITY);
     CHECK(latchsym_table_open(8, &writer, readers, 0) == LATCHSYM_BAD_CAPACITY);
     CHECK(latchsym_table_open(8, &writer, readers, READERS) == LATCHSYM_DONE);
-    CHECK(latchsym_table_open(8, &writer, readers, READERS) == LATCHSYM_NOT_SO);
+    CHECK(latchsym_table_open(8, &writer, readers, READERS) == LATCHSYM_BAD_HANDLE);
     an_update_by_its_steps();
     int k = beside_threads(3);
     if (signals) k = beside_signals(beside_signals(k, 1, signals), 0, signals);

@@ -82,7 +82,7 @@ fn schedule(alloc: Global, random: &mut Random) -> Result<Option<Schedule>, Allo
     Schedule::new(alloc, updates)
 }
 
-/// Goes through the schedule for so long, and answers the generation that the writer comes to.
+/// Goes through the schedule for so long, and returns the generation that the writer comes to.
 fn write<R: Clock>(
     rt: &R,
     schedule: &Schedule,
@@ -121,7 +121,7 @@ fn total(seen: &[Tally]) -> Tally {
     total
 }
 
-/// Goes through the observer's schedule for so long beside readers that observe. Answers the
+/// Goes through the observer's schedule for so long beside readers that observe. Returns the
 /// generation that the writer comes to, and what each reader saw.
 fn beside<R: Threads + Clock + Sync>(
     rt: &R,

@@ -55,7 +55,7 @@ impl Table {
     }
 }
 
-/// Makes the stores of the update in hand.
+/// Makes the stores of the pending update.
 fn carry_out(writer: &mut WriterCore<HalfOpen>, words: &mut [u64])
     requires { length words.old ≡ words_for writer.old.capacity }
     ensures sized { length words.new ≡ words_for writer.new.capacity }

@@ -1,1 +1,1 @@
-pub mod Hexadecimal
+pub mod HexadecimalLemmas

@@ -12,19 +12,19 @@ abbrev pub failures_of : {D : Type 0} → Counted D → ℕ
 failures_of c = c.failures
 
 -- one failure more, up to the greatest u64
-abbrev pub one_more : ℕ → ℕ
-one_more n = min (n + 1) (2 ^ 64 - 1)
+abbrev pub one_failure_more : ℕ → ℕ
+one_failure_more n = min (n + 1) (2 ^ 64 - 1)
 
 -- the count after a call of which only an error is a failure
 abbrev pub after_call : {A E : Type 0} → ℕ → Result A E → ℕ
 after_call n (Ok _) = n
-after_call n (Err _) = one_more n
+after_call n (Err _) = one_failure_more n
 
 -- the count after a write: an error is a failure, and so is a write of at least one byte that takes
 -- none
 abbrev pub after_write : {E : Type 0} → ℕ → Result ℕ E → List ℕ → ℕ
-after_write n (Ok taken) bytes = if nat_eq taken 0 && nat_lt 0 (length bytes) then one_more n else n
-after_write n (Err _) bytes = one_more n
+after_write n (Ok taken) bytes = if nat_eq taken 0 && nat_lt 0 (length bytes) then one_failure_more n else n
+after_write n (Err _) bytes = one_failure_more n
 
 -- no call failed between the two
 abbrev pub NoneFailed : {D : Type 0} → Counted D → Counted D → Type 0

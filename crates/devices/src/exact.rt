@@ -37,7 +37,7 @@ pub fn put_hexadecimal<W: Write>(writer: &mut Counted<W>, n: u64) -> io::Result<
     put(writer, &buffer[start..])
 }
 
-/// Writes the hexadecimal digits of a number at the end of the buffer, and answers where they
+/// Writes the hexadecimal digits of a number at the end of the buffer, and returns where they
 /// begin.
 pub(crate) fn write_digits(n: u64, buffer: &mut [u8; 16]) -> usize
     ensures start { result < 16 }

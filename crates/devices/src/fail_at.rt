@@ -40,7 +40,7 @@ impl<D> FailAt<D> {
         self.memory
     }
 
-    /// Counts a call, and answers whether it is the one that fails.
+    /// Counts a call, and returns whether it is the one that fails.
     fn is_due(&mut self) -> bool
         ensures due { IsTrue result ↔ (calls_to_failure self.old ≡ 1) }
         ensures countdown { calls_to_failure self.new ≡ calls_to_failure self.old - 1 }

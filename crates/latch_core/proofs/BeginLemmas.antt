@@ -21,20 +21,20 @@ use Rattle.latch_core.specs.Latches.{Latch}
 use Rattle.latch_core.specs.Plans.{flip_to, update_stores}
 use Rattle.latch_core.specs.FreeNodes.{AreAllNodes}
 use Rattle.latch_core.specs.WriterViews.{WriterView}
-use Rattle.latch_core.specs.Writers.{AtRest, Pictures, HasBegun, AreInStep, why_refused}
+use Rattle.latch_core.specs.Writers.{IsMemoryAtRest, RepresentsLatch, HasBegun, AreInStep, why_refused}
 use Rattle.latch_core.proofs.TestLemmas.{NoneHolds, all_tests, none_holds}
-use Rattle.latch_core.proofs.Planned.{Leading}
+use Rattle.latch_core.proofs.StoreOrderLemmas.{Leading}
 use Rattle.latch_core.proofs.NodeLemmas.{last_is_free}
 use Rattle.latch_core.proofs.WriterLemmas.{begun_pictures, rest_now}
 
 -- what an accepted update has passed
 pub record Accepted (w : WriterView) : Type 0 where
-  pub idle : w.left ≡ []
+  pub idle : w.stores_left ≡ []
   pub counts : w.sequence + 2 ≤ w.limit
 
-pub accepted_by : (w : WriterView) → nat_lt 0 (length w.left) ≡ false → nat_lt w.limit (w.sequence + 2) ≡ false → Accepted w
+pub accepted_by : (w : WriterView) → nat_lt 0 (length w.stores_left) ≡ false → nat_lt w.limit (w.sequence + 2) ≡ false → Accepted w
 accepted_by w busy spent =
-    record { idle = nil-from_length w.left busy; counts = ltb-false w.limit (w.sequence + 2) spent }
+    record { idle = nil-from_length w.stores_left busy; counts = ltb-false w.limit (w.sequence + 2) spent }
 
 -- what an accepted batch has passed
 pub record AcceptedBatch {K : Type 0} (o : Order K) (w : WriterView) (erase : List ℕ) (insert : List Item) : Type 0 where
@@ -48,7 +48,7 @@ pub record AcceptedBatch {K : Type 0} (o : Order K) (w : WriterView) (erase : Li
 
 pub accepted_batch : {K : Type 0} (o : Order K) (w : WriterView) (erase : List ℕ) (insert : List Item) → why_refused o w (Batch erase insert) ≡ None → AcceptedBatch o w erase insert
 accepted_batch o w erase insert e =
-    let tests = all_tests o w.capacity w.limit (nat_lt 0 (length w.left)) w.table w.sequence (Batch erase insert) in
+    let tests = all_tests o w.capacity w.limit (nat_lt 0 (length w.stores_left)) w.table w.sequence (Batch erase insert) in
     let h : NoneHolds tests = none_holds tests e in
     let words = or_parts (some_missing erase w.table) (some_twice erase) h.1.1.0 in
     let items = or_parts (some_overlap o insert) (some_meet o insert (without_all erase w.table)) h.1.1.1.0 in
@@ -93,15 +93,15 @@ few_steps n size k le =
     let more : 64 * (size + 1) ≤ 64 * (n + 1) * (size + 1) = mul-le-mul_right (size + 1) one in
     omega (arith, le, more)
 
--- the core with an update in hand
+-- the core with a pending update
 pub has_begun : {K : Type 0} (o : Order K) (w : WriterView) (u : Update) (items links0 links1 : List Store) (table : List Item) (zero one : Nodes)
-    → table ≡ after o w.table u → w.left ≡ []
+    → table ≡ after o w.table u → w.stores_left ≡ []
     → length items + length links0 + length links1 + 2 ≤ 2 * (16 * size_of u) + 2
-    → ((l : Latch) → Pictures w l → AtRest w l.words → Leading w.capacity w.table (after o w.table u) l.words items links0 links1 zero one)
-    → HasBegun o w u (record w { table = table; zero_tree = zero; one_tree = one; left = update_stores w.sequence items links0 links1 })
+    → ((l : Latch) → RepresentsLatch w l → IsMemoryAtRest w l.words → Leading w.capacity w.table (after o w.table u) l.words items links0 links1 zero one)
+    → HasBegun o w u (record w { table = table; zero_tree = zero; one_tree = one; stores_left = update_stores w.sequence items links0 links1 })
 has_begun o w u items links0 links1 table zero one et idle few leading =
-    let new : WriterView = record w { table = table; zero_tree = zero; one_tree = one; left = update_stores w.sequence items links0 links1 } in
-    let rest : new ≡ record w { table = after o w.table u; zero_tree = zero; one_tree = one; left = update_stores w.sequence items links0 links1 } = ap (λ t. record w { table = t; zero_tree = zero; one_tree = one; left = update_stores w.sequence items links0 links1 }) et in
+    let new : WriterView = record w { table = table; zero_tree = zero; one_tree = one; stores_left = update_stores w.sequence items links0 links1 } in
+    let rest : new ≡ record w { table = after o w.table u; zero_tree = zero; one_tree = one; stores_left = update_stores w.sequence items links0 links1 } = ap (λ t. record w { table = t; zero_tree = zero; one_tree = one; stores_left = update_stores w.sequence items links0 links1 }) et in
     record {
       rest = rest;
       some = omega (arith, update_length w.sequence items links0 links1);

@@ -19,21 +19,21 @@ use Rattle.word_arena.proofs.HoldsLemmas.{tree_untouched}
 use Rattle.rb_trees.specs.Trees.{CanBeRedBlack}
 use Rattle.rb_words.specs.Pictures.{Picture, IsPictured}
 use Rattle.rb_words.specs.Plans.{Inserts, Erases, item_stores}
-use Rattle.rb_words.specs.Mirrors.{mirror, second}
+use Rattle.rb_words.specs.Mirrors.{mirror_stores, second_picture}
 use Rattle.rb_words.specs.Rows.{AreDistinct}
 use Rattle.latch_core.specs.declared.updates.Update.{Update}
 use Rattle.latch_core.specs.declared.updates.Update.TheVariants.{Insert, Erase, Batch}
-use Rattle.latch_core.specs.Sequences.{stable}
+use Rattle.latch_core.specs.Sequences.{stable_copy_of}
 use Rattle.latch_core.specs.Updates.{after, size_of, with_items}
 use Rattle.latch_core.specs.Plans.{update_stores}
 use Rattle.latch_core.specs.FreeNodes.{AreAllNodes}
-use Rattle.latch_core.specs.Changes.{Placed, placing_stores, HasPlaced, PlansBoth, ErasesAll, InsertsAll}
+use Rattle.latch_core.specs.Changes.{PlacedItems, stores_of_placed, AreInPlace, PlansBoth, ErasesWords, InsertsItems}
 use Rattle.latch_core.specs.WriterViews.{WriterView}
 use Rattle.latch_core.specs.Writers.{AreInStep, HasBegun}
-use Rattle.latch_core.proofs.Steps.{after_insert, after_erase}
+use Rattle.latch_core.proofs.StepLemmas.{after_insert, after_erase}
 use Rattle.latch_core.proofs.NodeLemmas.{node_taken, node_freed}
 use Rattle.latch_core.proofs.ChangeLemmas.{both_then, free_node}
-use Rattle.latch_core.proofs.Planned.{Leading, IsFreeStore, AreFreeStores, items_unused}
+use Rattle.latch_core.proofs.StoreOrderLemmas.{Leading, IsFreeStore, AreFreeStores, items_unused}
 use Rattle.latch_core.proofs.BeginLemmas.{update_in_range, update_length, has_begun}
 use Rattle.latch_core.proofs.WriterLemmas.{unlisted}
 
@@ -51,35 +51,35 @@ one_placed m n node i sized lt =
     let t : at (words_after m2 (record { word = tag_word node; value = i.tag })) (tag_word node) ≡ i.tag = at_stored m2 (tag_word node) i.tag (omega (arith, s2)) in
     λ k. record { a = a k; b = b k; tag = t k }
 
-others_away : (node : ℕ) (placed : Placed) → AllByRecursion (λ y. node ≢ y) (map (λ (p : ℕ × Item). p.0) placed) → AllByRecursion (λ (s : Store). IsItemWord node s.word → ⊥) (placing_stores placed)
+others_away : (node : ℕ) (placed : PlacedItems) → AllByRecursion (λ y. node ≢ y) (map (λ (p : ℕ × Item). p.0) placed) → AllByRecursion (λ (s : Store). IsItemWord node s.word → ⊥) (stores_of_placed placed)
 others_away node [] h = tt
 others_away node (p ∷ rest) h =
     let no : (w : ℕ) → IsItemWord p.0 w → IsItemWord node w → ⊥ = (λ w a b. h.0 (sym (one_item node p.0 w b a))) in
-    all_append (λ (s : Store). IsItemWord node s.word → ⊥) (item_stores p.0 p.1) (placing_stores rest)
+    all_append (λ (s : Store). IsItemWord node s.word → ⊥) (item_stores p.0 p.1) (stores_of_placed rest)
     (no (a_word p.0) (inl refl), (no (b_word p.0) (inr (inl refl)), (no (tag_word p.0) (inr (inr refl)), tt)))
     (others_away node rest h.1)
 
-pub all_placed : (m : List ℕ) (n : ℕ) (placed : Placed) → length m ≡ words_for n → AllByRecursion (λ (p : ℕ × Item). p.0 < n) placed → AreDistinct (map (λ (p : ℕ × Item). p.0) placed) → HasPlaced (words_after_all m (placing_stores placed)) placed
+pub all_placed : (m : List ℕ) (n : ℕ) (placed : PlacedItems) → length m ≡ words_for n → AllByRecursion (λ (p : ℕ × Item). p.0 < n) placed → AreDistinct (map (λ (p : ℕ × Item). p.0) placed) → AreInPlace (words_after_all m (stores_of_placed placed)) placed
 all_placed m n [] sized lt d = tt
 all_placed m n (p ∷ rest) sized lt d =
     let m1 = words_after_all m (item_stores p.0 p.1) in
     let s1 : length m1 ≡ words_for n = length_after m (item_stores p.0 p.1) ∙ sized in (
-      same_item m1 (words_after_all m1 (placing_stores rest)) p.0 (untouched (IsItemWord p.0) m1 (placing_stores rest) (others_away p.0 rest d.0)) ∙ one_placed m n p.0 p.1 sized lt.0,
+      same_item m1 (words_after_all m1 (stores_of_placed rest)) p.0 (untouched (IsItemWord p.0) m1 (stores_of_placed rest) (others_away p.0 rest d.0)) ∙ one_placed m n p.0 p.1 sized lt.0,
       all_placed m1 n rest s1 lt.1 d.1,
     )
 
 -- stores of placed items are stores of free nodes, and lie in the memory
-pub free_placed : (m : List ℕ) (n : ℕ) (placed : Placed) → AllByRecursion (λ (p : ℕ × Item). (p.0 < n) × IsUnreached m n p.0) placed → AreFreeStores m n (placing_stores placed)
+pub free_placed : (m : List ℕ) (n : ℕ) (placed : PlacedItems) → AllByRecursion (λ (p : ℕ × Item). (p.0 < n) × IsUnreached m n p.0) placed → AreFreeStores m n (stores_of_placed placed)
 free_placed m n [] h = tt
 free_placed m n (p ∷ rest) h =
-    all_append (IsFreeStore m n) (item_stores p.0 p.1) (placing_stores rest)
+    all_append (IsFreeStore m n) (item_stores p.0 p.1) (stores_of_placed rest)
     ((p.0, h.0.0, h.0.1, inl refl), ((p.0, h.0.0, h.0.1, inr (inl refl)), ((p.0, h.0.0, h.0.1, inr (inr refl)), tt)))
     (free_placed m n rest h.1)
 
-placed_within : (n : ℕ) (placed : Placed) → AllByRecursion (λ (p : ℕ × Item). p.0 < n) placed → AllByRecursion (λ (s : Store). s.word < words_for n) (placing_stores placed)
+placed_within : (n : ℕ) (placed : PlacedItems) → AllByRecursion (λ (p : ℕ × Item). p.0 < n) placed → AllByRecursion (λ (s : Store). s.word < words_for n) (stores_of_placed placed)
 placed_within n [] h = tt
 placed_within n (p ∷ rest) h =
-    all_append (λ (s : Store). s.word < words_for n) (item_stores p.0 p.1) (placing_stores rest)
+    all_append (λ (s : Store). s.word < words_for n) (item_stores p.0 p.1) (stores_of_placed rest)
     ((item_place n p.0 _ h.0 (inl refl)).1, ((item_place n p.0 _ h.0 (inr (inl refl))).1, ((item_place n p.0 _ h.0 (inr (inr refl))).1, tt)))
     (placed_within n rest h.1)
 
@@ -107,7 +107,7 @@ unpictured m n copy table p ec ek et is =
 -- what is planned for an update of a core at rest whose free nodes are these: its items are placed
 -- in free nodes, the stores lead both copies to the table after it, and these nodes are free then
 pub record PlansUpdate {K : Type 0} (o : Order K) (n : ℕ) (old new : Picture) (u : Update)
-    (free free' : List ℕ) (placed : Placed) (seq : ℕ) (stores : List Store) : Type 0 where
+    (free free' : List ℕ) (placed : PlacedItems) (seq : ℕ) (stores : List Store) : Type 0 where
   pub plan : PlansBoth old new seq placed stores
   pub in_free : AllByRecursion (λ p. Contains free p.0) placed
   pub distinct : AreDistinct (map (λ p. p.0) placed)
@@ -115,8 +115,8 @@ pub record PlansUpdate {K : Type 0} (o : Order K) (n : ℕ) (old new : Picture) 
   pub nodes : AreAllNodes n (free' ++ listed new.tree)
 
 module _ {K : Type 0} (o : Order K) (n : ℕ) (zero new : Picture) (r : ℕ) (u : Update)
-    (free free' : List ℕ) (placed : Placed) (seq : ℕ) (stores left : List Store)
-    (step : AreInStep n zero (second zero) free left)
+    (free free' : List ℕ) (placed : PlacedItems) (seq : ℕ) (stores left : List Store)
+    (step : AreInStep n zero (second_picture zero) free left)
     (planned : PlansUpdate o n (with_room zero r) new u free free' placed seq stores) where
   links_zero : AreLinkStores n 0 planned.plan.links
   links_zero =
@@ -124,9 +124,9 @@ module _ {K : Type 0} (o : Order K) (n : ℕ) (zero new : Picture) (r : ℕ) (u 
       (subst (λ c. AreLinkStores zero.capacity c planned.plan.links) step.zero_copy
       planned.plan.both.zero.links_only)
 
-  links_one : AreLinkStores n 1 (mirror planned.plan.links)
+  links_one : AreLinkStores n 1 (mirror_stores planned.plan.links)
   links_one =
-      subst (λ k. AreLinkStores k 1 (mirror planned.plan.links)) step.zero_capacity
+      subst (λ k. AreLinkStores k 1 (mirror_stores planned.plan.links)) step.zero_capacity
       planned.plan.both.one.links_only
 
   within : AllByRecursion (λ (p : ℕ × Item). p.0 < n) placed
@@ -135,11 +135,11 @@ module _ {K : Type 0} (o : Order K) (n : ℕ) (zero new : Picture) (r : ℕ) (u 
       (λ p c. (free_node n free (listed zero.tree) p.0 step.nodes c).0) placed planned.in_free
 
   -- both copies stay in step
-  pub planned_step : AreInStep n new (second new) free' stores
+  pub planned_step : AreInStep n new (second_picture new) free' stores
   planned_step =
       let both = planned.plan.both in
-      let stored = update_in_range n seq (placing_stores placed) planned.plan.links (mirror planned.plan.links)
-      (All-from_recursion (λ (s : Store). s.word < words_for n) (placing_stores placed) (placed_within n placed within))
+      let stored = update_in_range n seq (stores_of_placed placed) planned.plan.links (mirror_stores planned.plan.links)
+      (All-from_recursion (λ (s : Store). s.word < words_for n) (stores_of_placed placed) (placed_within n placed within))
       links_zero links_one in
       record {
         zero_capacity = both.zero.capacity ∙ step.zero_capacity;
@@ -153,15 +153,15 @@ module _ {K : Type 0} (o : Order K) (n : ℕ) (zero new : Picture) (r : ℕ) (u 
       }
 
   -- and the stores lead each copy from the old table to the new
-  leading : (m : List ℕ) → length m ≡ words_for n → stable (at m 0) ≡ 0
+  leading : (m : List ℕ) → length m ≡ words_for n → stable_copy_of (at m 0) ≡ 0
       → Holds m n 0 zero.table zero.tree → Holds m n 1 zero.table zero.tree
       → ((node : ℕ) → (Contains (listed zero.tree) node → ⊥) → IsUnreached m n node)
       → CanBeRedBlack zero.tree × CanBeRedBlack new.tree
-      → Leading n zero.table (after o zero.table u) m (placing_stores placed) planned.plan.links
-      (mirror planned.plan.links) new.tree new.tree
+      → Leading n zero.table (after o zero.table u) m (stores_of_placed placed) planned.plan.links
+      (mirror_stores planned.plan.links) new.tree new.tree
   leading m sized even holds0 holds1 unreached red =
       let both = planned.plan.both in
-      let items = placing_stores placed in
+      let items = stores_of_placed placed in
       let free_stores =
       free_placed m n placed
       (all_weaker (λ (p : ℕ × Item). Contains free p.0) (λ (p : ℕ × Item). (p.0 < n) × IsUnreached m n p.0)
@@ -173,7 +173,7 @@ module _ {K : Type 0} (o : Order K) (n : ℕ) (zero new : Picture) (r : ℕ) (u 
       let zero1 : Holds m1 n 0 zero.table zero.tree = tree_untouched m n 0 zero.table zero.tree items unused.0 holds0 in
       let one1 : Holds m1 n 1 zero.table zero.tree = tree_untouched m n 1 zero.table zero.tree items unused.1 holds1 in
       let then0 = both.zero.leads m1 (pictured m1 n 0 r zero sized1 step.zero_capacity step.zero_copy zero1) stand in
-      let then1 = both.one.leads m1 (pictured m1 n 1 r (second zero) sized1 step.one_capacity refl one1) stand in
+      let then1 = both.one.leads m1 (pictured m1 n 1 r (second_picture zero) sized1 step.one_capacity refl one1) stand in
       record {
         sized = sized;
         even = even;
@@ -187,27 +187,27 @@ module _ {K : Type 0} (o : Order K) (n : ℕ) (zero new : Picture) (r : ℕ) (u 
             unpictured (words_after_all m1 planned.plan.links) n 0 (after o zero.table u) new
             (both.zero.capacity ∙ step.zero_capacity) (both.zero.copy ∙ step.zero_copy) planned.table then0;
         leads_one =
-            unpictured (words_after_all m1 (mirror planned.plan.links)) n 1 (after o zero.table u) (second new)
+            unpictured (words_after_all m1 (mirror_stores planned.plan.links)) n 1 (after o zero.table u) (second_picture new)
             (both.one.capacity ∙ step.one_capacity) refl planned.table then1;
       }
 
--- the core has the update in hand
+-- the core has the pending update
 pub planned_begun : {K : Type 0} (o : Order K) (w : WriterView) (zero new : Picture) (r : ℕ) (u : Update)
-    (free free' : List ℕ) (placed : Placed) (stores : List Store)
-    → w.left ≡ [] → w.table ≡ zero.table → w.zero_tree ≡ zero.tree → w.one_tree ≡ zero.tree
-    → AreInStep w.capacity zero (second zero) free w.left
+    (free free' : List ℕ) (placed : PlacedItems) (stores : List Store)
+    → w.stores_left ≡ [] → w.table ≡ zero.table → w.zero_tree ≡ zero.tree → w.one_tree ≡ zero.tree
+    → AreInStep w.capacity zero (second_picture zero) free w.stores_left
     → PlansUpdate o w.capacity (with_room zero r) new u free free' placed w.sequence stores
     → length stores ≤ 2 * (16 * size_of u) + 2
     → CanBeRedBlack zero.tree × CanBeRedBlack new.tree
-    → HasBegun o w u (record w { table = new.table; zero_tree = new.tree; one_tree = new.tree; left = stores })
+    → HasBegun o w u (record w { table = new.table; zero_tree = new.tree; one_tree = new.tree; stores_left = stores })
 planned_begun o w zero new r u free free' placed stores idle et e0 e1 step planned few red =
     let n = w.capacity in
     let links = planned.plan.links in
     let table = ap (λ t. after o t u) et in
-    let short = update_length w.sequence (placing_stores placed) links (mirror links) in
+    let short = update_length w.sequence (stores_of_placed placed) links (mirror_stores links) in
     let same = ap length planned.plan.listed_stores in
-    subst (λ ss. HasBegun o w u (record w { table = new.table; zero_tree = new.tree; one_tree = new.tree; left = ss })) (sym planned.plan.listed_stores)
-    (has_begun o w u (placing_stores placed) links (mirror links) new.table new.tree new.tree (planned.table ∙ sym table) idle
+    subst (λ ss. HasBegun o w u (record w { table = new.table; zero_tree = new.tree; one_tree = new.tree; stores_left = ss })) (sym planned.plan.listed_stores)
+    (has_begun o w u (stores_of_placed placed) links (mirror_stores links) new.table new.tree new.tree (planned.table ∙ sym table) idle
     (omega (arith, few, short, same))
     (λ l p at_rest.
     let holds0 = subst (λ t. Holds l.words n 0 zero.table t) e0 (subst (λ t. Holds l.words n 0 t w.zero_tree) et at_rest.zero) in
@@ -215,13 +215,13 @@ planned_begun o w zero new r u free free' placed stores idle et e0 e1 step plann
     let same_nodes : listed w.one_tree ≡ listed w.zero_tree = ap listed (e1 ∙ sym e0) in
     let unreached : (node : ℕ) → (Contains (listed zero.tree) node → ⊥) → IsUnreached l.words n node =
     (λ node off. unlisted w l.words node at_rest same_nodes (λ c. off (subst (λ t. Contains (listed t) node) e0 c))) in
-    subst (λ t. Leading n t (after o t u) l.words (placing_stores placed) links (mirror links) new.tree new.tree) (sym et)
-    (leading o n zero new r u free free' placed w.sequence stores w.left step planned l.words at_rest.sized at_rest.even holds0 holds1 unreached red)))
+    subst (λ t. Leading n t (after o t u) l.words (stores_of_placed placed) links (mirror_stores links) new.tree new.tree) (sym et)
+    (leading o n zero new r u free free' placed w.sequence stores w.stores_left step planned l.words at_rest.sized at_rest.even holds0 holds1 unreached red)))
 
 -- an insert
 pub insert_planned : {K : Type 0} (o : Order K) (n : ℕ) (zero z new : Picture) (r node : ℕ) (item : Item)
     (free free' : List ℕ) (seq : ℕ) (stores left : List Store)
-    → AreInStep n zero (second zero) free left → free ≡ free' ++ node ∷ [] → z ≡ with_room zero r
+    → AreInStep n zero (second_picture zero) free left → free ≡ free' ++ node ∷ [] → z ≡ with_room zero r
     → Inserts o z new node item → PlansBoth z new seq ((node, item) ∷ []) stores
     → PlansUpdate o n (with_room zero r) new (Insert item) free free' ((node, item) ∷ []) seq stores
 insert_planned o n zero z new r node item free free' seq stores left step taken is ins plan =
@@ -238,7 +238,7 @@ insert_planned o n zero z new r node item free free' seq stores left step taken 
 -- an erase
 pub erase_planned : {K : Type 0} (o : Order K) (n : ℕ) (zero z new : Picture) (r a node : ℕ)
     (free : List ℕ) (seq : ℕ) (stores left : List Store)
-    → AreInStep n zero (second zero) free left → z ≡ with_room zero r
+    → AreInStep n zero (second_picture zero) free left → z ≡ with_room zero r
     → Erases z new a node → PlansBoth z new seq [] stores
     → PlansUpdate o n (with_room zero r) new (Erase a) free (free ++ node ∷ []) [] seq stores
 erase_planned o n zero z new r a node free seq stores left step is er plan =
@@ -252,14 +252,14 @@ erase_planned o n zero z new r a node free seq stores left step is er plan =
     }
 
 -- a batch: erases, and then inserts in nodes that were free before them
-pub batch_planned : {K : Type 0} (o : Order K) (n : ℕ) (zero z0 z1 z2 : Picture) (r : ℕ) (erase : List ℕ) (insert : List Item) (placed : Placed)
+pub batch_planned : {K : Type 0} (o : Order K) (n : ℕ) (zero z0 z1 z2 : Picture) (r : ℕ) (erase : List ℕ) (insert : List Item) (placed : PlacedItems)
     (xs ys : List Store) (free free1 free2 : List ℕ) (seq : ℕ) (stores left : List Store)
-    → AreInStep n zero (second zero) free left → z0 ≡ with_room zero r
-    → ErasesAll z0 z1 erase xs free free1 → InsertsAll o z1 z2 insert placed ys (take (length free) free1) free2
-    → stores ≡ update_stores seq (placing_stores placed) (xs ++ ys) (mirror (xs ++ ys))
+    → AreInStep n zero (second_picture zero) free left → z0 ≡ with_room zero r
+    → ErasesWords z0 z1 erase xs free free1 → InsertsItems o z1 z2 insert placed ys (take (length free) free1) free2
+    → stores ≡ update_stores seq (stores_of_placed placed) (xs ++ ys) (mirror_stores (xs ++ ys))
     → PlansUpdate o n (with_room zero r) z2 (Batch erase insert) free free2 placed seq stores
 batch_planned o n zero z0 z1 z2 r erase insert placed xs ys free free1 free2 seq stores left step is erases inserts listed_stores =
-    let erased : ErasesAll (with_room zero r) z1 erase xs free free1 = subst (λ p. ErasesAll p z1 erase xs free free1) is erases in
+    let erased : ErasesWords (with_room zero r) z1 erase xs free free1 = subst (λ p. ErasesWords p z1 erase xs free free1) is erases in
     let fresh : take (length free) free1 ≡ free = ap (take (length free)) erased.behind ∙ take-append-le (length free) free erased.freed (omega arith) ∙ take_all (length free) free (omega arith) in
     let same_capacity : z1.capacity ≡ n = erased.both.zero.capacity ∙ step.zero_capacity in
     record {

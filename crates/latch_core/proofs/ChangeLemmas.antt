@@ -22,23 +22,23 @@ use Rattle.word_arena.proofs.WordLemmas.{link_no_item}
 use Rattle.word_arena.proofs.StoreLemmas.{after_append, untouched}
 use Rattle.rb_words.specs.Pictures.{Picture, IsPictured}
 use Rattle.rb_words.specs.Plans.{Inserts, Erases, LeadsWithItem, LeadsByLinks, item_stores}
-use Rattle.rb_words.specs.Mirrors.{mirror, mirror_store, second}
+use Rattle.rb_words.specs.Mirrors.{mirror_stores, mirror_store, second_picture}
 use Rattle.rb_words.specs.Rows.{AreDistinct}
 use Rattle.rb_words.proofs.MirrorLemmas.{inserts_mirrored, with_item_mirrored, erases_mirrored, by_links_mirrored}
 use Rattle.latch_core.specs.Updates.{some_missing, some_twice, some_invalid, some_overlap, some_meet, with_items}
 use Rattle.latch_core.specs.FreeNodes.{AreAllNodes}
-use Rattle.latch_core.specs.Changes.{Placed, placing_stores, HasPlaced, LeadsBeside, LeadsBoth, ErasesAll, InsertsAll}
+use Rattle.latch_core.specs.Changes.{PlacedItems, stores_of_placed, AreInPlace, RelinksCopy, RelinksBoth, ErasesWords, InsertsItems}
 use Rattle.latch_core.proofs.BatchLemmas.{AreApart, AreOff, all_valid, all_apart, all_off, still_off}
 use Rattle.latch_core.proofs.NodeLemmas.{moved_nodes, node_freed, node_taken, last_is_free}
 
-placed_kept : (m : List ℕ) (n copy : ℕ) (links : List Store) → copy ≤ 1 → AreLinkStores n copy links → (placed : Placed) → HasPlaced m placed → HasPlaced (words_after_all m links) placed
+placed_kept : (m : List ℕ) (n copy : ℕ) (links : List Store) → copy ≤ 1 → AreLinkStores n copy links → (placed : PlacedItems) → AreInPlace m placed → AreInPlace (words_after_all m links) placed
 placed_kept m n copy links c are placed h =
     all_weaker (λ (p : ℕ × Item). item_at m p.0 ≡ p.1) (λ (p : ℕ × Item). item_at (words_after_all m links) p.0 ≡ p.1)
     (λ p e. same_item m (words_after_all m links) p.0 (untouched (IsItemWord p.0) m links (all_weaker (λ (s : Store). IsLinkWord n copy s.word) (λ (s : Store). IsItemWord p.0 s.word → ⊥) (λ s l i. link_no_item n copy p.0 s.word c l i) links are)) ∙ e)
     placed h
 
 -- one change after another
-pub beside_then : (a b c : Picture) (p q : Placed) (xs ys : List Store) → a.copy ≤ 1 → LeadsBeside a b p xs → LeadsBeside b c q ys → LeadsBeside a c (p ++ q) (xs ++ ys)
+pub beside_then : (a b c : Picture) (p q : PlacedItems) (xs ys : List Store) → a.copy ≤ 1 → RelinksCopy a b p xs → RelinksCopy b c q ys → RelinksCopy a c (p ++ q) (xs ++ ys)
 beside_then a b c p q xs ys one first next =
     record {
       capacity = next.capacity ∙ first.capacity;
@@ -52,43 +52,43 @@ beside_then a b c p q xs ys one first next =
           (placed_kept m a.capacity a.copy xs one first.links_only q (all_right (λ (r : ℕ × Item). item_at m r.0 ≡ r.1) p q h)));
     }
 
-pub both_then : (a b c : Picture) (p q : Placed) (xs ys : List Store) → a.copy ≡ 0 → LeadsBoth a b p xs → LeadsBoth b c q ys → LeadsBoth a c (p ++ q) (xs ++ ys)
+pub both_then : (a b c : Picture) (p q : PlacedItems) (xs ys : List Store) → a.copy ≡ 0 → RelinksBoth a b p xs → RelinksBoth b c q ys → RelinksBoth a c (p ++ q) (xs ++ ys)
 both_then a b c p q xs ys e first next =
     record {
       zero = beside_then a b c p q xs ys (omega (arith, e)) first.zero next.zero;
       one =
-          subst (LeadsBeside (second a) (second c) (p ++ q)) (sym (map-append mirror_store xs ys))
-          (beside_then (second a) (second b) (second c) p q (mirror xs) (mirror ys) (omega arith) first.one next.one);
+          subst (RelinksCopy (second_picture a) (second_picture c) (p ++ q)) (sym (map-append mirror_store xs ys))
+          (beside_then (second_picture a) (second_picture b) (second_picture c) p q (mirror_stores xs) (mirror_stores ys) (omega arith) first.one next.one);
     }
 
 -- nothing changes
-beside_none : (a : Picture) → LeadsBeside a a [] []
+beside_none : (a : Picture) → RelinksCopy a a [] []
 beside_none a = record { capacity = refl; copy = refl; links_only = tt; leads = λ m is h. is }
 
-pub both_none : (a : Picture) → LeadsBoth a a [] []
-both_none a = record { zero = beside_none a; one = beside_none (second a) }
+pub both_none : (a : Picture) → RelinksBoth a a [] []
+both_none a = record { zero = beside_none a; one = beside_none (second_picture a) }
 
 -- one insert, and one erase
-beside_insert : {K : Type 0} (o : Order K) (a b : Picture) (node : ℕ) (item : Item) (links : List Store) → Inserts o a b node item → LeadsWithItem a b node item links → LeadsBeside a b ((node, item) ∷ []) links
+beside_insert : {K : Type 0} (o : Order K) (a b : Picture) (node : ℕ) (item : Item) (links : List Store) → Inserts o a b node item → LeadsWithItem a b node item links → RelinksCopy a b ((node, item) ∷ []) links
 beside_insert o a b node item links ins leads =
     record { capacity = ins.capacity; copy = ins.copy; links_only = leads.links_only.words; leads = λ m is h. leads.leads_alone m is h.0 }
 
-beside_erase : (a b : Picture) (w node : ℕ) (links : List Store) → Erases a b w node → LeadsByLinks a b links → LeadsBeside a b [] links
+beside_erase : (a b : Picture) (w node : ℕ) (links : List Store) → Erases a b w node → LeadsByLinks a b links → RelinksCopy a b [] links
 beside_erase a b w node links er leads =
     record { capacity = er.capacity; copy = er.copy; links_only = leads.links_only.words; leads = λ m is h. leads.leads m is }
 
-pub both_insert : {K : Type 0} (o : Order K) (a b : Picture) (node : ℕ) (item : Item) (links : List Store) → a.copy ≡ 0 → Inserts o a b node item → LeadsWithItem a b node item links → LeadsBoth a b ((node, item) ∷ []) links
+pub both_insert : {K : Type 0} (o : Order K) (a b : Picture) (node : ℕ) (item : Item) (links : List Store) → a.copy ≡ 0 → Inserts o a b node item → LeadsWithItem a b node item links → RelinksBoth a b ((node, item) ∷ []) links
 both_insert o a b node item links e ins leads =
     record {
       zero = beside_insert o a b node item links ins leads;
-      one = beside_insert o (second a) (second b) node item (mirror links) (inserts_mirrored o a b node item ins) (with_item_mirrored a b e ins.capacity ins.copy node item links leads);
+      one = beside_insert o (second_picture a) (second_picture b) node item (mirror_stores links) (inserts_mirrored o a b node item ins) (with_item_mirrored a b e ins.capacity ins.copy node item links leads);
     }
 
-pub both_erase : (a b : Picture) (w node : ℕ) (links : List Store) → a.copy ≡ 0 → Erases a b w node → LeadsByLinks a b links → LeadsBoth a b [] links
+pub both_erase : (a b : Picture) (w node : ℕ) (links : List Store) → a.copy ≡ 0 → Erases a b w node → LeadsByLinks a b links → RelinksBoth a b [] links
 both_erase a b w node links e er leads =
     record {
       zero = beside_erase a b w node links er leads;
-      one = beside_erase (second a) (second b) w node (mirror links) (erases_mirrored a b w node e er) (by_links_mirrored a b e er.capacity er.copy links leads);
+      one = beside_erase (second_picture a) (second_picture b) w node (mirror_stores links) (erases_mirrored a b w node e er) (by_links_mirrored a b e er.capacity er.copy links leads);
     }
 
 pub all_there : (words : List ℕ) (xs : List Item) → some_missing words xs ≡ false → AllByRecursion (λ b. has b xs ≡ true) words
@@ -99,7 +99,7 @@ all_there words xs e =
 pub record Erasing (old now : Picture) (erase : List ℕ) (j : ℕ) (out out' : List Store) (free free' : List ℕ) : Type 0 where
   pub more : List Store
   pub appended : out' ≡ out ++ more
-  pub done : ErasesAll old now (take j erase) more free free'
+  pub done : ErasesWords old now (take j erase) more free free'
   pub there : AllByRecursion (λ b. has b now.table ≡ true) (drop j erase)
   pub once : some_twice (drop j erase) ≡ false
 
@@ -114,10 +114,10 @@ erasing_none old erase out free there once nodes =
     }
 
 erasing_more : (old now next : Picture) (before : List ℕ) (a : ℕ) (rest : List ℕ) (node : ℕ) (out out' : List Store) (free free' : List ℕ) (links : List Store)
-    → old.copy ≡ 0 → (more : List Store) → out' ≡ out ++ more → ErasesAll old now before more free free'
+    → old.copy ≡ 0 → (more : List Store) → out' ≡ out ++ more → ErasesWords old now before more free free'
     → AllByRecursion (λ b. has b now.table ≡ true) (a ∷ rest) → some_twice (a ∷ rest) ≡ false
     → Erases now next a node → LeadsByLinks now next links
-    → (out' ++ links ≡ out ++ (more ++ links)) × ErasesAll old next (before ++ a ∷ []) (more ++ links) free (free' ++ node ∷ []) × AllByRecursion (λ b. has b next.table ≡ true) rest × (some_twice rest ≡ false)
+    → (out' ++ links ≡ out ++ (more ++ links)) × ErasesWords old next (before ++ a ∷ []) (more ++ links) free (free' ++ node ∷ []) × AllByRecursion (λ b. has b next.table ≡ true) rest × (some_twice rest ≡ false)
 erasing_more old now next before a rest node out out' free free' links first more appended done there once er leads =
     let two = or_parts (list_any (λ b. b == a) rest) (some_twice rest) once in
     let copy : now.copy ≡ 0 = done.both.zero.copy ∙ first in (
@@ -144,7 +144,7 @@ erasing_step old now next erase j a node out out' out'' free free' free'' links 
     record {
       more = state.more ++ links;
       appended = eo ∙ s.0;
-      done = subst (λ ws. ErasesAll old next ws (state.more ++ links) free free'') (sym front) (subst (ErasesAll old next (take j erase ++ a ∷ []) (state.more ++ links) free) (sym ef) s.1);
+      done = subst (λ ws. ErasesWords old next ws (state.more ++ links) free free'') (sym front) (subst (ErasesWords old next (take j erase ++ a ∷ []) (state.more ++ links) free) (sym ef) s.1);
       there = s.2;
       once = s.3;
     }
@@ -160,9 +160,9 @@ distinct_push : (xs : List ℕ) (x : ℕ) → AreDistinct xs → AllByRecursion 
 distinct_push [] x d a = (tt, tt)
 distinct_push (y ∷ ys) x d a = (all_append (λ z. y ≢ z) ys (x ∷ []) d.0 (a.0, tt), distinct_push ys x d.1 a.1)
 
-placing_more : (placed : Placed) (node : ℕ) (item : Item) → placing_stores (placed ++ (node, item) ∷ []) ≡ placing_stores placed ++ item_stores node item
+placing_more : (placed : PlacedItems) (node : ℕ) (item : Item) → stores_of_placed (placed ++ (node, item) ∷ []) ≡ stores_of_placed placed ++ item_stores node item
 placing_more [] node item = append-nil (item_stores node item)
-placing_more (p ∷ rest) node item = ap (λ xs. item_stores p.0 p.1 ++ xs) (placing_more rest node item) ∙ sym (append_assoc (item_stores p.0 p.1) (placing_stores rest) (item_stores node item))
+placing_more (p ∷ rest) node item = ap (λ xs. item_stores p.0 p.1 ++ xs) (placing_more rest node item) ∙ sym (append_assoc (item_stores p.0 p.1) (stores_of_placed rest) (item_stores node item))
 
 with_more : {K : Type 0} (o : Order K) (items : List Item) (i : Item) (table : List Item) → with_items o (items ++ i ∷ []) table ≡ with_item o i (with_items o items table)
 with_more o [] i table = refl
@@ -170,11 +170,11 @@ with_more o (x ∷ items) i table = with_more o items i (with_item o x table)
 
 -- as many of the items are inserted
 pub record Inserting {K : Type 0} (o : Order K) (old now : Picture) (insert : List Item) (j fresh : ℕ) (left left' out out' : List Store) (free free' : List ℕ) : Type 0 where
-  pub placed : Placed
+  pub placed : PlacedItems
   pub more : List Store
-  pub planned : left' ≡ left ++ placing_stores placed
+  pub planned : left' ≡ left ++ stores_of_placed placed
   pub appended : out' ≡ out ++ more
-  pub done : InsertsAll o old now (take j insert) placed more (take fresh free) free'
+  pub done : InsertsItems o old now (take j insert) placed more (take fresh free) free'
   pub valid : AllByRecursion (λ i. o.valid i ≡ true) (drop j insert)
   pub apart : AreApart o (drop j insert)
   pub off : AreOff o (drop j insert) now.table
@@ -236,11 +236,11 @@ inserting_step o law old now next insert j fresh item d node left left' left'' o
     record {
       placed = placed;
       more = state.more ++ links;
-      planned = el ∙ ap (λ xs. xs ++ item_stores node item) state.planned ∙ append_assoc left (placing_stores state.placed) (item_stores node item) ∙ ap (λ xs. left ++ xs) (sym (placing_more state.placed node item));
+      planned = el ∙ ap (λ xs. xs ++ item_stores node item) state.planned ∙ append_assoc left (stores_of_placed state.placed) (item_stores node item) ∙ ap (λ xs. left ++ xs) (sym (placing_more state.placed node item));
       appended = eo ∙ ap (λ xs. xs ++ links) state.appended ∙ append_assoc out state.more links;
       done =
-          subst (λ ns. InsertsAll o old next (take (j + 1) insert) placed (state.more ++ links) (take fresh free) ns) (sym ef)
-          (subst (λ xs. InsertsAll o old next xs placed (state.more ++ links) (take fresh free) (swap_remove free' (fresh - 1 - j) node)) (sym front)
+          subst (λ ns. InsertsItems o old next (take (j + 1) insert) placed (state.more ++ links) (take fresh free) ns) (sym ef)
+          (subst (λ xs. InsertsItems o old next xs placed (state.more ++ links) (take fresh free) (swap_remove free' (fresh - 1 - j) node)) (sym front)
           (record {
             table = ins.table ∙ ap (with_item o item) state.done.table ∙ sym (with_more o (take j insert) item old.table);
             both = both_then old now next state.placed ((node, item) ∷ []) state.more links first state.done.both (both_insert o now next node item links copy ins leads);
@@ -261,7 +261,7 @@ inserting_step o law old now next insert j fresh item d node left left' left'' o
           (all_left (λ x. Contains (take fresh free) x) (take (fresh - 1 - j) free') (node ∷ []) (subst (AllByRecursion (λ x. Contains (take fresh free) x)) firsts state.first)));
     }
   where
-    nodes_differ : (x : ℕ) (placed : Placed) → AllByRecursion (λ (p : ℕ × Item). p.0 ≢ x) placed → AllByRecursion (λ y. y ≢ x) (map (λ (p : ℕ × Item). p.0) placed)
+    nodes_differ : (x : ℕ) (placed : PlacedItems) → AllByRecursion (λ (p : ℕ × Item). p.0 ≢ x) placed → AllByRecursion (λ y. y ≢ x) (map (λ (p : ℕ × Item). p.0) placed)
     nodes_differ x [] h = tt
     nodes_differ x (p ∷ rest) h = (h.0, nodes_differ x rest h.1)
 

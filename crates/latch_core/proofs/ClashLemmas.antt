@@ -21,7 +21,7 @@ use Rattle.latch_core.specs.declared.updates.Update.TheVariants.{Batch}
 use Rattle.latch_core.specs.Updates.{first_that_holds, failed_test, some_invalid, some_twice, some_overlap, some_meet}
 use Rattle.latch_core.proofs.BatchLemmas.{all_apart}
 
--- some entry clashes with one behind it
+-- some entry clashes with one after it
 abbrev clash : {X : Type 0} → (X → X → Bool) → List X → Bool
 clash e [] = false
 clash e (x ∷ rest) = list_any (e x) rest || clash e rest
@@ -71,7 +71,7 @@ tests_moved o n table words words' insert p =
 pub overlap_moved : {K : Type 0} (o : Order K) → IsLawful o → (xs ys : List Item) → IsPermutation xs ys → some_overlap o xs ≡ some_overlap o ys
 overlap_moved o law xs ys p = overlap_clash o xs ∙ clash_moved (λ i x. not (o.apart x i)) (λ i x. ap not (law.symmetric x i)) xs ys p ∙ sym (overlap_clash o ys)
 
--- a number that is not its neighbour stands nowhere behind it
+-- a number that is not its neighbour stands nowhere after it
 pub twice_next : (x y : ℕ) (rest : List ℕ) → IsNonDecreasingBy (λ a. a) (x ∷ y ∷ rest) → y ≢ x → some_twice (x ∷ y ∷ rest) ≡ some_twice (y ∷ rest)
 twice_next x y rest sorted ne =
     let front = all_not_below (λ a. a) x (y ∷ rest) sorted in
@@ -80,7 +80,7 @@ twice_next x y rest sorted ne =
     let none = list_any-all_fail (λ b. b == x) (y ∷ rest) (ne_eqb y x ne, all_weaker (λ b. y ≤ b) (λ b. (b == x) ≡ false) (λ b l. ne_eqb b x (λ e. absurd (ne (let up : y ≤ b = l in omega (arith, le, up, e))))) rest behind) in
     ap (λ b. b || some_twice (y ∷ rest)) none
 
--- an item that is apart from its neighbour is apart from all behind it, where these are
+-- an item that is apart from its neighbour is apart from all after it, where these are
 module _ {K : Type 0} (o : Order K) (law : IsLawful o) (line : IsInLine o) where
   precedes : (x y : Item) → o.valid x ≡ true → o.valid y ≡ true → o.apart x y ≡ true → x.a ≤ y.a → Precedes o x y
   precedes x y vx vy ap' le =

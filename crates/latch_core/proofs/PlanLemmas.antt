@@ -9,54 +9,54 @@ use Rattle.word_arena.specs.declared.stores.Store.{Store}
 use Rattle.word_arena.specs.Words.{words_for}
 use Rattle.word_arena.specs.Stores.{IsLinkWord, AreLinkStores}
 use Rattle.word_arena.proofs.WordLemmas.{link_place}
-use Rattle.rb_words.specs.Mirrors.{mirror, mirror_store}
-use Rattle.latch_core.specs.Latches.{Hand, Latch, stepped}
+use Rattle.rb_words.specs.Mirrors.{mirror_stores, mirror_store}
+use Rattle.latch_core.specs.Latches.{PendingUpdate, Latch, latch_after_step}
 use Rattle.latch_core.specs.Plans.{IsPlan}
 
 -- a plan's first store is a step that the writer may make, after which the rest is the plan
-pub plan_step : (n : ℕ) (l : Latch) (h : Hand) (s : Store) (xs : List Store) → IsPlan n l xs → l.hand ≡ Some h → slice_get xs 0 ≡ Some s → IsPlan n (stepped l h s) (drop 1 xs)
-plan_step n l h s xs plan hand is =
+pub plan_step : (n : ℕ) (l : Latch) (h : PendingUpdate) (s : Store) (xs : List Store) → IsPlan n l xs → l.pending ≡ Some h → slice_get xs 0 ≡ Some s → IsPlan n (latch_after_step l h s) (drop 1 xs)
+plan_step n l h s xs plan pending is =
     let p = subst (IsPlan n l) (first_and_rest xs s is) plan in
     let same : p.0 ≡ h = (let e = p.1 in cc) in
-    subst (λ g. IsPlan n (stepped l g s) (drop 1 xs)) same p.3
+    subst (λ g. IsPlan n (latch_after_step l g s) (drop 1 xs)) same p.3
 
--- how many steps are left, by what is in hand after one
-at_last : (left : ℕ) (g : Hand) → cond (left == 1) None (Some g) ≡ None → left ≡ 1
+-- how many steps are left, by what is pending after one
+at_last : (left : ℕ) (g : PendingUpdate) → cond (left == 1) None (Some g) ≡ None → left ≡ 1
 at_last left g =
     elim (left == 1) as (λ b. (left == 1) ≡ b → cond b None (Some g) ≡ None → left ≡ 1) [
       | true ↦ λ e f. eqb-true left 1 e
       | false ↦ λ e f. absurd (cc)
     ] refl
 
-before_last : (left : ℕ) (g k : Hand) → cond (left == 1) None (Some g) ≡ Some k → g ≡ k
+before_last : (left : ℕ) (g k : PendingUpdate) → cond (left == 1) None (Some g) ≡ Some k → g ≡ k
 before_last left g k =
     elim (left == 1) as (λ b. cond b None (Some g) ≡ Some k → g ≡ k) [
       | true ↦ λ f. absurd (cc)
       | false ↦ λ f. cc
     ]
 
-pub plan_left : (n : ℕ) (l : Latch) (h : Hand) (ss : List Store) → IsPlan n l ss → l.hand ≡ Some h → h.left ≡ length ss
+pub plan_left : (n : ℕ) (l : Latch) (h : PendingUpdate) (ss : List Store) → IsPlan n l ss → l.pending ≡ Some h → h.steps_left ≡ length ss
 plan_left n l h [] plan e = absurd (cc)
 plan_left n l h (s ∷ []) plan e =
     let same : plan.0 ≡ h = (let f = plan.1 in cc) in
-    ap (λ (g : Hand). g.left) (sym same) ∙ at_last plan.0.left _ plan.3
+    ap (λ (g : PendingUpdate). g.steps_left) (sym same) ∙ at_last plan.0.steps_left _ plan.3
 plan_left n l h (s ∷ t ∷ ss) plan e =
     let same : plan.0 ≡ h = (let f = plan.1 in cc) in
-    let rest = plan_left n (stepped l plan.0 s) plan.3.0 (t ∷ ss) plan.3 plan.3.1 in
-    let g = before_last plan.0.left _ plan.3.0 plan.3.1 in
-    let less : plan.0.left - 1 ≡ length (t ∷ ss) = ap (λ (k : Hand). k.left) g ∙ rest in
-    ap (λ (k : Hand). k.left) (sym same) ∙ (let two : plan.0.left ≡ suc (suc (length ss)) = omega arith in two)
+    let rest = plan_left n (latch_after_step l plan.0 s) plan.3.0 (t ∷ ss) plan.3 plan.3.1 in
+    let g = before_last plan.0.steps_left _ plan.3.0 plan.3.1 in
+    let less : plan.0.steps_left - 1 ≡ length (t ∷ ss) = ap (λ (k : PendingUpdate). k.steps_left) g ∙ rest in
+    ap (λ (k : PendingUpdate). k.steps_left) (sym same) ∙ (let two : plan.0.steps_left ≡ suc (suc (length ss)) = omega arith in two)
 
 -- one link more of copy 1
 pub mirror_more : (xs ys : List Store) (from place : ℕ) (d : Store) → from ≤ place → place < length xs
-    → mirror (take (place + 1 - from) (drop from xs)) ≡ mirror (take (place - from) (drop from xs)) ++ mirror_store (get_or (xs ++ ys) place d) ∷ []
+    → mirror_stores (take (place + 1 - from) (drop from xs)) ≡ mirror_stores (take (place - from) (drop from xs)) ++ mirror_store (get_or (xs ++ ys) place d) ∷ []
 mirror_more xs ys from place d above below =
     let step : place + 1 - from ≡ (place - from) + 1 = omega arith in
     let within : place - from < length (drop from xs) = omega (arith, length-drop from xs) in
-    ap (λ k. mirror (take k (drop from xs))) step
-    ∙ ap mirror (take_more (drop from xs) (place - from) d within)
+    ap (λ k. mirror_stores (take k (drop from xs))) step
+    ∙ ap mirror_stores (take_more (drop from xs) (place - from) d within)
     ∙ map-append mirror_store (take (place - from) (drop from xs)) (get_or (drop from xs) (place - from) d ∷ [])
-    ∙ ap (λ s. mirror (take (place - from) (drop from xs)) ++ mirror_store s ∷ []) (get_or-drop_append xs ys from place d above below)
+    ∙ ap (λ s. mirror_stores (take (place - from) (drop from xs)) ++ mirror_store s ∷ []) (get_or-drop_append xs ys from place d above below)
 
 -- the word of a link of copy 0 and that of copy 1 beside it are in range
 pub link_fits : (n : ℕ) (xs ys : List Store) (from place : ℕ) (d : Store) → n ≤ 65536 → from ≤ place → place < length xs → AreLinkStores n 0 (drop from xs) → (get_or (xs ++ ys) place d).word + 2 < 18446744073709551616

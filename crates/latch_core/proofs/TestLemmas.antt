@@ -27,7 +27,7 @@ next_test t rest e = ap (λ b. cond b (Some t.1) (first_that_holds rest)) e
 pub this_test : (t : Test) (rest : List Test) → t.0 ≡ true → first_that_holds (t ∷ rest) ≡ Some t.1
 this_test t rest e = ap (λ b. cond b (Some t.1) (first_that_holds rest)) e
 
--- a list behind another
+-- a list after another
 pub none_then : (tests more : List Test) → first_that_holds tests ≡ None → first_that_holds (tests ++ more) ≡ first_that_holds more
 none_then [] more e = refl
 none_then (t ∷ rest) more e =
@@ -63,7 +63,7 @@ NoneHolds tests = AllByRecursion (λ (t : Test). t.0 ≡ false) tests
 abbrev Other : List Test → Type 0
 Other tests = AllByRecursion (λ (t : Test). t.1 ≢ OutOfMemory) tests
 
--- no update is refused for want of memory by its tests
+-- no update is refused as out of memory by its tests
 pub never_for_memory : {K : Type 0} (o : Order K) (n limit : ℕ) (busy : Bool) (table : List Item) (seq : ℕ) (u : Update) → refuses o n limit busy table seq u ≡ Some OutOfMemory → ⊥
 never_for_memory o n limit busy table seq u e = never_told OutOfMemory (all_tests o n limit busy table seq u) (other u) e
   where
@@ -72,7 +72,7 @@ never_for_memory o n limit busy table seq u e = never_told OutOfMemory (all_test
     other (Erase a) = ((λ f. absurd (cc)), ((λ f. absurd (cc)), ((λ f. absurd (cc)), tt)))
     other (Batch erase insert) = ((λ f. absurd (cc)), ((λ f. absurd (cc)), ((λ f. absurd (cc)), ((λ f. absurd (cc)), ((λ f. absurd (cc)), ((λ f. absurd (cc)), tt))))))
 
--- with nothing in hand, the tests of the update tell, and then that of the sequence
+-- with no pending update, the tests of the update tell, and then that of the sequence
 module _ {K : Type 0} (o : Order K) (n limit : ℕ) (busy : Bool) (idle : busy ≡ false) (table : List Item) (seq : ℕ) (u : Update) where
   abbrev tests : List Test
   tests = tests_of o n table u

@@ -11,24 +11,24 @@ use Rattle.word_arena.specs.Words.{at, Holds, HoldsTable}
 use Rattle.word_arena.specs.Wider.{wider_words}
 use Rattle.word_arena.proofs.WiderLemmas.{at_wider, length_wider, holds_wider, table_wider}
 use Rattle.latch_core.specs.declared.updates.Update.{Update}
-use Rattle.latch_core.specs.Sequences.{gen, stable}
+use Rattle.latch_core.specs.Sequences.{generation_of, stable_copy_of}
 use Rattle.latch_core.specs.Histories.{replay, table_at}
 use Rattle.latch_core.specs.Latches.{Latch}
-use Rattle.latch_core.specs.Invariants.{IsInHand, IsSound}
-use Rattle.latch_core.specs.Standing.{IsLatched}
+use Rattle.latch_core.specs.Invariants.{IsPendingOf, IsSound}
+use Rattle.latch_core.specs.Latched.{IsLatched}
 use Rattle.latch_core.specs.WriterViews.{WriterView}
-use Rattle.latch_core.specs.Writers.{IsShallow, StaysShallow, Pictures, in_hand}
-use Rattle.latch_core.specs.Widening.{why_not_widened, widened_writer, widened_latch, PicturesWidened}
+use Rattle.latch_core.specs.Writers.{IsShallow, StaysShallow, RepresentsLatch, has_pending}
+use Rattle.latch_core.specs.Widening.{why_not_widened, widened_writer, widened_latch, RepresentsWidened}
 use Rattle.latch_core.proofs.TestLemmas.{none_holds}
 use Rattle.latch_core.proofs.WriterLemmas.{rest_now}
 
--- no update is in hand where a layout is taken, and it has no fewer nodes and no smaller greatest
+-- no update is pending where a layout is taken, and it has no fewer nodes and no smaller greatest
 -- sequence
-pub may_widen : (w : WriterView) (l : Layout) → why_not_widened w l ≡ None → (w.left ≡ []) × (w.capacity ≤ capacity_of l) × (w.limit ≤ limit_of l)
+pub may_widen : (w : WriterView) (l : Layout) → why_not_widened w l ≡ None → (w.stores_left ≡ []) × (w.capacity ≤ capacity_of l) × (w.limit ≤ limit_of l)
 may_widen w l e =
-    let tests = none_holds ((in_hand w, UpdateInHand) ∷ (nat_lt (capacity_of l) w.capacity || nat_lt (limit_of l) w.limit, BadCapacity) ∷ []) e in
+    let tests = none_holds ((has_pending w, UpdateInHand) ∷ (nat_lt (capacity_of l) w.capacity || nat_lt (limit_of l) w.limit, BadCapacity) ∷ []) e in
     let smaller = or_parts (nat_lt (capacity_of l) w.capacity) (nat_lt (limit_of l) w.limit) tests.1.0 in
-    (nil-from_length w.left tests.0, ltb-false (capacity_of l) w.capacity smaller.0, ltb-false (limit_of l) w.limit smaller.1)
+    (nil-from_length w.stores_left tests.0, ltb-false (capacity_of l) w.capacity smaller.0, ltb-false (limit_of l) w.limit smaller.1)
 
 -- the sequence is in the first word, which stays
 same_sequence : (n n' : ℕ) (m : List ℕ) → at (wider_words n n' m) 0 ≡ at m 0
@@ -38,12 +38,12 @@ shallow_wider : (n n' : ℕ) (m : List ℕ) → n ≤ n' → IsShallow n m → I
 shallow_wider n n' m le is = (
   is.0,
   is.1,
-  subst (λ q. Holds (wider_words n n' m) n' (stable q) is.0 is.1) (sym (same_sequence n n' m)) (holds_wider m n n' (stable (at m 0)) is.0 is.1 le is.2),
+  subst (λ q. Holds (wider_words n n' m) n' (stable_copy_of q) is.0 is.1) (sym (same_sequence n n' m)) (holds_wider m n n' (stable_copy_of (at m 0)) is.0 is.1 le is.2),
   is.3,
 )
 
 -- what a core at rest pictures, it pictures with the nodes of a greater layout
-pub widened_pictures : (w : WriterView) (l : Layout) → w.left ≡ [] → w.capacity ≤ capacity_of l → PicturesWidened w (widened_writer w l)
+pub widened_pictures : (w : WriterView) (l : Layout) → w.stores_left ≡ [] → w.capacity ≤ capacity_of l → RepresentsWidened w (widened_writer w l)
 widened_pictures w l idle le latch p rest =
     let n = w.capacity in
     let n' = capacity_of l in
@@ -51,12 +51,12 @@ widened_pictures w l idle le latch p rest =
     let now = rest_now w latch p idle in
     let same = same_sequence n n' m in
     let shallow : IsShallow n m = subst (λ ss. StaysShallow n m ss) idle p.shallow in
-    subst (λ ss. Pictures (record { capacity = n'; limit = limit_of l; sequence = w.sequence; table = w.table; zero_tree = w.zero_tree; one_tree = w.one_tree; left = ss }) (widened_latch n n' latch)) (sym idle)
+    subst (λ ss. RepresentsLatch (record { capacity = n'; limit = limit_of l; sequence = w.sequence; table = w.table; zero_tree = w.zero_tree; one_tree = w.one_tree; stores_left = ss }) (widened_latch n n' latch)) (sym idle)
     (record {
       plan = rest;
       at_rest = record {
         sized = length_wider n n' m le now.sized;
-        even = ap stable same ∙ now.even;
+        even = ap stable_copy_of same ∙ now.even;
         zero = holds_wider m n n' 0 w.table w.zero_tree le now.zero;
         one = holds_wider m n n' 1 w.table w.one_tree le now.one;
       };
@@ -70,14 +70,14 @@ pub widened_sound : {K : Type 0} (o : Order K) (n n' start : ℕ) (us : List Upd
 widened_sound o n n' start us l le is =
     let m = l.words in
     let same = same_sequence n n' m in
-    let more = table_wider m n n' (stable (at m 0)) (table_at o start us (gen (at m 0))) le is.current in
+    let more = table_wider m n n' (stable_copy_of (at m 0)) (table_at o start us (generation_of (at m 0))) le is.current in
     record {
       even = is.even;
       sized = (let some = is.sized in omega (arith, some, length-append m (replicate (7 * (n' - n)) 0)));
       tables = λ j. let t = is.tables j in (t.0, (let few = t.1 in omega (arith, few, le)));
       table_is = is.table_is;
-      in_hand = subst (λ q. IsInHand o start q us l.hand) (sym same) is.in_hand;
-      current = subst (λ q. HoldsTable (wider_words n n' m) n' (stable q) (table_at o start us (gen q))) (sym same) more;
+      in_hand = subst (λ q. IsPendingOf o start q us l.pending) (sym same) is.in_hand;
+      current = subst (λ q. HoldsTable (wider_words n n' m) n' (stable_copy_of q) (table_at o start us (generation_of q))) (sym same) more;
     }
 
 -- words of which the stable copy holds what was shown hold it with more nodes
@@ -87,8 +87,8 @@ latched_wider o n n' base m known le is =
     let table = replay o [] known in
     record {
       sized = length_wider n n' m le is.sized;
-      counted = is.counted ∙ ap gen (sym same);
+      counted = is.counted ∙ ap generation_of (sym same);
       is_table = is.is_table;
       fits = (let few = is.fits in omega (arith, few, le));
-      holds = subst (λ q. HoldsTable (wider_words n n' m) n' (stable q) table) (sym same) (table_wider m n n' (stable (at m 0)) table le is.holds);
+      holds = subst (λ q. HoldsTable (wider_words n n' m) n' (stable_copy_of q) table) (sym same) (table_wider m n n' (stable_copy_of (at m 0)) table le is.holds);
     }

@@ -13,32 +13,32 @@ use Rattle.word_arena.specs.Stores.{words_after, words_after_all}
 use Rattle.word_arena.proofs.StoreLemmas.{length_after}
 use Rattle.word_arena.proofs.ReachLemmas.{reached_listed}
 use Rattle.latch_core.specs.declared.updates.Update.{Update}
-use Rattle.latch_core.specs.Sequences.{stable}
+use Rattle.latch_core.specs.Sequences.{stable_copy_of}
 use Rattle.latch_core.specs.Updates.{refuses, after}
-use Rattle.latch_core.specs.Latches.{Hand, Latch, MayStep, stepped, begun, opening_latch}
+use Rattle.latch_core.specs.Latches.{PendingUpdate, Latch, IsWriterStep, latch_after_step, latch_with_update, opening_latch}
 use Rattle.latch_core.specs.Plans.{IsPlan, update_stores}
 use Rattle.latch_core.specs.WriterViews.{WriterView}
-use Rattle.latch_core.specs.Writers.{AtRest, StaysShallow, Pictures, next_store, why_refused, sequence_after, stepped_writer, opening_writer}
-use Rattle.latch_core.proofs.Planned.{Leading, update_plan, update_zero, update_one, update_sequence}
-use Rattle.latch_core.proofs.Shallow.{update_shallow, opening_shallow}
+use Rattle.latch_core.specs.Writers.{IsMemoryAtRest, StaysShallow, RepresentsLatch, next_store, why_refused, sequence_after, writer_after_step, opening_writer}
+use Rattle.latch_core.proofs.StoreOrderLemmas.{Leading, update_plan, update_zero, update_one, update_sequence}
+use Rattle.latch_core.proofs.ShallowLemmas.{update_shallow, opening_shallow}
 use Rattle.latch_core.proofs.PlanLemmas.{plan_step, plan_left}
 
--- the next store, and whether there is an update in hand
-plan_next : (n : ℕ) (l : Latch) (xs : List Store) → IsPlan n l xs → MatchOption (slice_get xs 0) (l.hand ≡ None) (λ s. (h : Hand) × (l.hand ≡ Some h) × MayStep n l h s)
+-- the next store, and whether there is a pending update
+plan_next : (n : ℕ) (l : Latch) (xs : List Store) → IsPlan n l xs → MatchOption (slice_get xs 0) (l.pending ≡ None) (λ s. (h : PendingUpdate) × (l.pending ≡ Some h) × IsWriterStep n l h s)
 plan_next n l [] plan = plan
 plan_next n l (s ∷ ss) plan = (plan.0, plan.1, plan.2)
 
-pub next_may : (w : WriterView) (l : Latch) → Pictures w l → MatchOption (next_store w) (l.hand ≡ None) (λ s. (h : Hand) × (l.hand ≡ Some h) × MayStep w.capacity l h s)
-next_may w l p = plan_next w.capacity l w.left p.plan
+pub next_may : (w : WriterView) (l : Latch) → RepresentsLatch w l → MatchOption (next_store w) (l.pending ≡ None) (λ s. (h : PendingUpdate) × (l.pending ≡ Some h) × IsWriterStep w.capacity l h s)
+next_may w l p = plan_next w.capacity l w.stores_left p.plan
 
-plan_in_hand : (n : ℕ) (l : Latch) (xs : List Store) → IsPlan n l xs → is_some l.hand ≡ nat_lt 0 (length xs)
+plan_in_hand : (n : ℕ) (l : Latch) (xs : List Store) → IsPlan n l xs → is_some l.pending ≡ nat_lt 0 (length xs)
 plan_in_hand n l [] plan = ap is_some plan
 plan_in_hand n l (s ∷ ss) plan = ap is_some plan.1 ∙ sym (lt-ltb 0 (suc (length ss)) (omega arith))
 
 -- what the core refuses is what the latch that it pictures refuses
-pub refuses_pictured : {K : Type 0} (o : Order K) (w : WriterView) (l : Latch) (u : Update) → Pictures w l → refuses o w.capacity w.limit (is_some l.hand) l.table (at l.words 0) u ≡ why_refused o w u
+pub refuses_pictured : {K : Type 0} (o : Order K) (w : WriterView) (l : Latch) (u : Update) → RepresentsLatch w l → refuses o w.capacity w.limit (is_some l.pending) l.newest_table (at l.words 0) u ≡ why_refused o w u
 refuses_pictured o w l u p =
-    λ i. refuses o w.capacity w.limit (plan_in_hand w.capacity l w.left p.plan i) (p.table i) (p.sequence i) u
+    λ i. refuses o w.capacity w.limit (plan_in_hand w.capacity l w.stores_left p.plan i) (p.table i) (p.sequence i) u
 
 -- one store later
 sequence_stored : (m : List ℕ) (seq : ℕ) (s : Store) → 0 < length m → at m 0 ≡ seq → at (words_after m s) 0 ≡ sequence_after seq s
@@ -52,31 +52,31 @@ sequence_stored m seq s sized e =
     get_or-set_other m s.word 0 s.value 0 (λ z. ne (sym z)) ∙ e ∙ sym (ap (λ b. cond b s.value seq) other))
     (cases_eq s.word 0)
 
-pub did_pictures : (w : WriterView) (l : Latch) (h : Hand) (s : Store) → Pictures w l → l.hand ≡ Some h → next_store w ≡ Some s → Pictures (stepped_writer w s) (stepped l h s)
-did_pictures w l h s p hand is =
-    let whole : words_after_all l.words w.left ≡ words_after_all (words_after l.words s) (drop 1 w.left) = ap (words_after_all l.words) (first_and_rest w.left s is) in
+pub did_pictures : (w : WriterView) (l : Latch) (h : PendingUpdate) (s : Store) → RepresentsLatch w l → l.pending ≡ Some h → next_store w ≡ Some s → RepresentsLatch (writer_after_step w s) (latch_after_step l h s)
+did_pictures w l h s p pending is =
+    let whole : words_after_all l.words w.stores_left ≡ words_after_all (words_after l.words s) (drop 1 w.stores_left) = ap (words_after_all l.words) (first_and_rest w.stores_left s is) in
     let rest = p.at_rest in
-    let sized = sym (length_after l.words w.left) ∙ rest.sized in
+    let sized = sym (length_after l.words w.stores_left) ∙ rest.sized in
     record {
-      plan = plan_step w.capacity l h s w.left p.plan hand is;
+      plan = plan_step w.capacity l h s w.stores_left p.plan pending is;
       at_rest = record {
         sized = subst (λ m. length m ≡ words_for w.capacity) whole rest.sized;
-        even = subst (λ m. stable (at m 0) ≡ 0) whole rest.even;
+        even = subst (λ m. stable_copy_of (at m 0) ≡ 0) whole rest.even;
         zero = subst (λ m. Holds m w.capacity 0 w.table w.zero_tree) whole rest.zero;
         one = subst (λ m. Holds m w.capacity 1 w.table w.one_tree) whole rest.one;
       };
       table = p.table;
       sequence = sequence_stored l.words w.sequence s (omega (arith, sized)) p.sequence;
-      shallow = (subst (StaysShallow w.capacity l.words) (first_and_rest w.left s is) p.shallow).1;
+      shallow = (subst (StaysShallow w.capacity l.words) (first_and_rest w.stores_left s is) p.shallow).1;
     }
 
-pub remaining_pictured : (w : WriterView) (l : Latch) (h : Hand) → Pictures w l → l.hand ≡ Some h → h.left ≡ length w.left
-remaining_pictured w l h p hand = plan_left w.capacity l h w.left p.plan hand
+pub remaining_pictured : (w : WriterView) (l : Latch) (h : PendingUpdate) → RepresentsLatch w l → l.pending ≡ Some h → h.steps_left ≡ length w.stores_left
+remaining_pictured w l h p pending = plan_left w.capacity l h w.stores_left p.plan pending
 
 -- an update that the core planned at rest
 module _ {K : Type 0} (o : Order K) (w : WriterView) (u : Update) (items links0 links1 : List Store) (new : WriterView)
-    (begins : new ≡ record w { table = after o w.table u; zero_tree = new.zero_tree; one_tree = new.one_tree; left = update_stores w.sequence items links0 links1 }) where
-  begun_from : (l : Latch) → Pictures w l → w.left ≡ [] → Leading w.capacity w.table (after o w.table u) l.words items links0 links1 new.zero_tree new.one_tree → Pictures (record w { table = after o w.table u; zero_tree = new.zero_tree; one_tree = new.one_tree; left = update_stores w.sequence items links0 links1 }) (begun o l u (length (update_stores w.sequence items links0 links1)))
+    (begins : new ≡ record w { table = after o w.table u; zero_tree = new.zero_tree; one_tree = new.one_tree; stores_left = update_stores w.sequence items links0 links1 }) where
+  begun_from : (l : Latch) → RepresentsLatch w l → w.stores_left ≡ [] → Leading w.capacity w.table (after o w.table u) l.words items links0 links1 new.zero_tree new.one_tree → RepresentsLatch (record w { table = after o w.table u; zero_tree = new.zero_tree; one_tree = new.one_tree; stores_left = update_stores w.sequence items links0 links1 }) (latch_with_update o l u (length (update_stores w.sequence items links0 links1)))
   begun_from l p idle leading =
       let n = w.capacity in
       let m = l.words in
@@ -85,15 +85,15 @@ module _ {K : Type 0} (o : Order K) (w : WriterView) (u : Update) (items links0 
       let same : update_stores (at m 0) items links0 links1 ≡ stores = ap (λ q. update_stores q items links0 links1) p.sequence in
       let count = ap length same in
       let plan = update_plan n w.table after_u m items links0 links1 new.zero_tree new.one_tree leading (length stores) (sym count) in
-      let moved : IsPlan n (record { words = m; table = after_u; hand = Some (record { old = w.table; began = m; flips = 0; left = length stores }) }) stores = subst (IsPlan n _) same plan in
+      let moved : IsPlan n (record { words = m; newest_table = after_u; pending = Some (record { old_table = w.table; old_words = m; flips_made = 0; steps_left = length stores }) }) stores = subst (IsPlan n _) same plan in
       let even_now : at m 0 % 2 ≡ 0 = leading.even in
       let two = update_sequence n w.table after_u m items links0 links1 new.zero_tree new.one_tree leading in
-      let even_then : stable (at (words_after_all m (update_stores (at m 0) items links0 links1)) 0) ≡ 0 = omega arith in
+      let even_then : stable_copy_of (at (words_after_all m (update_stores (at m 0) items links0 links1)) 0) ≡ 0 = omega arith in
       record {
-        plan = subst (λ t. IsPlan n (record { words = m; table = after o t u; hand = Some (record { old = t; began = m; flips = 0; left = length stores }) }) stores) (sym p.table) moved;
+        plan = subst (λ t. IsPlan n (record { words = m; newest_table = after o t u; pending = Some (record { old_table = t; old_words = m; flips_made = 0; steps_left = length stores }) }) stores) (sym p.table) moved;
         at_rest = record {
           sized = length_after m stores ∙ leading.sized;
-          even = subst (λ ss. stable (at (words_after_all m ss) 0) ≡ 0) same even_then;
+          even = subst (λ ss. stable_copy_of (at (words_after_all m ss) 0) ≡ 0) same even_then;
           zero = subst (λ ss. Holds (words_after_all m ss) n 0 after_u new.zero_tree) same (update_zero n w.table after_u m items links0 links1 new.zero_tree new.one_tree leading);
           one = subst (λ ss. Holds (words_after_all m ss) n 1 after_u new.one_tree) same (update_one n w.table after_u m items links0 links1 new.zero_tree new.one_tree leading);
         };
@@ -102,22 +102,22 @@ module _ {K : Type 0} (o : Order K) (w : WriterView) (u : Update) (items links0 
         shallow = subst (StaysShallow n m) same (update_shallow n w.table after_u m items links0 links1 new.zero_tree new.one_tree leading);
       }
 
-  pub begun_pictures : (l : Latch) → Pictures w l → w.left ≡ [] → Leading w.capacity w.table (after o w.table u) l.words items links0 links1 new.zero_tree new.one_tree → Pictures new (begun o l u (length new.left))
-  begun_pictures l p idle leading = subst (λ x. Pictures x (begun o l u (length x.left))) (sym begins) (begun_from l p idle leading)
+  pub begun_pictures : (l : Latch) → RepresentsLatch w l → w.stores_left ≡ [] → Leading w.capacity w.table (after o w.table u) l.words items links0 links1 new.zero_tree new.one_tree → RepresentsLatch new (latch_with_update o l u (length new.stores_left))
+  begun_pictures l p idle leading = subst (λ x. RepresentsLatch x (latch_with_update o l u (length x.stores_left))) (sym begins) (begun_from l p idle leading)
 
 -- a node that neither tree lists is reached in neither copy
-pub unlisted : (w : WriterView) (m : List ℕ) (node : ℕ) → AtRest w m → listed w.one_tree ≡ listed w.zero_tree → (Contains (listed w.zero_tree) node → ⊥) → IsUnreached m w.capacity node
+pub unlisted : (w : WriterView) (m : List ℕ) (node : ℕ) → IsMemoryAtRest w m → listed w.one_tree ≡ listed w.zero_tree → (Contains (listed w.zero_tree) node → ⊥) → IsUnreached m w.capacity node
 unlisted w m node rest same free = (
   (λ r. free (reached_listed m w.capacity 0 w.zero_tree rest.zero.leads node r)),
   (λ r. free (subst (λ ns. Contains ns node) same (reached_listed m w.capacity 1 w.one_tree rest.one.leads node r))),
 )
 
 -- a latch at rest
-pub rest_now : (w : WriterView) (l : Latch) → Pictures w l → w.left ≡ [] → AtRest w l.words
-rest_now w l p idle = subst (λ ss. AtRest w (words_after_all l.words ss)) idle p.at_rest
+pub rest_now : (w : WriterView) (l : Latch) → RepresentsLatch w l → w.stores_left ≡ [] → IsMemoryAtRest w l.words
+rest_now w l p idle = subst (λ ss. IsMemoryAtRest w (words_after_all l.words ss)) idle p.at_rest
 
 -- a core that has made nothing pictures the opening
-pub opening_pictures : (l : Layout) (start : ℕ) → stable start ≡ 0 → Pictures (opening_writer l start) (opening_latch (capacity_of l) start)
+pub opening_pictures : (l : Layout) (start : ℕ) → stable_copy_of start ≡ 0 → RepresentsLatch (opening_writer l start) (opening_latch (capacity_of l) start)
 opening_pictures l start even =
     let n = capacity_of l in
     let m = (opening_latch n start).words in

@@ -6,7 +6,7 @@ use Rattle.std.specs.declared.cmp.Ordering.TheVariants.{Less, Equal, Greater}
 use Rattle.order_laws.specs.declared.items.Item.{Item}
 use Rattle.order_laws.specs.Orders.{Order}
 use Rattle.word_arena.specs.Words.{root_word, a_word, b_word, tag_word, left_word, right_word, at}
-use Rattle.latch_core.specs.Sequences.{gen, stable}
+use Rattle.latch_core.specs.Sequences.{generation_of, stable_copy_of}
 
 -- what an attempt came to: an answer with its generation, or another attempt
 pub data Outcome : Type 0 where
@@ -19,44 +19,44 @@ pub data Reading : Type 0 where
   Ends : Outcome → Reading
 
 -- how a walk ended: at an item, at link 0, or stuck
-pub data Found : Type 0 where
-  Item_found : Item → Found
-  No_item : Found
-  Stuck : Found
+pub data WalkEnd : Type 0 where
+  AtItem : Item → WalkEnd
+  AtEmptyLink : WalkEnd
+  Stuck : WalkEnd
 
 -- the outcome, by the first and the last number
-abbrev pub outcome : ℕ → ℕ → Found → Outcome
+abbrev pub outcome : ℕ → ℕ → WalkEnd → Outcome
 outcome s t Stuck = Again
-outcome s t (Item_found x) = if s == t then Answer (Some x) (gen s) else Again
-outcome s t No_item = if s == t then Answer None (gen s) else Again
+outcome s t (AtItem x) = if s == t then Answer (Some x) (generation_of s) else Again
+outcome s t AtEmptyLink = if s == t then Answer None (generation_of s) else Again
 
 -- the second reading of the sequence
-abbrev pub closing : ℕ → Found → Reading
-closing s found = Load 0 (λ t. Ends (outcome s t found))
+abbrev pub last_load : ℕ → WalkEnd → Reading
+last_load s found = Load 0 (λ t. Ends (outcome s t found))
 
 -- where a walk goes on from an item
-abbrev pub turn : ℕ → ℕ → Item → (ℕ → Reading) → Ordering → Reading
-turn s i x go Less = Load (left_word (stable s) i) go
-turn s i x go Equal = closing s (Item_found x)
-turn s i x go Greater = Load (right_word (stable s) i) go
+abbrev pub after_item : ℕ → ℕ → Item → (ℕ → Reading) → Ordering → Reading
+after_item s i x go Less = Load (left_word (stable_copy_of s) i) go
+after_item s i x go Equal = last_load s (AtItem x)
+after_item s i x go Greater = Load (right_word (stable_copy_of s) i) go
 
 -- one node
 abbrev pub visit : {K : Type 0} → Order K → K → ℕ → ℕ → (ℕ → Reading) → Reading
 visit o k s i go =
     Load (a_word i) (λ a. Load (b_word i) (λ b. Load (tag_word i) (λ tag.
     let x : Item = record { a = a; b = b; tag = tag } in
-    turn s i x go (o.comp k x))))
+    after_item s i x go (o.comp k x))))
 
 -- a walk that begins at a link, with at most `left` visits
 abbrev pub walk : {K : Type 0} → Order K → ℕ → K → ℕ → ℕ → ℕ → Reading
-walk o n k s left zero = closing s No_item
-walk o n k s zero (suc i) = closing s Stuck
-walk o n k s (suc left) (suc i) =
-    if nat_lt i n then visit o k s i (walk o n k s left) else closing s Stuck
+walk o n k s visits zero = last_load s AtEmptyLink
+walk o n k s zero (suc i) = last_load s Stuck
+walk o n k s (suc visits) (suc i) =
+    if nat_lt i n then visit o k s i (walk o n k s visits) else last_load s Stuck
 
 -- one attempt, at a capacity of n nodes
 abbrev pub attempt : {K : Type 0} → Order K → ℕ → K → Reading
-attempt o n k = Load 0 (λ s. Load (root_word (stable s)) (walk o n k s n))
+attempt o n k = Load 0 (λ s. Load (root_word (stable_copy_of s)) (walk o n k s n))
 
 -- what is left after these values were loaded; none where there are values after the end
 abbrev pub rest_after : Reading → List ℕ → Option Reading

@@ -9,60 +9,60 @@ use Rattle.word_arena.specs.Words.{item_at, listed}
 use Rattle.word_arena.specs.Stores.{words_after_all, AreLinkStores}
 use Rattle.rb_words.specs.Pictures.{Picture, IsPictured}
 use Rattle.rb_words.specs.Plans.{item_stores}
-use Rattle.rb_words.specs.Mirrors.{mirror, second}
+use Rattle.rb_words.specs.Mirrors.{mirror_stores, second_picture}
 use Rattle.rb_words.specs.Rows.{AreDistinct}
 use Rattle.latch_core.specs.Updates.{with_items}
 use Rattle.latch_core.specs.Plans.{update_stores}
 use Rattle.latch_core.specs.FreeNodes.{AreAllNodes}
 
 -- items, each with the node that it goes into; the stores of their words; and that these stand
-abbrev pub Placed : Type 0
-Placed = List (ℕ × Item)
+abbrev pub PlacedItems : Type 0
+PlacedItems = List (ℕ × Item)
 
-abbrev pub placing_stores : Placed → List Store
-placing_stores [] = []
-placing_stores (p ∷ rest) = item_stores p.0 p.1 ++ placing_stores rest
+abbrev pub stores_of_placed : PlacedItems → List Store
+stores_of_placed [] = []
+stores_of_placed (p ∷ rest) = item_stores p.0 p.1 ++ stores_of_placed rest
 
-abbrev pub HasPlaced : List ℕ → Placed → Type 0
-HasPlaced m placed = AllByRecursion (λ p. item_at m p.0 ≡ p.1) placed
+abbrev pub AreInPlace : List ℕ → PlacedItems → Type 0
+AreInPlace m placed = AllByRecursion (λ p. item_at m p.0 ≡ p.1) placed
 
 -- where the words of new items stand, these links lead a copy from the old picture to the new
-pub record LeadsBeside (old new : Picture) (placed : Placed) (links : List Store) : Type 0 where
+pub record RelinksCopy (old new : Picture) (placed : PlacedItems) (links : List Store) : Type 0 where
   pub capacity : new.capacity ≡ old.capacity
   pub copy : new.copy ≡ old.copy
   pub links_only : AreLinkStores old.capacity old.copy links
-  pub leads : (m : List ℕ) → IsPictured m old → HasPlaced m placed
+  pub leads : (m : List ℕ) → IsPictured m old → AreInPlace m placed
       → IsPictured (words_after_all m links) new
 
 -- and, mirrored, the second copy
-pub record LeadsBoth (old new : Picture) (placed : Placed) (links : List Store) : Type 0 where
-  pub zero : LeadsBeside old new placed links
-  pub one : LeadsBeside (second old) (second new) placed (mirror links)
+pub record RelinksBoth (old new : Picture) (placed : PlacedItems) (links : List Store) : Type 0 where
+  pub zero : RelinksCopy old new placed links
+  pub one : RelinksCopy (second_picture old) (second_picture new) placed (mirror_stores links)
 
 -- These stores change both copies in the same way, from a sequence on: they place the items, flip,
 -- lead copy 0 by links, flip again, and lead copy 1 by the same links, mirrored.
-pub record PlansBoth (old new : Picture) (seq : ℕ) (placed : Placed) (stores : List Store)
+pub record PlansBoth (old new : Picture) (seq : ℕ) (placed : PlacedItems) (stores : List Store)
     : Type 0 where
   pub links : List Store
-  pub listed_stores : stores ≡ update_stores seq (placing_stores placed) links (mirror links)
-  pub both : LeadsBoth old new placed links
+  pub listed_stores : stores ≡ update_stores seq (stores_of_placed placed) links (mirror_stores links)
+  pub both : RelinksBoth old new placed links
 
--- the items of these first words are erased by these links, and their nodes stand behind those that
+-- the items of these first words are erased by these links, and their nodes stand after those that
 -- were free
-pub record ErasesAll (old new : Picture) (erase : List ℕ) (links : List Store)
+pub record ErasesWords (old new : Picture) (erase : List ℕ) (links : List Store)
     (free free' : List ℕ) : Type 0 where
   pub table : new.table ≡ without_all erase old.table
-  pub both : LeadsBoth old new [] links
+  pub both : RelinksBoth old new [] links
   pub freed : List ℕ
   pub behind : free' ≡ free ++ freed
   pub nodes : AreAllNodes old.capacity (free' ++ listed new.tree)
 
 -- these items are inserted by these links, each in one of the fresh nodes, in which it was placed
 -- before
-pub record InsertsAll {K : Type 0} (o : Order K) (old new : Picture) (insert : List Item)
-    (placed : Placed) (links : List Store) (fresh free' : List ℕ) : Type 0 where
+pub record InsertsItems {K : Type 0} (o : Order K) (old new : Picture) (insert : List Item)
+    (placed : PlacedItems) (links : List Store) (fresh free' : List ℕ) : Type 0 where
   pub table : new.table ≡ with_items o insert old.table
-  pub both : LeadsBoth old new placed links
+  pub both : RelinksBoth old new placed links
   pub in_fresh : AllByRecursion (λ p. Contains fresh p.0) placed
   pub in_tree : AllByRecursion (λ p. Contains (listed new.tree) p.0) placed
   pub distinct : AreDistinct (map (λ p. p.0) placed)

@@ -5,7 +5,7 @@ use Rattle.order_laws.specs.Orders.{Order}
 use Rattle.word_arena.specs.Words.{at}
 use Rattle.latch_core.specs.declared.updates.Update.{Update}
 use Rattle.latch_core.specs.Updates.{after}
-use Rattle.latch_core.specs.Sequences.{gen}
+use Rattle.latch_core.specs.Sequences.{generation_of}
 
 -- the table after these updates, in order
 abbrev pub replay : {K : Type 0} → Order K → List Item → List Update → List Item
@@ -14,9 +14,9 @@ replay o table (u ∷ us) = replay o (after o table u) us
 
 -- the table at a generation, where the opening sequence is start
 abbrev pub table_at : {K : Type 0} → Order K → ℕ → List Update → ℕ → List Item
-table_at o start us g = replay o [] (take (g - gen start) us)
+table_at o start us g = replay o [] (take (g - generation_of start) us)
 
 -- the current table: the one that word 0 names, at the generation of its number. Later updates of
 -- the list are not in it.
 abbrev pub current_table : {K : Type 0} → Order K → ℕ → List Update → List ℕ → List Item
-current_table o start us words = table_at o start us (gen (at words 0))
+current_table o start us words = table_at o start us (generation_of (at words 0))

@@ -5,9 +5,9 @@ use Rattle.order_laws.specs.Orders.{Order}
 use Rattle.order_laws.specs.Tables.{IsTable}
 use Rattle.latch_core.specs.Histories.{replay, current_table}
 use Rattle.word_arena.specs.Words.{at, HoldsTable}
-use Rattle.latch_core.specs.Sequences.{stable}
+use Rattle.latch_core.specs.Sequences.{stable_copy_of}
 use Rattle.latch_core.specs.Attempts.{Reading, Stand}
-use Rattle.latch_core.specs.Latches.{Hand, Latch}
+use Rattle.latch_core.specs.Latches.{PendingUpdate, Latch}
 
 -- a reader's attempt: its first number is not above the sequence, and while it is the sequence,
 -- each value that was loaded still stands in its word
@@ -20,25 +20,25 @@ abbrev pub AreTables : {K : Type 0} → Order K → ℕ → List Update → Type
 AreTables o n us =
     (j : ℕ) → IsTable o (replay o [] (take j us)) × (length (replay o [] (take j us)) ≤ n)
 
--- an update in hand is the last that was accepted; with none in hand the sequence counts two for
+-- a pending update is the last that was accepted; with none pending the sequence counts two for
 -- each
-pub record IsHand {K : Type 0} (o : Order K) (start seq : ℕ) (us : List Update) (h : Hand)
+pub record IsPendingUpdate {K : Type 0} (o : Order K) (start seq : ℕ) (us : List Update) (h : PendingUpdate)
     : Type 0 where
-  pub count : seq + 2 ≡ start + 2 * length us + h.flips
-  pub flips : h.flips ≤ 2
+  pub count : seq + 2 ≡ start + 2 * length us + h.flips_made
+  pub flips : h.flips_made ≤ 2
   pub last : 0 < length us
-  pub old : h.old ≡ replay o [] (take (length us - 1) us)
+  pub old : h.old_table ≡ replay o [] (take (length us - 1) us)
 
-abbrev pub IsInHand : {K : Type 0} → Order K → ℕ → ℕ → List Update → Option Hand → Type 0
-IsInHand o start seq us None = seq ≡ start + 2 * length us
-IsInHand o start seq us (Some h) = IsHand o start seq us h
+abbrev pub IsPendingOf : {K : Type 0} → Order K → ℕ → ℕ → List Update → Option PendingUpdate → Type 0
+IsPendingOf o start seq us None = seq ≡ start + 2 * length us
+IsPendingOf o start seq us (Some h) = IsPendingUpdate o start seq us h
 
 -- the latch after these updates: the stable copy holds the table that the sequence names
 pub record IsSound {K : Type 0} (o : Order K) (n start : ℕ) (us : List Update) (l : Latch)
     : Type 0 where
-  pub even : stable start ≡ 0
+  pub even : stable_copy_of start ≡ 0
   pub sized : 0 < length l.words
   pub tables : AreTables o n us
-  pub table_is : l.table ≡ replay o [] us
-  pub in_hand : IsInHand o start (at l.words 0) us l.hand
-  pub current : HoldsTable l.words n (stable (at l.words 0)) (current_table o start us l.words)
+  pub table_is : l.newest_table ≡ replay o [] us
+  pub in_hand : IsPendingOf o start (at l.words 0) us l.pending
+  pub current : HoldsTable l.words n (stable_copy_of (at l.words 0)) (current_table o start us l.words)

@@ -30,4 +30,4 @@ pub mod WriterViews
 -- what a writer's list of stores shows
 pub mod PlanViews
 -- a latch in words that readers share, and what they have loaded of it
-pub mod Standing
+pub mod Latched

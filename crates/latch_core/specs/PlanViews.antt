@@ -5,7 +5,7 @@ use Rattle.word_arena.specs.declared.stores.Store.{Store}
 
 -- the stores that are still to be made, and how many more can be planned without memory
 pub record PlanView : Type 0 where
-  pub left : List Store
+  pub stores_left : List Store
   pub room : ℕ
 
 -- a store and a view are stored as the tuples of their fields
@@ -23,10 +23,10 @@ plan_code =
     code_by
     (List Store × ℕ)
     (coded× (coded_list store_code) coded_ℕ)
-    (λ p. (p.left, p.room))
-    (λ p. record { left = p.0; room = p.1 })
+    (λ p. (p.stores_left, p.room))
+    (λ p. record { stores_left = p.0; room = p.1 })
     (λ _. refl)
 
--- of the stores of an update so many were made, and a list has this room behind them
+-- of the stores of an update so many were made, and a list has this room after them
 abbrev pub plan_view : List Store → ℕ → ℕ → PlanView
-plan_view stores made room = record { left = drop made stores; room = room }
+plan_view stores made room = record { stores_left = drop made stores; room = room }

@@ -2,9 +2,9 @@
 use Rattle.std.specs.Prelude.{ℕ, ◌/◌, ◌%◌}
 
 -- the generation that a sequence names: how many updates readers see, above the opening one
-abbrev pub gen : ℕ → ℕ
-gen s = s / 2
+abbrev pub generation_of : ℕ → ℕ
+generation_of s = s / 2
 
 -- the copy that readers walk, 0 or 1
-abbrev pub stable : ℕ → ℕ
-stable s = s % 2
+abbrev pub stable_copy_of : ℕ → ℕ
+stable_copy_of s = s % 2

@@ -65,7 +65,7 @@ abbrev pub cannot_insert : {K : Type 0} → Order K → List ℕ → List Item �
 cannot_insert o words items table =
     some_overlap o items || some_meet o items (without_all words table)
 
--- a test, and the refusal that it stands for; the first that holds answers
+-- a test, and the refusal that it stands for; the first that holds gives its own
 abbrev pub Test : Type 0
 Test = Bool × Refusal
 
@@ -85,11 +85,11 @@ tests_of o n table (Batch erase insert) =
     ∷ (nat_lt n (length table + length insert), Full)
     ∷ []
 
--- the refusal that the tests of an update answer, or none
+-- the refusal that the tests of an update give, or none
 abbrev pub failed_test : {K : Type 0} → Order K → ℕ → List Item → Update → Option Refusal
 failed_test o n table u = first_that_holds (tests_of o n table u)
 
--- why an update is refused, or none: at n nodes and a greatest sequence, with an update in hand or
+-- why an update is refused, or none: at n nodes and a greatest sequence, with a pending update or
 -- not, at this table and this sequence, from which two flips more may pass the greatest
 abbrev pub refuses : {K : Type 0} → Order K → ℕ → ℕ → Bool → List Item → ℕ → Update → Option Refusal
 refuses o n limit busy table seq u =

@@ -7,16 +7,16 @@ use Rattle.latch_core.specs.declared.attempts.Attempted.{Attempted}
 use Rattle.latch_core.specs.declared.attempts.Attempted.TheVariants.{Answered, Failed}
 
 -- what it comes to in words that stand still, where each load gives what its word holds
-abbrev pub ran : List ℕ → Reading → Outcome
-ran m (Load w go) = ran m (go (at m w))
-ran m (Ends out) = out
+abbrev pub outcome_in : List ℕ → Reading → Outcome
+outcome_in m (Load w go) = outcome_in m (go (at m w))
+outcome_in m (Ends out) = out
 
 -- and after how many loads
 abbrev pub loads_in : List ℕ → Reading → ℕ
 loads_in m (Load w go) = suc (loads_in m (go (at m w)))
 loads_in m (Ends out) = 0
 
--- what a whole attempt answers, as an outcome
+-- what a whole attempt gives, as an outcome
 abbrev pub outcome_of : Attempted → Outcome
 outcome_of (Answered answer g) = Answer answer g
 outcome_of Failed = Again

@@ -8,18 +8,18 @@ use Rattle.word_arena.specs.Wider.{wider_words}
 use Rattle.latch_core.specs.Updates.{first_that_holds}
 use Rattle.latch_core.specs.Latches.{Latch}
 use Rattle.latch_core.specs.WriterViews.{WriterView}
-use Rattle.latch_core.specs.Writers.{Pictures, in_hand}
+use Rattle.latch_core.specs.Writers.{RepresentsLatch, has_pending}
 
--- why a core does not take a layout, or none: an update is in hand, or the layout has fewer nodes
+-- why a core does not take a layout, or none: an update is pending, or the layout has fewer nodes
 -- or a smaller greatest sequence
 abbrev pub why_not_widened : WriterView → Layout → Option Refusal
 why_not_widened w l =
     first_that_holds
-    ((in_hand w, UpdateInHand)
+    ((has_pending w, UpdateInHand)
     ∷ (nat_lt (capacity_of l) w.capacity || nat_lt (limit_of l) w.limit, BadCapacity)
     ∷ [])
 
--- a layout is refused by what its tests say, and else for want of memory
+-- a layout is refused by what its tests say, and else because memory ran out
 abbrev pub IsWideningRefused : WriterView → Layout → Refusal → Type 0
 IsWideningRefused w l e =
     (why_not_widened w l ≡ Some e) ⊎ ((why_not_widened w l ≡ None) × (e ≡ OutOfMemory))
@@ -33,7 +33,7 @@ abbrev pub widened_latch : ℕ → ℕ → Latch → Latch
 widened_latch n n' l = record l { words = wider_words n n' l.words }
 
 -- each latch at rest that the old core pictures, the new one pictures once it has as many nodes
-abbrev pub PicturesWidened : WriterView → WriterView → Type 0
-PicturesWidened old new =
-    (l : Latch) → Pictures old l → l.hand ≡ None →
-    Pictures new (widened_latch old.capacity new.capacity l)
+abbrev pub RepresentsWidened : WriterView → WriterView → Type 0
+RepresentsWidened old new =
+    (l : Latch) → RepresentsLatch old l → l.pending ≡ None →
+    RepresentsLatch new (widened_latch old.capacity new.capacity l)

@@ -9,7 +9,7 @@ use Rattle.word_arena.specs.NodesCode.{nodes_code}
 use Rattle.latch_core.specs.PlanViews.{store_code}
 
 -- the number of nodes and the greatest sequence; the sequence; the table after all accepted
--- updates, and the trees that copy 0 and copy 1 have when the update in hand is at its end; the
+-- updates, and the trees that copy 0 and copy 1 have when the pending update is at its end; the
 -- stores that are left until then
 pub record WriterView : Type 0 where
   pub capacity : ℕ
@@ -18,7 +18,7 @@ pub record WriterView : Type 0 where
   pub table : List Item
   pub zero_tree : Nodes
   pub one_tree : Nodes
-  pub left : List Store
+  pub stores_left : List Store
 
 -- a view is stored as the tuple of its fields
 abbrev pub writer_code : Coded WriterView
@@ -27,7 +27,7 @@ writer_code =
     (ℕ × (ℕ × (ℕ × (List Item × (Nodes × (Nodes × List Store))))))
     (coded× coded_ℕ (coded× coded_ℕ (coded× coded_ℕ (coded× (coded_list item_code)
     (coded× nodes_code (coded× nodes_code (coded_list store_code)))))))
-    (λ w. (w.capacity, (w.limit, (w.sequence, (w.table, (w.zero_tree, (w.one_tree, w.left)))))))
+    (λ w. (w.capacity, (w.limit, (w.sequence, (w.table, (w.zero_tree, (w.one_tree, w.stores_left)))))))
     (λ t. record {
       capacity = t.0;
       limit = t.1.0;
@@ -35,6 +35,6 @@ writer_code =
       table = t.1.1.1.0;
       zero_tree = t.1.1.1.1.0;
       one_tree = t.1.1.1.1.1.0;
-      left = t.1.1.1.1.1.1;
+      stores_left = t.1.1.1.1.1.1;
     })
     (λ _. refl)

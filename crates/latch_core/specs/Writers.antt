@@ -12,29 +12,29 @@ use Rattle.order_laws.specs.declared.items.Item.{Item}
 use Rattle.rb_trees.specs.Trees.{CanBeRedBlack}
 use Rattle.rb_words.specs.Pictures.{Picture}
 use Rattle.latch_core.specs.declared.updates.Update.{Update}
-use Rattle.latch_core.specs.Sequences.{stable}
+use Rattle.latch_core.specs.Sequences.{stable_copy_of}
 use Rattle.latch_core.specs.Updates.{refuses, after, size_of, most_steps}
-use Rattle.latch_core.specs.Latches.{Latch, Hand, MayStep, stepped, begun}
+use Rattle.latch_core.specs.Latches.{Latch, PendingUpdate, IsWriterStep, latch_after_step, latch_with_update}
 use Rattle.latch_core.specs.Plans.{IsPlan}
 use Rattle.latch_core.specs.FreeNodes.{AreAllNodes}
 use Rattle.latch_core.specs.WriterViews.{WriterView}
 
 -- the store to be made next
 abbrev pub next_store : WriterView → Option Store
-next_store w = slice_get w.left 0
+next_store w = slice_get w.stores_left 0
 
 -- an update has begun and is not at its end
-abbrev pub in_hand : WriterView → Bool
-in_hand w = nat_lt 0 (length w.left)
+abbrev pub has_pending : WriterView → Bool
+has_pending w = nat_lt 0 (length w.stores_left)
 
 -- why the core refuses an update, or none
 abbrev pub why_refused : {K : Type 0} → Order K → WriterView → Update → Option Refusal
-why_refused o w u = refuses o w.capacity w.limit (in_hand w) w.table w.sequence u
+why_refused o w u = refuses o w.capacity w.limit (has_pending w) w.table w.sequence u
 
 -- a memory at rest: both copies hold the core's table, in its trees
-pub record AtRest (w : WriterView) (m : List ℕ) : Type 0 where
+pub record IsMemoryAtRest (w : WriterView) (m : List ℕ) : Type 0 where
   pub sized : length m ≡ words_for w.capacity
-  pub even : stable (at m 0) ≡ 0
+  pub even : stable_copy_of (at m 0) ≡ 0
   pub zero : Holds m w.capacity 0 w.table w.zero_tree
   pub one : Holds m w.capacity 1 w.table w.one_tree
 
@@ -42,42 +42,42 @@ pub record AtRest (w : WriterView) (m : List ℕ) : Type 0 where
 abbrev pub IsShallow : ℕ → List ℕ → Type 0
 IsShallow n m =
     (table : List Item) × (tree : Nodes)
-    × Holds m n (stable (at m 0)) table tree × CanBeRedBlack tree
+    × Holds m n (stable_copy_of (at m 0)) table tree × CanBeRedBlack tree
 
 -- now, and after each of these stores
 abbrev pub StaysShallow : ℕ → List ℕ → List Store → Type 0
 StaysShallow n m [] = IsShallow n m
 StaysShallow n m (s ∷ ss) = IsShallow n m × StaysShallow n (words_after m s) ss
 
--- the core pictures a latch: the stores that are left carry the update in hand to its end, and then
+-- the core pictures a latch: the stores that are left carry the pending update to its end, and then
 -- the memory is at rest
-pub record Pictures (w : WriterView) (l : Latch) : Type 0 where
-  pub plan : IsPlan w.capacity l w.left
-  pub at_rest : AtRest w (words_after_all l.words w.left)
-  pub table : l.table ≡ w.table
+pub record RepresentsLatch (w : WriterView) (l : Latch) : Type 0 where
+  pub plan : IsPlan w.capacity l w.stores_left
+  pub at_rest : IsMemoryAtRest w (words_after_all l.words w.stores_left)
+  pub table : l.newest_table ≡ w.table
   pub sequence : at l.words 0 ≡ w.sequence
-  pub shallow : StaysShallow w.capacity l.words w.left
+  pub shallow : StaysShallow w.capacity l.words w.stores_left
 
--- a store that may be made next: on each latch that the core pictures it is a step of the update in
--- hand, and with none left no update is in hand
+-- a store that may be made next: on each latch that the core pictures it is a step of the pending
+-- update, and with none left no update is pending
 abbrev pub MayBeNext : WriterView → Option Store → Type 0
 MayBeNext w next =
-    (l : Latch) → Pictures w l
-    → MatchOption next (l.hand ≡ None) (λ s. (h : Hand) × (l.hand ≡ Some h) × MayStep w.capacity l h s)
+    (l : Latch) → RepresentsLatch w l
+    → MatchOption next (l.pending ≡ None) (λ s. (h : PendingUpdate) × (l.pending ≡ Some h) × IsWriterStep w.capacity l h s)
 
 -- the next store leads from what the one core pictures to what the other does
-abbrev pub LeadsFrom : WriterView → WriterView → Type 0
-LeadsFrom old new =
-    (l : Latch) (h : Hand) (s : Store)
-    → Pictures old l → l.hand ≡ Some h → next_store old ≡ Some s → Pictures new (stepped l h s)
+abbrev pub StoresNext : WriterView → WriterView → Type 0
+StoresNext old new =
+    (l : Latch) (h : PendingUpdate) (s : Store)
+    → RepresentsLatch old l → l.pending ≡ Some h → next_store old ≡ Some s → RepresentsLatch new (latch_after_step l h s)
 
 -- the latch that is pictured refuses what the core refuses
-abbrev pub RefusesAsPictured : {K : Type 0} → Order K → WriterView → Update → Type 0
-RefusesAsPictured o w u =
-    (l : Latch) → Pictures w l
-    → refuses o w.capacity w.limit (is_some l.hand) l.table (at l.words 0) u ≡ why_refused o w u
+abbrev pub RefusesAsRepresented : {K : Type 0} → Order K → WriterView → Update → Type 0
+RefusesAsRepresented o w u =
+    (l : Latch) → RepresentsLatch w l
+    → refuses o w.capacity w.limit (is_some l.pending) l.newest_table (at l.words 0) u ≡ why_refused o w u
 
--- an update is refused by what its tests say, and else for want of memory
+-- an update is refused by what its tests say, and else because memory ran out
 abbrev pub IsRefusedBy : {K : Type 0} → Order K → WriterView → Update → Refusal → Type 0
 IsRefusedBy o w u e =
     (why_refused o w u ≡ Some e) ⊎ ((why_refused o w u ≡ None) × (e ≡ OutOfMemory))
@@ -92,14 +92,14 @@ opening_writer l start =
       table = [];
       zero_tree = none;
       one_tree = none;
-      left = [];
+      stores_left = [];
     }
 
 -- an opening sequence is even and not above the limit
 abbrev pub MayOpen : Layout → ℕ → Type 0
-MayOpen l start = (stable start ≡ 0) × (start ≤ limit_of l)
+MayOpen l start = (stable_copy_of start ≡ 0) × (start ≤ limit_of l)
 
--- an opening is refused by its sequence, and else for want of memory
+-- an opening is refused by its sequence, and else because memory ran out
 abbrev pub IsOpeningRefused : Layout → ℕ → Refusal → Type 0
 IsOpeningRefused l start e =
     ((e ≡ BadCapacity) × (MayOpen l start → ⊥)) ⊎ ((e ≡ OutOfMemory) × MayOpen l start)
@@ -109,8 +109,8 @@ abbrev pub sequence_after : ℕ → Store → ℕ
 sequence_after seq s = if s.word == 0 then s.value else seq
 
 -- the core after its next store was made
-abbrev pub stepped_writer : WriterView → Store → WriterView
-stepped_writer w s = record w { sequence = sequence_after w.sequence s; left = drop 1 w.left }
+abbrev pub writer_after_step : WriterView → Store → WriterView
+writer_after_step w s = record w { sequence = sequence_after w.sequence s; stores_left = drop 1 w.stores_left }
 
 -- Both copies are in step: they list the same nodes with the same items, and these and the free
 -- nodes are all that there are. The stores that are left lie in the memory.
@@ -124,7 +124,7 @@ pub record AreInStep (n : ℕ) (zero one : Picture) (free : List ℕ) (left : Li
   pub nodes : AreAllNodes n (free ++ listed zero.tree)
   pub in_range : All (λ s. s.word < words_for n) left
 
--- the new core has the update in hand: its table is the one after it, and on each latch that the
+-- the new core has the pending update: its table is the one after it, and on each latch that the
 -- old core pictures the stores that it planned carry the update out
 pub record HasBegun {K : Type 0} (o : Order K) (old : WriterView) (u : Update) (new : WriterView)
     : Type 0 where
@@ -132,10 +132,10 @@ pub record HasBegun {K : Type 0} (o : Order K) (old : WriterView) (u : Update) (
     table = after o old.table u;
     zero_tree = new.zero_tree;
     one_tree = new.one_tree;
-    left = new.left;
+    stores_left = new.stores_left;
   }
-  pub some : 0 < length new.left
-  pub few : length new.left ≤ most_steps old.capacity u
+  pub some : 0 < length new.stores_left
+  pub few : length new.stores_left ≤ most_steps old.capacity u
   -- at most 16 for each item in each copy, and two flips
-  pub short : length new.left ≤ 2 * (16 * size_of u) + 2
-  pub pictures : (l : Latch) → Pictures old l → Pictures new (begun o l u (length new.left))
+  pub short : length new.stores_left ≤ 2 * (16 * size_of u) + 2
+  pub pictures : (l : Latch) → RepresentsLatch old l → RepresentsLatch new (latch_with_update o l u (length new.stores_left))

@@ -37,7 +37,7 @@ impl<O: TreeOrder> Table<O> {
         Ok(Table { words, writer })
     }
 
-    /// One step of the update in hand; says whether there was one.
+    /// One step of the pending update; says whether there was one.
     fn step(&mut self, rt: &impl Abort) -> bool {
         let Some(store) = self.writer.next() else {
             return false;
@@ -139,7 +139,7 @@ fn refusals_of_batches_and_the_empty_one(rt: HostRuntime) -> Result<(), Fail> {
     Ok(())
 }
 
-// At each stop of the update in hand, all keys find what the plain table at the lookup's generation
+// At each stop of the pending update, all keys find what the plain table at the lookup's generation
 // has.
 fn all_or_none<O: TreeOrder<Key = u64>>(
     rt: &impl Abort,

@@ -7,7 +7,7 @@ use std::marker::Model;
 
 /// First words or items of one update.
 ///
-/// A contract sees the list of them: two of the same list are equal, whatever room lies behind
+/// A contract sees the list of them: two of the same list are equal, whatever room lies after
 /// either. The list stands behind a pointer, so that a batch makes no update larger than an item
 /// does: a trace keeps many updates, and few of them are batches.
 #[derive(Debug, Drop)]

@@ -7,14 +7,14 @@ ghost use Rattle.word_arena.specs.Words.{listed};
 ghost use Rattle.rb_words.specs.Pictures.{IsPicture};
 ghost use Rattle.latch_core.specs.Updates.{some_missing, some_twice, some_invalid, some_overlap, some_meet};
 ghost use Rattle.latch_core.specs.FreeNodes.{AreAllNodes};
-ghost use Rattle.latch_core.specs.Changes.{Placed, placing_stores, ErasesAll, InsertsAll};
+ghost use Rattle.latch_core.specs.Changes.{PlacedItems, stores_of_placed, ErasesWords, InsertsItems};
 
 use crate::plans::{ITEM_STORES, Plan};
 use order_laws::{Item, TreeOrder};
 use rb_words::{STORES, Shape};
 use word_arena::{Store, append};
 
-/// Plans to erase the items of these first words, and puts their nodes behind the free ones.
+/// Plans to erase the items of these first words, and puts their nodes after the free ones.
 pub fn plan_erases<O: TreeOrder>(
     shape: &mut Shape<O>,
     free: &mut Vec<u32>,
@@ -29,7 +29,7 @@ pub fn plan_erases<O: TreeOrder>(
     requires places { shape.old.capacity ≤ vec_capacity free.old }
     requires was_sound { IsPicture O.order shape.old }
     ensures plan { (more : List Store) × (links.new.items ≡ links.old.items ++ more)
-        × ErasesAll shape.old shape.new erase.now more free.old.items free.new.items }
+        × ErasesWords shape.old shape.new erase.now more free.old.items free.new.items }
     ensures few { vec_len links.new ≤ vec_len links.old + length erase.now * STORES }
     ensures links_capacity { vec_capacity links.new ≡ vec_capacity links.old }
     ensures free_capacity { vec_capacity free.new ≡ vec_capacity free.old }
@@ -45,7 +45,7 @@ pub fn plan_erases<O: TreeOrder>(
 /// Plans to insert these items in as many of the first `fresh` free nodes: the stores of their
 /// words go into the plan, those of links into a list of their own.
 ///
-/// Nodes that stand behind the fresh ones are not taken.
+/// Nodes that stand after the fresh ones are not taken.
 pub fn plan_inserts<O: TreeOrder>(
     shape: &mut Shape<O>,
     free: &mut Vec<u32>,
@@ -67,14 +67,14 @@ pub fn plan_inserts<O: TreeOrder>(
     requires first_copy { shape.old.copy ≡ 0 }
     requires nodes { AreAllNodes shape.old.capacity (free.old.items ++ listed shape.old.tree) }
     requires was_sound { IsPicture O.order shape.old }
-    ensures plan { (placed : Placed) × (more : List Store)
-        × (plan.new.left ≡ plan.old.left ++ placing_stores placed)
+    ensures plan { (placed : PlacedItems) × (more : List Store)
+        × (plan.new.stores_left ≡ plan.old.stores_left ++ stores_of_placed placed)
         × (links.new.items ≡ links.old.items ++ more)
-        × InsertsAll O.order shape.old shape.new insert.now placed more
+        × InsertsItems O.order shape.old shape.new insert.now placed more
         (take fresh free.old.items) free.new.items }
-    ensures few { length plan.new.left + vec_len links.new
-        ≤ length plan.old.left + vec_len links.old + length insert.now * STORES }
-    ensures plan_len { length plan.new.left ≡ length plan.old.left + length insert.now * 3 }
+    ensures few { length plan.new.stores_left + vec_len links.new
+        ≤ length plan.old.stores_left + vec_len links.old + length insert.now * STORES }
+    ensures plan_len { length plan.new.stores_left ≡ length plan.old.stores_left + length insert.now * 3 }
     ensures plan_room_left { plan.new.room + length insert.now * 3 ≡ plan.old.room }
     ensures free_capacity { vec_capacity free.new ≡ vec_capacity free.old }
     ensures sound { IsPicture O.order shape.new }
@@ -93,7 +93,7 @@ fn separate(planned: &[Store], plan: &mut Plan, links: &mut Vec<Store>)
     requires items_first { 3 ≤ length planned.now }
     requires plan_room { 3 ≤ plan.old.room }
     requires links_room { vec_len links.old + length planned.now ≤ vec_capacity links.old + 3 }
-    ensures left { plan.new.left ≡ plan.old.left ++ take 3 planned.now }
+    ensures left { plan.new.stores_left ≡ plan.old.stores_left ++ take 3 planned.now }
     ensures room { plan.new.room + 3 ≡ plan.old.room }
     ensures items { links.new.items ≡ links.old.items ++ drop 3 planned.now }
     ensures len { vec_len links.new + 3 ≡ vec_len links.old + length planned.now }

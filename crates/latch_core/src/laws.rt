@@ -9,25 +9,25 @@ ghost use Rattle.word_arena.specs.Words.{at, Nodes, Holds};
 ghost use Rattle.word_arena.specs.Stores.{words_after};
 ghost use Rattle.latch_core.specs.declared.updates.Update.{Update};
 ghost use Rattle.rb_trees.specs.Trees.{CanBeRedBlack, depth};
-ghost use Rattle.latch_core.specs.Sequences.{gen, stable};
+ghost use Rattle.latch_core.specs.Sequences.{generation_of, stable_copy_of};
 ghost use Rattle.latch_core.specs.Updates.{refuses};
 ghost use Rattle.latch_core.specs.Attempts.{Reading, Load, Outcome, Answer, attempt, rest_after, IsAttempt, Stand};
 ghost use Rattle.latch_core.specs.Whole.{GoesOn};
-ghost use Rattle.latch_core.specs.Latches.{Latch, Hand, MayStep, stepped, begun, opening_latch};
+ghost use Rattle.latch_core.specs.Latches.{Latch, PendingUpdate, IsWriterStep, latch_after_step, latch_with_update, opening_latch};
 ghost use Rattle.latch_core.specs.Invariants.{IsStanding, IsSound};
 ghost use Rattle.latch_core.specs.Widening.{widened_latch};
 
 use order_laws::TreeOrder;
 
-/// An attempt whose values all stand in one memory answers what the key finds in the table of the
+/// An attempt whose values all stand in one memory gives what the key finds in the table of the
 /// stable copy, with the generation of the sequence, and takes at most four loads for each item and
 /// three.
 pub fn attempt_answers<O: TreeOrder>()
     ensures { (m : List ℕ) (n : ℕ) (k : O.Key) (table : List Item) (tree : Nodes)
         → (values : List ℕ) (out : Outcome)
-        → Holds m n (stable (at m 0)) table tree → IsTable O.order table → length table ≤ n
+        → Holds m n (stable_copy_of (at m 0)) table tree → IsTable O.order table → length table ≤ n
         → Stand m (attempt O.order n k) values → IsAttempt O.order n k values out
-        → (out ≡ Answer (look O.order k table) (gen (at m 0)))
+        → (out ≡ Answer (look O.order k table) (generation_of (at m 0)))
         × (length values ≤ 4 * length table + 3) }
 {}
 
@@ -36,7 +36,7 @@ pub fn attempt_answers<O: TreeOrder>()
 pub fn attempt_is_short<O: TreeOrder>()
     ensures { (m : List ℕ) (n : ℕ) (k : O.Key) (table : List Item) (tree : Nodes)
         → (values : List ℕ) (word : ℕ) (go : ℕ → Reading)
-        → Holds m n (stable (at m 0)) table tree → IsTable O.order table → length table ≤ n
+        → Holds m n (stable_copy_of (at m 0)) table tree → IsTable O.order table → length table ≤ n
         → Stand m (attempt O.order n k) values
         → rest_after (attempt O.order n k) values ≡ Some (Load word go)
         → length values < 4 * length table + 3 }
@@ -47,15 +47,15 @@ pub fn attempt_is_short<O: TreeOrder>()
 /// items and one.
 pub fn attempt_is_shallow<O: TreeOrder>()
     ensures deep { (m : List ℕ) (n : ℕ) (table : List Item) (tree : Nodes)
-        → Holds m n (stable (at m 0)) table tree → CanBeRedBlack tree
+        → Holds m n (stable_copy_of (at m 0)) table tree → CanBeRedBlack tree
         → 2 ^ depth tree ≤ (length table + 1) * (length table + 1) }
     ensures whole { (m : List ℕ) (n : ℕ) (k : O.Key) (table : List Item) (tree : Nodes)
         → (values : List ℕ)
-        → Holds m n (stable (at m 0)) table tree → IsTable O.order table → length table ≤ n
+        → Holds m n (stable_copy_of (at m 0)) table tree → IsTable O.order table → length table ≤ n
         → Stand m (attempt O.order n k) values → length values ≤ 4 * depth tree + 3 }
     ensures part { (m : List ℕ) (n : ℕ) (k : O.Key) (table : List Item) (tree : Nodes)
         → (values : List ℕ)
-        → Holds m n (stable (at m 0)) table tree → IsTable O.order table → length table ≤ n
+        → Holds m n (stable_copy_of (at m 0)) table tree → IsTable O.order table → length table ≤ n
         → Stand m (attempt O.order n k) values → GoesOn O.order n k values
         → length values < 4 * depth tree + 3 }
 {}
@@ -73,8 +73,8 @@ pub fn attempt_ends<O: TreeOrder>()
 /// word: each step that the writer may make keeps this, and so does each load of the word that the
 /// attempt asks for.
 pub fn loaded_values_stand<O: TreeOrder>()
-    ensures step { (n : ℕ) (k : O.Key) (l : Latch) (h : Hand) (s : Store) (values : List ℕ)
-        → 0 < length l.words → MayStep n l h s
+    ensures step { (n : ℕ) (k : O.Key) (l : Latch) (h : PendingUpdate) (s : Store) (values : List ℕ)
+        → 0 < length l.words → IsWriterStep n l h s
         → IsStanding l.words (attempt O.order n k) values
         → IsStanding (words_after l.words s) (attempt O.order n k) values }
     ensures load { (m : List ℕ) (n : ℕ) (k : O.Key) (values : List ℕ) (word : ℕ) (go : ℕ → Reading)
@@ -85,7 +85,7 @@ pub fn loaded_values_stand<O: TreeOrder>()
 
 /// A step of the writer leaves the sequence as it is, or adds 1.
 pub fn sequence_never_falls()
-    ensures { (n : ℕ) (l : Latch) (h : Hand) (s : Store) → 0 < length l.words → MayStep n l h s
+    ensures { (n : ℕ) (l : Latch) (h : PendingUpdate) (s : Store) → 0 < length l.words → IsWriterStep n l h s
         → (at (words_after l.words s) 0 ≡ at l.words 0)
         ⊎ (at (words_after l.words s) 0 ≡ at l.words 0 + 1) }
 {}
@@ -93,15 +93,15 @@ pub fn sequence_never_falls()
 /// At the opening, after each step, after each update that begins and with more nodes, the stable
 /// copy holds the table that the sequence names.
 pub fn latch_stays_sound<O: TreeOrder>()
-    ensures opening { (n start : ℕ) → stable start ≡ 0
+    ensures opening { (n start : ℕ) → stable_copy_of start ≡ 0
         → IsSound O.order n start [] (opening_latch n start) }
-    ensures step { (n start : ℕ) (us : List Update) (l : Latch) (h : Hand) (s : Store)
-        → IsSound O.order n start us l → l.hand ≡ Some h → MayStep n l h s
-        → IsSound O.order n start us (stepped l h s) }
+    ensures step { (n start : ℕ) (us : List Update) (l : Latch) (h : PendingUpdate) (s : Store)
+        → IsSound O.order n start us l → l.pending ≡ Some h → IsWriterStep n l h s
+        → IsSound O.order n start us (latch_after_step l h s) }
     ensures begin { (n limit start : ℕ) (us : List Update) (l : Latch) (u : Update) (left : ℕ)
-        → IsSound O.order n start us l → l.hand ≡ None
-        → refuses O.order n limit false l.table (at l.words 0) u ≡ None
-        → IsSound O.order n start (us ++ u ∷ []) (begun O.order l u left) }
+        → IsSound O.order n start us l → l.pending ≡ None
+        → refuses O.order n limit false l.newest_table (at l.words 0) u ≡ None
+        → IsSound O.order n start (us ++ u ∷ []) (latch_with_update O.order l u left) }
     ensures widen { (n n' start : ℕ) (us : List Update) (l : Latch)
         → n ≤ n' → IsSound O.order n start us l
         → IsSound O.order n' start us (widened_latch n n' l) }

@@ -50,9 +50,9 @@ pub mod laws;
 mod nodes;
 pub mod plain;
 mod plans;
+mod progress;
 pub mod readers;
 pub mod sequences;
-mod spots;
 #[cfg(test)]
 mod tests;
 pub mod updates;

@@ -17,7 +17,7 @@ pub fn all_nodes(alloc: Global, capacity: u32) -> Result<Vec<u32>, AllocError>
     Ok(nodes)
 }
 
-/// Puts the nodes from `capacity` up to `more` behind the free ones, in a list that then has room
+/// Puts the nodes from `capacity` up to `more` after the free ones, in a list that then has room
 /// for all nodes. With the used ones they are all nodes, where they were before.
 pub fn add_nodes(free: &mut Vec<u32>, capacity: u32, more: u32) -> Result<(), AllocError>
     requires more { capacity ≤ more }

@@ -6,7 +6,7 @@ ghost use Rattle.word_arena.specs.declared.stores.Store.{Store};
 ghost use Rattle.word_arena.specs.Layouts.{capacity_of};
 ghost use Rattle.word_arena.specs.Stores.{AreLinkStores};
 ghost use Rattle.word_arena.specs.Words.{listed};
-ghost use Rattle.rb_words.specs.Mirrors.{mirror, mirror_store};
+ghost use Rattle.rb_words.specs.Mirrors.{mirror_stores, mirror_store};
 ghost use Rattle.rb_words.specs.Pictures.{IsPicture};
 ghost use Rattle.rb_words.specs.Plans.{item_stores, Inserts, Erases};
 ghost use Rattle.latch_core.specs.Plans.{update_stores, flip_to};
@@ -45,7 +45,7 @@ impl Model for Plan {
 impl Plan {
     /// No stores, and no memory taken.
     pub fn new(alloc: Global) -> Self
-        ensures { result.left ≡ [] }
+        ensures { result.stores_left ≡ [] }
     {
         Plan {
             stores: Vec::new(alloc),
@@ -55,7 +55,7 @@ impl Plan {
 
     /// How many stores are to be made.
     pub fn remaining(&self) -> u64
-        ensures { result ≡ length self.now.left }
+        ensures { result ≡ length self.now.stores_left }
     {
         (self.stores.len() - self.made) as u64
     }
@@ -63,17 +63,17 @@ impl Plan {
     /// The store to be made next.
     #[inline(always)]
     pub fn next(&self) -> Option<Store>
-        ensures { result ≡ slice_get self.now.left 0 }
+        ensures { result ≡ slice_get self.now.stores_left 0 }
     {
         self.stores.get(self.made).copied()
     }
 
-    /// The next store was made; answers which it was.
+    /// The next store was made; returns which it was.
     #[inline(always)]
     pub fn advance(&mut self) -> Store
-        requires { IsSome (slice_get self.old.left 0) }
-        ensures was { slice_get self.old.left 0 ≡ Some result }
-        ensures left { self.new.left ≡ drop 1 self.old.left }
+        requires { IsSome (slice_get self.old.stores_left 0) }
+        ensures was { slice_get self.old.stores_left 0 ≡ Some result }
+        ensures left { self.new.stores_left ≡ drop 1 self.old.stores_left }
     {
         let store = self.stores[self.made];
         self.made += 1;
@@ -82,8 +82,8 @@ impl Plan {
 
     /// Makes room for the stores of an update, where none are left.
     pub fn reserve(&mut self, count: usize) -> Result<(), AllocError>
-        requires { self.old.left ≡ [] }
-        ensures left { self.new.left ≡ [] }
+        requires { self.old.stores_left ≡ [] }
+        ensures left { self.new.stores_left ≡ [] }
         ensures room { OnOk result (count ≤ self.new.room) }
     {
         self.made = 0;
@@ -95,8 +95,8 @@ impl Plan {
     /// copy 0.
     #[inline(always)]
     pub fn reserve_with<O: TreeOrder>(&mut self, shape: &mut Shape<O>) -> Result<(), Refusal>
-        requires { self.old.left ≡ [] }
-        ensures left { self.new.left ≡ [] }
+        requires { self.old.stores_left ≡ [] }
+        ensures left { self.new.stores_left ≡ [] }
         ensures kept { shape.new ≡ record shape.old { room = shape.new.room } }
         ensures room { OnOk result (2 * STORES + 2 ≤ self.new.room) }
         ensures shape_room { OnOk result (0 < shape.new.room) }
@@ -108,7 +108,7 @@ impl Plan {
     }
 
     /// Takes in the stores that insert an item in a free node, unless it meets one of the table.
-    /// Answers whether it does; then what is pictured of copy 0 stays, and no stores are left.
+    /// Returns whether it does; then what is pictured of copy 0 stays, and no stores are left.
     ///
     /// Takes no memory. The item must be valid.
     pub fn insert<O: TreeOrder>(
@@ -128,11 +128,11 @@ impl Plan {
         requires valid { O.order.valid item ≡ true }
         requires counts { sequence + 2 < 2 ^ 64 }
         ensures met { result ≡ meets O.order item shape.old.table }
-        ensures unchanged { result ≡ true → (shape.new ≡ shape.old) × (self.new.left ≡ []) }
+        ensures unchanged { result ≡ true → (shape.new ≡ shape.old) × (self.new.stores_left ≡ []) }
         ensures pictures { result ≡ false → Inserts O.order shape.old shape.new node item }
         ensures both { result ≡ false
-            → PlansBoth shape.old shape.new sequence ((node, item) ∷ []) self.new.left }
-        ensures few { result ≡ false → length self.new.left ≤ 2 * STORES + 2 }
+            → PlansBoth shape.old shape.new sequence ((node, item) ∷ []) self.new.stores_left }
+        ensures few { result ≡ false → length self.new.stores_left ≤ 2 * STORES + 2 }
         ensures was_sound { IsPicture O.order shape.old }
         ensures sound { IsPicture O.order shape.new }
     {
@@ -147,7 +147,7 @@ impl Plan {
         false
     }
 
-    /// Takes in the stores that erase the item of a first word, if there is one, and answers its
+    /// Takes in the stores that erase the item of a first word, if there is one, and returns its
     /// node. With none, what is pictured of copy 0 stays, and no stores are left.
     ///
     /// Takes no memory.
@@ -163,11 +163,11 @@ impl Plan {
         requires capacity { shape.old.capacity ≡ capacity_of l }
         requires counts { sequence + 2 < 2 ^ 64 }
         ensures found { is_some result ≡ has a shape.old.table }
-        ensures unchanged { result ≡ None → (shape.new ≡ shape.old) × (self.new.left ≡ []) }
+        ensures unchanged { result ≡ None → (shape.new ≡ shape.old) × (self.new.stores_left ≡ []) }
         ensures pictures { IfSome result (Erases shape.old shape.new a) }
         ensures both { IsSome result
-            → PlansBoth shape.old shape.new sequence [] self.new.left }
-        ensures few { IsSome result → length self.new.left ≤ 2 * STORES + 2 }
+            → PlansBoth shape.old shape.new sequence [] self.new.stores_left }
+        ensures few { IsSome result → length self.new.stores_left ≤ 2 * STORES + 2 }
         ensures was_sound { IsPicture O.order shape.old }
         ensures sound { IsPicture O.order shape.new }
     {
@@ -185,7 +185,7 @@ impl Plan {
     #[inline(always)]
     pub fn add(&mut self, stores: &[Store])
         requires room { length stores.now ≤ self.old.room }
-        ensures left { self.new.left ≡ self.old.left ++ stores.now }
+        ensures left { self.new.stores_left ≡ self.old.stores_left ++ stores.now }
         ensures room { self.new.room + length stores.now ≡ self.old.room }
     {
         append(&mut self.stores, stores);
@@ -198,8 +198,8 @@ impl Plan {
         requires links_only { AreLinkStores (capacity_of l) 0 links.now }
         requires room { 2 * length links.now + 2 ≤ self.old.room }
         requires counts { sequence + 2 < 2 ^ 64 }
-        ensures { self.new.left
-            ≡ update_stores sequence self.old.left links.now (mirror links.now) }
+        ensures { self.new.stores_left
+            ≡ update_stores sequence self.old.stores_left links.now (mirror_stores links.now) }
     {
         self.stores.push_reserved(flip_to(sequence + 1));
         append(&mut self.stores, links);
@@ -253,7 +253,7 @@ fn flip_and_mirror(l: Layout, stores: &mut Vec<Store>, sequence: u64, from: usiz
     requires links_only { AreLinkStores (capacity_of l) 0 (drop from stores.old.items) }
     requires room { 2 * vec_len stores.old + 1 ≤ vec_capacity stores.old + from }
     ensures items { stores.new.items
-        ≡ stores.old.items ++ flip_to sequence ∷ mirror (drop from stores.old.items) }
+        ≡ stores.old.items ++ flip_to sequence ∷ mirror_stores (drop from stores.old.items) }
     ensures len { vec_len stores.new + from ≡ 2 * vec_len stores.old + 1 }
     ensures capacity { vec_capacity stores.new ≡ vec_capacity stores.old }
 {

@@ -5,13 +5,13 @@ ghost use Rattle.word_arena.specs.Layouts.{capacity_of};
 ghost use Rattle.word_arena.specs.Words.{words_for};
 ghost use Rattle.latch_core.specs.Attempts.{attempt};
 
+use crate::progress::{Awaited, Progress};
 use crate::sequences::{generation, stable_copy};
-use crate::spots::{Place, Spot};
 use order_laws::{Item, TreeOrder};
 use std::cmp::Ordering;
 use word_arena::{Layout, places};
 
-/// A lookup in hand: its key, and where it stands in its attempt.
+/// A pending lookup: its key, and where it stands in its attempt.
 ///
 /// An attempt reads the sequence, walks the stable copy and reads the sequence again
 /// (`read_seqcount_latch` and `read_seqcount_latch_retry` of include/linux/seqlock.h, `__lt_find`
@@ -20,7 +20,7 @@ use word_arena::{Layout, places};
 #[derive(Drop)]
 pub struct ReaderCore<O: TreeOrder> {
     key: O::Key,
-    spot: Spot,
+    progress: Progress,
 }
 
 /// What a core becomes with a value.
@@ -34,25 +34,25 @@ pub enum Taken<O: TreeOrder> {
 }
 
 impl<O: TreeOrder> ReaderCore<O> {
-    ghost use Rattle.latch_core.specs.Cores.{capacity_of_core, key_of_core, walk_from, remaining, LeadsTo, IsWanted, LeadsBy, most_loads, IsSameLookup, IsShorter, StartsAgain};
+    ghost use Rattle.latch_core.specs.Cores.{capacity_of_core, key_of_core, walk_from, rest_of_core, HasTaken, IsWanted, TakesTo, most_loads_left, IsSameLookup, IsShorter, StartsAgain};
 
     /// A lookup of `k` that was given nothing yet.
     pub fn start(l: Layout, k: O::Key) -> Self
         ensures capacity { capacity_of_core result ≡ capacity_of l }
         ensures key { key_of_core result ≡ k }
-        ensures leads { LeadsTo O.order [] result }
+        ensures leads { HasTaken O.order [] result }
     {
-        let spot = Spot {
+        let progress = Progress {
             first: 0,
             a: 0,
             b: 0,
             tag: 0,
             capacity: l.capacity(),
             node: 0,
-            left: 0,
-            place: Place::First,
+            visits_left: 0,
+            awaited: Awaited::First,
         };
-        ReaderCore { key: k, spot }
+        ReaderCore { key: k, progress }
     }
 
     /// What is looked up.
@@ -68,7 +68,7 @@ impl<O: TreeOrder> ReaderCore<O> {
     {
         ReaderCore {
             key: self.key,
-            spot: self.spot,
+            progress: self.progress,
         }
     }
 
@@ -77,16 +77,16 @@ impl<O: TreeOrder> ReaderCore<O> {
         ensures within { result < words_for (capacity_of_core self.now) }
         ensures word { IsWanted O.order self.now result }
     {
-        let node = self.spot.node;
-        let copy = stable_copy(self.spot.first);
-        match self.spot.place {
-            Place::First | Place::Found | Place::Missing | Place::Stuck => 0,
-            Place::Root => places::root_of(copy),
-            Place::WordA => places::a_of(node),
-            Place::WordB => places::b_of(node),
-            Place::Tag => places::tag_of(node),
-            Place::Left => places::left_of(copy, node),
-            Place::Right => places::right_of(copy, node),
+        let node = self.progress.node;
+        let copy = stable_copy(self.progress.first);
+        match self.progress.awaited {
+            Awaited::First | Awaited::Found | Awaited::Missing | Awaited::Stuck => 0,
+            Awaited::Root => places::root_of(copy),
+            Awaited::WordA => places::a_of(node),
+            Awaited::WordB => places::b_of(node),
+            Awaited::Tag => places::tag_of(node),
+            Awaited::Left => places::left_of(copy, node),
+            Awaited::Right => places::right_of(copy, node),
         }
     }
 
@@ -94,17 +94,17 @@ impl<O: TreeOrder> ReaderCore<O> {
     fn follow(mut self, link: u64) -> Self
         ensures capacity { capacity_of_core result ≡ capacity_of_core self }
         ensures key { key_of_core result ≡ key_of_core self }
-        ensures shorter { most_loads result ≤ 4 * self.spot.left + 1 }
-        ensures leads { remaining O.order result ≡ walk_from O.order self.key self.spot link }
+        ensures shorter { most_loads_left result ≤ 4 * self.progress.visits_left + 1 }
+        ensures leads { rest_of_core O.order result ≡ walk_from O.order self.key self.progress link }
     {
         if link == 0 {
-            self.spot.place = Place::Missing;
-        } else if self.spot.left == 0 || link > self.spot.capacity as u64 {
-            self.spot.place = Place::Stuck;
+            self.progress.awaited = Awaited::Missing;
+        } else if self.progress.visits_left == 0 || link > self.progress.capacity as u64 {
+            self.progress.awaited = Awaited::Stuck;
         } else {
-            self.spot.left -= 1;
-            self.spot.node = (link - 1) as u32;
-            self.spot.place = Place::WordA;
+            self.progress.visits_left -= 1;
+            self.progress.node = (link - 1) as u32;
+            self.progress.awaited = Awaited::WordA;
         }
         self
     }
@@ -117,46 +117,49 @@ impl<O: TreeOrder> ReaderCore<O> {
         ensures same { IsSameLookup self result }
         ensures shorter { IsShorter self result }
         ensures again { StartsAgain O.order result }
-        ensures leads { LeadsBy O.order self value result }
+        ensures leads { TakesTo O.order self value result }
     {
-        match self.spot.place {
-            Place::First => {
-                self.spot.first = value;
-                self.spot.place = Place::Root;
+        match self.progress.awaited {
+            Awaited::First => {
+                self.progress.first = value;
+                self.progress.awaited = Awaited::Root;
                 Taken::Going(self)
             }
-            Place::Root => {
-                self.spot.left = self.spot.capacity;
+            Awaited::Root => {
+                self.progress.visits_left = self.progress.capacity;
                 Taken::Going(self.follow(value))
             }
-            Place::WordA => {
-                self.spot.a = value;
-                self.spot.place = Place::WordB;
+            Awaited::WordA => {
+                self.progress.a = value;
+                self.progress.awaited = Awaited::WordB;
                 Taken::Going(self)
             }
-            Place::WordB => {
-                self.spot.b = value;
-                self.spot.place = Place::Tag;
+            Awaited::WordB => {
+                self.progress.b = value;
+                self.progress.awaited = Awaited::Tag;
                 Taken::Going(self)
             }
-            Place::Tag => {
-                self.spot.tag = value;
-                self.spot.place = match O::comp(self.key, &self.item()) {
-                    Ordering::Less => Place::Left,
-                    Ordering::Equal => Place::Found,
-                    Ordering::Greater => Place::Right,
+            Awaited::Tag => {
+                self.progress.tag = value;
+                self.progress.awaited = match O::comp(self.key, &self.item()) {
+                    Ordering::Less => Awaited::Left,
+                    Ordering::Equal => Awaited::Found,
+                    Ordering::Greater => Awaited::Right,
                 };
                 Taken::Going(self)
             }
-            Place::Left | Place::Right => Taken::Going(self.follow(value)),
-            Place::Found if value == self.spot.first => Taken::Returned(
+            Awaited::Left | Awaited::Right => Taken::Going(self.follow(value)),
+            Awaited::Found if value == self.progress.first => Taken::Returned(
                 Some(self.item()),
                 generation(value),
             ),
-            Place::Found => Taken::Retrying(self.again()),
-            Place::Missing if value == self.spot.first => Taken::Returned(None, generation(value)),
-            Place::Missing => Taken::Retrying(self.again()),
-            Place::Stuck => Taken::Retrying(self.again()),
+            Awaited::Found => Taken::Retrying(self.again()),
+            Awaited::Missing if value == self.progress.first => Taken::Returned(
+                None,
+                generation(value),
+            ),
+            Awaited::Missing => Taken::Retrying(self.again()),
+            Awaited::Stuck => Taken::Retrying(self.again()),
         }
     }
 
@@ -164,22 +167,22 @@ impl<O: TreeOrder> ReaderCore<O> {
     fn again(mut self) -> Self
         ensures capacity { capacity_of_core result ≡ capacity_of_core self }
         ensures key { key_of_core result ≡ key_of_core self }
-        ensures whole { remaining O.order result
+        ensures whole { rest_of_core O.order result
             ≡ attempt O.order (capacity_of_core result) (key_of_core result) }
     {
-        self.spot.place = Place::First;
+        self.progress.awaited = Awaited::First;
         self
     }
 
     /// The item of the node in hand, as it was loaded.
     fn item(&self) -> Item
         ensures { result
-            ≡ record { a = self.now.spot.a; b = self.now.spot.b; tag = self.now.spot.tag } }
+            ≡ record { a = self.now.progress.a; b = self.now.progress.b; tag = self.now.progress.tag } }
     {
         Item {
-            a: self.spot.a,
-            b: self.spot.b,
-            tag: self.spot.tag,
+            a: self.progress.a,
+            b: self.progress.b,
+            tag: self.progress.tag,
         }
     }
 }

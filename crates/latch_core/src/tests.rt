@@ -79,7 +79,7 @@ impl<O: TreeOrder> Latch<O> {
         Ok(Latch { words, writer })
     }
 
-    /// At most `count` stores of the update in hand.
+    /// At most `count` stores of the pending update.
     fn write(&mut self, rt: &impl Abort, count: u32) {
         for _ in 0..count {
             let Some(store) = self.writer.next() else {
@@ -110,19 +110,19 @@ impl<O: TreeOrder> Latch<O> {
     fn find(&self, rt: &impl Abort, l: Layout, key: O::Key) -> (Option<Item>, u64, u32) {
         let mut lookup = Lookup::<O>::start(l, key);
         lookup.read(rt, &self.words, 1000);
-        assert_eq!(rt; lookup.tries, 1);
+        assert_eq!(rt; lookup.attempts, 1);
         (lookup.answer, lookup.generation, lookup.loads)
     }
 }
 
-/// A lookup in hand, or returned, with its counts.
+/// A lookup, pending or returned, with its counts.
 #[derive(Drop)]
 struct Lookup<O: TreeOrder> {
     core: Option<ReaderCore<O>>,
     answer: Option<Item>,
     generation: u64,
     loads: u32,
-    tries: u32,
+    attempts: u32,
 }
 
 impl<O: TreeOrder> Lookup<O> {
@@ -132,7 +132,7 @@ impl<O: TreeOrder> Lookup<O> {
             answer: None,
             generation: 0,
             loads: 0,
-            tries: 1,
+            attempts: 1,
         }
     }
 
@@ -148,7 +148,7 @@ impl<O: TreeOrder> Lookup<O> {
             match core.take(words[word]) {
                 Taken::Going(next) => self.core = Some(next),
                 Taken::Retrying(next) => {
-                    self.tries = self.tries.saturating_add(1);
+                    self.attempts = self.attempts.saturating_add(1);
                     self.core = Some(next);
                 }
                 Taken::Returned(answer, generation) => {
@@ -198,7 +198,7 @@ fn a_torn_item_is_not_answered(rt: HostRuntime) -> Result<(), Fail> {
     lookup.read(&rt, &latch.words, 10);
     assert!(rt; lookup.core.is_none());
     assert_eq!(rt; (lookup.answer, lookup.generation), (None, 3));
-    assert_eq!(rt; (lookup.loads, lookup.tries), (13, 2));
+    assert_eq!(rt; (lookup.loads, lookup.attempts), (13, 2));
     assert_eq!(rt; latch.words.first().copied(), Some(6));
     Ok(())
 }
@@ -309,8 +309,8 @@ fn carry_out_by_stops(
     Ok(())
 }
 
-// At each stop of each update, a lookup answers for the old table before the second flip and for
-// the new one from it on.
+// At each stop of each update, a lookup gives what is in the old table before the second flip and
+// what is in the new one from it on.
 #[test]
 fn an_order_whose_key_is_a_struct(rt: HostRuntime) -> Result<(), Fail> {
     let mut latch = Latch::<Ranges>::open(&rt, rt.alloc(), Layout::new(4)?, 0)?;

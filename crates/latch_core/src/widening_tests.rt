@@ -6,7 +6,7 @@ use std::process::Abort;
 use std::test::Fail;
 use word_arena::Layout;
 
-/// Widens the writer, and puts the words of the new nodes behind those that there are.
+/// Widens the writer, and puts the words of the new nodes after those that there are.
 fn widen<O: TreeOrder>(table: &mut Table<O>, alloc: Global, l: Layout) -> Result<(), Refusal> {
     let mut words = vec![in alloc; 0; l.words()]?;
     table.writer.widen(l)?;

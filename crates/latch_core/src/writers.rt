@@ -6,12 +6,12 @@ ghost use Rattle.word_arena.specs.declared.stores.Store.{Store};
 ghost use Rattle.word_arena.specs.Layouts.{capacity_of, limit_of};
 ghost use Rattle.word_arena.specs.Words.{at, words_for};
 ghost use Rattle.rb_words.specs.Pictures.{IsPicture};
-ghost use Rattle.latch_core.specs.Sequences.{gen};
+ghost use Rattle.latch_core.specs.Sequences.{generation_of};
 ghost use Rattle.latch_core.specs.Updates.{failed_test, some_invalid, some_missing, some_meet, cannot_erase, cannot_insert};
 ghost use Rattle.std.specs.List.Sorted.{IsNonDecreasing};
-ghost use Rattle.latch_core.specs.Latches.{Latch, Hand, stepped, opening_latch};
-ghost use Rattle.latch_core.specs.Writers.{next_store, why_refused, IsRefusedBy, RefusesAsPictured, MayOpen, IsOpeningRefused, Pictures, MayBeNext, LeadsFrom, HasBegun, opening_writer, stepped_writer};
-ghost use Rattle.latch_core.specs.Widening.{why_not_widened, widened_writer, PicturesWidened, IsWideningRefused};
+ghost use Rattle.latch_core.specs.Latches.{Latch, PendingUpdate, latch_after_step, opening_latch};
+ghost use Rattle.latch_core.specs.Writers.{next_store, why_refused, IsRefusedBy, RefusesAsRepresented, MayOpen, IsOpeningRefused, RepresentsLatch, MayBeNext, StoresNext, HasBegun, opening_writer, writer_after_step};
+ghost use Rattle.latch_core.specs.Widening.{why_not_widened, widened_writer, RepresentsWidened, IsWideningRefused};
 
 use crate::changes::{plan_erases, plan_inserts};
 use crate::clashes::{in_order, some_overlap, some_twice};
@@ -32,7 +32,7 @@ use word_arena::{Layout, Store, TreeCopy};
 /// An update flips the sequence, changes copy 0, flips again and changes copy 1 in the same way, so
 /// one picture serves both copies. All stores are planned when the update begins, and all memory is
 /// taken then; after that [`next`](WriterCore::next) tells one store and [`did`](WriterCore::did)
-/// is told that it was made. One update is in hand at a time.
+/// is told that it was made. One update is pending at a time.
 #[derive(Drop)]
 pub struct WriterCore<O: TreeOrder> {
     layout: Layout,
@@ -46,7 +46,7 @@ pub struct WriterCore<O: TreeOrder> {
 impl<O: TreeOrder> Model for WriterCore<O> {
     ghost use Rattle.std.specs.Prelude.{◌≤◌, vec_capacity};
     ghost use Rattle.word_arena.specs.Layouts.{capacity_of, limit_of};
-    ghost use Rattle.rb_words.specs.Mirrors.{second};
+    ghost use Rattle.rb_words.specs.Mirrors.{second_picture};
     ghost use Rattle.latch_core.specs.WriterViews.{WriterView, writer_code};
     ghost use Rattle.latch_core.specs.Writers.{AreInStep};
 
@@ -61,11 +61,11 @@ impl<O: TreeOrder> Model for WriterCore<O> {
       table = w.shape.table;
       zero_tree = w.shape.tree;
       one_tree = w.shape.tree;
-      left = w.plan.left;
+      stores_left = w.plan.stores_left;
     } };
 
     ghost invariant = { λ w.
-        AreInStep (capacity_of w.layout) w.shape (second w.shape) w.free.items w.plan.left
+        AreInStep (capacity_of w.layout) w.shape (second_picture w.shape) w.free.items w.plan.stores_left
         × (capacity_of w.layout ≤ vec_capacity w.free) };
 }
 
@@ -77,7 +77,7 @@ impl<O: TreeOrder> WriterCore<O> {
     pub fn open(alloc: Global, l: Layout, start: u64) -> Result<Self, Refusal>
         ensures opened { IfOk result (λ w. w ≡ opening_writer l start) }
         ensures may { IfOk result (λ w. MayOpen l start) }
-        ensures pictures { IfOk result (λ w. Pictures w (opening_latch (capacity_of l) start)) }
+        ensures pictures { IfOk result (λ w. RepresentsLatch w (opening_latch (capacity_of l) start)) }
         ensures refusal { IfErr result (IsOpeningRefused l start) }
     {
         if start % 2 == 1 || start > l.limit() {
@@ -97,13 +97,13 @@ impl<O: TreeOrder> WriterCore<O> {
     /// stay, and the nodes that come in addition are free.
     ///
     /// The list of free nodes gets its memory here. Whoever keeps the words puts seven words of 0
-    /// behind them for each new node. Refused by [`Refusal::UpdateInHand`], then by
+    /// after them for each new node. Refused by [`Refusal::UpdateInHand`], then by
     /// [`Refusal::BadCapacity`] where the layout has fewer nodes or a smaller greatest sequence,
     /// and last by [`Refusal::OutOfMemory`]; a refusal changes nothing.
     pub fn widen(&mut self, l: Layout) -> Result<(), Refusal>
         ensures accepted { OnOk result (why_not_widened self.old l ≡ None) }
         ensures widened { OnOk result (self.new ≡ widened_writer self.old l) }
-        ensures pictures { OnOk result (PicturesWidened self.old self.new) }
+        ensures pictures { OnOk result (RepresentsWidened self.old self.new) }
         ensures refusal { IfErr result (IsWideningRefused self.old l) }
         ensures unchanged { OnErr result (self.new ≡ self.old) }
     {
@@ -130,7 +130,7 @@ impl<O: TreeOrder> WriterCore<O> {
         }
     }
 
-    /// Takes an update in hand, and answers how many stores it takes.
+    /// Begins an update, and returns how many stores it takes.
     ///
     /// The stores are planned and all memory is taken here. Refused by [`Refusal::UpdateInHand`],
     /// then by [`Refusal::BadItem`], then by [`Refusal::Overlap`] or [`Refusal::NoSuchItem`], by
@@ -138,13 +138,13 @@ impl<O: TreeOrder> WriterCore<O> {
     /// refusal changes nothing.
     pub fn begin(&mut self, u: Update) -> Result<u64, Refusal>
         ensures accepted { IfOk result (λ left. why_refused O.order self.old u ≡ None) }
-        ensures begun { IfOk result (λ left. (left ≡ length self.new.left)
+        ensures begun { IfOk result (λ left. (left ≡ length self.new.stores_left)
             × HasBegun O.order self.old u self.new) }
         ensures refusal { IfErr result (IsRefusedBy O.order self.old u) }
         ensures unchanged { OnErr result (self.new ≡ self.old) }
         ensures same { (self.new.capacity ≡ self.old.capacity)
             × (self.new.limit ≡ self.old.limit) × (self.new.sequence ≡ self.old.sequence) }
-        ensures pictured { RefusesAsPictured O.order self.old u }
+        ensures pictured { RefusesAsRepresented O.order self.old u }
     {
         self.begin_from(&u)
     }
@@ -152,13 +152,13 @@ impl<O: TreeOrder> WriterCore<O> {
     /// The same for a caller that keeps its update.
     pub fn begin_from(&mut self, u: &Update) -> Result<u64, Refusal>
         ensures accepted { IfOk result (λ left. why_refused O.order self.old u.now ≡ None) }
-        ensures begun { IfOk result (λ left. (left ≡ length self.new.left)
+        ensures begun { IfOk result (λ left. (left ≡ length self.new.stores_left)
             × HasBegun O.order self.old u.now self.new) }
         ensures refusal { IfErr result (IsRefusedBy O.order self.old u.now) }
         ensures unchanged { OnErr result (self.new ≡ self.old) }
         ensures same { (self.new.capacity ≡ self.old.capacity)
             × (self.new.limit ≡ self.old.limit) × (self.new.sequence ≡ self.old.sequence) }
-        ensures pictured { RefusesAsPictured O.order self.old u.now }
+        ensures pictured { RefusesAsRepresented O.order self.old u.now }
     {
         let begun = match u {
             Update::Insert(item) => self.insert(*item),
@@ -187,10 +187,10 @@ impl<O: TreeOrder> WriterCore<O> {
         }
     }
 
-    /// Whether no update is in hand, and two flips more keep within the greatest sequence.
+    /// Whether no update is pending, and two flips more keep within the greatest sequence.
     #[inline(always)]
     fn is_ready(&self) -> bool
-        ensures { IsTrue result → (self.now.left ≡ []) × (self.now.sequence + 2 ≤ self.now.limit) }
+        ensures { IsTrue result → (self.now.stores_left ≡ []) × (self.now.sequence + 2 ≤ self.now.limit) }
     {
         self.plan.remaining() == 0 && !is_spent(self.layout, self.sequence)
     }
@@ -320,7 +320,7 @@ impl<O: TreeOrder> WriterCore<O> {
         }
     }
 
-    /// Plans to insert an item in a free node, which both copies then link. Answers whether it
+    /// Plans to insert an item in a free node, which both copies then link. Returns whether it
     /// could.
     ///
     /// The way down to the item's place tells whether it meets one of the table, so that is not
@@ -352,7 +352,7 @@ impl<O: TreeOrder> WriterCore<O> {
     }
 
     /// Plans to erase the item of a first word, if there is one: both copies leave out its node,
-    /// which is free afterwards. Answers whether it could.
+    /// which is free afterwards. Returns whether it could.
     fn erase(&mut self, a: u64) -> bool
         ensures accepted { IsTrue result → why_refused O.order self.old (Update.Erase a) ≡ None }
         ensures begun { IsTrue result → HasBegun O.order self.old (Update.Erase a) self.new }
@@ -400,14 +400,14 @@ impl<O: TreeOrder> WriterCore<O> {
         Ok(())
     }
 
-    /// The store to be made next; none where no update is in hand.
+    /// The store to be made next; none where no update is pending.
     ///
     /// Its word lies in the memory. On any words that the core pictures it is a step that a writer
     /// may make.
     #[inline(always)]
     pub fn next(&self) -> Option<Store>
         ensures which { result ≡ next_store self.now }
-        ensures some { IsSome result ↔ (0 < length self.now.left) }
+        ensures some { IsSome result ↔ (0 < length self.now.stores_left) }
         ensures within { IfSome result (λ s. s.word < words_for self.now.capacity) }
         ensures may { MayBeNext self.now result }
     {
@@ -420,10 +420,10 @@ impl<O: TreeOrder> WriterCore<O> {
         requires { IsSome (next_store self.old) }
         ensures same { (self.new.capacity ≡ self.old.capacity)
             × (self.new.limit ≡ self.old.limit) × (self.new.table ≡ self.old.table) }
-        ensures left { length self.new.left + 1 ≡ length self.old.left }
+        ensures left { length self.new.stores_left + 1 ≡ length self.old.stores_left }
         ensures stepped { (s : Store) → next_store self.old ≡ Some s
-            → self.new ≡ stepped_writer self.old s }
-        ensures pictures { LeadsFrom self.old self.new }
+            → self.new ≡ writer_after_step self.old s }
+        ensures pictures { StoresNext self.old self.new }
     {
         self.step_on();
     }
@@ -438,9 +438,9 @@ impl<O: TreeOrder> WriterCore<O> {
         ensures may { MayBeNext self.old result }
         ensures same { (self.new.capacity ≡ self.old.capacity)
             × (self.new.limit ≡ self.old.limit) × (self.new.table ≡ self.old.table) }
-        ensures left { OnSome result (length self.new.left + 1 ≡ length self.old.left) }
-        ensures stepped { IfSome result (λ s. self.new ≡ stepped_writer self.old s) }
-        ensures pictures { LeadsFrom self.old self.new }
+        ensures left { OnSome result (length self.new.stores_left + 1 ≡ length self.old.stores_left) }
+        ensures stepped { IfSome result (λ s. self.new ≡ writer_after_step self.old s) }
+        ensures pictures { StoresNext self.old self.new }
         ensures none { IfNone result (self.new ≡ self.old) }
     {
         let store = self.next()?;
@@ -448,15 +448,15 @@ impl<O: TreeOrder> WriterCore<O> {
         Some(store)
     }
 
-    /// Leaves the next store behind, and keeps the sequence that it makes.
+    /// Passes over the next store, and keeps the sequence that it makes.
     #[inline(always)]
     fn step_on(&mut self)
         requires { IsSome (next_store self.old) }
         ensures same { (self.new.capacity ≡ self.old.capacity)
             × (self.new.limit ≡ self.old.limit) × (self.new.table ≡ self.old.table) }
-        ensures left { length self.new.left + 1 ≡ length self.old.left }
+        ensures left { length self.new.stores_left + 1 ≡ length self.old.stores_left }
         ensures stepped { (s : Store) → next_store self.old ≡ Some s
-            → self.new ≡ stepped_writer self.old s }
+            → self.new ≡ writer_after_step self.old s }
     {
         let store = self.plan.advance();
         if store.word == 0 {
@@ -464,19 +464,19 @@ impl<O: TreeOrder> WriterCore<O> {
         }
     }
 
-    /// How many stores are left until the update in hand is at its end; 0 where none is in hand.
+    /// How many stores are left until the pending update is at its end; 0 where none is pending.
     pub fn remaining(&self) -> u64
-        ensures count { result ≡ length self.now.left }
-        ensures left { (l : Latch) (h : Hand) → Pictures self.now l → l.hand ≡ Some h
-            → h.left ≡ result }
+        ensures count { result ≡ length self.now.stores_left }
+        ensures left { (l : Latch) (h : PendingUpdate) → RepresentsLatch self.now l → l.pending ≡ Some h
+            → h.steps_left ≡ result }
     {
         self.plan.remaining()
     }
 
     /// The generation of the sequence.
     pub fn generation(&self) -> u64
-        ensures is { result ≡ gen self.now.sequence }
-        ensures pictured { (l : Latch) → Pictures self.now l → result ≡ gen (at l.words 0) }
+        ensures is { result ≡ generation_of self.now.sequence }
+        ensures pictured { (l : Latch) → RepresentsLatch self.now l → result ≡ generation_of (at l.words 0) }
     {
         generation(self.sequence)
     }
@@ -484,7 +484,7 @@ impl<O: TreeOrder> WriterCore<O> {
     /// Whether an item of the table after all accepted updates has this first word.
     pub fn holds(&self, a: u64) -> bool
         ensures is { result ≡ has a self.now.table }
-        ensures pictured { (l : Latch) → Pictures self.now l → result ≡ has a l.table }
+        ensures pictured { (l : Latch) → RepresentsLatch self.now l → result ≡ has a l.newest_table }
     {
         self.shape.has(a)
     }
@@ -492,7 +492,7 @@ impl<O: TreeOrder> WriterCore<O> {
     /// How many items the table after all accepted updates has.
     pub fn len(&self) -> u32
         ensures is { result ≡ length self.now.table }
-        ensures pictured { (l : Latch) → Pictures self.now l → result ≡ length l.table }
+        ensures pictured { (l : Latch) → RepresentsLatch self.now l → result ≡ length l.newest_table }
     {
         self.shape.len()
     }
@@ -521,10 +521,10 @@ fn reserve_all<O: TreeOrder>(
     plan: &mut Plan,
     size: usize,
 ) -> Result<Vec<Store>, Refusal>
-    requires none_left { plan.old.left ≡ [] }
+    requires none_left { plan.old.stores_left ≡ [] }
     requires size { size ≤ 2 * 65536 }
     ensures kept { shape.new ≡ record shape.old { room = shape.new.room } }
-    ensures plan_kept { plan.new.left ≡ [] }
+    ensures plan_kept { plan.new.stores_left ≡ [] }
     ensures room { OnOk result (size ≤ shape.new.room) }
     ensures list_room { OnOk result (STORES ≤ vec_capacity planned.new) }
     ensures plan_room { OnOk result (2 * (size * STORES) + 2 ≤ plan.new.room) }

@@ -10,12 +10,12 @@ use Rattle.latch_steps.specs.declared.traces.Trace.{Trace}
 use Rattle.latch_steps.specs.Runs.{Moment, Done, last_of, opening}
 use Rattle.latch_steps.specs.Near.{AreShallow}
 use Rattle.latch_steps.specs.Expands.{Expand}
-use Rattle.latch_steps.specs.Worlds.{Shows}
+use Rattle.latch_steps.specs.Worlds.{RepresentsMoment}
 use Rattle.latch_steps.specs.Promises.{IsSafeTrace, IsQuietTrace, IsNearTrace}
 use Rattle.latch_steps.specs.Recorders.{IsNew, IsWhole, Records, ObeysFromAny}
-use Rattle.latch_steps.proofs.Recording.{records_none, records_append, trace_of, few_done, expand_push}
-use Rattle.latch_steps.proofs.SafeRuns.{safe}
-use Rattle.latch_steps.proofs.Patient.{quiet, near}
+use Rattle.latch_steps.proofs.RecorderLemmas.{records_none, records_append, trace_of, few_done, expand_push}
+use Rattle.latch_steps.proofs.SafeRunLemmas.{safe}
+use Rattle.latch_steps.proofs.PatienceLemmas.{quiet, near}
 
 -- a recorder did what these commands ask for
 pub record Obeyed {O K : Type 0} (o : Order K) (keeps : Bool) (w : Moment K) (old new : Recorder O K)
@@ -25,7 +25,7 @@ pub record Obeyed {O K : Type 0} (o : Order K) (keeps : Bool) (w : Moment K) (ol
   pub expands : Expand w commands run
 
 module _ {O K : Type 0} (o : Order K) (keeps : Bool) (w : Moment K) (old : Recorder O K) where
-  pub obeyed_none : Shows o old.world w → Obeyed o keeps w old old []
+  pub obeyed_none : RepresentsMoment o old.world w → Obeyed o keeps w old old []
   obeyed_none s = record { run = []; records = records_none o keeps old w s; expands = refl }
 
   -- one command more of a list

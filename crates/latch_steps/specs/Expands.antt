@@ -4,56 +4,56 @@ use Rattle.std.specs.FinMap.{get}
 use Rattle.latch_steps.specs.declared.events.Event.{Event}
 use Rattle.latch_steps.specs.declared.events.Event.TheVariants.{Begin, Write, Start, Read}
 use Rattle.latch_steps.specs.declared.commands.Command.{Command}
-use Rattle.latch_steps.specs.declared.commands.Command.TheVariants.{Begin as ToBegin, Write as ToWrite, WriteFlip, WriteEnd, Start as ToStart, Read as ToRead}
+use Rattle.latch_steps.specs.declared.commands.Command.TheVariants.{Begin as BeginCommand, Write as WriteCommand, WriteFlip, WriteEnd, Start as StartCommand, Read as ReadCommand}
 use Rattle.latch_steps.specs.declared.replies.Reply.{Reply}
-use Rattle.latch_steps.specs.declared.replies.Reply.TheVariants.{Returned as Gave}
-use Rattle.latch_core.specs.Latches.{Hand}
-use Rattle.latch_steps.specs.Runs.{LookupInHand, Moment, Done, last_of}
+use Rattle.latch_steps.specs.declared.replies.Reply.TheVariants.{Returned as ReturnedReply}
+use Rattle.latch_core.specs.Latches.{PendingUpdate}
+use Rattle.latch_steps.specs.Runs.{PendingLookup, Moment, Done, last_of}
 use Rattle.latch_steps.specs.Quiet.{is_flip}
 
 -- a command repeats one event
 abbrev pub event_of : {K : Type 0} → Command K → Event K
-event_of (ToBegin u) = Begin u
-event_of (ToWrite most) = Write
+event_of (BeginCommand u) = Begin u
+event_of (WriteCommand most) = Write
 event_of WriteFlip = Write
 event_of WriteEnd = Write
-event_of (ToStart r k) = Start r k
-event_of (ToRead r most) = Read r
+event_of (StartCommand r k) = Start r k
+event_of (ReadCommand r most) = Read r
 
--- with nothing in hand the writer makes no step; with an update in hand it has so many left
-abbrev pub writes_within : Option Hand → ℕ → ℕ
+-- with no pending update the writer makes no step; with a pending update it has so many left
+abbrev pub writes_within : Option PendingUpdate → ℕ → ℕ
 writes_within None most = 0
 writes_within (Some h) most = most
 
-abbrev pub writes_left : Option Hand → ℕ
+abbrev pub writes_left : Option PendingUpdate → ℕ
 writes_left None = 0
-writes_left (Some h) = h.left
+writes_left (Some h) = h.steps_left
 
--- a reader without a lookup in hand is refused once
-abbrev pub reads_within : {K : Type 0} → Option (LookupInHand K) → ℕ → ℕ
+-- a reader without a pending lookup is refused once
+abbrev pub reads_within : {K : Type 0} → Option (PendingLookup K) → ℕ → ℕ
 reads_within None most = 1
 reads_within (Some l) most = most
 
 -- how often it repeats the event at most, from a moment
 abbrev pub most_of : {K : Type 0} → Moment K → Command K → ℕ
-most_of w (ToBegin u) = 1
-most_of w (ToWrite most) = writes_within w.latch.hand most
-most_of w WriteFlip = writes_left w.latch.hand
-most_of w WriteEnd = writes_left w.latch.hand
-most_of w (ToStart r k) = 1
-most_of w (ToRead r most) = reads_within (get w.lookups r) most
+most_of w (BeginCommand u) = 1
+most_of w (WriteCommand most) = writes_within w.latch.pending most
+most_of w WriteFlip = writes_left w.latch.pending
+most_of w WriteEnd = writes_left w.latch.pending
+most_of w (StartCommand r k) = 1
+most_of w (ReadCommand r most) = reads_within (get w.lookups r) most
 
 -- a lookup returned
 abbrev pub is_return : {K : Type 0} → Reply K → Bool
-is_return (Gave x) = true
+is_return (ReturnedReply x) = true
 is_return _ = false
 
 -- whether this reply, with the moment after it, ends the command before that
 abbrev pub ends : {K : Type 0} → Command K → Reply K → Moment K → Bool
-ends (ToWrite most) reply w = is_none w.latch.hand
-ends WriteFlip reply w = is_flip reply || is_none w.latch.hand
-ends WriteEnd reply w = is_none w.latch.hand
-ends (ToRead r most) reply w = is_return reply
+ends (WriteCommand most) reply w = is_none w.latch.pending
+ends WriteFlip reply w = is_flip reply || is_none w.latch.pending
+ends WriteEnd reply w = is_none w.latch.pending
+ends (ReadCommand r most) reply w = is_return reply
 ends _ reply w = false
 
 -- the command's event again and again, up to the first that ends it, or so many where that takes

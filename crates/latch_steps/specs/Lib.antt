@@ -23,7 +23,7 @@ pub mod Expands
 pub mod Lookups
 -- a world, and one after a history of accepted updates
 pub mod Worlds
--- one event, and want of memory
+-- one event, and memory that runs out
 pub mod WorldSteps
 -- an update settled, and a key found, at once
 pub mod AtOnce

@@ -5,21 +5,21 @@ use Rattle.order_laws.specs.declared.items.Item.{Item}
 use Rattle.order_laws.specs.Orders.{Order}
 use Rattle.order_laws.specs.Tables.{look}
 use Rattle.latch_core.specs.declared.updates.Update.{Update}
-use Rattle.latch_core.specs.Sequences.{gen}
+use Rattle.latch_core.specs.Sequences.{generation_of}
 use Rattle.latch_core.specs.Histories.{replay}
 use Rattle.latch_steps.specs.declared.commands.Command.{Command}
 use Rattle.latch_steps.specs.declared.events.Event.{Event}
 use Rattle.latch_steps.specs.declared.events.Event.TheVariants.{Write, Read}
 use Rattle.latch_steps.specs.declared.replies.Returned.{Returned}
 use Rattle.latch_steps.specs.declared.replies.Reply.{Reply}
-use Rattle.latch_steps.specs.declared.replies.Reply.TheVariants.{Returned as Gave}
+use Rattle.latch_steps.specs.declared.replies.Reply.TheVariants.{Returned as ReturnedReply}
 use Rattle.latch_steps.specs.Runs.{Moment, Done, accepted}
 use Rattle.latch_steps.specs.Quiet.{most_loads}
 use Rattle.latch_steps.specs.Expands.{event_of, IsPartAndRest}
 
--- while an update is in hand only the writer steps, and while a reader has a lookup in hand only it
+-- while an update is pending only the writer steps, and while a reader has a pending lookup only it
 pub record IsPlainEvent {K : Type 0} (w : Moment K) (e : Event K) : Type 0 where
-  pub writer : is_some w.latch.hand ≡ true → e ≡ Write
+  pub writer : is_some w.latch.pending ≡ true → e ≡ Write
   pub readers : (r : ℕ) → is_some (get w.lookups r) ≡ true → e ≡ Read r
 
 -- so it is at each event of a run from a moment
@@ -40,16 +40,16 @@ pub record IsLookIn {K : Type 0} (o : Order K) (table : List Item) (g : ℕ) (x 
     : Type 0 where
   pub answer : x.answer ≡ look o x.key table
   pub generation : x.generation ≡ g
-  pub tries : x.tries ≡ 1
+  pub attempts : x.attempts ≡ 1
   pub loads : x.loads ≤ most_loads table
 
 -- that of the table after these updates, with their generation
 abbrev pub IsLookAfter : {K : Type 0} → Order K → ℕ → List Update → Returned K → Type 0
-IsLookAfter o start us x = IsLookIn o (replay o [] us) (gen start + length us) x
+IsLookAfter o start us x = IsLookIn o (replay o [] us) (generation_of start + length us) x
 
 -- nothing is said of other replies
 abbrev pub IsLookReply : {K : Type 0} → Order K → ℕ → List Update → Reply K → Type 0
-IsLookReply o start us (Gave x) = IsLookAfter o start us x
+IsLookReply o start us (ReturnedReply x) = IsLookAfter o start us x
 IsLookReply o start us _ = Unit {0}
 
 -- each lookup that returned is so after all updates that were accepted before it

@@ -3,7 +3,7 @@ use Rattle.std.specs.Prelude.{◌≡◌, ℕ, ◌<◌, ◌^◌, List, [], length
 use Rattle.order_laws.specs.Orders.{Order}
 use Rattle.word_arena.specs.declared.layouts.Layout.{Layout}
 use Rattle.word_arena.specs.Layouts.{capacity_of}
-use Rattle.latch_core.specs.Sequences.{stable}
+use Rattle.latch_core.specs.Sequences.{stable_copy_of}
 use Rattle.latch_steps.specs.declared.commands.Command.{Command}
 use Rattle.latch_steps.specs.declared.traces.Trace.{Trace}
 use Rattle.latch_steps.specs.declared.traces.Notes.{Notes}
@@ -65,7 +65,7 @@ pub record AreNotesOfCommands {O K : Type 0} (o : Order K) (l : Layout) (start :
 -- limit
 abbrev pub AllRunsAre : {K : Type 0} → Order K → (ℕ → ℕ → List (Done K) → Type 0) → Type 0
 AllRunsAre {K} o Right =
-    (n limit start : ℕ) (run : List (Done K)) → stable start ≡ 0 → length run < 2 ^ 64
+    (n limit start : ℕ) (run : List (Done K)) → stable_copy_of start ≡ 0 → length run < 2 ^ 64
     → Run (machine o n limit) (opening n start) run → Right n start run
 
 -- every such run is safe
@@ -79,7 +79,7 @@ AllRunsAreQuiet o = AllRunsAre o (λ n start run. IsQuiet o start run)
 -- and every run from an even sequence, however long, is exact where it is plain
 abbrev pub AllPlainRunsAreExact : {K : Type 0} → Order K → Type 0
 AllPlainRunsAreExact {K} o =
-    (n limit start : ℕ) (run : List (Done K)) → stable start ≡ 0
+    (n limit start : ℕ) (run : List (Done K)) → stable_copy_of start ≡ 0
     → Run (machine o n limit) (opening n start) run → IsExactWherePlain o n start run
 
 -- whatever run carries out plain commands is plain

@@ -8,7 +8,7 @@ use Rattle.latch_core.specs.Histories.{current_table}
 use Rattle.latch_steps.specs.declared.events.Event.{Event}
 use Rattle.latch_steps.specs.declared.events.Event.TheVariants.{Start, Read}
 use Rattle.latch_steps.specs.declared.replies.Reply.{Reply}
-use Rattle.latch_steps.specs.declared.replies.Reply.TheVariants.{Wrote, Started, Loaded, Returned as Gave}
+use Rattle.latch_steps.specs.declared.replies.Reply.TheVariants.{Wrote, Started, Loaded, Returned as ReturnedReply}
 use Rattle.latch_steps.specs.Runs.{Done, history}
 
 -- whether the writer made a step
@@ -43,7 +43,7 @@ replies_to r (d ∷ run) =
 abbrev pub ReturnsWithin : {K : Type 0} → ℕ → List (Reply K) → Type 0
 ReturnsWithin most [] = Unit {0}
 ReturnsWithin most (Loaded ∷ rest) = (1 < most) × ReturnsWithin (most - 1) rest
-ReturnsWithin most (Gave x ∷ rest) = x.tries ≡ 1
+ReturnsWithin most (ReturnedReply x ∷ rest) = x.attempts ≡ 1
 ReturnsWithin most (_ ∷ rest) = ⊥
 
 -- a lookup that was started returns so, within so many loads, if the writer makes no step before
@@ -69,7 +69,7 @@ flips_between run i j = count_by (λ d. is_flip d.reply) (take (j - i) (drop i r
 
 -- a lookup tries again at most once for each flip between its start and its last load
 abbrev pub IsPatientReply : {K : Type 0} → List (Done K) → Reply K → Type 0
-IsPatientReply run (Gave x) = x.tries ≤ 1 + flips_between run x.first x.last
+IsPatientReply run (ReturnedReply x) = x.attempts ≤ 1 + flips_between run x.first x.last
 IsPatientReply run _ = Unit {0}
 
 -- both, of a whole run

@@ -8,13 +8,13 @@ use Rattle.order_laws.specs.Orders.{Order}
 use Rattle.word_arena.specs.declared.layouts.Layout.{Layout}
 use Rattle.word_arena.specs.Layouts.{capacity_of}
 use Rattle.latch_core.specs.Writers.{MayOpen}
-use Rattle.latch_steps.specs.Runs.{Moment, Done, did, last_of, opening}
+use Rattle.latch_steps.specs.Runs.{Moment, Done, step_done, last_of, opening}
 use Rattle.latch_steps.specs.Steps.{Run}
-use Rattle.latch_steps.specs.Worlds.{Shows, layout_in, machine_in, HasSequence, HasFewEvents}
+use Rattle.latch_steps.specs.Worlds.{RepresentsMoment, layout_in, machine_in, HasSequence, CountsExactly}
 use Rattle.latch_steps.specs.Traces.{kept, events_of, notes_of}
 use Rattle.latch_steps.specs.Expands.{Repeats, event_of, ends, most_of, reads_within}
 use Rattle.latch_steps.specs.declared.commands.Command.{Command}
-use Rattle.latch_steps.specs.declared.commands.Command.TheVariants.{Read as ToRead}
+use Rattle.latch_steps.specs.declared.commands.Command.TheVariants.{Read as ReadCommand}
 use Rattle.latch_steps.specs.declared.traces.Notes.{Notes}
 use Rattle.latch_steps.specs.declared.traces.Recorder.{Recorder}
 use Rattle.latch_steps.specs.declared.traces.Trace.{Trace}
@@ -25,7 +25,7 @@ use Rattle.latch_steps.specs.Near.{AreShallow}
 pub record IsNew {O K : Type 0} (o : Order K) (l : Layout) (start : ℕ) (r : Recorder O K)
     : Type 0 where
   pub layout : layout_in r.world ≡ l
-  pub shows : Shows o r.world (opening (capacity_of l) start)
+  pub shows : RepresentsMoment o r.world (opening (capacity_of l) start)
   pub events : r.events.items ≡ []
   pub notes : r.notes.items ≡ []
   pub opened : MayOpen l start
@@ -38,7 +38,7 @@ pub record IsWhole {O K : Type 0} (o : Order K) (r : Recorder O K) (t : Trace O 
   pub sequence : HasSequence o r.world t.sequence
 
 pub record AreWhole {O K : Type 0} (o : Order K) (r : Recorder O K) (t : Notes O K) : Type 0 where
-  pub few : HasFewEvents o r.world
+  pub few : CountsExactly o r.world
   pub notes : t.notes.items ≡ r.notes.items
   pub sequence : HasSequence o r.world t.sequence
 
@@ -50,24 +50,24 @@ pub record Records {O K : Type 0} (o : Order K) (keeps : Bool) (old : Recorder O
   pub steps : Run (machine_in o old.world) w run
   pub events : new.events.items ≡ old.events.items ++ kept keeps (events_of run)
   pub notes : new.notes.items ≡ old.notes.items ++ notes_of run
-  pub shows : Shows o new.world (last_of w run)
+  pub shows : RepresentsMoment o new.world (last_of w run)
   pub shallow : AreShallow (capacity_of (layout_in old.world)) run
 
 -- one event, recorded from each moment that the world shows
-abbrev pub RecordsOne :
+abbrev pub RecordsEvent :
     {O K : Type 0} → Order K → Bool → Event K → Recorder O K → Recorder O K → Reply K → Type 0
-RecordsOne {O} {K} o keeps e old new reply =
-    (w : Moment K) → Shows o old.world w
-    → (next : Moment K) × Records o keeps old w new (did e reply next ∷ [])
+RecordsEvent {O} {K} o keeps e old new reply =
+    (w : Moment K) → RepresentsMoment o old.world w
+    → (next : Moment K) × Records o keeps old w new (step_done e reply next ∷ [])
 
 -- an event is appended so many times, where events are kept
-abbrev pub KeepsTimes :
+abbrev pub AppendsCopies :
     {K : Type 0} → Bool → Event K → ℕ → List (Event K) → List (Event K) → Type 0
-KeepsTimes keeps e times old new = new ≡ old ++ kept keeps (replicate times e)
+AppendsCopies keeps e times old new = new ≡ old ++ kept keeps (replicate times e)
 
 -- whether this step of the writer, with the moment after it, is its last one for now
 abbrev pub ends_writing : {K : Type 0} → Bool → Reply K → Moment K → Bool
-ends_writing to_flip reply w = (to_flip && is_flip reply) || is_none w.latch.hand
+ends_writing to_flip reply w = (to_flip && is_flip reply) || is_none w.latch.pending
 
 -- a command that asks for such steps
 abbrev pub IsWriting : {K : Type 0} → Bool → Command K → Type 0
@@ -86,21 +86,21 @@ Obeys {O} {K} o keeps c old new w most =
 abbrev pub ObeysFromAny :
     {O K : Type 0} → Order K → Bool → Command K → Recorder O K → Recorder O K → Type 0
 ObeysFromAny {O} {K} o keeps c old new =
-    (w : Moment K) → Shows o old.world w → Obeys o keeps c old new w (most_of w c)
+    (w : Moment K) → RepresentsMoment o old.world w → Obeys o keeps c old new w (most_of w c)
 
 abbrev pub ObeysWriting :
     {O K : Type 0} → Order K → Bool → Bool → ℕ → Recorder O K → Recorder O K → Type 0
 ObeysWriting {O} {K} o keeps to_flip most old new =
     (c : Command K) → IsWriting to_flip c
-    → (w : Moment K) → Shows o old.world w → Obeys o keeps c old new w most
+    → (w : Moment K) → RepresentsMoment o old.world w → Obeys o keeps c old new w most
 
 abbrev pub ObeysReading :
     {O K : Type 0} → Order K → Bool → ℕ → ℕ → Recorder O K → Recorder O K → Type 0
 ObeysReading {O} {K} o keeps r most old new =
-    (w : Moment K) → Shows o old.world w
-    → Obeys o keeps (ToRead r most) old new w (reads_within (get w.lookups r) most)
+    (w : Moment K) → RepresentsMoment o old.world w
+    → Obeys o keeps (ReadCommand r most) old new w (reads_within (get w.lookups r) most)
 
 -- whether the writer's steps end with this one
 abbrev pub EndsAt : {O K : Type 0} → Order K → Recorder O K → Bool → Reply K → Bool → Type 0
 EndsAt {O} {K} o c to_flip reply whether =
-    (w : Moment K) → Shows o c.world w → whether ≡ ends_writing to_flip reply w
+    (w : Moment K) → RepresentsMoment o c.world w → whether ≡ ends_writing to_flip reply w

@@ -9,19 +9,19 @@ use Rattle.latch_steps.specs.declared.replies.Reply.{Reply}
 use Rattle.latch_steps.specs.declared.replies.Reply.TheVariants.{Begun}
 use Rattle.latch_core.specs.Latches.{Latch, opening_latch}
 
--- a lookup in hand: its key, how many events there were up to and with its start, how many loads
+-- a pending lookup: its key, how many events there were up to and with its start, how many loads
 -- and attempts it has made, and what it has loaded in this attempt
-pub record LookupInHand (K : Type 0) : Type 0 where
+pub record PendingLookup (K : Type 0) : Type 0 where
   pub key : K
   pub first : ℕ
   pub loads : ℕ
-  pub tries : ℕ
+  pub attempts : ℕ
   pub values : List ℕ
 
--- the latch, the lookups in hand by reader, and how many events there were
+-- the latch, the pending lookups by reader, and how many events there were
 pub record Moment (K : Type 0) : Type 0 where
   pub latch : Latch
-  pub lookups : FinMap nat_cmp (LookupInHand K)
+  pub lookups : FinMap nat_cmp (PendingLookup K)
   pub events : ℕ
 
 -- before any event: an empty table of n nodes, with its sequence at the start
@@ -35,10 +35,10 @@ pub record Done (K : Type 0) : Type 0 where
   pub after : Moment K
 
 -- so written in one word
-abbrev pub did : {K : Type 0} → Event K → Reply K → Moment K → Done K
-did e reply w = record { event = e; reply = reply; after = w }
+abbrev pub step_done : {K : Type 0} → Event K → Reply K → Moment K → Done K
+step_done e reply w = record { event = e; reply = reply; after = w }
 
--- the update that an event took in hand, if it did
+-- the update that an event began, if it did
 abbrev pub accepted : {K : Type 0} → Event K → Reply K → List Update
 accepted (Begin u) (Begun left) = u ∷ []
 accepted _ _ = []

@@ -4,11 +4,11 @@ use Rattle.std.specs.List.{AllByRecursion}
 use Rattle.order_laws.specs.Orders.{Order}
 use Rattle.order_laws.specs.Tables.{look}
 use Rattle.word_arena.specs.Words.{at}
-use Rattle.latch_core.specs.Sequences.{gen}
+use Rattle.latch_core.specs.Sequences.{generation_of}
 use Rattle.latch_core.specs.Histories.{current_table}
 use Rattle.latch_steps.specs.declared.replies.Returned.{Returned}
 use Rattle.latch_steps.specs.declared.replies.Reply.{Reply}
-use Rattle.latch_steps.specs.declared.replies.Reply.TheVariants.{Returned as Gave}
+use Rattle.latch_steps.specs.declared.replies.Reply.TheVariants.{Returned as ReturnedReply}
 use Rattle.latch_steps.specs.Runs.{Done, opening, history, moment_at}
 
 -- a lookup that returned gives what was current after so many events of a run from the opening, no
@@ -22,7 +22,7 @@ pub record IsCurrent {K : Type 0} (o : Order K) (n start : ℕ) (run : List (Don
   pub not_after : events ≤ x.last
   pub in_run : events ≤ length run
   pub generation_is :
-      x.generation ≡ gen (at (moment_at (opening n start) run events).latch.words 0)
+      x.generation ≡ generation_of (at (moment_at (opening n start) run events).latch.words 0)
   pub answer_is :
       x.answer
       ≡ look o x.key
@@ -30,7 +30,7 @@ pub record IsCurrent {K : Type 0} (o : Order K) (n start : ℕ) (run : List (Don
 
 -- nothing is said of other replies
 abbrev pub IsSafeReply : {K : Type 0} → Order K → ℕ → ℕ → List (Done K) → Reply K → Type 0
-IsSafeReply o n start run (Gave x) = IsCurrent o n start run x
+IsSafeReply o n start run (ReturnedReply x) = IsCurrent o n start run x
 IsSafeReply o n start run _ = Unit {0}
 
 -- every lookup that returned is right

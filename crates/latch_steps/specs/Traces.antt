@@ -2,9 +2,9 @@
 use Rattle.std.specs.Prelude.{◌≡◌, ℕ, Bool, true, false, List, [], ◌∷◌, Option, Some, None, filter_map}
 use Rattle.latch_steps.specs.declared.events.Event.{Event}
 use Rattle.latch_steps.specs.declared.replies.Reply.{Reply}
-use Rattle.latch_steps.specs.declared.replies.Reply.TheVariants.{Returned as Gave, Refused}
+use Rattle.latch_steps.specs.declared.replies.Reply.TheVariants.{Returned as ReturnedReply, Refused}
 use Rattle.latch_steps.specs.declared.replies.Note.{Note}
-use Rattle.latch_steps.specs.declared.replies.Note.TheVariants.{Returned as ToNote, Refused as ToRefuse}
+use Rattle.latch_steps.specs.declared.replies.Note.TheVariants.{Returned as ReturnedNote, Refused as RefusedNote}
 use Rattle.order_laws.specs.Orders.{Order}
 use Rattle.word_arena.specs.Words.{at}
 use Rattle.word_arena.specs.declared.layouts.Layout.{Layout}
@@ -26,8 +26,8 @@ kept false xs = []
 
 -- what a reply is noted as: a lookup that returned, or a refusal
 abbrev pub note_of : {K : Type 0} → Reply K → Option (Note K)
-note_of (Gave x) = Some (ToNote x)
-note_of (Refused why) = Some (ToRefuse why)
+note_of (ReturnedReply x) = Some (ReturnedNote x)
+note_of (Refused why) = Some (RefusedNote why)
 note_of _ = None
 
 -- and the notes of a run, in order

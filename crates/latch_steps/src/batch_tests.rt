@@ -48,10 +48,10 @@ fn a_batch_is_seen_whole_or_not_at_all(rt: HostRuntime) -> Result<(), Fail> {
     ];
     assert_eq!(rt; trace.notes.len(), told.len());
     for (note, (key, tag, generation)) in trace.notes.iter().zip(&told) {
-        let (_, noted_key, noted_tag, noted_generation, loads, tries) = line_of(note);
+        let (_, noted_key, noted_tag, noted_generation, loads, attempts) = line_of(note);
         assert!(rt; (noted_key, noted_tag, noted_generation) == (*key, *tag, *generation));
         assert!(rt; loads <= 11);
-        assert_eq!(rt; tries, 1);
+        assert_eq!(rt; attempts, 1);
     }
     Ok(())
 }
@@ -101,7 +101,7 @@ fn found(rt: &impl Abort, world: &mut World<HalfOpen>, places: &[u64]) -> Result
     let mut count = 0usize;
     for place in places {
         let x = world.find_now(1, 16u64.saturating_mul(*place).saturating_add(4))?;
-        assert_eq!(rt; x.tries, 1);
+        assert_eq!(rt; x.attempts, 1);
         if x.answer.is_some() {
             count = count.saturating_add(1);
         }

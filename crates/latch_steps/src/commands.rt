@@ -5,14 +5,14 @@ use latch_core::Update;
 /// A group of events of one actor.
 #[derive(Debug, PartialEq, Eq, Drop)]
 pub enum Command<K> {
-    /// The writer takes an update in hand.
+    /// The writer begins an update.
     Begin(Update),
-    /// At most this many steps of the writer, up to the end of the update in hand.
+    /// At most this many steps of the writer, up to the end of the pending update.
     Write(u32),
     /// Steps of the writer up to and with its next flip; where none remains, up to the end of the
-    /// update in hand.
+    /// pending update.
     WriteFlip,
-    /// Steps of the writer up to the end of the update in hand.
+    /// Steps of the writer up to the end of the pending update.
     WriteEnd,
     /// A reader begins a lookup of this key.
     Start(u32, K),

@@ -8,7 +8,7 @@ use order_laws::Refusal;
 /// One step of the writer or of a reader. Readers are told apart by a number.
 #[derive(Debug, PartialEq, Eq, Drop)]
 pub enum Event<K> {
-    /// The writer takes an update in hand. No word changes.
+    /// The writer begins an update. No word changes.
     Begin(Update),
     /// The writer makes one store.
     Write,

@@ -1,8 +1,8 @@
-//! A lookup in hand, and what one load makes of it.
+//! A pending lookup, and what one load makes of it.
 
 ghost use Rattle.std.specs.Prelude.{◌≡◌, ℕ};
 ghost use Rattle.word_arena.specs.Layouts.{capacity_of};
-ghost use Rattle.latch_steps.specs.Runs.{LookupInHand};
+ghost use Rattle.latch_steps.specs.Runs.{PendingLookup};
 ghost use Rattle.latch_steps.specs.Steps.{new_lookup};
 
 use crate::replies::Returned;
@@ -11,14 +11,14 @@ use latch_core::{ReaderCore, Taken};
 use order_laws::TreeOrder;
 use word_arena::Layout;
 
-/// A lookup in hand: the reader's core, the number of the event that started it, and the loads and
+/// A pending lookup: the reader's core, the number of the event that started it, and the loads and
 /// attempts so far.
 #[derive(Drop)]
 pub(crate) struct Lookup<O: TreeOrder> {
     core: ReaderCore<O>,
     first: u64,
     loads: u64,
-    tries: u64,
+    attempts: u64,
 }
 
 /// What a lookup becomes with one load.
@@ -33,7 +33,7 @@ pub(crate) enum Loaded<O: TreeOrder> {
 
 /// What some loads make of a lookup.
 pub(crate) enum Held<O: TreeOrder> {
-    /// It is in hand.
+    /// It is pending.
     Going(Lookup<O>),
     /// It is at its end.
     Returned(Returned<O::Key>),
@@ -50,7 +50,7 @@ pub(crate) struct Loads<O: TreeOrder> {
 }
 
 impl<O: TreeOrder> Lookup<O> {
-    ghost use Rattle.latch_steps.specs.Lookups.{IsLookupOf, LoadsAny};
+    ghost use Rattle.latch_steps.specs.Lookups.{IsLookupOf, LoadsFromAny};
     ghost use Rattle.latch_steps.specs.HeldLookups.{LoadsFrom};
 
     /// A lookup that has loaded nothing, begun by event number `first`.
@@ -61,7 +61,7 @@ impl<O: TreeOrder> Lookup<O> {
             core: ReaderCore::start(l, key),
             first,
             loads: 0,
-            tries: 1,
+            attempts: 1,
         }
     }
 
@@ -96,13 +96,13 @@ impl<O: TreeOrder> Lookup<O> {
     /// It is part of each loop over loads, so that these go on with a lookup that is where it was.
     #[inline(always)]
     pub(crate) fn load(self, words: &[u64], reader: u32, last: u64) -> Loaded<O>
-        ensures { LoadsAny O.order self words.now reader last result }
+        ensures { LoadsFromAny O.order self words.now reader last result }
     {
         let Lookup {
             core,
             first,
             loads,
-            tries,
+            attempts,
         } = self;
         let key = core.key();
         let value = word_at(words, core.wanted());
@@ -112,13 +112,13 @@ impl<O: TreeOrder> Lookup<O> {
                 core,
                 first,
                 loads,
-                tries,
+                attempts,
             }),
             Taken::Retrying(core) => Loaded::Retrying(Lookup {
                 core,
                 first,
                 loads,
-                tries: tries.saturating_add(1),
+                attempts: attempts.saturating_add(1),
             }),
             Taken::Returned(answer, generation) => Loaded::Returned(Returned {
                 reader,
@@ -128,7 +128,7 @@ impl<O: TreeOrder> Lookup<O> {
                 first,
                 last,
                 loads,
-                tries,
+                attempts,
             }),
         }
     }

@@ -21,19 +21,19 @@ pub struct Returned<K> {
     /// How many loads it made.
     pub loads: u64,
     /// How many attempts it made.
-    pub tries: u64,
+    pub attempts: u64,
 }
 
 /// What a step replies.
 #[derive(Clone, Copy, Debug, PartialEq, Eq, Drop)]
 pub enum Reply<K> {
-    /// The update is in hand, and takes this many steps.
+    /// The update is pending, and takes this many steps.
     Begun(u64),
     /// The writer made this store.
     Wrote(Store),
-    /// The writer has nothing in hand.
+    /// The writer has no pending update.
     Idle,
-    /// The lookup is in hand.
+    /// The lookup is pending.
     Started,
     /// The reader loaded a word.
     Loaded,

@@ -29,7 +29,7 @@ pub(crate) fn line_of(note: &Note<u64>) -> Line {
     match note {
         Note::Returned(x) => {
             let tag = x.answer.map(|found| found.tag);
-            (x.reader, x.key, tag, x.generation, x.loads, x.tries)
+            (x.reader, x.key, tag, x.generation, x.loads, x.attempts)
         }
         Note::Refused(why) => (0, why.number() as u64, None, 0, 0, 0),
     }
@@ -267,7 +267,7 @@ struct Account {
     left: u64,
     /// The sequence before the first event and after each.
     sequences: Vec<u64>,
-    /// Whether each of three readers has a lookup in hand.
+    /// Whether each of three readers has a pending lookup.
     busy: [bool; 3],
     returned: u64,
 }
@@ -386,7 +386,7 @@ fn finds(
     let x = world.find_now(3, key)?;
     assert!(rt; x.answer.map(|found| found.tag) == tag);
     assert_eq!(rt; x.generation, generation);
-    assert_eq!(rt; x.tries, 1);
+    assert_eq!(rt; x.attempts, 1);
     assert!(rt; x.loads <= 4u64.saturating_mul(items).saturating_add(3));
     Ok(())
 }

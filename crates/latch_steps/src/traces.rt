@@ -5,8 +5,8 @@ ghost use Rattle.std.specs.List.{cons_option};
 ghost use Rattle.latch_core.specs.Writers.{IsOpeningRefused};
 ghost use Rattle.latch_steps.specs.declared.events.Event.TheVariants.{Begin};
 ghost use Rattle.latch_steps.specs.Traces.{note_of};
-ghost use Rattle.latch_steps.specs.WorldSteps.{gives_up};
-ghost use Rattle.latch_steps.specs.Recorders.{KeepsTimes};
+ghost use Rattle.latch_steps.specs.WorldSteps.{is_refused_for_memory};
+ghost use Rattle.latch_steps.specs.Recorders.{AppendsCopies};
 ghost use Rattle.latch_steps.specs.Quiet.{is_flip};
 
 use crate::commands::Command;
@@ -57,9 +57,9 @@ fn note_of<K: Copy>(reply: &Reply<K>) -> Option<Note<K>>
     }
 }
 
-/// Whether a reply is for want of memory.
+/// Whether a reply says that memory ran out.
 fn gives_up<K: Copy>(reply: &Reply<K>) -> bool
-    ensures { result ≡ gives_up reply.now }
+    ensures { result ≡ is_refused_for_memory reply.now }
 {
     match reply {
         Reply::Refused(Refusal::OutOfMemory) => true,
@@ -85,7 +85,7 @@ fn keep<K: Copy, const KEEPS: bool>(
     times: u32,
 ) -> Result<(), Refusal>
     ensures kept { OnOk result
-        (KeepsTimes KEEPS event.now times events.old.items events.new.items) }
+        (AppendsCopies KEEPS event.now times events.old.items events.new.items) }
     ensures refusal { IfErr result (λ e. e ≡ Refusal.OutOfMemory) }
 {
     if KEEPS {
@@ -103,7 +103,7 @@ fn keep_beginning<K: Copy, const KEEPS: bool>(
     update: &Update,
 ) -> Result<(), Refusal>
     ensures kept { OnOk result
-        (KeepsTimes KEEPS (Begin update.now) 1 events.old.items events.new.items) }
+        (AppendsCopies KEEPS (Begin update.now) 1 events.old.items events.new.items) }
     ensures refusal { IfErr result (λ e. e ≡ Refusal.OutOfMemory) }
 {
     if KEEPS {
@@ -112,11 +112,11 @@ fn keep_beginning<K: Copy, const KEEPS: bool>(
     Ok(())
 }
 
-/// Notes a reply. Refused by [`Refusal::OutOfMemory`] alone, also where that is the reply.
+/// Notes a reply. Refused by [`Refusal::OutOfMemory`] alone, even if that is the reply.
 fn keep_note<K: Copy>(notes: &mut Vec<Note<K>>, reply: &Reply<K>) -> Result<(), Refusal>
     ensures noted { OnOk result
         (notes.new.items ≡ notes.old.items ++ cons_option (note_of reply.now) []) }
-    ensures goes_on { OnOk result (gives_up reply.now ≡ false) }
+    ensures goes_on { OnOk result (is_refused_for_memory reply.now ≡ false) }
     ensures refusal { IfErr result (λ e. e ≡ Refusal.OutOfMemory) }
 {
     if gives_up(reply) {
@@ -130,7 +130,7 @@ fn keep_note<K: Copy>(notes: &mut Vec<Note<K>>, reply: &Reply<K>) -> Result<(), 
 
 impl<O: TreeOrder> Recorder<O> {
     ghost use Rattle.latch_steps.specs.Recorders.{IsNew, IsWhole, AreWhole};
-    ghost use Rattle.latch_steps.specs.Recorders.{RecordsOne, ObeysFromAny, ObeysWriting, ObeysReading, EndsAt};
+    ghost use Rattle.latch_steps.specs.Recorders.{RecordsEvent, ObeysFromAny, ObeysWriting, ObeysReading, EndsAt};
 
     /// A world before any event, with nothing recorded, and room for so many notes.
     pub(crate) fn open(alloc: Global, l: Layout, start: u64, room: usize) -> Result<Self, Refusal>
@@ -150,7 +150,7 @@ impl<O: TreeOrder> Recorder<O> {
         &mut self,
         event: &Event<O::Key>,
     ) -> Result<Reply<O::Key>, Refusal>
-        ensures recorded { IfOk result (RecordsOne O.order KEEPS event.now self.old self.new) }
+        ensures recorded { IfOk result (RecordsEvent O.order KEEPS event.now self.old self.new) }
         ensures refusal { IfErr result (λ e. e ≡ Refusal.OutOfMemory) }
     {
         keep::<O::Key, KEEPS>(&mut self.events, event, 1)?;
@@ -159,10 +159,10 @@ impl<O: TreeOrder> Recorder<O> {
         Ok(reply)
     }
 
-    /// The writer takes an update in hand, which is recorded as an event.
+    /// The writer begins an update, which is recorded as an event.
     fn begin<const KEEPS: bool>(&mut self, update: &Update) -> Result<Reply<O::Key>, Refusal>
         ensures recorded { IfOk result
-            (RecordsOne O.order KEEPS (Begin update.now) self.old self.new) }
+            (RecordsEvent O.order KEEPS (Begin update.now) self.old self.new) }
         ensures refusal { IfErr result (λ e. e ≡ Refusal.OutOfMemory) }
     {
         keep_beginning::<O::Key, KEEPS>(&mut self.events, update)?;
@@ -208,7 +208,7 @@ impl<O: TreeOrder> Recorder<O> {
         }
     }
 
-    /// Steps of the writer, at most so many and up to the end of the update in hand; where
+    /// Steps of the writer, at most so many and up to the end of the pending update; where
     /// `to_flip`, up to the next flip.
     fn write_on<const KEEPS: bool>(&mut self, most: u64, to_flip: bool) -> Result<(), Refusal>
         ensures written { OnOk result (ObeysWriting O.order KEEPS to_flip most self.old self.new) }
@@ -230,8 +230,8 @@ impl<O: TreeOrder> Recorder<O> {
         (to_flip && is_flip(reply)) || !self.world.is_writing()
     }
 
-    /// Loads of a reader, at most so many and up to the return of its lookup. One without a lookup
-    /// in hand is refused once.
+    /// Loads of a reader, at most so many and up to the return of its lookup. One without a pending
+    /// lookup is refused once.
     fn read_on<const KEEPS: bool>(&mut self, reader: u32, most: u32) -> Result<(), Refusal>
         ensures read { OnOk result (ObeysReading O.order KEEPS reader most self.old self.new) }
         ensures refusal { IfErr result (λ e. e ≡ Refusal.OutOfMemory) }

@@ -1,4 +1,4 @@
-//! The words, their writer and the lookups in hand, one step at a time.
+//! The words, their writer and the pending lookups, one step at a time.
 
 ghost use Rattle.std.specs.Prelude.{◌≡◌, ℕ, ◌-◌, ◌^◌, ◌<◌, true, List, [], ◌++◌, length, IfOk, IfErr, IfSome, IfNone, OnSome, OnOk, is_some};
 ghost use Rattle.word_arena.specs.Words.{at};
@@ -18,11 +18,11 @@ use std::alloc::Global;
 use std::collections::BTreeMap;
 use word_arena::{Layout, Store};
 
-/// The words of a latched tree with their writer, the lookups in hand by reader, and the count of
+/// The words of a latched tree with their writer, the pending lookups by reader, and the count of
 /// events, which stays at the greatest `u64`.
 ///
 /// `step` does one event, `settle` and `find_now` as many as they need. A refused event is counted
-/// too, unless it was refused for want of memory, which changes nothing.
+/// too, unless it was refused because memory ran out, which changes nothing.
 #[derive(Drop)]
 pub struct World<O: TreeOrder> {
     layout: Layout,
@@ -33,11 +33,11 @@ pub struct World<O: TreeOrder> {
 }
 
 impl<O: TreeOrder> World<O> {
-    ghost use Rattle.latch_steps.specs.Worlds.{Shows, IsAtRest, layout_in, IsAfter, StaysAfter, HasSequence, HasLeft, HasFewEvents};
-    ghost use Rattle.latch_steps.specs.WorldSteps.{Does, MayDo, Steps};
+    ghost use Rattle.latch_steps.specs.Worlds.{RepresentsMoment, IsAtRest, layout_in, IsAfter, StaysAfter, HasSequence, HasStepsLeft, CountsExactly};
+    ghost use Rattle.latch_steps.specs.WorldSteps.{Does, MayDo, IsWorldStep};
     ghost use Rattle.latch_steps.specs.Lookups.{lookup_at};
     ghost use Rattle.latch_steps.specs.HeldLookups.{ReadsFromAny};
-    ghost use Rattle.latch_steps.specs.AtOnce.{SettlesFromAny, IsSettledFromAny, FindsFromAny, IsFoundFromAny, IsNearFromAny, KeepsUpdates, IsNotBegunFromAny, LooksUp, NeverLooksUp};
+    ghost use Rattle.latch_steps.specs.AtOnce.{SettlesFromAny, IsSettledFromAny, FindsFromAny, IsFoundFromAny, IsNearFromAny, KeepsUpdates, IsNotBegunFromAny, LooksUp, HasNoAnswer};
 
     /// A world before any event, with its sequence at `start`.
     ///
@@ -45,7 +45,7 @@ impl<O: TreeOrder> World<O> {
     /// by [`Refusal::OutOfMemory`].
     pub fn open(alloc: Global, l: Layout, start: u64) -> Result<Self, Refusal>
         ensures layout { IfOk result (λ w. layout_in w ≡ l) }
-        ensures shows { IfOk result (λ w. Shows O.order w (opening (capacity_of l) start)) }
+        ensures shows { IfOk result (λ w. RepresentsMoment O.order w (opening (capacity_of l) start)) }
         ensures may { IfOk result (λ w. MayOpen l start) }
         ensures after { IfOk result (λ w. IsAfter O.order start [] w) }
         ensures refusal { IfErr result (IsOpeningRefused l start) }
@@ -67,7 +67,7 @@ impl<O: TreeOrder> World<O> {
     /// them, and nothing has changed then.
     pub fn step(&mut self, event: Event<O::Key>) -> Reply<O::Key>
         ensures layout { layout_in self.new ≡ layout_in self.old }
-        ensures steps { Steps O.order self.old event result self.new }
+        ensures steps { IsWorldStep O.order self.old event result self.new }
         ensures after { StaysAfter O.order self.old event result self.new }
     {
         self.step_from(&event)
@@ -76,7 +76,7 @@ impl<O: TreeOrder> World<O> {
     /// The same for a caller that keeps its event.
     pub fn step_from(&mut self, event: &Event<O::Key>) -> Reply<O::Key>
         ensures layout { layout_in self.new ≡ layout_in self.old }
-        ensures steps { Steps O.order self.old event.now result self.new }
+        ensures steps { IsWorldStep O.order self.old event.now result self.new }
         ensures after { StaysAfter O.order self.old event.now result self.new }
     {
         match event {
@@ -87,7 +87,7 @@ impl<O: TreeOrder> World<O> {
         }
     }
 
-    /// The writer takes an update in hand.
+    /// The writer begins an update.
     pub(crate) fn begin(&mut self, update: &Update) -> Reply<O::Key>
         ensures layout { layout_in self.new ≡ layout_in self.old }
         ensures steps { MayDo O.order self.old (Begin update.now) result self.new }
@@ -107,7 +107,7 @@ impl<O: TreeOrder> World<O> {
         }
     }
 
-    /// The writer makes one store, where it has an update in hand.
+    /// The writer makes one store, where it has a pending update.
     fn write(&mut self) -> Reply<O::Key>
         ensures layout { layout_in self.new ≡ layout_in self.old }
         ensures steps { Does O.order self.old Write result self.new }
@@ -125,7 +125,7 @@ impl<O: TreeOrder> World<O> {
     fn make(&mut self) -> Option<Store>
         ensures layout { layout_in self.new ≡ layout_in self.old }
         ensures made { IfSome result (λ s. Does O.order self.old Write (Reply.Wrote s) self.new) }
-        ensures fewer { OnSome result (length self.new.writer.left < length self.old.writer.left) }
+        ensures fewer { OnSome result (length self.new.writer.stores_left < length self.old.writer.stores_left) }
         ensures none { IfNone result ((self.new ≡ self.old) × IsAtRest O.order self.old) }
     {
         let store = self.writer.next()?;
@@ -155,7 +155,7 @@ impl<O: TreeOrder> World<O> {
         }
     }
 
-    /// Whether a reader has a lookup in hand.
+    /// Whether a reader has a pending lookup.
     fn is_looking(&self, reader: u32) -> bool
         ensures { result ≡ is_some (lookup_at self.now.lookups reader) }
     {
@@ -187,7 +187,7 @@ impl<O: TreeOrder> World<O> {
         }
     }
 
-    /// Makes the writer's steps until nothing is in hand.
+    /// Makes the writer's steps until no update is pending.
     pub fn settle(&mut self)
         ensures layout { layout_in self.new ≡ layout_in self.old }
         ensures settles { SettlesFromAny O.order self.old self.new }
@@ -200,8 +200,8 @@ impl<O: TreeOrder> World<O> {
     ///
     /// No step of the writer comes between, so the lookup returns at its first attempt within `4n +
     /// 3` loads at a table of `n` items, and within `4d + 3` where 2 to the power d is at most the
-    /// square of `n + 1`, also where the writer stands inside an update. Refused by
-    /// [`Refusal::ReaderBusy`] where the reader has a lookup in hand.
+    /// square of `n + 1`, even if the writer stands inside an update. Refused by
+    /// [`Refusal::ReaderBusy`] where the reader has a pending lookup.
     pub fn find_now(&mut self, reader: u32, key: O::Key) -> Result<Returned<O::Key>, Refusal>
         ensures layout { layout_in self.new ≡ layout_in self.old }
         ensures finds { IfOk result (FindsFromAny O.order self.old reader key self.new) }
@@ -229,7 +229,7 @@ impl<O: TreeOrder> World<O> {
             first,
             last: self.events,
             loads,
-            tries: 1,
+            attempts: 1,
         })
     }
 
@@ -237,7 +237,7 @@ impl<O: TreeOrder> World<O> {
     fn look_up(&self, key: O::Key) -> Option<(Option<Item>, u64, u64)>
         ensures found { IfSome result (λ x. LooksUp O.order self.now key x.0 x.1 x.2) }
         ensures fits { IfSome result (λ found. found.2 < 2 ^ 64) }
-        ensures none { IfNone result (NeverLooksUp O.order self.now key) }
+        ensures none { IfNone result (HasNoAnswer O.order self.now key) }
     {
         let words = self.words.as_slice();
         if words.len() != self.layout.words() {
@@ -252,7 +252,7 @@ impl<O: TreeOrder> World<O> {
     }
 
     /// Loads of a reader, at most so many and up to the return of its lookup; a reader without a
-    /// lookup in hand is refused once. Answers how many events these are, and what is to be noted.
+    /// pending lookup is refused once. Returns how many events these are, and what is to be noted.
     /// The lookup is looked up once and held apart while its loads run.
     pub(crate) fn read_on(&mut self, reader: u32, most: u32) -> (u32, Option<Note<O::Key>>)
         ensures layout { layout_in self.new ≡ layout_in self.old }
@@ -281,23 +281,23 @@ impl<O: TreeOrder> World<O> {
         }
     }
 
-    /// Whether an update is in hand.
+    /// Whether an update is pending.
     pub(crate) fn is_writing(&self) -> bool
-        ensures { (w : Moment O.Key) → Shows O.order self.now w → result ≡ is_some w.latch.hand }
+        ensures { (w : Moment O.Key) → RepresentsMoment O.order self.now w → result ≡ is_some w.latch.pending }
     {
         self.writer.remaining() > 0
     }
 
-    /// How many steps the update in hand has left; 0 with none in hand.
+    /// How many steps the pending update has left; 0 with none pending.
     pub(crate) fn writes_left(&self) -> u64
-        ensures { HasLeft O.order self.now result }
+        ensures { HasStepsLeft O.order self.now result }
     {
         self.writer.remaining()
     }
 
     /// Whether the count of events is still below the greatest.
     pub(crate) fn is_counting(&self) -> bool
-        ensures { result ≡ true → HasFewEvents O.order self.now }
+        ensures { result ≡ true → CountsExactly O.order self.now }
     {
         self.events < u64::MAX
     }

@@ -1,8 +1,8 @@
 pub mod ReaderLemmas
 pub mod RuleLemmas
 pub mod WriterLemmas
-pub mod Finishing
-pub mod Walking
-pub mod Looking
-pub mod Openings
-pub mod Enlargings
+pub mod FinishLemmas
+pub mod WalkLemmas
+pub mod LookupLemmas
+pub mod OpeningLemmas
+pub mod EnlargingLemmas

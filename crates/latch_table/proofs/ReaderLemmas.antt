@@ -9,16 +9,16 @@ use Rattle.word_arena.specs.declared.stores.Store.{Store}
 use Rattle.word_arena.specs.Words.{at}
 use Rattle.word_arena.specs.Stores.{words_after}
 use Rattle.latch_core.specs.declared.updates.Update.{Update}
-use Rattle.latch_core.specs.Sequences.{gen}
+use Rattle.latch_core.specs.Sequences.{generation_of}
 use Rattle.latch_core.specs.Histories.{replay}
 use Rattle.latch_core.specs.Attempts.{Reading, Load, Ends, Answer, attempt, rest_after, IsAttempt}
-use Rattle.latch_core.specs.Latches.{Hand, Latch, MayStep}
-use Rattle.latch_core.proofs.Steps.{sequence_after}
+use Rattle.latch_core.specs.Latches.{PendingUpdate, Latch, IsWriterStep}
+use Rattle.latch_core.proofs.StepLemmas.{sequence_after}
 use Rattle.latch_table.specs.declared.knowledge.ReaderKnowledge.{ReaderKnowledge}
-use Rattle.latch_core.specs.Standing.{loads_of, IsKept, StandAll, IsSteady, IsLatched}
+use Rattle.latch_core.specs.Latched.{loads_of, IsKept, StandAll, IsSteady, IsLatched}
 use Rattle.latch_table.specs.Seats.{blank_reader, with_sequence, with_word, last_or}
 use Rattle.latch_table.specs.Rule.{Rises, EndsRight, ReaderKnows, LoadsSequence}
-use Rattle.latch_core.proofs.Standing.{steady_step, steady_load, steady_first, stand_end, latched_answers}
+use Rattle.latch_core.proofs.LatchedLemmas.{steady_step, steady_load, steady_first, stand_end, latched_answers}
 
 pub rises_more : (low : ℕ) (xs : List ℕ) (top top' : ℕ) → top ≤ top' → Rises low xs top → Rises low xs top'
 rises_more low [] top top' more r = let r' : low ≤ top = r in omega arith
@@ -57,7 +57,7 @@ ended_stand n m (l ∷ ls) s rest st is e = stand_end n m 0 (inl refl) (l ∷ ls
 
 module _ {K : Type 0} (o : Order K) where
   -- a step of the writer, after which these updates are shown
-  pub reader_step : (n base : ℕ) (l : Latch) (h : Hand) (s : Store) (known known' : List Update) (e : ReaderKnowledge) → 0 < length l.words → MayStep n l h s → IsPrefix known known' → ReaderKnows o n base l.words known e
+  pub reader_step : (n base : ℕ) (l : Latch) (h : PendingUpdate) (s : Store) (known known' : List Update) (e : ReaderKnowledge) → 0 < length l.words → IsWriterStep n l h s → IsPrefix known known' → ReaderKnows o n base l.words known e
       → ReaderKnows o n base (words_after l.words s) known' e
   reader_step n base l h s known known' e sized may more see =
       let rises' : at l.words 0 ≤ at (words_after l.words s) 0 = ⊎_elim (λ same. omega (arith, same.1)) (λ one. omega (arith, one)) (sequence_after n l h s sized may) in record {
@@ -79,7 +79,7 @@ module _ {K : Type 0} (o : Order K) where
       let is' : loads ≡ loads_of (attempt o n k) (s ∷ (v ++ s ∷ [])) = subst (λ c. loads ≡ loads_of (attempt o c k) (s ∷ (v ++ s ∷ []))) cap is in
       let seq : at m 0 ≡ s = sym (last_value_end 0 e.loads (0, at m 0)) ∙ (ap (last_value 0) is' ∙ last_loads (attempt o n k) (s ∷ v) s (Ends out) 0 whole') in
       let stand : StandAll n m loads = ended_stand n m e.loads s _ steady (sym seq) is' in
-      (latched_answers o law n base k m known (s ∷ (v ++ s ∷ [])) out latched whole' (subst (StandAll n m) is' stand)).0 ∙ ap (λ z. Answer (look o k (replay o [] known)) (gen z)) seq
+      (latched_answers o law n base k m known (s ∷ (v ++ s ∷ [])) out latched whole' (subst (StandAll n m) is' stand)).0 ∙ ap (λ z. Answer (look o k (replay o [] known)) (generation_of z)) seq
 
   -- the reader loads word 0
   pub reader_sequence : IsLawful o → (n base : ℕ) (m : List ℕ) (known : List Update) (e : ReaderKnowledge) → IsLatched o n base m known → ReaderKnows o n base m known e → ReaderKnows o n base m known (with_sequence (at m 0) known e)
@@ -89,7 +89,7 @@ module _ {K : Type 0} (o : Order K) where
         capacity = see.capacity;
         begins = IsPrefix-whole known;
         floored = see.floored;
-        counted = latched.counted ∙ ap gen (sym last);
+        counted = latched.counted ∙ ap generation_of (sym last);
         rises = rises_end (2 * base) e.seen (at m 0) see.rises;
         steady = steady_first n m;
         right = ended_right law n base m known e see.capacity latched see.steady;

@@ -13,12 +13,12 @@ use Rattle.word_arena.specs.declared.stores.Store.{Store}
 use Rattle.word_arena.specs.Words.{at}
 use Rattle.word_arena.specs.Stores.{words_after}
 use Rattle.latch_core.specs.declared.updates.Update.{Update}
-use Rattle.latch_core.specs.Latches.{Hand, MayStep}
+use Rattle.latch_core.specs.Latches.{PendingUpdate, IsWriterStep}
 use Rattle.latch_table.specs.declared.knowledge.ReaderKnowledge.{ReaderKnowledge}
 use Rattle.latch_table.specs.declared.knowledge.WriterKnowledge.{WriterKnowledge}
 use Rattle.latch_table.specs.declared.knowledge.Knowledge.{Knowledge}
-use Rattle.latch_core.specs.Standing.{IsKept, StandAll, IsLatched}
-use Rattle.latch_table.specs.Seats.{reader_of, writer_of, writing, newcomer, both, nobody, writer_alone, reader_alone, blank_reader, with_sequence, with_word, with_loads, with_update, with_store, shown_after}
+use Rattle.latch_core.specs.Latched.{IsKept, StandAll, IsLatched}
+use Rattle.latch_table.specs.Seats.{reader_of, writer_of, writer_knowledge, new_reader_knowledge, joined_knowledge, no_knowledge, writer_alone, reader_alone, blank_reader, with_sequence, with_word, with_loads, with_update, with_store, shown_after}
 use Rattle.latch_table.specs.Rule.{ReaderKnows, WriterKnows, WriterPart, ReaderPart, SeatKnows, KnowledgeHolds, LoadsSequence, as_writer, sequence_loaded, word_loaded, lookup_begun, writer_loaded, word_copied, update_taken, word_stored}
 use Rattle.latch_table.proofs.ReaderLemmas.{reader_step, reader_sequence, looks, reader_word, reader_new}
 
@@ -138,12 +138,12 @@ module _ {S K : Type 0} (o : Order K) (n base : ℕ) where
       reads id i m p (λ q x. with_update o u q) (λ q x ws us. same_picture n base q (with_update o u q) ws us refl refl refl refl) is slots
 
   -- the writer stores, by a step that it may make
-  pub allows_store : (slots id : ℕ) (m : Me S Knowledge) (p : WriterKnowledge) (table : List Item) (hand : Option Hand) (h : Hand) (t : Store) → m.0.writer ≡ Some p → 0 < length p.picture
-      → MayStep p.capacity (record { words = p.picture; table = table; hand = hand }) h t
+  pub allows_store : (slots id : ℕ) (m : Me S Knowledge) (p : WriterKnowledge) (table : List Item) (pending : Option PendingUpdate) (h : PendingUpdate) (t : Store) → m.0.writer ≡ Some p → 0 < length p.picture
+      → IsWriterStep p.capacity (record { words = p.picture; newest_table = table; pending = pending }) h t
       → IsPrefix p.known (shown_after t.word p)
       → IsLatched o p.capacity p.base (words_after p.picture t) (shown_after t.word p)
       → Allows (KnowledgeHolds o n base) slots id m t.word (λ _. t.value) (λ _. word_stored (step slots t.word t.value 0 maybe.none) m t.value)
-  allows_store slots id m p table hand h t is sized may more whole s r _ there _ =
+  allows_store slots id m p table pending h t is sized may more whole s r _ there _ =
       let knows = r.each id m.0 there in
       let mine : WriterPart n base s.words r.known r.writer_seat id (Some p) = subst (WriterPart n base s.words r.known r.writer_seat id) is knows.0 in
       let same : writer_of m.0 ≡ p = ap (λ (z : Option WriterKnowledge). writer_of record { writer = z; reader = None }) is in
@@ -154,7 +154,7 @@ module _ {S K : Type 0} (o : Order K) (n base : ℕ) where
       λ P. subst (λ (z : ℕ × ℕ × List ℕ × List Update). P z.0 z.1 z.2 z.3) (λ k. (mine.1.capacity k, mine.1.based k, mine.1.picture k, mine.1.shown k)) in
       let go : (e : ReaderKnowledge) → ReaderKnows o n base s.words r.known e → ReaderKnows o n base words' known' e =
       along (λ c b ws us. (e : ReaderKnowledge) → ReaderKnows o c b ws us e → ReaderKnows o c b (words_after ws t) known' e)
-      (λ e. reader_step o p.capacity p.base (record { words = p.picture; table = table; hand = hand }) h t p.known known' e sized may more) in
+      (λ e. reader_step o p.capacity p.base (record { words = p.picture; newest_table = table; pending = pending }) h t p.known known' e sized may more) in
       let whole' : IsLatched o n base words' known' = along (λ c b ws us. IsLatched o c b (words_after ws t) known') whole in
       let mine' : WriterPart n base words' known' r.writer_seat id (Some (with_store t.word t.value (writer_of m.0))) =
       subst (λ (z : WriterKnowledge). WriterPart n base words' known' r.writer_seat id (Some (with_store t.word t.value z))) (sym same) (
@@ -183,7 +183,7 @@ module _ {S K : Type 0} (o : Order K) (n base : ℕ) where
       )
 
   -- a new reader
-  pub splits_another : (id : ℕ) (v : Knowledge) (p : WriterKnowledge) → v.writer ≡ Some p → Splits {S = S} (KnowledgeHolds o n base) id v v (newcomer v)
+  pub splits_another : (id : ℕ) (v : Knowledge) (p : WriterKnowledge) → v.writer ≡ Some p → Splits {S = S} (KnowledgeHolds o n base) id v v (new_reader_knowledge v)
   splits_another id v p is s r there =
       let knows = r.each id v there in
       let mine : WriterPart n base s.words r.known r.writer_seat id (Some p) = subst (WriterPart n base s.words r.known r.writer_seat id) is knows.0 in
@@ -195,20 +195,20 @@ module _ {S K : Type 0} (o : Order K) (n base : ℕ) where
         latched = r.latched;
         each = λ j u at_j.
             ⊎_elim (seats (SeatKnows o n base s.words r.known r.writer_seat) s.views id v knows (λ i x here _. r.each i x here) j u)
-            (λ (t : newcomer v ≡ u). subst (SeatKnows o n base s.words r.known r.writer_seat j) t (tt, subst (ReaderKnows o n base s.words r.known) blank (reader_new o n base s.words r.known r.latched)))
-            (at_snoc (set s.views id v) (newcomer v) u j at_j);
+            (λ (t : new_reader_knowledge v ≡ u). subst (SeatKnows o n base s.words r.known r.writer_seat j) t (tt, subst (ReaderKnows o n base s.words r.known) blank (reader_new o n base s.words r.known r.latched)))
+            (at_snoc (set s.views id v) (new_reader_knowledge v) u j at_j);
       }
 
   -- a reader and the writer meet
-  pub joins_meeting : (id other : ℕ) (v w : Knowledge) → Joins {S = S} (KnowledgeHolds o n base) id v other w (both v w) nobody
+  pub joins_meeting : (id other : ℕ) (v w : Knowledge) → Joins {S = S} (KnowledgeHolds o n base) id v other w (joined_knowledge v w) no_knowledge
   joins_meeting id other v w s r there apart its_at =
       let P = SeatKnows o n base s.words r.known r.writer_seat in
-      let its = r.each other w (elsewhere s.views id other (both v w) w apart its_at) in record {
+      let its = r.each other w (elsewhere s.views id other (joined_knowledge v w) w apart its_at) in record {
         known = r.known;
         writer_seat = r.writer_seat;
         latched = r.latched;
-        each = λ j u here. seats P (set s.views id (both v w)) other nobody (tt, tt)
-            (λ i x now _. seats P s.views id (both v w) ((r.each id v there).0, its.1) (λ i' x' now' _. r.each i' x' now') i x now) j u here;
+        each = λ j u here. seats P (set s.views id (joined_knowledge v w)) other no_knowledge (tt, tt)
+            (λ i x now _. seats P s.views id (joined_knowledge v w) ((r.each id v there).0, its.1) (λ i' x' now' _. r.each i' x' now') i x now) j u here;
       }
 
   pub splits_meeting : (id : ℕ) (v : Knowledge) → Splits {S = S} (KnowledgeHolds o n base) id v (writer_alone v) (reader_alone v)
@@ -225,9 +225,9 @@ module _ {S K : Type 0} (o : Order K) (n base : ℕ) where
       }
 
   -- a row of words with what a writer knows
-  pub opens : (words : List ℕ) (slots : List S) (p : WriterKnowledge) → WriterKnows n base words p.known p → IsLatched o n base words p.known → KnowledgeHolds o n base (opening words slots (writing p))
+  pub opens : (words : List ℕ) (slots : List S) (p : WriterKnowledge) → WriterKnows n base words p.known p → IsLatched o n base words p.known → KnowledgeHolds o n base (opening words slots (writer_knowledge p))
   opens words slots p knows whole = record { known = p.known; writer_seat = 0; latched = whole; each = first_knows }
     where
-      first_knows : (seat : ℕ) (v : Knowledge) → get_elem? (writing p ∷ []) seat ≡ maybe.some v → SeatKnows o n base words p.known 0 seat v
-      first_knows zero v e = subst (SeatKnows o n base words p.known 0 0) (some-injective (writing p) v e) ((refl, knows), tt)
+      first_knows : (seat : ℕ) (v : Knowledge) → get_elem? (writer_knowledge p ∷ []) seat ≡ maybe.some v → SeatKnows o n base words p.known 0 seat v
+      first_knows zero v e = subst (SeatKnows o n base words p.known 0 0) (some-injective (writer_knowledge p) v e) ((refl, knows), tt)
       first_knows (suc k) v e = absurd (some-ne-none v (sym e))

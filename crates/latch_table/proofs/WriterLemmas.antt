@@ -1,4 +1,4 @@
--- The writer's core, its seat and the update in hand, from one call to the next.
+-- The writer's core, its seat and the pending update, from one call to the next.
 use Rattle.std.proofs.Common.{◌≡◌, ◌≢◌, ℕ, suc, ◌+◌, ◌-◌, ◌*◌, ◌%◌, ◌<◌, ◌≤◌, true, false, cond, List, [], ◌∷◌, ◌++◌, length, take, drop, Option, Some, None, refl, sym, ◌∙◌, ap, subst, inl, inr, ⊎_elim, arith, length-append, length-set}
 use Rattle.std.specs.Prelude.{◌⊎◌, ◌==◌, ◌&&◌, MatchOption, nat_lt}
 use Rattle.std.proofs.lemmas.Bool.{eq-eqb, ne_eqb, lt-ltb}
@@ -16,97 +16,97 @@ use Rattle.word_arena.specs.Words.{at, words_for, HoldsTable}
 use Rattle.word_arena.specs.Stores.{words_after}
 use Rattle.word_arena.proofs.StoreLemmas.{length_after}
 use Rattle.latch_core.specs.declared.updates.Update.{Update}
-use Rattle.latch_core.specs.Sequences.{gen, stable}
+use Rattle.latch_core.specs.Sequences.{generation_of, stable_copy_of}
 use Rattle.latch_core.specs.Updates.{refuses}
 use Rattle.latch_core.specs.Histories.{replay}
-use Rattle.latch_core.specs.Latches.{Hand, Latch, MayStep, flips_after, stepped}
-use Rattle.latch_core.specs.Invariants.{IsHand, IsInHand, IsSound}
+use Rattle.latch_core.specs.Latches.{PendingUpdate, Latch, IsWriterStep, flips_after, latch_after_step}
+use Rattle.latch_core.specs.Invariants.{IsPendingUpdate, IsPendingOf, IsSound}
 use Rattle.latch_core.specs.WriterViews.{WriterView}
-use Rattle.latch_core.specs.Writers.{Pictures, next_store, why_refused, in_hand, stepped_writer, HasBegun}
-use Rattle.latch_core.proofs.Steps.{hidden_same, flip_adds}
-use Rattle.latch_core.proofs.Sound.{flips_of_flip, flips_of_store, sound_step, sound_begin}
+use Rattle.latch_core.specs.Writers.{RepresentsLatch, next_store, why_refused, has_pending, writer_after_step, HasBegun}
+use Rattle.latch_core.proofs.StepLemmas.{hidden_same, flip_adds}
+use Rattle.latch_core.proofs.SoundLemmas.{flips_of_flip, flips_of_store, sound_step, sound_begin}
 use Rattle.latch_core.proofs.WriterLemmas.{next_may, did_pictures, refuses_pictured}
 use Rattle.latch_table.specs.declared.knowledge.WriterKnowledge.{WriterKnowledge}
 use Rattle.latch_table.specs.declared.knowledge.Knowledge.{Knowledge}
 use Rattle.latch_core.specs.Attempts.{Answer, attempt, IsAttempt}
-use Rattle.latch_core.specs.Standing.{loads_of, IsLatched}
+use Rattle.latch_core.specs.Latched.{loads_of, IsLatched}
 use Rattle.latch_table.specs.Lookups.{FindsIn}
-use Rattle.latch_table.specs.Seats.{writer_of, writing, with_store, with_loads, with_update, shown_after}
+use Rattle.latch_table.specs.Seats.{writer_of, writer_knowledge, with_store, with_loads, with_update, shown_after}
 use Rattle.latch_table.specs.Rule.{KnowledgeHolds, as_writer, word_stored}
 use Rattle.latch_table.proofs.RuleLemmas.{allows_store}
 use Rattle.latch_table.specs.declared.writers.Did.{Did}
 use Rattle.latch_table.specs.declared.writers.Did.TheVariants.{Flip, Store as ToStore}
-use Rattle.latch_table.specs.Writers.{WriterState, known, left_of, did_of, Steps, Finds, Begins, hand_of, writer_state, IsTied, begun_state, stepped_state}
+use Rattle.latch_table.specs.Writers.{WriterState, shown_updates, steps_left_of, kind_of_store, Steps, Finds, Begins, pending_of, writer_state, IsTied, state_with_update, state_after_step}
 
 -- what a step does to the sequence, and at which of its numbers
 abbrev StepKind : ℕ → ℕ → ℕ → ℕ → Type 0
 StepKind w seq seq' flips =
     ((w ≢ 0) × (seq' ≡ seq))
-    ⊎ ((w ≡ 0) × (seq' ≡ seq + 1) × (((stable seq ≡ 0) × (flips ≡ 0)) ⊎ ((stable seq ≡ 1) × (flips ≡ 1))))
+    ⊎ ((w ≡ 0) × (seq' ≡ seq + 1) × (((stable_copy_of seq ≡ 0) × (flips ≡ 0)) ⊎ ((stable_copy_of seq ≡ 1) × (flips ≡ 1))))
 
-kinds : (n : ℕ) (l : Latch) (h : Hand) (s : Store) → 0 < length l.words → MayStep n l h s → StepKind s.word (at l.words 0) (at (words_after l.words s) 0) h.flips
+kinds : (n : ℕ) (l : Latch) (h : PendingUpdate) (s : Store) → 0 < length l.words → IsWriterStep n l h s → StepKind s.word (at l.words 0) (at (words_after l.words s) 0) h.flips_made
 kinds n l h s sized may =
-    ⊎_elim (λ hid. inl (hid.not_sequence, hidden_same n l.words h.began s hid 0 (inl refl)))
+    ⊎_elim (λ hid. inl (hid.not_sequence, hidden_same n l.words h.old_words s hid 0 (inl refl)))
     (⊎_elim (λ f. inr (f.sequence, flip_adds l.words s sized f.sequence f.adds_one, inl (f.is_even, f.no_flip)))
     (λ f. inr (f.sequence, flip_adds l.words s sized f.sequence f.adds_one, inr (f.is_odd, f.one_flip))))
     may.kind
 
 -- what is shown after a step that is not the second flip, and after that one
-shown_before : (w : ℕ) (p : WriterKnowledge) → (w ≢ 0) ⊎ (stable (at p.picture 0) ≡ 0) → shown_after w p ≡ p.known
+shown_before : (w : ℕ) (p : WriterKnowledge) → (w ≢ 0) ⊎ (stable_copy_of (at p.picture 0) ≡ 0) → shown_after w p ≡ p.known
 shown_before w p why =
     ⊎_elim
     (λ other. let e : (w == 0) ≡ false = ne_eqb w 0 other in rw e refl)
     (λ even.
-    let e : (stable (at p.picture 0) == 1) ≡ false = ne_eqb (stable (at p.picture 0)) 1 (let f : at p.picture 0 % 2 ≡ 0 = even in λ z. omega arith) in
-    elim (w == 0) as (λ b. cond (b && (stable (at p.picture 0) == 1)) p.accepted p.known ≡ p.known) [
+    let e : (stable_copy_of (at p.picture 0) == 1) ≡ false = ne_eqb (stable_copy_of (at p.picture 0)) 1 (let f : at p.picture 0 % 2 ≡ 0 = even in λ z. omega arith) in
+    elim (w == 0) as (λ b. cond (b && (stable_copy_of (at p.picture 0) == 1)) p.accepted p.known ≡ p.known) [
       | true ↦ rw e refl
       | false ↦ refl
     ])
     why
 
-shown_second : (w : ℕ) (p : WriterKnowledge) → w ≡ 0 → stable (at p.picture 0) ≡ 1 → shown_after w p ≡ p.accepted
+shown_second : (w : ℕ) (p : WriterKnowledge) → w ≡ 0 → stable_copy_of (at p.picture 0) ≡ 1 → shown_after w p ≡ p.accepted
 shown_second w p z odd =
     let e : (w == 0) ≡ true = eq-eqb w 0 z in
-    let f : (stable (at p.picture 0) == 1) ≡ true = eq-eqb (stable (at p.picture 0)) 1 odd in
+    let f : (stable_copy_of (at p.picture 0) == 1) ≡ true = eq-eqb (stable_copy_of (at p.picture 0)) 1 odd in
     rw e (rw f refl)
 
 -- the updates that are shown after a step are those that the sequence then names
-shown_step : (seq' w flips : ℕ) (p : WriterKnowledge) → at p.picture 0 + 2 ≡ 2 * p.base + 2 * length p.accepted + flips → p.known ≡ take (gen (at p.picture 0) - p.base) p.accepted → StepKind w (at p.picture 0) seq' flips
-    → shown_after w p ≡ take (gen seq' - p.base) p.accepted
+shown_step : (seq' w flips : ℕ) (p : WriterKnowledge) → at p.picture 0 + 2 ≡ 2 * p.base + 2 * length p.accepted + flips → p.known ≡ take (generation_of (at p.picture 0) - p.base) p.accepted → StepKind w (at p.picture 0) seq' flips
+    → shown_after w p ≡ take (generation_of seq' - p.base) p.accepted
 shown_step seq' w flips p count was kind =
     ⊎_elim
-    (λ k. shown_before w p (inl k.0) ∙ was ∙ ap (λ z. take (gen z - p.base) p.accepted) (sym k.1))
+    (λ k. shown_before w p (inl k.0) ∙ was ∙ ap (λ z. take (generation_of z - p.base) p.accepted) (sym k.1))
     (λ k.
     ⊎_elim
     (λ j.
     let even : at p.picture 0 % 2 ≡ 0 = j.0 in
-    let same : gen (at p.picture 0) - p.base ≡ gen seq' - p.base = (let e = k.1 in omega arith) in
+    let same : generation_of (at p.picture 0) - p.base ≡ generation_of seq' - p.base = (let e = k.1 in omega arith) in
     shown_before w p (inr j.0) ∙ was ∙ ap (λ z. take z p.accepted) same)
     (λ j.
     let odd : at p.picture 0 % 2 ≡ 1 = j.0 in
     let one = j.1 in
-    let there : length p.accepted ≤ gen seq' - p.base = (let e = k.1 in omega arith) in
-    shown_second w p k.0 j.0 ∙ sym (take_all (gen seq' - p.base) p.accepted there))
+    let there : length p.accepted ≤ generation_of seq' - p.base = (let e = k.1 in omega arith) in
+    shown_second w p k.0 j.0 ∙ sym (take_all (generation_of seq' - p.base) p.accepted there))
     k.2)
     kind
 
 shown_grows : (g w : ℕ) (p : WriterKnowledge) → p.known ≡ take g p.accepted → IsPrefix p.known (shown_after w p)
 shown_grows g w p was =
-    elim (w == 0 && stable (at p.picture 0) == 1) as (λ b. IsPrefix p.known (cond b p.accepted p.known)) [
+    elim (w == 0 && stable_copy_of (at p.picture 0) == 1) as (λ b. IsPrefix p.known (cond b p.accepted p.known)) [
       | true ↦ (drop g p.accepted, ap (λ (z : List Update). z ++ drop g p.accepted) was ∙ take-append-drop g p.accepted)
       | false ↦ IsPrefix-whole p.known
     ]
 
 -- the hand after a step: none after the last
 hand_step : (rest : List Store) (p p' : WriterKnowledge) (s : Store) → p'.old ≡ p.old → p'.began ≡ p.began → at p'.picture 0 + 2 - (2 * p'.base + 2 * length p'.accepted) ≡ flips_after (at p.picture 0 + 2 - (2 * p.base + 2 * length p.accepted)) s
-    → hand_of rest p' ≡ cond (suc (length rest) == 1) None (Some (record { old = p.old; began = p.began; flips = flips_after (at p.picture 0 + 2 - (2 * p.base + 2 * length p.accepted)) s; left = suc (length rest) - 1 }))
+    → pending_of rest p' ≡ cond (suc (length rest) == 1) None (Some (record { old_table = p.old; old_words = p.began; flips_made = flips_after (at p.picture 0 + 2 - (2 * p.base + 2 * length p.accepted)) s; steps_left = suc (length rest) - 1 }))
 hand_step [] p p' s a b e = refl
 hand_step (t ∷ rest) p p' s a b e =
     let more : (suc (suc (length rest)) == 1) ≡ false = ne_eqb (suc (suc (length rest))) 1 (λ z. omega arith) in
     let less : suc (length rest) ≡ suc (suc (length rest)) - 1 = omega arith in
-    rw more (λ i. Some (record { old = a i; began = b i; flips = e i; left = less i }))
+    rw more (λ i. Some (record { old_table = a i; old_words = b i; flips_made = e i; steps_left = less i }))
 
-left_hand : (ss : List Store) (p : WriterKnowledge) → left_of (hand_of ss p) ≡ length ss
+left_hand : (ss : List Store) (p : WriterKnowledge) → steps_left_of (pending_of ss p) ≡ length ss
 left_hand [] p = refl
 left_hand (s ∷ ss) p = refl
 
@@ -118,29 +118,29 @@ module _ {S K : Type 0} (o : Order K) (place : TableId) (readers : ℕ) (m : Me 
   p = writer_of m.0
 
   pub words_sized : IsTied o m core here → length p.picture ≡ words_for core.capacity
-  words_sized tied = sym (length_after p.picture core.left) ∙ tied.pictures.at_rest.sized
+  words_sized tied = sym (length_after p.picture core.stores_left) ∙ tied.pictures.at_rest.sized
 
   -- the picture holds the table of what was shown
   pub latched_now : IsTied o m core here → IsLatched o core.capacity p.base p.picture p.known
   latched_now tied =
       subst (IsLatched o core.capacity p.base p.picture) (sym tied.known)
-      (let bounds = within here.latch.hand tied.sound.in_hand in
+      (let bounds = within here.latch.pending tied.sound.in_hand in
       let low = bounds.0 in
       let high = bounds.1 in
-      let two : gen (2 * p.base) ≡ p.base = omega arith in record {
+      let two : generation_of (2 * p.base) ≡ p.base = omega arith in record {
         sized = words_sized tied;
-        counted = omega (arith, length-take-le (gen (at p.picture 0) - p.base) here.history (omega arith));
-        is_table = (tied.sound.tables (gen (at p.picture 0) - p.base)).0;
-        fits = (tied.sound.tables (gen (at p.picture 0) - p.base)).1;
-        holds = subst (λ g. HoldsTable p.picture core.capacity (stable (at p.picture 0)) (replay o [] (take (gen (at p.picture 0) - g) here.history))) two tied.sound.current;
+        counted = omega (arith, length-take-le (generation_of (at p.picture 0) - p.base) here.history (omega arith));
+        is_table = (tied.sound.tables (generation_of (at p.picture 0) - p.base)).0;
+        fits = (tied.sound.tables (generation_of (at p.picture 0) - p.base)).1;
+        holds = subst (λ g. HoldsTable p.picture core.capacity (stable_copy_of (at p.picture 0)) (replay o [] (take (generation_of (at p.picture 0) - g) here.history))) two tied.sound.current;
       })
     where
-      within : (h : Option Hand) → IsInHand o (2 * p.base) (at p.picture 0) here.history h → (2 * p.base ≤ at p.picture 0) × (at p.picture 0 ≤ 2 * p.base + 2 * length here.history)
+      within : (h : Option PendingUpdate) → IsPendingOf o (2 * p.base) (at p.picture 0) here.history h → (2 * p.base ≤ at p.picture 0) × (at p.picture 0 ≤ 2 * p.base + 2 * length here.history)
       within None is = (omega arith, omega arith)
       within (Some h) is = let count = is.count in let some = is.last in let most = is.flips in (omega arith, omega arith)
 
   -- a lookup of the writer changes nothing but its loads
-  pub tied_loads : (m' : Me S Knowledge) (loads : List (ℕ × ℕ)) → IsTied o m core here → m' ≡ (writing (with_loads loads p), [])
+  pub tied_loads : (m' : Me S Knowledge) (loads : List (ℕ × ℕ)) → IsTied o m core here → m' ≡ (writer_knowledge (with_loads loads p), [])
       → IsTied o m' core (writer_state place readers m'.0 core) × (writer_state place readers m'.0 core ≡ record here { loads = loads })
   tied_loads m' loads tied is =
       subst (λ (z : Me S Knowledge). IsTied o z core (writer_state place readers z.0 core) × (writer_state place readers z.0 core ≡ record here { loads = loads })) (sym is)
@@ -162,28 +162,28 @@ module _ {S K : Type 0} (o : Order K) (place : TableId) (readers : ℕ) (m : Me 
 
   module _ (tied : IsTied o m core here) (s : Store) (next : next_store core ≡ Some s) where
     abbrev rest : List Store
-    rest = drop 1 core.left
+    rest = drop 1 core.stores_left
 
-    left_is : core.left ≡ s ∷ rest
-    left_is = first_and_rest core.left s next
+    left_is : core.stores_left ≡ s ∷ rest
+    left_is = first_and_rest core.stores_left s next
 
-    abbrev hand : Hand
-    hand = record { old = p.old; began = p.began; flips = at p.picture 0 + 2 - (2 * p.base + 2 * length p.accepted); left = suc (length rest) }
+    abbrev pending : PendingUpdate
+    pending = record { old_table = p.old; old_words = p.began; flips_made = at p.picture 0 + 2 - (2 * p.base + 2 * length p.accepted); steps_left = suc (length rest) }
 
-    pub hand_is : here.latch.hand ≡ Some hand
-    hand_is = ap (λ ss. hand_of ss p) left_is
+    pub hand_is : here.latch.pending ≡ Some pending
+    hand_is = ap (λ ss. pending_of ss p) left_is
 
-    pub may_step : MayStep core.capacity here.latch hand s
+    pub may_step : IsWriterStep core.capacity here.latch pending s
     may_step =
-        let t : (h : Hand) × (here.latch.hand ≡ Some h) × MayStep core.capacity here.latch h s = subst (λ x. MatchOption x (here.latch.hand ≡ None) (λ y. (h : Hand) × (here.latch.hand ≡ Some h) × MayStep core.capacity here.latch h y)) next (next_may core here.latch tied.pictures) in
-        let same : t.0 ≡ hand = (let e = t.1 in let f = hand_is in cc) in
-        subst (λ h. MayStep core.capacity here.latch h s) same t.2
+        let t : (h : PendingUpdate) × (here.latch.pending ≡ Some h) × IsWriterStep core.capacity here.latch h s = subst (λ x. MatchOption x (here.latch.pending ≡ None) (λ y. (h : PendingUpdate) × (here.latch.pending ≡ Some h) × IsWriterStep core.capacity here.latch h y)) next (next_may core here.latch tied.pictures) in
+        let same : t.0 ≡ pending = (let e = t.1 in let f = hand_is in cc) in
+        subst (λ h. IsWriterStep core.capacity here.latch h s) same t.2
 
     sized : 0 < length p.picture
     sized = omega (arith, words_sized tied)
 
-    is_hand : IsHand o (2 * p.base) (at p.picture 0) p.accepted hand
-    is_hand = subst (IsInHand o (2 * p.base) (at p.picture 0) p.accepted) hand_is tied.sound.in_hand
+    is_hand : IsPendingUpdate o (2 * p.base) (at p.picture 0) p.accepted pending
+    is_hand = subst (IsPendingOf o (2 * p.base) (at p.picture 0) p.accepted) hand_is tied.sound.in_hand
 
     abbrev picture' : List ℕ
     picture' = words_after p.picture s
@@ -191,14 +191,14 @@ module _ {S K : Type 0} (o : Order K) (place : TableId) (readers : ℕ) (m : Me 
     abbrev known' : List Update
     known' = shown_after s.word p
 
-    kind : StepKind s.word (at p.picture 0) (at picture' 0) hand.flips
-    kind = kinds core.capacity here.latch hand s sized may_step
+    kind : StepKind s.word (at p.picture 0) (at picture' 0) pending.flips_made
+    kind = kinds core.capacity here.latch pending s sized may_step
 
-    shown_now : known' ≡ take (gen (at picture' 0) - p.base) p.accepted
-    shown_now = shown_step (at picture' 0) s.word hand.flips p is_hand.count tied.known kind
+    shown_now : known' ≡ take (generation_of (at picture' 0) - p.base) p.accepted
+    shown_now = shown_step (at picture' 0) s.word pending.flips_made p is_hand.count tied.known kind
 
-    sound' : IsSound o core.capacity (2 * p.base) p.accepted (stepped here.latch hand s)
-    sound' = sound_step o core.capacity (2 * p.base) p.accepted here.latch hand s tied.sound hand_is may_step
+    sound' : IsSound o core.capacity (2 * p.base) p.accepted (latch_after_step here.latch pending s)
+    sound' = sound_step o core.capacity (2 * p.base) p.accepted here.latch pending s tied.sound hand_is may_step
 
     bounds : (2 * p.base ≤ at picture' 0) × (at picture' 0 ≤ 2 * p.base + 2 * length p.accepted)
     bounds =
@@ -214,67 +214,67 @@ module _ {S K : Type 0} (o : Order K) (place : TableId) (readers : ℕ) (m : Me 
         (subst (IsLatched o core.capacity p.base picture') (sym shown_now)
         record {
           sized = length-set p.picture s.word s.value ∙ words_sized tied;
-          counted = let low = bounds.0 in let high = bounds.1 in omega (arith, length-take-le (gen (at picture' 0) - p.base) p.accepted (omega arith));
-          is_table = (sound'.tables (gen (at picture' 0) - p.base)).0;
-          fits = (sound'.tables (gen (at picture' 0) - p.base)).1;
-          holds = let two : gen (2 * p.base) ≡ p.base = omega arith in
-              subst (λ g. HoldsTable picture' core.capacity (stable (at picture' 0)) (replay o [] (take (gen (at picture' 0) - g) p.accepted))) two sound'.current;
+          counted = let low = bounds.0 in let high = bounds.1 in omega (arith, length-take-le (generation_of (at picture' 0) - p.base) p.accepted (omega arith));
+          is_table = (sound'.tables (generation_of (at picture' 0) - p.base)).0;
+          fits = (sound'.tables (generation_of (at picture' 0) - p.base)).1;
+          holds = let two : generation_of (2 * p.base) ≡ p.base = omega arith in
+              subst (λ g. HoldsTable picture' core.capacity (stable_copy_of (at picture' 0)) (replay o [] (take (generation_of (at picture' 0) - g) p.accepted))) two sound'.current;
         })
 
     -- so the store may be made
     pub allows_next : (n base slots id : ℕ) → Allows (KnowledgeHolds {S = S} o n base) slots id m s.word (λ _. s.value) (λ _. word_stored (step slots s.word s.value 0 maybe.none) m s.value)
     allows_next n base slots id =
-        allows_store o n base slots id m p core.table here.latch.hand hand s (ap (λ (z : Me S Knowledge). z.0.writer) tied.alone) sized (subst (λ c. MayStep c here.latch hand s) (sym tied.capacity) may_step)
-        (shown_grows (gen (at p.picture 0) - p.base) s.word p tied.known) latched_after
+        allows_store o n base slots id m p core.table here.latch.pending pending s (ap (λ (z : Me S Knowledge). z.0.writer) tied.alone) sized (subst (λ c. IsWriterStep c here.latch pending s) (sym tied.capacity) may_step)
+        (shown_grows (generation_of (at p.picture 0) - p.base) s.word p tied.known) latched_after
 
     -- and then the core and the seat are tied again
     abbrev m' : Me S Knowledge
     m' = as_writer (with_store s.word s.value p) m
 
     abbrev here' : WriterState
-    here' = writer_state place readers m'.0 (stepped_writer core s)
+    here' = writer_state place readers m'.0 (writer_after_step core s)
 
-    flips' : at picture' 0 + 2 - (2 * p.base + 2 * length p.accepted) ≡ flips_after hand.flips s
+    flips' : at picture' 0 + 2 - (2 * p.base + 2 * length p.accepted) ≡ flips_after pending.flips_made s
     flips' =
         let count = is_hand.count in
-        ⊎_elim (λ k. let e = k.1 in omega (arith, flips_of_store hand.flips s k.0)) (λ k. let e = k.1 in omega (arith, flips_of_flip hand.flips s k.0)) kind
+        ⊎_elim (λ k. let e = k.1 in omega (arith, flips_of_store pending.flips_made s k.0)) (λ k. let e = k.1 in omega (arith, flips_of_flip pending.flips_made s k.0)) kind
 
-    pub state_after : here' ≡ stepped_state here hand s
+    pub state_after : here' ≡ state_after_step here pending s
     state_after =
         let hand' = hand_step rest p (with_store s.word s.value p) s refl refl flips' in
-        λ i. record here { latch = record { words = picture'; table = core.table; hand = hand' i } }
+        λ i. record here { latch = record { words = picture'; newest_table = core.table; pending = hand' i } }
 
-    pub steps_next : (did : Did) → did ≡ did_of s → Steps here here' (Some did)
+    pub steps_next : (did : Did) → did ≡ kind_of_store s → Steps here here' (Some did)
     steps_next did is =
-        let left : left_of here'.latch.hand + 1 ≡ left_of here.latch.hand = omega (arith, left_hand rest (with_store s.word s.value p), ap left_of hand_is) in
-        (left, (hand, s, hand_is, may_step, is, state_after))
+        let left : steps_left_of here'.latch.pending + 1 ≡ steps_left_of here.latch.pending = omega (arith, left_hand rest (with_store s.word s.value p), ap steps_left_of hand_is) in
+        (left, (pending, s, hand_is, may_step, is, state_after))
 
-    pub tied_after : IsTied o m' (stepped_writer core s) here'
+    pub tied_after : IsTied o m' (writer_after_step core s) here'
     tied_after = record {
       alone = λ k. as_writer (with_store s.word s.value p) (tied.alone k);
       capacity = tied.capacity;
-      pictures = subst (λ (w : WriterState). Pictures (stepped_writer core s) w.latch) (sym state_after) (did_pictures core here.latch hand s tied.pictures hand_is next);
+      pictures = subst (λ (w : WriterState). RepresentsLatch (writer_after_step core s) w.latch) (sym state_after) (did_pictures core here.latch pending s tied.pictures hand_is next);
       sound = subst (λ (w : WriterState). IsSound o w.capacity (2 * w.base) w.history w.latch) (sym state_after) sound';
-      known = subst (λ (w : WriterState). known' ≡ known w) (sym state_after) shown_now;
+      known = subst (λ (w : WriterState). known' ≡ shown_updates w) (sym state_after) shown_now;
     }
 
-  -- with nothing in hand, the table is that of what was shown
-  pub all_shown : IsTied o m core here → here.latch.hand ≡ None → known here ≡ p.accepted
+  -- with no pending update, the table is that of what was shown
+  pub all_shown : IsTied o m core here → here.latch.pending ≡ None → shown_updates here ≡ p.accepted
   all_shown tied resting =
-      let counted : at p.picture 0 ≡ 2 * p.base + 2 * length p.accepted = subst (IsInHand o (2 * p.base) (at p.picture 0) p.accepted) resting tied.sound.in_hand in
-      take_all (gen (at p.picture 0) - p.base) p.accepted (omega arith)
+      let counted : at p.picture 0 ≡ 2 * p.base + 2 * length p.accepted = subst (IsPendingOf o (2 * p.base) (at p.picture 0) p.accepted) resting tied.sound.in_hand in
+      take_all (generation_of (at p.picture 0) - p.base) p.accepted (omega arith)
 
-  pub table_rests : IsTied o m core here → here.latch.hand ≡ None → core.table ≡ replay o [] (known here)
+  pub table_rests : IsTied o m core here → here.latch.pending ≡ None → core.table ≡ replay o [] (shown_updates here)
   table_rests tied resting = tied.sound.table_is ∙ ap (replay o []) (sym (all_shown tied resting))
 
 -- an update begins at rest
-idle : {K : Type 0} (o : Order K) (w : WriterView) (u : Update) → why_refused o w u ≡ None → w.left ≡ []
-idle o w u accepted = none_left w.left refl
+idle : {K : Type 0} (o : Order K) (w : WriterView) (u : Update) → why_refused o w u ≡ None → w.stores_left ≡ []
+idle o w u accepted = none_left w.stores_left refl
   where
-    none_left : (left : List Store) → w.left ≡ left → left ≡ []
+    none_left : (left : List Store) → w.stores_left ≡ left → left ≡ []
     none_left [] is = refl
     none_left (s ∷ ss) is =
-        let busy : in_hand w ≡ true = lt-ltb 0 (length w.left) (omega (arith, ap (λ (z : List Store). length z) is)) in
+        let busy : has_pending w ≡ true = lt-ltb 0 (length w.stores_left) (omega (arith, ap (λ (z : List Store). length z) is)) in
         let no : refuses o w.capacity w.limit true w.table w.sequence u ≡ None = ap (λ b. refuses o w.capacity w.limit b w.table w.sequence u) (sym busy) ∙ accepted in
         absurd (cc)
 
@@ -287,19 +287,19 @@ module _ {S K : Type 0} (o : Order K) (law : IsLawful o) (place : TableId) (read
     q = writer_of m.0
 
     abbrev taken : Me S Knowledge
-    taken = (writing (with_update o u q), [])
+    taken = (writer_knowledge (with_update o u q), [])
 
     abbrev busy : WriterState
     busy = writer_state place readers taken.0 core'
 
-    hand_rests : rests.latch.hand ≡ None
-    hand_rests = ap (λ ss. hand_of ss q) (idle o core u accepted)
+    hand_rests : rests.latch.pending ≡ None
+    hand_rests = ap (λ ss. pending_of ss q) (idle o core u accepted)
 
     counted : at q.picture 0 ≡ 2 * q.base + 2 * length q.accepted
-    counted = subst (IsInHand o (2 * q.base) (at q.picture 0) q.accepted) hand_rests tied.sound.in_hand
+    counted = subst (IsPendingOf o (2 * q.base) (at q.picture 0) q.accepted) hand_rests tied.sound.in_hand
 
     all_known : q.known ≡ q.accepted
-    all_known = tied.known ∙ take_all (gen (at q.picture 0) - q.base) q.accepted (let e = counted in omega arith)
+    all_known = tied.known ∙ take_all (generation_of (at q.picture 0) - q.base) q.accepted (let e = counted in omega arith)
 
     history_busy : busy.history ≡ rests.history ++ u ∷ []
     history_busy = ap (λ (z : List Update). z ++ u ∷ []) all_known
@@ -310,14 +310,14 @@ module _ {S K : Type 0} (o : Order K) (law : IsLawful o) (place : TableId) (read
     old_table : replay o [] q.known ≡ core.table
     old_table = ap (replay o []) all_known ∙ sym tied.sound.table_is
 
-    hand_busy : busy.latch.hand ≡ Some (record { old = core.table; began = q.picture; flips = 0; left = length core'.left })
-    hand_busy = some_left core'.left began.some
+    hand_busy : busy.latch.pending ≡ Some (record { old_table = core.table; old_words = q.picture; flips_made = 0; steps_left = length core'.stores_left })
+    hand_busy = some_left core'.stores_left began.some
       where
-        some_left : (left : List Store) → 0 < length left → hand_of left (with_update o u q) ≡ Some (record { old = core.table; began = q.picture; flips = 0; left = length left })
+        some_left : (left : List Store) → 0 < length left → pending_of left (with_update o u q) ≡ Some (record { old_table = core.table; old_words = q.picture; flips_made = 0; steps_left = length left })
         some_left [] some = absurd (omega arith)
-        some_left (s ∷ ss) some = λ i. Some (record { old = old_table i; began = q.picture; flips = none_flipped i; left = length (s ∷ ss) })
+        some_left (s ∷ ss) some = λ i. Some (record { old_table = old_table i; old_words = q.picture; flips_made = none_flipped i; steps_left = length (s ∷ ss) })
 
-    pub state_begun : busy ≡ begun_state o rests u (length core'.left)
+    pub state_begun : busy ≡ state_with_update o rests u (length core'.stores_left)
     state_begun = λ i. record {
       place = place;
       readers = readers;
@@ -325,34 +325,34 @@ module _ {S K : Type 0} (o : Order K) (law : IsLawful o) (place : TableId) (read
       capacity = (began.rest i).capacity;
       limit = (began.rest i).limit;
       history = history_busy i;
-      latch = record { words = q.picture; table = (began.rest i).table; hand = hand_busy i };
+      latch = record { words = q.picture; newest_table = (began.rest i).table; pending = hand_busy i };
       loads = q.loads;
     }
 
     pub tied_begun : IsTied o taken core' busy
     tied_begun =
-        let room : gen (at q.picture 0) - q.base ≤ length q.accepted = (let e = counted in omega arith) in record {
+        let room : generation_of (at q.picture 0) - q.base ≤ length q.accepted = (let e = counted in omega arith) in record {
           alone = refl;
           capacity = tied.capacity ∙ sym (ap (λ (w : WriterView). w.capacity) began.rest);
-          pictures = subst (λ (w : WriterState). Pictures core' w.latch) (sym state_begun) (began.pictures rests.latch tied.pictures);
+          pictures = subst (λ (w : WriterState). RepresentsLatch core' w.latch) (sym state_begun) (began.pictures rests.latch tied.pictures);
           sound = subst (λ (w : WriterState). IsSound o w.capacity (2 * w.base) w.history w.latch) (sym state_begun)
-              (sound_begin o law core.capacity core.limit (2 * q.base) q.accepted rests.latch u (length core'.left) tied.sound hand_rests
+              (sound_begin o law core.capacity core.limit (2 * q.base) q.accepted rests.latch u (length core'.stores_left) tied.sound hand_rests
               (not_busy ∙ accepted));
-          known = subst (λ (w : WriterState). q.known ≡ known w) (sym state_begun) (tied.known ∙ sym (take-append-le (gen (at q.picture 0) - q.base) q.accepted (u ∷ []) room));
+          known = subst (λ (w : WriterState). q.known ≡ shown_updates w) (sym state_begun) (tied.known ∙ sym (take-append-le (generation_of (at q.picture 0) - q.base) q.accepted (u ∷ []) room));
         }
       where
         not_busy : refuses o core.capacity core.limit false core.table (at q.picture 0) u ≡ why_refused o core u
         not_busy = λ i. refuses o core.capacity core.limit (none_now i) core.table (tied.pictures.sequence i) u
           where
-            none_now : false ≡ in_hand core
+            none_now : false ≡ has_pending core
             none_now = sym (ap (λ (ss : List Store). nat_lt 0 (length ss)) (idle o core u accepted))
 
-    -- the update is in hand
+    -- the update is pending
     pub begins : Begins o rests u busy
-    begins = (refuses_pictured o core rests.latch u tied.pictures ∙ accepted, (length core'.left, began.some, began.few, state_begun))
+    begins = (refuses_pictured o core rests.latch u tied.pictures ∙ accepted, (length core'.stores_left, began.some, began.few, state_begun))
 
-pub did_flip : (s : Store) (did : Did) → s.word ≡ 0 → did ≡ Flip → did ≡ did_of s
+pub did_flip : (s : Store) (did : Did) → s.word ≡ 0 → did ≡ Flip → did ≡ kind_of_store s
 did_flip s did z is = let e : (s.word == 0) ≡ true = eq-eqb s.word 0 z in is ∙ sym (ap (λ b. cond b Flip ToStore) e)
 
-pub did_store : (s : Store) (did : Did) → s.word ≢ 0 → did ≡ ToStore → did ≡ did_of s
+pub did_store : (s : Store) (did : Did) → s.word ≢ 0 → did ≡ ToStore → did ≡ kind_of_store s
 did_store s did other is = let e : (s.word == 0) ≡ false = ne_eqb s.word 0 other in is ∙ sym (ap (λ b. cond b Flip ToStore) e)

@@ -9,7 +9,7 @@ use Rattle.word_arena.specs.Words.{at}
 use Rattle.latch_core.specs.Widening.{widened_latch}
 use Rattle.latch_table.specs.Seats.{blank_reader}
 use Rattle.latch_table.specs.Readers.{ReaderState}
-use Rattle.latch_table.specs.Writers.{WriterState, known, left_of}
+use Rattle.latch_table.specs.Writers.{WriterState, shown_updates, steps_left_of}
 
 -- these are the readers that came with the writer
 abbrev pub AreReadersOf : WriterState → List ReaderState → Type 0
@@ -20,13 +20,13 @@ abbrev pub IsNoSmaller : WriterState → Layout → Type 0
 IsNoSmaller w l = (w.capacity ≤ capacity_of l) × (w.limit ≤ limit_of l)
 
 abbrev pub MayEnlarge : WriterState → Layout → Type 0
-MayEnlarge w l = (w.latch.hand ≡ None) × IsNoSmaller w l
+MayEnlarge w l = (w.latch.pending ≡ None) × IsNoSmaller w l
 
--- an update is in hand; or else the layout is smaller; or else memory was refused
+-- an update is pending; or else the layout is smaller; or else memory was refused
 abbrev pub RefusesEnlarging : WriterState → Layout → Refusal → Type 0
 RefusesEnlarging w l e =
-    ((e ≡ UpdateInHand) × (0 < left_of w.latch.hand))
-    ⊎ ((e ≡ BadCapacity) × (w.latch.hand ≡ None) × (IsNoSmaller w l → ⊥))
+    ((e ≡ UpdateInHand) × (0 < steps_left_of w.latch.pending))
+    ⊎ ((e ≡ BadCapacity) × (w.latch.pending ≡ None) × (IsNoSmaller w l → ⊥))
     ⊎ ((e ≡ OutOfMemory) × MayEnlarge w l)
 
 -- the same updates, shown and accepted, and the same table, in the words of another layout, where
@@ -43,7 +43,7 @@ enlarged_state place l w =
 
 -- a reader of these words that has loaded nothing, and will know at least what was shown
 abbrev pub reader_beside : WriterState → ReaderState
-reader_beside w = record { place = w.place; knowledge = blank_reader w.base w.capacity (known w) }
+reader_beside w = record { place = w.place; knowledge = blank_reader w.base w.capacity (shown_updates w) }
 
 -- the writer goes on in words of the layout, with as many readers as before; its sequence and what
 -- was shown stay
@@ -52,6 +52,6 @@ pub record Enlarges (w : WriterState) (l : Layout) (w' : WriterState) (all : Lis
   pub may : MayEnlarge w l
   pub state : w' ≡ enlarged_state w'.place l w
   pub sequence : at w'.latch.words 0 ≡ at w.latch.words 0
-  pub shown : known w' ≡ known w
+  pub shown : shown_updates w' ≡ shown_updates w
   pub count : length all ≡ w.readers
   pub readers : All (λ x. x ≡ reader_beside w') all

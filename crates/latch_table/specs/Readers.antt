@@ -6,14 +6,14 @@ use Rattle.order_laws.specs.declared.items.Item.{Item}
 use Rattle.order_laws.specs.Orders.{Order}
 use Rattle.order_laws.specs.Tables.{look}
 use Rattle.latch_core.specs.declared.updates.Update.{Update}
-use Rattle.latch_core.specs.Sequences.{gen}
+use Rattle.latch_core.specs.Sequences.{generation_of}
 use Rattle.latch_core.specs.Histories.{replay}
 use Rattle.latch_core.specs.Attempts.{Outcome, Answer, Again, attempt, IsAttempt}
 use Rattle.latch_table.specs.declared.knowledge.ReaderKnowledge.{ReaderKnowledge}
 use Rattle.latch_table.specs.declared.knowledge.Knowledge.{Knowledge}
 use Rattle.latch_table.specs.declared.readers.Try.{Try}
 use Rattle.latch_table.specs.declared.readers.Try.TheVariants.{Answered, Retry}
-use Rattle.latch_core.specs.Standing.{loads_of}
+use Rattle.latch_core.specs.Latched.{loads_of}
 use Rattle.latch_table.specs.Seats.{writer_of, blank_reader}
 
 -- a reader, as clauses see it
@@ -22,7 +22,7 @@ pub record ReaderState : Type 0 where
   pub knowledge : ReaderKnowledge
 
 -- the reader now knows more updates, or the same ones
-pub record Grows (e e' : ReaderKnowledge) : Type 0 where
+pub record KnowsMore (e e' : ReaderKnowledge) : Type 0 where
   pub base : e'.base ≡ e.base
   pub capacity : e'.capacity ≡ e.capacity
   pub floor : e'.floor ≡ e.floor
@@ -51,27 +51,27 @@ pub record Answers {K : Type 0} (o : Order K) (k : K) (e : ReaderKnowledge) (x :
 -- one attempt: two equal numbers and an answer, or two that differ
 abbrev pub Tried : {K : Type 0} → Order K → K → ReaderKnowledge → ReaderKnowledge → Try → Type 0
 Tried o k e e' (Answered x g) =
-    (s : ℕ) × (e'.seen ≡ e.seen ++ s ∷ s ∷ []) × (gen s ≡ g)
-    × Grows e e' × Attempted o k e' (Answer x g) × Answers o k e' x g
+    (s : ℕ) × (e'.seen ≡ e.seen ++ s ∷ s ∷ []) × (generation_of s ≡ g)
+    × KnowsMore e e' × Attempted o k e' (Answer x g) × Answers o k e' x g
 Tried o k e e' Retry =
     (s : ℕ) × (t : ℕ) × (e'.seen ≡ e.seen ++ s ∷ t ∷ []) × (t ≢ s)
-    × Grows e e' × Attempted o k e' Again × KnowsFloor e'
+    × KnowsMore e e' × Attempted o k e' Again × KnowsFloor e'
 
--- one or more attempts, of which the last answered
+-- one or more attempts, of which the last gave an answer
 abbrev pub Searched : {K : Type 0} → Order K → K → ReaderKnowledge → ReaderKnowledge
     → Option Item × ℕ → Type 0
 Searched o k e e' r =
-    (more : List ℕ) × (s : ℕ) × (e'.seen ≡ (e.seen ++ more) ++ s ∷ s ∷ []) × (gen s ≡ r.1)
-    × Grows e e' × Attempted o k e' (Answer r.0 r.1) × Answers o k e' r.0 r.1
+    (more : List ℕ) × (s : ℕ) × (e'.seen ≡ (e.seen ++ more) ++ s ∷ s ∷ []) × (generation_of s ≡ r.1)
+    × KnowsMore e e' × Attempted o k e' (Answer r.0 r.1) × Answers o k e' r.0 r.1
 
--- none or more attempts, of which none answered
+-- none or more attempts, of which none gave an answer
 abbrev pub Searches : ReaderKnowledge → ReaderKnowledge → Type 0
-Searches e e' = (more : List ℕ) × (e'.seen ≡ e.seen ++ more) × Grows e e'
+Searches e e' = (more : List ℕ) × (e'.seen ≡ e.seen ++ more) × KnowsMore e e'
 
 -- the reader has loaded word 0 once more, and knows these updates
 abbrev pub Met : ReaderKnowledge → ReaderKnowledge → List Update → Type 0
 Met e e' all =
-    (s : ℕ) × (e'.seen ≡ e.seen ++ s ∷ []) × (e'.known ≡ all) × Grows e e' × KnowsFloor e'
+    (s : ℕ) × (e'.seen ≡ e.seen ++ s ∷ []) × (e'.known ≡ all) × KnowsMore e e' × KnowsFloor e'
 
 abbrev pub new_reader : TableId → Knowledge → ReaderState
 new_reader place v =

@@ -9,7 +9,7 @@ use Rattle.order_laws.specs.Tables.{look}
 use Rattle.word_arena.specs.Layouts.{capacity_of}
 use Rattle.word_arena.specs.Words.{at}
 use Rattle.latch_core.specs.declared.updates.Update.{Update}
-use Rattle.latch_core.specs.Sequences.{gen}
+use Rattle.latch_core.specs.Sequences.{generation_of}
 use Rattle.latch_core.specs.Histories.{replay}
 use Rattle.latch_core.specs.Attempts.{Outcome, Answer, attempt, IsAttempt}
 use Rattle.latch_table.specs.declared.knowledge.ReaderKnowledge.{ReaderKnowledge}
@@ -17,7 +17,7 @@ use Rattle.latch_table.specs.declared.knowledge.WriterKnowledge.{WriterKnowledge
 use Rattle.latch_table.specs.declared.knowledge.Knowledge.{Knowledge}
 use Rattle.latch_table.specs.declared.knowledge.Origin.{Origin}
 use Rattle.latch_table.specs.declared.knowledge.Origin.TheVariants.{Start, Moved}
-use Rattle.latch_core.specs.Standing.{loads_of, IsSteady, IsLatched}
+use Rattle.latch_core.specs.Latched.{loads_of, IsSteady, IsLatched}
 use Rattle.latch_table.specs.Seats.{reader_of, writer_of, first_knowledge, with_sequence, with_word, with_loads, with_update, with_store, last_seen}
 
 -- the number of nodes and the opening generation
@@ -26,7 +26,7 @@ capacity_in (Start l start) = capacity_of l
 capacity_in (Moved l seat words) = capacity_of l
 
 abbrev pub base_in : Origin → ℕ
-base_in (Start l start) = gen start
+base_in (Start l start) = generation_of start
 base_in (Moved l seat words) = (writer_of seat.value.me.0).base
 
 -- the numbers never fall, from `low` on, and do not pass `top`
@@ -34,14 +34,14 @@ abbrev pub Rises : ℕ → List ℕ → ℕ → Type 0
 Rises low [] top = low ≤ top
 Rises low (x ∷ xs) top = (low ≤ x) × Rises x xs top
 
--- where the reader's last step ended an attempt with its first sequence, the attempt answers, from
--- the table after what it knows
+-- where the reader's last step ended an attempt with its first sequence, the attempt gives an
+-- answer, from the table after what it knows
 abbrev pub EndsRight : {K : Type 0} → Order K → ReaderKnowledge → Type 0
 EndsRight {K} o e =
     (k : K) (s : ℕ) (v : List ℕ) (out : Outcome)
     → IsAttempt o e.capacity k (s ∷ (v ++ s ∷ [])) out
     → e.ended ≡ loads_of (attempt o e.capacity k) (s ∷ (v ++ s ∷ []))
-    → out ≡ Answer (look o k (replay o [] e.known)) (gen s)
+    → out ≡ Answer (look o k (replay o [] e.known)) (generation_of s)
 
 -- what a reader knows is true of these words, and of the updates that were shown
 pub record ReaderKnows {K : Type 0} (o : Order K) (n base : ℕ) (words : List ℕ)
@@ -50,7 +50,7 @@ pub record ReaderKnows {K : Type 0} (o : Order K) (n base : ℕ) (words : List �
   pub capacity : e.capacity ≡ n
   pub begins : IsPrefix e.known known
   pub floored : IsPrefix e.floor known
-  pub counted : base + length e.known ≡ gen (last_seen e)
+  pub counted : base + length e.known ≡ generation_of (last_seen e)
   pub rises : Rises (2 * base) e.seen (at words 0)
   pub steady : IsSteady n words e.loads
   pub right : EndsRight o e
@@ -100,7 +100,7 @@ pub record LoadsSequence {K : Type 0} (o : Order K) (e : ReaderKnowledge) (s : �
     (known : List Update) : Type 0 where
   pub begins : IsPrefix e.known known
   pub floored : IsPrefix e.floor known
-  pub counted : e.base + length known ≡ gen s
+  pub counted : e.base + length known ≡ generation_of s
   pub right : EndsRight o (with_sequence s known e)
 
 module _ {S : Type 0} where
@@ -143,7 +143,7 @@ module _ {S : Type 0} where
   abbrev pub word_copied : Step S → Me S Knowledge → ℕ → Me S Knowledge → Type 0
   word_copied st m x m' = (x ≡ at (writer_of m.0).picture st.word) × (m' ≡ m)
 
-  -- the load by which the writer's seat learns which update is in hand
+  -- the load by which the writer's seat learns which update is pending
   abbrev pub update_taken : {K : Type 0} → Order K → Update → Step S → Me S Knowledge → ℕ
       → Me S Knowledge → Type 0
   update_taken o u st m x m' = loaded_by_writer st m x (with_update o u (writer_of m.0)) m'

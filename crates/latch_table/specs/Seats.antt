@@ -4,7 +4,7 @@ use Rattle.order_laws.specs.Orders.{Order}
 use Rattle.word_arena.specs.Layouts.{capacity_of}
 use Rattle.word_arena.specs.Words.{at}
 use Rattle.latch_core.specs.declared.updates.Update.{Update}
-use Rattle.latch_core.specs.Sequences.{gen, stable}
+use Rattle.latch_core.specs.Sequences.{generation_of, stable_copy_of}
 use Rattle.latch_core.specs.Histories.{replay}
 use Rattle.latch_core.specs.Latches.{opening_latch}
 use Rattle.latch_table.specs.declared.knowledge.ReaderKnowledge.{ReaderKnowledge}
@@ -30,7 +30,7 @@ blank_reader base n floor =
 abbrev pub blank_writer : ℕ → ℕ → WriterKnowledge
 blank_writer n start =
     record {
-      base = gen start;
+      base = generation_of start;
       capacity = n;
       picture = (opening_latch n start).words;
       known = [];
@@ -59,28 +59,28 @@ reader_of v = reader_or (blank_reader 0 0 []) v.reader
 abbrev pub writer_of : Knowledge → WriterKnowledge
 writer_of v = writer_or (blank_writer 0 0) v.writer
 
-abbrev pub reading : ReaderKnowledge → Knowledge
-reading e = record { writer = None; reader = Some e }
+abbrev pub reader_knowledge : ReaderKnowledge → Knowledge
+reader_knowledge e = record { writer = None; reader = Some e }
 
-abbrev pub writing : WriterKnowledge → Knowledge
-writing p = record { writer = Some p; reader = None }
+abbrev pub writer_knowledge : WriterKnowledge → Knowledge
+writer_knowledge p = record { writer = Some p; reader = None }
 
 -- what the first seat knows
 abbrev pub first_knowledge : Origin → Knowledge
-first_knowledge (Start l start) = writing (blank_writer (capacity_of l) start)
+first_knowledge (Start l start) = writer_knowledge (blank_writer (capacity_of l) start)
 first_knowledge (Moved l seat words) =
-    writing (moved_writer (capacity_of l) words.value.items (writer_of seat.value.me.0))
+    writer_knowledge (moved_writer (capacity_of l) words.value.items (writer_of seat.value.me.0))
 
 -- what is left of a seat that was joined to another
-abbrev pub nobody : Knowledge
-nobody = record { writer = None; reader = None }
+abbrev pub no_knowledge : Knowledge
+no_knowledge = record { writer = None; reader = None }
 
 -- a reader that the writer's seat parts with
-abbrev pub newcomer : Knowledge → Knowledge
-newcomer v = reading (blank_reader (writer_of v).base (writer_of v).capacity (writer_of v).known)
+abbrev pub new_reader_knowledge : Knowledge → Knowledge
+new_reader_knowledge v = reader_knowledge (blank_reader (writer_of v).base (writer_of v).capacity (writer_of v).known)
 
-abbrev pub both : Knowledge → Knowledge → Knowledge
-both v w = record { writer = v.writer; reader = w.reader }
+abbrev pub joined_knowledge : Knowledge → Knowledge → Knowledge
+joined_knowledge v w = record { writer = v.writer; reader = w.reader }
 
 abbrev pub writer_alone : Knowledge → Knowledge
 writer_alone v = record { writer = v.writer; reader = None }
@@ -106,14 +106,14 @@ with_word w x e = record e { loads = e.loads ++ (w, x) ∷ []; ended = [] }
 abbrev pub with_loads : List (ℕ × ℕ) → WriterKnowledge → WriterKnowledge
 with_loads loads p = record p { loads = loads }
 
--- a writer that takes an update in hand
+-- a writer that begins an update
 abbrev pub with_update : {K : Type 0} → Order K → Update → WriterKnowledge → WriterKnowledge
 with_update o u p =
     record p { accepted = p.known ++ u ∷ []; began = p.picture; old = replay o [] p.known }
 
 -- the updates that are shown after a store of this word: at the second flip all that were accepted
 abbrev pub shown_after : ℕ → WriterKnowledge → List Update
-shown_after w p = if w == 0 && stable (at p.picture 0) == 1 then p.accepted else p.known
+shown_after w p = if w == 0 && stable_copy_of (at p.picture 0) == 1 then p.accepted else p.known
 
 -- a writer after a store
 abbrev pub with_store : ℕ → ℕ → WriterKnowledge → WriterKnowledge

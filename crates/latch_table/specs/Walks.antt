@@ -1,9 +1,9 @@
 -- A reader's attempt on its way.
 use Rattle.std.specs.Prelude.{◌≡◌, ℕ, List, ◌∷◌, Some}
 use Rattle.order_laws.specs.Orders.{Order}
-use Rattle.latch_core.specs.Attempts.{Found, Item_found, No_item, Stuck, attempt, closing, rest_after}
+use Rattle.latch_core.specs.Attempts.{WalkEnd, AtItem, AtEmptyLink, Stuck, attempt, last_load, rest_after}
 use Rattle.latch_core.specs.Whole.{Wants}
-use Rattle.latch_core.specs.Standing.{loads_of}
+use Rattle.latch_core.specs.Latched.{loads_of}
 use Rattle.latch_table.specs.declared.knowledge.ReaderKnowledge.{ReaderKnowledge}
 use Rattle.latch_table.specs.declared.readers.attempts.Walked.{Walked}
 use Rattle.latch_table.specs.declared.readers.attempts.Walked.TheVariants.{At, Nowhere, Lost}
@@ -15,9 +15,9 @@ MayLoad o k e word =
     × Wants o e.capacity k (first ∷ values) word
 
 -- how a walk ended
-abbrev pub found_by : Walked → Found
-found_by (At item) = Item_found item
-found_by Nowhere = No_item
+abbrev pub found_by : Walked → WalkEnd
+found_by (At item) = AtItem item
+found_by Nowhere = AtEmptyLink
 found_by Lost = Stuck
 
 -- it has loaded words and learnt nothing else, and its attempt has the second reading of the
@@ -28,4 +28,4 @@ pub record HasWalked {K : Type 0} (o : Order K) (k : K) (first : ℕ) (before e 
   pub values : List ℕ
   pub loads : e.loads ≡ loads_of (attempt o e.capacity k) (first ∷ values)
   pub rest : rest_after (attempt o e.capacity k) (first ∷ values)
-      ≡ Some (closing first (found_by walked))
+      ≡ Some (last_load first (found_by walked))

@@ -1,6 +1,6 @@
 //! The table in a larger row of words.
 //!
-//! The writer alone stores, so with no update in hand it copies the words as they stand, and puts 0
+//! The writer alone stores, so with no pending update it copies the words as they stand, and puts 0
 //! in those of the new nodes. All memory is taken before anything changes; then the writer goes
 //! over to the new row, and the old row is freed with the readers that it has.
 
@@ -8,11 +8,11 @@ ghost use Rattle.std.specs.Prelude.{◌≡◌, ◌≤◌, [], length, OnErr, IfO
 ghost use Rattle.word_arena.specs.Layouts.{capacity_of};
 ghost use Rattle.word_arena.specs.Words.{words_for};
 ghost use Rattle.word_arena.specs.Wider.{wider_words};
-ghost use Rattle.latch_table.specs.Seats.{writer_of, writing};
+ghost use Rattle.latch_table.specs.Seats.{writer_of, writer_knowledge};
 ghost use Rattle.latch_table.specs.Enlarging.{AreReadersOf, Enlarges, RefusesEnlarging};
 
 use crate::knowledge::{Origin, TableSeat};
-use crate::opening::{Built, build};
+use crate::opening::{BuiltTable, build};
 use crate::readers::Reader;
 use crate::rule::{CopyWord, Words};
 use crate::writers::Writer;
@@ -21,7 +21,7 @@ use std::alloc::{AllocError, Global};
 use std::snapshot::Snapshot;
 use word_arena::Layout;
 
-/// The words of one layout, loaded through the writer's seat, and behind them 0 in those that a
+/// The words of one layout, loaded through the writer's seat, and after them 0 in those that a
 /// larger layout has in addition.
 fn copied<O: TreeOrder>(
     alloc: Global,
@@ -32,7 +32,7 @@ fn copied<O: TreeOrder>(
 ) -> Result<Vec<u64>, AllocError>
     requires table { seat.old.table_id ≡ words.now.table_id }
     requires sized { seat.old.table_id.words ≡ words_for (capacity_of from) }
-    requires writes { seat.old.me ≡ (writing (writer_of seat.old.me.0), []) }
+    requires writes { seat.old.me ≡ (writer_knowledge (writer_of seat.old.me.0), []) }
     requires picture { length (writer_of seat.old.me.0).picture ≡ words_for (capacity_of from) }
     requires wider { capacity_of from ≤ capacity_of to }
     ensures table { seat.new.table_id ≡ seat.old.table_id }
@@ -86,7 +86,7 @@ impl<O: TreeOrder> Writer<O> {
         let layout = self.core.layout();
         let words = copied::<O>(alloc, &self.table.shared, &mut self.seat, layout, l)?;
         let from = Origin::Moved(l, Snapshot::of(&self.seat), Snapshot::of(&words));
-        let Built {
+        let BuiltTable {
             table,
             seat,
             readers,

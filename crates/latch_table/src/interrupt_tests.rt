@@ -35,13 +35,13 @@ fn item(place: u64) -> Item {
 /// Both find this tag, in the table of this generation.
 fn both_find(
     rt: &impl Abort,
-    hand: &mut InHand<'_, HalfOpen>,
+    pending: &mut InHand<'_, HalfOpen>,
     reader: &mut Reader<HalfOpen>,
     key: u64,
     tag: Option<u64>,
     generation: u64,
 ) {
-    let (found, shown) = hand.find_inside(key);
+    let (found, shown) = pending.find_inside(key);
     assert_eq!(rt; (found.map(|item| item.tag), shown), (tag, generation));
     assert_eq!(rt; reader.try_find(key), Try::Answered(found, generation));
 }
@@ -49,7 +49,7 @@ fn both_find(
 /// The lookups at a stop after so many flips.
 fn find_all(
     rt: &impl Abort,
-    hand: &mut InHand<'_, HalfOpen>,
+    pending: &mut InHand<'_, HalfOpen>,
     reader: &mut Reader<HalfOpen>,
     case: Case,
     before: u64,
@@ -57,30 +57,30 @@ fn find_all(
 ) {
     let tag = if flips < 2 { case.before } else { case.after };
     let generation = before.saturating_add(flips / 2);
-    both_find(rt, hand, reader, case.key, tag, generation);
-    both_find(rt, hand, reader, ABOVE, None, generation);
+    both_find(rt, pending, reader, case.key, tag, generation);
+    both_find(rt, pending, reader, ABOVE, None, generation);
     if let Some(place) = case.stays {
-        both_find(rt, hand, reader, item(place).a, Some(place), generation);
+        both_find(rt, pending, reader, item(place).a, Some(place), generation);
     }
 }
 
 /// An update by single steps, from the table of this generation to the next.
 fn step_through(
     rt: &impl Abort,
-    mut hand: InHand<'_, HalfOpen>,
+    mut pending: InHand<'_, HalfOpen>,
     reader: &mut Reader<HalfOpen>,
     case: Case,
     before: u64,
 ) {
     let mut flips = 0u64;
-    for _ in 0..hand.remaining() {
-        find_all(rt, &mut hand, reader, case, before, flips);
-        if hand.step() == Some(Did::Flip) {
+    for _ in 0..pending.remaining() {
+        find_all(rt, &mut pending, reader, case, before, flips);
+        if pending.step() == Some(Did::Flip) {
             flips = flips.saturating_add(1);
         }
     }
-    find_all(rt, &mut hand, reader, case, before, flips);
-    assert_eq!(rt; hand.finish(), before.saturating_add(1));
+    find_all(rt, &mut pending, reader, case, before, flips);
+    assert_eq!(rt; pending.finish(), before.saturating_add(1));
 }
 
 /// Inserts 64 adjacent items in a scattered order.
@@ -96,8 +96,8 @@ fn inserts(
             after: Some(37 * i % 64),
             stays: if i == 0 { None } else { Some(0) },
         };
-        let hand = writer.begin(Update::Insert(item(37 * i % 64)))?;
-        step_through(rt, hand, reader, case, i);
+        let pending = writer.begin(Update::Insert(item(37 * i % 64)))?;
+        step_through(rt, pending, reader, case, i);
     }
     Ok(())
 }
@@ -115,8 +115,8 @@ fn erasures(
             after: None,
             stays: Some(63),
         };
-        let hand = writer.begin(Update::Erase(case.key))?;
-        step_through(rt, hand, reader, case, 64 + i);
+        let pending = writer.begin(Update::Erase(case.key))?;
+        step_through(rt, pending, reader, case, 64 + i);
     }
     Ok(())
 }
@@ -144,8 +144,8 @@ fn lookups_at_each_stop(rt: HostRuntime) -> Result<(), Fail> {
             after: Some(6 * i + 2),
             stays: Some(63),
         };
-        let hand = writer.begin(exchange(alloc, 6 * i)?)?;
-        step_through(&rt, hand, &mut reader, case, 96 + i);
+        let pending = writer.begin(exchange(alloc, 6 * i)?)?;
+        step_through(&rt, pending, &mut reader, case, 96 + i);
     }
     Ok(())
 }

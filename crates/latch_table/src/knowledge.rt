@@ -35,7 +35,7 @@ pub struct WriterKnowledge {
     pub picture: [u64; 0],
     /// The updates that were shown.
     pub known: [Update; 0],
-    /// All accepted updates: those that were shown, and the update in hand.
+    /// All accepted updates: those that were shown, and the pending update.
     pub accepted: [Update; 0],
     /// All words when the last update began, and the table before it.
     pub began: [u64; 0],

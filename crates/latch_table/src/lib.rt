@@ -43,7 +43,7 @@
 //! the table after the updates that were shown.
 //!
 //! **A larger table** ([`Writer::enlarge`]) is a new row of words. Between two updates the writer
-//! copies the words, puts those of the new nodes behind them, and its seat of the new row begins
+//! copies the words, puts those of the new nodes after them, and its seat of the new row begins
 //! with what its seat of the old one knew. New readers part from it; the old ones are given up with
 //! their row.
 //!

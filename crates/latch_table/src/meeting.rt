@@ -2,7 +2,7 @@
 
 ghost use Rattle.std.specs.Prelude.{◌≡◌};
 ghost use Rattle.latch_table.specs.Readers.{Met};
-ghost use Rattle.latch_table.specs.Writers.{known};
+ghost use Rattle.latch_table.specs.Writers.{shown_updates};
 
 use crate::readers::Reader;
 use crate::rule::{LoadSequence, Meeting};
@@ -13,7 +13,7 @@ use order_laws::TreeOrder;
 pub fn meet<O: TreeOrder>(reader: Reader<O>, writer: Writer<O>) -> (Reader<O>, Writer<O>)
     requires { reader.place ≡ writer.place }
     ensures reader { (result.0.place ≡ reader.place)
-        × Met reader.knowledge result.0.knowledge (known writer) }
+        × Met reader.knowledge result.0.knowledge (shown_updates writer) }
     ensures writer { result.1 ≡ writer }
 {
     let Reader {

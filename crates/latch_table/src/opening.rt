@@ -7,13 +7,13 @@ ghost use Rattle.word_arena.specs.Words.{words_for};
 ghost use Rattle.latch_core.specs.Latches.{opening_latch};
 ghost use Rattle.latch_table.specs.declared.knowledge.Origin.TheVariants.{Start};
 ghost use Rattle.latch_table.specs.Rule.{Opens, capacity_in};
-ghost use Rattle.latch_table.specs.Seats.{first_knowledge, writer_of, writing};
+ghost use Rattle.latch_table.specs.Seats.{first_knowledge, writer_of, writer_knowledge};
 ghost use Rattle.latch_table.specs.Writers.{new_writer, MayOpenWith, RefusesOpening};
 ghost use Rattle.latch_table.specs.Readers.{new_reader};
 
 use crate::knowledge::{Origin, TableSeat};
 use crate::readers::Reader;
-use crate::rule::{Board, NewReader};
+use crate::rule::{NewReader, WordTable};
 use crate::writers::Writer;
 use latch_core::WriterCore;
 use order_laws::{Refusal, TreeOrder};
@@ -25,8 +25,8 @@ use word_arena::Layout;
 pub const MOST_READERS: u32 = 64;
 
 /// A row of words, with its first seat and its readers.
-pub(crate) struct Built<O: TreeOrder> {
-    pub(crate) table: Arc<Board<O>, Global>,
+pub(crate) struct BuiltTable<O: TreeOrder> {
+    pub(crate) table: Arc<WordTable<O>, Global>,
     pub(crate) seat: TableSeat,
     pub(crate) readers: Vec<Reader<O>>,
 }
@@ -38,10 +38,10 @@ pub(crate) fn build<O: TreeOrder>(
     from: &Origin,
     words: &[u64],
     readers: u32,
-) -> Result<Built<O>, AllocError>
+) -> Result<BuiltTable<O>, AllocError>
     requires sized { length words.now ≡ words_for (capacity_of l) }
     requires capacity { capacity_in from.now ≡ capacity_of l }
-    requires writer { (first_knowledge from.now ≡ writing (writer_of (first_knowledge from.now))) }
+    requires writer { (first_knowledge from.now ≡ writer_knowledge (writer_of (first_knowledge from.now))) }
     requires same { (writer_of (first_knowledge from.now)).capacity ≡ capacity_of l }
     requires rule { Opens O.order from.now words.now }
     ensures seat { IfOk result (λ b. (b.seat.table_id ≡ (arc_value b.table).shared.table_id)
@@ -51,7 +51,7 @@ pub(crate) fn build<O: TreeOrder>(
     ensures readers { IfOk result (λ b. (vec_len b.readers ≡ readers)
         × All (λ x. x ≡ new_reader b.seat.table_id (first_knowledge from.now)) b.readers.items) }
 {
-    let (table, mut seat) = Board::<O>::of_words(alloc, words, from)?;
+    let (table, mut seat) = WordTable::<O>::of_words(alloc, words, from)?;
     let table = Arc::new(alloc, table)?;
     let mut all = Vec::with_capacity(alloc, readers as usize)?;
     for _ in 0..readers {
@@ -62,7 +62,7 @@ pub(crate) fn build<O: TreeOrder>(
             layout: l,
         })?;
     }
-    Ok(Built {
+    Ok(BuiltTable {
         table,
         seat,
         readers: all,
@@ -100,7 +100,7 @@ pub fn open<O: TreeOrder>(
     let core = WriterCore::<O>::open(alloc, l, start)?;
     let words = opening_words(alloc, l, start)?;
     let built = build::<O>(alloc, l, &Origin::Start(l, start), &words, readers)?;
-    let Built {
+    let BuiltTable {
         table,
         seat,
         readers: all,

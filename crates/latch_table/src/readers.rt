@@ -1,7 +1,7 @@
 //! A reader.
 
 use crate::knowledge::TableSeat;
-use crate::rule::Board;
+use crate::rule::WordTable;
 use order_laws::{Item, TreeOrder};
 use std::alloc::Global;
 use std::marker::Model;
@@ -14,7 +14,7 @@ mod lookups;
 /// A reader of the table: a seat of its own, and with it what it knows.
 #[derive(Drop)]
 pub struct Reader<O: TreeOrder> {
-    pub(crate) table: Arc<Board<O>, Global>,
+    pub(crate) table: Arc<WordTable<O>, Global>,
     pub(crate) seat: TableSeat,
     pub(crate) layout: Layout,
 }
@@ -25,7 +25,7 @@ impl<O: TreeOrder> Model for Reader<O> {
     ghost use Rattle.word_arena.specs.Layouts.{capacity_of};
     ghost use Rattle.word_arena.specs.Words.{words_for};
     ghost use Rattle.latch_table.specs.Rule.{capacity_in};
-    ghost use Rattle.latch_table.specs.Seats.{reading, reader_of};
+    ghost use Rattle.latch_table.specs.Seats.{reader_knowledge, reader_of};
     ghost use Rattle.latch_table.specs.Readers.{ReaderState};
 
     ghost Value = { ReaderState };
@@ -35,7 +35,7 @@ impl<O: TreeOrder> Model for Reader<O> {
     ghost invariant = { λ r. (r.seat.table_id ≡ (arc_value r.table).shared.table_id)
         × (r.seat.table_id.words ≡ words_for (capacity_of r.layout))
         × (capacity_in (arc_value r.table).shared.key ≡ capacity_of r.layout)
-        × (r.seat.me ≡ (reading (reader_of r.seat.me.0), []))
+        × (r.seat.me ≡ (reader_knowledge (reader_of r.seat.me.0), []))
         × ((reader_of r.seat.me.0).capacity ≡ capacity_of r.layout) };
 }
 

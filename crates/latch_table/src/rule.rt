@@ -25,7 +25,7 @@ impl<O: TreeOrder> TableRule<(), Knowledge, Origin> for Latched<O> {
 }
 
 /// The words of a table, and those words as its seats reach them.
-pub type Board<O> = Table<(), Knowledge, Origin, Latched<O>, Global>;
+pub type WordTable<O> = Table<(), Knowledge, Origin, Latched<O>, Global>;
 
 pub type Words<O> = Shared<(), Knowledge, Origin, Latched<O>>;
 
@@ -76,7 +76,7 @@ impl Play<(), Knowledge> for CopyWord {
     ghost then = { word_copied };
 }
 
-/// Which update the writer takes in hand.
+/// Which update the writer begins.
 pub trait NamesUpdate {
     ghost use Rattle.latch_core.specs.declared.updates.Update.{Update};
 
@@ -87,8 +87,8 @@ impl NamesUpdate for Brand {
     ghost update = { Erase 0 };
 }
 
-/// The writer takes an update in hand. A seat learns only at a step on a word, so this one loads
-/// the sequence.
+/// The writer begins an update. A seat learns only at a step on a word, so this one loads the
+/// sequence.
 pub struct TakeUpdate<O, J> {
     order: PhantomData<O>,
     update: PhantomData<J>,
@@ -113,22 +113,22 @@ impl Play<(), Knowledge> for StoreWord {
 pub struct NewReader;
 
 impl Split<Knowledge> for NewReader {
-    ghost use Rattle.latch_table.specs.Seats.{newcomer};
+    ghost use Rattle.latch_table.specs.Seats.{new_reader_knowledge};
 
     ghost left = { λ v. v };
 
-    ghost right = { newcomer };
+    ghost right = { new_reader_knowledge };
 }
 
 /// A reader meets the writer.
 pub struct Meeting;
 
 impl Join<Knowledge> for Meeting {
-    ghost use Rattle.latch_table.specs.Seats.{both, nobody};
+    ghost use Rattle.latch_table.specs.Seats.{joined_knowledge, no_knowledge};
 
-    ghost both = { both };
+    ghost both = { joined_knowledge };
 
-    ghost spent = { nobody };
+    ghost spent = { no_knowledge };
 }
 
 impl Split<Knowledge> for Meeting {

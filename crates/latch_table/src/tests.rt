@@ -16,31 +16,31 @@ pub fn item(a: u64, b: u64, tag: u64) -> Item {
 fn an_update_by_its_stops(rt: HostRuntime) -> Result<(), Fail> {
     let (mut writer, _readers) = open::<HalfOpen>(rt.alloc(), Layout::new(4)?, 0, 1)?;
     let first = item(0x1000, 0x2000, 7);
-    let mut hand = writer.begin(Update::Insert(first))?;
+    let mut pending = writer.begin(Update::Insert(first))?;
     let mut flips = 0u64;
-    for left in (0..hand.remaining()).rev() {
-        let found = hand.find_inside(0x1000);
+    for left in (0..pending.remaining()).rev() {
+        let found = pending.find_inside(0x1000);
         let shown = if flips < 2 {
             (None, 0)
         } else {
             (Some(first), 1)
         };
         assert_eq!(rt; found, shown);
-        if hand.step() == Some(Did::Flip) {
+        if pending.step() == Some(Did::Flip) {
             flips = flips.saturating_add(1);
         }
-        assert_eq!(rt; hand.remaining(), left);
+        assert_eq!(rt; pending.remaining(), left);
     }
-    assert_eq!(rt; hand.step(), None);
+    assert_eq!(rt; pending.step(), None);
     assert_eq!(rt; flips, 2);
-    assert_eq!(rt; hand.finish(), 1);
+    assert_eq!(rt; pending.finish(), 1);
     assert_eq!(rt; writer.generation(), 1);
     assert_eq!(rt; writer.find(0x2000), (None, 1));
     assert!(rt; writer.holds(0x1000) && !writer.holds(0x2000));
     Ok(())
 }
 
-// An update that is left stays in hand, and the writer goes on with it.
+// An update that is left stays pending, and the writer goes on with it.
 #[test]
 fn an_update_that_is_left(rt: HostRuntime) -> Result<(), Fail> {
     let (mut writer, _readers) = open::<HalfOpen>(rt.alloc(), Layout::new(4)?, 0, 1)?;
@@ -71,8 +71,8 @@ fn refusals(rt: HostRuntime) -> Result<(), Fail> {
         (Update::Insert(item(0x2000, 0x3000, 8)), Refusal::Full),
     ] {
         match writer.begin(update) {
-            Ok(hand) => {
-                hand.finish();
+            Ok(pending) => {
+                pending.finish();
                 panic!(rt; "not refused")
             }
             Err(refusal) => assert_eq!(rt; refusal, why),
@@ -98,12 +98,17 @@ fn readers_on_one_thread(rt: HostRuntime) -> Result<(), Fail> {
     let (mut other, mut writer) = meet(other, writer);
     assert_eq!(rt; reader.try_find(0x1000), Try::Answered(None, 0));
     let first = item(0x1000, 0x2000, 7);
-    let mut hand = writer.begin(Update::Insert(first))?;
+    let mut pending = writer.begin(Update::Insert(first))?;
     // The three words of the item come first, and then the first flip.
-    let steps = [hand.step(), hand.step(), hand.step(), hand.step()];
+    let steps = [
+        pending.step(),
+        pending.step(),
+        pending.step(),
+        pending.step(),
+    ];
     assert_eq!(rt; steps[3], Some(Did::Flip));
     assert_eq!(rt; reader.try_find(0x1000), Try::Answered(None, 0));
-    assert_eq!(rt; hand.finish(), 1);
+    assert_eq!(rt; pending.finish(), 1);
     assert_eq!(rt; other.try_find(0x1000), Try::Answered(Some(first), 1));
     assert_eq!(rt; writer.generation(), 1);
     Ok(())

@@ -1,7 +1,7 @@
-//! The writer, and an update in hand.
+//! The writer, and a pending update.
 
 use crate::knowledge::TableSeat;
-use crate::rule::Board;
+use crate::rule::WordTable;
 use latch_core::WriterCore;
 use order_laws::TreeOrder;
 use std::alloc::Global;
@@ -15,7 +15,7 @@ mod updates;
 /// The one writer of a table: the seat that alone may store, and the core that plans the stores.
 #[derive(Drop)]
 pub struct Writer<O: TreeOrder> {
-    pub(crate) table: Arc<Board<O>, Global>,
+    pub(crate) table: Arc<WordTable<O>, Global>,
     pub(crate) seat: TableSeat,
     pub(crate) core: WriterCore<O>,
     pub(crate) readers: u32,
@@ -37,8 +37,8 @@ impl<O: TreeOrder> Model for Writer<O> {
         (writer_state w.seat.table_id w.readers w.seat.me.0 w.core) };
 }
 
-/// An update in hand. It cannot be dropped: [`finish`](InHand::finish) brings it to its end, and
-/// [`leave`](InHand::leave) lets the writer keep it in hand.
+/// A pending update. It cannot be dropped: [`finish`](InHand::finish) brings it to its end, and
+/// [`leave`](InHand::leave) lets the writer keep it pending.
 pub struct InHand<'a, O: TreeOrder> {
     pub(crate) writer: &'a mut Writer<O>,
 }

@@ -1,24 +1,24 @@
 -- what a parse by the program's command gives
 mod ParseLemmas
 -- texts that are written one after the other
-mod Writing
+mod WriteLemmas
 -- what the events of a lookup do to an idle world
-mod Worlds
+mod WorldLemmas
 -- what updates that insert items leave in a table, and when one more is accepted
-mod Loads
+mod LoadLemmas
 -- the items of a module number, between those of the lesser and those of the greater ones
-mod Regions
+mod RegionLemmas
 -- a world for the table of a catalog, from its opening on
-mod Opening
+mod WorldOpeningLemmas
 -- one module more in a world that holds those of lesser numbers
-mod Loading
+mod CatalogLoadLemmas
 -- from the texts that were read to the readers that they were read from
-mod Inputs
+mod InputLemmas
 -- words that are numbers, one after the other
-mod Addresses
+mod AddressLemmas
 -- the lookup that a command line asks for
-mod Asked
+mod AskedLemmas
 -- one line more of a script
-mod Assigning
+mod AssignmentLemmas
 -- from the lines of a script to its text
-mod Running
+mod RunLemmas

@@ -5,7 +5,7 @@ use Rattle.std.specs.List.{filter_map}
 use Rattle.listing.specs.declared.scripts.ScriptLine.{ScriptLine}
 use Rattle.listing.specs.declared.scripts.ScriptLine.TheVariants as line
 use Rattle.listing.specs.Scripts.{most_writers}
-use Rattle.modules.specs.Catalogs.{number_of}
+use Rattle.modules.specs.Catalogs.{module_number_of}
 use Rattle.modules.specs.Entries.{CatalogEntries}
 use Rattle.shared_lookup.specs.declared.changes.Change.{Change}
 use Rattle.shared_lookup.specs.declared.changes.Change.TheVariants.{Load, Unload, DropInit}
@@ -25,7 +25,7 @@ pub record AreListed {T : Type 0} (count : ℕ) (entries : List (ℕ × T))
 
 -- the number of the module of this name, or one that no module has
 abbrev pub number_for : CatalogEntries → List ℕ → ℕ
-number_for c name = unwrap_or (number_of c name) ABSENT_MODULE
+number_for c name = unwrap_or (module_number_of c name) ABSENT_MODULE
 
 -- the writer of a line and its change
 abbrev pub change_in : CatalogEntries → ScriptLine → Option (ℕ × Change)

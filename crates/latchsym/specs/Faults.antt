@@ -6,7 +6,7 @@ use Rattle.devices.specs.declared.counted.Counted.{Counted}
 use Rattle.devices.specs.Counted.{Rose, device_of, failures_of}
 use Rattle.listing.specs.declared.faults.LineFault.{LineFault}
 use Rattle.listing.specs.declared.faults.LineFault.TheVariants as line
-use Rattle.order_laws.specs.Refusals as refusals
+use Rattle.order_laws.specs.Refusals.{refusal_number}
 use Rattle.order_laws.specs.declared.refusals.Refusal.TheVariants as refusal
 use Rattle.latchsym.specs.Jobs.{file_at}
 use Rattle.latchsym.specs.Texts.{refused_text}
@@ -15,17 +15,17 @@ use Rattle.latchsym.specs.declared.fault.Fault.{Fault}
 use Rattle.latchsym.specs.declared.fault.Fault.TheVariants.{Refused, BadLine, Read, Write}
 
 -- the number that stands for a fault
-abbrev pub number_of : Fault → ℕ
-number_of (Refused refusal) = refusals.number_of refusal
-number_of (BadLine place line) = 15
-number_of (Read place) = 16
-number_of Write = 16
+abbrev pub fault_number : Fault → ℕ
+fault_number (Refused refusal) = refusal_number refusal
+fault_number (BadLine place line) = 15
+fault_number (Read place) = 16
+fault_number Write = 16
 
-abbrev pub place_of : Fault → Option ℕ
-place_of (Refused refusal) = None
-place_of (BadLine place line) = Some place
-place_of (Read place) = Some place
-place_of Write = None
+abbrev pub fault_place : Fault → Option ℕ
+fault_place (Refused refusal) = None
+fault_place (BadLine place line) = Some place
+fault_place (Read place) = Some place
+fault_place Write = None
 
 abbrev pub line_of : Fault → Option ℕ
 line_of (Refused refusal) = None
@@ -41,7 +41,7 @@ unread_text file = file ++ codes ": cannot be read\n"
 
 -- what is said of a fault that is about this file, after the program's name
 abbrev pub message_text : Text → Fault → List ℕ
-message_text file (Refused refusal) = refused_text (refusals.number_of refusal)
+message_text file (Refused refusal) = refused_text (refusal_number refusal)
 message_text file (BadLine place line) = bad_line_text file line
 message_text file (Read place) = unread_text file
 message_text file Write = codes "cannot write\n"
@@ -58,10 +58,10 @@ IsLineFault place (line.BadLine n) fault = fault ≡ BadLine place n
 
 -- the file of the job that the fault is about
 abbrev pub file_of : Job → Fault → Text
-file_of job fault = unwrap_or (option_and_then (file_at job) (place_of fault)) []
+file_of job fault = unwrap_or (option_and_then (file_at job) (fault_place fault)) []
 
 -- the writer has taken this line and nothing else, or a call of it failed
-pub record Reported {D : Type 0} (contents : D → Option (List ℕ)) (old new : Counted D)
+pub record IsReported {D : Type 0} (contents : D → Option (List ℕ)) (old new : Counted D)
     (line : List ℕ) : Type 0 where
   pub outcome : Appends (contents (device_of old)) (contents (device_of new)) line
       ⊎ Rose (failures_of old) (failures_of new)
@@ -69,8 +69,8 @@ pub record Reported {D : Type 0} (contents : D → Option (List ℕ)) (old new :
 
 -- The program's status after a job with this outcome, and what it has said of it: nothing of a
 -- success.
-abbrev pub Concluded : {D : Type 0} → (D → Option (List ℕ)) → Job → Counted D → Counted D
+abbrev pub IsConcluded : {D : Type 0} → (D → Option (List ℕ)) → Job → Counted D → Counted D
     → Result (Unit {0}) Fault → ℕ → Type 0
-Concluded contents job old new (Ok _) status = (status ≡ 0) × (new ≡ old)
-Concluded contents job old new (Err fault) status =
-    (status ≡ 1) × Reported contents old new (fault_text (file_of job fault) fault)
+IsConcluded contents job old new (Ok _) status = (status ≡ 0) × (new ≡ old)
+IsConcluded contents job old new (Err fault) status =
+    (status ≡ 1) × IsReported contents old new (fault_text (file_of job fault) fault)

@@ -125,8 +125,8 @@ abbrev pub lacks_addresses : LookupWords → Bool
 lacks_addresses l = nat_eq (length l.addresses) 0 && is_none l.address_file
 
 -- what a lookup asks for whose addresses are these words
-abbrev pub words_of : LookupJob → List Text → LookupWords
-words_of job words = record {
+abbrev pub lookup_words_of : LookupJob → List Text → LookupWords
+lookup_words_of job words = record {
   modules = job.modules.now;
   kallsyms = job.kallsyms.now;
   regions = option_map (λ f. f.now) job.regions;
@@ -138,8 +138,8 @@ words_of job words = record {
 -- some address is given, and those of the job are the numbers that the words are, in order
 pub record IsLookupFor (asked : Asked) (job : LookupJob) : Type 0 where
   pub words : List Text
-  pub asked_for : asked ≡ ForLookup (words_of job words)
-  pub some : lacks_addresses (words_of job words) ≡ false
+  pub asked_for : asked ≡ ForLookup (lookup_words_of job words)
+  pub some : lacks_addresses (lookup_words_of job words) ≡ false
   pub none_bad : find is_no_number words ≡ None
   pub addresses : job.addresses.items ≡ filter_map number_of words
 
@@ -211,7 +211,7 @@ IsFaultOf error OutOfMemory = kind_of error ≡ kind.OutOfMemory
 IsFaultOf error (CommandLine e) = (e ≡ error) × (kind_of e ≢ kind.OutOfMemory)
 IsFaultOf error _ = ⊥
 
--- The answer to these words. A job is answered only where the parser finds no fault in them, and is
+-- The answer to these words. A job is returned only where the parser finds no fault in them, and is
 -- what they say; a fault of the command line is one that the parser finds.
 abbrev pub AnswersWords : List Text → Result Job JobFault → Type 0
 AnswersWords words (Ok job) =

@@ -13,28 +13,28 @@ use Rattle.latch_core.specs.declared.updates.Update.{Update}
 use Rattle.latch_core.specs.Updates.{erased, inserted}
 use Rattle.latch_steps.specs.declared.worlds.World.{World}
 use Rattle.latch_steps.specs.Worlds.{IsAfter, layout_in}
-use Rattle.modules.specs.Catalogs.{IsSound}
+use Rattle.modules.specs.Catalogs.{IsSoundCatalog}
 use Rattle.modules.specs.Entries.{CatalogEntries}
 use Rattle.modules.specs.Items.{items_below, items_of}
 use Rattle.latchsym.specs.CatalogTables.{HasManyRegions}
 
--- the world comes after these updates, with no pending update and no lookup in hand
+-- the world comes after these updates, with no pending update and no pending lookup
 pub record IsIdle (updates : List Update) (w : World HalfOpen ℕ) : Type 0 where
   pub after : IsAfter half_open 0 updates w
-  pub rest : after.moment.latch.hand ≡ None
+  pub rest : after.moment.latch.pending ≡ None
   pub no_lookup : (r : ℕ) → get after.moment.lookups r ≡ None
 
 -- the updates insert these items, at least one each, and erase none
-pub record Inserts (updates : List Update) (items : List Item) : Type 0 where
+pub record AreInsertsOf (updates : List Update) (items : List Item) : Type 0 where
   pub inserted : flat_map inserted updates ≡ items
   pub erased : flat_map erased updates ≡ []
   pub few : length updates ≤ length items
 
 -- an idle world whose table has these items
-pub record Holds (items : List Item) (w : World HalfOpen ℕ) : Type 0 where
+pub record HasTable (items : List Item) (w : World HalfOpen ℕ) : Type 0 where
   pub updates : List Update
   pub idle : IsIdle updates w
-  pub inserts : Inserts updates items
+  pub inserts : AreInsertsOf updates items
 
 -- the world has the wide layout, and room for all regions
 pub record HasRoomFor (c : CatalogEntries) (w : World HalfOpen ℕ) : Type 0 where
@@ -43,8 +43,8 @@ pub record HasRoomFor (c : CatalogEntries) (w : World HalfOpen ℕ) : Type 0 whe
 
 -- it has the items of the modules of all lesser numbers, and room for those of the others
 pub record HoldsBelow (c : CatalogEntries) (number : ℕ) (w : World HalfOpen ℕ) : Type 0 where
-  pub sound : IsSound c
-  pub holds : Holds (items_below c number) w
+  pub sound : IsSoundCatalog c
+  pub holds : HasTable (items_below c number) w
   pub room : HasRoomFor c w
 
 -- a table of all regions is refused where there are too many, and else when out of memory

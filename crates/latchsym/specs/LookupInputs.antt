@@ -6,7 +6,7 @@ use Rattle.devices.specs.Counted.{device_of, failures_of}
 use Rattle.listing.specs.Addresses.{addresses_of}
 use Rattle.listing.specs.Lines.{lines_of}
 use Rattle.listing.specs.ModuleListing.{modules_in}
-use Rattle.listing.specs.Said.{after_front}
+use Rattle.listing.specs.Said.{entries_after}
 use Rattle.listing.specs.SymbolListing.{symbols_in}
 use Rattle.modules.specs.declared.catalog.BuildCounts.{BuildCounts}
 use Rattle.modules.specs.Catalogs.{catalog_of, counts_of}
@@ -15,7 +15,7 @@ use Rattle.modules.specs.Listed.{BoundNames, ListedRegion}
 use Rattle.latchsym.specs.declared.lookup.ListingTexts.{ListingTexts}
 use Rattle.latchsym.specs.declared.lookup.LookupInputs.{LookupInputs}
 use Rattle.latchsym.specs.declared.lookup.LookupReaders.{LookupReaders}
-use Rattle.listing.specs.RegionListing.{regions_of as listed_regions}
+use Rattle.listing.specs.RegionListing.{regions_of_text as listed_regions}
 
 -- the texts of the listings, of which that of regions may be missing
 pub record Texts : Type 0 where
@@ -56,7 +56,7 @@ listed_addresses (Some text) = addresses_of text
 
 -- the addresses of the command line, and after them those of the file
 abbrev pub all_addresses : List ℕ → Option (List ℕ) → Result (List ℕ) ℕ
-all_addresses given text = after_front given (listed_addresses text)
+all_addresses given text = entries_after given (listed_addresses text)
 
 -- the inputs with these region lines and addresses, or the first bad line of the file of addresses,
 -- as the place of that file and the number of the line
@@ -72,20 +72,20 @@ inputs_with names t regions (Ok addresses) = Ok (record {
 })
 
 -- The same, where the text of that file is known. A bad region line is told before it is read.
-abbrev pub inputs_behind : BoundNames → List ℕ → Texts → Result (Option (List ListedRegion)) ℕ
+abbrev pub inputs_after : BoundNames → List ℕ → Texts → Result (Option (List ListedRegion)) ℕ
     → Option (Option (List ℕ)) → Option (Result Inputs (ℕ × ℕ))
-inputs_behind names given t (Err n) file = Some (Err (2, n))
-inputs_behind names given t (Ok regions) file =
+inputs_after names given t (Err n) file = Some (Err (2, n))
+inputs_after names given t (Ok regions) file =
     option_map (λ text. inputs_with names t regions (all_addresses given text)) file
 
 -- the inputs that these texts are, after the names and the addresses of the command line
 abbrev pub inputs_of : BoundNames → List ℕ → Option (Option (List ℕ)) → Texts
     → Option (Result Inputs (ℕ × ℕ))
-inputs_of names given file t = inputs_behind names given t (region_lines t.regions) file
+inputs_of names given file t = inputs_after names given t (region_lines t.regions) file
 
 -- the inputs that the program gathers
-abbrev pub gathered_in : LookupInputs → Inputs
-gathered_in i = record {
+abbrev pub inputs_in : LookupInputs → Inputs
+inputs_in i = record {
   names = i.names.now;
   modules = i.modules.now;
   kallsyms = i.kallsyms.now;
@@ -94,18 +94,18 @@ gathered_in i = record {
 }
 
 -- the region lines, of which there are none where there is no listing of them
-abbrev pub lines_in : Inputs → List ListedRegion
-lines_in i = unwrap_or i.regions []
+abbrev pub region_lines_of_inputs : Inputs → List ListedRegion
+region_lines_of_inputs i = unwrap_or i.regions []
 
 -- the catalog that the listings say, and how many of their entries went where
 unfoldable pub catalog_in : Inputs → CatalogEntries
 catalog_in i =
-    catalog_of i.names (modules_in (lines_of i.modules)) (lines_in i)
+    catalog_of i.names (modules_in (lines_of i.modules)) (region_lines_of_inputs i)
     (symbols_in (lines_of i.kallsyms))
 
 unfoldable pub counts_in : Inputs → BuildCounts
 counts_in i =
-    counts_of i.names (modules_in (lines_of i.modules)) (lines_in i)
+    counts_of i.names (modules_in (lines_of i.modules)) (region_lines_of_inputs i)
     (symbols_in (lines_of i.kallsyms))
 
 -- a reader that may be there: how many of its calls failed, and what it gives, where that is known

@@ -13,7 +13,7 @@ use Rattle.modules.specs.declared.catalog.BuildCounts.{BuildCounts}
 use Rattle.modules.specs.Listed.{ListedRegion}
 use Rattle.modules.specs.Placed.{are_few}
 use Rattle.latchsym.specs.CatalogTables.{HasFewRegions, HasManyRegions, answer_at}
-use Rattle.latchsym.specs.LookupInputs.{Inputs, all_addresses, catalog_in, counts_in, failures_in, lines_in, region_lines}
+use Rattle.latchsym.specs.LookupInputs.{Inputs, all_addresses, catalog_in, counts_in, failures_in, region_lines_of_inputs, region_lines}
 use Rattle.latchsym.specs.LookupTexts.{answer_line, modules_line, regions_line, symbols_line}
 use Rattle.latchsym.specs.declared.fault.Fault.{Fault}
 use Rattle.latchsym.specs.declared.fault.Fault.TheVariants.{Refused, BadLine, Read, Write}
@@ -39,18 +39,18 @@ lookup_text i =
 
 -- no module has too many region lines, and a table of all regions has so many nodes at most
 abbrev pub FitsTable : Inputs → Type 0
-FitsTable i = (are_few (lines_in i) ≡ true) × HasFewRegions (catalog_in i)
+FitsTable i = (are_few (region_lines_of_inputs i) ≡ true) × HasFewRegions (catalog_in i)
 
 abbrev pub HasTooManyRegions : Inputs → Type 0
-HasTooManyRegions i = (are_few (lines_in i) ≡ true) × HasManyRegions (catalog_in i)
+HasTooManyRegions i = (are_few (region_lines_of_inputs i) ≡ true) × HasManyRegions (catalog_in i)
 
 -- more than seven region lines have one name
 abbrev pub HasTooManyOfOne : Inputs → Type 0
-HasTooManyOfOne i = are_few (lines_in i) ≡ false
+HasTooManyOfOne i = are_few (region_lines_of_inputs i) ≡ false
 
 -- the catalog and the counts are those of these inputs
-pub record AreSaidBy (i : Inputs) (l : Listings) : Type 0 where
-  pub few : are_few (lines_in i) ≡ true
+pub record AreListingsOf (i : Inputs) (l : Listings) : Type 0 where
+  pub few : are_few (region_lines_of_inputs i) ≡ true
   pub catalog : l.catalog ≡ catalog_in i
   pub built : l.built ≡ counts_in i
   pub skipped_modules : l.skipped_modules ≡ module_counts (lines_of i.modules)
@@ -69,7 +69,7 @@ abbrev pub IsWritten : {W : Type 0} → (W → Option (List ℕ)) → Counted W 
 IsWritten contents w w' i =
     FitsTable i × Appends (contents (device_of w)) (contents (device_of w')) (lookup_text i)
 
--- What is answered for these inputs, from one state of the writer to another. Every fault but a
+-- What is returned for these inputs, from one state of the writer to another. Every fault but a
 -- failed write leaves the writer as it was, and a call of it failed then alone.
 abbrev pub AnswersWith : {W : Type 0} → (W → Option (List ℕ)) → Inputs
     → Counted W → Counted W → Result (Unit {0}) Fault → Type 0
@@ -142,20 +142,20 @@ IsLinesPlace place = (place ≡ 2) ⊎ (place ≡ 3)
 
 -- What an engine returns that also read the inputs, where these are known. A call of a reader
 -- failed where the answer says so, and else none.
-abbrev pub Answers : {W : Type 0} → (W → Option (List ℕ)) → Option (Result Inputs (ℕ × ℕ))
+abbrev pub AnswersInputs : {W : Type 0} → (W → Option (List ℕ)) → Option (Result Inputs (ℕ × ℕ))
     → Failures
     → Counted W → Counted W → Result (Unit {0}) Fault → Type 0
-Answers contents known counts w w' (Ok _) =
+AnswersInputs contents known counts w w' (Ok _) =
     NoReaderFailed counts × NoneFailed w w' × IfSome known (HoldsOf (IsWritten contents w w'))
-Answers contents known counts w w' (Err (Refused refusal.OutOfMemory)) =
+AnswersInputs contents known counts w w' (Err (Refused refusal.OutOfMemory)) =
     NoReaderFailed counts × (w' ≡ w)
-Answers contents known counts w w' (Err (Refused refusal.BadCapacity)) =
+AnswersInputs contents known counts w w' (Err (Refused refusal.BadCapacity)) =
     NoReaderFailed counts × (w' ≡ w) × IfSome known (HoldsOf HasTooManyRegions)
-Answers contents known counts w w' (Err (Refused refusal.TooManyRegions)) =
+AnswersInputs contents known counts w w' (Err (Refused refusal.TooManyRegions)) =
     NoReaderFailed counts × (w' ≡ w) × IfSome known (HoldsOf HasTooManyOfOne)
-Answers contents known counts w w' (Err (BadLine place n)) =
+AnswersInputs contents known counts w w' (Err (BadLine place n)) =
     NoReaderFailed counts × (w' ≡ w) × IsLinesPlace place × IfSome known (λ i. i ≡ Err (place, n))
-Answers contents known counts w w' (Err (Read place)) = (w' ≡ w) × OnlyFailed place counts
-Answers contents known counts w w' (Err Write) =
+AnswersInputs contents known counts w w' (Err (Read place)) = (w' ≡ w) × OnlyFailed place counts
+AnswersInputs contents known counts w w' (Err Write) =
     NoReaderFailed counts × Rose (failures_of w) (failures_of w') × IfSome known (HoldsOf FitsTable)
-Answers contents known counts w w' (Err _) = ⊥
+AnswersInputs contents known counts w w' (Err _) = ⊥

@@ -45,7 +45,7 @@ IsRun contents c readers lines w w' status =
     × ((s : Served) × IsServed c a s × (status ≡ status_of s.wrong)
     × Appends (contents (device_of w)) (contents (device_of w')) (run_text c a.names.items s))
 
--- What is answered to these lines. Every fault but a failed write leaves the writer as it was.
+-- What is returned for these lines. Every fault but a failed write leaves the writer as it was.
 abbrev pub AnswersLines : {W : Type 0} → (W → Option (List ℕ)) → CatalogEntries → ℕ
     → List ScriptLine
     → Counted W → Counted W → Result ℕ Fault → Type 0
@@ -61,7 +61,7 @@ AnswersLines contents c readers lines w w' (Err _) = ⊥
 abbrev pub IsUnderstood : ℕ → List ℕ → Type 0
 IsUnderstood readers text = (lines : List ScriptLine) × (script_of readers text ≡ Ok lines)
 
--- What is answered to the text of a script, over these listings.
+-- What is returned for the text of a script, over these listings.
 abbrev pub AnswersScript : {W : Type 0} → (W → Option (List ℕ)) → Inputs → ℕ → List ℕ
     → Counted W → Counted W → Result ℕ Fault → Type 0
 AnswersScript contents i readers text w w' (Ok status) =

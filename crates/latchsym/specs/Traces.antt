@@ -91,22 +91,22 @@ AnswersIn o contents said w w' (Err _) = ⊥
 
 -- The same of an engine that also read the trace, where the bytes of the reader are known. A call
 -- of the reader failed where the answer says so, and else none.
-abbrev pub Answers : {R W : Type 0} → (R → Option (List ℕ)) → (W → Option (List ℕ))
+abbrev pub AnswersTrace : {R W : Type 0} → (R → Option (List ℕ)) → (W → Option (List ℕ))
     → Counted R → Counted R → Counted W → Counted W → Result (Unit {0}) Fault → Type 0
-Answers remaining contents r r' w w' (Ok _) =
+AnswersTrace remaining contents r r' w w' (Ok _) =
     NoneFailed r r' × NoneFailed w w'
     × IfSome (remaining (device_of r)) (λ read. (text : List ℕ) × IsTraceText read text
     × Appends (contents (device_of w)) (contents (device_of w')) text)
-Answers remaining contents r r' w w' (Err (Refused refusal.OutOfMemory)) =
+AnswersTrace remaining contents r r' w w' (Err (Refused refusal.OutOfMemory)) =
     NoneFailed r r' × (w' ≡ w)
-Answers remaining contents r r' w w' (Err (Refused refusal.BadCapacity)) =
+AnswersTrace remaining contents r r' w w' (Err (Refused refusal.BadCapacity)) =
     NoneFailed r r' × (w' ≡ w) × IfSome (remaining (device_of r)) (IsTraceWith HeaderMayNotOpen)
-Answers remaining contents r r' w w' (Err (Refused _)) = ⊥
-Answers remaining contents r r' w w' (Err (BadLine place n)) =
+AnswersTrace remaining contents r r' w w' (Err (Refused _)) = ⊥
+AnswersTrace remaining contents r r' w w' (Err (BadLine place n)) =
     NoneFailed r r' × (w' ≡ w) × (place ≡ 0)
     × IfSome (remaining (device_of r)) (λ read. trace_of read ≡ Err n)
-Answers remaining contents r r' w w' (Err (Read place)) =
+AnswersTrace remaining contents r r' w w' (Err (Read place)) =
     (w' ≡ w) × (place ≡ 0) × Rose (failures_of r) (failures_of r')
-Answers remaining contents r r' w w' (Err Write) =
+AnswersTrace remaining contents r r' w w' (Err Write) =
     NoneFailed r r' × Rose (failures_of w) (failures_of w')
     × IfSome (remaining (device_of r)) (IsTraceWith HeaderMayOpen)

@@ -1,7 +1,7 @@
 //! Why a run of the program fails, and the line that says so.
 ghost use Rattle.std.specs.Prelude.{◌≡◌, []};
 ghost use Rattle.devices.specs.Exact.{Wrote};
-ghost use Rattle.latchsym.specs.Faults.{Concluded, IsLineFault, Reported, bad_line_text, fault_text, file_of, line_of, message_text, number_of, place_of, unread_text};
+ghost use Rattle.latchsym.specs.Faults.{IsConcluded, IsLineFault, IsReported, bad_line_text, fault_text, file_of, line_of, message_text, fault_number, fault_place, unread_text};
 
 use crate::command_line::Job;
 use crate::texts::{put_decimal, put_refused};
@@ -55,7 +55,7 @@ impl Fault {
     /// The number that stands for the fault: that of the refusal, 15 for a bad line, 16 where a
     /// reader or the writer failed. The program writes texts; who runs an engine has the number.
     pub fn number(&self) -> u32
-        ensures { result ≡ number_of self.now }
+        ensures { result ≡ fault_number self.now }
     {
         match self {
             Fault::Refused(refusal) => refusal.number(),
@@ -66,7 +66,7 @@ impl Fault {
 
     /// The place of the file that the fault is about, if it is about one.
     pub fn place(&self) -> Option<u64>
-        ensures { result ≡ place_of self.now }
+        ensures { result ≡ fault_place self.now }
     {
         match self {
             Fault::BadLine { place, .. } | Fault::Read { place } => Some(*place),
@@ -110,7 +110,7 @@ impl From<AllocError> for Fault {
 /// Ends a job: returns the program's status, 0 where the job succeeded. Where it failed, writes the
 /// line that says why.
 pub fn conclude<W: Write>(outcome: Result<(), Fault>, job: &Job<'_>, writer: &mut Counted<W>) -> u8
-    ensures { Concluded W.contents job.now writer.old writer.new outcome result }
+    ensures { IsConcluded W.contents job.now writer.old writer.new outcome result }
 {
     match outcome {
         Ok(()) => SUCCEEDED,
@@ -122,7 +122,7 @@ pub fn conclude<W: Write>(outcome: Result<(), Fault>, job: &Job<'_>, writer: &mu
 /// fails too, the status is all that there is to tell.
 pub fn report<W: Write>(fault: &Fault, job: &Job<'_>, writer: &mut Counted<W>) -> u8
     ensures status { result ≡ 1 }
-    ensures line { Reported W.contents writer.old writer.new
+    ensures line { IsReported W.contents writer.old writer.new
         (fault_text (file_of job.now fault.now) fault.now) }
 {
     let file = file_of(fault, job);
@@ -133,7 +133,7 @@ pub fn report<W: Write>(fault: &Fault, job: &Job<'_>, writer: &mut Counted<W>) -
 /// The same for a fault that came before there was a job. It is about no file.
 pub fn report_before_job<W: Write>(fault: &Fault, writer: &mut Counted<W>) -> u8
     ensures status { result ≡ 1 }
-    ensures line { Reported W.contents writer.old writer.new (fault_text [] fault.now) }
+    ensures line { IsReported W.contents writer.old writer.new (fault_text [] fault.now) }
 {
     let _ = put_fault(fault, b"", writer);
     FAILED

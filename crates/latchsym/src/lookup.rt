@@ -4,9 +4,9 @@ ghost use Rattle.devices.specs.Counted.{device_of, failures_of};
 ghost use Rattle.devices.specs.Exact.{Wrote};
 ghost use Rattle.modules.specs.Catalogs.{IsBuildRefusal};
 ghost use Rattle.modules.specs.Lines.{region_fits};
-ghost use Rattle.latchsym.specs.LookupInputs.{failures_in, gathered_in, inputs_of, known_inputs, known_text, lines_in, texts_in};
+ghost use Rattle.latchsym.specs.LookupInputs.{failures_in, inputs_in, inputs_of, known_inputs, known_text, region_lines_of_inputs, texts_in};
 ghost use Rattle.latchsym.specs.LookupTexts.{answer_line};
-ghost use Rattle.latchsym.specs.Lookups.{Answers, AnswersWith, AreSaidBy, GivesAddresses, GivesLines, IsReadAs, counts_text, failures_between, last_failures, regions_line_of};
+ghost use Rattle.latchsym.specs.Lookups.{AnswersInputs, AnswersWith, AreListingsOf, GivesAddresses, GivesLines, IsReadAs, counts_text, failures_between, last_failures, regions_line_of};
 
 use crate::fault::Fault;
 use crate::lookup_texts::{put_answers, put_module_counts, put_region_counts, put_symbol_counts};
@@ -92,7 +92,7 @@ pub fn lookup_engine<M: Read, K: Read, R: Read, A: Read, W: Write>(
     addresses: &[u64],
     writer: &mut Counted<W>,
 ) -> Result<(), Fault>
-    ensures { Answers W.contents
+    ensures { AnswersInputs W.contents
         (known_inputs M.remaining K.remaining R.remaining A.remaining
         readers.old names.now addresses.now)
         (failures_between readers.old readers.new) writer.old writer.new result }
@@ -141,7 +141,8 @@ pub(crate) fn read_at<R: Read>(
     }
 }
 
-/// Answers for the texts of the listings, and for the addresses that are given and those of a file.
+/// Gives the answers for the texts of the listings, and for the addresses that are given and those
+/// of a file.
 fn answer_from<A: Read, W: Write>(
     alloc: Global,
     names: &KernelBounds<'_>,
@@ -150,7 +151,7 @@ fn answer_from<A: Read, W: Write>(
     file: &mut Option<Counted<A>>,
     writer: &mut Counted<W>,
 ) -> Result<(), Fault>
-    ensures { Answers W.contents
+    ensures { AnswersInputs W.contents
         (inputs_of names.now given.now (known_text A.remaining file.old) (texts_in texts.now))
         (last_failures file.old file.new) writer.old writer.new result }
 {
@@ -208,8 +209,8 @@ fn answer_with<W: Write>(
     inputs: &LookupInputs<'_>,
     writer: &mut Counted<W>,
 ) -> Result<(), Fault>
-    requires { All (λ r. region_fits r ≡ true) (lines_in (gathered_in inputs.now)) }
-    ensures { AnswersWith W.contents (gathered_in inputs.now) writer.old writer.new result }
+    requires { All (λ r. region_fits r ≡ true) (region_lines_of_inputs (inputs_in inputs.now)) }
+    ensures { AnswersWith W.contents (inputs_in inputs.now) writer.old writer.new result }
 {
     let listings = listings_in(alloc, inputs)?;
     let answers = answers_of(
@@ -228,9 +229,9 @@ pub(crate) fn listings_in<'a>(
     alloc: Global,
     inputs: &LookupInputs<'a>,
 ) -> Result<Listings<'a>, Refusal>
-    requires { All (λ r. region_fits r ≡ true) (lines_in (gathered_in inputs.now)) }
-    ensures said { IfOk result (AreSaidBy (gathered_in inputs.now)) }
-    ensures refusal { IfErr result (IsBuildRefusal (lines_in (gathered_in inputs.now))) }
+    requires { All (λ r. region_fits r ≡ true) (region_lines_of_inputs (inputs_in inputs.now)) }
+    ensures said { IfOk result (AreListingsOf (inputs_in inputs.now)) }
+    ensures refusal { IfErr result (IsBuildRefusal (region_lines_of_inputs (inputs_in inputs.now))) }
 {
     let (module_lines, skipped_modules) = read_modules(alloc, inputs.modules)?;
     let (symbol_lines, skipped_symbols) = read_kallsyms(alloc, inputs.kallsyms)?;
@@ -253,7 +254,7 @@ pub(crate) fn listings_in<'a>(
 
 /// The region lines, of which there are none where there is no listing of them.
 fn region_lines_of<'i, 'a>(inputs: &'i LookupInputs<'a>) -> &'i [RegionLine<'a>]
-    ensures { result.now ≡ lines_in (gathered_in inputs.now) }
+    ensures { result.now ≡ region_lines_of_inputs (inputs_in inputs.now) }
 {
     match &inputs.regions {
         Some(lines) => lines,

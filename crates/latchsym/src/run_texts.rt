@@ -3,7 +3,7 @@ ghost use Rattle.std.specs.Prelude.{◌++◌, ◌≡◌, codes, decimal, flat_ma
 ghost use Rattle.std.specs.List.{zip};
 ghost use Rattle.devices.specs.Exact.{Wrote};
 ghost use Rattle.latchsym.specs.LookupTexts.{count_text};
-ghost use Rattle.latchsym.specs.RunTexts.{answered_text, answers_text, change_text, checked_of, refusals_text, run_text, totals_text, writer_text};
+ghost use Rattle.latchsym.specs.RunTexts.{answered_text, answers_text, change_text, count_of_answers, refusals_text, run_text, totals_text, writer_text};
 
 use crate::lookup_texts::put_count;
 use crate::texts::put_decimal;
@@ -135,7 +135,7 @@ fn put_answered<W: Write>(
 
 /// How many answers there are in all lists; it stays at the greatest number.
 fn checked_in(answers: &[Vec<Answer>]) -> u64
-    ensures { result ≡ checked_of answers.now }
+    ensures { result ≡ count_of_answers answers.now }
 {
     let mut checked = 0u64;
     for list in answers {

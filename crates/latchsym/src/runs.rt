@@ -8,7 +8,7 @@ ghost use Rattle.std.specs.List.{list_any};
 ghost use Rattle.devices.specs.Counted.{device_of};
 ghost use Rattle.listing.specs.Scripts.{has_actor};
 ghost use Rattle.modules.specs.Lines.{region_fits};
-ghost use Rattle.latchsym.specs.LookupInputs.{gathered_in, lines_in};
+ghost use Rattle.latchsym.specs.LookupInputs.{inputs_in, region_lines_of_inputs};
 ghost use Rattle.latchsym.specs.Runs.{AnswersLines, AnswersScript, RunsScript, status_of};
 
 use crate::assignments::{Assignments, assign};
@@ -45,13 +45,13 @@ pub struct RunReaders<M, K, R, S> {
 const SCRIPT_PLACE: u64 = 3;
 
 /// Does what a script for so many readers says, over a table that is empty at first, and writes a
-/// line for each refused change and each lookup and the line of the totals. Answers the program's
+/// line for each refused change and each lookup and the line of the totals. Returns the program's
 /// status, 1 where an answer was not that of its generation or a change is not in the log as it was
 /// accepted.
 ///
 /// All is read, done and checked before the first byte is written, so every fault but a failed
-/// write leaves the writer as it was. Refused when out of memory, also where a reader's thread was
-/// not started or has not all its answers. docs/FORMATS.md has the files and the lines.
+/// write leaves the writer as it was. Refused when out of memory, even if a reader's thread was not
+/// started or has not all its answers. docs/FORMATS.md has the files and the lines.
 pub fn run_engine<T: Threads + Wait + Sync, M: Read, K: Read, R: Read, S: Read, W: Write>(
     rt: &T,
     alloc: Global,
@@ -87,8 +87,8 @@ fn run_with<T: Threads + Wait + Sync, W: Write>(
     readers: u32,
     writer: &mut Counted<W>,
 ) -> Result<u8, Fault>
-    requires { All (λ r. region_fits r ≡ true) (lines_in (gathered_in inputs.now)) }
-    ensures { AnswersScript W.contents (gathered_in inputs.now) readers script.now
+    requires { All (λ r. region_fits r ≡ true) (region_lines_of_inputs (inputs_in inputs.now)) }
+    ensures { AnswersScript W.contents (inputs_in inputs.now) readers script.now
         writer.old writer.new result }
 {
     let lines = match read_script(alloc, script, readers) {

@@ -3,7 +3,7 @@ ghost use Rattle.std.specs.Prelude.{◌≡◌, ◌+◌, ◌≤◌, List, length,
 ghost use Rattle.order_laws.specs.declared.items.Item.{Item};
 ghost use Rattle.modules.specs.Items.{items_of};
 ghost use Rattle.latchsym.specs.CatalogTables.{answer_at, answer_in, HasFewRegions};
-ghost use Rattle.latchsym.specs.LoadedWorlds.{Holds, HoldsBelow, IsRefusedFor};
+ghost use Rattle.latchsym.specs.LoadedWorlds.{HasTable, HoldsBelow, IsRefusedFor};
 
 use latch_steps::{Event, Reply, World};
 use modules::{Catalog, Held};
@@ -59,7 +59,7 @@ fn open_for(alloc: Global, catalog: &Catalog) -> Result<World<HalfOpen>, Refusal
 fn load_all(world: &mut World<HalfOpen>, catalog: &Catalog, modules: u64) -> Result<(), Refusal>
     requires modules { modules ≡ length catalog.now.modules }
     requires holds { HoldsBelow catalog.now 0 world.old }
-    ensures holds { IfOk result (λ _. Holds (items_of catalog.now) world.new) }
+    ensures holds { IfOk result (λ _. HasTable (items_of catalog.now) world.new) }
     ensures refusal { IfErr result (λ e. e ≡ Refusal.OutOfMemory) }
 {
     for number in 0..=modules {
@@ -92,11 +92,11 @@ fn load(world: &mut World<HalfOpen>, catalog: &Catalog, number: u64) -> Result<(
 
 /// Looks one address up. No step of the writer comes between, so the first attempt returns.
 fn look_up(world: &mut World<HalfOpen>, addr: u64) -> Result<Answer, Refusal>
-    ensures found { (items : List Item) → Holds items world.old
+    ensures found { (items : List Item) → HasTable items world.old
         → IfOk result (λ a. a ≡ answer_in items addr) }
-    ensures holds { (items : List Item) → Holds items world.old
-        → IfOk result (λ _. Holds items world.new) }
-    ensures refusal { (items : List Item) → Holds items world.old
+    ensures holds { (items : List Item) → HasTable items world.old
+        → IfOk result (λ _. HasTable items world.new) }
+    ensures refusal { (items : List Item) → HasTable items world.old
         → IfErr result (λ e. e ≡ Refusal.OutOfMemory) }
 {
     let found = world.find_now(0, addr)?;

@@ -4,9 +4,9 @@
 //! the next line might not fit: a call of the writer costs as much as a whole line.
 ghost use Rattle.std.specs.Prelude.{◌≡◌, ◌+◌, ◌≤◌, ◌++◌, [], OnOk, decimal, flat_map, vec_len, vec_capacity};
 ghost use Rattle.devices.specs.Exact.{Wrote};
-ghost use Rattle.order_laws.specs.Refusals.{number_of};
-ghost use Rattle.latchsym.specs.Texts.{counts_text, end_text, found_text, note_text, refused_text, returned_text, tag_text};
-ghost use Rattle.latchsym.specs.Blocks.{Gathered, Appended};
+ghost use Rattle.order_laws.specs.Refusals.{refusal_number};
+ghost use Rattle.latchsym.specs.Texts.{load_counts_text, end_text, found_text, note_text, refused_text, returned_text, tag_text};
+ghost use Rattle.latchsym.specs.Blocks.{IsGathered, IsAppended};
 
 use devices::{Counted, append, append_hexadecimal, put};
 use itoa::Buffer;
@@ -29,7 +29,7 @@ pub fn put_notes<W: Write>(
 ) -> io::Result<()>
     requires { LONGEST_LINE ≤ vec_capacity block.old }
     ensures capacity { LONGEST_LINE ≤ vec_capacity block.new }
-    ensures gathered { Gathered W.contents writer.old writer.new block.old.items block.new.items
+    ensures gathered { IsGathered W.contents writer.old writer.new block.old.items block.new.items
         result (flat_map note_text notes.now) }
 {
     for note in notes {
@@ -44,7 +44,7 @@ fn make_room<W: Write>(writer: &mut Counted<W>, block: &mut Vec<u8>) -> io::Resu
     requires { LONGEST_LINE ≤ vec_capacity block.old }
     ensures capacity { LONGEST_LINE ≤ vec_capacity block.new }
     ensures room { OnOk result (vec_len block.new + LONGEST_LINE ≤ vec_capacity block.new) }
-    ensures gathered { Gathered W.contents writer.old writer.new block.old.items block.new.items
+    ensures gathered { IsGathered W.contents writer.old writer.new block.old.items block.new.items
         result [] }
 {
     if block.capacity() - block.len() < LONGEST_LINE {
@@ -56,7 +56,7 @@ fn make_room<W: Write>(writer: &mut Counted<W>, block: &mut Vec<u8>) -> io::Resu
 
 fn append_note(line: &mut Vec<u8>, note: &Note<u64>)
     requires { vec_len line.old + LONGEST_LINE ≤ vec_capacity line.old }
-    ensures { Appended line.old line.new LONGEST_LINE (note_text note.now) }
+    ensures { IsAppended line.old line.new LONGEST_LINE (note_text note.now) }
 {
     match note {
         Note::Returned(returned) => append_returned(line, returned),
@@ -68,16 +68,16 @@ fn append_note(line: &mut Vec<u8>, note: &Note<u64>)
 /// `-`, the generation of the answer, how many loads and attempts it took.
 fn append_returned(line: &mut Vec<u8>, returned: &Returned<u64>)
     requires { vec_len line.old + LONGEST_LINE ≤ vec_capacity line.old }
-    ensures { Appended line.old line.new LONGEST_LINE (returned_text returned.now) }
+    ensures { IsAppended line.old line.new LONGEST_LINE (returned_text returned.now) }
 {
     append_found(line, returned.reader, returned.key, returned.answer);
-    append_counts(line, returned.generation, returned.loads, returned.tries);
+    append_counts(line, returned.generation, returned.loads, returned.attempts);
     append(line, b"\n");
 }
 
 fn append_found(line: &mut Vec<u8>, reader: u32, key: u64, answer: Option<Item>)
     requires { vec_len line.old + 64 ≤ vec_capacity line.old }
-    ensures { Appended line.old line.new 64 (found_text reader key answer) }
+    ensures { IsAppended line.old line.new 64 (found_text reader key answer) }
 {
     append_decimal(line, u64::from(reader));
     append(line, b" ");
@@ -88,7 +88,7 @@ fn append_found(line: &mut Vec<u8>, reader: u32, key: u64, answer: Option<Item>)
 
 fn append_tag(line: &mut Vec<u8>, answer: Option<Item>)
     requires { vec_len line.old + LONGEST_DECIMAL ≤ vec_capacity line.old }
-    ensures { Appended line.old line.new LONGEST_DECIMAL (tag_text answer) }
+    ensures { IsAppended line.old line.new LONGEST_DECIMAL (tag_text answer) }
 {
     match answer {
         Some(item) => append_decimal(line, item.tag),
@@ -96,22 +96,22 @@ fn append_tag(line: &mut Vec<u8>, answer: Option<Item>)
     }
 }
 
-fn append_counts(line: &mut Vec<u8>, generation: u64, loads: u64, tries: u64)
+fn append_counts(line: &mut Vec<u8>, generation: u64, loads: u64, attempts: u64)
     requires { vec_len line.old + 80 ≤ vec_capacity line.old }
-    ensures { Appended line.old line.new 80 (counts_text generation loads tries) }
+    ensures { IsAppended line.old line.new 80 (load_counts_text generation loads attempts) }
 {
     append(line, b" gen ");
     append_decimal(line, generation);
     append(line, b" loads ");
     append_decimal(line, loads);
     append(line, b" tries ");
-    append_decimal(line, tries);
+    append_decimal(line, attempts);
 }
 
 /// Appends `refused N` and a line's end.
 fn append_refused(line: &mut Vec<u8>, refusal: Refusal)
     requires { vec_len line.old + LONGEST_LINE ≤ vec_capacity line.old }
-    ensures { Appended line.old line.new LONGEST_LINE (refused_text (number_of refusal)) }
+    ensures { IsAppended line.old line.new LONGEST_LINE (refused_text (refusal_number refusal)) }
 {
     append(line, b"refused ");
     append_decimal(line, u64::from(refusal.number()));
@@ -121,7 +121,7 @@ fn append_refused(line: &mut Vec<u8>, refusal: Refusal)
 /// Appends `seq K gen J` and a line's end: the sequence, and the generation that it names.
 pub fn append_end(line: &mut Vec<u8>, sequence: u64)
     requires { vec_len line.old + LONGEST_LINE ≤ vec_capacity line.old }
-    ensures { Appended line.old line.new LONGEST_LINE (end_text sequence) }
+    ensures { IsAppended line.old line.new LONGEST_LINE (end_text sequence) }
 {
     append(line, b"seq ");
     append_decimal(line, sequence);
@@ -133,7 +133,7 @@ pub fn append_end(line: &mut Vec<u8>, sequence: u64)
 /// Appends a number in decimal, without leading zeros.
 fn append_decimal(line: &mut Vec<u8>, n: u64)
     requires { vec_len line.old + LONGEST_DECIMAL ≤ vec_capacity line.old }
-    ensures { Appended line.old line.new LONGEST_DECIMAL (decimal n) }
+    ensures { IsAppended line.old line.new LONGEST_DECIMAL (decimal n) }
 {
     let mut buffer = Buffer::new();
     append(line, buffer.format(n).as_bytes());
@@ -141,7 +141,7 @@ fn append_decimal(line: &mut Vec<u8>, n: u64)
 
 /// Writes `refused N` and a line's end.
 pub fn put_refused<W: Write>(writer: &mut Counted<W>, refusal: Refusal) -> io::Result<()>
-    ensures { Wrote W.contents writer.old writer.new result (refused_text (number_of refusal)) }
+    ensures { Wrote W.contents writer.old writer.new result (refused_text (refusal_number refusal)) }
 {
     put(writer, b"refused ")?;
     put_decimal(writer, u64::from(refusal.number()))?;

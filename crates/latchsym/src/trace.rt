@@ -5,7 +5,7 @@ ghost use Rattle.listing.specs.Trace.{contents_of};
 ghost use Rattle.word_arena.specs.Layouts.{capacity_of, limit_of};
 ghost use Rattle.word_arena.specs.declared.layouts.TheConstants.{MOST_NODES};
 ghost use Rattle.latchsym.specs.Texts.{end_text, note_text};
-ghost use Rattle.latchsym.specs.Traces.{Answers, AnswersIn, greatest_of};
+ghost use Rattle.latchsym.specs.Traces.{AnswersTrace, AnswersIn, greatest_of};
 
 use crate::fault::Fault;
 use crate::texts::{append_end, put_notes};
@@ -28,7 +28,7 @@ pub fn trace_engine<R: Read, W: Write>(
     reader: &mut Counted<R>,
     writer: &mut Counted<W>,
 ) -> Result<(), Fault>
-    ensures { Answers R.remaining W.contents reader.old reader.new writer.old writer.new result }
+    ensures { AnswersTrace R.remaining W.contents reader.old reader.new writer.old writer.new result }
 {
     let trace = read_trace(alloc, reader).map_err(|fault| Fault::of_lines(0, fault))?;
     if trace.header.closed {

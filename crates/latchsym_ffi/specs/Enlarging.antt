@@ -2,7 +2,7 @@
 use Rattle.std.specs.Prelude.{◌≡◌, ℕ, ◌<◌, ◌≤◌, ◌⊎◌, true, All, List, length}
 use Rattle.order_laws.specs.declared.refusals.Refusal.{Refusal}
 use Rattle.order_laws.specs.declared.refusals.Refusal.TheVariants.{BadCapacity}
-use Rattle.order_laws.specs.Refusals.{number_of}
+use Rattle.order_laws.specs.Refusals.{refusal_number}
 use Rattle.word_arena.specs.declared.layouts.Layout.{Layout}
 use Rattle.latch_table.specs.Enlarging.{Enlarges, RefusesEnlarging, reader_beside}
 use Rattle.latch_table.specs.Readers.{ReaderState}
@@ -36,4 +36,4 @@ RefusesMoving nodes w e =
 abbrev pub RefusesNodes : ℕ → WriterState → List ReaderSlot → ℕ → Type 0
 RefusesNodes nodes w slots result =
     ((result ≡ 101) × (AreItsReaders w slots → ⊥))
-    ⊎ (AreItsReaders w slots × ((e : Refusal) × (result ≡ number_of e) × RefusesMoving nodes w e))
+    ⊎ (AreItsReaders w slots × ((e : Refusal) × (result ≡ refusal_number e) × RefusesMoving nodes w e))

@@ -5,10 +5,10 @@ use Rattle.order_laws.specs.declared.items.Item.{Item}
 use Rattle.modules.specs.Catalogs.{module_of}
 use Rattle.modules.specs.Entries.{CatalogEntries}
 use Rattle.symbols.specs.Found.{Found, symbol_at}
-use Rattle.region_index.specs.Items.{item_at}
+use Rattle.region_index.specs.Items.{item_of_address}
 use Rattle.latchsym_ffi.specs.declared.finding.CatalogAnswer.{CatalogAnswer}
 use Rattle.latchsym_ffi.specs.declared.finding.Seen.{Seen}
-use Rattle.latchsym_ffi.specs.declared.finding.Told.{Told}
+use Rattle.latchsym_ffi.specs.declared.finding.Description.{Description}
 
 -- the item of the region that an address lies in, if any, and the symbol that it belongs to there,
 -- if any
@@ -16,7 +16,7 @@ abbrev pub Known : Type 0
 Known = Option (Item × Option Found)
 
 abbrev pub known_at : CatalogEntries → ℕ → Known
-known_at c addr = option_map (λ i. (i, symbol_at c i addr)) (item_at c addr)
+known_at c addr = option_map (λ i. (i, symbol_at c i addr)) (item_of_address c addr)
 
 -- the same in an item that a table has for the address
 abbrev pub known_in : CatalogEntries → ℕ → Option Item → Known
@@ -44,14 +44,14 @@ abbrev pub owner_named : CatalogEntries → Known → List ℕ
 owner_named c None = []
 owner_named c (Some (i, f)) = module_name c i.tag
 
-abbrev pub nothing_told : CatalogAnswer
-nothing_told = record { module_number = 0; offset = 0; size = 0; name_len = 0; module_len = 0 }
+abbrev pub empty_description : CatalogAnswer
+empty_description = record { module_number = 0; offset = 0; size = 0; name_len = 0; module_len = 0 }
 
 -- the numbers that are returned
 abbrev pub answer_of : CatalogEntries → Known → CatalogAnswer
-answer_of c None = nothing_told
+answer_of c None = empty_description
 answer_of c (Some (i, None)) =
-    record nothing_told { module_number = i.tag; module_len = length (module_name c i.tag) }
+    record empty_description { module_number = i.tag; module_len = length (module_name c i.tag) }
 answer_of c (Some (i, Some f)) =
     record {
       module_number = i.tag;
@@ -62,7 +62,7 @@ answer_of c (Some (i, Some f)) =
     }
 
 -- what is told of what is known
-pub record Tells (c : CatalogEntries) (k : Known) (t : Told) : Type 0 where
+pub record Describes (c : CatalogEntries) (k : Known) (t : Description) : Type 0 where
   pub code : t.code ≡ known_code k
   pub answer : t.answer ≡ answer_of c k
   pub symbol : t.symbol.now ≡ symbol_named k

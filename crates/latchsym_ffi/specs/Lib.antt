@@ -7,11 +7,11 @@ pub mod Slots
 pub mod Opening
 -- what is known of an address, and what is told of it
 pub mod Finding
--- what the calls on catalogs answer
+-- what the calls on catalogs return
 pub mod Catalogs
--- the numbers that calls on a writer answer
+-- the numbers that calls on a writer return
 pub mod Updates
--- what lookups answer
+-- what lookups return
 pub mod Lookups
 -- what the opening of a table gives
 pub mod Tables

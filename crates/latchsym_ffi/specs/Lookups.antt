@@ -1,4 +1,4 @@
--- What lookups answer.
+-- What lookups return.
 use Rattle.std.specs.Prelude.{◌≡◌, ℕ, List, Option, Some, None}
 use Rattle.order_laws.specs.declared.items.Item.{Item}
 use Rattle.latch_table.specs.declared.readers.Try.{Try}

@@ -18,15 +18,15 @@ use Rattle.latchsym_ffi.specs.declared.opening.CatalogCounts.{CatalogCounts}
 use Rattle.latchsym_ffi.specs.declared.opening.CatalogFault.{CatalogFault}
 use Rattle.latchsym_ffi.specs.declared.opening.CatalogFault.TheVariants.{BadLine, Refused}
 use Rattle.latchsym_ffi.specs.declared.opening.CatalogTexts.{CatalogTexts}
-use Rattle.listing.specs.RegionListing.{regions_of as listed_regions}
+use Rattle.listing.specs.RegionListing.{regions_of_text as listed_regions}
 
 -- the bytes of the listings, of which that of regions may be missing
-pub record Texts : Type 0 where
+pub record ListingTexts : Type 0 where
   pub modules : List ℕ
   pub kallsyms : List ℕ
   pub regions : Option (List ℕ)
 
-abbrev pub shown_texts : CatalogTexts → Texts
+abbrev pub shown_texts : CatalogTexts → ListingTexts
 shown_texts t =
     record {
       modules = t.modules.now;
@@ -35,9 +35,9 @@ shown_texts t =
     }
 
 -- the region lines of a listing that may be there, or the number of its first bad line
-abbrev pub region_lines : Option (List ℕ) → Result (List ListedRegion) ℕ
-region_lines None = Ok []
-region_lines (Some text) = listed_regions text
+abbrev pub region_lines_of_text : Option (List ℕ) → Result (List ListedRegion) ℕ
+region_lines_of_text None = Ok []
+region_lines_of_text (Some text) = listed_regions text
 
 -- the counts of the skipped lines of both listings, and those of the build
 abbrev pub counts_in : ModuleCounts → SymbolCounts → BuildCounts → CatalogCounts
@@ -60,18 +60,18 @@ counts_in m s b = record {
 }
 
 -- the catalog of the listings and of region lines
-abbrev pub catalog_in : Texts → List ListedRegion → CatalogEntries
+abbrev pub catalog_in : ListingTexts → List ListedRegion → CatalogEntries
 catalog_in t lines =
     catalog_of usual_bounds (modules_in (lines_of t.modules)) lines
     (symbols_in (lines_of t.kallsyms))
 
-abbrev pub build_counts_in : Texts → List ListedRegion → BuildCounts
+abbrev pub build_counts_in : ListingTexts → List ListedRegion → BuildCounts
 build_counts_in t lines =
     counts_of usual_bounds (modules_in (lines_of t.modules)) lines
     (symbols_in (lines_of t.kallsyms))
 
 -- the catalog and the counts are those of the texts with these region lines
-pub record IsOpened (t : Texts) (lines : List ListedRegion) (c : CatalogEntries) (n : CatalogCounts)
+pub record IsOpenedCatalog (t : ListingTexts) (lines : List ListedRegion) (c : CatalogEntries) (n : CatalogCounts)
     : Type 0 where
   pub catalog : c ≡ catalog_in t lines
   pub counts :
@@ -79,27 +79,27 @@ pub record IsOpened (t : Texts) (lines : List ListedRegion) (c : CatalogEntries)
       (build_counts_in t lines)
 
 -- the same with the region lines that the texts have, of which no more than seven have one name
-pub record AreRead (t : Texts) (c : CatalogEntries) (n : CatalogCounts) : Type 0 where
+pub record AreRead (t : ListingTexts) (c : CatalogEntries) (n : CatalogCounts) : Type 0 where
   pub lines : List ListedRegion
-  pub read : region_lines t.regions ≡ Ok lines
+  pub read : region_lines_of_text t.regions ≡ Ok lines
   pub few : are_few lines ≡ true
-  pub opened : IsOpened t lines c n
+  pub opened : IsOpenedCatalog t lines c n
 
 -- the region lines, or why they are not there
 abbrev pub GivesRegions : Option (List ℕ) → Result (Vec ListedRegion) CatalogFault → Type 0
-GivesRegions text (Ok lines) = region_lines text ≡ Ok lines.items
+GivesRegions text (Ok lines) = region_lines_of_text text ≡ Ok lines.items
 GivesRegions text (Err (Refused refusal.OutOfMemory)) = Unit {0}
-GivesRegions text (Err (BadLine n)) = region_lines text ≡ Err n
+GivesRegions text (Err (BadLine n)) = region_lines_of_text text ≡ Err n
 GivesRegions text (Err _) = ⊥
 
 -- more than seven region lines have one name
-abbrev pub HasTooManyOfOne : Texts → Type 0
-HasTooManyOfOne t =
-    (lines : List ListedRegion) × (region_lines t.regions ≡ Ok lines) × (are_few lines ≡ false)
+abbrev pub HasTooManyRegionLines : ListingTexts → Type 0
+HasTooManyRegionLines t =
+    (lines : List ListedRegion) × (region_lines_of_text t.regions ≡ Ok lines) × (are_few lines ≡ false)
 
 -- why the texts are refused
-abbrev pub RefusesTexts : Texts → CatalogFault → Type 0
+abbrev pub RefusesTexts : ListingTexts → CatalogFault → Type 0
 RefusesTexts t (Refused refusal.OutOfMemory) = Unit {0}
-RefusesTexts t (Refused refusal.TooManyRegions) = HasTooManyOfOne t
-RefusesTexts t (BadLine n) = region_lines t.regions ≡ Err n
+RefusesTexts t (Refused refusal.TooManyRegions) = HasTooManyRegionLines t
+RefusesTexts t (BadLine n) = region_lines_of_text t.regions ≡ Err n
 RefusesTexts t _ = ⊥

@@ -24,7 +24,7 @@ abbrev pub HoldsReader : ReaderState → ReaderSlot → Type 0
 HoldsReader r s = (s.is_open ≡ true) × (s.handle.value.inner ≡ r)
 
 -- an empty table of so many nodes, with its writer in one slot and a reader in each of the others
-pub record IsOpened (nodes : ℕ) (w : WriterSlot) (readers : List ReaderSlot) : Type 0 where
+pub record IsOpenedTable (nodes : ℕ) (w : WriterSlot) (readers : List ReaderSlot) : Type 0 where
   pub place : TableId
   pub layout : Layout
   pub wide : IsWide nodes layout
@@ -45,7 +45,7 @@ pub record AreOpened (nodes readers : ℕ) (b : Boxes) : Type 0 where
 abbrev pub AreInRange : ℕ → ℕ → Type 0
 AreInRange nodes readers = (0 < nodes) × (nodes ≤ 65536) × (0 < readers) × (readers ≤ 64)
 
--- a refusal for numbers out of their ranges, and else for want of memory
+-- a refusal for numbers out of their ranges, and else because memory ran out
 abbrev pub RefusesTable : ℕ → ℕ → ℕ → Type 0
 RefusesTable nodes readers result =
     ((result ≡ 10) × (AreInRange nodes readers → ⊥)) ⊎ ((result ≡ 7) × AreInRange nodes readers)

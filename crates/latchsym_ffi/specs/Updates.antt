@@ -1,9 +1,9 @@
--- The numbers that calls on a writer answer.
+-- The numbers that calls on a writer return.
 use Rattle.std.specs.Prelude.{◌≡◌, ℕ, Option, Some, None}
 use Rattle.order_laws.specs.declared.items.Item.{Item}
 use Rattle.order_laws.specs.declared.refusals.Refusal.{Refusal}
 use Rattle.order_laws.specs.Orders.{half_open}
-use Rattle.order_laws.specs.Refusals.{number_of}
+use Rattle.order_laws.specs.Refusals.{refusal_number}
 use Rattle.latch_core.specs.declared.updates.Update.{Update}
 use Rattle.latch_table.specs.declared.writers.Did.{Did}
 use Rattle.latch_table.specs.declared.writers.Did.TheVariants.{Flip, Store}
@@ -21,4 +21,4 @@ did_code (Some Store) = 2
 
 -- the writer refuses an update by the refusal of this number
 abbrev pub RefusesAs : WriterState → Update → ℕ → Type 0
-RefusesAs w u result = (e : Refusal) × (result ≡ number_of e) × Refuses half_open w u e
+RefusesAs w u result = (e : Refusal) × (result ≡ refusal_number e) × Refuses half_open w u e

@@ -1,4 +1,4 @@
-//! The numbers that calls answer, but those of refusals.
+//! The numbers that calls return, but those of refusals.
 
 /// The call did what it was asked for, or a symbol or an item was found.
 pub(crate) const DONE: u32 = 0;
@@ -7,4 +7,4 @@ pub(crate) const DONE: u32 = 0;
 pub(crate) const BAD_LINE: u32 = 15;
 
 /// The slot is closed, or is open where a closed one is wanted.
-pub(crate) const NOT_SO: u32 = 101;
+pub(crate) const BAD_HANDLE: u32 = 101;

@@ -1,11 +1,11 @@
 //! What C calls, of catalogs.
 
 ghost use Rattle.std.specs.Prelude.{◌≡◌, ◌≢◌, true, false};
-ghost use Rattle.latchsym_ffi.specs.Catalogs.{Opens, Refuses, Stays, three_texts, two_texts};
+ghost use Rattle.latchsym_ffi.specs.Catalogs.{OpensCatalog, RefusesCatalog, Stays, three_texts, two_texts};
 ghost use Rattle.latchsym_ffi.specs.Finding.{answer_of, copied, known_at, known_code, owner_named, symbol_named};
 ghost use Rattle.latchsym_ffi.specs.Opening.{RefusesTexts, shown_texts};
 
-use crate::answers::{BAD_LINE, DONE, NOT_SO};
+use crate::answers::{BAD_HANDLE, BAD_LINE, DONE};
 use crate::catalog_slots::CatalogSlot;
 use crate::finding::{CatalogAnswer, find};
 use crate::opening::{CatalogCounts, CatalogFault, CatalogTexts, open_catalog};
@@ -15,7 +15,7 @@ use std::alloc::Global;
 /// Why a catalog was not opened, as a number, and the number of the bad line.
 fn refusal(_texts: &CatalogTexts, fault: CatalogFault, bad_line: &mut u64) -> u32
     requires { RefusesTexts (shown_texts _texts.now) fault }
-    ensures { Refuses (shown_texts _texts.now) bad_line.new result }
+    ensures { RefusesCatalog (shown_texts _texts.now) bad_line.new result }
 {
     match fault {
         CatalogFault::Refused(Refusal::TooManyRegions) => Refusal::TooManyRegions.number(),
@@ -35,14 +35,14 @@ fn open_in(
     counts: &mut CatalogCounts,
     bad_line: &mut u64,
 ) -> u32
-    ensures opened { result ≡ 0 → Opens (shown_texts texts.now) out.old out.new counts.new }
+    ensures opened { result ≡ 0 → OpensCatalog (shown_texts texts.now) out.old out.new counts.new }
     ensures refused { result ≢ 0 → (out.new ≡ out.old) × (counts.new ≡ counts.old) }
     ensures not_so { out.old.is_open ≡ true → result ≡ 101 }
     ensures why { out.old.is_open ≡ false → result ≢ 0
-        → Refuses (shown_texts texts.now) bad_line.new result }
+        → RefusesCatalog (shown_texts texts.now) bad_line.new result }
 {
     if out.is_open {
-        return NOT_SO;
+        return BAD_HANDLE;
     }
     match open_catalog(alloc, texts) {
         Ok((content, counted)) => {
@@ -65,7 +65,7 @@ pub extern "C" fn latchsym_catalog_open(
     counts: &mut CatalogCounts,
 ) -> u32
     ensures opened { result ≡ 0
-        → Opens (two_texts modules.now kallsyms.now) out.old out.new counts.new }
+        → OpensCatalog (two_texts modules.now kallsyms.now) out.old out.new counts.new }
     ensures refused { result ≢ 0 → (out.new ≡ out.old) × (counts.new ≡ counts.old) }
     ensures not_so { out.old.is_open ≡ true → result ≡ 101 }
     ensures why { out.old.is_open ≡ false → result ≢ 0 → result ≡ 7 }
@@ -91,11 +91,11 @@ pub extern "C" fn latchsym_catalog_open_with_regions(
     bad_line: &mut u64,
 ) -> u32
     ensures opened { result ≡ 0
-        → Opens (three_texts modules.now kallsyms.now regions.now) out.old out.new counts.new }
+        → OpensCatalog (three_texts modules.now kallsyms.now regions.now) out.old out.new counts.new }
     ensures refused { result ≢ 0 → (out.new ≡ out.old) × (counts.new ≡ counts.old) }
     ensures not_so { out.old.is_open ≡ true → result ≡ 101 }
     ensures why { out.old.is_open ≡ false → result ≢ 0
-        → Refuses (three_texts modules.now kallsyms.now regions.now) bad_line.new result }
+        → RefusesCatalog (three_texts modules.now kallsyms.now regions.now) bad_line.new result }
 {
     let texts = CatalogTexts {
         modules,
@@ -127,7 +127,7 @@ pub extern "C" fn latchsym_catalog_find(
         → (result ≡ 101) × (out.new ≡ out.old) × (name.new ≡ name.old) × (owner.new ≡ owner.old) }
 {
     if !catalog.is_open {
-        return NOT_SO;
+        return BAD_HANDLE;
     }
     let content = catalog.take();
     let result = find(content.indexed(), addr, out, name, owner);
@@ -151,7 +151,7 @@ pub extern "C" fn latchsym_catalog_share(
     ensures why { catalog.old.is_open ≡ true → out.old.is_open ≡ false → result ≢ 0 → result ≡ 7 }
 {
     if !catalog.is_open || out.is_open {
-        return NOT_SO;
+        return BAD_HANDLE;
     }
     let content = catalog.take();
     let shared = content.share_in(alloc);

@@ -8,7 +8,7 @@ ghost use Rattle.latchsym_ffi.specs.Enlarging.{AreItsReaders, IsEnlarged, IsMove
 ghost use Rattle.latchsym_ffi.specs.Tables.{HoldsReader};
 ghost use Rattle.latchsym_ffi.specs.Slots.{writer_in};
 
-use crate::answers::{DONE, NOT_SO};
+use crate::answers::{BAD_HANDLE, DONE};
 use crate::reader_slots::ReaderSlot;
 use crate::writer_slots::WriterSlot;
 use latch_table::{Reader, Writer};
@@ -74,7 +74,7 @@ fn enlarge(
     ensures why { result ≢ 0 → RefusesNodes nodes writer.old readers.old result }
 {
     if !are_its_readers(writer, readers) {
-        return NOT_SO;
+        return BAD_HANDLE;
     }
     match move_writer(alloc, nodes, writer) {
         Ok(all) => {
@@ -106,7 +106,7 @@ pub extern "C" fn latchsym_table_enlarge(
     ensures closed { writer.old.is_open ≡ false → (result ≡ 101) × (readers.new ≡ readers.old) }
 {
     if !writer.is_open {
-        return NOT_SO;
+        return BAD_HANDLE;
     }
     let mut content = writer.take();
     let result = enlarge(alloc, nodes, &mut content.inner, readers);

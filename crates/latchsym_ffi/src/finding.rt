@@ -2,7 +2,7 @@
 
 ghost use Rattle.std.specs.Prelude.{◌≡◌, ◌≤◌, ◌<◌, IfSome};
 ghost use Rattle.std.specs.Option.{option_map};
-ghost use Rattle.latchsym_ffi.specs.Finding.{Tells, answer_of, copied, known_at, known_code, known_in, module_name, owner_named, shown_seen, symbol_named};
+ghost use Rattle.latchsym_ffi.specs.Finding.{Describes, answer_of, copied, known_at, known_code, known_in, module_name, owner_named, shown_seen, symbol_named};
 
 use modules::Catalog;
 use order_laws::Item;
@@ -43,7 +43,7 @@ struct Seen<'c> {
 
 /// What is told of an address, with the names.
 #[derive(Drop)]
-struct Told {
+struct Description {
     code: u32,
     answer: CatalogAnswer,
     symbol: &'static [u8],
@@ -80,11 +80,11 @@ fn seek<'c>(catalog: &'c IndexedCatalog<'static>, addr: u64) -> Option<Seen<'c>>
 }
 
 /// What is told of what was seen.
-fn told_of(catalog: &Catalog<'static>, seen: Option<Seen<'_>>) -> Told
-    ensures { Tells catalog.now (option_map shown_seen seen.entry) result }
+fn description_of(catalog: &Catalog<'static>, seen: Option<Seen<'_>>) -> Description
+    ensures { Describes catalog.now (option_map shown_seen seen.entry) result }
 {
     let Some(Seen { item, found }) = seen else {
-        return Told {
+        return Description {
             code: NOTHING,
             answer: CatalogAnswer {
                 module_number: 0,
@@ -105,7 +105,7 @@ fn told_of(catalog: &Catalog<'static>, seen: Option<Seen<'_>>) -> Told
         }
         None => (NO_SYMBOL, b"".as_slice(), 0, 0),
     };
-    Told {
+    Description {
         code,
         answer: CatalogAnswer {
             module_number: item.tag,
@@ -134,7 +134,7 @@ pub(crate) fn find(
     ensures owner { owner.new
         ≡ copied (owner_named catalog.now (known_at catalog.now addr)) owner.old }
 {
-    let told = told_of(catalog.catalog(), seek(catalog, addr));
+    let told = description_of(catalog.catalog(), seek(catalog, addr));
     *out = told.answer;
     copy_name(name, told.symbol);
     copy_name(owner, told.owner);
@@ -157,7 +157,7 @@ pub(crate) fn find_in(
     ensures owner { owner.new
         ≡ copied (owner_named catalog.now (known_in catalog.now addr item)) owner.old }
 {
-    let told = told_of(catalog.catalog(), seen_in(catalog.catalog(), item, addr));
+    let told = description_of(catalog.catalog(), seen_in(catalog.catalog(), item, addr));
     *out = told.answer;
     copy_name(name, told.symbol);
     copy_name(owner, told.owner);

@@ -10,7 +10,7 @@ ghost use Rattle.latchsym_ffi.specs.Catalogs.{Stays};
 ghost use Rattle.latchsym_ffi.specs.Lookups.{Copies, Names, Shows, answer_from, found_code, name_code, try_code};
 ghost use Rattle.latchsym_ffi.specs.Slots.{reader_in, writer_in};
 
-use crate::answers::{DONE, NOT_SO};
+use crate::answers::{BAD_HANDLE, DONE};
 use crate::catalog_slots::CatalogSlot;
 use crate::finding::{CatalogAnswer, NOTHING, find_in};
 use crate::reader_slots::ReaderSlot;
@@ -61,7 +61,7 @@ fn code_of(item: Option<Item>) -> u32
     }
 }
 
-/// The writer's own lookup, also with an update in hand: what readers find now.
+/// The writer's own lookup, even with a pending update: what readers find now.
 #[unsafe(no_mangle)]
 pub extern "C" fn latchsym_writer_find(
     writer: &mut WriterSlot,
@@ -75,7 +75,7 @@ pub extern "C" fn latchsym_writer_find(
     ensures closed { writer.old.is_open ≡ false → (result ≡ 101) × (out.new ≡ out.old) }
 {
     if !writer.is_open {
-        return NOT_SO;
+        return BAD_HANDLE;
     }
     let mut content = writer.take();
     let (item, generation) = content.inner.find(addr);
@@ -100,7 +100,7 @@ pub extern "C" fn latchsym_reader_try_find(
     ensures closed { reader.old.is_open ≡ false → (result ≡ 101) × (out.new ≡ out.old) }
 {
     if !reader.is_open {
-        return NOT_SO;
+        return BAD_HANDLE;
     }
     let mut content = reader.take();
     let tried = content.inner.try_find(addr);
@@ -136,7 +136,7 @@ pub extern "C" fn latchsym_reader_find_name(
     ensures no_catalog { catalog.old.is_open ≡ false → result ≡ 101 }
 {
     if !reader.is_open || !catalog.is_open {
-        return NOT_SO;
+        return BAD_HANDLE;
     }
     let mut content = reader.take();
     let tried = content.inner.try_find(addr);

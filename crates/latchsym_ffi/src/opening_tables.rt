@@ -1,11 +1,11 @@
 //! Opening a table: all of it, or nothing where memory is refused.
 
 ghost use Rattle.std.specs.Prelude.{◌≡◌, ◌≢◌, All, IfOk, IfErr, false, length, true, vec_len};
-ghost use Rattle.order_laws.specs.Refusals.{number_of};
+ghost use Rattle.order_laws.specs.Refusals.{refusal_number};
 ghost use Rattle.latch_table.specs.Readers.{ReaderState};
-ghost use Rattle.latchsym_ffi.specs.Tables.{AreOpened, HoldsReader, IsOpened, RefusesTable};
+ghost use Rattle.latchsym_ffi.specs.Tables.{AreOpened, HoldsReader, IsOpenedTable, RefusesTable};
 
-use crate::answers::{DONE, NOT_SO};
+use crate::answers::{BAD_HANDLE, DONE};
 use crate::reader_slots::ReaderSlot;
 use crate::table_contents::{TableReader, TableWriter};
 use crate::writer_slots::WriterSlot;
@@ -40,7 +40,7 @@ fn boxed(
 /// A table, in boxes.
 fn open_boxes(alloc: Global, nodes: u32, readers: u32) -> Result<Boxes, Refusal>
     ensures opened { IfOk result (AreOpened nodes readers) }
-    ensures refused { IfErr result (λ e. RefusesTable nodes readers (number_of e)) }
+    ensures refused { IfErr result (λ e. RefusesTable nodes readers (refusal_number e)) }
 {
     let layout = Layout::wide(nodes)?;
     let (inner, all) = open::<HalfOpen>(alloc, layout, 0, readers)?;
@@ -80,7 +80,7 @@ pub extern "C" fn latchsym_table_open(
     writer: &mut WriterSlot,
     readers: &mut [ReaderSlot],
 ) -> u32
-    ensures opened { result ≡ 0 → IsOpened nodes writer.new readers.new }
+    ensures opened { result ≡ 0 → IsOpenedTable nodes writer.new readers.new }
     ensures count { length readers.new ≡ length readers.old }
     ensures were_closed { result ≡ 0 → (writer.old.is_open ≡ false)
         × All (λ s. s.is_open ≡ false) readers.old }
@@ -88,7 +88,7 @@ pub extern "C" fn latchsym_table_open(
     ensures why { result ≢ 0 → result ≢ 101 → RefusesTable nodes (length readers.old) result }
 {
     if writer.is_open || some_open(readers) {
-        return NOT_SO;
+        return BAD_HANDLE;
     }
     let Ok(count) = u32::try_from(readers.len()) else {
         return Refusal::BadCapacity.number();

@@ -8,7 +8,7 @@ ghost use Rattle.latch_table.specs.Writers.{Begins, Finishes, Steps};
 ghost use Rattle.latchsym_ffi.specs.Updates.{RefusesAs, did_code, item_from};
 ghost use Rattle.latchsym_ffi.specs.Slots.{writer_in};
 
-use crate::answers::{DONE, NOT_SO};
+use crate::answers::{BAD_HANDLE, DONE};
 use crate::table_contents::TableWriter;
 use crate::writer_slots::WriterSlot;
 use latch_core::{Entries, Update};
@@ -25,14 +25,14 @@ pub struct TableItem {
     pub tag: u64,
 }
 
-/// Takes an update in hand, and leaves it there.
+/// Begins an update, and leaves it there.
 fn begin(writer: &mut Writer<HalfOpen>, update: Update) -> u32
     ensures begun { result ≡ 0 → Begins half_open writer.old update writer.new }
     ensures refused { result ≢ 0 → (writer.new ≡ writer.old) × RefusesAs writer.old update result }
 {
     match writer.begin(update) {
-        Ok(hand) => {
-            hand.leave();
+        Ok(pending) => {
+            pending.leave();
             DONE
         }
         Err(refusal) => refusal.number(),
@@ -55,7 +55,7 @@ pub extern "C" fn latchsym_writer_begin_insert(
     ensures closed { writer.old.is_open ≡ false → result ≡ 101 }
 {
     if !writer.is_open {
-        return NOT_SO;
+        return BAD_HANDLE;
     }
     let mut content = writer.take();
     let item = Item {
@@ -84,7 +84,7 @@ pub extern "C" fn latchsym_writer_begin_erase(
     ensures closed { writer.old.is_open ≡ false → result ≡ 101 }
 {
     if !writer.is_open {
-        return NOT_SO;
+        return BAD_HANDLE;
     }
     let mut content = writer.take();
     let result = begin(&mut content.inner, Update::Erase(a));
@@ -135,7 +135,7 @@ pub extern "C" fn latchsym_writer_begin_batch(
     ensures closed { writer.old.is_open ≡ false → result ≡ 101 }
 {
     if !writer.is_open {
-        return NOT_SO;
+        return BAD_HANDLE;
     }
     let Ok(update) = batch_of(alloc, erase, insert) else {
         return Refusal::OutOfMemory.number();
@@ -146,7 +146,7 @@ pub extern "C" fn latchsym_writer_begin_batch(
     result
 }
 
-/// Makes one step of the update in hand: 0 where it is at its end, 1 for a flip of the sequence, 2
+/// Makes one step of the pending update: 0 where it is at its end, 1 for a flip of the sequence, 2
 /// for a store of another word.
 #[unsafe(no_mangle)]
 pub extern "C" fn latchsym_writer_step(writer: &mut WriterSlot) -> u32
@@ -156,7 +156,7 @@ pub extern "C" fn latchsym_writer_step(writer: &mut WriterSlot) -> u32
     ensures closed { writer.old.is_open ≡ false → result ≡ 101 }
 {
     if !writer.is_open {
-        return NOT_SO;
+        return BAD_HANDLE;
     }
     let mut content = writer.take();
     let did = content.inner.step();
@@ -168,7 +168,7 @@ pub extern "C" fn latchsym_writer_step(writer: &mut WriterSlot) -> u32
     }
 }
 
-/// Makes the steps that are left of the update in hand, if there is one, and tells the new
+/// Makes the steps that are left of the pending update, if there is one, and tells the new
 /// generation.
 #[unsafe(no_mangle)]
 pub extern "C" fn latchsym_writer_finish(writer: &mut WriterSlot, generation: &mut u64) -> u32
@@ -179,7 +179,7 @@ pub extern "C" fn latchsym_writer_finish(writer: &mut WriterSlot, generation: &m
         → (result ≡ 101) × (generation.new ≡ generation.old) }
 {
     if !writer.is_open {
-        return NOT_SO;
+        return BAD_HANDLE;
     }
     let mut content = writer.take();
     *generation = content.inner.finish();

@@ -1,30 +1,30 @@
 -- what the first place of a byte says of lines and of words
-pub mod Cutting
+pub mod LineCutLemmas
 -- words that blanks and tabs part
-pub mod WordRuns
+pub mod WordRunLemmas
 -- an address of sixteen digits has no blank
-pub mod SymbolAddresses
+pub mod SymbolAddressLemmas
 -- one more line of a listing
-pub mod LineCounts
+pub mod LineCountLemmas
 -- one more line of a listing of modules
-pub mod ModuleLines
+pub mod ModuleLineLemmas
 -- one more line of a listing of symbols
-pub mod SymbolLines
+pub mod SymbolLineLemmas
 -- what the digits that are left say of a numeral
-pub mod Values
+pub mod NumberLemmas
 -- words of another number than that of a form are not of this form
-pub mod Forms
+pub mod FormLemmas
 -- one line more
-pub mod Steps
+pub mod StepLemmas
 -- what is said of the bytes of a text, where these are all that its reader had
-pub mod Reading
+pub mod ReadLemmas
 -- a table of digits
-pub mod Digits
+pub mod DigitLemmas
 -- what the entries of lines say of each of them
-pub mod Understood
+pub mod UnderstoodLemmas
 -- what a line of a listing of regions is
-pub mod RegionLines
+pub mod RegionLineLemmas
 -- what a line of a script is
-pub mod ScriptLines
+pub mod ScriptLineLemmas
 -- where the first line of a text ends, after its first tab
-pub mod Tabs
+pub mod TabLemmas

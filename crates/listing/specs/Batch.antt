@@ -11,15 +11,15 @@ numbers_of (word ∷ words) =
     option_and_then (λ n. option_map (λ ns. n ∷ ns) (numbers_of words)) (number_of word)
 
 -- the items of which each is three numbers
-abbrev pub items_of : List ℕ → List Item
-items_of (a ∷ b ∷ tag ∷ numbers) = record { a = a; b = b; tag = tag } ∷ items_of numbers
-items_of _ = []
+abbrev pub items_of_numbers : List ℕ → List Item
+items_of_numbers (a ∷ b ∷ tag ∷ numbers) = record { a = a; b = b; tag = tag } ∷ items_of_numbers numbers
+items_of_numbers _ = []
 
 -- so many first words, and so many items, where there are just as many numbers
 abbrev pub batch_with : List ℕ → Option (List ℕ × List Item)
 batch_with (erased ∷ inserted ∷ numbers) =
     if length numbers == erased + 3 * inserted
-    then Some (take erased numbers, items_of (drop erased numbers))
+    then Some (take erased numbers, items_of_numbers (drop erased numbers))
     else None
 batch_with _ = None
 

@@ -18,13 +18,13 @@ part_of word =
     else None
 
 -- a region, where there is one of so many bytes at this address
-abbrev pub placed : ListedRegion → Option ListedRegion
-placed r = if region_fits r then Some r else None
+abbrev pub placed_region : ListedRegion → Option ListedRegion
+placed_region r = if region_fits r then Some r else None
 
 -- the region of this name, where its part, its base and its size are there
 abbrev pub region_of_parts : List ℕ → Option Part → Option ℕ → Option ℕ → Option ListedRegion
 region_of_parts name (Some part) (Some base) (Some size) =
-    placed (record { name = name; part = part; base = base; size = size })
+    placed_region (record { name = name; part = part; base = base; size = size })
 region_of_parts name _ _ _ = None
 
 -- a name has at least one byte
@@ -47,11 +47,11 @@ region_by line = region_of_words (words_of line)
 abbrev pub is_regions_header : List ℕ → Bool
 is_regions_header line = bytes_eq line (codes "latchregions 1")
 
--- line 1 is the header, also where there is no line
+-- line 1 is the header, even if there is no line
 abbrev pub regions_of_lines : List (List ℕ) → Result (List ListedRegion) ℕ
 regions_of_lines [] = Err 1
 regions_of_lines (first ∷ lines) =
     if is_regions_header first then entries_from region_by 2 lines else Err 1
 
-abbrev pub regions_of : List ℕ → Result (List ListedRegion) ℕ
-regions_of text = regions_of_lines (lines_of text)
+abbrev pub regions_of_text : List ℕ → Result (List ListedRegion) ℕ
+regions_of_text text = regions_of_lines (lines_of text)

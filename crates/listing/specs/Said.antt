@@ -26,9 +26,9 @@ said_by form line =
     else option_map_or (λ entry. One entry) (form line) Bad
 
 -- these entries, and then those that are said
-abbrev pub after_front : {T : Type 0} → List T → Result (List T) ℕ → Result (List T) ℕ
-after_front front (Ok rest) = Ok (front ++ rest)
-after_front front (Err n) = Err n
+abbrev pub entries_after : {T : Type 0} → List T → Result (List T) ℕ → Result (List T) ℕ
+entries_after front (Ok rest) = Ok (front ++ rest)
+entries_after front (Err n) = Err n
 
 -- the entries of lines of which the first has the number n, or the number of the first bad line
 abbrev pub entries_from : {T : Type 0} → (List ℕ → Option T) → ℕ → List (List ℕ) → Result (List T) ℕ
@@ -36,7 +36,7 @@ entries_from form n [] = Ok []
 entries_from form n (line ∷ lines) =
     elim (said_by form line) [
       | Nothing ↦ entries_from form (n + 1) lines
-      | One entry ↦ after_front (entry ∷ []) (entries_from form (n + 1) lines)
+      | One entry ↦ entries_after (entry ∷ []) (entries_from form (n + 1) lines)
       | Bad ↦ Err n
     ]
 
@@ -46,15 +46,15 @@ Faults line.OutOfMemory said = Unit {0}
 Faults line.Read said = Unit {0}
 Faults (line.BadLine n) said = said ≡ Err n
 
--- What a call answered is what the text says, unless memory ran out or the reader failed.
+-- What a call returned is what the text says, unless memory ran out or the reader failed.
 abbrev pub Gives : {V C : Type 0} → (V → C) → Result V LineFault → Result C ℕ → Type 0
 Gives view (Ok v) said = said ≡ Ok (view v)
 Gives view (Err fault) said = Faults fault said
 
 -- what is said of a text that was not read
-abbrev pub unread : ReadFault → LineFault
-unread read.OutOfMemory = line.OutOfMemory
-unread read.Read = line.Read
+abbrev pub fault_of_reading : ReadFault → LineFault
+fault_of_reading read.OutOfMemory = line.OutOfMemory
+fault_of_reading read.Read = line.Read
 
 -- The same of a call that is given the bytes, so that no reader can fail.
 abbrev pub FaultsInGrammar : {C : Type 0} → LineFault → Result C ℕ → Type 0

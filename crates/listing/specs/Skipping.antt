@@ -13,5 +13,5 @@ abbrev pub skipped_by : {T E : Type 0} → (Result T E → Bool) → (List ℕ �
 skipped_by is_cause said lines = count_by (λ line. is_cause (said line)) lines
 
 -- one more where it is so
-abbrev pub one_more : Bool → ℕ → ℕ
-one_more b n = if b then n + 1 else n
+abbrev pub one_more_if : Bool → ℕ → ℕ
+one_more_if b n = if b then n + 1 else n

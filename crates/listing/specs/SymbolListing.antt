@@ -6,7 +6,7 @@ use Rattle.modules.specs.Listed.{ListedSymbol}
 use Rattle.listing.specs.Lines.{longest_line}
 use Rattle.listing.specs.ModuleListing.{is_gap}
 use Rattle.listing.specs.Numbers.{numeral}
-use Rattle.listing.specs.Skipping.{one_more, skipped_by, taken_by}
+use Rattle.listing.specs.Skipping.{one_more_if, skipped_by, taken_by}
 use Rattle.listing.specs.declared.symbol_listing.SymbolCounts.{SymbolCounts}
 use Rattle.listing.specs.declared.symbol_listing.SkippedSymbol.{SkippedSymbol}
 use Rattle.listing.specs.declared.symbol_listing.SkippedSymbol.TheVariants.{Long, Malformed, Hidden}
@@ -40,33 +40,33 @@ address_in text =
     option_and_then (λ p. option_map (λ addr. (addr, p.1)) (numeral 16 16 p.0)) (cut_at 32 text)
 
 -- `ADDRESS LETTER NAME`
-abbrev pub symbol_named : Option (List ℕ) → List ℕ → Option ListedSymbol
-symbol_named owner text = option_and_then (λ p. symbol_with owner p.1 p.0) (address_in text)
+abbrev pub symbol_of_text : Option (List ℕ) → List ℕ → Option ListedSymbol
+symbol_of_text owner text = option_and_then (λ p. symbol_with owner p.1 p.0) (address_in text)
 
 -- `ADDRESS LETTER NAME` before a tab, and `[MODULE]` after it
 abbrev pub symbol_in_module : List ℕ × List ℕ → Option ListedSymbol
-symbol_in_module p = option_and_then (λ owner. symbol_named (Some owner) p.0) (bracketed p.1)
+symbol_in_module p = option_and_then (λ owner. symbol_of_text (Some owner) p.0) (bracketed p.1)
 
 abbrev pub symbol_before : Option (List ℕ × List ℕ) → List ℕ → Option ListedSymbol
-symbol_before None line = symbol_named None line
+symbol_before None line = symbol_of_text None line
 symbol_before (Some parts) line = symbol_in_module parts
 
 -- a symbol whose address is shown
-abbrev pub formed : Option ListedSymbol → Result ListedSymbol SkippedSymbol
-formed None = Err Malformed
-formed (Some s) = if s.addr == 0 then Err Hidden else Ok s
+abbrev pub checked_symbol : Option ListedSymbol → Result ListedSymbol SkippedSymbol
+checked_symbol None = Err Malformed
+checked_symbol (Some s) = if s.addr == 0 then Err Hidden else Ok s
 
 -- the symbol that a line is, or the first cause for which it is skipped
 abbrev pub symbol_of : List ℕ → Result ListedSymbol SkippedSymbol
 symbol_of line =
     if nat_lt longest_line (length line) then Err Long
-    else formed (symbol_before (cut_at 9 line) line)
+    else checked_symbol (symbol_before (cut_at 9 line) line)
 
-abbrev pub is_skipped : SkippedSymbol → Result ListedSymbol SkippedSymbol → Bool
-is_skipped Long (Err Long) = true
-is_skipped Malformed (Err Malformed) = true
-is_skipped Hidden (Err Hidden) = true
-is_skipped cause said = false
+abbrev pub is_skipped_symbol : SkippedSymbol → Result ListedSymbol SkippedSymbol → Bool
+is_skipped_symbol Long (Err Long) = true
+is_skipped_symbol Malformed (Err Malformed) = true
+is_skipped_symbol Hidden (Err Hidden) = true
+is_skipped_symbol cause said = false
 
 -- the symbols that the lines are, in their order
 abbrev pub symbols_in : List (List ℕ) → List ListedSymbol
@@ -76,18 +76,18 @@ symbols_in lines = taken_by symbol_of lines
 abbrev pub symbol_counts : List (List ℕ) → SymbolCounts
 symbol_counts lines =
     record {
-      hidden = skipped_by (is_skipped Hidden) symbol_of lines;
-      long = skipped_by (is_skipped Long) symbol_of lines;
-      malformed = skipped_by (is_skipped Malformed) symbol_of lines;
+      hidden = skipped_by (is_skipped_symbol Hidden) symbol_of lines;
+      long = skipped_by (is_skipped_symbol Long) symbol_of lines;
+      malformed = skipped_by (is_skipped_symbol Malformed) symbol_of lines;
     }
 
 -- the counts after one more line
-abbrev pub counts_after : SymbolCounts → Result ListedSymbol SkippedSymbol → SymbolCounts
-counts_after n said =
+abbrev pub symbol_counts_after : SymbolCounts → Result ListedSymbol SkippedSymbol → SymbolCounts
+symbol_counts_after n said =
     record {
-      hidden = one_more (is_skipped Hidden said) n.hidden;
-      long = one_more (is_skipped Long said) n.long;
-      malformed = one_more (is_skipped Malformed said) n.malformed;
+      hidden = one_more_if (is_skipped_symbol Hidden said) n.hidden;
+      long = one_more_if (is_skipped_symbol Long said) n.long;
+      malformed = one_more_if (is_skipped_symbol Malformed said) n.malformed;
     }
 
 -- how many lines are skipped for any cause

@@ -23,14 +23,14 @@ with_header header (Ok commands) = Ok (record { header = header; commands = comm
 with_header header (Err n) = Err n
 
 -- what the later lines say, where the first is this header
-abbrev pub headed : Option Header → List (List ℕ) → Result Contents ℕ
-headed None lines = Err 1
-headed (Some header) lines = with_header header (entries_from (command_by header.version) 2 lines)
+abbrev pub contents_with : Option Header → List (List ℕ) → Result Contents ℕ
+contents_with None lines = Err 1
+contents_with (Some header) lines = with_header header (entries_from (command_by header.version) 2 lines)
 
--- line 1 is the header, also where there is no line
+-- line 1 is the header, even if there is no line
 abbrev pub trace_of_lines : List (List ℕ) → Result Contents ℕ
 trace_of_lines [] = Err 1
-trace_of_lines (first ∷ lines) = headed (header_of first) lines
+trace_of_lines (first ∷ lines) = contents_with (header_of first) lines
 
 abbrev pub trace_of : List ℕ → Result Contents ℕ
 trace_of bytes = trace_of_lines (lines_of bytes)

@@ -2,7 +2,7 @@
 ghost use Rattle.std.specs.Prelude.{◌≡◌, ◌≢◌, ◌+◌, ◌*◌, length, take, drop, IfOk, MatchOption};
 ghost use Rattle.std.specs.Option.{option_map};
 ghost use Rattle.listing.specs.Lines.{words_of};
-ghost use Rattle.listing.specs.Batch.{batch_of, items_of, numbers_of};
+ghost use Rattle.listing.specs.Batch.{batch_of, items_of_numbers, numbers_of};
 
 use crate::lines::cut_word;
 use crate::numbers::number;
@@ -79,7 +79,7 @@ fn parts(numbers: &[u64], erased: u64, inserted: u64) -> Option<(&[u64], &[u64])
 
 /// The items that the numbers are, three for each.
 fn items_in(alloc: Global, numbers: &[u64]) -> Result<Vec<Item>, AllocError>
-    ensures { IfOk result (λ items. items.items ≡ items_of numbers.now) }
+    ensures { IfOk result (λ items. items.items ≡ items_of_numbers numbers.now) }
 {
     let mut items = Vec::with_capacity(alloc, numbers.len() / ITEM_WORDS)?;
     let mut rest = numbers;

@@ -68,7 +68,7 @@ fn batch_command(alloc: Global, arguments: &[u8]) -> Result<Option<Command<u64>>
 }
 
 /// The command that a line of at most five words is.
-#[tactic(auto, using(crate::proofs::Forms::command_long))]
+#[tactic(auto, using(crate::proofs::FormLemmas::command_long))]
 fn short_command_in(line: &[u8]) -> Option<Command<u64>>
     ensures { result ≡ command_of (words_of line.now) }
 {
@@ -90,7 +90,7 @@ fn short_command_in(line: &[u8]) -> Option<Command<u64>>
 }
 
 /// `insert LO HI TAG`
-#[tactic(auto, using(crate::proofs::Forms::insert_three, crate::proofs::Forms::no_insert))]
+#[tactic(auto, using(crate::proofs::FormLemmas::insert_three, crate::proofs::FormLemmas::no_insert))]
 fn insert_in(words: &[&[u8]]) -> Option<Command<u64>>
     ensures { result ≡ insert_of (map (λ w. w.now) words.now) }
 {
@@ -112,7 +112,7 @@ fn make_insert(low: &[u8], high: &[u8], tag: &[u8]) -> Option<Command<u64>>
 }
 
 /// `erase LO`
-#[tactic(auto, using(crate::proofs::Forms::erase_one, crate::proofs::Forms::no_erase))]
+#[tactic(auto, using(crate::proofs::FormLemmas::erase_one, crate::proofs::FormLemmas::no_erase))]
 fn erase_in(words: &[&[u8]]) -> Option<Command<u64>>
     ensures { result ≡ erase_of (map (λ w. w.now) words.now) }
 {
@@ -129,7 +129,7 @@ fn make_erase(low: &[u8]) -> Option<Command<u64>>
 }
 
 /// `write flip`, `write end` and `write K`
-#[tactic(auto, using(crate::proofs::Forms::write_one, crate::proofs::Forms::no_write))]
+#[tactic(auto, using(crate::proofs::FormLemmas::write_one, crate::proofs::FormLemmas::no_write))]
 fn write_in(words: &[&[u8]]) -> Option<Command<u64>>
     ensures { result ≡ write_of (map (λ w. w.now) words.now) }
 {
@@ -152,7 +152,7 @@ fn make_write(steps: &[u8]) -> Option<Command<u64>>
 }
 
 /// `start R ADDR`
-#[tactic(auto, using(crate::proofs::Forms::start_two, crate::proofs::Forms::no_start))]
+#[tactic(auto, using(crate::proofs::FormLemmas::start_two, crate::proofs::FormLemmas::no_start))]
 fn start_in(words: &[&[u8]]) -> Option<Command<u64>>
     ensures { result ≡ start_of (map (λ w. w.now) words.now) }
 {
@@ -169,7 +169,7 @@ fn make_start(reader: &[u8], key: &[u8]) -> Option<Command<u64>>
 }
 
 /// `read R K`
-#[tactic(auto, using(crate::proofs::Forms::read_two, crate::proofs::Forms::no_read))]
+#[tactic(auto, using(crate::proofs::FormLemmas::read_two, crate::proofs::FormLemmas::no_read))]
 fn read_in(words: &[&[u8]]) -> Option<Command<u64>>
     ensures { result ≡ read_of (map (λ w. w.now) words.now) }
 {

@@ -25,9 +25,9 @@ pub enum LineFault {
 }
 
 impl From<ReadFault> for LineFault {
-    ghost use Rattle.listing.specs.Said.{unread};
+    ghost use Rattle.listing.specs.Said.{fault_of_reading};
 
-    ghost from_gives = { λ unread_by fault. fault ≡ unread unread_by };
+    ghost from_gives = { λ unread_by fault. fault ≡ fault_of_reading unread_by };
 
     fn from(fault: ReadFault) -> LineFault {
         match fault {

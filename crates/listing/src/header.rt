@@ -54,7 +54,7 @@ pub struct Header {
 }
 
 /// The header that a line is: `latchtrace VERSION ORDER CAPACITY`, and START after it or not.
-#[tactic(auto, using(crate::proofs::Forms::header_too_long))]
+#[tactic(auto, using(crate::proofs::FormLemmas::header_too_long))]
 pub(crate) fn header_in(line: &[u8]) -> Option<Header>
     ensures { result ≡ header_of line.now }
 {
@@ -64,7 +64,7 @@ pub(crate) fn header_in(line: &[u8]) -> Option<Header>
     header_in_words(&words_in(line)?)
 }
 
-#[tactic(auto, using(crate::proofs::Forms::header_short, crate::proofs::Forms::header_long))]
+#[tactic(auto, using(crate::proofs::FormLemmas::header_short, crate::proofs::FormLemmas::header_long))]
 fn header_in_words(words: &[&[u8]]) -> Option<Header>
     ensures { result ≡ header_of_words (map (λ w. w.now) words.now) }
 {

@@ -7,8 +7,7 @@ use devices::{BLOCK, Counted};
 use std::alloc::Global;
 use std::io::Read;
 
-/// Reads all that a reader has left. The first call that fails ends it, also one that was
-/// interrupted.
+/// Reads all that a reader has left. The first call that fails ends it, even if it was interrupted.
 pub fn read_whole<R: Read>(alloc: Global, reader: &mut Counted<R>) -> Result<Vec<u8>, ReadFault>
     ensures bytes { IfOk result
         (λ bytes. IfSome (R.remaining (device_of reader.old)) (λ left. bytes.items ≡ left)) }

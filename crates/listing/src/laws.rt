@@ -5,7 +5,7 @@ ghost use Rattle.listing.specs.ModuleListing.{module_counts, modules_in, modules
 ghost use Rattle.listing.specs.SymbolListing.{symbol_counts, symbols_in, symbols_skipped};
 ghost use Rattle.listing.specs.Addresses.{addresses_of};
 ghost use Rattle.listing.specs.Numbers.{number_of};
-ghost use Rattle.listing.specs.RegionListing.{regions_of};
+ghost use Rattle.listing.specs.RegionListing.{regions_of_text};
 ghost use Rattle.listing.specs.Scripts.{script_line_by, script_of};
 ghost use Rattle.listing.specs.Trace.{trace_of};
 ghost use Rattle.listing.specs.Understood.{AreSaidBy, IsFirstBad, IsFirstBadFrom, IsFirstBadRegion, IsRegionListingBy, IsTraceBy};
@@ -23,7 +23,7 @@ pub fn trace_by_its_lines()
 /// first one that is not.
 pub fn regions_by_their_lines()
     ensures { (text : List ℕ)
-        → MatchResult (regions_of text) (IsRegionListingBy (lines_of text))
+        → MatchResult (regions_of_text text) (IsRegionListingBy (lines_of text))
         (IsFirstBadRegion (lines_of text)) }
 {}
 

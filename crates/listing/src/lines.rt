@@ -36,7 +36,7 @@ pub(crate) fn cut_word(line: &[u8]) -> (&[u8], Option<&[u8]>)
 const MOST_WORDS: usize = 5;
 
 /// The words of a line that has at most so many.
-#[tactic(auto, using(crate::proofs::Cutting::some_word))]
+#[tactic(auto, using(crate::proofs::LineCutLemmas::some_word))]
 pub(crate) fn words_in<'a>(line: &'a [u8]) -> Option<ArrayVec<&'a [u8], MOST_WORDS>>
     ensures some { IfSome result (λ words. map (λ w. w.now) words.items ≡ words_of line.now) }
     ensures none { IfNone result (5 < length (words_of line.now)) }

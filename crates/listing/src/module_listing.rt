@@ -10,7 +10,7 @@
 ghost use Rattle.std.specs.Prelude.{◌≡◌, ◌+◌, ◌<◌, ◌^◌, true, All, Err, map, IfOk};
 ghost use Rattle.listing.specs.Lines.{lines_of};
 ghost use Rattle.listing.specs.Numbers.{numeral};
-ghost use Rattle.listing.specs.ModuleListing.{base_of, counts_after, module_counts, module_of, module_of_words, module_with, modules_in, modules_skipped};
+ghost use Rattle.listing.specs.ModuleListing.{base_of, module_counts_after, module_counts, module_of_line, module_of_words, module_of_parts, modules_in, modules_skipped};
 ghost use Rattle.modules.specs.Lines.{fits};
 
 use crate::gaps::first_words;
@@ -52,7 +52,7 @@ pub struct ModuleCounts {
 impl ModuleCounts {
     fn count(&mut self, cause: SkippedModule)
         requires { modules_skipped self.old + 1 < 2 ^ 64 }
-        ensures { self.new ≡ counts_after self.old (Err cause) }
+        ensures { self.new ≡ module_counts_after self.old (Err cause) }
     {
         match cause {
             SkippedModule::Long => self.long += 1,
@@ -77,7 +77,7 @@ fn base(word: &[u8]) -> Option<u64>
 
 /// The module of this name, where its size and its base are numbers.
 fn make_module<'a>(name: &'a [u8], size: &[u8], start: &[u8]) -> Option<ModuleLine<'a>>
-    ensures { result ≡ module_with name.now (numeral 10 20 size.now) (base_of start.now) }
+    ensures { result ≡ module_of_parts name.now (numeral 10 20 size.now) (base_of start.now) }
 {
     Some(ModuleLine {
         name,
@@ -97,9 +97,9 @@ fn module_in_words<'a>(words: &[&'a [u8]]) -> Option<ModuleLine<'a>>
 }
 
 /// The module that a line is, or the first cause for which it is skipped.
-#[tactic(auto, using(crate::proofs::WordRuns::six_words))]
+#[tactic(auto, using(crate::proofs::WordRunLemmas::six_words))]
 fn module_in<'a>(line: &'a [u8]) -> Result<ModuleLine<'a>, SkippedModule>
-    ensures { result ≡ module_of line.now }
+    ensures { result ≡ module_of_line line.now }
 {
     if line.len() > LONGEST_LINE {
         return Err(SkippedModule::Long);
@@ -120,9 +120,9 @@ fn module_in<'a>(line: &'a [u8]) -> Result<ModuleLine<'a>, SkippedModule>
 
 /// The modules of a listing in the form of /proc/modules, and how many of its lines were skipped.
 ///
-/// Words are parted by blanks and tabs, any number of them. A line is skipped as long where it has
-/// more than [`LONGEST_LINE`](crate::LONGEST_LINE) bytes, else as malformed where it has fewer than
-/// six words, or the second is not 1 to 20 decimal digits of a 64-bit number (the size) or the
+/// Words are separated by blanks and tabs, any number of them. A line is skipped as long where it
+/// has more than [`LONGEST_LINE`](crate::LONGEST_LINE) bytes, else as malformed where it has fewer
+/// than six words, or the second is not 1 to 20 decimal digits of a 64-bit number (the size) or the
 /// sixth not `0x` and 1 to 16 hexadecimal digits (the base), else as hidden where the base is 0, as
 /// empty where the size is 0, and as one that wraps where the region goes past the greatest
 /// address. The names are those of the text.

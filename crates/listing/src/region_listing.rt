@@ -13,7 +13,7 @@
 ghost use Rattle.std.specs.Prelude.{◌≡◌, true, All, map, IfOk};
 ghost use Rattle.listing.specs.Lines.{lines_of, words_of};
 ghost use Rattle.listing.specs.Said.{entries_from, said_by, GivesInGrammar};
-ghost use Rattle.listing.specs.RegionListing.{part_of, placed, region_by, region_of_words, region_with, regions_of};
+ghost use Rattle.listing.specs.RegionListing.{part_of, placed_region, region_by, region_of_words, region_with, regions_of_text};
 ghost use Rattle.modules.specs.Lines.{region_fits};
 
 use crate::LineFault;
@@ -56,7 +56,7 @@ fn make_region<'a>(name: &'a [u8], part: &[u8], base: &[u8], size: &[u8]) -> Opt
 }
 
 /// The region that these words are.
-#[tactic(auto, using(crate::proofs::RegionLines::region_of_four, crate::proofs::RegionLines::no_region))]
+#[tactic(auto, using(crate::proofs::RegionLineLemmas::region_of_four, crate::proofs::RegionLineLemmas::no_region))]
 fn region_in_words<'a>(words: &[&'a [u8]]) -> Option<RegionLine<'a>>
     ensures { result ≡ region_of_words (map (λ w. w.now) words.now) }
 {
@@ -67,7 +67,7 @@ fn region_in_words<'a>(words: &[&'a [u8]]) -> Option<RegionLine<'a>>
 }
 
 /// The region that a line is.
-#[tactic(auto, using(crate::proofs::RegionLines::regions_too_long))]
+#[tactic(auto, using(crate::proofs::RegionLineLemmas::regions_too_long))]
 fn region_in<'a>(line: &'a [u8]) -> Option<RegionLine<'a>>
     ensures { result ≡ region_by line.now }
 {
@@ -98,9 +98,9 @@ fn said_by<'a>(line: &'a [u8]) -> Said<RegionLine<'a>>
 /// than 0 (as [`number`] reads them) with a sum of at most the greatest `u64`. No line has more
 /// than [`LONGEST_LINE`](crate::LONGEST_LINE) bytes. Any other line is [`LineFault::BadLine`], the
 /// first of them, and a text of no bytes has a bad line 1. No reader is asked here, so that
-/// [`LineFault::Read`] is never answered. The names are those of the text.
+/// [`LineFault::Read`] is never returned. The names are those of the text.
 pub fn read_regions<'a>(alloc: Global, text: &'a [u8]) -> Result<Vec<RegionLine<'a>>, LineFault>
-    ensures regions { GivesInGrammar (λ regions. regions.items) result (regions_of text.now) }
+    ensures regions { GivesInGrammar (λ regions. regions.items) result (regions_of_text text.now) }
     ensures fit { IfOk result (λ regions. All (λ r. region_fits r ≡ true) regions.items) }
 {
     if text.is_empty() {

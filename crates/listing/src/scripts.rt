@@ -98,7 +98,7 @@ fn make_line<'a>(verb: &[u8], actor: &[u8], what: &'a [u8], readers: u32) -> Opt
 }
 
 /// What these words have an actor do.
-#[tactic(auto, using(crate::proofs::ScriptLines::line_of_three, crate::proofs::ScriptLines::no_line))]
+#[tactic(auto, using(crate::proofs::ScriptLineLemmas::line_of_three, crate::proofs::ScriptLineLemmas::no_line))]
 fn line_in_words<'a>(words: &[&'a [u8]], readers: u32) -> Option<ScriptLine<'a>>
     ensures { result ≡ script_line_of readers (map (λ w. w.now) words.now) }
 {
@@ -109,7 +109,7 @@ fn line_in_words<'a>(words: &[&'a [u8]], readers: u32) -> Option<ScriptLine<'a>>
 }
 
 /// What a line has an actor do.
-#[tactic(auto, using(crate::proofs::ScriptLines::line_too_long))]
+#[tactic(auto, using(crate::proofs::ScriptLineLemmas::line_too_long))]
 fn line_in<'a>(line: &'a [u8], readers: u32) -> Option<ScriptLine<'a>>
     ensures { result ≡ script_line_by readers line.now }
 {
@@ -140,7 +140,7 @@ fn said_by<'a>(line: &'a [u8], readers: u32) -> Said<ScriptLine<'a>>
 /// [`number`] reads them); NAME is one byte or more and has no blank. No line, also no comment, has
 /// more than [`LONGEST_LINE`](crate::LONGEST_LINE) bytes. Bytes after the last line's end are a
 /// line too. Any other line is [`LineFault::BadLine`], the first of them. No reader is asked here,
-/// so that [`LineFault::Read`] is never answered. The names are those of the text.
+/// so that [`LineFault::Read`] is never returned. The names are those of the text.
 pub fn read_script<'a>(
     alloc: Global,
     text: &'a [u8],

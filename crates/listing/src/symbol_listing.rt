@@ -13,7 +13,7 @@ ghost use Rattle.std.specs.Prelude.{◌≡◌, ◌+◌, ◌<◌, ◌^◌, ◌∷
 ghost use Rattle.memchr.specs.Find.{IsFirst, IsFirstByte, Passes, is_byte};
 ghost use Rattle.std.specs.Option.{option_copied, option_map};
 ghost use Rattle.listing.specs.Lines.{lines_of};
-ghost use Rattle.listing.specs.SymbolListing.{address_in, bracketed, counts_after, cut_at, symbol_before, symbol_counts, symbol_named, symbol_of, symbols_in, symbols_skipped};
+ghost use Rattle.listing.specs.SymbolListing.{address_in, bracketed, symbol_counts_after, cut_at, symbol_before, symbol_counts, symbol_of_text, symbol_of, symbols_in, symbols_skipped};
 
 use crate::lines::LONGEST_LINE;
 use crate::numbers::{hexadecimal, sixteen_digits};
@@ -46,7 +46,7 @@ pub struct SymbolCounts {
 impl SymbolCounts {
     fn count(&mut self, cause: SkippedSymbol)
         requires { symbols_skipped self.old + 1 < 2 ^ 64 }
-        ensures { self.new ≡ counts_after self.old (Err cause) }
+        ensures { self.new ≡ symbol_counts_after self.old (Err cause) }
     {
         match cause {
             SkippedSymbol::Long => self.long += 1,
@@ -133,7 +133,7 @@ fn cut_address(text: &[u8]) -> Option<(u64, &[u8])>
 /// The symbol that `ADDRESS LETTER NAME` is.
 #[inline(always)]
 fn named_symbol<'a>(text: &'a [u8], owner: Option<&'a [u8]>) -> Option<SymbolLine<'a>>
-    ensures { result ≡ symbol_named (option_copied owner.entry) text.now }
+    ensures { result ≡ symbol_of_text (option_copied owner.entry) text.now }
 {
     let (addr, rest) = cut_address(text)?;
     match rest {

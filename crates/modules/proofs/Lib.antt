@@ -1,34 +1,34 @@
 -- a region beside regions that are spread
-pub mod Spreading
+pub mod SpreadLemmas
 -- the region lines of one name stand side by side
-pub mod Grouping
+pub mod GroupLemmas
 -- each module has 1 to 7 regions
-pub mod Lying
+pub mod RegionLemmas
 -- one more module
-pub mod Admitting
+pub mod AdmissionLemmas
 -- each module has a region of its core
-pub mod Starting
+pub mod StartLemmas
 -- the order of the index
-pub mod Indexing
+pub mod IndexLemmas
 -- symbols that are listed by rising address
-pub mod Rising
+pub mod RisingLemmas
 -- lines that have the name of their module by their run, and their letter beside it
-pub mod Running
+pub mod RunLemmas
 -- where a symbol is kept
-pub mod Keeping
+pub mod KeptLemmas
 -- which lines of a run are kept, and where
-pub mod Homes
+pub mod HomeLemmas
 -- one more run of symbol lines
-pub mod Gatherings
+pub mod GatheringLemmas
 -- a name among names that are distinct
-pub mod Naming
+pub mod NameLemmas
 -- the accepted modules have distinct names and regions that lie apart
-pub mod Soundness
+pub mod SoundnessLemmas
 -- the modules that are made of the accepted ones
-pub mod Makings
+pub mod MakingLemmas
 -- each line is counted once
-pub mod Counting
+pub mod CountLemmas
 -- which updates a load, an unload, and the end of a module's start give
-pub mod Loading
+pub mod LoadLemmas
 -- the items of a catalog are its regions
-pub mod Items
+pub mod ItemLemmas

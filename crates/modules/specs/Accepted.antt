@@ -4,7 +4,7 @@ use Rattle.std.specs.List.{flat_map, list_any}
 use Rattle.std.specs.Option.{option_to_list}
 use Rattle.std.specs.Str.{bytes_eq}
 use Rattle.modules.specs.Listed.{ListedModule, ListedRegion}
-use Rattle.modules.specs.Placed.{PlacedModule, placed}
+use Rattle.modules.specs.Placed.{PlacedModule, placed_line}
 use Rattle.modules.specs.Regions.{are_beside, lie_apart}
 
 -- the region of the kernel itself, the accepted modules in the order of their lines, how many other
@@ -21,8 +21,8 @@ abbrev pub names_of : List PlacedModule → List (List ℕ)
 names_of modules = map (λ m. m.name) modules
 
 -- the regions that are taken: that of the kernel itself, and those of the accepted modules
-abbrev pub taken : Accepted → List (ℕ × ℕ)
-taken a = option_to_list a.built_in ++ flat_map (λ m. m.regions) a.modules
+abbrev pub taken_regions : Accepted → List (ℕ × ℕ)
+taken_regions a = option_to_list a.built_in ++ flat_map (λ m. m.regions) a.modules
 
 abbrev pub none_yet : Option (ℕ × ℕ) → Accepted
 none_yet built_in = record { built_in = built_in; modules = []; double = 0; overlap = 0 }
@@ -31,11 +31,11 @@ none_yet built_in = record { built_in = built_in; modules = []; double = 0; over
 abbrev pub after_module : Accepted → PlacedModule → Accepted
 after_module a m =
     if list_any (bytes_eq m.name) (names_of a.modules) then record a { double = a.double + 1 }
-    else if lie_apart m.regions && are_beside (taken a) m.regions
+    else if lie_apart m.regions && are_beside (taken_regions a) m.regions
     then record a { modules = a.modules ++ m ∷ [] }
     else record a { overlap = a.overlap + 1 }
 
 -- each line in turn, at the regions of its module
 abbrev pub accepted_of : Option (ℕ × ℕ) → List ListedRegion → List ListedModule → Accepted
 accepted_of built_in regions lines =
-    fold after_module (none_yet built_in) (map (placed regions) lines)
+    fold after_module (none_yet built_in) (map (placed_line regions) lines)

@@ -20,8 +20,8 @@ module_with m symbols = record {
 }
 
 -- a module without its symbols
-abbrev pub place_of : ModuleEntry → PlacedModule
-place_of m = record { name = m.name; regions = m.regions; parts = m.parts }
+abbrev pub placed_module_of : ModuleEntry → PlacedModule
+placed_module_of m = record { name = m.name; regions = m.regions; parts = m.parts }
 
 -- the kernel itself, with these symbols
 abbrev pub built_in_with : Option (ℕ × ℕ) → List SymbolEntry → Option ModuleEntry

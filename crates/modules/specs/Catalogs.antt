@@ -6,9 +6,9 @@ use Rattle.std.specs.Str.{bytes_eq}
 use Rattle.order_laws.specs.declared.refusals.Refusal.{Refusal}
 use Rattle.order_laws.specs.declared.refusals.Refusal.TheVariants.{OutOfMemory, TooManyRegions}
 use Rattle.modules.specs.Accepted.{accepted_of}
-use Rattle.modules.specs.Building.{built_in_with, module_with, place_of}
+use Rattle.modules.specs.Building.{built_in_with, module_with, placed_module_of}
 use Rattle.modules.specs.Entries.{CatalogEntries, ModuleEntry}
-use Rattle.modules.specs.Kept.{AreDistinct, belongs, is_built_in, is_kept, is_used, symbols_that}
+use Rattle.modules.specs.Kept.{AreDistinctNames, belongs, is_built_in, is_kept, is_used, symbols_that}
 use Rattle.modules.specs.Lines.{built_in_region}
 use Rattle.modules.specs.Listed.{BoundNames, ListedModule, ListedRegion, ListedSymbol}
 use Rattle.modules.specs.Names.{names_in}
@@ -59,10 +59,10 @@ regions_of c = flat_map (λ m. m.regions) (entries_of c)
 
 -- each module has 1 to 7 regions and one of its core, all regions have addresses and lie apart, and
 -- no two modules from number 1 on have one name
-pub record IsSound (c : CatalogEntries) : Type 0 where
-  pub placed : All (λ m. IsPlaced (place_of m)) (entries_of c)
+pub record IsSoundCatalog (c : CatalogEntries) : Type 0 where
+  pub placed : All (λ m. IsPlaced (placed_module_of m)) (entries_of c)
   pub apart : AreApart (regions_of c)
-  pub distinct : AreDistinct (names_in c.modules)
+  pub distinct : AreDistinctNames (names_in c.modules)
 
 -- out of memory, or more than seven region lines of one name
 abbrev pub IsBuildRefusal : List ListedRegion → Refusal → Type 0
@@ -75,7 +75,7 @@ module_of c zero = c.built_in
 module_of c (suc n) = slice_get c.modules n
 
 -- `-` is number 0 alone
-abbrev pub number_of : CatalogEntries → List ℕ → Option ℕ
-number_of c name =
+abbrev pub module_number_of : CatalogEntries → List ℕ → Option ℕ
+module_number_of c name =
     if bytes_eq name (codes "-") then option_map (λ _. 0) c.built_in
     else option_map (λ place. place + 1) (position_from (bytes_eq name) 0 (names_in c.modules))

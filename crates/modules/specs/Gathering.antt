@@ -50,8 +50,8 @@ OthersStay place g h =
     → slice_index_or h.modules.items j d ≡ slice_index_or g.modules.items j d
 
 -- the list at the place has these symbols more
-abbrev pub Grows : ℕ → List SymbolEntry → Gathered → Gathered → Type 0
-Grows place kept g h =
+abbrev pub GathersMore : ℕ → List SymbolEntry → Gathered → Gathered → Type 0
+GathersMore place kept g h =
     (d : Vec SymbolEntry)
     → (slice_index_or h.modules.items place d).items
     ≡ (slice_index_or g.modules.items place d).items ++ kept
@@ -62,7 +62,7 @@ Keeps owner.BuiltIn kept g h =
     (h.built_in.items ≡ g.built_in.items ++ kept) × (h.modules.items ≡ g.modules.items)
 Keeps (owner.Module place) kept g h =
     (h.built_in.items ≡ g.built_in.items) × (length h.modules.items ≡ length g.modules.items)
-    × Grows place kept g h × OthersStay place g h
+    × GathersMore place kept g h × OthersStay place g h
 Keeps owner.Nobody kept g h =
     (h.built_in.items ≡ g.built_in.items) × (h.modules.items ≡ g.modules.items)
 

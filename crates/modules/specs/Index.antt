@@ -7,8 +7,8 @@ use Rattle.modules.specs.Entries.{SymbolEntry}
 use Rattle.modules.specs.declared.symbols.IndexEntry.{IndexEntry}
 
 -- the address of each symbol, with its place
-abbrev pub entries_of : List SymbolEntry → List IndexEntry
-entries_of symbols = map (λ p. record { addr = p.1.addr; place = p.0 }) (enumerate_from 0 symbols)
+abbrev pub index_entries_of : List SymbolEntry → List IndexEntry
+index_entries_of symbols = map (λ p. record { addr = p.1.addr; place = p.0 }) (enumerate_from 0 symbols)
 
 -- a lesser address comes first, and of equal ones the later place
 abbrev pub comes_before : IndexEntry → IndexEntry → Bool
@@ -17,7 +17,7 @@ comes_before x y = nat_lt x.addr y.addr || (nat_eq x.addr y.addr && nat_lt y.pla
 -- the entries of the symbols in this order
 pub record IsIndex (symbols : List SymbolEntry) (index : List IndexEntry) : Type 0 where
   pub sorted : IsSortedBy comes_before index
-  pub listed : IsPermutation (entries_of symbols) index
+  pub listed : IsPermutation (index_entries_of symbols) index
 
 -- what lies below the place is by its measure not above the address, and the rest is
 pub record IsSplitBy {A : Type 0} (measure : A → ℕ) (xs : List A) (addr place : ℕ) : Type 0 where

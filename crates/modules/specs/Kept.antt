@@ -10,8 +10,8 @@ use Rattle.modules.specs.Placed.{PlacedModule, has_core, lines_named}
 use Rattle.modules.specs.Regions.{holds}
 
 -- no two names are equal
-abbrev pub AreDistinct : List (List ℕ) → Type 0
-AreDistinct names = AllPairs (λ x y. x ≢ y) names
+abbrev pub AreDistinctNames : List (List ℕ) → Type 0
+AreDistinctNames names = AllPairs (λ x y. x ≢ y) names
 
 -- the symbol's address and name
 abbrev pub entry_of : ListedSymbol → SymbolEntry

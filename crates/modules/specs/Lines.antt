@@ -17,11 +17,11 @@ abbrev pub region_fits : ListedRegion → Bool
 region_fits l = is_region l.base l.size
 
 -- from the base up to the base plus the size
-abbrev pub region_of : ListedModule → ℕ × ℕ
-region_of l = (l.base, l.base + l.size)
+abbrev pub module_line_region : ListedModule → ℕ × ℕ
+module_line_region l = (l.base, l.base + l.size)
 
-abbrev pub bounds_of : ListedRegion → ℕ × ℕ
-bounds_of l = (l.base, l.base + l.size)
+abbrev pub region_line_region : ListedRegion → ℕ × ℕ
+region_line_region l = (l.base, l.base + l.size)
 
 -- the address of the first line without a module that has this name
 abbrev pub first_address : List ℕ → List ListedSymbol → Option ℕ

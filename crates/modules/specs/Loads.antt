@@ -28,19 +28,19 @@ abbrev pub item_of : ℕ → ℕ × ℕ → Item
 item_of number r = record { a = r.0; b = r.1; tag = number }
 
 -- all regions of a module that is not held are put in
-abbrev pub loaded : ℕ → Held → ModuleEntry → Result Update Refusal
-loaded number held m =
+abbrev pub load_update : ℕ → Held → ModuleEntry → Result Update Refusal
+load_update number held m =
     if held.core then Err AlreadyLoaded else Ok (update_of [] (map (item_of number) m.regions))
 
 -- of a module that is held the core regions are taken out, and the init regions where they are held
-abbrev pub unloaded : Held → ModuleEntry → Result Update Refusal
-unloaded held m =
+abbrev pub unload_update : Held → ModuleEntry → Result Update Refusal
+unload_update held m =
     if held.core then Ok (update_of (starts_of true held.init m.regions m.parts) [])
     else Err NotLoaded
 
 -- of a module that is held with init regions these are taken out
-abbrev pub init_dropped : Held → ModuleEntry → Result Update Refusal
-init_dropped held m =
+abbrev pub drop_init_update : Held → ModuleEntry → Result Update Refusal
+drop_init_update held m =
     if held.core
     then
     (if held.init && list_any is_init m.parts
@@ -49,14 +49,14 @@ init_dropped held m =
     else Err NotLoaded
 
 abbrev pub load_of : CatalogEntries → ℕ → Held → Result Update Refusal
-load_of c number held = option_map_or (loaded number held) (module_of c number) (Err UnknownModule)
+load_of c number held = option_map_or (load_update number held) (module_of c number) (Err UnknownModule)
 
 abbrev pub unload_of : CatalogEntries → ℕ → Held → Result Update Refusal
-unload_of c number held = option_map_or (unloaded held) (module_of c number) (Err UnknownModule)
+unload_of c number held = option_map_or (unload_update held) (module_of c number) (Err UnknownModule)
 
 abbrev pub drop_init_of : CatalogEntries → ℕ → Held → Result Update Refusal
 drop_init_of c number held =
-    option_map_or (init_dropped held) (module_of c number) (Err UnknownModule)
+    option_map_or (drop_init_update held) (module_of c number) (Err UnknownModule)
 
 -- a batch takes memory; nothing else does
 abbrev pub TakesMemory : Result Update Refusal → Type 0
@@ -74,13 +74,13 @@ abbrev pub GivesSome : (Held → Result Update Refusal) → Update → Type 0
 GivesSome asked u = (held : Held) × (asked held ≡ Ok u)
 
 -- there is nothing in the list
-abbrev pub none_left : {A : Type 0} → List A → Bool
-none_left [] = true
-none_left (x ∷ xs) = false
+abbrev pub has_no_items : {A : Type 0} → List A → Bool
+has_no_items [] = true
+has_no_items (x ∷ xs) = false
 
 -- the items are those of the regions
 abbrev pub same_items : ℕ → List (ℕ × ℕ) → List Item → Bool
-same_items number [] items = none_left items
+same_items number [] items = has_no_items items
 same_items number (r ∷ rs) [] = false
 same_items number (r ∷ rs) (i ∷ is) =
     nat_eq i.a r.0 && nat_eq i.b r.1 && nat_eq i.tag number && same_items number rs is
@@ -90,11 +90,11 @@ abbrev pub is_erasing : List ℕ → Update → Bool
 is_erasing starts (Insert i) = false
 is_erasing starts (Erase a) = bytes_eq starts (a ∷ [])
 is_erasing starts (Batch erase insert) =
-    not (nat_eq (length starts) 1) && none_left insert && bytes_eq starts erase
+    not (nat_eq (length starts) 1) && has_no_items insert && bytes_eq starts erase
 
 -- the update puts in the items of these regions, and does nothing else
 abbrev pub is_inserting : ℕ → List (ℕ × ℕ) → Update → Bool
 is_inserting number regions (Insert i) = same_items number regions (i ∷ [])
 is_inserting number regions (Erase a) = false
 is_inserting number regions (Batch erase insert) =
-    not (nat_eq (length regions) 1) && none_left erase && same_items number regions insert
+    not (nat_eq (length regions) 1) && has_no_items erase && same_items number regions insert

@@ -1,12 +1,12 @@
 -- What a module holds.
 use Rattle.modules.specs.Entries.{ModuleEntry}
 use Rattle.modules.specs.Index.{IsOrdered}
-use Rattle.modules.specs.Building.{place_of}
+use Rattle.modules.specs.Building.{placed_module_of}
 use Rattle.modules.specs.Placed.{IsPlaced}
 use Rattle.modules.specs.declared.module.Module.TheInside.{Inside}
 
-abbrev pub shown : Inside → ModuleEntry
-shown m = record {
+abbrev pub module_view : Inside → ModuleEntry
+module_view m = record {
   name = m.name.now;
   regions = m.regions.items;
   parts = m.parts.items;
@@ -14,6 +14,6 @@ shown m = record {
 }
 
 -- it has regions of its core, and its symbols can be searched
-pub record IsWhole (m : Inside) : Type 0 where
-  pub placed : IsPlaced (place_of (shown m))
+pub record IsWholeModule (m : Inside) : Type 0 where
+  pub placed : IsPlaced (placed_module_of (module_view m))
   pub ordered : IsOrdered m.symbols.items m.by_address

@@ -2,7 +2,7 @@
 use Rattle.std.specs.Prelude.{◌≡◌, ℕ, ◌<◌, ◌≤◌, Bool, true, All, List, [], ◌∷◌, length, map, filter, nat_le, if◌then◌else◌}
 use Rattle.std.specs.List.{list_any, list_all}
 use Rattle.std.specs.Str.{bytes_eq}
-use Rattle.modules.specs.Lines.{bounds_of, region_of}
+use Rattle.modules.specs.Lines.{region_line_region, module_line_region}
 use Rattle.modules.specs.Listed.{ListedModule, ListedRegion}
 use Rattle.modules.specs.Parts.{is_core}
 use Rattle.modules.specs.declared.lines.Part.{Part}
@@ -28,13 +28,13 @@ are_few regions = list_all (λ r. nat_le (length (lines_named r.name regions)) 7
 
 -- a module that lies where its own line says
 abbrev pub placed_alone : ListedModule → PlacedModule
-placed_alone line = record { name = line.name; regions = region_of line ∷ []; parts = Core ∷ [] }
+placed_alone line = record { name = line.name; regions = module_line_region line ∷ []; parts = Core ∷ [] }
 
 -- a module that lies where region lines say
 abbrev pub placed_by : List ListedRegion → ListedModule → PlacedModule
 placed_by lines line = record {
   name = line.name;
-  regions = map bounds_of lines;
+  regions = map region_line_region lines;
   parts = map (λ r. r.part) lines;
 }
 
@@ -42,8 +42,8 @@ placed_by lines line = record {
 abbrev pub placed_with : List ListedRegion → ListedModule → PlacedModule
 placed_with lines line = if has_core lines then placed_by lines line else placed_alone line
 
-abbrev pub placed : List ListedRegion → ListedModule → PlacedModule
-placed regions line = placed_with (lines_named line.name regions) line
+abbrev pub placed_line : List ListedRegion → ListedModule → PlacedModule
+placed_line regions line = placed_with (lines_named line.name regions) line
 
 -- the module has at most seven regions, each with an address, and one of them is a core region
 pub record IsPlaced (m : PlacedModule) : Type 0 where

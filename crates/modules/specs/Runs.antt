@@ -14,19 +14,19 @@ abbrev pub one_line : Option (List ℕ) → SymbolEntry → List ListedSymbol
 one_line owner s = unlettered owner s ∷ []
 
 -- the lines of a run, without their letters
-abbrev pub lines_of : Run → List ListedSymbol
-lines_of r = map (unlettered (option_copied r.module)) r.symbols.items
+abbrev pub lines_of_run : Run → List ListedSymbol
+lines_of_run r = map (unlettered (option_copied r.module)) r.symbols.items
 
 abbrev pub lines_of_all : List Run → List ListedSymbol
-lines_of_all runs = flat_map lines_of runs
+lines_of_all runs = flat_map lines_of_run runs
 
 -- the line with its letter
 abbrev pub with_letter : ListedSymbol × ℕ → ListedSymbol
 with_letter l = record { addr = l.0.addr; letter = l.1; name = l.0.name; owner = l.0.owner }
 
 -- the lines of the runs, each with its letter
-abbrev pub lines_in : List Run → List ℕ → List ListedSymbol
-lines_in runs letters = map with_letter (zip (lines_of_all runs) letters)
+abbrev pub lines_of_runs : List Run → List ℕ → List ListedSymbol
+lines_of_runs runs letters = map with_letter (zip (lines_of_all runs) letters)
 
 -- there is a letter for each line
 abbrev pub AreLettered : List Run → List ℕ → Type 0

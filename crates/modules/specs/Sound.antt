@@ -1,14 +1,14 @@
 -- What a catalog keeps.
 use Rattle.std.specs.Prelude.{◌≡◌, length}
-use Rattle.modules.specs.Catalogs.{IsSound, regions_of}
+use Rattle.modules.specs.Catalogs.{IsSoundCatalog, regions_of}
 use Rattle.modules.specs.Entries.{CatalogEntries}
 use Rattle.modules.specs.Names.{names_in, IsNameIndex}
 use Rattle.modules.specs.declared.catalog.Catalog.TheInside.{Inside}
 
-abbrev pub shown : Inside → CatalogEntries
-shown c = record { built_in = c.built_in; modules = c.modules.items }
+abbrev pub catalog_view : Inside → CatalogEntries
+catalog_view c = record { built_in = c.built_in; modules = c.modules.items }
 
-pub record IsWhole (c : Inside) : Type 0 where
-  pub sound : IsSound (shown c)
+pub record IsWholeCatalog (c : Inside) : Type 0 where
+  pub sound : IsSoundCatalog (catalog_view c)
   pub named : IsNameIndex (names_in c.modules.items) c.by_name.items
-  pub counted : c.regions ≡ length (regions_of (shown c))
+  pub counted : c.regions ≡ length (regions_of (catalog_view c))

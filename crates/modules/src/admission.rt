@@ -4,7 +4,7 @@ ghost use Rattle.std.specs.Prelude.{◌≡◌, ℕ, Bool, ◌+◌, ◌<◌, ◌^
 ghost use Rattle.std.specs.List.{list_all};
 ghost use Rattle.modules.specs.Lines.{fits, region_fits};
 ghost use Rattle.modules.specs.Accepted.{none_yet, after_module, accepted_of};
-ghost use Rattle.modules.specs.Admissions.{shown, IsTied};
+ghost use Rattle.modules.specs.Admissions.{admission_view, IsAdmission};
 ghost use Rattle.modules.specs.Placed.{are_few};
 ghost use Rattle.modules.specs.Regions.{is_apart, are_beside, lie_apart};
 
@@ -77,8 +77,8 @@ fn take_all(taken: &mut Regions, regions: &[Region]) -> Result<(), AllocError>
 
 impl<'a> Admission<'a> {
     fn new(alloc: Global, built_in: Option<Region>) -> Result<Admission<'a>, AllocError>
-        ensures none { IfOk result (λ a. shown a ≡ none_yet built_in) }
-        ensures tied { IfOk result IsTied }
+        ensures none { IfOk result (λ a. admission_view a ≡ none_yet built_in) }
+        ensures tied { IfOk result IsAdmission }
     {
         let mut taken = Regions::new(alloc);
         if let Some(region) = built_in {
@@ -96,10 +96,10 @@ impl<'a> Admission<'a> {
 
     /// Accepts the module, or counts why it is not accepted.
     fn take_module(&mut self, placed: Placed<'a>) -> Result<(), AllocError>
-        requires tied { IsTied self.old }
+        requires tied { IsAdmission self.old }
         requires counts { self.old.double + self.old.overlap + 1 < 2 ^ 64 }
-        ensures after { OnOk result (shown self.new ≡ after_module (shown self.old) placed.entry) }
-        ensures tied { OnOk result (IsTied self.new) }
+        ensures after { OnOk result (admission_view self.new ≡ after_module (admission_view self.old) placed.entry) }
+        ensures tied { OnOk result (IsAdmission self.new) }
     {
         if self.places.contains_key(placed.name) {
             self.double += 1;
@@ -127,8 +127,8 @@ pub(crate) fn admit<'a>(
     requires fit { All (λ l. fits l ≡ true) lines.now }
     requires regions_fit { All (λ l. region_fits l ≡ true) regions.now }
     requires few { are_few regions.now ≡ true }
-    ensures admitted { IfOk result (λ a. shown a ≡ accepted_of built_in regions.now lines.now) }
-    ensures tied { IfOk result IsTied }
+    ensures admitted { IfOk result (λ a. admission_view a ≡ accepted_of built_in regions.now lines.now) }
+    ensures tied { IfOk result IsAdmission }
 {
     let mut admission = Admission::new(alloc, built_in)?;
     for line in lines {

@@ -3,10 +3,10 @@
 ghost use Rattle.std.specs.Prelude.{◌≡◌, ◌+◌, ◌<◌, is_some, true, All, length, IfOk, IfSome, count_by};
 ghost use Rattle.std.specs.Int.{from_bool};
 ghost use Rattle.std.specs.List.{flat_map};
-ghost use Rattle.modules.specs.Admissions.{shown, IsTied};
+ghost use Rattle.modules.specs.Admissions.{admission_view, IsAdmission};
 ghost use Rattle.modules.specs.Lines.{fits, region_fits};
 ghost use Rattle.modules.specs.Building.{AreModules, built_in_with};
-ghost use Rattle.modules.specs.Catalogs.{catalog_of, counts_of, regions_of, IsSound};
+ghost use Rattle.modules.specs.Catalogs.{catalog_of, counts_of, regions_of, IsSoundCatalog};
 ghost use Rattle.modules.specs.Kept.{is_used};
 ghost use Rattle.modules.specs.Placed.{are_few, IsPlaced};
 
@@ -69,16 +69,16 @@ fn regions_in(built_in: Option<&Module>, modules: &[Module]) -> usize
 
 /// Whether the line is one of an accepted module that has a core line.
 fn is_used(admission: &Admission, regions: &RegionLines, line: &RegionLine) -> bool
-    requires { IsTied admission.now }
-    ensures { result ≡ is_used (shown admission.now) regions.now line.now }
+    requires { IsAdmission admission.now }
+    ensures { result ≡ is_used (admission_view admission.now) regions.now line.now }
 {
     admission.places.contains_key(line.name) && regions.has_core_of(line.name)
 }
 
 /// How many of the region lines are used.
 fn used_in(admission: &Admission, regions: &RegionLines) -> usize
-    requires { IsTied admission.now }
-    ensures { result ≡ count_by (is_used (shown admission.now) regions.now) regions.now }
+    requires { IsAdmission admission.now }
+    ensures { result ≡ count_by (is_used (admission_view admission.now) regions.now) regions.now }
 {
     regions
         .listed
@@ -102,7 +102,7 @@ pub(crate) fn assemble<'a>(
         (λ r. r.0 ≡ catalog_of names.now modules.now regions.now symbols.entry) }
     ensures counted { IfOk result
         (λ r. r.1 ≡ counts_of names.now modules.now regions.now symbols.entry) }
-    ensures sound { IfOk result (λ r. IsSound r.0) }
+    ensures sound { IfOk result (λ r. IsSoundCatalog r.0) }
 {
     let built_in = built_in_region(&symbols, names);
     let admission = admit(alloc, built_in, regions, modules)?;

@@ -3,7 +3,7 @@
 ghost use Rattle.std.specs.Prelude.{◌≡◌, ◌↔◌, IsTrue, [], true, All, length, IfOk, IfErr};
 ghost use Rattle.std.specs.Option.{option_copied};
 ghost use Rattle.modules.specs.Lines.{fits, region_fits, usual_bounds};
-ghost use Rattle.modules.specs.Catalogs.{catalog_of, counts_of, IsBuildRefusal, module_of, number_of, regions_of, IsSound};
+ghost use Rattle.modules.specs.Catalogs.{catalog_of, counts_of, IsBuildRefusal, module_of, module_number_of, regions_of, IsSoundCatalog};
 ghost use Rattle.modules.specs.Loads.{drop_init_of, GivesOrLacksMemory, GivesSome, load_of, unload_of};
 ghost use Rattle.modules.specs.Placed.{are_few};
 
@@ -65,11 +65,11 @@ impl<'a> Model for Catalog<'a> {
 
     ghost Value = { CatalogEntries };
 
-    ghost use Rattle.modules.specs.Sound.{shown, IsWhole};
+    ghost use Rattle.modules.specs.Sound.{catalog_view, IsWholeCatalog};
 
-    ghost view = { shown };
+    ghost view = { catalog_view };
 
-    ghost invariant = { IsWhole };
+    ghost invariant = { IsWholeCatalog };
 }
 
 impl<'a> Catalog<'a> {
@@ -86,7 +86,7 @@ impl<'a> Catalog<'a> {
             (λ r. r.0 ≡ catalog_of usual_bounds modules.now [] symbols.entry) }
         ensures counted { IfOk result
             (λ r. r.1 ≡ counts_of usual_bounds modules.now [] symbols.entry) }
-        ensures sound { IfOk result (λ r. IsSound r.0) }
+        ensures sound { IfOk result (λ r. IsSoundCatalog r.0) }
         ensures refused { IfErr result (λ e. e ≡ Refusal.OutOfMemory) }
     {
         let regions = RegionLines::new(alloc, &[])?;
@@ -107,7 +107,7 @@ impl<'a> Catalog<'a> {
             (λ r. r.0 ≡ catalog_of usual_bounds modules.now regions.now symbols.entry) }
         ensures counted { IfOk result
             (λ r. r.1 ≡ counts_of usual_bounds modules.now regions.now symbols.entry) }
-        ensures sound { IfOk result (λ r. IsSound r.0) }
+        ensures sound { IfOk result (λ r. IsSoundCatalog r.0) }
         ensures few { IfOk result (λ _. are_few regions.now ≡ true) }
         ensures refused { IfErr result (IsBuildRefusal regions.now) }
     {
@@ -142,7 +142,7 @@ impl<'a> Catalog<'a> {
             (λ r. r.0 ≡ catalog_of names.now modules.now regions.now symbols.entry) }
         ensures counted { IfOk result
             (λ r. r.1 ≡ counts_of names.now modules.now regions.now symbols.entry) }
-        ensures sound { IfOk result (λ r. IsSound r.0) }
+        ensures sound { IfOk result (λ r. IsSoundCatalog r.0) }
         ensures few { IfOk result (λ _. are_few regions.now ≡ true) }
         ensures refused { IfErr result (IsBuildRefusal regions.now) }
     {
@@ -164,10 +164,10 @@ impl<'a> Catalog<'a> {
         }
     }
 
-    /// The number of the module of this name. The name `-` is that of the kernel itself alone, also
-    /// where a module has it.
+    /// The number of the module of this name. The name `-` is that of the kernel itself alone, even
+    /// if a module has it.
     pub fn number_of(&self, name: &[u8]) -> Option<u64>
-        ensures { result ≡ number_of self.now name.now }
+        ensures { result ≡ module_number_of self.now name.now }
     {
         if name == b"-".as_slice() {
             return if self.built_in.is_some() {
@@ -183,7 +183,7 @@ impl<'a> Catalog<'a> {
     /// The number of all regions, that of the kernel itself among them.
     pub fn regions(&self) -> usize
         ensures count { result ≡ length (regions_of self.now) }
-        ensures sound { IsSound self.now }
+        ensures sound { IsSoundCatalog self.now }
     {
         self.regions
     }

@@ -16,8 +16,8 @@
 ghost use Rattle.std.specs.Prelude.{◌≡◌, ◌+◌, ◌<◌, ◌^◌, ◌++◌, ◌∷◌, [], IfOk, OnOk, filter, length, vec_len};
 ghost use Rattle.std.specs.Option.{option_copied};
 ghost use Rattle.modules.specs.Accepted.{names_of};
-ghost use Rattle.modules.specs.Admissions.{shown, IsTied};
-ghost use Rattle.modules.specs.Kept.{AreDistinct};
+ghost use Rattle.modules.specs.Admissions.{admission_view, IsAdmission};
+ghost use Rattle.modules.specs.Kept.{AreDistinctNames};
 ghost use Rattle.modules.specs.Gathering.{owner_for, lies_for, CountsStay, HasRoom, Keeps, KeepsRun, IsEmptyFor, Gathers};
 ghost use Rattle.modules.specs.Runs.{lines_of_all};
 
@@ -84,10 +84,10 @@ impl<'a> Gathered<'a> {
 
     /// Goes through the lines of a run.
     fn keep_run(&mut self, admission: &Admission, run: Run<'a>) -> Result<(), AllocError>
-        requires tied { IsTied admission.now }
-        requires lists { length self.old.modules.items ≡ length (shown admission.now).modules }
+        requires tied { IsAdmission admission.now }
+        requires lists { length self.old.modules.items ≡ length (admission_view admission.now).modules }
         requires counts { self.old.kept + self.old.stray + vec_len run.symbols < 2 ^ 64 }
-        ensures { OnOk result (KeepsRun (shown admission.now) run.entry self.old self.new) }
+        ensures { OnOk result (KeepsRun (admission_view admission.now) run.entry self.old self.new) }
     {
         let owner = owner_of(admission, run.module);
         let listed = run.symbols.len();
@@ -112,8 +112,8 @@ fn join<'a>(list: &mut Vec<Symbol<'a>>, symbols: Vec<Symbol<'a>>) -> Result<(), 
 
 /// Whose symbols the lines of a module of this name are.
 fn owner_of(admission: &Admission, name: Option<&[u8]>) -> Owner
-    requires { IsTied admission.now }
-    ensures { result ≡ owner_for (shown admission.now) (option_copied name.entry) }
+    requires { IsAdmission admission.now }
+    ensures { result ≡ owner_for (admission_view admission.now) (option_copied name.entry) }
 {
     let Some(name) = name else {
         return Owner::BuiltIn;
@@ -126,7 +126,7 @@ fn owner_of(admission: &Admission, name: Option<&[u8]>) -> Owner
 
 /// Whether a symbol of this owner is kept at this address.
 fn lies_at(admission: &Admission, owner: Owner, addr: u64) -> bool
-    ensures { result ≡ lies_for (shown admission.now) owner addr }
+    ensures { result ≡ lies_for (admission_view admission.now) owner addr }
 {
     match owner {
         Owner::BuiltIn => match admission.built_in {
@@ -148,7 +148,7 @@ fn without_strays<'a>(
     symbols: Vec<Symbol<'a>>,
 ) -> Vec<Symbol<'a>>
     ensures { result.items
-        ≡ filter (λ s. lies_for (shown admission.now) owner s.addr) symbols.entry.items }
+        ≡ filter (λ s. lies_for (admission_view admission.now) owner s.addr) symbols.entry.items }
 {
     let mut kept = symbols;
     kept.retain(|symbol| lies_at(admission, owner, symbol.addr));
@@ -162,11 +162,11 @@ fn gather_runs<'a>(
     runs: Vec<Run<'a>>,
     last: Run<'a>,
 ) -> Result<Gathered<'a>, AllocError>
-    requires tied { IsTied admission.now }
-    requires distinct { AreDistinct (names_of (shown admission.now).modules) }
+    requires tied { IsAdmission admission.now }
+    requires distinct { AreDistinctNames (names_of (admission_view admission.now).modules) }
     requires few { length (lines_of_all (runs.items ++ last ∷ [])) < 2 ^ 64 }
     ensures { IfOk result
-        (Gathers (shown admission.now) (lines_of_all (runs.entry.items ++ last.entry ∷ []))) }
+        (Gathers (admission_view admission.now) (lines_of_all (runs.entry.items ++ last.entry ∷ []))) }
 {
     let mut gathered = Gathered::new(alloc, admission.modules.len())?;
     for run in runs {
@@ -182,9 +182,9 @@ pub(crate) fn gather<'a>(
     admission: &Admission,
     symbols: SymbolLines<'a>,
 ) -> Result<Gathered<'a>, AllocError>
-    requires tied { IsTied admission.now }
-    requires distinct { AreDistinct (names_of (shown admission.now).modules) }
-    ensures { IfOk result (Gathers (shown admission.now) symbols.entry) }
+    requires tied { IsAdmission admission.now }
+    requires distinct { AreDistinctNames (names_of (admission_view admission.now).modules) }
+    ensures { IfOk result (Gathers (admission_view admission.now) symbols.entry) }
 {
     let SymbolLines { runs, last, .. } = symbols;
     gather_runs(alloc, admission, runs, last)

@@ -1,7 +1,7 @@
 //! What follows from the definitions, as contracts of functions that do nothing.
 
 ghost use Rattle.std.specs.Prelude.{◌≡◌, ◌+◌, true, All, List, length, sum_by};
-ghost use Rattle.modules.specs.Catalogs.{catalog_of, counts_of, entries_of, IsSound};
+ghost use Rattle.modules.specs.Catalogs.{catalog_of, counts_of, entries_of, IsSoundCatalog};
 ghost use Rattle.modules.specs.Lines.{fits, region_fits};
 ghost use Rattle.modules.specs.Listed.{BoundNames, ListedModule, ListedRegion, ListedSymbol};
 ghost use Rattle.modules.specs.Placed.{are_few};
@@ -40,5 +40,5 @@ pub fn every_catalog_is_sound()
         (symbols : List ListedSymbol)
         → All (λ l. fits l ≡ true) modules → All (λ l. region_fits l ≡ true) regions
         → are_few regions ≡ true
-        → IsSound (catalog_of names modules regions symbols) }
+        → IsSoundCatalog (catalog_of names modules regions symbols) }
 {}

@@ -1,7 +1,7 @@
 //! The lines of the listings that a catalog is built from.
 
 ghost use Rattle.std.specs.Prelude.{◌≡◌, true};
-ghost use Rattle.modules.specs.Lines.{fits, region_of, region_fits, bounds_of, is_region, usual_bounds};
+ghost use Rattle.modules.specs.Lines.{fits, module_line_region, region_fits, region_line_region, is_region, usual_bounds};
 ghost use Rattle.modules.specs.Parts.{is_core, is_init, is_of};
 
 use crate::regions::Region;
@@ -46,7 +46,7 @@ impl<'a> ModuleLine<'a> {
     /// The first address of its region and the excluded end.
     pub(crate) fn region(&self) -> Region
         requires { fits self.now ≡ true }
-        ensures { result ≡ region_of self.now }
+        ensures { result ≡ module_line_region self.now }
     {
         Region::new(self.base, self.base + self.size)
     }
@@ -126,7 +126,7 @@ impl<'a> RegionLine<'a> {
     /// The region's first address and the excluded end.
     pub(crate) fn region(&self) -> Region
         requires { region_fits self.now ≡ true }
-        ensures { result ≡ bounds_of self.now }
+        ensures { result ≡ region_line_region self.now }
     {
         Region::new(self.base, self.base + self.size)
     }

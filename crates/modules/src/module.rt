@@ -5,7 +5,7 @@ ghost use Rattle.std.specs.List.{list_any};
 ghost use Rattle.std.specs.Option.{option_copied};
 ghost use Rattle.modules.specs.Around.{symbol_below, address_above};
 ghost use Rattle.modules.specs.Index.{IsOrdered};
-ghost use Rattle.modules.specs.Building.{module_with, place_of};
+ghost use Rattle.modules.specs.Building.{module_with, placed_module_of};
 ghost use Rattle.modules.specs.Parts.{is_core, is_init};
 ghost use Rattle.modules.specs.Placed.{IsPlaced};
 ghost use Rattle.modules.specs.Starts.{first_start, start_at, start_where, starts_of};
@@ -43,11 +43,11 @@ impl<'a> Model for Module<'a> {
 
     ghost Value = { ModuleEntry };
 
-    ghost use Rattle.modules.specs.Modules.{shown, IsWhole};
+    ghost use Rattle.modules.specs.Modules.{module_view, IsWholeModule};
 
-    ghost view = { shown };
+    ghost view = { module_view };
 
-    ghost invariant = { IsWhole };
+    ghost invariant = { IsWholeModule };
 }
 
 /// An index of the symbols, where they are not listed by rising address.
@@ -142,7 +142,7 @@ impl<'a> Module<'a> {
     /// Its 1 to 7 regions, in order.
     pub fn regions(&self) -> &[Region]
         ensures regions { result.now ≡ self.now.regions }
-        ensures placed { IsPlaced (place_of self.now) }
+        ensures placed { IsPlaced (placed_module_of self.now) }
     {
         self.regions.as_slice()
     }

@@ -5,7 +5,7 @@ ghost use Rattle.std.specs.List.{position_from, range_with_len};
 ghost use Rattle.std.specs.Cmp.Lexicographic.{slice_cmp};
 ghost use Rattle.std.specs.Ordering.{nat_cmp};
 ghost use Rattle.std.specs.Str.{bytes_eq};
-ghost use Rattle.modules.specs.Kept.{AreDistinct};
+ghost use Rattle.modules.specs.Kept.{AreDistinctNames};
 ghost use Rattle.modules.specs.Names.{names_in, IsNameIndex};
 
 use crate::module::Module;
@@ -60,7 +60,7 @@ pub(crate) fn by_name(alloc: Global, modules: &[Module]) -> Result<Vec<usize>, A
 /// The place of the module of this name.
 pub(crate) fn place_of(modules: &[Module], by_name: &[usize], name: &[u8]) -> Option<usize>
     requires indexed { IsNameIndex (names_in modules.now) by_name.now }
-    requires distinct { AreDistinct (names_in modules.now) }
+    requires distinct { AreDistinctNames (names_in modules.now) }
     ensures place { result ≡ position_from (bytes_eq name.now) 0 (names_in modules.now) }
     ensures within { IfSome result (λ place. place < length modules.now) }
 {

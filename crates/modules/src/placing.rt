@@ -16,9 +16,9 @@ ghost use Rattle.std.specs.Ordering.{is_le, is_lt, nat_cmp};
 ghost use Rattle.modules.specs.Building.{kernel_at};
 ghost use Rattle.modules.specs.Grouped.{comes_first, IsCut, IsGrouped, lines_at};
 ghost use Rattle.modules.specs.Kept.{lies_in};
-ghost use Rattle.modules.specs.Lines.{bounds_of, fits, region_fits};
+ghost use Rattle.modules.specs.Lines.{region_line_region, fits, region_fits};
 ghost use Rattle.modules.specs.Parts.{is_core};
-ghost use Rattle.modules.specs.Placed.{are_few, has_core, lines_named, placed};
+ghost use Rattle.modules.specs.Placed.{are_few, has_core, lines_named, placed_line};
 ghost use Rattle.modules.specs.declared.lines.Part.TheVariants.{Core};
 
 use crate::lines::{ModuleLine, Part, RegionLine};
@@ -90,7 +90,7 @@ impl<'a> Placed<'a> {
         requires fit { All (λ l. region_fits l.now ≡ true) lines.now }
         ensures { result ≡ record {
           name = name.now;
-          regions = map bounds_of (lines_at lines.now);
+          regions = map region_line_region (lines_at lines.now);
           parts = map (λ l. l.part) (lines_at lines.now);
         } }
     {
@@ -232,7 +232,7 @@ impl<'l, 'a> RegionLines<'l, 'a> {
         requires few { are_few self.now ≡ true }
         requires region_fits { All (λ l. region_fits l ≡ true) self.now }
         requires fits { fits line.now ≡ true }
-        ensures { result ≡ placed self.now line.now }
+        ensures { result ≡ placed_line self.now line.now }
     {
         let lines = self.named(line.name);
         if has_core(lines) {

@@ -13,7 +13,7 @@ ghost use Rattle.std.specs.Prelude.{◌≡◌, ◌++◌, ◌∷◌, [], length, 
 ghost use Rattle.modules.specs.Lines.{first_address, built_in_region};
 ghost use Rattle.std.specs.Option.{option_copied, option_map};
 ghost use Rattle.std.specs.Str.{bytes_eq};
-ghost use Rattle.modules.specs.Runs.{lines_of, lines_of_all, one_line};
+ghost use Rattle.modules.specs.Runs.{lines_of_run, lines_of_all, one_line};
 
 use crate::lines::{KernelBounds, SymbolLine};
 use crate::regions::Region;
@@ -48,9 +48,9 @@ impl<'a> Model for SymbolLines<'a> {
 
     ghost Value = { List ListedSymbol };
 
-    ghost use Rattle.modules.specs.Runs.{lines_in, AreLettered};
+    ghost use Rattle.modules.specs.Runs.{lines_of_runs, AreLettered};
 
-    ghost view = { λ l. lines_in (l.runs.items ++ l.last ∷ []) l.letters.items };
+    ghost view = { λ l. lines_of_runs (l.runs.items ++ l.last ∷ []) l.letters.items };
 
     ghost invariant = { λ l. AreLettered (l.runs.items ++ l.last ∷ []) l.letters.items };
 }
@@ -59,7 +59,7 @@ impl<'a> Run<'a> {
     /// A run of one line.
     fn of(alloc: Global, owner: Option<&'a [u8]>, symbol: Symbol<'a>) -> Result<Run<'a>, AllocError>
         ensures { IfOk result
-            (λ r. lines_of r ≡ one_line (option_copied owner.entry) symbol.entry) }
+            (λ r. lines_of_run r ≡ one_line (option_copied owner.entry) symbol.entry) }
     {
         let mut symbols = Vec::with_capacity(alloc, 1)?;
         symbols.push(symbol)?;
@@ -71,7 +71,7 @@ impl<'a> Run<'a> {
 
     /// The address of its first symbol of this name, where it is of the kernel itself.
     fn first_address(&self, name: &[u8]) -> Option<u64>
-        ensures { result ≡ first_address name.now (lines_of self.now) }
+        ensures { result ≡ first_address name.now (lines_of_run self.now) }
     {
         if self.module.is_some() {
             return None;

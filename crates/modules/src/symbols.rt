@@ -15,7 +15,7 @@ ghost use Rattle.std.specs.Prelude.{◌≡◌, ◌<◌, true, IfOk, length, slic
 ghost use Rattle.std.specs.List.Sorted.{IsNonDecreasingBy};
 ghost use Rattle.std.specs.Option.{option_copied, option_map};
 ghost use Rattle.modules.specs.Around.{symbol_below, address_above};
-ghost use Rattle.modules.specs.Index.{entries_of, IsIndex, IsSplit, IsRising, IsSplitOf, IsFirstOf, IsFirstAt};
+ghost use Rattle.modules.specs.Index.{index_entries_of, IsIndex, IsSplit, IsRising, IsSplitOf, IsFirstOf, IsFirstAt};
 
 use std::alloc::{AllocError, Global};
 use std::marker::Model;
@@ -46,7 +46,7 @@ pub(crate) struct IndexEntry {
 
 /// The address and the place of each symbol, in the order listed.
 fn listed_entries(alloc: Global, symbols: &[Symbol]) -> Result<Vec<IndexEntry>, AllocError>
-    ensures { IfOk result (λ v. v.items ≡ entries_of symbols.now) }
+    ensures { IfOk result (λ v. v.items ≡ index_entries_of symbols.now) }
 {
     symbols
         .iter()

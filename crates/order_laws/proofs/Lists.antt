@@ -130,7 +130,7 @@ get_or-drop_append xs ys from place d above below =
 
 -- ---- the element at a place
 
--- a list is parted at a place
+-- a list is split at a place
 pub parted_at : {X : Type 0} (xs : List X) (i : ℕ) (x : X) → slice_get xs i ≡ Some x
     → xs ≡ take i xs ++ x ∷ drop (suc i) xs
 parted_at [] i x e = absurd (cc)

@@ -11,7 +11,7 @@ use Rattle.order_laws.proofs.Each.{all_at, all_filtered, all_left, all_right, al
 use Rattle.order_laws.proofs.Members.{Contains-cons_cases, Contains-rest}
 use Rattle.order_laws.proofs.Orderings.{cases_ordering, greater_not_equal, is_equal, less_not_equal, not_equal}
 
--- where a table is parted at an item
+-- where a table is split at an item
 pub record Parted {K : Type 0} (o : Order K) (xs : List Item) (x : Item) (ys : List Item) : Type 0 where
   pub left : IsTable o xs
   pub right : IsTable o ys

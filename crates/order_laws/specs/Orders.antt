@@ -7,7 +7,7 @@ use Rattle.std.proofs.Common.{arith}
 use Rattle.std.proofs.lemmas.Bool.Decides.{nat_tests}
 use Rattle.order_laws.specs.declared.items.Item.{Item}
 
--- what an order answers; `comp` says where a key lies against any three words
+-- what an order gives; `comp` says where a key lies against any three words
 pub record Order (K : Type 0) : Type 0 where
   pub key_of : Item → K
   pub valid : Item → Bool

@@ -10,19 +10,19 @@ use Rattle.order_laws.specs.declared.refusals.Refusal.TheVariants.{AlreadyLoaded
 use Rattle.order_laws.specs.declared.refusals.Refusal.TheVariants.{TooManyRegions, NoInit}
 
 -- the number that is printed for a refusal
-abbrev pub number_of : Refusal → ℕ
-number_of BadItem = 1
-number_of Overlap = 2
-number_of NoSuchItem = 3
-number_of Full = 4
-number_of UpdateInHand = 5
-number_of SequenceSpent = 6
-number_of OutOfMemory = 7
-number_of ReaderBusy = 8
-number_of ReaderIdle = 9
-number_of BadCapacity = 10
-number_of UnknownModule = 11
-number_of AlreadyLoaded = 12
-number_of NotLoaded = 13
-number_of TooManyRegions = 14
-number_of NoInit = 17
+abbrev pub refusal_number : Refusal → ℕ
+refusal_number BadItem = 1
+refusal_number Overlap = 2
+refusal_number NoSuchItem = 3
+refusal_number Full = 4
+refusal_number UpdateInHand = 5
+refusal_number SequenceSpent = 6
+refusal_number OutOfMemory = 7
+refusal_number ReaderBusy = 8
+refusal_number ReaderIdle = 9
+refusal_number BadCapacity = 10
+refusal_number UnknownModule = 11
+refusal_number AlreadyLoaded = 12
+refusal_number NotLoaded = 13
+refusal_number TooManyRegions = 14
+refusal_number NoInit = 17

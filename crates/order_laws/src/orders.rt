@@ -9,15 +9,15 @@ use std::cmp::Ordering;
 /// An order of items, with keys that lie below, in or above an item: `less` and `comp` of `struct
 /// latch_tree_ops`.
 ///
-/// `lawful` has what the functions owe each other on valid items that are apart. They answer for
-/// any three words, also those of no item, since a reader may load the words of two items mixed.
-/// Nothing more is asked of an order; what it offers by [`TreeOrder::in_line`] makes a table's own
-/// searches faster, and no answer different.
+/// `lawful` has what the functions owe each other on valid items that are apart. They return
+/// something for any three words, even those of no item, since a reader may load the words of two
+/// items mixed. Nothing more is asked of an order; what it offers by [`TreeOrder::in_line`] makes a
+/// table's own searches faster, and no answer different.
 pub trait TreeOrder {
     /// What is looked up.
     type Key: Copy;
 
-    /// What the functions answer.
+    /// What the functions return.
     ghost order: { Order Self.Key };
 
     /// A key that lies in the item.

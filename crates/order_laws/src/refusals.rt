@@ -22,9 +22,9 @@ pub enum Refusal {
     SequenceSpent,
     /// 7: a growth of memory was refused.
     OutOfMemory,
-    /// 8: the reader has a lookup in hand.
+    /// 8: the reader has a pending lookup.
     ReaderBusy,
-    /// 9: the reader has no lookup in hand.
+    /// 9: the reader has no pending lookup.
     ReaderIdle,
     /// 10: a capacity, a count of readers or an opening sequence is out of its range.
     BadCapacity,
@@ -42,12 +42,12 @@ pub enum Refusal {
 
 impl Refusal {
     ghost use Rattle.std.specs.Prelude.{◌≡◌};
-    ghost use Rattle.order_laws.specs.Refusals.{number_of};
+    ghost use Rattle.order_laws.specs.Refusals.{refusal_number};
 
     /// The number that stands for the refusal in texts: 1 to 14, and 17. (15 and 16 are those of
     /// bad lines and of failed devices, which no table refuses by.)
     pub fn number(self) -> u32
-        ensures { result ≡ number_of self }
+        ensures { result ≡ refusal_number self }
     {
         match self {
             Refusal::BadItem => 1,

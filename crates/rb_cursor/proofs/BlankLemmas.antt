@@ -8,23 +8,23 @@ use Rattle.order_laws.proofs.Numbers.{if_suc}
 use Rattle.slab.specs.Slab.{Slab, get, slab_len, with_value, Updates}
 use Rattle.slab.proofs.SlabLemmas.{Updates-with_value}
 use Rattle.rb_trees.specs.declared.Record.{Record}
-use Rattle.rb_trees.specs.Trees.{Branches, tip, branch}
+use Rattle.rb_trees.specs.Trees.{ColouredTree, tip, branch}
 use Rattle.rb_cursor.specs.declared.nodes.Node.{Node}
 use Rattle.rb_cursor.specs.declared.cursors.Cursor.TheInside.{Inside}
 use Rattle.rb_cursor.specs.Zippers.{Zipper}
 use Rattle.rb_cursor.specs.Opening.{weight}
-use Rattle.rb_cursor.specs.Tops.{IsThin, only_subtree}
+use Rattle.rb_cursor.specs.Tops.{HasOneSubtree, only_subtree}
 use Rattle.rb_cursor.specs.Keyed.{Keyed, nil, keyed, Level, link_of, link_to, plain}
 use Rattle.rb_cursor.specs.Keyed.{plain_path, size, at_key, uses, path_uses, list_uses}
 use Rattle.rb_cursor.specs.Keyed.{node_with, node_of, IsLinked}
 use Rattle.rb_cursor.specs.Keyed.{IsChain}
-use Rattle.rb_cursor.specs.Writes.{led}
+use Rattle.rb_cursor.specs.Writes.{with_last_link}
 use Rattle.rb_cursor.specs.Places.{IsPlace}
 use Rattle.rb_cursor.proofs.KeyedLemmas.{at_same, at_apart, at_most, linked_kept, path_kept}
 use Rattle.rb_cursor.proofs.KeyedLemmas.{chain_kept, linked_beside, path_beside, chain_beside}
 use Rattle.rb_cursor.proofs.KeyedLemmas.{linked_vacant, path_vacant, chain_vacant}
 use Rattle.rb_cursor.proofs.KeyedLemmas.{same_len}
-use Rattle.rb_cursor.proofs.HeldLemmas.{Is, show, Held, Moved, held, shut}
+use Rattle.rb_cursor.proofs.HeldLemmas.{IsInside, show, Held, Moved, held, shut}
 use Rattle.rb_cursor.proofs.TurnLemmas.{IsLoose, tightened}
 
 -- a tree without nodes
@@ -38,7 +38,7 @@ chain_leads : (s : Slab Node) (blank room : ℕ) (blanks : List ℕ) → IsChain
 chain_leads s blank room [] h link many some = absurd (omega arith)
 chain_leads s blank room (k ∷ ks) h link many some = omega arith
 
-pub blank_leads : (i : Inside) (now : Zipper) → Is i → show i ≡ now → 0 < now.room → 0 < i.blank
+pub blank_leads : (i : Inside) (now : Zipper) → IsInside i → show i ≡ now → 0 < now.room → 0 < i.blank
 blank_leads i now f is some =
     let e = ap (λ (z : Zipper). z.room) (held i now f is).shows in
     chain_leads i.nodes i.blank i.room f.blanks f.place.chained f.blank_link f.room_is (omega arith)
@@ -50,7 +50,7 @@ chain_there s blank key (k ∷ ks) h link some none =
     let same : k ≡ key = omega arith in
     let here = h.0.1 in let there = ap (get s) same in cc
 
-pub blank_there : (i : Inside) (key : ℕ) → Is i → i.blank ≡ suc key → get i.nodes key ≡ None → ⊥
+pub blank_there : (i : Inside) (key : ℕ) → IsInside i → i.blank ≡ suc key → get i.nodes key ≡ None → ⊥
 blank_there i key f some none =
     chain_there i.nodes i.blank key f.blanks f.place.chained f.blank_link some none
 
@@ -58,7 +58,7 @@ blank_there i key f some none =
 plants_by : (i : Inside) (u : Slab Node) (now : Zipper) (path : List Level) (blanks : List ℕ)
     (key : ℕ) (row : Record) (n : Node) → Held i now nil path blanks → i.blank ≡ suc key →
     get i.nodes key ≡ Some n →
-    u ≡ led (with_value i.nodes key (node_with true row 0 0)) i.steps i.depth i.blank →
+    u ≡ with_last_link (with_value i.nodes key (node_with true row 0 0)) i.steps i.depth i.blank →
     Moved (record i { nodes = u; tree = i.blank; blank = n.left; room = i.room - 1 })
     (record { tree = branch true tip row tip; path = now.path; room = now.room - 1 })
 plants_by i u now path [] key row n h some found is = let e = h.blank_link in absurd (omega arith)
@@ -104,8 +104,8 @@ plants_by i u now path (k ∷ ks) key row n h some found is =
     })
 
 pub plants : (i : Inside) (u : Slab Node) (now : Zipper) (key : ℕ) (row : Record) (n : Node) →
-    Is i → show i ≡ now → now.tree ≡ tip → i.blank ≡ suc key → get i.nodes key ≡ Some n →
-    u ≡ led (with_value i.nodes key (node_with true row 0 0)) i.steps i.depth i.blank →
+    IsInside i → show i ≡ now → now.tree ≡ tip → i.blank ≡ suc key → get i.nodes key ≡ Some n →
+    u ≡ with_last_link (with_value i.nodes key (node_with true row 0 0)) i.steps i.depth i.blank →
     Moved (record i { nodes = u; tree = i.blank; blank = n.left; room = i.room - 1 })
     (record { tree = branch true tip row tip; path = now.path; room = now.room - 1 })
 plants i u now key row n f shows leaf some found is =
@@ -116,11 +116,11 @@ plants i u now key row n f shows leaf some found is =
 
 -- a node becomes blank, and its only subtree takes its place
 thin_by : (i : Inside) (now : Zipper) (hand : Keyed) (path : List Level) (blanks : List ℕ) →
-    Held i now hand path blanks → IsThin now.tree → 0 < i.tree
-thin_by i now nil path blanks h thin = absurd (subst (λ (z : Zipper). IsThin z.tree) h.shows thin)
+    Held i now hand path blanks → HasOneSubtree now.tree → 0 < i.tree
+thin_by i now nil path blanks h thin = absurd (subst (λ (z : Zipper). HasOneSubtree z.tree) h.shows thin)
 thin_by i now (keyed red l k x r) path blanks h thin = let e = h.tree_link in omega arith
 
-pub thin_leads : (i : Inside) (now : Zipper) → Is i → show i ≡ now → IsThin now.tree → 0 < i.tree
+pub thin_leads : (i : Inside) (now : Zipper) → IsInside i → show i ≡ now → HasOneSubtree now.tree → 0 < i.tree
 thin_leads i now f is thin = thin_by i now f.hand f.path f.blanks (held i now f is) thin
 
 room_by : (i : Inside) (now : Zipper) (hand : Keyed) (path : List Level) (blanks : List ℕ) →
@@ -129,7 +129,7 @@ room_by i now nil path blanks h some = let e = h.tree_link in absurd (omega arit
 room_by i now (keyed red l k x r) path blanks h some =
     omega (arith, h.room_is, h.place.counted, h.place.small)
 
-pub room_fits : (i : Inside) (now : Zipper) → Is i → show i ≡ now → 0 < i.tree → i.room + 1 < 2 ^ 32
+pub room_fits : (i : Inside) (now : Zipper) → IsInside i → show i ≡ now → 0 < i.tree → i.room + 1 < 2 ^ 32
 room_fits i now f is some = room_by i now f.hand f.path f.blanks (held i now f is) some
 
 -- with a subtree of the node, which both the tree and the links tell
@@ -141,7 +141,7 @@ record IsOnly (red : Bool) (l : Keyed) (x : Record) (r : Keyed) (only : Keyed) :
   pub uses_is : (i : ℕ) → uses i only ≡ uses i l + uses i r
 
 only_by : (red : Bool) (l : Keyed) (x : Record) (r : Keyed) →
-    IsThin (branch red (plain l) x (plain r)) → (only : Keyed) × IsOnly red l x r only
+    HasOneSubtree (branch red (plain l) x (plain r)) → (only : Keyed) × IsOnly red l x r only
 only_by red nil x r thin = (
   r,
   record {
@@ -167,10 +167,10 @@ only_by red (keyed hue a k y b) x r thin =
     )
 
 takes_by : (i : Inside) (u : Slab Node) (now : Zipper) (hand : Keyed) (path : List Level)
-    (blanks : List ℕ) (key subtree : ℕ) (n : Node) → Held i now hand path blanks → IsThin now.tree →
+    (blanks : List ℕ) (key subtree : ℕ) (n : Node) → Held i now hand path blanks → HasOneSubtree now.tree →
     i.tree ≡ suc key → get i.nodes key ≡ Some n →
     subtree ≡ (if n.left == 0 then n.right else n.left) →
-    u ≡ led (with_value i.nodes key (record n { left = i.blank })) i.steps i.depth subtree →
+    u ≡ with_last_link (with_value i.nodes key (record n { left = i.blank })) i.steps i.depth subtree →
     Moved (record i { nodes = u; tree = subtree; blank = i.tree; room = i.room + 1 })
     (record { tree = only_subtree now.tree; path = now.path; room = now.room + 1 })
 takes_by i u now nil path blanks key subtree n h thin some found sub is = let e = h.tree_link in
@@ -181,7 +181,7 @@ takes_by i u now (keyed red l k x r) path blanks key subtree n h thin some found
     subst (λ (e : ℕ). Held i now (keyed red l e x r) path blanks) same h in
     let p = g.place in
     let s = i.nodes in
-    let pair = only_by red l x r (subst (λ (z : Zipper). IsThin z.tree) h.shows thin) in
+    let pair = only_by red l x r (subst (λ (z : Zipper). HasOneSubtree z.tree) h.shows thin) in
     let only = pair.0 in let o = pair.1 in
     let node : node_of red l x r ≡ n = let there = p.hand_linked.0 in cc in
     let link : subtree ≡ link_of only = sub
@@ -223,14 +223,14 @@ takes_by i u now (keyed red l k x r) path blanks key subtree n h thin some found
         room =
             q.room + 1;
       }) g.shows
-          ∙ ap (λ (t : Branches). record { tree = t; path = plain_path path; room = i.room + 1 })
+          ∙ ap (λ (t : ColouredTree). record { tree = t; path = plain_path path; room = i.room + 1 })
           o.tree;
     })
 
-pub takes : (i : Inside) (u : Slab Node) (now : Zipper) (key subtree : ℕ) (n : Node) → Is i →
-    show i ≡ now → IsThin now.tree → i.tree ≡ suc key → get i.nodes key ≡ Some n →
+pub takes : (i : Inside) (u : Slab Node) (now : Zipper) (key subtree : ℕ) (n : Node) → IsInside i →
+    show i ≡ now → HasOneSubtree now.tree → i.tree ≡ suc key → get i.nodes key ≡ Some n →
     subtree ≡ (if n.left == 0 then n.right else n.left) →
-    u ≡ led (with_value i.nodes key (record n { left = i.blank })) i.steps i.depth subtree →
+    u ≡ with_last_link (with_value i.nodes key (record n { left = i.blank })) i.steps i.depth subtree →
     Moved (record i { nodes = u; tree = subtree; blank = i.tree; room = i.room + 1 })
     (record { tree = only_subtree now.tree; path = now.path; room = now.room + 1 })
 takes i u now key subtree n f shows thin some found sub is =
@@ -238,7 +238,7 @@ takes i u now key subtree n f shows thin some found sub is =
     is
 
 -- the slab has grown
-pub grows : (i : Inside) (u : Slab Node) (now : Zipper) → Is i → show i ≡ now →
+pub grows : (i : Inside) (u : Slab Node) (now : Zipper) → IsInside i → show i ≡ now →
     u ≡ record i.nodes { capacity = u.capacity } → i.nodes.capacity ≤ u.capacity →
     Moved (record i { nodes = u }) now
 grows i u now f shows is more =
@@ -277,7 +277,7 @@ blank_node link =
     }
 
 -- one blank node more
-pub blanked : (i : Inside) (v u : Slab Node) (now : Zipper) (key : ℕ) (n : Node) → Is i →
+pub blanked : (i : Inside) (v u : Slab Node) (now : Zipper) (key : ℕ) (n : Node) → IsInside i →
     show i ≡ now → v ≡ record i.nodes { capacity = v.capacity } → i.nodes.capacity ≤ v.capacity →
     slab_len v + 1 ≤ v.capacity → slab_len v + 1 < 2 ^ 32 → get v key ≡ None →
     Updates v u key (Some n) → n.left ≡ i.blank → slab_len u ≡ slab_len v + 1 →

@@ -6,7 +6,7 @@ use Rattle.std.proofs.lemmas.Bool.{cases_eq, le-ltb, lt-ltb}
 use Rattle.slab.specs.Slab.{Slab, get, with_value}
 use Rattle.slab.proofs.SlabLemmas.{Updates-with_value}
 use Rattle.rb_trees.specs.declared.Record.{Record}
-use Rattle.rb_trees.specs.Trees.{Branches, branch}
+use Rattle.rb_trees.specs.Trees.{ColouredTree, branch}
 use Rattle.rb_cursor.specs.declared.nodes.Node.{Node}
 use Rattle.rb_cursor.specs.declared.nodes.Step.{Step}
 use Rattle.rb_trees.specs.declared.Side.{Side}
@@ -15,7 +15,7 @@ use Rattle.rb_cursor.specs.declared.cursors.Cursor.TheInside.{Inside}
 use Rattle.rb_trees.specs.Paths.{Above}
 use Rattle.rb_cursor.specs.Zippers.{Zipper}
 use Rattle.rb_trees.specs.Paths.{sided, joined, plugged}
-use Rattle.rb_cursor.specs.Closing.{closed, closed_to}
+use Rattle.rb_cursor.specs.Closing.{closed_zipper, closed_to}
 use Rattle.rb_cursor.specs.Opening.{IsNearest}
 use Rattle.rb_cursor.specs.Keyed.{Keyed, nil, keyed, Level, link_of, plain, plain_level}
 use Rattle.rb_cursor.specs.Keyed.{plain_path}
@@ -27,14 +27,14 @@ use Rattle.rb_cursor.proofs.KeyedLemmas.{linked_beside, path_beside, chain_besid
 use Rattle.rb_cursor.proofs.KeyedLemmas.{steps_length}
 use Rattle.rb_cursor.proofs.KeyedLemmas.{plain_length, same_len}
 use Rattle.rb_cursor.proofs.SideLemmas.{read-sided, plain-joined}
-use Rattle.rb_cursor.proofs.HeldLemmas.{Is, show, Held, Moved, held, shut, back}
+use Rattle.rb_cursor.proofs.HeldLemmas.{IsInside, show, Held, Moved, held, shut, back}
 use Rattle.rb_cursor.proofs.HeldLemmas.{gone_back, without_step}
 
 -- the node in hand is written anew, with the same subtrees
 pub record Rewritten (i : Inside) (now : Zipper) (key : ℕ) (red : Bool) (row : Record) (n : Node) :
     Type 0 where
-  pub left : Branches
-  pub right : Branches
+  pub left : ColouredTree
+  pub right : ColouredTree
   pub was : now.tree ≡ branch n.red left (record_of n) right
   pub moved : Moved (record i { nodes = with_value i.nodes key (node_with red row n.left n.right) })
       (record now { tree = branch red left row right })
@@ -92,7 +92,7 @@ rewrites_by i now (keyed hue l k x r) path blanks key red row n h some found =
       });
     }
 
-pub rewrites : (i : Inside) (now : Zipper) (key : ℕ) (red : Bool) (row : Record) (n : Node) → Is i →
+pub rewrites : (i : Inside) (now : Zipper) (key : ℕ) (red : Bool) (row : Record) (n : Node) → IsInside i →
     show i ≡ now → i.tree ≡ suc key → get i.nodes key ≡ Some n → Rewritten i now key red row n
 rewrites i now key red row n f is some found =
     rewrites_by i now f.hand f.path f.blanks key red row n (held i now f is) some found
@@ -108,7 +108,7 @@ last_by : (i : Inside) (now : Zipper) (hand : Keyed) (path : List Level) (blanks
 last_by i now hand [] blanks h some = let e = h.path_steps in absurd (omega arith)
 last_by i now hand (a ∷ path) blanks h some = record { level = a; rest = path; held = h }
 
-pub last_is : (i : Inside) (now : Zipper) (f : Is i) → show i ≡ now → 0 < i.depth →
+pub last_is : (i : Inside) (now : Zipper) (f : IsInside i) → show i ≡ now → 0 < i.depth →
     LastIs i now f.hand f.blanks
 last_is i now f is some = last_by i now f.hand f.path f.blanks (held i now f is) some
 
@@ -120,7 +120,7 @@ last_step i now hand a path blanks h =
     let d : i.depth - 1 ≡ length path = omega (arith, h.path_steps.0) in
     ap (step_at i.steps) d ∙ h.path_steps.1
 
-pub last_leads : (i : Inside) (now : Zipper) → Is i → show i ≡ now → 0 < i.depth → (step : Step) →
+pub last_leads : (i : Inside) (now : Zipper) → IsInside i → show i ≡ now → 0 < i.depth → (step : Step) →
     step_at i.steps (i.depth - 1) ≡ step → 0 < step.link
 last_leads i now f is some step at =
     let t = last_is i now f is some in
@@ -128,7 +128,7 @@ last_leads i now f is some step at =
     ∙ last_step i now f.hand t.level t.rest f.blanks t.held) in
     omega arith
 
-pub last_there : (i : Inside) (now : Zipper) → Is i → show i ≡ now → 0 < i.depth →
+pub last_there : (i : Inside) (now : Zipper) → IsInside i → show i ≡ now → 0 < i.depth →
     (step : Step) (key : ℕ) → step_at i.steps (i.depth - 1) ≡ step → step.link ≡ suc key →
     get i.nodes key ≡ None → ⊥
 last_there i now f is some step key at link none =
@@ -140,7 +140,7 @@ last_there i now f is some step key at link none =
     cc
 
 -- what is read of it
-pub nearest_is : (i : Inside) (now : Zipper) → Is i → show i ≡ now → 0 < i.depth →
+pub nearest_is : (i : Inside) (now : Zipper) → IsInside i → show i ≡ now → 0 < i.depth →
     (step : Step) (key : ℕ) (n : Node) → step_at i.steps (i.depth - 1) ≡ step →
     step.link ≡ suc key → get i.nodes key ≡ Some n →
     IsNearest now.path (record { side = step.side; red = n.red; node = n.node })
@@ -176,7 +176,7 @@ nearest_is i now f is some step key n at link found =
           } ∷ plain_path t.rest) parts.0;
     }
 
-pub no_path : (i : Inside) (now : Zipper) → Is i → show i ≡ now → i.depth ≡ 0 → now.path ≡ []
+pub no_path : (i : Inside) (now : Zipper) → IsInside i → show i ≡ now → i.depth ≡ 0 → now.path ≡ []
 no_path i now f is none = none_by f.hand f.path f.blanks (held i now f is)
   where
     none_by : (hand : Keyed) (path : List Level) (blanks : List ℕ) → Held i now hand path blanks →
@@ -185,13 +185,13 @@ no_path i now f is none = none_by f.hand f.path f.blanks (held i now f is)
     none_by hand (a ∷ path) blanks h = let e = h.path_steps.0 in absurd (omega arith)
 
 -- one step up, in a colour
-repainted : (side : Side) (hue red : Bool) (t : Branches) (x : Record) (o : Branches) (hue' : Bool)
-    (l : Branches) (y : Record) (r : Branches) → sided side hue t x o ≡ branch hue' l y r →
+repainted : (side : Side) (hue red : Bool) (t : ColouredTree) (x : Record) (o : ColouredTree) (hue' : Bool)
+    (l : ColouredTree) (y : Record) (r : ColouredTree) → sided side hue t x o ≡ branch hue' l y r →
     branch red l y r ≡ sided side red t x o
 repainted Left hue red t x o hue' l y r e = cc
 repainted Right hue red t x o hue' l y r e = cc
 
-pub closes : (i : Inside) (now : Zipper) (step : Step) (key : ℕ) (red : Bool) (n : Node) → Is i →
+pub closes : (i : Inside) (now : Zipper) (step : Step) (key : ℕ) (red : Bool) (n : Node) → IsInside i →
     show i ≡ now → 0 < i.depth → step_at i.steps (i.depth - 1) ≡ step → step.link ≡ suc key →
     get i.nodes key ≡ Some n →
     Moved (record i {
@@ -199,7 +199,7 @@ pub closes : (i : Inside) (now : Zipper) (step : Step) (key : ℕ) (red : Bool) 
       tree =
           step.link;
       depth = i.depth - 1;
-    }) (closed red now.tree now.path now.room)
+    }) (closed_zipper red now.tree now.path now.room)
 closes i now step key red n f is some at link found =
     let t = last_is i now f is some in
     let a = t.level in
@@ -215,31 +215,31 @@ closes i now step key red n f is some at link found =
     record {
       is = r.moved.is;
       shows = r.moved.shows
-          ∙ ap (λ (z : Branches). record { tree = z; path = plain_path t.rest; room = i.room }) tree
-          ∙ sym (ap (λ (z : Zipper). closed red z.tree z.path z.room) t.held.shows);
+          ∙ ap (λ (z : ColouredTree). record { tree = z; path = plain_path t.rest; room = i.room }) tree
+          ∙ sym (ap (λ (z : Zipper). closed_zipper red z.tree z.path z.room) t.held.shows);
     }
 
 pub not_closed : (red : Bool) (now : Zipper) → now.path ≡ [] →
-    now ≡ closed red now.tree now.path now.room
+    now ≡ closed_zipper red now.tree now.path now.room
 not_closed red now e =
     ap (λ (p : List Above). record { tree = now.tree; path = p; room = now.room }) e
-    ∙ sym (ap (λ (p : List Above). closed red now.tree p now.room) e)
+    ∙ sym (ap (λ (p : List Above). closed_zipper red now.tree p now.room) e)
 
 -- up to some node
-pub stays_closed : (d : ℕ) (t : Branches) (p : List Above) (room : ℕ) → length p ≤ d →
+pub stays_closed : (d : ℕ) (t : ColouredTree) (p : List Above) (room : ℕ) → length p ≤ d →
     closed_to d t p room ≡ record { tree = t; path = p; room = room }
 stays_closed d t [] room h = refl
 stays_closed d t (a ∷ p) room h =
     ap (λ (b : Bool). if b then record { tree = t; path = a ∷ p; room = room }
     else closed_to d (joined a a.red t) p room) (lt-ltb (length p) d (omega arith))
 
-goes_up : (d : ℕ) (t : Branches) (a : Above) (p : List Above) (room : ℕ) → d ≤ length p →
+goes_up : (d : ℕ) (t : ColouredTree) (a : Above) (p : List Above) (room : ℕ) → d ≤ length p →
     closed_to d t (a ∷ p) room ≡ closed_to d (joined a a.red t) p room
 goes_up d t a p room h =
     ap (λ (b : Bool). if b then record { tree = t; path = a ∷ p; room = room }
     else closed_to d (joined a a.red t) p room) (le-ltb (length p) d h)
 
-pub closed_to_none : (t : Branches) (p : List Above) (room : ℕ) →
+pub closed_to_none : (t : ColouredTree) (p : List Above) (room : ℕ) →
     closed_to 0 t p room ≡ record { tree = plugged p t; path = []; room = room }
 closed_to_none t [] room = refl
 closed_to_none t (a ∷ p) room = goes_up 0 t a p room (omega arith)
@@ -252,11 +252,11 @@ closes_to_by : (i : Inside) (now : Zipper) (hand : Keyed) (path : List Level) (b
 closes_to_by i now hand [] blanks d h some = absurd (omega arith)
 closes_to_by i now hand (a ∷ path) blanks d h some =
     let long = plain_length path in
-    let t : Branches = plain (back a hand) in
+    let t : ColouredTree = plain (back a hand) in
     let up : closed_to d (plain hand) (plain_path (a ∷ path)) i.room ≡ closed_to d t
     (plain_path path) i.room =
     goes_up d (plain hand) (plain_level a) (plain_path path) i.room (omega arith)
-    ∙ sym (ap (λ (z : Branches). closed_to d z (plain_path path) i.room)
+    ∙ sym (ap (λ (z : ColouredTree). closed_to d z (plain_path path) i.room)
     (plain-joined a.side a.red hand a.key a.row a.other)) in
     let j : Inside = record i { tree = (step_at i.steps d).link; depth = d } in
     let mid : Zipper = record { tree = t; path = plain_path path; room = i.room } in
@@ -279,7 +279,7 @@ closes_to_by i now hand (a ∷ path) blanks d h some =
     ] in
     subst (λ (z : Zipper). Moved j z) (sym up) there
 
-pub closes_to : (i : Inside) (now : Zipper) (d : ℕ) (step : Step) → Is i → show i ≡ now →
+pub closes_to : (i : Inside) (now : Zipper) (d : ℕ) (step : Step) → IsInside i → show i ≡ now →
     d < i.depth → step_at i.steps d ≡ step →
     Moved (record i { tree = step.link; depth = d }) (closed_to d now.tree now.path now.room)
 closes_to i now d step f is some at =
@@ -292,7 +292,7 @@ closes_to i now d step f is some at =
     (closed_to d now.tree now.path now.room)) at
     (subst (λ (z : Zipper). Moved (record i { tree = (step_at i.steps d).link; depth = d }) z) e m)
 
-pub not_closed_to : (i : Inside) (now : Zipper) (d : ℕ) → Is i → show i ≡ now → i.depth ≤ d →
+pub not_closed_to : (i : Inside) (now : Zipper) (d : ℕ) → IsInside i → show i ≡ now → i.depth ≤ d →
     now ≡ closed_to d now.tree now.path now.room
 not_closed_to i now d f is h =
     let g = held i now f is in

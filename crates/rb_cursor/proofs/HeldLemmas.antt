@@ -5,7 +5,7 @@ use Rattle.std.proofs.Common.{count_by, set, refl, sym, ap, subst, ◌∙◌, ar
 use Rattle.std.proofs.lemmas.List.{get_or-set_same, set-get_or}
 use Rattle.slab.specs.Slab.{Slab, get, slab_len, ContainsKey, with_value}
 use Rattle.rb_trees.specs.declared.Record.{Record}
-use Rattle.rb_trees.specs.Trees.{Branches, tip}
+use Rattle.rb_trees.specs.Trees.{ColouredTree, tip}
 use Rattle.rb_cursor.specs.declared.nodes.Node.{Node}
 use Rattle.rb_cursor.specs.declared.nodes.Step.{Step}
 use Rattle.rb_trees.specs.declared.Side.{Side}
@@ -14,7 +14,7 @@ use Rattle.rb_trees.specs.Paths.{Above}
 use Rattle.rb_cursor.specs.Zippers.{Zipper}
 use Rattle.rb_trees.specs.Paths.{sided}
 use Rattle.rb_cursor.specs.Sides.{child_at}
-use Rattle.rb_cursor.specs.Opening.{weight, Opens}
+use Rattle.rb_cursor.specs.Opening.{weight, OpensSide}
 use Rattle.rb_cursor.specs.Keyed.{Keyed, nil, keyed, Level, link_of, link_to, plain, plain_level}
 use Rattle.rb_cursor.specs.Keyed.{plain_path}
 use Rattle.rb_cursor.specs.Keyed.{sided_node, record_of, IsLinked, IsPath}
@@ -27,8 +27,8 @@ use Rattle.rb_cursor.proofs.SideLemmas.{weight-sided, child-sided}
 use Rattle.rb_cursor.proofs.KeyedLemmas.{tree_is}
 use Rattle.rb_cursor.proofs.KeyedLemmas.{path_is, steps_kept, steps_length, plain_length}
 
-abbrev pub Is : Inside → Type 0
-Is i = IsCursor i.nodes i.tree i.steps i.depth i.blank i.room
+abbrev pub IsInside : Inside → Type 0
+IsInside i = IsCursor i.nodes i.tree i.steps i.depth i.blank i.room
 
 abbrev pub show : Inside → Zipper
 show i = shown i.nodes i.tree i.steps i.depth i.room
@@ -46,7 +46,7 @@ pub record Held (i : Inside) (now : Zipper) (hand : Keyed) (path : List Level) (
 
 -- the fields are those of a cursor that shows this
 pub record Moved (i : Inside) (now : Zipper) : Type 0 where
-  pub is : Is i
+  pub is : IsInside i
   pub shows : show i ≡ now
 
 pub shown_is : (i : Inside) (hand : Keyed) (path : List Level) (blanks : List ℕ) →
@@ -60,7 +60,7 @@ shown_is i hand path blanks p link steps =
     let b : path_from i.nodes fuel i.steps i.depth ≡ plain_path path =
     path_is i.nodes i.steps i.depth (link_of hand) path fuel p.path_linked steps
     (omega (arith, p.counted, p.fits)) in
-    ap (λ (t : Branches). record {
+    ap (λ (t : ColouredTree). record {
       tree = t;
       path = path_from i.nodes fuel i.steps i.depth;
       room =
@@ -68,7 +68,7 @@ shown_is i hand path blanks p link steps =
     }) a
     ∙ ap (λ (q : List Above). record { tree = plain hand; path = q; room = i.room }) b
 
-pub held : (i : Inside) (now : Zipper) (f : Is i) → show i ≡ now → Held i now f.hand f.path f.blanks
+pub held : (i : Inside) (now : Zipper) (f : IsInside i) → show i ≡ now → Held i now f.hand f.path f.blanks
 held i now f is = record {
   place = f.place;
   tree_link = f.tree_link;
@@ -120,13 +120,13 @@ first i empty tree depth blank room =
     })
 
 -- how many nodes are above, and how many more fit
-pub depth_is : (i : Inside) (now : Zipper) → Is i → show i ≡ now → i.depth ≡ length now.path
+pub depth_is : (i : Inside) (now : Zipper) → IsInside i → show i ≡ now → i.depth ≡ length now.path
 depth_is i now f is =
     let h = held i now f is in
     steps_length i.steps i.depth f.path h.path_steps ∙ sym (plain_length f.path)
     ∙ sym (ap (λ (z : Zipper). length z.path) h.shows)
 
-pub room_is : (i : Inside) (now : Zipper) → Is i → show i ≡ now → i.room ≡ now.room
+pub room_is : (i : Inside) (now : Zipper) → IsInside i → show i ≡ now → i.room ≡ now.room
 room_is i now f is = sym (ap (λ (z : Zipper). z.room) (held i now f is).shows)
 
 -- no link, no tree
@@ -135,7 +135,7 @@ none_by : (i : Inside) (now : Zipper) (hand : Keyed) (path : List Level) (blanks
 none_by i now nil path blanks h none = ap (λ (z : Zipper). z.tree) h.shows
 none_by i now (keyed red l k x r) path blanks h none = let e = h.tree_link in absurd (omega arith)
 
-pub none_there : (i : Inside) (now : Zipper) → Is i → show i ≡ now → i.tree ≡ 0 → now.tree ≡ tip
+pub none_there : (i : Inside) (now : Zipper) → IsInside i → show i ≡ now → i.tree ≡ 0 → now.tree ≡ tip
 none_there i now f is none = none_by i now f.hand f.path f.blanks (held i now f is) none
 
 -- going down on a side
@@ -148,8 +148,8 @@ with_step i side link =
     }
 
 pub record HasOpened (i : Inside) (now : Zipper) (side : Side) (n : Node) : Type 0 where
-  pub is : Is (with_step i side (child_at side n))
-  pub opens : Opens side now (show (with_step i side (child_at side n)))
+  pub is : IsInside (with_step i side (child_at side n))
+  pub opens : OpensSide side now (show (with_step i side (child_at side n)))
       (record { red = n.red; node = n.node })
   pub row_is : opens.row ≡ record_of n
 
@@ -243,7 +243,7 @@ pub record HeldOn (i : Inside) (now : Zipper) (side : Side) (key : ℕ) (path : 
   pub far : Keyed
   pub held : Held i now (joined_keyed side red near key row far) path blanks
 
-pub held_on : (i : Inside) (now : Zipper) (side : Side) (key : ℕ) (f : Is i) → show i ≡ now →
+pub held_on : (i : Inside) (now : Zipper) (side : Side) (key : ℕ) (f : IsInside i) → show i ≡ now →
     i.tree ≡ suc key → HeldOn i now side key f.path f.blanks
 held_on i now side key f is some =
     let v = seen side key f.hand (sym f.tree_link ∙ some) in
@@ -255,7 +255,7 @@ held_on i now side key f is some =
       held = subst (λ (t : Keyed). Held i now t f.path f.blanks) v.is (held i now f is);
     }
 
-pub opened : (i : Inside) (now : Zipper) (side : Side) (key : ℕ) (n : Node) → Is i →
+pub opened : (i : Inside) (now : Zipper) (side : Side) (key : ℕ) (n : Node) → IsInside i →
     show i ≡ now → i.tree ≡ suc key → get i.nodes key ≡ Some n → i.depth < 64 →
     i.depth < length i.steps → HasOpened i now side n
 opened i now side key n f is some found room within =
@@ -310,7 +310,7 @@ present_by s link key (keyed red l k x r) h a some =
     let same : k ≡ key = omega arith in
     rw (sym (ap (get s) same) ∙ h.0) refl
 
-pub top_present : (i : Inside) (key : ℕ) → Is i → i.tree ≡ suc key → ContainsKey i.nodes key
+pub top_present : (i : Inside) (key : ℕ) → IsInside i → i.tree ≡ suc key → ContainsKey i.nodes key
 top_present i key f some =
     present_by i.nodes i.tree key f.hand f.place.hand_linked f.tree_link some
 

@@ -6,12 +6,12 @@ use Rattle.order_laws.specs.declared.items.Item.{Item}
 use Rattle.order_laws.proofs.Lists.{regrouped}
 use Rattle.rb_trees.specs.declared.Record.{Record}
 use Rattle.rb_trees.specs.declared.Clash.TheVariants.{Nowhere}
-use Rattle.rb_trees.specs.Trees.{Branches, tip, branch, is_red, shape, IsCalm, depth}
+use Rattle.rb_trees.specs.Trees.{ColouredTree, tip, branch, is_red, shape, HasNoClash, depth}
 use Rattle.rb_trees.specs.Turns.{link, set_left, set_right}
-use Rattle.rb_trees.specs.Inserted.{clash, inserted, insert_links}
+use Rattle.rb_trees.specs.Inserted.{clash, inserted_into, insert_links}
 use Rattle.rb_trees.specs.Paths.{Above, joined, plugged, way_by}
-use Rattle.rb_trees.specs.InsertClimb.{relink_on, mended_on, mend_on, insert_step}
-use Rattle.rb_trees.specs.InsertClimb.{insert_climbed, insert_climb, IsCalmPath, is_above_red}
+use Rattle.rb_trees.specs.InsertClimb.{relink_on, mended_on, mend_links_on, insert_step}
+use Rattle.rb_trees.specs.InsertClimb.{insert_climbed, insert_climb_links, HasNoClashAbove, is_above_red}
 use Rattle.rb_trees.proofs.PathLemmas.{plugged_by, short_by}
 use Rattle.rb_trees.proofs.InsertClimbLemmas.{insert_climbed_by, insert_climb_by, calm_path}
 use Rattle.rb_trees.proofs.InsertClimbLemmas.{IsStill, still_above, still_climbed, still_climb, still_black}
@@ -21,16 +21,16 @@ use Rattle.rb_cursor.specs.declared.nodes.Nearest.{Nearest}
 use Rattle.rb_cursor.specs.Zippers.{Zipper, altered}
 use Rattle.rb_cursor.specs.Opening.{IsNearest}
 use Rattle.rb_cursor.specs.Rising.{risen}
-use Rattle.rb_cursor.proofs.Stepping.{above_of, risen_there, shorter}
+use Rattle.rb_cursor.proofs.StepLemmas.{above_of, risen_there, shorter}
 
 -- what is left of the way makes the same of the tree in hand as the whole way of the first one
 pub record InsertClimbs (copy : ℕ) (start : Zipper) (first : List Store)
     (here : Zipper) (before : ℕ) (now : List Store) : Type 0 where
   pub tree : insert_climbed here.path here.tree ≡ insert_climbed start.path start.tree
-  pub items : now ++ insert_climb copy here.path before here.tree
-      ≡ first ++ insert_climb copy start.path 0 start.tree
+  pub items : now ++ insert_climb_links copy here.path before here.tree
+      ≡ first ++ insert_climb_links copy start.path 0 start.tree
   pub room : here.room ≡ start.room
-  pub calm : IsCalmPath here.path
+  pub calm : HasNoClashAbove here.path
   pub few : length here.path ≤ 64
 
 -- what the loop knows of the tree in hand
@@ -43,7 +43,7 @@ pub record InsertKnows (here : Zipper) (after : ℕ) (red clashes : Bool) : Type
 pub record InsertEnds (copy : ℕ) (start : Zipper) (first : List Store)
     (here : Zipper) (now : List Store) : Type 0 where
   pub tree : plugged here.path here.tree ≡ insert_climbed start.path start.tree
-  pub items : now ≡ first ++ insert_climb copy start.path 0 start.tree
+  pub items : now ≡ first ++ insert_climb_links copy start.path 0 start.tree
   pub room : here.room ≡ start.room
 
 -- one step up
@@ -60,7 +60,7 @@ module _ {copy : ℕ} {start : Zipper} {first : List Store}
   relinked = relink_on up.side copy up.node before after
 
   abbrev mends : List Store
-  mends = mend_on up.side copy there.tree
+  mends = mend_links_on up.side copy there.tree
 
   on : InsertClimbs copy start first (altered (mended_on up.side) there) (up.node + 1)
       ((now ++ relinked) ++ mends)
@@ -70,29 +70,29 @@ module _ {copy : ℕ} {start : Zipper} {first : List Store}
       record {
         tree = ap (λ p. insert_climbed p here.tree) (sym near.was) ∙ is.tree;
         items =
-            ap (λ n. ((now ++ relinked) ++ mends) ++ insert_climb copy near.rest n u) next
-            ∙ sym (regrouped now relinked mends (insert_climb copy near.rest (suc up.node) u))
+            ap (λ n. ((now ++ relinked) ++ mends) ++ insert_climb_links copy near.rest n u) next
+            ∙ sym (regrouped now relinked mends (insert_climb_links copy near.rest (suc up.node) u))
             ∙ ap (λ n. now ++ ((relink_on up.side copy up.node before n ++ mends)
-            ++ insert_climb copy near.rest (suc up.node) u)) knows.linked
+            ++ insert_climb_links copy near.rest (suc up.node) u)) knows.linked
             ∙ ap (λ n. now ++ ((relink_on up.side copy n before (link (shape here.tree)) ++ mends)
-            ++ insert_climb copy near.rest (suc n) u)) near.node
-            ∙ ap (λ p. now ++ insert_climb copy p before here.tree) (sym near.was)
+            ++ insert_climb_links copy near.rest (suc n) u)) near.node
+            ∙ ap (λ p. now ++ insert_climb_links copy p before here.tree) (sym near.was)
             ∙ is.items;
         room = is.room;
-        calm = (subst IsCalmPath near.was is.calm).1;
+        calm = (subst HasNoClashAbove near.was is.calm).1;
         few = omega (arith, is.few, shorter here up near);
       }
 
   -- the stores of the step fit
   pub insert_fits : (cap : ℕ)
-      → length first + length (insert_climb copy start.path 0 start.tree) ≤ cap
+      → length first + length (insert_climb_links copy start.path 0 start.tree) ≤ cap
       → (length now + length relinked) + length mends ≤ cap
   insert_fits cap room =
-      let rest = insert_climb copy near.rest (up.node + 1) (insert_step (above_of up near) here.tree) in
+      let rest = insert_climb_links copy near.rest (up.node + 1) (insert_step (above_of up near) here.tree) in
       let l = length-append ((now ++ relinked) ++ mends) rest in
       let m = length-append (now ++ relinked) mends in
       let n = length-append now relinked in
-      let k = length-append first (insert_climb copy start.path 0 start.tree) in
+      let k = length-append first (insert_climb_links copy start.path 0 start.tree) in
       omega (arith, ap length on.items, l, m, n, k, room)
 
   pub insert_there : {z : Zipper} → z ≡ risen here → z ≡ there
@@ -139,7 +139,7 @@ module _ {copy : ℕ} {start : Zipper} {first : List Store}
         items =
             sym (append-nil now1)
             ∙ ap (λ ss. now1 ++ ss) (sym (still_climb copy near.rest there.tree above))
-            ∙ ap (λ n. now1 ++ insert_climb copy near.rest n there.tree) (sym after_all)
+            ∙ ap (λ n. now1 ++ insert_climb_links copy near.rest n there.tree) (sym after_all)
             ∙ climbs.items;
         room = climbs.room;
       } in
@@ -162,33 +162,33 @@ pub insert_topmost : {copy : ℕ} {start : Zipper} {first : List Store}
 insert_topmost {copy = copy} {here = here} {before = before} {now = now} is top = record {
   tree = ap (λ p. plugged p here.tree) top ∙ ap (λ p. insert_climbed p here.tree) (sym top) ∙ is.tree;
   items =
-      sym (append-nil now) ∙ ap (λ p. now ++ insert_climb copy p before here.tree) (sym top) ∙ is.items;
+      sym (append-nil now) ∙ ap (λ p. now ++ insert_climb_links copy p before here.tree) (sym top) ∙ is.items;
   room = is.room;
 }
 
 -- from the leaf that is planted at the end of the way down, the way up is the whole insert
-module _ (less : Item → Item → Bool) (added : Record) (t : Branches) {start path : List Above}
+module _ (less : Item → Item → Bool) (added : Record) (t : ColouredTree) {start path : List Above}
     (goes : path ≡ way_by less added.item t start) (top : start ≡ []) where
   way_there : path ≡ way_by less added.item t []
   way_there = goes ∙ ap (way_by less added.item t) top
 
-  pub insert_calm : IsCalm t → IsCalmPath path
+  pub insert_calm : HasNoClash t → HasNoClashAbove path
   insert_calm calm =
-      subst IsCalmPath (sym way_there)
-      (calm_path (way_by less added.item t []) tip (subst IsCalm (sym (plugged_by less added.item t [])) calm))
+      subst HasNoClashAbove (sym way_there)
+      (calm_path (way_by less added.item t []) tip (subst HasNoClash (sym (plugged_by less added.item t [])) calm))
 
   pub insert_few : length path ≤ depth (shape t)
   insert_few = omega (arith, ap length way_there, short_by less added.item t [])
 
-  pub insert_tree : insert_climbed path (branch true tip added tip) ≡ inserted less added t
+  pub insert_tree : insert_climbed path (branch true tip added tip) ≡ inserted_into less added t
   insert_tree =
       ap (λ p. insert_climbed p (branch true tip added tip)) way_there ∙ insert_climbed_by less added t []
 
   pub insert_stores : (copy : ℕ) → insert_links copy less added t
       ≡ set_left copy added.node 0 ∷ set_right copy added.node 0
-      ∷ insert_climb copy path 0 (branch true tip added tip)
+      ∷ insert_climb_links copy path 0 (branch true tip added tip)
   insert_stores copy =
       sym (append-nil (insert_links copy less added t))
       ∙ sym (insert_climb_by copy less added t [])
       ∙ ap (λ p. set_left copy added.node 0 ∷ set_right copy added.node 0
-      ∷ insert_climb copy p 0 (branch true tip added tip)) (sym way_there)
+      ∷ insert_climb_links copy p 0 (branch true tip added tip)) (sym way_there)

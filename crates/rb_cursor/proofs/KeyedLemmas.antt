@@ -9,7 +9,7 @@ use Rattle.std.proofs.lemmas.List.Sums.{sum_by-set}
 use Rattle.slab.specs.Slab.{Slab, get, ContainsKey, slab_len, with_value}
 use Rattle.slab.proofs.SlabLemmas.{ContainsKey-within}
 use Rattle.rb_trees.specs.declared.Record.{Record}
-use Rattle.rb_trees.specs.Trees.{Branches, branch}
+use Rattle.rb_trees.specs.Trees.{ColouredTree, branch}
 use Rattle.rb_cursor.specs.declared.nodes.Node.{Node}
 use Rattle.rb_cursor.specs.declared.nodes.Step.{Step}
 use Rattle.rb_trees.specs.declared.Side.{Side}
@@ -126,11 +126,11 @@ above_by : (s : Slab Node) (side : Side) (red : Bool) (key : ℕ) (row : Record)
     }
 above_by s Left red key row other link fuel h o e =
     ap (λ (n : Option Node). above_with s fuel Left (node_or n)) h
-    ∙ ap (λ (t : Branches). record { side = Left; red = red; row = row; other = t })
+    ∙ ap (λ (t : ColouredTree). record { side = Left; red = red; row = row; other = t })
     (tree_is s other fuel o e)
 above_by s Right red key row other link fuel h o e =
     ap (λ (n : Option Node). above_with s fuel Right (node_or n)) h
-    ∙ ap (λ (t : Branches). record { side = Right; red = red; row = row; other = t })
+    ∙ ap (λ (t : ColouredTree). record { side = Right; red = red; row = row; other = t })
     (tree_is s other fuel o e)
 
 -- and the path

@@ -6,7 +6,7 @@ pub mod ReadLemmas
 pub mod TurnLemmas
 pub mod BlankLemmas
 pub mod SeekLemmas
-pub mod Stepping
+pub mod StepLemmas
 pub mod InsertSteps
 pub mod EraseSteps
 pub mod FirstSteps

@@ -4,7 +4,7 @@ use Rattle.slab.specs.Slab.{Slab, get}
 use Rattle.rb_trees.specs.declared.Record.{Record}
 use Rattle.rb_trees.specs.declared.Side.{Side}
 use Rattle.rb_trees.specs.declared.Side.TheVariants.{Left, Right}
-use Rattle.rb_trees.specs.Trees.{Branches, tip}
+use Rattle.rb_trees.specs.Trees.{ColouredTree, tip}
 use Rattle.rb_trees.specs.Paths.{sided}
 use Rattle.rb_cursor.specs.declared.nodes.Node.{Node}
 use Rattle.rb_cursor.specs.Sides.{opposite, child_at, with_link, turned}
@@ -67,7 +67,7 @@ pub size-joined : (side : Side) (red : Bool) (t : Keyed) (k : ℕ) (x : Record) 
 size-joined Left red t k x other = refl
 size-joined Right red t k x other = omega arith
 
-pub weight-sided : (side : Side) (red : Bool) (t : Branches) (x : Record) (other : Branches) →
+pub weight-sided : (side : Side) (red : Bool) (t : ColouredTree) (x : Record) (other : ColouredTree) →
     weight (sided side red t x other) ≡ suc (weight t + weight other)
 weight-sided Left red t x other = refl
 weight-sided Right red t x other = omega arith

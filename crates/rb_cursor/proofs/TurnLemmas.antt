@@ -6,7 +6,7 @@ use Rattle.std.proofs.Common.{refl, sym, ap, subst, ◌∙◌, arith}
 use Rattle.slab.specs.Slab.{Slab, get, slab_len, with_value}
 use Rattle.slab.proofs.SlabLemmas.{Updates-with_value}
 use Rattle.rb_trees.specs.declared.Record.{Record}
-use Rattle.rb_trees.specs.Trees.{Branches, tip}
+use Rattle.rb_trees.specs.Trees.{ColouredTree, tip}
 use Rattle.rb_cursor.specs.declared.nodes.Node.{Node}
 use Rattle.rb_cursor.specs.declared.nodes.Step.{Step}
 use Rattle.rb_trees.specs.declared.Side.{Side}
@@ -16,8 +16,8 @@ use Rattle.rb_cursor.specs.Keyed.{Keyed, nil, Level, link_of}
 use Rattle.rb_cursor.specs.Keyed.{size, path_size, at_key, uses, path_uses, list_uses}
 use Rattle.rb_cursor.specs.Keyed.{sided_node, plain, plain_path, IsLinked, IsPath, IsChain}
 use Rattle.rb_cursor.specs.Sides.{opposite, child_at, with_link, turned}
-use Rattle.rb_cursor.specs.Writes.{led_by, led_at, step_at, LeadsOn}
-use Rattle.rb_cursor.specs.Writes.{led}
+use Rattle.rb_cursor.specs.Writes.{with_node_link, with_step_link, step_at, LastLeadsOn}
+use Rattle.rb_cursor.specs.Writes.{with_last_link}
 use Rattle.rb_cursor.specs.Places.{IsPlace, AreSteps}
 use Rattle.rb_cursor.proofs.KeyedLemmas.{at_same, linked_kept}
 use Rattle.rb_cursor.proofs.KeyedLemmas.{chain_kept, linked_beside, path_beside, chain_beside}
@@ -26,7 +26,7 @@ use Rattle.rb_cursor.proofs.SideLemmas.{joined_keyed, seen, nothing, parted, lin
 use Rattle.rb_cursor.proofs.SideLemmas.{link-joined, uses-joined, size-joined, child-sided}
 use Rattle.rb_cursor.proofs.SideLemmas.{relinked, coloured-sided}
 use Rattle.rb_cursor.proofs.SideLemmas.{plain-turned, plain-lone, tip-turned}
-use Rattle.rb_cursor.proofs.HeldLemmas.{Is, show, Held, Moved, shut, held_on}
+use Rattle.rb_cursor.proofs.HeldLemmas.{IsInside, show, Held, Moved, shut, held_on}
 
 -- all but the link that leads to the tree in hand, which leads elsewhere
 pub record IsLoose (s : Slab Node) (hand : Keyed) (link : ℕ) (path : List Level) (blanks : List ℕ) :
@@ -47,10 +47,10 @@ record Leads (s u : Slab Node) (path : List Level) (link : ℕ) : Type 0 where
   pub beside : (k : ℕ) → path_uses k path ≡ 0 → get u k ≡ get s k
 
 leads : (s u : Slab Node) (steps : List Step) (depth old new : ℕ) (path : List Level) →
-    u ≡ led s steps depth new → IsPath s old path → AreSteps steps depth path →
+    u ≡ with_last_link s steps depth new → IsPath s old path → AreSteps steps depth path →
     ((k : ℕ) → path_uses k path ≤ 1) → Leads s u path new
 leads s u steps depth old new [] is h a most =
-    let e : u ≡ s = is ∙ ap (λ (d : ℕ). led s steps d new) a in
+    let e : u ≡ s = is ∙ ap (λ (d : ℕ). with_last_link s steps d new) a in
     record {
       path_linked = tt;
       len = ap slab_len e;
@@ -63,9 +63,9 @@ leads s u steps depth old new (a ∷ path) is h at most =
     let after : Node = with_link a.side new before in
     let v = with_value s a.key after in
     let e : u ≡ v =
-    is ∙ ap (λ (d : ℕ). led s steps d new) at.0
-    ∙ ap (λ (x : Step). led_at s x new) at.1
-    ∙ ap (led_by s a.key a.side new) h.0 in
+    is ∙ ap (λ (d : ℕ). with_last_link s steps d new) at.0
+    ∙ ap (λ (x : Step). with_step_link s x new) at.1
+    ∙ ap (with_node_link s a.key a.side new) h.0 in
     let w = Updates-with_value s a.key after (rw h.0 refl) in
     let once = at_same a.key in
     let one = most a.key in
@@ -85,7 +85,7 @@ leads s u steps depth old new (a ∷ path) is h at most =
 
 -- the link follows
 pub tightened : (s u : Slab Node) (steps : List Step) (depth old new : ℕ) (hand : Keyed)
-    (path : List Level) (blanks : List ℕ) → u ≡ led s steps depth new → new ≡ link_of hand →
+    (path : List Level) (blanks : List ℕ) → u ≡ with_last_link s steps depth new → new ≡ link_of hand →
     IsLoose s hand old path blanks → AreSteps steps depth path → IsPlace u hand path blanks
 tightened s u steps depth old new hand path blanks is link p a =
     let l = leads s u steps depth old new path is p.path_linked a (λ k. (let all = p.apart k in
@@ -105,18 +105,18 @@ tightened s u steps depth old new hand path blanks is link p a =
     }
 
 leads_by : (steps : List Step) (depth : ℕ) (path : List Level) → AreSteps steps depth path →
-    LeadsOn steps depth
-leads_by steps depth [] a = subst (λ (d : ℕ). LeadsOn steps d) (sym a) tt
+    LastLeadsOn steps depth
+leads_by steps depth [] a = subst (λ (d : ℕ). LastLeadsOn steps d) (sym a) tt
 leads_by steps depth (l ∷ path) a =
     let some : 0 < (step_at steps (length path)).link = (let e = ap (λ (z : Step). z.link) a.1 in
     omega arith) in
-    subst (λ (d : ℕ). LeadsOn steps d) (sym a.0) some
+    subst (λ (d : ℕ). LastLeadsOn steps d) (sym a.0) some
 
 -- the fields after a turn
 abbrev pub with_turn : Inside → Slab Node → ℕ → Inside
 with_turn i u link = record i { nodes = u; tree = link }
 
-pub leads_on : (i : Inside) → Is i → LeadsOn i.steps i.depth
+pub leads_on : (i : Inside) → IsInside i → LastLeadsOn i.steps i.depth
 leads_on i f = leads_by i.steps i.depth f.path f.path_steps
 
 -- the two nodes as they are written
@@ -138,7 +138,7 @@ pub record TurnsTo (i : Inside) (side : Side) (u : Slab Node) (nk ck link : ℕ)
   pub low_is : low ≡ below_turned i side child_red lower
   pub again : get (with_value i.nodes ck low) nk ≡ Some upper
   pub high_is : high ≡ above_turned side node_red lower upper
-  pub leaves : u ≡ led (with_value (with_value i.nodes ck low) nk high) i.steps i.depth link
+  pub leaves : u ≡ with_last_link (with_value (with_value i.nodes ck low) nk high) i.steps i.depth link
 
 -- what it shows then
 abbrev pub turned_to : Zipper → Side → Bool → Bool → Zipper
@@ -235,10 +235,10 @@ turn_at i side u now hue red a b other x y path blanks nk ck link child_red node
       fits = omega (arith, p.fits);
       small = omega (arith, p.small);
     } in
-    let nodes : u ≡ led z i.steps i.depth link =
+    let nodes : u ≡ with_last_link z i.steps i.depth link =
     t.leaves
-    ∙ ap (λ (m : Node). led (with_value (with_value s ck m) nk high) i.steps i.depth link) low_new
-    ∙ ap (λ (m : Node). led (with_value v nk m) i.steps i.depth link) high_new in
+    ∙ ap (λ (m : Node). with_last_link (with_value (with_value s ck m) nk high) i.steps i.depth link) low_new
+    ∙ ap (λ (m : Node). with_last_link (with_value v nk m) i.steps i.depth link) high_new in
     let leads_to : link ≡ link_of hand = t.some ∙ sym (link-joined side child_red sunk ck x a) in
     shut (with_turn i u link) (turned_to now side child_red node_red) hand path blanks (record {
       place = tightened z u i.steps i.depth (suc nk) link hand path blanks nodes leads_to loose
@@ -249,7 +249,7 @@ turn_at i side u now hue red a b other x y path blanks nk ck link child_red node
       room_is = h.room_is;
       few = h.few;
       shows = ap (λ (q : Zipper). turned_to q side child_red node_red) h.shows
-          ∙ ap (λ (q : Branches). record { tree = q; path = plain_path path; room = i.room })
+          ∙ ap (λ (q : ColouredTree). record { tree = q; path = plain_path path; room = i.room })
           (plain-turned side hue red child_red node_red a b other ck nk x y);
     })
 
@@ -264,7 +264,7 @@ near_link i now side key link red near x far path blanks n h found is =
     sym (child-sided side red x (link_of near) (link_of far)) ∙ ap (child_at side) node ∙ sym is
 
 pub turns : (i : Inside) (side : Side) (u : Slab Node) (now : Zipper) (nk ck link : ℕ)
-    (child_red node_red : Bool) (n lower low upper high : Node) → Is i → show i ≡ now →
+    (child_red node_red : Bool) (n lower low upper high : Node) → IsInside i → show i ≡ now →
     TurnsTo i side u nk ck link child_red node_red n lower low upper high →
     Moved (with_turn i u link) (turned_to now side child_red node_red)
 turns i side u now nk ck link child_red node_red n lower low upper high f shows t =
@@ -280,7 +280,7 @@ turns i side u now nk ck link child_red node_red n lower low upper high f shows 
 
 -- where there is no child to be turned up, nothing is done
 pub lone : (i : Inside) (side : Side) (now : Zipper) (nk link : ℕ) (child_red node_red : Bool)
-    (n : Node) → Is i → show i ≡ now → i.tree ≡ suc nk → get i.nodes nk ≡ Some n →
+    (n : Node) → IsInside i → show i ≡ now → i.tree ≡ suc nk → get i.nodes nk ≡ Some n →
     link ≡ child_at (opposite side) n → link ≡ 0 → now ≡ turned_to now side child_red node_red
 lone i side now nk link child_red node_red n f shows some here child none =
     let beyond = opposite side in
@@ -291,12 +291,12 @@ lone i side now nk link child_red node_red n f shows some here child none =
     ap (λ (q : Zipper). q.tree) v.held.shows
     ∙ ap (λ (q : Keyed). plain (joined_keyed beyond v.red q nk v.row v.far))
     (nothing v.near (down ∙ none)) in
-    ap (λ (q : Branches). record now { tree = q })
+    ap (λ (q : ColouredTree). record now { tree = q })
     (e ∙ sym (plain-lone side v.red child_red node_red nk v.row v.far)
     ∙ sym (ap (turned side child_red node_red) e))
 
 pub none_turned : (side : Side) (now : Zipper) (child_red node_red : Bool) → now.tree ≡ tip →
     now ≡ turned_to now side child_red node_red
 none_turned side now child_red node_red e =
-    ap (λ (q : Branches). record now { tree = q })
+    ap (λ (q : ColouredTree). record now { tree = q })
     (e ∙ sym (tip-turned side child_red node_red) ∙ sym (ap (turned side child_red node_red) e))

@@ -1,16 +1,16 @@
 -- Going up: a node above gets the tree in hand back.
 use Rattle.std.specs.Prelude.{ℕ, Bool, List, [], ◌∷◌, length, if◌then◌else◌, nat_lt}
-use Rattle.rb_trees.specs.Trees.{Branches}
+use Rattle.rb_trees.specs.Trees.{ColouredTree}
 use Rattle.rb_trees.specs.Paths.{Above, joined, plugged}
 use Rattle.rb_cursor.specs.Zippers.{Zipper}
 
 -- one step up: the nearest node above is in hand, in this colour
-abbrev pub closed : Bool → Branches → List Above → ℕ → Zipper
-closed red t [] room = record { tree = t; path = []; room = room }
-closed red t (a ∷ p) room = record { tree = joined a red t; path = p; room = room }
+abbrev pub closed_zipper : Bool → ColouredTree → List Above → ℕ → Zipper
+closed_zipper red t [] room = record { tree = t; path = []; room = room }
+closed_zipper red t (a ∷ p) room = record { tree = joined a red t; path = p; room = room }
 
 -- up until only so many nodes are above, in the colours that they have
-abbrev pub closed_to : ℕ → Branches → List Above → ℕ → Zipper
+abbrev pub closed_to : ℕ → ColouredTree → List Above → ℕ → Zipper
 closed_to d t [] room = record { tree = t; path = []; room = room }
 closed_to d t (a ∷ p) room =
     if nat_lt (length p) d then record { tree = t; path = a ∷ p; room = room }

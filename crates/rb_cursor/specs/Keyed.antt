@@ -3,7 +3,7 @@ use Rattle.std.specs.Prelude.{◌≡◌, ℕ, zero, suc, ◌+◌, ◌==◌, Bool
 use Rattle.std.specs.Prelude.{if◌then◌else◌}
 use Rattle.slab.specs.Slab.{Slab, get}
 use Rattle.rb_trees.specs.declared.Record.{Record}
-use Rattle.rb_trees.specs.Trees.{Branches, tip, branch}
+use Rattle.rb_trees.specs.Trees.{ColouredTree, tip, branch}
 use Rattle.rb_cursor.specs.declared.nodes.Node.{Node}
 use Rattle.rb_trees.specs.declared.Side.{Side}
 use Rattle.rb_trees.specs.declared.Side.TheVariants.{Left, Right}
@@ -33,7 +33,7 @@ link_to [] = 0
 link_to (k ∷ ks) = suc k
 
 -- without the keys
-abbrev pub plain : Keyed → Branches
+abbrev pub plain : Keyed → ColouredTree
 plain nil = tip
 plain (keyed red l k x r) = branch red (plain l) x (plain r)
 
@@ -107,11 +107,11 @@ abbrev pub record_of : Node → Record
 record_of n = record { node = n.node; item = n.item }
 
 -- the tree that a link leads to, to this depth
-abbrev pub tree_below : (ℕ → Branches) → Option Node → Branches
+abbrev pub tree_below : (ℕ → ColouredTree) → Option Node → ColouredTree
 tree_below down None = tip
 tree_below down (Some n) = branch n.red (down n.left) (record_of n) (down n.right)
 
-abbrev pub tree_from : Slab Node → ℕ → ℕ → Branches
+abbrev pub tree_from : Slab Node → ℕ → ℕ → ColouredTree
 tree_from s zero link = tip
 tree_from s (suc fuel) zero = tip
 tree_from s (suc fuel) (suc k) = tree_below (tree_from s fuel) (get s k)

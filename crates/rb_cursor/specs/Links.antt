@@ -1,7 +1,7 @@
 -- A link to a tree of records in a slab.
 use Rattle.std.specs.Prelude.{◌≡◌, ℕ, ◌≤◌}
 use Rattle.slab.specs.Slab.{Slab}
-use Rattle.rb_trees.specs.Trees.{Branches}
+use Rattle.rb_trees.specs.Trees.{ColouredTree}
 use Rattle.rb_cursor.specs.declared.nodes.Node.{Node}
 use Rattle.rb_cursor.specs.Keyed.{Keyed, link_of, size, IsLinked, tree_from}
 
@@ -13,5 +13,5 @@ pub record IsLink (s : Slab Node) (link : ℕ) : Type 0 where
   pub fits : size tree ≤ s.capacity
 
 -- that tree
-unfoldable pub read : Slab Node → ℕ → Branches
+unfoldable pub read : Slab Node → ℕ → ColouredTree
 read s link = tree_from s s.capacity link

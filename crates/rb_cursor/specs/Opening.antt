@@ -1,7 +1,7 @@
 -- Going down, and the nearest node above.
 use Rattle.std.specs.Prelude.{◌≡◌, ℕ, suc, ◌+◌, ◌<◌, List, [], ◌∷◌, Option, Some, None}
 use Rattle.rb_trees.specs.declared.Record.{Record}
-use Rattle.rb_trees.specs.Trees.{Branches, tip, branch}
+use Rattle.rb_trees.specs.Trees.{ColouredTree, tip, branch}
 use Rattle.rb_trees.specs.declared.Side.{Side}
 use Rattle.rb_cursor.specs.declared.nodes.Top.{Top}
 use Rattle.rb_cursor.specs.declared.nodes.Nearest.{Nearest}
@@ -9,14 +9,14 @@ use Rattle.rb_trees.specs.Paths.{Above, sided}
 use Rattle.rb_cursor.specs.Zippers.{Zipper}
 
 -- how many nodes a tree has
-abbrev pub weight : Branches → ℕ
+abbrev pub weight : ColouredTree → ℕ
 weight tip = 0
 weight (branch red l x r) = suc (weight l + weight r)
 
 -- the node in hand is opened, and its subtree on a side is in hand
-pub record Opens (side : Side) (old new : Zipper) (top : Top) : Type 0 where
+pub record OpensSide (side : Side) (old new : Zipper) (top : Top) : Type 0 where
   pub row : Record
-  pub other : Branches
+  pub other : ColouredTree
   pub node : top.node ≡ row.node
   pub was : old.tree ≡ sided side top.red new.tree row other
   pub path : new.path
@@ -27,12 +27,12 @@ pub record Opens (side : Side) (old new : Zipper) (top : Top) : Type 0 where
 -- nothing is done where there is no node
 abbrev pub Opened : Side → Zipper → Zipper → Option Top → Type 0
 Opened side old new None = (old.tree ≡ tip) × (new ≡ old)
-Opened side old new (Some top) = Opens side old new top
+Opened side old new (Some top) = OpensSide side old new top
 
 -- the nearest node above, with what a caller does not see
 pub record IsNearest (path : List Above) (up : Nearest) : Type 0 where
   pub row : Record
-  pub other : Branches
+  pub other : ColouredTree
   pub rest : List Above
   pub node : up.node ≡ row.node
   pub was : path ≡ record { side = up.side; red = up.red; row = row; other = other } ∷ rest

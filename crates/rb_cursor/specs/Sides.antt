@@ -2,7 +2,7 @@
 use Rattle.std.specs.Prelude.{ℕ, Bool, true, false}
 use Rattle.rb_trees.specs.declared.Side.{Side}
 use Rattle.rb_trees.specs.declared.Side.TheVariants.{Left, Right}
-use Rattle.rb_trees.specs.Trees.{Branches}
+use Rattle.rb_trees.specs.Trees.{ColouredTree}
 use Rattle.rb_trees.specs.Turns.{turned_left, turned_right}
 use Rattle.rb_cursor.specs.declared.nodes.Node.{Node}
 
@@ -26,6 +26,6 @@ with_link Left link n = record n { left = link }
 with_link Right link n = record n { right = link }
 
 -- the child on the other side takes the place of a node, which goes down on this side
-abbrev pub turned : Side → Bool → Bool → Branches → Branches
+abbrev pub turned : Side → Bool → Bool → ColouredTree → ColouredTree
 turned Left child_red node_red t = turned_left child_red node_red t
 turned Right child_red node_red t = turned_right child_red node_red t

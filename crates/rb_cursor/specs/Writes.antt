@@ -12,13 +12,13 @@ abbrev pub key_of : ℕ → ℕ
 key_of zero = 0
 key_of (suc k) = k
 
-abbrev pub led_by : Slab Node → ℕ → Side → ℕ → Option Node → Slab Node
-led_by s key side link None = s
-led_by s key side link (Some n) = with_value s key (with_link side link n)
+abbrev pub with_node_link : Slab Node → ℕ → Side → ℕ → Option Node → Slab Node
+with_node_link s key side link None = s
+with_node_link s key side link (Some n) = with_value s key (with_link side link n)
 
 -- the slab in which a step leads by this link
-abbrev pub led_at : Slab Node → Step → ℕ → Slab Node
-led_at s step link = led_by s (key_of step.link) step.side link (get s (key_of step.link))
+abbrev pub with_step_link : Slab Node → Step → ℕ → Slab Node
+with_step_link s step link = with_node_link s (key_of step.link) step.side link (get s (key_of step.link))
 
 -- what stands for a step that is not there
 abbrev pub no_step : Step
@@ -28,11 +28,11 @@ abbrev pub step_at : List Step → ℕ → Step
 step_at steps i = slice_index_or steps i no_step
 
 -- the last of so many steps leads to a node
-abbrev pub LeadsOn : List Step → ℕ → Type 0
-LeadsOn steps zero = Unit {0}
-LeadsOn steps (suc depth) = 0 < (step_at steps depth).link
+abbrev pub LastLeadsOn : List Step → ℕ → Type 0
+LastLeadsOn steps zero = Unit {0}
+LastLeadsOn steps (suc depth) = 0 < (step_at steps depth).link
 
 -- the slab in which the last of so many steps leads by this link
-abbrev pub led : Slab Node → List Step → ℕ → ℕ → Slab Node
-led s steps zero link = s
-led s steps (suc depth) link = led_at s (step_at steps depth) link
+abbrev pub with_last_link : Slab Node → List Step → ℕ → ℕ → Slab Node
+with_last_link s steps zero link = s
+with_last_link s steps (suc depth) link = with_step_link s (step_at steps depth) link

@@ -6,23 +6,23 @@ use Rattle.std.proofs.Common.{◌∙◌, ap}
 use Rattle.order_laws.specs.declared.items.Item.{Item}
 use Rattle.order_laws.specs.Items.{item_code}
 use Rattle.rb_trees.specs.declared.Record.{Record}
-use Rattle.rb_trees.specs.Trees.{Branches, tip, branch}
+use Rattle.rb_trees.specs.Trees.{ColouredTree, tip, branch}
 use Rattle.rb_trees.specs.Paths.{Above}
 use Rattle.rb_trees.specs.declared.Side.{Side}
 use Rattle.rb_trees.specs.declared.Side.TheVariants.{Left, Right}
 
 -- the tree in hand, the nodes above it with the nearest first, and how many nodes more fit
 pub record Zipper : Type 0 where
-  pub tree : Branches
+  pub tree : ColouredTree
   pub path : List Above
   pub room : ℕ
 
 -- another tree in hand
-abbrev pub holding : Branches → Zipper → Zipper
+abbrev pub holding : ColouredTree → Zipper → Zipper
 holding t z = record z { tree = t }
 
 -- what a function makes of the tree in hand
-abbrev pub altered : (Branches → Branches) → Zipper → Zipper
+abbrev pub altered : (ColouredTree → ColouredTree) → Zipper → Zipper
 altered f z = record z { tree = f z.tree }
 
 abbrev pub is_left : Side → Bool
@@ -46,59 +46,59 @@ record_code =
     (λ p. record { node = p.0; item = p.1 }) (λ _. refl)
 
 -- both trees of a node before the node, and nothing for no tree
-abbrev pub written : Branches → List (Option (Bool × Record))
-written tip = None ∷ []
-written (branch red l x r) = written l ++ (written r ++ Some (red, x) ∷ [])
+abbrev pub tree_written : ColouredTree → List (Option (Bool × Record))
+tree_written tip = None ∷ []
+tree_written (branch red l x r) = tree_written l ++ (tree_written r ++ Some (red, x) ∷ [])
 
 -- the trees that are built so far, the last first
-abbrev pub built_on : List Branches → Option (Bool × Record) → List Branches
-built_on trees None = tip ∷ trees
-built_on [] (Some i) = []
-built_on (r ∷ []) (Some i) = []
-built_on (r ∷ l ∷ trees) (Some i) = branch i.0 l i.1 r ∷ trees
+abbrev pub trees_built_on : List ColouredTree → Option (Bool × Record) → List ColouredTree
+trees_built_on trees None = tip ∷ trees
+trees_built_on [] (Some i) = []
+trees_built_on (r ∷ []) (Some i) = []
+trees_built_on (r ∷ l ∷ trees) (Some i) = branch i.0 l i.1 r ∷ trees
 
-abbrev pub built_all : List Branches → List (Option (Bool × Record)) → List Branches
-built_all trees [] = trees
-built_all trees (x ∷ xs) = built_all (built_on trees x) xs
+abbrev pub trees_built : List ColouredTree → List (Option (Bool × Record)) → List ColouredTree
+trees_built trees [] = trees
+trees_built trees (x ∷ xs) = trees_built (trees_built_on trees x) xs
 
-abbrev pub first_tree : List Branches → Branches
-first_tree [] = tip
-first_tree (t ∷ trees) = t
+abbrev pub first_of_trees : List ColouredTree → ColouredTree
+first_of_trees [] = tip
+first_of_trees (t ∷ trees) = t
 
-abbrev pub rebuilt : List (Option (Bool × Record)) → Branches
-rebuilt xs = first_tree (built_all [] xs)
+abbrev pub tree_rebuilt : List (Option (Bool × Record)) → ColouredTree
+tree_rebuilt xs = first_of_trees (trees_built [] xs)
 
-built-append : (trees : List Branches) (xs ys : List (Option (Bool × Record))) →
-    built_all trees (xs ++ ys) ≡ built_all (built_all trees xs) ys
+built-append : (trees : List ColouredTree) (xs ys : List (Option (Bool × Record))) →
+    trees_built trees (xs ++ ys) ≡ trees_built (trees_built trees xs) ys
 built-append trees [] ys = refl
-built-append trees (x ∷ xs) ys = built-append (built_on trees x) xs ys
+built-append trees (x ∷ xs) ys = built-append (trees_built_on trees x) xs ys
 
-built-written : (trees : List Branches) (t : Branches) → built_all trees (written t) ≡ t ∷ trees
+built-written : (trees : List ColouredTree) (t : ColouredTree) → trees_built trees (tree_written t) ≡ t ∷ trees
 built-written trees tip = refl
 built-written trees (branch red l x r) =
-    built-append trees (written l) (written r ++ Some (red, x) ∷ [])
-    ∙ ap (λ ts. built_all ts (written r ++ Some (red, x) ∷ [])) (built-written trees l)
-    ∙ built-append (l ∷ trees) (written r) (Some (red, x) ∷ [])
-    ∙ ap (λ ts. built_all ts (Some (red, x) ∷ [])) (built-written (l ∷ trees) r)
+    built-append trees (tree_written l) (tree_written r ++ Some (red, x) ∷ [])
+    ∙ ap (λ ts. trees_built ts (tree_written r ++ Some (red, x) ∷ [])) (built-written trees l)
+    ∙ built-append (l ∷ trees) (tree_written r) (Some (red, x) ∷ [])
+    ∙ ap (λ ts. trees_built ts (Some (red, x) ∷ [])) (built-written (l ∷ trees) r)
 
-pub rebuilt-written : (t : Branches) → rebuilt (written t) ≡ t
-rebuilt-written t = ap first_tree (built-written [] t)
+pub rebuilt-written : (t : ColouredTree) → tree_rebuilt (tree_written t) ≡ t
+rebuilt-written t = ap first_of_trees (built-written [] t)
 
-abbrev pub branches_code : Coded Branches
+abbrev pub branches_code : Coded ColouredTree
 branches_code =
     code_by (List (Option (Bool × Record)))
-    (coded_list (coded_option (coded× coded_bool record_code))) written rebuilt rebuilt-written
+    (coded_list (coded_option (coded× coded_bool record_code))) tree_written tree_rebuilt rebuilt-written
 
 abbrev pub above_code : Coded Above
 above_code =
-    code_by (Side × (Bool × (Record × Branches)))
+    code_by (Side × (Bool × (Record × ColouredTree)))
     (coded× side_code (coded× coded_bool (coded× record_code branches_code)))
     (λ a. (a.side, (a.red, (a.row, a.other))))
     (λ p. record { side = p.0; red = p.1.0; row = p.1.1.0; other = p.1.1.1 }) (λ _. refl)
 
 abbrev pub zipper_code : Coded Zipper
 zipper_code =
-    code_by (Branches × (List Above × ℕ))
+    code_by (ColouredTree × (List Above × ℕ))
     (coded× branches_code (coded× (coded_list above_code) coded_ℕ))
     (λ z. (z.tree, (z.path, z.room))) (λ p. record { tree = p.0; path = p.1.0; room = p.1.1 })
     (λ _. refl)

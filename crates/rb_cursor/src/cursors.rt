@@ -22,11 +22,11 @@ ghost use Rattle.rb_trees.specs.Inserted.{clash};
 ghost use Rattle.rb_trees.specs.Turns.{link, turned_right, turned_left};
 ghost use Rattle.rb_cursor.specs.Sides.{turned};
 ghost use Rattle.rb_cursor.specs.Opening.{Opened, HasNearest};
-ghost use Rattle.rb_cursor.specs.Closing.{closed, closed_to, all_closed};
+ghost use Rattle.rb_cursor.specs.Closing.{closed_zipper, closed_to, all_closed};
 ghost use Rattle.rb_cursor.specs.Tops.{HasTop, row_of, with_row, reddened};
-ghost use Rattle.rb_cursor.specs.Tops.{planted, IsThin, thinned};
+ghost use Rattle.rb_cursor.specs.Tops.{planted, HasOneSubtree, top_taken};
 ghost use Rattle.rb_cursor.specs.Zippers.{altered};
-ghost use Rattle.rb_cursor.specs.Writes.{led, LeadsOn};
+ghost use Rattle.rb_cursor.specs.Writes.{with_last_link, LastLeadsOn};
 
 use crate::nodes::{Nearest, Node, Step, Top, opposite};
 use crate::readings::Reading;
@@ -175,7 +175,7 @@ impl Cursor {
     /// Goes up to the nearest node above, which gets this colour.
     #[inline(always)]
     pub fn close(&mut self, red: bool)
-        ensures { self.new ≡ closed red self.old.tree self.old.path self.old.room }
+        ensures { self.new ≡ closed_zipper red self.old.tree self.old.path self.old.room }
     {
         if self.depth == 0 {
             return;
@@ -345,8 +345,8 @@ impl Cursor {
 
     /// Takes the node in hand out, which has one subtree at most: that subtree is in hand then.
     pub fn take_top(&mut self)
-        requires { IsThin self.old.tree }
-        ensures { self.new ≡ thinned self.old }
+        requires { HasOneSubtree self.old.tree }
+        ensures { self.new ≡ top_taken self.old }
     {
         let link = self.tree;
         let node = &mut self.nodes[link as usize - 1];
@@ -429,8 +429,8 @@ fn only_link(left: u32, right: u32) -> u32
 #[inline(always)]
 fn lead(nodes: &mut Slab<Node>, steps: &[Step; 64], depth: usize, link: u32)
     requires few { depth ≤ 64 }
-    requires leads { LeadsOn steps.now depth }
-    ensures { nodes.new ≡ led nodes.old steps.now depth link }
+    requires leads { LastLeadsOn steps.now depth }
+    ensures { nodes.new ≡ with_last_link nodes.old steps.now depth link }
 {
     if depth == 0 {
         return;

@@ -24,8 +24,8 @@ ghost use Rattle.std.specs.Prelude.{length, vec_capacity};
 ghost use Rattle.rb_trees.specs.Trees.{shape, depth};
 ghost use Rattle.rb_trees.specs.Paths.{first_place, path_to};
 ghost use Rattle.rb_trees.specs.Erased.{without_first, first_links};
-ghost use Rattle.rb_trees.specs.Erased.{erased, erase_links, found};
-ghost use Rattle.rb_trees.specs.EraseClimb.{top_erased, top_erase};
+ghost use Rattle.rb_trees.specs.Erased.{erased_from, erase_links, found};
+ghost use Rattle.rb_trees.specs.EraseClimb.{top_erased, top_erase_links};
 ghost use Rattle.rb_cursor.specs.Rising.{at_root, left_with, erase_rest, erase_stores};
 ghost use Rattle.rb_cursor.specs.Stores.{Fits, Adds};
 ghost use Rattle.rb_cursor.specs.Tops.{is_fork, row_of};
@@ -39,7 +39,7 @@ use rb_trees::{Record, Side};
 use word_arena::places::{left_of, right_of};
 use word_arena::{Store, TreeCopy};
 
-/// Takes the record that is sought out, if it is there. Answers it; with none, nothing changes.
+/// Takes the record that is sought out, if it is there. Returns it; with none, nothing changes.
 #[inline]
 pub fn erase<P: Probe>(
     out: &mut Vec<Store>,
@@ -55,7 +55,7 @@ pub fn erase<P: Probe>(
     ensures unchanged { result ≡ None →
         (cursor.new ≡ cursor.old) × (out.new.items ≡ out.old.items) }
     ensures cursor { IsSome result → cursor.new
-        ≡ at_root (erased (P.seen sought.now) cursor.old.tree).tree (cursor.old.room + 1) }
+        ≡ at_root (erased_from (P.seen sought.now) cursor.old.tree).tree (cursor.old.room + 1) }
     ensures items { IsSome result →
         Adds out.old (erase_links (copy_number copy) (P.seen sought.now) cursor.old.tree) out.new }
     ensures capacity { vec_capacity out.new ≡ vec_capacity out.old }
@@ -70,15 +70,15 @@ pub fn erase<P: Probe>(
     Some(row)
 }
 
-// Takes the node in hand out: the next node in order takes its place. Answers whether what stands
+// Takes the node in hand out: the next node in order takes its place. Returns whether what stands
 // there is short.
 fn take_node(out: &mut Vec<Store>, copy: TreeCopy, cursor: &mut Cursor) -> bool
     requires fork { is_fork cursor.old.tree ≡ true }
     requires steps { depth (shape cursor.old.tree) + length cursor.old.path ≤ 64 }
-    requires list { Fits out.old (top_erase (copy_number copy) cursor.old.tree) }
+    requires list { Fits out.old (top_erase_links (copy_number copy) cursor.old.tree) }
     ensures short { result ≡ (top_erased cursor.old.tree).short }
     ensures cursor { cursor.new ≡ left_with (top_erased cursor.old.tree) cursor.old }
-    ensures items { Adds out.old (top_erase (copy_number copy) cursor.old.tree) out.new }
+    ensures items { Adds out.old (top_erase_links (copy_number copy) cursor.old.tree) out.new }
     ensures capacity { vec_capacity out.new ≡ vec_capacity out.old }
 {
     let Some(fork) = cursor.tree().open() else {
@@ -139,7 +139,7 @@ fn take_first(out: &mut Vec<Store>, copy: TreeCopy, cursor: &mut Cursor) -> Take
 }
 
 // Goes up until `depth` nodes are above, from a subtree that may be short and to which the link was
-// `before`. Answers whether what is in hand then is short.
+// `before`. Returns whether what is in hand then is short.
 #[inline(always)]
 fn climb(
     out: &mut Vec<Store>,

@@ -15,10 +15,10 @@
 //! (A star marks a red node.) The right side is the mirror image.
 
 ghost use Rattle.std.specs.Prelude.{◌≡◌, ◌+◌, ◌<◌, length, vec_capacity};
-ghost use Rattle.rb_trees.specs.Erased.{lowered, filled_left, left_fill, filled_right, right_fill};
-ghost use Rattle.rb_trees.specs.Erased.{filled_left_of_black, left_fill_of_black};
-ghost use Rattle.rb_trees.specs.Erased.{filled_right_of_black, right_fill_of_black};
-ghost use Rattle.rb_trees.specs.Erased.{left_if, left_fill_if, right_if, right_fill_if};
+ghost use Rattle.rb_trees.specs.Erased.{lowered, filled_left, left_fill_links, filled_right, right_fill_links};
+ghost use Rattle.rb_trees.specs.Erased.{filled_left_of_black, left_fill_links_of_black};
+ghost use Rattle.rb_trees.specs.Erased.{filled_right_of_black, right_fill_links_of_black};
+ghost use Rattle.rb_trees.specs.Erased.{filled_left_if_short, left_fill_links_if_short, filled_right_if_short, right_fill_links_if_short};
 ghost use Rattle.rb_cursor.specs.Zippers.{holding};
 ghost use Rattle.rb_cursor.specs.Stores.{Fits, Adds};
 ghost use Rattle.word_arena.specs.Copies.{copy_number};
@@ -29,7 +29,7 @@ use crate::turns::{turn_left, turn_right};
 use rb_trees::Side;
 use word_arena::{Store, TreeCopy};
 
-/// What stands in the place of a node of this colour that had the tree in hand alone. Answers
+/// What stands in the place of a node of this colour that had the tree in hand alone. Returns
 /// whether that is one black node short.
 pub fn lower(cursor: &mut Cursor, red: bool) -> bool
     ensures short { result ≡ (lowered red cursor.old.tree).short }
@@ -46,13 +46,13 @@ pub fn lower(cursor: &mut Cursor, red: bool) -> bool
 }
 
 // Mends the node in hand, whose left subtree is one black node short, where its right child is
-// black. Answers whether the whole is one black node short then.
+// black. Returns whether the whole is one black node short then.
 fn fill_left_of_black(out: &mut Vec<Store>, copy: TreeCopy, cursor: &mut Cursor) -> bool
     requires steps { length cursor.old.path < 64 }
-    requires list { Fits out.old (left_fill_of_black (copy_number copy) cursor.old.tree) }
+    requires list { Fits out.old (left_fill_links_of_black (copy_number copy) cursor.old.tree) }
     ensures short { result ≡ (filled_left_of_black cursor.old.tree).short }
     ensures cursor { cursor.new ≡ holding (filled_left_of_black cursor.old.tree).tree cursor.old }
-    ensures items { Adds out.old (left_fill_of_black (copy_number copy) cursor.old.tree) out.new }
+    ensures items { Adds out.old (left_fill_links_of_black (copy_number copy) cursor.old.tree) out.new }
     ensures capacity { vec_capacity out.new ≡ vec_capacity out.old }
 {
     let Some(fork) = cursor.tree().open() else {
@@ -86,14 +86,14 @@ fn fill_left_of_black(out: &mut Vec<Store>, copy: TreeCopy, cursor: &mut Cursor)
     !red
 }
 
-// Mends the node in hand, whose left subtree is one black node short. Answers whether the whole is
+// Mends the node in hand, whose left subtree is one black node short. Returns whether the whole is
 // one black node short then.
 fn fill_left(out: &mut Vec<Store>, copy: TreeCopy, cursor: &mut Cursor) -> bool
     requires steps { length cursor.old.path + 1 < 64 }
-    requires list { Fits out.old (left_fill (copy_number copy) cursor.old.tree) }
+    requires list { Fits out.old (left_fill_links (copy_number copy) cursor.old.tree) }
     ensures short { result ≡ (filled_left cursor.old.tree).short }
     ensures cursor { cursor.new ≡ holding (filled_left cursor.old.tree).tree cursor.old }
-    ensures items { Adds out.old (left_fill (copy_number copy) cursor.old.tree) out.new }
+    ensures items { Adds out.old (left_fill_links (copy_number copy) cursor.old.tree) out.new }
     ensures capacity { vec_capacity out.new ≡ vec_capacity out.old }
 {
     let Some(fork) = cursor.tree().open() else {
@@ -113,15 +113,15 @@ fn fill_left(out: &mut Vec<Store>, copy: TreeCopy, cursor: &mut Cursor) -> bool
     false
 }
 
-/// Mends the node in hand, whose left subtree may be one black node short. Answers whether the
+/// Mends the node in hand, whose left subtree may be one black node short. Returns whether the
 /// whole is one black node short then.
 #[inline]
 pub fn fill_left_if(out: &mut Vec<Store>, copy: TreeCopy, cursor: &mut Cursor, short: bool) -> bool
     requires steps { length cursor.old.path + 1 < 64 }
-    requires list { Fits out.old (left_fill_if (copy_number copy) short cursor.old.tree) }
-    ensures short { result ≡ (left_if short cursor.old.tree).short }
-    ensures cursor { cursor.new ≡ holding (left_if short cursor.old.tree).tree cursor.old }
-    ensures items { Adds out.old (left_fill_if (copy_number copy) short cursor.old.tree) out.new }
+    requires list { Fits out.old (left_fill_links_if_short (copy_number copy) short cursor.old.tree) }
+    ensures short { result ≡ (filled_left_if_short short cursor.old.tree).short }
+    ensures cursor { cursor.new ≡ holding (filled_left_if_short short cursor.old.tree).tree cursor.old }
+    ensures items { Adds out.old (left_fill_links_if_short (copy_number copy) short cursor.old.tree) out.new }
     ensures capacity { vec_capacity out.new ≡ vec_capacity out.old }
 {
     if short {
@@ -131,13 +131,13 @@ pub fn fill_left_if(out: &mut Vec<Store>, copy: TreeCopy, cursor: &mut Cursor, s
 }
 
 // Mends the node in hand, whose right subtree is one black node short, where its left child is
-// black. Answers whether the whole is one black node short then.
+// black. Returns whether the whole is one black node short then.
 fn fill_right_of_black(out: &mut Vec<Store>, copy: TreeCopy, cursor: &mut Cursor) -> bool
     requires steps { length cursor.old.path < 64 }
-    requires list { Fits out.old (right_fill_of_black (copy_number copy) cursor.old.tree) }
+    requires list { Fits out.old (right_fill_links_of_black (copy_number copy) cursor.old.tree) }
     ensures short { result ≡ (filled_right_of_black cursor.old.tree).short }
     ensures cursor { cursor.new ≡ holding (filled_right_of_black cursor.old.tree).tree cursor.old }
-    ensures items { Adds out.old (right_fill_of_black (copy_number copy) cursor.old.tree) out.new }
+    ensures items { Adds out.old (right_fill_links_of_black (copy_number copy) cursor.old.tree) out.new }
     ensures capacity { vec_capacity out.new ≡ vec_capacity out.old }
 {
     let Some(fork) = cursor.tree().open() else {
@@ -171,14 +171,14 @@ fn fill_right_of_black(out: &mut Vec<Store>, copy: TreeCopy, cursor: &mut Cursor
     !red
 }
 
-// Mends the node in hand, whose right subtree is one black node short. Answers whether the whole is
+// Mends the node in hand, whose right subtree is one black node short. Returns whether the whole is
 // one black node short then.
 fn fill_right(out: &mut Vec<Store>, copy: TreeCopy, cursor: &mut Cursor) -> bool
     requires steps { length cursor.old.path + 1 < 64 }
-    requires list { Fits out.old (right_fill (copy_number copy) cursor.old.tree) }
+    requires list { Fits out.old (right_fill_links (copy_number copy) cursor.old.tree) }
     ensures short { result ≡ (filled_right cursor.old.tree).short }
     ensures cursor { cursor.new ≡ holding (filled_right cursor.old.tree).tree cursor.old }
-    ensures items { Adds out.old (right_fill (copy_number copy) cursor.old.tree) out.new }
+    ensures items { Adds out.old (right_fill_links (copy_number copy) cursor.old.tree) out.new }
     ensures capacity { vec_capacity out.new ≡ vec_capacity out.old }
 {
     let Some(fork) = cursor.tree().open() else {
@@ -198,15 +198,15 @@ fn fill_right(out: &mut Vec<Store>, copy: TreeCopy, cursor: &mut Cursor) -> bool
     false
 }
 
-/// Mends the node in hand, whose right subtree may be one black node short. Answers whether the
+/// Mends the node in hand, whose right subtree may be one black node short. Returns whether the
 /// whole is one black node short then.
 #[inline]
 pub fn fill_right_if(out: &mut Vec<Store>, copy: TreeCopy, cursor: &mut Cursor, short: bool) -> bool
     requires steps { length cursor.old.path + 1 < 64 }
-    requires list { Fits out.old (right_fill_if (copy_number copy) short cursor.old.tree) }
-    ensures short { result ≡ (right_if short cursor.old.tree).short }
-    ensures cursor { cursor.new ≡ holding (right_if short cursor.old.tree).tree cursor.old }
-    ensures items { Adds out.old (right_fill_if (copy_number copy) short cursor.old.tree) out.new }
+    requires list { Fits out.old (right_fill_links_if_short (copy_number copy) short cursor.old.tree) }
+    ensures short { result ≡ (filled_right_if_short short cursor.old.tree).short }
+    ensures cursor { cursor.new ≡ holding (filled_right_if_short short cursor.old.tree).tree cursor.old }
+    ensures items { Adds out.old (right_fill_links_if_short (copy_number copy) short cursor.old.tree) out.new }
     ensures capacity { vec_capacity out.new ≡ vec_capacity out.old }
 {
     if short {

@@ -18,10 +18,10 @@
 //! there. Were 50 red, its parent would mend 50 and 20.
 
 ghost use Rattle.std.specs.Prelude.{◌≡◌, ◌+◌, ◌-◌, ◌<◌, ◌≤◌, [], true, false, length, vec_capacity};
-ghost use Rattle.rb_trees.specs.Trees.{tip, branch, IsCalm, shape, depth};
-ghost use Rattle.rb_trees.specs.Found.{met};
-ghost use Rattle.rb_trees.specs.Inserted.{inserted, insert_links};
-ghost use Rattle.rb_trees.specs.InsertClimb.{IsCalmPath, insert_climb};
+ghost use Rattle.rb_trees.specs.Trees.{tip, branch, HasNoClash, shape, depth};
+ghost use Rattle.rb_trees.specs.Found.{meets_on_the_way};
+ghost use Rattle.rb_trees.specs.Inserted.{inserted_into, insert_links};
+ghost use Rattle.rb_trees.specs.InsertClimb.{HasNoClashAbove, insert_climb_links};
 ghost use Rattle.rb_cursor.specs.Rising.{at_root, insert_topped, grown, grown_links};
 ghost use Rattle.rb_cursor.specs.Stores.{Fits, Adds};
 ghost use Rattle.word_arena.specs.Copies.{copy_number};
@@ -33,7 +33,7 @@ use rb_trees::Record;
 use word_arena::places::{left_of, right_of};
 use word_arena::{Store, TreeCopy};
 
-/// Puts a record behind those that are not greater, in a tree that is in order. The top may be red
+/// Puts a record after those that are not greater, in a tree that is in order. The top may be red
 /// with a red child then.
 pub fn insert<O: TreeOrder>(
     out: &mut Vec<Store>,
@@ -42,13 +42,13 @@ pub fn insert<O: TreeOrder>(
     added: Record,
 )
     requires whole { cursor.old.path ≡ [] }
-    requires calm { IsCalm cursor.old.tree }
+    requires calm { HasNoClash cursor.old.tree }
     requires steps { depth (shape cursor.old.tree) ≤ 64 }
     requires room { 0 < cursor.old.room }
     requires list { Fits out.old
         (insert_links (copy_number copy) O.order.less added cursor.old.tree) }
     ensures cursor { cursor.new
-        ≡ at_root (inserted O.order.less added cursor.old.tree) (cursor.old.room - 1) }
+        ≡ at_root (inserted_into O.order.less added cursor.old.tree) (cursor.old.room - 1) }
     ensures items { Adds out.old
         (insert_links (copy_number copy) O.order.less added cursor.old.tree) out.new }
     ensures capacity { vec_capacity out.new ≡ vec_capacity out.old }
@@ -57,7 +57,7 @@ pub fn insert<O: TreeOrder>(
     grow(out, copy, cursor, added);
 }
 
-/// As [`insert`] puts it, unless its item meets one of the tree: then nothing changes. Answers
+/// As [`insert`] puts it, unless its item meets one of the tree: then nothing changes. Returns
 /// whether it does. In the tree no item beyond one that is apart from the item can meet it.
 #[inline(always)]
 pub fn insert_apart<O: TreeOrder>(
@@ -67,16 +67,16 @@ pub fn insert_apart<O: TreeOrder>(
     added: Record,
 ) -> bool
     requires whole { cursor.old.path ≡ [] }
-    requires calm { IsCalm cursor.old.tree }
+    requires calm { HasNoClash cursor.old.tree }
     requires steps { depth (shape cursor.old.tree) ≤ 64 }
     requires room { 0 < cursor.old.room }
     requires list { Fits out.old
         (insert_links (copy_number copy) O.order.less added cursor.old.tree) }
-    ensures met { result ≡ met O.order added.item [] cursor.old.tree }
+    ensures met { result ≡ meets_on_the_way O.order added.item [] cursor.old.tree }
     ensures unchanged { result ≡ true →
         (cursor.new ≡ cursor.old) × (out.new.items ≡ out.old.items) }
     ensures cursor { result ≡ false →
-        cursor.new ≡ at_root (inserted O.order.less added cursor.old.tree) (cursor.old.room - 1) }
+        cursor.new ≡ at_root (inserted_into O.order.less added cursor.old.tree) (cursor.old.room - 1) }
     ensures items { result ≡ false →
         Adds out.old (insert_links (copy_number copy) O.order.less added cursor.old.tree) out.new }
     ensures capacity { vec_capacity out.new ≡ vec_capacity out.old }
@@ -93,7 +93,7 @@ pub fn insert_apart<O: TreeOrder>(
 #[inline(always)]
 fn grow(out: &mut Vec<Store>, copy: TreeCopy, cursor: &mut Cursor, added: Record)
     requires leaf { cursor.old.tree ≡ tip }
-    requires calm { IsCalmPath cursor.old.path }
+    requires calm { HasNoClashAbove cursor.old.path }
     requires steps { length cursor.old.path ≤ 64 }
     requires room { 0 < cursor.old.room }
     requires list { Fits out.old (grown_links (copy_number copy) added cursor.old.path) }
@@ -117,13 +117,13 @@ fn grow(out: &mut Vec<Store>, copy: TreeCopy, cursor: &mut Cursor, added: Record
 #[inline(always)]
 fn climb(out: &mut Vec<Store>, copy: TreeCopy, cursor: &mut Cursor, added: &Record)
     requires leaf { cursor.old.tree ≡ branch true tip added.now tip }
-    requires calm { IsCalmPath cursor.old.path }
+    requires calm { HasNoClashAbove cursor.old.path }
     requires steps { length cursor.old.path ≤ 64 }
     requires list { Fits out.old
-        (insert_climb (copy_number copy) cursor.old.path 0 cursor.old.tree) }
+        (insert_climb_links (copy_number copy) cursor.old.path 0 cursor.old.tree) }
     ensures cursor { cursor.new ≡ insert_topped cursor.old }
     ensures items { Adds out.old
-        (insert_climb (copy_number copy) cursor.old.path 0 cursor.old.tree) out.new }
+        (insert_climb_links (copy_number copy) cursor.old.path 0 cursor.old.tree) out.new }
     ensures capacity { vec_capacity out.new ≡ vec_capacity out.old }
 {
     // of the tree in hand: the links to it, whether it is red, and whether a child of it may be,

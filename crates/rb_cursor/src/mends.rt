@@ -14,8 +14,8 @@
 //! (A star marks a red node.) The right side is the mirror image.
 
 ghost use Rattle.std.specs.Prelude.{◌≡◌, ◌<◌, length, vec_capacity};
-ghost use Rattle.rb_trees.specs.Inserted.{mended_left, left_mend, mended_right, right_mend};
-ghost use Rattle.rb_cursor.specs.Tops.{paled};
+ghost use Rattle.rb_trees.specs.Inserted.{mended_left, left_mend_links, mended_right, right_mend_links};
+ghost use Rattle.rb_cursor.specs.Tops.{red_over_black};
 ghost use Rattle.rb_cursor.specs.Zippers.{altered};
 ghost use Rattle.rb_cursor.specs.Stores.{Fits, Adds};
 ghost use Rattle.word_arena.specs.Copies.{copy_number};
@@ -30,7 +30,7 @@ use word_arena::{Store, TreeCopy};
 #[inline]
 fn recolour(cursor: &mut Cursor)
     requires { length cursor.old.path < 64 }
-    ensures { cursor.new ≡ altered paled cursor.old }
+    ensures { cursor.new ≡ altered red_over_black cursor.old }
 {
     let Some(_) = cursor.open(Side::Left) else {
         return;
@@ -48,9 +48,9 @@ fn recolour(cursor: &mut Cursor)
 #[inline]
 pub fn mend_left(out: &mut Vec<Store>, copy: TreeCopy, cursor: &mut Cursor)
     requires steps { length cursor.old.path < 64 }
-    requires list { Fits out.old (left_mend (copy_number copy) cursor.old.tree) }
+    requires list { Fits out.old (left_mend_links (copy_number copy) cursor.old.tree) }
     ensures cursor { cursor.new ≡ altered mended_left cursor.old }
-    ensures items { Adds out.old (left_mend (copy_number copy) cursor.old.tree) out.new }
+    ensures items { Adds out.old (left_mend_links (copy_number copy) cursor.old.tree) out.new }
     ensures capacity { vec_capacity out.new ≡ vec_capacity out.old }
 {
     let Some(fork) = cursor.tree().open() else {
@@ -88,9 +88,9 @@ pub fn mend_left(out: &mut Vec<Store>, copy: TreeCopy, cursor: &mut Cursor)
 #[inline]
 pub fn mend_right(out: &mut Vec<Store>, copy: TreeCopy, cursor: &mut Cursor)
     requires steps { length cursor.old.path < 64 }
-    requires list { Fits out.old (right_mend (copy_number copy) cursor.old.tree) }
+    requires list { Fits out.old (right_mend_links (copy_number copy) cursor.old.tree) }
     ensures cursor { cursor.new ≡ altered mended_right cursor.old }
-    ensures items { Adds out.old (right_mend (copy_number copy) cursor.old.tree) out.new }
+    ensures items { Adds out.old (right_mend_links (copy_number copy) cursor.old.tree) out.new }
     ensures capacity { vec_capacity out.new ≡ vec_capacity out.old }
 {
     let Some(fork) = cursor.tree().open() else {

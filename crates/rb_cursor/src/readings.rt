@@ -18,10 +18,10 @@ pub struct Reading<'a> {
 }
 
 impl<'a> Model for Reading<'a> {
-    ghost use Rattle.rb_trees.specs.Trees.{Branches};
+    ghost use Rattle.rb_trees.specs.Trees.{ColouredTree};
     ghost use Rattle.rb_cursor.specs.Zippers.{branches_code};
 
-    ghost Value = { Branches };
+    ghost Value = { ColouredTree };
 
     ghost coded = { branches_code };
 

@@ -1,8 +1,8 @@
 //! A step up on whichever side: the step, the store of the link above, and what is mended there.
 
 ghost use Rattle.std.specs.Prelude.{◌≡◌, ◌+◌, ◌<◌, ◌≤◌, true, vec_capacity, length};
-ghost use Rattle.rb_trees.specs.InsertClimb.{relink_on, mended_on, mend_on};
-ghost use Rattle.rb_trees.specs.EraseClimb.{filled_on, fill_on};
+ghost use Rattle.rb_trees.specs.InsertClimb.{relink_on, mended_on, mend_links_on};
+ghost use Rattle.rb_trees.specs.EraseClimb.{filled_on, fill_links_on};
 ghost use Rattle.rb_cursor.specs.Zippers.{altered};
 ghost use Rattle.rb_cursor.specs.Rising.{risen, filled_at};
 ghost use Rattle.rb_cursor.specs.Stores.{Fits, Adds};
@@ -50,9 +50,9 @@ pub(crate) fn relink(
 #[inline(always)]
 pub(crate) fn mend(out: &mut Vec<Store>, copy: TreeCopy, cursor: &mut Cursor, side: Side)
     requires steps { length cursor.old.path < 64 }
-    requires list { Fits out.old (mend_on side (copy_number copy) cursor.old.tree) }
+    requires list { Fits out.old (mend_links_on side (copy_number copy) cursor.old.tree) }
     ensures cursor { cursor.new ≡ altered (mended_on side) cursor.old }
-    ensures items { Adds out.old (mend_on side (copy_number copy) cursor.old.tree) out.new }
+    ensures items { Adds out.old (mend_links_on side (copy_number copy) cursor.old.tree) out.new }
     ensures capacity { vec_capacity out.new ≡ vec_capacity out.old }
 {
     match side {
@@ -61,15 +61,15 @@ pub(crate) fn mend(out: &mut Vec<Store>, copy: TreeCopy, cursor: &mut Cursor, si
     }
 }
 
-/// Mends the node in hand, whose subtree on a side is one black node short. Answers whether the
+/// Mends the node in hand, whose subtree on a side is one black node short. Returns whether the
 /// whole is one black node short then.
 #[inline(always)]
 pub(crate) fn fill(out: &mut Vec<Store>, copy: TreeCopy, cursor: &mut Cursor, side: Side) -> bool
     requires steps { length cursor.old.path + 1 < 64 }
-    requires list { Fits out.old (fill_on side (copy_number copy) true cursor.old.tree) }
+    requires list { Fits out.old (fill_links_on side (copy_number copy) true cursor.old.tree) }
     ensures short { result ≡ (filled_on side true cursor.old.tree).short }
     ensures cursor { cursor.new ≡ altered (filled_at side true) cursor.old }
-    ensures items { Adds out.old (fill_on side (copy_number copy) true cursor.old.tree) out.new }
+    ensures items { Adds out.old (fill_links_on side (copy_number copy) true cursor.old.tree) out.new }
     ensures capacity { vec_capacity out.new ≡ vec_capacity out.old }
 {
     match side {

@@ -4,7 +4,7 @@ ghost use Rattle.std.specs.Prelude.{◌≡◌, ◌==◌, IsTrue, is_some};
 ghost use Rattle.std.specs.List.{list_any};
 ghost use Rattle.std.specs.List.Sorted.{IsNonDecreasing};
 ghost use Rattle.rb_trees.specs.Erased.{first_word_at, found};
-ghost use Rattle.rb_trees.specs.Found.{any_with, has_node, met_any, met};
+ghost use Rattle.rb_trees.specs.Found.{item_with_word, has_node, meets_anywhere, meets_on_the_way};
 
 use crate::readings::Reading;
 use order_laws::{Item, TreeOrder};
@@ -27,7 +27,7 @@ pub fn has(tree: &Reading<'_>, a: u64) -> bool
 
 /// An item of this first word; goes through all.
 pub fn find_any(tree: &Reading<'_>, a: u64) -> Option<Item>
-    ensures { result ≡ any_with a tree.now }
+    ensures { result ≡ item_with_word a tree.now }
 {
     match tree.open() {
         None => None,
@@ -60,7 +60,7 @@ fn is_left_out(a: u64, but: &[u64], rising: bool) -> bool
 /// the items that is met costs a search by halves among them.
 pub fn meets<O: TreeOrder>(tree: &Reading<'_>, item: &Item, but: &[u64], rising: bool) -> bool
     requires { IsTrue rising → IsNonDecreasing but.now }
-    ensures { result ≡ met O.order item.now but.now tree.now }
+    ensures { result ≡ meets_on_the_way O.order item.now but.now tree.now }
 {
     let mut rest = tree.again();
     while let Some(fork) = rest.open() {
@@ -94,7 +94,7 @@ pub fn reaches(tree: &Reading<'_>, number: u32) -> bool
 /// goes through all.
 pub fn meets_any<O: TreeOrder>(tree: &Reading<'_>, item: &Item, but: &[u64], rising: bool) -> bool
     requires { IsTrue rising → IsNonDecreasing but.now }
-    ensures { result ≡ met_any O.order item.now but.now tree.now }
+    ensures { result ≡ meets_anywhere O.order item.now but.now tree.now }
 {
     match tree.open() {
         None => false,

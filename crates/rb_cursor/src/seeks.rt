@@ -2,7 +2,7 @@
 
 ghost use Rattle.std.specs.Prelude.{◌≡◌, ◌+◌, ◌≤◌, [], false, length};
 ghost use Rattle.rb_trees.specs.Trees.{tip, shape, depth};
-ghost use Rattle.rb_trees.specs.Found.{met};
+ghost use Rattle.rb_trees.specs.Found.{meets_on_the_way};
 ghost use Rattle.rb_trees.specs.Paths.{plugged, way_by, place_at, way_at, first_place, first_way};
 
 use crate::cursors::{Cursor, set_step};
@@ -12,7 +12,7 @@ use order_laws::{Item, TreeOrder};
 use rb_trees::Side;
 
 impl Cursor {
-    /// Goes down to where an item belongs: behind those that are not greater, in a tree that is in
+    /// Goes down to where an item belongs: after those that are not greater, in a tree that is in
     /// order. No node is in hand then.
     #[inline]
     pub fn seek_leaf<O: TreeOrder>(&mut self, item: &Item)
@@ -36,11 +36,11 @@ impl Cursor {
     }
 
     /// Goes down to where an item belongs, unless it meets one on the way: then that one is in
-    /// hand. Answers whether it does, in a tree where no item beyond one that is apart can meet it.
+    /// hand. Returns whether it does, in a tree where no item beyond one that is apart can meet it.
     #[inline]
     pub fn seek_apart<O: TreeOrder>(&mut self, item: &Item) -> bool
         requires { depth (shape self.old.tree) + length self.old.path ≤ 64 }
-        ensures met { result ≡ met O.order item.now [] self.old.tree }
+        ensures met { result ≡ meets_on_the_way O.order item.now [] self.old.tree }
         ensures tree { result ≡ false → self.new.tree ≡ tip }
         ensures path { result ≡ false →
             self.new.path ≡ way_by O.order.less item.now self.old.tree self.old.path }

@@ -1,7 +1,7 @@
 //! Rotations, with their stores.
 
 ghost use Rattle.std.specs.Prelude.{◌≡◌, vec_capacity};
-ghost use Rattle.rb_trees.specs.Turns.{turned_right, right_turn, turned_left, left_turn};
+ghost use Rattle.rb_trees.specs.Turns.{turned_right, right_turn_links, turned_left, left_turn_links};
 ghost use Rattle.rb_cursor.specs.Zippers.{altered};
 ghost use Rattle.rb_cursor.specs.Stores.{Fits, Adds};
 ghost use Rattle.word_arena.specs.Copies.{copy_number};
@@ -20,9 +20,9 @@ pub fn turn_right(
     child_red: bool,
     node_red: bool,
 )
-    requires { Fits out.old (right_turn (copy_number copy) cursor.old.tree) }
+    requires { Fits out.old (right_turn_links (copy_number copy) cursor.old.tree) }
     ensures cursor { cursor.new ≡ altered (turned_right child_red node_red) cursor.old }
-    ensures items { Adds out.old (right_turn (copy_number copy) cursor.old.tree) out.new }
+    ensures items { Adds out.old (right_turn_links (copy_number copy) cursor.old.tree) out.new }
     ensures capacity { vec_capacity out.new ≡ vec_capacity out.old }
 {
     let Some(node) = cursor.tree().open() else {
@@ -52,9 +52,9 @@ pub fn turn_left(
     child_red: bool,
     node_red: bool,
 )
-    requires { Fits out.old (left_turn (copy_number copy) cursor.old.tree) }
+    requires { Fits out.old (left_turn_links (copy_number copy) cursor.old.tree) }
     ensures cursor { cursor.new ≡ altered (turned_left child_red node_red) cursor.old }
-    ensures items { Adds out.old (left_turn (copy_number copy) cursor.old.tree) out.new }
+    ensures items { Adds out.old (left_turn_links (copy_number copy) cursor.old.tree) out.new }
     ensures capacity { vec_capacity out.new ≡ vec_capacity out.old }
 {
     let Some(node) = cursor.tree().open() else {

@@ -12,10 +12,10 @@ use Rattle.word_arena.specs.Words.{Nodes, none, fork, at, root_word, left_word, 
 use Rattle.word_arena.specs.Stores.{words_after_all, IsLinkWord, AreLinkStores}
 use Rattle.word_arena.proofs.StoreLemmas.{at_stored, at_other, untouched, after_append, length_after}
 use Rattle.rb_trees.specs.declared.Record.{Record}
-use Rattle.rb_trees.specs.Trees.{Branches, tip, branch, shape, rows}
+use Rattle.rb_trees.specs.Trees.{ColouredTree, tip, branch, shape, rows}
 use Rattle.rb_trees.specs.Turns.{link, relink_root}
 use Rattle.rb_trees.specs.Linked.{Inner, Among}
-use Rattle.rb_trees.specs.Found.{items_of}
+use Rattle.rb_trees.specs.Found.{items_of_records}
 use Rattle.rb_trees.proofs.RelinkLemmas.{IsLinkOf, Owns, Relinks, link_fits}
 
 pub leads_link : (m : List ℕ) (n c w : ℕ) (t : Nodes) → Leads m n c w t → w ≡ link t
@@ -83,7 +83,7 @@ module _ (n c : ℕ) (small : c ≤ 1) (P : ℕ → Type 0) (below : (i : ℕ) �
       ] refl)
 
 -- nodes as a list
-pub listed_rows : (t : Branches) → listed (shape t) ≡ map (λ r. r.node) (rows t)
+pub listed_rows : (t : ColouredTree) → listed (shape t) ≡ map (λ r. r.node) (rows t)
 listed_rows tip = refl
 listed_rows (branch red l y r) = ap (λ xs. xs ++ y.node ∷ listed (shape r)) (listed_rows l) ∙ ap (λ xs. map (λ r. r.node) (rows l) ++ y.node ∷ xs) (listed_rows r) ∙ sym (map-append (λ r. r.node) (rows l) (y ∷ rows r))
 
@@ -100,26 +100,26 @@ among_listed (fork l j r) i a =
     (⊎_elim (λ b. Contains-append_left (listed l) (j ∷ listed r) i (among_listed l i b)) (λ b. Contains-append_right (listed l) (j ∷ listed r) i (Contains-rest j i (listed r) (among_listed r i b)))) a
 
 -- items as a list
-pub items_rows : (m : List ℕ) (t : Branches) → items m (shape t) ≡ map (λ r. item_at m r.node) (rows t)
+pub items_rows : (m : List ℕ) (t : ColouredTree) → items m (shape t) ≡ map (λ r. item_at m r.node) (rows t)
 items_rows m tip = refl
 items_rows m (branch red l y r) = ap (λ xs. xs ++ item_at m y.node ∷ items m (shape r)) (items_rows m l) ∙ ap (λ xs. map (λ r. item_at m r.node) (rows l) ++ item_at m y.node ∷ xs) (items_rows m r) ∙ sym (map-append (λ r. item_at m r.node) (rows l) (y ∷ rows r))
 
 abbrev pub Stored : List ℕ → List Record → Type 0
 Stored m rs = AllByRecursion (λ r. item_at m r.node ≡ r.item) rs
 
-stored_list : (m : List ℕ) (rs : List Record) → Stored m rs → map (λ r. item_at m r.node) rs ≡ items_of rs
+stored_list : (m : List ℕ) (rs : List Record) → Stored m rs → map (λ r. item_at m r.node) rs ≡ items_of_records rs
 stored_list m [] h = refl
 stored_list m (r ∷ rs) h = ap (λ i. i ∷ map (λ r. item_at m r.node) rs) h.0 ∙ ap (λ xs. r.item ∷ xs) (stored_list m rs h.1)
 
-list_stored : (m : List ℕ) (rs : List Record) → map (λ r. item_at m r.node) rs ≡ items_of rs → Stored m rs
+list_stored : (m : List ℕ) (rs : List Record) → map (λ r. item_at m r.node) rs ≡ items_of_records rs → Stored m rs
 list_stored m [] e = tt
 list_stored m (r ∷ rs) e =
     let first : item_at m r.node ≡ r.item = cc in
-    let rest : map (λ r. item_at m r.node) rs ≡ items_of rs = cc in
+    let rest : map (λ r. item_at m r.node) rs ≡ items_of_records rs = cc in
     (first, list_stored m rs rest)
 
-pub stored_items : (m : List ℕ) (t : Branches) → Stored m (rows t) → items m (shape t) ≡ items_of (rows t)
+pub stored_items : (m : List ℕ) (t : ColouredTree) → Stored m (rows t) → items m (shape t) ≡ items_of_records (rows t)
 stored_items m t h = items_rows m t ∙ stored_list m (rows t) h
 
-pub items_stored : (m : List ℕ) (t : Branches) → items m (shape t) ≡ items_of (rows t) → Stored m (rows t)
+pub items_stored : (m : List ℕ) (t : ColouredTree) → items m (shape t) ≡ items_of_records (rows t) → Stored m (rows t)
 items_stored m t e = list_stored m (rows t) (sym (items_rows m t) ∙ e)

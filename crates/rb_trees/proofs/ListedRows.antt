@@ -6,16 +6,16 @@ use Rattle.std.proofs.lemmas.List.{length-map}
 use Rattle.std.proofs.lemmas.List.Elements.{Contains-append_cases, Contains-append_left, Contains-append_right}
 use Rattle.order_laws.proofs.Members.{Contains-cons_cases, Contains-rest}
 use Rattle.rb_trees.proofs.LeadsLemmas.{listed_rows}
-use Rattle.rb_trees.specs.Found.{has_node, items_of}
-use Rattle.rb_trees.specs.Trees.{Branches, branch, rows, shape, tip}
+use Rattle.rb_trees.specs.Found.{has_node, items_of_records}
+use Rattle.rb_trees.specs.Trees.{ColouredTree, branch, rows, shape, tip}
 use Rattle.word_arena.specs.Words.{listed}
 
-pub as_many_rows : (t : Branches) → length (listed (shape t)) ≡ length (items_of (rows t))
+pub as_many_rows : (t : ColouredTree) → length (listed (shape t)) ≡ length (items_of_records (rows t))
 as_many_rows t = ap length (listed_rows t) ∙ length-map (rows t) (λ r. r.node)
     ∙ sym (length-map (rows t) (λ r. r.item))
 
 -- the walk over all nodes
-pub reach_listed : (i : ℕ) (t : Branches) → has_node i t ≡ true → Contains (listed (shape t)) i
+pub reach_listed : (i : ℕ) (t : ColouredTree) → has_node i t ≡ true → Contains (listed (shape t)) i
 reach_listed i tip e = absurd (cc)
 reach_listed i (branch red l y r) e =
     ⊎_elim
@@ -30,7 +30,7 @@ reach_listed i (branch red l y r) e =
     (or_cases (has_node i l) (has_node i r) h))
     (or_cases (y.node == i) (has_node i l || has_node i r) e)
 
-pub listed_reach : (i : ℕ) (t : Branches) → Contains (listed (shape t)) i → has_node i t ≡ true
+pub listed_reach : (i : ℕ) (t : ColouredTree) → Contains (listed (shape t)) i → has_node i t ≡ true
 listed_reach i tip is = let n = is.1 in absurd (omega (arith, n))
 listed_reach i (branch red l y r) is =
     ⊎_elim
@@ -44,5 +44,5 @@ listed_reach i (branch red l y r) is =
     (Contains-cons_cases y.node i (listed (shape r)) b))
     (Contains-append_cases (listed (shape l)) (y.node ∷ listed (shape r)) i is)
 
-pub reaches_shown : (i : ℕ) (t : Branches) → (has_node i t ≡ true) ↔ Contains (listed (shape t)) i
+pub reaches_shown : (i : ℕ) (t : ColouredTree) → (has_node i t ≡ true) ↔ Contains (listed (shape t)) i
 reaches_shown i t = (reach_listed i t, listed_reach i t)

@@ -8,8 +8,8 @@ use Rattle.order_laws.specs.Orders.{Order, Precedes, IsLawful, IsInLine}
 use Rattle.order_laws.specs.Tables.{IsTable, meets, without_all}
 use Rattle.order_laws.proofs.Bools.{or_assoc, or_swap}
 use Rattle.order_laws.proofs.Each.{all_weaker}
-use Rattle.rb_trees.specs.Trees.{Branches, tip, branch, rows}
-use Rattle.rb_trees.specs.Found.{items_of, met, met_any}
+use Rattle.rb_trees.specs.Trees.{ColouredTree, tip, branch, rows}
+use Rattle.rb_trees.specs.Found.{items_of_records, meets_on_the_way, meets_anywhere}
 use Rattle.rb_trees.proofs.PlaceRows.{parts, items_append}
 
 module _ {K : Type 0} (o : Order K) (i : Item) (but : List ℕ) where
@@ -57,13 +57,13 @@ module _ {K : Type 0} (o : Order K) (i : Item) (but : List ℕ) where
         | false ↦ rw e (sym (or-true (Meets is)))
       ]
 
-  pub met_any_meets : (t : Branches) → met_any o i but t ≡ meets o i (without_all but (items_of (rows t)))
+  pub met_any_meets : (t : ColouredTree) → meets_anywhere o i but t ≡ meets o i (without_all but (items_of_records (rows t)))
   met_any_meets tip = refl
   met_any_meets (branch red l y r) =
-      let is = items_of (rows l) in
-      let js = items_of (rows r) in
-      let split : Meets (items_of (rows l ++ y ∷ rows r)) ≡ (Meets is || Meets (y.item ∷ js)) = ap Meets (items_append (rows l) (y ∷ rows r)) ∙ meets_split is (y.item ∷ js) in
-      ap (λ v. (not (gone y.item) && not (o.apart y.item i)) || (v || met_any o i but r)) (met_any_meets l)
+      let is = items_of_records (rows l) in
+      let js = items_of_records (rows r) in
+      let split : Meets (items_of_records (rows l ++ y ∷ rows r)) ≡ (Meets is || Meets (y.item ∷ js)) = ap Meets (items_append (rows l) (y ∷ rows r)) ∙ meets_split is (y.item ∷ js) in
+      ap (λ v. (not (gone y.item) && not (o.apart y.item i)) || (v || meets_anywhere o i but r)) (met_any_meets l)
       ∙ ap (λ v. (not (gone y.item) && not (o.apart y.item i)) || (Meets is || v)) (met_any_meets r)
       ∙ any_head y.item is js ∙ sym split
 
@@ -78,18 +78,18 @@ module _ {K : Type 0} (o : Order K) (i : Item) (but : List ℕ) where
         let less : o.less y i ≡ true = law.one_is_less y i p.second_valid valid a ∙ ap not l in
         line.apart_beyond z y i p (record { first_valid = p.second_valid; second_valid = valid; is_apart = a; is_less = less })
 
-    pub met_meets : (t : Branches) → IsTable o (items_of (rows t)) → met o i but t ≡ meets o i (without_all but (items_of (rows t)))
+    pub met_meets : (t : ColouredTree) → IsTable o (items_of_records (rows t)) → meets_on_the_way o i but t ≡ meets o i (without_all but (items_of_records (rows t)))
     met_meets tip t = refl
     met_meets (branch red l y r) t =
         let p = parts o (rows l) y (rows r) t in
-        let is = items_of (rows l) in
-        let js = items_of (rows r) in
+        let is = items_of_records (rows l) in
+        let js = items_of_records (rows r) in
         let il = met_meets l p.left in
         let ir = met_meets r p.right in
-        let split : Meets (items_of (rows l ++ y ∷ rows r)) ≡ (Meets is || Meets (y.item ∷ js)) = ap Meets (items_append (rows l) (y ∷ rows r)) ∙ meets_split is (y.item ∷ js) in
-        elim (o.apart y.item i) as (λ v. o.apart y.item i ≡ v → cond v (cond (o.less i y.item) (met o i but l) (met o i but r)) (not (gone y.item) || (met o i but l || met o i but r)) ≡ Meets (items_of (rows l ++ y ∷ rows r))) [
+        let split : Meets (items_of_records (rows l ++ y ∷ rows r)) ≡ (Meets is || Meets (y.item ∷ js)) = ap Meets (items_append (rows l) (y ∷ rows r)) ∙ meets_split is (y.item ∷ js) in
+        elim (o.apart y.item i) as (λ v. o.apart y.item i ≡ v → cond v (cond (o.less i y.item) (meets_on_the_way o i but l) (meets_on_the_way o i but r)) (not (gone y.item) || (meets_on_the_way o i but l || meets_on_the_way o i but r)) ≡ Meets (items_of_records (rows l ++ y ∷ rows r))) [
           | true ↦ λ a.
-              elim (o.less i y.item) as (λ v. o.less i y.item ≡ v → cond v (met o i but l) (met o i but r) ≡ Meets (items_of (rows l ++ y ∷ rows r))) [
+              elim (o.less i y.item) as (λ v. o.less i y.item ≡ v → cond v (meets_on_the_way o i but l) (meets_on_the_way o i but r) ≡ Meets (items_of_records (rows l ++ y ∷ rows r))) [
                 | true ↦ λ b.
                     let none : Meets (y.item ∷ js) ≡ false = meets_none (y.item ∷ js) (a, all_weaker (Precedes o y.item) (λ z. o.apart z i ≡ true) (λ z q. apart_above y.item z q a b) js p.behind) in
                     il ∙ sym (split ∙ ap (λ v. Meets is || v) none ∙ or-false (Meets is))
@@ -97,5 +97,5 @@ module _ {K : Type 0} (o : Order K) (i : Item) (but : List ℕ) where
                     let none : Meets is ≡ false = meets_none is (all_weaker (λ z. Precedes o z y.item) (λ z. o.apart z i ≡ true) (λ z q. apart_below y.item z q a b) is p.before) in
                     ir ∙ sym (split ∙ ap (λ v. v || Meets (y.item ∷ js)) none ∙ apart_head y.item js a)
               ] refl
-          | false ↦ λ a. ap (λ v. not (gone y.item) || (v || met o i but r)) il ∙ ap (λ v. not (gone y.item) || (Meets is || v)) ir ∙ meeting_head y.item is js a ∙ sym split
+          | false ↦ λ a. ap (λ v. not (gone y.item) || (v || meets_on_the_way o i but r)) il ∙ ap (λ v. not (gone y.item) || (Meets is || v)) ir ∙ meeting_head y.item is js a ∙ sym split
         ] refl

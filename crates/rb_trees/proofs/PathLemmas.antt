@@ -6,10 +6,10 @@ use Rattle.std.specs.declared.cmp.Ordering.TheVariants.{Less, Equal, Greater}
 use Rattle.order_laws.specs.declared.items.Item.{Item}
 use Rattle.order_laws.proofs.Numbers.{suc-max_left, suc-max_right}
 use Rattle.rb_trees.specs.declared.Record.{Record}
-use Rattle.rb_trees.specs.Trees.{Branches, tip, branch, shape, depth}
+use Rattle.rb_trees.specs.Trees.{ColouredTree, tip, branch, shape, depth}
 use Rattle.rb_trees.specs.Paths.{Above, plugged, past_left, past_right, place_from, way_from, way_by, way_at, place_at, first_way, first_place}
 
-pub plugged_by : (less : Item → Item → Bool) (x : Item) (t : Branches) (path : List Above)
+pub plugged_by : (less : Item → Item → Bool) (x : Item) (t : ColouredTree) (path : List Above)
     → plugged (way_by less x t path) tip ≡ plugged path t
 plugged_by less x tip path = refl
 plugged_by less x (branch red l y r) path =
@@ -20,7 +20,7 @@ plugged_by less x (branch red l y r) path =
       | false ↦ plugged_by less x r (past_right red l y ∷ path)
     ]
 
-pub plugged_to : (seen : Record → Ordering) (t : Branches) (path : List Above)
+pub plugged_to : (seen : Record → Ordering) (t : ColouredTree) (path : List Above)
     → plugged (way_at seen t path) (place_at seen t) ≡ plugged path t
 plugged_to seen tip path = refl
 plugged_to seen (branch red l y r) path =
@@ -34,14 +34,14 @@ plugged_to seen (branch red l y r) path =
       | Greater ↦ plugged_to seen r (past_right red l y ∷ path)
     ]
 
-pub plugged_first : (t : Branches) (path : List Above)
+pub plugged_first : (t : ColouredTree) (path : List Above)
     → plugged (first_way t path) (first_place t) ≡ plugged path t
 plugged_first tip path = refl
 plugged_first (branch red tip y r) path = refl
 plugged_first (branch red (branch k a x b) y r) path =
     plugged_first (branch k a x b) (past_left red y r ∷ path)
 
-pub short_by : (less : Item → Item → Bool) (x : Item) (t : Branches) (path : List Above)
+pub short_by : (less : Item → Item → Bool) (x : Item) (t : ColouredTree) (path : List Above)
     → length (way_by less x t path) ≤ length path + depth (shape t)
 short_by less x tip path = omega arith
 short_by less x (branch red l y r) path =
@@ -56,7 +56,7 @@ short_by less x (branch red l y r) path =
           (short_by less x r (past_right red l y ∷ path))
     ]
 
-pub short_to : (seen : Record → Ordering) (t : Branches) (path : List Above)
+pub short_to : (seen : Record → Ordering) (t : ColouredTree) (path : List Above)
     → length (way_at seen t path) + depth (shape (place_at seen t)) ≤ length path + depth (shape t)
 short_to seen tip path = omega arith
 short_to seen (branch red l y r) path =
@@ -73,7 +73,7 @@ short_to seen (branch red l y r) path =
           (length path) (depth (shape l)) (depth (shape r)) (short_to seen r (past_right red l y ∷ path))
     ]
 
-pub short_first : (t : Branches) (path : List Above)
+pub short_first : (t : ColouredTree) (path : List Above)
     → length (first_way t path) + depth (shape (first_place t)) ≤ length path + depth (shape t)
 short_first tip path = omega arith
 short_first (branch red tip y r) path = omega arith

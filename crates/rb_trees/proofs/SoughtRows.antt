@@ -19,10 +19,10 @@ use Rattle.order_laws.proofs.Each.{all_at, all_right, all_weaker}
 use Rattle.order_laws.proofs.Members.{Contains-cons_cases, Contains-rest}
 use Rattle.order_laws.proofs.WithoutLemmas.{has_either}
 use Rattle.rb_trees.specs.declared.Record.{Record}
-use Rattle.rb_trees.specs.Trees.{Branches, tip, branch, rows}
-use Rattle.rb_trees.specs.Erased.{first_word_at, item_lies, erased_at, erased, found_at, found}
-use Rattle.rb_trees.specs.Found.{items_of, first_answer, any_with}
-use Rattle.rb_trees.specs.Sought.{Sought}
+use Rattle.rb_trees.specs.Trees.{ColouredTree, tip, branch, rows}
+use Rattle.rb_trees.specs.Erased.{first_word_at, item_lies, erased_at, erased_from, record_found_at, found}
+use Rattle.rb_trees.specs.Found.{items_of_records, first_item_of, item_with_word}
+use Rattle.rb_trees.specs.Sought.{FindsFirstWord}
 use Rattle.rb_trees.proofs.PlaceRows.{items_append, parts, rows_left_if, rows_right_if, rows_top}
 
 -- where a first word lies
@@ -42,139 +42,139 @@ has_back a [] js h = refl
 has_back a (z ∷ is) js h = let e : (z.a == a) ≡ false = h.0 in rw e (has_back a is js h.1)
 
 module _ (a : ℕ) where
-  remove_front : (xs : List Record) (y : Record) (ys : List Record) → has a (items_of xs) ≡ true →
-      remove (xs ++ y ∷ ys) (place_of a (items_of (xs ++ y ∷ ys)))
-      ≡ remove xs (place_of a (items_of xs)) ++ y ∷ ys
+  remove_front : (xs : List Record) (y : Record) (ys : List Record) → has a (items_of_records xs) ≡ true →
+      remove (xs ++ y ∷ ys) (place_of a (items_of_records (xs ++ y ∷ ys)))
+      ≡ remove xs (place_of a (items_of_records xs)) ++ y ∷ ys
   remove_front [] y ys h = absurd (cc)
   remove_front (z ∷ xs) y ys h =
-      elim (z.item.a == a) as (λ b. (b || has a (items_of xs)) ≡ true →
-      remove (z ∷ (xs ++ y ∷ ys)) (cond b 0 (suc (place_of a (items_of (xs ++ y ∷ ys)))))
-      ≡ remove (z ∷ xs) (cond b 0 (suc (place_of a (items_of xs)))) ++ y ∷ ys) [
+      elim (z.item.a == a) as (λ b. (b || has a (items_of_records xs)) ≡ true →
+      remove (z ∷ (xs ++ y ∷ ys)) (cond b 0 (suc (place_of a (items_of_records (xs ++ y ∷ ys)))))
+      ≡ remove (z ∷ xs) (cond b 0 (suc (place_of a (items_of_records xs)))) ++ y ∷ ys) [
         | true ↦ λ e. refl
         | false ↦ λ e. ap (λ zs. z ∷ zs) (remove_front xs y ys e)
       ] h
 
-  remove_here : (xs : List Record) (y : Record) (ys : List Record) → Lacks a (items_of xs) →
-      (y.item.a == a) ≡ true → remove (xs ++ y ∷ ys) (place_of a (items_of (xs ++ y ∷ ys))) ≡ xs
+  remove_here : (xs : List Record) (y : Record) (ys : List Record) → Lacks a (items_of_records xs) →
+      (y.item.a == a) ≡ true → remove (xs ++ y ∷ ys) (place_of a (items_of_records (xs ++ y ∷ ys))) ≡ xs
       ++ ys
   remove_here [] y ys h e = rw e refl
   remove_here (z ∷ xs) y ys h e = let f : (z.item.a == a) ≡ false = h.0 in
       rw f (ap (λ zs. z ∷ zs) (remove_here xs y ys h.1 e))
 
-  remove_back : (xs : List Record) (y : Record) (ys : List Record) → Lacks a (items_of xs) →
-      (y.item.a == a) ≡ false → remove (xs ++ y ∷ ys) (place_of a (items_of (xs ++ y ∷ ys))) ≡ xs
-      ++ y ∷ remove ys (place_of a (items_of ys))
+  remove_back : (xs : List Record) (y : Record) (ys : List Record) → Lacks a (items_of_records xs) →
+      (y.item.a == a) ≡ false → remove (xs ++ y ∷ ys) (place_of a (items_of_records (xs ++ y ∷ ys))) ≡ xs
+      ++ y ∷ remove ys (place_of a (items_of_records ys))
   remove_back [] y ys h e = rw e refl
   remove_back (z ∷ xs) y ys h e = let f : (z.item.a == a) ≡ false = h.0 in
       rw f (ap (λ zs. z ∷ zs) (remove_back xs y ys h.1 e))
 
-  get_front : (xs : List Record) (y : Record) (ys : List Record) → has a (items_of xs) ≡ true →
-      slice_get (xs ++ y ∷ ys) (place_of a (items_of (xs ++ y ∷ ys)))
-      ≡ slice_get xs (place_of a (items_of xs))
+  get_front : (xs : List Record) (y : Record) (ys : List Record) → has a (items_of_records xs) ≡ true →
+      slice_get (xs ++ y ∷ ys) (place_of a (items_of_records (xs ++ y ∷ ys)))
+      ≡ slice_get xs (place_of a (items_of_records xs))
   get_front [] y ys h = absurd (cc)
   get_front (z ∷ xs) y ys h =
-      elim (z.item.a == a) as (λ b. (b || has a (items_of xs)) ≡ true →
-      slice_get (z ∷ (xs ++ y ∷ ys)) (cond b 0 (suc (place_of a (items_of (xs ++ y ∷ ys)))))
-      ≡ slice_get (z ∷ xs) (cond b 0 (suc (place_of a (items_of xs))))) [
+      elim (z.item.a == a) as (λ b. (b || has a (items_of_records xs)) ≡ true →
+      slice_get (z ∷ (xs ++ y ∷ ys)) (cond b 0 (suc (place_of a (items_of_records (xs ++ y ∷ ys)))))
+      ≡ slice_get (z ∷ xs) (cond b 0 (suc (place_of a (items_of_records xs))))) [
         | true ↦ λ e. refl
         | false ↦ λ e. get_front xs y ys e
       ] h
 
-  get_here : (xs : List Record) (y : Record) (ys : List Record) → Lacks a (items_of xs) →
-      (y.item.a == a) ≡ true → slice_get (xs ++ y ∷ ys) (place_of a (items_of (xs ++ y ∷ ys)))
+  get_here : (xs : List Record) (y : Record) (ys : List Record) → Lacks a (items_of_records xs) →
+      (y.item.a == a) ≡ true → slice_get (xs ++ y ∷ ys) (place_of a (items_of_records (xs ++ y ∷ ys)))
       ≡ Some y
   get_here [] y ys h e = rw e refl
   get_here (z ∷ xs) y ys h e = let f : (z.item.a == a) ≡ false = h.0 in
       rw f (get_here xs y ys h.1 e)
 
-  get_back : (xs : List Record) (y : Record) (ys : List Record) → Lacks a (items_of xs) →
-      (y.item.a == a) ≡ false → slice_get (xs ++ y ∷ ys) (place_of a (items_of (xs ++ y ∷ ys)))
-      ≡ slice_get ys (place_of a (items_of ys))
+  get_back : (xs : List Record) (y : Record) (ys : List Record) → Lacks a (items_of_records xs) →
+      (y.item.a == a) ≡ false → slice_get (xs ++ y ∷ ys) (place_of a (items_of_records (xs ++ y ∷ ys)))
+      ≡ slice_get ys (place_of a (items_of_records ys))
   get_back [] y ys h e = rw e refl
   get_back (z ∷ xs) y ys h e = let f : (z.item.a == a) ≡ false = h.0 in
       rw f (get_back xs y ys h.1 e)
 
 -- what a comparison says of both sides, and of the side that it leads to
-pub data Lies (a : ℕ) (P : Branches → Type 0) (l : Branches) (y : Record) (r : Branches) :
+pub data Lies (a : ℕ) (P : ColouredTree → Type 0) (l : ColouredTree) (y : Record) (r : ColouredTree) :
     Ordering → Type 0 where
-  to_left : (y.item.a == a) ≡ false → Lacks a (items_of (rows r)) → P l → Lies a P l y r Less
-  right_here : (y.item.a == a) ≡ true → Lacks a (items_of (rows l)) → Lies a P l y r Equal
-  to_right : (y.item.a == a) ≡ false → Lacks a (items_of (rows l)) → P r → Lies a P l y r Greater
+  to_left : (y.item.a == a) ≡ false → Lacks a (items_of_records (rows r)) → P l → Lies a P l y r Less
+  right_here : (y.item.a == a) ≡ true → Lacks a (items_of_records (rows l)) → Lies a P l y r Equal
+  to_right : (y.item.a == a) ≡ false → Lacks a (items_of_records (rows l)) → P r → Lies a P l y r Greater
 
 -- a comparison leads to a first word in each tree of a kind
-abbrev pub Guides : ℕ → (Record → Ordering) → (Branches → Type 0) → Type 0
-Guides a seen P = (red : Bool) (l : Branches) (y : Record) (r : Branches) → P (branch red l y r) →
+abbrev pub Guides : ℕ → (Record → Ordering) → (ColouredTree → Type 0) → Type 0
+Guides a seen P = (red : Bool) (l : ColouredTree) (y : Record) (r : ColouredTree) → P (branch red l y r) →
     Lies a P l y r (seen y)
 
 -- where it leads
-module _ (a : ℕ) (seen : Record → Ordering) (P : Branches → Type 0) (guide : Guides a seen P) where
-  pub rows_erased : (t : Branches) → P t → has a (items_of (rows t)) ≡ true →
-      rows (erased seen t).tree ≡ remove (rows t) (place_of a (items_of (rows t)))
+module _ (a : ℕ) (seen : Record → Ordering) (P : ColouredTree → Type 0) (guide : Guides a seen P) where
+  pub rows_erased : (t : ColouredTree) → P t → has a (items_of_records (rows t)) ≡ true →
+      rows (erased_from seen t).tree ≡ remove (rows t) (place_of a (items_of_records (rows t)))
   rows_erased tip p h = absurd (cc)
   rows_erased (branch red l y r) p h =
-      let s = erased seen l in
-      let u = erased seen r in
-      let there : has a (items_of (rows l) ++ y.item ∷ items_of (rows r)) ≡ true =
+      let s = erased_from seen l in
+      let u = erased_from seen r in
+      let there : has a (items_of_records (rows l) ++ y.item ∷ items_of_records (rows r)) ≡ true =
       ap (has a) (sym (items_append (rows l) (y ∷ rows r))) ∙ h in
       elim (guide red l y r p) as (λ v _. rows (erased_at v red l y r s u).tree
-      ≡ remove (rows l ++ y ∷ rows r) (place_of a (items_of (rows l ++ y ∷ rows r)))) [
+      ≡ remove (rows l ++ y ∷ rows r) (place_of a (items_of_records (rows l ++ y ∷ rows r)))) [
         | to_left e lack q ↦
-            let in_l : has a (items_of (rows l)) ≡ true =
-            sym (has_front a (items_of (rows l)) (y.item ∷ items_of (rows r)) (e, lack))
+            let in_l : has a (items_of_records (rows l)) ≡ true =
+            sym (has_front a (items_of_records (rows l)) (y.item ∷ items_of_records (rows r)) (e, lack))
             ∙ there in
             rows_left_if s.short (branch red s.tree y r)
             ∙ ap (λ xs. xs ++ y ∷ rows r) (rows_erased l q in_l)
             ∙ sym (remove_front a (rows l) y (rows r) in_l)
         | right_here e lack ↦ rows_top red l r ∙ sym (remove_here a (rows l) y (rows r) lack e)
         | to_right e lack q ↦
-            let in_r : has a (items_of (rows r)) ≡ true =
-            (let k = has_back a (items_of (rows l)) (y.item ∷ items_of (rows r)) lack in
+            let in_r : has a (items_of_records (rows r)) ≡ true =
+            (let k = has_back a (items_of_records (rows l)) (y.item ∷ items_of_records (rows r)) lack in
             sym (k ∙ (rw e refl)) ∙ there) in
             rows_right_if u.short (branch red l y u.tree)
             ∙ ap (λ xs. rows l ++ y ∷ xs) (rows_erased r q in_r)
             ∙ sym (remove_back a (rows l) y (rows r) lack e)
       ]
 
-  pub found_at_place : (t : Branches) → P t → has a (items_of (rows t)) ≡ true →
-      found seen t ≡ slice_get (rows t) (place_of a (items_of (rows t)))
+  pub found_at_place : (t : ColouredTree) → P t → has a (items_of_records (rows t)) ≡ true →
+      found seen t ≡ slice_get (rows t) (place_of a (items_of_records (rows t)))
   found_at_place tip p h = absurd (cc)
   found_at_place (branch red l y r) p h =
-      let there : has a (items_of (rows l) ++ y.item ∷ items_of (rows r)) ≡ true =
+      let there : has a (items_of_records (rows l) ++ y.item ∷ items_of_records (rows r)) ≡ true =
       ap (has a) (sym (items_append (rows l) (y ∷ rows r))) ∙ h in
-      elim (guide red l y r p) as (λ v _. found_at v y (found seen l) (found seen r)
-      ≡ slice_get (rows l ++ y ∷ rows r) (place_of a (items_of (rows l ++ y ∷ rows r)))) [
+      elim (guide red l y r p) as (λ v _. record_found_at v y (found seen l) (found seen r)
+      ≡ slice_get (rows l ++ y ∷ rows r) (place_of a (items_of_records (rows l ++ y ∷ rows r)))) [
         | to_left e lack q ↦
-            let in_l : has a (items_of (rows l)) ≡ true =
-            sym (has_front a (items_of (rows l)) (y.item ∷ items_of (rows r)) (e, lack))
+            let in_l : has a (items_of_records (rows l)) ≡ true =
+            sym (has_front a (items_of_records (rows l)) (y.item ∷ items_of_records (rows r)) (e, lack))
             ∙ there in
             found_at_place l q in_l ∙ sym (get_front a (rows l) y (rows r) in_l)
         | right_here e lack ↦ sym (get_here a (rows l) y (rows r) lack e)
         | to_right e lack q ↦
-            let in_r : has a (items_of (rows r)) ≡ true =
-            (let k = has_back a (items_of (rows l)) (y.item ∷ items_of (rows r)) lack in
+            let in_r : has a (items_of_records (rows r)) ≡ true =
+            (let k = has_back a (items_of_records (rows l)) (y.item ∷ items_of_records (rows r)) lack in
             sym (k ∙ (rw e refl)) ∙ there) in
             found_at_place r q in_r ∙ sym (get_back a (rows l) y (rows r) lack e)
       ]
 
-  pub found_has : (t : Branches) → P t → is_some (found seen t) ≡ has a (items_of (rows t))
+  pub found_has : (t : ColouredTree) → P t → is_some (found seen t) ≡ has a (items_of_records (rows t))
   found_has tip p = refl
   found_has (branch red l y r) p =
-      let split : has a (items_of (rows l ++ y ∷ rows r))
-      ≡ has a (items_of (rows l) ++ y.item ∷ items_of (rows r)) =
+      let split : has a (items_of_records (rows l ++ y ∷ rows r))
+      ≡ has a (items_of_records (rows l) ++ y.item ∷ items_of_records (rows r)) =
       ap (has a) (items_append (rows l) (y ∷ rows r)) in
-      elim (guide red l y r p) as (λ v _. is_some (found_at v y (found seen l) (found seen r))
-      ≡ has a (items_of (rows l ++ y ∷ rows r))) [
+      elim (guide red l y r p) as (λ v _. is_some (record_found_at v y (found seen l) (found seen r))
+      ≡ has a (items_of_records (rows l ++ y ∷ rows r))) [
         | to_left e lack q ↦ found_has l q
-            ∙ sym (split ∙ has_front a (items_of (rows l)) (y.item ∷ items_of (rows r)) (e, lack))
+            ∙ sym (split ∙ has_front a (items_of_records (rows l)) (y.item ∷ items_of_records (rows r)) (e, lack))
         | right_here e lack ↦ sym (split
-            ∙ has_back a (items_of (rows l)) (y.item ∷ items_of (rows r)) lack ∙ (rw e refl))
+            ∙ has_back a (items_of_records (rows l)) (y.item ∷ items_of_records (rows r)) lack ∙ (rw e refl))
         | to_right e lack q ↦ found_has r q
-            ∙ sym (split ∙ has_back a (items_of (rows l)) (y.item ∷ items_of (rows r)) lack
+            ∙ sym (split ∙ has_back a (items_of_records (rows l)) (y.item ∷ items_of_records (rows r)) lack
             ∙ (rw e refl))
       ]
 
-sought : (a : ℕ) (seen : Record → Ordering) (P : Branches → Type 0) → Guides a seen P →
-    (t : Branches) → P t → has a (items_of (rows t)) ≡ true → Sought a seen t
+sought : (a : ℕ) (seen : Record → Ordering) (P : ColouredTree → Type 0) → Guides a seen P →
+    (t : ColouredTree) → P t → has a (items_of_records (rows t)) ≡ true → FindsFirstWord a seen t
 sought a seen P guide t p there =
     record {
       erases = rows_erased a seen P guide t p there;
@@ -184,14 +184,14 @@ sought a seen P guide t p there =
 
 -- first words lead, where they rise along the order
 module _ {K : Type 0} (o : Order K) (line : IsInLine o) (a : ℕ) where
-  abbrev InOrder : Branches → Type 0
-  InOrder t = IsTable o (items_of (rows t))
+  abbrev InOrder : ColouredTree → Type 0
+  InOrder t = IsTable o (items_of_records (rows t))
 
   words_lead : Guides a (first_word_at a) InOrder
   words_lead red l y r t =
       let p = parts o (rows l) y (rows r) t in
-      let is = items_of (rows l) in
-      let js = items_of (rows r) in
+      let is = items_of_records (rows l) in
+      let js = items_of_records (rows r) in
       elim (a == y.item.a) as (λ b. (a == y.item.a) ≡ b →
       Lies a InOrder l y r (cond b Equal (cond (nat_lt a y.item.a) Less Greater))) [
         | true ↦ λ e.
@@ -220,18 +220,18 @@ module _ {K : Type 0} (o : Order K) (line : IsInLine o) (a : ℕ) where
             ] refl
       ] refl
 
-  pub sought_by_word : (t : Branches) → IsTable o (items_of (rows t)) →
-      has a (items_of (rows t)) ≡ true → Sought a (first_word_at a) t
+  pub sought_by_word : (t : ColouredTree) → IsTable o (items_of_records (rows t)) →
+      has a (items_of_records (rows t)) ≡ true → FindsFirstWord a (first_word_at a) t
   sought_by_word t is there = sought a (first_word_at a) InOrder words_lead t is there
 
-  pub found_by_word : (t : Branches) → IsTable o (items_of (rows t)) →
-      is_some (found (first_word_at a) t) ≡ has a (items_of (rows t))
+  pub found_by_word : (t : ColouredTree) → IsTable o (items_of_records (rows t)) →
+      is_some (found (first_word_at a) t) ≡ has a (items_of_records (rows t))
   found_by_word t is = found_has a (first_word_at a) InOrder words_lead t is
 
 -- an item of the tree leads to itself, in every order
 module _ {K : Type 0} (o : Order K) (law : IsLawful o) (i : Item) where
-  abbrev HasItem : Branches → Type 0
-  HasItem t = IsTable o (items_of (rows t)) × Contains (items_of (rows t)) i
+  abbrev HasItem : ColouredTree → Type 0
+  HasItem t = IsTable o (items_of_records (rows t)) × Contains (items_of_records (rows t)) i
 
   -- an item of the first part precedes each of the second
   across : (xs ys : List Item) → IsTable o (xs ++ ys) → Contains xs i →
@@ -262,82 +262,82 @@ module _ {K : Type 0} (o : Order K) (law : IsLawful o) (i : Item) where
       (λ e. law.own_first_word z i p.first_valid p.second_valid p.is_apart e)
 
   -- where an item of another part lies
-  at_left : (l : Branches) (y : Record) (r : Branches) →
-      IsTable o (items_of (rows l) ++ y.item ∷ items_of (rows r)) → IsTable o (items_of (rows l)) →
-      Contains (items_of (rows l)) i → Lies i.a HasItem l y r (item_lies o.less i y)
+  at_left : (l : ColouredTree) (y : Record) (r : ColouredTree) →
+      IsTable o (items_of_records (rows l) ++ y.item ∷ items_of_records (rows r)) → IsTable o (items_of_records (rows l)) →
+      Contains (items_of_records (rows l)) i → Lies i.a HasItem l y r (item_lies o.less i y)
   at_left l y r t tl is =
-      let after = across (items_of (rows l)) (y.item ∷ items_of (rows r)) t is in
+      let after = across (items_of_records (rows l)) (y.item ∷ items_of_records (rows r)) t is in
       let less : o.less i y.item ≡ true = after.0.is_less in
       let e : (y.item.a == i.a) ≡ false = differs y.item after.0 in
-      let lack : Lacks i.a (items_of (rows r)) =
-      all_weaker (Precedes o i) (λ (z : Item). (z.a == i.a) ≡ false) differs (items_of (rows r))
+      let lack : Lacks i.a (items_of_records (rows r)) =
+      all_weaker (Precedes o i) (λ (z : Item). (z.a == i.a) ≡ false) differs (items_of_records (rows r))
       after.1 in
       rw (e, less) (to_left e lack (tl, is))
 
-  at_here : (l : Branches) (y : Record) (r : Branches) →
-      IsTable o (items_of (rows l) ++ y.item ∷ items_of (rows r)) → y.item ≡ i →
+  at_here : (l : ColouredTree) (y : Record) (r : ColouredTree) →
+      IsTable o (items_of_records (rows l) ++ y.item ∷ items_of_records (rows r)) → y.item ≡ i →
       Lies i.a HasItem l y r (item_lies o.less i y)
   at_here l y r t same =
-      let before : AllByRecursion (λ z. Precedes o z i) (items_of (rows l)) =
-      all_before (items_of (rows l)) (y.item ∷ items_of (rows r)) t (0, omega arith, same) in
+      let before : AllByRecursion (λ z. Precedes o z i) (items_of_records (rows l)) =
+      all_before (items_of_records (rows l)) (y.item ∷ items_of_records (rows r)) t (0, omega arith, same) in
       let e : (y.item.a == i.a) ≡ true = eq-eqb y.item.a i.a (ap (λ (z : Item). z.a) same) in
       rw e (right_here e (all_weaker (λ z. Precedes o z i) (λ (z : Item). (z.a == i.a) ≡ false)
-      differs_before (items_of (rows l)) before))
+      differs_before (items_of_records (rows l)) before))
 
-  at_right : (l : Branches) (y : Record) (r : Branches) →
-      IsTable o (items_of (rows l) ++ y.item ∷ items_of (rows r)) → IsTable o (items_of (rows r)) →
-      Contains (items_of (rows r)) i → Lies i.a HasItem l y r (item_lies o.less i y)
+  at_right : (l : ColouredTree) (y : Record) (r : ColouredTree) →
+      IsTable o (items_of_records (rows l) ++ y.item ∷ items_of_records (rows r)) → IsTable o (items_of_records (rows r)) →
+      Contains (items_of_records (rows r)) i → Lies i.a HasItem l y r (item_lies o.less i y)
   at_right l y r t tr is =
-      let before : AllByRecursion (λ z. Precedes o z i) (items_of (rows l)) =
-      all_before (items_of (rows l)) (y.item ∷ items_of (rows r)) t
-      (Contains-rest y.item i (items_of (rows r)) is) in
-      let b : Precedes o y.item i = all_at (Precedes o y.item) (items_of (rows r)) i
-      (parted o (items_of (rows l)) y.item (items_of (rows r)) t).behind is in
+      let before : AllByRecursion (λ z. Precedes o z i) (items_of_records (rows l)) =
+      all_before (items_of_records (rows l)) (y.item ∷ items_of_records (rows r)) t
+      (Contains-rest y.item i (items_of_records (rows r)) is) in
+      let b : Precedes o y.item i = all_at (Precedes o y.item) (items_of_records (rows r)) i
+      (parted o (items_of_records (rows l)) y.item (items_of_records (rows r)) t).behind is in
       let more : o.less i y.item ≡ false =
       law.one_is_less i y.item b.second_valid b.first_valid
       (law.symmetric i y.item ∙ b.is_apart) ∙ ap not b.is_less in
       let e : (y.item.a == i.a) ≡ false = differs_before y.item b in
       rw (e, more) (to_right e (all_weaker (λ z. Precedes o z i)
-      (λ (z : Item). (z.a == i.a) ≡ false) differs_before (items_of (rows l)) before) (tr, is))
+      (λ (z : Item). (z.a == i.a) ≡ false) differs_before (items_of_records (rows l)) before) (tr, is))
 
   item_leads : Guides i.a (item_lies o.less i) HasItem
   item_leads red l y r h =
       let split = items_append (rows l) (y ∷ rows r) in
-      let t : IsTable o (items_of (rows l) ++ y.item ∷ items_of (rows r)) =
+      let t : IsTable o (items_of_records (rows l) ++ y.item ∷ items_of_records (rows r)) =
       subst (IsTable o) split h.0 in
       let p = parts o (rows l) y (rows r) h.0 in
       ⊎_elim
       (λ is. at_left l y r t p.left is)
       (λ b. ⊎_elim (λ same. at_here l y r t same) (λ is. at_right l y r t p.right is)
-      (Contains-cons_cases y.item i (items_of (rows r)) b))
-      (Contains-append_cases (items_of (rows l)) (y.item ∷ items_of (rows r)) i
+      (Contains-cons_cases y.item i (items_of_records (rows r)) b))
+      (Contains-append_cases (items_of_records (rows l)) (y.item ∷ items_of_records (rows r)) i
       (subst (λ zs. Contains zs i) split h.1))
 
-  pub sought_by_item : (t : Branches) → IsTable o (items_of (rows t)) →
-      Contains (items_of (rows t)) i → has i.a (items_of (rows t)) ≡ true →
-      Sought i.a (item_lies o.less i) t
+  pub sought_by_item : (t : ColouredTree) → IsTable o (items_of_records (rows t)) →
+      Contains (items_of_records (rows t)) i → has i.a (items_of_records (rows t)) ≡ true →
+      FindsFirstWord i.a (item_lies o.less i) t
   sought_by_item t is there has_a =
       sought i.a (item_lies o.less i) HasItem item_leads t (is, there) has_a
 
 -- a search through all items finds one of the first word, if there is one
-either_is_some : (p q : Option Item) → is_some (first_answer p q) ≡ (is_some p || is_some q)
+either_is_some : (p q : Option Item) → is_some (first_item_of p q) ≡ (is_some p || is_some q)
 either_is_some (Some x) q = refl
 either_is_some None q = refl
 
-pub any_has : (a : ℕ) (t : Branches) → is_some (any_with a t) ≡ has a (items_of (rows t))
+pub any_has : (a : ℕ) (t : ColouredTree) → is_some (item_with_word a t) ≡ has a (items_of_records (rows t))
 any_has a tip = refl
 any_has a (branch red l y r) =
-    let split : has a (items_of (rows l ++ y ∷ rows r))
-    ≡ (has a (items_of (rows l)) || has a (y.item ∷ items_of (rows r))) =
+    let split : has a (items_of_records (rows l ++ y ∷ rows r))
+    ≡ (has a (items_of_records (rows l)) || has a (y.item ∷ items_of_records (rows r))) =
     ap (has a) (items_append (rows l) (y ∷ rows r))
-    ∙ has_either a (items_of (rows l)) (y.item ∷ items_of (rows r)) in
+    ∙ has_either a (items_of_records (rows l)) (y.item ∷ items_of_records (rows r)) in
     (elim (y.item.a == a) as (λ b. is_some
-    (cond b (Some y.item) (first_answer (any_with a l) (any_with a r)))
-    ≡ (has a (items_of (rows l)) || (b || has a (items_of (rows r))))) [
-      | true ↦ sym (or-true (has a (items_of (rows l))))
-      | false ↦ either_is_some (any_with a l) (any_with a r)
-          ∙ ap (λ b. b || is_some (any_with a r)) (any_has a l)
-          ∙ ap (λ b. has a (items_of (rows l)) || b) (any_has a r)
+    (cond b (Some y.item) (first_item_of (item_with_word a l) (item_with_word a r)))
+    ≡ (has a (items_of_records (rows l)) || (b || has a (items_of_records (rows r))))) [
+      | true ↦ sym (or-true (has a (items_of_records (rows l))))
+      | false ↦ either_is_some (item_with_word a l) (item_with_word a r)
+          ∙ ap (λ b. b || is_some (item_with_word a r)) (any_has a l)
+          ∙ ap (λ b. has a (items_of_records (rows l)) || b) (any_has a r)
     ])
     ∙ sym split
 
@@ -357,41 +357,41 @@ with_more_right a is js (Some x) h = (Contains-append_right is js x h.0, h.1)
 with_more_right a is js None h = tt
 
 with_either : (a : ℕ) (is : List Item) (p q : Option Item) → IsWith a is p → IsWith a is q →
-    IsWith a is (first_answer p q)
+    IsWith a is (first_item_of p q)
 with_either a is (Some x) q h k = h
 with_either a is None q h k = k
 
-any_is_with : (a : ℕ) (t : Branches) → IsWith a (items_of (rows t)) (any_with a t)
+any_is_with : (a : ℕ) (t : ColouredTree) → IsWith a (items_of_records (rows t)) (item_with_word a t)
 any_is_with a tip = tt
 any_is_with a (branch red l y r) =
-    let is = items_of (rows l) in
-    let js = items_of (rows r) in
+    let is = items_of_records (rows l) in
+    let js = items_of_records (rows r) in
     let here : Contains (is ++ y.item ∷ js) y.item =
     Contains-append_right is (y.item ∷ js) y.item (0, omega arith, refl) in
-    let left : IsWith a (is ++ y.item ∷ js) (any_with a l) =
-    with_more_left a is (y.item ∷ js) (any_with a l) (any_is_with a l) in
-    let right : IsWith a (is ++ y.item ∷ js) (any_with a r) =
-    with_more_right a is (y.item ∷ js) (any_with a r)
-    (with_more_right a (y.item ∷ []) js (any_with a r) (any_is_with a r)) in
-    subst (λ zs. IsWith a zs (any_with a (branch red l y r)))
+    let left : IsWith a (is ++ y.item ∷ js) (item_with_word a l) =
+    with_more_left a is (y.item ∷ js) (item_with_word a l) (any_is_with a l) in
+    let right : IsWith a (is ++ y.item ∷ js) (item_with_word a r) =
+    with_more_right a is (y.item ∷ js) (item_with_word a r)
+    (with_more_right a (y.item ∷ []) js (item_with_word a r) (any_is_with a r)) in
+    subst (λ zs. IsWith a zs (item_with_word a (branch red l y r)))
     (sym (items_append (rows l) (y ∷ rows r)))
     (elim (y.item.a == a) as (λ b. (y.item.a == a) ≡ b →
     IsWith a (is ++ y.item ∷ js) (cond b (Some y.item)
-    (first_answer (any_with a l) (any_with a r)))) [
+    (first_item_of (item_with_word a l) (item_with_word a r)))) [
       | true ↦ λ e. (here, eqb-true y.item.a a e)
-      | false ↦ λ e. with_either a (is ++ y.item ∷ js) (any_with a l) (any_with a r) left right
+      | false ↦ λ e. with_either a (is ++ y.item ∷ js) (item_with_word a l) (item_with_word a r) left right
     ] refl)
 
-pub any_is : (a : ℕ) (t : Branches) (x : Item) → any_with a t ≡ Some x →
-    Contains (items_of (rows t)) x × (x.a ≡ a)
-any_is a t x e = subst (IsWith a (items_of (rows t))) e (any_is_with a t)
+pub any_is : (a : ℕ) (t : ColouredTree) (x : Item) → item_with_word a t ≡ Some x →
+    Contains (items_of_records (rows t)) x × (x.a ≡ a)
+any_is a t x e = subst (IsWith a (items_of_records (rows t))) e (any_is_with a t)
 
 -- so that the item it finds leads to itself
-pub sought_by_any : {K : Type 0} (o : Order K) → IsLawful o → (a : ℕ) (t : Branches) (x : Item) →
-    IsTable o (items_of (rows t)) → any_with a t ≡ Some x → Sought a (item_lies o.less x) t
+pub sought_by_any : {K : Type 0} (o : Order K) → IsLawful o → (a : ℕ) (t : ColouredTree) (x : Item) →
+    IsTable o (items_of_records (rows t)) → item_with_word a t ≡ Some x → FindsFirstWord a (item_lies o.less x) t
 sought_by_any o law a t x is e =
     let w = any_is a t x e in
-    let there : has a (items_of (rows t)) ≡ true = sym (any_has a t) ∙ ap is_some e in
-    subst (λ b. Sought b (item_lies o.less x) t) w.1
+    let there : has a (items_of_records (rows t)) ≡ true = sym (any_has a t) ∙ ap is_some e in
+    subst (λ b. FindsFirstWord b (item_lies o.less x) t) w.1
     (sought_by_item o law x t is w.0
-    (subst (λ b. has b (items_of (rows t)) ≡ true) (sym w.1) there))
+    (subst (λ b. has b (items_of_records (rows t)) ≡ true) (sym w.1) there))

@@ -4,60 +4,60 @@ use Rattle.std.specs.Prelude.{ℕ, suc, Bool, List, [], ◌∷◌, ◌++◌, len
 use Rattle.word_arena.specs.declared.stores.Store.{Store}
 use Rattle.rb_trees.specs.declared.Side.{Side}
 use Rattle.rb_trees.specs.declared.Side.TheVariants.{Left, Right}
-use Rattle.rb_trees.specs.Trees.{Branches, tip, branch, shape}
+use Rattle.rb_trees.specs.Trees.{ColouredTree, tip, branch, shape}
 use Rattle.rb_trees.specs.Turns.{link}
-use Rattle.rb_trees.specs.Erased.{Rest, whole, lowered, left_if, left_fill_if, right_if}
-use Rattle.rb_trees.specs.Erased.{right_fill_if, without_top, top_links}
+use Rattle.rb_trees.specs.Erased.{Remainder, whole, lowered, filled_left_if_short, left_fill_links_if_short, filled_right_if_short}
+use Rattle.rb_trees.specs.Erased.{right_fill_links_if_short, without_top, top_links}
 use Rattle.rb_trees.specs.Paths.{Above, joined}
 use Rattle.rb_trees.specs.InsertClimb.{relink_on}
 
 -- a tree that lost a node, and whether it is short
-abbrev pub remaining : Branches → Bool → Rest
-remaining t short = record { tree = t; short = short }
+abbrev pub rest_with : ColouredTree → Bool → Remainder
+rest_with t short = record { tree = t; short = short }
 
 -- a node whose subtree on this side may be short
-abbrev pub filled_on : Side → Bool → Branches → Rest
-filled_on Left short t = left_if short t
-filled_on Right short t = right_if short t
+abbrev pub filled_on : Side → Bool → ColouredTree → Remainder
+filled_on Left short t = filled_left_if_short short t
+filled_on Right short t = filled_right_if_short short t
 
-abbrev pub fill_on : Side → ℕ → Bool → Branches → List Store
-fill_on Left copy short t = left_fill_if copy short t
-fill_on Right copy short t = right_fill_if copy short t
+abbrev pub fill_links_on : Side → ℕ → Bool → ColouredTree → List Store
+fill_links_on Left copy short t = left_fill_links_if_short copy short t
+fill_links_on Right copy short t = right_fill_links_if_short copy short t
 
 -- one step up: the tree at the node above, from what is left of its subtree
-abbrev pub erase_step : Above → Rest → Rest
+abbrev pub erase_step : Above → Remainder → Remainder
 erase_step a rest = filled_on a.side rest.short (joined a a.red rest.tree)
 
 -- its stores, where the link to the subtree was this before
-abbrev pub erase_step_links : ℕ → Above → ℕ → Rest → List Store
+abbrev pub erase_step_links : ℕ → Above → ℕ → Remainder → List Store
 erase_step_links copy a before rest =
     relink_on a.side copy a.row.node before (link (shape rest.tree))
-    ++ fill_on a.side copy rest.short (joined a a.red rest.tree)
+    ++ fill_links_on a.side copy rest.short (joined a a.red rest.tree)
 
 -- the way up until only so many nodes are above
-abbrev pub erase_climbed : ℕ → List Above → Rest → Rest
+abbrev pub erase_climbed : ℕ → List Above → Remainder → Remainder
 erase_climbed d [] rest = rest
 erase_climbed d (a ∷ path) rest =
     if nat_lt (length path) d then rest else erase_climbed d path (erase_step a rest)
 
-abbrev pub erase_climb : ℕ → ℕ → List Above → ℕ → Rest → List Store
-erase_climb copy d [] before rest = []
-erase_climb copy d (a ∷ path) before rest =
+abbrev pub erase_climb_links : ℕ → ℕ → List Above → ℕ → Remainder → List Store
+erase_climb_links copy d [] before rest = []
+erase_climb_links copy d (a ∷ path) before rest =
     if nat_lt (length path) d then []
     else
     erase_step_links copy a before rest
-    ++ erase_climb copy d path (suc a.row.node) (erase_step a rest)
+    ++ erase_climb_links copy d path (suc a.row.node) (erase_step a rest)
 
 -- a tree without its top
-abbrev pub top_erased : Branches → Rest
+abbrev pub top_erased : ColouredTree → Remainder
 top_erased tip = whole tip
 top_erased (branch red l y r) = without_top red l r
 
-abbrev pub top_erase : ℕ → Branches → List Store
-top_erase copy tip = []
-top_erase copy (branch red l y r) = top_links copy red l r
+abbrev pub top_erase_links : ℕ → ColouredTree → List Store
+top_erase_links copy tip = []
+top_erase_links copy (branch red l y r) = top_links copy red l r
 
 -- a tree without its top, which has no left subtree
-abbrev pub first_erased : Branches → Rest
+abbrev pub first_erased : ColouredTree → Remainder
 first_erased tip = whole tip
 first_erased (branch red l y r) = lowered red r

@@ -6,31 +6,31 @@ use Rattle.order_laws.specs.declared.items.Item.{Item}
 use Rattle.rb_trees.specs.declared.Record.{Record}
 use Rattle.rb_trees.specs.declared.Side.{Side}
 use Rattle.rb_trees.specs.declared.Side.TheVariants.{Left, Right}
-use Rattle.rb_trees.specs.Trees.{Branches, tip, branch}
+use Rattle.rb_trees.specs.Trees.{ColouredTree, tip, branch}
 
 -- a node above: on which side of it the way goes on, its colour, its record, its other subtree
 pub record Above : Type 0 where
   pub side : Side
   pub red : Bool
   pub row : Record
-  pub other : Branches
+  pub other : ColouredTree
 
 -- a node of this colour with a tree on this side and another on the other side
-abbrev pub sided : Side → Bool → Branches → Record → Branches → Branches
+abbrev pub sided : Side → Bool → ColouredTree → Record → ColouredTree → ColouredTree
 sided Left red t x other = branch red t x other
 sided Right red t x other = branch red other x t
 
 -- the node above in this colour, with the tree where the way went on
-abbrev pub joined : Above → Bool → Branches → Branches
+abbrev pub joined : Above → Bool → ColouredTree → ColouredTree
 joined a red t = sided a.side red t a.row a.other
 
 -- all the way up, in the colours that the nodes have
-abbrev pub plugged : List Above → Branches → Branches
+abbrev pub plugged : List Above → ColouredTree → ColouredTree
 plugged [] t = t
 plugged (a ∷ path) t = plugged path (joined a a.red t)
 
 -- up until only so many nodes are above
-abbrev pub plugged_to : ℕ → List Above → Branches → Branches
+abbrev pub plugged_to : ℕ → List Above → ColouredTree → ColouredTree
 plugged_to d [] t = t
 plugged_to d (a ∷ path) t =
     if nat_lt (length path) d then t else plugged_to d path (joined a a.red t)
@@ -41,26 +41,26 @@ path_to d [] = []
 path_to d (a ∷ path) = if nat_lt (length path) d then a ∷ path else path_to d path
 
 -- a node that is passed on the left, or on the right
-abbrev pub past_left : Bool → Record → Branches → Above
+abbrev pub past_left : Bool → Record → ColouredTree → Above
 past_left red y r = record { side = Left; red = red; row = y; other = r }
 
-abbrev pub past_right : Bool → Branches → Record → Above
+abbrev pub past_right : Bool → ColouredTree → Record → Above
 past_right red l y = record { side = Right; red = red; row = y; other = l }
 
 -- the path up from the place of an item: left of each node that it is less than
-abbrev pub way_by : (Item → Item → Bool) → Item → Branches → List Above → List Above
+abbrev pub way_by : (Item → Item → Bool) → Item → ColouredTree → List Above → List Above
 way_by less x tip path = path
 way_by less x (branch red l y r) path =
     if less x y.item then way_by less x l (past_left red y r ∷ path)
     else way_by less x r (past_right red l y ∷ path)
 
 -- the place where a record lies, by where it lies against each: its node, or none
-abbrev pub place_from : Ordering → Branches → Branches → Branches → Branches
+abbrev pub place_from : Ordering → ColouredTree → ColouredTree → ColouredTree → ColouredTree
 place_from Less left here right = left
 place_from Equal left here right = here
 place_from Greater left here right = right
 
-abbrev pub place_at : (Record → Ordering) → Branches → Branches
+abbrev pub place_at : (Record → Ordering) → ColouredTree → ColouredTree
 place_at seen tip = tip
 place_at seen (branch red l y r) =
     place_from (seen y) (place_at seen l) (branch red l y r) (place_at seen r)
@@ -71,20 +71,20 @@ way_from Less left here right = left
 way_from Equal left here right = here
 way_from Greater left here right = right
 
-abbrev pub way_at : (Record → Ordering) → Branches → List Above → List Above
+abbrev pub way_at : (Record → Ordering) → ColouredTree → List Above → List Above
 way_at seen tip path = path
 way_at seen (branch red l y r) path =
     way_from (seen y) (way_at seen l (past_left red y r ∷ path)) path
     (way_at seen r (past_right red l y ∷ path))
 
 -- the first node
-abbrev pub first_place : Branches → Branches
+abbrev pub first_place : ColouredTree → ColouredTree
 first_place tip = tip
 first_place (branch red tip y r) = branch red tip y r
 first_place (branch red (branch k a x b) y r) = first_place (branch k a x b)
 
 -- the path up from there
-abbrev pub first_way : Branches → List Above → List Above
+abbrev pub first_way : ColouredTree → List Above → List Above
 first_way tip path = path
 first_way (branch red tip y r) path = path
 first_way (branch red (branch k a x b) y r) path =

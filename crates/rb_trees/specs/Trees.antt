@@ -4,57 +4,57 @@ use Rattle.word_arena.specs.Words.{Nodes, none, fork}
 use Rattle.rb_trees.specs.declared.Record.{Record}
 
 -- whether the node is red, its left subtree, its record, its right subtree
-pub data Branches : Type 0 where
-  tip : Branches
-  branch : Bool → Branches → Record → Branches → Branches
+pub data ColouredTree : Type 0 where
+  tip : ColouredTree
+  branch : Bool → ColouredTree → Record → ColouredTree → ColouredTree
 
-abbrev pub is_red : Branches → Bool
+abbrev pub is_red : ColouredTree → Bool
 is_red tip = false
 is_red (branch red l x r) = red
 
 -- its top in this colour
-abbrev pub coloured : Bool → Branches → Branches
+abbrev pub coloured : Bool → ColouredTree → ColouredTree
 coloured red tip = tip
 coloured red (branch was l x r) = branch red l x r
 
-abbrev pub blackened : Branches → Branches
+abbrev pub blackened : ColouredTree → ColouredTree
 blackened t = coloured false t
 
 -- the nodes without colours and items
-abbrev pub shape : Branches → Nodes
+abbrev pub shape : ColouredTree → Nodes
 shape tip = none
 shape (branch red l x r) = fork (shape l) x.node (shape r)
 
 -- the records from left to right
-abbrev pub rows : Branches → List Record
+abbrev pub rows : ColouredTree → List Record
 rows tip = []
 rows (branch red l x r) = rows l ++ x ∷ rows r
 
 -- how many black nodes there are on the way down along the left
-abbrev pub height : Branches → ℕ
-height tip = 0
-height (branch true l x r) = height l
-height (branch false l x r) = suc (height l)
+abbrev pub black_height : ColouredTree → ℕ
+black_height tip = 0
+black_height (branch true l x r) = black_height l
+black_height (branch false l x r) = suc (black_height l)
 
 -- all ways down have equally many black nodes
-abbrev pub IsEven : Branches → Type 0
-IsEven tip = Unit {0}
-IsEven (branch red l x r) = (height l ≡ height r) × IsEven l × IsEven r
+abbrev pub HasEqualBlackHeights : ColouredTree → Type 0
+HasEqualBlackHeights tip = Unit {0}
+HasEqualBlackHeights (branch red l x r) = (black_height l ≡ black_height r) × HasEqualBlackHeights l × HasEqualBlackHeights r
 
 -- no red node has a red child
-abbrev pub IsCalm : Branches → Type 0
-IsCalm tip = Unit {0}
-IsCalm (branch true l x r) = (is_red l ≡ false) × (is_red r ≡ false) × IsCalm l × IsCalm r
-IsCalm (branch false l x r) = IsCalm l × IsCalm r
+abbrev pub HasNoClash : ColouredTree → Type 0
+HasNoClash tip = Unit {0}
+HasNoClash (branch true l x r) = (is_red l ≡ false) × (is_red r ≡ false) × HasNoClash l × HasNoClash r
+HasNoClash (branch false l x r) = HasNoClash l × HasNoClash r
 
-pub record IsRedBlack (t : Branches) : Type 0 where
+pub record IsRedBlack (t : ColouredTree) : Type 0 where
   pub black : is_red t ≡ false
-  pub calm : IsCalm t
-  pub even : IsEven t
+  pub calm : HasNoClash t
+  pub even : HasEqualBlackHeights t
 
 -- a tree of nodes that can be coloured so
 abbrev pub CanBeRedBlack : Nodes → Type 0
-CanBeRedBlack tree = (t : Branches) × IsRedBlack t × (shape t ≡ tree)
+CanBeRedBlack tree = (t : ColouredTree) × IsRedBlack t × (shape t ≡ tree)
 
 -- the most nodes on a way down
 abbrev pub depth : Nodes → ℕ

@@ -2,7 +2,7 @@
 use Rattle.std.specs.Prelude.{ℕ, suc, Bool, List, [], ◌∷◌, if◌then◌else◌, ◌==◌}
 use Rattle.word_arena.specs.declared.stores.Store.{Store}
 use Rattle.word_arena.specs.Words.{Nodes, none, fork, root_word, left_word, right_word}
-use Rattle.rb_trees.specs.Trees.{Branches, tip, branch, shape}
+use Rattle.rb_trees.specs.Trees.{ColouredTree, tip, branch, shape}
 
 -- the link that leads to a tree
 abbrev pub link : Nodes → ℕ
@@ -16,29 +16,29 @@ abbrev pub set_right : ℕ → ℕ → ℕ → Store
 set_right copy node value = record { word = right_word copy node; value = value }
 
 -- the left child of a node takes its place
-abbrev pub turned_right : Bool → Bool → Branches → Branches
+abbrev pub turned_right : Bool → Bool → ColouredTree → ColouredTree
 turned_right child_red node_red tip = tip
 turned_right child_red node_red (branch red tip y r) = branch red tip y r
 turned_right child_red node_red (branch red (branch k a x b) y r) =
     branch child_red a x (branch node_red b y r)
 
-abbrev pub right_turn : ℕ → Branches → List Store
-right_turn copy tip = []
-right_turn copy (branch red tip y r) = []
-right_turn copy (branch red (branch k a x b) y r) =
+abbrev pub right_turn_links : ℕ → ColouredTree → List Store
+right_turn_links copy tip = []
+right_turn_links copy (branch red tip y r) = []
+right_turn_links copy (branch red (branch k a x b) y r) =
     set_left copy y.node (link (shape b)) ∷ set_right copy x.node (suc y.node) ∷ []
 
 -- the right child of a node takes its place
-abbrev pub turned_left : Bool → Bool → Branches → Branches
+abbrev pub turned_left : Bool → Bool → ColouredTree → ColouredTree
 turned_left child_red node_red tip = tip
 turned_left child_red node_red (branch red l y tip) = branch red l y tip
 turned_left child_red node_red (branch red l y (branch k a x b)) =
     branch child_red (branch node_red l y a) x b
 
-abbrev pub left_turn : ℕ → Branches → List Store
-left_turn copy tip = []
-left_turn copy (branch red l y tip) = []
-left_turn copy (branch red l y (branch k a x b)) =
+abbrev pub left_turn_links : ℕ → ColouredTree → List Store
+left_turn_links copy tip = []
+left_turn_links copy (branch red l y tip) = []
+left_turn_links copy (branch red l y (branch k a x b)) =
     set_right copy y.node (link (shape a)) ∷ set_left copy x.node (suc y.node) ∷ []
 
 -- a link that changed is stored

@@ -19,7 +19,7 @@ use Rattle.word_arena.proofs.StoreLemmas.{at_stored, at_other, same_store, after
 use Rattle.rb_words.specs.Pictures.{Picture, IsPictured}
 use Rattle.rb_words.specs.Plans.{AreLinks, item_stores, Inserts, LeadsWithItem, Erases}
 use Rattle.rb_words.specs.Plans.{LeadsByLinks}
-use Rattle.rb_words.specs.Mirrors.{mirror_word, mirror_store, mirror, second}
+use Rattle.rb_words.specs.Mirrors.{mirror_word, mirror_store, mirror_stores, second_picture}
 
 -- copy 1 of the second memory is as copy 0 of the first, and the nodes have the same items
 record Mirrors (n : ℕ) (m m' : List ℕ) : Type 0 where
@@ -80,7 +80,7 @@ module _ (n : ℕ) (m m' : List ℕ) (same : Mirrors n m m') where
   }
 
   pictured_there : (p : Picture) → p.capacity ≡ n → p.copy ≡ 0 → IsPictured m p →
-      IsPictured m' (second p)
+      IsPictured m' (second_picture p)
   pictured_there p en ec is = record {
     sized = same.as_long ∙ is.sized;
     holds = subst (λ k. Holds m' k 1 p.table p.tree) (sym en)
@@ -88,7 +88,7 @@ module _ (n : ℕ) (m m' : List ℕ) (same : Mirrors n m m') where
         (subst (λ c. Holds m p.capacity c p.table p.tree) ec is.holds)));
   }
 
-  pictured_back : (p : Picture) → p.capacity ≡ n → p.copy ≡ 0 → IsPictured m' (second p) →
+  pictured_back : (p : Picture) → p.capacity ≡ n → p.copy ≡ 0 → IsPictured m' (second_picture p) →
       IsPictured m p
   pictured_back p en ec is = record {
     sized = sym same.as_long ∙ is.sized;
@@ -198,7 +198,7 @@ twin_stores n m m' w w' v twin same =
     }
 
 links_stored : (n : ℕ) (m m' : List ℕ) (ss : List Store) → AreLinkStores n 0 ss → Mirrors n m m' →
-    Mirrors n (words_after_all m ss) (words_after_all m' (mirror ss))
+    Mirrors n (words_after_all m ss) (words_after_all m' (mirror_stores ss))
 links_stored n m m' [] are same = same
 links_stored n m m' (s ∷ ss) are same =
     links_stored n (words_after m s) (words_after m' (mirror_store s)) ss are.1
@@ -318,22 +318,22 @@ module _ (old new : Picture) (zero_copy : old.copy ≡ 0) (capacity : new.capaci
   new_zero = same_copy ∙ zero_copy
 
   -- a memory whose copy 1 is pictured, and the one whose copy 0 is
-  beside : (m : List ℕ) → IsPictured m (second old) → Mirrors old.capacity (copied old.capacity m) m
+  beside : (m : List ℕ) → IsPictured m (second_picture old) → Mirrors old.capacity (copied old.capacity m) m
   beside m shown = mirrors old.capacity m shown.sized
 
-  first_shown : (m : List ℕ) → IsPictured m (second old) → IsPictured (copied old.capacity m) old
+  first_shown : (m : List ℕ) → IsPictured m (second_picture old) → IsPictured (copied old.capacity m) old
   first_shown m shown = pictured_back old.capacity (copied old.capacity m) m (beside m shown) old
       refl zero_copy shown
 
   links_zero : (links : List Store) → AreLinks old links → AreLinkStores old.capacity 0 links
   links_zero links are = subst (λ c. AreLinkStores old.capacity c links) zero_copy are.words
 
-  mirror_links : (links : List Store) → AreLinks old links → AreLinks (second old) (mirror links)
+  mirror_links : (links : List Store) → AreLinks old links → AreLinks (second_picture old) (mirror_stores links)
   mirror_links links are = record
       { words = words_of links (links_zero links are); values = values_of links are.values }
     where
       words_of : (ss : List Store) → AreLinkStores old.capacity 0 ss →
-          AreLinkStores old.capacity 1 (mirror ss)
+          AreLinkStores old.capacity 1 (mirror_stores ss)
       words_of [] h = tt
       words_of (s ∷ ss) h = (
         ⊎_elim
@@ -349,28 +349,28 @@ module _ (old new : Picture) (zero_copy : old.copy ≡ 0) (capacity : new.capaci
       )
 
       values_of : (ss : List Store) → AllByRecursion (λ (s : Store). s.value ≤ old.capacity) ss →
-          AllByRecursion (λ (s : Store). s.value ≤ old.capacity) (mirror ss)
+          AllByRecursion (λ (s : Store). s.value ≤ old.capacity) (mirror_stores ss)
       values_of [] h = tt
       values_of (s ∷ ss) h = (h.0, values_of ss h.1)
 
   shown_after : (m m' : List ℕ) → Mirrors old.capacity m m' → IsPictured m new →
-      IsPictured m' (second new)
+      IsPictured m' (second_picture new)
   shown_after m m' same shown = pictured_there old.capacity m m' same new capacity new_zero shown
 
   pub by_links_mirrored : (links : List Store) → LeadsByLinks old new links →
-      LeadsByLinks (second old) (second new) (mirror links)
+      LeadsByLinks (second_picture old) (second_picture new) (mirror_stores links)
   by_links_mirrored links leads = record {
     links_only = mirror_links links leads.links_only;
     leads = λ m shown.
         let first = copied old.capacity m in
-        shown_after (words_after_all first links) (words_after_all m (mirror links))
+        shown_after (words_after_all first links) (words_after_all m (mirror_stores links))
         (links_stored old.capacity first m links (links_zero links leads.links_only)
         (beside m shown)) (leads.leads first (first_shown m shown));
   }
 
   pub with_item_mirrored : (node : ℕ) (item : Item) (links : List Store) →
       LeadsWithItem old new node item links →
-      LeadsWithItem (second old) (second new) node item (mirror links)
+      LeadsWithItem (second_picture old) (second_picture new) node item (mirror_stores links)
   with_item_mirrored node item links leads =
       let n = old.capacity in
       let stores = item_stores node item in
@@ -382,15 +382,15 @@ module _ (old new : Picture) (zero_copy : old.copy ≡ 0) (capacity : new.capaci
             let put = items_stored n first m node item (beside m shown) in
             let linked = links_stored n (words_after_all first stores) (words_after_all m stores)
             links zero_links put in
-            subst (λ w. IsPictured w (second new)) (sym (after_append m stores (mirror links)))
+            subst (λ w. IsPictured w (second_picture new)) (sym (after_append m stores (mirror_stores links)))
             (shown_after (words_after_all (words_after_all first stores) links)
-            (words_after_all (words_after_all m stores) (mirror links)) linked
+            (words_after_all (words_after_all m stores) (mirror_stores links)) linked
             (subst (λ w. IsPictured w new) (after_append first stores links)
             (leads.leads first (first_shown m shown))));
         leads_alone = λ m shown has.
             let first = copied n m in
             let same = beside m shown in
-            shown_after (words_after_all first links) (words_after_all m (mirror links))
+            shown_after (words_after_all first links) (words_after_all m (mirror_stores links))
             (links_stored n first m links zero_links same)
             (leads.leads_alone first (first_shown m shown)
             (sym (same_item n first m same node) ∙ has));
@@ -398,7 +398,7 @@ module _ (old new : Picture) (zero_copy : old.copy ≡ 0) (capacity : new.capaci
 
 -- an insert puts the same item in the same place of both
 pub inserts_mirrored : {K : Type 0} (o : Order K) (old new : Picture) (node : ℕ) (item : Item) →
-    Inserts o old new node item → Inserts o (second old) (second new) node item
+    Inserts o old new node item → Inserts o (second_picture old) (second_picture new) node item
 inserts_mirrored o old new node item is = record {
   capacity = is.capacity;
   copy = refl;
@@ -410,7 +410,7 @@ inserts_mirrored o old new node item is = record {
 
 -- an erase takes the same item from the same place
 pub erases_mirrored : (old new : Picture) (a node : ℕ) → old.copy ≡ 0 → Erases old new a node →
-    Erases (second old) (second new) a node
+    Erases (second_picture old) (second_picture new) a node
 erases_mirrored old new a node zero_copy is = record {
   capacity = is.capacity;
   copy = refl;

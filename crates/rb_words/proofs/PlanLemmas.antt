@@ -33,13 +33,13 @@ use Rattle.word_arena.proofs.StoreLemmas.{length_after, after_append, at_stored,
 use Rattle.word_arena.proofs.HoldsLemmas.{tree_untouched}
 use Rattle.word_arena.proofs.ReachLemmas.{reached_listed}
 use Rattle.rb_trees.specs.declared.Record.{Record}
-use Rattle.rb_trees.specs.Trees.{Branches, blackened, shape, rows, depth, IsRedBlack}
+use Rattle.rb_trees.specs.Trees.{ColouredTree, blackened, shape, rows, depth, IsRedBlack}
 use Rattle.rb_trees.specs.Turns.{link, relink_root}
-use Rattle.rb_trees.specs.Inserted.{inserted, insert_links}
+use Rattle.rb_trees.specs.Inserted.{inserted_into, insert_links}
 use Rattle.rb_trees.specs.Erased.{erase_links, found}
-use Rattle.rb_trees.specs.Sought.{Sought}
+use Rattle.rb_trees.specs.Sought.{FindsFirstWord}
 use Rattle.rb_trees.specs.Linked.{Among, IsSeparate}
-use Rattle.rb_trees.specs.Found.{items_of, met}
+use Rattle.rb_trees.specs.Found.{items_of_records, meets_on_the_way}
 use Rattle.rb_trees.proofs.MeetRows.{met_meets}
 use Rattle.rb_trees.proofs.RowLemmas.{rows_blackened}
 use Rattle.rb_trees.proofs.InsertLemmas.{inserted_red_black}
@@ -110,22 +110,22 @@ item_put m n node i lt sized =
     λ d. record { a = ea d; b = eb d; tag = et d }
 
 -- a record more
-module _ {K : Type 0} (o : Order K) (law : IsLawful o) (n c : ℕ) (t : Branches) (old room : ℕ)
+module _ {K : Type 0} (o : Order K) (law : IsLawful o) (n c : ℕ) (t : ColouredTree) (old room : ℕ)
     (more : room + 1 ≡ old) (is : IsPicture o (picture_of n c t old)) (good : IsRedBlack t)
     (x : Record) (lt : x.node < n) (free : Contains (listed (shape t)) x.node → ⊥)
-    (valid : o.valid x.item ≡ true) (apart : meets o x.item (items_of (rows t)) ≡ false) where
-  rows_with : rows (tree_with o x t) ≡ insert (rows t) (place_for o x.item (items_of (rows t))) x
-  rows_with = rows_blackened (inserted o.less x t) ∙ rows_inserted o law x t is.is_table
+    (valid : o.valid x.item ≡ true) (apart : meets o x.item (items_of_records (rows t)) ≡ false) where
+  rows_with : rows (tree_with o x t) ≡ insert (rows t) (place_for o x.item (items_of_records (rows t))) x
+  rows_with = rows_blackened (inserted_into o.less x t) ∙ rows_inserted o law x t is.is_table
 
-  items_with : items_of (rows (tree_with o x t)) ≡ with_item o x.item (items_of (rows t))
-  items_with = ap items_of rows_with
-      ∙ map-insert (λ r. r.item) (rows t) (place_for o x.item (items_of (rows t))) x
-      ∙ sym (with_place o x.item (items_of (rows t)))
+  items_with : items_of_records (rows (tree_with o x t)) ≡ with_item o x.item (items_of_records (rows t))
+  items_with = ap items_of_records rows_with
+      ∙ map-insert (λ r. r.item) (rows t) (place_for o x.item (items_of_records (rows t))) x
+      ∙ sym (with_place o x.item (items_of_records (rows t)))
 
   listed_with : listed (shape (tree_with o x t))
-      ≡ insert (listed (shape t)) (place_for o x.item (items_of (rows t))) x.node
+      ≡ insert (listed (shape t)) (place_for o x.item (items_of_records (rows t))) x.node
   listed_with =
-      let p = place_for o x.item (items_of (rows t)) in
+      let p = place_for o x.item (items_of_records (rows t)) in
       listed_rows (tree_with o x t) ∙ ap (map (λ r. r.node)) rows_with
       ∙ map-insert (λ r. r.node) (rows t) p x
       ∙ ap (λ xs. insert xs p x.node) (sym (listed_rows t))
@@ -138,14 +138,14 @@ module _ {K : Type 0} (o : Order K) (law : IsLawful o) (n c : ℕ) (t : Branches
       (shape (tree_with o x t)) (insert_links c o.less x t)
   relinks_with =
       subst (λ s. Relinks n c (With n c is.one_copy x.node (shape t)) (shape t) s
-      (insert_links c o.less x t)) (sym (shape_blackened (inserted o.less x t)))
+      (insert_links c o.less x t)) (sym (shape_blackened (inserted_into o.less x t)))
       (insert_relinks n c is.one_copy o.less x lt t (all_among (λ j. j < n) (shape t) is.below)
       (λ a. free (among_listed (shape t) x.node a)) (separate (shape t) is.distinct))
 
   pub picture_with : IsPicture o (picture_of n c (tree_with o x t) room)
   picture_with =
       let u = tree_with o x t in
-      let p = place_for o x.item (items_of (rows t)) in
+      let p = place_for o x.item (items_of_records (rows t)) in
       let below_new : AllByRecursion (λ i. i < n) (listed (shape u)) =
       subst (AllByRecursion (λ i. i < n)) (sym listed_with)
       (all_insert (λ i. i < n) (listed (shape t)) p x.node is.below lt) in
@@ -157,8 +157,8 @@ module _ {K : Type 0} (o : Order K) (law : IsLawful o) (n c : ℕ) (t : Branches
       record {
         one_copy = is.one_copy;
         is_table = subst (IsTable o) (sym items_with)
-            (with_item_table o law x.item (items_of (rows t)) valid
-            (not_meeting o x.item (items_of (rows t)) apart) is.is_table);
+            (with_item_table o law x.item (items_of_records (rows t)) valid
+            (not_meeting o x.item (items_of_records (rows t)) apart) is.is_table);
         below = below_new;
         distinct = distinct_new;
         as_many = many;
@@ -169,7 +169,7 @@ module _ {K : Type 0} (o : Order K) (law : IsLawful o) (n c : ℕ) (t : Branches
   pub inserts_with : Inserts o (picture_of n c t old) (picture_of n c (tree_with o x t) room) x.node
       x.item
   inserts_with =
-      let p = place_for o x.item (items_of (rows t)) in
+      let p = place_for o x.item (items_of_records (rows t)) in
       record {
         capacity = refl;
         copy = refl;
@@ -197,7 +197,7 @@ module _ {K : Type 0} (o : Order K) (law : IsLawful o) (n c : ℕ) (t : Branches
   alone_with m shown has_item =
       let u = tree_with o x t in
       let links = links_with c o x t in
-      let p = place_for o x.item (items_of (rows t)) in
+      let p = place_for o x.item (items_of_records (rows t)) in
       let stored : Stored m (rows u) =
       subst (Stored m) (sym rows_with)
       (all_insert (λ r. item_at m r.node ≡ r.item) (rows t) p x
@@ -233,7 +233,7 @@ module _ {K : Type 0} (o : Order K) (law : IsLawful o) (n c : ℕ) (t : Branches
       record {
         sized = length_after m stores ∙ shown.sized;
         holds =
-            tree_untouched m n c (items_of (rows t)) (shape t) stores unused shown.holds;
+            tree_untouched m n c (items_of_records (rows t)) (shape t) stores unused shown.holds;
       } in
       subst (λ w. IsPictured w (picture_of n c (tree_with o x t) room))
       (sym (after_append m stores links))
@@ -244,11 +244,11 @@ module _ {K : Type 0} (o : Order K) (law : IsLawful o) (n c : ℕ) (t : Branches
   leads_with = record { links_only = links_are_with; leads = words_with; leads_alone = alone_with }
 
 -- nine links at most, with the root's
-pub few_with : {K : Type 0} (o : Order K) (c : ℕ) (t : Branches) (x : Record) → IsRedBlack t →
+pub few_with : {K : Type 0} (o : Order K) (c : ℕ) (t : ColouredTree) (x : Record) → IsRedBlack t →
     length (links_with c o x t) ≤ 9
 few_with o c t x good =
     let ss = insert_links c o.less x t in
-    let v = inserted o.less x t in
+    let v = inserted_into o.less x t in
     let k = nine_links t v (length ss) (inserted_counted c o.less x t good.calm good.even) in
     let same : link (shape (blackened v)) ≡ link (shape v) = ap link (shape_blackened v) in
     let root = with_root_link c (link (shape t)) (link (shape (blackened v))) (length ss) 8 k.0
@@ -260,22 +260,22 @@ few_with o c t x good =
     )
 
 -- a record less
-module _ {K : Type 0} (o : Order K) (law : IsLawful o) (n c : ℕ) (t : Branches) (old room : ℕ)
+module _ {K : Type 0} (o : Order K) (law : IsLawful o) (n c : ℕ) (t : ColouredTree) (old room : ℕ)
     (more : room ≡ old + 1) (is : IsPicture o (picture_of n c t old)) (good : IsRedBlack t) (a : ℕ)
-    (seen : Record → Ordering) (sought : Sought a seen t) (there : has a (items_of (rows t)) ≡ true)
+    (seen : Record → Ordering) (sought : FindsFirstWord a seen t) (there : has a (items_of_records (rows t)) ≡ true)
   where
-    rows_without : rows (tree_without seen t) ≡ remove (rows t) (place_of a (items_of (rows t)))
+    rows_without : rows (tree_without seen t) ≡ remove (rows t) (place_of a (items_of_records (rows t)))
     rows_without = sought.erases
 
-    items_without : items_of (rows (tree_without seen t)) ≡ without a (items_of (rows t))
-    items_without = ap items_of rows_without
-        ∙ map-remove (λ r. r.item) (rows t) (place_of a (items_of (rows t)))
-        ∙ sym (without_place o law a (items_of (rows t)) is.is_table there)
+    items_without : items_of_records (rows (tree_without seen t)) ≡ without a (items_of_records (rows t))
+    items_without = ap items_of_records rows_without
+        ∙ map-remove (λ r. r.item) (rows t) (place_of a (items_of_records (rows t)))
+        ∙ sym (without_place o law a (items_of_records (rows t)) is.is_table there)
 
     listed_without : listed (shape (tree_without seen t))
-        ≡ remove (listed (shape t)) (place_of a (items_of (rows t)))
+        ≡ remove (listed (shape t)) (place_of a (items_of_records (rows t)))
     listed_without =
-        let p = place_of a (items_of (rows t)) in
+        let p = place_of a (items_of_records (rows t)) in
         listed_rows (tree_without seen t) ∙ ap (map (λ r. r.node)) rows_without
         ∙ map-remove (λ r. r.node) (rows t) p ∙ ap (λ xs. remove xs p) (sym (listed_rows t))
 
@@ -287,7 +287,7 @@ module _ {K : Type 0} (o : Order K) (law : IsLawful o) (n c : ℕ) (t : Branches
     pub picture_without : IsPicture o (picture_of n c (tree_without seen t) room)
     picture_without =
         let u = tree_without seen t in
-        let p = place_of a (items_of (rows t)) in
+        let p = place_of a (items_of_records (rows t)) in
         let below_new : AllByRecursion (λ i. i < n) (listed (shape u)) =
         subst (AllByRecursion (λ i. i < n)) (sym listed_without)
         (all_remove (λ i. i < n) (listed (shape t)) p is.below) in
@@ -298,7 +298,7 @@ module _ {K : Type 0} (o : Order K) (law : IsLawful o) (n c : ℕ) (t : Branches
         record {
           one_copy = is.one_copy;
           is_table = subst (IsTable o) (sym items_without)
-              (without_table o a (items_of (rows t)) is.is_table);
+              (without_table o a (items_of_records (rows t)) is.is_table);
           below = below_new;
           distinct = distinct_new;
           as_many = many;
@@ -321,7 +321,7 @@ module _ {K : Type 0} (o : Order K) (law : IsLawful o) (n c : ℕ) (t : Branches
     alone_without m shown =
         let u = tree_without seen t in
         let links = links_without c seen t in
-        let p = place_of a (items_of (rows t)) in
+        let p = place_of a (items_of_records (rows t)) in
         let stored : Stored m (rows u) =
         subst (Stored m) (sym rows_without)
         (all_remove (λ r. item_at m r.node ≡ r.item) (rows t) p
@@ -344,15 +344,15 @@ module _ {K : Type 0} (o : Order K) (law : IsLawful o) (n c : ℕ) (t : Branches
     pub erases_without : (x : Record) → found seen t ≡ Some x →
         Erases (picture_of n c t old) (picture_of n c (tree_without seen t) room) a x.node
     erases_without x is_x =
-        let p = place_of a (items_of (rows t)) in
+        let p = place_of a (items_of_records (rows t)) in
         let at_p : slice_get (rows t) p ≡ Some x = sym sought.finds ∙ is_x in
         let node_at : slice_get (listed (shape t)) p ≡ Some x.node =
         ap (λ xs. slice_get xs p) (listed_rows t) ∙ slice_get-map (λ (r : Record). r.node) (rows t) p
         ∙ ap (option_map (λ (r : Record). r.node)) at_p in
-        let item_there : slice_get (items_of (rows t)) p ≡ Some x.item =
+        let item_there : slice_get (items_of_records (rows t)) p ≡ Some x.item =
         slice_get-map (λ (r : Record). r.item) (rows t) p
         ∙ ap (option_map (λ (r : Record). r.item)) at_p in
-        let is_a : x.item.a ≡ a = place_of_has a (items_of (rows t)) x.item there item_there in
+        let is_a : x.item.a ≡ a = place_of_has a (items_of_records (rows t)) x.item there item_there in
         record {
           capacity = refl;
           copy = refl;
@@ -372,7 +372,7 @@ module _ {K : Type 0} (o : Order K) (law : IsLawful o) (n c : ℕ) (t : Branches
         }
 
 -- thirteen links at most, with the root's
-pub few_without : (c : ℕ) (seen : Record → Ordering) (t : Branches) →
+pub few_without : (c : ℕ) (seen : Record → Ordering) (t : ColouredTree) →
     length (links_without c seen t) ≤ 13
 few_without c seen t =
     let ss = erase_links c seen t in
@@ -383,14 +383,14 @@ few_without c seen t =
 
 -- the search on the one way down tells of the pictured table
 pub met_none : {K : Type 0} (o : Order K) → IsLawful o → IsInLine o → {i : Item} →
-    o.valid i ≡ true → (t : Branches) → IsTable o (items_of (rows t)) → {n c room : ℕ} →
-    {shown : Picture} → picture_of n c t room ≡ shown → met o i [] t ≡ meets o i shown.table
+    o.valid i ≡ true → (t : ColouredTree) → IsTable o (items_of_records (rows t)) → {n c room : ℕ} →
+    {shown : Picture} → picture_of n c t room ≡ shown → meets_on_the_way o i [] t ≡ meets o i shown.table
 met_none o law line {i = i} valid t is view =
-    met_meets o i [] law line valid t is ∙ ap (meets o i) (without_none (items_of (rows t)))
+    met_meets o i [] law line valid t is ∙ ap (meets o i) (without_none (items_of_records (rows t)))
     ∙ ap (λ (p : Picture). meets o i p.table) view
 
 -- the whole of a planned insert, as a shape shows it
-pub record AfterInsert {K : Type 0} (o : Order K) (n c : ℕ) (t u : Branches) (room : ℕ) (x : Record)
+pub record AfterInsert {K : Type 0} (o : Order K) (n c : ℕ) (t u : ColouredTree) (room : ℕ) (x : Record)
     (shown : Picture) : Type 0 where
   pub picture : IsPicture o (picture_of n c u room)
   pub balanced : IsRedBlack u
@@ -398,7 +398,7 @@ pub record AfterInsert {K : Type 0} (o : Order K) (n c : ℕ) (t u : Branches) (
   pub inserts : Inserts o shown (picture_of n c u room) x.node x.item
   pub leads : LeadsWithItem shown (picture_of n c u room) x.node x.item (links_with c o x t)
 
-module _ {K : Type 0} (o : Order K) (law : IsLawful o) (n c : ℕ) (t u : Branches) (old room : ℕ)
+module _ {K : Type 0} (o : Order K) (law : IsLawful o) (n c : ℕ) (t u : ColouredTree) (old room : ℕ)
     (x : Record) (is_u : u ≡ tree_with o x t) (more : room + 1 ≡ old)
     (is : IsPicture o (picture_of n c t old)) (good : IsRedBlack t) where
   abbrev pub CanInsert : Picture → Type 0
@@ -412,7 +412,7 @@ module _ {K : Type 0} (o : Order K) (law : IsLawful o) (n c : ℕ) (t u : Branch
       let v = tree_with o x t in
       let count_v : length (rows v) ≡ suc (length (rows t)) =
       ap length (rows_with o law n c t old room more is good x can.0 can.1 can.2 can.3)
-      ∙ length-insert (rows t) (place_for o x.item (items_of (rows t))) x in
+      ∙ length-insert (rows t) (place_for o x.item (items_of_records (rows t))) x in
       record {
         picture = subst (λ w. IsPicture o (picture_of n c w room)) (sym is_u)
             (picture_with o law n c t old room more is good x can.0 can.1 can.2 can.3);
@@ -429,7 +429,7 @@ module _ {K : Type 0} (o : Order K) (law : IsLawful o) (n c : ℕ) (t u : Branch
       }
 
 -- and of a planned erase
-pub record AfterErase {K : Type 0} (o : Order K) (n c : ℕ) (t u : Branches) (room a node : ℕ)
+pub record AfterErase {K : Type 0} (o : Order K) (n c : ℕ) (t u : ColouredTree) (room a node : ℕ)
     (seen : Record → Ordering) (shown : Picture) : Type 0 where
   pub picture : IsPicture o (picture_of n c u room)
   pub balanced : IsRedBlack u
@@ -437,22 +437,22 @@ pub record AfterErase {K : Type 0} (o : Order K) (n c : ℕ) (t u : Branches) (r
   pub erases : Erases shown (picture_of n c u room) a node
   pub leads : LeadsByLinks shown (picture_of n c u room) (links_without c seen t)
 
-module _ {K Z : Type 0} (o : Order K) (law : IsLawful o) (n c : ℕ) (t u : Branches)
+module _ {K Z : Type 0} (o : Order K) (law : IsLawful o) (n c : ℕ) (t u : ColouredTree)
     (old room a node : ℕ) (from to : Vec Store Z) (takes : TakesOut c a t u node from to)
     (more : room ≡ old + 1) (is : IsPicture o (picture_of n c t old)) (good : IsRedBlack t) where
   pub shown_erase : (shown : Picture) → picture_of n c t old ≡ shown → has a shown.table ≡ true →
       AfterErase o n c t u room a node takes.seen shown
   shown_erase shown view there0 =
-      let there : has a (items_of (rows t)) ≡ true =
+      let there : has a (items_of_records (rows t)) ≡ true =
       subst (λ s. has a s.table ≡ true) (sym view) there0 in
       let seen = takes.seen in
       let x = takes.row in
       let before = picture_of n c t old in
-      let at_p : slice_get (rows t) (place_of a (items_of (rows t))) ≡ Some x =
+      let at_p : slice_get (rows t) (place_of a (items_of_records (rows t))) ≡ Some x =
       sym takes.sought.finds ∙ takes.finds in
       let count_v : suc (length (rows (tree_without seen t))) ≡ length (rows t) =
       ap (λ xs. suc (length xs)) takes.sought.erases
-      ∙ length-remove_at (rows t) (place_of a (items_of (rows t))) x at_p in
+      ∙ length-remove_at (rows t) (place_of a (items_of_records (rows t))) x at_p in
       let erases : Erases before (picture_of n c u room) a x.node =
       subst (λ w. Erases before (picture_of n c w room) a x.node) (sym takes.tree)
       (erases_without o law n c t old room more is good a seen takes.sought there x takes.finds)
@@ -473,7 +473,7 @@ module _ {K Z : Type 0} (o : Order K) (law : IsLawful o) (n c : ℕ) (t u : Bran
       }
 
 -- a way down has so few nodes that a cursor has a step for each
-pub few_steps : {K : Type 0} (o : Order K) (n c : ℕ) (t : Branches) (room : ℕ) → n ≤ 65536 →
+pub few_steps : {K : Type 0} (o : Order K) (n c : ℕ) (t : ColouredTree) (room : ℕ) → n ≤ 65536 →
     IsPicture o (picture_of n c t room) → depth (shape t) ≤ 64
 few_steps o n c t room small is =
     let d = depth (shape t) in
@@ -487,12 +487,12 @@ few_steps o n c t room small is =
     (cases_lt 64 d)
 
 -- a record that was found is there
-pub found_there : (a : ℕ) (seen : Record → Ordering) (t : Branches) → Sought a seen t →
-    has a (items_of (rows t)) ≡ true → is_some (found seen t) ≡ true
+pub found_there : (a : ℕ) (seen : Record → Ordering) (t : ColouredTree) → FindsFirstWord a seen t →
+    has a (items_of_records (rows t)) ≡ true → is_some (found seen t) ≡ true
 found_there a seen t sought there =
-    ap is_some sought.finds ∙ is_some-slice_get (rows t) (place_of a (items_of (rows t)))
+    ap is_some sought.finds ∙ is_some-slice_get (rows t) (place_of a (items_of_records (rows t)))
     (omega (
       arith,
-      place_of_fits a (items_of (rows t)) there,
+      place_of_fits a (items_of_records (rows t)) there,
       length-map (rows t) (λ r. r.item),
     ))

@@ -17,31 +17,31 @@ abbrev pub mirror_store : Store → Store
 mirror_store s = record { word = mirror_word s.word; value = s.value }
 
 -- the stores in copy 1 for some in copy 0
-abbrev pub mirror : List Store → List Store
-mirror links = map mirror_store links
+abbrev pub mirror_stores : List Store → List Store
+mirror_stores links = map mirror_store links
 
 -- the same picture, of copy 1
-abbrev pub second : Picture → Picture
-second p = record p { copy = 1 }
+abbrev pub second_picture : Picture → Picture
+second_picture p = record p { copy = 1 }
 
 -- the same insert goes on in the second picture
 abbrev pub AreInsertsMirrored : {K : Type 0} → Order K → Picture → Picture → Type 0
 AreInsertsMirrored o old new = (node : ℕ) (item : Item) →
-    Inserts o old new node item → Inserts o (second old) (second new) node item
+    Inserts o old new node item → Inserts o (second_picture old) (second_picture new) node item
 
 -- and its plan, mirrored, leads copy 1
 abbrev pub ArePlansWithItemMirrored : {K : Type 0} → Order K → Picture → Picture → Type 0
 ArePlansWithItemMirrored o old new = (node : ℕ) (item : Item) (links : List Store) →
     old.copy ≡ 0 → Inserts o old new node item → LeadsWithItem old new node item links →
-    LeadsWithItem (second old) (second new) node item (mirror links)
+    LeadsWithItem (second_picture old) (second_picture new) node item (mirror_stores links)
 
 -- the same erase goes on in the second picture
 abbrev pub AreErasesMirrored : Picture → Picture → Type 0
 AreErasesMirrored old new = (a node : ℕ) →
-    old.copy ≡ 0 → Erases old new a node → Erases (second old) (second new) a node
+    old.copy ≡ 0 → Erases old new a node → Erases (second_picture old) (second_picture new) a node
 
 -- and its plan, mirrored, leads copy 1
 abbrev pub ArePlansByLinksMirrored : Picture → Picture → Type 0
 ArePlansByLinksMirrored old new = (a node : ℕ) (links : List Store) →
     old.copy ≡ 0 → Erases old new a node → LeadsByLinks old new links →
-    LeadsByLinks (second old) (second new) (mirror links)
+    LeadsByLinks (second_picture old) (second_picture new) (mirror_stores links)

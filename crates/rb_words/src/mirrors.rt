@@ -15,7 +15,7 @@ ghost use Rattle.std.specs.Prelude.{◌≡◌, ◌+◌, ◌≤◌, ◌++◌, ◌
 ghost use Rattle.word_arena.specs.Layouts.{capacity_of};
 ghost use Rattle.word_arena.specs.Stores.{AreLinkStores};
 ghost use Rattle.rb_words.specs.Pictures.{Picture, IsPicture};
-ghost use Rattle.rb_words.specs.Mirrors.{mirror, mirror_store, second};
+ghost use Rattle.rb_words.specs.Mirrors.{mirror_stores, mirror_store, second_picture};
 ghost use Rattle.rb_words.specs.Mirrors.{AreInsertsMirrored, ArePlansWithItemMirrored};
 ghost use Rattle.rb_words.specs.Mirrors.{AreErasesMirrored, ArePlansByLinksMirrored};
 
@@ -27,7 +27,7 @@ use word_arena::{Layout, Store};
 pub fn mirrored(l: Layout, links: &[Store], out: &mut Vec<Store>)
     requires first_copy { AreLinkStores (capacity_of l) 0 links.now }
     requires room { vec_len out.old + length links.now ≤ vec_capacity out.old }
-    ensures items { out.new.items ≡ out.old.items ++ mirror links.now }
+    ensures items { out.new.items ≡ out.old.items ++ mirror_stores links.now }
     ensures len { vec_len out.new ≡ vec_len out.old + length links.now }
     ensures capacity { vec_capacity out.new ≡ vec_capacity out.old }
 {
@@ -52,7 +52,7 @@ fn mirror_store(link: Store) -> Store
 /// What a change is in copy 0, the mirrored change is in copy 1: the same item goes in or out, at
 /// the same place, and the mirrored links lead copy 1 as the links lead copy 0.
 pub fn a_change_is_mirrored<O: TreeOrder>()
-    ensures sound { (p : Picture) → IsPicture O.order p → IsPicture O.order (second p) }
+    ensures sound { (p : Picture) → IsPicture O.order p → IsPicture O.order (second_picture p) }
     ensures inserts { (old new : Picture) → AreInsertsMirrored O.order old new }
     ensures with_item { (old new : Picture) → ArePlansWithItemMirrored O.order old new }
     ensures erases { (old new : Picture) → AreErasesMirrored old new }

@@ -232,7 +232,7 @@ fn holds(rt: &impl Abort, alloc: Global, l: Layout, c: &Copies) -> Result<(), Fa
     Ok(())
 }
 
-// What the shape answers of a slot that has its item or has not, of the item and of the gap behind
+// What the shape returns for a slot that has its item or has not, of the item and of the gap after
 // it.
 fn answers_of<O: TreeOrder>(rt: &impl Abort, shape: &Shape<O>, slot: u32, is: bool) {
     let x = item_of(slot);
@@ -251,7 +251,7 @@ fn answers<O: TreeOrder>(rt: &impl Abort, shape: &Shape<O>, inside: &[bool]) {
     }
 }
 
-// Both copies hold what is inside, and the shape answers so.
+// Both copies hold what is inside, and the shape says so.
 fn compare<O: TreeOrder>(
     rt: &impl Abort,
     alloc: Global,

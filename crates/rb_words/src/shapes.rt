@@ -16,11 +16,11 @@ ghost use Rattle.rb_words.specs.Pictures.{IsPicture, empty_picture};
 ghost use Rattle.rb_words.specs.Wider.{IsPicturedWider};
 ghost use Rattle.rb_words.specs.Plans.{item_stores, Inserts, LeadsWithItem, Erases, LeadsByLinks};
 ghost use Rattle.rb_words.specs.TreePictures.{zipper_with, links_with, zipper_without};
-ghost use Rattle.rb_words.specs.TreePictures.{links_without, Grows, TakesOut};
+ghost use Rattle.rb_words.specs.TreePictures.{links_without, IsLongerBy, TakesOut};
 ghost use Rattle.rb_cursor.specs.Stores.{Fits, Adds};
-ghost use Rattle.rb_trees.specs.Trees.{IsCalm, shape, depth, rows};
+ghost use Rattle.rb_trees.specs.Trees.{HasNoClash, shape, depth, rows};
 ghost use Rattle.rb_trees.specs.Erased.{found};
-ghost use Rattle.rb_trees.specs.Found.{items_of, met};
+ghost use Rattle.rb_trees.specs.Found.{items_of_records, meets_on_the_way};
 
 use order_laws::{Item, Refusal, TreeOrder};
 use rb_cursor::Cursor;
@@ -161,7 +161,7 @@ impl<O: TreeOrder> Shape<O> {
 
     /// Makes room for `k` items, and hands out an empty list with room for `k` plans.
     ///
-    /// What is pictured stays, also where memory is refused by [`Refusal::OutOfMemory`].
+    /// What is pictured stays, even if memory is refused by [`Refusal::OutOfMemory`].
     pub fn reserve(&mut self, k: u32) -> Result<Vec<Store>, Refusal>
         ensures kept { self.new ≡ record self.old { room = self.new.room } }
         ensures grown { self.old.room ≤ self.new.room }
@@ -178,7 +178,7 @@ impl<O: TreeOrder> Shape<O> {
     /// Makes room for `k` items, and in a list that is there already for `k` plans more: for a
     /// writer that keeps its list from update to update.
     ///
-    /// What is pictured and what is listed stay, also where memory is refused by
+    /// What is pictured and what is listed stay, even if memory is refused by
     /// [`Refusal::OutOfMemory`].
     #[inline(always)]
     pub fn reserve_in(&mut self, k: u32, out: &mut Vec<Store>) -> Result<(), Refusal>
@@ -196,7 +196,7 @@ impl<O: TreeOrder> Shape<O> {
 
     /// Makes room for `k` items, and in no list.
     ///
-    /// What is pictured stays, also where memory is refused by [`Refusal::OutOfMemory`].
+    /// What is pictured stays, even if memory is refused by [`Refusal::OutOfMemory`].
     #[inline(always)]
     pub fn reserve_room(&mut self, k: u32) -> Result<(), Refusal>
         ensures kept { self.new ≡ record self.old { room = self.new.room } }
@@ -255,7 +255,7 @@ impl<O: TreeOrder> Shape<O> {
         self.count += 1;
     }
 
-    /// Plans to insert an item in a free node, unless it meets one of the table. Answers whether it
+    /// Plans to insert an item in a free node, unless it meets one of the table. Returns whether it
     /// does.
     ///
     /// Where it meets none, it has planned what [`Shape::plan_insert`] does; where it meets one,
@@ -291,7 +291,7 @@ impl<O: TreeOrder> Shape<O> {
     }
 
     /// Plans the links of an insert alone, for a caller that has listed the stores of the item's
-    /// words, unless the item meets one of the table. Answers whether it does.
+    /// words, unless the item meets one of the table. Returns whether it does.
     ///
     /// Where it meets one, what is pictured and what is listed stay. Takes no memory. There must
     /// be room for one item and for [`STORES`] stores, the item's three among them, and the item
@@ -330,7 +330,7 @@ impl<O: TreeOrder> Shape<O> {
         false
     }
 
-    /// Plans to erase the item of this first word, and pictures the copy without it. Answers the
+    /// Plans to erase the item of this first word, and pictures the copy without it. Returns the
     /// node that is free then.
     ///
     /// Appends stores of links alone, since the words of the item serve both copies. Takes no
@@ -353,7 +353,7 @@ impl<O: TreeOrder> Shape<O> {
         node
     }
 
-    /// Plans to erase the item of this first word, if there is one: then it answers the node that
+    /// Plans to erase the item of this first word, if there is one: then it returns the node that
     /// is free then, and has planned what [`Shape::plan_erase`] does. With none, what is pictured
     /// and what is listed stay.
     ///
@@ -387,14 +387,14 @@ fn with_record<O: TreeOrder>(
     added: Record,
 )
     requires whole { cursor.old.path ≡ [] }
-    requires calm { IsCalm cursor.old.tree }
+    requires calm { HasNoClash cursor.old.tree }
     requires steps { depth (shape cursor.old.tree) ≤ 64 }
     requires room { 0 < cursor.old.room }
     requires list { Fits out.old (links_with (copy_number copy) O.order added cursor.old.tree) }
     ensures cursor { cursor.new ≡ zipper_with O.order added cursor.old }
     ensures items { Adds out.old
         (links_with (copy_number copy) O.order added cursor.old.tree) out.new }
-    ensures len { Grows out.old
+    ensures len { IsLongerBy out.old
         (links_with (copy_number copy) O.order added cursor.old.tree) out.new }
     ensures capacity { vec_capacity out.new ≡ vec_capacity out.old }
 {
@@ -405,7 +405,7 @@ fn with_record<O: TreeOrder>(
 }
 
 // Puts a record into the tree, and appends the stores of links, unless its item meets one of the
-// tree. Answers whether it does.
+// tree. Returns whether it does.
 fn with_record_apart<O: TreeOrder>(
     out: &mut Vec<Store>,
     copy: TreeCopy,
@@ -413,18 +413,18 @@ fn with_record_apart<O: TreeOrder>(
     added: Record,
 ) -> bool
     requires whole { cursor.old.path ≡ [] }
-    requires calm { IsCalm cursor.old.tree }
+    requires calm { HasNoClash cursor.old.tree }
     requires steps { depth (shape cursor.old.tree) ≤ 64 }
     requires room { 0 < cursor.old.room }
     requires list { Fits out.old (links_with (copy_number copy) O.order added cursor.old.tree) }
-    ensures met { result ≡ met O.order added.item [] cursor.old.tree }
+    ensures met { result ≡ meets_on_the_way O.order added.item [] cursor.old.tree }
     ensures unchanged { result ≡ true →
         (cursor.new ≡ cursor.old) × (out.new.items ≡ out.old.items) }
     ensures cursor { result ≡ false → cursor.new ≡ zipper_with O.order added cursor.old }
     ensures items { result ≡ false →
         Adds out.old (links_with (copy_number copy) O.order added cursor.old.tree) out.new }
     ensures len { result ≡ false →
-        Grows out.old (links_with (copy_number copy) O.order added cursor.old.tree) out.new }
+        IsLongerBy out.old (links_with (copy_number copy) O.order added cursor.old.tree) out.new }
     ensures capacity { vec_capacity out.new ≡ vec_capacity out.old }
 {
     let before = cursor.link();
@@ -437,7 +437,7 @@ fn with_record_apart<O: TreeOrder>(
 }
 
 // Takes the record of a first word out of the tree, if there is one, and appends the stores of
-// links. Answers its node. An order that is in no line has the item looked for among all first,
+// links. Returns its node. An order that is in no line has the item looked for among all first,
 // since first words say nothing there of where it stands.
 fn without_word<O: TreeOrder>(
     out: &mut Vec<Store>,
@@ -448,8 +448,8 @@ fn without_word<O: TreeOrder>(
     requires whole { cursor.old.path ≡ [] }
     requires steps { depth (shape cursor.old.tree) ≤ 64 }
     requires list { vec_len out.old + STORES ≤ vec_capacity out.old }
-    requires table { IsTable O.order (items_of (rows cursor.old.tree)) }
-    ensures found { is_some result ≡ has a (items_of (rows cursor.old.tree)) }
+    requires table { IsTable O.order (items_of_records (rows cursor.old.tree)) }
+    ensures found { is_some result ≡ has a (items_of_records (rows cursor.old.tree)) }
     ensures unchanged { result ≡ None →
         (cursor.new ≡ cursor.old) × (out.new.items ≡ out.old.items) }
     ensures gone { IfSome result (λ node.
@@ -470,7 +470,7 @@ fn without_word<O: TreeOrder>(
 }
 
 // Takes the record that is sought out of the tree, if it is there, and appends the stores of links.
-// Answers it.
+// Returns it.
 fn without_sought<P: Probe>(
     out: &mut Vec<Store>,
     copy: TreeCopy,

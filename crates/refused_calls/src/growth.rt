@@ -1,7 +1,7 @@
 //! `Writer::enlarge` and `Ledger::enlarge`.
 
 ghost use Rattle.latch_table.specs.Enlarging.{AreReadersOf as AreReadersOfWriter};
-ghost use Rattle.shared_lookup.specs.Enlarging.{AreReadersOf};
+ghost use Rattle.shared_lookup.specs.Enlarging.{AreLedgerReaders};
 
 use crate::End;
 use crate::tables::with;
@@ -86,7 +86,7 @@ impl Growing for Table {
 struct LedgerTable {
     ledger: Ledger,
     readers: Vec<Reader<HalfOpen>>,
-    ghost whole: { AreReadersOf ledger readers.items },
+    ghost whole: { AreLedgerReaders ledger readers.items },
 }
 
 impl Growing for LedgerTable {

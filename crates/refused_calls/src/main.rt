@@ -1,7 +1,7 @@
-//! Calls that ask for memory, each made once more where it answers that memory was refused.
+//! Calls that ask for memory, each made once more where it returns that memory was refused.
 //!
 //! `refused_calls ITEMS` makes such calls of the libraries on tables of so many items, and writes a
-//! line for each. A call that answers [`OutOfMemory`](order_laws::Refusal::OutOfMemory) must have
+//! line for each. A call that returns [`OutOfMemory`](order_laws::Refusal::OutOfMemory) must have
 //! changed nothing, and is made once more. So where one request of the process for memory is
 //! refused, whichever it is, the lines are those of a run with ample memory; unless it is one of
 //! the requests for what the calls are given, after which the program ends with `refused 7` as its

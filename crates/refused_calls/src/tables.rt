@@ -41,16 +41,16 @@ pub(crate) fn with(sum: u64, found: Option<Item>, generation: u64) -> u64 {
 }
 
 /// The same, as the writer finds it from within its update.
-fn found_inside(hand: &mut InHand<'_, HalfOpen>, capacity: u32) -> u64 {
+fn found_inside(pending: &mut InHand<'_, HalfOpen>, capacity: u32) -> u64 {
     let mut sum: u64 = 0;
     for place in 0..KEYS {
-        let (found, generation) = hand.find_inside(key(place, capacity));
+        let (found, generation) = pending.find_inside(key(place, capacity));
         sum = with(sum, found, generation);
     }
     sum
 }
 
-/// An update to its end, unless it is refused. Answers the new generation and what was found
+/// An update to its end, unless it is refused. Returns the new generation and what was found
 /// within.
 fn update(
     rt: &impl Print,
@@ -58,17 +58,17 @@ fn update(
     capacity: u32,
     u: Update,
 ) -> Result<(u64, u64), End> {
-    let mut hand = writer.begin(u)?;
+    let mut pending = writer.begin(u)?;
     let begun = println!(rt; "steps begin");
     let mut sum: u64 = 0;
-    for _ in 0..hand.remaining() {
-        hand.step();
+    for _ in 0..pending.remaining() {
+        pending.step();
         sum = sum
             .wrapping_mul(31)
-            .wrapping_add(found_inside(&mut hand, capacity));
+            .wrapping_add(found_inside(&mut pending, capacity));
     }
     let ended = println!(rt; "steps end");
-    let generation = hand.finish();
+    let generation = pending.finish();
     begun?;
     ended?;
     Ok((generation, sum))

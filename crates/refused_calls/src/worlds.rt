@@ -9,7 +9,7 @@ use std::alloc::Global;
 use std::io::{self, Print};
 use word_arena::Layout;
 
-/// How many readers have a lookup in hand while the updates are made.
+/// How many readers have a pending lookup while the updates are made.
 const READERS: u32 = 3;
 
 /// Makes a step, and once more where memory was refused.
@@ -42,7 +42,7 @@ fn find(rt: &impl Print, world: &mut World<HalfOpen>, key: u64) -> io::Result<()
     match found {
         Ok(found) => println!(rt;
             "find: generation {} loads {} tries {}",
-            found.generation, found.loads, found.tries
+            found.generation, found.loads, found.attempts
         ),
         Err(why) => println!(rt; "find: refused {}", why.number()),
     }

@@ -8,7 +8,7 @@ use std::alloc::Global;
 use std::io::{self, Print};
 use word_arena::Layout;
 
-/// What a writer answers when it is asked.
+/// What a writer returns when it is asked.
 #[derive(Clone, Copy, PartialEq, Eq)]
 struct Account {
     generation: u64,

@@ -1,2 +1,2 @@
 -- what a search of the list finds
-pub mod Finding
+pub mod FindLemmas

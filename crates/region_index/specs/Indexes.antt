@@ -11,5 +11,5 @@ pub record IsIndexOf (c : CatalogEntries) (items : List Item) : Type 0 where
   pub rising : IsNonDecreasingBy (λ i. i.a) items
 
 -- the items below the place begin at or below the address, and the others above it
-abbrev pub IsSplit : List Item → ℕ → ℕ → Type 0
-IsSplit items addr place = IsSplitBy (λ i. i.a) items addr place
+abbrev pub IsItemSplit : List Item → ℕ → ℕ → Type 0
+IsItemSplit items addr place = IsSplitBy (λ i. i.a) items addr place

@@ -7,5 +7,5 @@ use Rattle.modules.specs.Entries.{CatalogEntries}
 use Rattle.modules.specs.Items.{items_of}
 
 -- the item that the address lies in
-abbrev pub item_at : CatalogEntries → ℕ → Option Item
-item_at c addr = look half_open addr (items_of c)
+abbrev pub item_of_address : CatalogEntries → ℕ → Option Item
+item_of_address c addr = look half_open addr (items_of c)

@@ -13,8 +13,8 @@ ghost use Rattle.std.specs.Prelude.{◌≡◌, ◌≤◌, ◌<◌, ◌++◌, len
 ghost use Rattle.std.specs.List.Sorted.{IsNonDecreasingBy};
 ghost use Rattle.modules.specs.Items.{items_at, items_below, items_of};
 ghost use Rattle.modules.specs.Loads.{item_of};
-ghost use Rattle.region_index.specs.Indexes.{IsSplit};
-ghost use Rattle.region_index.specs.Items.{item_at};
+ghost use Rattle.region_index.specs.Indexes.{IsItemSplit};
+ghost use Rattle.region_index.specs.Items.{item_of_address};
 
 use modules::{Catalog, Region};
 use order_laws::Item;
@@ -33,11 +33,11 @@ impl<'a> Model for IndexedCatalog<'a> {
 
     ghost Value = { CatalogEntries };
 
-    ghost use Rattle.region_index.specs.Whole.{IsWhole};
+    ghost use Rattle.region_index.specs.Whole.{IsWholeIndex};
 
     ghost view = { λ c. c.catalog };
 
-    ghost invariant = { IsWhole };
+    ghost invariant = { IsWholeIndex };
 }
 
 /// Puts the items of a module's regions after the others.
@@ -83,7 +83,7 @@ fn items_of(alloc: Global, catalog: &Catalog, modules: u64) -> Result<Vec<Item>,
 /// tells them.
 fn split_at(items: &[Item], addr: u64) -> usize
     requires { IsNonDecreasingBy (λ i. i.a) items.now }
-    ensures { IsSplit items.now addr result }
+    ensures { IsItemSplit items.now addr result }
 {
     if items.len() > 1 && addr < items[1].a {
         return if items[0].a <= addr { 1 } else { 0 };
@@ -117,7 +117,7 @@ impl<'a> IndexedCatalog<'a> {
 
     /// The region that an address lies in, with the number of its module as the tag.
     pub fn find(&self, addr: u64) -> Option<Item>
-        ensures is { result ≡ item_at self.now addr }
+        ensures is { result ≡ item_of_address self.now addr }
         ensures holds { IfSome result (λ i. (i.a ≤ addr) × (addr < i.b)) }
     {
         let split = split_at(&self.items, addr);

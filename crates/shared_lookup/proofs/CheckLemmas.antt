@@ -8,12 +8,12 @@ use Rattle.order_laws.specs.Tables.{look}
 use Rattle.latch_core.specs.declared.updates.Update.{Update}
 use Rattle.latch_core.specs.Histories.{replay}
 use Rattle.shared_lookup.specs.declared.served.Answer.{Answer}
-use Rattle.shared_lookup.specs.Checks.{is_same, is_wrong_answer}
+use Rattle.shared_lookup.specs.Checks.{is_same_item, is_wrong_answer}
 use Rattle.shared_lookup.specs.Counts.{Counts}
 use Rattle.shared_lookup.specs.Servings.{IsWrongAnswer}
 use Rattle.shared_lookup.proofs.CountLemmas.{counts_of}
 
-same_items : (x y : Option Item) → is_same x y ≡ true → x ≡ y
+same_items : (x y : Option Item) → is_same_item x y ≡ true → x ≡ y
 same_items None None e = refl
 same_items None (Some j) e = absurd cc
 same_items (Some i) None e = absurd cc
@@ -23,7 +23,7 @@ same_items (Some i) (Some j) e =
     let t : i.tag ≡ j.tag = grind (arith, nat_tests) in
     λ k. Some (record { a = a k; b = b k; tag = t k })
 
-itself : (x : Option Item) → is_same x x ≡ true
+itself : (x : Option Item) → is_same_item x x ≡ true
 itself None = refl
 itself (Some i) = grind (arith, nat_tests)
 
@@ -31,13 +31,13 @@ module _ (log : List Update) (a : Answer) where
   abbrev found : Option Item
   found = look half_open a.key (replay half_open [] (take a.generation log))
 
-  wrong_by : (p q : Bool) → nat_lt (length log) a.generation ≡ p → is_same a.item found ≡ q → (p || not q) ≡ true → IsWrongAnswer log a
+  wrong_by : (p q : Bool) → nat_lt (length log) a.generation ≡ p → is_same_item a.item found ≡ q → (p || not q) ≡ true → IsWrongAnswer log a
   wrong_by true q ep eq e = inl (let h = ep in grind (arith, nat_tests))
   wrong_by false true ep eq e = absurd cc
   wrong_by false false ep eq e =
-      inr (λ same. absurd (let f : is_same a.item a.item ≡ is_same a.item found = ap (is_same a.item) same in let g = itself a.item in let h = eq in cc))
+      inr (λ same. absurd (let f : is_same_item a.item a.item ≡ is_same_item a.item found = ap (is_same_item a.item) same in let g = itself a.item in let h = eq in cc))
 
-  right_by : (p q : Bool) → nat_lt (length log) a.generation ≡ p → is_same a.item found ≡ q → (p || not q) ≡ false → IsWrongAnswer log a → ⊥
+  right_by : (p q : Bool) → nat_lt (length log) a.generation ≡ p → is_same_item a.item found ≡ q → (p || not q) ≡ false → IsWrongAnswer log a → ⊥
   right_by true q ep eq e wrong = absurd cc
   right_by false true ep eq e wrong =
       ⊎_elim (λ past. absurd (let h = ep in grind (arith, nat_tests))) (λ other. other (same_items a.item found eq)) wrong

@@ -16,9 +16,9 @@ use Rattle.latch_core.specs.Histories.{replay}
 use Rattle.latch_core.specs.Invariants.{IsSound}
 use Rattle.latch_core.proofs.TestLemmas.{all_tests, none_holds}
 use Rattle.latch_table.specs.Readers.{ReaderState}
-use Rattle.latch_table.specs.Writers.{WriterState, known}
+use Rattle.latch_table.specs.Writers.{WriterState, shown_updates}
 use Rattle.latch_table.specs.Enlarging.{Enlarges}
-use Rattle.shared_lookup.specs.Ledgers.{LedgerState, AreAccepted, IsResting, ledger_state}
+use Rattle.shared_lookup.specs.Ledgers.{LedgerState, AreAccepted, HasNothingPending, ledger_of}
 use Rattle.shared_lookup.specs.Enlarging.{enlarged_ledger}
 
 -- an update that nothing stands against, where there is no more than n items, is not refused with
@@ -47,26 +47,26 @@ accepted_wider w place l more later few all j u e =
     none_wider half_open w.capacity (capacity_of l) w.limit (limit_of l) _ _ u more later (few j) (all j u e)
 
 module _ (w : WriterState) (l : Layout) (w' : WriterState) (readers : List ReaderState) (e : Enlarges w l w' readers)
-    (resting : IsResting w) (sound : IsSound half_open w.capacity (2 * w.base) w.history w.latch) where
+    (resting : HasNothingPending w) (sound : IsSound half_open w.capacity (2 * w.base) w.history w.latch) where
   -- the ledger is the same, but for its words
-  pub same_ledger : ledger_state w' ≡ enlarged_ledger w'.place l (ledger_state w)
-  same_ledger = ap ledger_state e.state
+  pub same_ledger : ledger_of w' ≡ enlarged_ledger w'.place l (ledger_of w)
+  same_ledger = ap ledger_of e.state
 
-  all_shown : known w' ≡ w'.history
+  all_shown : shown_updates w' ≡ w'.history
   all_shown = e.shown ∙ resting.shown ∙ sym (ap (λ (v : WriterState). v.history) e.state)
 
   -- and rests again
-  pub rests_enlarged : IsResting w'
+  pub rests_enlarged : HasNothingPending w'
   rests_enlarged =
       record {
-        rests = ap (λ (v : WriterState). v.latch.hand) e.state ∙ resting.rests;
+        rests = ap (λ (v : WriterState). v.latch.pending) e.state ∙ resting.rests;
         shown = all_shown;
-        accepted = subst AreAccepted (sym same_ledger) (accepted_wider (ledger_state w) w'.place l e.may.1.0 e.may.1.1 (λ j. (sound.tables j).1) resting.accepted);
+        accepted = subst AreAccepted (sym same_ledger) (accepted_wider (ledger_of w) w'.place l e.may.1.0 e.may.1.1 (λ j. (sound.tables j).1) resting.accepted);
       }
 
 -- a writer at rest that was asked to go on with more nodes rests
-pub rests_after_enlarging : {R E : Type 0} (w : WriterState) (l : Layout) (w' : WriterState) (resting : IsResting w)
+pub rests_after_enlarging : {R E : Type 0} (w : WriterState) (l : Layout) (w' : WriterState) (resting : HasNothingPending w)
     (sound : IsSound half_open w.capacity (2 * w.base) w.history w.latch) (given : R → List ReaderState) (r : Result R E)
-    → IfOk r (λ all. Enlarges w l w' (given all)) → OnErr r (w' ≡ w) → IsResting w'
+    → IfOk r (λ all. Enlarges w l w' (given all)) → OnErr r (w' ≡ w) → HasNothingPending w'
 rests_after_enlarging w l w' resting sound given (Ok all) ok err = rests_enlarged w l w' (given all) ok resting sound
-rests_after_enlarging w l w' resting sound given (Err e) ok err = subst IsResting (sym err) resting
+rests_after_enlarging w l w' resting sound given (Err e) ok err = subst HasNothingPending (sym err) resting

@@ -22,7 +22,7 @@ reading_more keys i list rs r less is all count er ek =
           (er ∙ (let s = all.same in omega (arith, s, count)), ek);
     })
 
--- one list answered more
+-- one list with its answers more
 pub answered_more : (keys : List (Vec ℕ)) (list : Vec ℕ) (answers : List (Vec Answer)) (found : Vec Answer) (ended : List Bool) (end : Bool)
     → EachIsAnswered keys answers ended → AreAnswered (length keys) list.items found.items end
     → EachIsAnswered (keys ++ list ∷ []) (answers ++ found ∷ []) (ended ++ end ∷ [])

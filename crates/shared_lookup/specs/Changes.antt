@@ -13,13 +13,13 @@ use Rattle.modules.specs.Starts.{first_start}
 use Rattle.modules.specs.declared.catalog.Held.{Held}
 use Rattle.shared_lookup.specs.declared.changes.Change.{Change}
 use Rattle.shared_lookup.specs.declared.changes.Change.TheVariants.{Load, Unload, DropInit}
-use Rattle.shared_lookup.specs.Ledgers.{LedgerState, table_of, Applies, RefusesEntry}
+use Rattle.shared_lookup.specs.Ledgers.{LedgerState, ledger_table, Applies, RefusesEntry}
 
 -- the number of the module that is changed
-abbrev pub number_in : Change → ℕ
-number_in (Load n) = n
-number_in (Unload n) = n
-number_in (DropInit n) = n
+abbrev pub number_of_change : Change → ℕ
+number_of_change (Load n) = n
+number_of_change (Unload n) = n
+number_of_change (DropInit n) = n
 
 -- the update that a catalog gives for a change, by what is held of the module
 abbrev pub asked : CatalogEntries → Change → Held → Result Update Refusal
@@ -46,18 +46,18 @@ abbrev pub held_in : CatalogEntries → ℕ → List Item → Held
 held_in c n table = option_map_or (held_of table) (module_of c n) none_held
 
 -- the update that a change is, at a table
-abbrev pub update_for : CatalogEntries → Change → List Item → Result Update Refusal
-update_for c ch table = asked c ch (held_in c (number_in ch) table)
+abbrev pub update_of_change : CatalogEntries → Change → List Item → Result Update Refusal
+update_of_change c ch table = asked c ch (held_in c (number_of_change ch) table)
 
 -- the update of the change is applied
 abbrev pub Changes : CatalogEntries → Change → LedgerState → LedgerState → ℕ → Type 0
-Changes c ch l l' g = (u : Update) × (update_for c ch (table_of l) ≡ Ok u) × Applies u l l' g
+Changes c ch l l' g = (u : Update) × (update_of_change c ch (ledger_table l) ≡ Ok u) × Applies u l l' g
 
 -- the catalog refuses the change, or its update is refused
 abbrev pub RefusesChange : CatalogEntries → Change → LedgerState → Refusal → Type 0
 RefusesChange c ch l e =
-    (update_for c ch (table_of l) ≡ Err e)
-    ⊎ ((u : Update) × (update_for c ch (table_of l) ≡ Ok u) × RefusesEntry u l e)
+    (update_of_change c ch (ledger_table l) ≡ Err e)
+    ⊎ ((u : Update) × (update_of_change c ch (ledger_table l) ≡ Ok u) × RefusesEntry u l e)
 
 -- the update is one that the catalog gives for the change, whatever is held
 abbrev pub IsUpdateFor : CatalogEntries → Change → Update → Type 0

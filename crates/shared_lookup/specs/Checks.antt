@@ -9,17 +9,17 @@ use Rattle.latch_core.specs.declared.updates.Update.{Update}
 use Rattle.latch_core.specs.Histories.{replay}
 use Rattle.shared_lookup.specs.declared.served.Answer.{Answer}
 use Rattle.shared_lookup.specs.Ledgers.{LedgerState}
-use Rattle.shared_lookup.specs.Servings.{Outcome, has_generation}
+use Rattle.shared_lookup.specs.Servings.{ChangeOutcome, has_generation}
 
 -- both are none, or items of the same words
-abbrev pub is_same : Option Item → Option Item → Bool
-is_same = option_eq (λ i j. nat_eq i.a j.a && nat_eq i.b j.b && nat_eq i.tag j.tag)
+abbrev pub is_same_item : Option Item → Option Item → Bool
+is_same_item = option_eq (λ i j. nat_eq i.a j.a && nat_eq i.b j.b && nat_eq i.tag j.tag)
 
 -- the answer is wrong, as a test
 abbrev pub is_wrong_answer : List Update → Answer → Bool
 is_wrong_answer log a =
     nat_lt (length log) a.generation
-    || not (is_same a.item (look half_open a.key (replay half_open [] (take a.generation log))))
+    || not (is_same_item a.item (look half_open a.key (replay half_open [] (take a.generation log))))
 
 -- the answers stand by rising generation
 abbrev pub AreInOrder : List Answer → Type 0
@@ -30,7 +30,7 @@ abbrev pub with_log : List Update → LedgerState → LedgerState
 with_log log l = record l { log = log }
 
 -- for each entry of the log how many of the accepted changes have its generation: none, one or more
-abbrev pub AreTallied : List Outcome → List ℕ → Type 0
+abbrev pub AreTallied : List ChangeOutcome → List ℕ → Type 0
 AreTallied outcomes times =
     (place : ℕ) → place < length times
     → slice_index_or times place 0 ≡ min 255 (count_by (has_generation (place + 1)) outcomes)
@@ -39,7 +39,7 @@ abbrev pub no_answer : Answer
 no_answer = record { reader = 0; place = 0; key = 0; generation = 0; item = None }
 
 -- the same after these outcomes more
-abbrev pub IsTalliedBy : List Outcome → List ℕ → List ℕ → Type 0
+abbrev pub IsTalliedBy : List ChangeOutcome → List ℕ → List ℕ → Type 0
 IsTalliedBy outcomes times times' =
     (place : ℕ) → place < length times
     → slice_index_or times' place 0

@@ -10,17 +10,17 @@ use Rattle.latch_table.specs.Readers.{ReaderState}
 use Rattle.shared_lookup.specs.Ledgers.{LedgerState}
 
 -- these are the readers that came with the ledger
-abbrev pub AreReadersOf : LedgerState → List ReaderState → Type 0
-AreReadersOf w all = (length all ≡ w.readers) × All (λ x. x.place ≡ w.place) all
+abbrev pub AreLedgerReaders : LedgerState → List ReaderState → Type 0
+AreLedgerReaders w all = (length all ≡ w.readers) × All (λ x. x.place ≡ w.place) all
 
 -- the layout has no fewer nodes and no smaller greatest sequence
-abbrev pub IsNoSmaller : LedgerState → Layout → Type 0
-IsNoSmaller w l = (w.capacity ≤ capacity_of l) × (w.limit ≤ limit_of l)
+abbrev pub IsNoSmallerThanLedger : LedgerState → Layout → Type 0
+IsNoSmallerThanLedger w l = (w.capacity ≤ capacity_of l) × (w.limit ≤ limit_of l)
 
 -- the layout is smaller; or else memory was refused
-abbrev pub RefusesEnlarging : LedgerState → Layout → Refusal → Type 0
-RefusesEnlarging w l e =
-    ((e ≡ BadCapacity) × (IsNoSmaller w l → ⊥)) ⊎ ((e ≡ OutOfMemory) × IsNoSmaller w l)
+abbrev pub RefusesEnlargingLedger : LedgerState → Layout → Refusal → Type 0
+RefusesEnlargingLedger w l e =
+    ((e ≡ BadCapacity) × (IsNoSmallerThanLedger w l → ⊥)) ⊎ ((e ≡ OutOfMemory) × IsNoSmallerThanLedger w l)
 
 -- the same ledger, with its log, in the words of another layout
 abbrev pub enlarged_ledger : TableId → Layout → LedgerState → LedgerState
@@ -28,13 +28,13 @@ enlarged_ledger place l w =
     record w { place = place; capacity = capacity_of l; limit = limit_of l }
 
 -- a reader of these words that has loaded nothing, and will know at least the whole log
-abbrev pub reader_beside : LedgerState → ReaderState
-reader_beside w = record { place = w.place; knowledge = blank_reader w.base w.capacity w.log }
+abbrev pub reader_beside_ledger : LedgerState → ReaderState
+reader_beside_ledger w = record { place = w.place; knowledge = blank_reader w.base w.capacity w.log }
 
 -- the ledger goes on in words of the layout, with as many readers as before; its log stays
-pub record Enlarges (w : LedgerState) (l : Layout) (w' : LedgerState) (all : List ReaderState)
+pub record EnlargesLedger (w : LedgerState) (l : Layout) (w' : LedgerState) (all : List ReaderState)
     : Type 0 where
-  pub may : IsNoSmaller w l
+  pub may : IsNoSmallerThanLedger w l
   pub state : w' ≡ enlarged_ledger w'.place l w
   pub count : length all ≡ w.readers
-  pub readers : All (λ x. x ≡ reader_beside w') all
+  pub readers : All (λ x. x ≡ reader_beside_ledger w') all

@@ -8,10 +8,10 @@ use Rattle.order_laws.specs.Orders.{half_open}
 use Rattle.word_arena.specs.declared.layouts.Layout.{Layout}
 use Rattle.word_arena.specs.Layouts.{capacity_of, limit_of}
 use Rattle.latch_core.specs.declared.updates.Update.{Update}
-use Rattle.latch_core.specs.Sequences.{gen}
+use Rattle.latch_core.specs.Sequences.{generation_of}
 use Rattle.latch_core.specs.Updates.{refuses}
 use Rattle.latch_core.specs.Histories.{replay}
-use Rattle.latch_table.specs.Writers.{WriterState, known, why}
+use Rattle.latch_table.specs.Writers.{WriterState, shown_updates, why}
 
 -- A ledger, as clauses see it: its table, how many readers came with it, the opening generation,
 -- the number of nodes and the greatest sequence, and every accepted update in order
@@ -24,19 +24,19 @@ pub record LedgerState : Type 0 where
   pub log : List Update
 
 -- the table after the updates of the log
-abbrev pub table_of : LedgerState → List Item
-table_of l = replay half_open [] l.log
+abbrev pub ledger_table : LedgerState → List Item
+ledger_table l = replay half_open [] l.log
 
 -- the generation, and the sequence that names it
-abbrev pub generation_of : LedgerState → ℕ
-generation_of l = l.base + length l.log
+abbrev pub ledger_generation : LedgerState → ℕ
+ledger_generation l = l.base + length l.log
 
-abbrev pub sequence_of : LedgerState → ℕ
-sequence_of l = 2 * generation_of l
+abbrev pub ledger_sequence : LedgerState → ℕ
+ledger_sequence l = 2 * ledger_generation l
 
 -- why an update is refused, or none
-abbrev pub why_not : LedgerState → Update → Option Refusal
-why_not l u = refuses half_open l.capacity l.limit false (table_of l) (sequence_of l) u
+abbrev pub refusal_at : LedgerState → Update → Option Refusal
+refusal_at l u = refuses half_open l.capacity l.limit false (ledger_table l) (ledger_sequence l) u
 
 -- with one update more at the end of the log
 abbrev pub with_entry : Update → LedgerState → LedgerState
@@ -48,20 +48,20 @@ with_first count l = record l { log = take count l.log }
 
 -- the update stands against nothing, and is the last of the log, whose generation this is
 abbrev pub Applies : Update → LedgerState → LedgerState → ℕ → Type 0
-Applies u l l' g = (why_not l u ≡ None) × (l' ≡ with_entry u l) × (g ≡ generation_of l')
+Applies u l l' g = (refusal_at l u ≡ None) × (l' ≡ with_entry u l) × (g ≡ ledger_generation l')
 
--- what stands against an update, or want of memory
+-- what stands against an update, or out of memory
 abbrev pub RefusesEntry : Update → LedgerState → Refusal → Type 0
-RefusesEntry u l e = (why_not l u ≡ Some e) ⊎ (e ≡ OutOfMemory)
+RefusesEntry u l e = (refusal_at l u ≡ Some e) ⊎ (e ≡ OutOfMemory)
 
--- what stands against an update, or want of memory where nothing does
+-- what stands against an update, or out of memory where nothing does
 abbrev pub RefusesUpdate : Update → LedgerState → Refusal → Type 0
-RefusesUpdate u l e = (why_not l u ≡ Some e) ⊎ ((why_not l u ≡ None) × (e ≡ OutOfMemory))
+RefusesUpdate u l e = (refusal_at l u ≡ Some e) ⊎ ((refusal_at l u ≡ None) × (e ≡ OutOfMemory))
 
 -- nothing stood against any update of the log when its turn came
 abbrev pub AreAccepted : LedgerState → Type 0
 AreAccepted l =
-    (j : ℕ) (u : Update) → slice_get l.log j ≡ Some u → why_not (with_first j l) u ≡ None
+    (j : ℕ) (u : Update) → slice_get l.log j ≡ Some u → refusal_at (with_first j l) u ≡ None
 
 -- a new ledger
 abbrev pub new_ledger : TableId → Layout → ℕ → ℕ → LedgerState
@@ -69,15 +69,15 @@ new_ledger place l start readers =
     record {
       place = place;
       readers = readers;
-      base = gen start;
+      base = generation_of start;
       capacity = capacity_of l;
       limit = limit_of l;
       log = [];
     }
 
 -- a writer with all that it accepted as the log
-abbrev pub ledger_state : WriterState → LedgerState
-ledger_state w =
+abbrev pub ledger_of : WriterState → LedgerState
+ledger_of w =
     record {
       place = w.place;
       readers = w.readers;
@@ -87,17 +87,17 @@ ledger_state w =
       log = w.history;
     }
 
--- a writer with nothing in hand: it has shown all that it accepted, and nothing stood against any
+-- a writer with no pending update: it has shown all that it accepted, and nothing stood against any
 -- of it
-pub record IsResting (w : WriterState) : Type 0 where
-  pub rests : w.latch.hand ≡ None
-  pub shown : known w ≡ w.history
-  pub accepted : AreAccepted (ledger_state w)
+pub record HasNothingPending (w : WriterState) : Type 0 where
+  pub rests : w.latch.pending ≡ None
+  pub shown : shown_updates w ≡ w.history
+  pub accepted : AreAccepted (ledger_of w)
 
--- the update was begun and all its steps were made; nothing is in hand, and all that was accepted
+-- the update was begun and all its steps were made; no update is pending, and all that was accepted
 -- is shown
 abbrev pub CarriesOut : WriterState → Update → WriterState → ℕ → Type 0
 CarriesOut w u w' g =
     (why half_open w u ≡ None)
     × (w' ≡ record w { history = w.history ++ u ∷ []; latch = w'.latch })
-    × (w'.latch.hand ≡ None) × (known w' ≡ w'.history) × (g ≡ w.base + length w'.history)
+    × (w'.latch.pending ≡ None) × (shown_updates w' ≡ w'.history) × (g ≡ w.base + length w'.history)

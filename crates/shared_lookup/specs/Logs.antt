@@ -3,7 +3,7 @@ use Rattle.std.specs.Prelude.{◌≡◌, ℕ, List}
 use Rattle.word_arena.specs.declared.layouts.Layout.{Layout}
 use Rattle.word_arena.specs.Layouts.{capacity_of, limit_of}
 use Rattle.latch_core.specs.declared.updates.Update.{Update}
-use Rattle.latch_core.specs.Sequences.{gen}
+use Rattle.latch_core.specs.Sequences.{generation_of}
 use Rattle.latch_core.specs.Writers.{MayOpen}
 use Rattle.shared_lookup.specs.Ledgers.{LedgerState}
 
@@ -13,5 +13,5 @@ pub record IsLedger (w : LedgerState) (log : List Update) (l : Layout) (start : 
   pub logged : log ≡ w.log
   pub capacity : w.capacity ≡ capacity_of l
   pub limit : w.limit ≡ limit_of l
-  pub base : w.base ≡ gen start
+  pub base : w.base ≡ generation_of start
   pub opened : MayOpen l start

@@ -16,15 +16,15 @@ use Rattle.shared_lookup.specs.Changes.{IsUpdateFor}
 use Rattle.shared_lookup.specs.Counts.{Counts}
 
 -- what became of a change: its generation, or why it was refused
-abbrev pub Outcome : Type 0
-Outcome = Result ℕ Refusal
+abbrev pub ChangeOutcome : Type 0
+ChangeOutcome = Result ℕ Refusal
 
 -- all entries of all lists, one list after another
 abbrev pub entries : {X : Type 0} → List (Vec X) → List X
 entries lists = flat_map (λ list. list.items) lists
 
 -- each list of changes has a list of outcomes, one for each change
-abbrev pub EachHasOutcome : List (Vec Change) → List (Vec Outcome) → Type 0
+abbrev pub EachHasOutcome : List (Vec Change) → List (Vec ChangeOutcome) → Type 0
 EachHasOutcome changes outcomes =
     map (λ list. length list.items) outcomes ≡ map (λ list. length list.items) changes
 
@@ -34,8 +34,8 @@ pub record IsAnswerTo (reader place key : ℕ) (a : Answer) : Type 0 where
   pub place_is : a.place ≡ place
   pub key_is : a.key ≡ key
 
--- a list of keys is answered from its first place on, and to its end unless it ended for want of
--- memory
+-- a list of keys has its answers from its first place on, and to its end unless it ended because
+-- memory ran out
 pub record AreAnswered (reader : ℕ) (keys : List ℕ) (answers : List Answer) (ended : Bool)
     : Type 0 where
   pub few : length answers ≤ length keys
@@ -43,7 +43,7 @@ pub record AreAnswered (reader : ℕ) (keys : List ℕ) (answers : List Answer) 
       → slice_get answers place ≡ Some a → IsAnswerTo reader place key a
   pub whole : ended ≡ false → length answers ≡ length keys
 
--- each list of keys is answered
+-- each list of keys has its answers
 pub record EachIsAnswered (keys : List (Vec ℕ)) (answers : List (Vec Answer)) (ended : List Bool)
     : Type 0 where
   pub same : length answers ≡ length keys
@@ -66,21 +66,21 @@ IsLogged c log ch g =
     (0 < g) × ((u : Update) × (slice_get log (g - 1) ≡ Some u) × IsUpdateFor c ch u)
 
 -- a change that was accepted without such an entry
-abbrev pub IsWrongChange : CatalogEntries → List Update → Change × Outcome → Type 0
+abbrev pub IsWrongChange : CatalogEntries → List Update → Change × ChangeOutcome → Type 0
 IsWrongChange c log e = (g : ℕ) × (e.1 ≡ Ok g) × (IsLogged c log e.0 g → ⊥)
 
 -- the change was accepted, and this is its generation
-abbrev pub has_generation : ℕ → Outcome → Bool
+abbrev pub has_generation : ℕ → ChangeOutcome → Bool
 has_generation g (Ok h) = h == g
 has_generation g (Err e) = false
 
 -- an entry of the log, by its place, whose generation is not that of exactly one accepted change
-abbrev pub IsWrongEntry : List Outcome → ℕ → Type 0
+abbrev pub IsWrongEntry : List ChangeOutcome → ℕ → Type 0
 IsWrongEntry outcomes place = count_by (has_generation (place + 1)) outcomes ≢ 1
 
 -- how many are wrong of the answers, of the accepted changes and of the entries of the log; it
 -- stays at the greatest u64
-abbrev pub IsWrongCount : CatalogEntries → List (Vec Change) → List (Vec Outcome)
+abbrev pub IsWrongCount : CatalogEntries → List (Vec Change) → List (Vec ChangeOutcome)
     → List (Vec Answer) → List Update → ℕ → Type 0
 IsWrongCount c changes outcomes answers log wrong =
     (a : ℕ) × Counts (IsWrongAnswer log) (entries answers) a
@@ -92,7 +92,7 @@ IsWrongCount c changes outcomes answers log wrong =
 abbrev pub MayServe : CatalogEntries → List (Vec ℕ) → Type 0
 MayServe c keys = (length (regions_of c) ≤ 65536) × (0 < length keys) × (length keys ≤ 64)
 
--- by these numbers, and else for want of memory
+-- by these numbers, and else because memory ran out
 abbrev pub RefusesServing : CatalogEntries → List (Vec ℕ) → Refusal → Type 0
 RefusesServing c keys e =
     ((e ≡ BadCapacity) × (MayServe c keys → ⊥)) ⊎ ((e ≡ OutOfMemory) × MayServe c keys)

@@ -13,8 +13,8 @@ lists_of lists = map (λ list. length list.items) lists
 abbrev pub lengths_of : List Changing → List ℕ
 lengths_of lists = map (λ list. length list.changes.now) lists
 
-abbrev pub counts_of : List WriterThread → List ℕ
-counts_of writers = map (λ w. w.count) writers
+abbrev pub counts_of_threads : List WriterThread → List ℕ
+counts_of_threads writers = map (λ w. w.count) writers
 
 -- each list of keys has a thread
 pub record AreReading (keys : List (Vec ℕ)) (readers : List ReaderThread) : Type 0 where

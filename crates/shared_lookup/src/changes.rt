@@ -2,7 +2,7 @@
 
 ghost use Rattle.std.specs.Prelude.{◌≡◌, ◌↔◌, IsTrue};
 ghost use Rattle.modules.specs.Loads.{GivesOrLacksMemory};
-ghost use Rattle.shared_lookup.specs.Changes.{asked, number_in, IsUpdateFor};
+ghost use Rattle.shared_lookup.specs.Changes.{asked, number_of_change, IsUpdateFor};
 
 use latch_core::Update;
 use modules::{Catalog, Held};
@@ -22,7 +22,7 @@ pub enum Change {
 impl Change {
     /// The number of the module.
     pub fn number(self) -> u64
-        ensures { result ≡ number_in self }
+        ensures { result ≡ number_of_change self }
     {
         match self {
             Change::Load(number) | Change::Unload(number) | Change::DropInit(number) => number,

@@ -9,7 +9,7 @@ ghost use Rattle.latch_table.specs.Writers.{MayOpenWith, RefusesOpening};
 ghost use Rattle.shared_lookup.specs.Checks.{with_log};
 ghost use Rattle.shared_lookup.specs.Changes.{Changes, RefusesChange, held_in};
 ghost use Rattle.shared_lookup.specs.Ledgers.{Applies, AreAccepted, RefusesEntry, new_ledger};
-ghost use Rattle.shared_lookup.specs.Ledgers.{table_of};
+ghost use Rattle.shared_lookup.specs.Ledgers.{ledger_table};
 
 use crate::changes::Change;
 use crate::gates::Gate;
@@ -24,7 +24,7 @@ use word_arena::Layout;
 
 mod enlarging;
 
-/// The one writer of a table, with nothing in hand between its calls, and every update that it
+/// The one writer of a table, with no pending update between its calls, and every update that it
 /// accepted, in order.
 #[derive(Drop)]
 pub struct Ledger {
@@ -72,7 +72,7 @@ impl Ledger {
     }
 
     /// Makes one whole update and adds it to the log. The gate is told of each step as a step of
-    /// the writer `who`. Answers the new generation.
+    /// the writer `who`. Returns the new generation.
     ///
     /// Room in the log is made first, and where it is refused the answer is
     /// [`Refusal::OutOfMemory`]. Else the update is refused by [`Refusal::BadItem`],
@@ -91,7 +91,7 @@ impl Ledger {
         Ok(generation)
     }
 
-    /// Loads or unloads a module, or ends its start, by what the table itself holds of it. Answers
+    /// Loads or unloads a module, or ends its start, by what the table itself holds of it. Returns
     /// the new generation.
     ///
     /// Refused as the catalog refuses ([`Refusal::UnknownModule`], [`Refusal::AlreadyLoaded`],
@@ -115,7 +115,7 @@ impl Ledger {
 
     /// What of a module the table holds.
     fn held(&self, c: &Catalog<'_>, number: u64) -> Held
-        ensures { result ≡ held_in c.now number (table_of self.now) }
+        ensures { result ≡ held_in c.now number (ledger_table self.now) }
     {
         let Some(module) = c.module(number) else {
             return Held {

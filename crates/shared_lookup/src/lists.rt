@@ -2,7 +2,7 @@
 
 ghost use Rattle.std.specs.Prelude.{◌≡◌, ◌≤◌, [], length, IfOk, vec_len};
 ghost use Rattle.shared_lookup.specs.Servings.{EachIsAnswered};
-ghost use Rattle.shared_lookup.specs.Threads.{AreReading, counts_of, lengths_of, lists_of};
+ghost use Rattle.shared_lookup.specs.Threads.{AreReading, counts_of_threads, lengths_of, lists_of};
 
 use crate::changes::Change;
 use crate::gates::Gate;
@@ -43,7 +43,7 @@ pub(crate) fn start_writers<'s, E, R: Threads + Wait + Sync, G: Gate + Sync, W: 
     mut writers: Vec<WriterThread>,
 ) -> Result<Vec<WriterThread>, AllocError>
     requires { writers.items ≡ [] }
-    ensures { IfOk result (λ all. counts_of all.items ≡ lengths_of lists.entry.items) }
+    ensures { IfOk result (λ all. counts_of_threads all.items ≡ lengths_of lists.entry.items) }
 {
     for list in lists {
         writers.push(start_writer(scope, rt, g, changer, list))?;
@@ -84,7 +84,7 @@ pub(crate) fn join_writers<R: Threads>(
     mut outcomes: Vec<Outcomes>,
 ) -> Result<Vec<Outcomes>, AllocError>
     requires { outcomes.items ≡ [] }
-    ensures { IfOk result (λ all. lists_of all.items ≡ counts_of writers.items) }
+    ensures { IfOk result (λ all. lists_of all.items ≡ counts_of_threads writers.items) }
 {
     for writer in writers {
         outcomes.push(join_writer(rt, alloc, writer)?)?;

@@ -60,7 +60,7 @@ fn replay_up_to(
 }
 
 /// Whether an answer is wrong, of a generation that is not below the `done` updates of the log that
-/// the table has made. Answers with it how many it has made then.
+/// the table has made. Returns with it how many it has made then.
 fn is_wrong(
     table: &mut RestingWriter,
     log: &[Update],

@@ -7,9 +7,9 @@ ghost use Rattle.latch_table.specs.declared.knowledge.Origin.TheVariants.{Start}
 ghost use Rattle.latch_table.specs.Readers.{new_reader};
 ghost use Rattle.latch_table.specs.Seats.{first_knowledge};
 ghost use Rattle.latch_table.specs.Writers.{MayOpenWith, OnTheWay, Refuses, RefusesOpening};
-ghost use Rattle.shared_lookup.specs.Enlarging.{AreReadersOf, Enlarges, RefusesEnlarging};
+ghost use Rattle.shared_lookup.specs.Enlarging.{AreLedgerReaders, EnlargesLedger, RefusesEnlargingLedger};
 ghost use Rattle.shared_lookup.specs.Ledgers.{Applies, AreAccepted, CarriesOut, RefusesUpdate};
-ghost use Rattle.shared_lookup.specs.Ledgers.{new_ledger, table_of};
+ghost use Rattle.shared_lookup.specs.Ledgers.{new_ledger, ledger_table};
 
 use crate::gates::{Gate, Point};
 use latch_core::Update;
@@ -19,33 +19,33 @@ use std::alloc::Global;
 use std::marker::Model;
 use word_arena::Layout;
 
-/// A writer with nothing in hand between its calls.
+/// A writer with no pending update between its calls.
 #[derive(Drop)]
 pub(crate) struct RestingWriter {
     writer: Writer<HalfOpen>,
 }
 
 impl Model for RestingWriter {
-    ghost use Rattle.shared_lookup.specs.Ledgers.{LedgerState, ledger_state, IsResting};
+    ghost use Rattle.shared_lookup.specs.Ledgers.{LedgerState, ledger_of, HasNothingPending};
 
     ghost Value = { LedgerState };
 
-    ghost view = { λ r. ledger_state r.writer };
+    ghost view = { λ r. ledger_of r.writer };
 
-    ghost invariant = { λ r. IsResting r.writer };
+    ghost invariant = { λ r. HasNothingPending r.writer };
 }
 
 /// Makes the steps that are left, and tells the gate of each.
-fn step_through<G: Gate>(hand: &mut InHand<'_, HalfOpen>, g: &G, writer: u32, sequence: u64)
-    ensures same_reference { hand.new.writer.ghost_name ≡ hand.old.writer.ghost_name }
-    ensures way { OnTheWay hand.old.writer.now hand.new.writer.now }
+fn step_through<G: Gate>(pending: &mut InHand<'_, HalfOpen>, g: &G, writer: u32, sequence: u64)
+    ensures same_reference { pending.new.writer.ghost_name ≡ pending.old.writer.ghost_name }
+    ensures way { OnTheWay pending.old.writer.now pending.new.writer.now }
 {
     let mut seq = sequence;
-    while let Some(did) = hand.step() {
+    while let Some(did) = pending.step() {
         if did == Did::Flip {
             seq = seq.saturating_add(1);
         }
-        let remaining = hand.remaining();
+        let remaining = pending.remaining();
         g.tell(Point::WriterStep {
             writer,
             seq,
@@ -54,7 +54,7 @@ fn step_through<G: Gate>(hand: &mut InHand<'_, HalfOpen>, g: &G, writer: u32, se
     }
 }
 
-/// Begins an update, makes all its steps, and answers the new generation.
+/// Begins an update, makes all its steps, and returns the new generation.
 fn carry_out<G: Gate>(
     writer: &mut Writer<HalfOpen>,
     g: &G,
@@ -66,9 +66,9 @@ fn carry_out<G: Gate>(
     ensures refused { IfErr result (Refuses half_open writer.old u) }
 {
     let sequence = writer.generation().saturating_mul(2);
-    let mut hand = writer.begin(u)?;
-    step_through(&mut hand, g, who, sequence);
-    Ok(hand.finish())
+    let mut pending = writer.begin(u)?;
+    step_through(&mut pending, g, who, sequence);
+    Ok(pending.finish())
 }
 
 impl RestingWriter {
@@ -89,7 +89,7 @@ impl RestingWriter {
         Ok((RestingWriter { writer }, readers))
     }
 
-    /// Makes one whole update, of which the gate is told step by step, and answers the new
+    /// Makes one whole update, of which the gate is told step by step, and returns the new
     /// generation.
     pub(crate) fn apply<G: Gate>(&mut self, g: &G, who: u32, u: Update) -> Result<u64, Refusal>
         ensures applied { IfOk result (Applies u self.old self.new) }
@@ -108,9 +108,9 @@ impl RestingWriter {
         l: Layout,
         readers: Vec<Reader<HalfOpen>>,
     ) -> Result<Vec<Reader<HalfOpen>>, (Refusal, Vec<Reader<HalfOpen>>)>
-        requires readers { AreReadersOf self.old readers.items }
-        ensures enlarged { IfOk result (λ all. Enlarges self.old l self.new all.items) }
-        ensures refusal { IfErr result (λ e. RefusesEnlarging self.old l e.0) }
+        requires readers { AreLedgerReaders self.old readers.items }
+        ensures enlarged { IfOk result (λ all. EnlargesLedger self.old l self.new all.items) }
+        ensures refusal { IfErr result (λ e. RefusesEnlargingLedger self.old l e.0) }
         ensures handed_back { IfErr result (λ e. e.1 ≡ readers) }
         ensures unchanged { OnErr result (self.new ≡ self.old) }
     {
@@ -122,7 +122,7 @@ impl RestingWriter {
     /// What a key lies in.
     pub(crate) fn find(&mut self, k: u64) -> Option<Item>
         ensures same { self.new ≡ self.old }
-        ensures found { result ≡ look half_open k (table_of self.old) }
+        ensures found { result ≡ look half_open k (ledger_table self.old) }
     {
         let (found, _) = self.writer.find(k);
         found
@@ -130,7 +130,7 @@ impl RestingWriter {
 
     /// Whether an item of the table has this first word.
     pub(crate) fn holds(&self, a: u64) -> bool
-        ensures { result ≡ has a (table_of self.now) }
+        ensures { result ≡ has a (ledger_table self.now) }
     {
         self.writer.holds(a)
     }

@@ -25,7 +25,7 @@ pub struct Served {
     pub changes: Vec<Vec<Result<u64, Refusal>>>,
     /// For each list of keys its answers, in order.
     pub answers: Vec<Vec<Answer>>,
-    /// For each list of keys whether it ended early, for want of memory.
+    /// For each list of keys whether it ended early, because memory ran out.
     pub ended: Vec<bool>,
     /// Every accepted update, in order.
     pub log: Vec<Update>,

@@ -21,7 +21,7 @@ fn symbol<'a>(addr: u64, name: &'a [u8], module: Option<&'a [u8]>) -> SymbolLine
     }
 }
 
-/// The kernel itself and these modules, of 4096 bytes each, one behind another.
+/// The kernel itself and these modules, of 4096 bytes each, one after another.
 fn catalog<'a>(
     rt: &impl Abort,
     alloc: Global,

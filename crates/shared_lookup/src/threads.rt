@@ -47,11 +47,11 @@ pub(crate) struct ReaderThread<'s> {
 #[derive(Drop)]
 pub(crate) struct Found {
     pub(crate) answers: Vec<Answer>,
-    /// Whether the list ended early, for want of memory.
+    /// Whether the list ended early, because memory ran out.
     pub(crate) ended: bool,
 }
 
-/// What a reader's thread answers: the keys of its list, by their places.
+/// What a reader's thread returns: the keys of its list, by their places.
 #[derive(Clone, Copy)]
 pub(crate) struct AnswersTo<'a> {
     reader: u32,
@@ -62,7 +62,7 @@ impl<'a> Promise<Found> for AnswersTo<'a> {
     ghost kept_by = { λ p r. AreAnswered p.reader p.keys.now r.answers.items r.ended };
 }
 
-/// An outcome for each of so many changes: want of memory.
+/// An outcome for each of so many changes: out of memory.
 fn refused(alloc: Global, count: usize) -> Result<Outcomes, AllocError>
     ensures { IfOk result (λ outcomes. length outcomes.items ≡ count) }
 {

@@ -1,6 +1,6 @@
 -- the symbol below an address and the address above it
-pub mod Nearest
+pub mod NearestLemmas
 -- the symbols of a module that lie in one of its regions
-pub mod Within
+pub mod WithinLemmas
 -- what is found for an address, by places
-pub mod Finding
+pub mod FindLemmas

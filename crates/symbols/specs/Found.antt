@@ -14,8 +14,8 @@ pub record Found : Type 0 where
   pub size : ℕ
 
 -- the symbol reaches to the least address of a symbol above its own, or to the region's end
-abbrev pub found_at : List SymbolEntry → ℕ → ℕ → SymbolEntry → Found
-found_at symbols end addr s = record {
+abbrev pub symbol_found_at : List SymbolEntry → ℕ → ℕ → SymbolEntry → Found
+symbol_found_at symbols end addr s = record {
   symbol = s;
   offset = addr - s.addr;
   size = unwrap_or (address_above symbols s.addr) end - s.addr;
@@ -27,7 +27,7 @@ symbols_from symbols start end = filter (λ s. holds (start, end) s.addr) symbol
 
 -- of symbols in the order listed, in a region that ends at `end`
 abbrev pub found_in : List SymbolEntry → ℕ → ℕ → Option Found
-found_in symbols end addr = option_map (found_at symbols end addr) (symbol_below symbols addr)
+found_in symbols end addr = option_map (symbol_found_at symbols end addr) (symbol_below symbols addr)
 
 -- of the kept symbols of the item's module that lie in the item
 abbrev pub symbol_at : CatalogEntries → Item → ℕ → Option Found
@@ -38,8 +38,8 @@ symbol_at c item addr =
 
 -- the symbol reaches to the least address of a symbol above its own, or to the region's end where
 -- there is none
-abbrev pub Reaches : List SymbolEntry → ℕ → SymbolEntry → ℕ → Type 0
-Reaches symbols end s size =
+abbrev pub ReachesUpTo : List SymbolEntry → ℕ → SymbolEntry → ℕ → Type 0
+ReachesUpTo symbols end s size =
     (All (λ t. t.addr ≤ s.addr) symbols × (size ≡ end - s.addr))
     ⊎ ((t : SymbolEntry) × Contains symbols t × (s.addr < t.addr)
     × All (λ u. (u.addr ≤ s.addr) ⊎ (t.addr ≤ u.addr)) symbols × (size ≡ t.addr - s.addr))
@@ -54,4 +54,4 @@ pub record IsFound (symbols : List SymbolEntry) (end addr : ℕ) (f : Found) : T
   pub first : (k : ℕ) (d : SymbolEntry) → k < place
       → (slice_index_or symbols k d).addr ≢ f.symbol.addr
   pub offset : f.offset ≡ addr - f.symbol.addr
-  pub reaches : Reaches symbols end f.symbol f.size
+  pub reaches : ReachesUpTo symbols end f.symbol f.size

@@ -12,8 +12,8 @@ times (suc rounds) us = us ++ times rounds us
 
 -- so many updates, where the list is gone through again and again: whole rounds, and the beginning
 -- of one more
-abbrev pub first_of : ℕ → List Update → List Update
-first_of count us = times (count / length us) us ++ take (count % length us) us
+abbrev pub first_updates : ℕ → List Update → List Update
+first_updates count us = times (count / length us) us ++ take (count % length us) us
 
 -- the table after these updates, from the empty table on
 abbrev pub table_after : List Update → List Item
@@ -25,8 +25,8 @@ IsRound us = table_after us ≡ []
 
 -- these are the tables after none of the updates, after the first, and so on, up to the one before
 -- the last update
-abbrev pub AreTables : {T : Type 0} → (T → List Item) → List Update → List T → Type 0
-AreTables items us tables =
+abbrev pub AreTablesBefore : {T : Type 0} → (T → List Item) → List Update → List T → Type 0
+AreTablesBefore items us tables =
     (length tables ≡ length us)
     × ((k : ℕ) (d : _) → k < length us
     → items (slice_index_or tables k d) ≡ table_after (take k us))

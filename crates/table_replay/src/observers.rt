@@ -10,7 +10,7 @@ use std::thread::{Threads, join, map_vec};
 /// What a reader saw.
 #[derive(Clone, Copy, Debug, PartialEq, Eq, Drop)]
 pub struct Tally {
-    /// How many attempts answered.
+    /// How many attempts gave an answer.
     pub answers: u64,
     /// How many attempts did not, since the writer flipped meanwhile.
     pub retries: u64,
@@ -89,7 +89,7 @@ impl Observer<'_> {
     }
 
     /// Looks the keys up through each of these readers, each on a thread of its own, beside a
-    /// writer that goes through its schedule so many times. Answers the generation that the writer
+    /// writer that goes through its schedule so many times. Returns the generation that the writer
     /// comes to, and each reader with what it saw.
     pub fn watch<R: Threads + Sync>(
         &self,

@@ -3,7 +3,7 @@
 ghost use Rattle.std.specs.Prelude.{◌≡◌, ◌++◌, IfOk, MatchOption};
 ghost use Rattle.order_laws.specs.Orders.{half_open};
 ghost use Rattle.order_laws.specs.Tables.{look};
-ghost use Rattle.table_replay.specs.Schedules.{first_of, table_after, times, IsRound};
+ghost use Rattle.table_replay.specs.Schedules.{first_updates, table_after, times, IsRound};
 
 use latch_core::{Update, plain};
 use latch_table::Writer;
@@ -24,14 +24,14 @@ pub struct Schedule {
 impl Model for Schedule {
     ghost use Rattle.std.specs.Prelude.{List};
     ghost use Rattle.latch_core.specs.declared.updates.Update.{Update};
-    ghost use Rattle.table_replay.specs.Schedules.{AreTables, IsRound};
+    ghost use Rattle.table_replay.specs.Schedules.{AreTablesBefore, IsRound};
 
     ghost Value = { List Update };
 
     ghost view = { λ s. s.updates.items };
 
     ghost invariant = { λ s. IsRound s.updates.items
-        × AreTables (λ t. t.items) s.updates.items s.tables.items };
+        × AreTablesBefore (λ t. t.items) s.updates.items s.tables.items };
 }
 
 impl Schedule {
@@ -64,7 +64,7 @@ impl Schedule {
     /// What a key lies in after so many updates, where the schedule is gone through again and
     /// again.
     pub fn look(&self, key: u64, generation: u64) -> Option<Item>
-        ensures { result ≡ look half_open key (table_after (first_of generation self.now)) }
+        ensures { result ≡ look half_open key (table_after (first_updates generation self.now)) }
     {
         let count = self.tables.len() as u64;
         if count == 0 {
@@ -84,7 +84,7 @@ impl Schedule {
         Ok(())
     }
 
-    /// Carries all updates out so many times, and answers the generation that the writer comes to.
+    /// Carries all updates out so many times, and returns the generation that the writer comes to.
     pub fn carry_out(&self, writer: &mut Writer<HalfOpen>, rounds: u32) -> Result<u64, Refusal>
         ensures place { writer.new.place ≡ writer.old.place }
         ensures made { IfOk result (λ _. writer.new.history

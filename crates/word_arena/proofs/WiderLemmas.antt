@@ -19,7 +19,7 @@ all_zero k w =
     (λ ge. get_or-eq_default (replicate k 0) 0 (omega (arith, ge, length-replicate {A = ℕ} k 0)))
     (cases_lt w k)
 
--- each word holds what it held: those behind hold 0, as a word that there is not
+-- each word holds what it held: those after these hold 0, as a word that there is not
 pub at_wider : (n n' : ℕ) (m : List ℕ) (w : ℕ) → at (wider_words n n' m) w ≡ at m w
 at_wider n n' m w =
     let zeros : List ℕ = replicate (7 * (n' - n)) 0 in

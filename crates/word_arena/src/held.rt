@@ -34,7 +34,7 @@ pub fn held_in(
     }
 }
 
-// Appends the items of the tree that a link leads to, and answers how many of `left` visits are
+// Appends the items of the tree that a link leads to, and returns how many of `left` visits are
 // left; none where there is no such tree of at most `left` nodes.
 fn walk(
     l: Layout,

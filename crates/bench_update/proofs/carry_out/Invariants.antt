@@ -6,4 +6,4 @@ abbrev pub invariant-loop-store : goal.invariant-loop-store
 invariant-loop-store l = length l.words ≡ words_for l.writer.capacity
 
 abbrev pub decreases-loop-store : goal.decreases-loop-store
-decreases-loop-store l = length l.writer.left
+decreases-loop-store l = length l.writer.stores_left

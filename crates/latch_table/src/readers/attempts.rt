@@ -6,7 +6,7 @@
 ghost use Rattle.std.specs.Prelude.{◌≡◌, ◌<◌, ◌∷◌, []};
 ghost use Rattle.word_arena.specs.Layouts.{capacity_of};
 ghost use Rattle.word_arena.specs.Words.{words_for};
-ghost use Rattle.latch_table.specs.Seats.{reading, reader_of, with_word};
+ghost use Rattle.latch_table.specs.Seats.{reader_knowledge, reader_of, with_word};
 ghost use Rattle.latch_table.specs.Readers.{Tried};
 ghost use Rattle.latch_table.specs.Walks.{MayLoad, HasWalked};
 
@@ -38,10 +38,10 @@ pub(super) fn attempt<O: TreeOrder>(
 ) -> Try
     requires table { seat.old.table_id ≡ words.now.table_id }
     requires sized { seat.old.table_id.words ≡ words_for (capacity_of l) }
-    requires reads { seat.old.me ≡ (reading (reader_of seat.old.me.0), []) }
+    requires reads { seat.old.me ≡ (reader_knowledge (reader_of seat.old.me.0), []) }
     requires capacity { (reader_of seat.old.me.0).capacity ≡ capacity_of l }
     ensures table { seat.new.table_id ≡ seat.old.table_id }
-    ensures reads { seat.new.me ≡ (reading (reader_of seat.new.me.0), []) }
+    ensures reads { seat.new.me ≡ (reader_knowledge (reader_of seat.new.me.0), []) }
     ensures tried { Tried O.order k (reader_of seat.old.me.0) (reader_of seat.new.me.0) result }
 {
     let first = words.load::<LoadSequence<O>>(seat, 0);
@@ -66,10 +66,10 @@ fn walk<O: TreeOrder>(
     requires table { seat.old.table_id ≡ words.now.table_id }
     requires sized { seat.old.table_id.words ≡ words_for (capacity_of l) }
     requires capacity { (reader_of seat.old.me.0).capacity ≡ capacity_of l }
-    requires reads { seat.old.me ≡ (reading (reader_of seat.old.me.0), []) }
+    requires reads { seat.old.me ≡ (reader_knowledge (reader_of seat.old.me.0), []) }
     requires begun { (reader_of seat.old.me.0).loads ≡ (0, first) ∷ [] }
     ensures table { seat.new.table_id ≡ seat.old.table_id }
-    ensures reads { seat.new.me ≡ (reading (reader_of seat.new.me.0), []) }
+    ensures reads { seat.new.me ≡ (reader_knowledge (reader_of seat.new.me.0), []) }
     ensures walked { HasWalked O.order k first (reader_of seat.old.me.0) (reader_of seat.new.me.0) result }
 {
     let copy = stable_copy(first);
@@ -104,10 +104,10 @@ fn walk<O: TreeOrder>(
 fn load<O: TreeOrder>(words: &Words<O>, seat: &mut TableSeat, k: O::Key, word: usize) -> u64
     requires table { seat.old.table_id ≡ words.now.table_id }
     requires within { word < seat.old.table_id.words }
-    requires reads { seat.old.me ≡ (reading (reader_of seat.old.me.0), []) }
+    requires reads { seat.old.me ≡ (reader_knowledge (reader_of seat.old.me.0), []) }
     requires wanted { MayLoad O.order k (reader_of seat.old.me.0) word }
     ensures table { seat.new.table_id ≡ seat.old.table_id }
-    ensures loaded { seat.new.me ≡ (reading (with_word word result (reader_of seat.old.me.0)), []) }
+    ensures loaded { seat.new.me ≡ (reader_knowledge (with_word word result (reader_of seat.old.me.0)), []) }
 {
     words.load::<LoadWord>(seat, word)
 }

@@ -4,8 +4,8 @@ ghost use Rattle.std.specs.Prelude.{◌≡◌, ◌+◌, ◌*◌, ◌≤◌, [], 
 ghost use Rattle.word_arena.specs.Layouts.{capacity_of};
 ghost use Rattle.word_arena.specs.Words.{at, words_for};
 ghost use Rattle.latch_core.specs.Attempts.{Answer, attempt, IsAttempt};
-ghost use Rattle.latch_core.specs.Standing.{IsLatched};
-ghost use Rattle.latch_table.specs.Seats.{writer_of, writing, with_loads};
+ghost use Rattle.latch_core.specs.Latched.{IsLatched};
+ghost use Rattle.latch_table.specs.Seats.{writer_of, writer_knowledge, with_loads};
 ghost use Rattle.latch_table.specs.Writers.{Finds};
 ghost use Rattle.latch_table.specs.Lookups.{FindsIn};
 
@@ -25,12 +25,12 @@ fn look_up<O: TreeOrder>(
 ) -> (Option<Item>, u64)
     requires table { seat.old.table_id ≡ words.now.table_id }
     requires sized { seat.old.table_id.words ≡ words_for (capacity_of l) }
-    requires writes { seat.old.me ≡ (writing (writer_of seat.old.me.0), []) }
+    requires writes { seat.old.me ≡ (writer_knowledge (writer_of seat.old.me.0), []) }
     requires latched { IsLatched O.order (capacity_of l) (writer_of seat.old.me.0).base
         (writer_of seat.old.me.0).picture (writer_of seat.old.me.0).known }
     ensures table { seat.new.table_id ≡ seat.old.table_id }
     ensures view { seat.new.me
-        ≡ (writing (with_loads (writer_of seat.new.me.0).loads (writer_of seat.old.me.0)), []) }
+        ≡ (writer_knowledge (with_loads (writer_of seat.new.me.0).loads (writer_of seat.old.me.0)), []) }
     ensures found { FindsIn O.order (capacity_of l) k (writer_of seat.old.me.0)
         (writer_of seat.new.me.0).loads result }
 {

@@ -4,11 +4,11 @@ ghost use Rattle.std.specs.Prelude.{◌≡◌, ◌*◌, [], None, IfOk, IfErr};
 ghost use Rattle.std.specs.Borrow.{sem, RestsIfErr};
 ghost use Rattle.order_laws.specs.Tables.{has};
 ghost use Rattle.word_arena.specs.Words.{at};
-ghost use Rattle.latch_core.specs.Sequences.{gen};
+ghost use Rattle.latch_core.specs.Sequences.{generation_of};
 ghost use Rattle.latch_core.specs.Histories.{replay};
 ghost use Rattle.latch_core.specs.Invariants.{IsSound};
 ghost use Rattle.latch_table.specs.contracts.writers.Writer.{the_row};
-ghost use Rattle.latch_table.specs.Writers.{Begins, Refuses, Steps, Finishes, left_of, known};
+ghost use Rattle.latch_table.specs.Writers.{Begins, Refuses, Steps, Finishes, steps_left_of, shown_updates};
 
 use super::steps::take_update;
 use super::{Did, InHand, Writer};
@@ -18,8 +18,8 @@ use order_laws::{Refusal, TreeOrder};
 use std::marker::Brand;
 
 impl<O: TreeOrder> Writer<O> {
-    /// Takes an update in hand. Refused as [`WriterCore::begin`](latch_core::WriterCore::begin)
-    /// refuses; a refusal changes nothing.
+    /// Begins an update. Refused as [`WriterCore::begin`](latch_core::WriterCore::begin) refuses; a
+    /// refusal changes nothing.
     pub fn begin(&mut self, u: Update) -> Result<InHand<'_, O>, Refusal>
         ensures* rests { sem 𝓛 (RestsIfErr (the_row O.row O.Key.row O.TreeOrder O.Key.Clone)
             self.entry (λ h. h.writer.ghost_name) result (λ n. n ≡ self.old)) }
@@ -37,7 +37,7 @@ impl<O: TreeOrder> Writer<O> {
     /// What its clause `sound` says holds of every writer: the tables of its latch are those of its
     /// history.
     pub fn generation(&self) -> u64
-        ensures is { result ≡ gen (at self.now.latch.words 0) }
+        ensures is { result ≡ generation_of (at self.now.latch.words 0) }
         ensures sound { IsSound O.order self.now.capacity (2 * self.now.base) self.now.history
             self.now.latch }
     {
@@ -46,9 +46,9 @@ impl<O: TreeOrder> Writer<O> {
 
     /// Whether an item of the table after all accepted updates has this first word.
     pub fn holds(&self, a: u64) -> bool
-        ensures is { result ≡ has a self.now.latch.table }
-        ensures rests { self.now.latch.hand ≡ None
-            → result ≡ has a (replay O.order [] (known self.now)) }
+        ensures is { result ≡ has a self.now.latch.newest_table }
+        ensures rests { self.now.latch.pending ≡ None
+            → result ≡ has a (replay O.order [] (shown_updates self.now)) }
     {
         self.core.holds(a)
     }
@@ -60,7 +60,7 @@ impl<O: TreeOrder> Writer<O> {
         self.readers
     }
 
-    /// Makes one step of the update in hand; none where it is at its end, or none is in hand.
+    /// Makes one step of the pending update; none where it is at its end, or none is pending.
     pub fn step(&mut self) -> Option<Did>
         ensures { Steps self.old self.new result }
     {
@@ -77,7 +77,7 @@ impl<O: TreeOrder> Writer<O> {
         })
     }
 
-    /// Makes the steps that are left of the update in hand, if there is one, and answers the new
+    /// Makes the steps that are left of the pending update, if there is one, and returns the new
     /// generation.
     pub fn finish(&mut self) -> u64
         ensures { Finishes self.old self.new result }
@@ -98,20 +98,20 @@ impl<O: TreeOrder> InHand<'_, O> {
 
     /// How many steps are left.
     pub fn remaining(&self) -> u64
-        ensures { result ≡ left_of self.now.writer.now.latch.hand }
+        ensures { result ≡ steps_left_of self.now.writer.now.latch.pending }
     {
         let writer: &Writer<O> = self.writer;
         writer.core.remaining()
     }
 
-    /// Leaves the update in hand, for [`Writer::step`] to go on with.
+    /// Leaves the pending update, for [`Writer::step`] to go on with.
     pub fn leave(self)
         ensures { self.exit.0.now ≡ self.entry.writer.now }
     {
         let InHand { writer: _writer } = self;
     }
 
-    /// Makes the steps that are left, and answers the new generation.
+    /// Makes the steps that are left, and returns the new generation.
     pub fn finish(self) -> u64
         ensures { Finishes self.entry.writer.now self.exit.0.now result }
     {

@@ -17,7 +17,7 @@ fn reader_of(item: u64) -> u64
 }
 
 /// Inserts one item after another and looks each up once it stands; then has a lookup of every
-/// reader in hand at once.
+/// reader pending at once.
 fn large_trace(alloc: Global) -> Result<String, AllocError> {
     let mut trace = String::from_str(alloc, "latchtrace 1 halfopen 65535\n")?;
     for item in 0..ITEMS {

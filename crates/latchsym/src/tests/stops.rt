@@ -37,7 +37,7 @@ fn answer_at(generation: u64, key: u64) -> Option<&'static str> {
     }
 }
 
-/// The loads of a lookup that answered so at its first attempt.
+/// The loads of a lookup that returned so at its first attempt.
 fn loads_of(line: &str, answer: &str) -> Option<u64> {
     line.strip_prefix(answer)?
         .strip_suffix(" tries 1")?

@@ -1,6 +1,6 @@
 use Rattle.std.proofs.Common.{◌≡◌, ◌++◌, ◌∙◌, ap, sym, ◌+◌, length, arith}
 use Rattle.modules.specs.Items.{items_at, items_below}
-use Rattle.modules.proofs.Items.{one_number_more}
+use Rattle.modules.proofs.ItemLemmas.{one_number_more}
 use Rattle.region_index.proofs.items_of.Goals as goal
 use Rattle.region_index.proofs.items_of.Goals.{else-loop-number-test, then-loop-number-test+in_ok-push_items+else-number-modules}
 

@@ -2,9 +2,9 @@ use Rattle.std.proofs.Common.{◌<◌, ◌≤◌, length, get_or, subst, sym, ar
 use Rattle.std.proofs.lemmas.List.{get_or_default}
 use Rattle.std.proofs.lemmas.List.Sorted.{IsPartitionPoint-from_clause, IsPartitionedBy-leb}
 use Rattle.order_laws.specs.declared.items.Item.{Item}
-use Rattle.modules.proofs.Indexing.{IsSplitBy-from_partition}
-use Rattle.region_index.specs.Indexes.{IsSplit}
-use Rattle.region_index.proofs.Finding.{IsSplit-between}
+use Rattle.modules.proofs.IndexLemmas.{IsSplitBy-from_partition}
+use Rattle.region_index.specs.Indexes.{IsItemSplit}
+use Rattle.region_index.proofs.FindLemmas.{IsSplit-between}
 use Rattle.region_index.proofs.split_at.Goals as goal
 use Rattle.region_index.proofs.split_at.Goals.{then-items-addr, else-items-addr}
 
@@ -22,11 +22,11 @@ returns-then-addr-items c =
     λ d lt. subst (λ (i : Item). addr < i.a) (get_or_default items 1 _ d lt) c.if-addr-items.true in
     elim c.if-items-addr.branch [
       | then-items-addr w ↦
-          subst (IsSplit items addr) (sym w.result-is)
+          subst (IsItemSplit items addr) (sym w.result-is)
           (IsSplit-between items addr 1 c.requires (omega arith)
           (λ d lt. subst (λ (i : Item). i.a ≤ addr) (get_or_default items 0 _ d (omega arith)) w.if-items-addr.true) second)
       | else-items-addr w ↦
-          subst (IsSplit items addr) (sym w.result-is)
+          subst (IsItemSplit items addr) (sym w.result-is)
           (IsSplit-between items addr 0 c.requires (omega arith) (λ d lt. absurd (omega arith))
           (λ d lt. subst (λ (i : Item). addr < i.a) (get_or_default items 0 _ d lt) w.if-items-addr.false))
     ]

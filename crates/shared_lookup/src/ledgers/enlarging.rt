@@ -1,7 +1,7 @@
 //! A ledger whose table goes on in more words.
 
 ghost use Rattle.std.specs.Prelude.{◌≡◌, OnErr, IfOk, IfErr};
-ghost use Rattle.shared_lookup.specs.Enlarging.{AreReadersOf, Enlarges, RefusesEnlarging};
+ghost use Rattle.shared_lookup.specs.Enlarging.{AreLedgerReaders, EnlargesLedger, RefusesEnlargingLedger};
 
 use crate::ledgers::Ledger;
 use latch_table::Reader;
@@ -23,9 +23,9 @@ impl Ledger {
         l: Layout,
         readers: Vec<Reader<HalfOpen>>,
     ) -> Result<Vec<Reader<HalfOpen>>, (Refusal, Vec<Reader<HalfOpen>>)>
-        requires readers { AreReadersOf self.old readers.items }
-        ensures enlarged { IfOk result (λ all. Enlarges self.old l self.new all.items) }
-        ensures refusal { IfErr result (λ e. RefusesEnlarging self.old l e.0) }
+        requires readers { AreLedgerReaders self.old readers.items }
+        ensures enlarged { IfOk result (λ all. EnlargesLedger self.old l self.new all.items) }
+        ensures refusal { IfErr result (λ e. RefusesEnlargingLedger self.old l e.0) }
         ensures handed_back { IfErr result (λ e. e.1 ≡ readers) }
         ensures unchanged { OnErr result (self.new ≡ self.old) }
     {

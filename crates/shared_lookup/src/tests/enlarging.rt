@@ -1,7 +1,7 @@
 //! A ledger that is enlarged, and its reader.
 
 ghost use Rattle.std.specs.Prelude.{◌≡◌, IfOk};
-ghost use Rattle.shared_lookup.specs.Enlarging.{AreReadersOf};
+ghost use Rattle.shared_lookup.specs.Enlarging.{AreLedgerReaders};
 
 use crate::{Ledger, Open};
 use latch_core::Update;
@@ -34,8 +34,8 @@ fn insert(ledger: &mut Ledger, item: Item) -> Result<u64, Refusal>
 
 /// What the one reader finds.
 fn found(rt: &impl Abort, ledger: &Ledger, readers: &mut Vec<Reader<HalfOpen>>, k: u64) -> Try
-    requires { AreReadersOf ledger.now readers.old.items }
-    ensures { AreReadersOf ledger.now readers.new.items }
+    requires { AreLedgerReaders ledger.now readers.old.items }
+    ensures { AreLedgerReaders ledger.now readers.new.items }
 {
     assert_eq!(rt; readers.len(), 1);
     let Some(reader) = readers.first_mut() else {
@@ -51,8 +51,8 @@ fn enlarged(
     l: Layout,
     readers: Vec<Reader<HalfOpen>>,
 ) -> Result<Vec<Reader<HalfOpen>>, Refusal>
-    requires { AreReadersOf ledger.old readers.items }
-    ensures { IfOk result (λ all. AreReadersOf ledger.new all.items) }
+    requires { AreLedgerReaders ledger.old readers.items }
+    ensures { IfOk result (λ all. AreLedgerReaders ledger.new all.items) }
 {
     match ledger.enlarge(alloc, l, readers) {
         Ok(readers) => Ok(readers),
@@ -68,8 +68,8 @@ fn not_enlarged(
     l: Layout,
     readers: Vec<Reader<HalfOpen>>,
 ) -> Vec<Reader<HalfOpen>>
-    requires { AreReadersOf ledger.old readers.items }
-    ensures { AreReadersOf ledger.new result.items }
+    requires { AreLedgerReaders ledger.old readers.items }
+    ensures { AreLedgerReaders ledger.new result.items }
 {
     match ledger.enlarge(alloc, l, readers) {
         Ok(_) => panic!(rt; "not refused"),

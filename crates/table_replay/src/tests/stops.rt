@@ -9,8 +9,8 @@ use std::test::Fail;
 use std::thread::{Threads, join};
 use word_arena::Layout;
 
-/// Two readers on threads of their own look a key up while the writer stands: each answers at its
-/// first attempt.
+/// Two readers on threads of their own look a key up while the writer stands: each gets an answer
+/// at its first attempt.
 fn both_find<R: Threads + Abort + Sync>(
     rt: &R,
     one: &mut Reader<HalfOpen>,
@@ -28,13 +28,13 @@ fn all_find<R: Threads + Abort + Sync>(
     rt: &R,
     schedule: &Schedule,
     generation: u64,
-    hand: &mut InHand<'_, HalfOpen>,
+    pending: &mut InHand<'_, HalfOpen>,
     one: &mut Reader<HalfOpen>,
     other: &mut Reader<HalfOpen>,
 ) {
     for key in KEYS {
         let expected = schedule.look(key, generation);
-        assert_eq!(rt; hand.find_inside(key), (expected, generation));
+        assert_eq!(rt; pending.find_inside(key), (expected, generation));
         both_find(rt, one, other, key, Try::Answered(expected, generation));
     }
 }
@@ -45,36 +45,36 @@ fn step_through<R: Threads + Abort + Sync>(
     rt: &R,
     schedule: &Schedule,
     before: u64,
-    mut hand: InHand<'_, HalfOpen>,
+    mut pending: InHand<'_, HalfOpen>,
     one: &mut Reader<HalfOpen>,
     other: &mut Reader<HalfOpen>,
 ) {
     let mut flips = 0u64;
-    for left in (0..hand.remaining()).rev() {
+    for left in (0..pending.remaining()).rev() {
         all_find(
             rt,
             schedule,
             before.saturating_add(flips / 2),
-            &mut hand,
+            &mut pending,
             one,
             other,
         );
-        if hand.step() == Some(Did::Flip) {
+        if pending.step() == Some(Did::Flip) {
             flips = flips.saturating_add(1);
         }
-        assert_eq!(rt; hand.remaining(), left);
+        assert_eq!(rt; pending.remaining(), left);
     }
     assert_eq!(rt; flips, 2);
     all_find(
         rt,
         schedule,
         before.saturating_add(1),
-        &mut hand,
+        &mut pending,
         one,
         other,
     );
-    assert_eq!(rt; hand.step(), None);
-    assert_eq!(rt; hand.finish(), before.saturating_add(1));
+    assert_eq!(rt; pending.step(), None);
+    assert_eq!(rt; pending.finish(), before.saturating_add(1));
 }
 
 #[test]
@@ -85,8 +85,8 @@ fn readers_at_each_stop(rt: HostRuntime) -> Result<(), Fail> {
         panic!(rt; "not two readers")
     };
     for (before, update) in schedule.updates().iter().enumerate() {
-        let hand = writer.begin(update.copy()?)?;
-        step_through(&rt, &schedule, before as u64, hand, &mut one, &mut other);
+        let pending = writer.begin(update.copy()?)?;
+        step_through(&rt, &schedule, before as u64, pending, &mut one, &mut other);
     }
     Ok(())
 }

@@ -1,6 +1,6 @@
 use Rattle.std.proofs.Common.{rules, ◌<◌, drop_of_length-le, false, ap, ◌∙◌, arith}
 use Rattle.std.specs.Fmt.{digits_onto}
-use Rattle.devices.proofs.Hexadecimal.{all_of, smaller, told_more, told_last, small_at_one}
+use Rattle.devices.proofs.HexadecimalLemmas.{all_of, smaller, told_more, told_last, small_at_one}
 use Rattle.devices.proofs.exact.write_digits.Goals.{then-loop-start-test+else-left-ge16, else-loop-start-test}
 use Rattle.devices.proofs.exact.write_digits.Goals as goal
 

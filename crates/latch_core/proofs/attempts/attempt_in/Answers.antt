@@ -2,10 +2,10 @@ use Rattle.std.proofs.Common.{◌≡◌, ◌≢◌, ◌≤◌, ◌<◌, ◌⊎�
 use Rattle.std.proofs.lemmas.List.{take_all, length-drop, get_or-drop}
 use Rattle.word_arena.specs.Layouts.{capacity_of}
 use Rattle.word_arena.specs.Words.{at, root_word, left_word, right_word, item_at}
-use Rattle.latch_core.specs.Sequences.{gen, stable}
+use Rattle.latch_core.specs.Sequences.{generation_of, stable_copy_of}
 use Rattle.latch_core.specs.Attempts.{Answer}
 use Rattle.latch_core.specs.Whole.{outcome_of}
-use Rattle.latch_core.proofs.Walking.{IsWalking, Comes, item_here, walking_starts, goes_left, goes_right, comes_found, comes_none, comes_again}
+use Rattle.latch_core.proofs.LoopWalkLemmas.{IsWalking, Comes, item_here, walking_starts, goes_left, goes_right, comes_found, comes_none, comes_again}
 use Rattle.latch_core.proofs.attempts.attempt_in.Given.{Over}
 use Rattle.latch_core.proofs.attempts.attempt_in.Goals as goal
 use Rattle.latch_core.proofs.attempts.attempt_in.Goals.{then-loop-link-test+else-loads-capacity, else-loop-link-test, then-link-eq0, else-link-eq0}
@@ -37,7 +37,7 @@ loop-link-preserved-in-Less g c =
     let low : c.loop-link.link ≤ capacity_of c.args.l = omega arith in
     let room : c.loop-link.loads < 4 * capacity_of c.args.l + 2 = omega arith in
     let is = c.in-Less.ensures ∙ ap (o.comp c.args.key) (item_here m i c.a_of.result c.b_of.result c.tag_of.result c.a_of.ensures c.b_of.ensures c.tag_of.ensures) in
-    let word : 6 + 2 * stable (at m 0) + 7 * i ≡ left_word (stable (at m 0)) i = omega arith in
+    let word : 6 + 2 * stable_copy_of (at m 0) + 7 * i ≡ left_word (stable_copy_of (at m 0)) i = omega arith in
     record {
       below = kept.below;
       above = kept.above;
@@ -55,7 +55,7 @@ loop-link-preserved g c =
     let low : c.loop-link.link ≤ capacity_of c.args.l = omega arith in
     let room : c.loop-link.loads < 4 * capacity_of c.args.l + 2 = omega arith in
     let is = c.in-Greater.ensures ∙ ap (o.comp c.args.key) (item_here m i c.a_of.result c.b_of.result c.tag_of.result c.a_of.ensures c.b_of.ensures c.tag_of.ensures) in
-    let word : 7 + 2 * stable (at m 0) + 7 * i ≡ right_word (stable (at m 0)) i = omega arith in
+    let word : 7 + 2 * stable_copy_of (at m 0) + 7 * i ≡ right_word (stable_copy_of (at m 0)) i = omega arith in
     record {
       below = kept.below;
       above = kept.above;
@@ -65,7 +65,7 @@ loop-link-preserved g c =
 
 -- the key is in the item of the node
 found : (g : Over) (c : goal.After-generation g) → Comes g.O.TreeOrder.order c.args.words.now (capacity_of c.args.l) c.args.key
-    (Answer (Some (item_at c.args.words.now (c.loop-link.link - 1))) (gen (at c.args.words.now 0))) (c.loop-link.loads + 4)
+    (Answer (Some (item_at c.args.words.now (c.loop-link.link - 1))) (generation_of (at c.args.words.now 0))) (c.loop-link.loads + 4)
 found g c =
     let some : c.loop-link.link ≢ 0 = λ e. omega arith in
     let low : c.loop-link.link ≤ capacity_of c.args.l = omega arith in

@@ -4,7 +4,7 @@ use Rattle.std.proofs.lemmas.List.{take_all, drop_more}
 use Rattle.std.proofs.lemmas.Option.{slice_get_within}
 use Rattle.order_laws.specs.Tables.{has, place_of}
 use Rattle.word_arena.specs.Words.{listed}
-use Rattle.latch_core.specs.Changes.{ErasesAll}
+use Rattle.latch_core.specs.Changes.{ErasesWords}
 use Rattle.latch_core.proofs.ChangeLemmas.{erasing_none, erasing_step}
 use Rattle.latch_core.proofs.changes.plan_erases.Goals as goal
 
@@ -56,7 +56,7 @@ pub returns-clause-plan : goal.returns-clause-plan
 returns-clause-plan g c =
     let state = c.loop-a.invariant.state in
     let whole = take_all c.loop-a.a-index c.args.erase.now c.loop-a-test.false in
-    (state.more, state.appended, subst (λ ws. ErasesAll c.args.shape.now c.loop-a.shape ws state.more c.args.free.now.items c.loop-a.free.items) whole state.done)
+    (state.more, state.appended, subst (λ ws. ErasesWords c.args.shape.now c.loop-a.shape ws state.more c.args.free.now.items c.loop-a.free.items) whole state.done)
 
 pub returns-clause-few : goal.returns-clause-few
 returns-clause-few g c =

@@ -4,7 +4,7 @@ use Rattle.std.proofs.lemmas.List.{take_all, drop_more}
 use Rattle.order_laws.specs.declared.items.Item.{Item}
 use Rattle.order_laws.proofs.MeetLemmas.{no_meeting}
 use Rattle.rb_words.specs.Plans.{item_stores}
-use Rattle.latch_core.specs.Changes.{InsertsAll}
+use Rattle.latch_core.specs.Changes.{InsertsItems}
 use Rattle.latch_core.proofs.BatchLemmas.{AreOff}
 use Rattle.latch_core.proofs.ChangeLemmas.{next_node, inserting_none, inserting_step}
 use Rattle.latch_core.proofs.changes.plan_inserts.Goals as goal
@@ -12,7 +12,7 @@ use Rattle.latch_core.proofs.changes.plan_inserts.Goals as goal
 pub loop-taken-init : goal.loop-taken-init
 loop-taken-init g c =
     record {
-      state = inserting_none g.O.TreeOrder.order c.args.shape.now c.args.insert.now c.args.fresh c.args.plan.now.left c.args.links.now.items c.args.free.now.items c.requires.valid c.requires.apart c.requires.off c.requires.nodes;
+      state = inserting_none g.O.TreeOrder.order c.args.shape.now c.args.insert.now c.args.fresh c.args.plan.now.stores_left c.args.links.now.items c.args.free.now.items c.requires.valid c.requires.apart c.requires.off c.requires.nodes;
       few = omega arith;
       links_len = omega arith;
       links_capacity = refl;
@@ -43,7 +43,7 @@ plan_insert-requires-clause-in_range g c =
     let count = c.loop-taken.free.ok.0 in
     let within : c.args.fresh - 1 - c.loop-taken.taken < length c.loop-taken.free.items = omega (arith, room, count, inv.free_len, c.requires.free) in
     subst (λ n. c.swap_remove-node.result < n) (sym inv.state.done.both.zero.capacity)
-    (next_node g.O.TreeOrder.order c.args.shape.now c.loop-taken.shape c.args.insert.now c.loop-taken.taken c.args.fresh c.args.plan.now.left c.loop-taken.plan.left c.args.links.now.items c.loop-taken.links.items c.args.free.now.items c.loop-taken.free.items c.swap_remove-node.result inv.state room within c.swap_remove-node.ensures.value).in_range
+    (next_node g.O.TreeOrder.order c.args.shape.now c.loop-taken.shape c.args.insert.now c.loop-taken.taken c.args.fresh c.args.plan.now.stores_left c.loop-taken.plan.stores_left c.args.links.now.items c.loop-taken.links.items c.args.free.now.items c.loop-taken.free.items c.swap_remove-node.result inv.state room within c.swap_remove-node.ensures.value).in_range
 
 pub plan_insert-requires-clause-free : goal.plan_insert-requires-clause-free
 plan_insert-requires-clause-free g c =
@@ -52,7 +52,7 @@ plan_insert-requires-clause-free g c =
     let room : c.loop-taken.taken < c.args.fresh = omega (arith, lt, c.requires.enough) in
     let count = c.loop-taken.free.ok.0 in
     let within : c.args.fresh - 1 - c.loop-taken.taken < length c.loop-taken.free.items = omega (arith, room, count, inv.free_len, c.requires.free) in
-    (next_node g.O.TreeOrder.order c.args.shape.now c.loop-taken.shape c.args.insert.now c.loop-taken.taken c.args.fresh c.args.plan.now.left c.loop-taken.plan.left c.args.links.now.items c.loop-taken.links.items c.args.free.now.items c.loop-taken.free.items c.swap_remove-node.result inv.state room within c.swap_remove-node.ensures.value).not_there
+    (next_node g.O.TreeOrder.order c.args.shape.now c.loop-taken.shape c.args.insert.now c.loop-taken.taken c.args.fresh c.args.plan.now.stores_left c.loop-taken.plan.stores_left c.args.links.now.items c.loop-taken.links.items c.args.free.now.items c.loop-taken.free.items c.swap_remove-node.result inv.state room within c.swap_remove-node.ensures.value).not_there
 
 pub plan_insert-requires-clause-valid : goal.plan_insert-requires-clause-valid
 plan_insert-requires-clause-valid g c =
@@ -100,11 +100,11 @@ loop-taken-preserved g c =
     let node = c.swap_remove-node.result in
     let p = c.plan_insert.ensures.plan in
     let planned = c.deref.ensures.value ∙ p.1 ∙ ap (λ xs. xs ++ (item_stores node item ++ p.0)) c.clear.ensures.items in
-    let left = c.separate.ensures.left ∙ ap (λ xs. c.loop-taken.plan.left ++ take 3 xs) planned in
-    let longer = ap length left ∙ length-append c.loop-taken.plan.left (item_stores node item) in
+    let left = c.separate.ensures.left ∙ ap (λ xs. c.loop-taken.plan.stores_left ++ take 3 xs) planned in
+    let longer = ap length left ∙ length-append c.loop-taken.plan.stores_left (item_stores node item) in
     record {
       state = inserting_step o g.met.O.TreeOrder.lawful c.args.shape.now c.loop-taken.shape c.plan_insert.new.self c.args.insert.now c.loop-taken.taken c.args.fresh item none node
-          c.args.plan.now.left c.loop-taken.plan.left c.separate.new.plan.left c.args.links.now.items c.loop-taken.links.items c.separate.new.links.items
+          c.args.plan.now.stores_left c.loop-taken.plan.stores_left c.separate.new.plan.stores_left c.args.links.now.items c.loop-taken.links.items c.separate.new.links.items
           c.args.free.now.items c.loop-taken.free.items c.swap_remove-node.new.self.items p.0
           c.requires.first_copy lt room within refl c.swap_remove-node.ensures.value inv.state c.plan_insert.ensures.pictures p.2
           left
@@ -130,7 +130,7 @@ returns-clause-plan g c =
       state.more,
       state.planned,
       state.appended,
-      subst (λ xs. InsertsAll g.O.TreeOrder.order c.args.shape.now c.loop-taken.shape xs state.placed state.more (take c.args.fresh c.args.free.now.items) c.loop-taken.free.items) whole state.done,
+      subst (λ xs. InsertsItems g.O.TreeOrder.order c.args.shape.now c.loop-taken.shape xs state.placed state.more (take c.args.fresh c.args.free.now.items) c.loop-taken.free.items) whole state.done,
     )
 
 pub returns-clause-few : goal.returns-clause-few

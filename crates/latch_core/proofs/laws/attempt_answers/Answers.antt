@@ -1,4 +1,4 @@
-use Rattle.latch_core.proofs.Walks.{attempt_answers, attempt_loads}
+use Rattle.latch_core.proofs.WalkLemmas.{attempt_answers, attempt_loads}
 use Rattle.latch_core.proofs.laws.attempt_answers.Goals as goal
 
 pub returns : goal.returns

@@ -1,5 +1,5 @@
-use Rattle.latch_core.proofs.Walks.{attempt_length}
-use Rattle.latch_core.proofs.Leads.{values_before}
+use Rattle.latch_core.proofs.WalkLemmas.{attempt_length}
+use Rattle.latch_core.proofs.ReaderLemmas.{values_before}
 use Rattle.latch_core.proofs.laws.attempt_ends.Goals as goal
 
 pub returns-clause-whole : goal.returns-clause-whole

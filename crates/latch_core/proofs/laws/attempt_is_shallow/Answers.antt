@@ -1,4 +1,4 @@
-use Rattle.latch_core.proofs.Walks.{attempt_depth, attempt_below_depth, few_deep_any}
+use Rattle.latch_core.proofs.WalkLemmas.{attempt_depth, attempt_below_depth, few_deep_any}
 use Rattle.latch_core.proofs.laws.attempt_is_shallow.Goals as goal
 
 pub returns : goal.returns

@@ -1,4 +1,4 @@
-use Rattle.latch_core.proofs.Walks.{attempt_below}
+use Rattle.latch_core.proofs.WalkLemmas.{attempt_below}
 use Rattle.latch_core.proofs.laws.attempt_is_short.Goals as goal
 
 pub returns : goal.returns

@@ -1,4 +1,4 @@
-use Rattle.latch_core.proofs.Sound.{sound_opening, sound_step, sound_begin}
+use Rattle.latch_core.proofs.SoundLemmas.{sound_opening, sound_step, sound_begin}
 use Rattle.latch_core.proofs.WideningLemmas.{widened_sound}
 use Rattle.latch_core.proofs.laws.latch_stays_sound.Goals as goal
 
@@ -6,7 +6,7 @@ pub returns-clause-opening : goal.returns-clause-opening
 returns-clause-opening g c = λ n start even. sound_opening g.O.TreeOrder.order n start even
 
 pub returns-clause-step : goal.returns-clause-step
-returns-clause-step g c = λ n start us l h s sound hand may. sound_step g.O.TreeOrder.order n start us l h s sound hand may
+returns-clause-step g c = λ n start us l h s sound pending may. sound_step g.O.TreeOrder.order n start us l h s sound pending may
 
 pub returns-clause-begin : goal.returns-clause-begin
 returns-clause-begin g c = λ n limit start us l u left sound free accepted. sound_begin g.O.TreeOrder.order g.met.O.TreeOrder.lawful n limit start us l u left sound free accepted

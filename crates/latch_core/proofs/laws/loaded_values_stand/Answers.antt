@@ -1,4 +1,4 @@
-use Rattle.latch_core.proofs.Steps.{standing_step, standing_load}
+use Rattle.latch_core.proofs.StepLemmas.{standing_step, standing_load}
 use Rattle.latch_core.proofs.laws.loaded_values_stand.Goals as goal
 
 pub returns-clause-step : goal.returns-clause-step

@@ -1,5 +1,5 @@
 use Rattle.std.proofs.Common.{inl, inr, ⊎_elim}
-use Rattle.latch_core.proofs.Steps.{sequence_after}
+use Rattle.latch_core.proofs.StepLemmas.{sequence_after}
 use Rattle.latch_core.proofs.laws.sequence_never_falls.Goals as goal
 
 pub returns : goal.returns

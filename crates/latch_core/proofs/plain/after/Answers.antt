@@ -2,7 +2,7 @@ use Rattle.std.proofs.Common.{◌≡◌, List, sym, ◌∙◌, ap, subst}
 use Rattle.std.specs.Prelude.{IfOk}
 use Rattle.order_laws.specs.declared.items.Item.{Item}
 use Rattle.latch_core.specs.Updates.{after}
-use Rattle.latch_core.proofs.Steps.{after_insert, after_erase}
+use Rattle.latch_core.proofs.StepLemmas.{after_insert, after_erase}
 use Rattle.latch_core.proofs.plain.after.Goals as goal
 
 pub returns-in-Insert : goal.returns-in-Insert

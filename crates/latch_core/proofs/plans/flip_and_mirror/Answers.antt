@@ -3,7 +3,7 @@ use Rattle.std.proofs.lemmas.List.{append-nil}
 use Rattle.order_laws.proofs.Lists.{take-drop_append}
 use Rattle.word_arena.specs.declared.stores.Store.{Store}
 use Rattle.word_arena.specs.Layouts.{capacity_of}
-use Rattle.rb_words.specs.Mirrors.{mirror, mirror_store}
+use Rattle.rb_words.specs.Mirrors.{mirror_stores, mirror_store}
 use Rattle.latch_core.specs.Plans.{flip_to}
 use Rattle.latch_core.proofs.PlanLemmas.{mirror_more, link_fits}
 use Rattle.latch_core.proofs.plans.flip_and_mirror.Goals as goal
@@ -15,7 +15,7 @@ loop-place-init c =
     record {
       from = omega arith;
       below = omega (arith, c.requires.place, c.push_reserved.ensures.len);
-      items = sym (ap (λ k. items ++ mirror (take k (drop c.args.from items))) none ∙ append-nil items);
+      items = sym (ap (λ k. items ++ mirror_stores (take k (drop c.args.from items))) none ∙ append-nil items);
       len = refl;
       capacity = refl;
     }
@@ -26,7 +26,7 @@ mirror_store-requires c =
     let flipped = c.push_reserved.new.self.items in
     let place = c.loop-place.place in
     let link = c.index-link.result.now in
-    let more = mirror (take (place - c.args.from) (drop c.args.from flipped)) in
+    let more = mirror_stores (take (place - c.args.from) (drop c.args.from flipped)) in
     let whole : c.loop-place.stores.items ≡ before ++ c.flip_to.result ∷ more =
     c.loop-place.invariant.items ∙ ap (λ xs. xs ++ more) c.push_reserved.ensures.items ∙ append_assoc before (c.flip_to.result ∷ []) more in
     let is = c.index-link.ensures ∙ ap (λ xs. get_or xs place link) whole in
@@ -46,7 +46,7 @@ loop-place-preserved c =
     let flipped = c.push_reserved.new.self.items in
     let place = c.loop-place.place in
     let link = c.index-link.result.now in
-    let more = mirror (take (place - c.args.from) (drop c.args.from flipped)) in
+    let more = mirror_stores (take (place - c.args.from) (drop c.args.from flipped)) in
     let kept = c.loop-place.invariant in
     let pushed = c.push_reserved-in-loop-place.ensures in
     let is = c.index-link.ensures ∙ ap (λ xs. get_or xs place link) kept.items in
@@ -74,9 +74,9 @@ returns-clause-items c =
     let at_end : c.loop-place.place ≡ length before =
     omega (arith, kept.below, c.push_reserved.ensures.len, c.loop-place-test.false, c.len-end.ensures, c.args.stores.now.ok.0) in
     kept.items
-    ∙ (λ i. flipped i ++ mirror (take (at_end i - from) (drop from (flipped i))))
-    ∙ ap (λ links. (before ++ flip ∷ []) ++ mirror links) (take-drop_append before (flip ∷ []) from (omega (arith, c.requires.place, c.args.stores.now.ok.0)))
-    ∙ append_assoc before (flip ∷ []) (mirror (drop from before))
+    ∙ (λ i. flipped i ++ mirror_stores (take (at_end i - from) (drop from (flipped i))))
+    ∙ ap (λ links. (before ++ flip ∷ []) ++ mirror_stores links) (take-drop_append before (flip ∷ []) from (omega (arith, c.requires.place, c.args.stores.now.ok.0)))
+    ∙ append_assoc before (flip ∷ []) (mirror_stores (drop from before))
 
 pub returns-clause-len : goal.returns-clause-len
 returns-clause-len c =

@@ -1,4 +1,4 @@
-use Rattle.latch_steps.proofs.PlainRuns.{exact_where_plain}
+use Rattle.latch_steps.proofs.PlainRunLemmas.{exact_where_plain}
 use Rattle.latch_steps.proofs.laws.every_plain_run_is_exact.Goals as goal
 
 pub returns : goal.returns

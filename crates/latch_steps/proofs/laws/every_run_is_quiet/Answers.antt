@@ -1,4 +1,4 @@
-use Rattle.latch_steps.proofs.Patient.{quiet}
+use Rattle.latch_steps.proofs.PatienceLemmas.{quiet}
 use Rattle.latch_steps.proofs.laws.every_run_is_quiet.Goals as goal
 
 pub returns : goal.returns

@@ -1,4 +1,4 @@
-use Rattle.latch_steps.proofs.SafeRuns.{safe}
+use Rattle.latch_steps.proofs.SafeRunLemmas.{safe}
 use Rattle.latch_steps.proofs.laws.every_run_is_safe.Goals as goal
 
 pub returns : goal.returns

@@ -1,4 +1,4 @@
-use Rattle.latch_steps.proofs.PlainRuns.{commands_plain}
+use Rattle.latch_steps.proofs.PlainRunLemmas.{commands_plain}
 use Rattle.latch_steps.proofs.laws.plain_commands_run_plainly.Goals as goal
 
 pub returns : goal.returns

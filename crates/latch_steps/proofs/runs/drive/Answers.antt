@@ -5,9 +5,9 @@ use Rattle.word_arena.specs.Layouts.{capacity_of}
 use Rattle.latch_steps.specs.Runs.{opening}
 use Rattle.latch_steps.specs.Expands.{Expand}
 use Rattle.latch_steps.proofs.Promising.{obeyed_none, obeyed_more, safe_trace, quiet_trace, near_trace}
-use Rattle.latch_steps.proofs.Recording.{trace_of, records_none, records_append, few_done, expand_push}
-use Rattle.latch_steps.proofs.SafeRuns.{safe}
-use Rattle.latch_steps.proofs.Patient.{quiet, near}
+use Rattle.latch_steps.proofs.RecorderLemmas.{trace_of, records_none, records_append, few_done, expand_push}
+use Rattle.latch_steps.proofs.SafeRunLemmas.{safe}
+use Rattle.latch_steps.proofs.PatienceLemmas.{quiet, near}
 use Rattle.latch_steps.specs.Near.{AreShallow}
 use Rattle.latch_steps.proofs.runs.drive.Goals as goal
 

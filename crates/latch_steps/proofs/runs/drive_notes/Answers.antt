@@ -4,13 +4,13 @@ use Rattle.order_laws.proofs.Lists.{take_push}
 use Rattle.word_arena.specs.Layouts.{capacity_of, limit_of}
 use Rattle.latch_steps.specs.Runs.{last_of, opening}
 use Rattle.latch_steps.specs.Expands.{Expand}
-use Rattle.latch_steps.proofs.SafeRuns.{safe}
-use Rattle.latch_steps.proofs.Patient.{quiet, near}
+use Rattle.latch_steps.proofs.SafeRunLemmas.{safe}
+use Rattle.latch_steps.proofs.PatienceLemmas.{quiet, near}
 use Rattle.latch_steps.proofs.Promising.{obeyed_none, obeyed_more, shallow}
-use Rattle.latch_steps.proofs.Recording.{notes_of_run, records_none, records_append, expand_push}
+use Rattle.latch_steps.proofs.RecorderLemmas.{notes_of_run, records_none, records_append, expand_push}
 use Rattle.latch_steps.specs.Near.{AreShallow}
-use Rattle.latch_steps.proofs.Counting.{few_counted}
-use Rattle.latch_steps.proofs.PlainRuns.{exact_where_plain}
+use Rattle.latch_steps.proofs.EventCountLemmas.{few_counted}
+use Rattle.latch_steps.proofs.PlainRunLemmas.{exact_where_plain}
 use Rattle.latch_steps.proofs.runs.drive_notes.Goals as goal
 
 pub loop-command-init : goal.loop-command-init

@@ -2,11 +2,11 @@ use Rattle.std.proofs.Common.{true, ◌∙◌, ◌++◌, ◌∷◌, [], refl, ap
 use Rattle.std.proofs.lemmas.List.{take_all}
 use Rattle.order_laws.proofs.Lists.{take_push}
 use Rattle.word_arena.specs.Layouts.{capacity_of}
-use Rattle.latch_steps.specs.Runs.{did, last_of, opening}
+use Rattle.latch_steps.specs.Runs.{step_done, last_of, opening}
 use Rattle.latch_steps.proofs.Promising.{safe_trace, quiet_trace, near_trace}
-use Rattle.latch_steps.proofs.Recording.{records_none, records_append, events_append, trace_of, few_done}
-use Rattle.latch_steps.proofs.SafeRuns.{safe}
-use Rattle.latch_steps.proofs.Patient.{quiet, near}
+use Rattle.latch_steps.proofs.RecorderLemmas.{records_none, records_append, events_append, trace_of, few_done}
+use Rattle.latch_steps.proofs.SafeRunLemmas.{safe}
+use Rattle.latch_steps.proofs.PatienceLemmas.{quiet, near}
 use Rattle.latch_steps.specs.Near.{AreShallow}
 use Rattle.latch_steps.proofs.runs.run.Goals as goal
 
@@ -23,7 +23,7 @@ loop-event-preserved g c =
     let w0 = opening (capacity_of c.args.l) c.args.start in
     let h = c.loop-event.invariant in
     let d = c.in_ok-record.ensures.recorded (last_of w0 h.0) h.1.shows in
-    let one = did c.event-item.result c.in_ok-record.field-0 d.0 in (
+    let one = step_done c.event-item.result c.in_ok-record.field-0 d.0 in (
       h.0 ++ one ∷ [],
       records_append g.O.TreeOrder.order true c.in_ok-recorder.recorder c.loop-event.recorder c.record.new.self w0 h.0 (one ∷ []) h.1 d.1,
       events_append h.0 (one ∷ []) ∙ ap (λ es. es ++ c.event-item.result ∷ []) h.2

@@ -1,6 +1,6 @@
 use Rattle.std.proofs.Common.{[], ◌∷◌, ◌++◌, ◌∙◌, ap, sym}
 use Rattle.listing.specs.Numbers.{number_of}
-use Rattle.latchsym.proofs.Addresses.{first_bad, one_number_more, still_numbers}
+use Rattle.latchsym.proofs.AddressLemmas.{first_bad, one_number_more, still_numbers}
 use Rattle.latchsym.proofs.command_line.addresses_in.Goals as goal
 
 pub returns-in-None : goal.returns-in-None

@@ -3,7 +3,7 @@ use Rattle.std.specs.Prelude.{find}
 use Rattle.std.specs.List.{filter_map}
 use Rattle.listing.specs.Numbers.{number_of}
 use Rattle.latchsym.specs.Jobs.{is_no_number}
-use Rattle.latchsym.proofs.Addresses.{texts}
+use Rattle.latchsym.proofs.AddressLemmas.{texts}
 use Rattle.latchsym.proofs.command_line.addresses_in.Given as goal
 
 abbrev pub invariant-loop-word : goal.invariant-loop-word

@@ -1,7 +1,7 @@
 use Rattle.std.proofs.Common.{◌≡◌, ◌∙◌, ap, not, length, map, option_map, arith, rules, tests}
 use Rattle.std.proofs.lemmas.Bool.Decides.{nat_tests}
 use Rattle.clap.specs.Words.{found_of, rows_of}
-use Rattle.latchsym.proofs.Asked.{bad_asked, lacking, none_asked}
+use Rattle.latchsym.proofs.AskedLemmas.{bad_asked, lacking, none_asked}
 use Rattle.latchsym.proofs.command_line.lookup_job.Goals as goal
 
 pub returns-then-is_none : goal.returns-then-is_none

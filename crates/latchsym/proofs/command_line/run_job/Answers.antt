@@ -1,7 +1,7 @@
 use Rattle.std.proofs.Common.{◌≡◌, None, option_map, refl, rules}
 use Rattle.clap.specs.Words.{found_of, rows_of}
 use Rattle.latchsym.specs.Jobs.{readers_of}
-use Rattle.latchsym.proofs.Asked.{run_asked}
+use Rattle.latchsym.proofs.AskedLemmas.{run_asked}
 use Rattle.latchsym.proofs.command_line.run_job.Goals as goal
 
 pub returns-in_default-readers_in : goal.returns-in_default-readers_in

@@ -1,6 +1,6 @@
 use Rattle.std.proofs.Common.{option_map}
 use Rattle.latchsym.specs.LookupInputs.{known_text}
-use Rattle.latchsym.proofs.Inputs.{answered}
+use Rattle.latchsym.proofs.InputLemmas.{answered}
 use Rattle.latchsym.proofs.lookup.answer_from.Goals as goal
 
 pub returns : goal.returns

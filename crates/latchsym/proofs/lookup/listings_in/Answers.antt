@@ -6,7 +6,7 @@ use Rattle.listing.specs.ModuleListing.{modules_in}
 use Rattle.modules.specs.Catalogs.{catalog_of, counts_of}
 use Rattle.modules.specs.Listed.{ListedRegion}
 use Rattle.modules.specs.Placed.{are_few}
-use Rattle.latchsym.specs.LookupInputs.{catalog_in, counts_in, gathered_in, lines_in}
+use Rattle.latchsym.specs.LookupInputs.{catalog_in, counts_in, inputs_in, region_lines_of_inputs}
 use Rattle.latchsym.proofs.lookup.listings_in.Goals as goal
 
 still_some : (o : Option (Vec ListedRegion)) → is_some o ≡ is_some (option_map (λ lines. lines.items) o)
@@ -21,7 +21,7 @@ returns-clause-said c =
     let lines = c.region_lines_of-regions.result.now in
     let symbols = c.in_ok-symbol_lines.symbol_lines in
     let all_modules = modules_in (lines_of i.modules.now) in
-    let all_lines = lines_in (gathered_in i) in
+    let all_lines = region_lines_of_inputs (inputs_in i) in
     let is_modules = c.deref.ensures.value ∙ c.in_ok-module_lines.ensures.modules in
     record {
       few = ap are_few (sym c.region_lines_of-regions.ensures) ∙ c.in_ok-catalog.ensures.few;

@@ -1,7 +1,7 @@
 use Rattle.devices.specs.Counted.{device_of, failures_of}
 use Rattle.latchsym.specs.LookupInputs.{failures_in, inputs_of, known_inputs, known_text, texts_in}
 use Rattle.latchsym.specs.declared.lookup.ListingTexts.{ListingTexts}
-use Rattle.latchsym.proofs.Inputs.{answered_behind, where_known}
+use Rattle.latchsym.proofs.InputLemmas.{answered_behind, where_known}
 use Rattle.latchsym.proofs.lookup.lookup_engine.Goals as goal
 
 pub returns : goal.returns

@@ -1,11 +1,11 @@
 use Rattle.std.proofs.Common.{◌≡◌, map, take}
 use Rattle.modules.specs.Items.{items_of}
 use Rattle.latchsym.specs.CatalogTables.{answer_at}
-use Rattle.latchsym.specs.LoadedWorlds.{Holds}
+use Rattle.latchsym.specs.LoadedWorlds.{HasTable}
 use Rattle.latchsym.proofs.table.answers_of.Given as goal
 
 abbrev pub invariant-loop-addr : goal.invariant-loop-addr
 invariant-loop-addr l = record {
-  holds : Holds (items_of l.catalog) l.world;
+  holds : HasTable (items_of l.catalog) l.world;
   answers : l.answers.items ≡ map (answer_at l.catalog) (take l.addr-index l.addresses);
 }

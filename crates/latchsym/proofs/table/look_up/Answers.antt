@@ -2,7 +2,7 @@ use Rattle.std.proofs.Common.{ap, rules}
 use Rattle.order_laws.specs.declared.items.Item.{Item}
 use Rattle.std.specs.Prelude.{Option}
 use Rattle.latchsym.specs.declared.table.Answer.{Answer}
-use Rattle.latchsym.proofs.Opening.{only_for_memory, right_item, still_holds}
+use Rattle.latchsym.proofs.WorldOpeningLemmas.{only_for_memory, right_item, still_holds}
 use Rattle.latchsym.proofs.table.look_up.Goals as goal
 
 pub returns-in_err-found-clause-refusal : goal.returns-in_err-found-clause-refusal

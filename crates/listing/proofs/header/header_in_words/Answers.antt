@@ -1,5 +1,5 @@
 use Rattle.std.proofs.Common.{[], ◌∙◌}
-use Rattle.listing.proofs.Forms.{header_five}
+use Rattle.listing.proofs.FormLemmas.{header_five}
 use Rattle.listing.proofs.header.header_in_words.Goals as goal
 
 pub returns-in-len5 : goal.returns-in-len5

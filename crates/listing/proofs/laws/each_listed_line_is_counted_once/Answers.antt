@@ -1,6 +1,6 @@
 use Rattle.listing.specs.Lines.{lines_of}
-use Rattle.listing.proofs.ModuleLines as modules
-use Rattle.listing.proofs.SymbolLines as symbols
+use Rattle.listing.proofs.ModuleLineLemmas as modules
+use Rattle.listing.proofs.SymbolLineLemmas as symbols
 use Rattle.listing.proofs.laws.each_listed_line_is_counted_once.Goals as goal
 
 pub returns-clause-modules : goal.returns-clause-modules

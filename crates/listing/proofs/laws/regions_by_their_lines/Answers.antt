@@ -1,5 +1,5 @@
 use Rattle.listing.specs.Lines.{lines_of}
-use Rattle.listing.proofs.RegionLines.{regions_by_lines}
+use Rattle.listing.proofs.RegionLineLemmas.{regions_by_lines}
 use Rattle.listing.proofs.laws.regions_by_their_lines.Goals as goal
 
 pub returns : goal.returns

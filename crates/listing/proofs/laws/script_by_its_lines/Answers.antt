@@ -1,6 +1,6 @@
 use Rattle.listing.specs.Lines.{lines_of}
 use Rattle.listing.specs.Scripts.{script_line_by}
-use Rattle.listing.proofs.Understood.{are_entries}
+use Rattle.listing.proofs.UnderstoodLemmas.{are_entries}
 use Rattle.listing.proofs.laws.script_by_its_lines.Goals as goal
 
 pub returns : goal.returns

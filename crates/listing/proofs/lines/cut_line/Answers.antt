@@ -1,7 +1,7 @@
 use Rattle.std.proofs.Common.{◌∷◌, ap, ◌∙◌, ◌+◌, take, sym}
 use Rattle.std.proofs.lemmas.List.{take_rest}
 use Rattle.listing.specs.Lines.{lines_of}
-use Rattle.listing.proofs.Cutting.{line_here, line_nowhere}
+use Rattle.listing.proofs.LineCutLemmas.{line_here, line_nowhere}
 use Rattle.listing.proofs.lines.cut_line.Goals as goal
 
 pub returns-in-Some-clause-line : goal.returns-in-Some-clause-line

@@ -2,7 +2,7 @@ use Rattle.std.proofs.Common.{◌∷◌, ap, ◌∙◌, ◌+◌, take, sym}
 use Rattle.std.proofs.lemmas.List.{take_rest}
 use Rattle.memchr.specs.Find.{is_byte}
 use Rattle.listing.specs.Lines.{words_of}
-use Rattle.listing.proofs.Cutting.{split_here, split_nowhere}
+use Rattle.listing.proofs.LineCutLemmas.{split_here, split_nowhere}
 use Rattle.listing.proofs.lines.cut_word.Goals as goal
 
 pub returns-in-Some-clause-cut : goal.returns-in-Some-clause-cut

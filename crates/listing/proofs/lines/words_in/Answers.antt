@@ -1,7 +1,7 @@
 use Rattle.std.proofs.Common.{ap, arith, length, length-append, map}
 use Rattle.listing.specs.Lines.{words_of}
 use Rattle.std.proofs.lemmas.List.{length-map}
-use Rattle.listing.proofs.Cutting.{some_word}
+use Rattle.listing.proofs.LineCutLemmas.{some_word}
 use Rattle.listing.proofs.lines.words_in.Goals as goal
 
 pub returns-clause-none : goal.returns-clause-none

@@ -1,7 +1,7 @@
 use Rattle.std.proofs.Common.{◌≡◌, ◌+◌, ap, ◌∙◌, arith, refl}
 use Rattle.std.specs.Char.{digit_value}
 use Rattle.listing.specs.declared.numbers.TheConstants.{DIGITS}
-use Rattle.listing.proofs.Digits.{digit_at}
+use Rattle.listing.proofs.DigitLemmas.{digit_at}
 use Rattle.listing.proofs.numbers.digit_of.Goals as goal
 
 pub returns-clause-value : goal.returns-clause-value

@@ -2,7 +2,7 @@ use Rattle.std.proofs.Common.{◌≡◌, ◌<◌, ◌+◌, ◌*◌, ◌^◌, Som
 use Rattle.std.specs.Char.{digit_value, is_digit}
 use Rattle.std.proofs.lemmas.Grind.{common_steps}
 use Rattle.order_laws.proofs.Digits.{digit_fits, digits_value_after-end, list_all-end, next_digit}
-use Rattle.listing.proofs.Values.{is_value}
+use Rattle.listing.proofs.NumberLemmas.{is_value}
 use Rattle.listing.proofs.numbers.hexadecimal.Goals as goal
 
 pub overflow_mul-value : goal.overflow_mul-value

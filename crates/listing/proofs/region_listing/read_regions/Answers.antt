@@ -1,5 +1,5 @@
 use Rattle.listing.specs.Lines.{lines_of}
-use Rattle.listing.proofs.RegionLines.{regions_fit_given}
+use Rattle.listing.proofs.RegionLineLemmas.{regions_fit_given}
 use Rattle.listing.proofs.region_listing.read_regions.Goals as goal
 
 pub returns-clause-fit : goal.returns-clause-fit

@@ -2,8 +2,8 @@ use Rattle.std.proofs.Common.{◌≡◌, ◌+◌, ◌∷◌, ◌++◌, [], ap, s
 use Rattle.std.proofs.lemmas.Grind.{common_steps}
 use Rattle.listing.specs.Lines.{lines_of}
 use Rattle.listing.specs.RegionListing.{region_by}
-use Rattle.listing.specs.Said.{entries_from, after_front}
-use Rattle.listing.proofs.Steps.{passed, taken}
+use Rattle.listing.specs.Said.{entries_from, entries_after}
+use Rattle.listing.proofs.StepLemmas.{passed, taken}
 use Rattle.listing.proofs.region_listing.regions_in.Goals.{in-Nothing, in-One+in_ok-push-in-One}
 use Rattle.listing.proofs.region_listing.regions_in.Goals as goal
 
@@ -13,17 +13,17 @@ loop-rest-preserved c =
     let line = c.cut_line.result.0.now in
     let lines = lines_of c.cut_line.result.1.now in
     let front = c.loop-rest.regions.items in
-    let before : after_front front (entries_from region_by n (line ∷ lines)) ≡ entries_from region_by 2 (lines_of c.args.text.now) =
-    ap (λ ls. after_front front (entries_from region_by n ls)) (sym c.cut_line.ensures.line) ∙ c.loop-rest.invariant.told in
+    let before : entries_after front (entries_from region_by n (line ∷ lines)) ≡ entries_from region_by 2 (lines_of c.args.text.now) =
+    ap (λ ls. entries_after front (entries_from region_by n ls)) (sym c.cut_line.ensures.line) ∙ c.loop-rest.invariant.told in
     record {
       told = elim c.match-said_by.branch [
         | in-Nothing w ↦
-            ap (λ v. after_front v.items (entries_from region_by (n + 1) lines)) w.regions-is
-            ∙ ap (after_front front) (sym (passed region_by n line lines (sym w.in-Nothing.ensures))) ∙ before
+            ap (λ v. entries_after v.items (entries_from region_by (n + 1) lines)) w.regions-is
+            ∙ ap (entries_after front) (sym (passed region_by n line lines (sym w.in-Nothing.ensures))) ∙ before
         | in-One+in_ok-push-in-One w ↦
             let pushed : w.push.new.self.items ≡ front ++ w.in-One.region ∷ [] = grind (arith, common_steps) in
-            ap (λ v. after_front v.items (entries_from region_by (n + 1) lines)) w.regions-is
-            ∙ ap (λ xs. after_front xs (entries_from region_by (n + 1) lines)) pushed
+            ap (λ v. entries_after v.items (entries_from region_by (n + 1) lines)) w.regions-is
+            ∙ ap (λ xs. entries_after xs (entries_from region_by (n + 1) lines)) pushed
             ∙ sym (taken region_by n line lines front w.in-One.region (sym w.in-One.ensures)) ∙ before
       ];
       numbered = omega (arith, c.loop-rest.invariant.numbered, c.cut_line.ensures.shorter);

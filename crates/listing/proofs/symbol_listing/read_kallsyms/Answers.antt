@@ -2,10 +2,10 @@ use Rattle.std.proofs.Common.{◌≡◌, ℕ, List, [], ◌∷◌, ◌++◌, len
 use Rattle.order_laws.proofs.Lists.{moved_over}
 use Rattle.modules.specs.Listed.{ListedSymbol}
 use Rattle.listing.specs.Lines.{lines_of}
-use Rattle.listing.specs.SymbolListing.{symbol_of, symbols_in, symbol_counts, symbols_skipped, counts_after}
+use Rattle.listing.specs.SymbolListing.{symbol_of, symbols_in, symbol_counts, symbols_skipped, symbol_counts_after}
 use Rattle.listing.specs.declared.symbol_listing.SymbolCounts.{SymbolCounts}
-use Rattle.listing.proofs.LineCounts.{lines_few}
-use Rattle.listing.proofs.SymbolLines.{each_once, symbol_counts_more, symbol_taken, symbol_skipped}
+use Rattle.listing.proofs.LineCountLemmas.{lines_few}
+use Rattle.listing.proofs.SymbolLineLemmas.{each_once, symbol_counts_more, symbol_taken, symbol_skipped}
 use Rattle.listing.proofs.symbol_listing.read_kallsyms.Goals as goal
 
 pub count-requires : goal.count-requires
@@ -19,11 +19,11 @@ loop-rest-preserved-in_ok-push-in-Ok c =
     let line = c.cut_tabbed_line-tab.result.0.now in
     let m = c.in-Ok.symbol in
     let is : symbol_of line ≡ Ok m = sym c.in-Ok.ensures in
-    let same : symbol_counts done ≡ counts_after (symbol_counts done) (Ok m) = refl in (
+    let same : symbol_counts done ≡ symbol_counts_after (symbol_counts done) (Ok m) = refl in (
       done ++ line ∷ [],
       moved_over (lines_of c.args.text.now) done (lines_of c.loop-rest.rest.now) (lines_of c.cut_tabbed_line-tab.result.2.now) line joined c.cut_tabbed_line-tab.ensures.line,
       c.in_ok-push-in-Ok.ensures.pushed ∙ ap (λ (ms : List ListedSymbol). ms ++ m ∷ []) taken ∙ sym (symbol_taken done line m is),
-      counted ∙ same ∙ ap (counts_after (symbol_counts done)) (sym is) ∙ sym (symbol_counts_more done line),
+      counted ∙ same ∙ ap (symbol_counts_after (symbol_counts done)) (sym is) ∙ sym (symbol_counts_more done line),
     )
 
 pub loop-rest-preserved : goal.loop-rest-preserved
@@ -34,5 +34,5 @@ loop-rest-preserved c =
       done ++ line ∷ [],
       moved_over (lines_of c.args.text.now) done (lines_of c.loop-rest.rest.now) (lines_of c.cut_tabbed_line-tab.result.2.now) line joined c.cut_tabbed_line-tab.ensures.line,
       taken ∙ sym (symbol_skipped done line c.in-Err.cause is),
-      c.count.ensures ∙ ap (λ (n : SymbolCounts). counts_after n (Err c.in-Err.cause)) counted ∙ ap (counts_after (symbol_counts done)) (sym is) ∙ sym (symbol_counts_more done line),
+      c.count.ensures ∙ ap (λ (n : SymbolCounts). symbol_counts_after n (Err c.in-Err.cause)) counted ∙ ap (symbol_counts_after (symbol_counts done)) (sym is) ∙ sym (symbol_counts_more done line),
     )

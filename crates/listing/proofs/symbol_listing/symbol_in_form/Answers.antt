@@ -2,9 +2,9 @@ use Rattle.std.proofs.Common.{◌≡◌, ◌+◌, ℕ, List, Some, None, Option,
 use Rattle.std.specs.Option.{option_and_then}
 use Rattle.std.proofs.lemmas.List.{take_rest}
 use Rattle.memchr.specs.Find.{IsFirstByte, is_byte}
-use Rattle.listing.specs.SymbolListing.{bracketed, cut_at, symbol_before, symbol_named}
+use Rattle.listing.specs.SymbolListing.{bracketed, cut_at, symbol_before, symbol_of_text}
 use Rattle.modules.specs.Listed.{ListedSymbol}
-use Rattle.listing.proofs.Cutting.{cut_here, cut_nowhere}
+use Rattle.listing.proofs.LineCutLemmas.{cut_here, cut_nowhere}
 use Rattle.listing.proofs.symbol_listing.symbol_in_form.Goals as goal
 
 -- the parts of a line before and after its first tab
@@ -23,7 +23,7 @@ returns-in_ok-name_in_brackets-in-Some c =
     let line = c.args.line.now in
     let tab : ℕ = c.in-Some.tab in
     c.named_symbol-in-Some.ensures
-    ∙ ap (λ (o : Option (List ℕ)). option_and_then (λ owner. symbol_named (Some owner) (take tab line)) o) (c.in_ok-name_in_brackets-in-Some.ensures ∙ ap bracketed (take_rest line (tab + 1)))
+    ∙ ap (λ (o : Option (List ℕ)). option_and_then (λ owner. symbol_of_text (Some owner) (take tab line)) o) (c.in_ok-name_in_brackets-in-Some.ensures ∙ ap bracketed (take_rest line (tab + 1)))
     ∙ sym (ap (λ parts. symbol_before parts line) (parts_at line c.args.tab tab c.requires c.in-Some.is))
 
 pub returns-in_err-name_in_brackets-in-Some : goal.returns-in_err-name_in_brackets-in-Some
@@ -31,5 +31,5 @@ returns-in_err-name_in_brackets-in-Some c =
     let line = c.args.line.now in
     let tab : ℕ = c.in-Some.tab in
     c.from_residual.ensures
-    ∙ ap (λ (o : Option (List ℕ)). option_and_then (λ owner. symbol_named (Some owner) (take tab line)) o) (c.in_err-name_in_brackets-in-Some.ensures ∙ ap bracketed (take_rest line (tab + 1)))
+    ∙ ap (λ (o : Option (List ℕ)). option_and_then (λ owner. symbol_of_text (Some owner) (take tab line)) o) (c.in_err-name_in_brackets-in-Some.ensures ∙ ap bracketed (take_rest line (tab + 1)))
     ∙ sym (ap (λ parts. symbol_before parts line) (parts_at line c.args.tab tab c.requires c.in-Some.is))

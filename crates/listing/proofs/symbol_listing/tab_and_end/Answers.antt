@@ -1,4 +1,4 @@
-use Rattle.listing.proofs.Tabs.{end_behind, no_end_behind}
+use Rattle.listing.proofs.TabLemmas.{end_behind, no_end_behind}
 use Rattle.listing.proofs.symbol_listing.tab_and_end.Goals as goal
 
 pub returns-in-Some-memchr-clause-end : goal.returns-in-Some-memchr-clause-end

@@ -2,10 +2,10 @@ use Rattle.std.proofs.Common.{◌≡◌, ◌+◌, take, sym, ap, ◌∙◌}
 use Rattle.std.specs.Prelude.{fold}
 use Rattle.std.proofs.lemmas.List.Sums.{fold_more}
 use Rattle.modules.specs.Accepted.{Accepted, after_module, none_yet}
-use Rattle.modules.specs.Admissions.{shown}
+use Rattle.modules.specs.Admissions.{admission_view}
 use Rattle.modules.specs.Listed.{ListedModule}
-use Rattle.modules.specs.Placed.{PlacedModule, placed}
-use Rattle.modules.proofs.Admitting.{total, total-after_module}
+use Rattle.modules.specs.Placed.{PlacedModule, placed_line}
+use Rattle.modules.proofs.AdmissionLemmas.{total, total-after_module}
 use Rattle.modules.proofs.admission.admit.Goals as goal
 
 pub loop-line-preserved : goal.loop-line-preserved
@@ -14,10 +14,10 @@ loop-line-preserved c =
     let regions = c.args.regions.now in
     let lines = c.args.lines.now in
     let line = c.line-item.result in
-    let step : Accepted → ListedModule → Accepted = λ a x. after_module a (placed regions x) in
-    let after : shown c.take_module.new.self ≡ after_module (shown c.loop-line.admission) c.place.result = c.in_ok-take_module.ensures.after in
+    let step : Accepted → ListedModule → Accepted = λ a x. after_module a (placed_line regions x) in
+    let after : admission_view c.take_module.new.self ≡ after_module (admission_view c.loop-line.admission) c.place.result = c.in_ok-take_module.ensures.after in
     record {
-      shows = after ∙ ap (λ (m : PlacedModule). after_module (shown c.loop-line.admission) m) c.place.ensures ∙ ap (λ (a : Accepted). step a line) i.shows ∙ ap (λ (x : ListedModule). step (fold step (none_yet c.args.built_in) (take c.loop-line.line-index lines)) x) c.line-item.is ∙ sym (fold_more step (none_yet c.args.built_in) lines c.loop-line.line-index line c.loop-line-test.true);
+      shows = after ∙ ap (λ (m : PlacedModule). after_module (admission_view c.loop-line.admission) m) c.place.ensures ∙ ap (λ (a : Accepted). step a line) i.shows ∙ ap (λ (x : ListedModule). step (fold step (none_yet c.args.built_in) (take c.loop-line.line-index lines)) x) c.line-item.is ∙ sym (fold_more step (none_yet c.args.built_in) lines c.loop-line.line-index line c.loop-line-test.true);
       tied = c.in_ok-take_module.ensures.tied;
-      counted = ap total after ∙ total-after_module (shown c.loop-line.admission) c.place.result ∙ ap (λ n. n + 1) i.counted;
+      counted = ap total after ∙ total-after_module (admission_view c.loop-line.admission) c.place.result ∙ ap (λ n. n + 1) i.counted;
     }

@@ -1,6 +1,6 @@
 use Rattle.std.proofs.Common.{◌≡◌, ℕ, Bool, ◌&&◌, get_or, ap, ◌∙◌, arith}
 use Rattle.std.specs.List.{list_all}
-use Rattle.modules.proofs.Admitting.{IsTaking, taking}
+use Rattle.modules.proofs.AdmissionLemmas.{IsTaking, taking}
 use Rattle.modules.proofs.admission.take_all.Goals as goal
 
 pub loop-region-preserved : goal.loop-region-preserved

@@ -4,46 +4,46 @@ use Rattle.std.specs.Int.{from_bool}
 use Rattle.std.specs.List.{flat_map}
 use Rattle.order_laws.proofs.Tests.{count_by-either}
 use Rattle.modules.specs.Accepted.{Accepted, accepted_of, none_yet}
-use Rattle.modules.specs.Admissions.{shown}
+use Rattle.modules.specs.Admissions.{admission_view}
 use Rattle.modules.specs.Building.{AreModules}
-use Rattle.modules.specs.Catalogs.{IsSound}
+use Rattle.modules.specs.Catalogs.{IsSoundCatalog}
 use Rattle.modules.specs.Entries.{ModuleEntry}
 use Rattle.modules.specs.Kept.{is_used}
 use Rattle.modules.specs.Lines.{built_in_region, first_address}
 use Rattle.modules.specs.Listed.{ListedRegion}
-use Rattle.modules.specs.Placed.{placed}
-use Rattle.modules.proofs.Soundness.{IsGood, accepted_good, built_in_kept, valid_built_in, count_of_regions, kernel_one, IsSound-catalog_of}
-use Rattle.modules.proofs.Makings.{catalog_from, counts_from}
+use Rattle.modules.specs.Placed.{placed_line}
+use Rattle.modules.proofs.SoundnessLemmas.{IsGood, accepted_good, built_in_kept, valid_built_in, count_of_regions, kernel_one, IsSound-catalog_of}
+use Rattle.modules.proofs.MakingLemmas.{catalog_from, counts_from}
 use Rattle.modules.proofs.build.assemble.Goals as goal
 
 pub gather-requires-clause-distinct : goal.gather-requires-clause-distinct
 gather-requires-clause-distinct c =
-    let a : shown c.in_ok-admission.admission ≡ accepted_of (built_in_region c.args.names.now c.args.symbols) c.args.regions.now c.args.modules.now = c.in_ok-admission.ensures.admitted ∙ ap (λ (b : Option (ℕ × ℕ)). accepted_of b c.args.regions.now c.args.modules.now) c.built_in_region-built_in.ensures in
+    let a : admission_view c.in_ok-admission.admission ≡ accepted_of (built_in_region c.args.names.now c.args.symbols) c.args.regions.now c.args.modules.now = c.in_ok-admission.ensures.admitted ∙ ap (λ (b : Option (ℕ × ℕ)). accepted_of b c.args.regions.now c.args.modules.now) c.built_in_region-built_in.ensures in
     (subst IsGood (sym a) (accepted_good c.args.names.now c.args.modules.now c.args.regions.now c.args.symbols c.requires.fit c.requires.regions_fit c.requires.few)).distinct
 
 pub built_in_module-requires : goal.built_in_module-requires
 built_in_module-requires c =
     let names = c.args.names.now in
     let symbols = c.args.symbols in
-    let a : shown c.in_ok-admission.admission ≡ accepted_of (built_in_region names symbols) c.args.regions.now c.args.modules.now = c.in_ok-admission.ensures.admitted ∙ ap (λ (b : Option (ℕ × ℕ)). accepted_of b c.args.regions.now c.args.modules.now) c.built_in_region-built_in.ensures in
-    let region : c.in_ok-admission.admission.built_in ≡ built_in_region names symbols = ap (λ (x : Accepted). x.built_in) a ∙ built_in_kept (none_yet (built_in_region names symbols)) (map (placed c.args.regions.now) c.args.modules.now) in
+    let a : admission_view c.in_ok-admission.admission ≡ accepted_of (built_in_region names symbols) c.args.regions.now c.args.modules.now = c.in_ok-admission.ensures.admitted ∙ ap (λ (b : Option (ℕ × ℕ)). accepted_of b c.args.regions.now c.args.modules.now) c.built_in_region-built_in.ensures in
+    let region : c.in_ok-admission.admission.built_in ≡ built_in_region names symbols = ap (λ (x : Accepted). x.built_in) a ∙ built_in_kept (none_yet (built_in_region names symbols)) (map (placed_line c.args.regions.now) c.args.modules.now) in
     subst (λ (b : Option (ℕ × ℕ)). IfSome b (λ r. r.0 < r.1)) (sym region) (valid_built_in (first_address names.start symbols) (first_address names.end symbols))
 
 pub modules_from-requires-clause-placed : goal.modules_from-requires-clause-placed
 modules_from-requires-clause-placed c =
-    let a : shown c.in_ok-admission.admission ≡ accepted_of (built_in_region c.args.names.now c.args.symbols) c.args.regions.now c.args.modules.now = c.in_ok-admission.ensures.admitted ∙ ap (λ (b : Option (ℕ × ℕ)). accepted_of b c.args.regions.now c.args.modules.now) c.built_in_region-built_in.ensures in
+    let a : admission_view c.in_ok-admission.admission ≡ accepted_of (built_in_region c.args.names.now c.args.symbols) c.args.regions.now c.args.modules.now = c.in_ok-admission.ensures.admitted ∙ ap (λ (b : Option (ℕ × ℕ)). accepted_of b c.args.regions.now c.args.modules.now) c.built_in_region-built_in.ensures in
     rw c.as_slice.ensures.value (subst IsGood (sym a) (accepted_good c.args.names.now c.args.modules.now c.args.regions.now c.args.symbols c.requires.fit c.requires.regions_fit c.requires.few)).places
 
 pub invariant_of-catalog : goal.invariant_of-catalog
 invariant_of-catalog c =
     let names = c.args.names.now in
     let symbols = c.args.symbols in
-    let a : shown c.in_ok-admission.admission ≡ accepted_of (built_in_region names symbols) c.args.regions.now c.args.modules.now = c.in_ok-admission.ensures.admitted ∙ ap (λ (b : Option (ℕ × ℕ)). accepted_of b c.args.regions.now c.args.modules.now) c.built_in_region-built_in.ensures in
+    let a : admission_view c.in_ok-admission.admission ≡ accepted_of (built_in_region names symbols) c.args.regions.now c.args.modules.now = c.in_ok-admission.ensures.admitted ∙ ap (λ (b : Option (ℕ × ℕ)). accepted_of b c.args.regions.now c.args.modules.now) c.built_in_region-built_in.ensures in
     let made : AreModules c.in_ok-admission.admission.modules.items c.in_ok-gathered.gathered.modules.items c.in_ok-modules.modules.items = rw (← c.as_slice.ensures.value) c.in_ok-modules.ensures in
     let built = catalog_from c.in_ok-admission.admission c.in_ok-gathered.gathered names c.args.modules.now c.args.regions.now symbols c.in_ok-built_in.built_in c.in_ok-modules.modules.items a c.in_ok-gathered.ensures c.in_ok-built_in.ensures made in
     let one : IfSome c.in_ok-built_in.built_in (λ m. length m.regions ≡ 1) = subst (λ (o : Option ModuleEntry). IfSome o (λ m. length m.regions ≡ 1)) (sym c.in_ok-built_in.ensures) (kernel_one c.in_ok-admission.admission.built_in c.in_ok-gathered.gathered.built_in.items) in
     record {
-      sound = subst IsSound (sym built) (IsSound-catalog_of names c.args.modules.now c.args.regions.now symbols c.requires.fit c.requires.regions_fit c.requires.few);
+      sound = subst IsSoundCatalog (sym built) (IsSound-catalog_of names c.args.modules.now c.args.regions.now symbols c.requires.fit c.requires.regions_fit c.requires.few);
       named = rw (← c.as_slice-2.ensures.value) c.in_ok-by_name.ensures;
       counted = c.regions_in-regions.ensures
           ∙ ap (λ b. from_bool b + length (flat_map (λ (m : ModuleEntry). m.regions) c.as_slice-3.result.now)) c.as_ref.ensures.variant
@@ -55,7 +55,7 @@ pub returns-clause-built : goal.returns-clause-built
 returns-clause-built c =
     let names = c.args.names.now in
     let symbols = c.args.symbols in
-    let a : shown c.in_ok-admission.admission ≡ accepted_of (built_in_region names symbols) c.args.regions.now c.args.modules.now = c.in_ok-admission.ensures.admitted ∙ ap (λ (b : Option (ℕ × ℕ)). accepted_of b c.args.regions.now c.args.modules.now) c.built_in_region-built_in.ensures in
+    let a : admission_view c.in_ok-admission.admission ≡ accepted_of (built_in_region names symbols) c.args.regions.now c.args.modules.now = c.in_ok-admission.ensures.admitted ∙ ap (λ (b : Option (ℕ × ℕ)). accepted_of b c.args.regions.now c.args.modules.now) c.built_in_region-built_in.ensures in
     let made : AreModules c.in_ok-admission.admission.modules.items c.in_ok-gathered.gathered.modules.items c.in_ok-modules.modules.items = rw (← c.as_slice.ensures.value) c.in_ok-modules.ensures in
     catalog_from c.in_ok-admission.admission c.in_ok-gathered.gathered names c.args.modules.now c.args.regions.now symbols c.in_ok-built_in.built_in c.in_ok-modules.modules.items a c.in_ok-gathered.ensures c.in_ok-built_in.ensures made
 
@@ -64,17 +64,17 @@ returns-clause-counted c =
     let names = c.args.names.now in
     let symbols = c.args.symbols in
     let regions = c.args.regions.now in
-    let a : shown c.in_ok-admission.admission ≡ accepted_of (built_in_region names symbols) regions c.args.modules.now = c.in_ok-admission.ensures.admitted ∙ ap (λ (b : Option (ℕ × ℕ)). accepted_of b regions c.args.modules.now) c.built_in_region-built_in.ensures in
+    let a : admission_view c.in_ok-admission.admission ≡ accepted_of (built_in_region names symbols) regions c.args.modules.now = c.in_ok-admission.ensures.admitted ∙ ap (λ (b : Option (ℕ × ℕ)). accepted_of b regions c.args.modules.now) c.built_in_region-built_in.ensures in
     let used : ℕ = c.used_in-used.result in
     let len : length c.regions.inside.listed.now ≡ length regions = ap (λ (rs : List ListedRegion). length rs) c.regions.view_is in
-    let strays : length c.regions.inside.listed.now - used ≡ count_by (λ r. not (is_used (shown c.in_ok-admission.admission) regions r)) regions = omega (arith, count_by-either (is_used (shown c.in_ok-admission.admission) regions) regions, c.used_in-used.ensures) in
+    let strays : length c.regions.inside.listed.now - used ≡ count_by (λ r. not (is_used (admission_view c.in_ok-admission.admission) regions r)) regions = omega (arith, count_by-either (is_used (admission_view c.in_ok-admission.admission) regions) regions, c.used_in-used.ensures) in
     counts_from c.in_ok-admission.admission c.in_ok-gathered.gathered names c.args.modules.now regions symbols c.len.result used (length c.regions.inside.listed.now - used) a c.in_ok-gathered.ensures (c.len.ensures ∙ c.in_ok-admission.admission.modules.ok.0) c.used_in-used.ensures strays
 
 pub returns-clause-sound : goal.returns-clause-sound
 returns-clause-sound c =
     let names = c.args.names.now in
     let symbols = c.args.symbols in
-    let a : shown c.in_ok-admission.admission ≡ accepted_of (built_in_region names symbols) c.args.regions.now c.args.modules.now = c.in_ok-admission.ensures.admitted ∙ ap (λ (b : Option (ℕ × ℕ)). accepted_of b c.args.regions.now c.args.modules.now) c.built_in_region-built_in.ensures in
+    let a : admission_view c.in_ok-admission.admission ≡ accepted_of (built_in_region names symbols) c.args.regions.now c.args.modules.now = c.in_ok-admission.ensures.admitted ∙ ap (λ (b : Option (ℕ × ℕ)). accepted_of b c.args.regions.now c.args.modules.now) c.built_in_region-built_in.ensures in
     let made : AreModules c.in_ok-admission.admission.modules.items c.in_ok-gathered.gathered.modules.items c.in_ok-modules.modules.items = rw (← c.as_slice.ensures.value) c.in_ok-modules.ensures in
     let built = catalog_from c.in_ok-admission.admission c.in_ok-gathered.gathered names c.args.modules.now c.args.regions.now symbols c.in_ok-built_in.built_in c.in_ok-modules.modules.items a c.in_ok-gathered.ensures c.in_ok-built_in.ensures made in
-    subst IsSound (sym built) (IsSound-catalog_of names c.args.modules.now c.args.regions.now symbols c.requires.fit c.requires.regions_fit c.requires.few)
+    subst IsSoundCatalog (sym built) (IsSound-catalog_of names c.args.modules.now c.args.regions.now symbols c.requires.fit c.requires.regions_fit c.requires.few)

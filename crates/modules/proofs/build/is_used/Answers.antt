@@ -1,7 +1,7 @@
 use Rattle.std.proofs.Common.{◌≡◌, ◌&&◌, sym, ap, ◌∙◌}
 use Rattle.modules.specs.Listed.{ListedRegion}
 use Rattle.modules.specs.Placed.{has_core, lines_named}
-use Rattle.modules.proofs.Admitting.{found_in}
+use Rattle.modules.proofs.AdmissionLemmas.{found_in}
 use Rattle.modules.proofs.build.is_used.Goals as goal
 
 pub returns-then-contains_key : goal.returns-then-contains_key

@@ -4,7 +4,7 @@ use Rattle.std.specs.Vec.Iter.{into_iter_items}
 use Rattle.modules.specs.Building.{EachMade, module_with}
 use Rattle.modules.specs.Entries.{ModuleEntry}
 use Rattle.modules.specs.Placed.{PlacedModule}
-use Rattle.modules.proofs.Makings.{EachMade-push}
+use Rattle.modules.proofs.MakingLemmas.{EachMade-push}
 use Rattle.modules.proofs.build.modules_from.Goals as goal
 
 pub loop-symbols-preserved : goal.loop-symbols-preserved

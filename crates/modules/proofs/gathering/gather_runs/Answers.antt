@@ -1,22 +1,22 @@
 use Rattle.std.proofs.Common.{◌≡◌, ◌∷◌, [], ◌++◌, List, length, ap, sym, subst, ◌∙◌, append_assoc}
 use Rattle.std.proofs.lemmas.List.{append-nil, nil_from_length}
 use Rattle.std.specs.Vec.Iter.{into_iter_items}
-use Rattle.modules.specs.Admissions.{shown}
+use Rattle.modules.specs.Admissions.{admission_view}
 use Rattle.modules.specs.Gathering.{Gathers}
 use Rattle.modules.specs.Listed.{ListedSymbol}
-use Rattle.modules.specs.Runs.{lines_of, lines_of_all}
+use Rattle.modules.specs.Runs.{lines_of_run, lines_of_all}
 use Rattle.modules.specs.declared.symbol_lines.Run.{Run}
-use Rattle.modules.proofs.Gatherings.{Gathers-run, counts_run}
-use Rattle.modules.proofs.Running.{lines_of_all-last}
+use Rattle.modules.proofs.GatheringLemmas.{Gathers-run, counts_run}
+use Rattle.modules.proofs.RunLemmas.{lines_of_all-last}
 use Rattle.modules.proofs.gathering.gather_runs.Goals as goal
 
 pub loop-run-preserved : goal.loop-run-preserved
 loop-run-preserved c =
-    let a = shown c.args.admission.now in
+    let a = admission_view c.args.admission.now in
     let i = c.loop-run.invariant in
     let done = c.loop-run.yielded in
     let run : Run = c.in-Some.run' in
-    let more : lines_of_all (done ++ run ∷ []) ≡ lines_of_all done ++ lines_of run = lines_of_all-last done run in
+    let more : lines_of_all (done ++ run ∷ []) ≡ lines_of_all done ++ lines_of_run run = lines_of_all-last done run in
     record {
       can_next = tt;
       finite = tt;
@@ -27,10 +27,10 @@ loop-run-preserved c =
 
 pub returns : goal.returns
 returns c =
-    let a = shown c.args.admission.now in
+    let a = admission_view c.args.admission.now in
     let i = c.loop-run.invariant in
     let done = c.loop-run.yielded in
     let last : Run = c.args.last in
     let all : c.args.runs.items ≡ done = i.gone ∙ ap (λ (rs : List Run). done ++ rs) (nil_from_length (into_iter_items c.loop-run.run-iterator) (sym c.loop-run.run-iterator.rest.ok.0 ∙ c.in-None.ensures.steps.0)) ∙ append-nil done in
-    let more : lines_of_all (c.args.runs.items ++ last ∷ []) ≡ lines_of_all done ++ lines_of last = ap (λ (rs : List Run). lines_of_all (rs ++ last ∷ [])) all ∙ lines_of_all-last done last in
+    let more : lines_of_all (c.args.runs.items ++ last ∷ []) ≡ lines_of_all done ++ lines_of_run last = ap (λ (rs : List Run). lines_of_all (rs ++ last ∷ [])) all ∙ lines_of_all-last done last in
     subst (λ (ls : List ListedSymbol). Gathers a ls c.keep_run-2.new.self) (sym more) (Gathers-run a (lines_of_all done) last c.loop-run.gathered c.keep_run-2.new.self c.requires.distinct i.gathers c.in_ok-keep_run-2.ensures)

@@ -1,4 +1,4 @@
-use Rattle.modules.proofs.Counting.{modules_counted, regions_counted, symbols_counted}
+use Rattle.modules.proofs.CountLemmas.{modules_counted, regions_counted, symbols_counted}
 use Rattle.modules.proofs.laws.each_line_is_counted_once.Goals as goal
 
 pub returns-clause-modules : goal.returns-clause-modules

@@ -1,4 +1,4 @@
-use Rattle.modules.proofs.Soundness.{IsSound-catalog_of}
+use Rattle.modules.proofs.SoundnessLemmas.{IsSound-catalog_of}
 use Rattle.modules.proofs.laws.every_catalog_is_sound.Goals as goal
 
 pub returns : goal.returns

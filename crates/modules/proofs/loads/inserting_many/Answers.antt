@@ -1,5 +1,5 @@
 use Rattle.std.proofs.Common.{rules}
-use Rattle.modules.proofs.Loading.{many_given, many_lacks}
+use Rattle.modules.proofs.LoadLemmas.{many_given, many_lacks}
 use Rattle.modules.proofs.loads.inserting_many.Goals as goal
 
 pub returns : goal.returns

@@ -2,7 +2,7 @@ use Rattle.std.proofs.Common.{◌≡◌, ℕ, ◌+◌, ◌≤◌, cond, List, []
 use Rattle.order_laws.proofs.Lists.{length-picked}
 use Rattle.modules.specs.Starts.{starts_of}
 use Rattle.modules.specs.declared.lines.Part.TheVariants.{Core}
-use Rattle.modules.proofs.Loading.{starts_more}
+use Rattle.modules.proofs.LoadLemmas.{starts_more}
 use Rattle.modules.proofs.loads.starts_of.Goals as goal
 
 pub loop-place-preserved : goal.loop-place-preserved

@@ -7,7 +7,7 @@ use Rattle.std.proofs.lemmas.List.{length-map}
 use Rattle.std.proofs.lemmas.List.Sorted.{searchable_from_sorted}
 use Rattle.modules.specs.Entries.{ModuleEntry}
 use Rattle.modules.specs.Names.{names_in}
-use Rattle.modules.proofs.Naming.{found, absent, place_in}
+use Rattle.modules.proofs.NameLemmas.{found, absent, place_in}
 use Rattle.modules.proofs.names.place_of.Goals as goal
 
 pub returns-in-Ok-clause-place : goal.returns-in-Ok-clause-place

@@ -6,7 +6,7 @@ use Rattle.std.specs.Borrow.{Bor}
 use Rattle.modules.specs.Grouped.{comes_first, lines_at}
 use Rattle.modules.specs.Listed.{ListedRegion}
 use Rattle.modules.specs.Placed.{lines_named}
-use Rattle.modules.proofs.Grouping.{named_in_sorted}
+use Rattle.modules.proofs.GroupLemmas.{named_in_sorted}
 use Rattle.modules.proofs.placing.by_name.Goals as goal
 
 pub returns : goal.returns

@@ -1,5 +1,5 @@
 use Rattle.std.proofs.Common.{◌∙◌}
-use Rattle.modules.proofs.Grouping.{core_at}
+use Rattle.modules.proofs.GroupLemmas.{core_at}
 use Rattle.modules.proofs.placing.has_core.Goals as goal
 
 pub returns : goal.returns

@@ -1,4 +1,4 @@
-use Rattle.modules.proofs.Grouping.{cuts_in_order, lines_between}
+use Rattle.modules.proofs.GroupLemmas.{cuts_in_order, lines_between}
 use Rattle.modules.proofs.placing.lines_in.Goals as goal
 
 pub slice_bounds-result-count : goal.slice_bounds-result-count

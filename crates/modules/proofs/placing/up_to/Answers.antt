@@ -3,7 +3,7 @@ use Rattle.std.specs.Borrow.{Bor}
 use Rattle.std.specs.Ordering.{is_le}
 use Rattle.std.proofs.lemmas.List.Sorted.{IsPartitionPoint-from_clause}
 use Rattle.modules.specs.Listed.{ListedRegion}
-use Rattle.modules.proofs.Grouping.{IsCut-from_partition, up_to_first, order_to}
+use Rattle.modules.proofs.GroupLemmas.{IsCut-from_partition, up_to_first, order_to}
 use Rattle.modules.proofs.placing.up_to.Goals as goal
 
 pub returns : goal.returns

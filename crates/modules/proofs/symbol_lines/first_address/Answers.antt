@@ -3,7 +3,7 @@ use Rattle.modules.specs.Lines.{first_address}
 use Rattle.modules.specs.Listed.{ListedSymbol}
 use Rattle.modules.specs.Runs.{lines_of_all}
 use Rattle.modules.specs.declared.symbol_lines.Run.{Run}
-use Rattle.modules.proofs.Running.{first_in_last, first_in_front, first_address-lettered}
+use Rattle.modules.proofs.RunLemmas.{first_in_last, first_in_front, first_address-lettered}
 use Rattle.modules.proofs.symbol_lines.first_address.Goals as goal
 
 pub returns-in-None : goal.returns-in-None

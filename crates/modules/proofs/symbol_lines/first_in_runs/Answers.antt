@@ -2,9 +2,9 @@ use Rattle.std.proofs.Common.{◌≡◌, ◌+◌, ◌++◌, List, suc, take, dro
 use Rattle.std.proofs.lemmas.List.{take_more}
 use Rattle.modules.specs.Lines.{first_address}
 use Rattle.modules.specs.Listed.{ListedSymbol}
-use Rattle.modules.specs.Runs.{lines_of, lines_of_all}
+use Rattle.modules.specs.Runs.{lines_of_run, lines_of_all}
 use Rattle.modules.specs.declared.symbol_lines.Run.{Run}
-use Rattle.modules.proofs.Running.{first_address-append, first_address-front, lines_of_all-at, lines_of_all-last}
+use Rattle.modules.proofs.RunLemmas.{first_address-append, first_address-front, lines_of_all-at, lines_of_all-last}
 use Rattle.modules.proofs.symbol_lines.first_in_runs.Goals as goal
 
 pub returns-in-Some : goal.returns-in-Some
@@ -15,9 +15,9 @@ returns-in-Some c =
     let run : Run = c.run-item.result in
     let before : List ListedSymbol = lines_of_all (take i runs) in
     let behind : List ListedSymbol = lines_of_all (drop (suc i) runs) in
-    let all : lines_of_all runs ≡ before ++ (lines_of run ++ behind) = lines_of_all-at runs i run c.loop-run-test.true ∙ ap (λ (r : Run). before ++ (lines_of r ++ behind)) (sym c.run-item.is) in
-    let found : first_address name (lines_of run) ≡ Some c.in-Some.addr = sym c.in-Some.ensures in
-    sym (ap (first_address name) all ∙ first_address-append name before (lines_of run ++ behind) c.loop-run.invariant ∙ first_address-front name (lines_of run) behind c.in-Some.addr found)
+    let all : lines_of_all runs ≡ before ++ (lines_of_run run ++ behind) = lines_of_all-at runs i run c.loop-run-test.true ∙ ap (λ (r : Run). before ++ (lines_of_run r ++ behind)) (sym c.run-item.is) in
+    let found : first_address name (lines_of_run run) ≡ Some c.in-Some.addr = sym c.in-Some.ensures in
+    sym (ap (first_address name) all ∙ first_address-append name before (lines_of_run run ++ behind) c.loop-run.invariant ∙ first_address-front name (lines_of_run run) behind c.in-Some.addr found)
 
 pub loop-run-preserved : goal.loop-run-preserved
 loop-run-preserved c =
@@ -25,6 +25,6 @@ loop-run-preserved c =
     let runs = c.args.runs.now in
     let i = c.loop-run.run-index in
     let run : Run = c.run-item.result in
-    let more : lines_of_all (take (i + 1) runs) ≡ lines_of_all (take i runs) ++ lines_of run =
-    ap lines_of_all (take_more runs i run c.loop-run-test.true) ∙ lines_of_all-last (take i runs) (get_or runs i run) ∙ ap (λ (r : Run). lines_of_all (take i runs) ++ lines_of r) (sym c.run-item.is) in
-    ap (first_address name) more ∙ first_address-append name (lines_of_all (take i runs)) (lines_of run) c.loop-run.invariant ∙ sym c.in_default.ensures
+    let more : lines_of_all (take (i + 1) runs) ≡ lines_of_all (take i runs) ++ lines_of_run run =
+    ap lines_of_all (take_more runs i run c.loop-run-test.true) ∙ lines_of_all-last (take i runs) (get_or runs i run) ∙ ap (λ (r : Run). lines_of_all (take i runs) ++ lines_of_run r) (sym c.run-item.is) in
+    ap (first_address name) more ∙ first_address-append name (lines_of_all (take i runs)) (lines_of_run run) c.loop-run.invariant ∙ sym c.in_default.ensures

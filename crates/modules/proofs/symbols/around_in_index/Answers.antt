@@ -4,7 +4,7 @@ use Rattle.std.proofs.lemmas.Option.{slice_get-get_or}
 use Rattle.modules.specs.Entries.{SymbolEntry}
 use Rattle.modules.specs.Index.{IsSplit}
 use Rattle.modules.specs.declared.symbols.IndexEntry.{IndexEntry}
-use Rattle.modules.proofs.Indexing.{rising, none_below, last_below, above_at, each_entry}
+use Rattle.modules.proofs.IndexLemmas.{rising, none_below, last_below, above_at, each_entry}
 use Rattle.modules.proofs.symbols.around_in_index.Goals as goal
 
 pub split_at-split-requires : goal.split_at-split-requires

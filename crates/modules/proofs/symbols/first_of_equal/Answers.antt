@@ -2,7 +2,7 @@ use Rattle.std.proofs.Common.{◌≡◌, ℕ, ◌-◌, get_or, sym, ap, subst, �
 use Rattle.std.proofs.lemmas.List.{get_or_default}
 use Rattle.modules.specs.Entries.{SymbolEntry}
 use Rattle.modules.specs.Index.{IsFirstAt, IsFirstOf}
-use Rattle.modules.proofs.Rising.{first_is_first, above_is_first}
+use Rattle.modules.proofs.RisingLemmas.{first_is_first, above_is_first}
 use Rattle.modules.proofs.symbols.first_of_equal.Goals as goal
 
 pub returns-then-place-eq0 : goal.returns-then-place-eq0

@@ -1,7 +1,7 @@
 use Rattle.std.proofs.Common.{nat_lt, rules}
 use Rattle.std.proofs.lemmas.List.Sorted.{IsPartitionPoint-from_clause, IsPartitionedBy-ltb}
 use Rattle.modules.specs.Entries.{SymbolEntry}
-use Rattle.modules.proofs.Rising.{IsFirstOf-from_partition}
+use Rattle.modules.proofs.RisingLemmas.{IsFirstOf-from_partition}
 use Rattle.modules.proofs.symbols.listed_below.Goals as goal
 
 pub returns : goal.returns

@@ -1,7 +1,7 @@
 use Rattle.std.proofs.Common.{nat_le, rules}
 use Rattle.std.proofs.lemmas.List.Sorted.{IsPartitionPoint-from_clause, IsPartitionedBy-leb}
 use Rattle.modules.specs.Entries.{SymbolEntry}
-use Rattle.modules.proofs.Indexing.{IsSplitBy-from_partition}
+use Rattle.modules.proofs.IndexLemmas.{IsSplitBy-from_partition}
 use Rattle.modules.proofs.symbols.listed_split_at.Goals as goal
 
 pub returns : goal.returns

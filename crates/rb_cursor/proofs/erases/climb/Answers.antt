@@ -1,10 +1,10 @@
 -- Each goal of the loop is one of the facts of EraseSteps at the values of the step.
 use Rattle.std.proofs.Common.{◌≤◌, ◌<◌, ◌++◌, sym, ◌∙◌, ap, subst, arith, length, length-append, vec_capacity}
 use Rattle.word_arena.specs.Copies.{copy_number}
-use Rattle.rb_trees.specs.EraseClimb.{remaining, fill_on, filled_on}
+use Rattle.rb_trees.specs.EraseClimb.{rest_with, fill_links_on, filled_on}
 use Rattle.rb_cursor.specs.Zippers.{altered}
 use Rattle.rb_cursor.specs.Rising.{filled_at}
-use Rattle.rb_cursor.proofs.Stepping.{closed_parts}
+use Rattle.rb_cursor.proofs.StepLemmas.{closed_parts}
 use Rattle.rb_cursor.proofs.EraseSteps.{EraseEnds, erase_fits, erase_there, erase_filled}
 use Rattle.rb_cursor.proofs.EraseSteps.{erase_stays, erase_arrived}
 use Rattle.rb_cursor.proofs.erases.climb.Goals as goal
@@ -27,8 +27,8 @@ fill-short-requires-clause-list c =
     let longer = simp length-append at (ap length c.relink.ensures.items) in
     let side = c.in-Some.above.side in
     let copy = copy_number c.args.copy in
-    let filled = ap (λ v. length (fill_on side copy v c.rise.new.cursor.tree)) c.if-not-short.false in
-    let same = ap (λ z. length (fill_on side copy c.loop-copy.short z.tree))
+    let filled = ap (λ v. length (fill_links_on side copy v c.rise.new.cursor.tree)) c.if-not-short.false in
+    let same = ap (λ z. length (fill_links_on side copy c.loop-copy.short z.tree))
     (erase_there inv.0 more c.in-Some.ensures inv.1 c.rise.ensures) in
     omega (arith, c.relink.new.out.ok.0, c.relink.ensures.capacity, inv.2, longer, fits, filled, same)
 
@@ -49,15 +49,15 @@ loop-copy-preserved c =
           (c.fill-short.ensures.short ∙ ap (λ v. (filled_on side v here.tree).short) full
           ∙ ap (λ z. (filled_on side short z.tree).short) there)
           c.relink.ensures.items
-          (c.fill-short.ensures.items ∙ ap (λ v. c.relink.new.out.items ++ fill_on side copy v here.tree) full
-          ∙ ap (λ z. c.relink.new.out.items ++ fill_on side copy short z.tree) there),
+          (c.fill-short.ensures.items ∙ ap (λ v. c.relink.new.out.items ++ fill_links_on side copy v here.tree) full
+          ∙ ap (λ z. c.relink.new.out.items ++ fill_links_on side copy short z.tree) there),
       c.link-after-in-loop-copy.ensures,
       c.fill-short.ensures.capacity ∙ c.relink.ensures.capacity ∙ inv.2,
     )
 
 -- the way ended at the depth, or where nothing is short
 ends : (c : goal.After-close_to)
-    → EraseEnds (copy_number c.args.copy) c.args.depth c.args.cursor.now (remaining c.args.cursor.now.tree c.args.short)
+    → EraseEnds (copy_number c.args.copy) c.args.depth c.args.cursor.now (rest_with c.args.cursor.now.tree c.args.short)
     c.args.before c.args.out.now.items c.loop-copy-test.cursor c.loop-copy.short c.loop-copy-test.out.items
 ends c =
     let inv = c.loop-copy.invariant in
@@ -67,7 +67,7 @@ ends c =
           let copy = copy_number c.args.copy in
           let d = c.args.depth in
           let from = c.args.cursor.now in
-          let begun = remaining from.tree c.args.short in
+          let begun = rest_with from.tree c.args.short in
           let first = c.args.out.now.items in
           subst (λ ss. EraseEnds copy d from begun c.args.before first c.loop-copy-test.cursor c.loop-copy.short ss)
           (sym (ap (λ v. v.items) w.out-is))

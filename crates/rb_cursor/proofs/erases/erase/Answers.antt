@@ -4,17 +4,17 @@ use Rattle.std.proofs.Common.{◌≡◌, ℕ, ◌+◌, List, [], ◌++◌, refl,
 use Rattle.std.proofs.Common.{length-append, append_assoc}
 use Rattle.word_arena.specs.declared.stores.Store.{Store}
 use Rattle.word_arena.specs.Copies.{copy_number}
-use Rattle.rb_trees.specs.Trees.{Branches, shape, depth}
+use Rattle.rb_trees.specs.Trees.{ColouredTree, shape, depth}
 use Rattle.rb_trees.specs.Turns.{link}
-use Rattle.rb_trees.specs.Erased.{erased, erase_links}
+use Rattle.rb_trees.specs.Erased.{erased_from, erase_links}
 use Rattle.rb_trees.specs.Paths.{plugged, place_at, way_at}
-use Rattle.rb_trees.specs.EraseClimb.{remaining, top_erased, top_erase, erase_climb}
+use Rattle.rb_trees.specs.EraseClimb.{rest_with, top_erased, top_erase_links, erase_climb_links}
 use Rattle.rb_cursor.specs.Zippers.{Zipper}
 use Rattle.rb_cursor.specs.Tops.{row_of}
 use Rattle.rb_cursor.proofs.FirstSteps.{row_link}
 use Rattle.rb_cursor.proofs.PlaceSteps.{found_there, place_few, place_fewer, place_top, place_climbed, place_stores}
 use Rattle.rb_trees.proofs.PathLemmas.{plugged_to}
-use Rattle.rb_cursor.proofs.Stepping.{all_back}
+use Rattle.rb_cursor.proofs.StepLemmas.{all_back}
 use Rattle.rb_cursor.proofs.erases.erase.Given.{Over}
 use Rattle.rb_cursor.proofs.erases.erase.Goals as goal
 
@@ -29,7 +29,7 @@ take_node-short-requires-clause-list g c =
     let t = c.args.cursor.now.tree in
     let stores = place_stores (g.P.Probe.seen c.args.sought.now) t c.seek.ensures.path c.requires.whole copy refl refl in
     let total = simp length-append at (ap length stores) in
-    omega (arith, total, ap (λ u. length (top_erase copy u)) c.seek.ensures.tree, c.requires.list)
+    omega (arith, total, ap (λ u. length (top_erase_links copy u)) c.seek.ensures.tree, c.requires.list)
 
 -- the path is that of the way down
 goes : (g : Over) (c : goal.After-struct_known-1 g) → c.take_node-short.new.cursor.path
@@ -38,23 +38,23 @@ goes g c = ap (λ (z : Zipper). z.path) c.take_node-short.ensures.cursor ∙ c.s
 
 -- what stands at the node's place
 lost : (g : Over) (c : goal.After-struct_known-1 g) →
-    remaining c.take_node-short.new.cursor.tree c.take_node-short.result
+    rest_with c.take_node-short.new.cursor.tree c.take_node-short.result
     ≡ top_erased (place_at (g.P.Probe.seen c.args.sought.now) c.args.cursor.now.tree)
 lost g c =
-    ap (λ (z : Zipper). remaining z.tree c.take_node-short.result) c.take_node-short.ensures.cursor
-    ∙ ap (remaining (top_erased c.seek.new.self.tree).tree) c.take_node-short.ensures.short
+    ap (λ (z : Zipper). rest_with z.tree c.take_node-short.result) c.take_node-short.ensures.cursor
+    ∙ ap (rest_with (top_erased c.seek.new.self.tree).tree) c.take_node-short.ensures.short
     ∙ ap top_erased c.seek.ensures.tree
 
 -- the stores on the way up
 abbrev up : (g : Over) → goal.After-struct_known-1 g → List Store
 up g c =
-    erase_climb (copy_number c.args.copy) 0 c.take_node-short.new.cursor.path
+    erase_climb_links (copy_number c.args.copy) 0 c.take_node-short.new.cursor.path
     (c.in-Some.row.node + 1)
-    (remaining c.take_node-short.new.cursor.tree c.take_node-short.result)
+    (rest_with c.take_node-short.new.cursor.tree c.take_node-short.result)
 
 -- and those at the place before them
 stores : (g : Over) (c : goal.After-struct_known-1 g) →
-    top_erase (copy_number c.args.copy) c.seek.new.self.tree ++ up g c
+    top_erase_links (copy_number c.args.copy) c.seek.new.self.tree ++ up g c
     ≡ erase_links (copy_number c.args.copy) (g.P.Probe.seen c.args.sought.now) c.args.cursor.now.tree
 stores g c =
     let seen = g.P.Probe.seen c.args.sought.now in
@@ -63,7 +63,7 @@ stores g c =
     let linked : c.in-Some.row.node + 1 ≡ link (shape (place_at seen t)) =
     row_link (place_at seen t) c.in-Some.row (sym (c.in-Some.ensures ∙ ap row_of c.seek.ensures.tree))
     in
-    ap (λ (u : Branches). top_erase copy u ++ up g c) c.seek.ensures.tree
+    ap (λ (u : ColouredTree). top_erase_links copy u ++ up g c) c.seek.ensures.tree
     ∙ place_stores seen t (goes g c) c.requires.whole copy linked (lost g c)
 
 pub climb-requires-clause-steps : goal.climb-requires-clause-steps
@@ -100,7 +100,7 @@ returns-in_default-clause-unchanged g c =
     ∙ ap (λ p. plugged p (place_at seen z.tree)) c.seek.ensures.path ∙ plugged_to seen z.tree z.path in
     λ _. (all_back z c.seek.new.self c.close_all.new.self c.requires.whole whole c.seek.ensures.room c.close_all.ensures, refl)
 
-abbrev alone : Branches → ℕ → Zipper
+abbrev alone : ColouredTree → ℕ → Zipper
 alone t room = record { tree = t; path = []; room = room }
 
 pub returns-clause-cursor : goal.returns-clause-cursor
@@ -109,22 +109,22 @@ returns-clause-cursor g c = λ _.
     let t = c.args.cursor.now.tree in
     let path : c.climb.new.cursor.path ≡ [] =
     c.climb.ensures.path ∙ place_top seen t (goes g c.before) c.requires.whole in
-    let tree : c.climb.new.cursor.tree ≡ (erased seen t).tree =
+    let tree : c.climb.new.cursor.tree ≡ (erased_from seen t).tree =
     c.climb.ensures.tree
     ∙ ap (λ r. r.tree) (place_climbed seen t (goes g c.before) c.requires.whole (lost g c.before)) in
     let room : c.climb.new.cursor.room ≡ c.args.cursor.now.room + 1 =
     c.climb.ensures.room ∙ ap (λ z. z.room) c.take_node-short.ensures.cursor
     ∙ ap (λ n. n + 1) c.seek.ensures.room in
-    let here : Zipper = alone (erased seen t).tree (c.args.cursor.now.room + 1) in
+    let here : Zipper = alone (erased_from seen t).tree (c.args.cursor.now.room + 1) in
     ap (λ v. record here { tree = v; path = c.climb.new.cursor.path; room = c.climb.new.cursor.room })
     tree
     ∙ ap (λ p. record here { path = p; room = c.climb.new.cursor.room }) path
-    ∙ ap (alone (erased seen t).tree) room
+    ∙ ap (alone (erased_from seen t).tree) room
 
 pub returns-clause-items : goal.returns-clause-items
 returns-clause-items g c = λ _.
     c.climb.ensures.items
     ∙ ap (λ ss. ss ++ up g c.before) c.take_node-short.ensures.items
-    ∙ append_assoc c.args.out.now.items (top_erase (copy_number c.args.copy) c.seek.new.self.tree)
+    ∙ append_assoc c.args.out.now.items (top_erase_links (copy_number c.args.copy) c.seek.new.self.tree)
     (up g c.before)
     ∙ ap (λ ss. c.args.out.now.items ++ ss) (stores g c.before)

@@ -1,11 +1,11 @@
 -- The way up from the first node's place: the facts of FirstSteps at the values of the calls.
 use Rattle.std.proofs.Common.{◌≡◌, ℕ, ◌+◌, List, ◌++◌, sym, ◌∙◌, ap, arith, length}
 use Rattle.word_arena.specs.Copies.{copy_number}
-use Rattle.rb_trees.specs.Trees.{Branches, shape}
+use Rattle.rb_trees.specs.Trees.{ColouredTree, shape}
 use Rattle.rb_trees.specs.Turns.{link}
 use Rattle.rb_trees.specs.Erased.{without_first, first_links}
 use Rattle.rb_trees.specs.Paths.{Above, first_place, first_way}
-use Rattle.rb_trees.specs.EraseClimb.{remaining, first_erased}
+use Rattle.rb_trees.specs.EraseClimb.{rest_with, first_erased}
 use Rattle.rb_cursor.specs.Zippers.{Zipper}
 use Rattle.rb_cursor.specs.Tops.{row_of}
 use Rattle.rb_cursor.proofs.FirstSteps.{row_link, first_some, first_thin, first_lost, first_few}
@@ -28,7 +28,7 @@ goes c =
 
 -- what stands at the place
 lost : (c : goal.After-struct_known-1) →
-    remaining c.lower-short.new.cursor.tree c.lower-short.result
+    rest_with c.lower-short.new.cursor.tree c.lower-short.result
     ≡ first_erased (first_place c.args.cursor.now.tree)
 lost c =
     first_lost c.args.cursor.now.tree c.requires.fork c.seek_first.ensures.tree
@@ -54,7 +54,7 @@ climb-short-requires-clause-list c =
 
 -- the way up makes what is left of the tree without its first node
 made : (c : goal.After-climb-short)
-    → (remaining c.climb-short.new.cursor.tree c.climb-short.result
+    → (rest_with c.climb-short.new.cursor.tree c.climb-short.result
     ≡ without_first c.args.cursor.now.tree)
     × (c.climb-short.new.cursor.path ≡ c.args.cursor.now.path)
     × (c.climb-short.new.out.items
@@ -65,8 +65,8 @@ made c =
     let deep = c.depth-depth.ensures in
     let way = goes c.before in
     let left = lost c.before in (
-      ap (λ v. remaining v c.climb-short.result) c.climb-short.ensures.tree
-          ∙ ap (remaining _) c.climb-short.ensures.short ∙ first_climbed t path deep way left,
+      ap (λ v. rest_with v c.climb-short.result) c.climb-short.ensures.tree
+          ∙ ap (rest_with _) c.climb-short.ensures.short ∙ first_climbed t path deep way left,
       c.climb-short.ensures.path ∙ first_path t path deep way left,
       c.climb-short.ensures.items
           ∙ ap (λ ss. c.args.out.now.items ++ ss)
@@ -76,7 +76,7 @@ made c =
 pub returns-clause-short : goal.returns-clause-short
 returns-clause-short c = ap (λ r. r.short) (made c).0
 
-abbrev placed : Branches → List Above → ℕ → Zipper
+abbrev placed : ColouredTree → List Above → ℕ → Zipper
 placed t path room = record { tree = t; path = path; room = room }
 
 pub returns-clause-cursor : goal.returns-clause-cursor

@@ -6,8 +6,8 @@ use Rattle.word_arena.specs.Copies.{copy_number}
 use Rattle.word_arena.specs.declared.stores.Store.{Store}
 use Rattle.rb_trees.specs.Trees.{shape}
 use Rattle.rb_trees.specs.Turns.{link, set_left, set_right}
-use Rattle.rb_trees.specs.Erased.{first_links, right_if, right_fill_if}
-use Rattle.rb_trees.specs.EraseClimb.{top_erase}
+use Rattle.rb_trees.specs.Erased.{first_links, filled_right_if_short, right_fill_links_if_short}
+use Rattle.rb_trees.specs.EraseClimb.{top_erase_links}
 use Rattle.rb_cursor.specs.Tops.{is_fork}
 use Rattle.rb_cursor.specs.Readings.{IsForked}
 use Rattle.rb_cursor.proofs.NextSteps.{placed, replaced, next_placed, next_rest, next_links, same_fork, fork_there}
@@ -35,8 +35,8 @@ there c =
 links : (c : goal.After-fill_right_if-arg-2-1)
     → ((first_links (copy_number c.args.copy) c.open-2.new.self.tree
     ++ store c.left_of.result c.link-left.result ∷ store c.right_of.result c.link-right.result ∷ [])
-    ++ right_fill_if (copy_number c.args.copy) c.take_first-next.result.short c.set_row.new.self.tree
-    ≡ top_erase (copy_number c.args.copy) c.args.cursor.now.tree)
+    ++ right_fill_links_if_short (copy_number c.args.copy) c.take_first-next.result.short c.set_row.new.self.tree
+    ≡ top_erase_links (copy_number c.args.copy) c.args.cursor.now.tree)
 links c =
     let copy = copy_number c.args.copy in
     let node = c.take_first-next.result.row.node in
@@ -73,8 +73,8 @@ returns-clause-cursor c =
     let room = c.args.cursor.now.room + 1 in
     let filled = fork c.before in
     c.fill_right_if.ensures.cursor
-    ∙ ap (λ z. placed (right_if c.take_first-next.result.short z.tree).tree z.path z.room) (there c.before)
-    ∙ ap (λ v. placed (right_if v (replaced opens filled next.row)).tree path room) next.short
+    ∙ ap (λ z. placed (filled_right_if_short c.take_first-next.result.short z.tree).tree z.path z.room) (there c.before)
+    ∙ ap (λ v. placed (filled_right_if_short v (replaced opens filled next.row)).tree path room) next.short
     ∙ ap (λ r. placed r.tree path room) (next_rest opens filled next.row)
 
 pub returns-clause-items : goal.returns-clause-items
@@ -82,7 +82,7 @@ returns-clause-items c =
     let copy = copy_number c.args.copy in
     let lower = store c.left_of.result c.link-left.result in
     let upper = store c.right_of.result c.link-right.result in
-    let fill = right_fill_if copy c.take_first-next.result.short c.set_row.new.self.tree in
+    let fill = right_fill_links_if_short copy c.take_first-next.result.short c.set_row.new.self.tree in
     c.fill_right_if.ensures.items
     ∙ ap (λ ss. ss ++ fill)
     (c.push_reserved-2.ensures.items

@@ -1,7 +1,7 @@
 -- Each goal of the loop is one of the facts of InsertSteps at the values of the step.
 use Rattle.std.proofs.Common.{◌++◌, sym, ◌∙◌, ap, subst, arith, length, length-append, vec_capacity}
 use Rattle.word_arena.specs.Copies.{copy_number}
-use Rattle.rb_trees.specs.InsertClimb.{mended_on, mend_on}
+use Rattle.rb_trees.specs.InsertClimb.{mended_on, mend_links_on}
 use Rattle.rb_cursor.specs.Zippers.{altered}
 use Rattle.rb_cursor.specs.Rising.{at_root}
 use Rattle.rb_cursor.proofs.InsertSteps.{InsertEnds, insert_fits, insert_there, insert_mended}
@@ -22,7 +22,7 @@ mend-requires-clause-list c =
     let fits = insert_fits inv.0 c.in-Some.ensures inv.1
     (vec_capacity c.args.out.now) (omega (arith, c.requires.list, c.args.out.now.ok.0)) in
     let longer = simp length-append at (ap length c.relink.ensures.items) in
-    let same = ap (λ z. length (mend_on c.in-Some.above.side (copy_number c.args.copy) z.tree))
+    let same = ap (λ z. length (mend_links_on c.in-Some.above.side (copy_number c.args.copy) z.tree))
     (insert_there inv.0 c.in-Some.ensures inv.1 c.rise.ensures) in
     omega (arith, c.relink.new.out.ok.0, c.relink.ensures.capacity, inv.2, longer, fits, same)
 
@@ -33,7 +33,7 @@ loop-above-preserved c =
     let there = insert_there inv.0 near inv.1 c.rise.ensures in
     let side = c.in-Some.above.side in
     let mended = c.mend.ensures.cursor ∙ ap (altered (mended_on side)) there in
-    let stores = c.mend.ensures.items ∙ ap (λ z. c.relink.new.out.items ++ mend_on side (copy_number c.args.copy) z.tree) there in (
+    let stores = c.mend.ensures.items ∙ ap (λ z. c.relink.new.out.items ++ mend_links_on side (copy_number c.args.copy) z.tree) there in (
       insert_mended inv.0 near inv.1 mended c.relink.ensures.items stores,
       record {
         linked = c.link-after.ensures;

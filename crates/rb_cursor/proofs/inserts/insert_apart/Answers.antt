@@ -1,10 +1,10 @@
 -- The way up from the place of the item is the whole insert: the facts of InsertSteps there.
 use Rattle.std.proofs.Common.{◌-◌, ◌++◌, refl, sym, ◌∙◌, ap, arith, length}
 use Rattle.word_arena.specs.Copies.{copy_number}
-use Rattle.rb_trees.specs.Inserted.{inserted}
+use Rattle.rb_trees.specs.Inserted.{inserted_into}
 use Rattle.rb_cursor.specs.Rising.{at_root}
 use Rattle.rb_cursor.proofs.InsertSteps.{insert_calm, insert_few, insert_tree, insert_stores}
-use Rattle.rb_cursor.proofs.Stepping.{all_back}
+use Rattle.rb_cursor.proofs.StepLemmas.{all_back}
 use Rattle.rb_cursor.proofs.inserts.insert_apart.Goals as goal
 
 pub grow-requires-clause-calm : goal.grow-requires-clause-calm
@@ -30,7 +30,7 @@ returns-clause-cursor g c = λ _.
     let t = c.args.cursor.now.tree in
     c.grow.ensures.cursor
     ∙ ap (λ u. at_root u (c.seek_apart.new.self.room - 1)) (insert_tree less c.args.added t (c.seek_apart.ensures.path c.if-seek_apart.false) c.requires.whole)
-    ∙ ap (λ n. at_root (inserted less c.args.added t) (n - 1)) c.seek_apart.ensures.room
+    ∙ ap (λ n. at_root (inserted_into less c.args.added t) (n - 1)) c.seek_apart.ensures.room
 
 pub returns-clause-items : goal.returns-clause-items
 returns-clause-items g c = λ _.

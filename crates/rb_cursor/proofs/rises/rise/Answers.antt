@@ -1,5 +1,5 @@
 use Rattle.std.proofs.Common.{◌-◌, ◌∙◌, arith}
-use Rattle.rb_cursor.proofs.Stepping.{risen_by}
+use Rattle.rb_cursor.proofs.StepLemmas.{risen_by}
 use Rattle.rb_cursor.proofs.rises.rise.Goals as goal
 
 pub returns-then-depth-gt0 : goal.returns-then-depth-gt0

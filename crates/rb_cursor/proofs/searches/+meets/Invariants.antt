@@ -1,5 +1,5 @@
 use Rattle.std.proofs.Common.{◌≡◌, ◌≤◌}
-use Rattle.rb_trees.specs.Found.{met}
+use Rattle.rb_trees.specs.Found.{meets_on_the_way}
 use Rattle.rb_cursor.specs.Opening.{weight}
 use Rattle.rb_cursor.proofs.searches.+meets.Given as goal
 
@@ -8,7 +8,7 @@ decreases-meets g l = weight l.tree.now
 
 abbrev pub invariant-loop-fork : goal.invariant-loop-fork
 invariant-loop-fork g l = record {
-  same : met g.O.TreeOrder.order l.item l.but l.rest ≡ met g.O.TreeOrder.order l.item l.but l.tree;
+  same : meets_on_the_way g.O.TreeOrder.order l.item l.but l.rest ≡ meets_on_the_way g.O.TreeOrder.order l.item l.but l.tree;
   less : weight l.rest ≤ weight l.tree;
 }
 

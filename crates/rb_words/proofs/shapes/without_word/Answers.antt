@@ -2,7 +2,7 @@ use Rattle.std.proofs.Common.{◌∙◌, refl, sym, ap, arith, length, length-ap
 use Rattle.std.specs.Prelude.{is_some}
 use Rattle.word_arena.specs.Copies.{copy_number}
 use Rattle.rb_trees.specs.Erased.{first_word_at, item_lies}
-use Rattle.rb_trees.specs.Found.{any_with}
+use Rattle.rb_trees.specs.Found.{item_with_word}
 use Rattle.rb_trees.proofs.SoughtRows.{sought_by_word, sought_by_any, found_by_word, any_has}
 use Rattle.rb_cursor.specs.Zippers.{Zipper}
 use Rattle.rb_words.specs.TreePictures.{links_without}
@@ -61,7 +61,7 @@ returns-then-in_line-clause-few g c =
 pub returns-in_err-item-clause-found : goal.returns-in_err-item-clause-found
 returns-in_err-item-clause-found g c =
     ap is_some c.from_residual-in_err-item.ensures
-    ∙ ap is_some (c.in_err-item.ensures ∙ ap (any_with c.args.a) c.tree.ensures)
+    ∙ ap is_some (c.in_err-item.ensures ∙ ap (item_with_word c.args.a) c.tree.ensures)
     ∙ any_has c.args.a c.args.cursor.now.tree
 
 pub without_sought-requires-2-clause-list : goal.without_sought-requires-2-clause-list
@@ -76,7 +76,7 @@ without_sought-requires-2-clause-list g c =
 pub returns-in_err-row-2-clause-found : goal.returns-in_err-row-2-clause-found
 returns-in_err-row-2-clause-found g c =
     let t = c.args.cursor.now.tree in
-    let with_word = sym (ap (any_with c.args.a) c.tree.ensures) ∙ sym c.in_ok-item.ensures in
+    let with_word = sym (ap (item_with_word c.args.a) c.tree.ensures) ∙ sym c.in_ok-item.ensures in
     let there = sym (any_has c.args.a t) ∙ ap is_some with_word in
     let sought = sought_by_any g.O.TreeOrder.order g.met.O.TreeOrder.lawful c.args.a t c.in_ok-item.item
     c.requires.table with_word in
@@ -87,13 +87,13 @@ returns-in_err-row-2-clause-found g c =
 pub returns-clause-found : goal.returns-clause-found
 returns-clause-found g c =
     let t = c.args.cursor.now.tree in
-    let with_word = sym (ap (any_with c.args.a) c.tree.ensures) ∙ sym c.in_ok-item.ensures in
+    let with_word = sym (ap (item_with_word c.args.a) c.tree.ensures) ∙ sym c.in_ok-item.ensures in
     sym (sym (any_has c.args.a t) ∙ ap is_some with_word)
 
 pub returns-clause-gone : goal.returns-clause-gone
 returns-clause-gone g c =
     let t = c.args.cursor.now.tree in
-    let with_word = sym (ap (any_with c.args.a) c.tree.ensures) ∙ sym c.in_ok-item.ensures in
+    let with_word = sym (ap (item_with_word c.args.a) c.tree.ensures) ∙ sym c.in_ok-item.ensures in
     record {
       seen = item_lies g.O.TreeOrder.order.less c.in_ok-item.item;
       sought = sought_by_any g.O.TreeOrder.order g.met.O.TreeOrder.lawful c.args.a t c.in_ok-item.item

@@ -1,37 +1,37 @@
 use Rattle.std.proofs.Common.{◌∙◌, List, ap, subst, sym, arith}
 use Rattle.order_laws.specs.declared.items.Item.{Item}
-use Rattle.region_index.specs.Indexes.{IsSplit}
-use Rattle.region_index.specs.Items.{item_at}
-use Rattle.region_index.proofs.Finding.{last_begins_below, last_ends_below, last_found, nothing_below}
+use Rattle.region_index.specs.Indexes.{IsItemSplit}
+use Rattle.region_index.specs.Items.{item_of_address}
+use Rattle.region_index.proofs.FindLemmas.{last_begins_below, last_ends_below, last_found, nothing_below}
 use Rattle.region_index.proofs.IndexedCatalog.find.Goals as goal
 
 pub returns-then-split-eq0-clause-is : goal.returns-then-split-eq0-clause-is
 returns-then-split-eq0-clause-is c =
     let items = c.self.inside.items.items in
-    let parts : IsSplit items c.args.addr c.split_at-split.result = subst (λ (l : List Item). IsSplit l c.args.addr c.split_at-split.result) c.deref.ensures.value c.split_at-split.ensures in
+    let parts : IsItemSplit items c.args.addr c.split_at-split.result = subst (λ (l : List Item). IsItemSplit l c.args.addr c.split_at-split.result) c.deref.ensures.value c.split_at-split.ensures in
     nothing_below c.self.inside.catalog c.self.invariant.sound items c.self.invariant.indexed c.args.addr c.split_at-split.result parts c.if-split-eq0.true
-    ∙ ap (λ k. item_at k c.args.addr) c.self.view_is
+    ∙ ap (λ k. item_of_address k c.args.addr) c.self.view_is
 
 pub returns-then-addr-item-clause-is : goal.returns-then-addr-item-clause-is
 returns-then-addr-item-clause-is c =
     let items = c.self.inside.items.items in
-    let parts : IsSplit items c.args.addr c.split_at-split.result = subst (λ (l : List Item). IsSplit l c.args.addr c.split_at-split.result) c.deref.ensures.value c.split_at-split.ensures in
+    let parts : IsItemSplit items c.args.addr c.split_at-split.result = subst (λ (l : List Item). IsItemSplit l c.args.addr c.split_at-split.result) c.deref.ensures.value c.split_at-split.ensures in
     last_found c.self.inside.catalog c.self.invariant.sound items c.self.invariant.indexed c.args.addr c.split_at-split.result parts
     c.index-item.result.now (let n = c.if-split-eq0.false in omega arith) (sym c.index-item.ensures) c.if-addr-item.true
-    ∙ ap (λ k. item_at k c.args.addr) c.self.view_is
+    ∙ ap (λ k. item_of_address k c.args.addr) c.self.view_is
 
 pub returns-else-addr-item-clause-is : goal.returns-else-addr-item-clause-is
 returns-else-addr-item-clause-is c =
     let items = c.self.inside.items.items in
-    let parts : IsSplit items c.args.addr c.split_at-split.result = subst (λ (l : List Item). IsSplit l c.args.addr c.split_at-split.result) c.deref.ensures.value c.split_at-split.ensures in
+    let parts : IsItemSplit items c.args.addr c.split_at-split.result = subst (λ (l : List Item). IsItemSplit l c.args.addr c.split_at-split.result) c.deref.ensures.value c.split_at-split.ensures in
     last_ends_below c.self.inside.catalog c.self.invariant.sound items c.self.invariant.indexed c.args.addr c.split_at-split.result parts
     c.index-item.result.now (let n = c.if-split-eq0.false in omega arith) (sym c.index-item.ensures) c.if-addr-item.false
-    ∙ ap (λ k. item_at k c.args.addr) c.self.view_is
+    ∙ ap (λ k. item_of_address k c.args.addr) c.self.view_is
 
 pub returns-then-addr-item-clause-holds : goal.returns-then-addr-item-clause-holds
 returns-then-addr-item-clause-holds c =
     let items = c.self.inside.items.items in
-    let parts : IsSplit items c.args.addr c.split_at-split.result = subst (λ (l : List Item). IsSplit l c.args.addr c.split_at-split.result) c.deref.ensures.value c.split_at-split.ensures in (
+    let parts : IsItemSplit items c.args.addr c.split_at-split.result = subst (λ (l : List Item). IsItemSplit l c.args.addr c.split_at-split.result) c.deref.ensures.value c.split_at-split.ensures in (
       last_begins_below c.self.inside.catalog c.self.invariant.sound items c.self.invariant.indexed c.args.addr c.split_at-split.result parts
           c.index-item.result.now (let n = c.if-split-eq0.false in omega arith) (sym c.index-item.ensures),
       c.if-addr-item.true,

@@ -3,9 +3,9 @@ use Rattle.std.specs.Prelude.{unwrap_or}
 use Rattle.std.specs.Option.{option_copied, option_map}
 use Rattle.modules.specs.Around.{address_above, symbol_below}
 use Rattle.modules.specs.Entries.{SymbolEntry}
-use Rattle.symbols.specs.Found.{found_at, symbols_from}
-use Rattle.symbols.proofs.Nearest.{above_gt, below_le, found_is}
-use Rattle.symbols.proofs.Within.{before_within, none_within, reach_within, some_within}
+use Rattle.symbols.specs.Found.{symbol_found_at, symbols_from}
+use Rattle.symbols.proofs.NearestLemmas.{above_gt, below_le, found_is}
+use Rattle.symbols.proofs.WithinLemmas.{before_within, none_within, reach_within, some_within}
 use Rattle.symbols.proofs.find.symbol_in.Goals as goal
 
 pub returns-in_err-symbol : goal.returns-in_err-symbol
@@ -16,7 +16,7 @@ returns-in_err-symbol c =
     let addr = c.args.addr in
     let below : symbol_below symbols addr ≡ None = sym c.around-above.ensures.below ∙ ap (λ (o : Option (Bor SymbolEntry)). option_copied o) c.in_err-symbol.was in
     let none : c.from_residual.result ≡ None = search rules in
-    none ∙ sym (ap (option_map (found_at (symbols_from symbols start end) end addr)) (none_within symbols start end addr c.requires.from c.requires.below below))
+    none ∙ sym (ap (option_map (symbol_found_at (symbols_from symbols start end) end addr)) (none_within symbols start end addr c.requires.from c.requires.below below))
 
 pub returns-then-symbol-start : goal.returns-then-symbol-start
 returns-then-symbol-start c =
@@ -28,7 +28,7 @@ returns-then-symbol-start c =
     let own : c.symbol.inside.addr ≡ s.addr = ap (λ (x : SymbolEntry). x.addr) c.symbol.view_is in
     let below : symbol_below symbols addr ≡ Some s = sym c.around-above.ensures.below ∙ ap (λ (o : Option (Bor SymbolEntry)). option_copied o) c.in_ok-symbol.was in
     let out : s.addr < start = omega (arith, c.if-symbol-start.true) in
-    sym (ap (option_map (found_at (symbols_from symbols start end) end addr)) (before_within symbols start end addr s c.requires.from c.requires.below below out))
+    sym (ap (option_map (symbol_found_at (symbols_from symbols start end) end addr)) (before_within symbols start end addr s c.requires.from c.requires.below below out))
 
 pub overflow_sub-result : goal.overflow_sub-result
 overflow_sub-result c =

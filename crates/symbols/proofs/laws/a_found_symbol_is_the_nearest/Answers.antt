@@ -1,4 +1,4 @@
-use Rattle.symbols.proofs.Finding.{found_by_place}
+use Rattle.symbols.proofs.FindLemmas.{found_by_place}
 use Rattle.symbols.proofs.laws.a_found_symbol_is_the_nearest.Goals as goal
 
 pub returns : goal.returns

@@ -1,8 +1,8 @@
 use Rattle.std.proofs.Common.{◌∷◌, [], ◌++◌, ◌∙◌, ap, refl, ⊎_elim, sym, Some, arith}
 use Rattle.std.specs.declared.cmp.Ordering.TheVariants.{Less, Equal, Greater}
-use Rattle.latch_core.specs.declared.spots.Place.TheVariants.{First, Root, WordA, WordB, Tag, Left, Right, Found, Missing, Stuck}
+use Rattle.latch_core.specs.declared.progress.Awaited.TheVariants.{First, Root, WordA, WordB, Tag, Left, Right, Found, Missing, Stuck}
 use Rattle.latch_core.specs.Attempts.{Ends, Answer}
-use Rattle.latch_core.proofs.Leads.{next_from, values_before, values_of_core, values_of_place, moved, turned, answers, answers_none, again, again_none}
+use Rattle.latch_core.proofs.ReaderLemmas.{next_from, values_before, values_of_core, values_of_place, moved, turned, answers, answers_none, again, again_none}
 use Rattle.latch_core.proofs.readers.ReaderCore.take.Goals as goal
 use Rattle.latch_core.proofs.readers.ReaderCore.take.Goals.{in-Less, in-Equal, in-Greater}
 
@@ -10,7 +10,7 @@ pub returns-in-First-clause-leads : goal.returns-in-First-clause-leads
 returns-in-First-clause-leads g c = λ values leads.
     let o = g.O.TreeOrder.order in
     let h = next_from o c.args.self First _ _ c.args.value values c.in-First.is refl leads in
-    (refl, refl, h, values_before o c.args.self.spot.capacity c.args.self.key (values ++ c.args.value ∷ []) _ _ h)
+    (refl, refl, h, values_before o c.args.self.progress.capacity c.args.self.key (values ++ c.args.value ∷ []) _ _ h)
 
 pub returns-in-Root-clause-leads : goal.returns-in-Root-clause-leads
 returns-in-Root-clause-leads g c = λ values leads.
@@ -23,26 +23,26 @@ pub returns-in-WordA-clause-leads : goal.returns-in-WordA-clause-leads
 returns-in-WordA-clause-leads g c = λ values leads.
     let o = g.O.TreeOrder.order in
     let h = next_from o c.args.self WordA _ _ c.args.value values c.in-WordA.is refl leads in
-    (refl, refl, h, values_before o c.args.self.spot.capacity c.args.self.key (values ++ c.args.value ∷ []) _ _ h)
+    (refl, refl, h, values_before o c.args.self.progress.capacity c.args.self.key (values ++ c.args.value ∷ []) _ _ h)
 
 pub returns-in-WordB-clause-leads : goal.returns-in-WordB-clause-leads
 returns-in-WordB-clause-leads g c = λ values leads.
     let o = g.O.TreeOrder.order in
     let h = next_from o c.args.self WordB _ _ c.args.value values c.in-WordB.is refl leads in
-    (refl, refl, h, values_before o c.args.self.spot.capacity c.args.self.key (values ++ c.args.value ∷ []) _ _ h)
+    (refl, refl, h, values_before o c.args.self.progress.capacity c.args.self.key (values ++ c.args.value ∷ []) _ _ h)
 
 pub returns-after-comp-clause-leads : goal.returns-after-comp-clause-leads
 returns-after-comp-clause-leads g c = λ values leads.
     let o = g.O.TreeOrder.order in
     let s = c.args.self in
     let h = next_from o s Tag _ _ c.args.value values c.in-Tag.is refl leads in
-    let spot = record s.spot { tag = c.args.value; place = c.match-comp.self } in
+    let progress = record s.progress { tag = c.args.value; awaited = c.match-comp.self } in
     let on = h ∙ ap Some (elim c.match-comp.branch [
-      | in-Less w ↦ turned o s.key spot _ Less _ (w.in-Less.ensures ∙ ap (o.comp s.key) c.item.ensures) w.self-is
-      | in-Equal w ↦ turned o s.key spot _ Equal _ (w.in-Equal.ensures ∙ ap (o.comp s.key) c.item.ensures) w.self-is
-      | in-Greater w ↦ turned o s.key spot _ Greater _ (w.in-Greater.ensures ∙ ap (o.comp s.key) c.item.ensures) w.self-is
+      | in-Less w ↦ turned o s.key progress _ Less _ (w.in-Less.ensures ∙ ap (o.comp s.key) c.item.ensures) w.self-is
+      | in-Equal w ↦ turned o s.key progress _ Equal _ (w.in-Equal.ensures ∙ ap (o.comp s.key) c.item.ensures) w.self-is
+      | in-Greater w ↦ turned o s.key progress _ Greater _ (w.in-Greater.ensures ∙ ap (o.comp s.key) c.item.ensures) w.self-is
     ]) in
-    (refl, refl, on, values_of_place o s.key spot c.match-comp.self (values ++ c.args.value ∷ []) on)
+    (refl, refl, on, values_of_place o s.key progress c.match-comp.self (values ++ c.args.value ∷ []) on)
 
 pub returns-in-Left-clause-leads : goal.returns-in-Left-clause-leads
 returns-in-Left-clause-leads g c = λ values leads.

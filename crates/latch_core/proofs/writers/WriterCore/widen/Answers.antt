@@ -2,7 +2,7 @@ use Rattle.std.proofs.Common.{◌≡◌, sym, ◌∙◌, ap, subst}
 use Rattle.word_arena.specs.Layouts.{capacity_of, limit_of}
 use Rattle.rb_words.specs.Pictures.{Picture}
 use Rattle.latch_core.specs.WriterViews.{WriterView}
-use Rattle.latch_core.specs.Widening.{widened_writer, PicturesWidened}
+use Rattle.latch_core.specs.Widening.{widened_writer, RepresentsWidened}
 use Rattle.latch_core.proofs.WideningLemmas.{may_widen, widened_pictures}
 use Rattle.latch_core.proofs.writers.WriterCore.widen.Goals as goal
 
@@ -17,6 +17,6 @@ returns-clause-pictures g c =
     let table = ap (λ (p : Picture). p.table) widened ∙ ap (λ (v : WriterView). v.table) c.self.view_is in
     let zero = ap (λ (p : Picture). p.tree) widened ∙ ap (λ (v : WriterView). v.zero_tree) c.self.view_is in
     let one = ap (λ (p : Picture). p.tree) widened ∙ ap (λ (v : WriterView). v.one_tree) c.self.view_is in
-    let shown : WriterView = record { capacity = capacity_of l; limit = limit_of l; sequence = s.sequence; table = shape.table; zero_tree = shape.tree; one_tree = shape.tree; left = s.plan.left } in
-    let same : shown ≡ widened_writer w l = λ i. record { capacity = capacity_of l; limit = limit_of l; sequence = (c.self.view_is i).sequence; table = table i; zero_tree = zero i; one_tree = one i; left = (c.self.view_is i).left } in
-    subst (PicturesWidened w) (sym same) (widened_pictures w l may.0 may.1)
+    let shown : WriterView = record { capacity = capacity_of l; limit = limit_of l; sequence = s.sequence; table = shape.table; zero_tree = shape.tree; one_tree = shape.tree; stores_left = s.plan.stores_left } in
+    let same : shown ≡ widened_writer w l = λ i. record { capacity = capacity_of l; limit = limit_of l; sequence = (c.self.view_is i).sequence; table = table i; zero_tree = zero i; one_tree = one i; stores_left = (c.self.view_is i).stores_left } in
+    subst (RepresentsWidened w) (sym same) (widened_pictures w l may.0 may.1)

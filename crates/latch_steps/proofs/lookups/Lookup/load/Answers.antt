@@ -1,4 +1,4 @@
-use Rattle.latch_steps.proofs.Loading.{goes, retries, ends}
+use Rattle.latch_steps.proofs.LoadLemmas.{goes, retries, ends}
 use Rattle.latch_steps.proofs.lookups.Lookup.load.Goals as goal
 
 pub returns-in-Going : goal.returns-in-Going

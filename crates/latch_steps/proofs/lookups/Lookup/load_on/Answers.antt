@@ -1,6 +1,6 @@
 use Rattle.std.proofs.Common.{◌+◌, subst, sym, arith}
 use Rattle.latch_steps.specs.declared.lookups.Lookup.{Lookup}
-use Rattle.latch_steps.proofs.HeldLoads.{Loading, no_loads, load_goes, load_retries, load_ends, all_loaded}
+use Rattle.latch_steps.proofs.HeldLookupLemmas.{Loading, no_loads, load_goes, load_retries, load_ends, all_loaded}
 use Rattle.latch_steps.proofs.lookups.Lookup.load_on.Goals as goal
 use Rattle.latch_steps.proofs.lookups.Lookup.load_on.Goals.{in-Going, in-Retrying}
 

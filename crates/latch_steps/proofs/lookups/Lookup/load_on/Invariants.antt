@@ -1,12 +1,12 @@
 use Rattle.std.proofs.Common.{◌≡◌, ℕ, Some}
 use Rattle.std.specs.FinMap.{get}
 use Rattle.latch_steps.specs.Runs.{Moment}
-use Rattle.latch_steps.specs.Lookups.{IsInHand}
-use Rattle.latch_steps.proofs.HeldLoads.{Loading}
+use Rattle.latch_steps.specs.Lookups.{IsPendingLookup}
+use Rattle.latch_steps.proofs.HeldLookupLemmas.{Loading}
 use Rattle.latch_steps.proofs.lookups.Lookup.load_on.Given as goal
 
 -- the reader has made as many loads as the loop has turned, and none returned
 abbrev pub invariant-loop-turn : goal.invariant-loop-turn
 invariant-loop-turn g l =
-    (n limit : ℕ) (w : Moment g.row.O-Key.Denot) → w.latch.words ≡ l.words → IsInHand g.O.TreeOrder.order n (Some l.initial.lookup) (get w.lookups l.reader) → l.initial.events ≡ w.events
+    (n limit : ℕ) (w : Moment g.row.O-Key.Denot) → w.latch.words ≡ l.words → IsPendingLookup g.O.TreeOrder.order n (Some l.initial.lookup) (get w.lookups l.reader) → l.initial.events ≡ w.events
     → Loading g.O.TreeOrder.order n limit w l.reader l.most l.turn l.lookup l.events

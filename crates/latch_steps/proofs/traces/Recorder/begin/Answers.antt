@@ -1,6 +1,6 @@
 use Rattle.std.specs.Prelude.{not, eqb}
 use Rattle.latch_steps.specs.declared.events.Event.TheVariants.{Begin}
-use Rattle.latch_steps.proofs.Recording.{recorded}
+use Rattle.latch_steps.proofs.RecorderLemmas.{recorded}
 use Rattle.latch_steps.proofs.traces.Recorder.begin.Goals as goal
 
 pub returns-clause-recorded : goal.returns-clause-recorded

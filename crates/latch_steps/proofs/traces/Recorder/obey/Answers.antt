@@ -1,6 +1,6 @@
 use Rattle.std.specs.Prelude.{not, eqb}
 use Rattle.std.proofs.Common.{◌∙◌, false, true, refl, sym}
-use Rattle.latch_steps.proofs.Recording.{obeyed_writing, within_some, within_none}
+use Rattle.latch_steps.proofs.RecorderLemmas.{obeyed_writing, within_some, within_none}
 use Rattle.latch_steps.proofs.traces.Recorder.obey.Goals as goal
 use Rattle.latch_steps.proofs.traces.Recorder.obey.Goals.{then-is_writing, else-is_writing}
 
@@ -8,8 +8,8 @@ pub returns-after-is_writing-clause-obeyed : goal.returns-after-is_writing-claus
 returns-after-is_writing-clause-obeyed g c =
     obeyed_writing g.O.TreeOrder.order (not (eqb g.row.KEEPS 0)) c.args.self.now c.write_on.new.self c.write_on.result false c.if-is_writing.most c.args.command.now _ c.in-Write.is (refl, λ reply w. refl)
     (λ w s. elim c.if-is_writing.branch [
-      | then-is_writing b ↦ b.most-is ∙ within_some w.latch.hand c.in-Write.most (sym (c.is_writing.ensures w s) ∙ b.if-is_writing.true)
-      | else-is_writing b ↦ b.most-is ∙ within_none w.latch.hand c.in-Write.most (sym (c.is_writing.ensures w s) ∙ b.if-is_writing.false)
+      | then-is_writing b ↦ b.most-is ∙ within_some w.latch.pending c.in-Write.most (sym (c.is_writing.ensures w s) ∙ b.if-is_writing.true)
+      | else-is_writing b ↦ b.most-is ∙ within_none w.latch.pending c.in-Write.most (sym (c.is_writing.ensures w s) ∙ b.if-is_writing.false)
     ])
     c.write_on.ensures.written
 

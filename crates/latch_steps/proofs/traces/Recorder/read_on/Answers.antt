@@ -2,7 +2,7 @@ use Rattle.std.specs.Prelude.{not, eqb}
 use Rattle.std.proofs.Common.{sym, subst, append-nil, Some, None, Option}
 use Rattle.latch_steps.specs.declared.replies.Note.{Note}
 use Rattle.latch_steps.specs.HeldLookups.{ReadsOn}
-use Rattle.latch_steps.proofs.HeldLoads.{reads_recorded}
+use Rattle.latch_steps.proofs.HeldLookupLemmas.{reads_recorded}
 use Rattle.latch_steps.proofs.traces.Recorder.read_on.Goals as goal
 
 pub returns-in_ok-push-clause-read : goal.returns-in_ok-push-clause-read

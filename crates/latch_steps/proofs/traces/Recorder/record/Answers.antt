@@ -1,5 +1,5 @@
 use Rattle.std.specs.Prelude.{not, eqb}
-use Rattle.latch_steps.proofs.Recording.{recorded}
+use Rattle.latch_steps.proofs.RecorderLemmas.{recorded}
 use Rattle.latch_steps.proofs.traces.Recorder.record.Goals as goal
 
 pub returns-clause-recorded : goal.returns-clause-recorded

@@ -1,6 +1,6 @@
 use Rattle.std.specs.Prelude.{not, eqb}
 use Rattle.std.proofs.Common.{◌∙◌, sym, arith}
-use Rattle.latch_steps.proofs.Recording.{repeats_none, repeats_all, repeats_more, repeats_last}
+use Rattle.latch_steps.proofs.RecorderLemmas.{repeats_none, repeats_all, repeats_more, repeats_last}
 use Rattle.latch_steps.proofs.traces.Recorder.write_on.Goals as goal
 
 pub loop-turn-init : goal.loop-turn-init

@@ -2,7 +2,7 @@ use Rattle.std.proofs.Common.{sym, subst}
 use Rattle.latch_steps.specs.declared.events.Event.TheVariants.{Begin}
 use Rattle.latch_steps.specs.declared.replies.Reply.TheVariants.{Refused}
 use Rattle.latch_steps.specs.WorldSteps.{MayDo}
-use Rattle.latch_steps.proofs.Showing.{begins, refused, given_up}
+use Rattle.latch_steps.proofs.WorldLemmas.{begins, refused, given_up}
 use Rattle.latch_steps.proofs.worlds.World.begin.Goals as goal
 use Rattle.latch_steps.proofs.worlds.World.begin.Goals.{in-OutOfMemory, in_default}
 

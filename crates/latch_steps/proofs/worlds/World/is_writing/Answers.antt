@@ -1,6 +1,6 @@
 use Rattle.std.proofs.Common.{◌∙◌, ap}
 use Rattle.std.specs.Prelude.{nat_lt}
-use Rattle.latch_steps.proofs.Showing.{hand_shown}
+use Rattle.latch_steps.proofs.WorldLemmas.{hand_shown}
 use Rattle.latch_steps.proofs.worlds.World.is_writing.Goals as goal
 
 pub returns : goal.returns

@@ -1,9 +1,9 @@
 use Rattle.std.proofs.Common.{refl, ap}
 use Rattle.latch_core.specs.WriterViews.{WriterView}
 use Rattle.word_arena.specs.Layouts.{capacity_of}
-use Rattle.latch_core.proofs.Sound.{sound_opening}
+use Rattle.latch_core.proofs.SoundLemmas.{sound_opening}
 use Rattle.latch_steps.specs.Runs.{opening}
-use Rattle.latch_steps.proofs.Showing.{none_in_hand}
+use Rattle.latch_steps.proofs.WorldLemmas.{none_in_hand}
 use Rattle.latch_steps.proofs.worlds.World.open.Goals as goal
 
 pub returns-clause-shows : goal.returns-clause-shows

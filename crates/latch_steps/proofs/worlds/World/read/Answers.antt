@@ -5,8 +5,8 @@ use Rattle.std.specs.Ordering.{nat_cmp}
 use Rattle.std.specs.BTreeMap.{is_at}
 use Rattle.word_arena.specs.Layouts.{capacity_of}
 use Rattle.latch_steps.specs.Lookups.{lookup_at}
-use Rattle.latch_steps.proofs.Readers.{lookup_set, lookup_kept}
-use Rattle.latch_steps.proofs.Showing.{idle, goes_on, tries_again, returns}
+use Rattle.latch_steps.proofs.PendingLookupLemmas.{lookup_set, lookup_kept}
+use Rattle.latch_steps.proofs.WorldLemmas.{idle, goes_on, tries_again, returns}
 use Rattle.latch_steps.proofs.worlds.World.read.Goals as goal
 
 pub returns-in_default-clause-steps : goal.returns-in_default-clause-steps

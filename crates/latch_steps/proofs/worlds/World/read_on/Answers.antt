@@ -6,9 +6,9 @@ use Rattle.std.specs.BTreeMap.{is_at}
 use Rattle.latch_steps.specs.declared.lookups.Held.{Held}
 use Rattle.latch_steps.specs.Lookups.{lookup_at}
 use Rattle.latch_steps.specs.HeldLookups.{LoadsFrom}
-use Rattle.latch_steps.proofs.Readers.{lookup_set, lookup_kept}
-use Rattle.latch_steps.proofs.Showing.{idle}
-use Rattle.latch_steps.proofs.HeldLoads.{idle_reads, reads_hold, reads_end}
+use Rattle.latch_steps.proofs.PendingLookupLemmas.{lookup_set, lookup_kept}
+use Rattle.latch_steps.proofs.WorldLemmas.{idle}
+use Rattle.latch_steps.proofs.HeldLookupLemmas.{idle_reads, reads_hold, reads_end}
 use Rattle.latch_steps.proofs.worlds.World.read_on.Goals as goal
 
 pub returns-in_default-clause-reads : goal.returns-in_default-clause-reads

@@ -1,5 +1,5 @@
 use Rattle.std.proofs.Common.{◌∙◌, refl}
-use Rattle.latch_steps.proofs.Settling.{no_writes, one_write, all_written, is_settled}
+use Rattle.latch_steps.proofs.SettleLemmas.{no_writes, one_write, all_written, is_settled}
 use Rattle.latch_steps.proofs.worlds.World.settle.Goals as goal
 
 pub loop-init : goal.loop-init

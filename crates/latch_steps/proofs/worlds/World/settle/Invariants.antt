@@ -1,12 +1,12 @@
 use Rattle.std.proofs.Common.{◌≡◌, length}
 use Rattle.latch_steps.specs.Runs.{Moment}
-use Rattle.latch_steps.specs.Worlds.{Shows, layout_in}
-use Rattle.latch_steps.proofs.Settling.{Writing}
+use Rattle.latch_steps.specs.Worlds.{RepresentsMoment, layout_in}
+use Rattle.latch_steps.proofs.SettleLemmas.{Writing}
 use Rattle.latch_steps.proofs.worlds.World.settle.Given as goal
 
 abbrev pub invariant-loop : goal.invariant-loop
 invariant-loop g l =
-    record { layout : layout_in l.self ≡ layout_in l.initial.self; writing : (w : Moment g.row.O-Key.Denot) → Shows g.O.TreeOrder.order l.initial.self w → Writing g.O.TreeOrder.order l.initial.self l.self w }
+    record { layout : layout_in l.self ≡ layout_in l.initial.self; writing : (w : Moment g.row.O-Key.Denot) → RepresentsMoment g.O.TreeOrder.order l.initial.self w → Writing g.O.TreeOrder.order l.initial.self l.self w }
 
 abbrev pub decreases-loop : goal.decreases-loop
-decreases-loop g l = length l.self.writer.left
+decreases-loop g l = length l.self.writer.stores_left

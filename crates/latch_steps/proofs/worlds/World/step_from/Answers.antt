@@ -1,7 +1,7 @@
 use Rattle.std.proofs.Common.{sym, subst}
 use Rattle.latch_steps.specs.declared.events.Event.{Event}
-use Rattle.latch_steps.specs.WorldSteps.{Steps}
-use Rattle.latch_steps.proofs.Settling.{event_after}
+use Rattle.latch_steps.specs.WorldSteps.{IsWorldStep}
+use Rattle.latch_steps.proofs.SettleLemmas.{event_after}
 use Rattle.latch_steps.proofs.worlds.World.step_from.Goals as goal
 
 pub returns-in-Begin-clause-after : goal.returns-in-Begin-clause-after
@@ -26,4 +26,4 @@ returns-in-Read-clause-after g c =
 
 pub returns-in-Start-clause-steps : goal.returns-in-Start-clause-steps
 returns-in-Start-clause-steps g c =
-    subst (λ (e : Event g.row.O-Key.Denot). Steps g.O.TreeOrder.order c.args.self.now e c.start.result c.start.new.self) (sym c.in-Start.is) c.start.ensures.steps
+    subst (λ (e : Event g.row.O-Key.Denot). IsWorldStep g.O.TreeOrder.order c.args.self.now e c.start.result c.start.new.self) (sym c.in-Start.is) c.start.ensures.steps

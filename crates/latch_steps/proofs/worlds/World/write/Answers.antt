@@ -4,7 +4,7 @@ use Rattle.latch_steps.specs.declared.replies.Reply.TheVariants.{Idle}
 use Rattle.latch_steps.specs.declared.worlds.World.{World}
 use Rattle.latch_steps.specs.WorldSteps.{Does}
 use Rattle.latch_steps.specs.Worlds.{IsAtRest}
-use Rattle.latch_steps.proofs.Showing.{idles}
+use Rattle.latch_steps.proofs.WorldLemmas.{idles}
 use Rattle.latch_steps.proofs.worlds.World.write.Goals as goal
 
 pub returns-in-None-clause-steps : goal.returns-in-None-clause-steps

@@ -1,4 +1,4 @@
-use Rattle.latch_steps.proofs.Showing.{left_shown}
+use Rattle.latch_steps.proofs.WorldLemmas.{left_shown}
 use Rattle.latch_steps.proofs.worlds.World.writes_left.Goals as goal
 
 pub returns : goal.returns

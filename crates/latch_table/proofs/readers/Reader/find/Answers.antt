@@ -1,5 +1,5 @@
 use Rattle.std.proofs.Common.{refl, ◌∙◌}
-use Rattle.latch_table.proofs.Walking.{searches_none, searches_more, searched}
+use Rattle.latch_table.proofs.WalkLemmas.{searches_none, searches_more, searched}
 use Rattle.latch_table.proofs.readers.Reader.find.Goals as goal
 
 pub loop-init : goal.loop-init

@@ -1,16 +1,16 @@
 use Rattle.std.proofs.Common.{Some, None, ap, sym, ◌∙◌, subst, arith}
-use Rattle.latch_core.specs.Sequences.{gen}
+use Rattle.latch_core.specs.Sequences.{generation_of}
 use Rattle.std.specs.Prelude.{Option, ◌≡◌, ℕ}
 use Rattle.order_laws.specs.declared.items.Item.{Item}
 use Rattle.latch_core.specs.Attempts.{Answer, Again, outcome}
-use Rattle.latch_core.proofs.Leads.{answers, answers_none, again, again_none}
+use Rattle.latch_core.proofs.ReaderLemmas.{answers, answers_none, again, again_none}
 use Rattle.latch_table.specs.declared.knowledge.ReaderKnowledge.{ReaderKnowledge}
 use Rattle.latch_table.specs.declared.readers.Try.TheVariants.{Answered, Retry}
 use Rattle.latch_table.specs.Seats.{reader_of, with_sequence}
 use Rattle.latch_table.specs.Readers.{Tried}
 use Rattle.latch_table.specs.Walks.{found_by}
 use Rattle.latch_table.proofs.RuleLemmas.{allows_sequence}
-use Rattle.latch_table.proofs.Walking.{still_reading, answers_now, retries_now}
+use Rattle.latch_table.proofs.WalkLemmas.{still_reading, answers_now, retries_now}
 use Rattle.latch_table.proofs.readers.attempts.attempt.Given.{Over}
 use Rattle.latch_table.proofs.readers.attempts.attempt.Goals as goal
 use Rattle.latch_table.proofs.readers.attempts.attempt.Goals.{After-load-last}
@@ -88,7 +88,7 @@ returns-in-At-clause-tried g c =
     let t = c.load-last.result in
     let same = c.if-last-first.true in
     answered g (goal.at.returns-in-At-clause-tried g c).After-load-last (Some c.in-At.item) c.generation.result same
-    (ap (λ w. outcome s t (found_by w)) c.in-At.is ∙ answers s t c.generation.result c.in-At.item (sym same) (c.generation.ensures ∙ ap gen (sym same)))
+    (ap (λ w. outcome s t (found_by w)) c.in-At.is ∙ answers s t c.generation.result c.in-At.item (sym same) (c.generation.ensures ∙ ap generation_of (sym same)))
 
 pub returns-in-Nowhere-clause-tried : goal.returns-in-Nowhere-clause-tried
 returns-in-Nowhere-clause-tried g c =
@@ -96,7 +96,7 @@ returns-in-Nowhere-clause-tried g c =
     let t = c.load-last.result in
     let same = c.if-last-first-2.true in
     answered g (goal.at.returns-in-Nowhere-clause-tried g c).After-load-last None c.generation-in-Nowhere.result same
-    (ap (λ w. outcome s t (found_by w)) c.in-Nowhere.is ∙ answers_none s t c.generation-in-Nowhere.result (sym same) (c.generation-in-Nowhere.ensures ∙ ap gen (sym same)))
+    (ap (λ w. outcome s t (found_by w)) c.in-Nowhere.is ∙ answers_none s t c.generation-in-Nowhere.result (sym same) (c.generation-in-Nowhere.ensures ∙ ap generation_of (sym same)))
 
 pub returns-in_default-clause-tried : goal.returns-in_default-clause-tried
 returns-in_default-clause-tried g c =

@@ -1,7 +1,7 @@
 use Rattle.std.proofs.Common.{rules, ap}
 use Rattle.latch_table.specs.Seats.{reader_of}
 use Rattle.latch_table.proofs.RuleLemmas.{allows_word}
-use Rattle.latch_table.proofs.Walking.{wanted_is_kept}
+use Rattle.latch_table.proofs.WalkLemmas.{wanted_is_kept}
 use Rattle.latch_table.proofs.readers.attempts.load.Goals as goal
 
 pub load-requires : goal.load-requires

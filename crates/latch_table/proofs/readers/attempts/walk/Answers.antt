@@ -3,12 +3,12 @@ use Rattle.std.specs.declared.cmp.Ordering.{Ordering}
 use Rattle.std.specs.declared.cmp.Ordering.TheVariants.{Less, Equal, Greater}
 use Rattle.word_arena.specs.Layouts.{capacity_of}
 use Rattle.word_arena.specs.Words.{root_word, a_word, b_word, tag_word, left_word, right_word}
-use Rattle.latch_core.specs.Sequences.{stable}
-use Rattle.latch_core.specs.Attempts.{turn, visit, walk}
-use Rattle.latch_core.proofs.Walking.{item_of}
+use Rattle.latch_core.specs.Sequences.{stable_copy_of}
+use Rattle.latch_core.specs.Attempts.{after_item, visit, walk}
+use Rattle.latch_core.proofs.LoopWalkLemmas.{item_of}
 use Rattle.latch_table.specs.declared.knowledge.ReaderKnowledge.{ReaderKnowledge}
-use Rattle.latch_table.specs.Seats.{reader_of, reading}
-use Rattle.latch_table.proofs.Walking.{IsAt, first_at, may_load, loads_on, walk_starts, enters, turns, leaves, leaves_node}
+use Rattle.latch_table.specs.Seats.{reader_of, reader_knowledge}
+use Rattle.latch_table.proofs.WalkLemmas.{IsAt, first_at, may_load, loads_on, walk_starts, enters, turns, leaves, leaves_node}
 use Rattle.latch_table.proofs.readers.attempts.walk.Given.{Over}
 use Rattle.latch_table.proofs.readers.attempts.walk.Goals as goal
 use Rattle.latch_table.proofs.readers.attempts.walk.Goals.{After-a_of, After-load-in-loop-link-2}
@@ -19,7 +19,7 @@ load-link-requires-clause-wanted g c =
     let n : ℕ = capacity_of c.args.l in
     let s = c.args.first in
     let b : ReaderKnowledge = reader_of c.args.seat.now.me.0 in
-    may_load o n c.args.k s b b 1 (root_word (stable s)) _ _ (first_at o n c.args.k s b c.requires.capacity c.requires.begun) (c.root_of.ensures ∙ ap root_word c.stable_copy-copy.ensures)
+    may_load o n c.args.k s b b 1 (root_word (stable_copy_of s)) _ _ (first_at o n c.args.k s b c.requires.capacity c.requires.begun) (c.root_of.ensures ∙ ap root_word c.stable_copy-copy.ensures)
 
 pub loop-link-init : goal.loop-link-init
 loop-link-init g c =
@@ -32,17 +32,17 @@ loop-link-init g c =
     let there = ap (λ m. reader_of m.0) c.load-link.ensures.loaded in
     record {
       table = c.load-link.ensures.table;
-      reads = c.load-link.ensures.loaded ∙ (λ j. (reading (sym there j), []));
+      reads = c.load-link.ensures.loaded ∙ (λ j. (reader_knowledge (sym there j), []));
       left = c.left_of-left.ensures ∙ ap (λ p. left_word p 0) copy;
       right = c.right_of-right.ensures ∙ ap (λ p. right_word p 0) copy;
-      on = walk_starts o n c.args.k s b e1 c.load-link.result (loads_on o n c.args.k s b b e1 1 (root_word (stable s)) _ c.load-link.result _ (first_at o n c.args.k s b c.requires.capacity c.requires.begun) (c.root_of.ensures ∙ ap root_word copy) there);
+      on = walk_starts o n c.args.k s b e1 c.load-link.result (loads_on o n c.args.k s b b e1 1 (root_word (stable_copy_of s)) _ c.load-link.result _ (first_at o n c.args.k s b c.requires.capacity c.requires.begun) (c.root_of.ensures ∙ ap root_word copy) there);
     }
 
 -- the walk stands at a node
 node : (g : Over) (c : After-a_of g)
     → IsAt g.O.TreeOrder.order (capacity_of c.args.l) c.args.k c.args.first (reader_of c.args.seat.now.me.0) (reader_of c.loop-link.seat.me.0) c.loop-link.loads
     (visit g.O.TreeOrder.order c.args.k c.args.first (c.loop-link.link - 1)
-    (walk g.O.TreeOrder.order (capacity_of c.args.l) c.args.k c.args.first (c.loop-link.invariant.on.going.left - 1)))
+    (walk g.O.TreeOrder.order (capacity_of c.args.l) c.args.k c.args.first (c.loop-link.invariant.on.going.visits_left - 1)))
 node g c =
     let o = g.O.TreeOrder.order in
     let n : ℕ = capacity_of c.args.l in
@@ -60,8 +60,8 @@ node g c =
 side : (g : Over) (c : After-load-in-loop-link-2 g) (d : Ordering)
     → g.O.TreeOrder.order.comp c.args.k (item_of c.load.result c.load-in-loop-link.result c.load-in-loop-link-2.result) ≡ d
     → IsAt g.O.TreeOrder.order (capacity_of c.args.l) c.args.k c.args.first (reader_of c.args.seat.now.me.0) (reader_of c.load-in-loop-link-2.new.seat.me.0) (c.loop-link.loads + 1 + 1 + 1)
-    (turn c.args.first (c.loop-link.link - 1) (item_of c.load.result c.load-in-loop-link.result c.load-in-loop-link-2.result)
-    (walk g.O.TreeOrder.order (capacity_of c.args.l) c.args.k c.args.first (c.loop-link.invariant.on.going.left - 1)) d)
+    (after_item c.args.first (c.loop-link.link - 1) (item_of c.load.result c.load-in-loop-link.result c.load-in-loop-link-2.result)
+    (walk g.O.TreeOrder.order (capacity_of c.args.l) c.args.k c.args.first (c.loop-link.invariant.on.going.visits_left - 1)) d)
 side g c d compares =
     let o = g.O.TreeOrder.order in
     let n : ℕ = capacity_of c.args.l in
@@ -83,7 +83,7 @@ side g c d compares =
     let p2 = loads_on o n k s b e1 e2 (loads + 1) (b_word i) _ c.load-in-loop-link.result _ p1 (ap (λ a. a + 7 * i) c.b_of.ensures) (ap (λ m. reader_of m.0) c.load-in-loop-link.ensures.loaded) in
     let p3 = loads_on o n k s b e2 e3 (loads + 1 + 1) (tag_word i) _ c.load-in-loop-link-2.result _ p2 (ap (λ a. a + 7 * i) c.tag_of.ensures) (ap (λ m. reader_of m.0) c.load-in-loop-link-2.ensures.loaded) in
     let x = item_of c.load.result c.load-in-loop-link.result c.load-in-loop-link-2.result in
-    turns o n k s b e3 (loads + 1 + 1 + 1) i x (walk o n k s (c.loop-link.invariant.on.going.left - 1)) (o.comp k x) d compares p3
+    turns o n k s b e3 (loads + 1 + 1 + 1) i x (walk o n k s (c.loop-link.invariant.on.going.visits_left - 1)) (o.comp k x) d compares p3
 
 pub load-requires-clause-wanted : goal.load-requires-clause-wanted
 load-requires-clause-wanted g c =
@@ -129,14 +129,14 @@ pub load-link-requires-in-Less-clause-wanted : goal.load-link-requires-in-Less-c
 load-link-requires-in-Less-clause-wanted g c =
     let i : ℕ = c.loop-link.link - 1 in
     may_load g.O.TreeOrder.order (capacity_of c.args.l) c.args.k c.args.first (reader_of c.args.seat.now.me.0) (reader_of c.load-in-loop-link-2.new.seat.me.0) (c.loop-link.loads + 1 + 1 + 1)
-    (left_word (stable c.args.first) i) _ _ (side g (goal.at.load-link-requires-in-Less-clause-wanted g c).After-load-in-loop-link-2 Less (sym c.in-Less.ensures))
+    (left_word (stable_copy_of c.args.first) i) _ _ (side g (goal.at.load-link-requires-in-Less-clause-wanted g c).After-load-in-loop-link-2 Less (sym c.in-Less.ensures))
     (let h = c.loop-link.invariant.left in omega arith)
 
 pub load-link-requires-in-Greater-clause-wanted : goal.load-link-requires-in-Greater-clause-wanted
 load-link-requires-in-Greater-clause-wanted g c =
     let i : ℕ = c.loop-link.link - 1 in
     may_load g.O.TreeOrder.order (capacity_of c.args.l) c.args.k c.args.first (reader_of c.args.seat.now.me.0) (reader_of c.load-in-loop-link-2.new.seat.me.0) (c.loop-link.loads + 1 + 1 + 1)
-    (right_word (stable c.args.first) i) _ _ (side g (goal.at.load-link-requires-in-Greater-clause-wanted g c).After-load-in-loop-link-2 Greater (sym c.in-Greater.ensures))
+    (right_word (stable_copy_of c.args.first) i) _ _ (side g (goal.at.load-link-requires-in-Greater-clause-wanted g c).After-load-in-loop-link-2 Greater (sym c.in-Greater.ensures))
     (let h = c.loop-link.invariant.right in omega arith)
 
 pub returns-in-Equal-clause-walked : goal.returns-in-Equal-clause-walked
@@ -161,14 +161,14 @@ loop-link-preserved-in-Less g c =
     let there = ap (λ m. reader_of m.0) c.load-link-in-Less.ensures.loaded in
     let next = c.load-link-in-Less.result in
     let q = side g (goal.at.loop-link-preserved-in-Less g c).After-load-in-loop-link-2 Less (sym c.in-Less.ensures) in
-    let p4 = loads_on o n k s b e3 e4 (loads + 1 + 1 + 1) (left_word (stable s) (link - 1)) _ next _ q (let h = kept.left in omega arith) there in
+    let p4 = loads_on o n k s b e3 e4 (loads + 1 + 1 + 1) (left_word (stable_copy_of s) (link - 1)) _ next _ q (let h = kept.left in omega arith) there in
     let four : loads + 1 + 1 + 1 + 1 ≡ loads + 4 = omega arith in
     record {
       table = c.load-link-in-Less.ensures.table ∙ c.load-in-loop-link-2.ensures.table ∙ c.load-in-loop-link.ensures.table ∙ c.load.ensures.table ∙ kept.table;
-      reads = c.load-link-in-Less.ensures.loaded ∙ (λ j. (reading (sym there j), []));
+      reads = c.load-link-in-Less.ensures.loaded ∙ (λ j. (reader_knowledge (sym there j), []));
       left = kept.left;
       right = kept.right;
-      on = leaves o n k s b (reader_of c.loop-link.seat.me.0) loads link kept.on some room e4 next (subst (λ z. IsAt o n k s b e4 z (walk o n k s (kept.on.going.left - 1) next)) four p4);
+      on = leaves o n k s b (reader_of c.loop-link.seat.me.0) loads link kept.on some room e4 next (subst (λ z. IsAt o n k s b e4 z (walk o n k s (kept.on.going.visits_left - 1) next)) four p4);
     }
 
 pub loop-link-preserved : goal.loop-link-preserved
@@ -188,12 +188,12 @@ loop-link-preserved g c =
     let there = ap (λ m. reader_of m.0) c.load-link-in-Greater.ensures.loaded in
     let next = c.load-link-in-Greater.result in
     let q = side g (goal.at.loop-link-preserved g c).After-load-in-loop-link-2 Greater (sym c.in-Greater.ensures) in
-    let p4 = loads_on o n k s b e3 e4 (loads + 1 + 1 + 1) (right_word (stable s) (link - 1)) _ next _ q (let h = kept.right in omega arith) there in
+    let p4 = loads_on o n k s b e3 e4 (loads + 1 + 1 + 1) (right_word (stable_copy_of s) (link - 1)) _ next _ q (let h = kept.right in omega arith) there in
     let four : loads + 1 + 1 + 1 + 1 ≡ loads + 4 = omega arith in
     record {
       table = c.load-link-in-Greater.ensures.table ∙ c.load-in-loop-link-2.ensures.table ∙ c.load-in-loop-link.ensures.table ∙ c.load.ensures.table ∙ kept.table;
-      reads = c.load-link-in-Greater.ensures.loaded ∙ (λ j. (reading (sym there j), []));
+      reads = c.load-link-in-Greater.ensures.loaded ∙ (λ j. (reader_knowledge (sym there j), []));
       left = kept.left;
       right = kept.right;
-      on = leaves o n k s b (reader_of c.loop-link.seat.me.0) loads link kept.on some room e4 next (subst (λ z. IsAt o n k s b e4 z (walk o n k s (kept.on.going.left - 1) next)) four p4);
+      on = leaves o n k s b (reader_of c.loop-link.seat.me.0) loads link kept.on some room e4 next (subst (λ z. IsAt o n k s b e4 z (walk o n k s (kept.on.going.visits_left - 1) next)) four p4);
     }

@@ -2,7 +2,7 @@ use Rattle.std.proofs.Common.{rules, ◌≡◌, sym, ◌∙◌, subst}
 use Rattle.atomic_table.specs.Seated.{TableId}
 use Rattle.word_arena.specs.Layouts.{capacity_of}
 use Rattle.latch_table.specs.declared.knowledge.WriterKnowledge.{WriterKnowledge}
-use Rattle.latch_core.specs.Standing.{IsLatched}
+use Rattle.latch_core.specs.Latched.{IsLatched}
 use Rattle.latch_table.specs.Seats.{writer_of}
 use Rattle.latch_table.specs.Writers.{WriterState, writer_state, IsTied, Finds}
 use Rattle.latch_table.proofs.WriterLemmas.{latched_now, tied_loads, finds_state}

@@ -1,5 +1,5 @@
 use Rattle.std.proofs.Common.{refl}
-use Rattle.latch_table.proofs.Finishing.{steps_down, on_the_way, finishes}
+use Rattle.latch_table.proofs.FinishLemmas.{steps_down, on_the_way, finishes}
 use Rattle.latch_table.proofs.writers.Writer.finish.Goals as goal
 
 pub loop-init : goal.loop-init

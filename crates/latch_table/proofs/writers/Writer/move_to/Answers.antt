@@ -6,7 +6,7 @@ use Rattle.latch_core.specs.WriterViews.{WriterView}
 use Rattle.latch_table.specs.Seats.{writer_of}
 use Rattle.latch_table.specs.Writers.{WriterState, writer_state}
 use Rattle.latch_table.specs.Enlarging.{Enlarges}
-use Rattle.latch_table.proofs.Enlargings.{opens_wider, tied_there, enlarges}
+use Rattle.latch_table.proofs.EnlargingLemmas.{opens_wider, tied_there, enlarges}
 use Rattle.latch_table.proofs.writers.Writer.move_to.Goals as goal
 
 pub build-requires-clause-rule : goal.build-requires-clause-rule

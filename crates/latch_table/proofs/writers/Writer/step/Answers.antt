@@ -5,7 +5,7 @@ use Rattle.atomic_table.specs.Table.{Me}
 use Rattle.atomic_table.specs.Seated.{TableId}
 use Rattle.latch_core.specs.WriterViews.{WriterView}
 use Rattle.latch_table.specs.declared.knowledge.Knowledge.{Knowledge}
-use Rattle.latch_table.specs.Writers.{WriterState, writer_state, IsTied, Steps, did_of}
+use Rattle.latch_table.specs.Writers.{WriterState, writer_state, IsTied, Steps, kind_of_store}
 use Rattle.latch_table.proofs.WriterLemmas.{allows_next, tied_after, steps_next, did_flip, did_store}
 use Rattle.latch_table.proofs.writers.Writer.step.Goals as goal
 use Rattle.latch_table.proofs.writers.Writer.step.Goals.{then-store-eq0, else-store-eq0}
@@ -43,7 +43,7 @@ returns g c =
     let w = c.self.inside in
     let s = c.in_ok-store.store in
     let next = sym c.in_ok-store.ensures.which in
-    let did : c.if-store-eq0.result ≡ did_of s = elim c.if-store-eq0.branch [
+    let did : c.if-store-eq0.result ≡ kind_of_store s = elim c.if-store-eq0.branch [
       | then-store-eq0 b ↦ did_flip s c.if-store-eq0.result b.if-store-eq0.true b.result-is
       | else-store-eq0 b ↦ did_store s c.if-store-eq0.result b.if-store-eq0.false b.result-is
     ] in

@@ -3,9 +3,9 @@ use Rattle.word_arena.specs.Layouts.{capacity_of}
 use Rattle.word_arena.specs.Words.{at}
 use Rattle.latch_table.specs.declared.knowledge.WriterKnowledge.{WriterKnowledge}
 use Rattle.latch_table.specs.Seats.{writer_of, with_loads}
-use Rattle.latch_table.specs.Lookups.{Looking, FindsIn}
+use Rattle.latch_table.specs.Lookups.{IsLookingUp, FindsIn}
 use Rattle.latch_table.proofs.RuleLemmas.{allows_begin_lookup, allows_writer_load}
-use Rattle.latch_table.proofs.Looking.{first_not_retrying, first_not_returned, still_writing, looking_first, looking_more, not_again, finds}
+use Rattle.latch_table.proofs.LookupLemmas.{first_not_retrying, first_not_returned, still_writing, looking_first, looking_more, not_again, finds}
 use Rattle.latch_table.proofs.writers.lookups.look_up.Goals as goal
 
 pub load-first-requires : goal.load-first-requires
@@ -30,7 +30,7 @@ loop-next-init g c =
     let walk = looking_first g.O.TreeOrder.order (capacity_of c.args.l) c.args.k p c.start.result c.in-Going.core c.load-first.result c.start.ensures.capacity c.start.ensures.key c.start.ensures.leads c.load-first.ensures.2.0 c.in-Going.ensures.leads in (
       c.load-first.ensures.0,
       subst (λ z. c.load-first.new.seat.me ≡ (record { writer = Some (with_loads z p); reader = None }, [])) (sym same) here,
-      subst (λ z. Looking g.O.TreeOrder.order (capacity_of c.args.l) c.args.k p z c.in-Going.core) (sym same) walk,
+      subst (λ z. IsLookingUp g.O.TreeOrder.order (capacity_of c.args.l) c.args.k p z c.in-Going.core) (sym same) walk,
     )
 
 pub load-value-requires : goal.load-value-requires
@@ -56,7 +56,7 @@ loop-next-preserved g c =
     let walk = looking_more o n c.args.k p made c.loop-next.core inv.2 c.wanted-word.result c.wanted-word.ensures.word c.load-value.result value c.in-Going-take.next c.in-Going-take.ensures.leads in (
       c.load-value.ensures.0 ∙ inv.0,
       subst (λ z. c.load-value.new.seat.me ≡ (record { writer = Some (with_loads z p); reader = None }, [])) (sym same) here,
-      subst (λ z. Looking o n c.args.k p z c.in-Going-take.next) (sym same) walk,
+      subst (λ z. IsLookingUp o n c.args.k p z c.in-Going-take.next) (sym same) walk,
     )
 
 pub returns-in-Returned-take-clause-view : goal.returns-in-Returned-take-clause-view

@@ -2,7 +2,7 @@ use Rattle.std.proofs.Common.{Some, sym, ap, ◌∙◌, refl}
 use Rattle.std.specs.List.{filter_map}
 use Rattle.shared_lookup.specs.declared.changes.Change.TheVariants.{Load, Unload, DropInit}
 use Rattle.latchsym.specs.Assignments.{change_in, key_in, name_in}
-use Rattle.latchsym.proofs.Assigning.{changed, looked}
+use Rattle.latchsym.proofs.AssignmentLemmas.{changed, looked}
 use Rattle.latchsym.proofs.assignments.Assignments.add.Goals as goal
 
 pub returns-in-Load : goal.returns-in-Load

@@ -3,7 +3,7 @@ use Rattle.std.specs.Option.{option_copied}
 use Rattle.modules.specs.Catalogs.{module_of}
 use Rattle.modules.specs.Entries.{ModuleEntry}
 use Rattle.modules.specs.Loads.{is_erasing}
-use Rattle.modules.proofs.Loading.{drop_answers}
+use Rattle.modules.proofs.LoadLemmas.{drop_answers}
 use Rattle.modules.proofs.catalog.Catalog.gives_drop_init.Goals as goal
 
 pub returns-then-has_init : goal.returns-then-has_init

@@ -3,7 +3,7 @@ use Rattle.std.specs.Option.{option_copied}
 use Rattle.modules.specs.Catalogs.{module_of}
 use Rattle.modules.specs.Entries.{ModuleEntry}
 use Rattle.modules.specs.Loads.{is_inserting}
-use Rattle.modules.proofs.Loading.{load_answers}
+use Rattle.modules.proofs.LoadLemmas.{load_answers}
 use Rattle.modules.proofs.catalog.Catalog.gives_load.Goals as goal
 
 pub returns : goal.returns

@@ -3,7 +3,7 @@ use Rattle.std.specs.Option.{option_copied}
 use Rattle.modules.specs.Catalogs.{module_of}
 use Rattle.modules.specs.Entries.{ModuleEntry}
 use Rattle.modules.specs.Loads.{is_erasing}
-use Rattle.modules.proofs.Loading.{unload_answers_first, unload_answers_second}
+use Rattle.modules.proofs.LoadLemmas.{unload_answers_first, unload_answers_second}
 use Rattle.modules.proofs.catalog.Catalog.gives_unload.Goals as goal
 
 pub returns-then-is_erasing : goal.returns-then-is_erasing

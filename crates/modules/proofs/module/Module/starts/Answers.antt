@@ -1,14 +1,14 @@
 use Rattle.std.proofs.Common.{ℕ, ◌∙◌, List, sym, ap}
-use Rattle.modules.specs.Modules.{shown}
+use Rattle.modules.specs.Modules.{module_view}
 use Rattle.modules.specs.Parts.{is_core}
 use Rattle.modules.specs.Starts.{start_where}
 use Rattle.modules.specs.declared.lines.Part.{Part}
-use Rattle.modules.proofs.Starting.{core_starts}
+use Rattle.modules.proofs.StartLemmas.{core_starts}
 use Rattle.modules.proofs.module.Module.starts.Goals as goal
 
 pub unreachable-requires : goal.unreachable-requires
 unreachable-requires c =
-    let m = shown c.self.inside in
+    let m = module_view c.self.inside in
     core_starts m c.self.invariant.placed
     (ap (λ (rs : List (ℕ × ℕ)). start_where is_core rs m.parts) (sym c.as_slice.ensures.value)
     ∙ ap (λ (ps : List Part). start_where is_core c.as_slice.result.now ps) (sym c.as_slice-2.ensures.value)

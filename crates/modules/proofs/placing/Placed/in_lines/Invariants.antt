@@ -1,11 +1,11 @@
 use Rattle.std.proofs.Common.{◌≡◌, map, take}
 use Rattle.modules.specs.Grouped.{lines_at}
-use Rattle.modules.specs.Lines.{bounds_of}
+use Rattle.modules.specs.Lines.{region_line_region}
 use Rattle.modules.proofs.placing.Placed.in_lines.Given as goal
 
 abbrev pub invariant-loop-line : goal.invariant-loop-line
 invariant-loop-line l =
     record {
-      regions : l.regions.items ≡ map bounds_of (lines_at (take l.line-index l.lines));
+      regions : l.regions.items ≡ map region_line_region (lines_at (take l.line-index l.lines));
       parts : l.parts.items ≡ map (λ r. r.part) (lines_at (take l.line-index l.lines));
     }

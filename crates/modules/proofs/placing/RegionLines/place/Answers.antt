@@ -8,8 +8,8 @@ use Rattle.modules.specs.Grouped.{lines_at}
 use Rattle.modules.specs.Lines.{region_fits}
 use Rattle.modules.specs.Listed.{ListedRegion}
 use Rattle.modules.specs.Placed.{lines_named}
-use Rattle.modules.proofs.Grouping.{all_at}
-use Rattle.modules.proofs.Lying.{few_named}
+use Rattle.modules.proofs.GroupLemmas.{all_at}
+use Rattle.modules.proofs.RegionLemmas.{few_named}
 use Rattle.modules.proofs.placing.RegionLines.place.Goals as goal
 
 pub in_lines-requires-clause-few : goal.in_lines-requires-clause-few

@@ -2,7 +2,7 @@ use Rattle.std.proofs.Common.{◌≡◌, true}
 use Rattle.std.specs.List.{list_all}
 use Rattle.order_laws.proofs.Maps.{list_all-insert_entry}
 use Rattle.modules.specs.Regions.{is_apart}
-use Rattle.modules.proofs.Spreading.{IsSpread-inserted, absent_from_apart}
+use Rattle.modules.proofs.SpreadLemmas.{IsSpread-inserted, absent_from_apart}
 use Rattle.modules.proofs.regions.Regions.insert.Goals as goal
 
 pub invariant_of-self-2 : goal.invariant_of-self-2

@@ -3,7 +3,7 @@ use Rattle.std.specs.Prelude.{find}
 use Rattle.std.specs.Option.{option_map}
 use Rattle.std.specs.Str.{bytes_eq}
 use Rattle.modules.specs.Entries.{SymbolEntry}
-use Rattle.modules.proofs.Running.{first_of_some, first_of_none}
+use Rattle.modules.proofs.RunLemmas.{first_of_some, first_of_none}
 use Rattle.modules.proofs.symbol_lines.Run.first_address.Goals as goal
 
 pub returns-then-is_some : goal.returns-then-is_some

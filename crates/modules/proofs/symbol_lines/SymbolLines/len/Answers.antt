@@ -1,7 +1,7 @@
 use Rattle.std.proofs.Common.{◌∷◌, [], ◌++◌, List, length, ◌∙◌, ap, sym}
 use Rattle.modules.specs.Listed.{ListedSymbol}
 use Rattle.modules.specs.Runs.{lines_of_all}
-use Rattle.modules.proofs.Running.{length-lettered}
+use Rattle.modules.proofs.RunLemmas.{length-lettered}
 use Rattle.modules.proofs.symbol_lines.SymbolLines.len.Goals as goal
 
 pub returns : goal.returns

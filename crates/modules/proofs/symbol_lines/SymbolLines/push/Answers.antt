@@ -2,7 +2,7 @@ use Rattle.std.proofs.Common.{◌≡◌, ◌∷◌, [], ◌++◌, List, ℕ, ◌
 use Rattle.std.specs.Option.{option_copied}
 use Rattle.modules.specs.Listed.{ListedSymbol}
 use Rattle.modules.specs.Runs.{lines_of_all, unlettered, with_letter}
-use Rattle.modules.proofs.Running.{lettered-pushed}
+use Rattle.modules.proofs.RunLemmas.{lettered-pushed}
 use Rattle.modules.proofs.symbol_lines.SymbolLines.push.Goals as goal
 
 pub returns-clause-pushed : goal.returns-clause-pushed

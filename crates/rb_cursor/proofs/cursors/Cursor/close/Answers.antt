@@ -1,7 +1,7 @@
 use Rattle.std.proofs.Common.{◌-◌, refl, sym, ap, ◌∙◌, arith}
 use Rattle.rb_cursor.proofs.ChangeLemmas.{closes, not_closed, no_path, last_leads, last_there}
 use Rattle.slab.specs.Slab.{with_value}
-use Rattle.rb_cursor.specs.Closing.{closed}
+use Rattle.rb_cursor.specs.Closing.{closed_zipper}
 use Rattle.rb_cursor.specs.Writes.{step_at}
 use Rattle.rb_cursor.proofs.HeldLemmas.{Moved}
 use Rattle.std.specs.Option.{option_copied_mut}
@@ -34,7 +34,7 @@ there : (c : goal.After-self-3-1) →
           (record c.in-Some.node.now { red = c.args.red });
       tree = step.link;
       depth = c.self.inside.depth - 1;
-    }) (closed c.args.red c.args.self.now.tree c.args.self.now.path c.args.self.now.room)
+    }) (closed_zipper c.args.red c.args.self.now.tree c.args.self.now.path c.args.self.now.room)
 there c =
     let step = step_at c.self.inside.steps (c.self.inside.depth - 1) in
     let some = last_leads c.self.inside c.args.self.now c.self.invariant c.self.view_is

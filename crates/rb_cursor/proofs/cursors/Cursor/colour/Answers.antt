@@ -1,7 +1,7 @@
 use Rattle.std.proofs.Common.{◌-◌, sym, ap, ◌∙◌, arith}
 use Rattle.rb_cursor.proofs.ChangeLemmas.{Rewritten, rewrites}
 use Rattle.rb_cursor.proofs.HeldLemmas.{none_there}
-use Rattle.rb_trees.specs.Trees.{Branches, coloured}
+use Rattle.rb_trees.specs.Trees.{ColouredTree, coloured}
 use Rattle.rb_cursor.specs.Keyed.{record_of}
 use Rattle.rb_cursor.proofs.cursors.Cursor.colour.Goals as goal
 
@@ -9,8 +9,8 @@ pub returns-then-self-eq0 : goal.returns-then-self-eq0
 returns-then-self-eq0 c =
     let e = none_there c.self.inside c.args.self.now c.self.invariant c.self.view_is
     c.if-self-eq0.true in
-    ap (λ (t : Branches). record c.args.self.now { tree = t }) e
-    ∙ sym (ap (λ (t : Branches). record c.args.self.now { tree = coloured c.args.red t }) e)
+    ap (λ (t : ColouredTree). record c.args.self.now { tree = t }) e
+    ∙ sym (ap (λ (t : ColouredTree). record c.args.self.now { tree = coloured c.args.red t }) e)
 
 there : (c : goal.After-self-1) →
     Rewritten c.self.inside c.args.self.now (c.self.inside.tree - 1) c.args.red
@@ -26,5 +26,5 @@ invariant_of-self c = (there c).moved.is
 pub returns : goal.returns
 returns c =
     (there c).moved.shows
-    ∙ sym (ap (λ (t : Branches). record c.args.self.now { tree = coloured c.args.red t })
+    ∙ sym (ap (λ (t : ColouredTree). record c.args.self.now { tree = coloured c.args.red t })
     (there c).was)

@@ -1,6 +1,6 @@
 use Rattle.std.proofs.Common.{◌-◌, ℕ, refl, sym, subst, arith}
-use Rattle.rb_cursor.specs.Opening.{Opens}
-use Rattle.rb_cursor.proofs.HeldLemmas.{Is, show, with_step, HasOpened, opened}
+use Rattle.rb_cursor.specs.Opening.{OpensSide}
+use Rattle.rb_cursor.proofs.HeldLemmas.{IsInside, show, with_step, HasOpened, opened}
 use Rattle.rb_cursor.proofs.HeldLemmas.{none_there, depth_is}
 use Rattle.rb_cursor.proofs.cursors.Cursor.open.Goals as goal
 
@@ -24,12 +24,12 @@ there c =
 
 pub invariant_of-self : goal.invariant_of-self
 invariant_of-self c =
-    subst (λ (l : ℕ). Is (with_step c.self.inside c.args.side l)) (sym c.child-below.ensures)
+    subst (λ (l : ℕ). IsInside (with_step c.self.inside c.args.side l)) (sym c.child-below.ensures)
     (there c).is
 
 pub returns : goal.returns
 returns c =
-    subst (λ (l : ℕ). Opens c.args.side c.args.self.now
+    subst (λ (l : ℕ). OpensSide c.args.side c.args.self.now
     (show (with_step c.self.inside c.args.side l))
     (record { red = c.in-Some.node.now.red; node = c.in-Some.node.now.node }))
     (sym c.child-below.ensures) (there c).opens

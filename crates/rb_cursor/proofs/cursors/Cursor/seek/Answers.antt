@@ -1,5 +1,5 @@
 use Rattle.std.proofs.Common.{◌≡◌, ◌-◌, List, sym, ap, ◌∙◌, arith}
-use Rattle.rb_trees.specs.Trees.{Branches}
+use Rattle.rb_trees.specs.Trees.{ColouredTree}
 use Rattle.rb_trees.specs.Paths.{Above}
 use Rattle.rb_cursor.specs.Keyed.{record_of}
 use Rattle.rb_cursor.proofs.HeldLemmas.{show, written_back}
@@ -62,13 +62,13 @@ missed g c =
     c.args.self.now c.loop-link.invariant c.loop-link-test.false
 
 pub returns-then-is_at-clause-tree : goal.returns-then-is_at-clause-tree
-returns-then-is_at-clause-tree g c = ap (λ (z : Branches × List Above). z.0) (found g c)
+returns-then-is_at-clause-tree g c = ap (λ (z : ColouredTree × List Above). z.0) (found g c)
 
 pub returns-then-is_at-clause-path : goal.returns-then-is_at-clause-path
-returns-then-is_at-clause-path g c = ap (λ (z : Branches × List Above). z.1) (found g c)
+returns-then-is_at-clause-path g c = ap (λ (z : ColouredTree × List Above). z.1) (found g c)
 
 pub returns-clause-tree : goal.returns-clause-tree
-returns-clause-tree g c = ap (λ (z : Branches × List Above). z.0) (missed g c)
+returns-clause-tree g c = ap (λ (z : ColouredTree × List Above). z.0) (missed g c)
 
 pub returns-clause-path : goal.returns-clause-path
-returns-clause-path g c = ap (λ (z : Branches × List Above). z.1) (missed g c)
+returns-clause-path g c = ap (λ (z : ColouredTree × List Above). z.1) (missed g c)

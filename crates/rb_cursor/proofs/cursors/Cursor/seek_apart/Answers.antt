@@ -1,5 +1,5 @@
 use Rattle.std.proofs.Common.{◌-◌, Bool, List, refl, sym, ap, ◌∙◌, arith}
-use Rattle.rb_trees.specs.Trees.{Branches}
+use Rattle.rb_trees.specs.Trees.{ColouredTree}
 use Rattle.rb_trees.specs.Paths.{Above}
 use Rattle.rb_cursor.proofs.HeldLemmas.{none_there, show}
 use Rattle.rb_cursor.proofs.SeekLemmas.{Went, step_fits, apart_way, apart_goes, apart_ends}
@@ -37,7 +37,7 @@ loop-link-preserved g c = (went g c).sought
 
 pub returns-then-not-apart-clause-met : goal.returns-then-not-apart-clause-met
 returns-then-not-apart-clause-met g c =
-    ap (λ (w : Bool × Branches). w.0)
+    ap (λ (w : Bool × ColouredTree). w.0)
     (apart_meets g.O.TreeOrder.order c.args.item.now
     (record c.loop-link.self-inside { tree = c.loop-link.link; depth = c.loop-link.depth })
     c.args.self.now (c.loop-link.link - 1) c.index_mut-node.result.now
@@ -46,7 +46,7 @@ returns-then-not-apart-clause-met g c =
 
 pub returns-then-not-apart-clause-whole : goal.returns-then-not-apart-clause-whole
 returns-then-not-apart-clause-whole g c =
-    ap (λ (w : Bool × Branches). w.1)
+    ap (λ (w : Bool × ColouredTree). w.1)
     (apart_meets g.O.TreeOrder.order c.args.item.now
     (record c.loop-link.self-inside { tree = c.loop-link.link; depth = c.loop-link.depth })
     c.args.self.now (c.loop-link.link - 1) c.index_mut-node.result.now
@@ -55,7 +55,7 @@ returns-then-not-apart-clause-whole g c =
 
 pub returns-clause-met : goal.returns-clause-met
 returns-clause-met g c =
-    ap (λ (w : Bool × (List Above × Branches)). w.0)
+    ap (λ (w : Bool × (List Above × ColouredTree)). w.0)
     (apart_ends g.O.TreeOrder.order c.args.item.now
     (record c.loop-link.self-inside { tree = c.loop-link.link; depth = c.loop-link.depth })
     c.args.self.now c.loop-link.invariant c.loop-link-test.false)
@@ -68,7 +68,7 @@ returns-clause-tree g c = λ _.
 
 pub returns-clause-path : goal.returns-clause-path
 returns-clause-path g c = λ _.
-    ap (λ (w : Bool × (List Above × Branches)). w.1.0)
+    ap (λ (w : Bool × (List Above × ColouredTree)). w.1.0)
     (apart_ends g.O.TreeOrder.order c.args.item.now
     (record c.loop-link.self-inside { tree = c.loop-link.link; depth = c.loop-link.depth })
     c.args.self.now c.loop-link.invariant c.loop-link-test.false)

@@ -1,11 +1,11 @@
 use Rattle.rb_cursor.specs.Opening.{weight}
 use Rattle.rb_cursor.proofs.HeldLemmas.{show}
-use Rattle.rb_cursor.proofs.SeekLemmas.{Sought, apart_way}
+use Rattle.rb_cursor.proofs.SeekLemmas.{SeekState, apart_way}
 use Rattle.rb_cursor.proofs.cursors.Cursor.seek_apart.Given as goal
 
 abbrev pub invariant-loop-link : goal.invariant-loop-link
 invariant-loop-link g l =
-    Sought (apart_way g.O.TreeOrder.order l.item)
+    SeekState (apart_way g.O.TreeOrder.order l.item)
     (record l.self-inside { tree = l.link; depth = l.depth }) l.fn.self
 
 abbrev pub decreases-loop-link : goal.decreases-loop-link

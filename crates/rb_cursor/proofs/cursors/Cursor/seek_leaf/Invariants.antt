@@ -1,12 +1,12 @@
 use Rattle.rb_cursor.specs.Opening.{weight}
 use Rattle.rb_trees.specs.Paths.{way_by}
 use Rattle.rb_cursor.proofs.HeldLemmas.{show}
-use Rattle.rb_cursor.proofs.SeekLemmas.{Sought}
+use Rattle.rb_cursor.proofs.SeekLemmas.{SeekState}
 use Rattle.rb_cursor.proofs.cursors.Cursor.seek_leaf.Given as goal
 
 abbrev pub invariant-loop-link : goal.invariant-loop-link
 invariant-loop-link g l =
-    Sought (way_by g.O.TreeOrder.order.less l.item)
+    SeekState (way_by g.O.TreeOrder.order.less l.item)
     (record l.self-inside { tree = l.link; depth = l.depth }) l.fn.self
 
 abbrev pub decreases-loop-link : goal.decreases-loop-link

@@ -1,7 +1,7 @@
 use Rattle.std.proofs.Common.{◌-◌, sym, ap, ◌∙◌, arith}
 use Rattle.rb_cursor.proofs.ChangeLemmas.{Rewritten, rewrites}
 use Rattle.rb_cursor.proofs.HeldLemmas.{none_there}
-use Rattle.rb_trees.specs.Trees.{Branches}
+use Rattle.rb_trees.specs.Trees.{ColouredTree}
 use Rattle.rb_cursor.specs.Tops.{with_row}
 use Rattle.rb_cursor.proofs.cursors.Cursor.set_row.Goals as goal
 
@@ -9,8 +9,8 @@ pub returns-then-self-eq0 : goal.returns-then-self-eq0
 returns-then-self-eq0 c =
     let e = none_there c.self.inside c.args.self.now c.self.invariant c.self.view_is
     c.if-self-eq0.true in
-    ap (λ (t : Branches). record c.args.self.now { tree = t }) e
-    ∙ sym (ap (λ (t : Branches). record c.args.self.now { tree = with_row c.args.row t }) e)
+    ap (λ (t : ColouredTree). record c.args.self.now { tree = t }) e
+    ∙ sym (ap (λ (t : ColouredTree). record c.args.self.now { tree = with_row c.args.row t }) e)
 
 there : (c : goal.After-self-2-1) →
     Rewritten c.self.inside c.args.self.now (c.self.inside.tree - 1) c.in-Some.node.now.red
@@ -26,5 +26,5 @@ invariant_of-self c = (there c).moved.is
 pub returns : goal.returns
 returns c =
     (there c).moved.shows
-    ∙ sym (ap (λ (t : Branches). record c.args.self.now { tree = with_row c.args.row t })
+    ∙ sym (ap (λ (t : ColouredTree). record c.args.self.now { tree = with_row c.args.row t })
     (there c).was)

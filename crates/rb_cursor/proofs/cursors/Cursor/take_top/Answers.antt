@@ -1,5 +1,5 @@
 use Rattle.std.proofs.Common.{◌+◌, ◌-◌, arith}
-use Rattle.rb_cursor.specs.Tops.{thinned}
+use Rattle.rb_cursor.specs.Tops.{top_taken}
 use Rattle.rb_cursor.proofs.HeldLemmas.{Moved, top_present}
 use Rattle.rb_cursor.proofs.BlankLemmas.{thin_leads, room_fits, takes}
 use Rattle.rb_cursor.proofs.TurnLemmas.{leads_on}
@@ -32,7 +32,7 @@ there : (c : goal.After-lead) →
       tree = c.only_link-subtree.result;
       blank = c.self.inside.tree;
       room = c.self.inside.room + 1;
-    }) (thinned c.args.self.now)
+    }) (top_taken c.args.self.now)
 there c =
     let some = thin_leads c.self.inside c.args.self.now c.self.invariant c.self.view_is
     c.requires in

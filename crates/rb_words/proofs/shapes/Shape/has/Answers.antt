@@ -2,7 +2,7 @@ use Rattle.std.proofs.Common.{◌∙◌, ap}
 use Rattle.std.specs.Prelude.{is_some}
 use Rattle.order_laws.specs.Tables.{has}
 use Rattle.rb_trees.specs.Erased.{first_word_at, found}
-use Rattle.rb_trees.specs.Found.{any_with}
+use Rattle.rb_trees.specs.Found.{item_with_word}
 use Rattle.rb_trees.proofs.SoughtRows.{found_by_word, any_has}
 use Rattle.rb_words.proofs.shapes.Shape.has.Goals as goal
 
@@ -18,6 +18,6 @@ pub returns-else-in_line : goal.returns-else-in_line
 returns-else-in_line g c =
     c.is_some.ensures
     ∙ ap is_some c.find_any.ensures
-    ∙ ap (λ t. is_some (any_with c.args.a t)) c.tree-else-in_line.ensures
+    ∙ ap (λ t. is_some (item_with_word c.args.a t)) c.tree-else-in_line.ensures
     ∙ any_has c.args.a c.self.inside.cursor.tree
     ∙ ap (λ p. has c.args.a p.table) c.self.view_is

@@ -1,5 +1,5 @@
 use Rattle.std.proofs.Common.{◌∙◌}
-use Rattle.table_replay.proofs.Rounds.{times_more}
+use Rattle.table_replay.proofs.RoundLemmas.{times_more}
 use Rattle.table_replay.proofs.schedules.Schedule.carry_out.Goals as goal
 
 pub loop-preserved : goal.loop-preserved

@@ -1,8 +1,8 @@
 use Rattle.std.proofs.Common.{rules, ◌∙◌, ap}
 use Rattle.order_laws.specs.Orders.{half_open}
 use Rattle.order_laws.specs.Tables.{look}
-use Rattle.table_replay.specs.Schedules.{first_of, table_after}
-use Rattle.table_replay.proofs.Rounds.{found_in_round}
+use Rattle.table_replay.specs.Schedules.{first_updates, table_after}
+use Rattle.table_replay.proofs.RoundLemmas.{found_in_round}
 use Rattle.table_replay.proofs.schedules.Schedule.look.Goals as goal
 
 pub returns : goal.returns
@@ -10,4 +10,4 @@ returns c =
     found_in_round (λ t. t.items) c.self.inside.updates.items c.self.inside.tables.items c.args.key c.args.generation c.len-count.result
     c.index.result.now c.deref.result.now _ c.self.invariant.0 c.self.invariant.1 (search (rules, c.len-count.ensures)) c.if-count-eq0.false
     c.index.ensures c.deref.ensures.value c.look_through.ensures
-    ∙ ap (λ us. look half_open c.args.key (table_after (first_of c.args.generation us))) c.self.view_is
+    ∙ ap (λ us. look half_open c.args.key (table_after (first_updates c.args.generation us))) c.self.view_is

@@ -1,5 +1,5 @@
 use Rattle.std.proofs.Common.{ap, ◌∙◌, arith, length-append}
-use Rattle.table_replay.proofs.Rounds.{table_more, tables_more}
+use Rattle.table_replay.proofs.RoundLemmas.{table_more, tables_more}
 use Rattle.order_laws.specs.Orders.{half_open}
 use Rattle.latch_core.specs.Updates.{after}
 use Rattle.table_replay.proofs.schedules.Schedule.new.Goals as goal

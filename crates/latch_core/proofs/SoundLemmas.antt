@@ -1,0 +1,134 @@
+-- The stable copy always holds the table that the sequence names.
+use Rattle.std.proofs.Common.{◌≡◌, ◌≢◌, ℕ, ◌+◌, ◌-◌, ◌*◌, ◌%◌, ◌<◌, ◌≤◌, true, false, cond, List, [], ◌∷◌, ◌++◌, length, take, Some, None, refl, sym, ◌∙◌, ap, subst, inl, inr, ⊎_elim, arith, length-append, length-set}
+use Rattle.std.specs.Prelude.{◌==◌}
+use Rattle.std.proofs.lemmas.Bool.{eq-eqb, ne_eqb, eqb-true}
+use Rattle.std.proofs.lemmas.List.{take-append-le, take_all, get_or-replicate}
+use Rattle.word_arena.specs.declared.stores.Store.{Store}
+use Rattle.latch_core.specs.declared.updates.Update.{Update}
+use Rattle.order_laws.specs.Orders.{Order, IsLawful}
+use Rattle.order_laws.specs.Tables.{IsTable}
+use Rattle.latch_core.specs.Updates.{after, refuses}
+use Rattle.latch_core.specs.Histories.{replay, table_at, current_table}
+use Rattle.word_arena.specs.Words.{at, root_word, none, HoldsTable}
+use Rattle.latch_core.specs.Sequences.{generation_of, stable_copy_of}
+use Rattle.latch_core.specs.Latches.{PendingUpdate, Latch, IsWriterStep, flips_after, latch_after_step, latch_with_update, opening_latch}
+use Rattle.word_arena.specs.Stores.{words_after}
+use Rattle.latch_core.specs.Invariants.{IsPendingUpdate, IsPendingOf, IsSound}
+use Rattle.word_arena.proofs.HoldsLemmas.{holds_on}
+use Rattle.latch_core.proofs.StepLemmas.{hidden_same, flip_same, flip_adds, tables_push, replay_push}
+
+-- what a step leaves, by its kind: the sequence, the number of flips, and what the stable copy
+-- holds
+record Left {K : Type 0} (o : Order K) (n start : ℕ) (us : List Update) (l : Latch) (h : PendingUpdate) (s : Store) : Type 0 where
+  sequence : at (words_after l.words s) 0 + h.flips_made ≡ at l.words 0 + flips_after h.flips_made s
+  flips : flips_after h.flips_made s ≤ 2
+  current : HoldsTable (words_after l.words s) n (stable_copy_of (at (words_after l.words s) 0)) (current_table o start us (words_after l.words s))
+
+pub flips_of_flip : (f : ℕ) (s : Store) → s.word ≡ 0 → flips_after f s ≡ f + 1
+flips_of_flip f s z = let e : (s.word == 0) ≡ true = eq-eqb s.word 0 z in rw e refl
+
+pub flips_of_store : (f : ℕ) (s : Store) → s.word ≢ 0 → flips_after f s ≡ f
+flips_of_store f s z = let e : (s.word == 0) ≡ false = ne_eqb s.word 0 z in rw e refl
+
+left_by : {K : Type 0} (o : Order K) (n start : ℕ) (us : List Update) (l : Latch) (h : PendingUpdate) (s : Store) → IsSound o n start us l → IsPendingUpdate o start (at l.words 0) us h → IsWriterStep n l h s → Left o n start us l h s
+left_by o n start us l h s ok pending may =
+    ⊎_elim
+    (λ hid.
+    let same : at (words_after l.words s) 0 ≡ at l.words 0 = hidden_same n l.words h.old_words s hid 0 (inl refl) in
+    let none_made : flips_after h.flips_made s ≡ h.flips_made = flips_of_store h.flips_made s hid.not_sequence in
+    let still = holds_on l.words (words_after l.words s) n (stable_copy_of (at l.words 0)) (current_table o start us l.words) (λ w u. hidden_same n l.words h.old_words s hid w (inr u)) ok.current in
+    record {
+      sequence = omega (arith, same, none_made);
+      flips = omega (arith, none_made, pending.flips);
+      current = subst (λ q. HoldsTable (words_after l.words s) n (stable_copy_of q) (table_at o start us (generation_of q))) (sym same) still;
+    })
+    (⊎_elim
+    (λ f.
+    let seq = at l.words 0 in
+    let adds : at (words_after l.words s) 0 ≡ seq + 1 = flip_adds l.words s ok.sized f.sequence f.adds_one in
+    let one_made : flips_after h.flips_made s ≡ h.flips_made + 1 = flips_of_flip h.flips_made s f.sequence in
+    let to : stable_copy_of (seq + 1) ≡ 1 = (let e : seq % 2 ≡ 0 = f.is_even in omega arith) in
+    let g : generation_of (seq + 1) - generation_of start ≡ length us - 1 =
+    (let c : seq + 2 ≡ start + 2 * length us + h.flips_made = pending.count in
+    let z : h.flips_made ≡ 0 = f.no_flip in
+    let ev : start % 2 ≡ 0 = ok.even in
+    let some : 0 < length us = pending.last in
+    omega arith) in
+    let table : h.old_table ≡ table_at o start us (generation_of (seq + 1)) = pending.old ∙ ap (λ j. replay o [] (take j us)) (sym g) in
+    let there = holds_on l.words (words_after l.words s) n 1 h.old_table (flip_same n 1 l.words s f.sequence) f.both_old.1 in
+    let here : HoldsTable (words_after l.words s) n (stable_copy_of (seq + 1)) (table_at o start us (generation_of (seq + 1))) =
+    subst (λ c. HoldsTable (words_after l.words s) n c (table_at o start us (generation_of (seq + 1)))) (sym to) (subst (HoldsTable (words_after l.words s) n 1) table there) in
+    record {
+      sequence = omega (arith, adds, one_made);
+      flips = omega (arith, one_made, f.no_flip);
+      current = subst (λ q. HoldsTable (words_after l.words s) n (stable_copy_of q) (table_at o start us (generation_of q))) (sym adds) here;
+    })
+    (λ f.
+    let seq = at l.words 0 in
+    let adds : at (words_after l.words s) 0 ≡ seq + 1 = flip_adds l.words s ok.sized f.sequence f.adds_one in
+    let one_made : flips_after h.flips_made s ≡ h.flips_made + 1 = flips_of_flip h.flips_made s f.sequence in
+    let to : stable_copy_of (seq + 1) ≡ 0 = (let e : seq % 2 ≡ 1 = f.is_odd in omega arith) in
+    let g : generation_of (seq + 1) - generation_of start ≡ length us =
+    (let c : seq + 2 ≡ start + 2 * length us + h.flips_made = pending.count in
+    let z : h.flips_made ≡ 1 = f.one_flip in
+    let ev : start % 2 ≡ 0 = ok.even in
+    omega arith) in
+    let table : l.newest_table ≡ table_at o start us (generation_of (seq + 1)) = ok.table_is ∙ ap (replay o []) (sym (take_all (length us) us (omega arith))) ∙ ap (λ j. replay o [] (take j us)) (sym g) in
+    let there = holds_on l.words (words_after l.words s) n 0 l.newest_table (flip_same n 0 l.words s f.sequence) f.first_new in
+    let here : HoldsTable (words_after l.words s) n (stable_copy_of (seq + 1)) (table_at o start us (generation_of (seq + 1))) =
+    subst (λ c. HoldsTable (words_after l.words s) n c (table_at o start us (generation_of (seq + 1)))) (sym to) (subst (HoldsTable (words_after l.words s) n 0) table there) in
+    record {
+      sequence = omega (arith, adds, one_made);
+      flips = omega (arith, one_made, f.one_flip);
+      current = subst (λ q. HoldsTable (words_after l.words s) n (stable_copy_of q) (table_at o start us (generation_of q))) (sym adds) here;
+    }))
+    may.kind
+
+pub sound_step : {K : Type 0} (o : Order K) (n start : ℕ) (us : List Update) (l : Latch) (h : PendingUpdate) (s : Store) → IsSound o n start us l → l.pending ≡ Some h → IsWriterStep n l h s → IsSound o n start us (latch_after_step l h s)
+sound_step o n start us l h s ok in_hand may =
+    let pending : IsPendingUpdate o start (at l.words 0) us h = subst (IsPendingOf o start (at l.words 0) us) in_hand ok.in_hand in
+    let left = left_by o n start us l h s ok pending may in
+    record {
+      even = ok.even;
+      sized = omega (arith, length-set l.words s.word s.value, ok.sized);
+      tables = ok.tables;
+      table_is = ok.table_is;
+      in_hand =
+          elim (h.steps_left == 1) as (λ b. (h.steps_left == 1) ≡ b → IsPendingOf o start (at (words_after l.words s) 0) us (cond b None (Some (record { old_table = h.old_table; old_words = h.old_words; flips_made = flips_after h.flips_made s; steps_left = h.steps_left - 1 })))) [
+            | true ↦ λ e. omega (arith, left.sequence, pending.count, (may.at_end (eqb-true h.steps_left 1 e)).0)
+            | false ↦ λ e. record { count = omega (arith, left.sequence, pending.count); flips = left.flips; last = pending.last; old = pending.old }
+          ] refl;
+      current = left.current;
+    }
+
+pub sound_begin : {K : Type 0} (o : Order K) → IsLawful o → (n limit start : ℕ) (us : List Update) (l : Latch) (u : Update) (left : ℕ) → IsSound o n start us l → l.pending ≡ None → refuses o n limit false l.newest_table (at l.words 0) u ≡ None → IsSound o n start (us ++ u ∷ []) (latch_with_update o l u left)
+sound_begin o law n limit start us l u left ok free e =
+    let seq : at l.words 0 ≡ start + 2 * length us = subst (IsPendingOf o start (at l.words 0) us) free ok.in_hand in
+    let more = length-append us (u ∷ []) in
+    let front : take (length (us ++ u ∷ []) - 1) (us ++ u ∷ []) ≡ us =
+    (let k : length (us ++ u ∷ []) - 1 ≡ length us = omega arith in
+    ap (λ j. take j (us ++ u ∷ [])) k ∙ take-append-le (length us) us (u ∷ []) (omega arith) ∙ take_all (length us) us (omega arith)) in
+    let g : generation_of (at l.words 0) - generation_of start ≤ length us = (let ev : start % 2 ≡ 0 = ok.even in omega arith) in
+    let same : table_at o start (us ++ u ∷ []) (generation_of (at l.words 0)) ≡ current_table o start us l.words = ap (replay o []) (take-append-le (generation_of (at l.words 0) - generation_of start) us (u ∷ []) g) in
+    record {
+      even = ok.even;
+      sized = ok.sized;
+      tables = tables_push o law n limit us (at l.words 0) u (subst (λ t. refuses o n limit false t (at l.words 0) u ≡ None) ok.table_is e) ok.tables;
+      table_is = ap (λ t. after o t u) ok.table_is ∙ sym (replay_push o [] us u);
+      in_hand = record { count = omega arith; flips = omega arith; last = omega arith; old = ok.table_is ∙ ap (replay o []) (sym front) };
+      current = subst (HoldsTable l.words n (stable_copy_of (at l.words 0))) (sym same) ok.current;
+    }
+
+pub sound_opening : {K : Type 0} (o : Order K) (n start : ℕ) → stable_copy_of start ≡ 0 → IsSound o n start [] (opening_latch n start)
+sound_opening {K = K} o n start even =
+    let m = (opening_latch n start).words in
+    let no : (j : ℕ) → replay o [] (take j []) ≡ [] = λ j. ap (replay o []) (take_all j [] (omega arith)) in
+    let root : at m (root_word (stable_copy_of start)) ≡ 0 = ap (λ c. at m (root_word c)) even ∙ get_or-replicate (7 * n + 2) 0 0 0 (omega arith) in
+    record {
+      even = even;
+      sized = omega arith;
+      tables = λ j. (subst (IsTable o) (sym (no j)) tt, subst (λ t. length t ≤ n) (sym (no j)) (omega arith));
+      table_is = refl;
+      in_hand = omega arith;
+      current = (none, record { leads = root; listed_items = sym (no (generation_of start - generation_of start)) });
+    }

@@ -1,0 +1,297 @@
+-- Stores that lead each copy from the old table to the new make an update.
+use Rattle.std.proofs.Common.{◌≡◌, ◌≢◌, ℕ, suc, ◌+◌, ◌-◌, ◌%◌, ◌<◌, ◌≤◌, false, cond, List, [], ◌∷◌, ◌++◌, length, Some, None, refl, sym, ◌∙◌, ap, subst, inl, inr, arith, length-append, length-set, get_or-set_other}
+use Rattle.std.specs.Prelude.{◌⊎◌, ◌==◌}
+use Rattle.std.specs.List.{AllByRecursion}
+use Rattle.std.proofs.lemmas.Bool.{ne_eqb}
+use Rattle.order_laws.specs.declared.items.Item.{Item}
+use Rattle.order_laws.proofs.Each.{all_weaker}
+use Rattle.word_arena.proofs.LinkLemmas.{links_elsewhere, links_not_zero, zero_kept}
+use Rattle.word_arena.specs.declared.stores.Store.{Store}
+use Rattle.word_arena.specs.Words.{at, words_for, root_word, left_word, right_word, Nodes, Holds, Reaches, by_root, by_left, by_right, InUse, IsUnreached}
+use Rattle.word_arena.specs.Stores.{IsItemWord, words_after, words_after_all, AreLinkStores}
+use Rattle.word_arena.proofs.WordLemmas.{IsCopyWord, in_copy, one_item, link_no_item, link_no_other, link_place, item_place, item_not_zero, item_not_root, item_not_left, item_not_right, copy_not_zero, unused_item}
+use Rattle.word_arena.proofs.StoreLemmas.{Agree, length_after, after_append, untouched, agree_after}
+use Rattle.word_arena.proofs.HoldsLemmas.{holds_untouched, tree_agree}
+use Rattle.rb_trees.specs.Trees.{CanBeRedBlack}
+use Rattle.latch_core.specs.Sequences.{stable_copy_of}
+use Rattle.latch_core.specs.Latches.{PendingUpdate, BothHold, IsHidden, IsFirstFlip, IsSecondFlip, flips_after}
+use Rattle.latch_core.specs.Plans.{IsPlan, flip_to, update_stores}
+use Rattle.latch_core.proofs.StepLemmas.{flip_adds}
+use Rattle.latch_core.proofs.SoundLemmas.{flips_of_store}
+
+-- each step's kind, the last step's duty apart
+abbrev Kinds : ℕ → List Item → List Item → List ℕ → ℕ → List ℕ → List Store → Type 0
+Kinds n old new began flips m [] = Unit {0}
+Kinds n old new began flips m (s ∷ ss) =
+    ((left : ℕ) → let h : PendingUpdate = record { old_table = old; old_words = began; flips_made = flips; steps_left = left } in IsHidden n m began s.word ⊎ (IsFirstFlip n m h s ⊎ IsSecondFlip n m h new s))
+    × Kinds n old new began (flips_after flips s) (words_after m s) ss
+
+abbrev flips_after_all : ℕ → List Store → ℕ
+flips_after_all f [] = f
+flips_after_all f (s ∷ ss) = flips_after_all (flips_after f s) ss
+
+kinds_append : (n : ℕ) (old new : List Item) (began : List ℕ) (f : ℕ) (m : List ℕ) (xs ys : List Store) → Kinds n old new began f m xs → Kinds n old new began (flips_after_all f xs) (words_after_all m xs) ys → Kinds n old new began f m (xs ++ ys)
+kinds_append n old new began f m [] ys a b = b
+kinds_append n old new began f m (x ∷ xs) ys a b = (a.0, kinds_append n old new began (flips_after f x) (words_after m x) xs ys a.1 b)
+
+flips_append : (f : ℕ) (xs ys : List Store) → flips_after_all f (xs ++ ys) ≡ flips_after_all (flips_after_all f xs) ys
+flips_append f [] ys = refl
+flips_append f (x ∷ xs) ys = flips_append (flips_after f x) xs ys
+
+-- kinds of steps, with two flips and the new table in both copies in the end, make a plan
+plan_of_kinds : (n : ℕ) (old new : List Item) (began : List ℕ) (f : ℕ) (m : List ℕ) (s : Store) (ss : List Store) → Kinds n old new began f m (s ∷ ss) → flips_after_all f (s ∷ ss) ≡ 2 → BothHold (words_after_all m (s ∷ ss)) n new → IsPlan n (record { words = m; newest_table = new; pending = Some (record { old_table = old; old_words = began; flips_made = f; steps_left = length (s ∷ ss) }) }) (s ∷ ss)
+plan_of_kinds n old new began f m s [] k two both =
+    (_, refl, record { kind = k.0 1; at_end = λ e. (two, both) }, refl)
+plan_of_kinds n old new began f m s (t ∷ ss) k two both =
+    let rest = plan_of_kinds n old new began (flips_after f s) (words_after m s) t ss k.1 two both in
+    let more : (suc (suc (length ss)) == 1) ≡ false = ne_eqb (suc (suc (length ss))) 1 (λ e. absurd (omega arith)) in
+    let less : suc (suc (length ss)) - 1 ≡ suc (length ss) = omega arith in (
+      _,
+      refl,
+      record { kind = k.0 (suc (suc (length ss))); at_end = λ e. absurd (omega arith) },
+      subst (λ b. IsPlan n (record { words = words_after m s; newest_table = new; pending = cond b None (Some (record { old_table = old; old_words = began; flips_made = flips_after f s; steps_left = suc (suc (length ss)) - 1 })) }) (t ∷ ss)) (sym more)
+          (subst (λ x. IsPlan n (record { words = words_after m s; newest_table = new; pending = Some (record { old_table = old; old_words = began; flips_made = flips_after f s; steps_left = x }) }) (t ∷ ss)) (sym less) rest),
+    )
+
+-- a word that is no item's
+abbrev NoItemWord : ℕ → Type 0
+NoItemWord w = (i : ℕ) → IsItemWord i w → ⊥
+
+-- stores of item words of nodes that neither copy reaches
+abbrev pub IsFreeStore : List ℕ → ℕ → Store → Type 0
+IsFreeStore m n s = (i : ℕ) × (i < n) × IsUnreached m n i × IsItemWord i s.word
+
+abbrev pub AreFreeStores : List ℕ → ℕ → List Store → Type 0
+AreFreeStores m n ss = AllByRecursion (IsFreeStore m n) ss
+
+-- a walk goes where it went, if roots and links are the same
+reached_before : (m m' : List ℕ) (n copy : ℕ) → copy ≤ 1 → Agree NoItemWord m m' → (i : ℕ) → Reaches m' n copy i → Reaches m n copy i
+reached_before m m' n copy c same _ (by_root i lt e) = by_root i lt (sym (same (root_word copy) (λ k is. item_not_root k copy c is)) ∙ e)
+reached_before m m' n copy c same _ (by_left i j r lt e) = by_left i j (reached_before m m' n copy c same i r) lt (sym (same (left_word copy i) (λ k is. item_not_left k copy i c is)) ∙ e)
+reached_before m m' n copy c same _ (by_right i j r lt e) = by_right i j (reached_before m m' n copy c same i r) lt (sym (same (right_word copy i) (λ k is. item_not_right k copy i c is)) ∙ e)
+
+-- the items' words, before the first flip
+items_kinds : (n : ℕ) (old new : List Item) (began m : List ℕ) (ss : List Store) → AreFreeStores began n ss → stable_copy_of (at m 0) ≡ 0 → length m ≡ words_for n → Agree NoItemWord began m → Kinds n old new began 0 m ss
+items_kinds n old new began m [] is even sized same = tt
+items_kinds n old new began m (s ∷ ss) is even sized same =
+    let node = is.0.0 in
+    let free = is.0.2 in
+    let word = is.0.3 in
+    let place = item_place n node s.word is.0.1 word in
+    let free_now : IsUnreached m n node = ((λ r. free.0 (reached_before began m n 0 (omega arith) same node r)), (λ r. free.1 (reached_before began m n 1 (omega arith) same node r))) in
+    let hidden : IsHidden n m began s.word =
+    record {
+      in_range = omega (arith, place.1);
+      not_sequence = place.0;
+      not_in_use = subst (λ c. InUse m n c s.word → ⊥) (sym even) (unused_item m n 0 node s.word (omega arith) free_now.0 word);
+      item_words = λ i h. subst (λ j. IsUnreached began n j × IsUnreached m n j) (sym (one_item node i s.word word h)) (free, free_now);
+    } in
+    let zero_same : at (words_after m s) 0 ≡ at m 0 = get_or-set_other m s.word 0 s.value 0 (λ e. place.0 (sym e)) in (
+      (λ left. inl hidden),
+      subst (λ f. Kinds n old new began f (words_after m s) ss) (sym (flips_of_store 0 s place.0))
+          (items_kinds n old new began (words_after m s) ss is.1 (ap stable_copy_of zero_same ∙ even) (length-set m s.word s.value ∙ sized)
+          (λ w no_item. get_or-set_other m s.word w s.value 0 (λ e. no_item node (subst (IsItemWord node) (sym e) word)) ∙ same w no_item)),
+    )
+
+-- one copy's root and links, while readers walk the other
+links_kinds : (n : ℕ) (old new : List Item) (began m : List ℕ) (f copy other : ℕ) → copy + other ≡ 1 → (ss : List Store) → AreLinkStores n copy ss → stable_copy_of (at m 0) ≡ other → length m ≡ words_for n → Kinds n old new began f m ss
+links_kinds n old new began m f copy other c [] ls seq sized = tt
+links_kinds n old new began m f copy other c (s ∷ ss) ls seq sized =
+    let place = link_place n copy s.word (omega arith) ls.0 in
+    let hidden : IsHidden n m began s.word =
+    record {
+      in_range = omega (arith, place.1);
+      not_sequence = place.0;
+      not_in_use = subst (λ d. InUse m n d s.word → ⊥) (sym seq) (λ u. link_no_other n copy other s.word c ls.0 (in_copy m n other s.word u));
+      item_words = λ i h. absurd (link_no_item n copy i s.word (omega arith) ls.0 h);
+    } in
+    let zero_same : at (words_after m s) 0 ≡ at m 0 = get_or-set_other m s.word 0 s.value 0 (λ e. place.0 (sym e)) in (
+      (λ left. inl hidden),
+      subst (λ g. Kinds n old new began g (words_after m s) ss) (sym (flips_of_store f s place.0))
+          (links_kinds n old new began (words_after m s) f copy other c ss ls.1 (ap stable_copy_of zero_same ∙ seq) (length-set m s.word s.value ∙ sized)),
+    )
+
+store_flips : (f : ℕ) (ss : List Store) → AllByRecursion (λ (s : Store). s.word ≢ 0) ss → flips_after_all f ss ≡ f
+store_flips f [] h = refl
+store_flips f (s ∷ ss) h = ap (λ g. flips_after_all g ss) (flips_of_store f s h.0) ∙ store_flips f ss h.1
+
+plan_of_any : (n : ℕ) (old new : List Item) (began m : List ℕ) (ss : List Store) → 0 < length ss → Kinds n old new began 0 m ss → flips_after_all 0 ss ≡ 2 → BothHold (words_after_all m ss) n new → IsPlan n (record { words = m; newest_table = new; pending = Some (record { old_table = old; old_words = began; flips_made = 0; steps_left = length ss }) }) ss
+plan_of_any n old new began m [] some k two both = absurd (omega arith)
+plan_of_any n old new began m (s ∷ ss) some k two both = plan_of_kinds n old new began 0 m s ss k two both
+
+-- what the stores of an update owe: each copy is led from the old table to the new, in these trees,
+-- by the items' words and its own links
+pub record Leading (n : ℕ) (old new : List Item) (m : List ℕ) (item_stores links0 links1 : List Store) (zero one : Nodes) : Type 0 where
+  pub sized : length m ≡ words_for n
+  pub even : stable_copy_of (at m 0) ≡ 0
+  pub both_old : BothHold m n old
+  pub items_free : AreFreeStores m n item_stores
+  pub links_zero : AreLinkStores n 0 links0
+  pub links_one : AreLinkStores n 1 links1
+  pub leads_zero : Holds (words_after_all (words_after_all m item_stores) links0) n 0 new zero
+  pub leads_one : Holds (words_after_all (words_after_all m item_stores) links1) n 1 new one
+  pub old_trees : (t0 : Nodes) × (t1 : Nodes) × Holds m n 0 old t0 × Holds m n 1 old t1 × CanBeRedBlack t0 × CanBeRedBlack t1
+  pub new_tree : CanBeRedBlack zero
+
+-- stores of free nodes and of links keep away from word 0 and from what is in use
+pub items_not_zero : (m : List ℕ) (n : ℕ) (ss : List Store) → AreFreeStores m n ss → AllByRecursion (λ (s : Store). s.word ≢ 0) ss
+items_not_zero m n ss are = all_weaker (IsFreeStore m n) (λ (s : Store). s.word ≢ 0) (λ s a. item_not_zero a.0 s.word a.3) ss are
+
+pub items_unused : (m : List ℕ) (n : ℕ) (ss : List Store) → AreFreeStores m n ss → AllByRecursion (λ (s : Store). InUse m n 0 s.word → ⊥) ss × AllByRecursion (λ (s : Store). InUse m n 1 s.word → ⊥) ss
+items_unused m n ss are = (
+  all_weaker (IsFreeStore m n) (λ (s : Store). InUse m n 0 s.word → ⊥) (λ s a. unused_item m n 0 a.0 s.word (omega arith) a.2.0 a.3) ss are,
+  all_weaker (IsFreeStore m n) (λ (s : Store). InUse m n 1 s.word → ⊥) (λ s a. unused_item m n 1 a.0 s.word (omega arith) a.2.1 a.3) ss are,
+)
+
+pub flip_far : (copy : ℕ) (m : List ℕ) (seq : ℕ) → Agree (IsCopyWord copy) m (words_after m (flip_to seq))
+flip_far copy m seq w p = get_or-set_other m 0 w seq 0 (λ e. copy_not_zero copy w p e)
+
+module _ (n : ℕ) (old new : List Item) (m : List ℕ) (items ls0 ls1 : List Store) (t0 t1 : Nodes) (is : Leading n old new m items ls0 ls1 t0 t1) where
+  -- the words after the items' words, the first flip, the links of copy 0, the second flip, the
+  -- links of copy 1
+  abbrev m1 : List ℕ
+  m1 = words_after_all m items
+
+  abbrev m2 : List ℕ
+  m2 = words_after m1 (flip_to (at m 0 + 1))
+
+  abbrev m3 : List ℕ
+  m3 = words_after_all m2 ls0
+
+  abbrev m4 : List ℕ
+  m4 = words_after m3 (flip_to (at m 0 + 2))
+
+  abbrev m5 : List ℕ
+  m5 = words_after_all m4 ls1
+
+  -- how many words there are, and what the sequence is
+  sized1 : length m1 ≡ words_for n
+  sized1 = length_after m items ∙ is.sized
+
+  pub sized2 : length m2 ≡ words_for n
+  sized2 = length-set m1 0 (at m 0 + 1) ∙ sized1
+
+  sized3 : length m3 ≡ words_for n
+  sized3 = length_after m2 ls0 ∙ sized2
+
+  sized4 : length m4 ≡ words_for n
+  sized4 = length-set m3 0 (at m 0 + 2) ∙ sized3
+
+  seq1 : at m1 0 ≡ at m 0
+  seq1 = zero_kept m items (items_not_zero m n items is.items_free)
+
+  pub seq2 : at m2 0 ≡ at m 0 + 1
+  seq2 = flip_adds m1 (flip_to (at m 0 + 1)) (omega (arith, sized1)) refl (ap (λ q. q + 1) (sym seq1)) ∙ ap (λ q. q + 1) seq1
+
+  seq3 : at m3 0 ≡ at m 0 + 1
+  seq3 = zero_kept m2 ls0 (links_not_zero n 0 ls0 (omega arith) is.links_zero) ∙ seq2
+
+  next_is : at m 0 + 2 ≡ at m3 0 + 1
+  next_is = omega (arith, seq3)
+
+  seq4 : at m4 0 ≡ at m 0 + 2
+  seq4 = flip_adds m3 (flip_to (at m 0 + 2)) (omega (arith, sized3)) refl next_is ∙ sym next_is
+
+  seq5 : at m5 0 ≡ at m 0 + 2
+  seq5 = zero_kept m4 ls1 (links_not_zero n 1 ls1 (omega arith) is.links_one) ∙ seq4
+
+  pub odd2 : stable_copy_of (at m2 0) ≡ 1
+  odd2 = let e : at m 0 % 2 ≡ 0 = is.even in omega (arith, seq2)
+
+  odd3 : stable_copy_of (at m3 0) ≡ 1
+  odd3 = let e : at m 0 % 2 ≡ 0 = is.even in omega (arith, seq3)
+
+  pub even4 : stable_copy_of (at m4 0) ≡ 0
+  even4 = let e : at m 0 % 2 ≡ 0 = is.even in omega (arith, seq4)
+
+  -- what the copies hold
+  old1 : BothHold m1 n old
+  old1 =
+      let away = items_unused m n items is.items_free in
+      (holds_untouched m n 0 old items away.0 is.both_old.0, holds_untouched m n 1 old items away.1 is.both_old.1)
+
+  new0_3 : Holds m3 n 0 new t0
+  new0_3 = tree_agree (words_after_all m1 ls0) m3 n 0 new t0 (agree_after (IsCopyWord 0) m1 m2 ls0 (sized2 ∙ sym sized1) (flip_far 0 m1 (at m 0 + 1))) is.leads_zero
+
+  pub new0_4 : Holds m4 n 0 new t0
+  new0_4 = tree_agree m3 m4 n 0 new t0 (flip_far 0 m3 (at m 0 + 2)) new0_3
+
+  new0_5 : Holds m5 n 0 new t0
+  new0_5 = tree_agree m4 m5 n 0 new t0 (untouched (IsCopyWord 0) m4 ls1 (links_elsewhere n 1 0 ls1 refl is.links_one)) new0_4
+
+  same14 : Agree (IsCopyWord 1) m1 m4
+  same14 w p =
+      flip_far 1 m3 (at m 0 + 2) w p
+      ∙ untouched (IsCopyWord 1) m2 ls0 (links_elsewhere n 0 1 ls0 refl is.links_zero) w p
+      ∙ flip_far 1 m1 (at m 0 + 1) w p
+
+  new1_5 : Holds m5 n 1 new t1
+  new1_5 = tree_agree (words_after_all m1 ls1) m5 n 1 new t1 (agree_after (IsCopyWord 1) m1 m4 ls1 (sized4 ∙ sym sized1) same14) is.leads_one
+
+  -- the kinds of the steps, and the flips
+  abbrev flips0 : List Store
+  flips0 = flip_to (at m 0 + 1) ∷ ls0
+
+  abbrev flips1 : List Store
+  flips1 = flip_to (at m 0 + 2) ∷ ls1
+
+  flips_items : flips_after_all 0 items ≡ 0
+  flips_items = store_flips 0 items (items_not_zero m n items is.items_free)
+
+  flips_front : flips_after_all 0 (items ++ flips0) ≡ 1
+  flips_front =
+      flips_append 0 items flips0
+      ∙ ap (λ f. flips_after_all f flips0) flips_items
+      ∙ store_flips 1 ls0 (links_not_zero n 0 ls0 (omega arith) is.links_zero)
+
+  flips_all : flips_after_all 0 ((items ++ flips0) ++ flips1) ≡ 2
+  flips_all =
+      flips_append 0 (items ++ flips0) flips1
+      ∙ ap (λ f. flips_after_all f flips1) flips_front
+      ∙ store_flips 2 ls1 (links_not_zero n 1 ls1 (omega arith) is.links_one)
+
+  first_flip : Kinds n old new m 0 m1 flips0
+  first_flip = (
+    (λ left. inr (inl (record { sequence = refl; adds_one = ap (λ q. q + 1) (sym seq1); is_even = ap stable_copy_of seq1 ∙ is.even; no_flip = refl; both_old = old1 }))),
+    links_kinds n old new m m2 1 0 1 refl ls0 is.links_zero odd2 sized2,
+  )
+
+  second_flip : Kinds n old new m 1 m3 flips1
+  second_flip = (
+    (λ left. inr (inr (record { sequence = refl; adds_one = next_is; is_odd = odd3; one_flip = refl; first_new = (t0, new0_3) }))),
+    links_kinds n old new m m4 2 1 0 refl ls1 is.links_one even4 sized4,
+  )
+
+  pub words_front : words_after_all m (items ++ flips0) ≡ m3
+  words_front = after_append m items flips0
+
+  kinds_front : Kinds n old new m 0 m (items ++ flips0)
+  kinds_front =
+      kinds_append n old new m 0 m items flips0
+      (items_kinds n old new m m items is.items_free is.even is.sized (λ w away. refl))
+      (subst (λ f. Kinds n old new m f m1 flips0) (sym flips_items) first_flip)
+
+  kinds_all : Kinds n old new m 0 m ((items ++ flips0) ++ flips1)
+  kinds_all =
+      kinds_append n old new m 0 m (items ++ flips0) flips1 kinds_front
+      (subst (λ f. Kinds n old new m f (words_after_all m (items ++ flips0)) flips1) (sym flips_front)
+      (subst (λ x. Kinds n old new m 1 x flips1) (sym words_front) second_flip))
+
+  -- the words after all, and the plan
+  pub update_words : words_after_all m (update_stores (at m 0) items ls0 ls1) ≡ m5
+  update_words = after_append m (items ++ flips0) flips1 ∙ ap (λ x. words_after_all x flips1) words_front
+
+  pub update_zero : Holds (words_after_all m (update_stores (at m 0) items ls0 ls1)) n 0 new t0
+  update_zero = subst (λ x. Holds x n 0 new t0) (sym update_words) new0_5
+
+  pub update_one : Holds (words_after_all m (update_stores (at m 0) items ls0 ls1)) n 1 new t1
+  update_one = subst (λ x. Holds x n 1 new t1) (sym update_words) new1_5
+
+  pub update_sequence : at (words_after_all m (update_stores (at m 0) items ls0 ls1)) 0 ≡ at m 0 + 2
+  update_sequence = ap (λ x. at x 0) update_words ∙ seq5
+
+  pub update_plan : (left : ℕ) → left ≡ length (update_stores (at m 0) items ls0 ls1) → IsPlan n (record { words = m; newest_table = new; pending = Some (record { old_table = old; old_words = m; flips_made = 0; steps_left = left }) }) (update_stores (at m 0) items ls0 ls1)
+  update_plan left e =
+      let some : 0 < length ((items ++ flips0) ++ flips1) = omega (arith, length-append (items ++ flips0) flips1) in
+      let plan = plan_of_any n old new m m ((items ++ flips0) ++ flips1) some kinds_all flips_all ((t0, update_zero), (t1, update_one)) in
+      subst (λ x. IsPlan n (record { words = m; newest_table = new; pending = Some (record { old_table = old; old_words = m; flips_made = 0; steps_left = x }) }) (update_stores (at m 0) items ls0 ls1)) (sym e) plan

@@ -1,0 +1,184 @@
+-- Attempts in one memory: they look the key up in the table that the stable copy holds.
+use Rattle.std.proofs.Common.{◌≡◌, ℕ, suc, zero, ◌+◌, ◌*◌, ◌^◌, ◌<◌, ◌≤◌, true, false, cond, List, length, Option, Some, None, refl, sym, ◌∙◌, ap, subst, inl, inr, arith}
+use Rattle.std.specs.Prelude.{◌⊎◌, ◌==◌, nat_lt}
+use Rattle.std.specs.declared.cmp.Ordering.TheVariants.{Less, Equal, Greater}
+use Rattle.std.proofs.lemmas.Bool.{lt-ltb, ltb-true, eq-eqb}
+use Rattle.order_laws.specs.declared.items.Item.{Item}
+use Rattle.order_laws.specs.Orders.{Order, IsLawful}
+use Rattle.order_laws.specs.Tables.{IsTable, look}
+use Rattle.word_arena.specs.Words.{at, root_word, left_word, right_word, item_at, Nodes, none, fork, items, Leads, Holds, Reaches, by_left, by_right, InUse}
+use Rattle.latch_core.specs.Sequences.{generation_of, stable_copy_of}
+use Rattle.latch_core.specs.Attempts.{Outcome, Answer, Reading, Load, Ends, WalkEnd, AtItem, AtEmptyLink, Stuck, outcome, last_load, after_item, visit, walk, attempt, rest_after, Stand, IsAttempt}
+use Rattle.word_arena.proofs.HoldsLemmas.{size, size_items, size_listed}
+use Rattle.word_arena.specs.Words.{listed}
+use Rattle.rb_trees.specs.Trees.{CanBeRedBlack, depth}
+use Rattle.rb_trees.proofs.DepthLemmas.{shallow}
+use Rattle.order_laws.proofs.TableLemmas.{parted, look_less, look_greater, look_equal}
+use Rattle.latch_core.specs.Whole.{outcome_in, loads_in}
+use Rattle.latch_core.proofs.ReadingLemmas.{AllLoads, Within, ends_as, loads_so_far, loads_below, within_length, within_below}
+
+-- how a walk ended, by what was looked up
+abbrev pub found_of : Option Item → WalkEnd
+found_of None = AtEmptyLink
+found_of (Some x) = AtItem x
+
+module _ {K : Type 0} (o : Order K) (law : IsLawful o) (m : List ℕ) (n : ℕ) (k : K) (s : ℕ) where
+  -- a walk down a tree
+  pub walk_ends : (t : Nodes) (left link : ℕ) → Leads m n (stable_copy_of s) link t → IsTable o (items m t) → size t ≤ left → outcome_in m (walk o n k s left link) ≡ outcome s (at m 0) (found_of (look o k (items m t)))
+  walk_ends none left link leads table fits = subst (λ p. outcome_in m (walk o n k s left p) ≡ outcome s (at m 0) AtEmptyLink) (sym leads) refl
+  walk_ends (fork l i r) zero link leads table fits = absurd (omega arith)
+  walk_ends (fork l i r) (suc left) link leads table fits =
+      subst (λ p. outcome_in m (walk o n k s (suc left) p) ≡ outcome s (at m 0) (found_of (look o k (items m (fork l i r))))) (sym leads.0)
+      (let below : nat_lt i n ≡ true = lt-ltb i n leads.1 in
+      let p = parted o (items m l) (item_at m i) (items m r) table in
+      rw below
+      (elim (o.comp k (item_at m i)) as (λ c. o.comp k (item_at m i) ≡ c → outcome_in m (after_item s i (item_at m i) (walk o n k s left) c) ≡ outcome s (at m 0) (found_of (look o k (items m (fork l i r))))) [
+        | Less ↦ λ e. walk_ends l left (at m (left_word (stable_copy_of s) i)) leads.2 p.left (omega arith) ∙ ap (λ x. outcome s (at m 0) (found_of x)) (sym (look_less o law k (items m l) (item_at m i) (items m r) table e))
+        | Equal ↦ λ e. ap (λ x. outcome s (at m 0) (found_of x)) (sym (look_equal o law k (items m l) (item_at m i) (items m r) table e))
+        | Greater ↦ λ e. walk_ends r left (at m (right_word (stable_copy_of s) i)) leads.3 p.right (omega arith) ∙ ap (λ x. outcome s (at m 0) (found_of x)) (sym (look_greater o law k (items m l) (item_at m i) (items m r) table e))
+      ] refl))
+
+module _ {K : Type 0} (o : Order K) (m : List ℕ) (n : ℕ) (k : K) (s : ℕ) where
+  -- its loads: four for each node visited at most, and the closing one
+  pub walk_loads : (t : Nodes) (left link : ℕ) → Leads m n (stable_copy_of s) link t → size t ≤ left → loads_in m (walk o n k s left link) ≤ 4 * size t + 1
+  walk_loads none left link leads fits = subst (λ p. loads_in m (walk o n k s left p) ≤ 1) (sym leads) (omega arith)
+  walk_loads (fork l i r) zero link leads fits = absurd (omega arith)
+  walk_loads (fork l i r) (suc left) link leads fits =
+      subst (λ p. loads_in m (walk o n k s (suc left) p) ≤ 4 * size (fork l i r) + 1) (sym leads.0)
+      (let below : nat_lt i n ≡ true = lt-ltb i n leads.1 in
+      rw below
+      (elim (o.comp k (item_at m i)) as (λ c. suc (suc (suc (loads_in m (after_item s i (item_at m i) (walk o n k s left) c)))) ≤ 4 * size (fork l i r) + 1) [
+        | Less ↦ omega (arith, walk_loads l left (at m (left_word (stable_copy_of s) i)) leads.2 (omega arith))
+        | Equal ↦ omega arith
+        | Greater ↦ omega (arith, walk_loads r left (at m (right_word (stable_copy_of s) i)) leads.3 (omega arith))
+      ]))
+
+  -- and four for each node on the longest way down
+  pub walk_depth : (t : Nodes) (left link : ℕ) → Leads m n (stable_copy_of s) link t → size t ≤ left → loads_in m (walk o n k s left link) ≤ 4 * depth t + 1
+  walk_depth none left link leads fits = subst (λ p. loads_in m (walk o n k s left p) ≤ 1) (sym leads) (omega arith)
+  walk_depth (fork l i r) zero link leads fits = absurd (omega arith)
+  walk_depth (fork l i r) (suc left) link leads fits =
+      subst (λ p. loads_in m (walk o n k s (suc left) p) ≤ 4 * depth (fork l i r) + 1) (sym leads.0)
+      (let below : nat_lt i n ≡ true = lt-ltb i n leads.1 in
+      rw below
+      (elim (o.comp k (item_at m i)) as (λ c. suc (suc (suc (loads_in m (after_item s i (item_at m i) (walk o n k s left) c)))) ≤ 4 * depth (fork l i r) + 1) [
+        | Less ↦ omega (arith, walk_depth l left (at m (left_word (stable_copy_of s) i)) leads.2 (omega arith))
+        | Equal ↦ omega arith
+        | Greater ↦ omega (arith, walk_depth r left (at m (right_word (stable_copy_of s) i)) leads.3 (omega arith))
+      ]))
+
+  -- the words that it loads are word 0 and words in use
+  pub walk_uses : (left link : ℕ) → ((i : ℕ) → link ≡ suc i → i < n → Reaches m n (stable_copy_of s) i) → AllLoads m (λ w. (w ≡ 0) ⊎ InUse m n (stable_copy_of s) w) (walk o n k s left link)
+  walk_uses left zero h = (inl refl, tt)
+  walk_uses zero (suc i) h = (inl refl, tt)
+  walk_uses (suc left) (suc i) h =
+      elim (nat_lt i n) as (λ b. nat_lt i n ≡ b → AllLoads m (λ w. (w ≡ 0) ⊎ InUse m n (stable_copy_of s) w) (cond b (visit o k s i (walk o n k s left)) (last_load s Stuck))) [
+        | false ↦ λ e. (inl refl, tt)
+        | true ↦ λ e.
+            let here : Reaches m n (stable_copy_of s) i = h i refl (ltb-true i n e) in (
+              inr (inr (i, here, inl refl)),
+              (
+                inr (inr (i, here, inr (inl refl))),
+                (
+                  inr (inr (i, here, inr (inr (inl refl)))),
+                  elim (o.comp k (item_at m i)) as (λ c. AllLoads m (λ w. (w ≡ 0) ⊎ InUse m n (stable_copy_of s) w) (after_item s i (item_at m i) (walk o n k s left) c)) [
+                    | Less ↦ (inr (inr (i, here, inr (inr (inr (inl refl))))), walk_uses left (at m (left_word (stable_copy_of s) i)) (λ j g lt. by_left i j here lt g))
+                    | Equal ↦ (inl refl, tt)
+                    | Greater ↦ (inr (inr (i, here, inr (inr (inr (inr refl))))), walk_uses left (at m (right_word (stable_copy_of s) i)) (λ j g lt. by_right i j here lt g))
+                  ],
+                ),
+              ),
+            )
+      ] refl
+
+-- whatever the words hold, a walk ends
+pub within_more : (b c : ℕ) (r : Reading) → b ≤ c → Within b r → Within c r
+within_more b c (Ends out) le h = tt
+within_more zero c (Load w go) le h = absurd h
+within_more (suc b) zero (Load w go) le h = absurd (omega arith)
+within_more (suc b) (suc c) (Load w go) le h = λ x. within_more b c (go x) (omega arith) (h x)
+
+walk_within : {K : Type 0} (o : Order K) (n : ℕ) (k : K) (s left link b : ℕ) → 4 * left + 1 ≤ b → Within b (walk o n k s left link)
+walk_within o n k s left zero zero le = absurd (omega arith)
+walk_within o n k s left zero (suc b) le = λ t. tt
+walk_within o n k s zero (suc i) zero le = absurd (omega arith)
+walk_within o n k s zero (suc i) (suc b) le = λ t. tt
+walk_within o n k s (suc left) (suc i) zero le = absurd (omega arith)
+walk_within o n k s (suc left) (suc i) (suc zero) le = absurd (omega arith)
+walk_within o n k s (suc left) (suc i) (suc (suc zero)) le = absurd (omega arith)
+walk_within o n k s (suc left) (suc i) (suc (suc (suc zero))) le = absurd (omega arith)
+walk_within o n k s (suc left) (suc i) (suc (suc (suc (suc b)))) le =
+    elim (nat_lt i n) as (λ c. Within (suc (suc (suc (suc b)))) (cond c (visit o k s i (walk o n k s left)) (last_load s Stuck))) [
+      | false ↦ λ t. tt
+      | true ↦ λ x y z.
+          elim (o.comp k (record { a = x; b = y; tag = z })) as (λ c. Within (suc b) (after_item s i (record { a = x; b = y; tag = z }) (walk o n k s left) c)) [
+            | Less ↦ λ p. walk_within o n k s left p b (omega arith)
+            | Equal ↦ λ p. tt
+            | Greater ↦ λ p. walk_within o n k s left p b (omega arith)
+          ]
+    ]
+
+-- an attempt takes at most 4n + 3 loads, whatever it loads
+pub attempt_within : {K : Type 0} (o : Order K) (n : ℕ) (k : K) → Within (4 * n + 3) (attempt o n k)
+attempt_within o n k =
+    let e : suc (suc (4 * n + 1)) ≡ 4 * n + 3 = omega arith in
+    subst (λ b. Within b (attempt o n k)) e (λ s p. walk_within o n k s n p (4 * n + 1) (omega arith))
+
+pub attempt_length : {K : Type 0} (o : Order K) (n : ℕ) (k : K) (v : List ℕ) (r : Reading) → rest_after (attempt o n k) v ≡ Some r → length v ≤ 4 * n + 3
+attempt_length o n k v r e = within_length (4 * n + 3) (attempt o n k) v r (attempt_within o n k) e
+
+pub attempt_below_most : {K : Type 0} (o : Order K) (n : ℕ) (k : K) (v : List ℕ) (w : ℕ) (go : ℕ → Reading) → rest_after (attempt o n k) v ≡ Some (Load w go) → length v < 4 * n + 3
+attempt_below_most o n k v w go e = within_below (4 * n + 3) (attempt o n k) v w go (attempt_within o n k) e
+
+module _ {K : Type 0} (o : Order K) (law : IsLawful o) (m : List ℕ) (n : ℕ) (k : K) (table : List Item) (t : Nodes) (holds : Holds m n (stable_copy_of (at m 0)) table t) (is_table : IsTable o table) (fits : length table ≤ n) where
+  small : size t ≤ n
+  small = omega (arith, size_items m t, ap length holds.listed_items)
+
+  sorted_items : IsTable o (items m t)
+  sorted_items = subst (IsTable o) (sym holds.listed_items) is_table
+
+  -- an attempt in this memory gives what the key finds in the table
+  answered : (r : Option Item) (seq : ℕ) → outcome seq seq (found_of r) ≡ Answer r (generation_of seq)
+  answered None seq = let e : (seq == seq) ≡ true = eq-eqb seq seq refl in rw e refl
+  answered (Some x) seq = let e : (seq == seq) ≡ true = eq-eqb seq seq refl in rw e refl
+
+  pub attempt_ran : outcome_in m (attempt o n k) ≡ Answer (look o k table) (generation_of (at m 0))
+  attempt_ran =
+      let seq = at m 0 in
+      walk_ends o law m n k seq t n (at m (root_word (stable_copy_of seq))) holds.leads sorted_items small
+      ∙ ap (λ xs. outcome seq seq (found_of (look o k xs))) holds.listed_items
+      ∙ answered (look o k table) seq
+
+  -- after four loads at most for each item, and for each node on the longest way down, and three
+  pub attempt_count : loads_in m (attempt o n k) ≤ 4 * length table + 3
+  attempt_count =
+      omega (arith, walk_loads o m n k (at m 0) t n (at m (root_word (stable_copy_of (at m 0)))) holds.leads small, size_items m t, ap length holds.listed_items)
+
+  pub attempt_depth_count : loads_in m (attempt o n k) ≤ 4 * depth t + 3
+  attempt_depth_count = omega (arith, walk_depth o m n k (at m 0) t n (at m (root_word (stable_copy_of (at m 0)))) holds.leads small)
+
+  -- so does one whose values all stand in it
+  pub attempt_answers : (v : List ℕ) (out : Outcome) → Stand m (attempt o n k) v → IsAttempt o n k v out → out ≡ Answer (look o k table) (generation_of (at m 0))
+  attempt_answers v out st e = (ends_as m (attempt o n k) v out st e).0 ∙ attempt_ran
+
+  pub attempt_loads : (v : List ℕ) → Stand m (attempt o n k) v → length v ≤ 4 * length table + 3
+  attempt_loads v st =
+      omega (arith, loads_so_far m (attempt o n k) v st, walk_loads o m n k (at m 0) t n (at m (root_word (stable_copy_of (at m 0)))) holds.leads small, size_items m t, ap length holds.listed_items)
+
+  pub attempt_below : (v : List ℕ) (w : ℕ) (go : ℕ → Reading) → Stand m (attempt o n k) v → rest_after (attempt o n k) v ≡ Some (Load w go) → length v < 4 * length table + 3
+  attempt_below v w go st e =
+      omega (arith, loads_below m (attempt o n k) v w go st e, walk_loads o m n k (at m 0) t n (at m (root_word (stable_copy_of (at m 0)))) holds.leads small, size_items m t, ap length holds.listed_items)
+
+  pub attempt_depth : (v : List ℕ) → Stand m (attempt o n k) v → length v ≤ 4 * depth t + 3
+  attempt_depth v st =
+      omega (arith, loads_so_far m (attempt o n k) v st, walk_depth o m n k (at m 0) t n (at m (root_word (stable_copy_of (at m 0)))) holds.leads small)
+
+  pub attempt_below_depth : (v : List ℕ) (w : ℕ) (go : ℕ → Reading) → Stand m (attempt o n k) v → rest_after (attempt o n k) v ≡ Some (Load w go) → length v < 4 * depth t + 3
+  attempt_below_depth v w go st e =
+      omega (arith, loads_below m (attempt o n k) v w go st e, walk_depth o m n k (at m 0) t n (at m (root_word (stable_copy_of (at m 0)))) holds.leads small)
+
+-- a copy that holds a table in a red-black tree
+pub few_deep_any : (m : List ℕ) (n : ℕ) (table : List Item) (t : Nodes) → Holds m n (stable_copy_of (at m 0)) table t → CanBeRedBlack t → 2 ^ depth t ≤ (length table + 1) * (length table + 1)
+few_deep_any m n table t holds good =
+    let same : length (listed t) ≡ length table = omega (arith, size_listed t, size_items m t, ap length holds.listed_items) in
+    subst (λ q. 2 ^ depth t ≤ (q + 1) * (q + 1)) same (shallow t good)

@@ -1,0 +1,207 @@
+-- A lookup from its start to its return, with no step of the writer between.
+use Rattle.std.proofs.Common.{◌≡◌, ◌≢◌, ℕ, zero, suc, ◌+◌, ◌-◌, ◌*◌, ◌≤◌, List, [], ◌∷◌, ◌++◌, length, Option, Some, None, refl, sym, ◌∙◌, ap, subst, ⊎_elim, arith, append-nil}
+use Rattle.std.specs.Prelude.{min}
+use Rattle.std.specs.List.{AllByRecursion}
+use Rattle.std.specs.FinMap.{get, insert, remove}
+use Rattle.std.proofs.lemmas.Bool.{cases_eq}
+use Rattle.order_laws.specs.declared.items.Item.{Item}
+use Rattle.order_laws.specs.Orders.{Order, IsLawful}
+use Rattle.order_laws.specs.Tables.{look}
+use Rattle.order_laws.proofs.Each.{all_push}
+use Rattle.order_laws.proofs.Maps.{get-insert_other, get-insert_same, get-remove_other, get-remove_same}
+use Rattle.word_arena.specs.Layouts.{capacity_of, limit_of}
+use Rattle.word_arena.specs.Words.{at, words_for}
+use Rattle.word_arena.proofs.StoreLemmas.{length_after}
+use Rattle.latch_core.specs.declared.updates.Update.{Update}
+use Rattle.latch_core.specs.Sequences.{generation_of}
+use Rattle.latch_core.specs.Histories.{current_table}
+use Rattle.latch_core.specs.Invariants.{IsSound}
+use Rattle.latch_core.specs.Attempts.{Answer, Reading, Load, Ends, attempt, rest_after}
+use Rattle.latch_core.specs.Whole.{outcome_in, loads_in}
+use Rattle.latch_core.specs.Writers.{RepresentsLatch, IsShallow}
+use Rattle.latch_core.proofs.ReadingLemmas.{rest_push}
+use Rattle.latch_core.proofs.WalkLemmas.{attempt_ran, attempt_count, attempt_depth_count, few_deep_any}
+use Rattle.latch_core.proofs.ShallowLemmas.{shallow_tree, stays_now}
+use Rattle.rb_trees.specs.Trees.{depth}
+use Rattle.latch_steps.specs.declared.events.Event.TheVariants.{Start, Read}
+use Rattle.latch_steps.specs.declared.replies.Returned.{Returned}
+use Rattle.latch_steps.specs.declared.replies.Reply.TheVariants.{Started, Loaded, Returned as ReturnedReply}
+use Rattle.latch_steps.specs.declared.worlds.World.{World}
+use Rattle.latch_steps.specs.Runs.{PendingLookup, Moment, Done, step_done, last_of, history}
+use Rattle.latch_steps.specs.Steps.{machine, counted_up, with_lookups, new_lookup, with_value, after_value, load_left, start_done, load_done, read_done, Run}
+use Rattle.latch_steps.specs.Lookups.{IsPendingLookup, lookup_at}
+use Rattle.latch_steps.specs.Worlds.{RepresentsMoment, layout_in, IsAfter}
+use Rattle.latch_steps.specs.AtOnce.{IsFoundNow, IsNear, FindsNow, LooksUp, HasNoAnswer, table_in}
+use Rattle.latch_steps.proofs.WorldLemmas.{shown_none}
+use Rattle.latch_steps.proofs.SettleLemmas.{run_sound, none_accepted}
+use Rattle.latch_steps.proofs.RecorderLemmas.{last_append}
+
+-- a count after so many steps
+abbrev pub later : ℕ → ℕ → ℕ
+later zero count = count
+later (suc steps) count = later steps (counted_up count)
+
+pub later_is : (steps count : ℕ) → count ≤ 18446744073709551615
+    → later steps count ≡ min (count + steps) 18446744073709551615
+later_is zero count most = omega arith
+later_is (suc steps) count most = later_is steps (counted_up count) (omega arith) ∙ (omega arith)
+
+-- what a pending lookup returns with so many loads more
+abbrev pub returned_after : {K : Type 0} → ℕ → Moment K → PendingLookup K → Option Item → ℕ → ℕ
+    → Returned K
+returned_after r w l answer g loads =
+    record { reader = r; key = l.key; answer = answer; generation = g; first = l.first; last = later loads w.events; loads = later loads l.loads; attempts = l.attempts }
+
+-- so many loads of a reader lead from a moment, where this lookup is pending, to its return
+pub record Ending {K : Type 0} (o : Order K) (n limit : ℕ) (r : ℕ) (w : Moment K)
+    (l : PendingLookup K) (answer : Option Item) (g loads : ℕ) : Type 0 where
+  pub run : List (Done K)
+  pub done : Moment K
+  pub reads : AllByRecursion (λ d. d.event ≡ Read r) run
+  pub steps : Run (machine o n limit) w (run ++ step_done (Read r) (ReturnedReply (returned_after r w l answer g loads)) done ∷ [])
+  pub latch : done.latch ≡ w.latch
+  pub events : done.events ≡ later loads w.events
+  pub gone : get done.lookups r ≡ None
+  pub others : (q : ℕ) → q ≢ r → get done.lookups q ≡ get w.lookups q
+
+module _ {K : Type 0} (o : Order K) (n limit : ℕ) (m : List ℕ) (r : ℕ) where
+  -- one load of the word that the attempt wants
+  read_step : (w : Moment K) (l : PendingLookup K) (word : ℕ) (go : ℕ → Reading) (next : Reading)
+      → w.latch.words ≡ m → get w.lookups r ≡ Some l
+      → rest_after (attempt o n l.key) l.values ≡ Some (Load word go) → go (at m word) ≡ next
+      → read_done o n w r (get w.lookups r) ≡ load_done w r (after_value w r l (at m word) next)
+  read_step w l word go next words there going is =
+      ap (read_done o n w r) there
+      ∙ ap (load_done w r) (ap (load_left w r l) going ∙ ap (λ ws. after_value w r l (at ws word) (go (at ws word))) words ∙ ap (after_value w r l (at m word)) is)
+
+  -- the rest of the attempt, load by load
+  pub ending : (rest : Reading) (w : Moment K) (l : PendingLookup K) (word : ℕ) (go : ℕ → Reading)
+      (answer : Option Item) (g : ℕ) → w.latch.words ≡ m → get w.lookups r ≡ Some l
+      → rest_after (attempt o n l.key) l.values ≡ Some (Load word go) → go (at m word) ≡ rest
+      → outcome_in m rest ≡ Answer answer g → Ending o n limit r w l answer g (suc (loads_in m rest))
+  ending (Ends out) w l word go answer g words there going is comes =
+      record {
+        run = [];
+        done = with_lookups w (remove w.lookups r);
+        reads = tt;
+        steps = (read_step w l word go (Ends (Answer answer g)) words there going (is ∙ ap Ends comes), tt);
+        latch = refl;
+        events = refl;
+        gone = get-remove_same w.lookups r;
+        others = λ q ne. get-remove_other w.lookups q r ne;
+      }
+  ending (Load word' go') w l word go answer g words there going is comes =
+      let l' : PendingLookup K = with_value l (at m word) in
+      let w' = with_lookups w (insert w.lookups r l') in
+      let left = rest_push (attempt o n l.key) l.values word go (at m word) going ∙ ap Some is in
+      let h = ending (go' (at m word')) w' l' word' go' answer g words (get-insert_same w.lookups r l') left refl comes in
+      record {
+        run = step_done (Read r) Loaded w' ∷ h.run;
+        done = h.done;
+        reads = (refl, h.reads);
+        steps = (read_step w l word go (Load word' go') words there going is, h.steps);
+        latch = h.latch;
+        events = h.events;
+        gone = h.gone;
+        others = λ q ne. h.others q ne ∙ get-insert_other w.lookups q r l' ne;
+      }
+
+module _ {O K : Type 0} (o : Order K) (law : IsLawful o) (old : World O K) (r : ℕ) (k : K) where
+  -- the whole lookup, where the reader has none pending
+  pub look_found : (answer : Option Item) (g loads first last : ℕ) → loads ≤ 18446744073709551615
+      → lookup_at old.lookups r ≡ None → LooksUp o old k answer g loads
+      → first ≡ counted_up old.events → last ≡ min (first + loads) 18446744073709551615
+      → (w : Moment K) → RepresentsMoment o old w
+      → FindsNow o old w r k (record { reader = r; key = k; answer = answer; generation = g; first = first; last = last; loads = loads; attempts = 1 })
+      (record old { events = last })
+  look_found answer g loads first last most free found ef el w s =
+      let n = capacity_of old.layout in
+      let m = old.words.items in
+      let none_there : get w.lookups r ≡ None = shown_none o n (lookup_at old.lookups r) (get w.lookups r) free (s.lookups r) in
+      let l : PendingLookup K = new_lookup k (counted_up w.events) in
+      let w' = with_lookups w (insert w.lookups r l) in
+      let h = ending o n (limit_of old.layout) m r _ w' l 0 _ answer g (sym s.words) (get-insert_same w.lookups r l) refl refl found.comes_to in
+      let count : first ≡ counted_up w.events = ef ∙ ap counted_up s.events in
+      let few : later (loads_in m (attempt o n k)) 0 ≡ loads = later_is (loads_in m (attempt o n k)) 0 (omega arith) ∙ (let c = found.counts in omega arith) in
+      let end : later (loads_in m (attempt o n k)) (counted_up w.events) ≡ last = later_is (loads_in m (attempt o n k)) (counted_up w.events) (omega arith) ∙ (let c = found.counts in omega arith) in
+      record {
+        begun = w';
+        run = h.run;
+        done = h.done;
+        reads = h.reads;
+        steps = (
+          ap (start_done w r k) none_there,
+          subst (λ x. Run (machine o n (limit_of old.layout)) w' (h.run ++ step_done (Read r) (ReturnedReply x) h.done ∷ [])) (λ i. record { reader = r; key = k; answer = answer; generation = g; first = sym count i; last = end i; loads = few i; attempts = 1 }) h.steps,
+        );
+        shows = record {
+          capacity = s.capacity;
+          limit = s.limit;
+          words = s.words ∙ sym (ap (λ v. v.words) h.latch);
+          writer = subst (λ v. RepresentsLatch old.writer v) (sym h.latch) s.writer;
+          lookups = λ q.
+              ⊎_elim
+              (λ same. subst (λ j. IsPendingLookup {O = O} o n (lookup_at old.lookups j) (get h.done.lookups j)) (sym same)
+              (subst (λ x. IsPendingLookup {O = O} o n x (get h.done.lookups r)) (sym free) (subst (IsPendingLookup {O = O} o n None) (sym h.gone) tt)))
+              (λ ne. subst (λ x. IsPendingLookup {O = O} o n (lookup_at old.lookups q) x) (sym (h.others q ne ∙ get-insert_other w.lookups q r l ne)) (s.lookups q))
+              (cases_eq q r);
+          events = sym end ∙ sym h.events;
+        };
+      }
+
+  -- what it finds is the lookup of the current table
+  module _ (start' : ℕ) (us : List Update) (h : IsAfter o start' us old) where
+    pub right_answer : outcome_in old.words.items (attempt o (capacity_of old.layout) k) ≡ Answer (look o k (current_table o start' us h.moment.latch.words)) (generation_of (at h.moment.latch.words 0))
+    right_answer =
+        let ts = h.sound.tables (generation_of (at h.moment.latch.words 0) - generation_of start') in
+        ap (λ m. outcome_in m (attempt o (capacity_of old.layout) k)) h.shows.words
+        ∙ attempt_ran o law h.moment.latch.words (capacity_of old.layout) k _ h.sound.current.0 h.sound.current.1 ts.0 ts.1
+
+    pub few_loads : (answer : Option Item) (g loads : ℕ) → LooksUp o old k answer g loads
+        → loads ≤ 4 * length (current_table o start' us h.moment.latch.words) + 3
+    few_loads answer g loads found =
+        let ts = h.sound.tables (generation_of (at h.moment.latch.words 0) - generation_of start') in
+        let e = sym found.counts ∙ ap (λ m. loads_in m (attempt o (capacity_of old.layout) k)) h.shows.words in
+        omega (arith, attempt_count o law h.moment.latch.words (capacity_of old.layout) k (current_table o start' us h.moment.latch.words) h.sound.current.0 h.sound.current.1 ts.0 ts.1)
+
+    pub look_right : (answer : Option Item) (g loads first last : ℕ)
+        → LooksUp o old k answer g loads
+        → IsFoundNow o (table_in h) (generation_of (at h.moment.latch.words 0)) r k (record { reader = r; key = k; answer = answer; generation = g; first = first; last = last; loads = loads; attempts = 1 })
+    look_right answer g loads first last found =
+        let same = sym found.comes_to ∙ right_answer in
+        record { reader = refl; key = refl; look = record { answer = cc; generation = cc; attempts = refl; loads = few_loads answer g loads found } }
+
+    pub look_near : (answer : Option Item) (g loads first last : ℕ) → LooksUp o old k answer g loads
+        → IsNear (table_in h)
+        (record { reader = r; key = k; answer = answer; generation = g; first = first; last = last; loads = loads; attempts = 1 })
+    look_near answer g loads first last found =
+        let n = capacity_of old.layout in
+        let m = h.moment.latch.words in
+        let table = current_table o start' us m in
+        let ts = h.sound.tables (generation_of (at m 0) - generation_of start') in
+        let t = h.sound.current.0 in
+        let holds = h.sound.current.1 in
+        let low : IsShallow n m = subst (λ q. IsShallow q m) h.shows.capacity (stays_now old.writer.capacity m old.writer.stores_left h.shows.writer.shallow) in
+        let e = sym found.counts ∙ ap (λ v. loads_in v (attempt o n k)) h.shows.words in
+        (depth t, few_deep_any m n table t holds (shallow_tree n m table t holds low), omega (arith, attempt_depth_count o law m n k table t holds ts.0 ts.1))
+
+    -- there is always an answer
+    pub look_never : HasNoAnswer o old k → ⊥
+    look_never none =
+        ⊎_elim
+        (λ short. short (ap length h.shows.words ∙ sym (length_after h.moment.latch.words old.writer.stores_left) ∙ h.shows.writer.at_rest.sized ∙ ap words_for h.shows.capacity))
+        (λ again. let f = sym again ∙ right_answer in cc)
+        none
+
+  pub after_found : (new : World O K) (x : Returned K)
+      → ((w : Moment K) → RepresentsMoment o old w → FindsNow o old w r k x new) → layout_in new ≡ layout_in old
+      → (start' : ℕ) (us : List Update) → IsAfter o start' us old → IsAfter o start' us new
+  after_found new x finds lay start' us h =
+      let f = finds h.moment h.shows in
+      let n = capacity_of (layout_in old) in
+      let one : Done K = step_done (Read r) (ReturnedReply x) f.done in
+      let run : List (Done K) = f.run ++ one ∷ [] in
+      let ends : last_of f.begun run ≡ f.done = last_append f.begun f.run (one ∷ []) in
+      let sound = run_sound o law n (limit_of (layout_in old)) start' us h.moment (step_done (Start r k) Started f.begun ∷ run) h.sound f.steps in
+      let none : us ++ history run ≡ us = ap (λ vs. us ++ vs) (none_accepted (Read r) (λ q. refl) run (all_push (λ (d : Done K). d.event ≡ Read r) f.run one f.reads refl)) ∙ append-nil us in
+      let same = subst (λ v. IsSound o n start' us v.latch) ends (subst (λ vs. IsSound o n start' vs (last_of f.begun run).latch) none sound) in
+      record { moment = f.done; shows = f.shows; sound = subst (λ l. IsSound o (capacity_of l) start' us f.done.latch) (sym lay) same }

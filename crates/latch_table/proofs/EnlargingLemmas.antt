@@ -1,0 +1,129 @@
+-- The table in the words of a wider layout.
+use Rattle.std.proofs.Common.{◌≡◌, ℕ, suc, ◌+◌, ◌-◌, ◌*◌, ◌<◌, ◌≤◌, List, [], ◌∷◌, ◌++◌, length, take, All, None, refl, sym, ◌∙◌, ap, subst, arith, append_assoc}
+use Rattle.std.specs.Prelude.{slice_set, replicate}
+use Rattle.std.proofs.Math.Seq.{set-append_seam}
+use Rattle.std.proofs.lemmas.List.{length-take-le, take_more}
+use Rattle.atomic_table.specs.Table.{Me, opening}
+use Rattle.atomic_table.specs.Seated.{TableId}
+use Rattle.order_laws.specs.Orders.{Order}
+use Rattle.word_arena.specs.declared.layouts.Layout.{Layout}
+use Rattle.word_arena.specs.Layouts.{capacity_of}
+use Rattle.word_arena.specs.Words.{at}
+use Rattle.word_arena.specs.Wider.{wider_words}
+use Rattle.word_arena.proofs.WiderLemmas.{at_wider}
+use Rattle.latch_core.specs.Sequences.{generation_of}
+use Rattle.latch_core.specs.Invariants.{IsSound}
+use Rattle.latch_core.specs.WriterViews.{WriterView}
+use Rattle.latch_core.specs.Writers.{RepresentsLatch}
+use Rattle.latch_core.specs.Widening.{why_not_widened, widened_writer, widened_latch, RepresentsWidened}
+use Rattle.latch_core.proofs.WideningLemmas.{may_widen, widened_sound, latched_wider}
+use Rattle.latch_table.specs.declared.knowledge.Knowledge.{Knowledge}
+use Rattle.latch_table.specs.declared.knowledge.WriterKnowledge.{WriterKnowledge}
+use Rattle.latch_table.specs.Seats.{writer_of, writer_knowledge, moved_writer, blank_reader}
+use Rattle.latch_table.specs.Rule.{KnowledgeHolds}
+use Rattle.latch_table.specs.Readers.{ReaderState, new_reader}
+use Rattle.latch_table.specs.Writers.{WriterState, writer_state, pending_of, shown_updates, IsTied}
+use Rattle.latch_table.specs.Enlarging.{Enlarges, enlarged_state, reader_beside}
+use Rattle.latch_table.proofs.RuleLemmas.{opens}
+use Rattle.latch_table.proofs.WriterLemmas.{latched_now}
+
+-- words copied up to the number w, the others 0: and then the next one
+pub copy_next : (k w : ℕ) (words : List ℕ) → w < length words → length words ≤ k → slice_set (take w words ++ replicate (k - w) 0) w (at words w) ≡ take (w + 1) words ++ replicate (k - (w + 1)) 0
+copy_next k w words within fits =
+    let rest : List ℕ = replicate (k - (w + 1)) 0 in
+    let one : replicate (k - w) 0 ≡ 0 ∷ rest = ap (λ j. replicate j 0) (let e : k - w ≡ suc (k - (w + 1)) = omega (arith, within, fits) in e) in
+    let there : slice_set (take w words ++ 0 ∷ rest) w (at words w) ≡ take w words ++ at words w ∷ rest = subst (λ i. slice_set (take w words ++ 0 ∷ rest) i (at words w) ≡ take w words ++ at words w ∷ rest) (length-take-le w words (omega (arith, within))) (set-append_seam (take w words) 0 rest (at words w)) in
+    ap (λ (z : List ℕ). slice_set (take w words ++ z) w (at words w)) one ∙ there ∙ sym (append_assoc (take w words) (at words w ∷ []) rest) ∙ ap (λ (z : List ℕ). z ++ rest) (sym (take_more words w 0 within))
+
+module _ {S K : Type 0} (o : Order K) (place : TableId) (readers : ℕ) (m : Me S Knowledge) (core : WriterView) (tied : IsTied o m core (writer_state place readers m.0 core)) (l : Layout) (accepted : why_not_widened core l ≡ None) where
+  abbrev here : WriterState
+  here = writer_state place readers m.0 core
+
+  abbrev p : WriterKnowledge
+  p = writer_of m.0
+
+  abbrev wider : List ℕ
+  wider = wider_words core.capacity (capacity_of l) p.picture
+
+  idle : core.stores_left ≡ []
+  idle = (may_widen core l accepted).0
+
+  more : core.capacity ≤ capacity_of l
+  more = (may_widen core l accepted).1
+
+  hand_rests : here.latch.pending ≡ None
+  hand_rests = ap (λ ss. pending_of ss p) idle
+
+  -- the wider words keep the rule, with what the seat then knows
+  pub opens_wider : (seat : Me S Knowledge) (words given : List ℕ) → seat ≡ m → words ≡ wider → given ≡ words
+      → KnowledgeHolds {S = S} o (capacity_of l) (writer_of seat.0).base (opening given [] (writer_knowledge (moved_writer (capacity_of l) words (writer_of seat.0))))
+  opens_wider seat words given same is passed =
+      subst (λ (z : Me S Knowledge × List ℕ × List ℕ). KnowledgeHolds {S = S} o (capacity_of l) (writer_of z.0.0).base (opening z.1 [] (writer_knowledge (moved_writer (capacity_of l) z.2 (writer_of z.0.0)))))
+      (λ i. (sym same i, sym (passed ∙ is) i, sym is i))
+      (opens o (capacity_of l) p.base wider [] (moved_writer (capacity_of l) wider p) (record { based = refl; capacity = refl; picture = refl; shown = refl })
+      (latched_wider o core.capacity (capacity_of l) p.base p.picture p.known more (latched_now o place readers m core tied)))
+
+  -- and the core, wider too, is tied to their first seat
+  module _ (place' : TableId) (pictured : RepresentsWidened core (widened_writer core l)) where
+    abbrev seat' : Me S Knowledge
+    seat' = (writer_knowledge (moved_writer (capacity_of l) wider p), [])
+
+    abbrev there : WriterState
+    there = writer_state place' readers seat'.0 (widened_writer core l)
+
+    hand_stays : pending_of core.stores_left (moved_writer (capacity_of l) wider p) ≡ here.latch.pending
+    hand_stays = ap (λ ss. pending_of ss (moved_writer (capacity_of l) wider p)) idle ∙ sym hand_rests
+
+    latch_is : there.latch ≡ widened_latch core.capacity (capacity_of l) here.latch
+    latch_is = λ i. record { words = wider; newest_table = core.table; pending = hand_stays i }
+
+    same_sequence : at wider 0 ≡ at p.picture 0
+    same_sequence = at_wider core.capacity (capacity_of l) p.picture 0
+
+    same_known : shown_updates there ≡ shown_updates here
+    same_known = ap (λ q. take (generation_of q - p.base) p.accepted) same_sequence
+
+    tied_wider : IsTied o seat' (widened_writer core l) there
+    tied_wider = record {
+      alone = refl;
+      capacity = refl;
+      pictures = subst (RepresentsLatch (widened_writer core l)) (sym latch_is) (pictured here.latch tied.pictures hand_rests);
+      sound = subst (IsSound o (capacity_of l) (2 * p.base) p.accepted) (sym latch_is) (widened_sound o core.capacity (capacity_of l) (2 * p.base) p.accepted here.latch more tied.sound);
+      known = tied.known ∙ sym same_known;
+    }
+
+    new_reader_is : new_reader place' seat'.0 ≡ reader_beside there
+    new_reader_is = λ i. record { place = place'; knowledge = blank_reader p.base (capacity_of l) (tied_wider.known i) }
+
+    enlarges_wider : (all : List ReaderState) → length all ≡ readers → All (λ x. x ≡ new_reader place' seat'.0) all → Enlarges here l there all
+    enlarges_wider all count new = record {
+      may = (hand_rests, (more, (may_widen core l accepted).2));
+      state = λ i. record (enlarged_state place' l here) { latch = latch_is i };
+      sequence = same_sequence;
+      shown = same_known;
+      count = count;
+      readers = subst (λ r. All (λ x. x ≡ r) all) new_reader_is new;
+    }
+
+  -- so are a core and a seat that are equal to these
+  module _ (place' : TableId) (core' : WriterView) (widened : core' ≡ widened_writer core l) (pictured : RepresentsWidened core core') (seat : Me S Knowledge) (words : List ℕ) (same : seat ≡ m) (is : words ≡ wider) where
+    abbrev first : Knowledge
+    first = writer_knowledge (moved_writer (capacity_of l) words (writer_of seat.0))
+
+    first_is : first ≡ writer_knowledge (moved_writer (capacity_of l) wider p)
+    first_is = λ i. writer_knowledge (moved_writer (capacity_of l) (is i) (writer_of (same i).0))
+
+    pictured_wider : RepresentsWidened core (widened_writer core l)
+    pictured_wider = subst (RepresentsWidened core) widened pictured
+
+    pub tied_there : (m' : Me S Knowledge) → m' ≡ (first, []) → IsTied o m' core' (writer_state place' readers m'.0 core')
+    tied_there m' there =
+        subst (λ (z : Me S Knowledge × WriterView). IsTied o z.0 z.1 (writer_state place' readers z.0.0 z.1))
+        (λ i. (sym (there ∙ (λ j. (first_is j, []))) i, sym widened i))
+        (tied_wider place' pictured_wider)
+
+    pub enlarges : (m' : Me S Knowledge) → m' ≡ (first, []) → (all : List ReaderState) → length all ≡ readers → All (λ x. x ≡ new_reader place' first) all → Enlarges here l (writer_state place' readers m'.0 core') all
+    enlarges m' there all count new =
+        subst (λ (w : WriterState). Enlarges here l w all)
+        (λ i. writer_state place' readers (sym (there ∙ (λ j. (first_is j, []))) i).0 (sym widened i))
+        (enlarges_wider place' pictured_wider all count (subst (λ (v : Knowledge). All (λ x. x ≡ new_reader place' v) all) first_is new))

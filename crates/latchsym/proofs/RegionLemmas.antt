@@ -1,0 +1,80 @@
+-- The items of a module number, between those of the lesser and those of the greater ones.
+use Rattle.std.proofs.Common.{◌≡◌, ℕ, suc, ◌+◌, ◌-◌, ◌<◌, ◌≤◌, List, [], ◌∷◌, ◌++◌, length, map, flat_map, get_or, refl, sym, ◌∙◌, ap, subst, arith, length-append}
+use Rattle.std.specs.Prelude.{Bool, true, false, ◌||◌, All, Contains}
+use Rattle.std.specs.List.{AllPairs, range_with_len}
+use Rattle.std.proofs.lemmas.List.{map-append, length-map, get_or_append_left, get_or-append-add, get_or_default}
+use Rattle.std.proofs.lemmas.List.Elements.{All-contains, Contains-append_left, Contains-append_right}
+use Rattle.std.proofs.lemmas.Grind.{flat_map-append}
+use Rattle.std.proofs.lemmas.Bool.{or_from}
+use Rattle.order_laws.proofs.Ranges.{range-append_from_zero}
+use Rattle.order_laws.proofs.Pairs.{AllPairs-across, AllPairs-left, AllPairs-right}
+use Rattle.order_laws.proofs.Members.{Contains-map}
+use Rattle.order_laws.specs.declared.items.Item.{Item}
+use Rattle.order_laws.specs.Orders.{half_open, half_open_lawful}
+use Rattle.order_laws.specs.Tables.{meets}
+use Rattle.order_laws.proofs.MeetLemmas.{none_meets}
+use Rattle.latch_core.specs.Updates.{some_overlap}
+use Rattle.modules.specs.Catalogs.{IsSoundCatalog, regions_of}
+use Rattle.modules.specs.Entries.{CatalogEntries}
+use Rattle.modules.specs.Items.{items_at, items_below, items_of}
+use Rattle.modules.specs.Regions.{is_apart}
+use Rattle.modules.proofs.ItemLemmas.{all_regions, region_of}
+
+-- the items of a number, between those of the lesser and those of the greater ones
+pub rest_of : CatalogEntries → ℕ → List Item
+rest_of c k = flat_map (items_at c) (range_with_len (k + 1) (length c.modules - k))
+
+pub parted_at : (c : CatalogEntries) (k : ℕ) → k ≤ length c.modules → items_of c ≡ items_below c k ++ (items_at c k ++ rest_of c k)
+unfolding rest_of
+parted_at c k le =
+    let n = length c.modules - k in
+    ap (items_below c) (let e : length c.modules + 1 ≡ k + suc n = omega arith in e)
+    ∙ ap (flat_map (items_at c)) (range-append_from_zero k (suc n))
+    ∙ flat_map-append (items_at c) (range_with_len 0 k) (range_with_len k (suc n))
+
+pub as_many : (c : CatalogEntries) → length (items_of c) ≡ length (regions_of c)
+as_many c = sym (length-map (items_of c) region_of) ∙ ap length (all_regions c)
+
+-- items whose regions lie apart do not overlap
+no_overlap : (items : List Item) → AllPairs (λ r s. is_apart r s ≡ true) (map region_of items) → some_overlap half_open items ≡ false
+no_overlap [] all = refl
+no_overlap (i ∷ rest) all =
+    let later : (x : Item) → Contains rest x → half_open.apart x i ≡ true =
+    λ x m. let (j, less, there) = Contains-map region_of rest x m in
+    let r = all 0 (suc j) (region_of x) (omega arith) (omega arith) in
+    half_open_lawful.symmetric x i ∙ subst (λ s. is_apart (region_of i) s ≡ true) there r in
+    let here = none_meets i rest later in
+    let more = no_overlap rest (λ a b d less lt. all (suc a) (suc b) d (omega arith) (omega arith)) in
+    or_from (meets half_open i rest) (some_overlap half_open rest) here more
+
+-- an item of a number, and those of the lesser numbers
+module _ (c : CatalogEntries) (sound : IsSoundCatalog c) (k : ℕ) (le : k ≤ length c.modules) where
+  regions_parted : regions_of c ≡ map region_of (items_below c k) ++ (map region_of (items_at c k) ++ map region_of (rest_of c k))
+  regions_parted =
+      sym (all_regions c) ∙ ap (map region_of) (parted_at c k le)
+      ∙ map-append region_of (items_below c k) (items_at c k ++ rest_of c k)
+      ∙ ap (λ l. map region_of (items_below c k) ++ l) (map-append region_of (items_at c k) (rest_of c k))
+
+  pub is_apart_from : (x y : Item) → Contains (items_below c k) x → Contains (items_at c k) y → is_apart (region_of x) (region_of y) ≡ true
+  is_apart_from x y below at' =
+      AllPairs-across (λ r s. is_apart r s ≡ true) (map region_of (items_below c k)) (map region_of (items_at c k) ++ map region_of (rest_of c k)) (region_of x) (region_of y)
+      (subst (AllPairs (λ r s. is_apart r s ≡ true)) regions_parted sound.apart.apart)
+      (Contains-map region_of (items_below c k) x below)
+      (Contains-append_left (map region_of (items_at c k)) (map region_of (rest_of c k)) (region_of y) (Contains-map region_of (items_at c k) y at'))
+
+  pub has_addresses : (y : Item) → Contains (items_at c k) y → y.a < y.b
+  has_addresses y at' =
+      let all : All (λ (r : ℕ × ℕ). r.0 < r.1) (map region_of (items_below c k) ++ (map region_of (items_at c k) ++ map region_of (rest_of c k))) = subst (All (λ (r : ℕ × ℕ). r.0 < r.1)) regions_parted sound.apart.valid in
+      All-contains (λ (r : ℕ × ℕ). r.0 < r.1) _ (region_of y) all
+      (Contains-append_right (map region_of (items_below c k)) (map region_of (items_at c k) ++ map region_of (rest_of c k)) (region_of y)
+      (Contains-append_left (map region_of (items_at c k)) (map region_of (rest_of c k)) (region_of y) (Contains-map region_of (items_at c k) y at')))
+
+  pub none_overlap : some_overlap half_open (items_at c k) ≡ false
+  none_overlap =
+      no_overlap (items_at c k)
+      (AllPairs-left (λ r s. is_apart r s ≡ true) (map region_of (items_at c k)) (map region_of (rest_of c k))
+      (AllPairs-right (λ r s. is_apart r s ≡ true) (map region_of (items_below c k)) (map region_of (items_at c k) ++ map region_of (rest_of c k))
+      (subst (AllPairs (λ r s. is_apart r s ≡ true)) regions_parted sound.apart.apart)))
+
+  pub some_left : length (items_below c k) + length (items_at c k) ≤ length (items_of c)
+  some_left = omega (arith, ap length (parted_at c k le), length-append (items_below c k) (items_at c k ++ rest_of c k), length-append (items_at c k) (rest_of c k))

@@ -1,0 +1,97 @@
+-- One more module.
+use Rattle.std.proofs.Common.{◌≡◌, ℕ, ◌+◌, Bool, true, false, ◌&&◌, ◌||◌, cond, List, [], ◌∷◌, ◌++◌, length, Some, None, Option, refl, sym, ap, ◌∙◌, ⊎_elim, arith, length-append, add-zero, add-one, take, drop, drop-cons, get_or, ◌<◌, map}
+use Rattle.std.specs.Prelude.{is_some}
+use Rattle.std.specs.List.{list_any, list_all, position_from}
+use Rattle.std.specs.Str.{bytes_eq}
+use Rattle.std.specs.Cmp.Lexicographic.{slice_cmp}
+use Rattle.std.proofs.lemmas.Bool.{and_from, and_parts}
+use Rattle.std.specs.BTreeMap.{get_by}
+use Rattle.std.specs.Ordering.{nat_cmp}
+use Rattle.std.proofs.lemmas.List.{map-append, length-map}
+use Rattle.std.proofs.lemmas.List.Folds.{list_all-append, list_all_more}
+use Rattle.order_laws.proofs.Bools.{and_rotate}
+use Rattle.order_laws.proofs.Tests.{is_some-position_from, list_all-each_agree, position_from-new}
+use Rattle.modules.specs.Accepted.{Accepted, after_module, names_of, taken_regions}
+use Rattle.modules.specs.Placed.{PlacedModule}
+use Rattle.modules.specs.Regions.{are_beside, is_apart, lie_apart}
+use Rattle.modules.specs.Admissions.{admission_view, IsAdmission}
+use Rattle.modules.proofs.SoundnessLemmas.{taken_more, turned}
+use Rattle.modules.specs.declared.admission.Admission.{Admission}
+
+pub after_double : (a : Accepted) (m : PlacedModule) → list_any (bytes_eq m.name) (names_of a.modules) ≡ true → after_module a m ≡ record a { double = a.double + 1 }
+after_double a m h = rw h
+
+pub after_overlap : (a : Accepted) (m : PlacedModule) → list_any (bytes_eq m.name) (names_of a.modules) ≡ false → (lie_apart m.regions && are_beside (taken_regions a) m.regions) ≡ false → after_module a m ≡ record a { overlap = a.overlap + 1 }
+after_overlap a m h k = rw (h, k)
+
+pub after_accepted : (a : Accepted) (m : PlacedModule) → list_any (bytes_eq m.name) (names_of a.modules) ≡ false → (lie_apart m.regions && are_beside (taken_regions a) m.regions) ≡ true → after_module a m ≡ record a { modules = a.modules ++ m ∷ [] }
+after_accepted a m h k = rw (h, k)
+
+-- what all regions that are taken pass, once a module was accepted
+pub list_all-taken_after : (p : ℕ × ℕ → Bool) (a : Accepted) (m : PlacedModule) → list_all p (taken_regions (record a { modules = a.modules ++ m ∷ [] })) ≡ (list_all p (taken_regions a) && list_all p m.regions)
+list_all-taken_after p a m = ap (list_all p) (taken_more a m) ∙ list_all-append p (taken_regions a) m.regions
+
+-- how many lines were gone through
+abbrev pub total : Accepted → ℕ
+total a = a.double + a.overlap + length a.modules
+
+pub total-after_module : (a : Accepted) (m : PlacedModule) → total (after_module a m) ≡ total a + 1
+total-after_module a m =
+    elim (list_any (bytes_eq m.name) (names_of a.modules)) as (λ b. total (cond b (record a { double = a.double + 1 }) (cond (lie_apart m.regions && are_beside (taken_regions a) m.regions) (record a { modules = a.modules ++ m ∷ [] }) (record a { overlap = a.overlap + 1 }))) ≡ total a + 1) [
+      | true ↦ omega arith
+      | false ↦ elim (lie_apart m.regions && are_beside (taken_regions a) m.regions) as (λ b. total (cond b (record a { modules = a.modules ++ m ∷ [] }) (record a { overlap = a.overlap + 1 })) ≡ total a + 1) [
+        | true ↦ omega (arith, length-append a.modules (m ∷ []))
+        | false ↦ omega arith
+      ]
+    ]
+
+-- what the map of names gives is what the definitions ask
+pub found_in : (a : Admission) → IsAdmission a → (name query : List ℕ) (r : Bool) → r ≡ is_some (get_by (λ k. slice_cmp nat_cmp query k.now) a.places) → query ≡ name → list_any (bytes_eq name) (names_of (admission_view a).modules) ≡ r
+found_in a tied name query r answers is =
+    sym (is_some-position_from (bytes_eq name) 0 (names_of (admission_view a).modules)) ∙ sym (ap is_some (tied.placed name)) ∙ ap (λ (w : List ℕ). is_some (get_by (λ k. slice_cmp nat_cmp w k.now) a.places)) (sym is) ∙ sym answers
+
+pub free_in : (a : Admission) → IsAdmission a → (regions : List (ℕ × ℕ)) → are_beside (taken_regions (admission_view a)) regions ≡ are_beside a.taken regions
+free_in a tied regions = sym (list_all-each_agree is_apart a.taken (taken_regions (admission_view a)) regions tied.free)
+
+-- the map of names and the regions once a module was accepted
+pub IsTied-accepted : (a : Admission) (m : PlacedModule) → IsAdmission a → (n : Admission) → admission_view n ≡ record (admission_view a) { modules = (admission_view a).modules ++ m ∷ [] } → list_any (bytes_eq m.name) (names_of (admission_view a).modules) ≡ false → (k : ℕ) → k ≡ length (admission_view a).modules
+    → ((name : List ℕ) → get_by (λ q. slice_cmp nat_cmp name q.now) n.places ≡ cond (bytes_eq m.name name) (Some k) (get_by (λ q. slice_cmp nat_cmp name q.now) a.places))
+    → ((p : ℕ × ℕ → Bool) → list_all p n.taken ≡ (list_all p a.taken && list_all p m.regions))
+    → IsAdmission n
+IsTied-accepted a m tied n shows absent k last names regions =
+    record {
+      placed = λ name.
+          let names_are : names_of (admission_view n).modules ≡ names_of (admission_view a).modules ++ m.name ∷ [] = ap (λ (s : Accepted). names_of s.modules) shows ∙ map-append (λ (l : PlacedModule). l.name) (admission_view a).modules (m ∷ []) in
+          names name ∙ ap (λ (o : Option ℕ). cond (bytes_eq m.name name) (Some k) o) (tied.placed name) ∙ position_from-new (names_of (admission_view a).modules) m.name name k absent (last ∙ sym (length-map (admission_view a).modules (λ (l : PlacedModule). l.name))) ∙ ap (position_from (bytes_eq name) 0) (sym names_are);
+      free = λ p.
+          regions p ∙ ap (λ w. w && list_all p m.regions) (tied.free p) ∙ sym (list_all-taken_after p (admission_view a) m) ∙ ap (λ (s : Accepted). list_all p (taken_regions s)) (sym shows);
+    }
+
+-- ---- the regions of a module, taken one after the other
+
+beside_next : (now next : List (ℕ × ℕ)) (r : ℕ × ℕ) (rs : List (ℕ × ℕ)) → ((p : ℕ × ℕ → Bool) → list_all p next ≡ (p r && list_all p now)) → list_all (is_apart r) rs ≡ true → are_beside now rs ≡ true → are_beside next rs ≡ true
+beside_next now next r [] more apart beside = refl
+beside_next now next r (x ∷ xs) more apart beside =
+    let aparts = and_parts (is_apart r x) (list_all (is_apart r) xs) apart in
+    let besides = and_parts (list_all (is_apart x) now) (are_beside now xs) beside in
+    and_from (list_all (is_apart x) next) (are_beside next xs)
+    (more (is_apart x) ∙ and_from (is_apart x r) (list_all (is_apart x) now) (turned r x aparts.0) besides.0)
+    (beside_next now next r xs more aparts.1 besides.1)
+
+pub record IsTaking (old now : List (ℕ × ℕ)) (i : ℕ) (rs : List (ℕ × ℕ)) : Type 0 where
+  pub apart : lie_apart (drop i rs) ≡ true
+  pub beside : are_beside now (drop i rs) ≡ true
+  pub all : (p : ℕ × ℕ → Bool) → list_all p now ≡ (list_all p old && list_all p (take i rs))
+
+pub taking : (old now next : List (ℕ × ℕ)) (i : ℕ) (rs : List (ℕ × ℕ)) (d : ℕ × ℕ) → i < length rs → IsTaking old now i rs → ((p : ℕ × ℕ → Bool) → list_all p next ≡ (p (get_or rs i d) && list_all p now)) → IsTaking old next (i + 1) rs
+taking old now next i rs d lt before more =
+    let r : ℕ × ℕ = get_or rs i d in
+    let rest : List (ℕ × ℕ) = drop (i + 1) rs in
+    let opened : drop i rs ≡ r ∷ rest = rw (add-one) (drop-cons rs i d lt) in
+    let lies = and_parts (list_all (is_apart r) rest) (lie_apart rest) (sym (ap lie_apart opened) ∙ before.apart) in
+    let besides = and_parts (list_all (is_apart r) now) (are_beside now rest) (sym (ap (are_beside now) opened) ∙ before.beside) in
+    record {
+      apart = lies.1;
+      beside = beside_next now next r rest more lies.0 besides.1;
+      all = λ p. more p ∙ ap (λ b. p r && b) (before.all p) ∙ and_rotate (list_all p old) (list_all p (take i rs)) (p r) ∙ ap (λ b. list_all p old && b) (sym (list_all_more p rs i d lt));
+    }

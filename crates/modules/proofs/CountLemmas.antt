@@ -1,0 +1,144 @@
+-- Each line is counted once.
+use Rattle.std.proofs.Common.{◌≡◌, ◌≢◌, ℕ, ◌+◌, Bool, true, false, ◌&&◌, cond, List, [], ◌∷◌, ◌++◌, length, get_or, map, Some, None, Option, refl, sym, suc, ap, ◌∙◌, arith}
+use Rattle.std.specs.Prelude.{All, codes, count_by, filter, fold, is_none, sum_by}
+use Rattle.std.specs.List.{list_any}
+use Rattle.std.specs.Option.{option_map_or, option_to_list}
+use Rattle.std.specs.Str.{bytes_eq}
+use Rattle.std.proofs.lemmas.Bool.{and_left, or_parts}
+use Rattle.std.proofs.lemmas.List.{length-map, get_or-map}
+use Rattle.std.proofs.lemmas.List.Sums.{length-filter, sum_by-cons}
+use Rattle.std.proofs.lemmas.List.Folds.{list_any_none}
+use Rattle.std.specs.Cmp.{first_so}
+use Rattle.order_laws.proofs.Bools.{count-and_false, count-or, count-or_apart}
+use Rattle.order_laws.proofs.Tests.{count_by-either}
+use Rattle.order_laws.proofs.Options.{bytes_eq-one_name}
+use Rattle.modules.specs.Accepted.{Accepted, accepted_of, after_module, names_of, none_yet}
+use Rattle.modules.specs.Catalogs.{built_in_of, catalog_of, counts_of, entries_of, entry_for}
+use Rattle.modules.specs.Entries.{ModuleEntry}
+use Rattle.modules.specs.Building.{kernel_at}
+use Rattle.modules.specs.Kept.{AreDistinctNames, belongs, entry_of, is_built_in, is_kept, is_used, lies_in, symbols_that}
+use Rattle.modules.specs.Lines.{built_in_region, fits, region_fits}
+use Rattle.modules.specs.Listed.{BoundNames, ListedModule, ListedRegion, ListedSymbol}
+use Rattle.modules.specs.Placed.{PlacedModule, are_few, placed_line}
+use Rattle.modules.specs.Regions.{holds}
+use Rattle.modules.proofs.AdmissionLemmas.{total, total-after_module}
+use Rattle.modules.proofs.SoundnessLemmas.{IsGood, accepted_good, built_in_kept}
+
+pub total-fold : (a : Accepted) (ms : List PlacedModule) → total (fold after_module a ms) ≡ total a + length ms
+total-fold a [] = omega arith
+total-fold a (m ∷ ms) = omega (arith, total-fold (after_module a m) ms, total-after_module a m)
+
+pub modules_counted : (names : BoundNames) (modules : List ListedModule) (regions : List ListedRegion) (symbols : List ListedSymbol) → let n = counts_of names modules regions symbols in n.modules + n.double + n.overlap ≡ length modules
+modules_counted names modules regions symbols = omega (arith, total-fold (none_yet (built_in_region names symbols)) (map (placed_line regions) modules), length-map modules (placed_line regions))
+
+pub symbols_counted : (names : BoundNames) (modules : List ListedModule) (regions : List ListedRegion) (symbols : List ListedSymbol) → let n = counts_of names modules regions symbols in n.symbols + n.stray ≡ length symbols
+symbols_counted names modules regions symbols = count_by-either (is_kept (accepted_of (built_in_region names symbols) regions modules)) symbols
+
+pub regions_counted : (names : BoundNames) (modules : List ListedModule) (regions : List ListedRegion) (symbols : List ListedSymbol) → let n = counts_of names modules regions symbols in n.regions + n.stray_regions ≡ length regions
+regions_counted names modules regions symbols = count_by-either (is_used (accepted_of (built_in_region names symbols) regions modules) regions) regions
+
+-- ---- each kept line is in one module
+
+length-symbols_that : (p : ListedSymbol → Bool) (symbols : List ListedSymbol) → length (symbols_that p symbols) ≡ count_by p symbols
+length-symbols_that p symbols = length-map (filter p symbols) entry_of ∙ length-filter p symbols
+
+-- how many modules a symbol belongs to
+abbrev pub homes : List PlacedModule → ListedSymbol → ℕ
+homes lines s = count_by (λ m. belongs m s) lines
+
+zero_for_all : (xs : List ListedSymbol) → sum_by (homes []) xs ≡ 0
+zero_for_all [] = refl
+zero_for_all (x ∷ xs) = omega (arith, zero_for_all xs, sum_by-cons (homes []) x xs)
+
+sum_of_both : (p : ListedSymbol → Bool) (n : ListedSymbol → ℕ) (xs : List ListedSymbol) → sum_by (λ x. cond (p x) 1 0 + n x) xs ≡ count_by p xs + sum_by n xs
+sum_of_both p n [] = omega arith
+sum_of_both p n (x ∷ xs) = omega (arith, sum_of_both p n xs, sum_by-cons (λ y. cond (p y) 1 0 + n y) x xs, sum_by-cons (λ y. cond (p y) 1 0) x xs, sum_by-cons n x xs)
+
+sum_agree : (f g : ListedSymbol → ℕ) (xs : List ListedSymbol) → ((x : ListedSymbol) → f x ≡ g x) → sum_by f xs ≡ sum_by g xs
+sum_agree f g [] same = refl
+sum_agree f g (x ∷ xs) same = omega (arith, sum_agree f g xs same, same x, sum_by-cons f x xs, sum_by-cons g x xs)
+
+-- the symbols of all modules, counted by symbol
+pub symbols_by_home : (lines : List PlacedModule) (symbols : List ListedSymbol) → sum_by (λ m. count_by (belongs m) symbols) lines ≡ sum_by (homes lines) symbols
+symbols_by_home [] symbols = sym (zero_for_all symbols)
+symbols_by_home (m ∷ ms) symbols =
+    omega (
+      arith,
+      symbols_by_home ms symbols,
+      sum_of_both (belongs m) (homes ms) symbols,
+      sum_by-cons (λ n. count_by (belongs n) symbols) m ms,
+      sum_agree (homes (m ∷ ms)) (λ s. cond (belongs m s) 1 0 + homes ms s) symbols (λ s. sum_by-cons (λ n. cond (belongs n s) 1 0) m ms),
+    )
+
+-- a symbol belongs to modules of one name alone
+other_name : (m n : PlacedModule) (s : ListedSymbol) → m.name ≢ n.name → belongs m s ≡ true → belongs n s ≡ false
+other_name m n s differ h =
+    and_left (option_map_or (λ name. bytes_eq name n.name) s.owner false) (lies_in n s.addr)
+    (bytes_eq-one_name s.owner m.name n.name differ (first_so (option_map_or (λ name. bytes_eq name m.name) s.owner false) (lies_in m s.addr) h))
+
+no_home_left : (m : PlacedModule) (ms : List PlacedModule) (s : ListedSymbol) → AreDistinctNames (names_of (m ∷ ms)) → belongs m s ≡ true → list_any (λ n. belongs n s) ms ≡ false
+no_home_left m ms s distinct h = list_any_none (λ (n : PlacedModule). belongs n s) ms (λ k d lt.
+    other_name m (get_or ms k d) s (λ same. distinct 0 (suc k) d.name (omega arith) (let n : length (names_of ms) ≡ length ms = length-map ms (λ (l : PlacedModule). l.name) in omega arith) (same ∙ sym (get_or-map (λ (l : PlacedModule). l.name) ms k d d.name lt))) h)
+
+distinct_tail : (m : PlacedModule) (ms : List PlacedModule) → AreDistinctNames (names_of (m ∷ ms)) → AreDistinctNames (names_of ms)
+distinct_tail m ms distinct = λ i j d lt within. distinct (suc i) (suc j) d (omega arith) (omega arith)
+
+count_of_none : (ms : List PlacedModule) (s : ListedSymbol) → list_any (λ n. belongs n s) ms ≡ false → homes ms s ≡ 0
+count_of_none [] s h = refl
+count_of_none (m ∷ ms) s h =
+    let both = or_parts (belongs m s) (list_any (λ n. belongs n s) ms) h in
+    let first : cond {A = ℕ} (belongs m s) 1 0 ≡ 0 = ap (λ b. cond b 1 0) both.0 in
+    omega (arith, first, count_of_none ms s both.1, sum_by-cons (λ n. cond (belongs n s) 1 0) m ms)
+
+one_home : (lines : List PlacedModule) (s : ListedSymbol) → AreDistinctNames (names_of lines) → homes lines s ≡ cond (list_any (λ m. belongs m s) lines) 1 0
+one_home [] s distinct = refl
+one_home (m ∷ ms) s distinct =
+    sum_by-cons (λ n. cond (belongs n s) 1 0) m ms ∙ count-or (belongs m s) (list_any (λ n. belongs n s) ms) (homes ms s) (one_home ms s (distinct_tail m ms distinct)) (λ h. count_of_none ms s (no_home_left m ms s distinct h))
+
+-- a symbol of the kernel itself belongs to no module
+abbrev pub without_owner : Option (List ℕ) → ℕ → PlacedModule → Bool
+without_owner owner addr m = option_map_or (λ name. bytes_eq name m.name) owner false && lies_in m addr
+
+unowned : (owner : Option (List ℕ)) (addr : ℕ) (ms : List PlacedModule) → is_none owner ≡ true → list_any (without_owner owner addr) ms ≡ false
+unowned None addr ms h = list_any_none (without_owner None addr) ms (λ k d lt. refl)
+unowned (Some name) addr ms h = absurd (cc)
+
+-- each kept symbol is counted once
+pub kept_by_home : (built_in : Option (ℕ × ℕ)) (a : Accepted) (symbols : List ListedSymbol) → a.built_in ≡ built_in → AreDistinctNames (names_of a.modules) → count_by (is_built_in built_in) symbols + sum_by (homes a.modules) symbols ≡ count_by (is_kept a) symbols
+kept_by_home built_in a [] same distinct = omega arith
+kept_by_home built_in a (s ∷ symbols) same distinct =
+    let one : homes a.modules s ≡ cond (list_any (λ m. belongs m s) a.modules) 1 0 = one_home a.modules s distinct in
+    let apart : is_built_in a.built_in s ≡ true → list_any (λ m. belongs m s) a.modules ≡ false = λ h. unowned s.owner s.addr a.modules (first_so (is_none s.owner) (option_map_or (λ r. holds r s.addr) a.built_in false) h) in
+    let this : cond (is_built_in built_in s) 1 0 + cond (list_any (λ m. belongs m s) a.modules) 1 0 ≡ cond (is_kept a s) 1 0 = ap (λ (b : Option (ℕ × ℕ)). cond (is_built_in b s) 1 0 + cond (list_any (λ m. belongs m s) a.modules) 1 0) (sym same) ∙ count-or_apart (is_built_in a.built_in s) (list_any (λ m. belongs m s) a.modules) apart in
+    omega (
+      arith,
+      one,
+      this,
+      kept_by_home built_in a symbols same distinct,
+      sum_by-cons (λ x. cond (is_built_in built_in x) 1 0) s symbols,
+      sum_by-cons (homes a.modules) s symbols,
+      sum_by-cons (λ x. cond (is_kept a x) 1 0) s symbols,
+    )
+
+sum_of_modules : (symbols : List ListedSymbol) (lines : List PlacedModule) → sum_by (λ (m : ModuleEntry). length m.symbols) (map (entry_for symbols) lines) ≡ sum_by (λ m. count_by (belongs m) symbols) lines
+sum_of_modules symbols [] = refl
+sum_of_modules symbols (m ∷ ms) = omega (arith, length-symbols_that (belongs m) symbols, sum_of_modules symbols ms, sum_by-cons (λ (e : ModuleEntry). length e.symbols) (entry_for symbols m) (map (entry_for symbols) ms), sum_by-cons (λ n. count_by (belongs n) symbols) m ms)
+
+none_built_in : (symbols : List ListedSymbol) → count_by (is_built_in None) symbols ≡ 0
+none_built_in [] = refl
+none_built_in (s ∷ symbols) = omega (arith, none_built_in symbols, count-and_false (is_none s.owner), sum_by-cons (λ x. cond (is_built_in None x) 1 0) s symbols)
+
+abbrev pub kernel : ℕ × ℕ → List ListedSymbol → ModuleEntry
+kernel r symbols = record { name = codes "-"; regions = r ∷ []; parts = (kernel_at r).parts; symbols = symbols_that (is_built_in (Some r)) symbols }
+
+sum_of_entries : (built_in : Option (ℕ × ℕ)) (symbols : List ListedSymbol) (lines : List PlacedModule) → sum_by (λ (m : ModuleEntry). length m.symbols) (option_to_list (built_in_of built_in symbols) ++ map (entry_for symbols) lines) ≡ count_by (is_built_in built_in) symbols + sum_by (λ m. count_by (belongs m) symbols) lines
+sum_of_entries None symbols lines = omega (arith, none_built_in symbols, sum_of_modules symbols lines)
+sum_of_entries (Some r) symbols lines = omega (arith, length-symbols_that (is_built_in (Some r)) symbols, sum_of_modules symbols lines, sum_by-cons (λ (e : ModuleEntry). length e.symbols) (kernel r symbols) (map (entry_for symbols) lines))
+
+pub kept_in_one : (names : BoundNames) (modules : List ListedModule) (regions : List ListedRegion) (symbols : List ListedSymbol) → All (λ l. fits l ≡ true) modules → All (λ l. region_fits l ≡ true) regions → are_few regions ≡ true
+    → sum_by (λ m. length m.symbols) (entries_of (catalog_of names modules regions symbols)) ≡ (counts_of names modules regions symbols).symbols
+kept_in_one names modules regions symbols fit regions_fit few =
+    let built_in : Option (ℕ × ℕ) = built_in_region names symbols in
+    let a : Accepted = accepted_of built_in regions modules in
+    let good : IsGood a = accepted_good names modules regions symbols fit regions_fit few in
+    sum_of_entries built_in symbols a.modules ∙ ap (λ n. count_by (is_built_in built_in) symbols + n) (symbols_by_home a.modules symbols) ∙ kept_by_home built_in a symbols (built_in_kept (none_yet built_in) (map (placed_line regions) modules)) good.distinct

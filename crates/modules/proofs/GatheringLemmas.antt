@@ -1,0 +1,167 @@
+-- One more run of symbol lines.
+use Rattle.std.proofs.Common.{◌≡◌, ℕ, ◌+◌, ◌<◌, ◌≤◌, Bool, false, cond, List, ◌++◌, length, get_or, map, not, Some, None, Ok, Err, Option, Result, refl, sym, ap, subst, ◌∙◌, ⊎_elim, arith, length-append}
+use Rattle.std.specs.Prelude.{filter, count_by, IfOk, OnOk}
+use Rattle.std.specs.Borrow.{Bor}
+use Rattle.std.specs.Global.{Vec}
+use Rattle.std.specs.List.{position_from, zip}
+use Rattle.std.specs.Option.{option_copied, option_map_or}
+use Rattle.std.specs.declared.alloc.AllocError.{AllocError}
+use Rattle.std.specs.Str.{bytes_eq}
+use Rattle.std.proofs.lemmas.Bool.{cases_eq}
+use Rattle.std.proofs.lemmas.List.{map-append, append-nil, length-map}
+use Rattle.std.proofs.lemmas.List.Elements.{filter-append}
+use Rattle.std.proofs.lemmas.List.Filters.{length-filter_both}
+use Rattle.std.proofs.lemmas.List.Sums.{sum_by-append}
+use Rattle.modules.specs.Accepted.{Accepted, names_of}
+use Rattle.modules.specs.Entries.{SymbolEntry}
+use Rattle.modules.specs.Gathering.{CountsStay, Gathers, HasRoom, Keeps, KeepsRun, kept_of, lies_for, owner_for}
+use Rattle.modules.specs.Kept.{AreDistinctNames, belongs, is_built_in, is_kept, symbols_that, entry_of}
+use Rattle.modules.specs.Listed.{ListedSymbol}
+use Rattle.modules.specs.Placed.{PlacedModule}
+use Rattle.modules.specs.Runs.{AreLettered, lines_of_runs, lines_of_run, lines_of_all, unlettered, with_letter}
+use Rattle.modules.specs.declared.gathering.Gathered.{Gathered}
+use Rattle.modules.specs.declared.gathering.Owner.{Owner}
+use Rattle.modules.specs.declared.gathering.Owner.TheVariants as owner
+use Rattle.modules.specs.declared.symbol_lines.Run.{Run}
+use Rattle.modules.proofs.HomeLemmas.{that_run, that_none, count_run, count_rest, kept_unnamed, kept_nowhere, kept_there, belongs_there}
+use Rattle.modules.proofs.KeptLemmas.{no_home, only_home, place_within}
+use Rattle.modules.proofs.RunLemmas.{that-lettered, count-lettered}
+
+that-append : (p : ListedSymbol → Bool) (xs ys : List ListedSymbol) → symbols_that p (xs ++ ys) ≡ symbols_that p xs ++ symbols_that p ys
+that-append p xs ys = ap (map entry_of) (filter-append p xs ys) ∙ map-append entry_of (filter p xs) (filter p ys)
+
+-- what the lines of a run add to each list and each count
+record Adds (a : Accepted) (n : Option (List ℕ)) (q : SymbolEntry → Bool) (ss : List SymbolEntry) (g h : Gathered) : Type 0 where
+  pub built_in : h.built_in.items ≡ g.built_in.items ++ symbols_that (is_built_in a.built_in) (map (unlettered n) ss)
+  pub lists : length h.modules.items ≡ length g.modules.items
+  pub each : (j : ℕ) (d : Vec SymbolEntry) (m : PlacedModule) → j < length a.modules → (get_or h.modules.items j d).items ≡ (get_or g.modules.items j d).items ++ symbols_that (belongs (get_or a.modules j m)) (map (unlettered n) ss)
+  pub is : (s : SymbolEntry) → is_kept a (unlettered n s) ≡ q s
+  pub kept : h.kept ≡ g.kept + length (filter q ss)
+  pub stray : h.stray + length (filter q ss) ≡ g.stray + length ss
+
+Gathers-added : (a : Accepted) (n : Option (List ℕ)) (q : SymbolEntry → Bool) (ss : List SymbolEntry) (xs : List ListedSymbol) (g h : Gathered) → Gathers a xs g → Adds a n q ss g h → Gathers a (xs ++ map (unlettered n) ss) h
+Gathers-added a n q ss xs g h before adds =
+    let lines : List ListedSymbol = map (unlettered n) ss in
+    let kept : count_by (is_kept a) lines ≡ length (filter q ss) = count_run (is_kept a) q n adds.is ss in
+    let rest : count_by (λ s. not (is_kept a s)) lines + length (filter q ss) ≡ length ss = count_rest (is_kept a) q n adds.is ss in
+    record {
+      built_in = adds.built_in ∙ ap (λ es. es ++ symbols_that (is_built_in a.built_in) lines) before.built_in ∙ sym (that-append (is_built_in a.built_in) xs lines);
+      lists = adds.lists ∙ before.lists;
+      each = λ j d m lt. adds.each j d m lt ∙ ap (λ es. es ++ symbols_that (belongs (get_or a.modules j m)) lines) (before.each j d m lt) ∙ sym (that-append (belongs (get_or a.modules j m)) xs lines);
+      kept = omega (arith, adds.kept, before.kept, kept, sum_by-append (λ (s : ListedSymbol). cond (is_kept a s) 1 0) xs lines);
+      stray = omega (arith, adds.stray, before.stray, rest, sum_by-append (λ (s : ListedSymbol). cond (not (is_kept a s)) 1 0) xs lines);
+    }
+
+-- a list to which nothing is put
+stays : (p : ListedSymbol → Bool) (n : Option (List ℕ)) (ss es fs : List SymbolEntry) → ((s : SymbolEntry) → p (unlettered n s) ≡ false) → fs ≡ es → fs ≡ es ++ symbols_that p (map (unlettered n) ss)
+stays p n ss es fs none same = same ∙ sym (append-nil es) ∙ ap (λ xs. es ++ xs) (sym (that_none p n none ss))
+
+-- one to which the kept ones are put
+grows : (p : ListedSymbol → Bool) (q : SymbolEntry → Bool) (n : Option (List ℕ)) (ss es fs : List SymbolEntry) → ((s : SymbolEntry) → p (unlettered n s) ≡ q s) → fs ≡ es ++ filter q ss → fs ≡ es ++ symbols_that p (map (unlettered n) ss)
+grows p q n ss es fs is more = more ∙ ap (λ xs. es ++ xs) (sym (that_run p q n is ss))
+
+abbrev lies : Accepted → Owner → SymbolEntry → Bool
+lies a o s = lies_for a o s.addr
+
+kernel_adds : (a : Accepted) (ss : List SymbolEntry) (g h : Gathered) → Keeps owner.BuiltIn (filter (lies a owner.BuiltIn) ss) g h → h.kept ≡ g.kept + length (filter (lies a owner.BuiltIn) ss) → h.stray + length (filter (lies a owner.BuiltIn) ss) ≡ g.stray + length ss → Adds a None (lies a owner.BuiltIn) ss g h
+kernel_adds a ss g h keeps kept stray = record {
+  built_in = grows (is_built_in a.built_in) (lies a owner.BuiltIn) None ss g.built_in.items h.built_in.items (λ s. refl) keeps.0;
+  lists = ap length keeps.1;
+  each = λ j d m lt. stays (belongs (get_or a.modules j m)) None ss (get_or g.modules.items j d).items (get_or h.modules.items j d).items (λ s. refl) (ap (λ (ls : List (Vec SymbolEntry)). (get_or ls j d).items) keeps.1);
+  is = kept_unnamed a;
+  kept = kept;
+  stray = stray;
+}
+
+abbrev owner_at : Option ℕ → Owner
+owner_at o = option_map_or (λ place. owner.Module place) o owner.Nobody
+
+named_adds : (a : Accepted) (name : List ℕ) (o : Option ℕ) (ss : List SymbolEntry) (g h : Gathered) → AreDistinctNames (names_of a.modules) → position_from (bytes_eq name) 0 (names_of a.modules) ≡ o → Keeps (owner_at o) (filter (lies a (owner_at o)) ss) g h → h.kept ≡ g.kept + length (filter (lies a (owner_at o)) ss) → h.stray + length (filter (lies a (owner_at o)) ss) ≡ g.stray + length ss → Adds a (Some name) (lies a (owner_at o)) ss g h
+named_adds a name None ss g h distinct at keeps kept stray = record {
+  built_in = stays (is_built_in a.built_in) (Some name) ss g.built_in.items h.built_in.items (λ s. refl) keeps.0;
+  lists = ap length keeps.1;
+  each = λ j d m lt. stays (belongs (get_or a.modules j m)) (Some name) ss (get_or g.modules.items j d).items (get_or h.modules.items j d).items (λ s. no_home a (unlettered (Some name) s) name refl at j m lt) (ap (λ (ls : List (Vec SymbolEntry)). (get_or ls j d).items) keeps.1);
+  is = kept_nowhere a name at;
+  kept = kept;
+  stray = stray;
+}
+named_adds a name (Some k) ss g h distinct at keeps kept stray = record {
+  built_in = stays (is_built_in a.built_in) (Some name) ss g.built_in.items h.built_in.items (λ s. refl) keeps.0;
+  lists = keeps.1;
+  each = λ j d m lt. ⊎_elim
+      (λ same. grows (belongs (get_or a.modules j m)) (lies a (owner.Module k)) (Some name) ss (get_or g.modules.items j d).items (get_or h.modules.items j d).items
+      (λ s. ap (λ (i : ℕ). belongs (get_or a.modules i m) (unlettered (Some name) s)) same ∙ belongs_there a name k at m s)
+      (ap (λ (i : ℕ). (get_or h.modules.items i d).items) same ∙ keeps.2 d ∙ ap (λ (i : ℕ). (get_or g.modules.items i d).items ++ filter (lies a (owner.Module k)) ss) (sym same)))
+      (λ other. stays (belongs (get_or a.modules j m)) (Some name) ss (get_or g.modules.items j d).items (get_or h.modules.items j d).items
+      (λ s. only_home a (unlettered (Some name) s) name k distinct refl at j m lt other)
+      (ap (λ (v : Vec SymbolEntry). v.items) (keeps.3 j d other)))
+      (cases_eq j k);
+  is = kept_there a name k distinct at;
+  kept = kept;
+  stray = stray;
+}
+
+run_adds : (a : Accepted) (n : Option (List ℕ)) (ss : List SymbolEntry) (g h : Gathered) → AreDistinctNames (names_of a.modules) → Keeps (owner_for a n) (filter (lies a (owner_for a n)) ss) g h → h.kept ≡ g.kept + length (filter (lies a (owner_for a n)) ss) → h.stray + length (filter (lies a (owner_for a n)) ss) ≡ g.stray + length ss → Adds a n (lies a (owner_for a n)) ss g h
+run_adds a None ss g h distinct keeps kept stray = kernel_adds a ss g h keeps kept stray
+run_adds a (Some name) ss g h distinct keeps kept stray = named_adds a name (position_from (bytes_eq name) 0 (names_of a.modules)) ss g h distinct refl keeps kept stray
+
+pub Gathers-run : (a : Accepted) (xs : List ListedSymbol) (r : Run) (g h : Gathered) → AreDistinctNames (names_of a.modules) → Gathers a xs g → KeepsRun a r g h → Gathers a (xs ++ lines_of_run r) h
+Gathers-run a xs r g h distinct before keeps =
+    let n : Option (List ℕ) = option_copied r.module in
+    Gathers-added a n (lies a (owner_for a n)) r.symbols.items xs g h before (run_adds a n r.symbols.items g h distinct keeps.lists keeps.kept keeps.stray)
+
+-- letters change nothing of what is gathered
+pub Gathers-lettered : (a : Accepted) (xs : List ListedSymbol) (ls : List ℕ) (g : Gathered) → length xs ≡ length ls → Gathers a xs g → Gathers a (map with_letter (zip xs ls)) g
+Gathers-lettered a xs ls g same gathers = record {
+  built_in = gathers.built_in ∙ sym (that-lettered (is_built_in a.built_in) (λ x k. refl) xs ls same);
+  lists = gathers.lists;
+  each = λ j d m lt. gathers.each j d m lt ∙ sym (that-lettered (belongs (get_or a.modules j m)) (λ x k. refl) xs ls same);
+  kept = gathers.kept ∙ sym (count-lettered (is_kept a) (λ x k. refl) xs ls same);
+  stray = gathers.stray ∙ sym (count-lettered (λ s. not (is_kept a s)) (λ x k. refl) xs ls same);
+}
+
+-- so many more lines are counted
+pub counts_run : (a : Accepted) (r : Run) (g h : Gathered) (xs : List ListedSymbol) → KeepsRun a r g h → g.kept + g.stray ≡ length xs → h.kept + h.stray ≡ length (xs ++ lines_of_run r)
+counts_run a r g h xs keeps before = omega (arith, keeps.kept, keeps.stray, before, length-append xs (lines_of_run r), length-map r.symbols.items (unlettered (option_copied r.module)))
+
+-- no more are kept than there are
+pub kept_within : (a : Accepted) (o : Owner) (ss kept : List SymbolEntry) → kept ≡ filter (lies a o) ss → length kept ≤ length ss
+kept_within a o ss kept is = omega (arith, ap (λ (es : List SymbolEntry). length es) is, length-filter_both (lies a o) (λ s. not (lies a o s)) (λ s. refl) ss)
+
+-- an owner has a list
+room_at : (a : Accepted) (name : List ℕ) (o : Option ℕ) (g : Gathered) → length g.modules.items ≡ length a.modules → position_from (bytes_eq name) 0 (names_of a.modules) ≡ o → HasRoom g (owner_at o)
+room_at a name None g lists at = tt
+room_at a name (Some k) g lists at = omega (arith, (place_within a.modules name k at).0, lists, g.modules.ok.0)
+
+room_for : (a : Accepted) (n : Option (List ℕ)) (g : Gathered) → length g.modules.items ≡ length a.modules → HasRoom g (owner_for a n)
+room_for a None g lists = tt
+room_for a (Some name) g lists = room_at a name (position_from (bytes_eq name) 0 (names_of a.modules)) g lists refl
+
+pub room_of : (a : Accepted) (m : Option (Bor (List ℕ))) (g : Gathered) (o : Owner) → o ≡ owner_for a (option_copied m) → length g.modules.items ≡ length a.modules → HasRoom g o
+room_of a m g o is lists = rw is (room_for a (option_copied m) g lists)
+
+keeps_same : (o : Owner) (g h : Gathered) (kept stray : ℕ) (ss : List SymbolEntry) → Keeps o ss (record g { kept = kept; stray = stray }) h → Keeps o ss g h
+keeps_same owner.BuiltIn g h kept stray ss keeps = keeps
+keeps_same (owner.Module place) g h kept stray ss keeps = keeps
+keeps_same owner.Nobody g h kept stray ss keeps = keeps
+
+lists_of : (o p : Owner) (ss ts : List SymbolEntry) (g h : Gathered) (kept stray : ℕ) → o ≡ p → ss ≡ ts → Keeps o ss (record g { kept = kept; stray = stray }) h → Keeps p ts g h
+lists_of o p ss ts g h kept stray owner all keeps = subst (λ (q : Owner). Keeps q ts g h) owner (keeps_same o g h kept stray ts (subst (λ (es : List SymbolEntry). Keeps o es (record g { kept = kept; stray = stray }) h) all keeps))
+
+-- what a run adds is in the lists and in the counts
+pub kept_or_fails : (a : Accepted) (r : Run) (g : Gathered) (kept rest : ℕ) (o : Owner) (symbols : List SymbolEntry) (h : Gathered) (result : Result (Unit {0}) AllocError) → o ≡ owner_for a (option_copied r.module) → symbols ≡ filter (lies a o) r.symbols.items → kept ≡ length symbols → rest + length symbols ≡ length r.symbols.items
+    → OnOk result (Keeps o symbols (record g { kept = g.kept + kept; stray = g.stray + rest }) h) → OnOk result (CountsStay (record g { kept = g.kept + kept; stray = g.stray + rest }) h) → OnOk result (KeepsRun a r g h)
+kept_or_fails a r g kept rest o symbols h (Err e) owner is few others lists counts = tt
+kept_or_fails a r g kept rest o symbols h (Ok v) owner is few others lists counts =
+    let all : symbols ≡ kept_of a r = is ∙ ap (λ (x : Owner). filter (lies a x) r.symbols.items) owner in
+    let same : length symbols ≡ length (kept_of a r) = ap (λ (es : List SymbolEntry). length es) all in
+    record {
+      lists = lists_of o (owner_for a (option_copied r.module)) symbols (kept_of a r) g h (g.kept + kept) (g.stray + rest) owner all lists;
+      kept = omega (arith, counts.0, few, same);
+      stray = omega (arith, counts.1, others, same);
+    }
+
+-- the lines with their letters, or no memory
+pub gathers_or_fails : (a : Accepted) (runs : List Run) (letters : List ℕ) (lines : List ListedSymbol) (result : Result Gathered AllocError) → AreLettered runs letters → lines_of_runs runs letters ≡ lines → IfOk result (Gathers a (lines_of_all runs)) → IfOk result (Gathers a lines)
+gathers_or_fails a runs letters lines (Ok g) same is gathers = subst (λ (ls : List ListedSymbol). Gathers a ls g) is (Gathers-lettered a (lines_of_all runs) letters g same gathers)
+gathers_or_fails a runs letters lines (Err e) same is gathers = tt

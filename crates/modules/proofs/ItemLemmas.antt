@@ -1,0 +1,63 @@
+-- The items of a catalog are its regions.
+use Rattle.std.proofs.Common.{◌≡◌, ℕ, zero, suc, ◌+◌, List, [], ◌∷◌, ◌++◌, length, map, flat_map, Option, Some, None, refl, sym, ◌∙◌, ap, subst, arith, append-nil, add-one}
+use Rattle.std.specs.Prelude.{Contains, slice_get}
+use Rattle.std.specs.List.{range_with_len}
+use Rattle.std.specs.Option.{option_map_or, option_to_list}
+use Rattle.std.proofs.lemmas.List.{map-append}
+use Rattle.std.proofs.lemmas.Grind.{flat_map-append}
+use Rattle.order_laws.proofs.Ranges.{range-append_from_zero}
+use Rattle.order_laws.specs.declared.items.Item.{Item}
+use Rattle.modules.specs.Catalogs.{module_of, regions_of}
+use Rattle.modules.specs.Entries.{CatalogEntries, ModuleEntry}
+use Rattle.modules.specs.Items.{items_at, items_below, items_of}
+use Rattle.modules.specs.Loads.{item_of}
+
+-- the region of an item
+abbrev pub region_of : Item → ℕ × ℕ
+region_of i = (i.a, i.b)
+
+pub one_number_more : (c : CatalogEntries) (k : ℕ) → items_below c (k + 1) ≡ items_below c k ++ items_at c k
+one_number_more c k =
+    ap (flat_map (items_at c)) (range-append_from_zero k 1)
+    ∙ flat_map-append (items_at c) (range_with_len 0 k) (k ∷ [])
+    ∙ ap (λ l. items_below c k ++ l) (append-nil (items_at c k))
+
+-- the regions of the items are those of the module
+regions_again : (k : ℕ) (rs : List (ℕ × ℕ)) → map region_of (map (item_of k) rs) ≡ rs
+regions_again k [] = refl
+regions_again k (r ∷ rs) = ap (λ l. r ∷ l) (regions_again k rs)
+
+regions_at : (c : CatalogEntries) (k : ℕ) (m : ModuleEntry) → module_of c k ≡ Some m → map region_of (items_at c k) ≡ m.regions
+regions_at c k m e = ap (λ o. map region_of (option_map_or (λ m. map (item_of k) m.regions) o [])) e ∙ regions_again k m.regions
+
+-- the modules from a place on
+regions_from : (c : CatalogEntries) (ms : List ModuleEntry) (s : ℕ)
+    → ((i : ℕ) (m : ModuleEntry) → slice_get ms i ≡ Some m → module_of c (s + i) ≡ Some m)
+    → map region_of (flat_map (items_at c) (range_with_len s (length ms))) ≡ flat_map (λ m. m.regions) ms
+regions_from c [] s h = refl
+regions_from c (m ∷ ms) s h =
+    let here = subst (λ k. module_of c k ≡ Some m) (let e : s + 0 ≡ s = omega arith in e) (h 0 m refl) in
+    let there : (i : ℕ) (x : ModuleEntry) → slice_get ms i ≡ Some x → module_of c (s + 1 + i) ≡ Some x =
+    λ i x e. subst (λ k. module_of c k ≡ Some x) (let q : s + suc i ≡ s + 1 + i = omega arith in q) (h (suc i) x e) in
+    map-append region_of (items_at c s) (flat_map (items_at c) (range_with_len (s + 1) (length ms)))
+    ∙ ap (λ l. l ++ map region_of (flat_map (items_at c) (range_with_len (s + 1) (length ms)))) (regions_at c s m here)
+    ∙ ap (λ l. m.regions ++ l) (regions_from c ms (s + 1) there)
+
+module_at : (c : CatalogEntries) (i k : ℕ) (m : ModuleEntry) → k ≡ 1 + i → slice_get c.modules i ≡ Some m → module_of c k ≡ Some m
+module_at c i zero m e is = absurd (omega arith)
+module_at c i (suc j) m e is = subst (λ p. slice_get c.modules p ≡ Some m) (let q : i ≡ j = omega arith in q) is
+
+built_in_regions : (c : CatalogEntries) → map region_of (items_at c 0) ≡ flat_map (λ m. m.regions) (option_to_list c.built_in)
+built_in_regions c = go c.built_in
+  where
+    go : (o : Option ModuleEntry) → map region_of (option_map_or (λ m. map (item_of 0) m.regions) o []) ≡ flat_map (λ m. m.regions) (option_to_list o)
+    go None = refl
+    go (Some m) = regions_again 0 m.regions ∙ sym (append-nil m.regions)
+
+pub all_regions : (c : CatalogEntries) → map region_of (items_of c) ≡ regions_of c
+all_regions c =
+    ap (λ n. map region_of (items_below c n)) (add-one (length c.modules))
+    ∙ map-append region_of (items_at c 0) (flat_map (items_at c) (range_with_len 1 (length c.modules)))
+    ∙ ap (λ l. l ++ map region_of (flat_map (items_at c) (range_with_len 1 (length c.modules)))) (built_in_regions c)
+    ∙ ap (λ l. flat_map (λ m. m.regions) (option_to_list c.built_in) ++ l) (regions_from c c.modules 1 (λ i m e. module_at c i (1 + i) m refl e))
+    ∙ sym (flat_map-append (λ (m : ModuleEntry). m.regions) (option_to_list c.built_in) c.modules)

@@ -1,0 +1,204 @@
+-- Which updates a load, an unload, and the end of a module's start give.
+use Rattle.std.proofs.Common.{◌≡◌, ℕ, ◌+◌, ◌<◌, ◌≤◌, Bool, true, false, ◌&&◌, ◌||◌, ◌⊎◌, not, nat_eq, cond, zero, suc, List, [], ◌∷◌, ◌++◌, length, get_or, map, take, Some, None, Ok, Err, Option, Result, refl, sym, ap, subst, ◌∙◌, inl, inr, ⊎_elim, arith, length-append, add-one, drop}
+use Rattle.std.specs.Cmp.Lexicographic.{bytes_decides}
+use Rattle.std.specs.List.{list_any}
+use Rattle.std.specs.Option.{option_map_or}
+use Rattle.std.specs.Str.{bytes_eq}
+use Rattle.std.proofs.lemmas.Bool.{and_from, and_parts, eqb-true, not-true, or_cases, or_left, or_right, eq-eqb}
+use Rattle.std.proofs.lemmas.List.{length-map}
+use Rattle.latch_core.specs.declared.updates.Update.{Update}
+use Rattle.latch_core.specs.declared.updates.Update.TheVariants.{Insert, Erase, Batch}
+use Rattle.order_laws.specs.declared.items.Item.{Item}
+use Rattle.order_laws.specs.declared.refusals.Refusal.{Refusal}
+use Rattle.order_laws.specs.declared.refusals.Refusal.TheVariants.{OutOfMemory, UnknownModule}
+use Rattle.order_laws.proofs.Bools.{and_by_second, or_by_first, or_by_second}
+use Rattle.order_laws.proofs.Numbers.{eqb-one_false, eqb-one_more}
+use Rattle.modules.specs.Entries.{ModuleEntry}
+use Rattle.modules.specs.Loads.{GivesOrLacksMemory, GivesSome, TakesMemory, drop_init_update, is_erasing, is_inserting, item_of, load_update, has_no_items, same_items, unload_update, update_of}
+use Rattle.modules.specs.Parts.{is_init, is_of}
+use Rattle.modules.specs.Starts.{starts_of}
+use Rattle.modules.specs.declared.catalog.Held.{Held}
+use Rattle.modules.specs.declared.lines.Part.{Part}
+
+-- ---- the first addresses of the regions, one more at a time
+
+pub starts_more : (core init : Bool) (rs : List (ℕ × ℕ)) (ps : List Part) (i : ℕ) (r : ℕ × ℕ) (p : Part) → i < length rs → i < length ps → starts_of core init (take (i + 1) rs) (take (i + 1) ps) ≡ starts_of core init (take i rs) (take i ps) ++ cond (is_of core init (get_or ps i p)) ((get_or rs i r).0 ∷ []) []
+starts_more core init [] ps i r p lt lp = absurd (omega arith)
+starts_more core init (x ∷ xs) [] i r p lt lp = absurd (omega arith)
+starts_more core init (x ∷ xs) (y ∷ ys) zero r p lt lp = refl
+starts_more core init (x ∷ xs) (y ∷ ys) (suc i) r p lt lp =
+    let rest = starts_more core init xs ys i r p (omega arith) (omega arith) in
+    rw add-one (by_first (is_of core init y) (starts_of core init (take (suc i) xs) (take (suc i) ys)) (starts_of core init (take i xs) (take i ys)) (cond (is_of core init (get_or ys i p)) ((get_or xs i r).0 ∷ []) []) (rw (← add-one) rest))
+  where
+    by_first : (b : Bool) (new old last : List ℕ) → new ≡ old ++ last → cond b (x.0 ∷ new) new ≡ cond b (x.0 ∷ old) old ++ last
+    by_first true new old last h = ap (λ ys. x.0 ∷ ys) h
+    by_first false new old last h = h
+
+-- ---- the items of regions
+
+item_is : (number : ℕ) (r : ℕ × ℕ) (i : Item) → i.a ≡ r.0 → i.b ≡ r.1 → i.tag ≡ number → item_of number r ≡ i
+item_is number r i a b tag =
+    ap (λ x. let k : Item = record { a = x; b = r.1; tag = number } in k) (sym a)
+    ∙ ap (λ x. let k : Item = record { a = i.a; b = x; tag = number } in k) (sym b)
+    ∙ ap (λ x. let k : Item = record { a = i.a; b = i.b; tag = x } in k) (sym tag)
+
+pub items_from : (number : ℕ) (rs : List (ℕ × ℕ)) (is : List Item) → same_items number rs is ≡ true → map (item_of number) rs ≡ is
+items_from number [] [] h = refl
+items_from number [] (i ∷ is) h = absurd (cc)
+items_from number (r ∷ rs) [] h = absurd (cc)
+items_from number (r ∷ rs) (i ∷ is) h =
+    let rest = and_parts (nat_eq i.a r.0 && nat_eq i.b r.1 && nat_eq i.tag number) (same_items number rs is) h in
+    let tags = and_parts (nat_eq i.a r.0 && nat_eq i.b r.1) (nat_eq i.tag number) rest.0 in
+    let ends = and_parts (nat_eq i.a r.0) (nat_eq i.b r.1) tags.0 in
+    ap (λ x. x ∷ map (item_of number) rs) (item_is number r i (eqb-true i.a r.0 ends.0) (eqb-true i.b r.1 ends.1) (eqb-true i.tag number tags.1))
+    ∙ ap (λ xs. i ∷ xs) (items_from number rs is rest.1)
+
+pub items_same : (number : ℕ) (rs : List (ℕ × ℕ)) → same_items number rs (map (item_of number) rs) ≡ true
+items_same number [] = refl
+items_same number (r ∷ rs) = rw (eq-eqb r.0 r.0 refl, eq-eqb r.1 r.1 refl, eq-eqb number number refl) (items_same number rs)
+
+-- ---- the updates
+
+none_from : {A : Type 0} (xs : List A) → has_no_items xs ≡ true → xs ≡ []
+none_from [] h = refl
+none_from (x ∷ xs) h = absurd (cc)
+
+erase_batch : (starts : List ℕ) → nat_eq (length starts) 1 ≡ false → update_of starts [] ≡ Batch starts []
+erase_batch [] h = refl
+erase_batch (a ∷ []) h = absurd (cc)
+erase_batch (a ∷ b ∷ rest) h = refl
+
+insert_batch : (items : List Item) → nat_eq (length items) 1 ≡ false → update_of [] items ≡ Batch [] items
+insert_batch [] h = refl
+insert_batch (i ∷ []) h = absurd (cc)
+insert_batch (i ∷ j ∷ rest) h = refl
+
+pub erasing_from : (starts : List ℕ) (u : Update) → is_erasing starts u ≡ true → update_of starts [] ≡ u
+erasing_from starts (Insert i) h = absurd (cc)
+erasing_from starts (Erase a) h = ap (λ (s : List ℕ). update_of s []) ((bytes_decides starts (a ∷ [])).0 h)
+erasing_from starts (Batch erase insert) h =
+    let last = and_parts (not (nat_eq (length starts) 1) && has_no_items insert) (bytes_eq starts erase) h in
+    let first = and_parts (not (nat_eq (length starts) 1)) (has_no_items insert) last.0 in
+    erase_batch starts (not-true (nat_eq (length starts) 1) first.0)
+    ∙ ap (λ (s : List ℕ). Batch s []) ((bytes_decides starts erase).0 last.1)
+    ∙ ap (λ (is : List Item). Batch erase is) (sym (none_from insert first.1))
+
+erasing_self : (starts : List ℕ) → is_erasing starts (update_of starts []) ≡ true
+erasing_self [] = refl
+erasing_self (a ∷ []) = (bytes_decides (a ∷ []) (a ∷ [])).1 refl
+erasing_self (a ∷ b ∷ rest) = rw (eqb-one_more (length rest), (bytes_decides (a ∷ b ∷ rest) (a ∷ b ∷ rest)).1 refl) refl
+
+pub erasing_of : (starts : List ℕ) (u : Update) → update_of starts [] ≡ u → is_erasing starts u ≡ true
+erasing_of starts u h = subst (λ (v : Update). is_erasing starts v ≡ true) h (erasing_self starts)
+
+pub inserting_from : (number : ℕ) (rs : List (ℕ × ℕ)) (u : Update) → is_inserting number rs u ≡ true → update_of [] (map (item_of number) rs) ≡ u
+inserting_from number rs (Insert i) h = ap (update_of []) (items_from number rs (i ∷ []) h)
+inserting_from number rs (Erase a) h = absurd (cc)
+inserting_from number rs (Batch erase insert) h =
+    let last = and_parts (not (nat_eq (length rs) 1) && has_no_items erase) (same_items number rs insert) h in
+    let first = and_parts (not (nat_eq (length rs) 1)) (has_no_items erase) last.0 in
+    insert_batch (map (item_of number) rs) (ap (λ n. nat_eq n 1) (length-map rs (item_of number)) ∙ not-true (nat_eq (length rs) 1) first.0)
+    ∙ ap (λ (is : List Item). Batch [] is) (items_from number rs insert last.1)
+    ∙ ap (λ (s : List ℕ). Batch s insert) (sym (none_from erase first.1))
+
+inserting_self : (number : ℕ) (rs : List (ℕ × ℕ)) → is_inserting number rs (update_of [] (map (item_of number) rs)) ≡ true
+inserting_self number [] = refl
+inserting_self number (r ∷ []) = items_same number (r ∷ [])
+inserting_self number (r ∷ s ∷ rest) = rw (eqb-one_more (length rest)) (items_same number (r ∷ s ∷ rest))
+
+pub inserting_of : (number : ℕ) (rs : List (ℕ × ℕ)) (u : Update) → update_of [] (map (item_of number) rs) ≡ u → is_inserting number rs u ≡ true
+inserting_of number rs u h = subst (λ (v : Update). is_inserting number rs v ≡ true) h (inserting_self number rs)
+
+-- ---- what is given for some answer of what is held
+
+given : (a b : Update) → ◌≡◌ {A = Result Update Refusal} (Ok a) (Ok b) → a ≡ b
+given a b h = cc
+
+chosen : (b : Bool) (e : Refusal) (v u : Update) → cond b (Err e) (Ok v) ≡ Ok u → v ≡ u
+chosen true e v u h = absurd (cc)
+chosen false e v u h = given v u h
+
+chosen_not : (b : Bool) (e : Refusal) (v u : Update) → cond b (Ok v) (Err e) ≡ Ok u → v ≡ u
+chosen_not true e v u h = given v u h
+chosen_not false e v u h = absurd (cc)
+
+unknown : (u : Update) → ◌≡◌ {A = Result Update Refusal} (Err UnknownModule) (Ok u) → ⊥
+unknown u h = cc
+
+abbrev pub asked : (Held → ModuleEntry → Result Update Refusal) → Option ModuleEntry → Held → Result Update Refusal
+asked f o held = option_map_or (f held) o (Err UnknownModule)
+
+pub no_module_gives : (f : Held → ModuleEntry → Result Update Refusal) (u : Update) → GivesSome (asked f None) u → ⊥
+no_module_gives f u g = unknown u g.1
+
+pub load_from : (number : ℕ) (m : ModuleEntry) (u : Update) → is_inserting number m.regions u ≡ true → GivesSome (asked (load_update number) (Some m)) u
+load_from number m u h = (record { core = false; init = false }, ap (λ (v : Update). Ok v) (inserting_from number m.regions u h))
+
+pub load_to : (number : ℕ) (m : ModuleEntry) (u : Update) → GivesSome (asked (load_update number) (Some m)) u → is_inserting number m.regions u ≡ true
+load_to number m u g = inserting_of number m.regions u (chosen g.0.core _ (update_of [] (map (item_of number) m.regions)) u g.1)
+
+pub unload_from : (m : ModuleEntry) (u : Update) → (is_erasing (starts_of true false m.regions m.parts) u || is_erasing (starts_of true true m.regions m.parts) u) ≡ true → GivesSome (asked unload_update (Some m)) u
+unload_from m u h =
+    ⊎_elim
+    (λ without. (record { core = true; init = false }, ap (λ (v : Update). Ok v) (erasing_from (starts_of true false m.regions m.parts) u without)))
+    (λ with_init. (record { core = true; init = true }, ap (λ (v : Update). Ok v) (erasing_from (starts_of true true m.regions m.parts) u with_init)))
+    (or_cases (is_erasing (starts_of true false m.regions m.parts) u) (is_erasing (starts_of true true m.regions m.parts) u) h)
+
+by_init : (m : ModuleEntry) (u : Update) (init : Bool) → is_erasing (starts_of true init m.regions m.parts) u ≡ true → (is_erasing (starts_of true false m.regions m.parts) u || is_erasing (starts_of true true m.regions m.parts) u) ≡ true
+by_init m u true h = or_right (is_erasing (starts_of true false m.regions m.parts) u) (is_erasing (starts_of true true m.regions m.parts) u) h
+by_init m u false h = or_left (is_erasing (starts_of true false m.regions m.parts) u) (is_erasing (starts_of true true m.regions m.parts) u) h
+
+pub unload_to : (m : ModuleEntry) (u : Update) → GivesSome (asked unload_update (Some m)) u → (is_erasing (starts_of true false m.regions m.parts) u || is_erasing (starts_of true true m.regions m.parts) u) ≡ true
+unload_to m u g = by_init m u g.0.init (erasing_of (starts_of true g.0.init m.regions m.parts) u (chosen_not g.0.core _ (update_of (starts_of true g.0.init m.regions m.parts) []) u g.1))
+
+pub drop_from : (m : ModuleEntry) (u : Update) → (list_any is_init m.parts && is_erasing (starts_of false true m.regions m.parts) u) ≡ true → GivesSome (asked drop_init_update (Some m)) u
+drop_from m u h =
+    let parts = and_parts (list_any is_init m.parts) (is_erasing (starts_of false true m.regions m.parts) u) h in
+    (record { core = true; init = true }, rw parts.0 (ap (λ (v : Update). Ok v) (erasing_from (starts_of false true m.regions m.parts) u parts.1)))
+
+held_init : (core init some : Bool) (e d : Refusal) (v u : Update) → cond core (cond (init && some) (Ok v) (Err e)) (Err d) ≡ Ok u → (some ≡ true) × (v ≡ u)
+held_init true true true e d v u h = (refl, given v u h)
+held_init true true false e d v u h = absurd (cc)
+held_init true false some e d v u h = absurd (cc)
+held_init false init some e d v u h = absurd (cc)
+
+pub drop_to : (m : ModuleEntry) (u : Update) → GivesSome (asked drop_init_update (Some m)) u → (list_any is_init m.parts && is_erasing (starts_of false true m.regions m.parts) u) ≡ true
+drop_to m u g =
+    let parts = held_init g.0.core g.0.init (list_any is_init m.parts) _ _ (update_of (starts_of false true m.regions m.parts) []) u g.1 in
+    and_from (list_any is_init m.parts) (is_erasing (starts_of false true m.regions m.parts) u) parts.0 (erasing_of (starts_of false true m.regions m.parts) u parts.1)
+
+-- ---- the answers of the catalog
+
+abbrev pub Answers : Bool → (Held → Result Update Refusal) → Update → Type 0
+Answers r f u = (r ≡ true → GivesSome f u) × (GivesSome f u → r ≡ true)
+
+pub load_answers : (number : ℕ) (o : Option ModuleEntry) (m : ModuleEntry) (u : Update) (r : Bool) → Some m ≡ o → r ≡ is_inserting number m.regions u → Answers r (asked (load_update number) o) u
+load_answers number o m u r at is =
+    subst (λ (p : Option ModuleEntry). Answers r (asked (load_update number) p) u) at (λ holds. load_from number m u (sym is ∙ holds), λ g. is ∙ load_to number m u g)
+
+unload_answers : (o : Option ModuleEntry) (m : ModuleEntry) (u : Update) (r : Bool) → Some m ≡ o → r ≡ (is_erasing (starts_of true false m.regions m.parts) u || is_erasing (starts_of true true m.regions m.parts) u) → Answers r (asked unload_update o) u
+unload_answers o m u r at is =
+    subst (λ (p : Option ModuleEntry). Answers r (asked unload_update p) u) at (λ holds. unload_from m u (sym is ∙ holds), λ g. is ∙ unload_to m u g)
+
+pub unload_answers_first : (o : Option ModuleEntry) (m : ModuleEntry) (u : Update) (r : Bool) → Some m ≡ o → r ≡ is_erasing (starts_of true false m.regions m.parts) u → r ≡ true → Answers r (asked unload_update o) u
+unload_answers_first o m u r at is holds = unload_answers o m u r at (or_by_first r (is_erasing (starts_of true false m.regions m.parts) u) (is_erasing (starts_of true true m.regions m.parts) u) is holds)
+
+pub unload_answers_second : (o : Option ModuleEntry) (m : ModuleEntry) (u : Update) (s r : Bool) → Some m ≡ o → s ≡ is_erasing (starts_of true false m.regions m.parts) u → s ≡ false → r ≡ is_erasing (starts_of true true m.regions m.parts) u → Answers r (asked unload_update o) u
+unload_answers_second o m u s r at first fails second = unload_answers o m u r at (or_by_second s r (is_erasing (starts_of true false m.regions m.parts) u) (is_erasing (starts_of true true m.regions m.parts) u) first fails second)
+
+pub drop_answers : (o : Option ModuleEntry) (m : ModuleEntry) (u : Update) (s r : Bool) → Some m ≡ o → s ≡ list_any is_init m.parts → s ≡ true → r ≡ is_erasing (starts_of false true m.regions m.parts) u → Answers r (asked drop_init_update o) u
+drop_answers o m u s r at has holds is =
+    let both_are = and_by_second s r (list_any is_init m.parts) (is_erasing (starts_of false true m.regions m.parts) u) has holds is in
+    subst (λ (p : Option ModuleEntry). Answers r (asked drop_init_update p) u) at (λ true_is. drop_from m u (sym both_are ∙ true_is), λ g. both_are ∙ drop_to m u g)
+
+-- ---- several regions put in
+
+batch_of : (number : ℕ) (rs : List (ℕ × ℕ)) → (length rs ≡ 1 → ⊥) → update_of [] (map (item_of number) rs) ≡ Batch [] (map (item_of number) rs)
+batch_of number rs several = insert_batch (map (item_of number) rs) (ap (λ n. nat_eq n 1) (length-map rs (item_of number)) ∙ eqb-one_false (length rs) several)
+
+pub many_given : (number : ℕ) (rs : List (ℕ × ℕ)) (erase : List ℕ) (insert : List Item) → (length rs ≡ 1 → ⊥) → erase ≡ [] → insert ≡ map (item_of number) rs → GivesOrLacksMemory (Ok (update_of [] (map (item_of number) rs))) (Ok (Batch erase insert))
+many_given number rs erase insert several none is =
+    inl (ap (λ (u : Update). let r : Result Update Refusal = Ok u in r) (ap (λ (e : List ℕ). Batch e insert) none ∙ ap (λ (i : List Item). Batch [] i) is ∙ sym (batch_of number rs several)))
+
+pub many_lacks : (number : ℕ) (rs : List (ℕ × ℕ)) (r : Result Update Refusal) → (length rs ≡ 1 → ⊥) → r ≡ Err OutOfMemory → GivesOrLacksMemory (Ok (update_of [] (map (item_of number) rs))) r
+many_lacks number rs r several lacks = inr (lacks, subst (λ (u : Update). TakesMemory (Ok u)) (sym (batch_of number rs several)) tt)

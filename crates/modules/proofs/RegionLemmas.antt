@@ -1,0 +1,59 @@
+-- Each module has 1 to 7 regions.
+use Rattle.std.proofs.Common.{◌≡◌, ℕ, ◌+◌, ◌^◌, ◌<◌, ◌≤◌, ◌⊎◌, Bool, true, false, ◌||◌, nat_le, cond, suc, List, [], ◌∷◌, length, get_or, map, refl, sym, ap, ◌∙◌, inl, inr, ⊎_elim, arith, ◌&&◌, nat_lt, nat_eq, not, zero, subst}
+use Rattle.std.specs.Prelude.{All, filter}
+use Rattle.std.specs.Cmp.Lexicographic.{bytes_decides}
+use Rattle.std.specs.List.{list_any}
+use Rattle.std.specs.Str.{bytes_eq}
+use Rattle.std.proofs.lemmas.Bool.{cases_Bool, leb-true}
+use Rattle.std.proofs.lemmas.Bool.Decides.{nat_tests}
+use Rattle.std.proofs.lemmas.List.{length-map}
+use Rattle.std.proofs.lemmas.List.Elements.{All-nil, All-cons, All-map, All-filter}
+use Rattle.std.proofs.lemmas.List.Sums.{AllPass-from_list_all}
+use Rattle.order_laws.proofs.Tests.{some_passes}
+use Rattle.modules.specs.Lines.{region_line_region, fits, is_region, region_fits, module_line_region}
+use Rattle.modules.specs.Listed.{ListedModule, ListedRegion}
+use Rattle.modules.specs.Parts.{is_core}
+use Rattle.modules.specs.Placed.{IsPlaced, are_few, has_core, lines_named, placed_line, placed_alone, placed_by}
+
+pub region_parts : (base size : ℕ) → is_region base size ≡ true → (base < base + size) × (base + size < 2 ^ 64)
+region_parts base size h = (grind (arith, nat_tests), grind (arith, nat_tests))
+
+-- where no name has more than seven lines, this one has not
+pub few_named : (regions : List ListedRegion) (name : List ℕ) → are_few regions ≡ true → length (lines_named name regions) ≤ 7
+few_named regions name few =
+    ⊎_elim
+    (λ empty. omega arith)
+    (λ some.
+    let d : ListedRegion = get_or regions some.0 (first_of regions some.0 some.1) in
+    let is : (get_or regions some.0 d).name ≡ name = (bytes_decides (get_or regions some.0 d).name name).0 (some.2 d) in
+    let at : nat_le (length (lines_named (get_or regions some.0 d).name regions)) 7 ≡ true = AllPass-from_list_all (λ (r : ListedRegion). nat_le (length (lines_named r.name regions)) 7) regions few some.0 d some.1 in
+    leb-true (length (lines_named name regions)) 7 (ap (λ (n : List ℕ). nat_le (length (lines_named n regions)) 7) (sym is) ∙ at))
+    (some_passes (λ (r : ListedRegion). bytes_eq r.name name) regions)
+  where
+    first_of : (xs : List ListedRegion) (k : ℕ) → k < length xs → ListedRegion
+    first_of [] k lt = absurd (omega arith)
+    first_of (x ∷ xs) k lt = x
+
+parts_mapped : (lines : List ListedRegion) → list_any is_core (map (λ r. r.part) lines) ≡ has_core lines
+parts_mapped [] = refl
+parts_mapped (l ∷ ls) = ap (λ b. is_core l.part || b) (parts_mapped ls)
+
+placed_in_lines : (lines : List ListedRegion) (line : ListedModule) → length lines ≤ 7 → has_core lines ≡ true → All (λ l. region_fits l ≡ true) lines → IsPlaced (placed_by lines line)
+placed_in_lines lines line few core fit =
+    record {
+      few = let n : length (map region_line_region lines) ≡ length lines = length-map lines region_line_region in omega arith;
+      same = length-map lines (λ (r : ListedRegion). r.part) ∙ sym (length-map lines region_line_region);
+      some_core = parts_mapped lines ∙ core;
+      valid = All-map (λ (r : ℕ × ℕ). r.0 < r.1) region_line_region lines (λ k d lt. (region_parts (get_or lines k d).base (get_or lines k d).size (fit k d lt)).0);
+    }
+
+placed_in_one : (line : ListedModule) → fits line ≡ true → IsPlaced (placed_alone line)
+placed_in_one line fit = record { few = omega arith; same = refl; some_core = refl; valid = All-cons (λ (x : ℕ × ℕ). x.0 < x.1) (module_line_region line) [] (region_parts line.base line.size fit).0 (All-nil (λ (x : ℕ × ℕ). x.0 < x.1)) }
+
+pub IsPlaced-placed : (regions : List ListedRegion) (line : ListedModule) → fits line ≡ true → All (λ l. region_fits l ≡ true) regions → are_few regions ≡ true → IsPlaced (placed_line regions line)
+IsPlaced-placed regions line fit regions_fit few =
+    let own : List ListedRegion = lines_named line.name regions in
+    elim (has_core own) as (λ b. has_core own ≡ b → IsPlaced (cond b (placed_by own line) (placed_alone line))) [
+      | true ↦ λ core. placed_in_lines own line (few_named regions line.name few) core (All-filter (λ (r : ListedRegion). bytes_eq r.name line.name) (λ (l : ListedRegion). region_fits l ≡ true) regions regions_fit)
+      | false ↦ λ _. placed_in_one line fit
+    ] refl

@@ -1,0 +1,193 @@
+-- The accepted modules have distinct names and regions that lie apart.
+use Rattle.std.proofs.Common.{◌≡◌, ◌≢◌, ℕ, ◌+◌, ◌<◌, ◌≤◌, Bool, true, false, ◌&&◌, nat_lt, cond, List, [], ◌∷◌, ◌++◌, length, get_or, map, Some, None, Option, refl, sym, ap, ◌∙◌, subst, arith, append_assoc, length-append, ◌^◌, nat_eq, not}
+use Rattle.std.specs.Prelude.{All, IfSome, fold, is_some, codes}
+use Rattle.std.specs.Cmp.Lexicographic.{bytes_decides}
+use Rattle.std.specs.List.{flat_map, list_any, list_all}
+use Rattle.std.specs.Option.{option_to_list, option_and_then}
+use Rattle.std.specs.Int.{from_bool}
+use Rattle.std.specs.Str.{bytes_eq}
+use Rattle.std.proofs.lemmas.Bool.Decides.{nat_tests}
+use Rattle.std.proofs.lemmas.List.{append-nil, map-append}
+use Rattle.std.proofs.lemmas.List.Concat.{flat_map-append}
+use Rattle.std.proofs.lemmas.List.Elements.{All-nil, All-push, All-head, All-tail, All-cons}
+use Rattle.std.proofs.lemmas.List.Folds.{list_all-append, list_any_at}
+use Rattle.std.proofs.lemmas.List.Quantifiers.{all_pairs_push}
+use Rattle.std.proofs.lemmas.List.Sums.{AllPass-from_list_all}
+use Rattle.std.proofs.lemmas.Bool.{and_from, and_parts}
+use Rattle.order_laws.proofs.Pairs.{AllPairs-few}
+use Rattle.modules.specs.Accepted.{Accepted, accepted_of, after_module, names_of, none_yet, taken_regions}
+use Rattle.modules.specs.Building.{built_in_with, kernel_at, placed_module_of}
+use Rattle.modules.specs.Catalogs.{IsSoundCatalog, built_in_of, catalog_of, entry_for}
+use Rattle.modules.specs.Entries.{ModuleEntry, SymbolEntry}
+use Rattle.modules.specs.Kept.{AreDistinctNames, is_built_in, symbols_that}
+use Rattle.modules.specs.Lines.{fits, region_fits, first_address, built_in_region}
+use Rattle.modules.specs.Listed.{BoundNames, ListedModule, ListedRegion, ListedSymbol}
+use Rattle.modules.specs.Names.{names_in}
+use Rattle.modules.specs.Placed.{IsPlaced, PlacedModule, are_few, placed_line}
+use Rattle.modules.specs.Regions.{AreApart, are_beside, is_apart, lie_apart}
+use Rattle.modules.proofs.RegionLemmas.{IsPlaced-placed}
+
+-- what the accepted modules keep
+pub record IsGood (a : Accepted) : Type 0 where
+  pub places : All IsPlaced a.modules
+  pub distinct : AreDistinctNames (names_of a.modules)
+  pub apart : AreApart (taken_regions a)
+
+pub turned : (r s : ℕ × ℕ) → is_apart r s ≡ true → is_apart s r ≡ true
+turned r s h = grind (arith, nat_tests)
+
+pub AreApart-push : (regions : List (ℕ × ℕ)) (r : ℕ × ℕ) → AreApart regions → r.0 < r.1 → list_all (is_apart r) regions ≡ true → AreApart (regions ++ r ∷ [])
+AreApart-push regions r apart valid beside =
+    record {
+      valid = All-push (λ (x : ℕ × ℕ). x.0 < x.1) regions r apart.valid valid;
+      apart = all_pairs_push (λ (x y : ℕ × ℕ). is_apart x y ≡ true) regions r apart.apart (λ k d lt. turned r (get_or regions k d) (AllPass-from_list_all (is_apart r) regions beside k d lt));
+    }
+
+pub AreDistinct-push : (names : List (List ℕ)) (n : List ℕ) → AreDistinctNames names → list_any (bytes_eq n) names ≡ false → AreDistinctNames (names ++ n ∷ [])
+AreDistinct-push names n distinct absent =
+    all_pairs_push (λ (x y : List ℕ). x ≢ y) names n distinct (λ k d lt same.
+    let some : list_any (bytes_eq n) names ≡ true = list_any_at (bytes_eq n) names k d lt ((bytes_decides n (get_or names k d)).1 (sym same)) in
+    cc)
+
+-- regions that lie beside those taken still do once a region that is apart from them is taken too
+pub beside_more : (taken_regions : List (ℕ × ℕ)) (r : ℕ × ℕ) (rs : List (ℕ × ℕ)) → are_beside taken_regions rs ≡ true → list_all (is_apart r) rs ≡ true → are_beside (taken_regions ++ r ∷ []) rs ≡ true
+beside_more taken_regions r [] h k = refl
+beside_more taken_regions r (x ∷ xs) h k =
+    let old = and_parts (list_all (is_apart x) taken_regions) (are_beside taken_regions xs) h in
+    let new = and_parts (is_apart r x) (list_all (is_apart r) xs) k in
+    let first : list_all (is_apart x) (taken_regions ++ r ∷ []) ≡ true = list_all-append (is_apart x) taken_regions (r ∷ []) ∙ and_from (list_all (is_apart x) taken_regions) (is_apart x r && true) old.0 (and_from (is_apart x r) true (turned r x new.0) refl) in
+    and_from (list_all (is_apart x) (taken_regions ++ r ∷ [])) (are_beside (taken_regions ++ r ∷ []) xs) first (beside_more taken_regions r xs old.1 new.1)
+
+-- regions that lie apart, and beside those taken, are taken too
+pub AreApart-append : (taken_regions rs : List (ℕ × ℕ)) → AreApart taken_regions → All (λ r. r.0 < r.1) rs → lie_apart rs ≡ true → are_beside taken_regions rs ≡ true → AreApart (taken_regions ++ rs)
+AreApart-append taken_regions [] apart valid lie beside = subst AreApart (sym (append-nil taken_regions)) apart
+AreApart-append taken_regions (r ∷ rs) apart valid lie beside =
+    let lies = and_parts (list_all (is_apart r) rs) (lie_apart rs) lie in
+    let besides = and_parts (list_all (is_apart r) taken_regions) (are_beside taken_regions rs) beside in
+    let one = AreApart-push taken_regions r apart (All-head (λ (x : ℕ × ℕ). x.0 < x.1) r rs valid) besides.0 in
+    subst AreApart (append_assoc taken_regions (r ∷ []) rs) (AreApart-append (taken_regions ++ r ∷ []) rs one (All-tail (λ (x : ℕ × ℕ). x.0 < x.1) r rs valid) lies.1 (beside_more taken_regions r rs besides.1 lies.0))
+
+pub taken_more : (a : Accepted) (m : PlacedModule) → taken_regions (record a { modules = a.modules ++ m ∷ [] }) ≡ taken_regions a ++ m.regions
+taken_more a m =
+    ap (λ rs. option_to_list a.built_in ++ rs) (flat_map-append (λ (n : PlacedModule). n.regions) a.modules (m ∷ []) ∙ ap (λ rs. flat_map (λ (n : PlacedModule). n.regions) a.modules ++ rs) (append-nil m.regions))
+    ∙ sym (append_assoc (option_to_list a.built_in) (flat_map (λ (n : PlacedModule). n.regions) a.modules) m.regions)
+
+names_more : (a : Accepted) (m : PlacedModule) → names_of (a.modules ++ m ∷ []) ≡ names_of a.modules ++ m.name ∷ []
+names_more a m = map-append (λ (n : PlacedModule). n.name) a.modules (m ∷ [])
+
+pub IsGood-after_module : (a : Accepted) (m : PlacedModule) → IsGood a → IsPlaced m → IsGood (after_module a m)
+IsGood-after_module a m good place =
+    elim (list_any (bytes_eq m.name) (names_of a.modules)) as (λ b. list_any (bytes_eq m.name) (names_of a.modules) ≡ b → IsGood (cond b (record a { double = a.double + 1 }) (cond (lie_apart m.regions && are_beside (taken_regions a) m.regions) (record a { modules = a.modules ++ m ∷ [] }) (record a { overlap = a.overlap + 1 })))) [
+      | true ↦ λ _. record { places = good.places; distinct = good.distinct; apart = good.apart }
+      | false ↦ λ absent.
+          elim (lie_apart m.regions && are_beside (taken_regions a) m.regions) as (λ b. (lie_apart m.regions && are_beside (taken_regions a) m.regions) ≡ b → IsGood (cond b (record a { modules = a.modules ++ m ∷ [] }) (record a { overlap = a.overlap + 1 }))) [
+            | true ↦ λ free.
+                let parts = and_parts (lie_apart m.regions) (are_beside (taken_regions a) m.regions) free in
+                record {
+                  places = All-push IsPlaced a.modules m good.places place;
+                  distinct = subst AreDistinctNames (sym (names_more a m)) (AreDistinct-push (names_of a.modules) m.name good.distinct absent);
+                  apart = subst AreApart (sym (taken_more a m)) (AreApart-append (taken_regions a) m.regions good.apart place.valid parts.0 parts.1);
+                }
+            | false ↦ λ _. record { places = good.places; distinct = good.distinct; apart = good.apart }
+          ] refl
+    ] refl
+
+pub IsGood-fold : (a : Accepted) (ms : List PlacedModule) → IsGood a → All IsPlaced ms → IsGood (fold after_module a ms)
+IsGood-fold a [] good all = good
+IsGood-fold a (m ∷ ms) good all = IsGood-fold (after_module a m) ms (IsGood-after_module a m good (All-head IsPlaced m ms all)) (All-tail IsPlaced m ms all)
+
+pub IsGood-none : (built_in : Option (ℕ × ℕ)) → IfSome built_in (λ r. r.0 < r.1) → IsGood (none_yet built_in)
+IsGood-none None valid =
+    record {
+      places = All-nil IsPlaced;
+      distinct = AllPairs-few (λ (x y : List ℕ). x ≢ y) [] (omega arith);
+      apart = record { valid = All-nil (λ (x : ℕ × ℕ). x.0 < x.1); apart = AllPairs-few (λ (x y : ℕ × ℕ). is_apart x y ≡ true) [] (omega arith) };
+    }
+IsGood-none (Some r) valid =
+    record {
+      places = All-nil IsPlaced;
+      distinct = AllPairs-few (λ (x y : List ℕ). x ≢ y) [] (omega arith);
+      apart = record { valid = All-cons (λ (x : ℕ × ℕ). x.0 < x.1) r [] valid (All-nil (λ (x : ℕ × ℕ). x.0 < x.1)); apart = AllPairs-few (λ (x y : ℕ × ℕ). is_apart x y ≡ true) (r ∷ []) (omega arith) };
+    }
+
+picked : (start end : ℕ) → IfSome {T = ℕ × ℕ} (cond (nat_lt start end) (Some (start, end)) None) (λ r. r.0 < r.1)
+picked start end =
+    elim (nat_lt start end) as (λ b. nat_lt start end ≡ b → IfSome {T = ℕ × ℕ} (cond b (Some (start, end)) None) (λ r. r.0 < r.1))
+    [ true ↦ λ h. grind (arith, nat_tests) | false ↦ λ h. tt ] refl
+
+-- the region of the kernel itself has an address
+pub valid_built_in : (start end : Option ℕ) → IfSome {T = ℕ × ℕ} (option_and_then (λ s. option_and_then (λ e. cond (nat_lt s e) (Some (s, e)) None) end) start) (λ r. r.0 < r.1)
+valid_built_in None end = tt
+valid_built_in (Some s) None = tt
+valid_built_in (Some s) (Some e) = picked s e
+
+pub all_placed : (regions : List ListedRegion) (modules : List ListedModule) → All (λ l. fits l ≡ true) modules → All (λ l. region_fits l ≡ true) regions → are_few regions ≡ true → All IsPlaced (map (placed_line regions) modules)
+all_placed regions [] fit regions_fit few = All-nil IsPlaced
+all_placed regions (l ∷ ls) fit regions_fit few =
+    All-cons IsPlaced (placed_line regions l) (map (placed_line regions) ls) (IsPlaced-placed regions l (All-head (λ (x : ListedModule). fits x ≡ true) l ls fit) regions_fit few) (all_placed regions ls (All-tail (λ (x : ListedModule). fits x ≡ true) l ls fit) regions_fit few)
+
+pub accepted_good : (names : BoundNames) (modules : List ListedModule) (regions : List ListedRegion) (symbols : List ListedSymbol) → All (λ l. fits l ≡ true) modules → All (λ l. region_fits l ≡ true) regions → are_few regions ≡ true → IsGood (accepted_of (built_in_region names symbols) regions modules)
+accepted_good names modules regions symbols fit regions_fit few = IsGood-fold (none_yet (built_in_region names symbols)) (map (placed_line regions) modules) (IsGood-none (built_in_region names symbols) (valid_built_in (first_address names.start symbols) (first_address names.end symbols))) (all_placed regions modules fit regions_fit few)
+
+-- ---- of the catalog
+
+built_in_after : (a : Accepted) (m : PlacedModule) → (after_module a m).built_in ≡ a.built_in
+built_in_after a m =
+    elim (list_any (bytes_eq m.name) (names_of a.modules)) as (λ b. (cond b (record a { double = a.double + 1 }) (cond (lie_apart m.regions && are_beside (taken_regions a) m.regions) (record a { modules = a.modules ++ m ∷ [] }) (record a { overlap = a.overlap + 1 }))).built_in ≡ a.built_in) [
+      | true ↦ refl
+      | false ↦ elim (lie_apart m.regions && are_beside (taken_regions a) m.regions) as (λ b. (cond b (record a { modules = a.modules ++ m ∷ [] }) (record a { overlap = a.overlap + 1 })).built_in ≡ a.built_in) [ true ↦ refl | false ↦ refl ]
+    ]
+
+pub built_in_kept : (a : Accepted) (ms : List PlacedModule) → (fold after_module a ms).built_in ≡ a.built_in
+built_in_kept a [] = refl
+built_in_kept a (m ∷ ms) = built_in_kept (after_module a m) ms ∙ built_in_after a m
+
+module_regions : (symbols : List ListedSymbol) (ms : List PlacedModule) → flat_map (λ (m : ModuleEntry). m.regions) (map (entry_for symbols) ms) ≡ flat_map (λ (m : PlacedModule). m.regions) ms
+module_regions symbols [] = refl
+module_regions symbols (m ∷ ms) = ap (λ rs. m.regions ++ rs) (module_regions symbols ms)
+
+all_regions : (built_in : Option (ℕ × ℕ)) (symbols : List ListedSymbol) (ms : List PlacedModule) → flat_map (λ (m : ModuleEntry). m.regions) (option_to_list (built_in_of built_in symbols) ++ map (entry_for symbols) ms) ≡ option_to_list built_in ++ flat_map (λ (m : PlacedModule). m.regions) ms
+all_regions None symbols ms = module_regions symbols ms
+all_regions (Some r) symbols ms = ap (λ rs. r ∷ rs) (module_regions symbols ms)
+
+module_names : (symbols : List ListedSymbol) (ms : List PlacedModule) → names_in (map (entry_for symbols) ms) ≡ names_of ms
+module_names symbols [] = refl
+module_names symbols (m ∷ ms) = ap (λ ns. m.name ∷ ns) (module_names symbols ms)
+
+-- the kernel itself lies in its one region
+pub kernel_placed : (r : ℕ × ℕ) → r.0 < r.1 → IsPlaced (kernel_at r)
+kernel_placed r valid = record { few = omega arith; same = refl; some_core = refl; valid = All-cons (λ (x : ℕ × ℕ). x.0 < x.1) r [] valid (All-nil (λ (x : ℕ × ℕ). x.0 < x.1)) }
+
+modules_placed : (symbols : List ListedSymbol) (ms : List PlacedModule) → All IsPlaced ms → All (λ m. IsPlaced (placed_module_of m)) (map (entry_for symbols) ms)
+modules_placed symbols [] all = All-nil (λ (m : ModuleEntry). IsPlaced (placed_module_of m))
+modules_placed symbols (m ∷ ms) all = All-cons (λ (x : ModuleEntry). IsPlaced (placed_module_of x)) (entry_for symbols m) (map (entry_for symbols) ms) (All-head IsPlaced m ms all) (modules_placed symbols ms (All-tail IsPlaced m ms all))
+
+entries_placed : (built_in : Option (ℕ × ℕ)) (symbols : List ListedSymbol) (ms : List PlacedModule) → IfSome built_in (λ r. r.0 < r.1) → All IsPlaced ms → All (λ m. IsPlaced (placed_module_of m)) (option_to_list (built_in_of built_in symbols) ++ map (entry_for symbols) ms)
+entries_placed None symbols ms valid all = modules_placed symbols ms all
+entries_placed (Some r) symbols ms valid all = All-cons (λ (x : ModuleEntry). IsPlaced (placed_module_of x)) (record { name = codes "-"; regions = r ∷ []; parts = (kernel_at r).parts; symbols = symbols_that (is_built_in (Some r)) symbols }) (map (entry_for symbols) ms) (kernel_placed r valid) (modules_placed symbols ms all)
+
+pub IsSound-catalog_of : (names : BoundNames) (modules : List ListedModule) (regions : List ListedRegion) (symbols : List ListedSymbol) → All (λ l. fits l ≡ true) modules → All (λ l. region_fits l ≡ true) regions → are_few regions ≡ true → IsSoundCatalog (catalog_of names modules regions symbols)
+IsSound-catalog_of names modules regions symbols fit regions_fit few =
+    let built_in : Option (ℕ × ℕ) = built_in_region names symbols in
+    let a : Accepted = accepted_of built_in regions modules in
+    let good : IsGood a = accepted_good names modules regions symbols fit regions_fit few in
+    let kept : a.built_in ≡ built_in = built_in_kept (none_yet built_in) (map (placed_line regions) modules) in
+    record {
+      placed = entries_placed built_in symbols a.modules (valid_built_in (first_address names.start symbols) (first_address names.end symbols)) good.places;
+      apart = subst AreApart (ap (λ (b : Option (ℕ × ℕ)). option_to_list b ++ flat_map (λ (m : PlacedModule). m.regions) a.modules) kept ∙ sym (all_regions built_in symbols a.modules)) good.apart;
+      distinct = subst AreDistinctNames (sym (module_names symbols a.modules)) good.distinct;
+    }
+
+-- how many regions the kernel itself and the modules have
+pub count_of_regions : (built_in : Option ModuleEntry) (modules : List ModuleEntry) → IfSome built_in (λ m. length m.regions ≡ 1) → from_bool (is_some built_in) + length (flat_map (λ m. m.regions) modules) ≡ length (flat_map (λ m. m.regions) (option_to_list built_in ++ modules))
+count_of_regions None modules one = omega arith
+count_of_regions (Some m) modules one = omega (arith, length-append m.regions (flat_map (λ (x : ModuleEntry). x.regions) modules))
+
+pub kernel_one : (region : Option (ℕ × ℕ)) (symbols : List SymbolEntry) → IfSome (built_in_with region symbols) (λ m. length m.regions ≡ 1)
+kernel_one None symbols = tt
+kernel_one (Some r) symbols = refl
+
+-- each line in turn, at its module, as the modules in turn
+pub fold_placed : (regions : List ListedRegion) (a : Accepted) (lines : List ListedModule) → fold (λ b x. after_module b (placed_line regions x)) a lines ≡ fold after_module a (map (placed_line regions) lines)
+fold_placed regions a [] = refl
+fold_placed regions a (l ∷ ls) = fold_placed regions (after_module a (placed_line regions l)) ls

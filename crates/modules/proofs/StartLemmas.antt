@@ -1,0 +1,30 @@
+-- Each module has a region of its core.
+use Rattle.std.proofs.Common.{◌≡◌, ℕ, ◌<◌, true, List, length, get_or, Some, None, Option, refl, sym, ap, ◌∙◌, arith}
+use Rattle.std.specs.Prelude.{is_some, position, slice_get}
+use Rattle.std.specs.Option.{option_and_then, option_map}
+use Rattle.std.proofs.lemmas.Iterator.Adapters.{position_from-zero}
+use Rattle.std.proofs.lemmas.List.Quantifiers.{position-Some}
+use Rattle.std.proofs.lemmas.Option.{slice_get-get_or}
+use Rattle.order_laws.proofs.Options.{Some_ne_None}
+use Rattle.order_laws.proofs.Tests.{is_some-position_from}
+use Rattle.modules.specs.Building.{placed_module_of}
+use Rattle.modules.specs.Entries.{ModuleEntry}
+use Rattle.modules.specs.Parts.{is_core}
+use Rattle.modules.specs.Placed.{IsPlaced}
+use Rattle.modules.specs.Starts.{first_start, start_at}
+use Rattle.modules.specs.declared.lines.Part.{Part}
+use Rattle.modules.specs.declared.lines.Part.TheVariants.{Core}
+
+start_by : (o : Option ℕ) (regions : List (ℕ × ℕ)) (parts : List Part) → position is_core parts ≡ o → is_some o ≡ true → length parts ≡ length regions → option_and_then (start_at regions) o ≡ None → ⊥
+start_by None regions parts is some same none = absurd (cc)
+start_by (Some k) regions parts is some same none =
+    let there = position-Some is_core parts k Core is in
+    let within : k < length regions = omega (arith, there.0) in
+    let here : slice_get regions k ≡ Some (get_or regions k (0, 0)) = slice_get-get_or regions k (0, 0) within in
+    Some_ne_None (get_or regions k (0, 0)).0 (sym (ap (option_map (λ (r : ℕ × ℕ). r.0)) here) ∙ none)
+
+pub core_starts : (m : ModuleEntry) → IsPlaced (placed_module_of m) → first_start is_core m ≡ None → ⊥
+core_starts m placed none =
+    start_by (position is_core m.parts) m.regions m.parts refl
+    (ap is_some (position_from-zero is_core m.parts) ∙ is_some-position_from is_core 0 m.parts ∙ placed.some_core)
+    placed.same none
