@@ -14,7 +14,7 @@ pub mod orders;
 pub mod refusals;
 pub mod tables;
 #[cfg(test)]
-mod tests;
+mod order_tests;
 
 pub use closed_ranges::Closed;
 pub use half_open_ranges::HalfOpen;
