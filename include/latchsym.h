@@ -17,9 +17,9 @@
  *   aligned, and initialised where it is read.
  * - malloc, realloc and free are those of one allocator.
  *
- * A closed handle where an open one is wanted is no fault: the call returns LATCHSYM_BAD_HANDLE. So is
- * an open one where a closed one is wanted. A second close does nothing. A call that is refused
- * changes nothing but what is said of it here.
+ * A closed handle where an open one is wanted is no fault: the call returns LATCHSYM_BAD_HANDLE.
+ * So is an open one where a closed one is wanted. A second close does nothing. A call that is
+ * refused changes nothing but what is said of it here.
  *
  * From a signal handler only the calls marked "handler" may be made, each with handles that no call
  * which the signal interrupts has: they take no memory. It is proved that they return rightly where
@@ -60,7 +60,7 @@ enum {
     LATCHSYM_BAD_CAPACITY = 10, /* nodes not 1 to 65536 or fewer than before; readers not 1 to 64 */
     LATCHSYM_TOO_MANY_REGIONS = 14, /* more than 7 region lines have one name */
     LATCHSYM_BAD_LINE = 15,         /* a line of the listing of regions is not one */
-    LATCHSYM_BAD_HANDLE = 101           /* closed where open is wanted, or the other way round */
+    LATCHSYM_BAD_HANDLE = 101       /* closed where open is wanted, or the other way round */
 };
 
 /* How many lines of each listing went where, as `latchsym lookup` prints them. */
@@ -105,7 +105,8 @@ uint32_t latchsym_catalog_open_with_regions(const uint8_t *modules, size_t modul
 /* The symbol of an address, as `latchsym lookup` prints it. As many bytes of each name are copied
  * as there is room for, without a 0 byte at the end; the lengths are those of the whole names. 0,
  * LATCHSYM_NO_SYMBOL (the module alone is told), LATCHSYM_NOTHING (all numbers are 0) or
- * LATCHSYM_BAD_HANDLE (nothing is written). The time is logarithmic in regions and symbols. Handler. */
+ * LATCHSYM_BAD_HANDLE (nothing is written). The time is logarithmic in regions and symbols.
+ * Handler. */
 uint32_t latchsym_catalog_find(struct latchsym_catalog *, uint64_t addr,
                                struct latchsym_symbol *out, uint8_t *name, size_t name_room,
                                uint8_t *module, size_t module_room);
@@ -144,8 +145,8 @@ uint32_t latchsym_writer_finish(struct latchsym_writer *, uint64_t *generation);
 /* Goes on with so many nodes, no fewer than before and at most 65536, in new words: the items and
  * the generation stay. Takes a handle for each reader that the table was opened with, all open;
  * they go on in the new words. 0, LATCHSYM_UPDATE_IN_HAND, LATCHSYM_BAD_CAPACITY,
- * LATCHSYM_OUT_OF_MEMORY, or LATCHSYM_BAD_HANDLE where one of the handles is closed, or they are not
- * as many as the readers are.
+ * LATCHSYM_OUT_OF_MEMORY, or LATCHSYM_BAD_HANDLE where one of the handles is closed, or they are
+ * not as many as the readers are.
  *
  * It is not checked whether a reader is one of this table. One of another table goes over to this
  * one, and one of this table that is not given keeps the table as it was. */
