@@ -10,11 +10,11 @@ pub mod closed_ranges;
 pub mod half_open_ranges;
 pub mod items;
 pub mod laws;
+#[cfg(test)]
+mod order_tests;
 pub mod orders;
 pub mod refusals;
 pub mod tables;
-#[cfg(test)]
-mod order_tests;
 
 pub use closed_ranges::Closed;
 pub use half_open_ranges::HalfOpen;
