@@ -103,13 +103,13 @@ module _ (c : CatalogEntries) (k : ℕ) (u : Update) (le : k ≤ length c.module
   in_hand_at = h.holds.idle.after.moment
 
   accepts : let w = h.holds.idle.after.moment in
-      refuses half_open (capacity_of (layout_in old)) (limit_of (layout_in old)) (is_some w.latch.pending) w.latch.table (at w.latch.words 0) u ≡ None
+      refuses half_open (capacity_of (layout_in old)) (limit_of (layout_in old)) (is_some w.latch.pending) w.latch.newest_table (at w.latch.words 0) u ≡ None
   accepts =
       let a = h.holds.idle.after in
       let us = h.holds.updates in
       let lay = layout_in old in
       let n = capacity_of lay in
-      let table = a.moment.latch.table in
+      let table = a.moment.latch.newest_table in
       let seq = at a.moment.latch.words 0 in
       let free : is_some a.moment.latch.pending ≡ false = ap is_some h.holds.idle.rest in
       let is : table ≡ replay half_open [] us = a.sound.table_is in
