@@ -44,8 +44,8 @@ module _ {M : Type 1} {𝓤 : Ura M} (𝓛 : Logic 𝓤) (at_mem : Memory → SP
       let Post = (walk_of 𝓛 F.ended stayed (F.clauses 𝓛 at_mem run)).post z in
       let v = z.0.3.0 in
       let To = type_at (F.signature).result tt in
-      let made : To.Denot = record { at = null_ptr; alloc = v; is_open = false; value = (record { inner = record { place = (record { words = 0; slots = 0; views_name = 0; atom = 0; block = 0; offset = 0; slot_names = [] }); readers = 0; base = 0; capacity = 0; limit = 0; history = []; latch = record { words = []; table = []; pending = None }; loads = [] } }) } in
-      qed 𝓛 ((‵ ftrue ⊛ ‵ (fsep (Z.own_val v z.0.4.0) ftrue)) ∷ raw (emp 𝓤) ∷ []) ∵ split ! $ drop ! $ fsplit ! $ handle_tells al ! v z.0.4.0 (λ hv ws fa. closed_in ! hv v (record { inner = record { place = (record { words = 0; slots = 0; views_name = 0; atom = 0; block = 0; offset = 0; slot_names = [] }); readers = 0; base = 0; capacity = 0; limit = 0; history = []; latch = record { words = []; table = []; pending = None }; loads = [] } }) $ move ! (1 ∷ 2 ∷ []) $ drop ! $ drop ! $
+      let made : To.Denot = record { at = null_ptr; alloc = v; is_open = false; value = (record { inner = record { place = (record { words = 0; slots = 0; views_name = 0; atom = 0; block = 0; offset = 0; slot_names = [] }); readers = 0; base = 0; capacity = 0; limit = 0; history = []; latch = record { words = []; newest_table = []; pending = None }; loads = [] } }) } in
+      qed 𝓛 ((‵ ftrue ⊛ ‵ (fsep (Z.own_val v z.0.4.0) ftrue)) ∷ raw (emp 𝓤) ∷ []) ∵ split ! $ drop ! $ fsplit ! $ handle_tells al ! v z.0.4.0 (λ hv ws fa. closed_in ! hv v (record { inner = record { place = (record { words = 0; slots = 0; views_name = 0; atom = 0; block = 0; offset = 0; slot_names = [] }); readers = 0; base = 0; capacity = 0; limit = 0; history = []; latch = record { words = []; newest_table = []; pending = None }; loads = [] } }) $ move ! (1 ∷ 2 ∷ []) $ drop ! $ drop ! $
       let w = three vnull hv (vbool false) in
       let Γ : List (Item 𝓤) = ‵ (To.own_val made (w ∷ [])) ∷ [] in
       by ! (subst (λ (us : List Val). ent 𝓤 (types.Kit.⋆ 𝓛 Γ) (WpFn 𝓤 H 𝓣.C 𝓣.Λ code.function (us ++ []) Post)) (sym ws)
