@@ -3,6 +3,7 @@
 #![tactic(auto)]
 
 ghost use Rattle.std.specs.Prelude.{◌≡◌, ◌+◌, ◌*◌, ◌<◌, ◌≤◌, IfOk, length};
+ghost use Rattle.word_arena.specs.Limits.{most_nodes};
 
 use order_laws::Item;
 use std::alloc::{AllocError, Global};
@@ -35,7 +36,7 @@ impl Random {
     /// 64 bits.
     pub fn below(&mut self, most: u32) -> u32
         requires some { 0 < most }
-        requires few { most ≤ 65536 }
+        requires few { most ≤ most_nodes }
         ensures { result < most }
     {
         let number = self.step();
@@ -59,7 +60,7 @@ impl Random {
 
 /// A range somewhere in each of so many slots, tagged by the slot's number from 1 on.
 pub fn ranges(alloc: Global, random: &mut Random, slots: u32) -> Result<Vec<Item>, AllocError>
-    requires { slots ≤ 65536 }
+    requires { slots ≤ most_nodes }
     ensures { IfOk result (λ all. length all.items ≡ slots) }
 {
     let mut all = Vec::new(alloc);
@@ -76,7 +77,7 @@ pub fn ranges(alloc: Global, random: &mut Random, slots: u32) -> Result<Vec<Item
 
 /// Puts the ranges in random order.
 pub fn shuffle(random: &mut Random, ranges: &mut [Item])
-    requires { length ranges.old ≤ 65536 }
+    requires { length ranges.old ≤ most_nodes }
 {
     for last in (1..ranges.len()).rev() {
         let other = random.below(last as u32 + 1) as usize;
@@ -92,7 +93,7 @@ pub fn addresses(
     count: u32,
 ) -> Result<Vec<u64>, AllocError>
     requires some { 0 < slots }
-    requires few { slots ≤ 65536 }
+    requires few { slots ≤ most_nodes }
     ensures { IfOk result (λ all. length all.items ≡ count) }
 {
     let mut all = Vec::new(alloc);

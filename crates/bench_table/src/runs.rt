@@ -1,6 +1,7 @@
 //! Measures of lookups and updates.
 
 ghost use Rattle.std.specs.Prelude.{◌<◌, ◌≤◌, length};
+ghost use Rattle.word_arena.specs.Limits.{most_nodes};
 
 use crate::faults::Fault;
 use crate::jobs::Writing;
@@ -214,7 +215,7 @@ pub fn measure_beside<R: Threads + Clock + Print + Files + AllocGlobal + Sync>(
     let (written, seen) = join(
         rt,
         ||
-            requires { (0 < length ranges.now) × (length ranges.now ≤ 65536) }
+            requires { (0 < length ranges.now) × (length ranges.now ≤ most_nodes) }
         {
             let written = write(rt, &mut writer, ranges, writing, time);
             stop.store(true, Ordering::SeqCst);

@@ -1,6 +1,7 @@
 //! The table that is measured, and its updates.
 
 ghost use Rattle.std.specs.Prelude.{◌≡◌, ◌<◌, ◌≤◌, IfOk, length};
+ghost use Rattle.word_arena.specs.Limits.{most_nodes};
 
 use crate::faults::Fault;
 use crate::memory::resident;
@@ -11,13 +12,10 @@ use order_laws::{HalfOpen, Item, Refusal};
 use std::alloc::Global;
 use std::num::nearest_u64_to_f64;
 use std::rt::Files;
-use word_arena::Layout;
+use word_arena::{Layout, MOST_NODES};
 
 /// What the random numbers of the ranges begin with.
 const SEED_OF_RANGES: u64 = 12345;
-
-/// The most items of a table.
-const MOST_ITEMS: u32 = 65536;
 
 /// A table with a range in each slot.
 #[derive(Drop)]
@@ -48,10 +46,10 @@ fn build(
 /// A table of so many items, with so many readers and at least one.
 pub fn prepare<R: Files + AllocGlobal>(rt: &R, items: u32, readers: u32) -> Result<Measured, Fault>
     ensures some { IfOk result (λ made. 0 < items) }
-    ensures most { IfOk result (λ made. items ≤ 65536) }
+    ensures most { IfOk result (λ made. items ≤ most_nodes) }
     ensures ranges { IfOk result (λ made. length made.ranges.items ≡ items) }
 {
-    if items == 0 || items > MOST_ITEMS {
+    if items == 0 || items > MOST_NODES {
         return Err(Fault::Refused(Refusal::BadCapacity));
     }
     let mut random = Random(SEED_OF_RANGES);
@@ -77,7 +75,7 @@ pub fn exchange(
     pairs: u64,
 ) -> Result<(), Refusal>
     requires some { 0 < length ranges.now }
-    requires few { length ranges.now ≤ 65536 }
+    requires few { length ranges.now ≤ most_nodes }
 {
     for _ in 0..pairs {
         let range = ranges[random.below(ranges.len() as u32) as usize];

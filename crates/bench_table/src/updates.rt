@@ -1,6 +1,7 @@
 //! What the writer does for a time.
 
 ghost use Rattle.std.specs.Prelude.{◌<◌, ◌≤◌, length};
+ghost use Rattle.word_arena.specs.Limits.{most_nodes};
 
 use crate::faults::Fault;
 use crate::jobs::Writing;
@@ -42,7 +43,7 @@ pub fn write<R: Clock>(
     time: Duration,
 ) -> Result<Written, Fault>
     requires some { 0 < length ranges.now }
-    requires few { length ranges.now ≤ 65536 }
+    requires few { length ranges.now ≤ most_nodes }
 {
     match writing {
         Writing::Nothing => {
@@ -62,7 +63,7 @@ fn write_steadily<R: Clock>(
     time: Duration,
 ) -> Result<Written, Fault>
     requires some { 0 < length ranges.now }
-    requires few { length ranges.now ≤ 65536 }
+    requires few { length ranges.now ≤ most_nodes }
 {
     let pairs = if ranges.len() > LARGE {
         PAIRS_IF_LARGE
@@ -94,7 +95,7 @@ fn write_paced<R: Clock>(
     time: Duration,
 ) -> Result<Written, Fault>
     requires some { 0 < length ranges.now }
-    requires few { length ranges.now ≤ 65536 }
+    requires few { length ranges.now ≤ most_nodes }
 {
     let mut random = Random(SEED);
     let mut written = Written {

@@ -1,6 +1,6 @@
 -- An update whose items are placed in free nodes, and whose links lead both copies: the stores that
 -- are planned for it carry it out.
-use Rattle.std.proofs.Common.{◌≡◌, ◌≢◌, ℕ, ◌+◌, ◌*◌, ◌<◌, ◌≤◌, List, [], ◌∷◌, ◌++◌, length, take, refl, sym, ◌∙◌, ap, subst, inl, inr, arith, length-set}
+use Rattle.std.proofs.Common.{◌≡◌, ◌≢◌, ℕ, ◌+◌, ◌*◌, ◌<◌, ◌≤◌, List, [], ◌∷◌, ◌++◌, length, take, refl, sym, ◌∙◌, ap, subst, inl, inr, arith}
 use Rattle.std.specs.Prelude.{All, Contains, map}
 use Rattle.std.specs.List.{AllByRecursion}
 use Rattle.std.proofs.lemmas.List.{take-append-le, take_all}
@@ -11,10 +11,10 @@ use Rattle.order_laws.specs.Tables.{place_for, place_of}
 use Rattle.order_laws.proofs.Each.{all_append, all_weaker}
 use Rattle.word_arena.proofs.LinkLemmas.{same_item}
 use Rattle.word_arena.specs.declared.stores.Store.{Store}
-use Rattle.word_arena.specs.Words.{at, words_for, item_at, a_word, b_word, tag_word, Holds, IsUnreached, listed}
-use Rattle.word_arena.specs.Stores.{words_after, words_after_all, IsItemWord, AreLinkStores}
+use Rattle.word_arena.specs.Words.{at, words_for, a_word, b_word, tag_word, Holds, IsUnreached, listed}
+use Rattle.word_arena.specs.Stores.{words_after_all, IsItemWord, AreLinkStores}
 use Rattle.word_arena.proofs.WordLemmas.{one_item, item_place}
-use Rattle.word_arena.proofs.StoreLemmas.{length_after, untouched, at_stored, at_other}
+use Rattle.word_arena.proofs.StoreLemmas.{length_after, untouched}
 use Rattle.word_arena.proofs.HoldsLemmas.{tree_untouched}
 use Rattle.rb_trees.specs.Trees.{CanBeRedBlack}
 use Rattle.rb_words.specs.Pictures.{Picture, IsPictured}
@@ -36,20 +36,7 @@ use Rattle.latch_core.proofs.ChangeLemmas.{both_then, free_node}
 use Rattle.latch_core.proofs.StoreOrderLemmas.{Leading, IsFreeStore, AreFreeStores, items_unused}
 use Rattle.latch_core.proofs.BeginLemmas.{update_in_range, update_length, has_begun}
 use Rattle.latch_core.proofs.WriterLemmas.{unlisted}
-
--- the words of a placed item stand in its node
-one_placed : (m : List ℕ) (n node : ℕ) (i : Item) → length m ≡ words_for n → node < n → item_at (words_after_all m (item_stores node i)) node ≡ i
-one_placed m n node i sized lt =
-    let m1 = words_after m (record { word = a_word node; value = i.a }) in
-    let m2 = words_after m1 (record { word = b_word node; value = i.b }) in
-    let s1 = length-set m (a_word node) i.a ∙ sized in
-    let s2 = length-set m1 (b_word node) i.b ∙ s1 in
-    let a : at (words_after m2 (record { word = tag_word node; value = i.tag })) (a_word node) ≡ i.a =
-    (at_other m2 (tag_word node) i.tag (a_word node) (λ e. absurd (omega arith)) ∙ at_other m1 (b_word node) i.b (a_word node) (λ e. absurd (omega arith)) ∙ at_stored m (a_word node) i.a (omega (arith, sized))) in
-    let b : at (words_after m2 (record { word = tag_word node; value = i.tag })) (b_word node) ≡ i.b =
-    (at_other m2 (tag_word node) i.tag (b_word node) (λ e. absurd (omega arith)) ∙ at_stored m1 (b_word node) i.b (omega (arith, s1))) in
-    let t : at (words_after m2 (record { word = tag_word node; value = i.tag })) (tag_word node) ≡ i.tag = at_stored m2 (tag_word node) i.tag (omega (arith, s2)) in
-    λ k. record { a = a k; b = b k; tag = t k }
+use Rattle.rb_words.proofs.PlanLemmas.{item_put}
 
 others_away : (node : ℕ) (placed : PlacedItems) → AllByRecursion (λ y. node ≢ y) (map (λ (p : ℕ × Item). p.0) placed) → AllByRecursion (λ (s : Store). IsItemWord node s.word → ⊥) (stores_of_placed placed)
 others_away node [] h = tt
@@ -64,7 +51,7 @@ all_placed m n [] sized lt d = tt
 all_placed m n (p ∷ rest) sized lt d =
     let m1 = words_after_all m (item_stores p.0 p.1) in
     let s1 : length m1 ≡ words_for n = length_after m (item_stores p.0 p.1) ∙ sized in (
-      same_item m1 (words_after_all m1 (stores_of_placed rest)) p.0 (untouched (IsItemWord p.0) m1 (stores_of_placed rest) (others_away p.0 rest d.0)) ∙ one_placed m n p.0 p.1 sized lt.0,
+      same_item m1 (words_after_all m1 (stores_of_placed rest)) p.0 (untouched (IsItemWord p.0) m1 (stores_of_placed rest) (others_away p.0 rest d.0)) ∙ item_put m n p.0 p.1 lt.0 sized,
       all_placed m1 n rest s1 lt.1 d.1,
     )
 

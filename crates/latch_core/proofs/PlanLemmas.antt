@@ -6,6 +6,7 @@ use Rattle.std.proofs.lemmas.List.{take_more, map-append}
 use Rattle.order_laws.proofs.Each.{all_get_or}
 use Rattle.order_laws.proofs.Lists.{first_and_rest, get_or-drop_append}
 use Rattle.word_arena.specs.declared.stores.Store.{Store}
+use Rattle.word_arena.specs.Limits.{most_nodes}
 use Rattle.word_arena.specs.Words.{words_for}
 use Rattle.word_arena.specs.Stores.{IsLinkWord, AreLinkStores}
 use Rattle.word_arena.proofs.WordLemmas.{link_place}
@@ -59,7 +60,7 @@ mirror_more xs ys from place d above below =
     ∙ ap (λ s. mirror_stores (take (place - from) (drop from xs)) ++ mirror_store s ∷ []) (get_or-drop_append xs ys from place d above below)
 
 -- the word of a link of copy 0 and that of copy 1 beside it are in range
-pub link_fits : (n : ℕ) (xs ys : List Store) (from place : ℕ) (d : Store) → n ≤ 65536 → from ≤ place → place < length xs → AreLinkStores n 0 (drop from xs) → (get_or (xs ++ ys) place d).word + 2 < 18446744073709551616
+pub link_fits : (n : ℕ) (xs ys : List Store) (from place : ℕ) (d : Store) → n ≤ most_nodes → from ≤ place → place < length xs → AreLinkStores n 0 (drop from xs) → (get_or (xs ++ ys) place d).word + 2 < 18446744073709551616
 link_fits n xs ys from place d most above below are =
     let within : place - from < length (drop from xs) = omega (arith, length-drop from xs) in
     let is = all_get_or (λ (s : Store). IsLinkWord n 0 s.word) (drop from xs) (place - from) d are within in

@@ -1,6 +1,7 @@
 //! Where a reader stands in its attempt.
 
 ghost use Rattle.std.specs.Prelude.{◌<◌, ◌≤◌};
+ghost use Rattle.word_arena.specs.Limits.{most_nodes};
 
 /// Which value a reader waits for.
 #[derive(Clone, Copy, Debug, PartialEq, Eq, Drop)]
@@ -40,5 +41,5 @@ pub struct Progress {
     pub visits_left: u32,
     pub awaited: Awaited,
     ghost within: { node < capacity },
-    ghost most: { capacity ≤ 65536 },
+    ghost most: { capacity ≤ most_nodes },
 }

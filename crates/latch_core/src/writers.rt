@@ -4,6 +4,7 @@ ghost use Rattle.std.specs.Prelude.{◌≡◌, false, ◌↔◌, ◌+◌, ◌*�
 ghost use Rattle.order_laws.specs.Tables.{has, without_all};
 ghost use Rattle.word_arena.specs.declared.stores.Store.{Store};
 ghost use Rattle.word_arena.specs.Layouts.{capacity_of, limit_of};
+ghost use Rattle.word_arena.specs.Limits.{most_nodes};
 ghost use Rattle.word_arena.specs.Words.{at, words_for};
 ghost use Rattle.rb_words.specs.Pictures.{IsPicture};
 ghost use Rattle.latch_core.specs.Sequences.{generation_of};
@@ -46,6 +47,7 @@ pub struct WriterCore<O: TreeOrder> {
 impl<O: TreeOrder> Model for WriterCore<O> {
     ghost use Rattle.std.specs.Prelude.{◌≤◌, vec_capacity};
     ghost use Rattle.word_arena.specs.Layouts.{capacity_of, limit_of};
+    ghost use Rattle.word_arena.specs.Limits.{most_nodes};
     ghost use Rattle.rb_words.specs.Mirrors.{second_picture};
     ghost use Rattle.latch_core.specs.WriterViews.{WriterView, writer_code};
     ghost use Rattle.latch_core.specs.Writers.{AreInStep};
@@ -522,7 +524,7 @@ fn reserve_all<O: TreeOrder>(
     size: usize,
 ) -> Result<Vec<Store>, Refusal>
     requires none_left { plan.old.stores_left ≡ [] }
-    requires size { size ≤ 2 * 65536 }
+    requires size { size ≤ 2 * most_nodes }
     ensures kept { shape.new ≡ record shape.old { room = shape.new.room } }
     ensures plan_kept { plan.new.stores_left ≡ [] }
     ensures room { OnOk result (size ≤ shape.new.room) }

@@ -11,6 +11,7 @@ use Rattle.order_laws.specs.Orders.{half_open}
 use Rattle.order_laws.specs.Tables.{look}
 use Rattle.word_arena.specs.declared.layouts.Layout.{Layout}
 use Rattle.word_arena.specs.Layouts.{capacity_of, limit_of}
+use Rattle.word_arena.specs.Limits.{greatest_wide_sequence}
 use Rattle.latch_core.specs.declared.updates.Update.{Update}
 use Rattle.latch_steps.specs.declared.worlds.World.{World}
 use Rattle.latch_steps.specs.declared.replies.Returned.{Returned}
@@ -30,7 +31,7 @@ no_updates = record { inserted = refl; erased = refl; few = omega arith }
 
 -- a world that was opened holds nothing
 opened_world : (c : CatalogEntries) (w : World HalfOpen ℕ) (l : Layout) → IsSoundCatalog c → layout_in w ≡ l → RepresentsMoment half_open w (opening (capacity_of l) 0)
-    → IsAfter half_open 0 [] w → length (regions_of c) ≤ capacity_of l → limit_of l ≡ 18446744073709551614 → HoldsBelow c 0 w
+    → IsAfter half_open 0 [] w → length (regions_of c) ≤ capacity_of l → limit_of l ≡ greatest_wide_sequence → HoldsBelow c 0 w
 opened_world c w l sound lay shows after room limit =
     let n = capacity_of (layout_in w) in
     let none : NoLookup after.moment = same_readers half_open w (opening (capacity_of l) 0) after.moment shows after.shows (λ r. get-empty nat_cmp r) in
@@ -46,7 +47,7 @@ opened_world c w l sound lay shows after room limit =
 
 pub opened : (c : CatalogEntries) (r : Result (World HalfOpen ℕ) Refusal) (l : Layout) → IsSoundCatalog c → IfOk r (λ w. layout_in w ≡ l)
     → IfOk r (λ w. RepresentsMoment half_open w (opening (capacity_of l) 0)) → IfOk r (IsAfter half_open 0 [])
-    → length (regions_of c) ≤ capacity_of l → limit_of l ≡ 18446744073709551614 → IfOk r (HoldsBelow c 0)
+    → length (regions_of c) ≤ capacity_of l → limit_of l ≡ greatest_wide_sequence → IfOk r (HoldsBelow c 0)
 opened c (Ok w) l sound lay shows after room limit = opened_world c w l sound lay shows after room limit
 opened c (Err e) l sound lay shows after room limit = tt
 

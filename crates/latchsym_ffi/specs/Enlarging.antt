@@ -4,6 +4,7 @@ use Rattle.order_laws.specs.declared.refusals.Refusal.{Refusal}
 use Rattle.order_laws.specs.declared.refusals.Refusal.TheVariants.{BadCapacity}
 use Rattle.order_laws.specs.Refusals.{refusal_number}
 use Rattle.word_arena.specs.declared.layouts.Layout.{Layout}
+use Rattle.word_arena.specs.Limits.{most_nodes}
 use Rattle.latch_table.specs.Enlarging.{Enlarges, RefusesEnlarging, reader_beside}
 use Rattle.latch_table.specs.Readers.{ReaderState}
 use Rattle.latch_table.specs.Writers.{WriterState}
@@ -29,7 +30,7 @@ pub record IsEnlarged (nodes : ℕ) (w w' : WriterState) (slots : List ReaderSlo
 -- the number of nodes is not 1 to 65536, or else the writer refuses them
 abbrev pub RefusesMoving : ℕ → WriterState → Refusal → Type 0
 RefusesMoving nodes w e =
-    ((e ≡ BadCapacity) × ((0 < nodes) × (nodes ≤ 65536) → ⊥))
+    ((e ≡ BadCapacity) × ((0 < nodes) × (nodes ≤ most_nodes) → ⊥))
     ⊎ ((l : Layout) × IsWide nodes l × RefusesEnlarging w l e)
 
 -- the slots are not those of its readers, or else the number is that of such a refusal

@@ -3,6 +3,7 @@ use Rattle.std.specs.Prelude.{◌≡◌, ℕ, ◌≤◌, ◌<◌, ◌⊎◌, tru
 use Rattle.atomic_table.specs.Seated.{TableId}
 use Rattle.word_arena.specs.declared.layouts.Layout.{Layout}
 use Rattle.word_arena.specs.Layouts.{capacity_of, limit_of}
+use Rattle.word_arena.specs.Limits.{greatest_wide_sequence, most_nodes}
 use Rattle.latch_table.specs.declared.knowledge.Origin.TheVariants.{Start}
 use Rattle.latch_table.specs.Readers.{ReaderState, new_reader}
 use Rattle.latch_table.specs.Seats.{first_knowledge}
@@ -13,7 +14,7 @@ use Rattle.latchsym_ffi.specs.declared.writer_slots.WriterSlot.{WriterSlot}
 
 -- a layout of so many nodes with 64-bit sequences
 abbrev pub IsWide : ℕ → Layout → Type 0
-IsWide nodes l = (capacity_of l ≡ nodes) × (limit_of l ≡ 18446744073709551614)
+IsWide nodes l = (capacity_of l ≡ nodes) × (limit_of l ≡ greatest_wide_sequence)
 
 -- a reader of the empty table at a place
 abbrev pub first_reader : TableId → Layout → ReaderState
@@ -43,7 +44,7 @@ pub record AreOpened (nodes readers : ℕ) (b : Boxes) : Type 0 where
 
 -- the numbers of nodes and readers are 1 to 65536 and 1 to 64
 abbrev pub AreInRange : ℕ → ℕ → Type 0
-AreInRange nodes readers = (0 < nodes) × (nodes ≤ 65536) × (0 < readers) × (readers ≤ 64)
+AreInRange nodes readers = (0 < nodes) × (nodes ≤ most_nodes) × (0 < readers) × (readers ≤ 64)
 
 -- a refusal for numbers out of their ranges, and else because memory ran out
 abbrev pub RefusesTable : ℕ → ℕ → ℕ → Type 0

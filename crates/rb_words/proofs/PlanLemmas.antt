@@ -24,6 +24,7 @@ use Rattle.order_laws.proofs.Members.{Contains-insert, Contains-insert_cases, Co
 use Rattle.order_laws.proofs.MeetLemmas.{not_meeting}
 use Rattle.rb_trees.proofs.ListedRows.{as_many_rows}
 use Rattle.word_arena.proofs.LinkLemmas.{item_kept}
+use Rattle.word_arena.specs.Limits.{most_nodes}
 use Rattle.word_arena.specs.declared.stores.Store.{Store}
 use Rattle.word_arena.specs.Words.{Nodes, none, fork, words_for, a_word, b_word}
 use Rattle.word_arena.specs.Words.{tag_word, item_at, listed, Reaches, InUse}
@@ -91,7 +92,7 @@ stored_kept m n c links (r ∷ rs) small are h =
     (item_kept m n c links r.node small are ∙ h.0, stored_kept m n c links rs small are h.1)
 
 -- the words of an item in a node
-item_put : (m : List ℕ) (n node : ℕ) (i : Item) → node < n → length m ≡ words_for n →
+pub item_put : (m : List ℕ) (n node : ℕ) (i : Item) → node < n → length m ≡ words_for n →
     item_at (words_after_all m (item_stores node i)) node ≡ i
 item_put m n node i lt sized =
     let wa = a_word node in
@@ -473,7 +474,7 @@ module _ {K Z : Type 0} (o : Order K) (law : IsLawful o) (n c : ℕ) (t u : Colo
       }
 
 -- a way down has so few nodes that a cursor has a step for each
-pub few_steps : {K : Type 0} (o : Order K) (n c : ℕ) (t : ColouredTree) (room : ℕ) → n ≤ 65536 →
+pub few_steps : {K : Type 0} (o : Order K) (n c : ℕ) (t : ColouredTree) (room : ℕ) → n ≤ most_nodes →
     IsPicture o (picture_of n c t room) → depth (shape t) ≤ 64
 few_steps o n c t room small is =
     let d = depth (shape t) in

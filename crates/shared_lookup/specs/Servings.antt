@@ -6,6 +6,7 @@ use Rattle.order_laws.specs.declared.refusals.Refusal.{Refusal}
 use Rattle.order_laws.specs.declared.refusals.Refusal.TheVariants.{OutOfMemory, BadCapacity}
 use Rattle.order_laws.specs.Orders.{half_open}
 use Rattle.order_laws.specs.Tables.{look}
+use Rattle.word_arena.specs.Limits.{most_nodes}
 use Rattle.latch_core.specs.declared.updates.Update.{Update}
 use Rattle.latch_core.specs.Histories.{replay}
 use Rattle.modules.specs.Catalogs.{regions_of}
@@ -90,7 +91,7 @@ IsWrongCount c changes outcomes answers log wrong =
 
 -- a table can have so many regions, and so many readers
 abbrev pub MayServe : CatalogEntries → List (Vec ℕ) → Type 0
-MayServe c keys = (length (regions_of c) ≤ 65536) × (0 < length keys) × (length keys ≤ 64)
+MayServe c keys = (length (regions_of c) ≤ most_nodes) × (0 < length keys) × (length keys ≤ 64)
 
 -- by these numbers, and else because memory ran out
 abbrev pub RefusesServing : CatalogEntries → List (Vec ℕ) → Refusal → Type 0

@@ -3,6 +3,7 @@
 ghost use Rattle.std.specs.Prelude.{◌≡◌, ◌≤◌, length, IfOk, IfErr, vec_len};
 ghost use Rattle.modules.specs.Catalogs.{regions_of};
 ghost use Rattle.word_arena.specs.Layouts.{capacity_of};
+ghost use Rattle.word_arena.specs.Limits.{most_nodes};
 ghost use Rattle.shared_lookup.specs.Servings.{EachHasOutcome, EachIsAnswered};
 ghost use Rattle.shared_lookup.specs.Servings.{IsWrongCount, MayServe, RefusesServing};
 
@@ -79,9 +80,9 @@ fn run_threads<R: Threads + Wait + Sync, G: Gate + Sync, W: Changer + Sync>(
 /// The layout of a table for all regions of a catalog. Refused by [`Refusal::BadCapacity`] where
 /// they are more than a table can have.
 fn layout_for(c: &Catalog<'_>) -> Result<Layout, Refusal>
-    ensures may { IfOk result (λ _. length (regions_of c.now) ≤ 65536) }
+    ensures may { IfOk result (λ _. length (regions_of c.now) ≤ most_nodes) }
     ensures refused { IfErr result (λ e. (e ≡ Refusal.BadCapacity)
-        × (length (regions_of c.now) ≤ 65536 → ⊥)) }
+        × (length (regions_of c.now) ≤ most_nodes → ⊥)) }
 {
     match u32::try_from(c.regions()) {
         Ok(regions) => Layout::wide(regions.max(1)),

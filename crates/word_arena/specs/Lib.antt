@@ -1,4 +1,6 @@
 -- The definitions of this crate, in the order in which to read them.
+-- the greatest numbers of a layout
+pub mod Limits
 -- what a layout shows
 pub mod Layouts
 -- the two copies of the tree

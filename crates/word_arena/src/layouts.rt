@@ -1,6 +1,7 @@
 //! How many nodes there are, and which word holds what.
 
 ghost use Rattle.std.specs.Prelude.{◌+◌, ◌*◌, ◌<◌, ◌≤◌, ◌^◌};
+ghost use Rattle.word_arena.specs.Limits.{most_nodes};
 
 use order_laws::Refusal;
 
@@ -20,7 +21,7 @@ pub struct Layout {
     capacity: u32,
     limit: u64,
     ghost some: { 0 < capacity },
-    ghost most: { capacity ≤ 65536 },
+    ghost most: { capacity ≤ most_nodes },
     ghost room: { 2 ≤ limit },
     ghost counts: { limit + 1 < 2 ^ 64 },
 }
@@ -28,14 +29,15 @@ pub struct Layout {
 impl Layout {
     ghost use Rattle.std.specs.Prelude.{◌≡◌, ◌↔◌, ◌⊎◌, IfOk, IsErr, IfErr};
     ghost use Rattle.word_arena.specs.Layouts.{capacity_of, limit_of};
+    ghost use Rattle.word_arena.specs.Limits.{greatest_sequence, greatest_wide_sequence};
     ghost use Rattle.word_arena.specs.Words.{words_for};
 
     /// A layout of `n` nodes with 32-bit sequences. Refused by [`Refusal::BadCapacity`] outside 1
     /// to 65536.
     pub fn new(n: u32) -> Result<Layout, Refusal>
         ensures capacity { IfOk result (λ l. capacity_of l ≡ n) }
-        ensures limit { IfOk result (λ l. limit_of l ≡ 4294967294) }
-        ensures refused { IsErr result ↔ ((n ≡ 0) ⊎ (65536 < n)) }
+        ensures limit { IfOk result (λ l. limit_of l ≡ greatest_sequence) }
+        ensures refused { IsErr result ↔ ((n ≡ 0) ⊎ (most_nodes < n)) }
         ensures refusal { IfErr result (λ e. e ≡ Refusal.BadCapacity) }
     {
         Layout::up_to(n, GREATEST_SEQUENCE)
@@ -45,8 +47,8 @@ impl Layout {
     /// to 65536.
     pub fn wide(n: u32) -> Result<Layout, Refusal>
         ensures capacity { IfOk result (λ l. capacity_of l ≡ n) }
-        ensures limit { IfOk result (λ l. limit_of l ≡ 18446744073709551614) }
-        ensures refused { IsErr result ↔ ((n ≡ 0) ⊎ (65536 < n)) }
+        ensures limit { IfOk result (λ l. limit_of l ≡ greatest_wide_sequence) }
+        ensures refused { IsErr result ↔ ((n ≡ 0) ⊎ (most_nodes < n)) }
         ensures refusal { IfErr result (λ e. e ≡ Refusal.BadCapacity) }
     {
         Layout::up_to(n, GREATEST_WIDE_SEQUENCE)
@@ -58,7 +60,7 @@ impl Layout {
         requires counts { limit + 1 < 2 ^ 64 }
         ensures capacity { IfOk result (λ l. capacity_of l ≡ n) }
         ensures limit { IfOk result (λ l. limit_of l ≡ limit) }
-        ensures refused { IsErr result ↔ ((n ≡ 0) ⊎ (65536 < n)) }
+        ensures refused { IsErr result ↔ ((n ≡ 0) ⊎ (most_nodes < n)) }
         ensures refusal { IfErr result (λ e. e ≡ Refusal.BadCapacity) }
     {
         if n == 0 || n > MOST_NODES {
@@ -71,7 +73,7 @@ impl Layout {
     pub fn capacity(&self) -> u32
         ensures is { result ≡ capacity_of self.now }
         ensures some { 0 < result }
-        ensures most { result ≤ 65536 }
+        ensures most { result ≤ most_nodes }
     {
         self.capacity
     }

@@ -14,6 +14,6 @@ pub mod stores;
 #[cfg(test)]
 mod tests;
 
-pub use layouts::Layout;
+pub use layouts::{Layout, MOST_NODES};
 pub use places::TreeCopy;
 pub use stores::{Store, append, apply};
