@@ -7,7 +7,7 @@ use Rattle.std.proofs.lemmas.List.Elements.{Contains-append_cases, Contains-appe
 use Rattle.std.proofs.lemmas.List.Folds.{list_any_none}
 use Rattle.latch_core.proofs.BatchLemmas.{length_with_items}
 use Rattle.latch_core.specs.Histories.{replay}
-use Rattle.latch_core.specs.Updates.{after, erased, first_that_holds, inserted, refuses, some_invalid, some_meet, with_items}
+use Rattle.latch_core.specs.Updates.{after, erased, first_that_holds, inserted, refusal_for, some_invalid, some_meet, with_items}
 use Rattle.latch_core.specs.declared.updates.Update.{Update}
 use Rattle.latch_core.specs.declared.updates.Update.TheVariants.{Insert}
 use Rattle.order_laws.proofs.Lists.{append_nil_left, append_nil_right}
@@ -84,7 +84,7 @@ module _ {K : Type 0} (o : Order K) where
 -- an item that is apart from all others is accepted where there is room for it
 pub insert_accepted : (n limit : ℕ) (i : Item) (table : List Item) (seq : ℕ) → i.a < i.b
     → ((x : Item) → Contains table x → half_open.apart x i ≡ true)
-    → length table < n → seq + 2 ≤ limit → refuses half_open n limit false table seq (Insert i) ≡ None
+    → length table < n → seq + 2 ≤ limit → refusal_for half_open n limit false table seq (Insert i) ≡ None
 insert_accepted n limit i table seq valid apart room left =
     let v : nat_lt i.a i.b ≡ true = lt-ltb i.a i.b valid in
     let m = none_meets i table apart in

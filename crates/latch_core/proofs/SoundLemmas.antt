@@ -7,7 +7,7 @@ use Rattle.word_arena.specs.declared.stores.Store.{Store}
 use Rattle.latch_core.specs.declared.updates.Update.{Update}
 use Rattle.order_laws.specs.Orders.{Order, IsLawful}
 use Rattle.order_laws.specs.Tables.{IsTable}
-use Rattle.latch_core.specs.Updates.{after, refuses}
+use Rattle.latch_core.specs.Updates.{after, refusal_for}
 use Rattle.latch_core.specs.Histories.{replay, table_at, current_table}
 use Rattle.word_arena.specs.Words.{at, root_word, none, HoldsTable}
 use Rattle.latch_core.specs.Sequences.{generation_of, stable_copy_of}
@@ -101,7 +101,7 @@ sound_step o n start us l h s ok in_hand may =
       current = left.current;
     }
 
-pub sound_begin : {K : Type 0} (o : Order K) → IsLawful o → (n limit start : ℕ) (us : List Update) (l : Latch) (u : Update) (left : ℕ) → IsSound o n start us l → l.pending ≡ None → refuses o n limit false l.newest_table (at l.words 0) u ≡ None → IsSound o n start (us ++ u ∷ []) (latch_with_update o l u left)
+pub sound_begin : {K : Type 0} (o : Order K) → IsLawful o → (n limit start : ℕ) (us : List Update) (l : Latch) (u : Update) (left : ℕ) → IsSound o n start us l → l.pending ≡ None → refusal_for o n limit false l.newest_table (at l.words 0) u ≡ None → IsSound o n start (us ++ u ∷ []) (latch_with_update o l u left)
 sound_begin o law n limit start us l u left ok free e =
     let seq : at l.words 0 ≡ start + 2 * length us = subst (IsPendingOf o start (at l.words 0) us) free ok.in_hand in
     let more = length-append us (u ∷ []) in
@@ -113,7 +113,7 @@ sound_begin o law n limit start us l u left ok free e =
     record {
       even = ok.even;
       sized = ok.sized;
-      tables = tables_push o law n limit us (at l.words 0) u (subst (λ t. refuses o n limit false t (at l.words 0) u ≡ None) ok.table_is e) ok.tables;
+      tables = tables_push o law n limit us (at l.words 0) u (subst (λ t. refusal_for o n limit false t (at l.words 0) u ≡ None) ok.table_is e) ok.tables;
       table_is = ap (λ t. after o t u) ok.table_is ∙ sym (replay_push o [] us u);
       in_hand = record { count = omega arith; flips = omega arith; last = omega arith; old = ok.table_is ∙ ap (replay o []) (sym front) };
       current = subst (HoldsTable l.words n (stable_copy_of (at l.words 0))) (sym same) ok.current;

@@ -9,7 +9,7 @@ use Rattle.latch_core.specs.declared.updates.Update.{Update}
 use Rattle.latch_core.specs.declared.updates.Update.TheVariants.{Insert, Erase, Batch}
 use Rattle.order_laws.specs.Orders.{Order, IsLawful}
 use Rattle.order_laws.specs.Tables.{IsTable, meets, with_item, without, without_all}
-use Rattle.latch_core.specs.Updates.{after, refuses, some_overlap, some_meet}
+use Rattle.latch_core.specs.Updates.{after, refusal_for, some_overlap, some_meet}
 use Rattle.latch_core.specs.Histories.{replay}
 use Rattle.word_arena.specs.Words.{at, root_word, by_root, InUse}
 use Rattle.latch_core.specs.Sequences.{stable_copy_of}
@@ -83,7 +83,7 @@ pub after_erase : {K : Type 0} (o : Order K) (table : List Item) (a : ℕ) → a
 after_erase o table a = without_one a table
 
 -- the table after an accepted update is one, and fits
-pub accepted_table : {K : Type 0} (o : Order K) → IsLawful o → (n limit : ℕ) (table : List Item) (seq : ℕ) (u : Update) → refuses o n limit false table seq u ≡ None → IsTable o table → length table ≤ n → IsTable o (after o table u) × (length (after o table u) ≤ n)
+pub accepted_table : {K : Type 0} (o : Order K) → IsLawful o → (n limit : ℕ) (table : List Item) (seq : ℕ) (u : Update) → refusal_for o n limit false table seq u ≡ None → IsTable o table → length table ≤ n → IsTable o (after o table u) × (length (after o table u) ≤ n)
 accepted_table o law n limit table seq (Insert i) e t fits =
     let (valid, free, ne) : (not (o.valid i) ≡ false) × (meets o i table ≡ false) × ((length table == n) ≡ false) = (let h : NoneHolds (all_tests o n limit false table seq (Insert i)) = none_holds (all_tests o n limit false table seq (Insert i)) e in (h.1.0, h.1.1.0, h.1.1.1.0)) in
     let differ : length table ≢ n = eqb-false (length table) n ne in
@@ -104,7 +104,7 @@ pub replay_push : {K : Type 0} (o : Order K) (table : List Item) (us : List Upda
 replay_push o table [] u = refl
 replay_push o table (v ∷ us) u = replay_push o (after o table v) us u
 
-pub tables_push : {K : Type 0} (o : Order K) → IsLawful o → (n limit : ℕ) (us : List Update) (seq : ℕ) (u : Update) → refuses o n limit false (replay o [] us) seq u ≡ None → AreTables o n us → AreTables o n (us ++ u ∷ [])
+pub tables_push : {K : Type 0} (o : Order K) → IsLawful o → (n limit : ℕ) (us : List Update) (seq : ℕ) (u : Update) → refusal_for o n limit false (replay o [] us) seq u ≡ None → AreTables o n us → AreTables o n (us ++ u ∷ [])
 tables_push o law n limit us seq u e h j =
     ⊎_elim
     (λ le. let t : take j (us ++ u ∷ []) ≡ take j us = take-append-le j us (u ∷ []) le in

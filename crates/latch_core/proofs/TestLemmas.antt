@@ -10,7 +10,7 @@ use Rattle.order_laws.specs.declared.items.Item.{Item}
 use Rattle.order_laws.specs.Tables.{meets, without_all}
 use Rattle.latch_core.specs.declared.updates.Update.{Update}
 use Rattle.latch_core.specs.declared.updates.Update.TheVariants.{Insert, Erase, Batch}
-use Rattle.latch_core.specs.Updates.{Test, first_that_holds, tests_of, refuses, some_invalid, some_missing, some_twice, some_overlap, some_meet}
+use Rattle.latch_core.specs.Updates.{Test, first_that_holds, tests_of, refusal_for, some_invalid, some_missing, some_twice, some_overlap, some_meet}
 
 -- a list of which no test holds, and one whose first test holds
 pub none_holds : (tests : List Test) → first_that_holds tests ≡ None → AllByRecursion (λ (t : Test). t.0 ≡ false) tests
@@ -64,7 +64,7 @@ abbrev Other : List Test → Type 0
 Other tests = AllByRecursion (λ (t : Test). t.1 ≢ OutOfMemory) tests
 
 -- no update is refused as out of memory by its tests
-pub never_for_memory : {K : Type 0} (o : Order K) (n limit : ℕ) (busy : Bool) (table : List Item) (seq : ℕ) (u : Update) → refuses o n limit busy table seq u ≡ Some OutOfMemory → ⊥
+pub never_for_memory : {K : Type 0} (o : Order K) (n limit : ℕ) (busy : Bool) (table : List Item) (seq : ℕ) (u : Update) → refusal_for o n limit busy table seq u ≡ Some OutOfMemory → ⊥
 never_for_memory o n limit busy table seq u e = never_told OutOfMemory (all_tests o n limit busy table seq u) (other u) e
   where
     other : (v : Update) → Other (all_tests o n limit busy table seq v)
@@ -80,16 +80,16 @@ module _ {K : Type 0} (o : Order K) (n limit : ℕ) (busy : Bool) (idle : busy �
   abbrev last : Test
   last = (nat_lt limit (seq + 2), SequenceSpent)
 
-  none_in_hand : refuses o n limit busy table seq u ≡ first_that_holds (tests ++ last ∷ [])
-  none_in_hand = ap (λ b. refuses o n limit b table seq u) idle
+  none_in_hand : refusal_for o n limit busy table seq u ≡ first_that_holds (tests ++ last ∷ [])
+  none_in_hand = ap (λ b. refusal_for o n limit b table seq u) idle
 
-  pub why_tested : (r : Refusal) → first_that_holds tests ≡ Some r → Some r ≡ refuses o n limit busy table seq u
+  pub why_tested : (r : Refusal) → first_that_holds tests ≡ Some r → Some r ≡ refusal_for o n limit busy table seq u
   why_tested r t = sym (none_in_hand ∙ some_then tests (last ∷ []) r t)
 
-  pub why_spent : first_that_holds tests ≡ None → nat_lt limit (seq + 2) ≡ true → Some SequenceSpent ≡ refuses o n limit busy table seq u
+  pub why_spent : first_that_holds tests ≡ None → nat_lt limit (seq + 2) ≡ true → Some SequenceSpent ≡ refusal_for o n limit busy table seq u
   why_spent t s = sym (none_in_hand ∙ none_then tests (last ∷ []) t ∙ this_test last [] s)
 
-  pub why_none : first_that_holds tests ≡ None → nat_lt limit (seq + 2) ≡ false → None ≡ refuses o n limit busy table seq u
+  pub why_none : first_that_holds tests ≡ None → nat_lt limit (seq + 2) ≡ false → None ≡ refusal_for o n limit busy table seq u
   why_none t s = sym (none_in_hand ∙ none_then tests (last ∷ []) t ∙ next_test last [] s)
 
 -- what the tests of an insertion come to

@@ -14,7 +14,7 @@ use Rattle.word_arena.proofs.StoreLemmas.{length_after}
 use Rattle.word_arena.proofs.ReachLemmas.{reached_listed}
 use Rattle.latch_core.specs.declared.updates.Update.{Update}
 use Rattle.latch_core.specs.Sequences.{stable_copy_of}
-use Rattle.latch_core.specs.Updates.{refuses, after}
+use Rattle.latch_core.specs.Updates.{refusal_for, after}
 use Rattle.latch_core.specs.Latches.{PendingUpdate, Latch, IsWriterStep, latch_after_step, latch_with_update, opening_latch}
 use Rattle.latch_core.specs.Plans.{IsPlan, update_stores}
 use Rattle.latch_core.specs.WriterViews.{WriterView}
@@ -36,9 +36,9 @@ plan_in_hand n l [] plan = ap is_some plan
 plan_in_hand n l (s ∷ ss) plan = ap is_some plan.1 ∙ sym (lt-ltb 0 (suc (length ss)) (omega arith))
 
 -- what the core refuses is what the latch that it pictures refuses
-pub refuses_pictured : {K : Type 0} (o : Order K) (w : WriterView) (l : Latch) (u : Update) → RepresentsLatch w l → refuses o w.capacity w.limit (is_some l.pending) l.newest_table (at l.words 0) u ≡ why_refused o w u
+pub refuses_pictured : {K : Type 0} (o : Order K) (w : WriterView) (l : Latch) (u : Update) → RepresentsLatch w l → refusal_for o w.capacity w.limit (is_some l.pending) l.newest_table (at l.words 0) u ≡ why_refused o w u
 refuses_pictured o w l u p =
-    λ i. refuses o w.capacity w.limit (plan_in_hand w.capacity l w.stores_left p.plan i) (p.table i) (p.sequence i) u
+    λ i. refusal_for o w.capacity w.limit (plan_in_hand w.capacity l w.stores_left p.plan i) (p.table i) (p.sequence i) u
 
 -- one store later
 sequence_stored : (m : List ℕ) (seq : ℕ) (s : Store) → 0 < length m → at m 0 ≡ seq → at (words_after m s) 0 ≡ sequence_after seq s

@@ -91,7 +91,7 @@ failed_test o n table u = first_that_holds (tests_of o n table u)
 
 -- why an update is refused, or none: at n nodes and a greatest sequence, with a pending update or
 -- not, at this table and this sequence, from which two flips more may pass the greatest
-abbrev pub refuses : {K : Type 0} → Order K → ℕ → ℕ → Bool → List Item → ℕ → Update → Option Refusal
-refuses o n limit busy table seq u =
+abbrev pub refusal_for : {K : Type 0} → Order K → ℕ → ℕ → Bool → List Item → ℕ → Update → Option Refusal
+refusal_for o n limit busy table seq u =
     first_that_holds
     ((busy, UpdateInHand) ∷ tests_of o n table u ++ (nat_lt limit (seq + 2), SequenceSpent) ∷ [])

@@ -13,7 +13,7 @@ use Rattle.rb_trees.specs.Trees.{CanBeRedBlack}
 use Rattle.rb_words.specs.Pictures.{Picture}
 use Rattle.latch_core.specs.declared.updates.Update.{Update}
 use Rattle.latch_core.specs.Sequences.{stable_copy_of}
-use Rattle.latch_core.specs.Updates.{refuses, after, size_of, most_steps}
+use Rattle.latch_core.specs.Updates.{refusal_for, after, size_of, most_steps}
 use Rattle.latch_core.specs.Latches.{Latch, PendingUpdate, IsWriterStep, latch_after_step, latch_with_update}
 use Rattle.latch_core.specs.Plans.{IsPlan}
 use Rattle.latch_core.specs.FreeNodes.{AreAllNodes}
@@ -29,7 +29,11 @@ has_pending w = nat_lt 0 (length w.stores_left)
 
 -- why the core refuses an update, or none
 abbrev pub why_refused : {K : Type 0} → Order K → WriterView → Update → Option Refusal
-why_refused o w u = refuses o w.capacity w.limit (has_pending w) w.table w.sequence u
+why_refused o w u = refusal_for o w.capacity w.limit (has_pending w) w.table w.sequence u
+
+-- why a latch refuses an update, or none: at n nodes and a greatest sequence
+abbrev pub latch_refusal : {K : Type 0} → Order K → ℕ → ℕ → Latch → Update → Option Refusal
+latch_refusal o n limit l u = refusal_for o n limit (is_some l.pending) l.newest_table (at l.words 0) u
 
 -- a memory at rest: both copies hold the core's table, in its trees
 pub record IsMemoryAtRest (w : WriterView) (m : List ℕ) : Type 0 where
@@ -75,7 +79,7 @@ StoresNext old new =
 abbrev pub RefusesAsRepresented : {K : Type 0} → Order K → WriterView → Update → Type 0
 RefusesAsRepresented o w u =
     (l : Latch) → RepresentsLatch w l
-    → refuses o w.capacity w.limit (is_some l.pending) l.newest_table (at l.words 0) u ≡ why_refused o w u
+    → latch_refusal o w.capacity w.limit l u ≡ why_refused o w u
 
 -- an update is refused by what its tests say, and else because memory ran out
 abbrev pub IsRefusedBy : {K : Type 0} → Order K → WriterView → Update → Refusal → Type 0

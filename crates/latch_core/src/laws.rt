@@ -10,7 +10,7 @@ ghost use Rattle.word_arena.specs.Stores.{words_after};
 ghost use Rattle.latch_core.specs.declared.updates.Update.{Update};
 ghost use Rattle.rb_trees.specs.Trees.{CanBeRedBlack, depth};
 ghost use Rattle.latch_core.specs.Sequences.{generation_of, stable_copy_of};
-ghost use Rattle.latch_core.specs.Updates.{refuses};
+ghost use Rattle.latch_core.specs.Updates.{refusal_for};
 ghost use Rattle.latch_core.specs.Attempts.{Reading, Load, Outcome, Answer, attempt, rest_after, IsAttempt, Stand};
 ghost use Rattle.latch_core.specs.Whole.{GoesOn};
 ghost use Rattle.latch_core.specs.Latches.{Latch, PendingUpdate, IsWriterStep, latch_after_step, latch_with_update, opening_latch};
@@ -100,7 +100,7 @@ pub fn latch_stays_sound<O: TreeOrder>()
         → IsSound O.order n start us (latch_after_step l h s) }
     ensures begin { (n limit start : ℕ) (us : List Update) (l : Latch) (u : Update) (left : ℕ)
         → IsSound O.order n start us l → l.pending ≡ None
-        → refuses O.order n limit false l.newest_table (at l.words 0) u ≡ None
+        → refusal_for O.order n limit false l.newest_table (at l.words 0) u ≡ None
         → IsSound O.order n start (us ++ u ∷ []) (latch_with_update O.order l u left) }
     ensures widen { (n n' start : ℕ) (us : List Update) (l : Latch)
         → n ≤ n' → IsSound O.order n start us l

@@ -3,7 +3,7 @@
 ghost use Rattle.std.specs.Prelude.{◌≡◌, [], None, Some, if◌then◌else◌, IfOk};
 ghost use Rattle.order_laws.specs.Tables.{has, meets, without_all};
 ghost use Rattle.word_arena.specs.Layouts.{capacity_of, limit_of};
-ghost use Rattle.latch_core.specs.Updates.{refuses, failed_test, some_invalid, some_missing, some_twice, cannot_erase};
+ghost use Rattle.latch_core.specs.Updates.{failed_test, refusal_for, some_invalid, some_missing, some_twice, cannot_erase};
 ghost use Rattle.latch_core.specs.Updates.{some_overlap, some_meet, cannot_insert, with_items, after};
 ghost use Rattle.latch_core.specs.Histories.{replay};
 
@@ -15,7 +15,7 @@ use std::alloc::{AllocError, Global};
 use word_arena::Layout;
 
 /// Why an update of a table is refused, if it is.
-pub fn refuses<O: TreeOrder>(
+pub fn refusal_for<O: TreeOrder>(
     l: Layout,
     in_hand: bool,
     table: &[Item],
@@ -23,7 +23,7 @@ pub fn refuses<O: TreeOrder>(
     u: &Update,
 ) -> Option<Refusal>
     ensures { result
-        ≡ refuses O.order (capacity_of l) (limit_of l) in_hand table.now sequence u.now }
+        ≡ refusal_for O.order (capacity_of l) (limit_of l) in_hand table.now sequence u.now }
 {
     if in_hand {
         return Some(Refusal::UpdateInHand);

@@ -6,7 +6,7 @@ use Rattle.order_laws.specs.declared.refusals.Refusal.{Refusal}
 use Rattle.order_laws.specs.Orders.{Order}
 use Rattle.word_arena.specs.Words.{at}
 use Rattle.latch_core.specs.declared.updates.Update.{Update}
-use Rattle.latch_core.specs.Updates.{refuses}
+use Rattle.latch_core.specs.Updates.{refusal_for}
 use Rattle.latch_core.specs.Latches.{PendingUpdate}
 use Rattle.latch_steps.specs.declared.events.Event.{Event}
 use Rattle.latch_steps.specs.declared.events.Event.TheVariants.{Begin, Write, Start, Read}
@@ -37,7 +37,7 @@ module _ {K : Type 0} (o : Order K) (n limit : ℕ) where
   read_counts w r (Some l) = load_counts w r (after_load o n w r l)
 
   step_counts : (w w' : Moment K) (e : Event K) (reply : Reply K) → Step (machine o n limit) w e reply w' → w'.events ≡ counted_up w.events
-  step_counts w w' (Begin u) reply s = begin_counts w w' u (refuses o n limit (is_some w.latch.pending) w.latch.newest_table (at w.latch.words 0) u) reply s
+  step_counts w w' (Begin u) reply s = begin_counts w w' u (refusal_for o n limit (is_some w.latch.pending) w.latch.newest_table (at w.latch.words 0) u) reply s
   step_counts w w' Write reply s = write_counts w w' w.latch.pending reply s
   step_counts w w' (Start r k) reply s = ap (λ (p : Reply K × Moment K). p.1.events) (sym s) ∙ start_counts w r k (get w.lookups r)
   step_counts w w' (Read r) reply s = ap (λ (p : Reply K × Moment K). p.1.events) (sym s) ∙ read_counts w r (get w.lookups r)

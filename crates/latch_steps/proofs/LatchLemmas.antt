@@ -16,7 +16,7 @@ use Rattle.latch_steps.specs.declared.replies.Reply.TheVariants.{Begun, Wrote}
 use Rattle.order_laws.specs.Orders.{Order, IsLawful}
 use Rattle.word_arena.specs.Words.{at}
 use Rattle.word_arena.specs.Stores.{words_after}
-use Rattle.latch_core.specs.Updates.{refuses}
+use Rattle.latch_core.specs.Updates.{refusal_for}
 use Rattle.latch_core.specs.Latches.{PendingUpdate, Latch, IsWriterStep}
 use Rattle.latch_core.specs.Invariants.{IsSound}
 use Rattle.latch_core.proofs.StepLemmas.{hidden_same, flip_adds}
@@ -63,19 +63,19 @@ module _ {K : Type 0} (o : Order K) (n start : ℕ) (us : List Update) (w : Mome
       (subst (IsSound o n start us) (sym (ap (λ (v : Moment K). v.latch) ew)) (sound_step o n start us w.latch h s ok e may))
 
   begins_sound : IsLawful o → (limit : ℕ) (u : Update) (why : Option Refusal)
-      → refuses o n limit (is_some w.latch.pending) w.latch.newest_table (at w.latch.words 0) u ≡ why
+      → refusal_for o n limit (is_some w.latch.pending) w.latch.newest_table (at w.latch.words 0) u ≡ why
       → (reply : Reply K) (w' : Moment K) → IsBegin o n w u why reply w'
       → IsSound o n start (us ++ accepted (Begin u) reply) w'.latch
   begins_sound law limit u (Some why) e reply w' (er, ew) =
       subst (λ r. IsSound o n start (us ++ accepted (Begin u) r) w'.latch) (sym er) (kept w' (ap (λ v. v.latch) ew))
   begins_sound law limit u None e reply w' (left, some, bound, er, ew) =
       let free : w.latch.pending ≡ None = at_rest w.latch.pending e in
-      let accepts : refuses o n limit false w.latch.newest_table (at w.latch.words 0) u ≡ None = subst (λ h. refuses o n limit (is_some h) w.latch.newest_table (at w.latch.words 0) u ≡ None) free e in
+      let accepts : refusal_for o n limit false w.latch.newest_table (at w.latch.words 0) u ≡ None = subst (λ h. refusal_for o n limit (is_some h) w.latch.newest_table (at w.latch.words 0) u ≡ None) free e in
       subst (λ r. IsSound o n start (us ++ accepted (Begin u) r) w'.latch) (sym er)
       (subst (IsSound o n start (us ++ u ∷ [])) (sym (ap (λ (v : Moment K). v.latch) ew)) (sound_begin o law n limit start us w.latch u left ok free accepts))
     where
       at_rest : (h : Option PendingUpdate)
-          → refuses o n limit (is_some h) w.latch.newest_table (at w.latch.words 0) u ≡ None → h ≡ None
+          → refusal_for o n limit (is_some h) w.latch.newest_table (at w.latch.words 0) u ≡ None → h ≡ None
       at_rest None e = refl
       at_rest (Some h) e = absurd (cc)
 

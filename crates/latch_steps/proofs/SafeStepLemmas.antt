@@ -13,7 +13,7 @@ use Rattle.latch_steps.specs.declared.replies.Reply.{Reply}
 use Rattle.latch_steps.specs.declared.replies.Reply.TheVariants.{Returned as ReturnedReply, Refused}
 use Rattle.order_laws.specs.Orders.{Order, IsLawful}
 use Rattle.order_laws.specs.Tables.{look}
-use Rattle.latch_core.specs.Updates.{refuses}
+use Rattle.latch_core.specs.Updates.{refusal_for}
 use Rattle.latch_core.specs.Histories.{current_table}
 use Rattle.word_arena.specs.Words.{at}
 use Rattle.latch_core.specs.Sequences.{generation_of}
@@ -153,7 +153,7 @@ module _ {K : Type 0} (o : Order K) (law : IsLawful o) (n start : ℕ) (us : Lis
 begin_leads : {K : Type 0} (o : Order K) → IsLawful o → (n limit start : ℕ) (us : List Update)
     (c : ℕ) (w : Moment K) → IsWorld o n start us c w → counted_up c ≡ c + 1 → (u : Update)
     (why : Option Refusal)
-    → refuses o n limit (is_some w.latch.pending) w.latch.newest_table (at w.latch.words 0) u ≡ why
+    → refusal_for o n limit (is_some w.latch.pending) w.latch.newest_table (at w.latch.words 0) u ≡ why
     → (reply : Reply K) (w' : Moment K) → IsBegin o n w u why reply w'
     → ComesTo o n start (us ++ accepted (Begin u) reply) (c + 1) w' reply
 begin_leads o law n limit start us c w ok room u (Some why) e reply w' (er, ew) =
@@ -165,7 +165,7 @@ begin_leads {K = K} o law n limit start us c w ok room u None e reply w' (left, 
     subst (λ x. ComesTo o n start (us ++ accepted (Begin u) reply) (c + 1) x reply) (sym ew)
     (subst (λ r. ComesTo o n start (us ++ accepted (Begin u) r) (c + 1) (with_latch w (latch_with_update o w.latch u left)) r) (sym er)
     (let free : w.latch.pending ≡ None = at_rest w.latch.pending e in
-    let accepts : refuses o n limit false w.latch.newest_table (at w.latch.words 0) u ≡ None = subst (λ h. refuses o n limit (is_some h) w.latch.newest_table (at w.latch.words 0) u ≡ None) free e in
+    let accepts : refusal_for o n limit false w.latch.newest_table (at w.latch.words 0) u ≡ None = subst (λ h. refusal_for o n limit (is_some h) w.latch.newest_table (at w.latch.words 0) u ≡ None) free e in
     record {
       world = record {
         latch = sound_begin o law n limit start us w.latch u left ok.latch free accepts;
@@ -176,7 +176,7 @@ begin_leads {K = K} o law n limit start us c w ok room u None e reply w' (left, 
     }))
   where
     at_rest : (h : Option PendingUpdate)
-        → refuses o n limit (is_some h) w.latch.newest_table (at w.latch.words 0) u ≡ None → h ≡ None
+        → refusal_for o n limit (is_some h) w.latch.newest_table (at w.latch.words 0) u ≡ None → h ≡ None
     at_rest None e = refl
     at_rest (Some h) e = absurd (cc)
 

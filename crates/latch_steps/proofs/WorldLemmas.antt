@@ -15,7 +15,7 @@ use Rattle.word_arena.specs.Words.{at}
 use Rattle.word_arena.specs.Stores.{words_after}
 use Rattle.latch_core.specs.declared.updates.Update.{Update}
 use Rattle.latch_core.specs.WriterViews.{WriterView}
-use Rattle.latch_core.specs.Updates.{refuses, most_steps}
+use Rattle.latch_core.specs.Updates.{refusal_for, most_steps}
 use Rattle.latch_core.proofs.TestLemmas.{never_for_memory}
 use Rattle.latch_core.specs.Latches.{PendingUpdate, Latch, IsWriterStep, latch_after_step, latch_with_update}
 use Rattle.latch_core.specs.Plans.{IsPlan}
@@ -86,11 +86,11 @@ module _ {O K : Type 0} (o : Order K) (c : World O K) where
 
   -- what the writer says of an update is what the definitions say
   pub says : (u : Update) (why : Option Refusal) (w : Moment K) → RepresentsMoment o c w
-      → why_refused o c.writer u ≡ why → refuses o (capacity_of c.layout) (limit_of c.layout)
+      → why_refused o c.writer u ≡ why → refusal_for o (capacity_of c.layout) (limit_of c.layout)
       (is_some w.latch.pending) w.latch.newest_table (at w.latch.words 0) u ≡ why
   says u why w s e =
       let pending : has_pending c.writer ≡ is_some w.latch.pending = hand_shown w s in
-      (λ i. refuses o (sym s.capacity i) (sym s.limit i) (sym pending i) (s.writer.table i) (s.writer.sequence i) u) ∙ e
+      (λ i. refusal_for o (sym s.capacity i) (sym s.limit i) (sym pending i) (s.writer.table i) (s.writer.sequence i) u) ∙ e
 
   pub begins : (u : Update) (left y : ℕ) (wr : WriterView) → why_refused o c.writer u ≡ None
       → left ≡ length wr.stores_left → HasBegun o c.writer u wr → y ≡ counted_up c.events → MayDo o c (Begin u)

@@ -1,5 +1,5 @@
 -- Which single steps there are: a begin, one store of the writer, a start, one load of a reader.
-use Rattle.std.specs.Prelude.{◌≡◌, ℕ, ◌+◌, ◌<◌, ◌≤◌, List, [], ◌∷◌, ◌++◌, min, Option, Some, None, is_some}
+use Rattle.std.specs.Prelude.{◌≡◌, ℕ, ◌+◌, ◌<◌, ◌≤◌, List, [], ◌∷◌, ◌++◌, min, Option, Some, None}
 use Rattle.std.specs.Ordering.{nat_cmp}
 use Rattle.std.specs.FinMap.{FinMap, get, insert, remove}
 use Rattle.latch_core.specs.declared.updates.Update.{Update}
@@ -14,7 +14,8 @@ use Rattle.latch_steps.specs.declared.replies.Returned.{Returned}
 use Rattle.latch_steps.specs.declared.replies.Reply.{Reply}
 use Rattle.latch_steps.specs.declared.replies.Reply.TheVariants.{Begun, Wrote, Idle, Started, Loaded, Retried, Returned as ReturnedReply, Refused}
 use Rattle.order_laws.specs.Orders.{Order}
-use Rattle.latch_core.specs.Updates.{refuses, most_steps}
+use Rattle.latch_core.specs.Updates.{most_steps}
+use Rattle.latch_core.specs.Writers.{latch_refusal}
 use Rattle.word_arena.specs.Layouts.{capacity_of, limit_of}
 use Rattle.word_arena.specs.Words.{at}
 use Rattle.latch_core.specs.Attempts.{Answer, Again, Reading, Load, Ends, attempt, rest_after}
@@ -133,7 +134,7 @@ read_done o n w r (Some l) = load_done w r (after_load o n w r l)
 
 -- why an update is refused at a latch, or none
 abbrev pub refusal_of : {K : Type 0} → Machine K → Latch → Update → Option Refusal
-refusal_of m l u = refuses m.order m.capacity m.limit (is_some l.pending) l.newest_table (at l.words 0) u
+refusal_of m l u = latch_refusal m.order m.capacity m.limit l u
 
 -- One event leads from a moment to another, with this reply. A start and a load are determined; how
 -- many steps an update takes and what they are is the writer's choice.

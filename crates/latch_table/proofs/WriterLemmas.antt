@@ -17,7 +17,7 @@ use Rattle.word_arena.specs.Stores.{words_after}
 use Rattle.word_arena.proofs.StoreLemmas.{length_after}
 use Rattle.latch_core.specs.declared.updates.Update.{Update}
 use Rattle.latch_core.specs.Sequences.{generation_of, stable_copy_of}
-use Rattle.latch_core.specs.Updates.{refuses}
+use Rattle.latch_core.specs.Updates.{refusal_for}
 use Rattle.latch_core.specs.Histories.{replay}
 use Rattle.latch_core.specs.Latches.{PendingUpdate, Latch, IsWriterStep, flips_after, latch_after_step}
 use Rattle.latch_core.specs.Invariants.{IsPendingUpdate, IsPendingOf, IsSound}
@@ -275,7 +275,7 @@ idle o w u accepted = none_left w.stores_left refl
     none_left [] is = refl
     none_left (s ∷ ss) is =
         let busy : has_pending w ≡ true = lt-ltb 0 (length w.stores_left) (omega (arith, ap (λ (z : List Store). length z) is)) in
-        let no : refuses o w.capacity w.limit true w.table w.sequence u ≡ None = ap (λ b. refuses o w.capacity w.limit b w.table w.sequence u) (sym busy) ∙ accepted in
+        let no : refusal_for o w.capacity w.limit true w.table w.sequence u ≡ None = ap (λ b. refusal_for o w.capacity w.limit b w.table w.sequence u) (sym busy) ∙ accepted in
         absurd (cc)
 
 module _ {S K : Type 0} (o : Order K) (law : IsLawful o) (place : TableId) (readers : ℕ) (m : Me S Knowledge) (core : WriterView) where
@@ -341,8 +341,8 @@ module _ {S K : Type 0} (o : Order K) (law : IsLawful o) (place : TableId) (read
           known = subst (λ (w : WriterState). q.known ≡ shown_updates w) (sym state_begun) (tied.known ∙ sym (take-append-le (generation_of (at q.picture 0) - q.base) q.accepted (u ∷ []) room));
         }
       where
-        not_busy : refuses o core.capacity core.limit false core.table (at q.picture 0) u ≡ why_refused o core u
-        not_busy = λ i. refuses o core.capacity core.limit (none_now i) core.table (tied.pictures.sequence i) u
+        not_busy : refusal_for o core.capacity core.limit false core.table (at q.picture 0) u ≡ why_refused o core u
+        not_busy = λ i. refusal_for o core.capacity core.limit (none_now i) core.table (tied.pictures.sequence i) u
           where
             none_now : false ≡ has_pending core
             none_now = sym (ap (λ (ss : List Store). nat_lt 0 (length ss)) (idle o core u accepted))

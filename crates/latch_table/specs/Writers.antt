@@ -1,5 +1,5 @@
 -- The writer, and what its calls promise.
-use Rattle.std.specs.Prelude.{◌≡◌, ◌⊎◌, ℕ, ◌+◌, ◌-◌, ◌*◌, ◌<◌, ◌≤◌, List, [], ◌∷◌, ◌++◌, length, take, Option, Some, None, is_some, if◌then◌else◌, ◌==◌}
+use Rattle.std.specs.Prelude.{◌≡◌, ◌⊎◌, ℕ, ◌+◌, ◌-◌, ◌*◌, ◌<◌, ◌≤◌, List, [], ◌∷◌, ◌++◌, length, take, Option, Some, None, if◌then◌else◌, ◌==◌}
 use Rattle.atomic_table.specs.Table.{Me}
 use Rattle.atomic_table.specs.Seated.{TableId}
 use Rattle.order_laws.specs.declared.items.Item.{Item}
@@ -13,13 +13,13 @@ use Rattle.word_arena.specs.Layouts.{capacity_of, limit_of}
 use Rattle.word_arena.specs.Words.{at}
 use Rattle.latch_core.specs.declared.updates.Update.{Update}
 use Rattle.latch_core.specs.Sequences.{generation_of}
-use Rattle.latch_core.specs.Updates.{refuses, most_steps}
+use Rattle.latch_core.specs.Updates.{most_steps}
 use Rattle.latch_core.specs.Histories.{replay}
 use Rattle.latch_core.specs.Attempts.{Answer, attempt, IsAttempt}
 use Rattle.latch_core.specs.Latches.{PendingUpdate, Latch, IsWriterStep, latch_after_step, latch_with_update, opening_latch}
 use Rattle.latch_core.specs.Invariants.{IsSound}
 use Rattle.latch_core.specs.WriterViews.{WriterView}
-use Rattle.latch_core.specs.Writers.{RepresentsLatch, MayOpen}
+use Rattle.latch_core.specs.Writers.{RepresentsLatch, MayOpen, latch_refusal}
 use Rattle.latch_table.specs.declared.knowledge.Knowledge.{Knowledge}
 use Rattle.latch_table.specs.declared.knowledge.WriterKnowledge.{WriterKnowledge}
 use Rattle.latch_table.specs.declared.writers.Did.{Did}
@@ -99,16 +99,16 @@ abbrev pub kind_of_store : Stored → Did
 kind_of_store s = if s.word == 0 then Flip else Store
 
 -- why an update is refused
-abbrev pub why : {K : Type 0} → Order K → WriterState → Update → Option Refusal
-why o w u = refuses o w.capacity w.limit (is_some w.latch.pending) w.latch.newest_table (at w.latch.words 0) u
+abbrev pub writer_refusal : {K : Type 0} → Order K → WriterState → Update → Option Refusal
+writer_refusal o w u = latch_refusal o w.capacity w.limit w.latch u
 
 abbrev pub Refuses : {K : Type 0} → Order K → WriterState → Update → Refusal → Type 0
-Refuses o w u e = (why o w u ≡ Some e) ⊎ ((why o w u ≡ None) × (e ≡ OutOfMemory))
+Refuses o w u e = (writer_refusal o w u ≡ Some e) ⊎ ((writer_refusal o w u ≡ None) × (e ≡ OutOfMemory))
 
 -- the update is pending, and is the last that was accepted
 abbrev pub Begins : {K : Type 0} → Order K → WriterState → Update → WriterState → Type 0
 Begins o w u w' =
-    (why o w u ≡ None)
+    (writer_refusal o w u ≡ None)
     × ((left : ℕ) × (0 < left) × (left ≤ most_steps w.capacity u) × (w' ≡ state_with_update o w u left))
 
 -- one step of the pending update, of the kinds that a writer may make; or it is at its end

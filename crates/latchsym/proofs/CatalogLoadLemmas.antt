@@ -16,7 +16,7 @@ use Rattle.word_arena.specs.Layouts.{capacity_of, limit_of}
 use Rattle.word_arena.specs.Words.{at}
 use Rattle.latch_core.specs.declared.updates.Update.{Update}
 use Rattle.latch_core.specs.Histories.{replay}
-use Rattle.latch_core.specs.Updates.{erased, inserted, refuses}
+use Rattle.latch_core.specs.Updates.{erased, inserted, refusal_for}
 use Rattle.latch_steps.specs.declared.events.Event.TheVariants.{Begin}
 use Rattle.latch_steps.specs.declared.replies.Reply.{Reply}
 use Rattle.latch_steps.specs.declared.replies.Reply.TheVariants.{Begun, Refused}
@@ -103,7 +103,7 @@ module _ (c : CatalogEntries) (k : ℕ) (u : Update) (le : k ≤ length c.module
   in_hand_at = h.holds.idle.after.moment
 
   accepts : let w = h.holds.idle.after.moment in
-      refuses half_open (capacity_of (layout_in old)) (limit_of (layout_in old)) (is_some w.latch.pending) w.latch.newest_table (at w.latch.words 0) u ≡ None
+      refusal_for half_open (capacity_of (layout_in old)) (limit_of (layout_in old)) (is_some w.latch.pending) w.latch.newest_table (at w.latch.words 0) u ≡ None
   accepts =
       let a = h.holds.idle.after in
       let us = h.holds.updates in
@@ -126,8 +126,8 @@ module _ (c : CatalogEntries) (k : ℕ) (u : Update) (le : k ≤ length c.module
       let fits : length table + length (items_at c k) ≤ n = omega arith in
       let left : seq + 2 ≤ limit_of lay = omega arith in
       let ok = inserts_accepted n (limit_of lay) (items_at c k) table seq some (has_addresses c h.sound k le) (none_overlap c h.sound k le) apart fits left in
-      ap (λ b. refuses half_open n (limit_of lay) b table seq u) free
-      ∙ ap (refuses half_open n (limit_of lay) false table seq) l.is ∙ ok
+      ap (λ b. refusal_for half_open n (limit_of lay) b table seq u) free
+      ∙ ap (refusal_for half_open n (limit_of lay) false table seq) l.is ∙ ok
 
   starts : Does half_open old (Begin u) reply new → Starts new u reply h.holds.idle.after.moment
   starts does =

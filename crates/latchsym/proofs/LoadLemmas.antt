@@ -12,7 +12,7 @@ use Rattle.order_laws.proofs.Members.{Contains-none}
 use Rattle.latch_core.proofs.HistoryLemmas.{all_are_valid, from_replay, insert_accepted, length_replay, no_test_holds, none_meet, to_replay}
 use Rattle.latch_core.specs.declared.updates.Update.{Update}
 use Rattle.latch_core.specs.Histories.{replay}
-use Rattle.latch_core.specs.Updates.{erased, inserted, refuses, some_invalid, some_meet, some_overlap}
+use Rattle.latch_core.specs.Updates.{erased, inserted, refusal_for, some_invalid, some_meet, some_overlap}
 use Rattle.modules.specs.Loads.{update_of}
 use Rattle.latchsym.specs.LoadedWorlds.{AreInsertsOf}
 
@@ -52,7 +52,7 @@ one_update_more us items more u h puts none some =
 -- others, and have room
 pub inserts_accepted : (n limit : ℕ) (items table : List Item) (seq : ℕ) → 0 < length items → ((i : Item) → Contains items i → i.a < i.b)
     → some_overlap half_open items ≡ false → ((x i : Item) → Contains table x → Contains items i → half_open.apart x i ≡ true)
-    → length table + length items ≤ n → seq + 2 ≤ limit → refuses half_open n limit false table seq (update_of [] items) ≡ None
+    → length table + length items ≤ n → seq + 2 ≤ limit → refusal_for half_open n limit false table seq (update_of [] items) ≡ None
 inserts_accepted n limit [] table seq some valid each apart room left = absurd (omega arith)
 inserts_accepted n limit (i ∷ []) table seq some valid each apart room left =
     let here : Contains (i ∷ []) i = (0, omega arith, refl) in

@@ -11,7 +11,7 @@ use Rattle.word_arena.specs.declared.layouts.Layout.{Layout}
 use Rattle.word_arena.specs.Layouts.{capacity_of, limit_of}
 use Rattle.latch_core.specs.declared.updates.Update.{Update}
 use Rattle.latch_core.specs.declared.updates.Update.TheVariants.{Insert, Erase, Batch}
-use Rattle.latch_core.specs.Updates.{refuses}
+use Rattle.latch_core.specs.Updates.{refusal_for}
 use Rattle.latch_core.specs.Histories.{replay}
 use Rattle.latch_core.specs.Invariants.{IsSound}
 use Rattle.latch_core.proofs.TestLemmas.{all_tests, none_holds}
@@ -24,7 +24,7 @@ use Rattle.shared_lookup.specs.Enlarging.{enlarged_ledger}
 -- an update that nothing stands against, where there is no more than n items, is not refused with
 -- more nodes and a greater limit
 pub none_wider : {K : Type 0} (o : Order K) (n n' limit limit' seq : ℕ) (table : List Item) (u : Update) → n ≤ n' → limit ≤ limit' → length table ≤ n
-    → refuses o n limit false table seq u ≡ None → refuses o n' limit' false table seq u ≡ None
+    → refusal_for o n limit false table seq u ≡ None → refusal_for o n' limit' false table seq u ≡ None
 none_wider o n n' limit limit' seq table (Insert i) more later few e =
     let h = none_holds (all_tests o n limit false table seq (Insert i)) e in
     let f = eqb-false_wider n n' (length table) more few h.1.1.1.0 in

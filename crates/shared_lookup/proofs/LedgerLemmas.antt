@@ -7,10 +7,10 @@ use Rattle.order_laws.specs.Orders.{half_open}
 use Rattle.order_laws.proofs.Lists.{slice_get-push_cases}
 use Rattle.word_arena.specs.Words.{at}
 use Rattle.latch_core.specs.declared.updates.Update.{Update}
-use Rattle.latch_core.specs.Updates.{refuses}
+use Rattle.latch_core.specs.Updates.{refusal_for}
 use Rattle.latch_core.specs.Latches.{PendingUpdate}
 use Rattle.latch_core.specs.Invariants.{IsSound, IsPendingOf}
-use Rattle.latch_table.specs.Writers.{WriterState, why}
+use Rattle.latch_table.specs.Writers.{WriterState, writer_refusal}
 use Rattle.shared_lookup.specs.Ledgers.{LedgerState, AreAccepted, CarriesOut, HasNothingPending, ledger_of, ledger_sequence, refusal_at, with_entry}
 
 -- a log stays accepted with an update that nothing stands against
@@ -34,9 +34,9 @@ module _ (w : WriterState) (resting : HasNothingPending w) (sound : IsSound half
       omega arith
 
   -- what stands against an update, of the writer and of its log
-  pub same_why : (u : Update) → why half_open w u ≡ refusal_at (ledger_of w) u
+  pub same_why : (u : Update) → writer_refusal half_open w u ≡ refusal_at (ledger_of w) u
   same_why u = λ i.
-      refuses half_open w.capacity w.limit (is_some (resting.rests i)) (sound.table_is i) (sequence_is i) u
+      refusal_for half_open w.capacity w.limit (is_some (resting.rests i)) (sound.table_is i) (sequence_is i) u
 
   -- a writer at rest that makes an update rests again
   pub rests_after : (w' : WriterState) (u : Update) (r : Result ℕ Refusal) → IfOk r (CarriesOut w u w') → OnErr r (w' ≡ w) → HasNothingPending w'

@@ -9,9 +9,9 @@ use Rattle.word_arena.specs.declared.layouts.Layout.{Layout}
 use Rattle.word_arena.specs.Layouts.{capacity_of, limit_of}
 use Rattle.latch_core.specs.declared.updates.Update.{Update}
 use Rattle.latch_core.specs.Sequences.{generation_of}
-use Rattle.latch_core.specs.Updates.{refuses}
+use Rattle.latch_core.specs.Updates.{refusal_for}
 use Rattle.latch_core.specs.Histories.{replay}
-use Rattle.latch_table.specs.Writers.{WriterState, shown_updates, why}
+use Rattle.latch_table.specs.Writers.{WriterState, shown_updates, writer_refusal}
 
 -- A ledger, as clauses see it: its table, how many readers came with it, the opening generation,
 -- the number of nodes and the greatest sequence, and every accepted update in order
@@ -36,7 +36,7 @@ ledger_sequence l = 2 * ledger_generation l
 
 -- why an update is refused, or none
 abbrev pub refusal_at : LedgerState → Update → Option Refusal
-refusal_at l u = refuses half_open l.capacity l.limit false (ledger_table l) (ledger_sequence l) u
+refusal_at l u = refusal_for half_open l.capacity l.limit false (ledger_table l) (ledger_sequence l) u
 
 -- with one update more at the end of the log
 abbrev pub with_entry : Update → LedgerState → LedgerState
@@ -98,6 +98,6 @@ pub record HasNothingPending (w : WriterState) : Type 0 where
 -- is shown
 abbrev pub CarriesOut : WriterState → Update → WriterState → ℕ → Type 0
 CarriesOut w u w' g =
-    (why half_open w u ≡ None)
+    (writer_refusal half_open w u ≡ None)
     × (w' ≡ record w { history = w.history ++ u ∷ []; latch = w'.latch })
     × (w'.latch.pending ≡ None) × (shown_updates w' ≡ w'.history) × (g ≡ w.base + length w'.history)
