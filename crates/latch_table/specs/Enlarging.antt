@@ -1,32 +1,37 @@
 -- A writer that goes on with more nodes, in another row of words.
-use Rattle.std.specs.Prelude.{◌≡◌, ◌⊎◌, ◌<◌, ◌≤◌, List, [], length, All, None}
+use Rattle.std.specs.Prelude.{◌≡◌, ◌⊎◌, ◌<◌, ◌≤◌, ℕ, List, [], length, All, None}
 use Rattle.atomic_table.specs.Seated.{TableId}
 use Rattle.order_laws.specs.declared.refusals.Refusal.{Refusal}
 use Rattle.order_laws.specs.declared.refusals.Refusal.TheVariants.{OutOfMemory, BadCapacity, UpdateInHand}
 use Rattle.word_arena.specs.declared.layouts.Layout.{Layout}
 use Rattle.word_arena.specs.Layouts.{capacity_of, limit_of}
 use Rattle.word_arena.specs.Words.{at}
+use Rattle.latch_core.specs.declared.updates.Update.{Update}
 use Rattle.latch_core.specs.Widening.{widened_latch}
 use Rattle.latch_table.specs.Seats.{blank_reader}
 use Rattle.latch_table.specs.Readers.{ReaderState}
 use Rattle.latch_table.specs.Writers.{WriterState, shown_updates, steps_left_of}
 
+-- these are so many readers, all of the words at the place
+abbrev pub AreReadersAt : ℕ → TableId → List ReaderState → Type 0
+AreReadersAt count place all = (length all ≡ count) × All (λ x. x.place ≡ place) all
+
 -- these are the readers that came with the writer
 abbrev pub AreReadersOf : WriterState → List ReaderState → Type 0
-AreReadersOf w all = (length all ≡ w.readers) × All (λ x. x.place ≡ w.place) all
+AreReadersOf w all = AreReadersAt w.readers w.place all
 
--- the layout has no fewer nodes and no smaller greatest sequence
-abbrev pub IsNoSmaller : WriterState → Layout → Type 0
-IsNoSmaller w l = (w.capacity ≤ capacity_of l) × (w.limit ≤ limit_of l)
+-- the layout has no fewer nodes and no smaller greatest sequence than these
+abbrev pub IsNoSmaller : ℕ → ℕ → Layout → Type 0
+IsNoSmaller capacity limit l = (capacity ≤ capacity_of l) × (limit ≤ limit_of l)
 
 abbrev pub MayEnlarge : WriterState → Layout → Type 0
-MayEnlarge w l = (w.latch.pending ≡ None) × IsNoSmaller w l
+MayEnlarge w l = (w.latch.pending ≡ None) × IsNoSmaller w.capacity w.limit l
 
 -- an update is pending; or else the layout is smaller; or else memory was refused
 abbrev pub RefusesEnlarging : WriterState → Layout → Refusal → Type 0
 RefusesEnlarging w l e =
     ((e ≡ UpdateInHand) × (0 < steps_left_of w.latch.pending))
-    ⊎ ((e ≡ BadCapacity) × (w.latch.pending ≡ None) × (IsNoSmaller w l → ⊥))
+    ⊎ ((e ≡ BadCapacity) × (w.latch.pending ≡ None) × (IsNoSmaller w.capacity w.limit l → ⊥))
     ⊎ ((e ≡ OutOfMemory) × MayEnlarge w l)
 
 -- the same updates, shown and accepted, and the same table, in the words of another layout, where
@@ -41,9 +46,14 @@ enlarged_state place l w =
       loads = [];
     }
 
+-- a reader of the words at the place that has loaded nothing, and knows at least these updates
+abbrev pub reader_knowing : TableId → ℕ → ℕ → List Update → ReaderState
+reader_knowing place base capacity known =
+    record { place = place; knowledge = blank_reader base capacity known }
+
 -- a reader of these words that has loaded nothing, and will know at least what was shown
 abbrev pub reader_beside : WriterState → ReaderState
-reader_beside w = record { place = w.place; knowledge = blank_reader w.base w.capacity (shown_updates w) }
+reader_beside w = reader_knowing w.place w.base w.capacity (shown_updates w)
 
 -- the writer goes on in words of the layout, with as many readers as before; its sequence and what
 -- was shown stay
