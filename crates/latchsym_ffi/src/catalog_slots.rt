@@ -18,7 +18,7 @@ pub struct CatalogSlot {
 }
 
 impl CatalogSlot {
-    pub(crate) fn closed(alloc: Global) -> CatalogSlot
+    fn closed(alloc: Global) -> CatalogSlot
         ensures { result.is_open ≡ false }
     {
         CatalogSlot {

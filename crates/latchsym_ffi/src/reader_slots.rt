@@ -20,7 +20,7 @@ pub struct ReaderSlot {
 }
 
 impl ReaderSlot {
-    pub(crate) fn closed(alloc: Global) -> ReaderSlot
+    fn closed(alloc: Global) -> ReaderSlot
         ensures { result.is_open ≡ false }
     {
         ReaderSlot {

@@ -111,7 +111,7 @@ fn batch_of(alloc: Global, erase: &[u64], insert: &[TableItem]) -> Result<Update
     ensures { IfOk result (λ u. u ≡ Batch erase.now (map item_from insert.now)) }
 {
     Ok(Update::Batch {
-        erase: Entries::new(Vec::from_slice(alloc, erase)?)?,
+        erase: Entries::from_slice(alloc, erase)?,
         insert: Entries::new(items_from(alloc, insert)?)?,
     })
 }

@@ -18,7 +18,7 @@ pub struct WriterSlot {
 }
 
 impl WriterSlot {
-    pub(crate) fn closed(alloc: Global) -> WriterSlot
+    fn closed(alloc: Global) -> WriterSlot
         ensures { result.is_open ≡ false }
     {
         WriterSlot {

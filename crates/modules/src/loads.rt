@@ -66,10 +66,7 @@ pub(crate) fn erasing(alloc: Global, starts: &[u64]) -> Result<Update, Refusal>
     if let [start] = starts {
         return Ok(Update::Erase(*start));
     }
-    Ok(Update::Batch {
-        erase: Entries::new(Vec::from_slice(alloc, starts)?)?,
-        insert: Entries::new(Vec::new(alloc))?,
-    })
+    Ok(Update::batch(alloc, starts, &[])?)
 }
 
 /// Puts the address after these where it is wanted.
