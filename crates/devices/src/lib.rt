@@ -15,6 +15,3 @@ pub use counted::{BLOCK, Counted};
 pub use exact::{put, put_hexadecimal};
 pub use fail_at::FailAt;
 pub use gathered::{LONGEST_HEXADECIMAL, append, append_hexadecimal};
-
-#[cfg(test)]
-mod tests;

@@ -41,8 +41,6 @@
 #![tactic(auto)]
 
 pub mod attempts;
-#[cfg(test)]
-mod batch_tests;
 pub mod batches;
 mod changes;
 mod clashes;
@@ -53,11 +51,7 @@ mod plans;
 mod progress;
 pub mod readers;
 pub mod sequences;
-#[cfg(test)]
-mod tests;
 pub mod updates;
-#[cfg(test)]
-mod widening_tests;
 pub mod writers;
 
 pub use attempts::{Attempted, attempt_in};

@@ -23,10 +23,3 @@ pub use replies::{Note, Reply, Returned};
 pub use runs::{drive, drive_notes, run};
 pub use traces::{Notes, Trace};
 pub use worlds::World;
-
-#[cfg(test)]
-mod batch_tests;
-#[cfg(test)]
-mod row_tests;
-#[cfg(test)]
-mod tests;

@@ -53,17 +53,11 @@
 #![tactic(auto)]
 
 pub mod enlarging;
-#[cfg(test)]
-mod enlarging_tests;
-#[cfg(test)]
-mod interrupt_tests;
 pub mod knowledge;
 pub mod meeting;
 pub mod opening;
 pub mod readers;
 mod rule;
-#[cfg(test)]
-mod tests;
 pub mod writers;
 
 pub use meeting::meet;

@@ -35,14 +35,3 @@ pub use region_listing::read_regions;
 pub use scripts::{MOST_WRITERS, ModuleName, ScriptLine, read_script};
 pub use symbol_listing::{SkippedSymbol, SymbolCounts, read_kallsyms};
 pub use trace::{TraceFile, read_trace};
-
-#[cfg(test)]
-mod address_tests;
-#[cfg(test)]
-mod listing_tests;
-#[cfg(test)]
-mod region_tests;
-#[cfg(test)]
-mod script_tests;
-#[cfg(test)]
-mod tests;

@@ -21,6 +21,3 @@ pub use module::{MOST_REGIONS, Module};
 pub use regions::Region;
 pub use symbol_lines::SymbolLines;
 pub use symbols::Symbol;
-
-#[cfg(test)]
-mod tests;

@@ -39,6 +39,3 @@ pub use ledgers::Ledger;
 pub use served::{Answer, Served};
 pub use serving::serve;
 pub use shared::SharedWriter;
-
-#[cfg(test)]
-mod tests;

@@ -7,6 +7,3 @@ pub mod laws;
 
 pub use answers::write_answer;
 pub use find::{FoundSymbol, symbol_of};
-
-#[cfg(test)]
-mod tests;

@@ -5,7 +5,7 @@ mod stops;
 mod threads;
 
 use crate::Schedule;
-use latch_core::{Entries, Update};
+use latch_core::Update;
 use order_laws::Item;
 use std::alloc::Global;
 use std::test::Fail;
@@ -21,14 +21,6 @@ fn insert(a: u64, b: u64, tag: u64) -> Update {
     Update::Insert(item(a, b, tag))
 }
 
-/// A batch of these first words and items.
-fn batch(alloc: Global, erase: &[u64], insert: &[Item]) -> Result<Update, Fail> {
-    Ok(Update::Batch {
-        erase: Entries::new(erase.to_vec(alloc)?)?,
-        insert: Entries::new(insert.to_vec(alloc)?)?,
-    })
-}
-
 /// Updates of every kind, batches among them. The table has at most four items.
 fn mixture(alloc: Global) -> Result<Schedule, Fail> {
     let split = [
@@ -41,14 +33,14 @@ fn mixture(alloc: Global) -> Result<Schedule, Fail> {
         [
             insert(0x1000, 0x2000, 7),
             insert(0x2000, 0x3000, 9),
-            batch(alloc, &[0x1000], &split)?,
+            Update::batch(alloc, &[0x1000], &split)?,
             Update::Erase(0x2000),
             insert(0x1800, 0x4000, 4),
-            batch(alloc, &[0x800, 0x4000], &[])?,
-            batch(alloc, &[0x1800], &[item(0x3fff, 0x4001, 5)])?,
+            Update::batch(alloc, &[0x800, 0x4000], &[])?,
+            Update::batch(alloc, &[0x1800], &[item(0x3fff, 0x4001, 5)])?,
             Update::Erase(0x1000),
             insert(0x100, 0x800, 6),
-            batch(alloc, &[0x3fff, 0x100], &[])?,
+            Update::batch(alloc, &[0x3fff, 0x100], &[])?,
         ],
     )?;
     Ok(Schedule::new(alloc, updates)?.ok_or("no round")?)

@@ -1,6 +1,6 @@
 //! Scripts.
 
-use crate::{LONGEST_LINE, LineFault, MOST_WRITERS, ScriptLine, read_script};
+use listing::{LONGEST_LINE, LineFault, MOST_WRITERS, ScriptLine, read_script};
 use std::alloc::{AllocError, Global};
 use std::test::Fail;
 

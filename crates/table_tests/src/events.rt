@@ -1,8 +1,7 @@
 ghost use Rattle.std.specs.Prelude.{◌<◌};
 
-use crate::batch_tests::batch;
-use crate::{Command, Event, Note, Reply, Returned, World, drive, run};
 use latch_core::{Entries, Update, plain};
+use latch_steps::{Command, Event, Note, Reply, Returned, World, drive, run};
 use order_laws::{Closed, HalfOpen, Item, Refusal};
 use std::alloc::Global;
 use std::process::Abort;
@@ -298,7 +297,7 @@ impl Account {
             Event::Begin(update) => {
                 let table = plain::replay::<HalfOpen>(alloc, &self.updates)?;
                 let sequence = self.world.sequence();
-                plain::refuses::<HalfOpen>(self.layout, self.left > 0, &table, sequence, update)
+                plain::refusal_for::<HalfOpen>(self.layout, self.left > 0, &table, sequence, update)
             }
             Event::Start(reader, _) if self.is_busy(*reader) => Some(Refusal::ReaderBusy),
             Event::Read(reader) if !self.is_busy(*reader) => Some(Refusal::ReaderIdle),
@@ -485,7 +484,7 @@ fn exchanges(rt: &impl Abort, alloc: Global, world: &mut World<HalfOpen>) -> Res
             item(second, second + 16, i),
             item(third, third + 16, 0),
         ];
-        let update = batch(alloc, &erased, &inserted)?;
+        let update = Update::batch(alloc, &erased, &inserted)?;
         steps_through(
             rt,
             world,

@@ -1,5 +1,5 @@
-use crate::batch_tests::{Table, in_row};
-use crate::{Update, WriterCore};
+use crate::batches::{Table, in_row};
+use latch_core::{Update, WriterCore};
 use order_laws::{HalfOpen, Refusal, TreeOrder};
 use std::alloc::Global;
 use std::process::Abort;

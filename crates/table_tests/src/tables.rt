@@ -1,7 +1,7 @@
 ghost use Rattle.std.specs.Prelude.{◌≡◌};
 
-use crate::{Did, Try, meet, open};
 use latch_core::Update;
+use latch_table::{Did, Try, meet, open};
 use order_laws::{HalfOpen, Item, Refusal};
 use std::process::Abort;
 use std::test::Fail;

@@ -1,6 +1,6 @@
 //! Listings of modules and of symbols.
 
-use crate::{LONGEST_LINE, ModuleCounts, SymbolCounts, read_kallsyms, read_modules};
+use listing::{LONGEST_LINE, ModuleCounts, SymbolCounts, read_kallsyms, read_modules};
 use modules::{BuildCounts, Catalog};
 use std::alloc::{AllocError, Global};
 use std::process::Abort;

@@ -3,10 +3,10 @@
 ghost use Rattle.std.specs.Prelude.{◌≡◌, IfOk};
 ghost use Rattle.shared_lookup.specs.Enlarging.{AreLedgerReaders};
 
-use crate::{Ledger, Open};
 use latch_core::Update;
 use latch_table::{Reader, Try};
 use order_laws::{HalfOpen, Item, Refusal};
+use shared_lookup::{Ledger, Open};
 use std::alloc::Global;
 use std::process::Abort;
 use std::test::Fail;

@@ -1,9 +1,9 @@
 ghost use Rattle.std.specs.Prelude.{◌<◌};
 
-use crate::attempts::Attempted;
-use crate::sequences::generation;
-use crate::tests::{Address, Ranges};
-use crate::{Update, WriterCore, attempt_in, plain};
+use crate::cores::{Address, Ranges};
+use latch_core::attempts::Attempted;
+use latch_core::sequences::generation;
+use latch_core::{Update, WriterCore, attempt_in, plain};
 use order_laws::laws::look_through;
 use order_laws::{Closed, HalfOpen, Item, Refusal, TreeOrder};
 use std::alloc::Global;
@@ -122,7 +122,7 @@ fn refusals_of_batches_and_the_empty_one(rt: HostRuntime) -> Result<(), Fail> {
         (&[0x10], &[one, bad], Refusal::BadItem),
     ] {
         let u = Update::batch(alloc, erase, insert)?;
-        let why = plain::refuses::<HalfOpen>(l, false, &[], 0, &u);
+        let why = plain::refusal_for::<HalfOpen>(l, false, &[], 0, &u);
         assert_eq!(rt; why, Some(refused));
         assert_eq!(rt; table.carry_out(&rt, u).err(), why);
     }
@@ -272,7 +272,7 @@ fn run_at_random<O: TreeOrder>(
     for _ in 0..400 {
         let u = some_update(alloc, &mut state)?;
         let sequence = table.words.first().copied().ok_or("no words")?;
-        let why = plain::refuses::<O>(l, false, plain_table.as_slice(), sequence, &u);
+        let why = plain::refusal_for::<O>(l, false, plain_table.as_slice(), sequence, &u);
         if why.is_none() {
             plain_table = plain::after::<O>(alloc, plain_table.as_slice(), &u)?;
         }

@@ -1,7 +1,7 @@
 ghost use Rattle.std.specs.Prelude.{◌≤◌};
 
-use crate::{Event, Reply, World};
 use latch_core::Update;
+use latch_steps::{Event, Reply, World};
 use order_laws::{HalfOpen, Item};
 use std::alloc::Global;
 use std::process::Abort;

@@ -1,7 +1,7 @@
 //! Writers and readers on threads.
 
 use super::{START, catalog};
-use crate::{Answer, Change, Gate, Open, Point, Served, serve};
+use shared_lookup::{Answer, Change, Gate, Open, Point, Served, serve};
 use std::alloc::{AllocError, Global};
 use std::sync::atomic::{AtomicU64, Ordering};
 use std::test::Fail;

@@ -1,7 +1,7 @@
 ghost use Rattle.order_laws.specs.Orders.{half_open, half_open_lawful};
 
-use crate::sequences::{generation, stable_copy};
-use crate::{ReaderCore, Taken, Update, WriterCore, plain};
+use latch_core::sequences::{generation, stable_copy};
+use latch_core::{ReaderCore, Taken, Update, WriterCore, plain};
 use order_laws::laws::look_through;
 use order_laws::{HalfOpen, Item, Refusal, TreeOrder};
 use std::alloc::Global;
@@ -257,10 +257,10 @@ fn each_refusal_and_none_beside_an_update_in_hand(rt: HostRuntime) -> Result<(),
         Update::Insert(other),
         Update::Erase(0x30),
     ] {
-        let why = plain::refuses::<HalfOpen>(l, false, &table, 2, &u);
+        let why = plain::refusal_for::<HalfOpen>(l, false, &table, 2, &u);
         assert_eq!(rt; latch.carry_out(&rt, u).err(), why);
     }
-    let busy = plain::refuses::<HalfOpen>(l, true, &table, 2, &Update::Erase(0x10));
+    let busy = plain::refusal_for::<HalfOpen>(l, true, &table, 2, &Update::Erase(0x10));
     assert_eq!(rt; busy, Some(Refusal::UpdateInHand));
     Ok(())
 }

@@ -1,9 +1,9 @@
-use crate::{
+use devices::{Counted, FailAt};
+use latch_core::Update;
+use latch_steps::Command;
+use listing::{
     Header, LONGEST_LINE, LineFault, ReadFault, TraceFile, Version, number, read_trace, read_whole,
 };
-use devices::{Counted, FailAt};
-use latch_core::{Entries, Update};
-use latch_steps::Command;
 use order_laws::Item;
 use std::alloc::{AllocError, Global};
 use std::test::Fail;
@@ -185,10 +185,7 @@ fn input_is_read_whole(rt: HostRuntime) -> Result<(), Fail> {
 
 /// A batch of these first words and items.
 fn batch(alloc: Global, erase: &[u64], insert: &[Item]) -> Result<Command<u64>, AllocError> {
-    Ok(Command::Begin(Update::Batch {
-        erase: Entries::new(Vec::from_slice(alloc, erase)?)?,
-        insert: Entries::new(Vec::from_slice(alloc, insert)?)?,
-    }))
+    Ok(Command::Begin(Update::batch(alloc, erase, insert)?))
 }
 
 #[test]

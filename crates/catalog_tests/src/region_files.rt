@@ -1,6 +1,6 @@
 //! Listings of regions.
 
-use crate::{LONGEST_LINE, LineFault, read_regions};
+use listing::{LONGEST_LINE, LineFault, read_regions};
 use modules::Part;
 use std::alloc::{AllocError, Global};
 use std::test::Fail;

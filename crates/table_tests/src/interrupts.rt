@@ -2,8 +2,8 @@
 //! items. At each stop the writer looks up from within its update, as an interrupt does that
 //! stopped it, and a reader looks up beside it.
 
-use crate::{Did, InHand, Reader, Try, Writer, open};
 use latch_core::Update;
+use latch_table::{Did, InHand, Reader, Try, Writer, open};
 use order_laws::{HalfOpen, Item};
 use std::alloc::Global;
 use std::process::Abort;

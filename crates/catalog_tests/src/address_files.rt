@@ -1,7 +1,7 @@
 //! Files of addresses.
 
-use crate::{LONGEST_LINE, LineFault, read_addresses};
 use devices::{Counted, FailAt};
+use listing::{LONGEST_LINE, LineFault, read_addresses};
 use std::alloc::{AllocError, Global};
 use std::test::Fail;
 

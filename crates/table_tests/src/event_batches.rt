@@ -1,35 +1,19 @@
 //! Batches: several items in one update, and what no test of one item shows.
 
-use crate::tests::{Line, drives, insert, item, line_of, refused};
-use crate::{Command, Event, Note, Reply, World, drive, drive_notes, run};
-use latch_core::{Entries, Update};
+use crate::events::{Line, drives, insert, item, line_of, refused};
+use latch_core::Update;
+use latch_steps::{Command, Event, Note, Reply, World, drive, drive_notes, run};
 use order_laws::{HalfOpen, Item};
 use std::alloc::Global;
 use std::process::Abort;
 use std::test::Fail;
 use word_arena::Layout;
 
-/// A batch of these first words and these items.
-pub(crate) fn batch(alloc: Global, erase: &[u64], insert: &[Item]) -> Result<Update, Fail> {
-    let mut words = Vec::new(alloc);
-    for word in erase {
-        words.push(*word)?;
-    }
-    let mut items = Vec::new(alloc);
-    for item in insert {
-        items.push(*item)?;
-    }
-    Ok(Update::Batch {
-        erase: Entries::new(words)?,
-        insert: Entries::new(items)?,
-    })
-}
-
 #[test]
 fn a_batch_is_seen_whole_or_not_at_all(rt: HostRuntime) -> Result<(), Fail> {
     let items = [item(0x10, 0x20, 1), item(0x30, 0x40, 2)];
     let commands = vec![in rt.alloc();
-        Command::Begin(batch(rt.alloc(), &[], &items)?),
+        Command::Begin(Update::batch(rt.alloc(), &[], &items)?),
         Command::WriteFlip,
         Command::Start(1, 0x10),
         Command::Read(1, 3),
@@ -63,7 +47,7 @@ fn a_batch_where_the_table_is_full(rt: HostRuntime) -> Result<(), Fail> {
         let mut commands = vec![in rt.alloc();
             insert(0x10, 0x20, 1),
             Command::WriteEnd,
-            Command::Begin(batch(rt.alloc(), &[0x10], &[item(0x10, 0x20, 2)])?),
+            Command::Begin(Update::batch(rt.alloc(), &[0x10], &[item(0x10, 0x20, 2)])?),
         ]?;
         if capacity == 1 {
             drives(&rt, rt.alloc(), 1, &commands, &[refused(4)], 2)?;
@@ -83,13 +67,13 @@ fn refused_batches_and_an_empty_one(rt: HostRuntime) -> Result<(), Fail> {
     let alloc = rt.alloc();
     let overlapping = [item(0x10, 0x20, 1), item(0x18, 0x28, 2)];
     let commands = vec![in alloc;
-        Command::Begin(batch(alloc, &[], &overlapping)?),
-        Command::Begin(batch(alloc, &[0x10], &[])?),
+        Command::Begin(Update::batch(alloc, &[], &overlapping)?),
+        Command::Begin(Update::batch(alloc, &[0x10], &[])?),
         insert(0x10, 0x20, 1),
         Command::WriteEnd,
-        Command::Begin(batch(alloc, &[0x10, 0x10], &[])?),
-        Command::Begin(batch(alloc, &[0x10], &[item(0x30, 0x30, 2)])?),
-        Command::Begin(batch(alloc, &[], &[])?),
+        Command::Begin(Update::batch(alloc, &[0x10, 0x10], &[])?),
+        Command::Begin(Update::batch(alloc, &[0x10], &[item(0x30, 0x30, 2)])?),
+        Command::Begin(Update::batch(alloc, &[], &[])?),
         Command::WriteEnd,
     ]?;
     let lines: [Line; 4] = [refused(2), refused(3), refused(3), refused(1)];
@@ -151,10 +135,10 @@ fn a_stop_at_each_step_of_a_batch(rt: HostRuntime) -> Result<(), Fail> {
     let alloc = rt.alloc();
     let mut world = World::<HalfOpen>::open(alloc, Layout::new(16)?, 0)?;
     let seven = [at(2), at(9), at(4), at(7), at(1), at(5), at(8)];
-    let update = batch(alloc, &[], &seven)?;
+    let update = Update::batch(alloc, &[], &seven)?;
     stops(&rt, &mut world, update, &[], &[2, 9, 4, 7, 1, 5, 8])?;
     let four = [at(3), at(10), at(6), at(11)];
-    let update = batch(alloc, &[64, 16, 144], &four)?;
+    let update = Update::batch(alloc, &[64, 16, 144], &four)?;
     stops(&rt, &mut world, update, &[4, 1, 9], &[3, 10, 6, 11])
 }
 
@@ -165,7 +149,7 @@ fn a_batch_that_exchanges_an_item(rt: HostRuntime) -> Result<(), Fail> {
     let mut world = World::<HalfOpen>::open(alloc, Layout::new(4)?, 0)?;
     let _ = world.step(Event::Begin(Update::Insert(at(2))));
     world.settle();
-    let exchange = batch(alloc, &[32], &[item(32, 40, 7)])?;
+    let exchange = Update::batch(alloc, &[32], &[item(32, 40, 7)])?;
     assert!(rt; matches!(world.step(Event::Begin(exchange)), Reply::Begun(_)));
     for _stop in 0..1000 {
         let x = world.find_now(1, 36)?;

@@ -1,12 +1,12 @@
 //! Answers over small catalogs.
 
-use crate::{symbol_of, write_answer};
 use devices::{Counted, FailAt};
 use modules::{Catalog, ModuleLine, Part, RegionLine, SymbolLine, SymbolLines};
 use order_laws::Item;
 use std::alloc::Global;
 use std::process::Abort;
 use std::test::Fail;
+use symbols::{symbol_of, write_answer};
 
 const EXT4: Item = Item {
     a: 0xffff_ffff_c000_0000,

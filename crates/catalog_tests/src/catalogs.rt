@@ -1,10 +1,10 @@
 //! Catalogs of small listings.
 
-use crate::{
+use latch_core::{Entries, Update};
+use modules::{
     BuildCounts, Catalog, Held, KernelBounds, ModuleLine, Part, Region, RegionLine, SymbolLine,
     SymbolLines,
 };
-use latch_core::{Entries, Update};
 use order_laws::{Item, Refusal};
 use std::alloc::{AllocError, Global};
 use std::process::Abort;

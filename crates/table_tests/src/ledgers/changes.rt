@@ -1,10 +1,10 @@
 //! Changes of a ledger on one thread.
 
 use super::{catalog, region};
-use crate::{Change, Ledger, Open};
 use latch_core::Update;
 use modules::Part;
 use order_laws::Refusal;
+use shared_lookup::{Change, Ledger, Open};
 use std::test::Fail;
 use word_arena::Layout;
 

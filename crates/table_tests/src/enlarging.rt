@@ -1,9 +1,9 @@
 ghost use Rattle.std.specs.Prelude.{◌≡◌, IfOk};
 ghost use Rattle.latch_table.specs.Enlarging.{AreReadersOf};
 
-use crate::tests::item;
-use crate::{Reader, Try, Writer, open};
+use crate::tables::item;
 use latch_core::Update;
+use latch_table::{Reader, Try, Writer, open};
 use order_laws::{HalfOpen, Item, Refusal};
 use std::alloc::Global;
 use std::process::Abort;

@@ -1,4 +1,4 @@
-use crate::{Counted, FailAt, put, put_hexadecimal};
+use devices::{Counted, FailAt, put, put_hexadecimal};
 use std::io::{ErrorKind, Read, Write};
 use std::test::Fail;
 

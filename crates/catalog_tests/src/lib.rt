@@ -1,0 +1,22 @@
+//! Tests of listings, catalogs and symbols: of `devices`, `listing`, `modules` and `symbols`.
+//!
+//! They call what those crates offer to anyone, and stand beside them, since a crate with tests is
+//! proved twice.
+#![tactic(auto)]
+
+#[cfg(test)]
+mod address_files;
+#[cfg(test)]
+mod catalogs;
+#[cfg(test)]
+mod counted_devices;
+#[cfg(test)]
+mod kernel_listings;
+#[cfg(test)]
+mod region_files;
+#[cfg(test)]
+mod script_files;
+#[cfg(test)]
+mod symbol_answers;
+#[cfg(test)]
+mod trace_files;
