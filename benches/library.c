@@ -1,0 +1,130 @@
+/* The library for C beside libbcc in one program, over one pair of listings:
+ *
+ *     library FOLDER ROUNDS
+ *
+ * FOLDER has modules.txt, kallsyms.txt and addr.100000. libbcc reads /proc/kallsyms, so that has to
+ * be the folder's (library.sh binds it in a mount namespace of its own). Each round opens the
+ * listings with both and looks all addresses up with both, by turns: with the names copied into the
+ * caller's room by both, and with no room for names, where libbcc hands out pointers. Prints the
+ * medians of the rounds. */
+#define _GNU_SOURCE
+#include <bcc/bcc_syms.h>
+#include <latchsym.h>
+#include <stdio.h>
+#include <stdlib.h>
+#include <string.h>
+#include <time.h>
+
+enum { MOST_ADDRESSES = 100000, MOST_ROUNDS = 101, NAME = 4096, MODULE = 256 };
+
+static uint64_t addresses[MOST_ADDRESSES];
+static size_t count;
+static uint8_t name[NAME], module[MODULE];
+static volatile uint64_t sum;
+
+static double now(void) {
+    struct timespec t;
+    clock_gettime(CLOCK_MONOTONIC, &t);
+    return t.tv_sec + t.tv_nsec / 1e9;
+}
+
+static uint8_t *read_file(const char *folder, const char *file, size_t *len) {
+    char path[4096];
+    snprintf(path, sizeof path, "%s/%s", folder, file);
+    FILE *f = fopen(path, "rb");
+    if (!f) { perror(path); exit(1); }
+    fseek(f, 0, SEEK_END);
+    *len = ftell(f);
+    rewind(f);
+    uint8_t *bytes = malloc(*len + 1);
+    if (!bytes || fread(bytes, 1, *len, f) != *len) exit(1);
+    fclose(f);
+    return bytes;
+}
+
+static void read_addresses(const char *folder) {
+    size_t len;
+    char *text = (char *)read_file(folder, "addr.100000", &len);
+    text[len] = 0;
+    for (char *word = strtok(text, "\n"); word && count < MOST_ADDRESSES; word = strtok(NULL, "\n"))
+        addresses[count++] = strtoull(word, NULL, 16);
+    free(text);
+}
+
+/* What one of ours found: the offset and the lengths, so that no call can be left out. */
+static double find_ours(struct latchsym_catalog *catalog, size_t name_room, size_t module_room) {
+    double start = now();
+    uint64_t total = 0;
+    for (size_t i = 0; i < count; i++) {
+        struct latchsym_symbol found;
+        if (!latchsym_catalog_find(catalog, addresses[i], &found, name, name_room, module, module_room))
+            total += found.offset + found.name_len;
+    }
+    sum += total;
+    return now() - start;
+}
+
+static size_t copied(uint8_t *room, size_t most, const char *text) {
+    size_t len = strlen(text);
+    memcpy(room, text, len < most ? len : most);
+    return len;
+}
+
+static double find_theirs(void *cache, int with_names) {
+    double start = now();
+    uint64_t total = 0;
+    for (size_t i = 0; i < count; i++) {
+        struct bcc_symbol found;
+        if (bcc_symcache_resolve_no_demangle(cache, addresses[i], &found)) continue;
+        total += found.offset;
+        if (with_names) total += copied(name, NAME, found.name) + copied(module, MODULE, found.module);
+    }
+    sum += total;
+    return now() - start;
+}
+
+static int by_size(const void *x, const void *y) {
+    double a = *(const double *)x, b = *(const double *)y;
+    return (a > b) - (a < b);
+}
+
+static double median(double *all, int rounds) {
+    qsort(all, rounds, sizeof *all, by_size);
+    return all[rounds / 2];
+}
+
+int main(int argc, char **argv) {
+    static double opened[MOST_ROUNDS], copies[MOST_ROUNDS], plain[MOST_ROUNDS];
+    int rounds = argc > 2 ? atoi(argv[2]) : 0;
+    if (rounds < 1 || rounds > MOST_ROUNDS) return 2;
+    read_addresses(argv[1]);
+    for (int round = 0; round < rounds; round++) {
+        size_t modules_len, kallsyms_len;
+        struct latchsym_catalog catalog = {0};
+        struct latchsym_counts counts;
+        double start = now();
+        uint8_t *modules = read_file(argv[1], "modules.txt", &modules_len);
+        uint8_t *kallsyms = read_file(argv[1], "kallsyms.txt", &kallsyms_len);
+        if (latchsym_catalog_open(modules, modules_len, kallsyms, kallsyms_len, &catalog, &counts))
+            return 1;
+        double ours = now() - start;
+        start = now();
+        void *cache = bcc_symcache_new(-1, 0);
+        struct bcc_symbol first;
+        bcc_symcache_resolve_no_demangle(cache, addresses[0], &first); /* it reads at its first */
+        opened[round] = ours / (now() - start);
+        double mine = find_ours(&catalog, NAME, MODULE);
+        copies[round] = mine / find_theirs(cache, 1);
+        mine = find_ours(&catalog, 0, 0);
+        double theirs = find_theirs(cache, 0);
+        plain[round] = mine / theirs;
+        fprintf(stderr, "round %d: %.0f ns and %.0f ns a find without names\n", round,
+                1e9 * mine / count, 1e9 * theirs / count);
+        bcc_free_symcache(cache, -1);
+        latchsym_catalog_close(&catalog);
+        free(modules);
+        free(kallsyms);
+    }
+    printf("open %.2f, find with names %.2f, find without names %.2f times libbcc's time\n",
+           median(opened, rounds), median(copies, rounds), median(plain, rounds));
+}
