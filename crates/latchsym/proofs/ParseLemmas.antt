@@ -1,7 +1,7 @@
 -- What a parse by the program's command gives.
 use Rattle.std.proofs.Common.{◌≡◌, ◌∙◌, ◌||◌, ap, sym, List, [], Option, Some, None, Result, Ok, Err, true, false, refl, subst, inl, inr}
 use Rattle.std.specs.Borrow.{Bor}
-use Rattle.std.specs.Prelude.{Box, option_map}
+use Rattle.std.specs.Prelude.{Box, IfOk, option_map}
 use Rattle.std.specs.Box.{box_value}
 use Rattle.order_laws.proofs.Options.{Some-from_parts}
 use Rattle.clap.specs.declared.parser.matches.ArgMatches.TheViews.{out-ArgMatches, out-SubCommand}
@@ -79,6 +79,12 @@ one_argument_more old new a app rule command arg adds =
       adds.globals ∙ ap (λ b. (out-Command old).has_globals || b) local ∙ ap (λ b. b || false) command.1,
     )
 
+-- the same where memory may run out
+pub one_argument_more_if_ok : {E : Type 0} (old : Command) (r : Result Command E) (a : Arg) (app : App) (rule : Rule) → IsCommand app old → IsPlainArg rule a → IfOk r (AddsArg old a)
+    → IfOk r (IsCommand (with_rule app rule))
+one_argument_more_if_ok old (Ok new) a app rule command arg adds = one_argument_more old new a app rule command arg adds
+one_argument_more_if_ok old (Err e) a app rule command arg adds = tt
+
 -- a command with one subcommand more
 pub one_subcommand_more : (old new sub : Command) (app of_sub : App) → IsCommand app old → IsCommand of_sub sub → AddsSubcommand old sub new
     → IsCommand (with_subcommand app of_sub.top) new
@@ -86,6 +92,12 @@ one_subcommand_more old new sub app of_sub command added adds = (
   adds.shape added.1 ∙ ap (λ x. with_subcommand x (shape_of sub)) command.0 ∙ ap (λ x. with_subcommand app x.top) added.0,
   adds.globals ∙ ap (λ b. b || (out-Command sub).has_globals) command.1 ∙ ap (λ b. false || b) added.1,
 )
+
+-- the same where memory may run out
+pub one_subcommand_more_if_ok : {E : Type 0} (old : Command) (r : Result Command E) (sub : Command) (app of_sub : App) → IsCommand app old → IsCommand of_sub sub → IfOk r (AddsSubcommand old sub)
+    → IfOk r (IsCommand (with_subcommand app of_sub.top))
+one_subcommand_more_if_ok old (Ok new) sub app of_sub command added adds = one_subcommand_more old new sub app of_sub command added adds
+one_subcommand_more_if_ok old (Err e) sub app of_sub command added adds = tt
 
 -- the subcommand that a parse entered, by its name and its matches
 named : {Z : Type 0} (o : Option (Box SubCommand Z)) → option_map (λ b. (out-SubCommand (box_value b)).name.now) o ≡ option_map (λ p. p.0) (subcommand_rows o)

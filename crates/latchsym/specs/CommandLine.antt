@@ -34,11 +34,12 @@ words_rule id = record (new_rule id) {
 abbrev pub trace_app : App
 trace_app = with_rule (new_app (codes "trace")) (word_rule (codes "file"))
 
--- the options of a lookup that have to be given
-abbrev pub listings_app : App
-listings_app =
-    with_rule (with_rule (new_app (codes "lookup")) (option_rule (codes "modules")))
-    (option_rule (codes "kallsyms"))
+-- --modules FILE --kallsyms FILE [--regions FILE]
+abbrev pub with_listings : App → App
+with_listings app =
+    with_rule
+    (with_rule (with_rule app (option_rule (codes "modules"))) (option_rule (codes "kallsyms")))
+    (optional_rule (codes "regions"))
 
 -- lookup --modules FILE --kallsyms FILE [--regions FILE] [--addresses FILE] [--kernel START END]
 -- [ADDR]..
@@ -46,24 +47,16 @@ abbrev pub lookup_app : App
 lookup_app =
     with_rule
     (with_rule
-    (with_rule (with_rule listings_app (optional_rule (codes "regions")))
-    (optional_rule (codes "addresses")))
+    (with_rule (with_listings (new_app (codes "lookup"))) (optional_rule (codes "addresses")))
     (pair_rule (codes "kernel")))
     (words_rule (codes "address"))
 
--- the options of a run
-abbrev pub run_options_app : App
-run_options_app =
-    with_rule
-    (with_rule
-    (with_rule (with_rule (new_app (codes "run")) (option_rule (codes "modules")))
-    (option_rule (codes "kallsyms")))
-    (optional_rule (codes "regions")))
-    (option_rule (codes "readers"))
-
 -- run --modules FILE --kallsyms FILE [--regions FILE] --readers N SCRIPT
 abbrev pub run_app : App
-run_app = with_rule run_options_app (word_rule (codes "script"))
+run_app =
+    with_rule
+    (with_rule (with_listings (new_app (codes "run"))) (option_rule (codes "readers")))
+    (word_rule (codes "script"))
 
 -- a subcommand has to be given
 abbrev pub top_app : App

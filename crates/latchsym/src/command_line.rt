@@ -1,7 +1,7 @@
 //! The command line: what it may say, and the job that it asks for.
 ghost use Rattle.std.specs.Prelude.{◌≡◌, Some, IfOk, codes, map, option_map};
-ghost use Rattle.clap.specs.Words.{found_of, first_of, rows_of, subcommand_rows_of};
-ghost use Rattle.latchsym.specs.CommandLine.{lookup_app, run_app, trace_app, latchsym_app, option_rule, optional_rule, pair_rule, word_rule, words_rule, IsCommand, IsPlainArg};
+ghost use Rattle.clap.specs.Words.{found_of, first_of, rows_of, subcommand_rows_of, with_subcommand, App};
+ghost use Rattle.latchsym.specs.CommandLine.{lookup_app, run_app, trace_app, latchsym_app, option_rule, optional_rule, pair_rule, with_listings, word_rule, words_rule, IsCommand, IsPlainArg};
 ghost use Rattle.latchsym.specs.Jobs.{asked_lookup, asked_run, asked_trace, readers_of, bounds_in, values_in, AnswersAsked, AnswersMatches, AnswersWords, AreNumbers, IsFaultOf};
 
 use clap::error::ErrorKind;
@@ -130,72 +130,73 @@ fn latchsym_command<'a>(alloc: Global) -> Result<Command<'a>, AllocError>
 {
     let command = Command::new(alloc, "latchsym")
         .about("A latched address tree, step by step")
-        .subcommand_required(true)
-        .subcommand(trace_command(alloc)?)?
-        .subcommand(lookup_command(alloc)?)?
-        .subcommand(run_command(alloc)?)?;
-    Ok(command)
+        .subcommand_required(true);
+    let command = with_subcommand(command, trace_command(alloc))?;
+    let command = with_subcommand(command, lookup_command(alloc))?;
+    with_subcommand(command, run_command(alloc))
+}
+
+/// The command with one subcommand more, where memory did not run out for it.
+fn with_subcommand<'a>(
+    command: Command<'a>,
+    subcommand: Result<Command<'a>, AllocError>,
+) -> Result<Command<'a>, AllocError>
+    ensures { (app added : App) → IsCommand app command.entry
+        → IfOk subcommand.entry (IsCommand added)
+        → IfOk result (IsCommand (with_subcommand app added.top)) }
+{
+    match subcommand {
+        Ok(subcommand) => command.subcommand(subcommand),
+        Err(failed) => Err(failed),
+    }
 }
 
 fn trace_command<'a>(alloc: Global) -> Result<Command<'a>, AllocError>
     ensures { IfOk result (IsCommand trace_app) }
 {
-    let file = required_word(alloc, "file", "FILE").help("The trace");
-    let command = Command::new(alloc, "trace")
+    Command::new(alloc, "trace")
         .about("Run a trace, and write what its lookups found")
-        .arg(file)?;
-    Ok(command)
+        .arg(required_word(alloc, "file", "FILE").help("The trace"))
 }
 
-/// The help of the options that both `lookup` and `run` have.
-const MODULES_HELP: &str = "The modules, in the form of /proc/modules";
-
-const KALLSYMS_HELP: &str = "The symbols, in the form of /proc/kallsyms";
-
-const REGIONS_HELP: &str = "The regions of the modules";
+/// The command with the options for the listings, which both `lookup` and `run` have.
+fn with_listings<'a>(alloc: Global, command: Command<'a>) -> Result<Command<'a>, AllocError>
+    ensures { (app : App) → IsCommand app command.entry
+        → IfOk result (IsCommand (with_listings app)) }
+{
+    let modules_help = "The modules, in the form of /proc/modules";
+    let kallsyms_help = "The symbols, in the form of /proc/kallsyms";
+    command
+        .arg(required_option(alloc, "modules", "FILE").help(modules_help))?
+        .arg(required_option(alloc, "kallsyms", "FILE").help(kallsyms_help))?
+        .arg(optional_option(alloc, "regions").help("The regions of the modules"))
+}
 
 fn lookup_command<'a>(alloc: Global) -> Result<Command<'a>, AllocError>
     ensures { IfOk result (IsCommand lookup_app) }
 {
-    let modules = required_option(alloc, "modules", "FILE").help(MODULES_HELP);
-    let kallsyms = required_option(alloc, "kallsyms", "FILE").help(KALLSYMS_HELP);
-    let regions = optional_option(alloc, "regions").help(REGIONS_HELP);
-    let file = optional_option(alloc, "addresses").help(
-        "Further addresses, a number a line; - is the standard input",
+    let file_help = "Further addresses, a number a line; - is the standard input";
+    let kernel_help = "The symbols that bound the kernel itself, in place of _stext and _end";
+    let command = Command::new(alloc, "lookup").about(
+        "Say which module and which symbol hold an address",
     );
-    let kernel = optional_pair(alloc, "kernel", &["START", "END"]).help(
-        "The symbols that bound the kernel itself, in place of _stext and _end",
-    );
-    let addresses = any_words(alloc, "address", "ADDR").help("The addresses");
-    let command = Command::new(alloc, "lookup")
-        .about("Say which module and which symbol hold an address")
-        .arg(modules)?
-        .arg(kallsyms)?
-        .arg(regions)?
-        .arg(file)?
-        .arg(kernel)?
-        .arg(addresses)?;
-    Ok(command)
+    with_listings(alloc, command)?
+        .arg(optional_option(alloc, "addresses").help(file_help))?
+        .arg(optional_pair(alloc, "kernel", &["START", "END"]).help(kernel_help))?
+        .arg(any_words(alloc, "address", "ADDR").help("The addresses"))
 }
 
 fn run_command<'a>(alloc: Global) -> Result<Command<'a>, AllocError>
     ensures { IfOk result (IsCommand run_app) }
 {
-    let modules = required_option(alloc, "modules", "FILE").help(MODULES_HELP);
-    let kallsyms = required_option(alloc, "kallsyms", "FILE").help(KALLSYMS_HELP);
-    let regions = optional_option(alloc, "regions").help(REGIONS_HELP);
-    let readers = required_option(alloc, "readers", "N").help(
-        "How many readers there are, 1 to 64",
+    let readers_help = "How many readers there are, 1 to 64";
+    let script_help = "What each writer and reader does";
+    let command = Command::new(alloc, "run").about(
+        "Load and look up beside each other, as a script says",
     );
-    let script = required_word(alloc, "script", "SCRIPT").help("What each writer and reader does");
-    let command = Command::new(alloc, "run")
-        .about("Load and look up beside each other, as a script says")
-        .arg(modules)?
-        .arg(kallsyms)?
-        .arg(regions)?
-        .arg(readers)?
-        .arg(script)?;
-    Ok(command)
+    with_listings(alloc, command)?
+        .arg(required_option(alloc, "readers", "N").help(readers_help))?
+        .arg(required_word(alloc, "script", "SCRIPT").help(script_help))
 }
 
 fn required_word<'a>(alloc: Global, id: &'a str, value: &'a str) -> Arg<'a>
