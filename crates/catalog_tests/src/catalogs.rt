@@ -1,6 +1,6 @@
 //! Catalogs of small listings.
 
-use latch_core::{Entries, Update};
+use latch_core::Update;
 use modules::{
     BuildCounts, Catalog, Held, KernelBounds, ModuleLine, Part, Region, RegionLine, SymbolLine,
     SymbolLines,
@@ -138,22 +138,24 @@ fn loads_and_unloads(rt: HostRuntime) -> Result<(), Fail> {
     Ok(())
 }
 
+/// The name of the module of a number.
+fn name_of<'a>(catalog: &Catalog<'a>, number: u64) -> Option<&'a [u8]> {
+    Some(catalog.module(number)?.name())
+}
+
 #[test]
 fn numbers_and_names(rt: HostRuntime) -> Result<(), Fail> {
     let (catalog, _) = a_module_and_the_kernel(&rt, rt.alloc())?;
     assert_eq!(rt; catalog.number_of(b"-"), Some(0));
     assert_eq!(rt; catalog.number_of(EXT4), Some(1));
     assert_eq!(rt; catalog.number_of(b"nfs"), None);
-    let kernel = catalog.module(0).ok_or("no module 0")?;
-    assert_eq!(rt; kernel.name(), b"-".as_slice());
-    assert_eq!(rt; catalog.module(1).ok_or("no module 1")?.name(), EXT4);
-    assert!(rt; catalog.module(2).is_none());
+    assert_eq!(rt; name_of(&catalog, 0), Some(b"-".as_slice()));
+    assert_eq!(rt; name_of(&catalog, 1), Some(EXT4));
+    assert_eq!(rt; name_of(&catalog, 2), None);
     Ok(())
 }
 
-#[test]
-fn the_parts_of_a_module(rt: HostRuntime) -> Result<(), Fail> {
-    let (catalog, _) = a_module_and_the_kernel(&rt, rt.alloc())?;
+fn check_parts(rt: &impl Abort, catalog: &Catalog) -> Result<(), Fail> {
     let ext4 = catalog.module(1).ok_or("no module 1")?;
     assert_eq!(rt;
         ext4.regions(),
@@ -167,6 +169,12 @@ fn the_parts_of_a_module(rt: HostRuntime) -> Result<(), Fail> {
     assert_eq!(rt; below.name, b"ext4_a".as_slice());
     assert_eq!(rt; above, Some(0xffff_ffff_c000_0040));
     Ok(())
+}
+
+#[test]
+fn the_parts_of_a_module(rt: HostRuntime) -> Result<(), Fail> {
+    let (catalog, _) = a_module_and_the_kernel(&rt, rt.alloc())?;
+    check_parts(&rt, &catalog)
 }
 
 #[test]
@@ -330,41 +338,104 @@ fn a_module_of_several_regions(rt: HostRuntime) -> Result<(), Fail> {
     Ok(())
 }
 
-#[test]
-fn several_regions_are_one_update(rt: HostRuntime) -> Result<(), Fail> {
-    let alloc = rt.alloc();
-    let (catalog, _) = a_module_of_three_regions(&rt, alloc)?;
-    let item = |a| Item {
-        a,
-        b: a + 4096,
+/// What a table holds of the module of three regions.
+const M_ITEMS: [Item; 3] = [
+    Item {
+        a: M_CORE,
+        b: M_CORE + 4096,
         tag: 1,
-    };
-    let load = Update::Batch {
-        erase: Entries::new(Vec::new(alloc))?,
-        insert: Entries::new(vec![in alloc; item(M_CORE), item(M_DATA), item(M_INIT)]?)?,
-    };
-    assert_eq!(rt; catalog.load(1, NOTHING)?, load);
-    let both_parts = Update::Batch {
-        erase: Entries::new(vec![in alloc; M_CORE, M_DATA, M_INIT]?)?,
-        insert: Entries::new(Vec::new(alloc))?,
-    };
-    assert_eq!(rt; catalog.unload(1, BOTH)?, both_parts);
-    let core_alone = Update::Batch {
-        erase: Entries::new(vec![in alloc; M_CORE, M_DATA]?)?,
-        insert: Entries::new(Vec::new(alloc))?,
-    };
-    assert_eq!(rt; catalog.unload(1, CORE)?, core_alone);
-    assert_eq!(rt; catalog.drop_init(1, BOTH)?, Update::Erase(M_INIT));
-    assert_eq!(rt; catalog.drop_init(1, CORE), Err(Refusal::NoInit));
-    assert_eq!(rt; catalog.drop_init(1, NOTHING), Err(Refusal::NotLoaded));
-    assert_eq!(rt; catalog.drop_init(2, BOTH), Err(Refusal::UnknownModule));
+    },
+    Item {
+        a: M_DATA,
+        b: M_DATA + 4096,
+        tag: 1,
+    },
+    Item {
+        a: M_INIT,
+        b: M_INIT + 4096,
+        tag: 1,
+    },
+];
+
+/// Whether an update is a batch of these first words and items.
+fn is_batch(update: &Update, taken: &[u64], added: &[Item]) -> bool {
+    match update {
+        Update::Batch { erase, insert } => erase.as_slice() == taken && insert.as_slice() == added,
+        _ => false,
+    }
+}
+
+fn check_load(rt: &impl Abort, catalog: &Catalog) -> Result<(), Refusal> {
+    let load = catalog.load(1, NOTHING)?;
+    assert!(rt; is_batch(&load, &[], &M_ITEMS), "{load:?}");
     assert!(rt; catalog.gives_load(1, &load));
-    assert!(rt; catalog.gives_unload(1, &both_parts));
-    assert!(rt; catalog.gives_unload(1, &core_alone));
-    assert!(rt; catalog.gives_drop_init(1, &Update::Erase(M_INIT)));
-    assert!(rt; !catalog.gives_load(1, &core_alone));
+    Ok(())
+}
+
+/// Checks that one update takes out these first words of the module of three regions.
+fn check_unload(
+    rt: &impl Abort,
+    catalog: &Catalog,
+    held: Held,
+    erase: &[u64],
+) -> Result<(), Refusal> {
+    let unload = catalog.unload(1, held)?;
+    assert!(rt; is_batch(&unload, erase, &[]), "{unload:?}");
+    assert!(rt; catalog.gives_unload(1, &unload));
+    assert!(rt; !catalog.gives_load(1, &unload));
+    Ok(())
+}
+
+fn check_unloads(rt: &impl Abort, catalog: &Catalog) -> Result<(), Refusal> {
+    check_unload(rt, catalog, BOTH, &[M_CORE, M_DATA, M_INIT])?;
+    check_unload(rt, catalog, CORE, &[M_CORE, M_DATA])?;
     assert!(rt; !catalog.gives_unload(1, &Update::Erase(M_CORE)));
-    assert!(rt; !catalog.gives_drop_init(2, &Update::Erase(M_INIT)));
+    Ok(())
+}
+
+#[test]
+fn several_regions_are_loaded_by_one_update(rt: HostRuntime) -> Result<(), Fail> {
+    let (catalog, _) = a_module_of_three_regions(&rt, rt.alloc())?;
+    Ok(check_load(&rt, &catalog)?)
+}
+
+#[test]
+fn several_regions_are_unloaded_by_one_update(rt: HostRuntime) -> Result<(), Fail> {
+    let (catalog, _) = a_module_of_three_regions(&rt, rt.alloc())?;
+    Ok(check_unloads(&rt, &catalog)?)
+}
+
+fn check_drop_init(rt: &impl Abort, catalog: &Catalog) -> Result<(), Refusal> {
+    let drop_init = catalog.drop_init(1, BOTH)?;
+    assert_eq!(rt; drop_init, Update::Erase(M_INIT));
+    assert!(rt; catalog.gives_drop_init(1, &drop_init));
+    assert!(rt; !catalog.gives_drop_init(2, &drop_init));
+    Ok(())
+}
+
+#[test]
+fn the_start_of_a_module_is_dropped(rt: HostRuntime) -> Result<(), Fail> {
+    let (catalog, _) = a_module_of_three_regions(&rt, rt.alloc())?;
+    Ok(check_drop_init(&rt, &catalog)?)
+}
+
+/// Why a catalog drops no init region of a module.
+fn drop_refusal(catalog: &Catalog, number: u64, held: Held) -> Option<Refusal> {
+    catalog.drop_init(number, held).err()
+}
+
+#[test]
+fn no_start_is_dropped(rt: HostRuntime) -> Result<(), Fail> {
+    let (catalog, _) = a_module_of_three_regions(&rt, rt.alloc())?;
+    assert_eq!(rt; drop_refusal(&catalog, 1, CORE), Some(Refusal::NoInit));
+    assert_eq!(rt;
+        drop_refusal(&catalog, 1, NOTHING),
+        Some(Refusal::NotLoaded)
+    );
+    assert_eq!(rt;
+        drop_refusal(&catalog, 2, BOTH),
+        Some(Refusal::UnknownModule)
+    );
     Ok(())
 }
 

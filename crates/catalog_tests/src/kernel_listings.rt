@@ -95,6 +95,34 @@ fn a_catalog_of_two_listings(rt: HostRuntime) -> Result<(), Fail> {
     Ok(())
 }
 
+/// Checks how many modules are read of a text, and how many lines are skipped.
+fn check_modules(
+    rt: &impl Abort,
+    alloc: Global,
+    text: &[u8],
+    count: usize,
+    skipped: ModuleCounts,
+) -> Result<(), AllocError> {
+    let (modules, counts) = read_modules(alloc, text)?;
+    assert_eq!(rt; modules.len(), count);
+    assert_eq!(rt; counts, skipped);
+    Ok(())
+}
+
+/// Checks how many symbols are read of a text, and how many lines are skipped.
+fn check_symbols(
+    rt: &impl Abort,
+    alloc: Global,
+    text: &[u8],
+    count: usize,
+    skipped: SymbolCounts,
+) -> Result<(), AllocError> {
+    let (symbols, counts) = read_kallsyms(alloc, text)?;
+    assert_eq!(rt; symbols.len(), count);
+    assert_eq!(rt; counts, skipped);
+    Ok(())
+}
+
 /// A text of one line of this many bytes, which begins as given and is filled up.
 fn line_of(alloc: Global, begin: &[u8], length: usize) -> Result<Vec<u8>, AllocError> {
     let mut text = Vec::from_slice(alloc, begin)?;
@@ -106,31 +134,37 @@ fn line_of(alloc: Global, begin: &[u8], length: usize) -> Result<Vec<u8>, AllocE
 }
 
 #[test]
-fn the_longest_lines(rt: HostRuntime) -> Result<(), Fail> {
-    let alloc = rt.alloc();
+fn the_longest_lines_of_modules(rt: HostRuntime) -> Result<(), Fail> {
     for (length, long) in [(LONGEST_LINE, 0), (LONGEST_LINE + 1, 1)] {
-        let text = line_of(alloc, b"a 1 0 - Live 0x1 ", length)?;
-        let (modules, counts) = read_modules(alloc, &text)?;
-        assert_eq!(rt;
-            counts,
-            ModuleCounts {
-                long,
-                ..NO_MODULES_SKIPPED
-            }
-        );
-        assert_eq!(rt; modules.len(), usize::from(long == 0));
-        let text = line_of(alloc, b"1 t ", length)?;
-        let (symbols, counts) = read_kallsyms(alloc, &text)?;
-        assert_eq!(rt;
-            counts,
-            SymbolCounts {
-                long,
-                ..NO_SYMBOLS_SKIPPED
-            }
-        );
-        assert_eq!(rt; symbols.len(), usize::from(long == 0));
+        let text = line_of(rt.alloc(), b"a 1 0 - Live 0x1 ", length)?;
+        let expected = ModuleCounts {
+            long,
+            ..NO_MODULES_SKIPPED
+        };
+        check_modules(&rt, rt.alloc(), &text, usize::from(long == 0), expected)?;
     }
     Ok(())
+}
+
+#[test]
+fn the_longest_lines_of_symbols(rt: HostRuntime) -> Result<(), Fail> {
+    for (length, long) in [(LONGEST_LINE, 0), (LONGEST_LINE + 1, 1)] {
+        let text = line_of(rt.alloc(), b"1 t ", length)?;
+        let expected = SymbolCounts {
+            long,
+            ..NO_SYMBOLS_SKIPPED
+        };
+        check_symbols(&rt, rt.alloc(), &text, usize::from(long == 0), expected)?;
+    }
+    Ok(())
+}
+
+/// How many modules are read of a line, and how many lines are malformed.
+fn count_in_modules_line(alloc: Global, line: &[u8]) -> Result<(usize, u64), AllocError> {
+    let mut text = Vec::from_slice(alloc, line)?;
+    text.push(b'\n')?;
+    let (modules, counts) = read_modules(alloc, &text)?;
+    Ok((modules.len(), counts.malformed))
 }
 
 #[test]
@@ -150,11 +184,8 @@ fn lines_just_inside_and_outside_the_form_of_modules(rt: HostRuntime) -> Result<
         (b"", false),
     ];
     for (line, is_read) in cases {
-        let mut text = Vec::from_slice(rt.alloc(), line)?;
-        text.push(b'\n')?;
-        let (modules, counts) = read_modules(rt.alloc(), &text)?;
-        assert_eq!(rt; modules.len() == 1, is_read);
-        assert_eq!(rt; counts.malformed == 0, is_read);
+        let (modules, malformed) = count_in_modules_line(rt.alloc(), line)?;
+        assert_eq!(rt; (modules == 1, malformed == 0), (is_read, is_read));
     }
     Ok(())
 }
@@ -199,21 +230,33 @@ fn symbols_just_inside_and_outside_each_cause(rt: HostRuntime) -> Result<(), Fai
     Ok(())
 }
 
-#[test]
-fn seventy_thousand_lines_of_each_listing(rt: HostRuntime) -> Result<(), Fail> {
-    let mut modules = Vec::new(rt.alloc());
-    let mut symbols = Vec::new(rt.alloc());
+/// A text of seventy thousand times this line.
+fn text_of_lines(alloc: Global, line: &[u8]) -> Result<Vec<u8>, AllocError> {
+    let mut text = Vec::new(alloc);
     for _ in 0..70000 {
-        modules.extend_from_slice(b"a 1 0 - Live 0x1\n")?;
-        symbols.extend_from_slice(b"1 t a\t[a]\n")?;
+        text.extend_from_slice(line)?;
     }
-    let (modules, counts) = read_modules(rt.alloc(), &modules)?;
-    assert_eq!(rt; modules.len(), 70000);
-    assert_eq!(rt; counts, NO_MODULES_SKIPPED);
-    let (symbols, counts) = read_kallsyms(rt.alloc(), &symbols)?;
-    assert_eq!(rt; symbols.len(), 70000);
-    assert_eq!(rt; counts, NO_SYMBOLS_SKIPPED);
+    Ok(text)
+}
+
+#[test]
+fn seventy_thousand_lines_of_modules(rt: HostRuntime) -> Result<(), Fail> {
+    let text = text_of_lines(rt.alloc(), b"a 1 0 - Live 0x1\n")?;
+    check_modules(&rt, rt.alloc(), &text, 70000, NO_MODULES_SKIPPED)?;
     Ok(())
+}
+
+#[test]
+fn seventy_thousand_lines_of_symbols(rt: HostRuntime) -> Result<(), Fail> {
+    let text = text_of_lines(rt.alloc(), b"1 t a\t[a]\n")?;
+    check_symbols(&rt, rt.alloc(), &text, 70000, NO_SYMBOLS_SKIPPED)?;
+    Ok(())
+}
+
+/// How many symbols are read of a line, and how many lines are malformed.
+fn count_in_symbols_line(alloc: Global, line: &[u8]) -> Result<(usize, u64), AllocError> {
+    let (symbols, counts) = read_kallsyms(alloc, line)?;
+    Ok((symbols.len(), counts.malformed))
 }
 
 #[test]
@@ -237,9 +280,8 @@ fn lines_just_inside_and_outside_the_form_of_symbols(rt: HostRuntime) -> Result<
         (b"1 t a\t[b\tc]", false),
     ];
     for (line, is_read) in cases {
-        let (symbols, counts) = read_kallsyms(rt.alloc(), line)?;
-        assert_eq!(rt; symbols.len() == 1, is_read);
-        assert_eq!(rt; counts.malformed == 0, is_read);
+        let (symbols, malformed) = count_in_symbols_line(rt.alloc(), line)?;
+        assert_eq!(rt; (symbols == 1, malformed == 0), (is_read, is_read));
     }
     Ok(())
 }

@@ -6,10 +6,16 @@ use listing::{
 };
 use order_laws::Item;
 use std::alloc::{AllocError, Global};
+use std::process::Abort;
 use std::test::Fail;
 
 fn trace(alloc: Global, text: &[u8]) -> Result<TraceFile, LineFault> {
     read_trace(alloc, &mut Counted::new(text))
+}
+
+/// How many commands are in the trace of a text.
+fn count_commands(alloc: Global, text: &[u8]) -> Result<usize, LineFault> {
+    Ok(trace(alloc, text)?.commands.len())
 }
 
 /// A text of a header and one line of this many bytes, of which the first is given.
@@ -100,7 +106,7 @@ fn the_first_bad_line_is_named(rt: HostRuntime) {
         (b"latchtrace 1 halfopen 4\n #\n".as_slice(), 2),
     ];
     for (text, line) in texts {
-        let answer = trace(rt.alloc(), text).map(|trace| trace.commands.len());
+        let answer = count_commands(rt.alloc(), text);
         assert_eq!(rt; answer, Err(LineFault::BadLine(line)), "in {text:?}");
     }
 }
@@ -143,115 +149,161 @@ fn a_capacity_that_no_table_has_is_no_bad_line(rt: HostRuntime) -> Result<(), Fa
 #[test]
 fn a_line_has_at_most_4096_bytes(rt: HostRuntime) -> Result<(), Fail> {
     let alloc = rt.alloc();
-    assert!(rt; trace(alloc, &text_with_line(alloc, b'#', LONGEST_LINE)?).is_ok());
+    let longest = text_with_line(alloc, b'#', LONGEST_LINE)?;
+    assert_eq!(rt; count_commands(alloc, &longest), Ok(0));
     let longer = text_with_line(alloc, b'#', LONGEST_LINE + 1)?;
-    let answer = trace(alloc, &longer).map(|trace| trace.commands.len());
-    assert_eq!(rt; answer, Err(LineFault::BadLine(2)));
+    assert_eq!(rt; count_commands(alloc, &longer), Err(LineFault::BadLine(2)));
     Ok(())
+}
+
+/// A trace of so many flips.
+fn text_of_flips(alloc: Global, count: usize) -> Result<Vec<u8>, AllocError> {
+    let mut text = Vec::from_slice(alloc, b"latchtrace 1 halfopen 4\n")?;
+    for _ in 0..count {
+        text.extend_from_slice(b"write end\n")?;
+    }
+    Ok(text)
+}
+
+/// How many commands are read of a text where this call of its reader fails, and how many calls
+/// failed.
+fn count_with_failing_call(
+    alloc: Global,
+    text: &[u8],
+    call: u64,
+) -> (Result<usize, LineFault>, u64) {
+    let mut reader = Counted::new(FailAt::new(text, call));
+    let answer = read_trace(alloc, &mut reader).map(|trace| trace.commands.len());
+    (answer, reader.failures())
 }
 
 #[test]
 fn each_failing_call_is_told(rt: HostRuntime) -> Result<(), Fail> {
-    let alloc = rt.alloc();
-    let mut text = Vec::from_slice(alloc, b"latchtrace 1 halfopen 4\n")?;
-    for _ in 0..15000 {
-        text.extend_from_slice(b"write end\n")?;
-    }
+    let text = text_of_flips(rt.alloc(), 15000)?;
     for call in 1..=4 {
-        let mut reader = Counted::new(FailAt::new(text.as_slice(), call));
-        let answer = read_trace(alloc, &mut reader).map(|trace| trace.commands.len());
-        assert_eq!(rt; answer, Err(LineFault::Read), "at call {call}");
-        assert_eq!(rt; reader.failures(), 1);
+        let answer = count_with_failing_call(rt.alloc(), &text, call);
+        assert_eq!(rt; answer, (Err(LineFault::Read), 1), "at call {call}");
     }
-    let mut reader = Counted::new(FailAt::new(text.as_slice(), 5));
-    let answer = read_trace(alloc, &mut reader).map(|trace| trace.commands.len());
-    assert_eq!(rt; answer, Ok(15000));
-    assert_eq!(rt; reader.failures(), 0);
+    let answer = count_with_failing_call(rt.alloc(), &text, 5);
+    assert_eq!(rt; answer, (Ok(15000), 0));
     Ok(())
 }
 
 #[test]
 fn input_is_read_whole(rt: HostRuntime) -> Result<(), Fail> {
     let mut reader = Counted::new(b"one\ntwo".as_slice());
-    let bytes = read_whole(rt.alloc(), &mut reader).map_err(|fault| fault == ReadFault::Read);
-    assert_eq!(rt; bytes?.as_slice(), b"one\ntwo".as_slice());
+    let bytes = read_whole(rt.alloc(), &mut reader).map_err(|fault| fault == ReadFault::Read)?;
+    assert_eq!(rt; bytes.as_slice(), b"one\ntwo".as_slice());
+    Ok(())
+}
+
+#[test]
+fn numbers_of_both_forms(rt: HostRuntime) {
     assert_eq!(rt; number(b"0xAbCdEf0123456789"), Some(0xabcdef0123456789));
     assert_eq!(rt; number(b"18446744073709551615"), Some(u64::MAX));
     assert_eq!(rt; number(b"0x"), None);
     assert_eq!(rt; number(b"0X10"), None);
     assert_eq!(rt; number(b"+1"), None);
-    Ok(())
 }
 
-/// A batch of these first words and items.
-fn batch(alloc: Global, erase: &[u64], insert: &[Item]) -> Result<Command<u64>, AllocError> {
-    Ok(Command::Begin(Update::batch(alloc, erase, insert)?))
+const FIRST_ITEM: Item = Item { a: 1, b: 2, tag: 3 };
+
+const SECOND_ITEM: Item = Item { a: 4, b: 5, tag: 6 };
+
+/// The first words and the items of each batch of a trace.
+const BATCHES: [(&[u64], &[Item]); 4] = [
+    (&[16, 32], &[FIRST_ITEM]),
+    (&[], &[]),
+    (&[], &[SECOND_ITEM]),
+    (&[7], &[]),
+];
+
+/// Checks that these commands begin the batches of the trace, and no others.
+fn check_batches(
+    rt: &impl Abort,
+    alloc: Global,
+    commands: &[Command<u64>],
+) -> Result<(), AllocError> {
+    assert_eq!(rt; commands.len(), BATCHES.len());
+    for (command, (erase, insert)) in commands.iter().zip(BATCHES) {
+        let expected = Update::batch(alloc, erase, insert)?;
+        assert_eq!(rt; *command, Command::Begin(expected));
+    }
+    Ok(())
 }
 
 #[test]
 fn batches_are_read_from_the_second_version_on(rt: HostRuntime) -> Result<(), Fail> {
-    let alloc = rt.alloc();
     let lines = b" halfopen 4\nbatch 2 1 0x10 0x20 1 2 3\nbatch 0 0\nbatch 0 1 4 5 6\nbatch 1 0 7";
-    let items = [Item { a: 1, b: 2, tag: 3 }, Item { a: 4, b: 5, tag: 6 }];
-    let expected = [
-        batch(alloc, &[16, 32], &items[..1])?,
-        batch(alloc, &[], &[])?,
-        batch(alloc, &[], &items[1..])?,
-        batch(alloc, &[7], &[])?,
-    ];
     for version in [b"latchtrace 2".as_slice(), b"latchtrace 3".as_slice()] {
-        let mut text = Vec::from_slice(alloc, version)?;
+        let mut text = Vec::from_slice(rt.alloc(), version)?;
         text.extend_from_slice(lines)?;
-        let trace = trace(alloc, &text)?;
-        assert_eq!(rt; trace.commands.as_slice(), expected.as_slice());
+        let trace = trace(rt.alloc(), &text)?;
+        check_batches(&rt, rt.alloc(), &trace.commands)?;
     }
-    let answer = trace(alloc, b"latchtrace 1 halfopen 4\nbatch 0 0").map(|trace| trace
-        .commands
-        .len());
-    assert_eq!(rt; answer, Err(LineFault::BadLine(2)));
     Ok(())
 }
 
 #[test]
-fn a_batch_has_as_many_words_as_it_says(rt: HostRuntime) -> Result<(), Fail> {
-    let lines = [
-        b"batch".as_slice(),
-        b"batch 0".as_slice(),
-        b"batch 0 0 ".as_slice(),
-        b"batch  0 0".as_slice(),
-        b"batch 0 0 1".as_slice(),
-        b"batch 1 0".as_slice(),
-        b"batch 1 0 1 2".as_slice(),
-        b"batch 0 1 1 2".as_slice(),
-        b"batch 0 1 1 2 3 4".as_slice(),
-        b"batch 3 0 1 2".as_slice(),
-        b"batch 1 1 1 2 3".as_slice(),
-        b"batch 18446744073709551615 0 1".as_slice(),
-        b"batch 0 18446744073709551615 1 2 3".as_slice(),
-        b"batch 2 6148914691236517205 1".as_slice(),
-        b"batch 0 6148914691236517206 1 2".as_slice(),
-        b"batch 18446744073709551616 0".as_slice(),
+fn the_first_version_has_no_batches(rt: HostRuntime) {
+    let text = b"latchtrace 1 halfopen 4\nbatch 0 0";
+    assert_eq!(rt;
+        count_commands(rt.alloc(), text),
+        Err(LineFault::BadLine(2))
+    );
+}
+
+/// How many commands are in the trace of a header and this line.
+fn count_in_line(alloc: Global, line: &[u8]) -> Result<usize, LineFault> {
+    let mut text = Vec::from_slice(alloc, b"latchtrace 2 halfopen 4\n")?;
+    text.extend_from_slice(line)?;
+    count_commands(alloc, &text)
+}
+
+#[test]
+fn a_batch_has_as_many_words_as_it_says(rt: HostRuntime) {
+    let lines: [&[u8]; 16] = [
+        b"batch",
+        b"batch 0",
+        b"batch 0 0 ",
+        b"batch  0 0",
+        b"batch 0 0 1",
+        b"batch 1 0",
+        b"batch 1 0 1 2",
+        b"batch 0 1 1 2",
+        b"batch 0 1 1 2 3 4",
+        b"batch 3 0 1 2",
+        b"batch 1 1 1 2 3",
+        b"batch 18446744073709551615 0 1",
+        b"batch 0 18446744073709551615 1 2 3",
+        b"batch 2 6148914691236517205 1",
+        b"batch 0 6148914691236517206 1 2",
+        b"batch 18446744073709551616 0",
     ];
     for line in lines {
-        let mut text = Vec::from_slice(rt.alloc(), b"latchtrace 2 halfopen 4\n")?;
-        text.extend_from_slice(line)?;
-        let answer = trace(rt.alloc(), &text).map(|trace| trace.commands.len());
+        let answer = count_in_line(rt.alloc(), line);
         assert_eq!(rt; answer, Err(LineFault::BadLine(2)), "in {line:?}");
     }
-    Ok(())
 }
 
-#[test]
-fn no_buffer_cuts_a_batch_short(rt: HostRuntime) -> Result<(), Fail> {
-    let alloc = rt.alloc();
+/// A trace of one batch, whose line has 4096 bytes.
+fn text_of_batch(alloc: Global) -> Result<Vec<u8>, AllocError> {
     let mut text = Vec::from_slice(alloc, b"latchtrace 2 halfopen 4\nbatch 2042 0")?;
     for _ in 0..2042 {
         text.extend_from_slice(b" 7")?;
     }
+    Ok(text)
+}
+
+#[test]
+fn no_buffer_cuts_a_batch_short(rt: HostRuntime) -> Result<(), Fail> {
+    let mut text = text_of_batch(rt.alloc())?;
     assert_eq!(rt; text.len(), 24 + 4096);
-    assert_eq!(rt; trace(alloc, &text)?.commands.len(), 1);
+    assert_eq!(rt; count_commands(rt.alloc(), &text), Ok(1));
     text.push(b'7')?;
-    let answer = trace(alloc, &text).map(|trace| trace.commands.len());
-    assert_eq!(rt; answer, Err(LineFault::BadLine(2)));
+    assert_eq!(rt;
+        count_commands(rt.alloc(), &text),
+        Err(LineFault::BadLine(2))
+    );
     Ok(())
 }
