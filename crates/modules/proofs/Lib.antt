@@ -8,6 +8,8 @@ pub mod RegionLemmas
 pub mod AdmissionLemmas
 -- each module has a region of its core
 pub mod StartLemmas
+-- a split of a list that is found within a block
+pub mod BlockLemmas
 -- the order of the index
 pub mod IndexLemmas
 -- symbols that are listed by rising address

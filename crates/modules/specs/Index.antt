@@ -25,6 +25,12 @@ pub record IsSplitBy {A : Type 0} (measure : A → ℕ) (xs : List A) (addr plac
   pub below : (k : ℕ) (d : A) → k < place → measure (slice_index_or xs k d) ≤ addr
   pub above : (k : ℕ) (d : A) → place ≤ k → k < length xs → addr < measure (slice_index_or xs k d)
 
+-- what stands at the first place is by its measure not above the address, and what stands at the
+-- second is, if anything does
+pub record IsBetween {A : Type 0} (measure : A → ℕ) (xs : List A) (addr from to : ℕ) : Type 0 where
+  pub below : (d : A) → measure (slice_index_or xs from d) ≤ addr
+  pub above : (d : A) → to < length xs → addr < measure (slice_index_or xs to d)
+
 -- the entries below the place are not above the address, and the others are
 abbrev pub IsSplit : List IndexEntry → ℕ → ℕ → Type 0
 IsSplit index addr place = IsSplitBy (λ e. e.addr) index addr place

@@ -2,6 +2,7 @@
 #![tactic(auto)]
 
 mod admission;
+mod blocks;
 mod build;
 pub mod catalog;
 mod gathering;

@@ -10,12 +10,14 @@ ghost use Rattle.modules.specs.Parts.{is_core, is_init};
 ghost use Rattle.modules.specs.Placed.{IsPlaced};
 ghost use Rattle.modules.specs.Starts.{first_start, start_at, start_where, starts_of};
 
+use crate::blocks::Blocks;
 use crate::lines::Part;
 use crate::loads::starts_of;
 use crate::placing::Placed;
 use crate::regions::Region;
 use crate::symbols::{
-    IndexEntry, Symbol, around_as_listed, around_in_index, by_address, is_rising,
+    IndexEntry, Symbol, around_as_listed, around_in_index, blocks_as_listed, blocks_of_index,
+    by_address, is_rising,
 };
 use arrayvec::ArrayVec;
 use std::alloc::{AllocError, Global};
@@ -36,6 +38,8 @@ pub struct Module<'a> {
     symbols: Vec<Symbol<'a>>,
     /// An index of the symbols, where they are not listed by rising address.
     by_address: Option<Vec<IndexEntry>>,
+    /// The blocks of the index, or else of the symbols.
+    blocks: Blocks,
 }
 
 impl<'a> Model for Module<'a> {
@@ -113,6 +117,18 @@ fn has_init(parts: &[Part]) -> bool
     parts.iter().any(|part| part.is_init())
 }
 
+/// The blocks of the index, or else of the symbols.
+fn blocks_of(
+    alloc: Global,
+    symbols: &[Symbol],
+    index: &Option<Vec<IndexEntry>>,
+) -> Result<Blocks, AllocError> {
+    match index {
+        Some(index) => blocks_of_index(alloc, index.as_slice()),
+        None => blocks_as_listed(alloc, symbols),
+    }
+}
+
 impl<'a> Module<'a> {
     pub(crate) fn new(
         alloc: Global,
@@ -123,12 +139,14 @@ impl<'a> Module<'a> {
         ensures { IfOk result (λ m. m ≡ module_with placed.now symbols.entry.items) }
     {
         let by_address = index_of(alloc, symbols.as_slice())?;
+        let blocks = blocks_of(alloc, symbols.as_slice(), &by_address)?;
         Ok(Module {
             name: placed.name,
             regions: copied(placed.regions.as_slice()),
             parts: copied(placed.parts.as_slice()),
             symbols,
             by_address,
+            blocks,
         })
     }
 
@@ -197,9 +215,11 @@ impl<'a> Module<'a> {
         ensures below { option_copied result.0 ≡ symbol_below self.now.symbols addr }
         ensures above { result.1 ≡ address_above self.now.symbols addr }
     {
+        let symbols = self.symbols.as_slice();
+        let block = self.blocks.block_of(addr);
         match &self.by_address {
-            None => around_as_listed(self.symbols.as_slice(), addr),
-            Some(index) => around_in_index(self.symbols.as_slice(), index.as_slice(), addr),
+            None => around_as_listed(symbols, block, addr),
+            Some(index) => around_in_index(symbols, index.as_slice(), block, addr),
         }
     }
 }

@@ -15,8 +15,9 @@ ghost use Rattle.std.specs.Prelude.{◌≡◌, ◌<◌, true, IfOk, length, slic
 ghost use Rattle.std.specs.List.Sorted.{IsNonDecreasingBy};
 ghost use Rattle.std.specs.Option.{option_copied, option_map};
 ghost use Rattle.modules.specs.Around.{symbol_below, address_above};
-ghost use Rattle.modules.specs.Index.{index_entries_of, IsIndex, IsSplit, IsRising, IsSplitOf, IsFirstOf, IsFirstAt};
+ghost use Rattle.modules.specs.Index.{index_entries_of, IsBetween, IsIndex, IsSplit, IsRising, IsSplitOf, IsFirstOf, IsFirstAt};
 
+use crate::blocks::{BLOCK, Block, Blocks};
 use std::alloc::{AllocError, Global};
 use std::marker::Model;
 
@@ -68,12 +69,49 @@ pub(crate) fn by_address(alloc: Global, symbols: &[Symbol]) -> Result<Vec<IndexE
     Ok(entries)
 }
 
-/// How many entries are not above the address.
-pub(crate) fn split_at(index: &[IndexEntry], addr: u64) -> usize
+/// The blocks of an index.
+pub(crate) fn blocks_of_index(alloc: Global, index: &[IndexEntry]) -> Result<Blocks, AllocError> {
+    let addresses = index
+        .iter()
+        .step_by(BLOCK)
+        .map(|entry| entry.addr)
+        .collect(alloc)?;
+    Ok(Blocks::new(addresses))
+}
+
+/// The blocks of symbols that stand by rising address.
+pub(crate) fn blocks_as_listed(alloc: Global, symbols: &[Symbol]) -> Result<Blocks, AllocError> {
+    let addresses = symbols
+        .iter()
+        .step_by(BLOCK)
+        .map(|symbol| symbol.addr)
+        .collect(alloc)?;
+    Ok(Blocks::new(addresses))
+}
+
+/// Whether an address lies from the entry at a place on, and below the one at another place, if
+/// there is one.
+fn is_between(index: &[IndexEntry], from: usize, to: usize, addr: u64) -> bool
+    requires { from < length index.now }
+    ensures { result ≡ true → IsBetween (λ e. e.addr) index.now addr from to }
+{
+    let above = index.get(to).is_none_or(|entry| addr < entry.addr);
+    index[from].addr <= addr && above
+}
+
+/// How many entries are not above the address: sought in the block, where it lies there, and else
+/// among all.
+pub(crate) fn split_at(index: &[IndexEntry], block: Block, addr: u64) -> usize
     requires { IsNonDecreasingBy (λ e. e.addr) index.now }
     ensures { IsSplit index.now addr result }
 {
-    index.partition_point(|entry| entry.addr <= addr)
+    let from = block.from;
+    let to = block.to.min(index.len());
+    if from < to && is_between(index, from, to, addr) {
+        from + index[from..to].partition_point(|entry| entry.addr <= addr)
+    } else {
+        index.partition_point(|entry| entry.addr <= addr)
+    }
 }
 
 /// The address of the entry at a place, if there is one.
@@ -94,13 +132,14 @@ fn symbol_at<'s, 'a>(symbols: &'s [Symbol<'a>], place: usize) -> Option<&'s Symb
 pub(crate) fn around_in_index<'s, 'a>(
     symbols: &'s [Symbol<'a>],
     index: &[IndexEntry],
+    block: Block,
     addr: u64,
 ) -> (Option<&'s Symbol<'a>>, Option<u64>)
     requires { IsIndex symbols.now index.now }
     ensures below { option_copied result.0 ≡ symbol_below symbols.now addr }
     ensures above { result.1 ≡ address_above symbols.now addr }
 {
-    let split = split_at(index, addr);
+    let split = split_at(index, block, addr);
     let above = address_at(index, split);
     if split == 0 {
         return (None, above);
@@ -109,12 +148,30 @@ pub(crate) fn around_in_index<'s, 'a>(
     (symbol_at(symbols, entry.place), above)
 }
 
-/// How many symbols, of those that stand by rising address, are not above the address.
-fn listed_split_at(symbols: &[Symbol], addr: u64) -> usize
+/// Whether an address lies from the symbol at a place on, and below the one at another place, if
+/// there is one.
+fn is_listed_between(symbols: &[Symbol], from: usize, to: usize, addr: u64) -> bool
+    requires { from < length symbols.now }
+    ensures { result ≡ true → IsBetween (λ s. s.addr) symbols.now addr from to }
+{
+    let above = symbols.get(to).is_none_or(|symbol| addr < symbol.addr);
+    let first = &symbols[from];
+    first.addr <= addr && above
+}
+
+/// How many symbols, of those that stand by rising address, are not above the address: sought in
+/// the block, where it lies there, and else among all.
+fn listed_split_at(symbols: &[Symbol], block: Block, addr: u64) -> usize
     requires { IsRising symbols.now }
     ensures { IsSplitOf symbols.now addr result }
 {
-    symbols.partition_point(|symbol| symbol.addr <= addr)
+    let from = block.from;
+    let to = block.to.min(symbols.len());
+    if from < to && is_listed_between(symbols, from, to, addr) {
+        from + symbols[from..to].partition_point(|symbol| symbol.addr <= addr)
+    } else {
+        symbols.partition_point(|symbol| symbol.addr <= addr)
+    }
 }
 
 /// How many symbols, of those that stand by rising address, are below the address.
@@ -153,13 +210,14 @@ fn listed_address_at(symbols: &[Symbol], place: usize) -> Option<u64>
 /// The symbols around an address, where they stand by rising address.
 pub(crate) fn around_as_listed<'s, 'a>(
     symbols: &'s [Symbol<'a>],
+    block: Block,
     addr: u64,
 ) -> (Option<&'s Symbol<'a>>, Option<u64>)
     requires { IsRising symbols.now }
     ensures below { option_copied result.0 ≡ symbol_below symbols.now addr }
     ensures above { result.1 ≡ address_above symbols.now addr }
 {
-    let split = listed_split_at(symbols, addr);
+    let split = listed_split_at(symbols, block, addr);
     let above = listed_address_at(symbols, split);
     if split == 0 {
         return (None, above);

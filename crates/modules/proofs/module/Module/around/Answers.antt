@@ -7,5 +7,5 @@ use Rattle.modules.proofs.module.Module.around.Goals as goal
 pub around_in_index-requires : goal.around_in_index-requires
 around_in_index-requires c =
     let is = c.self.invariant.ordered.indexed c.in-Some.index c.in-Some.is in
-    subst (λ (symbols : List SymbolEntry). IsIndex symbols c.as_slice-in-Some-2.result.now) (sym c.as_slice-in-Some.ensures.value)
-    (subst (λ (index : List IndexEntry). IsIndex c.self.inside.symbols.items index) (sym c.as_slice-in-Some-2.ensures.value) is)
+    subst (λ (symbols : List SymbolEntry). IsIndex symbols c.as_slice.result.now) (sym c.as_slice-symbols.ensures.value)
+    (subst (λ (index : List IndexEntry). IsIndex c.self.inside.symbols.items index) (sym c.as_slice.ensures.value) is)
