@@ -57,7 +57,8 @@ static double find_ours(struct latchsym_catalog *catalog, size_t name_room, size
     uint64_t total = 0;
     for (size_t i = 0; i < count; i++) {
         struct latchsym_symbol found;
-        if (!latchsym_catalog_find(catalog, addresses[i], &found, name, name_room, module, module_room))
+        if (!latchsym_catalog_find(catalog, addresses[i], &found, name, name_room, module,
+                                   module_room))
             total += found.offset + found.name_len;
     }
     sum += total;
@@ -77,7 +78,8 @@ static double find_theirs(void *cache, int with_names) {
         struct bcc_symbol found;
         if (bcc_symcache_resolve_no_demangle(cache, addresses[i], &found)) continue;
         total += found.offset;
-        if (with_names) total += copied(name, NAME, found.name) + copied(module, MODULE, found.module);
+        if (!with_names) continue;
+        total += copied(name, NAME, found.name) + copied(module, MODULE, found.module);
     }
     sum += total;
     return now() - start;

@@ -11,6 +11,7 @@ folder=$(cd "$1" && pwd)
 prefix=$(cd "$2" && pwd)
 work=$(mktemp -d)
 trap 'rm -rf "$work"' EXIT
-cc -O2 "$(dirname "$0")/library.c" -I"$prefix/include" "$prefix/lib/liblatchsym.a" -lbcc -o "$work/library"
+cc -O2 "$(dirname "$0")/library.c" -I"$prefix/include" "$prefix/lib/liblatchsym.a" -lbcc \
+    -o "$work/library"
 unshare -m sh -c 'mount --bind "$1/kallsyms.txt" /proc/kallsyms && exec "$2" "$1" "$3"' \
     sh "$folder" "$work/library" "${3:-9}"

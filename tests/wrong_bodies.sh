@@ -10,7 +10,8 @@ top=$(cd "$(dirname "$0")/.." && pwd)
 work=$(mktemp -d)
 trap 'rm -rf "$work"' EXIT
 git init -q "$work"
-tar -C "$top" --exclude=must-fail --exclude=incremental -cf - HANDLES crates.txt crates | tar -C "$work" -xf -
+tar -C "$top" --exclude=must-fail --exclude=incremental -cf - HANDLES crates.txt crates |
+    tar -C "$work" -xf -
 [ $# -gt 0 ] || set -- $(ls "$top/tests/wrong_bodies")
 for crate in "$@"; do
     cp -r "$top/tests/wrong_bodies/$crate" "$work/crates/$crate/must-fail"
