@@ -11,6 +11,23 @@
 //!
 //! The block is a guess, which whoever searches it compares with the list: no contract rests on it.
 
+ghost use Rattle.std.specs.Prelude.{◌≡◌, ℕ, ◌<◌, true, length, slice_get};
+ghost use Rattle.std.specs.List.Sorted.{IsNonDecreasingBy};
+ghost use Rattle.std.specs.Option.{option_map};
+ghost use Rattle.modules.specs.Index.{IsBetween, IsSplitBy};
+
+use std::alloc::{AllocError, Global};
+
+/// What stands at an address: a symbol, or the entry of one in an index.
+pub(crate) trait Addressed {
+    /// The address.
+    ghost addr_of: { Self → ℕ };
+
+    /// The address.
+    fn addr(&self) -> u64
+        ensures { result ≡ addr_of self.now };
+}
+
 /// How many symbols a block has.
 pub(crate) const BLOCK: usize = 16;
 
@@ -28,9 +45,14 @@ pub(crate) struct Blocks {
 }
 
 impl Blocks {
-    /// The blocks whose first addresses these are.
-    pub(crate) fn new(addresses: Vec<u64>) -> Blocks {
-        Blocks { addresses }
+    /// The blocks of what stands by rising address.
+    pub(crate) fn of<T: Addressed>(alloc: Global, listed: &[T]) -> Result<Blocks, AllocError> {
+        let addresses = listed
+            .iter()
+            .step_by(BLOCK)
+            .map(|it| it.addr())
+            .collect(alloc)?;
+        Ok(Blocks { addresses })
     }
 
     /// The block that an address lies in, if it lies in one.
@@ -42,4 +64,37 @@ impl Blocks {
             to,
         }
     }
+}
+
+/// Whether an address lies from what stands at a place on, and below what stands at another place,
+/// if anything does.
+fn is_between<T: Addressed>(listed: &[T], from: usize, to: usize, addr: u64) -> bool
+    requires { from < length listed.now }
+    ensures { result ≡ true → IsBetween T.addr_of listed.now addr from to }
+{
+    let above = listed.get(to).is_none_or(|it| addr < it.addr());
+    let first = &listed[from];
+    first.addr() <= addr && above
+}
+
+/// How many, of what stands by rising address, are not above an address: sought in the block, where
+/// it lies there, and else among all.
+pub(crate) fn split_at<T: Addressed>(listed: &[T], block: Block, addr: u64) -> usize
+    requires { IsNonDecreasingBy T.addr_of listed.now }
+    ensures { IsSplitBy T.addr_of listed.now addr result }
+{
+    let from = block.from;
+    let to = block.to.min(listed.len());
+    if from < to && is_between(listed, from, to, addr) {
+        from + listed[from..to].partition_point(|it| it.addr() <= addr)
+    } else {
+        listed.partition_point(|it| it.addr() <= addr)
+    }
+}
+
+/// The address of what stands at a place, if anything does.
+pub(crate) fn address_at<T: Addressed>(listed: &[T], place: usize) -> Option<u64>
+    ensures { result ≡ option_map T.addr_of (slice_get listed.now place) }
+{
+    listed.get(place).map(|it| it.addr())
 }

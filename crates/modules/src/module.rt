@@ -16,8 +16,7 @@ use crate::loads::starts_of;
 use crate::placing::Placed;
 use crate::regions::Region;
 use crate::symbols::{
-    IndexEntry, Symbol, around_as_listed, around_in_index, blocks_as_listed, blocks_of_index,
-    by_address, is_rising,
+    IndexEntry, Symbol, around_as_listed, around_in_index, by_address, is_rising,
 };
 use arrayvec::ArrayVec;
 use std::alloc::{AllocError, Global};
@@ -124,8 +123,8 @@ fn blocks_of(
     index: &Option<Vec<IndexEntry>>,
 ) -> Result<Blocks, AllocError> {
     match index {
-        Some(index) => blocks_of_index(alloc, index.as_slice()),
-        None => blocks_as_listed(alloc, symbols),
+        Some(index) => Blocks::of(alloc, index.as_slice()),
+        None => Blocks::of(alloc, symbols),
     }
 }
 

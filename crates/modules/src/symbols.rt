@@ -12,12 +12,11 @@
 //! So the last entry that is not above an address is that of the symbol to be found.
 
 ghost use Rattle.std.specs.Prelude.{◌≡◌, ◌<◌, true, IfOk, length, slice_get};
-ghost use Rattle.std.specs.List.Sorted.{IsNonDecreasingBy};
-ghost use Rattle.std.specs.Option.{option_copied, option_map};
+ghost use Rattle.std.specs.Option.{option_copied};
 ghost use Rattle.modules.specs.Around.{symbol_below, address_above};
-ghost use Rattle.modules.specs.Index.{index_entries_of, IsBetween, IsIndex, IsSplit, IsRising, IsSplitOf, IsFirstOf, IsFirstAt};
+ghost use Rattle.modules.specs.Index.{index_entries_of, IsIndex, IsRising, IsFirstOf, IsFirstAt};
 
-use crate::blocks::{BLOCK, Block, Blocks};
+use crate::blocks::{Addressed, Block, address_at, split_at};
 use std::alloc::{AllocError, Global};
 use std::marker::Model;
 
@@ -38,11 +37,27 @@ impl<'a> Model for Symbol<'a> {
     ghost view = { λ s. record { addr = s.addr; name = s.name.now } };
 }
 
+impl<'a> Addressed for Symbol<'a> {
+    ghost addr_of = { λ s. s.addr };
+
+    fn addr(&self) -> u64 {
+        self.addr
+    }
+}
+
 /// Where the symbol of an address stands in the order of the listing.
 #[derive(Clone, Copy, Debug, Drop)]
 pub(crate) struct IndexEntry {
     pub(crate) addr: u64,
     pub(crate) place: usize,
+}
+
+impl Addressed for IndexEntry {
+    ghost addr_of = { λ e. e.addr };
+
+    fn addr(&self) -> u64 {
+        self.addr
+    }
 }
 
 /// The address and the place of each symbol, in the order listed.
@@ -67,58 +82,6 @@ pub(crate) fn by_address(alloc: Global, symbols: &[Symbol]) -> Result<Vec<IndexE
     let mut entries = listed_entries(alloc, symbols)?;
     entries.sort_unstable_by(|x, y| x.addr.cmp(&y.addr).then(y.place.cmp(&x.place)));
     Ok(entries)
-}
-
-/// The blocks of an index.
-pub(crate) fn blocks_of_index(alloc: Global, index: &[IndexEntry]) -> Result<Blocks, AllocError> {
-    let addresses = index
-        .iter()
-        .step_by(BLOCK)
-        .map(|entry| entry.addr)
-        .collect(alloc)?;
-    Ok(Blocks::new(addresses))
-}
-
-/// The blocks of symbols that stand by rising address.
-pub(crate) fn blocks_as_listed(alloc: Global, symbols: &[Symbol]) -> Result<Blocks, AllocError> {
-    let addresses = symbols
-        .iter()
-        .step_by(BLOCK)
-        .map(|symbol| symbol.addr)
-        .collect(alloc)?;
-    Ok(Blocks::new(addresses))
-}
-
-/// Whether an address lies from the entry at a place on, and below the one at another place, if
-/// there is one.
-fn is_between(index: &[IndexEntry], from: usize, to: usize, addr: u64) -> bool
-    requires { from < length index.now }
-    ensures { result ≡ true → IsBetween (λ e. e.addr) index.now addr from to }
-{
-    let above = index.get(to).is_none_or(|entry| addr < entry.addr);
-    index[from].addr <= addr && above
-}
-
-/// How many entries are not above the address: sought in the block, where it lies there, and else
-/// among all.
-pub(crate) fn split_at(index: &[IndexEntry], block: Block, addr: u64) -> usize
-    requires { IsNonDecreasingBy (λ e. e.addr) index.now }
-    ensures { IsSplit index.now addr result }
-{
-    let from = block.from;
-    let to = block.to.min(index.len());
-    if from < to && is_between(index, from, to, addr) {
-        from + index[from..to].partition_point(|entry| entry.addr <= addr)
-    } else {
-        index.partition_point(|entry| entry.addr <= addr)
-    }
-}
-
-/// The address of the entry at a place, if there is one.
-pub(crate) fn address_at(index: &[IndexEntry], place: usize) -> Option<u64>
-    ensures { result ≡ option_map (λ e. e.addr) (slice_get index.now place) }
-{
-    index.get(place).map(|entry| entry.addr)
 }
 
 /// The symbol at a place, if there is one.
@@ -148,32 +111,6 @@ pub(crate) fn around_in_index<'s, 'a>(
     (symbol_at(symbols, entry.place), above)
 }
 
-/// Whether an address lies from the symbol at a place on, and below the one at another place, if
-/// there is one.
-fn is_listed_between(symbols: &[Symbol], from: usize, to: usize, addr: u64) -> bool
-    requires { from < length symbols.now }
-    ensures { result ≡ true → IsBetween (λ s. s.addr) symbols.now addr from to }
-{
-    let above = symbols.get(to).is_none_or(|symbol| addr < symbol.addr);
-    let first = &symbols[from];
-    first.addr <= addr && above
-}
-
-/// How many symbols, of those that stand by rising address, are not above the address: sought in
-/// the block, where it lies there, and else among all.
-fn listed_split_at(symbols: &[Symbol], block: Block, addr: u64) -> usize
-    requires { IsRising symbols.now }
-    ensures { IsSplitOf symbols.now addr result }
-{
-    let from = block.from;
-    let to = block.to.min(symbols.len());
-    if from < to && is_listed_between(symbols, from, to, addr) {
-        from + symbols[from..to].partition_point(|symbol| symbol.addr <= addr)
-    } else {
-        symbols.partition_point(|symbol| symbol.addr <= addr)
-    }
-}
-
 /// How many symbols, of those that stand by rising address, are below the address.
 fn listed_below(symbols: &[Symbol], addr: u64) -> usize
     requires { IsRising symbols.now }
@@ -200,13 +137,6 @@ fn first_of_equal(symbols: &[Symbol], place: usize) -> usize
     listed_below(symbols, symbol.addr)
 }
 
-/// The address of the symbol at a place, if there is one.
-fn listed_address_at(symbols: &[Symbol], place: usize) -> Option<u64>
-    ensures { result ≡ option_map (λ s. s.addr) (slice_get symbols.now place) }
-{
-    symbols.get(place).map(|symbol| symbol.addr)
-}
-
 /// The symbols around an address, where they stand by rising address.
 pub(crate) fn around_as_listed<'s, 'a>(
     symbols: &'s [Symbol<'a>],
@@ -217,8 +147,8 @@ pub(crate) fn around_as_listed<'s, 'a>(
     ensures below { option_copied result.0 ≡ symbol_below symbols.now addr }
     ensures above { result.1 ≡ address_above symbols.now addr }
 {
-    let split = listed_split_at(symbols, block, addr);
-    let above = listed_address_at(symbols, split);
+    let split = split_at(symbols, block, addr);
+    let above = address_at(symbols, split);
     if split == 0 {
         return (None, above);
     }

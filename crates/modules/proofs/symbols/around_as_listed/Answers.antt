@@ -7,22 +7,22 @@ use Rattle.modules.proofs.symbols.around_as_listed.Goals as goal
 
 pub returns-then-split-eq0-clause-below : goal.returns-then-split-eq0-clause-below
 returns-then-split-eq0-clause-below c =
-    let parts = subst (λ n. IsSplitOf c.args.symbols.now c.args.addr n) c.if-split-eq0.true c.listed_split_at-split.ensures in
+    let parts = subst (λ n. IsSplitOf c.args.symbols.now c.args.addr n) c.if-split-eq0.true c.split_at-split.ensures in
     sym (none_below c.args.symbols.now c.args.addr parts)
 
 pub returns-then-split-eq0-clause-above : goal.returns-then-split-eq0-clause-above
-returns-then-split-eq0-clause-above c = c.listed_address_at-above.ensures ∙ above_in c.args.symbols.now c.args.addr c.listed_split_at-split.result c.requires c.listed_split_at-split.ensures
+returns-then-split-eq0-clause-above c = c.address_at-above.ensures ∙ above_in c.args.symbols.now c.args.addr c.split_at-split.result c.requires c.split_at-split.ensures
 
 pub returns-clause-below : goal.returns-clause-below
 returns-clause-below c =
     let symbols = c.args.symbols.now in
-    let split : ℕ = c.listed_split_at-split.result in
+    let split : ℕ = c.split_at-split.result in
     let first : ℕ = c.first_of_equal-first.result in
-    let parts = c.listed_split_at-split.ensures in
+    let parts = c.split_at-split.ensures in
     let some : 0 < split = omega arith in
     let s : SymbolEntry = record { addr = 0; name = [] } in
     let is = c.first_of_equal-first.ensures s in
     c.symbol_at.ensures ∙ slice_get-get_or symbols first s (first_within symbols c.args.addr split first s c.requires parts some is) ∙ sym (first_below symbols c.args.addr split first s c.requires parts some is)
 
 pub returns-clause-above : goal.returns-clause-above
-returns-clause-above c = c.listed_address_at-above.ensures ∙ above_in c.args.symbols.now c.args.addr c.listed_split_at-split.result c.requires c.listed_split_at-split.ensures
+returns-clause-above c = c.address_at-above.ensures ∙ above_in c.args.symbols.now c.args.addr c.split_at-split.result c.requires c.split_at-split.ensures
