@@ -145,10 +145,7 @@ fn with_subcommand<'a>(
         → IfOk subcommand.entry (IsCommand added)
         → IfOk result (IsCommand (with_subcommand app added.top)) }
 {
-    match subcommand {
-        Ok(subcommand) => command.subcommand(subcommand),
-        Err(failed) => Err(failed),
-    }
+    command.subcommand(subcommand?)
 }
 
 fn trace_command<'a>(alloc: Global) -> Result<Command<'a>, AllocError>
