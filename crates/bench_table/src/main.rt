@@ -35,7 +35,8 @@ use soak::soak;
 use std::io;
 
 const USAGE: &str =
-    "usage: bench_table r|d|w ITEMS SECONDS, rw|rp ITEMS READERS SECONDS, c|cw ITEMS COUNT, soak SECONDS";
+    "usage: bench_table r|d|w ITEMS SECONDS, rw|rp ITEMS READERS SECONDS, c|cw ITEMS COUNT, \
+     soak SECONDS";
 
 fn main(rt: HostRuntime) -> io::Result<()> {
     let Some(job) = job_of(&rt)? else {

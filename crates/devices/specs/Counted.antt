@@ -23,7 +23,8 @@ after_call n (Err _) = one_failure_more n
 -- the count after a write: an error is a failure, and so is a write of at least one byte that takes
 -- none
 abbrev pub after_write : {E : Type 0} → ℕ → Result ℕ E → List ℕ → ℕ
-after_write n (Ok taken) bytes = if nat_eq taken 0 && nat_lt 0 (length bytes) then one_failure_more n else n
+after_write n (Ok taken) bytes =
+    if nat_eq taken 0 && nat_lt 0 (length bytes) then one_failure_more n else n
 after_write n (Err _) bytes = one_failure_more n
 
 -- no call failed between the two

@@ -27,7 +27,8 @@ abbrev pub AreInPlace : List ℕ → PlacedItems → Type 0
 AreInPlace m placed = AllByRecursion (λ p. item_at m p.0 ≡ p.1) placed
 
 -- where the words of new items stand, these links lead a copy from the old picture to the new
-pub record RelinksCopy (old new : Picture) (placed : PlacedItems) (links : List Store) : Type 0 where
+pub record RelinksCopy (old new : Picture) (placed : PlacedItems) (links : List Store)
+    : Type 0 where
   pub capacity : new.capacity ≡ old.capacity
   pub copy : new.copy ≡ old.copy
   pub links_only : AreLinkStores old.capacity old.copy links
@@ -35,7 +36,8 @@ pub record RelinksCopy (old new : Picture) (placed : PlacedItems) (links : List 
       → IsPictured (words_after_all m links) new
 
 -- and, mirrored, the second copy
-pub record RelinksBoth (old new : Picture) (placed : PlacedItems) (links : List Store) : Type 0 where
+pub record RelinksBoth (old new : Picture) (placed : PlacedItems) (links : List Store)
+    : Type 0 where
   pub zero : RelinksCopy old new placed links
   pub one : RelinksCopy (second_picture old) (second_picture new) placed (mirror_stores links)
 
@@ -44,7 +46,8 @@ pub record RelinksBoth (old new : Picture) (placed : PlacedItems) (links : List 
 pub record PlansBoth (old new : Picture) (seq : ℕ) (placed : PlacedItems) (stores : List Store)
     : Type 0 where
   pub links : List Store
-  pub listed_stores : stores ≡ update_stores seq (stores_of_placed placed) links (mirror_stores links)
+  pub listed_stores : stores
+      ≡ update_stores seq (stores_of_placed placed) links (mirror_stores links)
   pub both : RelinksBoth old new placed links
 
 -- the items of these first words are erased by these links, and their nodes stand after those that

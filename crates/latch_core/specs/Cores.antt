@@ -4,14 +4,18 @@ use Rattle.order_laws.specs.declared.items.Item.{Item}
 use Rattle.order_laws.specs.Orders.{Order}
 use Rattle.word_arena.specs.Words.{root_word, b_word, tag_word, left_word, right_word}
 use Rattle.latch_core.specs.Sequences.{stable_copy_of}
-use Rattle.latch_core.specs.Attempts.{Answer, Again, Reading, Load, AtItem, AtEmptyLink, last_load, after_item, visit, walk, attempt, rest_after, IsAttempt, Stuck as AtStuck}
+use Rattle.latch_core.specs.Attempts.{Answer, Again, Reading, Load, AtItem, AtEmptyLink, last_load}
+use Rattle.latch_core.specs.Attempts.{after_item, visit, walk, attempt, rest_after, IsAttempt}
+use Rattle.latch_core.specs.Attempts.{Stuck as AtStuck}
 use Rattle.latch_core.specs.Whole.{Wants}
 use Rattle.latch_core.specs.declared.readers.ReaderCore.{ReaderCore}
 use Rattle.latch_core.specs.declared.readers.Taken.{Taken}
 use Rattle.latch_core.specs.declared.readers.Taken.TheVariants.{Going, Retrying, Returned}
 use Rattle.latch_core.specs.declared.progress.Progress.{Progress}
 use Rattle.latch_core.specs.declared.progress.Awaited.{Awaited}
-use Rattle.latch_core.specs.declared.progress.Awaited.TheVariants.{First, Root, WordA, WordB, Tag, Left, Right, Found, Missing, Stuck}
+use Rattle.latch_core.specs.declared.progress.Awaited.TheVariants.{First, Root, WordA, WordB, Tag}
+use Rattle.latch_core.specs.declared.progress.Awaited.TheVariants.{Left, Right, Found, Missing}
+use Rattle.latch_core.specs.declared.progress.Awaited.TheVariants.{Stuck}
 
 -- the number of nodes, and the key
 abbrev pub capacity_of_core : {O K : Type 0} → ReaderCore O K → ℕ
@@ -27,7 +31,8 @@ walk_from o k s = walk o s.capacity k s.first s.visits_left
 -- what is left of a key's attempt that stands at a spot, by the place whose value it waits for
 abbrev pub rest_of_attempt : {K : Type 0} → Order K → K → Progress → Awaited → Reading
 rest_of_attempt o k s First = attempt o s.capacity k
-rest_of_attempt o k s Root = Load (root_word (stable_copy_of s.first)) (walk o s.capacity k s.first s.capacity)
+rest_of_attempt o k s Root =
+    Load (root_word (stable_copy_of s.first)) (walk o s.capacity k s.first s.capacity)
 rest_of_attempt o k s WordA = visit o k s.first s.node (walk_from o k s)
 rest_of_attempt o k s WordB =
     Load (b_word s.node) (λ b. Load (tag_word s.node) (λ tag.
@@ -55,7 +60,8 @@ HasTaken o values c =
 -- whatever values led to the core, its attempt goes on with a load of this word
 abbrev pub IsWanted : {O K : Type 0} → Order K → ReaderCore O K → ℕ → Type 0
 IsWanted o c word =
-    (values : List ℕ) → HasTaken o values c → Wants o (capacity_of_core c) (key_of_core c) values word
+    (values : List ℕ) → HasTaken o values c
+    → Wants o (capacity_of_core c) (key_of_core c) values word
 
 -- one value more leads to what the core hands back: to a core that has taken these values, at most
 -- 4n + 2; or to the end of the attempt, after which a core that begins again has taken none

@@ -1,5 +1,6 @@
 -- What stays true at every step.
-use Rattle.std.specs.Prelude.{◌≡◌, ℕ, ◌+◌, ◌-◌, ◌*◌, ◌<◌, ◌≤◌, List, [], ◌∷◌, length, take, Option, Some, None}
+use Rattle.std.specs.Prelude.{◌≡◌, ℕ, ◌+◌, ◌-◌, ◌*◌, ◌<◌, ◌≤◌, List, [], ◌∷◌, length, take, Option}
+use Rattle.std.specs.Prelude.{Some, None}
 use Rattle.latch_core.specs.declared.updates.Update.{Update}
 use Rattle.order_laws.specs.Orders.{Order}
 use Rattle.order_laws.specs.Tables.{IsTable}
@@ -22,14 +23,16 @@ AreTables o n us =
 
 -- a pending update is the last that was accepted; with none pending the sequence counts two for
 -- each
-pub record IsPendingUpdate {K : Type 0} (o : Order K) (start seq : ℕ) (us : List Update) (h : PendingUpdate)
+pub record IsPendingUpdate {K : Type 0} (o : Order K) (start seq : ℕ) (us : List Update)
+    (h : PendingUpdate)
     : Type 0 where
   pub count : seq + 2 ≡ start + 2 * length us + h.flips_made
   pub flips : h.flips_made ≤ 2
   pub last : 0 < length us
   pub old : h.old_table ≡ replay o [] (take (length us - 1) us)
 
-abbrev pub IsPendingOf : {K : Type 0} → Order K → ℕ → ℕ → List Update → Option PendingUpdate → Type 0
+abbrev pub IsPendingOf : {K : Type 0} → Order K → ℕ → ℕ → List Update → Option PendingUpdate
+    → Type 0
 IsPendingOf o start seq us None = seq ≡ start + 2 * length us
 IsPendingOf o start seq us (Some h) = IsPendingUpdate o start seq us h
 
@@ -41,4 +44,5 @@ pub record IsSound {K : Type 0} (o : Order K) (n start : ℕ) (us : List Update)
   pub tables : AreTables o n us
   pub table_is : l.newest_table ≡ replay o [] us
   pub in_hand : IsPendingOf o start (at l.words 0) us l.pending
-  pub current : HoldsTable l.words n (stable_copy_of (at l.words 0)) (current_table o start us l.words)
+  pub current : HoldsTable l.words n (stable_copy_of (at l.words 0))
+      (current_table o start us l.words)

@@ -1,5 +1,6 @@
 -- The writer of a latched tree: which single steps it may make while an update is pending.
-use Rattle.std.specs.Prelude.{◌≡◌, ◌≢◌, ℕ, ◌+◌, ◌-◌, ◌*◌, ◌<◌, ◌⊎◌, List, [], ◌∷◌, length, replicate, Option, Some, None, if◌then◌else◌, ◌==◌}
+use Rattle.std.specs.Prelude.{◌≡◌, ◌≢◌, ℕ, ◌+◌, ◌-◌, ◌*◌, ◌<◌, ◌⊎◌, List, [], ◌∷◌, length}
+use Rattle.std.specs.Prelude.{replicate, Option, Some, None, if◌then◌else◌, ◌==◌}
 use Rattle.order_laws.specs.declared.items.Item.{Item}
 use Rattle.word_arena.specs.declared.stores.Store.{Store}
 use Rattle.order_laws.specs.Orders.{Order}
@@ -44,7 +45,8 @@ pub record IsFirstFlip (n : ℕ) (m : List ℕ) (h : PendingUpdate) (s : Store) 
   pub no_flip : h.flips_made ≡ 0
   pub both_old : BothHold m n h.old_table
 
-pub record IsSecondFlip (n : ℕ) (m : List ℕ) (h : PendingUpdate) (new : List Item) (s : Store) : Type 0 where
+pub record IsSecondFlip (n : ℕ) (m : List ℕ) (h : PendingUpdate) (new : List Item) (s : Store)
+    : Type 0 where
   pub sequence : s.word ≡ 0
   pub adds_one : s.value ≡ at m 0 + 1
   pub is_odd : stable_copy_of (at m 0) ≡ 1
@@ -59,7 +61,8 @@ flips_after flips s = if s.word == 0 then flips + 1 else flips
 pub record IsWriterStep (n : ℕ) (l : Latch) (h : PendingUpdate) (s : Store) : Type 0 where
   pub kind : IsHidden n l.words h.old_words s.word
       ⊎ (IsFirstFlip n l.words h s ⊎ IsSecondFlip n l.words h l.newest_table s)
-  pub at_end : h.steps_left ≡ 1 → (flips_after h.flips_made s ≡ 2) × BothHold (words_after l.words s) n l.newest_table
+  pub at_end : h.steps_left ≡ 1
+      → (flips_after h.flips_made s ≡ 2) × BothHold (words_after l.words s) n l.newest_table
 
 -- and leaves this
 abbrev pub latch_after_step : Latch → PendingUpdate → Store → Latch
@@ -69,17 +72,26 @@ latch_after_step l h s =
       pending =
           if h.steps_left == 1
           then None
-          else Some (record h { flips_made = flips_after h.flips_made s; steps_left = h.steps_left - 1 });
+          else Some (record h {
+            flips_made = flips_after h.flips_made s;
+            steps_left = h.steps_left - 1;
+          });
     }
 
 -- before any step: the sequence at its start, and all other words 0
 abbrev pub opening_latch : ℕ → ℕ → Latch
-opening_latch n start = record { words = start ∷ replicate (7 * n + 2) 0; newest_table = []; pending = None }
+opening_latch n start =
+    record { words = start ∷ replicate (7 * n + 2) 0; newest_table = []; pending = None }
 
 -- an update is accepted; how many steps it takes is the writer's choice
 abbrev pub latch_with_update : {K : Type 0} → Order K → Latch → Update → ℕ → Latch
 latch_with_update o l u left =
     record l {
       newest_table = after o l.newest_table u;
-      pending = Some (record { old_table = l.newest_table; old_words = l.words; flips_made = 0; steps_left = left });
+      pending = Some (record {
+        old_table = l.newest_table;
+        old_words = l.words;
+        flips_made = 0;
+        steps_left = left;
+      });
     }

@@ -6,7 +6,8 @@ use Rattle.latch_core.specs.Latches.{PendingUpdate, Latch, IsWriterStep, latch_a
 -- the writer may make just these steps, one after another, and they end the pending update
 abbrev pub IsPlan : ℕ → Latch → List Store → Type 0
 IsPlan n l [] = l.pending ≡ None
-IsPlan n l (s ∷ ss) = (h : PendingUpdate) × (l.pending ≡ Some h) × IsWriterStep n l h s × IsPlan n (latch_after_step l h s) ss
+IsPlan n l (s ∷ ss) = (h : PendingUpdate) × (l.pending ≡ Some h) × IsWriterStep n l h s
+    × IsPlan n (latch_after_step l h s) ss
 
 -- the store that makes this number the sequence
 abbrev pub flip_to : ℕ → Store

@@ -1,9 +1,12 @@
 -- Updates of a table: what they make of it, and why one is refused.
-use Rattle.std.specs.Prelude.{ℕ, ◌+◌, ◌*◌, Bool, false, not, ◌||◌, List, [], ◌∷◌, ◌++◌, length, Option, Some, None, if◌then◌else◌, ◌==◌, nat_lt}
+use Rattle.std.specs.Prelude.{ℕ, ◌+◌, ◌*◌, Bool, false, not, ◌||◌, List, [], ◌∷◌, ◌++◌, length}
+use Rattle.std.specs.Prelude.{Option, Some, None, if◌then◌else◌, ◌==◌, nat_lt}
 use Rattle.std.specs.List.{list_any}
 use Rattle.order_laws.specs.declared.items.Item.{Item}
 use Rattle.order_laws.specs.declared.refusals.Refusal.{Refusal}
-use Rattle.order_laws.specs.declared.refusals.Refusal.TheVariants.{BadItem, Overlap, NoSuchItem, Full, UpdateInHand, SequenceSpent}
+use Rattle.order_laws.specs.declared.refusals.Refusal.TheVariants.{BadItem, Overlap, NoSuchItem}
+use Rattle.order_laws.specs.declared.refusals.Refusal.TheVariants.{Full, UpdateInHand}
+use Rattle.order_laws.specs.declared.refusals.Refusal.TheVariants.{SequenceSpent}
 use Rattle.order_laws.specs.Orders.{Order}
 use Rattle.order_laws.specs.Tables.{with_item, without_all, has, meets}
 use Rattle.latch_core.specs.declared.updates.Update.{Update}
@@ -91,7 +94,8 @@ failed_test o n table u = first_that_holds (tests_of o n table u)
 
 -- why an update is refused, or none: at n nodes and a greatest sequence, with a pending update or
 -- not, at this table and this sequence, from which two flips more may pass the greatest
-abbrev pub refusal_for : {K : Type 0} → Order K → ℕ → ℕ → Bool → List Item → ℕ → Update → Option Refusal
+abbrev pub refusal_for : {K : Type 0} → Order K → ℕ → ℕ → Bool → List Item → ℕ → Update
+    → Option Refusal
 refusal_for o n limit busy table seq u =
     first_that_holds
     ((busy, UpdateInHand) ∷ tests_of o n table u ++ (nat_lt limit (seq + 2), SequenceSpent) ∷ [])

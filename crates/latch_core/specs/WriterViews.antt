@@ -27,7 +27,10 @@ writer_code =
     (ℕ × (ℕ × (ℕ × (List Item × (Nodes × (Nodes × List Store))))))
     (coded× coded_ℕ (coded× coded_ℕ (coded× coded_ℕ (coded× (coded_list item_code)
     (coded× nodes_code (coded× nodes_code (coded_list store_code)))))))
-    (λ w. (w.capacity, (w.limit, (w.sequence, (w.table, (w.zero_tree, (w.one_tree, w.stores_left)))))))
+    (λ w. (
+      w.capacity,
+      (w.limit, (w.sequence, (w.table, (w.zero_tree, (w.one_tree, w.stores_left))))),
+    ))
     (λ t. record {
       capacity = t.0;
       limit = t.1.0;

@@ -1,5 +1,7 @@
 -- What a writer's core knows of the words, and when it accepts an update.
-use Rattle.std.specs.Prelude.{◌≡◌, ◌⊎◌, ℕ, ◌+◌, ◌*◌, ◌<◌, ◌≤◌, Bool, List, [], ◌∷◌, ◌++◌, length, Option, Some, None, is_some, MatchOption, All, nat_lt, slice_get, drop, if◌then◌else◌, ◌==◌}
+use Rattle.std.specs.Prelude.{◌≡◌, ◌⊎◌, ℕ, ◌+◌, ◌*◌, ◌<◌, ◌≤◌, Bool, List, [], ◌∷◌, ◌++◌, length}
+use Rattle.std.specs.Prelude.{Option, Some, None, is_some, MatchOption, All, nat_lt, slice_get}
+use Rattle.std.specs.Prelude.{drop, if◌then◌else◌, ◌==◌}
 use Rattle.order_laws.specs.declared.refusals.Refusal.{Refusal}
 use Rattle.order_laws.specs.declared.refusals.Refusal.TheVariants.{BadCapacity, OutOfMemory}
 use Rattle.order_laws.specs.Orders.{Order}
@@ -14,7 +16,8 @@ use Rattle.rb_words.specs.Pictures.{Picture}
 use Rattle.latch_core.specs.declared.updates.Update.{Update}
 use Rattle.latch_core.specs.Sequences.{stable_copy_of}
 use Rattle.latch_core.specs.Updates.{refusal_for, after, size_of, most_steps}
-use Rattle.latch_core.specs.Latches.{Latch, PendingUpdate, IsWriterStep, latch_after_step, latch_with_update}
+use Rattle.latch_core.specs.Latches.{Latch, PendingUpdate, IsWriterStep, latch_after_step}
+use Rattle.latch_core.specs.Latches.{latch_with_update}
 use Rattle.latch_core.specs.Plans.{IsPlan}
 use Rattle.latch_core.specs.FreeNodes.{AreAllNodes}
 use Rattle.latch_core.specs.WriterViews.{WriterView}
@@ -33,7 +36,8 @@ why_refused o w u = refusal_for o w.capacity w.limit (has_pending w) w.table w.s
 
 -- why a latch refuses an update, or none: at n nodes and a greatest sequence
 abbrev pub latch_refusal : {K : Type 0} → Order K → ℕ → ℕ → Latch → Update → Option Refusal
-latch_refusal o n limit l u = refusal_for o n limit (is_some l.pending) l.newest_table (at l.words 0) u
+latch_refusal o n limit l u =
+    refusal_for o n limit (is_some l.pending) l.newest_table (at l.words 0) u
 
 -- a memory at rest: both copies hold the core's table, in its trees
 pub record IsMemoryAtRest (w : WriterView) (m : List ℕ) : Type 0 where
@@ -67,13 +71,15 @@ pub record RepresentsLatch (w : WriterView) (l : Latch) : Type 0 where
 abbrev pub MayBeNext : WriterView → Option Store → Type 0
 MayBeNext w next =
     (l : Latch) → RepresentsLatch w l
-    → MatchOption next (l.pending ≡ None) (λ s. (h : PendingUpdate) × (l.pending ≡ Some h) × IsWriterStep w.capacity l h s)
+    → MatchOption next (l.pending ≡ None)
+    (λ s. (h : PendingUpdate) × (l.pending ≡ Some h) × IsWriterStep w.capacity l h s)
 
 -- the next store leads from what the one core pictures to what the other does
 abbrev pub StoresNext : WriterView → WriterView → Type 0
 StoresNext old new =
     (l : Latch) (h : PendingUpdate) (s : Store)
-    → RepresentsLatch old l → l.pending ≡ Some h → next_store old ≡ Some s → RepresentsLatch new (latch_after_step l h s)
+    → RepresentsLatch old l → l.pending ≡ Some h → next_store old ≡ Some s
+    → RepresentsLatch new (latch_after_step l h s)
 
 -- the latch that is pictured refuses what the core refuses
 abbrev pub RefusesAsRepresented : {K : Type 0} → Order K → WriterView → Update → Type 0
@@ -114,7 +120,8 @@ sequence_after seq s = if s.word == 0 then s.value else seq
 
 -- the core after its next store was made
 abbrev pub writer_after_step : WriterView → Store → WriterView
-writer_after_step w s = record w { sequence = sequence_after w.sequence s; stores_left = drop 1 w.stores_left }
+writer_after_step w s =
+    record w { sequence = sequence_after w.sequence s; stores_left = drop 1 w.stores_left }
 
 -- Both copies are in step: they list the same nodes with the same items, and these and the free
 -- nodes are all that there are. The stores that are left lie in the memory.
@@ -142,4 +149,5 @@ pub record HasBegun {K : Type 0} (o : Order K) (old : WriterView) (u : Update) (
   pub few : length new.stores_left ≤ most_steps old.capacity u
   -- at most 16 for each item in each copy, and two flips
   pub short : length new.stores_left ≤ 2 * (16 * size_of u) + 2
-  pub pictures : (l : Latch) → RepresentsLatch old l → RepresentsLatch new (latch_with_update o l u (length new.stores_left))
+  pub pictures : (l : Latch) → RepresentsLatch old l
+      → RepresentsLatch new (latch_with_update o l u (length new.stores_left))

@@ -38,7 +38,8 @@ ghost use Rattle.latch_core.specs.Whole.{outcome_in, loads_in, outcome_of};
 /// sequence is counted and not made.
 pub fn attempt_in<O: TreeOrder>(words: &[u64], l: Layout, key: O::Key) -> (Attempted, u32)
     requires { length words.now ≡ words_for (capacity_of l) }
-    ensures outcome { outcome_of result.0 ≡ outcome_in words.now (attempt O.order (capacity_of l) key) }
+    ensures outcome { outcome_of result.0
+        ≡ outcome_in words.now (attempt O.order (capacity_of l) key) }
     ensures loads { result.1 ≡ loads_in words.now (attempt O.order (capacity_of l) key) }
 {
     let first = words[0];

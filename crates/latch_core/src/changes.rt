@@ -1,13 +1,16 @@
 //! Several changes of one update, planned one after another.
 
-ghost use Rattle.std.specs.Prelude.{◌≡◌, ◌+◌, ◌*◌, ◌<◌, ◌≤◌, ◌++◌, [], false, List, length, take, drop, vec_len, vec_capacity};
+ghost use Rattle.std.specs.Prelude.{◌≡◌, ◌+◌, ◌*◌, ◌<◌, ◌≤◌, ◌++◌, [], false, List, length, take};
+ghost use Rattle.std.specs.Prelude.{drop, vec_len, vec_capacity};
 ghost use Rattle.order_laws.specs.Orders.{Order};
 ghost use Rattle.word_arena.specs.declared.stores.Store.{Store};
 ghost use Rattle.word_arena.specs.Words.{listed};
 ghost use Rattle.rb_words.specs.Pictures.{IsPicture};
-ghost use Rattle.latch_core.specs.Updates.{some_missing, some_twice, some_invalid, some_overlap, some_meet};
+ghost use Rattle.latch_core.specs.Updates.{some_missing, some_twice, some_invalid, some_overlap};
+ghost use Rattle.latch_core.specs.Updates.{some_meet};
 ghost use Rattle.latch_core.specs.FreeNodes.{AreAllNodes};
-ghost use Rattle.latch_core.specs.Changes.{PlacedItems, stores_of_placed, ErasesWords, InsertsItems};
+ghost use Rattle.latch_core.specs.Changes.{PlacedItems, stores_of_placed, ErasesWords};
+ghost use Rattle.latch_core.specs.Changes.{InsertsItems};
 
 use crate::plans::{ITEM_STORES, Plan};
 use order_laws::{Item, TreeOrder};
@@ -74,7 +77,8 @@ pub fn plan_inserts<O: TreeOrder>(
         (take fresh free.old.items) free.new.items }
     ensures few { length plan.new.stores_left + vec_len links.new
         ≤ length plan.old.stores_left + vec_len links.old + length insert.now * STORES }
-    ensures plan_len { length plan.new.stores_left ≡ length plan.old.stores_left + length insert.now * 3 }
+    ensures plan_len { length plan.new.stores_left
+        ≡ length plan.old.stores_left + length insert.now * 3 }
     ensures plan_room_left { plan.new.room + length insert.now * 3 ≡ plan.old.room }
     ensures free_capacity { vec_capacity free.new ≡ vec_capacity free.old }
     ensures sound { IsPicture O.order shape.new }

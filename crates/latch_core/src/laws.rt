@@ -1,7 +1,8 @@
 //! What holds of every attempt and of every step of a writer, as contracts of functions that do
 //! nothing.
 
-ghost use Rattle.std.specs.Prelude.{◌≡◌, ℕ, ◌+◌, ◌*◌, ◌^◌, ◌<◌, ◌≤◌, ◌⊎◌, false, List, [], ◌∷◌, ◌++◌, length, Some, None};
+ghost use Rattle.std.specs.Prelude.{◌≡◌, ℕ, ◌+◌, ◌*◌, ◌^◌, ◌<◌, ◌≤◌, ◌⊎◌, false, List, [], ◌∷◌};
+ghost use Rattle.std.specs.Prelude.{◌++◌, length, Some, None};
 ghost use Rattle.order_laws.specs.declared.items.Item.{Item};
 ghost use Rattle.order_laws.specs.Tables.{IsTable, look};
 ghost use Rattle.word_arena.specs.declared.stores.Store.{Store};
@@ -11,9 +12,11 @@ ghost use Rattle.latch_core.specs.declared.updates.Update.{Update};
 ghost use Rattle.rb_trees.specs.Trees.{CanBeRedBlack, depth};
 ghost use Rattle.latch_core.specs.Sequences.{generation_of, stable_copy_of};
 ghost use Rattle.latch_core.specs.Updates.{refusal_for};
-ghost use Rattle.latch_core.specs.Attempts.{Reading, Load, Outcome, Answer, attempt, rest_after, IsAttempt, Stand};
+ghost use Rattle.latch_core.specs.Attempts.{Reading, Load, Outcome, Answer, attempt, rest_after};
+ghost use Rattle.latch_core.specs.Attempts.{IsAttempt, Stand};
 ghost use Rattle.latch_core.specs.Whole.{GoesOn};
-ghost use Rattle.latch_core.specs.Latches.{Latch, PendingUpdate, IsWriterStep, latch_after_step, latch_with_update, opening_latch};
+ghost use Rattle.latch_core.specs.Latches.{Latch, PendingUpdate, IsWriterStep, latch_after_step};
+ghost use Rattle.latch_core.specs.Latches.{latch_with_update, opening_latch};
 ghost use Rattle.latch_core.specs.Invariants.{IsStanding, IsSound};
 ghost use Rattle.latch_core.specs.Widening.{widened_latch};
 
@@ -85,7 +88,8 @@ pub fn loaded_values_stand<O: TreeOrder>()
 
 /// A step of the writer leaves the sequence as it is, or adds 1.
 pub fn sequence_never_falls()
-    ensures { (n : ℕ) (l : Latch) (h : PendingUpdate) (s : Store) → 0 < length l.words → IsWriterStep n l h s
+    ensures { (n : ℕ) (l : Latch) (h : PendingUpdate) (s : Store) → 0 < length l.words
+        → IsWriterStep n l h s
         → (at (words_after l.words s) 0 ≡ at l.words 0)
         ⊎ (at (words_after l.words s) 0 ≡ at l.words 0 + 1) }
 {}

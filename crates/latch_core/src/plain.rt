@@ -3,8 +3,10 @@
 ghost use Rattle.std.specs.Prelude.{◌≡◌, [], None, Some, if◌then◌else◌, IfOk};
 ghost use Rattle.order_laws.specs.Tables.{has, meets, without_all};
 ghost use Rattle.word_arena.specs.Layouts.{capacity_of, limit_of};
-ghost use Rattle.latch_core.specs.Updates.{failed_test, refusal_for, some_invalid, some_missing, some_twice, cannot_erase};
-ghost use Rattle.latch_core.specs.Updates.{some_overlap, some_meet, cannot_insert, with_items, after};
+ghost use Rattle.latch_core.specs.Updates.{failed_test, refusal_for, some_invalid, some_missing};
+ghost use Rattle.latch_core.specs.Updates.{some_twice, cannot_erase};
+ghost use Rattle.latch_core.specs.Updates.{some_overlap, some_meet, cannot_insert, with_items};
+ghost use Rattle.latch_core.specs.Updates.{after};
 ghost use Rattle.latch_core.specs.Histories.{replay};
 
 use crate::sequences::is_spent;

@@ -1,6 +1,8 @@
 //! The stores of an update, in the order in which they are made.
 
-ghost use Rattle.std.specs.Prelude.{◌≡◌, ◌+◌, ◌-◌, ◌*◌, ◌^◌, ◌<◌, ◌≤◌, ◌++◌, ◌∷◌, [], true, false, Some, None, IsSome, IfSome, is_some, OnOk, IfErr, Contains, take, drop, length, slice_get, vec_len, vec_capacity};
+ghost use Rattle.std.specs.Prelude.{◌≡◌, ◌+◌, ◌-◌, ◌*◌, ◌^◌, ◌<◌, ◌≤◌, ◌++◌, ◌∷◌, [], true, false};
+ghost use Rattle.std.specs.Prelude.{Some, None, IsSome, IfSome, is_some, OnOk, IfErr, Contains};
+ghost use Rattle.std.specs.Prelude.{take, drop, length, slice_get, vec_len, vec_capacity};
 ghost use Rattle.order_laws.specs.Tables.{has, meets};
 ghost use Rattle.word_arena.specs.declared.stores.Store.{Store};
 ghost use Rattle.word_arena.specs.Layouts.{capacity_of};

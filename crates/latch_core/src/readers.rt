@@ -34,7 +34,9 @@ pub enum Taken<O: TreeOrder> {
 }
 
 impl<O: TreeOrder> ReaderCore<O> {
-    ghost use Rattle.latch_core.specs.Cores.{capacity_of_core, key_of_core, walk_from, rest_of_core, HasTaken, IsWanted, TakesTo, most_loads_left, IsSameLookup, IsShorter, StartsAgain};
+    ghost use Rattle.latch_core.specs.Cores.{capacity_of_core, key_of_core, walk_from};
+    ghost use Rattle.latch_core.specs.Cores.{rest_of_core, HasTaken, IsWanted, TakesTo};
+    ghost use Rattle.latch_core.specs.Cores.{most_loads_left, IsSameLookup, IsShorter, StartsAgain};
 
     /// A lookup of `k` that was given nothing yet.
     pub fn start(l: Layout, k: O::Key) -> Self
@@ -95,7 +97,8 @@ impl<O: TreeOrder> ReaderCore<O> {
         ensures capacity { capacity_of_core result ≡ capacity_of_core self }
         ensures key { key_of_core result ≡ key_of_core self }
         ensures shorter { most_loads_left result ≤ 4 * self.progress.visits_left + 1 }
-        ensures leads { rest_of_core O.order result ≡ walk_from O.order self.key self.progress link }
+        ensures leads { rest_of_core O.order result
+            ≡ walk_from O.order self.key self.progress link }
     {
         if link == 0 {
             self.progress.awaited = Awaited::Missing;
@@ -177,7 +180,11 @@ impl<O: TreeOrder> ReaderCore<O> {
     /// The item of the node in hand, as it was loaded.
     fn item(&self) -> Item
         ensures { result
-            ≡ record { a = self.now.progress.a; b = self.now.progress.b; tag = self.now.progress.tag } }
+            ≡ record {
+              a = self.now.progress.a;
+              b = self.now.progress.b;
+              tag = self.now.progress.tag;
+            } }
     {
         Item {
             a: self.progress.a,

@@ -1,6 +1,8 @@
 //! The writer of a latched tree, which hands out one store at a time.
 
-ghost use Rattle.std.specs.Prelude.{◌≡◌, false, ◌↔◌, ◌+◌, ◌*◌, ◌<◌, ◌≤◌, [], Some, None, ◌||◌, IsTrue, IsSome, IfSome, IfOk, IfErr, OnOk, OnErr, length, vec_len, vec_capacity, IfNone, OnSome};
+ghost use Rattle.std.specs.Prelude.{◌≡◌, false, ◌↔◌, ◌+◌, ◌*◌, ◌<◌, ◌≤◌, [], Some, None, ◌||◌};
+ghost use Rattle.std.specs.Prelude.{IsTrue, IsSome, IfSome, IfOk, IfErr, OnOk, OnErr, length};
+ghost use Rattle.std.specs.Prelude.{vec_len, vec_capacity, IfNone, OnSome};
 ghost use Rattle.order_laws.specs.Tables.{has, without_all};
 ghost use Rattle.word_arena.specs.declared.stores.Store.{Store};
 ghost use Rattle.word_arena.specs.Layouts.{capacity_of, limit_of};
@@ -8,11 +10,16 @@ ghost use Rattle.word_arena.specs.Limits.{most_nodes};
 ghost use Rattle.word_arena.specs.Words.{at, words_for};
 ghost use Rattle.rb_words.specs.Pictures.{IsPicture};
 ghost use Rattle.latch_core.specs.Sequences.{generation_of};
-ghost use Rattle.latch_core.specs.Updates.{failed_test, some_invalid, some_missing, some_meet, cannot_erase, cannot_insert};
+ghost use Rattle.latch_core.specs.Updates.{failed_test, some_invalid, some_missing, some_meet};
+ghost use Rattle.latch_core.specs.Updates.{cannot_erase, cannot_insert};
 ghost use Rattle.std.specs.List.Sorted.{IsNonDecreasing};
 ghost use Rattle.latch_core.specs.Latches.{Latch, PendingUpdate, latch_after_step, opening_latch};
-ghost use Rattle.latch_core.specs.Writers.{next_store, why_refused, IsRefusedBy, RefusesAsRepresented, MayOpen, IsOpeningRefused, RepresentsLatch, MayBeNext, StoresNext, HasBegun, opening_writer, writer_after_step};
-ghost use Rattle.latch_core.specs.Widening.{why_not_widened, widened_writer, RepresentsWidened, IsWideningRefused};
+ghost use Rattle.latch_core.specs.Writers.{next_store, why_refused, IsRefusedBy};
+ghost use Rattle.latch_core.specs.Writers.{RefusesAsRepresented, MayOpen, IsOpeningRefused};
+ghost use Rattle.latch_core.specs.Writers.{RepresentsLatch, MayBeNext, StoresNext, HasBegun};
+ghost use Rattle.latch_core.specs.Writers.{opening_writer, writer_after_step};
+ghost use Rattle.latch_core.specs.Widening.{why_not_widened, widened_writer, RepresentsWidened};
+ghost use Rattle.latch_core.specs.Widening.{IsWideningRefused};
 
 use crate::changes::{plan_erases, plan_inserts};
 use crate::clashes::{in_order, some_overlap, some_twice};
@@ -67,7 +74,8 @@ impl<O: TreeOrder> Model for WriterCore<O> {
     } };
 
     ghost invariant = { λ w.
-        AreInStep (capacity_of w.layout) w.shape (second_picture w.shape) w.free.items w.plan.stores_left
+        AreInStep (capacity_of w.layout) w.shape
+        (second_picture w.shape) w.free.items w.plan.stores_left
         × (capacity_of w.layout ≤ vec_capacity w.free) };
 }
 
@@ -79,7 +87,8 @@ impl<O: TreeOrder> WriterCore<O> {
     pub fn open(alloc: Global, l: Layout, start: u64) -> Result<Self, Refusal>
         ensures opened { IfOk result (λ w. w ≡ opening_writer l start) }
         ensures may { IfOk result (λ w. MayOpen l start) }
-        ensures pictures { IfOk result (λ w. RepresentsLatch w (opening_latch (capacity_of l) start)) }
+        ensures pictures { IfOk result
+            (λ w. RepresentsLatch w (opening_latch (capacity_of l) start)) }
         ensures refusal { IfErr result (IsOpeningRefused l start) }
     {
         if start % 2 == 1 || start > l.limit() {
@@ -192,7 +201,8 @@ impl<O: TreeOrder> WriterCore<O> {
     /// Whether no update is pending, and two flips more keep within the greatest sequence.
     #[inline(always)]
     fn is_ready(&self) -> bool
-        ensures { IsTrue result → (self.now.stores_left ≡ []) × (self.now.sequence + 2 ≤ self.now.limit) }
+        ensures { IsTrue result
+            → (self.now.stores_left ≡ []) × (self.now.sequence + 2 ≤ self.now.limit) }
     {
         self.plan.remaining() == 0 && !is_spent(self.layout, self.sequence)
     }
@@ -379,7 +389,8 @@ impl<O: TreeOrder> WriterCore<O> {
     /// The inserted items go into nodes that were free before, so none goes into a node that is
     /// erased here.
     fn batch(&mut self, erase: &[u64], insert: &[Item]) -> Result<(), Refusal>
-        requires accepted { why_refused O.order self.old (Update.Batch erase.now insert.now) ≡ None }
+        requires accepted { why_refused O.order self.old (Update.Batch erase.now insert.now)
+            ≡ None }
         ensures begun { OnOk result
             (HasBegun O.order self.old (Update.Batch erase.now insert.now) self.new) }
         ensures refusal { IfErr result (λ e. e ≡ Refusal.OutOfMemory) }
@@ -440,7 +451,8 @@ impl<O: TreeOrder> WriterCore<O> {
         ensures may { MayBeNext self.old result }
         ensures same { (self.new.capacity ≡ self.old.capacity)
             × (self.new.limit ≡ self.old.limit) × (self.new.table ≡ self.old.table) }
-        ensures left { OnSome result (length self.new.stores_left + 1 ≡ length self.old.stores_left) }
+        ensures left { OnSome result
+            (length self.new.stores_left + 1 ≡ length self.old.stores_left) }
         ensures stepped { IfSome result (λ s. self.new ≡ writer_after_step self.old s) }
         ensures pictures { StoresNext self.old self.new }
         ensures none { IfNone result (self.new ≡ self.old) }
@@ -469,7 +481,8 @@ impl<O: TreeOrder> WriterCore<O> {
     /// How many stores are left until the pending update is at its end; 0 where none is pending.
     pub fn remaining(&self) -> u64
         ensures count { result ≡ length self.now.stores_left }
-        ensures left { (l : Latch) (h : PendingUpdate) → RepresentsLatch self.now l → l.pending ≡ Some h
+        ensures left { (l : Latch) (h : PendingUpdate) → RepresentsLatch self.now l
+            → l.pending ≡ Some h
             → h.steps_left ≡ result }
     {
         self.plan.remaining()
@@ -478,7 +491,8 @@ impl<O: TreeOrder> WriterCore<O> {
     /// The generation of the sequence.
     pub fn generation(&self) -> u64
         ensures is { result ≡ generation_of self.now.sequence }
-        ensures pictured { (l : Latch) → RepresentsLatch self.now l → result ≡ generation_of (at l.words 0) }
+        ensures pictured { (l : Latch) → RepresentsLatch self.now l
+            → result ≡ generation_of (at l.words 0) }
     {
         generation(self.sequence)
     }
@@ -486,7 +500,8 @@ impl<O: TreeOrder> WriterCore<O> {
     /// Whether an item of the table after all accepted updates has this first word.
     pub fn holds(&self, a: u64) -> bool
         ensures is { result ≡ has a self.now.table }
-        ensures pictured { (l : Latch) → RepresentsLatch self.now l → result ≡ has a l.newest_table }
+        ensures pictured { (l : Latch) → RepresentsLatch self.now l
+            → result ≡ has a l.newest_table }
     {
         self.shape.has(a)
     }
@@ -494,7 +509,8 @@ impl<O: TreeOrder> WriterCore<O> {
     /// How many items the table after all accepted updates has.
     pub fn len(&self) -> u32
         ensures is { result ≡ length self.now.table }
-        ensures pictured { (l : Latch) → RepresentsLatch self.now l → result ≡ length l.newest_table }
+        ensures pictured { (l : Latch) → RepresentsLatch self.now l
+            → result ≡ length l.newest_table }
     {
         self.shape.len()
     }

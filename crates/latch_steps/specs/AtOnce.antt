@@ -1,6 +1,7 @@
 -- What a world does at once: the writer's steps up to the end of an update, and a lookup from its
 -- start to its return.
-use Rattle.std.specs.Prelude.{◌≡◌, ℕ, ◌+◌, ◌≤◌, List, [], ◌∷◌, ◌++◌, Option, None, Result, IfErr, is_some, ◌⊎◌, true, ◌≢◌, ◌*◌, length}
+use Rattle.std.specs.Prelude.{◌≡◌, ℕ, ◌+◌, ◌≤◌, List, [], ◌∷◌, ◌++◌, Option, None, Result, IfErr}
+use Rattle.std.specs.Prelude.{is_some, ◌⊎◌, true, ◌≢◌, ◌*◌, length}
 use Rattle.std.specs.FinMap.{get}
 use Rattle.latch_core.specs.declared.updates.Update.{Update}
 use Rattle.order_laws.specs.declared.items.Item.{Item}
@@ -81,7 +82,8 @@ IsNotBegun o h r why new =
 -- an attempt in the world's words gives this, of this generation, after so many loads
 pub record LooksUp {O K : Type 0} (o : Order K) (c : World O K) (k : K) (answer : Option Item)
     (g loads : ℕ) : Type 0 where
-  pub comes_to : outcome_in c.words.items (attempt o (capacity_of (layout_in c)) k) ≡ Answer answer g
+  pub comes_to : outcome_in c.words.items (attempt o (capacity_of (layout_in c)) k)
+      ≡ Answer answer g
   pub counts : loads_in c.words.items (attempt o (capacity_of (layout_in c)) k) ≡ loads
 
 -- the words are not those of its layout, or no attempt in them gives an answer
@@ -96,7 +98,8 @@ SettlesFromAny {O} {K} o old new = (w : Moment K) → RepresentsMoment o old w �
 
 abbrev pub FindsFromAny :
     {O K : Type 0} → Order K → World O K → ℕ → K → World O K → Returned K → Type 0
-FindsFromAny {O} {K} o old r k new x = (w : Moment K) → RepresentsMoment o old w → FindsNow o old w r k x new
+FindsFromAny {O} {K} o old r k new x =
+    (w : Moment K) → RepresentsMoment o old w → FindsNow o old w r k x new
 
 -- and after whatever updates the old world is
 abbrev pub IsSettledFromAny : {O K : Type 0} → Order K → World O K → World O K → Type 0

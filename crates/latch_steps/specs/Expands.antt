@@ -1,10 +1,15 @@
 -- The events that a list of commands stands for.
-use Rattle.std.specs.Prelude.{◌≡◌, ℕ, ◌-◌, ◌<◌, Bool, true, false, ◌||◌, List, [], ◌∷◌, ◌++◌, Option, Some, None, is_none, if◌then◌else◌}
+use Rattle.std.specs.Prelude.{◌≡◌, ℕ, ◌-◌, ◌<◌, Bool, true, false, ◌||◌, List, [], ◌∷◌, ◌++◌}
+use Rattle.std.specs.Prelude.{Option, Some, None, is_none, if◌then◌else◌}
 use Rattle.std.specs.FinMap.{get}
 use Rattle.latch_steps.specs.declared.events.Event.{Event}
 use Rattle.latch_steps.specs.declared.events.Event.TheVariants.{Begin, Write, Start, Read}
 use Rattle.latch_steps.specs.declared.commands.Command.{Command}
-use Rattle.latch_steps.specs.declared.commands.Command.TheVariants.{Begin as BeginCommand, Write as WriteCommand, WriteFlip, WriteEnd, Start as StartCommand, Read as ReadCommand}
+use Rattle.latch_steps.specs.declared.commands.Command.TheVariants.{Begin as BeginCommand}
+use Rattle.latch_steps.specs.declared.commands.Command.TheVariants.{Write as WriteCommand}
+use Rattle.latch_steps.specs.declared.commands.Command.TheVariants.{WriteFlip, WriteEnd}
+use Rattle.latch_steps.specs.declared.commands.Command.TheVariants.{Start as StartCommand}
+use Rattle.latch_steps.specs.declared.commands.Command.TheVariants.{Read as ReadCommand}
 use Rattle.latch_steps.specs.declared.replies.Reply.{Reply}
 use Rattle.latch_steps.specs.declared.replies.Reply.TheVariants.{Returned as ReturnedReply}
 use Rattle.latch_core.specs.Latches.{PendingUpdate}

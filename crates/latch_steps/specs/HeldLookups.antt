@@ -45,7 +45,8 @@ pub record LoadsOn {O K : Type 0} (m : Machine K) (w : Moment K) (r most : ℕ)
   pub steps : Run m w run
   pub repeats : Repeats (ReadCommand r most) most run
   pub notes : notes_of run ≡ end_notes loads.held
-  pub holding : ChangesOneLookup m.order m.capacity w (last_of w run) r (lookup_of loads.held) loads.events
+  pub holding : ChangesOneLookup m.order m.capacity w (last_of w run) r
+      (lookup_of loads.held) loads.events
 
 -- they came to it from each moment of these words that has this pending lookup, after so many
 -- events

@@ -22,7 +22,8 @@ pub record IsLookupOf {O K : Type 0} (o : Order K) (n : ℕ) (c : Lookup O K)
   pub attempts : c.attempts ≡ l.attempts
 
 -- a reader has this pending lookup, or none
-abbrev pub IsPendingLookup : {O K : Type 0} → Order K → ℕ → Option (Lookup O K) → Option (PendingLookup K)
+abbrev pub IsPendingLookup : {O K : Type 0} → Order K → ℕ → Option (Lookup O K)
+    → Option (PendingLookup K)
     → Type 0
 IsPendingLookup o n None None = Unit {0}
 IsPendingLookup o n (Some c) (Some l) = IsLookupOf o n c l
@@ -42,9 +43,11 @@ LoadsTo {O} {K} o n words r last l (Retrying c) =
     (next : PendingLookup K) × IsLookupOf o n c next
     × ((w : Moment K) → w.latch.words ≡ words → after_load o n w r l ≡ Retries next)
 LoadsTo {O} {K} o n words r last l (Returned x) =
-    (w : Moment K) → w.latch.words ≡ words → counted_up w.events ≡ last → after_load o n w r l ≡ Returns x
+    (w : Moment K) → w.latch.words ≡ words → counted_up w.events ≡ last
+    → after_load o n w r l ≡ Returns x
 
 -- so from whatever lookup of the definitions the code's is
-abbrev pub LoadsFromAny : {O K : Type 0} → Order K → Lookup O K → List ℕ → ℕ → ℕ → Loaded O K → Type 0
+abbrev pub LoadsFromAny : {O K : Type 0} → Order K → Lookup O K → List ℕ → ℕ → ℕ → Loaded O K
+    → Type 0
 LoadsFromAny {O} {K} o c words r last loaded =
     (n : ℕ) (l : PendingLookup K) → IsLookupOf o n c l → LoadsTo o n words r last l loaded

@@ -1,5 +1,6 @@
 -- What is promised of a lookup that the writer leaves alone.
-use Rattle.std.specs.Prelude.{◌≡◌, ℕ, ◌+◌, ◌-◌, ◌*◌, ◌<◌, ◌≤◌, Bool, true, false, List, [], ◌∷◌, length, take, drop, count_by, if◌then◌else◌, ◌==◌}
+use Rattle.std.specs.Prelude.{◌≡◌, ℕ, ◌+◌, ◌-◌, ◌*◌, ◌<◌, ◌≤◌, Bool, true, false, List, [], ◌∷◌}
+use Rattle.std.specs.Prelude.{length, take, drop, count_by, if◌then◌else◌, ◌==◌}
 use Rattle.std.specs.List.{AllByRecursion}
 use Rattle.order_laws.specs.declared.items.Item.{Item}
 use Rattle.order_laws.specs.Orders.{Order}
@@ -8,7 +9,8 @@ use Rattle.latch_core.specs.Histories.{current_table}
 use Rattle.latch_steps.specs.declared.events.Event.{Event}
 use Rattle.latch_steps.specs.declared.events.Event.TheVariants.{Start, Read}
 use Rattle.latch_steps.specs.declared.replies.Reply.{Reply}
-use Rattle.latch_steps.specs.declared.replies.Reply.TheVariants.{Wrote, Started, Loaded, Returned as ReturnedReply}
+use Rattle.latch_steps.specs.declared.replies.Reply.TheVariants.{Wrote, Started, Loaded}
+use Rattle.latch_steps.specs.declared.replies.Reply.TheVariants.{Returned as ReturnedReply}
 use Rattle.latch_steps.specs.Runs.{Done, history}
 
 -- whether the writer made a step
@@ -60,7 +62,8 @@ most_loads table = 4 * length table + 3
 abbrev pub AreUndisturbed : {K : Type 0} → Order K → ℕ → List Update → List (Done K) → Type 0
 AreUndisturbed o start us [] = Unit {0}
 AreUndisturbed o start us (d ∷ rest) =
-    ReturnsFromStart (most_loads (current_table o start us d.after.latch.words)) d.event d.reply rest
+    ReturnsFromStart
+    (most_loads (current_table o start us d.after.latch.words)) d.event d.reply rest
     × AreUndisturbed o start us rest
 
 -- how many flips there were after event number i, up to and with event number j

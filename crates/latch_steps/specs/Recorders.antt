@@ -1,5 +1,6 @@
 -- What a recorder keeps of a run.
-use Rattle.std.specs.Prelude.{◌≡◌, ℕ, ◌<◌, ◌^◌, List, [], ◌∷◌, ◌++◌, length, replicate, Bool, ◌&&◌, ◌||◌, is_none}
+use Rattle.std.specs.Prelude.{◌≡◌, ℕ, ◌<◌, ◌^◌, List, [], ◌∷◌, ◌++◌, length, replicate, Bool, ◌&&◌}
+use Rattle.std.specs.Prelude.{◌||◌, is_none}
 use Rattle.std.specs.FinMap.{get}
 use Rattle.latch_steps.specs.declared.events.Event.{Event}
 use Rattle.latch_steps.specs.declared.events.Event.TheVariants.{Write}
@@ -10,7 +11,8 @@ use Rattle.word_arena.specs.Layouts.{capacity_of}
 use Rattle.latch_core.specs.Writers.{MayOpen}
 use Rattle.latch_steps.specs.Runs.{Moment, Done, step_done, last_of, opening}
 use Rattle.latch_steps.specs.Steps.{Run}
-use Rattle.latch_steps.specs.Worlds.{RepresentsMoment, layout_in, machine_in, HasSequence, CountsExactly}
+use Rattle.latch_steps.specs.Worlds.{RepresentsMoment, layout_in, machine_in, HasSequence}
+use Rattle.latch_steps.specs.Worlds.{CountsExactly}
 use Rattle.latch_steps.specs.Traces.{kept, events_of, notes_of}
 use Rattle.latch_steps.specs.Expands.{Repeats, event_of, ends, most_of, reads_within}
 use Rattle.latch_steps.specs.declared.commands.Command.{Command}

@@ -12,14 +12,17 @@ use Rattle.latch_steps.specs.declared.events.Event.{Event}
 use Rattle.latch_steps.specs.declared.events.Event.TheVariants.{Begin, Write, Start, Read}
 use Rattle.latch_steps.specs.declared.replies.Returned.{Returned}
 use Rattle.latch_steps.specs.declared.replies.Reply.{Reply}
-use Rattle.latch_steps.specs.declared.replies.Reply.TheVariants.{Begun, Wrote, Idle, Started, Loaded, Retried, Returned as ReturnedReply, Refused}
+use Rattle.latch_steps.specs.declared.replies.Reply.TheVariants.{Begun, Wrote, Idle, Started}
+use Rattle.latch_steps.specs.declared.replies.Reply.TheVariants.{Loaded, Retried}
+use Rattle.latch_steps.specs.declared.replies.Reply.TheVariants.{Returned as ReturnedReply, Refused}
 use Rattle.order_laws.specs.Orders.{Order}
 use Rattle.latch_core.specs.Updates.{most_steps}
 use Rattle.latch_core.specs.Writers.{latch_refusal}
 use Rattle.word_arena.specs.Layouts.{capacity_of, limit_of}
 use Rattle.word_arena.specs.Words.{at}
 use Rattle.latch_core.specs.Attempts.{Answer, Again, Reading, Load, Ends, attempt, rest_after}
-use Rattle.latch_core.specs.Latches.{PendingUpdate, Latch, IsWriterStep, latch_after_step, latch_with_update}
+use Rattle.latch_core.specs.Latches.{PendingUpdate, Latch, IsWriterStep, latch_after_step}
+use Rattle.latch_core.specs.Latches.{latch_with_update}
 use Rattle.latch_steps.specs.Runs.{PendingLookup, Moment, Done}
 
 -- a step machine: the order of its items, how many nodes it has, and its greatest sequence
@@ -61,7 +64,8 @@ IsBegin o n w u None reply w' =
     × (reply ≡ Begun left) × (w' ≡ with_latch w (latch_with_update o w.latch u left))
 
 -- A write: idle with no pending update, else one writer step
-abbrev pub IsWrite : {K : Type 0} → ℕ → Moment K → Option PendingUpdate → Reply K → Moment K → Type 0
+abbrev pub IsWrite : {K : Type 0} → ℕ → Moment K → Option PendingUpdate → Reply K → Moment K
+    → Type 0
 IsWrite n w None reply w' = (reply ≡ Idle) × (w' ≡ with_event w)
 IsWrite n w (Some h) reply w' =
     (s : Store) × IsWriterStep n w.latch h s
@@ -83,7 +87,8 @@ abbrev pub with_value : {K : Type 0} → PendingLookup K → ℕ → PendingLook
 with_value l value = record l { loads = counted_up l.loads; values = l.values ++ value ∷ [] }
 
 abbrev pub next_attempt : {K : Type 0} → PendingLookup K → PendingLookup K
-next_attempt l = record l { loads = counted_up l.loads; attempts = counted_up l.attempts; values = [] }
+next_attempt l =
+    record l { loads = counted_up l.loads; attempts = counted_up l.attempts; values = [] }
 
 abbrev pub return_of : {K : Type 0} → Moment K → ℕ → PendingLookup K → Option Item → ℕ → Returned K
 return_of w r l x g =

@@ -1,10 +1,12 @@
 -- What a trace says of the run that it is of.
-use Rattle.std.specs.Prelude.{◌≡◌, ℕ, Bool, true, false, List, [], ◌∷◌, Option, Some, None, filter_map}
+use Rattle.std.specs.Prelude.{◌≡◌, ℕ, Bool, true, false, List, [], ◌∷◌, Option, Some, None}
+use Rattle.std.specs.Prelude.{filter_map}
 use Rattle.latch_steps.specs.declared.events.Event.{Event}
 use Rattle.latch_steps.specs.declared.replies.Reply.{Reply}
 use Rattle.latch_steps.specs.declared.replies.Reply.TheVariants.{Returned as ReturnedReply, Refused}
 use Rattle.latch_steps.specs.declared.replies.Note.{Note}
-use Rattle.latch_steps.specs.declared.replies.Note.TheVariants.{Returned as ReturnedNote, Refused as RefusedNote}
+use Rattle.latch_steps.specs.declared.replies.Note.TheVariants.{Returned as ReturnedNote}
+use Rattle.latch_steps.specs.declared.replies.Note.TheVariants.{Refused as RefusedNote}
 use Rattle.order_laws.specs.Orders.{Order}
 use Rattle.word_arena.specs.Words.{at}
 use Rattle.word_arena.specs.declared.layouts.Layout.{Layout}

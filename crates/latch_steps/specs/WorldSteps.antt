@@ -45,7 +45,8 @@ abbrev pub MayDo : {O K : Type 0} → Order K → World O K → Event K → Repl
 MayDo o old e reply new = Does o old e reply new ⊎ GivesUp o old e reply new
 
 -- one event: only the two that take memory may be given up
-abbrev pub IsWorldStep : {O K : Type 0} → Order K → World O K → Event K → Reply K → World O K → Type 0
+abbrev pub IsWorldStep : {O K : Type 0} → Order K → World O K → Event K → Reply K → World O K
+    → Type 0
 IsWorldStep o old (Begin u) reply new = MayDo o old (Begin u) reply new
 IsWorldStep o old Write reply new = Does o old Write reply new
 IsWorldStep o old (Start r k) reply new = MayDo o old (Start r k) reply new

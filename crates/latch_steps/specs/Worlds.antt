@@ -33,7 +33,8 @@ abbrev pub ArePendingLookups : {O K : Type 0} → Order K → ℕ → (ℕ → O
 ArePendingLookups o n cs ls = (r : ℕ) → IsPendingLookup o n (cs r) (get ls r)
 
 -- the world has the moment's words, pending update, pending lookups and count
-pub record RepresentsMoment {O K : Type 0} (o : Order K) (c : World O K) (w : Moment K) : Type 0 where
+pub record RepresentsMoment {O K : Type 0} (o : Order K) (c : World O K) (w : Moment K)
+    : Type 0 where
   pub capacity : c.writer.capacity ≡ capacity_of c.layout
   pub limit : c.writer.limit ≡ limit_of c.layout
   pub words : c.words.items ≡ w.latch.words
@@ -55,10 +56,12 @@ pub record IsAfter {O K : Type 0} (o : Order K) (start' : ℕ) (us : List Update
 -- of whatever moment it shows: the sequence, the steps that are left, and that its count of events
 -- is still below the greatest
 abbrev pub HasSequence : {O K : Type 0} → Order K → World O K → ℕ → Type 0
-HasSequence {O} {K} o c sequence = (w : Moment K) → RepresentsMoment o c w → sequence ≡ at w.latch.words 0
+HasSequence {O} {K} o c sequence =
+    (w : Moment K) → RepresentsMoment o c w → sequence ≡ at w.latch.words 0
 
 abbrev pub HasStepsLeft : {O K : Type 0} → Order K → World O K → ℕ → Type 0
-HasStepsLeft {O} {K} o c left = (w : Moment K) → RepresentsMoment o c w → left ≡ writes_left w.latch.pending
+HasStepsLeft {O} {K} o c left =
+    (w : Moment K) → RepresentsMoment o c w → left ≡ writes_left w.latch.pending
 
 abbrev pub CountsExactly : {O K : Type 0} → Order K → World O K → Type 0
 CountsExactly {O} {K} o c = (w : Moment K) → RepresentsMoment o c w → w.events < 2 ^ 64 - 1

@@ -1,6 +1,7 @@
 //! What holds of every run, whatever the events and whatever steps the writer chose.
 
-ghost use Rattle.latch_steps.specs.Promises.{AllRunsAreSafe, AllRunsAreQuiet, AllPlainRunsAreExact, PlainCommandsRunPlainly};
+ghost use Rattle.latch_steps.specs.Promises.{AllRunsAreSafe, AllRunsAreQuiet, AllPlainRunsAreExact};
+ghost use Rattle.latch_steps.specs.Promises.{PlainCommandsRunPlainly};
 
 use order_laws::TreeOrder;
 

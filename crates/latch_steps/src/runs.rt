@@ -2,7 +2,8 @@
 
 ghost use Rattle.std.specs.Prelude.{◌≡◌, ◌≤◌, IfOk, IfErr, length};
 ghost use Rattle.latch_core.specs.Writers.{MayOpen, IsOpeningRefused};
-ghost use Rattle.latch_steps.specs.Promises.{IsTrace, IsTraceOfCommands, IsSafeTrace, IsQuietTrace, IsNearTrace, AreNotesOfCommands};
+ghost use Rattle.latch_steps.specs.Promises.{IsTrace, IsTraceOfCommands, IsSafeTrace, IsQuietTrace};
+ghost use Rattle.latch_steps.specs.Promises.{IsNearTrace, AreNotesOfCommands};
 
 use crate::commands::Command;
 use crate::events::Event;

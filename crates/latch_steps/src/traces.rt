@@ -130,7 +130,8 @@ fn keep_note<K: Copy>(notes: &mut Vec<Note<K>>, reply: &Reply<K>) -> Result<(), 
 
 impl<O: TreeOrder> Recorder<O> {
     ghost use Rattle.latch_steps.specs.Recorders.{IsNew, IsWhole, AreWhole};
-    ghost use Rattle.latch_steps.specs.Recorders.{RecordsEvent, ObeysFromAny, ObeysWriting, ObeysReading, EndsAt};
+    ghost use Rattle.latch_steps.specs.Recorders.{RecordsEvent, ObeysFromAny, ObeysWriting};
+    ghost use Rattle.latch_steps.specs.Recorders.{ObeysReading, EndsAt};
 
     /// A world before any event, with nothing recorded, and room for so many notes.
     pub(crate) fn open(alloc: Global, l: Layout, start: u64, room: usize) -> Result<Self, Refusal>

@@ -1,6 +1,7 @@
 //! The words, their writer and the pending lookups, one step at a time.
 
-ghost use Rattle.std.specs.Prelude.{◌≡◌, ℕ, ◌-◌, ◌^◌, ◌<◌, true, List, [], ◌++◌, length, IfOk, IfErr, IfSome, IfNone, OnSome, OnOk, is_some};
+ghost use Rattle.std.specs.Prelude.{◌≡◌, ℕ, ◌-◌, ◌^◌, ◌<◌, true, List, [], ◌++◌, length, IfOk};
+ghost use Rattle.std.specs.Prelude.{IfErr, IfSome, IfNone, OnSome, OnOk, is_some};
 ghost use Rattle.word_arena.specs.Words.{at};
 ghost use Rattle.word_arena.specs.Layouts.{capacity_of};
 ghost use Rattle.latch_core.specs.Writers.{MayOpen, IsOpeningRefused};
@@ -33,11 +34,15 @@ pub struct World<O: TreeOrder> {
 }
 
 impl<O: TreeOrder> World<O> {
-    ghost use Rattle.latch_steps.specs.Worlds.{RepresentsMoment, IsAtRest, layout_in, IsAfter, StaysAfter, HasSequence, HasStepsLeft, CountsExactly};
+    ghost use Rattle.latch_steps.specs.Worlds.{RepresentsMoment, IsAtRest, layout_in, IsAfter};
+    ghost use Rattle.latch_steps.specs.Worlds.{StaysAfter, HasSequence, HasStepsLeft};
+    ghost use Rattle.latch_steps.specs.Worlds.{CountsExactly};
     ghost use Rattle.latch_steps.specs.WorldSteps.{Does, MayDo, IsWorldStep};
     ghost use Rattle.latch_steps.specs.Lookups.{lookup_at};
     ghost use Rattle.latch_steps.specs.HeldLookups.{ReadsFromAny};
-    ghost use Rattle.latch_steps.specs.AtOnce.{SettlesFromAny, IsSettledFromAny, FindsFromAny, IsFoundFromAny, IsNearFromAny, KeepsUpdates, IsNotBegunFromAny, LooksUp, HasNoAnswer};
+    ghost use Rattle.latch_steps.specs.AtOnce.{SettlesFromAny, IsSettledFromAny, FindsFromAny};
+    ghost use Rattle.latch_steps.specs.AtOnce.{IsFoundFromAny, IsNearFromAny, KeepsUpdates};
+    ghost use Rattle.latch_steps.specs.AtOnce.{IsNotBegunFromAny, LooksUp, HasNoAnswer};
 
     /// A world before any event, with its sequence at `start`.
     ///
@@ -45,7 +50,8 @@ impl<O: TreeOrder> World<O> {
     /// by [`Refusal::OutOfMemory`].
     pub fn open(alloc: Global, l: Layout, start: u64) -> Result<Self, Refusal>
         ensures layout { IfOk result (λ w. layout_in w ≡ l) }
-        ensures shows { IfOk result (λ w. RepresentsMoment O.order w (opening (capacity_of l) start)) }
+        ensures shows { IfOk result
+            (λ w. RepresentsMoment O.order w (opening (capacity_of l) start)) }
         ensures may { IfOk result (λ w. MayOpen l start) }
         ensures after { IfOk result (λ w. IsAfter O.order start [] w) }
         ensures refusal { IfErr result (IsOpeningRefused l start) }
@@ -125,7 +131,8 @@ impl<O: TreeOrder> World<O> {
     fn make(&mut self) -> Option<Store>
         ensures layout { layout_in self.new ≡ layout_in self.old }
         ensures made { IfSome result (λ s. Does O.order self.old Write (Reply.Wrote s) self.new) }
-        ensures fewer { OnSome result (length self.new.writer.stores_left < length self.old.writer.stores_left) }
+        ensures fewer { OnSome result
+            (length self.new.writer.stores_left < length self.old.writer.stores_left) }
         ensures none { IfNone result ((self.new ≡ self.old) × IsAtRest O.order self.old) }
     {
         let store = self.writer.next()?;
@@ -283,7 +290,8 @@ impl<O: TreeOrder> World<O> {
 
     /// Whether an update is pending.
     pub(crate) fn is_writing(&self) -> bool
-        ensures { (w : Moment O.Key) → RepresentsMoment O.order self.now w → result ≡ is_some w.latch.pending }
+        ensures { (w : Moment O.Key) → RepresentsMoment O.order self.now w
+            → result ≡ is_some w.latch.pending }
     {
         self.writer.remaining() > 0
     }

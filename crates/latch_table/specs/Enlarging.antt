@@ -2,7 +2,8 @@
 use Rattle.std.specs.Prelude.{◌≡◌, ◌⊎◌, ◌<◌, ◌≤◌, ℕ, List, [], length, All, None}
 use Rattle.atomic_table.specs.Seated.{TableId}
 use Rattle.order_laws.specs.declared.refusals.Refusal.{Refusal}
-use Rattle.order_laws.specs.declared.refusals.Refusal.TheVariants.{OutOfMemory, BadCapacity, UpdateInHand}
+use Rattle.order_laws.specs.declared.refusals.Refusal.TheVariants.{OutOfMemory, BadCapacity}
+use Rattle.order_laws.specs.declared.refusals.Refusal.TheVariants.{UpdateInHand}
 use Rattle.word_arena.specs.declared.layouts.Layout.{Layout}
 use Rattle.word_arena.specs.Layouts.{capacity_of, limit_of}
 use Rattle.word_arena.specs.Words.{at}

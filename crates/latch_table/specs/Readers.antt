@@ -42,7 +42,8 @@ pub record Attempted {K : Type 0} (o : Order K) (k : K) (e : ReaderKnowledge) (o
 
 -- the answer is what the key lies in, in the table after the updates that the reader now knows,
 -- which are those of the generation g
-pub record Answers {K : Type 0} (o : Order K) (k : K) (e : ReaderKnowledge) (x : Option Item) (g : ℕ)
+pub record Answers {K : Type 0} (o : Order K) (k : K) (e : ReaderKnowledge) (x : Option Item)
+    (g : ℕ)
     : Type 0 where
   pub floored : KnowsFloor e
   pub counted : e.base + length e.known ≡ g

@@ -1,5 +1,6 @@
 -- The rule over the words and the views of all seats, and what each step tells its seat.
-use Rattle.std.specs.Prelude.{◌≡◌, ℕ, ◌+◌, ◌*◌, ◌≤◌, List, [], ◌∷◌, ◌++◌, length, Option, Some, None}
+use Rattle.std.specs.Prelude.{◌≡◌, ℕ, ◌+◌, ◌*◌, ◌≤◌, List, [], ◌∷◌, ◌++◌, length, Option, Some}
+use Rattle.std.specs.Prelude.{None}
 use mathlib.Core.Option as maybe
 use mathlib.Core.List.{IsPrefix}
 use lib.ListN.{get_elem?}
@@ -18,7 +19,8 @@ use Rattle.latch_table.specs.declared.knowledge.Knowledge.{Knowledge}
 use Rattle.latch_table.specs.declared.knowledge.Origin.{Origin}
 use Rattle.latch_table.specs.declared.knowledge.Origin.TheVariants.{Start, Moved}
 use Rattle.latch_core.specs.Latched.{loads_of, IsSteady, IsLatched}
-use Rattle.latch_table.specs.Seats.{reader_of, writer_of, first_knowledge, with_sequence, with_word, with_loads, with_update, with_store, last_seen}
+use Rattle.latch_table.specs.Seats.{reader_of, writer_of, first_knowledge, with_sequence, with_word}
+use Rattle.latch_table.specs.Seats.{with_loads, with_update, with_store, last_seen}
 
 -- the number of nodes and the opening generation
 abbrev pub capacity_in : Origin → ℕ

@@ -1,5 +1,6 @@
 -- What the seats know, and how it changes.
-use Rattle.std.specs.Prelude.{ℕ, ◌*◌, List, [], ◌∷◌, ◌++◌, slice_set, Option, Some, None, if◌then◌else◌, ◌==◌, ◌&&◌}
+use Rattle.std.specs.Prelude.{ℕ, ◌*◌, List, [], ◌∷◌, ◌++◌, slice_set, Option, Some, None}
+use Rattle.std.specs.Prelude.{if◌then◌else◌, ◌==◌, ◌&&◌}
 use Rattle.order_laws.specs.Orders.{Order}
 use Rattle.word_arena.specs.Layouts.{capacity_of}
 use Rattle.word_arena.specs.Words.{at}
@@ -77,7 +78,8 @@ no_knowledge = record { writer = None; reader = None }
 
 -- a reader that the writer's seat parts with
 abbrev pub new_reader_knowledge : Knowledge → Knowledge
-new_reader_knowledge v = reader_knowledge (blank_reader (writer_of v).base (writer_of v).capacity (writer_of v).known)
+new_reader_knowledge v =
+    reader_knowledge (blank_reader (writer_of v).base (writer_of v).capacity (writer_of v).known)
 
 abbrev pub joined_knowledge : Knowledge → Knowledge → Knowledge
 joined_knowledge v w = record { writer = v.writer; reader = w.reader }

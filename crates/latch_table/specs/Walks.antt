@@ -1,7 +1,8 @@
 -- A reader's attempt on its way.
 use Rattle.std.specs.Prelude.{◌≡◌, ℕ, List, ◌∷◌, Some}
 use Rattle.order_laws.specs.Orders.{Order}
-use Rattle.latch_core.specs.Attempts.{WalkEnd, AtItem, AtEmptyLink, Stuck, attempt, last_load, rest_after}
+use Rattle.latch_core.specs.Attempts.{WalkEnd, AtItem, AtEmptyLink, Stuck, attempt, last_load}
+use Rattle.latch_core.specs.Attempts.{rest_after}
 use Rattle.latch_core.specs.Whole.{Wants}
 use Rattle.latch_core.specs.Latched.{loads_of}
 use Rattle.latch_table.specs.declared.knowledge.ReaderKnowledge.{ReaderKnowledge}

@@ -1,5 +1,6 @@
 -- The writer, and what its calls promise.
-use Rattle.std.specs.Prelude.{◌≡◌, ◌⊎◌, ℕ, ◌+◌, ◌-◌, ◌*◌, ◌<◌, ◌≤◌, List, [], ◌∷◌, ◌++◌, length, take, Option, Some, None, if◌then◌else◌, ◌==◌}
+use Rattle.std.specs.Prelude.{◌≡◌, ◌⊎◌, ℕ, ◌+◌, ◌-◌, ◌*◌, ◌<◌, ◌≤◌, List, [], ◌∷◌, ◌++◌, length}
+use Rattle.std.specs.Prelude.{take, Option, Some, None, if◌then◌else◌, ◌==◌}
 use Rattle.atomic_table.specs.Table.{Me}
 use Rattle.atomic_table.specs.Seated.{TableId}
 use Rattle.order_laws.specs.declared.items.Item.{Item}
@@ -16,7 +17,8 @@ use Rattle.latch_core.specs.Sequences.{generation_of}
 use Rattle.latch_core.specs.Updates.{most_steps}
 use Rattle.latch_core.specs.Histories.{replay}
 use Rattle.latch_core.specs.Attempts.{Answer, attempt, IsAttempt}
-use Rattle.latch_core.specs.Latches.{PendingUpdate, Latch, IsWriterStep, latch_after_step, latch_with_update, opening_latch}
+use Rattle.latch_core.specs.Latches.{PendingUpdate, Latch, IsWriterStep, latch_after_step}
+use Rattle.latch_core.specs.Latches.{latch_with_update, opening_latch}
 use Rattle.latch_core.specs.Invariants.{IsSound}
 use Rattle.latch_core.specs.WriterViews.{WriterView}
 use Rattle.latch_core.specs.Writers.{RepresentsLatch, MayOpen, latch_refusal}
@@ -70,7 +72,11 @@ writer_state place readers v core =
       capacity = core.capacity;
       limit = core.limit;
       history = p.accepted;
-      latch = record { words = p.picture; newest_table = core.table; pending = pending_of core.stores_left p };
+      latch = record {
+        words = p.picture;
+        newest_table = core.table;
+        pending = pending_of core.stores_left p;
+      };
       loads = p.loads;
     }
 
@@ -90,7 +96,8 @@ steps_left_of (Some h) = h.steps_left
 
 -- the writer with a pending update, and after a step of it
 abbrev pub state_with_update : {K : Type 0} → Order K → WriterState → Update → ℕ → WriterState
-state_with_update o w u left = record w { history = w.history ++ u ∷ []; latch = latch_with_update o w.latch u left }
+state_with_update o w u left =
+    record w { history = w.history ++ u ∷ []; latch = latch_with_update o w.latch u left }
 
 abbrev pub state_after_step : WriterState → PendingUpdate → Stored → WriterState
 state_after_step w h s = record w { latch = latch_after_step w.latch h s }
@@ -103,13 +110,15 @@ abbrev pub writer_refusal : {K : Type 0} → Order K → WriterState → Update 
 writer_refusal o w u = latch_refusal o w.capacity w.limit w.latch u
 
 abbrev pub Refuses : {K : Type 0} → Order K → WriterState → Update → Refusal → Type 0
-Refuses o w u e = (writer_refusal o w u ≡ Some e) ⊎ ((writer_refusal o w u ≡ None) × (e ≡ OutOfMemory))
+Refuses o w u e =
+    (writer_refusal o w u ≡ Some e) ⊎ ((writer_refusal o w u ≡ None) × (e ≡ OutOfMemory))
 
 -- the update is pending, and is the last that was accepted
 abbrev pub Begins : {K : Type 0} → Order K → WriterState → Update → WriterState → Type 0
 Begins o w u w' =
     (writer_refusal o w u ≡ None)
-    × ((left : ℕ) × (0 < left) × (left ≤ most_steps w.capacity u) × (w' ≡ state_with_update o w u left))
+    × ((left : ℕ) × (0 < left) × (left ≤ most_steps w.capacity u)
+    × (w' ≡ state_with_update o w u left))
 
 -- one step of the pending update, of the kinds that a writer may make; or it is at its end
 abbrev pub Steps : WriterState → WriterState → Option Did → Type 0
@@ -118,7 +127,8 @@ Steps w w' None =
     × (generation_of (at w.latch.words 0) ≡ w.base + length w.history)
 Steps w w' (Some did) =
     (steps_left_of w'.latch.pending + 1 ≡ steps_left_of w.latch.pending)
-    × ((h : PendingUpdate) × (s : Stored) × (w.latch.pending ≡ Some h) × IsWriterStep w.capacity w.latch h s
+    × ((h : PendingUpdate) × (s : Stored) × (w.latch.pending ≡ Some h)
+    × IsWriterStep w.capacity w.latch h s
     × (did ≡ kind_of_store s) × (w' ≡ state_after_step w h s))
 
 -- nothing else changes on the way from w to w'

@@ -41,7 +41,8 @@ pub(crate) fn build<O: TreeOrder>(
 ) -> Result<BuiltTable<O>, AllocError>
     requires sized { length words.now ≡ words_for (capacity_of l) }
     requires capacity { capacity_in from.now ≡ capacity_of l }
-    requires writer { (first_knowledge from.now ≡ writer_knowledge (writer_of (first_knowledge from.now))) }
+    requires writer { first_knowledge from.now
+        ≡ writer_knowledge (writer_of (first_knowledge from.now)) }
     requires same { (writer_of (first_knowledge from.now)).capacity ≡ capacity_of l }
     requires rule { Opens O.order from.now words.now }
     ensures seat { IfOk result (λ b. (b.seat.table_id ≡ (arc_value b.table).shared.table_id)

@@ -1,7 +1,8 @@
 -- The program's command line, as `clap` reads it.
 use Rattle.std.specs.Prelude.{◌≡◌, Some, codes, true, false}
 use Rattle.clap.specs.Lexer.{usize_max}
-use Rattle.clap.specs.Words.{App, Rule, Text, app_of, new_app, new_rule, rule_of, with_rule, with_subcommand}
+use Rattle.clap.specs.Words.{App, Rule, Text, app_of, new_app, new_rule, rule_of, with_rule}
+use Rattle.clap.specs.Words.{with_subcommand}
 use Rattle.clap.specs.Simple.{on_top}
 use Rattle.clap.specs.declared.builder.arg.Arg.{Arg}
 use Rattle.clap.specs.declared.builder.command.Command.{Command}

@@ -1,5 +1,7 @@
 -- The job that the words of a command line ask for.
-use Rattle.std.specs.Prelude.{◌≡◌, ◌≢◌, ◌&&◌, ℕ, Bool, true, false, nat_eq, List, [], ◌∷◌, length, Option, Some, None, Result, Ok, Err, codes, find, is_none, option_and_then, slice_get, unwrap_or, if◌then◌else◌}
+use Rattle.std.specs.Prelude.{◌≡◌, ◌≢◌, ◌&&◌, ℕ, Bool, true, false, nat_eq, List, [], ◌∷◌, length}
+use Rattle.std.specs.Prelude.{Option, Some, None, Result, Ok, Err, codes, find, is_none}
+use Rattle.std.specs.Prelude.{option_and_then, slice_get, unwrap_or, if◌then◌else◌}
 use Rattle.std.specs.Global.{Vec}
 use Rattle.std.specs.List.{filter_map}
 use Rattle.std.specs.Option.{option_map}
@@ -16,7 +18,9 @@ use Rattle.latchsym.specs.declared.command_line.LookupJob.{LookupJob}
 use Rattle.latchsym.specs.declared.command_line.RunJob.{RunJob}
 use Rattle.latchsym.specs.declared.command_line.Job.TheVariants.{Trace, Lookup, Run}
 use Rattle.latchsym.specs.declared.command_line.JobFault.{JobFault}
-use Rattle.latchsym.specs.declared.command_line.JobFault.TheVariants.{OutOfMemory, CommandLine, BadAddress, NoAddress, BadReaders, NoJob}
+use Rattle.latchsym.specs.declared.command_line.JobFault.TheVariants.{OutOfMemory, CommandLine}
+use Rattle.latchsym.specs.declared.command_line.JobFault.TheVariants.{BadAddress, NoAddress}
+use Rattle.latchsym.specs.declared.command_line.JobFault.TheVariants.{BadReaders, NoJob}
 
 -- the files that a job reads, in order; the place of one that is not given stays empty
 abbrev pub files_of : Job → List (Option Text)

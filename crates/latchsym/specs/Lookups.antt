@@ -1,5 +1,7 @@
 -- What is written for the listings and the addresses that are asked for.
-use Rattle.std.specs.Prelude.{◌≡◌, ℕ, zero, suc, ◌⊎◌, List, [], ◌∷◌, ◌++◌, map, flat_map, Bool, true, false, if◌then◌else◌, is_some, Option, Some, None, Result, Ok, Err, IfSome}
+use Rattle.std.specs.Prelude.{◌≡◌, ℕ, zero, suc, ◌⊎◌, List, [], ◌∷◌, ◌++◌, map, flat_map, Bool}
+use Rattle.std.specs.Prelude.{true, false, if◌then◌else◌, is_some, Option, Some, None, Result, Ok}
+use Rattle.std.specs.Prelude.{Err, IfSome}
 use Rattle.std.specs.Global.{Vec}
 use Rattle.std.specs.Option.{option_map}
 use Rattle.std.specs.Io.KnownBytes.{Appends}
@@ -13,7 +15,8 @@ use Rattle.modules.specs.declared.catalog.BuildCounts.{BuildCounts}
 use Rattle.modules.specs.Listed.{ListedRegion}
 use Rattle.modules.specs.Placed.{are_few}
 use Rattle.latchsym.specs.CatalogTables.{HasFewRegions, HasManyRegions, answer_at}
-use Rattle.latchsym.specs.LookupInputs.{Inputs, all_addresses, catalog_in, counts_in, failures_in, region_lines_of_inputs, region_lines}
+use Rattle.latchsym.specs.LookupInputs.{Inputs, all_addresses, catalog_in, counts_in, failures_in}
+use Rattle.latchsym.specs.LookupInputs.{region_lines_of_inputs, region_lines}
 use Rattle.latchsym.specs.LookupTexts.{answer_line, modules_line, regions_line, symbols_line}
 use Rattle.latchsym.specs.declared.fault.Fault.{Fault}
 use Rattle.latchsym.specs.declared.fault.Fault.TheVariants.{Refused, BadLine, Read, Write}

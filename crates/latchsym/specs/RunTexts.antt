@@ -1,5 +1,6 @@
 -- The lines that a run of a script writes.
-use Rattle.std.specs.Prelude.{ℕ, ◌+◌, ◌-◌, ◌*◌, ◌^◌, List, [], ◌++◌, codes, decimal, flat_map, length, min, sum_by, Ok, Err}
+use Rattle.std.specs.Prelude.{ℕ, ◌+◌, ◌-◌, ◌*◌, ◌^◌, List, [], ◌++◌, codes, decimal, flat_map}
+use Rattle.std.specs.Prelude.{length, min, sum_by, Ok, Err}
 use Rattle.std.specs.Global.{Vec}
 use Rattle.std.specs.List.{range_with_len, zip}
 use Rattle.devices.specs.Exact.{hexadecimal}

@@ -25,7 +25,8 @@ load_counts_text generation loads attempts =
 
 abbrev pub returned_text : Returned ℕ → List ℕ
 returned_text r =
-    found_text r.reader r.key r.answer ++ load_counts_text r.generation r.loads r.attempts ++ codes "\n"
+    found_text r.reader r.key r.answer ++ load_counts_text r.generation r.loads r.attempts
+    ++ codes "\n"
 
 abbrev pub refused_text : ℕ → List ℕ
 refused_text n = codes "refused " ++ decimal n ++ codes "\n"

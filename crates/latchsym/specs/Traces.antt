@@ -1,11 +1,13 @@
 -- What is written for a trace that is read.
-use Rattle.std.specs.Prelude.{◌≡◌, ℕ, ◌%◌, ◌<◌, ◌≤◌, List, ◌++◌, Bool, true, false, Option, Result, Ok, Err, IfSome, flat_map, if◌then◌else◌}
+use Rattle.std.specs.Prelude.{◌≡◌, ℕ, ◌%◌, ◌<◌, ◌≤◌, List, ◌++◌, Bool, true, false, Option, Result}
+use Rattle.std.specs.Prelude.{Ok, Err, IfSome, flat_map, if◌then◌else◌}
 use Rattle.std.specs.Io.KnownBytes.{Appends}
 use Rattle.devices.specs.declared.counted.Counted.{Counted}
 use Rattle.devices.specs.Counted.{NoneFailed, Rose, device_of, failures_of}
 use Rattle.order_laws.specs.Orders.{Order, closed, half_open}
 use Rattle.order_laws.specs.declared.refusals.Refusal.TheVariants as refusal
-use Rattle.word_arena.specs.declared.layouts.TheConstants.{MOST_NODES, GREATEST_SEQUENCE, GREATEST_WIDE_SEQUENCE}
+use Rattle.word_arena.specs.declared.layouts.TheConstants.{MOST_NODES, GREATEST_SEQUENCE}
+use Rattle.word_arena.specs.declared.layouts.TheConstants.{GREATEST_WIDE_SEQUENCE}
 use Rattle.word_arena.specs.Words.{at}
 use Rattle.latch_steps.specs.Runs.{Done, history, last_of, opening}
 use Rattle.latch_steps.specs.Steps.{machine, Run}

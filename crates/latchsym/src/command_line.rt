@@ -1,8 +1,13 @@
 //! The command line: what it may say, and the job that it asks for.
 ghost use Rattle.std.specs.Prelude.{◌≡◌, Some, IfOk, codes, map, option_map};
-ghost use Rattle.clap.specs.Words.{found_of, first_of, rows_of, subcommand_rows_of, with_subcommand, App};
-ghost use Rattle.latchsym.specs.CommandLine.{lookup_app, run_app, trace_app, latchsym_app, option_rule, optional_rule, pair_rule, with_listings, word_rule, words_rule, IsCommand, IsPlainArg};
-ghost use Rattle.latchsym.specs.Jobs.{asked_lookup, asked_run, asked_trace, readers_of, bounds_in, values_in, AnswersAsked, AnswersMatches, AnswersWords, AreNumbers, IsFaultOf};
+ghost use Rattle.clap.specs.Words.{found_of, first_of, rows_of, subcommand_rows_of};
+ghost use Rattle.clap.specs.Words.{with_subcommand, App};
+ghost use Rattle.latchsym.specs.CommandLine.{lookup_app, run_app, trace_app, latchsym_app};
+ghost use Rattle.latchsym.specs.CommandLine.{option_rule, optional_rule, pair_rule, with_listings};
+ghost use Rattle.latchsym.specs.CommandLine.{word_rule, words_rule, IsCommand, IsPlainArg};
+ghost use Rattle.latchsym.specs.Jobs.{asked_lookup, asked_run, asked_trace, readers_of, bounds_in};
+ghost use Rattle.latchsym.specs.Jobs.{values_in, AnswersAsked, AnswersMatches, AnswersWords};
+ghost use Rattle.latchsym.specs.Jobs.{AreNumbers, IsFaultOf};
 
 use clap::error::ErrorKind;
 use clap::{Arg, ArgMatches, Command, Error};

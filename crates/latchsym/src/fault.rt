@@ -1,7 +1,9 @@
 //! Why a run of the program fails, and the line that says so.
 ghost use Rattle.std.specs.Prelude.{◌≡◌, []};
 ghost use Rattle.devices.specs.Exact.{Wrote};
-ghost use Rattle.latchsym.specs.Faults.{IsConcluded, IsLineFault, IsReported, bad_line_text, fault_text, file_of, line_of, message_text, fault_number, fault_place, unread_text};
+ghost use Rattle.latchsym.specs.Faults.{IsConcluded, IsLineFault, IsReported, bad_line_text};
+ghost use Rattle.latchsym.specs.Faults.{fault_text, file_of, line_of, message_text, fault_number};
+ghost use Rattle.latchsym.specs.Faults.{fault_place, unread_text};
 
 use crate::command_line::Job;
 use crate::texts::{put_decimal, put_refused};

@@ -1,12 +1,16 @@
 //! From the bytes of the listings to the lines that a lookup of addresses writes.
-ghost use Rattle.std.specs.Prelude.{◌≡◌, ◌++◌, ◌∷◌, [], Err, All, flat_map, is_some, option_map, true, IfOk, IfErr, IfSome};
+ghost use Rattle.std.specs.Prelude.{◌≡◌, ◌++◌, ◌∷◌, [], Err, All, flat_map, is_some, option_map};
+ghost use Rattle.std.specs.Prelude.{true, IfOk, IfErr, IfSome};
 ghost use Rattle.devices.specs.Counted.{device_of, failures_of};
 ghost use Rattle.devices.specs.Exact.{Wrote};
 ghost use Rattle.modules.specs.Catalogs.{IsBuildRefusal};
 ghost use Rattle.modules.specs.Lines.{region_fits};
-ghost use Rattle.latchsym.specs.LookupInputs.{failures_in, inputs_in, inputs_of, known_inputs, known_text, region_lines_of_inputs, texts_in};
+ghost use Rattle.latchsym.specs.LookupInputs.{failures_in, inputs_in, inputs_of, known_inputs};
+ghost use Rattle.latchsym.specs.LookupInputs.{known_text, region_lines_of_inputs, texts_in};
 ghost use Rattle.latchsym.specs.LookupTexts.{answer_line};
-ghost use Rattle.latchsym.specs.Lookups.{AnswersInputs, AnswersWith, AreListingsOf, GivesAddresses, GivesLines, IsReadAs, counts_text, failures_between, last_failures, regions_line_of};
+ghost use Rattle.latchsym.specs.Lookups.{AnswersInputs, AnswersWith, AreListingsOf, GivesAddresses};
+ghost use Rattle.latchsym.specs.Lookups.{GivesLines, IsReadAs, counts_text, failures_between};
+ghost use Rattle.latchsym.specs.Lookups.{last_failures, regions_line_of};
 
 use crate::fault::Fault;
 use crate::lookup_texts::{put_answers, put_module_counts, put_region_counts, put_symbol_counts};
@@ -231,7 +235,8 @@ pub(crate) fn listings_in<'a>(
 ) -> Result<Listings<'a>, Refusal>
     requires { All (λ r. region_fits r ≡ true) (region_lines_of_inputs (inputs_in inputs.now)) }
     ensures said { IfOk result (AreListingsOf (inputs_in inputs.now)) }
-    ensures refusal { IfErr result (IsBuildRefusal (region_lines_of_inputs (inputs_in inputs.now))) }
+    ensures refusal { IfErr result
+        (IsBuildRefusal (region_lines_of_inputs (inputs_in inputs.now))) }
 {
     let (module_lines, skipped_modules) = read_modules(alloc, inputs.modules)?;
     let (symbol_lines, skipped_symbols) = read_kallsyms(alloc, inputs.kallsyms)?;

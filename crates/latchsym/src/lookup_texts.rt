@@ -1,7 +1,8 @@
 //! The lines that a lookup of addresses writes, byte for byte, with no memory taken.
 ghost use Rattle.std.specs.Prelude.{◌++◌, codes, decimal, flat_map};
 ghost use Rattle.devices.specs.Exact.{Wrote};
-ghost use Rattle.latchsym.specs.LookupTexts.{answer_line, count_text, modules_line, regions_line, symbols_line};
+ghost use Rattle.latchsym.specs.LookupTexts.{answer_line, count_text, modules_line, regions_line};
+ghost use Rattle.latchsym.specs.LookupTexts.{symbols_line};
 
 use crate::table::Answer;
 use crate::texts::put_decimal;

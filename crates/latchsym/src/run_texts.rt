@@ -3,7 +3,9 @@ ghost use Rattle.std.specs.Prelude.{◌++◌, ◌≡◌, codes, decimal, flat_ma
 ghost use Rattle.std.specs.List.{zip};
 ghost use Rattle.devices.specs.Exact.{Wrote};
 ghost use Rattle.latchsym.specs.LookupTexts.{count_text};
-ghost use Rattle.latchsym.specs.RunTexts.{answered_text, answers_text, change_text, count_of_answers, refusals_text, run_text, totals_text, writer_text};
+ghost use Rattle.latchsym.specs.RunTexts.{answered_text, answers_text, change_text};
+ghost use Rattle.latchsym.specs.RunTexts.{count_of_answers, refusals_text, run_text, totals_text};
+ghost use Rattle.latchsym.specs.RunTexts.{writer_text};
 
 use crate::lookup_texts::put_count;
 use crate::texts::put_decimal;

@@ -2,10 +2,12 @@
 //!
 //! Lines are gathered in a block of memory that the caller gives, which goes to the writer whenever
 //! the next line might not fit: a call of the writer costs as much as a whole line.
-ghost use Rattle.std.specs.Prelude.{◌≡◌, ◌+◌, ◌≤◌, ◌++◌, [], OnOk, decimal, flat_map, vec_len, vec_capacity};
+ghost use Rattle.std.specs.Prelude.{◌≡◌, ◌+◌, ◌≤◌, ◌++◌, [], OnOk, decimal, flat_map, vec_len};
+ghost use Rattle.std.specs.Prelude.{vec_capacity};
 ghost use Rattle.devices.specs.Exact.{Wrote};
 ghost use Rattle.order_laws.specs.Refusals.{refusal_number};
-ghost use Rattle.latchsym.specs.Texts.{load_counts_text, end_text, found_text, note_text, refused_text, returned_text, tag_text};
+ghost use Rattle.latchsym.specs.Texts.{load_counts_text, end_text, found_text, note_text};
+ghost use Rattle.latchsym.specs.Texts.{refused_text, returned_text, tag_text};
 ghost use Rattle.latchsym.specs.Blocks.{IsGathered, IsAppended};
 
 use devices::{Counted, append, append_hexadecimal, put};
@@ -141,7 +143,8 @@ fn append_decimal(line: &mut Vec<u8>, n: u64)
 
 /// Writes `refused N` and a line's end.
 pub fn put_refused<W: Write>(writer: &mut Counted<W>, refusal: Refusal) -> io::Result<()>
-    ensures { Wrote W.contents writer.old writer.new result (refused_text (refusal_number refusal)) }
+    ensures { Wrote W.contents writer.old writer.new result
+        (refused_text (refusal_number refusal)) }
 {
     put(writer, b"refused ")?;
     put_decimal(writer, u64::from(refusal.number()))?;

@@ -1,5 +1,6 @@
 //! From the bytes of a trace to the lines that it writes.
-ghost use Rattle.std.specs.Prelude.{◌≡◌, ◌<◌, ◌≤◌, ◌++◌, ◌↔◌, ◌⊎◌, [], IfErr, IfOk, IsErr, flat_map, vec_capacity};
+ghost use Rattle.std.specs.Prelude.{◌≡◌, ◌<◌, ◌≤◌, ◌++◌, ◌↔◌, ◌⊎◌, [], IfErr, IfOk, IsErr};
+ghost use Rattle.std.specs.Prelude.{flat_map, vec_capacity};
 ghost use Rattle.devices.specs.Exact.{Wrote};
 ghost use Rattle.listing.specs.Trace.{contents_of};
 ghost use Rattle.word_arena.specs.Layouts.{capacity_of, limit_of};
@@ -28,7 +29,8 @@ pub fn trace_engine<R: Read, W: Write>(
     reader: &mut Counted<R>,
     writer: &mut Counted<W>,
 ) -> Result<(), Fault>
-    ensures { AnswersTrace R.remaining W.contents reader.old reader.new writer.old writer.new result }
+    ensures { AnswersTrace R.remaining W.contents reader.old reader.new
+        writer.old writer.new result }
 {
     let trace = read_trace(alloc, reader).map_err(|fault| Fault::of_lines(0, fault))?;
     if trace.header.closed {

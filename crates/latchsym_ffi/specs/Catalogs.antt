@@ -2,14 +2,16 @@
 use Rattle.std.specs.Prelude.{◌≡◌, ℕ, ◌⊎◌, List, true, false, Some, None, Err}
 use Rattle.latchsym_ffi.specs.declared.catalog_slots.CatalogSlot.{CatalogSlot}
 use Rattle.latchsym_ffi.specs.declared.opening.CatalogCounts.{CatalogCounts}
-use Rattle.latchsym_ffi.specs.Opening.{AreRead, HasTooManyRegionLines, ListingTexts, region_lines_of_text}
+use Rattle.latchsym_ffi.specs.Opening.{AreRead, HasTooManyRegionLines, ListingTexts}
+use Rattle.latchsym_ffi.specs.Opening.{region_lines_of_text}
 
 -- the texts of two listings, and of three
 abbrev pub two_texts : List ℕ → List ℕ → ListingTexts
 two_texts modules kallsyms = record { modules = modules; kallsyms = kallsyms; regions = None }
 
 abbrev pub three_texts : List ℕ → List ℕ → List ℕ → ListingTexts
-three_texts modules kallsyms regions = record (two_texts modules kallsyms) { regions = Some regions }
+three_texts modules kallsyms regions =
+    record (two_texts modules kallsyms) { regions = Some regions }
 
 -- the slot was closed, and now holds the catalog of the texts, with their counts
 abbrev pub OpensCatalog : ListingTexts → CatalogSlot → CatalogSlot → CatalogCounts → Type 0

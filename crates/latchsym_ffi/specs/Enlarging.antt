@@ -37,4 +37,5 @@ RefusesMoving nodes w e =
 abbrev pub RefusesNodes : ℕ → WriterState → List ReaderSlot → ℕ → Type 0
 RefusesNodes nodes w slots result =
     ((result ≡ 101) × (AreItsReaders w slots → ⊥))
-    ⊎ (AreItsReaders w slots × ((e : Refusal) × (result ≡ refusal_number e) × RefusesMoving nodes w e))
+    ⊎ (AreItsReaders w slots
+    × ((e : Refusal) × (result ≡ refusal_number e) × RefusesMoving nodes w e))

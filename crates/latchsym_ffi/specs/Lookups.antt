@@ -6,7 +6,8 @@ use Rattle.latch_table.specs.declared.readers.Try.TheVariants.{Answered, Retry}
 use Rattle.modules.specs.Entries.{CatalogEntries}
 use Rattle.latchsym_ffi.specs.declared.finding.CatalogAnswer.{CatalogAnswer}
 use Rattle.latchsym_ffi.specs.declared.lookups.TableAnswer.{TableAnswer}
-use Rattle.latchsym_ffi.specs.Finding.{answer_of, copied, known_code, known_in, owner_named, symbol_named}
+use Rattle.latchsym_ffi.specs.Finding.{answer_of, copied, known_code, known_in, owner_named}
+use Rattle.latchsym_ffi.specs.Finding.{symbol_named}
 
 -- an item and a generation, as they are told; all numbers of no item are 0
 abbrev pub answer_from : Option Item → ℕ → TableAnswer

@@ -71,7 +71,8 @@ build_counts_in t lines =
     (symbols_in (lines_of t.kallsyms))
 
 -- the catalog and the counts are those of the texts with these region lines
-pub record IsOpenedCatalog (t : ListingTexts) (lines : List ListedRegion) (c : CatalogEntries) (n : CatalogCounts)
+pub record IsOpenedCatalog (t : ListingTexts) (lines : List ListedRegion) (c : CatalogEntries)
+    (n : CatalogCounts)
     : Type 0 where
   pub catalog : c ≡ catalog_in t lines
   pub counts :
@@ -95,7 +96,8 @@ GivesRegions text (Err _) = ⊥
 -- more than seven region lines have one name
 abbrev pub HasTooManyRegionLines : ListingTexts → Type 0
 HasTooManyRegionLines t =
-    (lines : List ListedRegion) × (region_lines_of_text t.regions ≡ Ok lines) × (are_few lines ≡ false)
+    (lines : List ListedRegion) × (region_lines_of_text t.regions ≡ Ok lines)
+    × (are_few lines ≡ false)
 
 -- why the texts are refused
 abbrev pub RefusesTexts : ListingTexts → CatalogFault → Type 0

@@ -1,8 +1,10 @@
 //! What C calls, of catalogs.
 
 ghost use Rattle.std.specs.Prelude.{◌≡◌, ◌≢◌, true, false};
-ghost use Rattle.latchsym_ffi.specs.Catalogs.{OpensCatalog, RefusesCatalog, Stays, three_texts, two_texts};
-ghost use Rattle.latchsym_ffi.specs.Finding.{answer_of, copied, known_at, known_code, owner_named, symbol_named};
+ghost use Rattle.latchsym_ffi.specs.Catalogs.{OpensCatalog, RefusesCatalog, Stays, three_texts};
+ghost use Rattle.latchsym_ffi.specs.Catalogs.{two_texts};
+ghost use Rattle.latchsym_ffi.specs.Finding.{answer_of, copied, known_at, known_code, owner_named};
+ghost use Rattle.latchsym_ffi.specs.Finding.{symbol_named};
 ghost use Rattle.latchsym_ffi.specs.Opening.{RefusesTexts, shown_texts};
 
 use crate::answers::{BAD_HANDLE, BAD_LINE, DONE};
@@ -91,7 +93,8 @@ pub extern "C" fn latchsym_catalog_open_with_regions(
     bad_line: &mut u64,
 ) -> u32
     ensures opened { result ≡ 0
-        → OpensCatalog (three_texts modules.now kallsyms.now regions.now) out.old out.new counts.new }
+        → OpensCatalog
+        (three_texts modules.now kallsyms.now regions.now) out.old out.new counts.new }
     ensures refused { result ≢ 0 → (out.new ≡ out.old) × (counts.new ≡ counts.old) }
     ensures not_so { out.old.is_open ≡ true → result ≡ 101 }
     ensures why { out.old.is_open ≡ false → result ≢ 0
@@ -122,7 +125,8 @@ pub extern "C" fn latchsym_catalog_find(
     ensures name { catalog.old.is_open ≡ true
         → name.new ≡ copied (symbol_named (known_at catalog.old.handle.value addr)) name.old }
     ensures owner { let c = catalog.old.handle.value in
-        catalog.old.is_open ≡ true → owner.new ≡ copied (owner_named c (known_at c addr)) owner.old }
+        catalog.old.is_open ≡ true
+        → owner.new ≡ copied (owner_named c (known_at c addr)) owner.old }
     ensures closed { catalog.old.is_open ≡ false
         → (result ≡ 101) × (out.new ≡ out.old) × (name.new ≡ name.old) × (owner.new ≡ owner.old) }
 {

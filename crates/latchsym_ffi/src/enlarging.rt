@@ -2,9 +2,11 @@
 //!
 //! The readers' boxes are there already, so no request for memory is made after the writer moved.
 
-ghost use Rattle.std.specs.Prelude.{◌≡◌, ◌≢◌, ◌↔◌, All, IfOk, IfErr, OnErr, IsTrue, false, length, true, vec_len};
+ghost use Rattle.std.specs.Prelude.{◌≡◌, ◌≢◌, ◌↔◌, All, IfOk, IfErr, OnErr, IsTrue, false, length};
+ghost use Rattle.std.specs.Prelude.{true, vec_len};
 ghost use Rattle.latch_table.specs.Readers.{ReaderState};
-ghost use Rattle.latchsym_ffi.specs.Enlarging.{AreItsReaders, IsEnlarged, IsMoved, RefusesMoving, RefusesNodes};
+ghost use Rattle.latchsym_ffi.specs.Enlarging.{AreItsReaders, IsEnlarged, IsMoved, RefusesMoving};
+ghost use Rattle.latchsym_ffi.specs.Enlarging.{RefusesNodes};
 ghost use Rattle.latchsym_ffi.specs.Tables.{HoldsReader};
 ghost use Rattle.latchsym_ffi.specs.Slots.{writer_in};
 

@@ -2,7 +2,9 @@
 
 ghost use Rattle.std.specs.Prelude.{◌≡◌, ◌≤◌, ◌<◌, IfSome};
 ghost use Rattle.std.specs.Option.{option_map};
-ghost use Rattle.latchsym_ffi.specs.Finding.{Describes, answer_of, copied, known_at, known_code, known_in, module_name, owner_named, shown_seen, symbol_named};
+ghost use Rattle.latchsym_ffi.specs.Finding.{Describes, answer_of, copied, known_at, known_code};
+ghost use Rattle.latchsym_ffi.specs.Finding.{known_in, module_name, owner_named, shown_seen};
+ghost use Rattle.latchsym_ffi.specs.Finding.{symbol_named};
 
 use modules::Catalog;
 use order_laws::Item;

@@ -7,7 +7,8 @@ ghost use Rattle.latch_table.specs.declared.readers.Try.{Try};
 ghost use Rattle.latch_table.specs.Readers.{Tried};
 ghost use Rattle.latch_table.specs.Writers.{Finds};
 ghost use Rattle.latchsym_ffi.specs.Catalogs.{Stays};
-ghost use Rattle.latchsym_ffi.specs.Lookups.{Copies, Names, Shows, answer_from, found_code, name_code, try_code};
+ghost use Rattle.latchsym_ffi.specs.Lookups.{Copies, Names, Shows, answer_from, found_code};
+ghost use Rattle.latchsym_ffi.specs.Lookups.{name_code, try_code};
 ghost use Rattle.latchsym_ffi.specs.Slots.{reader_in, writer_in};
 
 use crate::answers::{BAD_HANDLE, DONE};

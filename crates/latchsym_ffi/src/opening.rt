@@ -5,7 +5,8 @@ ghost use Rattle.std.specs.Option.{option_copied};
 ghost use Rattle.modules.specs.Catalogs.{IsBuildRefusal};
 ghost use Rattle.modules.specs.Lines.{region_fits};
 ghost use Rattle.modules.specs.Placed.{are_few};
-ghost use Rattle.latchsym_ffi.specs.Opening.{AreRead, GivesRegions, IsOpenedCatalog, RefusesTexts, counts_in, shown_texts};
+ghost use Rattle.latchsym_ffi.specs.Opening.{AreRead, GivesRegions, IsOpenedCatalog, RefusesTexts};
+ghost use Rattle.latchsym_ffi.specs.Opening.{counts_in, shown_texts};
 
 use crate::open_catalogs::OpenCatalog;
 use listing::{LineFault, ModuleCounts, SymbolCounts, read_kallsyms, read_modules, read_regions};
@@ -134,7 +135,8 @@ fn catalog_between(
     regions: &[RegionLine<'static>],
 ) -> Result<(IndexedCatalog<'static>, CatalogCounts), Refusal>
     requires { All (λ r. region_fits r ≡ true) regions.now }
-    ensures opened { IfOk result (λ r. IsOpenedCatalog (shown_texts texts.now) regions.now r.0 r.1) }
+    ensures opened { IfOk result
+        (λ r. IsOpenedCatalog (shown_texts texts.now) regions.now r.0 r.1) }
     ensures few { IfOk result (λ _. are_few regions.now ≡ true) }
     ensures refusal { IfErr result (IsBuildRefusal regions.now) }
 {

@@ -1,5 +1,6 @@
 -- The line `batch E I ..` of a trace: E first words to erase, and I items to insert.
-use Rattle.std.specs.Prelude.{ℕ, ◌+◌, ◌*◌, ◌==◌, List, [], ◌∷◌, length, take, drop, Option, Some, None, if◌then◌else◌}
+use Rattle.std.specs.Prelude.{ℕ, ◌+◌, ◌*◌, ◌==◌, List, [], ◌∷◌, length, take, drop, Option, Some}
+use Rattle.std.specs.Prelude.{None, if◌then◌else◌}
 use Rattle.std.specs.Option.{option_and_then, option_map}
 use Rattle.order_laws.specs.declared.items.Item.{Item}
 use Rattle.listing.specs.Numbers.{number_of}
@@ -12,7 +13,8 @@ numbers_of (word ∷ words) =
 
 -- the items of which each is three numbers
 abbrev pub items_of_numbers : List ℕ → List Item
-items_of_numbers (a ∷ b ∷ tag ∷ numbers) = record { a = a; b = b; tag = tag } ∷ items_of_numbers numbers
+items_of_numbers (a ∷ b ∷ tag ∷ numbers) =
+    record { a = a; b = b; tag = tag } ∷ items_of_numbers numbers
 items_of_numbers _ = []
 
 -- so many first words, and so many items, where there are just as many numbers

@@ -1,10 +1,12 @@
 -- The commands that lines of a trace are.
-use Rattle.std.specs.Prelude.{ℕ, Bool, ◌&&◌, List, [], ◌∷◌, codes, Option, Some, None, if◌then◌else◌}
+use Rattle.std.specs.Prelude.{ℕ, Bool, ◌&&◌, List, [], ◌∷◌, codes, Option, Some, None}
+use Rattle.std.specs.Prelude.{if◌then◌else◌}
 use Rattle.std.specs.Option.{option_map}
 use Rattle.std.specs.Str.{bytes_eq}
 use Rattle.latch_core.specs.declared.updates.Update.TheVariants.{Insert, Erase, Batch}
 use Rattle.latch_steps.specs.declared.commands.Command.{Command}
-use Rattle.latch_steps.specs.declared.commands.Command.TheVariants.{Begin, Write, WriteFlip, WriteEnd, Start, Read}
+use Rattle.latch_steps.specs.declared.commands.Command.TheVariants.{Begin, Write, WriteFlip}
+use Rattle.latch_steps.specs.declared.commands.Command.TheVariants.{WriteEnd, Start, Read}
 use Rattle.order_laws.specs.declared.items.Item.{Item}
 use Rattle.listing.specs.declared.header.Version.{Version}
 use Rattle.listing.specs.Batch.{batch_of}

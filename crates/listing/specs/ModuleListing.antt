@@ -1,5 +1,7 @@
 -- The lines of a listing of modules, in the form of /proc/modules.
-use Rattle.std.specs.Prelude.{ℕ, ◌+◌, ◌^◌, Bool, true, false, ◌||◌, ◌==◌, nat_eq, nat_lt, if◌then◌else◌, List, [], ◌∷◌, length, drop, filter, codes, Option, Some, None, Result, Ok, Err}
+use Rattle.std.specs.Prelude.{ℕ, ◌+◌, ◌^◌, Bool, true, false, ◌||◌, ◌==◌, nat_eq, nat_lt}
+use Rattle.std.specs.Prelude.{if◌then◌else◌, List, [], ◌∷◌, length, drop, filter, codes, Option}
+use Rattle.std.specs.Prelude.{Some, None, Result, Ok, Err}
 use Rattle.std.specs.List.{slice_split, starts_with}
 use Rattle.modules.specs.Listed.{ListedModule}
 use Rattle.listing.specs.Lines.{longest_line}
@@ -7,7 +9,8 @@ use Rattle.listing.specs.Numbers.{numeral}
 use Rattle.listing.specs.Skipping.{one_more_if, skipped_by, taken_by}
 use Rattle.listing.specs.declared.module_listing.ModuleCounts.{ModuleCounts}
 use Rattle.listing.specs.declared.module_listing.SkippedModule.{SkippedModule}
-use Rattle.listing.specs.declared.module_listing.SkippedModule.TheVariants.{Long, Malformed, Hidden, Empty, Wraps}
+use Rattle.listing.specs.declared.module_listing.SkippedModule.TheVariants.{Long, Malformed, Hidden}
+use Rattle.listing.specs.declared.module_listing.SkippedModule.TheVariants.{Empty, Wraps}
 
 -- a blank or a tab
 abbrev pub is_gap : ℕ → Bool
@@ -23,7 +26,8 @@ base_of word = if starts_with nat_eq word (codes "0x") then numeral 16 16 (drop 
 
 -- the module of this name, where its size and its base are there
 abbrev pub module_of_parts : List ℕ → Option ℕ → Option ℕ → Option ListedModule
-module_of_parts name (Some size) (Some base) = Some (record { name = name; base = base; size = size })
+module_of_parts name (Some size) (Some base) =
+    Some (record { name = name; base = base; size = size })
 module_of_parts name _ _ = None
 
 -- `NAME SIZE USES USERS STATE BASE`, and whatever stands after

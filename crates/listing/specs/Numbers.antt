@@ -1,5 +1,6 @@
 -- The numbers that words are.
-use Rattle.std.specs.Prelude.{ℕ, ◌^◌, List, length, drop, codes, Option, Some, None, nat_eq, nat_lt, nat_le, ◌&&◌, if◌then◌else◌}
+use Rattle.std.specs.Prelude.{ℕ, ◌^◌, List, length, drop, codes, Option, Some, None, nat_eq, nat_lt}
+use Rattle.std.specs.Prelude.{nat_le, ◌&&◌, if◌then◌else◌}
 use Rattle.std.specs.List.{starts_with, list_all}
 use Rattle.std.specs.Char.{is_digit}
 use Rattle.std.specs.Str.Parse.{digits_value}

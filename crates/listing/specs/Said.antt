@@ -1,5 +1,6 @@
 -- What the lines of a text say, where each of them has to be understood.
-use Rattle.std.specs.Prelude.{ℕ, ◌+◌, ◌==◌, nat_lt, Bool, true, if◌then◌else◌, List, [], ◌∷◌, ◌++◌, length, Option, Result, Ok, Err, ◌≡◌}
+use Rattle.std.specs.Prelude.{ℕ, ◌+◌, ◌==◌, nat_lt, Bool, true, if◌then◌else◌, List, [], ◌∷◌, ◌++◌}
+use Rattle.std.specs.Prelude.{length, Option, Result, Ok, Err, ◌≡◌}
 use Rattle.std.specs.Option.{option_map_or}
 use Rattle.listing.specs.Lines.{longest_line}
 use Rattle.listing.specs.declared.said.Said.{Said}

@@ -25,7 +25,8 @@ with_header header (Err n) = Err n
 -- what the later lines say, where the first is this header
 abbrev pub contents_with : Option Header → List (List ℕ) → Result Contents ℕ
 contents_with None lines = Err 1
-contents_with (Some header) lines = with_header header (entries_from (command_by header.version) 2 lines)
+contents_with (Some header) lines =
+    with_header header (entries_from (command_by header.version) 2 lines)
 
 -- line 1 is the header, even if there is no line
 abbrev pub trace_of_lines : List (List ℕ) → Result Contents ℕ

@@ -1,5 +1,6 @@
 -- What a text is, line by line, where each of its lines has to be understood.
-use Rattle.std.specs.Prelude.{◌≡◌, ◌≢◌, ℕ, ◌+◌, ◌<◌, ◌⊎◌, true, false, List, [], ◌∷◌, length, slice_index_or, All, Option, Some, None}
+use Rattle.std.specs.Prelude.{◌≡◌, ◌≢◌, ℕ, ◌+◌, ◌<◌, ◌⊎◌, true, false, List, [], ◌∷◌, length}
+use Rattle.std.specs.Prelude.{slice_index_or, All, Option, Some, None}
 use Rattle.std.specs.List.{filter_map}
 use Rattle.modules.specs.Listed.{ListedRegion}
 use Rattle.listing.specs.declared.header.Header.{Header}

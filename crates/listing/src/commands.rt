@@ -4,7 +4,9 @@ ghost use Rattle.listing.specs.Lines.{words_of};
 ghost use Rattle.listing.specs.Batch.{batch_of};
 ghost use Rattle.listing.specs.Numbers.{count_of, number_of, short_number_of};
 ghost use Rattle.listing.specs.Said.{said_by};
-ghost use Rattle.listing.specs.Commands.{batch_command, command_by, command_of, erase_of, erase_with, insert_of, insert_with, read_of, read_with, start_of, start_with, write_of, write_with};
+ghost use Rattle.listing.specs.Commands.{batch_command, command_by, command_of, erase_of};
+ghost use Rattle.listing.specs.Commands.{erase_with, insert_of, insert_with, read_of, read_with};
+ghost use Rattle.listing.specs.Commands.{start_of, start_with, write_of, write_with};
 
 use crate::batch::batch_in;
 use crate::header::Version;

@@ -1,6 +1,7 @@
 //! The header of a trace.
 ghost use Rattle.std.specs.Prelude.{◌≡◌, map};
-ghost use Rattle.listing.specs.Header.{has_batches, header_of, header_of_words, header_with, is_closed_of, is_wide, version_of};
+ghost use Rattle.listing.specs.Header.{has_batches, header_of, header_of_words, header_with};
+ghost use Rattle.listing.specs.Header.{is_closed_of, is_wide, version_of};
 
 use crate::lines::words_in;
 use crate::numbers::{number, short_number};

@@ -8,7 +8,8 @@ ghost use Rattle.listing.specs.Numbers.{number_of};
 ghost use Rattle.listing.specs.RegionListing.{regions_of_text};
 ghost use Rattle.listing.specs.Scripts.{script_line_by, script_of};
 ghost use Rattle.listing.specs.Trace.{trace_of};
-ghost use Rattle.listing.specs.Understood.{AreSaidBy, IsFirstBad, IsFirstBadFrom, IsFirstBadRegion, IsRegionListingBy, IsTraceBy};
+ghost use Rattle.listing.specs.Understood.{AreSaidBy, IsFirstBad, IsFirstBadFrom, IsFirstBadRegion};
+ghost use Rattle.listing.specs.Understood.{IsRegionListingBy, IsTraceBy};
 
 /// A text is a trace exactly where each of its lines is in the grammar, and its commands are then
 /// those of its lines, in their order; otherwise the line that is named is the first one that is

@@ -10,7 +10,9 @@
 ghost use Rattle.std.specs.Prelude.{◌≡◌, ◌+◌, ◌<◌, ◌^◌, true, All, Err, map, IfOk};
 ghost use Rattle.listing.specs.Lines.{lines_of};
 ghost use Rattle.listing.specs.Numbers.{numeral};
-ghost use Rattle.listing.specs.ModuleListing.{base_of, module_counts_after, module_counts, module_of_line, module_of_words, module_of_parts, modules_in, modules_skipped};
+ghost use Rattle.listing.specs.ModuleListing.{base_of, module_counts_after, module_counts};
+ghost use Rattle.listing.specs.ModuleListing.{module_of_line, module_of_words, module_of_parts};
+ghost use Rattle.listing.specs.ModuleListing.{modules_in, modules_skipped};
 ghost use Rattle.modules.specs.Lines.{fits};
 
 use crate::gaps::first_words;

@@ -13,7 +13,8 @@
 ghost use Rattle.std.specs.Prelude.{◌≡◌, true, All, map, IfOk};
 ghost use Rattle.listing.specs.Lines.{lines_of, words_of};
 ghost use Rattle.listing.specs.Said.{entries_from, said_by, GivesInGrammar};
-ghost use Rattle.listing.specs.RegionListing.{part_of, placed_region, region_by, region_of_words, region_with, regions_of_text};
+ghost use Rattle.listing.specs.RegionListing.{part_of, placed_region, region_by, region_of_words};
+ghost use Rattle.listing.specs.RegionListing.{region_with, regions_of_text};
 ghost use Rattle.modules.specs.Lines.{region_fits};
 
 use crate::LineFault;

@@ -14,7 +14,8 @@ ghost use Rattle.std.specs.Prelude.{◌≡◌, true, All, map, IfOk};
 ghost use Rattle.listing.specs.Lines.{lines_of, words_of};
 ghost use Rattle.listing.specs.Numbers.{between, number_of};
 ghost use Rattle.listing.specs.Said.{entries_from, said_by, GivesInGrammar};
-ghost use Rattle.listing.specs.Scripts.{change_by, has_actor, look_with, script_line_by, script_line_of, script_line_with, script_of};
+ghost use Rattle.listing.specs.Scripts.{change_by, has_actor, look_with, script_line_by};
+ghost use Rattle.listing.specs.Scripts.{script_line_of, script_line_with, script_of};
 
 use crate::LineFault;
 use crate::lines::{cut_line, words_in};

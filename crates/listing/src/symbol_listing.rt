@@ -13,7 +13,9 @@ ghost use Rattle.std.specs.Prelude.{◌≡◌, ◌+◌, ◌<◌, ◌^◌, ◌∷
 ghost use Rattle.memchr.specs.Find.{IsFirst, IsFirstByte, Passes, is_byte};
 ghost use Rattle.std.specs.Option.{option_copied, option_map};
 ghost use Rattle.listing.specs.Lines.{lines_of};
-ghost use Rattle.listing.specs.SymbolListing.{address_in, bracketed, symbol_counts_after, cut_at, symbol_before, symbol_counts, symbol_of_text, symbol_of, symbols_in, symbols_skipped};
+ghost use Rattle.listing.specs.SymbolListing.{address_in, bracketed, symbol_counts_after, cut_at};
+ghost use Rattle.listing.specs.SymbolListing.{symbol_before, symbol_counts, symbol_of_text};
+ghost use Rattle.listing.specs.SymbolListing.{symbol_of, symbols_in, symbols_skipped};
 
 use crate::lines::LONGEST_LINE;
 use crate::numbers::{hexadecimal, sixteen_digits};

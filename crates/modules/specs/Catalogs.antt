@@ -1,5 +1,6 @@
 -- The catalog of the listings, and what is asked of it.
-use Rattle.std.specs.Prelude.{◌≡◌, ◌⊎◌, false, ℕ, ◌+◌, zero, suc, not, if◌then◌else◌, List, ◌++◌, length, slice_get, map, count_by, codes, All, Option}
+use Rattle.std.specs.Prelude.{◌≡◌, ◌⊎◌, false, ℕ, ◌+◌, zero, suc, not, if◌then◌else◌, List, ◌++◌}
+use Rattle.std.specs.Prelude.{length, slice_get, map, count_by, codes, All, Option}
 use Rattle.std.specs.List.{flat_map, position_from}
 use Rattle.std.specs.Option.{option_map, option_to_list}
 use Rattle.std.specs.Str.{bytes_eq}
@@ -8,7 +9,8 @@ use Rattle.order_laws.specs.declared.refusals.Refusal.TheVariants.{OutOfMemory, 
 use Rattle.modules.specs.Accepted.{accepted_of}
 use Rattle.modules.specs.Building.{built_in_with, module_with, placed_module_of}
 use Rattle.modules.specs.Entries.{CatalogEntries, ModuleEntry}
-use Rattle.modules.specs.Kept.{AreDistinctNames, belongs, is_built_in, is_kept, is_used, symbols_that}
+use Rattle.modules.specs.Kept.{AreDistinctNames, belongs, is_built_in, is_kept, is_used}
+use Rattle.modules.specs.Kept.{symbols_that}
 use Rattle.modules.specs.Lines.{built_in_region}
 use Rattle.modules.specs.Listed.{BoundNames, ListedModule, ListedRegion, ListedSymbol}
 use Rattle.modules.specs.Names.{names_in}

@@ -1,5 +1,6 @@
 -- Symbols that are put where they are kept.
-use Rattle.std.specs.Prelude.{◌≡◌, ◌≢◌, ℕ, ◌+◌, ◌<◌, false, Bool, not, List, [], ◌++◌, length, filter, slice_index_or, slice_get, count_by, Option, Some, None}
+use Rattle.std.specs.Prelude.{◌≡◌, ◌≢◌, ℕ, ◌+◌, ◌<◌, false, Bool, not, List, [], ◌++◌, length}
+use Rattle.std.specs.Prelude.{filter, slice_index_or, slice_get, count_by, Option, Some, None}
 use Rattle.std.specs.Vec.{vec_len}
 use Rattle.std.specs.Global.{Vec}
 use Rattle.std.specs.List.{position_from}

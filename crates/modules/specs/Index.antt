@@ -1,5 +1,6 @@
 -- Symbols by rising address.
-use Rattle.std.specs.Prelude.{◌≡◌, ℕ, ◌<◌, ◌≤◌, Bool, ◌&&◌, ◌||◌, nat_lt, nat_eq, List, length, slice_index_or, map, IsPermutation, Option, Some, None}
+use Rattle.std.specs.Prelude.{◌≡◌, ℕ, ◌<◌, ◌≤◌, Bool, ◌&&◌, ◌||◌, nat_lt, nat_eq, List, length}
+use Rattle.std.specs.Prelude.{slice_index_or, map, IsPermutation, Option, Some, None}
 use Rattle.std.specs.Global.{Vec}
 use Rattle.std.specs.List.{enumerate_from}
 use Rattle.std.specs.List.Sorted.{IsSortedBy, IsNonDecreasingBy}
@@ -8,7 +9,8 @@ use Rattle.modules.specs.declared.symbols.IndexEntry.{IndexEntry}
 
 -- the address of each symbol, with its place
 abbrev pub index_entries_of : List SymbolEntry → List IndexEntry
-index_entries_of symbols = map (λ p. record { addr = p.1.addr; place = p.0 }) (enumerate_from 0 symbols)
+index_entries_of symbols =
+    map (λ p. record { addr = p.1.addr; place = p.0 }) (enumerate_from 0 symbols)
 
 -- a lesser address comes first, and of equal ones the later place
 abbrev pub comes_before : IndexEntry → IndexEntry → Bool

@@ -1,5 +1,6 @@
 -- What a load, an unload, and the end of a module's start change.
-use Rattle.std.specs.Prelude.{◌≡◌, ℕ, Bool, true, false, ◌&&◌, ◌⊎◌, not, nat_eq, length, if◌then◌else◌, List, [], ◌∷◌, map, Result, Ok, Err}
+use Rattle.std.specs.Prelude.{◌≡◌, ℕ, Bool, true, false, ◌&&◌, ◌⊎◌, not, nat_eq, length}
+use Rattle.std.specs.Prelude.{if◌then◌else◌, List, [], ◌∷◌, map, Result, Ok, Err}
 use Rattle.std.specs.List.{list_any}
 use Rattle.std.specs.Option.{option_map_or}
 use Rattle.std.specs.Str.{bytes_eq}
@@ -7,7 +8,8 @@ use Rattle.latch_core.specs.declared.updates.Update.{Update}
 use Rattle.latch_core.specs.declared.updates.Update.TheVariants.{Insert, Erase, Batch}
 use Rattle.order_laws.specs.declared.items.Item.{Item}
 use Rattle.order_laws.specs.declared.refusals.Refusal.{Refusal}
-use Rattle.order_laws.specs.declared.refusals.Refusal.TheVariants.{AlreadyLoaded, NoInit, NotLoaded, OutOfMemory, UnknownModule}
+use Rattle.order_laws.specs.declared.refusals.Refusal.TheVariants.{AlreadyLoaded, NoInit, NotLoaded}
+use Rattle.order_laws.specs.declared.refusals.Refusal.TheVariants.{OutOfMemory, UnknownModule}
 use Rattle.modules.specs.Catalogs.{module_of}
 use Rattle.modules.specs.Entries.{CatalogEntries, ModuleEntry}
 use Rattle.modules.specs.Parts.{is_init}
@@ -49,10 +51,12 @@ drop_init_update held m =
     else Err NotLoaded
 
 abbrev pub load_of : CatalogEntries → ℕ → Held → Result Update Refusal
-load_of c number held = option_map_or (load_update number held) (module_of c number) (Err UnknownModule)
+load_of c number held =
+    option_map_or (load_update number held) (module_of c number) (Err UnknownModule)
 
 abbrev pub unload_of : CatalogEntries → ℕ → Held → Result Update Refusal
-unload_of c number held = option_map_or (unload_update held) (module_of c number) (Err UnknownModule)
+unload_of c number held =
+    option_map_or (unload_update held) (module_of c number) (Err UnknownModule)
 
 abbrev pub drop_init_of : CatalogEntries → ℕ → Held → Result Update Refusal
 drop_init_of c number held =

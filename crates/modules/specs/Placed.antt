@@ -1,5 +1,6 @@
 -- Where the modules of the listing lie.
-use Rattle.std.specs.Prelude.{◌≡◌, ℕ, ◌<◌, ◌≤◌, Bool, true, All, List, [], ◌∷◌, length, map, filter, nat_le, if◌then◌else◌}
+use Rattle.std.specs.Prelude.{◌≡◌, ℕ, ◌<◌, ◌≤◌, Bool, true, All, List, [], ◌∷◌, length, map, filter}
+use Rattle.std.specs.Prelude.{nat_le, if◌then◌else◌}
 use Rattle.std.specs.List.{list_any, list_all}
 use Rattle.std.specs.Str.{bytes_eq}
 use Rattle.modules.specs.Lines.{region_line_region, module_line_region}
@@ -28,7 +29,8 @@ are_few regions = list_all (λ r. nat_le (length (lines_named r.name regions)) 7
 
 -- a module that lies where its own line says
 abbrev pub placed_alone : ListedModule → PlacedModule
-placed_alone line = record { name = line.name; regions = module_line_region line ∷ []; parts = Core ∷ [] }
+placed_alone line =
+    record { name = line.name; regions = module_line_region line ∷ []; parts = Core ∷ [] }
 
 -- a module that lies where region lines say
 abbrev pub placed_by : List ListedRegion → ListedModule → PlacedModule

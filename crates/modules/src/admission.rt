@@ -98,7 +98,8 @@ impl<'a> Admission<'a> {
     fn take_module(&mut self, placed: Placed<'a>) -> Result<(), AllocError>
         requires tied { IsAdmission self.old }
         requires counts { self.old.double + self.old.overlap + 1 < 2 ^ 64 }
-        ensures after { OnOk result (admission_view self.new ≡ after_module (admission_view self.old) placed.entry) }
+        ensures after { OnOk result
+            (admission_view self.new ≡ after_module (admission_view self.old) placed.entry) }
         ensures tied { OnOk result (IsAdmission self.new) }
     {
         if self.places.contains_key(placed.name) {
@@ -127,7 +128,8 @@ pub(crate) fn admit<'a>(
     requires fit { All (λ l. fits l ≡ true) lines.now }
     requires regions_fit { All (λ l. region_fits l ≡ true) regions.now }
     requires few { are_few regions.now ≡ true }
-    ensures admitted { IfOk result (λ a. admission_view a ≡ accepted_of built_in regions.now lines.now) }
+    ensures admitted { IfOk result
+        (λ a. admission_view a ≡ accepted_of built_in regions.now lines.now) }
     ensures tied { IfOk result IsAdmission }
 {
     let mut admission = Admission::new(alloc, built_in)?;

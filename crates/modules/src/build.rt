@@ -1,6 +1,7 @@
 //! How a catalog is built, step by step.
 
-ghost use Rattle.std.specs.Prelude.{◌≡◌, ◌+◌, ◌<◌, is_some, true, All, length, IfOk, IfSome, count_by};
+ghost use Rattle.std.specs.Prelude.{◌≡◌, ◌+◌, ◌<◌, is_some, true, All, length, IfOk, IfSome};
+ghost use Rattle.std.specs.Prelude.{count_by};
 ghost use Rattle.std.specs.Int.{from_bool};
 ghost use Rattle.std.specs.List.{flat_map};
 ghost use Rattle.modules.specs.Admissions.{admission_view, IsAdmission};

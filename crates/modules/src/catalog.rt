@@ -3,8 +3,10 @@
 ghost use Rattle.std.specs.Prelude.{◌≡◌, ◌↔◌, IsTrue, [], true, All, length, IfOk, IfErr};
 ghost use Rattle.std.specs.Option.{option_copied};
 ghost use Rattle.modules.specs.Lines.{fits, region_fits, usual_bounds};
-ghost use Rattle.modules.specs.Catalogs.{catalog_of, counts_of, IsBuildRefusal, module_of, module_number_of, regions_of, IsSoundCatalog};
-ghost use Rattle.modules.specs.Loads.{drop_init_of, GivesOrLacksMemory, GivesSome, load_of, unload_of};
+ghost use Rattle.modules.specs.Catalogs.{catalog_of, counts_of, IsBuildRefusal, module_of};
+ghost use Rattle.modules.specs.Catalogs.{module_number_of, regions_of, IsSoundCatalog};
+ghost use Rattle.modules.specs.Loads.{drop_init_of, GivesOrLacksMemory, GivesSome, load_of};
+ghost use Rattle.modules.specs.Loads.{unload_of};
 ghost use Rattle.modules.specs.Placed.{are_few};
 
 use crate::build::assemble;

@@ -13,12 +13,14 @@
 //! The strays are taken out of the list of a run, and the first list of a module becomes the
 //! module's own; so no symbol is copied where the lines of each module stand side by side.
 
-ghost use Rattle.std.specs.Prelude.{◌≡◌, ◌+◌, ◌<◌, ◌^◌, ◌++◌, ◌∷◌, [], IfOk, OnOk, filter, length, vec_len};
+ghost use Rattle.std.specs.Prelude.{◌≡◌, ◌+◌, ◌<◌, ◌^◌, ◌++◌, ◌∷◌, [], IfOk, OnOk, filter, length};
+ghost use Rattle.std.specs.Prelude.{vec_len};
 ghost use Rattle.std.specs.Option.{option_copied};
 ghost use Rattle.modules.specs.Accepted.{names_of};
 ghost use Rattle.modules.specs.Admissions.{admission_view, IsAdmission};
 ghost use Rattle.modules.specs.Kept.{AreDistinctNames};
-ghost use Rattle.modules.specs.Gathering.{owner_for, lies_for, CountsStay, HasRoom, Keeps, KeepsRun, IsEmptyFor, Gathers};
+ghost use Rattle.modules.specs.Gathering.{owner_for, lies_for, CountsStay, HasRoom, Keeps};
+ghost use Rattle.modules.specs.Gathering.{KeepsRun, IsEmptyFor, Gathers};
 ghost use Rattle.modules.specs.Runs.{lines_of_all};
 
 use crate::admission::Admission;
@@ -85,9 +87,11 @@ impl<'a> Gathered<'a> {
     /// Goes through the lines of a run.
     fn keep_run(&mut self, admission: &Admission, run: Run<'a>) -> Result<(), AllocError>
         requires tied { IsAdmission admission.now }
-        requires lists { length self.old.modules.items ≡ length (admission_view admission.now).modules }
+        requires lists { length self.old.modules.items
+            ≡ length (admission_view admission.now).modules }
         requires counts { self.old.kept + self.old.stray + vec_len run.symbols < 2 ^ 64 }
-        ensures { OnOk result (KeepsRun (admission_view admission.now) run.entry self.old self.new) }
+        ensures { OnOk result
+            (KeepsRun (admission_view admission.now) run.entry self.old self.new) }
     {
         let owner = owner_of(admission, run.module);
         let listed = run.symbols.len();
@@ -166,7 +170,8 @@ fn gather_runs<'a>(
     requires distinct { AreDistinctNames (names_of (admission_view admission.now).modules) }
     requires few { length (lines_of_all (runs.items ++ last ∷ [])) < 2 ^ 64 }
     ensures { IfOk result
-        (Gathers (admission_view admission.now) (lines_of_all (runs.entry.items ++ last.entry ∷ []))) }
+        (Gathers (admission_view admission.now)
+        (lines_of_all (runs.entry.items ++ last.entry ∷ []))) }
 {
     let mut gathered = Gathered::new(alloc, admission.modules.len())?;
     for run in runs {

@@ -1,7 +1,8 @@
 //! The lines of the listings that a catalog is built from.
 
 ghost use Rattle.std.specs.Prelude.{◌≡◌, true};
-ghost use Rattle.modules.specs.Lines.{fits, module_line_region, region_fits, region_line_region, is_region, usual_bounds};
+ghost use Rattle.modules.specs.Lines.{fits, module_line_region, region_fits, region_line_region};
+ghost use Rattle.modules.specs.Lines.{is_region, usual_bounds};
 ghost use Rattle.modules.specs.Parts.{is_core, is_init, is_of};
 
 use crate::regions::Region;

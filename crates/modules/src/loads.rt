@@ -3,10 +3,12 @@
 //! One item put in, or one taken out, is an update of its own; anything else is a batch. Whether an
 //! update is one of these is told without memory.
 
-ghost use Rattle.std.specs.Prelude.{◌≡◌, ◌≢◌, ◌<◌, ◌≤◌, [], ◌∷◌, ◌++◌, if◌then◌else◌, IfOk, Ok, length, map};
+ghost use Rattle.std.specs.Prelude.{◌≡◌, ◌≢◌, ◌<◌, ◌≤◌, [], ◌∷◌, ◌++◌, if◌then◌else◌, IfOk, Ok};
+ghost use Rattle.std.specs.Prelude.{length, map};
 ghost use Rattle.arrayvec.specs.ArrayVec.{array_vec_len};
 ghost use Rattle.std.specs.Str.{bytes_eq};
-ghost use Rattle.modules.specs.Loads.{GivesOrLacksMemory, is_erasing, is_inserting, item_of, same_items, update_of};
+ghost use Rattle.modules.specs.Loads.{GivesOrLacksMemory, is_erasing, is_inserting, item_of};
+ghost use Rattle.modules.specs.Loads.{same_items, update_of};
 ghost use Rattle.modules.specs.Starts.{starts_of};
 
 use crate::lines::Part;

@@ -18,7 +18,8 @@ with_node_link s key side link (Some n) = with_value s key (with_link side link 
 
 -- the slab in which a step leads by this link
 abbrev pub with_step_link : Slab Node → Step → ℕ → Slab Node
-with_step_link s step link = with_node_link s (key_of step.link) step.side link (get s (key_of step.link))
+with_step_link s step link =
+    with_node_link s (key_of step.link) step.side link (get s (key_of step.link))
 
 -- what stands for a step that is not there
 abbrev pub no_step : Step

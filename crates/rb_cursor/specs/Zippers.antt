@@ -73,7 +73,8 @@ built-append : (trees : List ColouredTree) (xs ys : List (Option (Bool × Record
 built-append trees [] ys = refl
 built-append trees (x ∷ xs) ys = built-append (trees_built_on trees x) xs ys
 
-built-written : (trees : List ColouredTree) (t : ColouredTree) → trees_built trees (tree_written t) ≡ t ∷ trees
+built-written : (trees : List ColouredTree) (t : ColouredTree)
+    → trees_built trees (tree_written t) ≡ t ∷ trees
 built-written trees tip = refl
 built-written trees (branch red l x r) =
     built-append trees (tree_written l) (tree_written r ++ Some (red, x) ∷ [])
@@ -87,7 +88,8 @@ rebuilt-written t = ap first_of_trees (built-written [] t)
 abbrev pub branches_code : Coded ColouredTree
 branches_code =
     code_by (List (Option (Bool × Record)))
-    (coded_list (coded_option (coded× coded_bool record_code))) tree_written tree_rebuilt rebuilt-written
+    (coded_list (coded_option (coded× coded_bool record_code)))
+    tree_written tree_rebuilt rebuilt-written
 
 abbrev pub above_code : Coded Above
 above_code =

@@ -15,10 +15,12 @@
 //! (A star marks a red node.) The right side is the mirror image.
 
 ghost use Rattle.std.specs.Prelude.{◌≡◌, ◌+◌, ◌<◌, length, vec_capacity};
-ghost use Rattle.rb_trees.specs.Erased.{lowered, filled_left, left_fill_links, filled_right, right_fill_links};
+ghost use Rattle.rb_trees.specs.Erased.{lowered, filled_left, left_fill_links, filled_right};
+ghost use Rattle.rb_trees.specs.Erased.{right_fill_links};
 ghost use Rattle.rb_trees.specs.Erased.{filled_left_of_black, left_fill_links_of_black};
 ghost use Rattle.rb_trees.specs.Erased.{filled_right_of_black, right_fill_links_of_black};
-ghost use Rattle.rb_trees.specs.Erased.{filled_left_if_short, left_fill_links_if_short, filled_right_if_short, right_fill_links_if_short};
+ghost use Rattle.rb_trees.specs.Erased.{filled_left_if_short, left_fill_links_if_short};
+ghost use Rattle.rb_trees.specs.Erased.{filled_right_if_short, right_fill_links_if_short};
 ghost use Rattle.rb_cursor.specs.Zippers.{holding};
 ghost use Rattle.rb_cursor.specs.Stores.{Fits, Adds};
 ghost use Rattle.word_arena.specs.Copies.{copy_number};
@@ -52,7 +54,8 @@ fn fill_left_of_black(out: &mut Vec<Store>, copy: TreeCopy, cursor: &mut Cursor)
     requires list { Fits out.old (left_fill_links_of_black (copy_number copy) cursor.old.tree) }
     ensures short { result ≡ (filled_left_of_black cursor.old.tree).short }
     ensures cursor { cursor.new ≡ holding (filled_left_of_black cursor.old.tree).tree cursor.old }
-    ensures items { Adds out.old (left_fill_links_of_black (copy_number copy) cursor.old.tree) out.new }
+    ensures items { Adds out.old
+        (left_fill_links_of_black (copy_number copy) cursor.old.tree) out.new }
     ensures capacity { vec_capacity out.new ≡ vec_capacity out.old }
 {
     let Some(fork) = cursor.tree().open() else {
@@ -118,10 +121,13 @@ fn fill_left(out: &mut Vec<Store>, copy: TreeCopy, cursor: &mut Cursor) -> bool
 #[inline]
 pub fn fill_left_if(out: &mut Vec<Store>, copy: TreeCopy, cursor: &mut Cursor, short: bool) -> bool
     requires steps { length cursor.old.path + 1 < 64 }
-    requires list { Fits out.old (left_fill_links_if_short (copy_number copy) short cursor.old.tree) }
+    requires list { Fits out.old
+        (left_fill_links_if_short (copy_number copy) short cursor.old.tree) }
     ensures short { result ≡ (filled_left_if_short short cursor.old.tree).short }
-    ensures cursor { cursor.new ≡ holding (filled_left_if_short short cursor.old.tree).tree cursor.old }
-    ensures items { Adds out.old (left_fill_links_if_short (copy_number copy) short cursor.old.tree) out.new }
+    ensures cursor { cursor.new
+        ≡ holding (filled_left_if_short short cursor.old.tree).tree cursor.old }
+    ensures items { Adds out.old
+        (left_fill_links_if_short (copy_number copy) short cursor.old.tree) out.new }
     ensures capacity { vec_capacity out.new ≡ vec_capacity out.old }
 {
     if short {
@@ -137,7 +143,8 @@ fn fill_right_of_black(out: &mut Vec<Store>, copy: TreeCopy, cursor: &mut Cursor
     requires list { Fits out.old (right_fill_links_of_black (copy_number copy) cursor.old.tree) }
     ensures short { result ≡ (filled_right_of_black cursor.old.tree).short }
     ensures cursor { cursor.new ≡ holding (filled_right_of_black cursor.old.tree).tree cursor.old }
-    ensures items { Adds out.old (right_fill_links_of_black (copy_number copy) cursor.old.tree) out.new }
+    ensures items { Adds out.old
+        (right_fill_links_of_black (copy_number copy) cursor.old.tree) out.new }
     ensures capacity { vec_capacity out.new ≡ vec_capacity out.old }
 {
     let Some(fork) = cursor.tree().open() else {
@@ -203,10 +210,13 @@ fn fill_right(out: &mut Vec<Store>, copy: TreeCopy, cursor: &mut Cursor) -> bool
 #[inline]
 pub fn fill_right_if(out: &mut Vec<Store>, copy: TreeCopy, cursor: &mut Cursor, short: bool) -> bool
     requires steps { length cursor.old.path + 1 < 64 }
-    requires list { Fits out.old (right_fill_links_if_short (copy_number copy) short cursor.old.tree) }
+    requires list { Fits out.old
+        (right_fill_links_if_short (copy_number copy) short cursor.old.tree) }
     ensures short { result ≡ (filled_right_if_short short cursor.old.tree).short }
-    ensures cursor { cursor.new ≡ holding (filled_right_if_short short cursor.old.tree).tree cursor.old }
-    ensures items { Adds out.old (right_fill_links_if_short (copy_number copy) short cursor.old.tree) out.new }
+    ensures cursor { cursor.new
+        ≡ holding (filled_right_if_short short cursor.old.tree).tree cursor.old }
+    ensures items { Adds out.old
+        (right_fill_links_if_short (copy_number copy) short cursor.old.tree) out.new }
     ensures capacity { vec_capacity out.new ≡ vec_capacity out.old }
 {
     if short {

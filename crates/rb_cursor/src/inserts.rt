@@ -76,7 +76,8 @@ pub fn insert_apart<O: TreeOrder>(
     ensures unchanged { result ≡ true →
         (cursor.new ≡ cursor.old) × (out.new.items ≡ out.old.items) }
     ensures cursor { result ≡ false →
-        cursor.new ≡ at_root (inserted_into O.order.less added cursor.old.tree) (cursor.old.room - 1) }
+        cursor.new ≡ at_root (inserted_into O.order.less added cursor.old.tree)
+        (cursor.old.room - 1) }
     ensures items { result ≡ false →
         Adds out.old (insert_links (copy_number copy) O.order.less added cursor.old.tree) out.new }
     ensures capacity { vec_capacity out.new ≡ vec_capacity out.old }

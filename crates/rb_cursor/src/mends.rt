@@ -14,7 +14,8 @@
 //! (A star marks a red node.) The right side is the mirror image.
 
 ghost use Rattle.std.specs.Prelude.{◌≡◌, ◌<◌, length, vec_capacity};
-ghost use Rattle.rb_trees.specs.Inserted.{mended_left, left_mend_links, mended_right, right_mend_links};
+ghost use Rattle.rb_trees.specs.Inserted.{mended_left, left_mend_links, mended_right};
+ghost use Rattle.rb_trees.specs.Inserted.{right_mend_links};
 ghost use Rattle.rb_cursor.specs.Tops.{red_over_black};
 ghost use Rattle.rb_cursor.specs.Zippers.{altered};
 ghost use Rattle.rb_cursor.specs.Stores.{Fits, Adds};

@@ -69,7 +69,8 @@ pub(crate) fn fill(out: &mut Vec<Store>, copy: TreeCopy, cursor: &mut Cursor, si
     requires list { Fits out.old (fill_links_on side (copy_number copy) true cursor.old.tree) }
     ensures short { result ≡ (filled_on side true cursor.old.tree).short }
     ensures cursor { cursor.new ≡ altered (filled_at side true) cursor.old }
-    ensures items { Adds out.old (fill_links_on side (copy_number copy) true cursor.old.tree) out.new }
+    ensures items { Adds out.old
+        (fill_links_on side (copy_number copy) true cursor.old.tree) out.new }
     ensures capacity { vec_capacity out.new ≡ vec_capacity out.old }
 {
     match side {

@@ -1,7 +1,8 @@
 //! Rotations, with their stores.
 
 ghost use Rattle.std.specs.Prelude.{◌≡◌, vec_capacity};
-ghost use Rattle.rb_trees.specs.Turns.{turned_right, right_turn_links, turned_left, left_turn_links};
+ghost use Rattle.rb_trees.specs.Turns.{turned_right, right_turn_links, turned_left};
+ghost use Rattle.rb_trees.specs.Turns.{left_turn_links};
 ghost use Rattle.rb_cursor.specs.Zippers.{altered};
 ghost use Rattle.rb_cursor.specs.Stores.{Fits, Adds};
 ghost use Rattle.word_arena.specs.Copies.{copy_number};

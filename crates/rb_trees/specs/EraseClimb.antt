@@ -6,7 +6,8 @@ use Rattle.rb_trees.specs.declared.Side.{Side}
 use Rattle.rb_trees.specs.declared.Side.TheVariants.{Left, Right}
 use Rattle.rb_trees.specs.Trees.{ColouredTree, tip, branch, shape}
 use Rattle.rb_trees.specs.Turns.{link}
-use Rattle.rb_trees.specs.Erased.{Remainder, whole, lowered, filled_left_if_short, left_fill_links_if_short, filled_right_if_short}
+use Rattle.rb_trees.specs.Erased.{Remainder, whole, lowered, filled_left_if_short}
+use Rattle.rb_trees.specs.Erased.{left_fill_links_if_short, filled_right_if_short}
 use Rattle.rb_trees.specs.Erased.{right_fill_links_if_short, without_top, top_links}
 use Rattle.rb_trees.specs.Paths.{Above, joined}
 use Rattle.rb_trees.specs.InsertClimb.{relink_on}

@@ -154,7 +154,8 @@ top_links copy red l tip = []
 top_links copy red l (branch k a y b) =
     (first_links copy (branch k a y b)
     ++ set_left copy (first_record y a).node (link (shape l))
-    ∷ set_right copy (first_record y a).node (link (shape (without_first (branch k a y b)).tree)) ∷ [])
+    ∷ set_right copy (first_record y a).node (link (shape (without_first (branch k a y b)).tree))
+    ∷ [])
     ++ right_fill_links_if_short copy (without_first (branch k a y b)).short
     (branch red l (first_record y a) (without_first (branch k a y b)).tree)
 
@@ -167,17 +168,19 @@ abbrev pub item_lies : (Item → Item → Bool) → Item → Record → Ordering
 item_lies less i y = if y.item.a == i.a then Equal else if less i y.item then Less else Greater
 
 -- without the record that lies where the function says, in steps that were made of both sides
-abbrev pub erased_at : Ordering → Bool → ColouredTree → Record → ColouredTree → Remainder → Remainder → Remainder
+abbrev pub erased_at : Ordering → Bool → ColouredTree → Record → ColouredTree → Remainder
+    → Remainder → Remainder
 erased_at Less red l y r less more = filled_left_if_short less.short (branch red less.tree y r)
 erased_at Equal red l y r less more = without_top red l r
 erased_at Greater red l y r less more = filled_right_if_short more.short (branch red l y more.tree)
 
 abbrev pub erased_from : (Record → Ordering) → ColouredTree → Remainder
 erased_from seen tip = whole tip
-erased_from seen (branch red l y r) = erased_at (seen y) red l y r (erased_from seen l) (erased_from seen r)
+erased_from seen (branch red l y r) =
+    erased_at (seen y) red l y r (erased_from seen l) (erased_from seen r)
 
-abbrev pub links_at : ℕ → Ordering → Bool → ColouredTree → Record → ColouredTree → Remainder → Remainder →
-    List Store → List Store → List Store
+abbrev pub links_at : ℕ → Ordering → Bool → ColouredTree → Record → ColouredTree → Remainder
+    → Remainder → List Store → List Store → List Store
 links_at copy Less red l y r less more ss ts =
     (ss ++ relink_left copy y.node (link (shape l)) (link (shape less.tree)))
     ++ left_fill_links_if_short copy less.short (branch red less.tree y r)
@@ -189,7 +192,8 @@ links_at copy Greater red l y r less more ss ts =
 abbrev pub erase_links : ℕ → (Record → Ordering) → ColouredTree → List Store
 erase_links copy seen tip = []
 erase_links copy seen (branch red l y r) =
-    links_at copy (seen y) red l y r (erased_from seen l) (erased_from seen r) (erase_links copy seen l)
+    links_at copy (seen y) red l y r (erased_from seen l) (erased_from seen r)
+    (erase_links copy seen l)
     (erase_links copy seen r)
 
 -- the record that was erased

@@ -40,5 +40,7 @@ meets_anywhere o i but (branch red l y r) =
 abbrev pub meets_on_the_way : {K : Type 0} → Order K → Item → List ℕ → ColouredTree → Bool
 meets_on_the_way o i but tip = false
 meets_on_the_way o i but (branch red l y r) =
-    if o.apart y.item i then (if o.less i y.item then meets_on_the_way o i but l else meets_on_the_way o i but r)
-    else not (list_any (λ a. a == y.item.a) but) || (meets_on_the_way o i but l || meets_on_the_way o i but r)
+    if o.apart y.item i
+    then (if o.less i y.item then meets_on_the_way o i but l else meets_on_the_way o i but r)
+    else not (list_any (λ a. a == y.item.a) but)
+    || (meets_on_the_way o i but l || meets_on_the_way o i but r)

@@ -33,7 +33,8 @@ mended_left (branch red l y r) = if red then branch red l y r else mended_left_a
 
 abbrev pub left_mend_links_at : ℕ → Clash → ColouredTree → Record → ColouredTree → List Store
 left_mend_links_at copy Nowhere l y r = []
-left_mend_links_at copy Left l y r = if is_red r then [] else right_turn_links copy (branch false l y r)
+left_mend_links_at copy Left l y r =
+    if is_red r then [] else right_turn_links copy (branch false l y r)
 left_mend_links_at copy Right l y r =
     if is_red r then []
     else
@@ -43,7 +44,8 @@ left_mend_links_at copy Right l y r =
 
 abbrev pub left_mend_links : ℕ → ColouredTree → List Store
 left_mend_links copy tip = []
-left_mend_links copy (branch red l y r) = if red then [] else left_mend_links_at copy (clash l) l y r
+left_mend_links copy (branch red l y r) =
+    if red then [] else left_mend_links_at copy (clash l) l y r
 
 -- a black node whose right child may be red with a red child
 abbrev pub mended_right_at : Clash → ColouredTree → Record → ColouredTree → ColouredTree
@@ -60,7 +62,8 @@ mended_right (branch red l y r) = if red then branch red l y r else mended_right
 
 abbrev pub right_mend_links_at : ℕ → Clash → ColouredTree → Record → ColouredTree → List Store
 right_mend_links_at copy Nowhere l y r = []
-right_mend_links_at copy Right l y r = if is_red l then [] else left_turn_links copy (branch false l y r)
+right_mend_links_at copy Right l y r =
+    if is_red l then [] else left_turn_links copy (branch false l y r)
 right_mend_links_at copy Left l y r =
     if is_red l then []
     else
@@ -70,7 +73,8 @@ right_mend_links_at copy Left l y r =
 
 abbrev pub right_mend_links : ℕ → ColouredTree → List Store
 right_mend_links copy tip = []
-right_mend_links copy (branch red l y r) = if red then [] else right_mend_links_at copy (clash r) l y r
+right_mend_links copy (branch red l y r) =
+    if red then [] else right_mend_links_at copy (clash r) l y r
 
 -- the tree with one record more, before the first that it is less than; its top may be red with a
 -- red child

@@ -10,5 +10,6 @@ use Rattle.rb_trees.specs.Found.{items_of_records}
 -- the comparison finds the record at the place of this first word, and an erase by it takes that
 -- one alone
 pub record FindsFirstWord (a : ℕ) (seen : Record → Ordering) (t : ColouredTree) : Type 0 where
-  pub erases : rows (erased_from seen t).tree ≡ remove (rows t) (place_of a (items_of_records (rows t)))
+  pub erases : rows (erased_from seen t).tree
+      ≡ remove (rows t) (place_of a (items_of_records (rows t)))
   pub finds : found seen t ≡ slice_get (rows t) (place_of a (items_of_records (rows t)))

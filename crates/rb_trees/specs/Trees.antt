@@ -39,12 +39,14 @@ black_height (branch false l x r) = suc (black_height l)
 -- all ways down have equally many black nodes
 abbrev pub HasEqualBlackHeights : ColouredTree → Type 0
 HasEqualBlackHeights tip = Unit {0}
-HasEqualBlackHeights (branch red l x r) = (black_height l ≡ black_height r) × HasEqualBlackHeights l × HasEqualBlackHeights r
+HasEqualBlackHeights (branch red l x r) =
+    (black_height l ≡ black_height r) × HasEqualBlackHeights l × HasEqualBlackHeights r
 
 -- no red node has a red child
 abbrev pub HasNoClash : ColouredTree → Type 0
 HasNoClash tip = Unit {0}
-HasNoClash (branch true l x r) = (is_red l ≡ false) × (is_red r ≡ false) × HasNoClash l × HasNoClash r
+HasNoClash (branch true l x r) =
+    (is_red l ≡ false) × (is_red r ≡ false) × HasNoClash l × HasNoClash r
 HasNoClash (branch false l x r) = HasNoClash l × HasNoClash r
 
 pub record IsRedBlack (t : ColouredTree) : Type 0 where

@@ -22,8 +22,7 @@ picture_of capacity copy t room =
       copy = copy;
       table = items_of_records (rows t);
       tree = shape t;
-      room =
-          room;
+      room = room;
     }
 
 -- the tree with a record more, and its links
@@ -55,8 +54,8 @@ IsLongerBy old xs new = vec_len new ≡ vec_len old + length xs
 
 -- from one tree to another the record of a first word was taken out, found by some comparison; it
 -- had this node, and the stores of links stand in the new list after the old one's
-pub record TakesOut {Z : Type 0} (copy a : ℕ) (t u : ColouredTree) (node : ℕ) (old new : Vec Store Z) :
-    Type 0 where
+pub record TakesOut {Z : Type 0} (copy a : ℕ) (t u : ColouredTree) (node : ℕ)
+    (old new : Vec Store Z) : Type 0 where
   pub seen : Record → Ordering
   pub sought : FindsFirstWord a seen t
   pub row : Record

@@ -51,7 +51,8 @@ update_of_change c ch table = asked c ch (held_in c (number_of_change ch) table)
 
 -- the update of the change is applied
 abbrev pub Changes : CatalogEntries → Change → LedgerState → LedgerState → ℕ → Type 0
-Changes c ch l l' g = (u : Update) × (update_of_change c ch (ledger_table l) ≡ Ok u) × Applies u l l' g
+Changes c ch l l' g =
+    (u : Update) × (update_of_change c ch (ledger_table l) ≡ Ok u) × Applies u l l' g
 
 -- the catalog refuses the change, or its update is refused
 abbrev pub RefusesChange : CatalogEntries → Change → LedgerState → Refusal → Type 0

@@ -1,5 +1,6 @@
 -- How the answers are checked.
-use Rattle.std.specs.Prelude.{◌≡◌, ℕ, ◌+◌, ◌<◌, Bool, ◌&&◌, ◌||◌, not, nat_eq, nat_lt, List, [], length, take, count_by, min, slice_index_or, Option, None}
+use Rattle.std.specs.Prelude.{◌≡◌, ℕ, ◌+◌, ◌<◌, Bool, ◌&&◌, ◌||◌, not, nat_eq, nat_lt, List, []}
+use Rattle.std.specs.Prelude.{length, take, count_by, min, slice_index_or, Option, None}
 use Rattle.std.specs.Option.{option_eq}
 use Rattle.std.specs.List.Sorted.{IsNonDecreasingBy}
 use Rattle.order_laws.specs.declared.items.Item.{Item}
@@ -19,7 +20,8 @@ is_same_item = option_eq (λ i j. nat_eq i.a j.a && nat_eq i.b j.b && nat_eq i.t
 abbrev pub is_wrong_answer : List Update → Answer → Bool
 is_wrong_answer log a =
     nat_lt (length log) a.generation
-    || not (is_same_item a.item (look half_open a.key (replay half_open [] (take a.generation log))))
+    || not (is_same_item a.item
+    (look half_open a.key (replay half_open [] (take a.generation log))))
 
 -- the answers stand by rising generation
 abbrev pub AreInOrder : List Answer → Type 0

@@ -1,5 +1,6 @@
 -- A table with the log of its updates.
-use Rattle.std.specs.Prelude.{◌≡◌, ◌⊎◌, ℕ, ◌+◌, ◌*◌, List, [], ◌∷◌, ◌++◌, length, take, slice_get, false, Option, Some, None}
+use Rattle.std.specs.Prelude.{◌≡◌, ◌⊎◌, ℕ, ◌+◌, ◌*◌, List, [], ◌∷◌, ◌++◌, length, take, slice_get}
+use Rattle.std.specs.Prelude.{false, Option, Some, None}
 use Rattle.atomic_table.specs.Seated.{TableId}
 use Rattle.order_laws.specs.declared.items.Item.{Item}
 use Rattle.order_laws.specs.declared.refusals.Refusal.{Refusal}
@@ -36,7 +37,8 @@ ledger_sequence l = 2 * ledger_generation l
 
 -- why an update is refused, or none
 abbrev pub refusal_at : LedgerState → Update → Option Refusal
-refusal_at l u = refusal_for half_open l.capacity l.limit false (ledger_table l) (ledger_sequence l) u
+refusal_at l u =
+    refusal_for half_open l.capacity l.limit false (ledger_table l) (ledger_sequence l) u
 
 -- with one update more at the end of the log
 abbrev pub with_entry : Update → LedgerState → LedgerState

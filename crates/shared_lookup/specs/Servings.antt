@@ -1,5 +1,7 @@
 -- What several writers and readers come back with, and how many of their answers are wrong.
-use Rattle.std.specs.Prelude.{◌≡◌, ◌≢◌, ◌⊎◌, ℕ, ◌+◌, ◌-◌, ◌^◌, ◌<◌, ◌≤◌, ◌==◌, Bool, false, List, [], length, map, take, slice_get, count_by, zip, min, Some, Result, Ok, Err}
+use Rattle.std.specs.Prelude.{◌≡◌, ◌≢◌, ◌⊎◌, ℕ, ◌+◌, ◌-◌, ◌^◌, ◌<◌, ◌≤◌, ◌==◌, Bool, false, List}
+use Rattle.std.specs.Prelude.{[], length, map, take, slice_get, count_by, zip, min, Some, Result}
+use Rattle.std.specs.Prelude.{Ok, Err}
 use Rattle.std.specs.Global.{Vec}
 use Rattle.std.specs.List.{flat_map, range_with_len}
 use Rattle.order_laws.specs.declared.refusals.Refusal.{Refusal}

@@ -7,7 +7,8 @@ ghost use Rattle.latch_table.specs.declared.knowledge.Origin.TheVariants.{Start}
 ghost use Rattle.latch_table.specs.Readers.{new_reader};
 ghost use Rattle.latch_table.specs.Seats.{first_knowledge};
 ghost use Rattle.latch_table.specs.Writers.{MayOpenWith, OnTheWay, Refuses, RefusesOpening};
-ghost use Rattle.shared_lookup.specs.Enlarging.{AreLedgerReaders, EnlargesLedger, RefusesEnlargingLedger};
+ghost use Rattle.shared_lookup.specs.Enlarging.{AreLedgerReaders, EnlargesLedger};
+ghost use Rattle.shared_lookup.specs.Enlarging.{RefusesEnlargingLedger};
 ghost use Rattle.shared_lookup.specs.Ledgers.{Applies, AreAccepted, CarriesOut, RefusesUpdate};
 ghost use Rattle.shared_lookup.specs.Ledgers.{new_ledger, ledger_table};
 

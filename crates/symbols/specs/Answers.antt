@@ -1,5 +1,6 @@
 -- The text of an answer.
-use Rattle.std.specs.Prelude.{ℕ, ◌&&◌, nat_eq, nat_le, nat_lt, if◌then◌else◌, List, [], ◌++◌, codes, Option, Some, None}
+use Rattle.std.specs.Prelude.{ℕ, ◌&&◌, nat_eq, nat_le, nat_lt, if◌then◌else◌, List, [], ◌++◌, codes}
+use Rattle.std.specs.Prelude.{Option, Some, None}
 use Rattle.std.specs.Option.{option_map_or}
 use Rattle.devices.specs.Exact.{hexadecimal}
 use Rattle.order_laws.specs.declared.items.Item.{Item}

@@ -1,5 +1,6 @@
 -- The symbol that an address belongs to.
-use Rattle.std.specs.Prelude.{◌≡◌, ◌≢◌, ℕ, ◌-◌, ◌<◌, ◌≤◌, ◌⊎◌, All, Contains, List, filter, Option, Some, slice_get, slice_index_or, unwrap_or}
+use Rattle.std.specs.Prelude.{◌≡◌, ◌≢◌, ℕ, ◌-◌, ◌<◌, ◌≤◌, ◌⊎◌, All, Contains, List, filter, Option}
+use Rattle.std.specs.Prelude.{Some, slice_get, slice_index_or, unwrap_or}
 use Rattle.std.specs.Option.{option_map, option_and_then}
 use Rattle.order_laws.specs.declared.items.Item.{Item}
 use Rattle.modules.specs.Around.{symbol_below, address_above}
@@ -27,7 +28,8 @@ symbols_from symbols start end = filter (λ s. holds (start, end) s.addr) symbol
 
 -- of symbols in the order listed, in a region that ends at `end`
 abbrev pub found_in : List SymbolEntry → ℕ → ℕ → Option Found
-found_in symbols end addr = option_map (symbol_found_at symbols end addr) (symbol_below symbols addr)
+found_in symbols end addr =
+    option_map (symbol_found_at symbols end addr) (symbol_below symbols addr)
 
 -- of the kept symbols of the item's module that lie in the item
 abbrev pub symbol_at : CatalogEntries → Item → ℕ → Option Found

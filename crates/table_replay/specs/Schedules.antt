@@ -1,5 +1,6 @@
 -- A list of updates that is gone through again and again.
-use Rattle.std.specs.Prelude.{◌≡◌, ℕ, zero, suc, ◌<◌, ◌/◌, ◌%◌, List, [], ◌++◌, length, take, slice_index_or}
+use Rattle.std.specs.Prelude.{◌≡◌, ℕ, zero, suc, ◌<◌, ◌/◌, ◌%◌, List, [], ◌++◌, length, take}
+use Rattle.std.specs.Prelude.{slice_index_or}
 use Rattle.order_laws.specs.declared.items.Item.{Item}
 use Rattle.order_laws.specs.Orders.{half_open}
 use Rattle.latch_core.specs.declared.updates.Update.{Update}

@@ -20,7 +20,13 @@ pub struct Ranges;
 impl TreeOrder for Ranges {
     type Key = Address;
 
-    ghost order = { record { key_of = λ i. record { 0 = i.a }; valid = half_open.valid; apart = half_open.apart; less = half_open.less; comp = λ k i. half_open.comp k.0 i } };
+    ghost order = { record {
+      key_of = λ i. record { 0 = i.a };
+      valid = half_open.valid;
+      apart = half_open.apart;
+      less = half_open.less;
+      comp = λ k i. half_open.comp k.0 i;
+    } };
 
     fn key_of(i: &Item) -> Address {
         Address(i.a)
@@ -49,10 +55,30 @@ impl TreeOrder for Ranges {
       own_key = half_open_lawful.own_key;
       key_below = half_open_lawful.key_below;
       key_above = half_open_lawful.key_above;
-      below_lesser = λ k x y p. half_open_lawful.below_lesser k.0 x y (record { first_valid = p.first_valid; second_valid = p.second_valid; is_apart = p.is_apart; is_less = p.is_less });
-      above_greater = λ k x y p. half_open_lawful.above_greater k.0 x y (record { first_valid = p.first_valid; second_valid = p.second_valid; is_apart = p.is_apart; is_less = p.is_less });
-      in_lesser = λ k x y p. half_open_lawful.in_lesser k.0 x y (record { first_valid = p.first_valid; second_valid = p.second_valid; is_apart = p.is_apart; is_less = p.is_less });
-      in_greater = λ k x y p. half_open_lawful.in_greater k.0 x y (record { first_valid = p.first_valid; second_valid = p.second_valid; is_apart = p.is_apart; is_less = p.is_less });
+      below_lesser = λ k x y p. half_open_lawful.below_lesser k.0 x y (record {
+        first_valid = p.first_valid;
+        second_valid = p.second_valid;
+        is_apart = p.is_apart;
+        is_less = p.is_less;
+      });
+      above_greater = λ k x y p. half_open_lawful.above_greater k.0 x y (record {
+        first_valid = p.first_valid;
+        second_valid = p.second_valid;
+        is_apart = p.is_apart;
+        is_less = p.is_less;
+      });
+      in_lesser = λ k x y p. half_open_lawful.in_lesser k.0 x y (record {
+        first_valid = p.first_valid;
+        second_valid = p.second_valid;
+        is_apart = p.is_apart;
+        is_less = p.is_less;
+      });
+      in_greater = λ k x y p. half_open_lawful.in_greater k.0 x y (record {
+        first_valid = p.first_valid;
+        second_valid = p.second_valid;
+        is_apart = p.is_apart;
+        is_less = p.is_less;
+      });
       symmetric = half_open_lawful.symmetric;
       own_first_word = half_open_lawful.own_first_word;
     } };

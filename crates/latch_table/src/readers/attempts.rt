@@ -70,7 +70,8 @@ fn walk<O: TreeOrder>(
     requires begun { (reader_of seat.old.me.0).loads ≡ (0, first) ∷ [] }
     ensures table { seat.new.table_id ≡ seat.old.table_id }
     ensures reads { seat.new.me ≡ (reader_knowledge (reader_of seat.new.me.0), []) }
-    ensures walked { HasWalked O.order k first (reader_of seat.old.me.0) (reader_of seat.new.me.0) result }
+    ensures walked { HasWalked O.order k first (reader_of seat.old.me.0)
+        (reader_of seat.new.me.0) result }
 {
     let copy = stable_copy(first);
     let (left, right) = (places::left_of(copy, 0), places::right_of(copy, 0));
@@ -107,7 +108,8 @@ fn load<O: TreeOrder>(words: &Words<O>, seat: &mut TableSeat, k: O::Key, word: u
     requires reads { seat.old.me ≡ (reader_knowledge (reader_of seat.old.me.0), []) }
     requires wanted { MayLoad O.order k (reader_of seat.old.me.0) word }
     ensures table { seat.new.table_id ≡ seat.old.table_id }
-    ensures loaded { seat.new.me ≡ (reader_knowledge (with_word word result (reader_of seat.old.me.0)), []) }
+    ensures loaded { seat.new.me
+        ≡ (reader_knowledge (with_word word result (reader_of seat.old.me.0)), []) }
 {
     words.load::<LoadWord>(seat, word)
 }

@@ -30,7 +30,11 @@ fn look_up<O: TreeOrder>(
         (writer_of seat.old.me.0).picture (writer_of seat.old.me.0).known }
     ensures table { seat.new.table_id ≡ seat.old.table_id }
     ensures view { seat.new.me
-        ≡ (writer_knowledge (with_loads (writer_of seat.new.me.0).loads (writer_of seat.old.me.0)), []) }
+        ≡ (
+          writer_knowledge
+              (with_loads (writer_of seat.new.me.0).loads (writer_of seat.old.me.0)),
+          [],
+        ) }
     ensures found { FindsIn O.order (capacity_of l) k (writer_of seat.old.me.0)
         (writer_of seat.new.me.0).loads result }
 {

@@ -8,7 +8,8 @@ ghost use Rattle.latch_core.specs.Sequences.{generation_of};
 ghost use Rattle.latch_core.specs.Histories.{replay};
 ghost use Rattle.latch_core.specs.Invariants.{IsSound};
 ghost use Rattle.latch_table.specs.contracts.writers.Writer.{the_row};
-ghost use Rattle.latch_table.specs.Writers.{Begins, Refuses, Steps, Finishes, steps_left_of, shown_updates};
+ghost use Rattle.latch_table.specs.Writers.{Begins, Refuses, Steps, Finishes, steps_left_of};
+ghost use Rattle.latch_table.specs.Writers.{shown_updates};
 
 use super::steps::take_update;
 use super::{Did, InHand, Writer};

@@ -1,7 +1,8 @@
 //! A ledger whose table goes on in more words.
 
 ghost use Rattle.std.specs.Prelude.{◌≡◌, OnErr, IfOk, IfErr};
-ghost use Rattle.shared_lookup.specs.Enlarging.{AreLedgerReaders, EnlargesLedger, RefusesEnlargingLedger};
+ghost use Rattle.shared_lookup.specs.Enlarging.{AreLedgerReaders, EnlargesLedger};
+ghost use Rattle.shared_lookup.specs.Enlarging.{RefusesEnlargingLedger};
 
 use crate::ledgers::Ledger;
 use latch_table::Reader;
