@@ -8,7 +8,7 @@ use Rattle.std.proofs.lemmas.List.Sorted.{IsPermutation-sym, IsNonDecreasingBy-d
 use Rattle.std.proofs.lemmas.Map.Keys.{IsDistinct-IsPermutation}
 use Rattle.std.proofs.lemmas.List.{drop_more}
 use Rattle.order_laws.specs.declared.items.Item.{Item}
-use Rattle.order_laws.specs.Orders.{Order, Precedes, IsLawful, IsInLine}
+use Rattle.order_laws.specs.Orders.{Order, IsLawful, IsInLine}
 use Rattle.order_laws.specs.Tables.{has, meets}
 use Rattle.order_laws.specs.declared.refusals.Refusal.TheVariants.{BadItem, Overlap, NoSuchItem, Full}
 use Rattle.order_laws.proofs.LeftOutLemmas.{without_moved}
@@ -17,6 +17,7 @@ use Rattle.order_laws.proofs.Each.{all_drop, all_not_below, all_weaker, rest_in_
 use Rattle.order_laws.proofs.Tests.{all_fail, list_any-all_fail}
 use Rattle.order_laws.proofs.Numbers.{eqb-flip}
 use Rattle.order_laws.proofs.MeetLemmas.{no_meeting}
+use Rattle.order_laws.proofs.InLineLemmas.{precedes, beyond}
 use Rattle.latch_core.specs.declared.updates.Update.TheVariants.{Batch}
 use Rattle.latch_core.specs.Updates.{first_that_holds, failed_test, some_invalid, some_twice, some_overlap, some_meet}
 use Rattle.latch_core.proofs.BatchLemmas.{all_apart}
@@ -82,22 +83,6 @@ twice_next x y rest sorted ne =
 
 -- an item that is apart from its neighbour is apart from all after it, where these are
 module _ {K : Type 0} (o : Order K) (law : IsLawful o) (line : IsInLine o) where
-  precedes : (x y : Item) → o.valid x ≡ true → o.valid y ≡ true → o.apart x y ≡ true → x.a ≤ y.a → Precedes o x y
-  precedes x y vx vy ap' le =
-      elim (o.less y x) as (λ b. o.less y x ≡ b → Precedes o x y) [
-        | true ↦ λ l.
-            let back : Precedes o y x = record { first_valid = vy; second_valid = vx; is_apart = law.symmetric y x ∙ ap'; is_less = l } in
-            absurd (let lt = line.first_words_rise y x back in omega (arith, le, lt))
-        | false ↦ λ l. record { first_valid = vx; second_valid = vy; is_apart = ap'; is_less = law.one_is_less x y vx vy ap' ∙ ap not l }
-      ] refl
-
-  beyond : (x y : Item) (rest : List Item) → Precedes o x y → o.valid y ≡ true → AllByRecursion (λ i. o.valid i ≡ true) rest → AllByRecursion (λ z. y.a ≤ z.a) rest → AllByRecursion (λ z. o.apart z y ≡ true) rest → AllByRecursion (λ z. o.apart z x ≡ true) rest
-  beyond x y [] p vy v l a = tt
-  beyond x y (z ∷ rest) p vy v l a = (
-    law.symmetric z x ∙ line.apart_beyond x y z p (precedes y z vy v.0 (law.symmetric y z ∙ a.0) l.0),
-    beyond x y rest p vy v.1 l.1 a.1,
-  )
-
   pub overlap_next : (x y : Item) (rest : List Item) → AllByRecursion (λ i. o.valid i ≡ true) (x ∷ y ∷ rest) → IsNonDecreasingBy (λ (i : Item). i.a) (x ∷ y ∷ rest) → o.apart y x ≡ true → some_overlap o (x ∷ y ∷ rest) ≡ some_overlap o (y ∷ rest)
   overlap_next x y rest valid sorted apart =
       let front = all_not_below (λ (i : Item). i.a) x (y ∷ rest) sorted in
@@ -106,8 +91,8 @@ module _ {K : Type 0} (o : Order K) (law : IsLawful o) (line : IsInLine o) where
         | true ↦ λ e. (elim (meets o x (y ∷ rest)) as (λ b. (b || true) ≡ true) [ true ↦ refl | false ↦ refl ])
         | false ↦ λ e.
             let all = all_apart o (y ∷ rest) e in
-            let p = precedes x y valid.0 valid.1.0 (law.symmetric x y ∙ apart) front.0 in
-            ap (λ b. b || false) (no_meeting o x (y ∷ rest) (apart, beyond x y rest p valid.1.0 valid.1.1 behind all.0))
+            let p = precedes o law line x y valid.0 valid.1.0 (law.symmetric x y ∙ apart) front.0 in
+            ap (λ b. b || false) (no_meeting o x (y ∷ rest) (apart, beyond o law line x y rest p valid.1.0 valid.1.1 behind all.0))
       ] refl
 
 -- one place further in a sorted list

@@ -20,3 +20,4 @@ pub mod LatchedLemmas
 pub mod WideningLemmas
 pub mod AttemptLemmas
 pub mod HistoryLemmas
+pub mod RestLemmas

@@ -16,6 +16,7 @@ use Rattle.word_arena.specs.Stores.{words_after}
 use Rattle.latch_core.specs.Invariants.{IsPendingUpdate, IsPendingOf, IsSound}
 use Rattle.word_arena.proofs.HoldsLemmas.{holds_on}
 use Rattle.latch_core.proofs.StepLemmas.{hidden_same, flip_same, flip_adds, tables_push, replay_push}
+use Rattle.std.proofs.Common.{Option}
 
 -- what a step leaves, by its kind: the sequence, the number of flips, and what the stable copy
 -- holds
@@ -132,3 +133,13 @@ sound_opening {K = K} o n start even =
       in_hand = omega arith;
       current = (none, record { leads = root; listed_items = sym (no (generation_of start - generation_of start)) });
     }
+
+-- the sequence names no more updates than were accepted
+pub gen_within : {K : Type 0} (o : Order K) (n start : ℕ) (us : List Update) (l : Latch)
+    → IsSound o n start us l → generation_of (at l.words 0) - generation_of start ≤ length us
+gen_within o n start us l ok = by l.pending ok.in_hand
+  where
+    by : (h : Option PendingUpdate) → IsPendingOf o start (at l.words 0) us h
+        → generation_of (at l.words 0) - generation_of start ≤ length us
+    by None e = let ev : start % 2 ≡ 0 = ok.even in omega arith
+    by (Some h) e = let ev : start % 2 ≡ 0 = ok.even in let c = e.count in let f = e.flips in let p = e.last in omega arith

@@ -11,6 +11,8 @@ use Rattle.order_laws.specs.Tables.{meets, without_all}
 use Rattle.latch_core.specs.declared.updates.Update.{Update}
 use Rattle.latch_core.specs.declared.updates.Update.TheVariants.{Insert, Erase, Batch}
 use Rattle.latch_core.specs.Updates.{Test, first_that_holds, tests_of, refusal_for, some_invalid, some_missing, some_twice, some_overlap, some_meet}
+use Rattle.std.proofs.Common.{◌≤◌}
+use Rattle.order_laws.proofs.Numbers.{eqb-false_wider, ltb-false_wider}
 
 -- a list of which no test holds, and one whose first test holds
 pub none_holds : (tests : List Test) → first_that_holds tests ≡ None → AllByRecursion (λ (t : Test). t.0 ≡ false) tests
@@ -135,3 +137,22 @@ module _ {K : Type 0} (o : Order K) (n : ℕ) (table : List Item) (erase : List 
   batch_passes v m a room =
       let f : nat_lt n (length table + length insert) ≡ false = (elim (nat_lt n (length table + length insert)) as (λ b. nat_lt n (length table + length insert) ≡ b → b ≡ false) [ true ↦ λ is. absurd (room (ltb-true n (length table + length insert) is)) | false ↦ λ is. refl ] refl) in
       rw (v, m, a, f) refl
+
+-- an update that nothing stands against, where there is no more than n items, is not refused with
+-- more nodes and a greater limit
+pub none_wider : {K : Type 0} (o : Order K) (n n' limit limit' seq : ℕ) (table : List Item) (u : Update) → n ≤ n' → limit ≤ limit' → length table ≤ n
+    → refusal_for o n limit false table seq u ≡ None → refusal_for o n' limit' false table seq u ≡ None
+none_wider o n n' limit limit' seq table (Insert i) more later few e =
+    let h = none_holds (all_tests o n limit false table seq (Insert i)) e in
+    let f = eqb-false_wider n n' (length table) more few h.1.1.1.0 in
+    let s = ltb-false_wider limit limit' (seq + 2) (seq + 2) later refl h.1.1.1.1.0 in
+    rw (h.1.0, h.1.1.0, f, s) refl
+none_wider o n n' limit limit' seq table (Erase a) more later few e =
+    let h = none_holds (all_tests o n limit false table seq (Erase a)) e in
+    let s = ltb-false_wider limit limit' (seq + 2) (seq + 2) later refl h.1.1.0 in
+    rw (h.1.0, s) refl
+none_wider o n n' limit limit' seq table (Batch erase insert) more later few e =
+    let h = none_holds (all_tests o n limit false table seq (Batch erase insert)) e in
+    let f = ltb-false_wider n n' (length table + length insert) (length table + length insert) more refl h.1.1.1.1.0 in
+    let s = ltb-false_wider limit limit' (seq + 2) (seq + 2) later refl h.1.1.1.1.1.0 in
+    rw (h.1.0, h.1.1.0, h.1.1.1.0, f, s) refl

@@ -22,6 +22,7 @@ use Rattle.latch_core.specs.Writers.{IsMemoryAtRest, StaysShallow, RepresentsLat
 use Rattle.latch_core.proofs.StoreOrderLemmas.{Leading, update_plan, update_zero, update_one, update_sequence}
 use Rattle.latch_core.proofs.ShallowLemmas.{update_shallow, opening_shallow}
 use Rattle.latch_core.proofs.PlanLemmas.{plan_step, plan_left}
+use Rattle.latch_core.specs.Writers.{has_pending}
 
 -- the next store, and whether there is a pending update
 plan_next : (n : ℕ) (l : Latch) (xs : List Store) → IsPlan n l xs → MatchOption (slice_get xs 0) (l.pending ≡ None) (λ s. (h : PendingUpdate) × (l.pending ≡ Some h) × IsWriterStep n l h s)
@@ -135,3 +136,14 @@ opening_pictures l start even =
       sequence = refl;
       shallow = opening_shallow n start even [] refl;
     }
+
+-- an update begins at rest
+pub rests_before : {K : Type 0} (o : Order K) (w : WriterView) (u : Update) → why_refused o w u ≡ None → w.stores_left ≡ []
+rests_before o w u accepted = none_left w.stores_left refl
+  where
+    none_left : (left : List Store) → w.stores_left ≡ left → left ≡ []
+    none_left [] is = refl
+    none_left (s ∷ ss) is =
+        let busy : has_pending w ≡ true = lt-ltb 0 (length w.stores_left) (omega (arith, ap (λ (z : List Store). length z) is)) in
+        let no : refusal_for o w.capacity w.limit true w.table w.sequence u ≡ None = ap (λ b. refusal_for o w.capacity w.limit b w.table w.sequence u) (sym busy) ∙ accepted in
+        absurd (cc)

@@ -14,3 +14,4 @@ mod Promising
 mod SettleLemmas
 mod FindLemmas
 mod PlainRunLemmas
+pub mod IdleLemmas

@@ -28,7 +28,7 @@ use Rattle.latch_steps.specs.Expands.{event_of, most_of, Repeats}
 use Rattle.latch_steps.specs.Plain.{IsPlainEvent, IsPlain, ArePlain, IsLookAfter, IsLookReply, AreLooksAfter}
 use Rattle.latch_steps.proofs.LoadCaseLemmas.{IsGoing, none_loaded, by_load}
 use Rattle.latch_steps.proofs.LatchLemmas.{step_sound}
-use Rattle.latch_steps.proofs.SettleLemmas.{rest_is_current}
+use Rattle.latch_core.proofs.RestLemmas.{current_at_rest}
 
 -- a pending lookup at its first attempt, since whose start the writer has had no pending update
 record IsAlone {K : Type 0} (o : Order K) (n : ℕ) (latch : Latch) (l : PendingLookup K) : Type 0 where
@@ -103,7 +103,7 @@ module _ {K : Type 0} (o : Order K) (law : IsLawful o) (n start : ℕ) (us : Lis
   exact r l is st =
       let m = w.latch.words in
       let ts = ok.tables (generation_of (at m 0) - generation_of start) in
-      let all : current_table o start us m ≡ replay o [] us = rest_is_current o n start us w.latch ok is.rest ∙ ok.table_is in
+      let all : current_table o start us m ≡ replay o [] us = current_at_rest o n start us w.latch ok is.rest in
       let seq : at m 0 ≡ start + 2 * length us = subst (IsPendingOf o start (at m 0) us) is.rest ok.in_hand in
       let even : start % 2 ≡ 0 = ok.even in
       let bound : length (l.values ++ at m is.going.word ∷ []) ≤ 4 * length (current_table o start us m) + 3 = attempt_loads o law m n l.key (current_table o start us m) ok.current.0 ok.current.1 ts.0 ts.1 _ st in

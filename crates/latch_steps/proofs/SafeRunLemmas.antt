@@ -1,10 +1,11 @@
 -- Whole runs.
-use Rattle.std.proofs.Common.{◌≡◌, ℕ, suc, ◌+◌, ◌-◌, ◌%◌, ◌^◌, ◌<◌, ◌≤◌, List, [], ◌∷◌, ◌++◌, length, take, Option, Some, None, refl, sym, ◌∙◌, ap, arith, append_assoc}
+use Rattle.std.proofs.Common.{◌≡◌, ℕ, suc, ◌+◌, ◌-◌, ◌^◌, ◌<◌, ◌≤◌, List, [], ◌∷◌, ◌++◌, length, take, None, refl, sym, ◌∙◌, ap, arith, append_assoc}
 use Rattle.std.specs.List.{AllByRecursion}
 use Rattle.std.specs.FinMap.{get, get-empty}
 use Rattle.std.specs.Ordering.{nat_cmp}
 use Rattle.std.proofs.lemmas.List.{take-append-le}
 use Rattle.latch_core.specs.declared.updates.Update.{Update}
+use Rattle.latch_core.proofs.SoundLemmas.{gen_within}
 use Rattle.latch_steps.specs.declared.replies.Reply.{Reply}
 use Rattle.latch_steps.specs.declared.replies.Reply.TheVariants.{Returned as ReturnedReply}
 use Rattle.order_laws.specs.Orders.{Order, IsLawful}
@@ -12,23 +13,11 @@ use Rattle.order_laws.specs.Tables.{look}
 use Rattle.latch_core.specs.Histories.{replay, current_table}
 use Rattle.word_arena.specs.Words.{at}
 use Rattle.latch_core.specs.Sequences.{generation_of, stable_copy_of}
-use Rattle.latch_core.specs.Latches.{PendingUpdate, Latch}
 use Rattle.latch_steps.specs.Runs.{Moment, Done, opening, accepted, history, moment_at}
 use Rattle.latch_steps.specs.Steps.{machine, Run}
 use Rattle.latch_steps.specs.Safe.{IsSafeReply, IsSafe}
-use Rattle.latch_core.specs.Invariants.{IsPendingOf, IsSound}
 use Rattle.latch_core.proofs.SoundLemmas.{sound_opening}
 use Rattle.latch_steps.proofs.SafeStepLemmas.{IsWorld, IsRight, step_leads}
-
--- the sequence names no more updates than were accepted
-pub gen_within : {K : Type 0} (o : Order K) (n start : ℕ) (us : List Update) (l : Latch)
-    → IsSound o n start us l → generation_of (at l.words 0) - generation_of start ≤ length us
-gen_within o n start us l ok = by l.pending ok.in_hand
-  where
-    by : (h : Option PendingUpdate) → IsPendingOf o start (at l.words 0) us h
-        → generation_of (at l.words 0) - generation_of start ≤ length us
-    by None e = let ev : start % 2 ≡ 0 = ok.even in omega arith
-    by (Some h) e = let ev : start % 2 ≡ 0 = ok.even in let c = e.count in let f = e.flips in let p = e.last in omega arith
 
 -- what is left of a whole run after so many of its events, from the moment that it came to
 pub record IsLeft {K : Type 0} (w0 : Moment K) (all : List (Done K)) (c : ℕ) (w : Moment K)

@@ -1,16 +1,12 @@
 -- Writes up to the end of an update.
-use Rattle.std.proofs.Common.{◌≡◌, ℕ, ◌+◌, ◌-◌, ◌*◌, ◌%◌, ◌≤◌, List, [], ◌∷◌, ◌++◌, length, None, refl, sym, ◌∙◌, ap, subst, ⊎_elim, arith, append_assoc, append-nil}
+use Rattle.std.proofs.Common.{◌≡◌, ℕ, List, [], ◌∷◌, ◌++◌, refl, sym, ◌∙◌, ap, subst, ⊎_elim, append_assoc, append-nil}
 use Rattle.std.specs.List.{AllByRecursion}
-use Rattle.std.proofs.lemmas.List.{take_all}
 use Rattle.order_laws.specs.Orders.{Order, IsLawful}
 use Rattle.word_arena.specs.Layouts.{capacity_of, limit_of}
 use Rattle.word_arena.specs.declared.stores.Store.{Store}
-use Rattle.word_arena.specs.Words.{at}
 use Rattle.latch_core.specs.declared.updates.Update.{Update}
-use Rattle.latch_core.specs.Latches.{Latch}
-use Rattle.latch_core.specs.Sequences.{generation_of}
-use Rattle.latch_core.specs.Histories.{replay, current_table}
-use Rattle.latch_core.specs.Invariants.{IsSound, IsPendingOf}
+use Rattle.latch_core.specs.Invariants.{IsSound}
+use Rattle.latch_core.proofs.RestLemmas.{rest_is_current}
 use Rattle.latch_steps.specs.declared.events.Event.{Event}
 use Rattle.latch_steps.specs.declared.events.Event.TheVariants.{Begin, Write, Start, Read}
 use Rattle.latch_steps.specs.declared.replies.Reply.{Reply}
@@ -40,14 +36,6 @@ pub none_accepted : {K : Type 0} (f : Event K) → ((r : Reply K) → accepted f
     → (run : List (Done K)) → AllByRecursion (λ d. d.event ≡ f) run → history run ≡ []
 none_accepted f without [] h = refl
 none_accepted f without (d ∷ run) h = ap (λ us. us ++ history run) (ap (λ x. accepted x d.reply) h.0 ∙ without d.reply) ∙ none_accepted f without run h.1
-
--- with no pending update the sequence names all accepted updates
-pub rest_is_current : {K : Type 0} (o : Order K) (n start : ℕ) (us : List Update) (l : Latch)
-    → IsSound o n start us l → l.pending ≡ None → current_table o start us l.words ≡ l.newest_table
-rest_is_current o n start us l ok rest =
-    let seq : at l.words 0 ≡ start + 2 * length us = subst (IsPendingOf o start (at l.words 0) us) rest ok.in_hand in
-    let all : length us ≤ generation_of (at l.words 0) - generation_of start = (let ev : start % 2 ≡ 0 = ok.even in omega arith) in
-    ap (replay o []) (take_all (generation_of (at l.words 0) - generation_of start) us all) ∙ sym ok.table_is
 
 -- writes so far
 pub record Writing {O K : Type 0} (o : Order K) (old now : World O K) (w : Moment K) : Type 0 where

@@ -1,8 +1,5 @@
 -- The table in the words of a wider layout.
-use Rattle.std.proofs.Common.{◌≡◌, ℕ, suc, ◌+◌, ◌-◌, ◌*◌, ◌<◌, ◌≤◌, List, [], ◌∷◌, ◌++◌, length, take, All, None, refl, sym, ◌∙◌, ap, subst, arith, append_assoc}
-use Rattle.std.specs.Prelude.{slice_set, replicate}
-use Rattle.std.proofs.Math.Seq.{set-append_seam}
-use Rattle.std.proofs.lemmas.List.{length-take-le, take_more}
+use Rattle.std.proofs.Common.{◌≡◌, ℕ, ◌-◌, ◌*◌, ◌≤◌, List, [], length, take, All, None, refl, sym, ◌∙◌, ap, subst}
 use Rattle.atomic_table.specs.Table.{Me, opening}
 use Rattle.atomic_table.specs.Seated.{TableId}
 use Rattle.order_laws.specs.Orders.{Order}
@@ -26,14 +23,6 @@ use Rattle.latch_table.specs.Writers.{WriterState, writer_state, pending_of, sho
 use Rattle.latch_table.specs.Enlarging.{Enlarges, enlarged_state, reader_beside}
 use Rattle.latch_table.proofs.RuleLemmas.{opens}
 use Rattle.latch_table.proofs.WriterLemmas.{latched_now}
-
--- words copied up to the number w, the others 0: and then the next one
-pub copy_next : (k w : ℕ) (words : List ℕ) → w < length words → length words ≤ k → slice_set (take w words ++ replicate (k - w) 0) w (at words w) ≡ take (w + 1) words ++ replicate (k - (w + 1)) 0
-copy_next k w words within fits =
-    let rest : List ℕ = replicate (k - (w + 1)) 0 in
-    let one : replicate (k - w) 0 ≡ 0 ∷ rest = ap (λ j. replicate j 0) (let e : k - w ≡ suc (k - (w + 1)) = omega (arith, within, fits) in e) in
-    let there : slice_set (take w words ++ 0 ∷ rest) w (at words w) ≡ take w words ++ at words w ∷ rest = subst (λ i. slice_set (take w words ++ 0 ∷ rest) i (at words w) ≡ take w words ++ at words w ∷ rest) (length-take-le w words (omega (arith, within))) (set-append_seam (take w words) 0 rest (at words w)) in
-    ap (λ (z : List ℕ). slice_set (take w words ++ z) w (at words w)) one ∙ there ∙ sym (append_assoc (take w words) (at words w ∷ []) rest) ∙ ap (λ (z : List ℕ). z ++ rest) (sym (take_more words w 0 within))
 
 module _ {S K : Type 0} (o : Order K) (place : TableId) (readers : ℕ) (m : Me S Knowledge) (core : WriterView) (tied : IsTied o m core (writer_state place readers m.0 core)) (l : Layout) (accepted : why_not_widened core l ≡ None) where
   abbrev here : WriterState

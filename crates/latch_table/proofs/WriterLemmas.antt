@@ -1,7 +1,7 @@
 -- The writer's core, its seat and the pending update, from one call to the next.
 use Rattle.std.proofs.Common.{◌≡◌, ◌≢◌, ℕ, suc, ◌+◌, ◌-◌, ◌*◌, ◌%◌, ◌<◌, ◌≤◌, true, false, cond, List, [], ◌∷◌, ◌++◌, length, take, drop, Option, Some, None, refl, sym, ◌∙◌, ap, subst, inl, inr, ⊎_elim, arith, length-append, length-set}
 use Rattle.std.specs.Prelude.{◌⊎◌, ◌==◌, ◌&&◌, MatchOption, nat_lt}
-use Rattle.std.proofs.lemmas.Bool.{eq-eqb, ne_eqb, lt-ltb}
+use Rattle.std.proofs.lemmas.Bool.{eq-eqb, ne_eqb}
 use Rattle.std.proofs.lemmas.List.{take-append-le, take-append-drop, take_all, length-take-le}
 use mathlib.Core.Option as maybe
 use mathlib.Core.List.{IsPrefix}
@@ -15,6 +15,7 @@ use Rattle.word_arena.specs.declared.stores.Store.{Store}
 use Rattle.word_arena.specs.Words.{at, words_for, HoldsTable}
 use Rattle.word_arena.specs.Stores.{words_after}
 use Rattle.word_arena.proofs.StoreLemmas.{length_after}
+use Rattle.latch_core.proofs.WriterLemmas.{rests_before}
 use Rattle.latch_core.specs.declared.updates.Update.{Update}
 use Rattle.latch_core.specs.Sequences.{generation_of, stable_copy_of}
 use Rattle.latch_core.specs.Updates.{refusal_for}
@@ -267,17 +268,6 @@ module _ {S K : Type 0} (o : Order K) (place : TableId) (readers : ℕ) (m : Me 
   pub table_rests : IsTied o m core here → here.latch.pending ≡ None → core.table ≡ replay o [] (shown_updates here)
   table_rests tied resting = tied.sound.table_is ∙ ap (replay o []) (sym (all_shown tied resting))
 
--- an update begins at rest
-idle : {K : Type 0} (o : Order K) (w : WriterView) (u : Update) → why_refused o w u ≡ None → w.stores_left ≡ []
-idle o w u accepted = none_left w.stores_left refl
-  where
-    none_left : (left : List Store) → w.stores_left ≡ left → left ≡ []
-    none_left [] is = refl
-    none_left (s ∷ ss) is =
-        let busy : has_pending w ≡ true = lt-ltb 0 (length w.stores_left) (omega (arith, ap (λ (z : List Store). length z) is)) in
-        let no : refusal_for o w.capacity w.limit true w.table w.sequence u ≡ None = ap (λ b. refusal_for o w.capacity w.limit b w.table w.sequence u) (sym busy) ∙ accepted in
-        absurd (cc)
-
 module _ {S K : Type 0} (o : Order K) (law : IsLawful o) (place : TableId) (readers : ℕ) (m : Me S Knowledge) (core : WriterView) where
   abbrev rests : WriterState
   rests = writer_state place readers m.0 core
@@ -293,7 +283,7 @@ module _ {S K : Type 0} (o : Order K) (law : IsLawful o) (place : TableId) (read
     busy = writer_state place readers taken.0 core'
 
     hand_rests : rests.latch.pending ≡ None
-    hand_rests = ap (λ ss. pending_of ss q) (idle o core u accepted)
+    hand_rests = ap (λ ss. pending_of ss q) (rests_before o core u accepted)
 
     counted : at q.picture 0 ≡ 2 * q.base + 2 * length q.accepted
     counted = subst (IsPendingOf o (2 * q.base) (at q.picture 0) q.accepted) hand_rests tied.sound.in_hand
@@ -345,7 +335,7 @@ module _ {S K : Type 0} (o : Order K) (law : IsLawful o) (place : TableId) (read
         not_busy = λ i. refusal_for o core.capacity core.limit (none_now i) core.table (tied.pictures.sequence i) u
           where
             none_now : false ≡ has_pending core
-            none_now = sym (ap (λ (ss : List Store). nat_lt 0 (length ss)) (idle o core u accepted))
+            none_now = sym (ap (λ (ss : List Store). nat_lt 0 (length ss)) (rests_before o core u accepted))
 
     -- the update is pending
     pub begins : Begins o rests u busy

@@ -1,11 +1,11 @@
 -- The lookup that a command line asks for.
-use Rattle.std.proofs.Common.{◌≡◌, ◌∙◌, ap, sym, subst, refl, ℕ, ◌&&◌, nat_eq, List, [], ◌∷◌, length, map, Option, Some, None, option_map, Result, Ok, Err, true, false, codes, arith}
+use Rattle.std.proofs.Common.{◌≡◌, ◌∙◌, ap, sym, subst, refl, ◌&&◌, nat_eq, List, [], ◌∷◌, length, map, Option, Some, None, option_map, Result, Ok, Err, true, false, codes, arith}
 use Rattle.std.specs.Prelude.{IsErrAnd, is_none, is_some}
 use Rattle.std.specs.Borrow.{Bor}
 use Rattle.std.proofs.lemmas.Bool.{false≢true}
 use Rattle.clap.specs.Words.{Row, Text, first_of}
 use Rattle.modules.specs.Listed.{BoundNames}
-use Rattle.latchsym.specs.Jobs.{AnswersAsked, AreNumbers, ForLookup, LookupWords, asked_lookup, asked_run, bounds_in, lacks_addresses, lookup_in, run_in, values_in, ForRun, RunWords}
+use Rattle.latchsym.specs.Jobs.{AnswersAsked, AreNumbers, ForLookup, LookupWords, asked_lookup, asked_run, bounds_in, lacks_addresses, lookup_in, run_in, values_in, ForRun}
 use Rattle.latchsym.specs.declared.command_line.Job.{Job}
 use Rattle.latchsym.specs.declared.command_line.JobFault.{JobFault}
 use Rattle.latchsym.specs.declared.command_line.JobFault.TheVariants.{OutOfMemory, CommandLine, BadAddress, NoAddress, BadReaders, NoJob}

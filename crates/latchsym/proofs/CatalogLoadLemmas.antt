@@ -1,16 +1,11 @@
 -- One module more in a world that holds those of lesser numbers.
-use Rattle.std.proofs.Common.{◌≡◌, ℕ, zero, suc, ◌+◌, ◌<◌, ◌≤◌, true, false, List, [], ◌∷◌, ◌++◌, length, map, Option, Some, None, Result, Ok, Err, refl, sym, ◌∙◌, ap, subst, ⊎_elim, arith}
+use Rattle.std.proofs.Common.{◌≡◌, ℕ, ◌+◌, ◌≤◌, true, false, List, [], ◌∷◌, ◌++◌, length, None, sym, ◌∙◌, ap, subst, ⊎_elim, arith}
 use Rattle.std.specs.Prelude.{Contains, is_some}
 use Rattle.std.specs.FinMap.{get}
-use Rattle.std.specs.List.{list_any}
-use Rattle.std.specs.Option.{option_map_or, option_to_list}
-use Rattle.std.proofs.lemmas.List.{length-map}
-use Rattle.std.proofs.lemmas.List.Elements.{All-contains, Contains-append_left, Contains-append_right}
-use Rattle.std.proofs.lemmas.Option.{get_or_from_slice_get, slice_get_within}
 use Rattle.order_laws.specs.declared.half_open_ranges.HalfOpen.{HalfOpen}
 use Rattle.order_laws.specs.declared.items.Item.{Item}
 use Rattle.order_laws.specs.declared.refusals.Refusal.{Refusal}
-use Rattle.order_laws.specs.declared.refusals.Refusal.TheVariants.{OutOfMemory, UnknownModule}
+use Rattle.order_laws.specs.declared.refusals.Refusal.TheVariants.{OutOfMemory}
 use Rattle.order_laws.specs.Orders.{half_open}
 use Rattle.word_arena.specs.Layouts.{capacity_of, limit_of}
 use Rattle.word_arena.specs.Words.{at}
@@ -26,69 +21,15 @@ use Rattle.latch_steps.specs.Steps.{IsBegin}
 use Rattle.latch_steps.specs.Worlds.{IsAfter, RepresentsMoment, layout_in}
 use Rattle.latch_steps.specs.WorldSteps.{Does, MayDo}
 use Rattle.latch_steps.specs.AtOnce.{IsSettled, Settles}
-use Rattle.modules.specs.Building.{placed_module_of}
-use Rattle.modules.specs.Catalogs.{IsSoundCatalog, entries_of, module_of}
-use Rattle.modules.specs.Entries.{CatalogEntries, ModuleEntry}
+use Rattle.modules.specs.Entries.{CatalogEntries}
 use Rattle.modules.specs.Items.{items_at, items_below, items_of}
-use Rattle.modules.specs.Loads.{GivesOrLacksMemory, item_of, load_of, load_update, update_of}
-use Rattle.modules.specs.Parts.{is_core}
-use Rattle.modules.specs.Placed.{IsPlaced, PlacedModule}
-use Rattle.modules.specs.declared.catalog.Held.{Held}
-use Rattle.modules.specs.declared.lines.Part.{Part}
 use Rattle.modules.proofs.ItemLemmas.{one_number_more}
 use Rattle.latchsym.specs.LoadedWorlds.{HoldsBelow, AreInsertsOf}
-use Rattle.latchsym.proofs.RegionLemmas.{has_addresses, is_apart_from, none_overlap, some_left}
-use Rattle.latchsym.proofs.LoadLemmas.{erases_none, in_table, inserts_accepted, inserts_these, one_update_more, table_length}
-use Rattle.latchsym.proofs.WorldLemmas.{NoLookup, same_readers, sequence_at_rest, writes_keep}
-
--- the update that loads a module inserts its items, of which there is one at least
-pub record LoadsItems (c : CatalogEntries) (k : ℕ) (u : Update) : Type 0 where
-  pub is : u ≡ update_of [] (items_at c k)
-  pub some : 0 < length (items_at c k)
-
--- what a table holds of a module that is not loaded
-abbrev pub none_held : Held
-none_held = record { core = false; init = false }
-
-among_entries : (c : CatalogEntries) (k : ℕ) (m : ModuleEntry) → module_of c k ≡ Some m → Contains (entries_of c) m
-among_entries c zero m e =
-    Contains-append_left (option_to_list c.built_in) c.modules m (subst (λ o. Contains (option_to_list o) m) (sym e) (0, omega arith, refl))
-among_entries c (suc j) m e =
-    Contains-append_right (option_to_list c.built_in) c.modules m (j, slice_get_within c.modules j m e, get_or_from_slice_get c.modules j m m e)
-
--- a module has a core region
-has_region : (m : PlacedModule) → IsPlaced m → 0 < length m.regions
-has_region m placed =
-    let same = placed.same in
-    let some : 0 < length m.parts = go m.parts placed.some_core in
-    omega arith
-  where
-    go : (parts : List Part) → list_any is_core parts ≡ true → 0 < length parts
-    go [] e = absurd (cc)
-    go (p ∷ ps) e = omega arith
-
-loads_some : (c : CatalogEntries) (k : ℕ) (u : Update) (m : ModuleEntry) → IsSoundCatalog c → module_of c k ≡ Some m → load_of c k none_held ≡ Ok u → LoadsItems c k u
-loads_some c k u m sound e loads =
-    let items : items_at c k ≡ map (item_of k) m.regions = ap (λ o. option_map_or (λ (x : ModuleEntry). map (item_of k) x.regions) o []) e in
-    let given : load_of c k none_held ≡ Ok (update_of [] (map (item_of k) m.regions)) = ap (λ o. option_map_or (load_update k none_held) o (Err UnknownModule)) e in
-    let placed = All-contains (λ (x : ModuleEntry). IsPlaced (placed_module_of x)) (entries_of c) m sound.placed (among_entries c k m e) in
-    let some = has_region (placed_module_of m) placed in
-    let same : u ≡ update_of [] (map (item_of k) m.regions) = cc in
-    record {
-      is = same ∙ ap (update_of []) (sym items);
-      some = omega (arith, ap length items, length-map m.regions (item_of k));
-    }
-
-pub loads_items : (c : CatalogEntries) (k : ℕ) (u : Update) → IsSoundCatalog c → load_of c k none_held ≡ Ok u → LoadsItems c k u
-loads_items c k u sound loads = go (module_of c k) refl
-  where
-    go : (o : Option ModuleEntry) → module_of c k ≡ o → LoadsItems c k u
-    go None e = let none : load_of c k none_held ≡ Err UnknownModule = ap (λ o. option_map_or (load_update k none_held) o (Err UnknownModule)) e in absurd (cc)
-    go (Some m) e = loads_some c k u m sound e loads
-
--- a load that gives an update gives the one that is asked for
-pub is_given : (asked r : Result Update Refusal) (u : Update) → GivesOrLacksMemory asked r → r ≡ Ok u → asked ≡ Ok u
-is_given asked r u g is = ⊎_elim (λ e. sym e ∙ is) (λ h. let f : Err OutOfMemory ≡ Ok u = sym h.0 ∙ is in absurd (cc)) g
+use Rattle.modules.proofs.NumberedItemLemmas.{has_addresses, is_apart_from, none_overlap, some_left}
+use Rattle.modules.proofs.LoadedItemLemmas.{LoadsItems, erases_none, inserts_accepted, inserts_these}
+use Rattle.latchsym.proofs.LoadLemmas.{in_table, one_update_more, table_length}
+use Rattle.latch_core.proofs.RestLemmas.{sequence_at_rest}
+use Rattle.latch_steps.proofs.IdleLemmas.{NoLookup, same_readers, writes_keep}
 
 -- the step that begins the update, from an idle moment on
 record Starts (w : World HalfOpen ℕ) (u : Update) (reply : Reply ℕ) (a : Moment ℕ) : Type 0 where

@@ -1,13 +1,7 @@
 -- what a parse by the program's command gives
 mod ParseLemmas
--- texts that are written one after the other
-mod WriteLemmas
--- what the events of a lookup do to an idle world
-mod WorldLemmas
--- what updates that insert items leave in a table, and when one more is accepted
+-- what updates that insert items leave in a table
 mod LoadLemmas
--- the items of a module number, between those of the lesser and those of the greater ones
-mod RegionLemmas
 -- a world for the table of a catalog, from its opening on
 mod WorldOpeningLemmas
 -- one module more in a world that holds those of lesser numbers

@@ -1,15 +1,14 @@
 -- From the lines of a script to its text.
-use Rattle.std.proofs.Common.{◌≡◌, ◌∙◌, ℕ, List, Option, Some, None, Result, Ok, Err, IfSome, subst, inl, inr}
+use Rattle.std.proofs.Common.{◌≡◌, ℕ, List, Option, Result, Ok, Err, subst}
 use Rattle.devices.specs.declared.counted.Counted.{Counted}
 use Rattle.listing.specs.declared.scripts.ScriptLine.{ScriptLine}
 use Rattle.listing.specs.Scripts.{script_of}
 use Rattle.modules.specs.Entries.{CatalogEntries}
 use Rattle.order_laws.specs.declared.refusals.Refusal.TheVariants as refusal
 use Rattle.latchsym.specs.declared.fault.Fault.{Fault}
-use Rattle.latchsym.specs.declared.fault.Fault.TheVariants.{Refused, BadLine, Read, Write}
+use Rattle.latchsym.specs.declared.fault.Fault.TheVariants.{Refused, Write}
 use Rattle.latchsym.specs.LookupInputs.{Inputs, catalog_in}
-use Rattle.latchsym.specs.Lookups.{GivesLines, IsReadAs}
-use Rattle.latchsym.specs.Runs.{AnswersLines, AnswersScript, IsRun, MayRun, RunsScript}
+use Rattle.latchsym.specs.Runs.{AnswersLines, AnswersScript, IsRun, MayRun}
 
 module _ {W : Type 0} (contents : W → Option (List ℕ)) (i : Inputs) (readers : ℕ) (text : List ℕ) (c : CatalogEntries) (lines : List ScriptLine) (w w' : Counted W)
     (is : c ≡ catalog_in i) (said : script_of readers text ≡ Ok lines) where

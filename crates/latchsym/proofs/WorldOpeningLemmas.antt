@@ -21,9 +21,10 @@ use Rattle.latch_steps.specs.AtOnce.{FindsNow, IsFoundFromAny, IsNotBegun, table
 use Rattle.modules.specs.Catalogs.{IsSoundCatalog, regions_of}
 use Rattle.modules.specs.Entries.{CatalogEntries}
 use Rattle.latchsym.specs.LoadedWorlds.{HasTable, HoldsBelow, AreInsertsOf}
-use Rattle.latchsym.proofs.RegionLemmas.{as_many}
+use Rattle.modules.proofs.NumberedItemLemmas.{as_many}
 use Rattle.latchsym.proofs.LoadLemmas.{look_in_table}
-use Rattle.latchsym.proofs.WorldLemmas.{NoLookup, current_at_rest, found_at_end, none_at_end, none_begun, same_readers, table_at_rest}
+use Rattle.latch_core.proofs.RestLemmas.{current_at_rest, none_begun, table_at_rest}
+use Rattle.latch_steps.proofs.IdleLemmas.{NoLookup, found_at_end, none_at_end, same_readers}
 use Rattle.latch_core.specs.Invariants.{IsSound as IsSoundLatch}
 
 no_updates : AreInsertsOf [] []

@@ -1,6 +1,6 @@
 -- What is written for the listings and the addresses that are asked for.
 use Rattle.std.specs.Prelude.{◌≡◌, ℕ, zero, suc, ◌⊎◌, List, [], ◌∷◌, ◌++◌, map, flat_map, Bool}
-use Rattle.std.specs.Prelude.{true, false, if◌then◌else◌, is_some, Option, Some, None, Result, Ok}
+use Rattle.std.specs.Prelude.{true, false, if◌then◌else◌, is_some, Option, Result, Ok}
 use Rattle.std.specs.Prelude.{Err, IfSome}
 use Rattle.std.specs.Global.{Vec}
 use Rattle.std.specs.Option.{option_map}

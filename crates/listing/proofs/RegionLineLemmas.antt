@@ -13,8 +13,8 @@ use Rattle.listing.specs.declared.said.Said.{Said}
 use Rattle.listing.specs.declared.said.Said.TheVariants.{Nothing, One, Bad}
 use Rattle.listing.specs.Lines.{words_of}
 use Rattle.listing.specs.Numbers.{number_of}
-use Rattle.listing.specs.RegionListing.{is_regions_header, part_of, placed_region, regions_of_lines, region_by, region_of_parts, region_of_words, region_with}
-use Rattle.listing.specs.Said.{entries_from, GivesInGrammar, is_passed_over, is_too_long, said_by}
+use Rattle.listing.specs.RegionListing.{is_regions_header, part_of, regions_of_lines, region_by, region_of_parts, region_of_words, region_with}
+use Rattle.listing.specs.Said.{entries_from, GivesInGrammar, is_passed_over, is_too_long}
 use Rattle.listing.specs.Understood.{entry_by, AreSaidBy, IsFirstBadFrom, IsFirstBadRegion, IsRegionListingBy}
 use Rattle.listing.proofs.UnderstoodLemmas.{are_entries}
 use Rattle.listing.proofs.FormLemmas.{Words}

@@ -9,7 +9,7 @@ use Rattle.listing.specs.Commands.{command_by}
 use Rattle.listing.specs.Header.{header_of}
 use Rattle.listing.specs.Said.{entries_after, entries_from, said_by}
 use Rattle.listing.specs.Trace.{contents_with, trace_of_lines, with_header}
-use Rattle.listing.specs.Understood.{entry_by, AreSaidBy, IsFirstBad, IsFirstBadAt, IsFirstBadFrom, IsTraceBy}
+use Rattle.listing.specs.Understood.{entry_by, AreSaidBy, IsFirstBad, IsFirstBadFrom, IsTraceBy}
 
 module _ {T : Type 0} (form : List ℕ → Option T) where
   abbrev AreEntries : ℕ → List (List ℕ) → Result (List T) ℕ → Type 0

@@ -1,6 +1,6 @@
 -- The lines of a listing of modules, in the form of /proc/modules.
 use Rattle.std.specs.Prelude.{ℕ, ◌+◌, ◌^◌, Bool, true, false, ◌||◌, ◌==◌, nat_eq, nat_lt}
-use Rattle.std.specs.Prelude.{if◌then◌else◌, List, [], ◌∷◌, length, drop, filter, codes, Option}
+use Rattle.std.specs.Prelude.{if◌then◌else◌, List, ◌∷◌, length, drop, filter, codes, Option}
 use Rattle.std.specs.Prelude.{Some, None, Result, Ok, Err}
 use Rattle.std.specs.List.{slice_split, starts_with}
 use Rattle.modules.specs.Listed.{ListedModule}

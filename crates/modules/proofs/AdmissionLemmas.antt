@@ -1,5 +1,5 @@
 -- One more module.
-use Rattle.std.proofs.Common.{◌≡◌, ℕ, ◌+◌, Bool, true, false, ◌&&◌, ◌||◌, cond, List, [], ◌∷◌, ◌++◌, length, Some, None, Option, refl, sym, ap, ◌∙◌, ⊎_elim, arith, length-append, add-zero, add-one, take, drop, drop-cons, get_or, ◌<◌, map}
+use Rattle.std.proofs.Common.{◌≡◌, ℕ, ◌+◌, Bool, true, false, ◌&&◌, cond, List, [], ◌∷◌, ◌++◌, length, Some, Option, refl, sym, ap, ◌∙◌, arith, length-append, add-one, take, drop, drop-cons, get_or, ◌<◌}
 use Rattle.std.specs.Prelude.{is_some}
 use Rattle.std.specs.List.{list_any, list_all, position_from}
 use Rattle.std.specs.Str.{bytes_eq}

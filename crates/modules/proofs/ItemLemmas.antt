@@ -1,6 +1,6 @@
 -- The items of a catalog are its regions.
 use Rattle.std.proofs.Common.{◌≡◌, ℕ, zero, suc, ◌+◌, List, [], ◌∷◌, ◌++◌, length, map, flat_map, Option, Some, None, refl, sym, ◌∙◌, ap, subst, arith, append-nil, add-one}
-use Rattle.std.specs.Prelude.{Contains, slice_get}
+use Rattle.std.specs.Prelude.{slice_get}
 use Rattle.std.specs.List.{range_with_len}
 use Rattle.std.specs.Option.{option_map_or, option_to_list}
 use Rattle.std.proofs.lemmas.List.{map-append}

@@ -34,3 +34,11 @@ pub mod CountLemmas
 pub mod LoadLemmas
 -- the items of a catalog are its regions
 pub mod ItemLemmas
+-- items of a catalog lie apart, and what is found among them
+pub mod ApartItemLemmas
+-- the items of a module number, between those of the lesser and those of the greater ones
+pub mod NumberedItemLemmas
+-- the items that a load inserts
+pub mod LoadedItemLemmas
+-- the symbol below an address and the address above it
+pub mod AroundLemmas

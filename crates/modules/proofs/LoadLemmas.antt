@@ -1,5 +1,5 @@
 -- Which updates a load, an unload, and the end of a module's start give.
-use Rattle.std.proofs.Common.{◌≡◌, ℕ, ◌+◌, ◌<◌, ◌≤◌, Bool, true, false, ◌&&◌, ◌||◌, ◌⊎◌, not, nat_eq, cond, zero, suc, List, [], ◌∷◌, ◌++◌, length, get_or, map, take, Some, None, Ok, Err, Option, Result, refl, sym, ap, subst, ◌∙◌, inl, inr, ⊎_elim, arith, length-append, add-one, drop}
+use Rattle.std.proofs.Common.{◌≡◌, ℕ, ◌+◌, ◌<◌, Bool, true, false, ◌&&◌, ◌||◌, not, nat_eq, cond, zero, suc, List, [], ◌∷◌, ◌++◌, length, get_or, map, take, Some, None, Ok, Err, Option, Result, refl, sym, ap, subst, ◌∙◌, inl, inr, ⊎_elim, arith, add-one}
 use Rattle.std.specs.Cmp.Lexicographic.{bytes_decides}
 use Rattle.std.specs.List.{list_any}
 use Rattle.std.specs.Option.{option_map_or}

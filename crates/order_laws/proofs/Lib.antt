@@ -19,3 +19,4 @@ pub mod SetLemmas
 pub mod LeftOutLemmas
 pub mod WithoutLemmas
 pub mod HalfOpenLemmas
+pub mod InLineLemmas

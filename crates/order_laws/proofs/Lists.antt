@@ -6,6 +6,9 @@ use Rattle.std.specs.List.{onto_first, swap_remove}
 use Rattle.std.proofs.lemmas.Bool.{lt-ltb}
 use Rattle.std.proofs.lemmas.List.{get_or-drop, get_or_append_left, take-set, take-take, take_more}
 use mathlib.Core.List.{IsPrefix}
+use Rattle.std.proofs.Common.{Option, None}
+use Rattle.std.specs.List.{filter_map, cons_option}
+use Rattle.std.proofs.lemmas.List.Elements.{filter_map-append}
 
 -- ---- joined lists
 
@@ -202,3 +205,13 @@ map-remove f [] zero = refl
 map-remove f (y ∷ xs) zero = refl
 map-remove f [] (suc i) = refl
 map-remove f (y ∷ xs) (suc i) = ap (λ ys. f y ∷ ys) (map-remove f xs i)
+
+-- ---- what a function gives of the elements, and of one more
+
+module _ {A T : Type 0} (f : A → Option T) (xs : List A) (x : A) where
+  pub one_given_more : (t : T) → f x ≡ Some t → filter_map f (xs ++ x ∷ []) ≡ filter_map f xs ++ t ∷ []
+  one_given_more t is = filter_map-append f xs (x ∷ []) ∙ ap (λ o. filter_map f xs ++ cons_option o []) is
+
+  pub none_given_more : f x ≡ None → filter_map f (xs ++ x ∷ []) ≡ filter_map f xs
+  none_given_more is =
+      filter_map-append f xs (x ∷ []) ∙ ap (λ o. filter_map f xs ++ cons_option o []) is ∙ append-nil (filter_map f xs)

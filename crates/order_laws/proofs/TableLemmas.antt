@@ -1,6 +1,6 @@
 -- What follows from an order's laws for tables.
 use Rattle.std.proofs.Common.{◌≡◌, ◌≢◌, ℕ, suc, ◌+◌, ◌≤◌, true, false, cond, List, [], ◌∷◌, ◌++◌, length, Option, Some, None, refl, sym, ◌∙◌, ap, subst, ⊎_elim, arith}
-use Rattle.std.specs.Prelude.{not, ◌==◌}
+use Rattle.std.specs.Prelude.{not, ◌==◌, Contains}
 use Rattle.std.specs.List.{AllByRecursion}
 use Rattle.std.specs.Ordering.{is_eq}
 use Rattle.std.specs.declared.cmp.Ordering.TheVariants.{Less, Equal, Greater}
@@ -138,3 +138,9 @@ module _ {K : Type 0} (o : Order K) (law : IsLawful o) where
           with_item_table i xs v free.1 t.2,
         )
       ] refl
+
+-- what is found depends on the items alone
+pub same_look : {K : Type 0} (o : Order K) (k : K) (xs ys : List Item) (r : Option Item) → ((x : Item) → Contains xs x → Contains ys x) → ((x : Item) → Contains ys x → Contains xs x)
+    → IsLook o k xs r → IsLook o k ys r
+same_look o k xs ys None f g h = λ x m. h x (g x m)
+same_look o k xs ys (Some x) f g h = (f x h.0, h.1)

@@ -17,6 +17,10 @@ use Rattle.std.proofs.lemmas.List.Sorted.{searched}
 use Rattle.std.proofs.lemmas.List.Sums.{sum_by-cons}
 use Rattle.order_laws.proofs.Bools.{and-false_if, count_either}
 use Rattle.order_laws.proofs.Options.{cond-is_some}
+use Rattle.std.specs.Prelude.{Contains, slice_get}
+use Rattle.std.proofs.lemmas.Option.{get_or_from_slice_get, slice_get-get_or, slice_get_within}
+use Rattle.order_laws.proofs.Bools.{left_of_or}
+use Rattle.order_laws.proofs.Members.{Contains-head, Contains-rest}
 
 -- ---- whether any passes, or all
 
@@ -293,3 +297,80 @@ All-map_same f bs ys rest every r made gone is k d lt =
     ∙ sym (get_or_append_left ys rest (f d) k (omega (arith, len)))
     ∙ ap (λ l. get_or l k (f d)) (sym gone)
     ∙ is k (f d) (omega (arith, len, ap length gone, length-append ys rest))
+
+-- ---- the least and the first element that passes
+
+-- of the elements that pass, one of the least measure
+pub record IsLeast {A : Type 0} (passes : A → Bool) (measure : A → ℕ) (xs : List A) (x : A) : Type 0 where
+  pub there : Contains xs x
+  pub passing : passes x ≡ true
+  pub least : All (λ y. passes y ≡ true → measure x ≤ measure y) xs
+
+pub least_in : {A : Type 0} (p : A → Bool) (m : A → ℕ) (xs : List A) → list_any p xs ≡ true → (x : A) × IsLeast p m xs x
+least_in p m [] some = absurd (cc)
+least_in p m (x ∷ xs) some =
+    ⊎_elim
+    (λ rest.
+    let best = least_in p m xs rest in
+    ⊎_elim
+    (λ yes. ⊎_elim
+    (λ less. (
+      x,
+      record {
+        there = Contains-head x x xs refl;
+        passing = yes;
+        least = All-cons (λ y. p y ≡ true → m x ≤ m y) x xs (λ _. omega arith) (λ k d lt passes. let b : m best.0 ≤ m (get_or xs k d) = best.1.least k d lt passes in omega arith);
+      },
+    ))
+    (λ least. (
+      best.0,
+      record {
+        there = Contains-rest x best.0 xs best.1.there;
+        passing = best.1.passing;
+        least = All-cons (λ y. p y ≡ true → m best.0 ≤ m y) x xs (λ _. least) best.1.least;
+      },
+    ))
+    (cases_lt (m x) (m best.0)))
+    (λ no. (
+      best.0,
+      record {
+        there = Contains-rest x best.0 xs best.1.there;
+        passing = best.1.passing;
+        least = All-cons (λ y. p y ≡ true → m best.0 ≤ m y) x xs (λ yes. absurd (cc)) best.1.least;
+      },
+    ))
+    (cases_Bool (p x)))
+    (λ none. (
+      x,
+      record {
+        there = Contains-head x x xs refl;
+        passing = left_of_or (p x) (list_any p xs) some none;
+        least = All-cons (λ y. p y ≡ true → m x ≤ m y) x xs (λ _. omega arith) (λ k d lt passes. let fails : p (get_or xs k d) ≡ false = All-from_list_any p xs none k d lt in absurd (cc));
+      },
+    ))
+    (cases_Bool (list_any p xs))
+
+-- the first element that passes, by its place
+pub record IsFirstAt {A : Type 0} (p : A → Bool) (xs : List A) (x : A) (place : ℕ) : Type 0 where
+  pub at : slice_get xs place ≡ Some x
+  pub before : (j : ℕ) (d : A) → j < place → p (get_or xs j d) ≡ false
+
+pub find_place : {A : Type 0} (p : A → Bool) (xs : List A) (x : A) → find p xs ≡ Some x → (place : ℕ) × IsFirstAt p xs x place
+find_place p [] x h = absurd (cc)
+find_place p (y ∷ ys) x h =
+    elim (p y) as (λ b. p y ≡ b → cond b (Some y) (find p ys) ≡ Some x → (place : ℕ) × IsFirstAt p (y ∷ ys) x place) [
+      | true ↦ λ _ is. (0, record { at = slice_get-get_or (y ∷ ys) 0 y (omega arith) ∙ is; before = λ j d lt. absurd (omega arith) })
+      | false ↦ λ fails rest.
+          let there = find_place p ys x rest in
+          let within : there.0 < length ys = slice_get_within ys there.0 x there.1.at in (
+            suc there.0,
+            record {
+              at = slice_get-get_or (y ∷ ys) (suc there.0) x (omega arith) ∙ ap (λ z. Some z) (get_or_from_slice_get ys there.0 x x there.1.at);
+              before = λ j d lt. before_rest p y ys there.0 fails there.1.before j d lt;
+            },
+          )
+    ] refl h
+  where
+    before_rest : {A : Type 0} (p : A → Bool) (y : A) (ys : List A) (k : ℕ) → p y ≡ false → ((j : ℕ) (d : A) → j < k → p (get_or ys j d) ≡ false) → (j : ℕ) (d : A) → j < suc k → p (get_or (y ∷ ys) j d) ≡ false
+    before_rest p y ys k first others zero d lt = first
+    before_rest p y ys k first others (suc j) d lt = others j d (omega arith)

@@ -1,44 +1,18 @@
 -- A writer at rest that goes on with more nodes.
-use Rattle.std.proofs.Common.{◌≡◌, ℕ, ◌+◌, ◌*◌, ◌≤◌, false, List, [], length, take, None, refl, sym, ◌∙◌, ap, subst, arith}
-use Rattle.std.specs.Prelude.{Result, Ok, Err, IfOk, OnErr, nat_lt, ◌==◌, All}
-use Rattle.std.proofs.lemmas.Bool.{ltb-false, le-ltb}
-use Rattle.std.proofs.lemmas.Bool.Decides.{nat_tests}
-use Rattle.order_laws.specs.declared.items.Item.{Item}
-use Rattle.order_laws.specs.Orders.{Order, half_open}
-use Rattle.order_laws.proofs.Numbers.{eqb-false_wider, ltb-false_wider}
+use Rattle.std.proofs.Common.{◌≡◌, ℕ, ◌*◌, ◌≤◌, List, [], length, take, sym, ◌∙◌, ap, subst}
+use Rattle.std.specs.Prelude.{Result, Ok, Err, IfOk, OnErr}
+use Rattle.order_laws.specs.Orders.{half_open}
 use Rattle.atomic_table.specs.Seated.{TableId}
 use Rattle.word_arena.specs.declared.layouts.Layout.{Layout}
 use Rattle.word_arena.specs.Layouts.{capacity_of, limit_of}
-use Rattle.latch_core.specs.declared.updates.Update.{Update}
-use Rattle.latch_core.specs.declared.updates.Update.TheVariants.{Insert, Erase, Batch}
-use Rattle.latch_core.specs.Updates.{refusal_for}
 use Rattle.latch_core.specs.Histories.{replay}
 use Rattle.latch_core.specs.Invariants.{IsSound}
-use Rattle.latch_core.proofs.TestLemmas.{all_tests, none_holds}
+use Rattle.latch_core.proofs.TestLemmas.{none_wider}
 use Rattle.latch_table.specs.Readers.{ReaderState}
 use Rattle.latch_table.specs.Writers.{WriterState, shown_updates}
 use Rattle.latch_table.specs.Enlarging.{Enlarges}
 use Rattle.shared_lookup.specs.Ledgers.{LedgerState, AreAccepted, HasNothingPending, ledger_of}
 use Rattle.shared_lookup.specs.Enlarging.{enlarged_ledger}
-
--- an update that nothing stands against, where there is no more than n items, is not refused with
--- more nodes and a greater limit
-pub none_wider : {K : Type 0} (o : Order K) (n n' limit limit' seq : ℕ) (table : List Item) (u : Update) → n ≤ n' → limit ≤ limit' → length table ≤ n
-    → refusal_for o n limit false table seq u ≡ None → refusal_for o n' limit' false table seq u ≡ None
-none_wider o n n' limit limit' seq table (Insert i) more later few e =
-    let h = none_holds (all_tests o n limit false table seq (Insert i)) e in
-    let f = eqb-false_wider n n' (length table) more few h.1.1.1.0 in
-    let s = ltb-false_wider limit limit' (seq + 2) (seq + 2) later refl h.1.1.1.1.0 in
-    rw (h.1.0, h.1.1.0, f, s) refl
-none_wider o n n' limit limit' seq table (Erase a) more later few e =
-    let h = none_holds (all_tests o n limit false table seq (Erase a)) e in
-    let s = ltb-false_wider limit limit' (seq + 2) (seq + 2) later refl h.1.1.0 in
-    rw (h.1.0, s) refl
-none_wider o n n' limit limit' seq table (Batch erase insert) more later few e =
-    let h = none_holds (all_tests o n limit false table seq (Batch erase insert)) e in
-    let f = ltb-false_wider n n' (length table + length insert) (length table + length insert) more refl h.1.1.1.1.0 in
-    let s = ltb-false_wider limit limit' (seq + 2) (seq + 2) later refl h.1.1.1.1.1.0 in
-    rw (h.1.0, h.1.1.0, h.1.1.1.0, f, s) refl
 
 -- a log stays accepted with more nodes and a greater limit
 pub accepted_wider : (w : LedgerState) (place : TableId) (l : Layout) → w.capacity ≤ capacity_of l → w.limit ≤ limit_of l

@@ -1,53 +1,17 @@
 -- The symbols of a module that lie in one of its regions.
 use Rattle.std.proofs.Common.{◌≡◌, ℕ, ◌<◌, ◌≤◌, Bool, true, false, ◌&&◌, ◌||◌, not, nat_lt, nat_le, cond, min, List, get_or, Some, None, Option, refl, ap, ◌∙◌, arith}
-use Rattle.std.specs.Prelude.{All, find, unwrap_or}
+use Rattle.std.specs.Prelude.{find, unwrap_or}
 use Rattle.std.specs.List.{list_all}
 use Rattle.std.specs.Option.{option_map}
-use Rattle.std.proofs.lemmas.List.Sums.{AllPass-from_list_all}
 use Rattle.std.proofs.lemmas.Bool.{le-leb, leb-true, lt-leb, lt-ltb, ltb-false, ltb-true}
-use Rattle.std.specs.Cmp.{first_so, second_so}
-use Rattle.order_laws.proofs.Numbers.{le_or_past_within, le_unless_past, least_above_past, least_above_within}
-use Rattle.order_laws.proofs.Tests.{find-agree, find-both_none, find-both_some, find-filter, find-has, find-passes, list_all-agree, list_all-filter}
+use Rattle.order_laws.proofs.Numbers.{le_or_past_within, least_above_within}
+use Rattle.order_laws.proofs.Tests.{find-agree, find-both_none, find-both_some, find-filter, list_all-agree, list_all-filter}
 use Rattle.order_laws.proofs.Bools.{and-needless_first, and-needless_second}
-use Rattle.std.proofs.Math.Nat.{le_antisymm}
+use Rattle.modules.proofs.AroundLemmas.{one_nearest, one_next}
 use Rattle.modules.specs.Around.{address_above, is_nearest, is_next, symbol_below}
 use Rattle.modules.specs.Entries.{SymbolEntry}
 use Rattle.modules.specs.Regions.{holds}
 use Rattle.symbols.specs.Found.{symbols_from}
-
--- ---- the symbol below an address, of those in a region that holds it
-
-nearest_parts : (symbols : List SymbolEntry) (addr : ℕ) (s : SymbolEntry) → is_nearest symbols addr s ≡ true → (s.addr ≤ addr) × All (λ t. (nat_le t.addr s.addr || nat_lt addr t.addr) ≡ true) symbols
-nearest_parts symbols addr s h = (
-  leb-true s.addr addr (first_so (nat_le s.addr addr) (list_all (λ (t : SymbolEntry). nat_le t.addr s.addr || nat_lt addr t.addr) symbols) h),
-  AllPass-from_list_all (λ (t : SymbolEntry). nat_le t.addr s.addr || nat_lt addr t.addr) symbols (second_so (nat_le s.addr addr) (list_all (λ (t : SymbolEntry). nat_le t.addr s.addr || nat_lt addr t.addr) symbols) h),
-)
-
-next_parts : (symbols : List SymbolEntry) (addr : ℕ) (s : SymbolEntry) → is_next symbols addr s ≡ true → (addr < s.addr) × All (λ t. (nat_le t.addr addr || nat_le s.addr t.addr) ≡ true) symbols
-next_parts symbols addr s h = (
-  ltb-true addr s.addr (first_so (nat_lt addr s.addr) (list_all (λ (t : SymbolEntry). nat_le t.addr addr || nat_le s.addr t.addr) symbols) h),
-  AllPass-from_list_all (λ (t : SymbolEntry). nat_le t.addr addr || nat_le s.addr t.addr) symbols (second_so (nat_lt addr s.addr) (list_all (λ (t : SymbolEntry). nat_le t.addr addr || nat_le s.addr t.addr) symbols) h),
-)
-
--- the nearest symbols have one address
-one_nearest : (symbols : List SymbolEntry) (addr : ℕ) (s : SymbolEntry) → symbol_below symbols addr ≡ Some s → All (λ x. is_nearest symbols addr x ≡ true → x.addr ≡ s.addr) symbols
-one_nearest symbols addr s is = λ k d lt passes.
-    let x = get_or symbols k d in
-    let mine = nearest_parts symbols addr s (find-passes (is_nearest symbols addr) symbols s is) in
-    let its = nearest_parts symbols addr x passes in
-    le_antisymm
-    (le_unless_past x.addr s.addr addr (mine.1 k d lt) its.0)
-    (le_unless_past s.addr x.addr addr (find-has (is_nearest symbols addr) symbols s is (λ t. (nat_le t.addr x.addr || nat_lt addr t.addr) ≡ true) its.1) mine.0)
-
--- and so have the next ones
-one_next : (symbols : List SymbolEntry) (addr : ℕ) (s : SymbolEntry) → find (is_next symbols addr) symbols ≡ Some s → All (λ x. is_next symbols addr x ≡ true → x.addr ≡ s.addr) symbols
-one_next symbols addr s is = λ k d lt passes.
-    let x = get_or symbols k d in
-    let mine = next_parts symbols addr s (find-passes (is_next symbols addr) symbols s is) in
-    let its = next_parts symbols addr x passes in
-    le_antisymm
-    (least_above_past x.addr s.addr addr (find-has (is_next symbols addr) symbols s is (λ t. (nat_le t.addr addr || nat_le x.addr t.addr) ≡ true) its.1) mine.0)
-    (least_above_past s.addr x.addr addr (mine.1 k d lt) its.0)
 
 below_within : (symbols : List SymbolEntry) (start end addr : ℕ) → start ≤ addr → addr < end → symbol_below (symbols_from symbols start end) addr ≡ find (λ s. nat_le start s.addr && is_nearest symbols addr s) symbols
 below_within symbols start end addr from below =

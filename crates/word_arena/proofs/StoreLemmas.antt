@@ -7,6 +7,10 @@ use Rattle.std.proofs.lemmas.List.{set_past}
 use Rattle.word_arena.specs.declared.stores.Store.{Store}
 use Rattle.word_arena.specs.Words.{at}
 use Rattle.word_arena.specs.Stores.{words_after, words_after_all}
+use Rattle.std.proofs.Common.{suc, ◌+◌, ◌-◌, ◌≤◌, take, append_assoc}
+use Rattle.std.specs.Prelude.{replicate}
+use Rattle.std.proofs.Math.Seq.{set-append_seam}
+use Rattle.std.proofs.lemmas.List.{length-take-le, take_more}
 
 -- two memories agree on the words of a kind
 abbrev pub Agree : (ℕ → Type 0) → List ℕ → List ℕ → Type 0
@@ -49,3 +53,11 @@ agree_after P m m' [] el h = h
 agree_after P m m' (s ∷ ss) el h =
     agree_after P (words_after m s) (words_after m' s) ss (length-set m' s.word s.value ∙ el ∙ sym (length-set m s.word s.value))
     (λ w p. same_store m m' s.word s.value w el (h w p))
+
+-- words copied up to the number w, the others 0: and then the next one
+pub copy_next : (k w : ℕ) (words : List ℕ) → w < length words → length words ≤ k → slice_set (take w words ++ replicate (k - w) 0) w (at words w) ≡ take (w + 1) words ++ replicate (k - (w + 1)) 0
+copy_next k w words within fits =
+    let rest : List ℕ = replicate (k - (w + 1)) 0 in
+    let one : replicate (k - w) 0 ≡ 0 ∷ rest = ap (λ j. replicate j 0) (let e : k - w ≡ suc (k - (w + 1)) = omega (arith, within, fits) in e) in
+    let there : slice_set (take w words ++ 0 ∷ rest) w (at words w) ≡ take w words ++ at words w ∷ rest = subst (λ i. slice_set (take w words ++ 0 ∷ rest) i (at words w) ≡ take w words ++ at words w ∷ rest) (length-take-le w words (omega (arith, within))) (set-append_seam (take w words) 0 rest (at words w)) in
+    ap (λ (z : List ℕ). slice_set (take w words ++ z) w (at words w)) one ∙ there ∙ sym (append_assoc (take w words) (at words w ∷ []) rest) ∙ ap (λ (z : List ℕ). z ++ rest) (sym (take_more words w 0 within))

@@ -1,14 +1,10 @@
 use Rattle.std.proofs.Common.{true, subst, arith}
 use Rattle.std.proofs.lemmas.List.{take_all}
-use Rattle.order_laws.proofs.Lists.{take_push}
 use Rattle.word_arena.specs.Layouts.{capacity_of}
 use Rattle.latch_steps.specs.Runs.{opening}
 use Rattle.latch_steps.specs.Expands.{Expand}
 use Rattle.latch_steps.proofs.Promising.{obeyed_none, obeyed_more, safe_trace, quiet_trace, near_trace}
-use Rattle.latch_steps.proofs.RecorderLemmas.{trace_of, records_none, records_append, few_done, expand_push}
-use Rattle.latch_steps.proofs.SafeRunLemmas.{safe}
-use Rattle.latch_steps.proofs.PatienceLemmas.{quiet, near}
-use Rattle.latch_steps.specs.Near.{AreShallow}
+use Rattle.latch_steps.proofs.RecorderLemmas.{trace_of}
 use Rattle.latch_steps.proofs.runs.drive.Goals as goal
 
 pub loop-command-init : goal.loop-command-init

@@ -1,14 +1,12 @@
 use Rattle.std.proofs.Common.{false, subst, arith}
 use Rattle.std.proofs.lemmas.List.{take_all}
-use Rattle.order_laws.proofs.Lists.{take_push}
 use Rattle.word_arena.specs.Layouts.{capacity_of, limit_of}
 use Rattle.latch_steps.specs.Runs.{last_of, opening}
 use Rattle.latch_steps.specs.Expands.{Expand}
 use Rattle.latch_steps.proofs.SafeRunLemmas.{safe}
 use Rattle.latch_steps.proofs.PatienceLemmas.{quiet, near}
 use Rattle.latch_steps.proofs.Promising.{obeyed_none, obeyed_more, shallow}
-use Rattle.latch_steps.proofs.RecorderLemmas.{notes_of_run, records_none, records_append, expand_push}
-use Rattle.latch_steps.specs.Near.{AreShallow}
+use Rattle.latch_steps.proofs.RecorderLemmas.{notes_of_run}
 use Rattle.latch_steps.proofs.EventCountLemmas.{few_counted}
 use Rattle.latch_steps.proofs.PlainRunLemmas.{exact_where_plain}
 use Rattle.latch_steps.proofs.runs.drive_notes.Goals as goal

@@ -4,10 +4,7 @@ use Rattle.order_laws.proofs.Lists.{take_push}
 use Rattle.word_arena.specs.Layouts.{capacity_of}
 use Rattle.latch_steps.specs.Runs.{step_done, last_of, opening}
 use Rattle.latch_steps.proofs.Promising.{safe_trace, quiet_trace, near_trace}
-use Rattle.latch_steps.proofs.RecorderLemmas.{records_none, records_append, events_append, trace_of, few_done}
-use Rattle.latch_steps.proofs.SafeRunLemmas.{safe}
-use Rattle.latch_steps.proofs.PatienceLemmas.{quiet, near}
-use Rattle.latch_steps.specs.Near.{AreShallow}
+use Rattle.latch_steps.proofs.RecorderLemmas.{records_none, records_append, events_append, trace_of}
 use Rattle.latch_steps.proofs.runs.run.Goals as goal
 
 pub loop-event-init : goal.loop-event-init

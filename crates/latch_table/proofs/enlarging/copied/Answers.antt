@@ -3,7 +3,7 @@ use Rattle.std.specs.Prelude.{slice_set}
 use Rattle.word_arena.specs.Layouts.{capacity_of}
 use Rattle.word_arena.specs.Words.{at, words_for}
 use Rattle.latch_table.specs.Seats.{writer_of}
-use Rattle.latch_table.proofs.EnlargingLemmas.{copy_next}
+use Rattle.word_arena.proofs.StoreLemmas.{copy_next}
 use Rattle.latch_table.proofs.RuleLemmas.{allows_copy}
 use Rattle.latch_table.proofs.enlarging.copied.Goals as goal
 

@@ -1,5 +1,6 @@
 use Rattle.modules.specs.Loads.{load_of}
-use Rattle.latchsym.proofs.CatalogLoadLemmas.{is_given, loads_items, none_held, one_module_more, refused_for_memory}
+use Rattle.modules.proofs.LoadedItemLemmas.{is_given, loads_items, none_held}
+use Rattle.latchsym.proofs.CatalogLoadLemmas.{one_module_more, refused_for_memory}
 use Rattle.latchsym.proofs.table.load.Goals as goal
 
 pub returns-in-Refused-clause-refusal : goal.returns-in-Refused-clause-refusal

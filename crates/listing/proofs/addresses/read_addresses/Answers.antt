@@ -1,4 +1,4 @@
-use Rattle.std.proofs.Common.{◌≡◌, ℕ, List, IfSome, subst, sym}
+use Rattle.std.proofs.Common.{◌≡◌, ℕ, IfSome, subst, sym}
 use Rattle.std.specs.Global.{Vec}
 use Rattle.devices.specs.Counted.{device_of}
 use Rattle.listing.specs.Addresses.{addresses_of}

@@ -1,10 +1,10 @@
-use Rattle.std.proofs.Common.{◌≡◌, ℕ, List, [], ◌∷◌, ◌++◌, length, Ok, Err, refl, sym, ap, subst, ◌∙◌, arith, length-append}
+use Rattle.std.proofs.Common.{◌≡◌, List, [], ◌∷◌, ◌++◌, length, Ok, Err, refl, sym, ap, subst, ◌∙◌, arith, length-append}
 use Rattle.std.specs.Prelude.{All, true}
 use Rattle.order_laws.proofs.Lists.{moved_over}
 use Rattle.modules.specs.Lines.{fits}
 use Rattle.modules.specs.Listed.{ListedModule}
 use Rattle.listing.specs.Lines.{lines_of}
-use Rattle.listing.specs.ModuleListing.{module_of_line, modules_in, module_counts, modules_skipped, module_counts_after}
+use Rattle.listing.specs.ModuleListing.{module_of_line, module_counts, modules_skipped, module_counts_after}
 use Rattle.listing.specs.declared.module_listing.ModuleCounts.{ModuleCounts}
 use Rattle.listing.proofs.LineCountLemmas.{lines_few}
 use Rattle.listing.proofs.ModuleLineLemmas.{each_once, module_counts_more, module_taken, module_skipped, modules_fit}

@@ -1,5 +1,5 @@
-use Rattle.std.proofs.Common.{◌≡◌, ◌<◌, ◌+◌, ◌*◌, ◌^◌, Some, get_or, ap, sym, ◌∙◌, arith, rules}
-use Rattle.std.specs.Char.{digit_value, is_digit}
+use Rattle.std.proofs.Common.{Some, ap, sym, ◌∙◌, arith, rules}
+use Rattle.std.specs.Char.{is_digit}
 use Rattle.std.proofs.lemmas.Grind.{common_steps}
 use Rattle.order_laws.proofs.Digits.{digit_fits, digits_value_after-end, list_all-end, next_digit}
 use Rattle.listing.proofs.NumberLemmas.{is_value}

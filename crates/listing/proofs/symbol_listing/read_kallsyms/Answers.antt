@@ -1,8 +1,8 @@
-use Rattle.std.proofs.Common.{◌≡◌, ℕ, List, [], ◌∷◌, ◌++◌, length, Ok, Err, refl, sym, ap, subst, ◌∙◌, arith, length-append}
+use Rattle.std.proofs.Common.{◌≡◌, List, [], ◌∷◌, ◌++◌, length, Ok, Err, refl, sym, ap, ◌∙◌, arith, length-append}
 use Rattle.order_laws.proofs.Lists.{moved_over}
 use Rattle.modules.specs.Listed.{ListedSymbol}
 use Rattle.listing.specs.Lines.{lines_of}
-use Rattle.listing.specs.SymbolListing.{symbol_of, symbols_in, symbol_counts, symbols_skipped, symbol_counts_after}
+use Rattle.listing.specs.SymbolListing.{symbol_of, symbol_counts, symbols_skipped, symbol_counts_after}
 use Rattle.listing.specs.declared.symbol_listing.SymbolCounts.{SymbolCounts}
 use Rattle.listing.proofs.LineCountLemmas.{lines_few}
 use Rattle.listing.proofs.SymbolLineLemmas.{each_once, symbol_counts_more, symbol_taken, symbol_skipped}

@@ -1,9 +1,8 @@
-use Rattle.std.proofs.Common.{◌≡◌, ◌+◌, ℕ, List, Some, None, Option, take, drop, sym, ap, subst, ◌∙◌}
+use Rattle.std.proofs.Common.{◌≡◌, ◌+◌, ℕ, List, Some, Option, take, drop, sym, ap, subst, ◌∙◌}
 use Rattle.std.specs.Option.{option_and_then}
 use Rattle.std.proofs.lemmas.List.{take_rest}
 use Rattle.memchr.specs.Find.{IsFirstByte, is_byte}
 use Rattle.listing.specs.SymbolListing.{bracketed, cut_at, symbol_before, symbol_of_text}
-use Rattle.modules.specs.Listed.{ListedSymbol}
 use Rattle.listing.proofs.LineCutLemmas.{cut_here, cut_nowhere}
 use Rattle.listing.proofs.symbol_listing.symbol_in_form.Goals as goal
 

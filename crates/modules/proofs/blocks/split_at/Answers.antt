@@ -1,4 +1,4 @@
-use Rattle.std.proofs.Common.{ℕ, List, ◌-◌, ◌≤◌, length, take, drop, nat_le, rules, arith}
+use Rattle.std.proofs.Common.{ℕ, ◌-◌, ◌≤◌, length, take, drop, nat_le, rules, arith}
 use Rattle.std.proofs.lemmas.List.Sorted.{IsNonDecreasingBy-drop, IsNonDecreasingBy-take, IsPartitionPoint-from_clause, IsPartitionedBy-leb}
 use Rattle.modules.proofs.BlockLemmas.{IsSplitBy-from_block}
 use Rattle.modules.proofs.IndexLemmas.{IsSplitBy-from_partition}

@@ -4,7 +4,8 @@ use Rattle.std.specs.Option.{option_copied, option_map}
 use Rattle.modules.specs.Around.{address_above, symbol_below}
 use Rattle.modules.specs.Entries.{SymbolEntry}
 use Rattle.symbols.specs.Found.{symbol_found_at, symbols_from}
-use Rattle.symbols.proofs.NearestLemmas.{above_gt, below_le, found_is}
+use Rattle.modules.proofs.AroundLemmas.{above_gt, below_le}
+use Rattle.symbols.proofs.NearestLemmas.{found_is}
 use Rattle.symbols.proofs.WithinLemmas.{before_within, none_within, reach_within, some_within}
 use Rattle.symbols.proofs.find.symbol_in.Goals as goal
 

@@ -1,18 +1,11 @@
--- What the events of a lookup do to an idle world.
-use Rattle.std.proofs.Common.{◌≡◌, ◌≢◌, ℕ, ◌+◌, ◌-◌, ◌*◌, ◌%◌, ◌≤◌, List, [], ◌∷◌, ◌++◌, length, Option, Some, None, refl, sym, ◌∙◌, ap, subst, ⊎_elim, arith}
+-- What the events of a lookup do to an idle moment.
+use Rattle.std.proofs.Common.{◌≡◌, ◌≢◌, ℕ, List, [], ◌∷◌, ◌++◌, Option, Some, None, refl, sym, ◌∙◌, ap, subst, ⊎_elim}
 use Rattle.std.specs.List.{AllByRecursion}
 use Rattle.std.specs.FinMap.{get}
 use Rattle.std.proofs.lemmas.Bool.{cases_eq}
-use Rattle.std.proofs.lemmas.List.{take_all}
 use Rattle.order_laws.specs.Orders.{Order}
-use Rattle.order_laws.specs.Tables.{IsTable}
 use Rattle.order_laws.proofs.Maps.{get-insert_other, get-remove_other, get-remove_same}
-use Rattle.word_arena.specs.Words.{at}
-use Rattle.latch_core.specs.declared.updates.Update.{Update}
-use Rattle.latch_core.specs.Sequences.{generation_of}
-use Rattle.latch_core.specs.Histories.{replay, current_table}
-use Rattle.latch_core.specs.Invariants.{IsSound, IsPendingOf}
-use Rattle.latch_core.specs.Latches.{PendingUpdate, Latch}
+use Rattle.latch_core.specs.Latches.{PendingUpdate}
 use Rattle.latch_steps.specs.declared.events.Event.TheVariants.{Write, Start, Read}
 use Rattle.latch_steps.specs.declared.replies.Reply.{Reply}
 use Rattle.latch_steps.specs.declared.replies.Reply.TheVariants.{Started, Returned as ReturnedReply}
@@ -115,28 +108,3 @@ module _ {K : Type 0} (r : ℕ) where
       (λ same. subst (λ j. get v.lookups j ≡ None) (sym same) h.ends)
       (λ ne. h.differs.others q ne ∙ none q)
       (cases_eq q r)
-
--- with nothing pending the sequence names all accepted updates
-pub sequence_at_rest : {K : Type 0} (o : Order K) (n start : ℕ) (us : List Update) (l : Latch)
-    → IsSound o n start us l → l.pending ≡ None → at l.words 0 ≡ start + 2 * length us
-sequence_at_rest o n start us l ok rest = subst (IsPendingOf o start (at l.words 0) us) rest ok.in_hand
-
-pub current_at_rest : {K : Type 0} (o : Order K) (n start : ℕ) (us : List Update) (l : Latch)
-    → IsSound o n start us l → l.pending ≡ None → current_table o start us l.words ≡ replay o [] us
-current_at_rest o n start us l ok rest =
-    let seq = sequence_at_rest o n start us l ok rest in
-    let all : length us ≤ generation_of (at l.words 0) - generation_of start = (let ev : start % 2 ≡ 0 = ok.even in omega arith) in
-    ap (replay o []) (take_all (generation_of (at l.words 0) - generation_of start) us all)
-
--- before any update none is pending
-pub none_begun : {K : Type 0} (o : Order K) (n start : ℕ) (l : Latch) → IsSound o n start [] l → l.pending ≡ None
-none_begun o n start l ok = go l.pending ok.in_hand
-  where
-    go : (h : Option PendingUpdate) → IsPendingOf o start (at l.words 0) [] h → h ≡ None
-    go None is = refl
-    go (Some h) is = absurd (omega (arith, is.last))
-
--- the table after a list of updates
-pub table_at_rest : {K : Type 0} (o : Order K) (n start : ℕ) (us : List Update) (l : Latch) → IsSound o n start us l → IsTable o (replay o [] us)
-table_at_rest o n start us l ok =
-    subst (λ v. IsTable o (replay o [] v)) (take_all (length us) us (omega arith)) (ok.tables (length us)).0

@@ -1,9 +1,9 @@
 -- The items of a module number, between those of the lesser and those of the greater ones.
-use Rattle.std.proofs.Common.{◌≡◌, ℕ, suc, ◌+◌, ◌-◌, ◌<◌, ◌≤◌, List, [], ◌∷◌, ◌++◌, length, map, flat_map, get_or, refl, sym, ◌∙◌, ap, subst, arith, length-append}
-use Rattle.std.specs.Prelude.{Bool, true, false, ◌||◌, All, Contains}
+use Rattle.std.proofs.Common.{◌≡◌, ℕ, suc, ◌+◌, ◌-◌, ◌<◌, ◌≤◌, List, [], ◌∷◌, ◌++◌, length, map, flat_map, refl, sym, ◌∙◌, ap, subst, arith, length-append}
+use Rattle.std.specs.Prelude.{true, false, Contains}
 use Rattle.std.specs.List.{AllPairs, range_with_len}
-use Rattle.std.proofs.lemmas.List.{map-append, length-map, get_or_append_left, get_or-append-add, get_or_default}
-use Rattle.std.proofs.lemmas.List.Elements.{All-contains, Contains-append_left, Contains-append_right}
+use Rattle.std.proofs.lemmas.List.{map-append, length-map}
+use Rattle.std.proofs.lemmas.List.Elements.{Contains-append_left, Contains-append_right}
 use Rattle.std.proofs.lemmas.Grind.{flat_map-append}
 use Rattle.std.proofs.lemmas.Bool.{or_from}
 use Rattle.order_laws.proofs.Ranges.{range-append_from_zero}
@@ -19,6 +19,7 @@ use Rattle.modules.specs.Entries.{CatalogEntries}
 use Rattle.modules.specs.Items.{items_at, items_below, items_of}
 use Rattle.modules.specs.Regions.{is_apart}
 use Rattle.modules.proofs.ItemLemmas.{all_regions, region_of}
+use Rattle.modules.proofs.ApartItemLemmas.{each_has_addresses}
 
 -- the items of a number, between those of the lesser and those of the greater ones
 pub rest_of : CatalogEntries → ℕ → List Item
@@ -64,10 +65,8 @@ module _ (c : CatalogEntries) (sound : IsSoundCatalog c) (k : ℕ) (le : k ≤ l
 
   pub has_addresses : (y : Item) → Contains (items_at c k) y → y.a < y.b
   has_addresses y at' =
-      let all : All (λ (r : ℕ × ℕ). r.0 < r.1) (map region_of (items_below c k) ++ (map region_of (items_at c k) ++ map region_of (rest_of c k))) = subst (All (λ (r : ℕ × ℕ). r.0 < r.1)) regions_parted sound.apart.valid in
-      All-contains (λ (r : ℕ × ℕ). r.0 < r.1) _ (region_of y) all
-      (Contains-append_right (map region_of (items_below c k)) (map region_of (items_at c k) ++ map region_of (rest_of c k)) (region_of y)
-      (Contains-append_left (map region_of (items_at c k)) (map region_of (rest_of c k)) (region_of y) (Contains-map region_of (items_at c k) y at')))
+      each_has_addresses c sound y (subst (λ l. Contains l y) (sym (parted_at c k le))
+      (Contains-append_right (items_below c k) (items_at c k ++ rest_of c k) y (Contains-append_left (items_at c k) (rest_of c k) y at')))
 
   pub none_overlap : some_overlap half_open (items_at c k) ≡ false
   none_overlap =

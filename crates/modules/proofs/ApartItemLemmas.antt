@@ -1,0 +1,63 @@
+-- The items of a catalog have addresses, and two of them lie apart, so that one at most has an address.
+use Rattle.std.proofs.Common.{◌≡◌, ℕ, ◌<◌, ◌≤◌, ◌⊎◌, inl, inr, ⊎_elim, true, length, map, get_or, Option, Some, None, refl, sym, ap, subst, ◌∙◌, arith}
+use Rattle.std.specs.Prelude.{Contains, All}
+use Rattle.std.specs.List.{AllPairs}
+use Rattle.std.proofs.lemmas.Bool.{cases_lt}
+use Rattle.std.proofs.lemmas.Bool.Decides.{nat_tests}
+use Rattle.std.proofs.lemmas.List.{get_or_default, length-map}
+use Rattle.std.proofs.lemmas.List.Elements.{All-contains}
+use Rattle.order_laws.proofs.Members.{Contains-map}
+use Rattle.order_laws.specs.declared.items.Item.{Item}
+use Rattle.order_laws.specs.Orders.{half_open}
+use Rattle.order_laws.specs.Tables.{IsLook}
+use Rattle.order_laws.proofs.Lists.{get_or-map_default}
+use Rattle.order_laws.proofs.HalfOpenLemmas.{begins, ends, equal_inside}
+use Rattle.modules.specs.Catalogs.{IsSoundCatalog}
+use Rattle.modules.specs.Entries.{CatalogEntries}
+use Rattle.modules.specs.Items.{items_of}
+use Rattle.modules.specs.Regions.{is_apart}
+use Rattle.modules.proofs.ItemLemmas.{all_regions, region_of}
+
+beside : (x y : Item) → is_apart (region_of x) (region_of y) ≡ true → (x.b ≤ y.a) ⊎ (y.b ≤ x.a)
+beside x y h = ⊎_elim (λ lt. inr (let q : y.b ≤ x.a = grind (arith, nat_tests) in q)) (λ le. inl le) (cases_lt y.a x.b)
+
+module _ (c : CatalogEntries) (sound : IsSoundCatalog c) where
+  pairs : AllPairs (λ r s. is_apart r s ≡ true) (map region_of (items_of c))
+  pairs = subst (AllPairs (λ r s. is_apart r s ≡ true)) (sym (all_regions c)) sound.apart.apart
+
+  -- an item at an earlier place than another is apart from it
+  earlier : (x y : Item) (i j : ℕ) → i < j → j < length (items_of c) → get_or (items_of c) i x ≡ x → get_or (items_of c) j y ≡ y → (x.b ≤ y.a) ⊎ (y.b ≤ x.a)
+  earlier x y i j less lt at there =
+      let r = pairs i j (region_of x) less (omega (arith, length-map (items_of c) region_of)) in
+      let e : get_or (map region_of (items_of c)) i (region_of x) ≡ region_of x = get_or-map_default region_of (items_of c) i x ∙ ap region_of at in
+      let f : get_or (map region_of (items_of c)) j (region_of x) ≡ region_of y = get_or-map_default region_of (items_of c) j x ∙ ap region_of (get_or_default (items_of c) j x y lt ∙ there) in
+      beside x y (subst (λ b. is_apart (region_of x) b ≡ true) f (subst (λ a. is_apart a (get_or (map region_of (items_of c)) j (region_of x)) ≡ true) e r))
+
+  other_side : (x y : Item) → (y.b ≤ x.a) ⊎ (x.b ≤ y.a) → (x.b ≤ y.a) ⊎ (y.b ≤ x.a)
+  other_side x y h = ⊎_elim (λ le. inr le) (λ le. inl le) h
+
+  -- two items are one, or apart
+  pub same_or_apart : (x y : Item) → Contains (items_of c) x → Contains (items_of c) y → (x ≡ y) ⊎ ((x.b ≤ y.a) ⊎ (y.b ≤ x.a))
+  same_or_apart x y (i, lt, at) (j, less, there) =
+      ⊎_elim (λ before. inr (earlier x y i j before less at there))
+      (λ ge. ⊎_elim (λ before. inr (other_side x y (earlier y x j i before lt there at)))
+      (λ le. let e : i ≡ j = omega arith in
+      inl (sym at ∙ get_or_default (items_of c) i x y lt ∙ ap (λ n. get_or (items_of c) n y) e ∙ there))
+      (cases_lt j i))
+      (cases_lt i j)
+
+  pub each_has_addresses : (x : Item) → Contains (items_of c) x → x.a < x.b
+  each_has_addresses x m =
+      All-contains (λ (r : ℕ × ℕ). r.0 < r.1) (map region_of (items_of c)) (region_of x)
+      (subst (All (λ (r : ℕ × ℕ). r.0 < r.1)) (sym (all_regions c)) sound.apart.valid) (Contains-map region_of (items_of c) x m)
+
+  pub some_found : (addr : ℕ) (i : Item) (r : Option Item) → Contains (items_of c) i → i.a ≤ addr → addr < i.b → IsLook half_open addr (items_of c) r → Some i ≡ r
+  some_found addr i None m le lt h = absurd (h i m (equal_inside addr i le lt))
+  some_found addr i (Some y) m le lt h =
+      let b = begins addr y h.1 in
+      let e = ends addr y h.1 in
+      ap Some (⊎_elim (λ same. same) (λ apart. ⊎_elim (λ p. absurd (omega arith)) (λ p. absurd (omega arith)) apart) (same_or_apart i y m h.0))
+
+  pub none_found : (addr : ℕ) (r : Option Item) → ((y : Item) → Contains (items_of c) y → y.a ≤ addr → addr < y.b → ⊥) → IsLook half_open addr (items_of c) r → None ≡ r
+  none_found addr None not_in h = refl
+  none_found addr (Some y) not_in h = absurd (not_in y h.0 (begins addr y h.1) (ends addr y h.1))

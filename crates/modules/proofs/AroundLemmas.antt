@@ -1,0 +1,112 @@
+-- The symbol below an address and the address above it.
+use Rattle.std.proofs.Common.{◌≡◌, ℕ, ◌-◌, ◌<◌, ◌≤◌, true, ◌&&◌, ◌||◌, nat_lt, nat_le, List, get_or, Some, None, Option, refl, ap, ◌∙◌, false, arith}
+use Rattle.std.specs.Prelude.{All, find, unwrap_or}
+use Rattle.std.specs.List.{list_all}
+use Rattle.std.specs.Option.{option_map}
+use Rattle.std.proofs.lemmas.List.Sums.{AllPass-from_list_all}
+use Rattle.std.proofs.lemmas.Bool.{leb-true, ltb-true, le-leb, lt-ltb}
+use Rattle.std.specs.Cmp.{first_so, second_so}
+use Rattle.order_laws.proofs.Numbers.{le_or_past_below, least_above_below, le_unless_past, least_above_past}
+use Rattle.order_laws.proofs.Tests.{find-agree, find-passes, list_all-agree, find-has}
+use Rattle.modules.specs.Around.{address_above, is_nearest, is_next, symbol_below}
+use Rattle.modules.specs.Entries.{SymbolEntry}
+use Rattle.std.proofs.Math.Nat.{le_antisymm}
+use Rattle.std.proofs.Common.{inl, inr, ⊎_elim}
+use Rattle.std.specs.List.{list_any}
+use Rattle.std.proofs.lemmas.Bool.{cases_lt, and_from}
+use Rattle.std.proofs.lemmas.List.Elements.{All-contains}
+use Rattle.std.proofs.lemmas.List.Folds.{list_any_at}
+use Rattle.std.proofs.lemmas.List.Sums.{list_all-from_AllPass}
+use Rattle.order_laws.proofs.Bools.{or_from_cases}
+use Rattle.order_laws.proofs.Tests.{All-from_find}
+use Rattle.order_laws.proofs.Tests.{least_in}
+
+pub below_le : (symbols : List SymbolEntry) (addr : ℕ) (s : SymbolEntry) → symbol_below symbols addr ≡ Some s → s.addr ≤ addr
+below_le symbols addr s h = leb-true s.addr addr (first_so (nat_le s.addr addr) (list_all (λ t. nat_le t.addr s.addr || nat_lt addr t.addr) symbols) (find-passes (is_nearest symbols addr) symbols s h))
+
+above_from : (symbols : List SymbolEntry) (addr : ℕ) (o : Option SymbolEntry) → find (is_next symbols addr) symbols ≡ o → (end : ℕ) → addr < end → addr < unwrap_or (option_map (λ (s : SymbolEntry). s.addr) o) end
+above_from symbols addr None h end lt = lt
+above_from symbols addr (Some s) h end lt = ltb-true addr s.addr (first_so (nat_lt addr s.addr) (list_all (λ t. nat_le t.addr addr || nat_le s.addr t.addr) symbols) (find-passes (is_next symbols addr) symbols s h))
+
+pub above_gt : (symbols : List SymbolEntry) (addr end : ℕ) → addr < end → addr < unwrap_or (address_above symbols addr) end
+above_gt symbols addr end lt = above_from symbols addr (find (is_next symbols addr) symbols) refl end lt
+
+-- no symbol lies between the symbol below an address and the address
+pub above_same : (symbols : List SymbolEntry) (addr : ℕ) (s : SymbolEntry) → symbol_below symbols addr ≡ Some s → address_above symbols s.addr ≡ address_above symbols addr
+above_same symbols addr s h =
+    let passes = find-passes (is_nearest symbols addr) symbols s h in
+    let low : s.addr ≤ addr = below_le symbols addr s h in
+    let none : All (λ t. (nat_le t.addr s.addr || nat_lt addr t.addr) ≡ true) symbols = AllPass-from_list_all (λ (t : SymbolEntry). nat_le t.addr s.addr || nat_lt addr t.addr) symbols (second_so (nat_le s.addr addr) (list_all (λ t. nat_le t.addr s.addr || nat_lt addr t.addr) symbols) passes) in
+    ap (option_map (λ (t : SymbolEntry). t.addr)) (find-agree (is_next symbols s.addr) (is_next symbols addr) symbols (λ k d lt.
+    let t = get_or symbols k d in
+    ap (λ b. b && list_all (λ (u : SymbolEntry). nat_le u.addr s.addr || nat_le t.addr u.addr) symbols) (le_or_past_below s.addr addr t.addr low (none k d lt))
+    ∙ ap (λ b. nat_lt addr t.addr && b) (list_all-agree (λ (u : SymbolEntry). nat_le u.addr s.addr || nat_le t.addr u.addr) (λ (u : SymbolEntry). nat_le u.addr addr || nat_le t.addr u.addr) symbols (λ i e l. least_above_below s.addr addr t.addr (get_or symbols i e).addr low (none i e l)))))
+
+nearest_parts : (symbols : List SymbolEntry) (addr : ℕ) (s : SymbolEntry) → is_nearest symbols addr s ≡ true → (s.addr ≤ addr) × All (λ t. (nat_le t.addr s.addr || nat_lt addr t.addr) ≡ true) symbols
+nearest_parts symbols addr s h = (
+  leb-true s.addr addr (first_so (nat_le s.addr addr) (list_all (λ (t : SymbolEntry). nat_le t.addr s.addr || nat_lt addr t.addr) symbols) h),
+  AllPass-from_list_all (λ (t : SymbolEntry). nat_le t.addr s.addr || nat_lt addr t.addr) symbols (second_so (nat_le s.addr addr) (list_all (λ (t : SymbolEntry). nat_le t.addr s.addr || nat_lt addr t.addr) symbols) h),
+)
+
+next_parts : (symbols : List SymbolEntry) (addr : ℕ) (s : SymbolEntry) → is_next symbols addr s ≡ true → (addr < s.addr) × All (λ t. (nat_le t.addr addr || nat_le s.addr t.addr) ≡ true) symbols
+next_parts symbols addr s h = (
+  ltb-true addr s.addr (first_so (nat_lt addr s.addr) (list_all (λ (t : SymbolEntry). nat_le t.addr addr || nat_le s.addr t.addr) symbols) h),
+  AllPass-from_list_all (λ (t : SymbolEntry). nat_le t.addr addr || nat_le s.addr t.addr) symbols (second_so (nat_lt addr s.addr) (list_all (λ (t : SymbolEntry). nat_le t.addr addr || nat_le s.addr t.addr) symbols) h),
+)
+
+-- the nearest symbols have one address
+pub one_nearest : (symbols : List SymbolEntry) (addr : ℕ) (s : SymbolEntry) → symbol_below symbols addr ≡ Some s → All (λ x. is_nearest symbols addr x ≡ true → x.addr ≡ s.addr) symbols
+one_nearest symbols addr s is = λ k d lt passes.
+    let x = get_or symbols k d in
+    let mine = nearest_parts symbols addr s (find-passes (is_nearest symbols addr) symbols s is) in
+    let its = nearest_parts symbols addr x passes in
+    le_antisymm
+    (le_unless_past x.addr s.addr addr (mine.1 k d lt) its.0)
+    (le_unless_past s.addr x.addr addr (find-has (is_nearest symbols addr) symbols s is (λ t. (nat_le t.addr x.addr || nat_lt addr t.addr) ≡ true) its.1) mine.0)
+
+-- and so have the next ones
+pub one_next : (symbols : List SymbolEntry) (addr : ℕ) (s : SymbolEntry) → find (is_next symbols addr) symbols ≡ Some s → All (λ x. is_next symbols addr x ≡ true → x.addr ≡ s.addr) symbols
+one_next symbols addr s is = λ k d lt passes.
+    let x = get_or symbols k d in
+    let mine = next_parts symbols addr s (find-passes (is_next symbols addr) symbols s is) in
+    let its = next_parts symbols addr x passes in
+    le_antisymm
+    (least_above_past x.addr s.addr addr (find-has (is_next symbols addr) symbols s is (λ t. (nat_le t.addr addr || nat_le x.addr t.addr) ≡ true) its.1) mine.0)
+    (least_above_past s.addr x.addr addr (mine.1 k d lt) its.0)
+
+-- where nothing is found, all symbols lie above the address
+pub all_above : (symbols : List SymbolEntry) (addr : ℕ) → symbol_below symbols addr ≡ None → All (λ s. addr < s.addr) symbols
+all_above symbols addr none = λ k d lt.
+    ⊎_elim
+    (λ over. over)
+    (λ under.
+    let some : list_any (λ (s : SymbolEntry). nat_le s.addr addr) symbols ≡ true = list_any_at (λ (s : SymbolEntry). nat_le s.addr addr) symbols k d lt (le-leb (get_or symbols k d).addr addr under) in
+    let best = least_in (λ (s : SymbolEntry). nat_le s.addr addr) (λ (s : SymbolEntry). addr - s.addr) symbols some in
+    let low : best.0.addr ≤ addr = leb-true best.0.addr addr best.1.passing in
+    let near : is_nearest symbols addr best.0 ≡ true = and_from (nat_le best.0.addr addr) (list_all (λ (t : SymbolEntry). nat_le t.addr best.0.addr || nat_lt addr t.addr) symbols) best.1.passing (list_all-from_AllPass (λ (t : SymbolEntry). nat_le t.addr best.0.addr || nat_lt addr t.addr) symbols (λ j e l. ⊎_elim
+    (λ above. or_from_cases (nat_le (get_or symbols j e).addr best.0.addr) (nat_lt addr (get_or symbols j e).addr) (inr (lt-ltb addr (get_or symbols j e).addr above)))
+    (λ below.
+    let less : addr - best.0.addr ≤ addr - (get_or symbols j e).addr = best.1.least j e l (le-leb (get_or symbols j e).addr addr below) in
+    or_from_cases (nat_le (get_or symbols j e).addr best.0.addr) (nat_lt addr (get_or symbols j e).addr) (inl (le-leb (get_or symbols j e).addr best.0.addr (omega arith))))
+    (cases_lt addr (get_or symbols j e).addr))) in
+    let far : is_nearest symbols addr best.0 ≡ false = All-contains (λ (s : SymbolEntry). is_nearest symbols addr s ≡ false) symbols best.0 (All-from_find (is_nearest symbols addr) symbols none) best.1.there in
+    absurd (cc))
+    (cases_lt addr (get_or symbols k d).addr)
+
+-- where no next symbol is found, none lies above the address
+pub none_over : (symbols : List SymbolEntry) (addr : ℕ) → find (is_next symbols addr) symbols ≡ None → All (λ t. t.addr ≤ addr) symbols
+none_over symbols addr none = λ k d lt.
+    ⊎_elim
+    (λ over.
+    let some : list_any (λ (s : SymbolEntry). nat_lt addr s.addr) symbols ≡ true = list_any_at (λ (s : SymbolEntry). nat_lt addr s.addr) symbols k d lt (lt-ltb addr (get_or symbols k d).addr over) in
+    let best = least_in (λ (s : SymbolEntry). nat_lt addr s.addr) (λ (s : SymbolEntry). s.addr) symbols some in
+    let next : is_next symbols addr best.0 ≡ true = and_from (nat_lt addr best.0.addr) (list_all (λ (t : SymbolEntry). nat_le t.addr addr || nat_le best.0.addr t.addr) symbols) best.1.passing (list_all-from_AllPass (λ (t : SymbolEntry). nat_le t.addr addr || nat_le best.0.addr t.addr) symbols (λ j e l. ⊎_elim
+    (λ above.
+    let least : best.0.addr ≤ (get_or symbols j e).addr = best.1.least j e l (lt-ltb addr (get_or symbols j e).addr above) in
+    or_from_cases (nat_le (get_or symbols j e).addr addr) (nat_le best.0.addr (get_or symbols j e).addr) (inr (le-leb best.0.addr (get_or symbols j e).addr least)))
+    (λ below. or_from_cases (nat_le (get_or symbols j e).addr addr) (nat_le best.0.addr (get_or symbols j e).addr) (inl (le-leb (get_or symbols j e).addr addr below)))
+    (cases_lt addr (get_or symbols j e).addr))) in
+    let not_next : is_next symbols addr best.0 ≡ false = All-contains (λ (s : SymbolEntry). is_next symbols addr s ≡ false) symbols best.0 (All-from_find (is_next symbols addr) symbols none) best.1.there in
+    absurd (cc))
+    (λ under. under)
+    (cases_lt addr (get_or symbols k d).addr)

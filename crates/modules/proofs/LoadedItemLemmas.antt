@@ -1,0 +1,103 @@
+-- The items that a load inserts, and when the update that inserts them is accepted.
+use Rattle.std.proofs.Common.{◌≡◌, ℕ, ◌+◌, ◌<◌, ◌≤◌, true, false, List, [], ◌∷◌, length, Option, Some, None, refl, sym, ◌∙◌, ap, subst, ⊎_elim, arith, zero, suc, map, Result, Ok, Err}
+use Rattle.std.specs.Prelude.{Contains, nat_lt}
+use Rattle.std.proofs.lemmas.Bool.Decides.{nat_tests}
+use Rattle.order_laws.specs.declared.items.Item.{Item}
+use Rattle.order_laws.specs.Orders.{half_open}
+use Rattle.order_laws.specs.Tables.{without_all}
+use Rattle.order_laws.proofs.PlaceLemmas.{without_none}
+use Rattle.latch_core.proofs.HistoryLemmas.{all_are_valid, insert_accepted, no_test_holds, none_meet}
+use Rattle.latch_core.specs.declared.updates.Update.{Update}
+use Rattle.latch_core.specs.Updates.{erased, inserted, refusal_for, some_invalid, some_meet, some_overlap}
+use Rattle.modules.specs.Loads.{update_of, GivesOrLacksMemory, item_of, load_of, load_update}
+use Rattle.std.specs.List.{list_any}
+use Rattle.std.specs.Option.{option_map_or, option_to_list}
+use Rattle.std.proofs.lemmas.List.{length-map}
+use Rattle.std.proofs.lemmas.List.Elements.{All-contains, Contains-append_left, Contains-append_right}
+use Rattle.std.proofs.lemmas.Option.{get_or_from_slice_get, slice_get_within}
+use Rattle.order_laws.specs.declared.refusals.Refusal.{Refusal}
+use Rattle.order_laws.specs.declared.refusals.Refusal.TheVariants.{OutOfMemory, UnknownModule}
+use Rattle.modules.specs.Building.{placed_module_of}
+use Rattle.modules.specs.Catalogs.{IsSoundCatalog, entries_of, module_of}
+use Rattle.modules.specs.Entries.{CatalogEntries, ModuleEntry}
+use Rattle.modules.specs.Items.{items_at}
+use Rattle.modules.specs.Parts.{is_core}
+use Rattle.modules.specs.Placed.{IsPlaced, PlacedModule}
+use Rattle.modules.specs.declared.catalog.Held.{Held}
+use Rattle.modules.specs.declared.lines.Part.{Part}
+
+-- the update that loads a module inserts its items, of which there is one at least
+pub record LoadsItems (c : CatalogEntries) (k : ℕ) (u : Update) : Type 0 where
+  pub is : u ≡ update_of [] (items_at c k)
+  pub some : 0 < length (items_at c k)
+
+-- what a table holds of a module that is not loaded
+abbrev pub none_held : Held
+none_held = record { core = false; init = false }
+
+among_entries : (c : CatalogEntries) (k : ℕ) (m : ModuleEntry) → module_of c k ≡ Some m → Contains (entries_of c) m
+among_entries c zero m e =
+    Contains-append_left (option_to_list c.built_in) c.modules m (subst (λ o. Contains (option_to_list o) m) (sym e) (0, omega arith, refl))
+among_entries c (suc j) m e =
+    Contains-append_right (option_to_list c.built_in) c.modules m (j, slice_get_within c.modules j m e, get_or_from_slice_get c.modules j m m e)
+
+-- a module has a core region
+has_region : (m : PlacedModule) → IsPlaced m → 0 < length m.regions
+has_region m placed =
+    let same = placed.same in
+    let some : 0 < length m.parts = go m.parts placed.some_core in
+    omega arith
+  where
+    go : (parts : List Part) → list_any is_core parts ≡ true → 0 < length parts
+    go [] e = absurd (cc)
+    go (p ∷ ps) e = omega arith
+
+loads_some : (c : CatalogEntries) (k : ℕ) (u : Update) (m : ModuleEntry) → IsSoundCatalog c → module_of c k ≡ Some m → load_of c k none_held ≡ Ok u → LoadsItems c k u
+loads_some c k u m sound e loads =
+    let items : items_at c k ≡ map (item_of k) m.regions = ap (λ o. option_map_or (λ (x : ModuleEntry). map (item_of k) x.regions) o []) e in
+    let given : load_of c k none_held ≡ Ok (update_of [] (map (item_of k) m.regions)) = ap (λ o. option_map_or (load_update k none_held) o (Err UnknownModule)) e in
+    let placed = All-contains (λ (x : ModuleEntry). IsPlaced (placed_module_of x)) (entries_of c) m sound.placed (among_entries c k m e) in
+    let some = has_region (placed_module_of m) placed in
+    let same : u ≡ update_of [] (map (item_of k) m.regions) = cc in
+    record {
+      is = same ∙ ap (update_of []) (sym items);
+      some = omega (arith, ap length items, length-map m.regions (item_of k));
+    }
+
+pub loads_items : (c : CatalogEntries) (k : ℕ) (u : Update) → IsSoundCatalog c → load_of c k none_held ≡ Ok u → LoadsItems c k u
+loads_items c k u sound loads = go (module_of c k) refl
+  where
+    go : (o : Option ModuleEntry) → module_of c k ≡ o → LoadsItems c k u
+    go None e = let none : load_of c k none_held ≡ Err UnknownModule = ap (λ o. option_map_or (load_update k none_held) o (Err UnknownModule)) e in absurd (cc)
+    go (Some m) e = loads_some c k u m sound e loads
+
+-- a load that gives an update gives the one that is asked for
+pub is_given : (asked r : Result Update Refusal) (u : Update) → GivesOrLacksMemory asked r → r ≡ Ok u → asked ≡ Ok u
+is_given asked r u g is = ⊎_elim (λ e. sym e ∙ is) (λ h. let f : Err OutOfMemory ≡ Ok u = sym h.0 ∙ is in absurd (cc)) g
+
+-- the update that inserts some items is accepted where these are apart from each other and from all
+-- others, and have room
+pub inserts_accepted : (n limit : ℕ) (items table : List Item) (seq : ℕ) → 0 < length items → ((i : Item) → Contains items i → i.a < i.b)
+    → some_overlap half_open items ≡ false → ((x i : Item) → Contains table x → Contains items i → half_open.apart x i ≡ true)
+    → length table + length items ≤ n → seq + 2 ≤ limit → refusal_for half_open n limit false table seq (update_of [] items) ≡ None
+inserts_accepted n limit [] table seq some valid each apart room left = absurd (omega arith)
+inserts_accepted n limit (i ∷ []) table seq some valid each apart room left =
+    let here : Contains (i ∷ []) i = (0, omega arith, refl) in
+    insert_accepted n limit i table seq (valid i here) (λ x m. apart x i m here) (omega arith) left
+inserts_accepted n limit (i ∷ j ∷ rest) table seq some valid each apart room left =
+    let items = i ∷ j ∷ rest in
+    let f : nat_lt n (length table + length items) ≡ false = grind (arith, nat_tests) in
+    let s : nat_lt limit (seq + 2) ≡ false = grind (arith, nat_tests) in
+    no_test_holds (some_invalid half_open items) (some_overlap half_open items) (some_meet half_open items (without_all [] table)) (nat_lt n (length table + length items)) (nat_lt limit (seq + 2))
+    (all_are_valid items valid) each (ap (some_meet half_open items) (without_none table) ∙ none_meet items table apart) f s
+
+-- the update that inserts these items, and erases none
+pub inserts_these : (items : List Item) → inserted (update_of [] items) ≡ items
+inserts_these [] = refl
+inserts_these (i ∷ []) = refl
+inserts_these (i ∷ j ∷ rest) = refl
+
+pub erases_none : (items : List Item) → erased (update_of [] items) ≡ []
+erases_none [] = refl
+erases_none (i ∷ []) = refl
+erases_none (i ∷ j ∷ rest) = refl
