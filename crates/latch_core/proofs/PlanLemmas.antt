@@ -3,13 +3,8 @@ use Rattle.std.proofs.Common.{◌≡◌, ℕ, suc, ◌+◌, ◌-◌, ◌<◌, �
 use Rattle.std.specs.Prelude.{◌==◌, slice_get}
 use Rattle.std.proofs.lemmas.Bool.{eqb-true}
 use Rattle.std.proofs.lemmas.List.{take_more, map-append}
-use Rattle.order_laws.proofs.Each.{all_get_or}
 use Rattle.order_laws.proofs.Lists.{first_and_rest, get_or-drop_append}
 use Rattle.word_arena.specs.declared.stores.Store.{Store}
-use Rattle.word_arena.specs.Limits.{most_nodes}
-use Rattle.word_arena.specs.Words.{words_for}
-use Rattle.word_arena.specs.Stores.{IsLinkWord, AreLinkStores}
-use Rattle.word_arena.proofs.WordLemmas.{link_place}
 use Rattle.rb_words.specs.Mirrors.{mirror_stores, mirror_store}
 use Rattle.latch_core.specs.Latches.{PendingUpdate, Latch, latch_after_step}
 use Rattle.latch_core.specs.Plans.{IsPlan}
@@ -58,11 +53,3 @@ mirror_more xs ys from place d above below =
     ∙ ap mirror_stores (take_more (drop from xs) (place - from) d within)
     ∙ map-append mirror_store (take (place - from) (drop from xs)) (get_or (drop from xs) (place - from) d ∷ [])
     ∙ ap (λ s. mirror_stores (take (place - from) (drop from xs)) ++ mirror_store s ∷ []) (get_or-drop_append xs ys from place d above below)
-
--- the word of a link of copy 0 and that of copy 1 beside it are in range
-pub link_fits : (n : ℕ) (xs ys : List Store) (from place : ℕ) (d : Store) → n ≤ most_nodes → from ≤ place → place < length xs → AreLinkStores n 0 (drop from xs) → (get_or (xs ++ ys) place d).word + 2 < 18446744073709551616
-link_fits n xs ys from place d most above below are =
-    let within : place - from < length (drop from xs) = omega (arith, length-drop from xs) in
-    let is = all_get_or (λ (s : Store). IsLinkWord n 0 s.word) (drop from xs) (place - from) d are within in
-    let lt : (get_or (drop from xs) (place - from) d).word < words_for n = (link_place n 0 (get_or (drop from xs) (place - from) d).word (omega arith) is).1 in
-    subst (λ (s : Store). s.word + 2 < 18446744073709551616) (get_or-drop_append xs ys from place d above below) (omega (arith, lt, most))

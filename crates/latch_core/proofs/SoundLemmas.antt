@@ -15,7 +15,8 @@ use Rattle.latch_core.specs.Latches.{PendingUpdate, Latch, IsWriterStep, flips_a
 use Rattle.word_arena.specs.Stores.{words_after}
 use Rattle.latch_core.specs.Invariants.{IsPendingUpdate, IsPendingOf, IsSound}
 use Rattle.word_arena.proofs.HoldsLemmas.{holds_on}
-use Rattle.latch_core.proofs.StepLemmas.{hidden_same, flip_same, flip_adds, tables_push, replay_push}
+use Rattle.word_arena.proofs.HoldsLemmas.{flip_same, flip_adds}
+use Rattle.latch_core.proofs.StepLemmas.{hidden_same, tables_push, replay_push}
 use Rattle.std.proofs.Common.{Option}
 
 -- what a step leaves, by its kind: the sequence, the number of flips, and what the stable copy

@@ -1,10 +1,11 @@
 -- What the writer's steps keep.
-use Rattle.std.proofs.Common.{◌≡◌, ◌≢◌, ℕ, ◌+◌, ◌<◌, ◌≤◌, false, List, [], ◌∷◌, ◌++◌, length, take, Some, None, refl, sym, ◌∙◌, ap, subst, inl, inr, ⊎_elim, arith, length-append, get_or-set_other, get_or-set_same}
-use Rattle.std.specs.Prelude.{◌⊎◌, ◌==◌, not, slice_set}
+use Rattle.std.proofs.Common.{◌≡◌, ◌≢◌, ℕ, ◌+◌, ◌<◌, ◌≤◌, false, List, [], ◌∷◌, ◌++◌, length, take, Some, None, refl, sym, ◌∙◌, ap, subst, inl, inr, ⊎_elim, arith, length-append, get_or-set_other}
+use Rattle.std.specs.Prelude.{◌⊎◌, ◌==◌, not}
 use Rattle.std.proofs.lemmas.Bool.{cases_lt, eqb-false, ltb-false, not-false, or_parts}
 use Rattle.std.proofs.lemmas.List.{take-append-le, take_all}
 use Rattle.order_laws.specs.declared.items.Item.{Item}
 use Rattle.word_arena.specs.declared.stores.Store.{Store}
+use Rattle.word_arena.proofs.HoldsLemmas.{flip_adds}
 use Rattle.latch_core.specs.declared.updates.Update.{Update}
 use Rattle.latch_core.specs.declared.updates.Update.TheVariants.{Insert, Erase, Batch}
 use Rattle.order_laws.specs.Orders.{Order, IsLawful}
@@ -17,7 +18,6 @@ use Rattle.latch_core.specs.Attempts.{Reading, Load, attempt, rest_after}
 use Rattle.latch_core.specs.Latches.{PendingUpdate, Latch, IsHidden, IsWriterStep}
 use Rattle.word_arena.specs.Stores.{words_after}
 use Rattle.latch_core.specs.Invariants.{IsStanding, AreTables}
-use Rattle.word_arena.proofs.WordLemmas.{used_not_zero}
 use Rattle.order_laws.proofs.PlaceLemmas.{without_none, without_one}
 use Rattle.order_laws.proofs.TableLemmas.{with_item_table, without_table, length_with_item, length_without}
 use Rattle.order_laws.proofs.WithoutLemmas.{length_without_all, without_all_table}
@@ -32,14 +32,6 @@ pub hidden_same : (n : ℕ) (m began : List ℕ) (s : Store) → IsHidden n m be
 hidden_same n m began s h w p =
     let ne : w ≢ s.word = ⊎_elim (λ z e. h.not_sequence (sym e ∙ z)) (λ u e. h.not_in_use (subst (InUse m n (stable_copy_of (at m 0))) e u)) p in
     get_or-set_other m s.word w s.value 0 ne
-
-pub flip_same : (n copy : ℕ) (m : List ℕ) (s : Store) → s.word ≡ 0 → (w : ℕ) → InUse m n copy w → at (words_after m s) w ≡ at m w
-flip_same n copy m s z w u =
-    let ne : w ≢ s.word = λ e. used_not_zero m n copy w u (e ∙ z) in
-    get_or-set_other m s.word w s.value 0 ne
-
-pub flip_adds : (m : List ℕ) (s : Store) → 0 < length m → s.word ≡ 0 → s.value ≡ at m 0 + 1 → at (words_after m s) 0 ≡ at m 0 + 1
-flip_adds m s sized z v = ap (λ i. at (slice_set m i s.value) 0) z ∙ get_or-set_same m 0 s.value 0 sized ∙ v
 
 -- the sequence after a step: the same, or one more
 pub sequence_after : (n : ℕ) (l : Latch) (h : PendingUpdate) (s : Store) → 0 < length l.words → IsWriterStep n l h s → (IsHidden n l.words h.old_words s.word × (at (words_after l.words s) 0 ≡ at l.words 0)) ⊎ (at (words_after l.words s) 0 ≡ at l.words 0 + 1)

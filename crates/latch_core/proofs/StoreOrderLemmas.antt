@@ -16,7 +16,7 @@ use Rattle.rb_trees.specs.Trees.{CanBeRedBlack}
 use Rattle.latch_core.specs.Sequences.{stable_copy_of}
 use Rattle.latch_core.specs.Latches.{PendingUpdate, BothHold, IsHidden, IsFirstFlip, IsSecondFlip, flips_after}
 use Rattle.latch_core.specs.Plans.{IsPlan, flip_to, update_stores}
-use Rattle.latch_core.proofs.StepLemmas.{flip_adds}
+use Rattle.word_arena.proofs.HoldsLemmas.{flip_adds}
 use Rattle.latch_core.proofs.SoundLemmas.{flips_of_store}
 
 -- each step's kind, the last step's duty apart

@@ -19,7 +19,8 @@ use Rattle.word_arena.specs.Stores.{words_after}
 use Rattle.latch_core.specs.Updates.{refusal_for}
 use Rattle.latch_core.specs.Latches.{PendingUpdate, Latch, IsWriterStep}
 use Rattle.latch_core.specs.Invariants.{IsSound}
-use Rattle.latch_core.proofs.StepLemmas.{hidden_same, flip_adds}
+use Rattle.word_arena.proofs.HoldsLemmas.{flip_adds}
+use Rattle.latch_core.proofs.StepLemmas.{hidden_same}
 use Rattle.latch_core.proofs.SoundLemmas.{sound_step, sound_begin}
 use Rattle.latch_steps.specs.Runs.{PendingLookup, Moment, Done, accepted, moment_at}
 use Rattle.latch_steps.specs.Steps.{machine, IsBegin, IsWrite, AfterLoad, Goes, Retries, Returns, after_load, start_done, load_done, read_done, Step, Run}

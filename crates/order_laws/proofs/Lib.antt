@@ -20,3 +20,4 @@ pub mod LeftOutLemmas
 pub mod WithoutLemmas
 pub mod HalfOpenLemmas
 pub mod InLineLemmas
+pub mod FirstWordLemmas

@@ -7,6 +7,12 @@ use Rattle.std.proofs.lemmas.List.Folds.{list_any_none}
 use Rattle.order_laws.specs.Orders.{Order, half_open}
 use Rattle.order_laws.specs.Tables.{meets}
 use Rattle.order_laws.specs.declared.items.Item.{Item}
+use Rattle.std.proofs.Common.{ℕ, cond, Bool, ◌++◌, sym}
+use Rattle.std.specs.Prelude.{◌==◌, ◌&&◌}
+use Rattle.std.specs.List.{list_any}
+use Rattle.std.proofs.Math.Bool.{or-true}
+use Rattle.order_laws.specs.Tables.{without_all}
+use Rattle.order_laws.proofs.Bools.{or_assoc, or_swap}
 
 -- an item that meets none is apart from each
 pub not_meeting : {K : Type 0} (o : Order K) (i : Item) (xs : List Item) → meets o i xs ≡ false
@@ -27,3 +33,49 @@ pub none_meets : (i : Item) (table : List Item)
     → ((x : Item) → Contains table x → half_open.apart x i ≡ true) → meets half_open i table ≡ false
 none_meets i table h =
     list_any_none (λ x. not (half_open.apart x i)) table (λ k d lt. ap not (h (get_or table k d) (Contains-get_or table k d lt)))
+
+-- an item against a table without some first words
+module _ {K : Type 0} (o : Order K) (i : Item) (but : List ℕ) where
+  abbrev Meets : List Item → Bool
+  Meets js = meets o i (without_all but js)
+
+  abbrev gone : Item → Bool
+  gone z = list_any (λ a. a == z.a) but
+
+  pub meets_split : (is js : List Item) → Meets (is ++ js) ≡ (Meets is || Meets js)
+  meets_split [] js = refl
+  meets_split (z ∷ is) js =
+      elim (gone z) as (λ g. meets o i (cond (not g) (z ∷ without_all but (is ++ js)) (without_all but (is ++ js))) ≡ (meets o i (cond (not g) (z ∷ without_all but is) (without_all but is)) || Meets js)) [
+        | true ↦ meets_split is js
+        | false ↦ ap (λ b. not (o.apart z i) || b) (meets_split is js) ∙ or_assoc (not (o.apart z i)) (Meets is) (Meets js)
+      ]
+
+  pub meets_none : (js : List Item) → AllByRecursion (λ z. o.apart z i ≡ true) js → Meets js ≡ false
+  meets_none [] h = refl
+  meets_none (z ∷ js) h =
+      let e : o.apart z i ≡ true = h.0 in
+      elim (gone z) as (λ g. meets o i (cond (not g) (z ∷ without_all but js) (without_all but js)) ≡ false) [
+        | true ↦ meets_none js h.1
+        | false ↦ rw e (meets_none js h.1)
+      ]
+
+  pub apart_head : (z : Item) (js : List Item) → o.apart z i ≡ true → Meets (z ∷ js) ≡ Meets js
+  apart_head z js e =
+      elim (gone z) as (λ g. meets o i (cond (not g) (z ∷ without_all but js) (without_all but js)) ≡ Meets js) [
+        | true ↦ refl
+        | false ↦ rw e refl
+      ]
+
+  pub any_head : (z : Item) (is js : List Item) → ((not (gone z) && not (o.apart z i)) || (Meets is || Meets js)) ≡ (Meets is || Meets (z ∷ js))
+  any_head z is js =
+      elim (gone z) as (λ g. ((not g && not (o.apart z i)) || (Meets is || Meets js)) ≡ (Meets is || meets o i (cond (not g) (z ∷ without_all but js) (without_all but js)))) [
+        | true ↦ refl
+        | false ↦ or_swap (not (o.apart z i)) (Meets is) (Meets js)
+      ]
+
+  pub meeting_head : (z : Item) (is js : List Item) → o.apart z i ≡ false → (not (gone z) || (Meets is || Meets js)) ≡ (Meets is || Meets (z ∷ js))
+  meeting_head z is js e =
+      elim (gone z) as (λ g. (not g || (Meets is || Meets js)) ≡ (Meets is || meets o i (cond (not g) (z ∷ without_all but js) (without_all but js)))) [
+        | true ↦ refl
+        | false ↦ rw e (sym (or-true (Meets is)))
+      ]

@@ -12,7 +12,8 @@ use Rattle.rb_trees.specs.Trees.{ColouredTree, tip, branch, is_red, blackened, s
 use Rattle.rb_trees.specs.Turns.{link, set_left, set_right, turned_right, right_turn_links, turned_left, left_turn_links, relink_left, relink_right}
 use Rattle.rb_trees.specs.Erased.{Remainder, whole, lowered, filled_left_of_black, left_fill_links_of_black, filled_left, left_fill_links, filled_right_of_black, right_fill_links_of_black, filled_right, right_fill_links, filled_left_if_short, left_fill_links_if_short, filled_right_if_short, right_fill_links_if_short, first_record, without_first, first_links, without_top, top_links, erased_at, erased_from, links_at, erase_links}
 use Rattle.rb_trees.specs.Linked.{Inner, Among, IsSeparate}
-use Rattle.rb_trees.proofs.RelinkLemmas.{Relinks, owns_append, owns_weaker, inner_kept, link_fits, same, then, left_step, placed}
+use Rattle.word_arena.proofs.OwnedLinkLemmas.{owns_append, owns_weaker}
+use Rattle.rb_trees.proofs.RelinkLemmas.{Relinks, inner_kept, link_fits, same, then, left_step, placed}
 use Rattle.rb_trees.proofs.InsertLinks.{shape_blackened, in_left, in_right, right_turn_relinks, left_turn_relinks}
 
 pub shape_lowered : (red : Bool) (t : ColouredTree) → shape (lowered red t).tree ≡ shape t

@@ -1,5 +1,5 @@
 -- From the links inside a tree to what a copy holds.
-use Rattle.std.proofs.Common.{◌≡◌, ◌≢◌, ℕ, ◌<◌, ◌≤◌, true, false, cond, List, [], ◌∷◌, ◌++◌, length, map, refl, sym, ◌∙◌, ap, subst, inl, inr, ⊎_elim, arith}
+use Rattle.std.proofs.Common.{◌≡◌, ℕ, ◌<◌, ◌≤◌, true, false, cond, List, [], ◌∷◌, ◌++◌, length, map, refl, sym, ◌∙◌, ap, subst, inl, inr, ⊎_elim, arith}
 use Rattle.std.specs.Prelude.{◌==◌, Contains, slice_set}
 use Rattle.std.specs.List.{AllByRecursion}
 use Rattle.std.proofs.lemmas.Bool.{eqb-true}
@@ -16,7 +16,8 @@ use Rattle.rb_trees.specs.Trees.{ColouredTree, tip, branch, shape, rows}
 use Rattle.rb_trees.specs.Turns.{link, relink_root}
 use Rattle.rb_trees.specs.Linked.{Inner, Among}
 use Rattle.rb_trees.specs.Found.{items_of_records}
-use Rattle.rb_trees.proofs.RelinkLemmas.{IsLinkOf, Owns, Relinks, link_fits}
+use Rattle.word_arena.proofs.OwnedLinkLemmas.{IsLinkOf, root_no_link, owns_no_root, owns_links, owns_values}
+use Rattle.rb_trees.proofs.RelinkLemmas.{Relinks, link_fits}
 
 pub leads_link : (m : List ℕ) (n c w : ℕ) (t : Nodes) → Leads m n c w t → w ≡ link t
 leads_link m n c w none h = h
@@ -38,21 +39,6 @@ inner_leads m n c (fork l i r) below h = (
 pub inner_same : (m m' : List ℕ) (c : ℕ) (t : Nodes) → ((i w : ℕ) → IsLinkOf c i w → at m' w ≡ at m w) → Inner m c t → Inner m' c t
 inner_same m m' c none same h = tt
 inner_same m m' c (fork l i r) same h = (same i (left_word c i) (inl refl) ∙ h.0, same i (right_word c i) (inr refl) ∙ h.1, inner_same m m' c l same h.2, inner_same m m' c r same h.3)
-
-root_no_link : (c i w : ℕ) → IsLinkOf c i w → w ≢ root_word c
-root_no_link c i w is e = ⊎_elim (λ f. absurd (omega arith)) (λ f. absurd (omega arith)) is
-
-owns_no_root : (n c : ℕ) (P : ℕ → Type 0) (ss : List Store) → Owns n c P ss → AllByRecursion (λ (s : Store). s.word ≡ root_word c → ⊥) ss
-owns_no_root n c P [] h = tt
-owns_no_root n c P (s ∷ ss) h = (root_no_link c (h.0.0).0 s.word (h.0.0).2, owns_no_root n c P ss h.1)
-
-pub owns_links : (n c : ℕ) (P : ℕ → Type 0) → ((i : ℕ) → P i → i < n) → (ss : List Store) → Owns n c P ss → AreLinkStores n c ss
-owns_links n c P below [] h = tt
-owns_links n c P below (s ∷ ss) h = (inr ((h.0.0).0, below (h.0.0).0 (h.0.0).1, (h.0.0).2), owns_links n c P below ss h.1)
-
-pub owns_values : (n c : ℕ) (P : ℕ → Type 0) (ss : List Store) → Owns n c P ss → AllByRecursion (λ (s : Store). s.value ≤ n) ss
-owns_values n c P [] h = tt
-owns_values n c P (s ∷ ss) h = (h.0.1, owns_values n c P ss h.1)
 
 -- with the link of the root
 module _ (n c : ℕ) (small : c ≤ 1) (P : ℕ → Type 0) (below : (i : ℕ) → P i → i < n) (t u : Nodes) (ss : List Store) (q : Relinks n c P t u ss) where

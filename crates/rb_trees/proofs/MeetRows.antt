@@ -1,13 +1,13 @@
 -- The search for an item that is not apart.
-use Rattle.std.proofs.Common.{◌≡◌, ℕ, true, false, cond, Bool, List, [], ◌∷◌, ◌++◌, refl, sym, ◌∙◌, ap}
+use Rattle.std.proofs.Common.{◌≡◌, ℕ, true, false, cond, Bool, List, ◌∷◌, ◌++◌, refl, sym, ◌∙◌, ap}
 use Rattle.std.specs.Prelude.{◌==◌, ◌||◌, ◌&&◌, not}
-use Rattle.std.specs.List.{AllByRecursion, list_any}
-use Rattle.std.proofs.Math.Bool.{or-false, or-true}
+use Rattle.std.specs.List.{list_any}
+use Rattle.std.proofs.Math.Bool.{or-false}
 use Rattle.order_laws.specs.declared.items.Item.{Item}
 use Rattle.order_laws.specs.Orders.{Order, Precedes, IsLawful, IsInLine}
 use Rattle.order_laws.specs.Tables.{IsTable, meets, without_all}
-use Rattle.order_laws.proofs.Bools.{or_assoc, or_swap}
 use Rattle.order_laws.proofs.Each.{all_weaker}
+use Rattle.order_laws.proofs.MeetLemmas.{meets_split, meets_none, apart_head, any_head, meeting_head}
 use Rattle.rb_trees.specs.Trees.{ColouredTree, tip, branch, rows}
 use Rattle.rb_trees.specs.Found.{items_of_records, meets_on_the_way, meets_anywhere}
 use Rattle.rb_trees.proofs.PlaceRows.{parts, items_append}
@@ -19,53 +19,15 @@ module _ {K : Type 0} (o : Order K) (i : Item) (but : List ℕ) where
   abbrev gone : Item → Bool
   gone z = list_any (λ a. a == z.a) but
 
-  meets_split : (is js : List Item) → Meets (is ++ js) ≡ (Meets is || Meets js)
-  meets_split [] js = refl
-  meets_split (z ∷ is) js =
-      elim (gone z) as (λ g. meets o i (cond (not g) (z ∷ without_all but (is ++ js)) (without_all but (is ++ js))) ≡ (meets o i (cond (not g) (z ∷ without_all but is) (without_all but is)) || Meets js)) [
-        | true ↦ meets_split is js
-        | false ↦ ap (λ b. not (o.apart z i) || b) (meets_split is js) ∙ or_assoc (not (o.apart z i)) (Meets is) (Meets js)
-      ]
-
-  meets_none : (js : List Item) → AllByRecursion (λ z. o.apart z i ≡ true) js → Meets js ≡ false
-  meets_none [] h = refl
-  meets_none (z ∷ js) h =
-      let e : o.apart z i ≡ true = h.0 in
-      elim (gone z) as (λ g. meets o i (cond (not g) (z ∷ without_all but js) (without_all but js)) ≡ false) [
-        | true ↦ meets_none js h.1
-        | false ↦ rw e (meets_none js h.1)
-      ]
-
-  apart_head : (z : Item) (js : List Item) → o.apart z i ≡ true → Meets (z ∷ js) ≡ Meets js
-  apart_head z js e =
-      elim (gone z) as (λ g. meets o i (cond (not g) (z ∷ without_all but js) (without_all but js)) ≡ Meets js) [
-        | true ↦ refl
-        | false ↦ rw e refl
-      ]
-
-  any_head : (z : Item) (is js : List Item) → ((not (gone z) && not (o.apart z i)) || (Meets is || Meets js)) ≡ (Meets is || Meets (z ∷ js))
-  any_head z is js =
-      elim (gone z) as (λ g. ((not g && not (o.apart z i)) || (Meets is || Meets js)) ≡ (Meets is || meets o i (cond (not g) (z ∷ without_all but js) (without_all but js)))) [
-        | true ↦ refl
-        | false ↦ or_swap (not (o.apart z i)) (Meets is) (Meets js)
-      ]
-
-  meeting_head : (z : Item) (is js : List Item) → o.apart z i ≡ false → (not (gone z) || (Meets is || Meets js)) ≡ (Meets is || Meets (z ∷ js))
-  meeting_head z is js e =
-      elim (gone z) as (λ g. (not g || (Meets is || Meets js)) ≡ (Meets is || meets o i (cond (not g) (z ∷ without_all but js) (without_all but js)))) [
-        | true ↦ refl
-        | false ↦ rw e (sym (or-true (Meets is)))
-      ]
-
   pub met_any_meets : (t : ColouredTree) → meets_anywhere o i but t ≡ meets o i (without_all but (items_of_records (rows t)))
   met_any_meets tip = refl
   met_any_meets (branch red l y r) =
       let is = items_of_records (rows l) in
       let js = items_of_records (rows r) in
-      let split : Meets (items_of_records (rows l ++ y ∷ rows r)) ≡ (Meets is || Meets (y.item ∷ js)) = ap Meets (items_append (rows l) (y ∷ rows r)) ∙ meets_split is (y.item ∷ js) in
+      let split : Meets (items_of_records (rows l ++ y ∷ rows r)) ≡ (Meets is || Meets (y.item ∷ js)) = ap Meets (items_append (rows l) (y ∷ rows r)) ∙ meets_split o i but is (y.item ∷ js) in
       ap (λ v. (not (gone y.item) && not (o.apart y.item i)) || (v || meets_anywhere o i but r)) (met_any_meets l)
       ∙ ap (λ v. (not (gone y.item) && not (o.apart y.item i)) || (Meets is || v)) (met_any_meets r)
-      ∙ any_head y.item is js ∙ sym split
+      ∙ any_head o i but y.item is js ∙ sym split
 
   module _ (law : IsLawful o) (line : IsInLine o) (valid : o.valid i ≡ true) where
     apart_above : (y z : Item) → Precedes o y z → o.apart y i ≡ true → o.less i y ≡ true → o.apart z i ≡ true
@@ -86,16 +48,16 @@ module _ {K : Type 0} (o : Order K) (i : Item) (but : List ℕ) where
         let js = items_of_records (rows r) in
         let il = met_meets l p.left in
         let ir = met_meets r p.right in
-        let split : Meets (items_of_records (rows l ++ y ∷ rows r)) ≡ (Meets is || Meets (y.item ∷ js)) = ap Meets (items_append (rows l) (y ∷ rows r)) ∙ meets_split is (y.item ∷ js) in
+        let split : Meets (items_of_records (rows l ++ y ∷ rows r)) ≡ (Meets is || Meets (y.item ∷ js)) = ap Meets (items_append (rows l) (y ∷ rows r)) ∙ meets_split o i but is (y.item ∷ js) in
         elim (o.apart y.item i) as (λ v. o.apart y.item i ≡ v → cond v (cond (o.less i y.item) (meets_on_the_way o i but l) (meets_on_the_way o i but r)) (not (gone y.item) || (meets_on_the_way o i but l || meets_on_the_way o i but r)) ≡ Meets (items_of_records (rows l ++ y ∷ rows r))) [
           | true ↦ λ a.
               elim (o.less i y.item) as (λ v. o.less i y.item ≡ v → cond v (meets_on_the_way o i but l) (meets_on_the_way o i but r) ≡ Meets (items_of_records (rows l ++ y ∷ rows r))) [
                 | true ↦ λ b.
-                    let none : Meets (y.item ∷ js) ≡ false = meets_none (y.item ∷ js) (a, all_weaker (Precedes o y.item) (λ z. o.apart z i ≡ true) (λ z q. apart_above y.item z q a b) js p.behind) in
+                    let none : Meets (y.item ∷ js) ≡ false = meets_none o i but (y.item ∷ js) (a, all_weaker (Precedes o y.item) (λ z. o.apart z i ≡ true) (λ z q. apart_above y.item z q a b) js p.behind) in
                     il ∙ sym (split ∙ ap (λ v. Meets is || v) none ∙ or-false (Meets is))
                 | false ↦ λ b.
-                    let none : Meets is ≡ false = meets_none is (all_weaker (λ z. Precedes o z y.item) (λ z. o.apart z i ≡ true) (λ z q. apart_below y.item z q a b) is p.before) in
-                    ir ∙ sym (split ∙ ap (λ v. v || Meets (y.item ∷ js)) none ∙ apart_head y.item js a)
+                    let none : Meets is ≡ false = meets_none o i but is (all_weaker (λ z. Precedes o z y.item) (λ z. o.apart z i ≡ true) (λ z q. apart_below y.item z q a b) is p.before) in
+                    ir ∙ sym (split ∙ ap (λ v. v || Meets (y.item ∷ js)) none ∙ apart_head o i but y.item js a)
               ] refl
-          | false ↦ λ a. ap (λ v. not (gone y.item) || (v || meets_on_the_way o i but r)) il ∙ ap (λ v. not (gone y.item) || (Meets is || v)) ir ∙ meeting_head y.item is js a ∙ sym split
+          | false ↦ λ a. ap (λ v. not (gone y.item) || (v || meets_on_the_way o i but r)) il ∙ ap (λ v. not (gone y.item) || (Meets is || v)) ir ∙ meeting_head o i but y.item is js a ∙ sym split
         ] refl

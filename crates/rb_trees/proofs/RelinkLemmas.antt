@@ -1,27 +1,16 @@
 -- What stores of links make of the links of a tree, one small change after another.
 use Rattle.std.proofs.Common.{◌≡◌, ◌≢◌, ℕ, suc, ◌<◌, ◌≤◌, true, false, cond, List, [], ◌∷◌, ◌++◌, length, refl, sym, ◌∙◌, subst, inl, inr, ⊎_elim, arith, length-set}
 use Rattle.std.specs.Prelude.{◌⊎◌, ◌==◌, slice_set}
-use Rattle.std.specs.List.{AllByRecursion}
 use Rattle.std.proofs.lemmas.Bool.{eqb-true}
 use Rattle.word_arena.proofs.WordLemmas.{left_not_left, left_not_right, right_not_right}
 use Rattle.word_arena.proofs.LinkLemmas.{left_in, right_in}
 use Rattle.word_arena.specs.declared.stores.Store.{Store}
 use Rattle.word_arena.specs.Words.{Nodes, none, fork, at, left_word, right_word, words_for}
 use Rattle.word_arena.specs.Stores.{words_after_all}
-use Rattle.word_arena.proofs.StoreLemmas.{at_stored, at_other, untouched, after_append, length_after}
+use Rattle.word_arena.proofs.StoreLemmas.{at_stored, at_other, after_append, length_after}
+use Rattle.word_arena.proofs.OwnedLinkLemmas.{Owns, owns_append, owns_weaker, link_kept}
 use Rattle.rb_trees.specs.Turns.{link, set_left, set_right, relink_left, relink_right}
 use Rattle.rb_trees.specs.Linked.{Inner, Among, IsSeparate}
-
-abbrev pub IsLinkOf : ℕ → ℕ → ℕ → Type 0
-IsLinkOf c i w = (w ≡ left_word c i) ⊎ (w ≡ right_word c i)
-
-pub link_owner : (c i j w : ℕ) → IsLinkOf c i w → IsLinkOf c j w → i ≡ j
-link_owner c i j w a b =
-    ⊎_elim (λ e. ⊎_elim (λ f. omega arith) (λ f. absurd (omega arith)) b) (λ e. ⊎_elim (λ f. absurd (omega arith)) (λ f. omega arith) b) a
-
--- stores of links of these nodes, each of a link to one of n nodes
-abbrev pub Owns : ℕ → ℕ → (ℕ → Type 0) → List Store → Type 0
-Owns n c P ss = AllByRecursion (λ (s : Store). ((i : ℕ) × P i × IsLinkOf c i s.word) × (s.value ≤ n)) ss
 
 -- the stores of links of these nodes make the one tree the other
 pub record Relinks (n c : ℕ) (P : ℕ → Type 0) (t u : Nodes) (ss : List Store) : Type 0 where
@@ -29,22 +18,6 @@ pub record Relinks (n c : ℕ) (P : ℕ → Type 0) (t u : Nodes) (ss : List Sto
   pub separate : IsSeparate u
   pub owns : Owns n c P ss
   pub leads : (m : List ℕ) → length m ≡ words_for n → Inner m c t → Inner (words_after_all m ss) c u
-
-pub owns_append : (n c : ℕ) (P : ℕ → Type 0) (ss ts : List Store) → Owns n c P ss → Owns n c P ts → Owns n c P (ss ++ ts)
-owns_append n c P [] ts h k = k
-owns_append n c P (s ∷ ss) ts h k = (h.0, owns_append n c P ss ts h.1 k)
-
-pub owns_weaker : (n c : ℕ) (P Q : ℕ → Type 0) → ((i : ℕ) → P i → Q i) → (ss : List Store) → Owns n c P ss → Owns n c Q ss
-owns_weaker n c P Q w [] h = tt
-owns_weaker n c P Q w (s ∷ ss) h = ((((h.0.0).0, w (h.0.0).0 (h.0.0).1, (h.0.0).2), h.0.1), owns_weaker n c P Q w ss h.1)
-
-owns_away : (n c : ℕ) (P : ℕ → Type 0) (i : ℕ) → (P i → ⊥) → (ss : List Store) → Owns n c P ss → AllByRecursion (λ (s : Store). IsLinkOf c i s.word → ⊥) ss
-owns_away n c P i off [] h = tt
-owns_away n c P i off (s ∷ ss) h = ((λ is. off (subst P (link_owner c (h.0.0).0 i s.word (h.0.0).2 is) (h.0.0).1)), owns_away n c P i off ss h.1)
-
--- links of other nodes stay
-pub link_kept : (n c : ℕ) (P : ℕ → Type 0) (m : List ℕ) (ss : List Store) → Owns n c P ss → (i w : ℕ) → (P i → ⊥) → IsLinkOf c i w → at (words_after_all m ss) w ≡ at m w
-link_kept n c P m ss h i w off is = untouched (IsLinkOf c i) m ss (owns_away n c P i off ss h) w is
 
 pub inner_kept : (n c : ℕ) (P : ℕ → Type 0) (m : List ℕ) (ss : List Store) → Owns n c P ss → (t : Nodes) → ((i : ℕ) → Among t i → P i → ⊥) → Inner m c t → Inner (words_after_all m ss) c t
 inner_kept n c P m ss h none apart is = tt

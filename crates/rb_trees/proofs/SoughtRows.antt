@@ -15,31 +15,16 @@ use Rattle.order_laws.specs.declared.items.Item.{Item}
 use Rattle.order_laws.specs.Orders.{Order, Precedes, IsLawful, IsInLine}
 use Rattle.order_laws.specs.Tables.{IsTable, place_of, has}
 use Rattle.order_laws.proofs.TableLemmas.{parted}
-use Rattle.order_laws.proofs.Each.{all_at, all_right, all_weaker}
+use Rattle.order_laws.proofs.Each.{all_at, all_weaker}
 use Rattle.order_laws.proofs.Members.{Contains-cons_cases, Contains-rest}
 use Rattle.order_laws.proofs.WithoutLemmas.{has_either}
+use Rattle.order_laws.proofs.FirstWordLemmas.{Lacks, has_front, has_back, across, all_before, differs, differs_before}
 use Rattle.rb_trees.specs.declared.Record.{Record}
 use Rattle.rb_trees.specs.Trees.{ColouredTree, tip, branch, rows}
 use Rattle.rb_trees.specs.Erased.{first_word_at, item_lies, erased_at, erased_from, record_found_at, found}
 use Rattle.rb_trees.specs.Found.{items_of_records, first_item_of, item_with_word}
 use Rattle.rb_trees.specs.Sought.{FindsFirstWord}
 use Rattle.rb_trees.proofs.PlaceRows.{items_append, parts, rows_left_if, rows_right_if, rows_top}
-
--- where a first word lies
-abbrev pub Lacks : ℕ → List Item → Type 0
-Lacks a is = AllByRecursion (λ (z : Item). (z.a == a) ≡ false) is
-
-lacks_has : (a : ℕ) (is : List Item) → Lacks a is → has a is ≡ false
-lacks_has a [] h = refl
-lacks_has a (z ∷ is) h = let e : (z.a == a) ≡ false = h.0 in rw e (lacks_has a is h.1)
-
-has_front : (a : ℕ) (is js : List Item) → Lacks a js → has a (is ++ js) ≡ has a is
-has_front a [] js h = lacks_has a js h
-has_front a (z ∷ is) js h = ap (λ b. (z.a == a) || b) (has_front a is js h)
-
-has_back : (a : ℕ) (is js : List Item) → Lacks a is → has a (is ++ js) ≡ has a js
-has_back a [] js h = refl
-has_back a (z ∷ is) js h = let e : (z.a == a) ≡ false = h.0 in rw e (has_back a is js h.1)
 
 module _ (a : ℕ) where
   remove_front : (xs : List Record) (y : Record) (ys : List Record) → has a (items_of_records xs) ≡ true →
@@ -233,44 +218,16 @@ module _ {K : Type 0} (o : Order K) (law : IsLawful o) (i : Item) where
   abbrev HasItem : ColouredTree → Type 0
   HasItem t = IsTable o (items_of_records (rows t)) × Contains (items_of_records (rows t)) i
 
-  -- an item of the first part precedes each of the second
-  across : (xs ys : List Item) → IsTable o (xs ++ ys) → Contains xs i →
-      AllByRecursion (Precedes o i) ys
-  across [] ys t is = absurd (omega (arith, is.1))
-  across (x ∷ xs) ys t is =
-      ⊎_elim
-      (λ same. subst (λ z. AllByRecursion (Precedes o z) ys) same
-      (all_right (Precedes o x) xs ys t.1))
-      (λ in_xs. across xs ys t.2 in_xs)
-      (Contains-cons_cases x i xs is)
-
-  -- and an item of the second is preceded by each of the first
-  all_before : (xs ys : List Item) → IsTable o (xs ++ ys) → Contains ys i →
-      AllByRecursion (λ z. Precedes o z i) xs
-  all_before [] ys t is = tt
-  all_before (x ∷ xs) ys t is = (
-    all_at (Precedes o x) ys i (all_right (Precedes o x) xs ys t.1) is,
-    all_before xs ys t.2 is,
-  )
-
-  differs : (z : Item) → Precedes o i z → (z.a == i.a) ≡ false
-  differs z p = ne_eqb z.a i.a (λ e.
-      law.own_first_word i z p.first_valid p.second_valid p.is_apart (sym e))
-
-  differs_before : (z : Item) → Precedes o z i → (z.a == i.a) ≡ false
-  differs_before z p = ne_eqb z.a i.a
-      (λ e. law.own_first_word z i p.first_valid p.second_valid p.is_apart e)
-
   -- where an item of another part lies
   at_left : (l : ColouredTree) (y : Record) (r : ColouredTree) →
       IsTable o (items_of_records (rows l) ++ y.item ∷ items_of_records (rows r)) → IsTable o (items_of_records (rows l)) →
       Contains (items_of_records (rows l)) i → Lies i.a HasItem l y r (item_lies o.less i y)
   at_left l y r t tl is =
-      let after = across (items_of_records (rows l)) (y.item ∷ items_of_records (rows r)) t is in
+      let after = across o law i (items_of_records (rows l)) (y.item ∷ items_of_records (rows r)) t is in
       let less : o.less i y.item ≡ true = after.0.is_less in
-      let e : (y.item.a == i.a) ≡ false = differs y.item after.0 in
+      let e : (y.item.a == i.a) ≡ false = differs o law i y.item after.0 in
       let lack : Lacks i.a (items_of_records (rows r)) =
-      all_weaker (Precedes o i) (λ (z : Item). (z.a == i.a) ≡ false) differs (items_of_records (rows r))
+      all_weaker (Precedes o i) (λ (z : Item). (z.a == i.a) ≡ false) (differs o law i) (items_of_records (rows r))
       after.1 in
       rw (e, less) (to_left e lack (tl, is))
 
@@ -279,26 +236,26 @@ module _ {K : Type 0} (o : Order K) (law : IsLawful o) (i : Item) where
       Lies i.a HasItem l y r (item_lies o.less i y)
   at_here l y r t same =
       let before : AllByRecursion (λ z. Precedes o z i) (items_of_records (rows l)) =
-      all_before (items_of_records (rows l)) (y.item ∷ items_of_records (rows r)) t (0, omega arith, same) in
+      all_before o law i (items_of_records (rows l)) (y.item ∷ items_of_records (rows r)) t (0, omega arith, same) in
       let e : (y.item.a == i.a) ≡ true = eq-eqb y.item.a i.a (ap (λ (z : Item). z.a) same) in
       rw e (right_here e (all_weaker (λ z. Precedes o z i) (λ (z : Item). (z.a == i.a) ≡ false)
-      differs_before (items_of_records (rows l)) before))
+      (differs_before o law i) (items_of_records (rows l)) before))
 
   at_right : (l : ColouredTree) (y : Record) (r : ColouredTree) →
       IsTable o (items_of_records (rows l) ++ y.item ∷ items_of_records (rows r)) → IsTable o (items_of_records (rows r)) →
       Contains (items_of_records (rows r)) i → Lies i.a HasItem l y r (item_lies o.less i y)
   at_right l y r t tr is =
       let before : AllByRecursion (λ z. Precedes o z i) (items_of_records (rows l)) =
-      all_before (items_of_records (rows l)) (y.item ∷ items_of_records (rows r)) t
+      all_before o law i (items_of_records (rows l)) (y.item ∷ items_of_records (rows r)) t
       (Contains-rest y.item i (items_of_records (rows r)) is) in
       let b : Precedes o y.item i = all_at (Precedes o y.item) (items_of_records (rows r)) i
       (parted o (items_of_records (rows l)) y.item (items_of_records (rows r)) t).behind is in
       let more : o.less i y.item ≡ false =
       law.one_is_less i y.item b.second_valid b.first_valid
       (law.symmetric i y.item ∙ b.is_apart) ∙ ap not b.is_less in
-      let e : (y.item.a == i.a) ≡ false = differs_before y.item b in
+      let e : (y.item.a == i.a) ≡ false = differs_before o law i y.item b in
       rw (e, more) (to_right e (all_weaker (λ z. Precedes o z i)
-      (λ (z : Item). (z.a == i.a) ≡ false) differs_before (items_of_records (rows l)) before) (tr, is))
+      (λ (z : Item). (z.a == i.a) ≡ false) (differs_before o law i) (items_of_records (rows l)) before) (tr, is))
 
   item_leads : Guides i.a (item_lies o.less i) HasItem
   item_leads red l y r h =

@@ -7,6 +7,10 @@ use Rattle.word_arena.specs.Words.{at, root_word, a_word, b_word, tag_word, left
 use Rattle.word_arena.specs.Stores.{words_after_all}
 use Rattle.word_arena.proofs.WordLemmas.{IsCopyWord, in_copy}
 use Rattle.word_arena.proofs.StoreLemmas.{Agree, untouched}
+use Rattle.std.proofs.Common.{◌≢◌, ap, get_or-set_other, get_or-set_same}
+use Rattle.std.specs.Prelude.{slice_set}
+use Rattle.word_arena.specs.Stores.{words_after}
+use Rattle.word_arena.proofs.WordLemmas.{used_not_zero}
 
 -- how many nodes a tree has
 abbrev pub size : Nodes → ℕ
@@ -56,3 +60,12 @@ tree_untouched m n copy table t ss away h = tree_on m (words_after_all m ss) n c
 
 pub holds_untouched : (m : List ℕ) (n copy : ℕ) (table : List Item) (ss : List Store) → AllByRecursion (λ (s : Store). InUse m n copy s.word → ⊥) ss → HoldsTable m n copy table → HoldsTable (words_after_all m ss) n copy table
 holds_untouched m n copy table ss away (t, h) = (t, tree_untouched m n copy table t ss away h)
+
+-- a store of word 0, and one that adds one to it
+pub flip_same : (n copy : ℕ) (m : List ℕ) (s : Store) → s.word ≡ 0 → (w : ℕ) → InUse m n copy w → at (words_after m s) w ≡ at m w
+flip_same n copy m s z w u =
+    let ne : w ≢ s.word = λ e. used_not_zero m n copy w u (e ∙ z) in
+    get_or-set_other m s.word w s.value 0 ne
+
+pub flip_adds : (m : List ℕ) (s : Store) → 0 < length m → s.word ≡ 0 → s.value ≡ at m 0 + 1 → at (words_after m s) 0 ≡ at m 0 + 1
+flip_adds m s sized z v = ap (λ i. at (slice_set m i s.value) 0) z ∙ get_or-set_same m 0 s.value 0 sized ∙ v

@@ -5,3 +5,4 @@ pub mod ReachLemmas
 pub mod HeldLemmas
 pub mod WiderLemmas
 pub mod LinkLemmas
+pub mod OwnedLinkLemmas

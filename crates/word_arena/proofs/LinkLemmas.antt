@@ -9,6 +9,10 @@ use Rattle.word_arena.proofs.WordLemmas.{IsCopyWord, in_copy, link_no_item, link
 use Rattle.word_arena.specs.Stores.{AreLinkStores, IsItemWord, IsLinkWord, words_after_all}
 use Rattle.word_arena.specs.Words.{InUse, Reaches, a_word, at, b_word, by_left, by_right, by_root, item_at, left_word, right_word, root_word, tag_word, words_for}
 use Rattle.word_arena.specs.declared.stores.Store.{Store}
+use Rattle.std.proofs.Common.{◌-◌, ◌++◌, length, length-drop, get_or, drop, subst}
+use Rattle.order_laws.proofs.Each.{all_get_or}
+use Rattle.order_laws.proofs.Lists.{get_or-drop_append}
+use Rattle.word_arena.specs.Limits.{most_nodes}
 
 pub left_in : (n c i : ℕ) → c ≤ 1 → i < n → left_word c i < words_for n
 left_in n c i small lt = omega arith
@@ -62,3 +66,11 @@ item_kept m n c links i small are =
     let eb = untouched (IsItemWord i) m links away (b_word i) (inr (inl refl)) in
     let et = untouched (IsItemWord i) m links away (tag_word i) (inr (inr refl)) in
     λ d. record { a = ea d; b = eb d; tag = et d }
+
+-- the word of a link of copy 0 and that of copy 1 beside it are in range
+pub link_word_fits : (n : ℕ) (xs ys : List Store) (from place : ℕ) (d : Store) → n ≤ most_nodes → from ≤ place → place < length xs → AreLinkStores n 0 (drop from xs) → (get_or (xs ++ ys) place d).word + 2 < 18446744073709551616
+link_word_fits n xs ys from place d most above below are =
+    let within : place - from < length (drop from xs) = omega (arith, length-drop from xs) in
+    let is = all_get_or (λ (s : Store). IsLinkWord n 0 s.word) (drop from xs) (place - from) d are within in
+    let lt : (get_or (drop from xs) (place - from) d).word < words_for n = (link_place n 0 (get_or (drop from xs) (place - from) d).word (omega arith) is).1 in
+    subst (λ (s : Store). s.word + 2 < 18446744073709551616) (get_or-drop_append xs ys from place d above below) (omega (arith, lt, most))

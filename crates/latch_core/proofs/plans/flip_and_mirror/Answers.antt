@@ -5,7 +5,8 @@ use Rattle.word_arena.specs.declared.stores.Store.{Store}
 use Rattle.word_arena.specs.Layouts.{capacity_of}
 use Rattle.rb_words.specs.Mirrors.{mirror_stores, mirror_store}
 use Rattle.latch_core.specs.Plans.{flip_to}
-use Rattle.latch_core.proofs.PlanLemmas.{mirror_more, link_fits}
+use Rattle.word_arena.proofs.LinkLemmas.{link_word_fits}
+use Rattle.latch_core.proofs.PlanLemmas.{mirror_more}
 use Rattle.latch_core.proofs.plans.flip_and_mirror.Goals as goal
 
 pub loop-place-init : goal.loop-place-init
@@ -31,7 +32,7 @@ mirror_store-requires c =
     c.loop-place.invariant.items ∙ ap (λ xs. xs ++ more) c.push_reserved.ensures.items ∙ append_assoc before (c.flip_to.result ∷ []) more in
     let is = c.index-link.ensures ∙ ap (λ xs. get_or xs place link) whole in
     subst (λ (s : Store). s.word + 2 < 18446744073709551616) (sym is)
-    (link_fits (capacity_of c.args.l) before (c.flip_to.result ∷ more) c.args.from place link
+    (link_word_fits (capacity_of c.args.l) before (c.flip_to.result ∷ more) c.args.from place link
     (omega (arith, c.capacity-most.ensures.is, c.capacity-most.ensures.most))
     c.loop-place.invariant.from
     (omega (arith, c.loop-place-test.true, c.len-end.ensures, c.args.stores.now.ok.0))
