@@ -20,7 +20,7 @@ use std::alloc::{AllocError, Global};
 
 /// What stands at an address: a symbol, or the entry of one in an index.
 pub(crate) trait Addressed {
-    /// The address.
+    /// The address, as contracts see it.
     ghost addr_of: { Self → ℕ };
 
     /// The address.
