@@ -30,14 +30,12 @@ pub fn plan_erases<O: TreeOrder>(
     requires first_copy { shape.old.copy ≡ 0 }
     requires nodes { AreAllNodes shape.old.capacity (free.old.items ++ listed shape.old.tree) }
     requires places { shape.old.capacity ≤ vec_capacity free.old }
-    requires was_sound { IsPicture O.order shape.old }
     ensures plan { (more : List Store) × (links.new.items ≡ links.old.items ++ more)
         × ErasesWords shape.old shape.new erase.now more free.old.items free.new.items }
     ensures few { vec_len links.new ≤ vec_len links.old + length erase.now * STORES }
     ensures links_capacity { vec_capacity links.new ≡ vec_capacity links.old }
     ensures free_capacity { vec_capacity free.new ≡ vec_capacity free.old }
     ensures room_kept { shape.old.room ≤ shape.new.room }
-    ensures sound { IsPicture O.order shape.new }
 {
     for a in erase {
         let node = shape.plan_erase(links, *a);
@@ -69,7 +67,6 @@ pub fn plan_inserts<O: TreeOrder>(
     requires free { fresh ≤ vec_len free.old }
     requires first_copy { shape.old.copy ≡ 0 }
     requires nodes { AreAllNodes shape.old.capacity (free.old.items ++ listed shape.old.tree) }
-    requires was_sound { IsPicture O.order shape.old }
     ensures plan { (placed : PlacedItems) × (more : List Store)
         × (plan.new.stores_left ≡ plan.old.stores_left ++ stores_of_placed placed)
         × (links.new.items ≡ links.old.items ++ more)
@@ -81,7 +78,6 @@ pub fn plan_inserts<O: TreeOrder>(
         ≡ length plan.old.stores_left + length insert.now * 3 }
     ensures plan_room_left { plan.new.room + length insert.now * 3 ≡ plan.old.room }
     ensures free_capacity { vec_capacity free.new ≡ vec_capacity free.old }
-    ensures sound { IsPicture O.order shape.new }
 {
     for (taken, item) in insert.iter().enumerate() {
         planned.clear();

@@ -103,7 +103,6 @@ impl Plan {
         ensures room { OnOk result (2 * STORES + 2 ≤ self.new.room) }
         ensures shape_room { OnOk result (0 < shape.new.room) }
         ensures refusal { IfErr result (λ e. e ≡ Refusal.OutOfMemory) }
-        ensures sound { IsPicture O.order shape.new }
     {
         shape.reserve_room(1)?;
         Ok(self.reserve(2 * STORES + 2)?)
@@ -135,8 +134,6 @@ impl Plan {
         ensures both { result ≡ false
             → PlansBoth shape.old shape.new sequence ((node, item) ∷ []) self.new.stores_left }
         ensures few { result ≡ false → length self.new.stores_left ≤ 2 * STORES + 2 }
-        ensures was_sound { IsPicture O.order shape.old }
-        ensures sound { IsPicture O.order shape.new }
     {
         self.made = 0;
         // The node's words serve both copies: they are stored once, before copy 1 links it.
@@ -170,8 +167,6 @@ impl Plan {
         ensures both { IsSome result
             → PlansBoth shape.old shape.new sequence [] self.new.stores_left }
         ensures few { IsSome result → length self.new.stores_left ≤ 2 * STORES + 2 }
-        ensures was_sound { IsPicture O.order shape.old }
-        ensures sound { IsPicture O.order shape.new }
     {
         self.made = 0;
         flip_alone(&mut self.stores, sequence + 1);

@@ -349,14 +349,16 @@ impl<O: TreeOrder> WriterCore<O> {
         let Ok(()) = self.plan.reserve_with(&mut self.shape) else {
             return false;
         };
+        self.shape.stays_sound();
         let Some(node) = self.free.pop() else {
             unreachable!()
         };
         let (layout, sequence) = (self.layout, self.sequence);
-        if self
+        let met = self
             .plan
-            .insert(layout, sequence, &mut self.shape, node, item)
-        {
+            .insert(layout, sequence, &mut self.shape, node, item);
+        self.shape.stays_sound();
+        if met {
             self.free.push_reserved(node);
             return false;
         }
@@ -377,9 +379,11 @@ impl<O: TreeOrder> WriterCore<O> {
             return false;
         };
         let (layout, sequence) = (self.layout, self.sequence);
+        self.shape.stays_sound();
         let Some(node) = self.plan.erase(layout, sequence, &mut self.shape, a) else {
             return false;
         };
+        self.shape.stays_sound();
         self.free.push_reserved(node);
         true
     }
@@ -399,6 +403,7 @@ impl<O: TreeOrder> WriterCore<O> {
         let size = erase.len() + insert.len();
         let mut links = reserve_all(&mut self.shape, &mut self.planned, &mut self.plan, size)?;
         let fresh = self.free.len();
+        self.shape.stays_sound();
         plan_erases(&mut self.shape, &mut self.free, &mut links, erase);
         plan_inserts(
             &mut self.shape,
@@ -409,6 +414,7 @@ impl<O: TreeOrder> WriterCore<O> {
             &mut links,
             insert,
         );
+        self.shape.stays_sound();
         self.plan.close(self.layout, self.sequence, &links);
         Ok(())
     }
@@ -549,7 +555,6 @@ fn reserve_all<O: TreeOrder>(
     ensures links { IfOk result (λ links. (links.items ≡ []) × (vec_len links ≡ 0)
         × (size * STORES ≤ vec_capacity links)) }
     ensures refusal { IfErr result (λ e. e ≡ Refusal.OutOfMemory) }
-    ensures sound { IsPicture O.order shape.new }
 {
     shape.reserve_in(1, planned)?;
     plan.reserve(2 * (size * STORES) + 2)?;

@@ -49,6 +49,7 @@ fn open_for(alloc: Global, catalog: &Catalog) -> Result<World<HalfOpen>, Refusal
     ensures fits { IfOk result (λ _. HasFewRegions catalog.now) }
     ensures refusal { IfErr result (IsRefusedFor catalog.now) }
 {
+    catalog.stays_sound();
     let Ok(nodes) = u32::try_from(catalog.regions().max(1)) else {
         return Err(Refusal::BadCapacity);
     };

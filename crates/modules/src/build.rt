@@ -103,7 +103,6 @@ pub(crate) fn assemble<'a>(
         (λ r. r.0 ≡ catalog_of names.now modules.now regions.now symbols.entry) }
     ensures counted { IfOk result
         (λ r. r.1 ≡ counts_of names.now modules.now regions.now symbols.entry) }
-    ensures sound { IfOk result (λ r. IsSoundCatalog r.0) }
 {
     let built_in = built_in_region(&symbols, names);
     let admission = admit(alloc, built_in, regions, modules)?;

@@ -88,7 +88,6 @@ impl<'a> Catalog<'a> {
             (λ r. r.0 ≡ catalog_of usual_bounds modules.now [] symbols.entry) }
         ensures counted { IfOk result
             (λ r. r.1 ≡ counts_of usual_bounds modules.now [] symbols.entry) }
-        ensures sound { IfOk result (λ r. IsSoundCatalog r.0) }
         ensures refused { IfErr result (λ e. e ≡ Refusal.OutOfMemory) }
     {
         let regions = RegionLines::new(alloc, &[])?;
@@ -109,7 +108,6 @@ impl<'a> Catalog<'a> {
             (λ r. r.0 ≡ catalog_of usual_bounds modules.now regions.now symbols.entry) }
         ensures counted { IfOk result
             (λ r. r.1 ≡ counts_of usual_bounds modules.now regions.now symbols.entry) }
-        ensures sound { IfOk result (λ r. IsSoundCatalog r.0) }
         ensures few { IfOk result (λ _. are_few regions.now ≡ true) }
         ensures refused { IfErr result (IsBuildRefusal regions.now) }
     {
@@ -144,7 +142,6 @@ impl<'a> Catalog<'a> {
             (λ r. r.0 ≡ catalog_of names.now modules.now regions.now symbols.entry) }
         ensures counted { IfOk result
             (λ r. r.1 ≡ counts_of names.now modules.now regions.now symbols.entry) }
-        ensures sound { IfOk result (λ r. IsSoundCatalog r.0) }
         ensures few { IfOk result (λ _. are_few regions.now ≡ true) }
         ensures refused { IfErr result (IsBuildRefusal regions.now) }
     {
@@ -182,10 +179,18 @@ impl<'a> Catalog<'a> {
         Some(place as u64 + 1)
     }
 
+    /// What every catalog keeps, for a caller that reasons about it: its modules have regions, which
+    /// lie apart, and names of their own. Does nothing.
+    #[inline(always)]
+    pub fn stays_sound(&self)
+        ensures { IsSoundCatalog self.now }
+    {
+        let _ = &self.modules;
+    }
+
     /// The number of all regions, that of the kernel itself among them.
     pub fn regions(&self) -> usize
-        ensures count { result ≡ length (regions_of self.now) }
-        ensures sound { IsSoundCatalog self.now }
+        ensures { result ≡ length (regions_of self.now) }
     {
         self.regions
     }

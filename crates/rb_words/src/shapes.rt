@@ -79,7 +79,6 @@ impl<O: TreeOrder> Shape<O> {
     /// The picture of an empty copy. Takes no memory.
     pub fn new(alloc: Global, l: Layout, copy: TreeCopy) -> Self
         ensures empty { result ≡ empty_picture (capacity_of l) (copy_number copy) }
-        ensures sound { IsPicture O.order result }
     {
         Shape {
             layout: l,
@@ -97,16 +96,22 @@ impl<O: TreeOrder> Shape<O> {
         requires { self.old.capacity ≤ capacity_of l }
         ensures widened { self.new ≡ record self.old { capacity = capacity_of l } }
         ensures pictures { IsPicturedWider self.old self.new }
-        ensures was_sound { IsPicture O.order self.old }
-        ensures sound { IsPicture O.order self.new }
     {
         self.layout = l;
+    }
+
+    /// What every shape keeps, for a caller that reasons about it: what it pictures can be. Does
+    /// nothing.
+    #[inline(always)]
+    pub fn stays_sound(&self)
+        ensures { IsPicture O.order self.now }
+    {
+        let _ = &self.layout;
     }
 
     /// How many items are pictured.
     pub fn len(&self) -> u32
         ensures count { result ≡ length self.now.table }
-        ensures sound { IsPicture O.order self.now }
     {
         self.count
     }
@@ -168,7 +173,6 @@ impl<O: TreeOrder> Shape<O> {
         ensures room { IfOk result (λ out. k ≤ self.new.room) }
         ensures list { IfOk result (λ out. (out.items ≡ []) × (k * STORES ≤ vec_capacity out)) }
         ensures refusal { IfErr result (λ e. e ≡ Refusal.OutOfMemory) }
-        ensures sound { IsPicture O.order self.new }
     {
         let mut out = Vec::new(self.alloc);
         self.reserve_in(k, &mut out)?;
@@ -188,7 +192,6 @@ impl<O: TreeOrder> Shape<O> {
         ensures listed { out.new.items ≡ out.old.items }
         ensures list { OnOk result (vec_len out.new + k * STORES ≤ vec_capacity out.new) }
         ensures refusal { IfErr result (λ e. e ≡ Refusal.OutOfMemory) }
-        ensures sound { IsPicture O.order self.new }
     {
         self.reserve_room(k)?;
         Ok(out.reserve(k as usize * STORES)?)
@@ -203,7 +206,6 @@ impl<O: TreeOrder> Shape<O> {
         ensures grown { self.old.room ≤ self.new.room }
         ensures room { OnOk result (k ≤ self.new.room) }
         ensures refusal { IfErr result (λ e. e ≡ Refusal.OutOfMemory) }
-        ensures sound { IsPicture O.order self.new }
     {
         Ok(self.cursor.reserve(k as usize)?)
     }
@@ -226,8 +228,6 @@ impl<O: TreeOrder> Shape<O> {
             × LeadsWithItem self.old self.new node item links }
         ensures few { vec_len out.new ≤ vec_len out.old + STORES }
         ensures capacity { vec_capacity out.new ≡ vec_capacity out.old }
-        ensures was_sound { IsPicture O.order self.old }
-        ensures sound { IsPicture O.order self.new }
     {
         append(out, &item_stores(node, item));
         self.plan_links(out, node, item);
@@ -247,8 +247,6 @@ impl<O: TreeOrder> Shape<O> {
             × LeadsWithItem self.old self.new node item links }
         ensures few { vec_len out.new + 3 ≤ vec_len out.old + STORES }
         ensures capacity { vec_capacity out.new ≡ vec_capacity out.old }
-        ensures was_sound { IsPicture O.order self.old }
-        ensures sound { IsPicture O.order self.new }
     {
         let _most = self.layout.capacity();
         with_record::<O>(out, self.copy, &mut self.cursor, Record { node, item });
@@ -277,8 +275,6 @@ impl<O: TreeOrder> Shape<O> {
             × LeadsWithItem self.old self.new node item links }
         ensures few { vec_len out.new ≤ vec_len out.old + STORES }
         ensures capacity { vec_capacity out.new ≡ vec_capacity out.old }
-        ensures was_sound { IsPicture O.order self.old }
-        ensures sound { IsPicture O.order self.new }
     {
         let listed = out.len();
         let words = item_stores(node, item);
@@ -312,8 +308,6 @@ impl<O: TreeOrder> Shape<O> {
             × LeadsWithItem self.old self.new node item links }
         ensures few { vec_len out.new + 3 ≤ vec_len out.old + STORES }
         ensures capacity { vec_capacity out.new ≡ vec_capacity out.old }
-        ensures was_sound { IsPicture O.order self.old }
-        ensures sound { IsPicture O.order self.new }
     {
         let _most = self.layout.capacity();
         if !O::in_line() {
@@ -344,8 +338,6 @@ impl<O: TreeOrder> Shape<O> {
             × (out.new.items ≡ out.old.items ++ links) × LeadsByLinks self.old self.new links }
         ensures few { vec_len out.new ≤ vec_len out.old + STORES }
         ensures capacity { vec_capacity out.new ≡ vec_capacity out.old }
-        ensures was_sound { IsPicture O.order self.old }
-        ensures sound { IsPicture O.order self.new }
     {
         let Some(node) = self.plan_erase_found(out, a) else {
             unreachable!()
@@ -369,8 +361,6 @@ impl<O: TreeOrder> Shape<O> {
             × (out.new.items ≡ out.old.items ++ links) × LeadsByLinks self.old self.new links }
         ensures few { vec_len out.new ≤ vec_len out.old + STORES }
         ensures capacity { vec_capacity out.new ≡ vec_capacity out.old }
-        ensures was_sound { IsPicture O.order self.old }
-        ensures sound { IsPicture O.order self.new }
     {
         let _most = self.layout.capacity();
         let node = without_word::<O>(out, self.copy, &mut self.cursor, a)?;

@@ -102,7 +102,7 @@ impl<'a> IndexedCatalog<'a> {
         requires { modules ≡ length catalog.modules }
         ensures { IfOk result (λ c. c ≡ catalog.entry) }
     {
-        let _regions = catalog.regions();
+        catalog.stays_sound();
         let mut items = items_of(alloc, &catalog, modules)?;
         items.sort_unstable_by_key(|item| item.a);
         Ok(IndexedCatalog { catalog, items })

@@ -16,7 +16,6 @@ loop-a-init g c =
       links_capacity = refl;
       free_capacity = refl;
       room_kept = omega arith;
-      sound = c.requires.was_sound;
     }
 
 pub plan_erase-node-requires-clause-list : goal.plan_erase-node-requires-clause-list
@@ -49,7 +48,6 @@ loop-a-preserved g c =
       links_capacity = omega (arith, inv.links_capacity, c.plan_erase-node.ensures.capacity);
       free_capacity = omega (arith, inv.free_capacity, c.push_reserved.ensures.capacity);
       room_kept = omega (arith, inv.room_kept, c.plan_erase-node.ensures.pictures.room);
-      sound = c.plan_erase-node.ensures.sound;
     }
 
 pub returns-clause-plan : goal.returns-clause-plan

@@ -1,6 +1,5 @@
 use Rattle.std.proofs.Common.{◌≡◌, ◌≤◌, ◌+◌, ◌*◌, vec_len, vec_capacity}
 use Rattle.rb_words.specs.declared.shapes.TheConstants.{STORES}
-use Rattle.rb_words.specs.Pictures.{IsPicture}
 use Rattle.latch_core.proofs.ChangeLemmas.{Erasing}
 use Rattle.latch_core.proofs.changes.plan_erases.Given as goal
 
@@ -12,5 +11,4 @@ invariant-loop-a g l =
       links_capacity : vec_capacity l.links ≡ vec_capacity l.initial.links;
       free_capacity : vec_capacity l.free ≡ vec_capacity l.initial.free;
       room_kept : l.initial.shape.room ≤ l.shape.room;
-      sound : IsPicture g.O.TreeOrder.order l.shape;
     }

@@ -1,6 +1,5 @@
 use Rattle.std.proofs.Common.{◌≡◌, ◌≤◌, ◌+◌, ◌*◌, length, vec_len, vec_capacity}
 use Rattle.rb_words.specs.declared.shapes.TheConstants.{STORES}
-use Rattle.rb_words.specs.Pictures.{IsPicture}
 use Rattle.latch_core.proofs.ChangeLemmas.{Inserting}
 use Rattle.latch_core.proofs.changes.plan_inserts.Given as goal
 
@@ -12,7 +11,6 @@ invariant-loop-taken g l =
       links_len : vec_len l.links ≤ vec_len l.initial.links + l.taken * STORES;
       links_capacity : vec_capacity l.links ≡ vec_capacity l.initial.links;
       planned_capacity : vec_capacity l.planned ≡ vec_capacity l.initial.planned;
-      sound : IsPicture g.O.TreeOrder.order l.shape;
       plan_len : length l.plan.stores_left ≡ length l.initial.plan.stores_left + l.taken * 3;
       plan_room : l.plan.room + l.taken * 3 ≡ l.initial.plan.room;
       shape_room : l.shape.room + l.taken ≡ l.initial.shape.room;

@@ -69,12 +69,3 @@ returns-clause-counted c =
     let len : length c.regions.inside.listed.now ≡ length regions = ap (λ (rs : List ListedRegion). length rs) c.regions.view_is in
     let strays : length c.regions.inside.listed.now - used ≡ count_by (λ r. not (is_used (admission_view c.in_ok-admission.admission) regions r)) regions = omega (arith, count_by-either (is_used (admission_view c.in_ok-admission.admission) regions) regions, c.used_in-used.ensures) in
     counts_from c.in_ok-admission.admission c.in_ok-gathered.gathered names c.args.modules.now regions symbols c.len.result used (length c.regions.inside.listed.now - used) a c.in_ok-gathered.ensures (c.len.ensures ∙ c.in_ok-admission.admission.modules.ok.0) c.used_in-used.ensures strays
-
-pub returns-clause-sound : goal.returns-clause-sound
-returns-clause-sound c =
-    let names = c.args.names.now in
-    let symbols = c.args.symbols in
-    let a : admission_view c.in_ok-admission.admission ≡ accepted_of (built_in_region names symbols) c.args.regions.now c.args.modules.now = c.in_ok-admission.ensures.admitted ∙ ap (λ (b : Option (ℕ × ℕ)). accepted_of b c.args.regions.now c.args.modules.now) c.built_in_region-built_in.ensures in
-    let made : AreModules c.in_ok-admission.admission.modules.items c.in_ok-gathered.gathered.modules.items c.in_ok-modules.modules.items = rw (← c.as_slice.ensures.value) c.in_ok-modules.ensures in
-    let built = catalog_from c.in_ok-admission.admission c.in_ok-gathered.gathered names c.args.modules.now c.args.regions.now symbols c.in_ok-built_in.built_in c.in_ok-modules.modules.items a c.in_ok-gathered.ensures c.in_ok-built_in.ensures made in
-    subst IsSoundCatalog (sym built) (IsSound-catalog_of names c.args.modules.now c.args.regions.now symbols c.requires.fit c.requires.regions_fit c.requires.few)

@@ -13,27 +13,27 @@ use Rattle.latch_core.proofs.BothLemmas.{with_room, PlansUpdate, insert_planned,
 use Rattle.latch_core.proofs.writers.WriterCore.insert.Given.{Over}
 use Rattle.latch_core.proofs.writers.WriterCore.insert.Goals as goal
 
-pub insert-requires-clause-free : goal.insert-requires-clause-free
-insert-requires-clause-free g c =
+pub insert-met-requires-clause-free : goal.insert-met-requires-clause-free
+insert-met-requires-clause-free g c =
     let s = c.self.inside in
     let node = taken_node (capacity_of s.layout) s.shape (second_picture s.shape) s.free.items c.pop.new.self.items c.in-Some.node s.plan.stores_left c.self.invariant.0 c.in-Some.ensures.items in
     λ is. node.1 (subst (λ (p : Picture). Contains (listed p.tree) c.in-Some.node) c.reserve_with.ensures.kept is)
 
 -- what was planned
-planned : (g : Over) (c : goal.Else-insert g)
-    → PlansUpdate g.O.TreeOrder.order (capacity_of c.self.inside.layout) (with_room c.self.inside.shape c.reserve_with.new.shape.room) c.insert.new.shape
-    (Insert c.args.item) c.self.inside.free.items c.pop.new.self.items ((c.in-Some.node, c.args.item) ∷ []) c.self.inside.sequence c.insert.new.self.stores_left
+planned : (g : Over) (c : goal.Else-met g)
+    → PlansUpdate g.O.TreeOrder.order (capacity_of c.self.inside.layout) (with_room c.self.inside.shape c.reserve_with.new.shape.room) c.insert-met.new.shape
+    (Insert c.args.item) c.self.inside.free.items c.pop.new.self.items ((c.in-Some.node, c.args.item) ∷ []) c.self.inside.sequence c.insert-met.new.self.stores_left
 planned g c =
     let s = c.self.inside in
-    insert_planned g.O.TreeOrder.order (capacity_of s.layout) s.shape c.reserve_with.new.shape c.insert.new.shape c.reserve_with.new.shape.room c.in-Some.node c.args.item s.free.items
-    c.pop.new.self.items s.sequence c.insert.new.self.stores_left s.plan.stores_left c.self.invariant.0 c.in-Some.ensures.items c.reserve_with.ensures.kept
-    (c.insert.ensures.pictures c.if-insert.false) (c.insert.ensures.both c.if-insert.false)
+    insert_planned g.O.TreeOrder.order (capacity_of s.layout) s.shape c.reserve_with.new.shape c.insert-met.new.shape c.reserve_with.new.shape.room c.in-Some.node c.args.item s.free.items
+    c.pop.new.self.items s.sequence c.insert-met.new.self.stores_left s.plan.stores_left c.self.invariant.0 c.in-Some.ensures.items c.reserve_with.ensures.kept
+    (c.insert-met.ensures.pictures c.if-met.false) (c.insert-met.ensures.both c.if-met.false)
 
-pub invariant_of-self-else-insert : goal.invariant_of-self-else-insert
-invariant_of-self-else-insert g c =
+pub invariant_of-self-else-met : goal.invariant_of-self-else-met
+invariant_of-self-else-met g c =
     let s = c.self.inside in (
-      planned_step g.O.TreeOrder.order (capacity_of s.layout) s.shape c.insert.new.shape c.reserve_with.new.shape.room (Insert c.args.item) s.free.items c.pop.new.self.items
-          ((c.in-Some.node, c.args.item) ∷ []) s.sequence c.insert.new.self.stores_left s.plan.stores_left c.self.invariant.0 (planned g c),
+      planned_step g.O.TreeOrder.order (capacity_of s.layout) s.shape c.insert-met.new.shape c.reserve_with.new.shape.room (Insert c.args.item) s.free.items c.pop.new.self.items
+          ((c.in-Some.node, c.args.item) ∷ []) s.sequence c.insert-met.new.self.stores_left s.plan.stores_left c.self.invariant.0 (planned g c),
       omega (arith, c.in-Some.ensures.capacity, c.self.invariant.1),
     )
 
@@ -43,11 +43,11 @@ returns-clause-begun g c =
     let o = g.O.TreeOrder.order in
     let s = c.self.inside in
     let n = capacity_of s.layout in
-    let new = c.insert.new.shape in
-    let stores = c.insert.new.self.stores_left in
+    let new = c.insert-met.new.shape in
+    let stores = c.insert-met.new.self.stores_left in
     let w : WriterView = record { capacity = n; limit = limit_of s.layout; sequence = s.sequence; table = s.shape.table; zero_tree = s.shape.tree; one_tree = s.shape.tree; stores_left = s.plan.stores_left } in
     let idle : w.stores_left ≡ [] = ap (λ (v : WriterView). v.stores_left) c.self.view_is ∙ (c.is_ready.ensures c.if-not-is_ready.false).0 in
-    let red = subst (λ (p : Picture). CanBeRedBlack p.tree) c.reserve_with.ensures.kept c.insert.ensures.was_sound.balanced in
+    let red = subst (λ (p : Picture). CanBeRedBlack p.tree) c.reserve_with.ensures.kept c.stays_sound.ensures.balanced in
     subst (λ v. HasBegun o v (Insert c.args.item) (record { capacity = n; limit = limit_of s.layout; sequence = s.sequence; table = new.table; zero_tree = new.tree; one_tree = new.tree; stores_left = stores })) c.self.view_is
     (planned_begun o w s.shape new c.reserve_with.new.shape.room (Insert c.args.item) s.free.items c.pop.new.self.items ((c.in-Some.node, c.args.item) ∷ []) stores idle refl refl refl
-    c.self.invariant.0 (planned g c) (c.insert.ensures.few c.if-insert.false) (red, c.insert.ensures.sound.balanced))
+    c.self.invariant.0 (planned g c) (c.insert-met.ensures.few c.if-met.false) (red, c.stays_sound-2.ensures.balanced))

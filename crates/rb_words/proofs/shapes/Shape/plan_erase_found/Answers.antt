@@ -50,6 +50,3 @@ returns-clause-plan g c = λ _.
       gone.stores,
       (after g c).leads,
     )
-
-pub returns-clause-sound : goal.returns-clause-sound
-returns-clause-sound g c = (after g c).picture

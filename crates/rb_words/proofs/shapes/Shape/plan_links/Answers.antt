@@ -73,6 +73,4 @@ returns g c =
         few_with order copy c.self.inside.cursor.tree x c.self.invariant.1,
       );
       capacity = search rules;
-      was_sound = search rules;
-      sound = shown.picture;
     }

@@ -113,6 +113,3 @@ returns-clause-few g c =
       few_with g.O.TreeOrder.order (copy_number c.self.inside.copy) c.self.inside.cursor.tree x
           c.self.invariant.1,
     )
-
-pub returns-clause-sound : goal.returns-clause-sound
-returns-clause-sound g c = (after g c).picture

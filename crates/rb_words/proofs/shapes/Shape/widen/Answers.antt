@@ -4,7 +4,7 @@ use Rattle.word_arena.specs.Copies.{copy_number}
 use Rattle.rb_words.specs.Pictures.{Picture}
 use Rattle.rb_words.specs.Wider.{IsPicturedWider}
 use Rattle.rb_words.specs.TreePictures.{picture_of}
-use Rattle.rb_words.proofs.WiderLemmas.{picture_wider, pictured_wider}
+use Rattle.rb_words.proofs.WiderLemmas.{pictured_wider}
 use Rattle.rb_words.proofs.shapes.Shape.widen.Given.{Over}
 use Rattle.rb_words.proofs.shapes.Shape.widen.Goals as goal
 
@@ -22,8 +22,3 @@ returns-clause-pictures g c =
     let n = capacity_of c.args.l in
     subst (λ (q : Picture). IsPicturedWider q (record (before g c) { capacity = n })) c.self.view_is
     (λ m is. pictured_wider (before g c) n m (more g c) is)
-
-pub returns-clause-sound : goal.returns-clause-sound
-returns-clause-sound g c =
-    picture_wider g.O.TreeOrder.order (before g c) (capacity_of c.args.l) (more g c)
-    c.self.invariant.0
