@@ -1,15 +1,40 @@
 # Read after program.sh by the scripts that use the library for C.
 
+# build_over_ci KIT JOBS: builds the static library over the libraries that `rt ci` has proved and
+# left beside it, so that its own crate alone is proved once more; fails where these are not there,
+# are of another command, or are older than a source
+build_over_ci() {
+    local name rlib words=()
+    rlib=$top/crates/order_laws/out/rlib/order_laws.rlib
+    # (rt ci proves order_laws first, and it leaves no stamp; rt lib takes stamped libraries alone)
+    if [ ! -d "$rlib" ] || compgen -G "$top/crates/*/out/rlib/stamp" >/dev/null ||
+        [ -n "$(find "$top"/crates/*/{src,specs,proofs} "$top/crates.txt" -newer "$rlib" -print -quit 2>/dev/null)" ]; then
+        return 1
+    fi
+    for name in std $(sed -n 's/^latchsym_ffi staticlib: //p' "$top/crates.txt"); do
+        rlib=$top/crates/$name/out/rlib/$name.rlib
+        [ -d "$rlib" ] || rlib=$1/rlibs/$name.rlib
+        words+=(--extern "$name=$rlib")
+    done
+    for rlib in "$1/rlibs" "$top"/crates/*/out/rlib; do
+        words+=(-L "dependency=$rlib")
+    done
+    rattle build --crate-name latchsym_ffi src/lib.rt --crate-type staticlib "${words[@]}" \
+        --antt-project "$1/rattle/logic/antt-project.json" --logic-built "$1/logic_built" \
+        --toolchain "$1/toolchain" --backend llvm --jobs "$2" -o out/liblatchsym_ffi.a
+}
+
 # build_library: makes `library` the static library, with the kit's three functions over malloc in
 # it, and `shared` the shared one; ends the script where they cannot be built
 build_library() {
-    local crate=$top/crates/latchsym_ffi heap jobs
-    # what `rt ci` proved is not kept, so this proves all that the library stands on once more
+    local crate=$top/crates/latchsym_ffi kit jobs
+    kit=$(dirname "$(rt doc)")
     jobs=$(nproc)
-    (cd "$crate" && rt lib --jobs $((jobs < 4 ? jobs : 4))) >"$work/build" 2>&1 || { cat "$work/build" >&2 && exit 1; }
-    heap=$(dirname "$(rt doc)")/c/liblibc_c.a
+    jobs=$((jobs < 4 ? jobs : 4))
+    (cd "$crate" && { build_over_ci "$kit" $jobs || rt lib --jobs $jobs; }) >"$work/build" 2>&1 ||
+        { cat "$work/build" >&2 && exit 1; }
     mkdir "$work/objects"
-    (cd "$work/objects" && ar x "$crate/out/liblatchsym_ffi.a" && ar x "$heap" && ar rcs "$work/liblatchsym.a" ./*)
+    (cd "$work/objects" && ar x "$crate/out/liblatchsym_ffi.a" && ar x "$kit/c/liblibc_c.a" && ar rcs "$work/liblatchsym.a" ./*)
     library=$work/liblatchsym.a
     shared=$work/liblatchsym.so
     gcc -shared -o "$shared" -Wl,--whole-archive "$library" -Wl,--no-whole-archive

@@ -72,70 +72,125 @@ impl<O: TreeOrder> Table<O> {
     fn generation(&self) -> u64 {
         self.words.first().copied().map_or(0, generation)
     }
+
+    /// A batch as one update, and how many steps it took.
+    fn exchange(
+        &mut self,
+        rt: &impl Abort,
+        alloc: Global,
+        erase: &[u64],
+        insert: &[Item],
+    ) -> Result<u64, Refusal> {
+        self.carry_out(rt, Update::batch(alloc, erase, insert)?)
+    }
 }
 
-// The rows of a batch: two items at once; a batch that would pass the capacity, although it erases;
-// one item for another; and refusals.
-#[test]
-fn rows_of_batches(rt: HostRuntime) -> Result<(), Fail> {
-    let alloc = rt.alloc();
-    let mut table = Table::<HalfOpen>::open(&rt, alloc, Layout::new(4)?, 0)?;
-    let two = [item(0x10, 0x20, 1), item(0x30, 0x40, 2)];
-    let left = table.writer.begin(Update::batch(alloc, &[], &two)?)?;
-    for _ in 0..left {
+// Two items at once, looked up at each stop.
+fn look_beside_two(rt: &impl Abort, table: &mut Table<HalfOpen>, two: &[Item; 2]) {
+    for _ in 0..table.writer.remaining() {
         let found = if table.generation() == 0 {
             None
         } else {
             Some(two[0])
         };
-        assert_eq!(rt; table.find(&rt, 0x10), (found, table.generation()));
-        assert!(rt; table.step(&rt));
+        assert_eq!(rt; table.find(rt, 0x10), (found, table.generation()));
+        assert!(rt; table.step(rt));
     }
-    assert_eq!(rt; table.find(&rt, 0x10), (Some(two[0]), 1));
-    assert_eq!(rt; table.find(&rt, 0x30), (Some(two[1]), 1));
-    for (capacity, refused) in [(1, Some(Refusal::Full)), (2, None)] {
-        let mut small = Table::<HalfOpen>::open(&rt, alloc, Layout::new(capacity)?, 0)?;
-        small.carry_out(&rt, Update::Insert(item(0x10, 0x20, 1)))?;
-        let renamed = Update::batch(alloc, &[0x10], &[item(0x10, 0x20, 2)])?;
-        assert_eq!(rt; small.carry_out(&rt, renamed).err(), refused);
-        let tag = if refused.is_some() { 1 } else { 2 };
-        assert_eq!(rt; small.find(&rt, 0x10).0, Some(item(0x10, 0x20, tag)));
-        assert_eq!(rt; small.words.first().copied(), Some(2 * tag));
-    }
+    assert_eq!(rt; table.find(rt, 0x10), (Some(two[0]), 1));
+    assert_eq!(rt; table.find(rt, 0x30), (Some(two[1]), 1));
+}
+
+#[test]
+fn a_batch_of_two_items(rt: HostRuntime) -> Result<(), Fail> {
+    let two = [item(0x10, 0x20, 1), item(0x30, 0x40, 2)];
+    let update = Update::batch(rt.alloc(), &[], &two)?;
+    let mut table = Table::<HalfOpen>::open(&rt, rt.alloc(), Layout::new(4)?, 0)?;
+    table.writer.begin(update)?;
+    look_beside_two(&rt, &mut table, &two);
+    Ok(())
+}
+
+// One item for another, which a full table refuses although it erases, and stays as it was.
+fn rename(rt: &impl Abort, alloc: Global, table: &mut Table<HalfOpen>) -> Option<Refusal> {
+    let first = table.exchange(rt, alloc, &[], &[item(0x10, 0x20, 1)]);
+    assert!(rt; first.is_ok());
+    let refused = table
+        .exchange(rt, alloc, &[0x10], &[item(0x10, 0x20, 2)])
+        .err();
+    let tag = if refused.is_some() { 1 } else { 2 };
+    let found = (Some(item(0x10, 0x20, tag)), tag);
+    assert_eq!(rt; table.find(rt, 0x10), found);
+    refused
+}
+
+#[test]
+fn a_batch_where_the_table_is_full(rt: HostRuntime) -> Result<(), Fail> {
+    let mut table = Table::<HalfOpen>::open(&rt, rt.alloc(), Layout::new(1)?, 0)?;
+    let refused = rename(&rt, rt.alloc(), &mut table);
+    assert_eq!(rt; refused, Some(Refusal::Full));
     Ok(())
 }
 
 #[test]
-fn refusals_of_batches_and_the_empty_one(rt: HostRuntime) -> Result<(), Fail> {
-    let alloc = rt.alloc();
+fn a_batch_that_fills_the_table(rt: HostRuntime) -> Result<(), Fail> {
+    let mut table = Table::<HalfOpen>::open(&rt, rt.alloc(), Layout::new(2)?, 0)?;
+    let refused = rename(&rt, rt.alloc(), &mut table);
+    assert_eq!(rt; refused, None);
+    Ok(())
+}
+
+// A batch of an empty table is refused as the plain program says, and why.
+fn refused_at_once(
+    rt: &impl Abort,
+    alloc: Global,
+    erase: &[u64],
+    insert: &[Item],
+) -> Result<Option<Refusal>, Fail> {
     let l = Layout::new(4)?;
-    let mut table = Table::<HalfOpen>::open(&rt, alloc, l, 0)?;
+    let update = Update::batch(alloc, erase, insert)?;
+    let why = plain::refusal_for::<HalfOpen>(l, false, &[], 0, &update);
+    let mut table = Table::<HalfOpen>::open(rt, alloc, l, 0)?;
+    assert_eq!(rt; table.carry_out(rt, update).err(), why);
+    assert_eq!(rt; table.find(rt, 0x10), (None, 0));
+    Ok(why)
+}
+
+#[test]
+fn refusals_of_batches(rt: HostRuntime) -> Result<(), Fail> {
+    let alloc = rt.alloc();
+    let (one, across, bad) = (item(0x10, 0x20, 1), item(0x18, 0x28, 3), item(5, 5, 4));
+    let overlap = refused_at_once(&rt, alloc, &[], &[one, across])?;
+    assert_eq!(rt; overlap, Some(Refusal::Overlap));
+    let missing = refused_at_once(&rt, alloc, &[0x10], &[])?;
+    assert_eq!(rt; missing, Some(Refusal::NoSuchItem));
+    let invalid = refused_at_once(&rt, alloc, &[0x10], &[one, bad])?;
+    assert_eq!(rt; invalid, Some(Refusal::BadItem));
+    Ok(())
+}
+
+// Batches of a table, of which none, two and both of two for one lead on.
+fn exchange_in_turn(rt: &impl Abort, alloc: Global, table: &mut Table<HalfOpen>) {
     let (one, beside, across) = (
         item(0x10, 0x20, 1),
         item(0x20, 0x30, 2),
         item(0x18, 0x28, 3),
     );
-    let bad = item(5, 5, 4);
-    for (erase, insert, refused) in [
-        ([].as_slice(), [one, across].as_slice(), Refusal::Overlap),
-        (&[0x10], &[], Refusal::NoSuchItem),
-        (&[0x10], &[one, bad], Refusal::BadItem),
-    ] {
-        let u = Update::batch(alloc, erase, insert)?;
-        let why = plain::refusal_for::<HalfOpen>(l, false, &[], 0, &u);
-        assert_eq!(rt; why, Some(refused));
-        assert_eq!(rt; table.carry_out(&rt, u).err(), why);
-    }
-    assert_eq!(rt; table.carry_out(&rt, Update::batch(alloc, &[], &[])?)?, 2);
+    assert_eq!(rt; table.exchange(rt, alloc, &[], &[]), Ok(2));
     assert_eq!(rt; (table.generation(), table.writer.len()), (1, 0));
-    table.carry_out(&rt, Update::batch(alloc, &[], &[beside, one])?)?;
-    let twice = Update::batch(alloc, &[0x10, 0x20, 0x10], &[])?;
-    assert_eq!(rt; table.carry_out(&rt, twice), Err(Refusal::NoSuchItem));
-    let half = Update::batch(alloc, &[0x10], &[across])?;
-    assert_eq!(rt; table.carry_out(&rt, half), Err(Refusal::Overlap));
-    table.carry_out(&rt, Update::batch(alloc, &[0x20, 0x10], &[across])?)?;
-    assert_eq!(rt; table.find(&rt, 0x20), (Some(across), 3));
-    assert_eq!(rt; table.find(&rt, 0x10), (None, 3));
+    assert!(rt; table.exchange(rt, alloc, &[], &[beside, one]).is_ok());
+    let twice = table.exchange(rt, alloc, &[0x10, 0x20, 0x10], &[]);
+    assert_eq!(rt; twice, Err(Refusal::NoSuchItem));
+    let half = table.exchange(rt, alloc, &[0x10], &[across]);
+    assert_eq!(rt; half, Err(Refusal::Overlap));
+    assert!(rt; table.exchange(rt, alloc, &[0x20, 0x10], &[across]).is_ok());
+    assert_eq!(rt; table.find(rt, 0x20), (Some(across), 3));
+    assert_eq!(rt; table.find(rt, 0x10), (None, 3));
+}
+
+#[test]
+fn batches_one_after_another(rt: HostRuntime) -> Result<(), Fail> {
+    let mut table = Table::<HalfOpen>::open(&rt, rt.alloc(), Layout::new(4)?, 0)?;
+    exchange_in_turn(&rt, rt.alloc(), &mut table);
     Ok(())
 }
 

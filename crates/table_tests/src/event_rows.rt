@@ -21,30 +21,72 @@ fn item(place: u32) -> Item {
     }
 }
 
-/// Looks an address in each item and in each gap up: those of the first `count` places are found
-/// and no other, each within so many loads.
+/// A table of the items of the first so many places, where a lookup makes at most so many loads.
+#[derive(Clone, Copy)]
+struct Filled {
+    count: u32,
+    most: u64,
+}
+
+/// An address finds this, in the table of the filled places.
+fn finds(
+    rt: &impl Abort,
+    world: &mut World<HalfOpen>,
+    filled: Filled,
+    address: u64,
+    item: Option<Item>,
+) -> Result<(), Fail> {
+    let found = world.find_now(1, address)?;
+    assert_eq!(rt; found.answer, item);
+    assert_eq!(rt; found.generation, filled.count as u64);
+    assert!(rt; found.loads <= filled.most);
+    Ok(())
+}
+
+/// Looks an address in each item and in each gap up: those of the filled places are found and no
+/// other.
 fn look_all_up(
     rt: &impl Abort,
     world: &mut World<HalfOpen>,
+    filled: Filled,
     places: u32,
-    count: u32,
-    most: u64,
 ) -> Result<(), Fail> {
     for place in 0..places {
-        let a = place as u64 * STEP;
-        let inside = world.find_now(1, a + STEP + 3)?;
-        let expected = if place < count {
+        let a = place as u64 * STEP + STEP;
+        let inside = if place < filled.count {
             Some(item(place))
         } else {
             None
         };
-        assert_eq!(rt; inside.answer, expected);
-        assert_eq!(rt; inside.generation, count as u64);
-        assert!(rt; inside.loads <= most);
-        let gap = world.find_now(1, a + STEP - 3)?;
-        assert_eq!(rt; gap.answer, None);
-        assert!(rt; gap.loads <= most);
+        finds(rt, world, filled, a + 3, inside)?;
+        finds(rt, world, filled, a - 3, None)?;
     }
+    Ok(())
+}
+
+/// One item more, with lookups at each stop.
+fn add_by_stops(rt: &impl Abort, world: &mut World<HalfOpen>, filled: Filled) -> Result<(), Fail>
+    requires { filled.count ≤ 1000 }
+{
+    let mut reply = world.step(Event::Begin(Update::Insert(item(filled.count))));
+    for _stop in 0..64 {
+        match reply {
+            Reply::Begun(_) | Reply::Wrote(_) => {}
+            _ => break,
+        }
+        let is_new = world.sequence() / 2 > filled.count as u64;
+        let shown = Filled {
+            count: if is_new {
+                filled.count + 1
+            } else {
+                filled.count
+            },
+            most: filled.most,
+        };
+        look_all_up(rt, world, shown, filled.count + 1)?;
+        reply = world.step(Event::Write);
+    }
+    assert!(rt; reply == Reply::Idle);
     Ok(())
 }
 
@@ -57,22 +99,9 @@ fn row(rt: &impl Abort, alloc: Global, count: u32, most: u64) -> Result<(), Fail
         let _ = world.step(Event::Begin(Update::Insert(item(place))));
         world.settle();
     }
-    look_all_up(rt, &mut world, count + 1, count, most)?;
-    let mut reply = world.step(Event::Begin(Update::Insert(item(count))));
-    for _stop in 0..64 {
-        match reply {
-            Reply::Begun(_) | Reply::Wrote(_) => {}
-            _ => break,
-        }
-        let shown = if world.sequence() / 2 > count as u64 {
-            count + 1
-        } else {
-            count
-        };
-        look_all_up(rt, &mut world, count + 1, shown, most)?;
-        reply = world.step(Event::Write);
-    }
-    assert!(rt; reply == Reply::Idle);
+    let filled = Filled { count, most };
+    look_all_up(rt, &mut world, filled, count + 1)?;
+    add_by_stops(rt, &mut world, filled)?;
     assert_eq!(rt; world.sequence(), count as u64 * 2 + 2);
     Ok(())
 }

@@ -307,8 +307,8 @@ impl Account {
     }
 
     /// Takes in what an event came to.
-    fn follow(&mut self, event: Event<u64>, reply: Reply<u64>) -> Result<(), Fail> {
-        match (&event, reply) {
+    fn follow(&mut self, event: &Event<u64>, reply: Reply<u64>) -> Result<(), Fail> {
+        match (event, reply) {
             (Event::Begin(update), Reply::Begun(left)) => {
                 self.updates.push(update.copy()?)?;
                 self.left = left;
@@ -318,7 +318,7 @@ impl Account {
             (Event::Read(reader), Reply::Returned(_)) => self.set_busy(*reader, false),
             _ => {}
         }
-        self.events.push(event)?;
+        self.events.push(event.copy()?)?;
         self.sequences.push(self.world.sequence())?;
         Ok(())
     }
@@ -330,8 +330,8 @@ impl Account {
     }
 
     /// Does an event, and compares what it comes to with the plain account.
-    fn step(&mut self, rt: &impl Abort, alloc: Global, event: Event<u64>) -> Result<(), Fail> {
-        let refused = self.refuses(alloc, &event)?;
+    fn step(&mut self, rt: &impl Abort, alloc: Global, event: &Event<u64>) -> Result<(), Fail> {
+        let refused = self.refuses(alloc, event)?;
         let reply = self.world.step(event.copy()?);
         self.follow(event, reply)?;
         match reply {
@@ -339,13 +339,40 @@ impl Account {
                 assert_eq!(rt; Some(why), refused);
                 self.notes.push(Note::Refused(why))?;
             }
-            Reply::Returned(x) => {
-                assert!(rt; was_current(alloc, &x, self.start, &self.sequences, &self.updates)?);
-                self.returned = self.returned.saturating_add(1);
-                self.notes.push(Note::Returned(x))?;
-            }
+            Reply::Returned(x) => self.take_answer(rt, alloc, x)?,
             _ => assert_eq!(rt; refused, None),
         }
+        Ok(())
+    }
+
+    /// Compares an answer with the plain replay of each moment of its lookup, and keeps it.
+    fn take_answer(
+        &mut self,
+        rt: &impl Abort,
+        alloc: Global,
+        x: Returned<u64>,
+    ) -> Result<(), Fail> {
+        assert!(rt; was_current(alloc, &x, self.start, &self.sequences, &self.updates)?);
+        self.returned = self.returned.saturating_add(1);
+        self.notes.push(Note::Returned(x))?;
+        Ok(())
+    }
+
+    /// So many events with three readers.
+    fn steps(&mut self, rt: &impl Abort, alloc: Global, mut state: u64) -> Result<(), Fail> {
+        for _ in 0..2500 {
+            let event = some_event(alloc, &mut state)?;
+            self.step(rt, alloc, &event)?;
+        }
+        Ok(())
+    }
+
+    /// A run of the whole list has the events, the notes and the sequence of the account.
+    fn is_a_run(&self, rt: &impl Abort, alloc: Global) -> Result<(), Fail> {
+        let trace = run::<HalfOpen>(alloc, self.layout, self.start, &self.events)?;
+        assert!(rt; trace.events.as_slice() == self.events.as_slice());
+        assert!(rt; trace.notes.as_slice() == self.notes.as_slice());
+        assert_eq!(rt; trace.sequence, self.world.sequence());
         Ok(())
     }
 }
@@ -353,18 +380,10 @@ impl Account {
 /// A list of events with three readers: each reply is compared with the plain replay of the
 /// history, and all notes with those of a run of the whole list.
 fn interrupts(rt: &impl Abort, alloc: Global, seed: u64, start: u64) -> Result<(), Fail> {
-    let layout = Layout::new(8)?;
-    let mut state = seed;
-    let mut account = Account::open(alloc, layout, start)?;
-    for _ in 0..2500 {
-        account.step(rt, alloc, some_event(alloc, &mut state)?)?;
-    }
+    let mut account = Account::open(alloc, Layout::new(8)?, start)?;
+    account.steps(rt, alloc, seed)?;
     assert!(rt; 20 < account.returned);
-    let trace = run::<HalfOpen>(alloc, layout, start, &account.events)?;
-    assert!(rt; trace.events.as_slice() == account.events.as_slice());
-    assert!(rt; trace.notes.as_slice() == account.notes.as_slice());
-    assert_eq!(rt; trace.sequence, account.world.sequence());
-    Ok(())
+    account.is_a_run(rt, alloc)
 }
 
 #[test]
