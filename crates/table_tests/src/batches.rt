@@ -168,7 +168,7 @@ fn refusals_of_batches(rt: HostRuntime) -> Result<(), Fail> {
     Ok(())
 }
 
-// Batches of a table, of which none, two and both of two for one lead on.
+// The empty batch, two items, two that are refused, and one item in the place of both.
 fn exchange_in_turn(rt: &impl Abort, alloc: Global, table: &mut Table<HalfOpen>) {
     let (one, beside, across) = (
         item(0x10, 0x20, 1),
