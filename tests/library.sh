@@ -8,7 +8,7 @@ build_over_ci() {
     rlib=$top/crates/order_laws/out/rlib/order_laws.rlib
     # (rt ci proves order_laws first, and it leaves no stamp; rt lib takes stamped libraries alone)
     if [ ! -d "$rlib" ] || compgen -G "$top/crates/*/out/rlib/stamp" >/dev/null ||
-        [ -n "$(find "$top"/crates/*/{src,specs,proofs} "$top/crates.txt" -newer "$rlib" -print -quit 2>/dev/null)" ]; then
+        is_older "$rlib" "$top"/crates/*/{src,specs,proofs}; then
         return 1
     fi
     for name in std $(sed -n 's/^latchsym_ffi staticlib: //p' "$top/crates.txt"); do

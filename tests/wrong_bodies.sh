@@ -4,7 +4,8 @@
 # refuse, as those of crates/CRATE/must-fail, which the gate tries. These stand beside one of the
 # same function, or of the same clause, or are of a program that measures or tests, and the gate
 # leaves them out to keep its time. Run it where a contract or a definition has changed. It works on
-# a copy, over what is proved here already, and takes 10 to 45 seconds an edit.
+# a copy, over what is proved here already, and takes 10 to 45 seconds an edit, and up to three
+# minutes where a crate has one alone.
 set -eu
 top=$(cd "$(dirname "$0")/.." && pwd)
 work=$(mktemp -d)

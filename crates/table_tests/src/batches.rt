@@ -1,6 +1,5 @@
-ghost use Rattle.std.specs.Prelude.{◌<◌};
-
 use crate::cores::{Address, Ranges};
+use crate::events::{draw, item};
 use latch_core::attempts::Attempted;
 use latch_core::sequences::generation;
 use latch_core::{Update, WriterCore, attempt_in, plain};
@@ -10,10 +9,6 @@ use std::alloc::Global;
 use std::process::Abort;
 use std::test::Fail;
 use word_arena::{Layout, apply};
-
-fn item(a: u64, b: u64, tag: u64) -> Item {
-    Item { a, b, tag }
-}
 
 /// Item number i of a row that lies side by side, from 0x100 on.
 pub fn in_row(i: u64) -> Item {
@@ -86,32 +81,28 @@ impl<O: TreeOrder> Table<O> {
 }
 
 // Two items at once, looked up at each stop.
-fn look_beside_two(rt: &impl Abort, table: &mut Table<HalfOpen>, two: &[Item; 2]) {
-    for _ in 0..table.writer.remaining() {
-        let found = if table.generation() == 0 {
-            None
-        } else {
-            Some(two[0])
-        };
-        assert_eq!(rt; table.find(rt, 0x10), (found, table.generation()));
-        assert!(rt; table.step(rt));
-    }
-    assert_eq!(rt; table.find(rt, 0x10), (Some(two[0]), 1));
-    assert_eq!(rt; table.find(rt, 0x30), (Some(two[1]), 1));
-}
-
 #[test]
 fn a_batch_of_two_items(rt: HostRuntime) -> Result<(), Fail> {
     let two = [item(0x10, 0x20, 1), item(0x30, 0x40, 2)];
     let update = Update::batch(rt.alloc(), &[], &two)?;
     let mut table = Table::<HalfOpen>::open(&rt, rt.alloc(), Layout::new(4)?, 0)?;
-    table.writer.begin(update)?;
-    look_beside_two(&rt, &mut table, &two);
+    for _ in 0..table.writer.begin(update)? {
+        let found = if table.generation() == 0 {
+            None
+        } else {
+            Some(two[0])
+        };
+        assert_eq!(rt; table.find(&rt, 0x10), (found, table.generation()));
+        assert!(rt; table.step(&rt));
+    }
+    assert_eq!(rt; table.find(&rt, 0x10), (Some(two[0]), 1));
+    assert_eq!(rt; table.find(&rt, 0x30), (Some(two[1]), 1));
     Ok(())
 }
 
-// One item for another, which a full table refuses although it erases, and stays as it was.
-fn rename(rt: &impl Abort, alloc: Global, table: &mut Table<HalfOpen>) -> Option<Refusal> {
+// Why one item for another is refused, in a table of so many nodes. A refusal leaves it as it was.
+fn rename(rt: &impl Abort, alloc: Global, capacity: u32) -> Result<Option<Refusal>, Fail> {
+    let mut table = Table::<HalfOpen>::open(rt, alloc, Layout::new(capacity)?, 0)?;
     let first = table.exchange(rt, alloc, &[], &[item(0x10, 0x20, 1)]);
     assert!(rt; first.is_ok());
     let refused = table
@@ -120,22 +111,14 @@ fn rename(rt: &impl Abort, alloc: Global, table: &mut Table<HalfOpen>) -> Option
     let tag = if refused.is_some() { 1 } else { 2 };
     let found = (Some(item(0x10, 0x20, tag)), tag);
     assert_eq!(rt; table.find(rt, 0x10), found);
-    refused
+    Ok(refused)
 }
 
+// A batch needs a node for what it inserts, although it erases.
 #[test]
 fn a_batch_where_the_table_is_full(rt: HostRuntime) -> Result<(), Fail> {
-    let mut table = Table::<HalfOpen>::open(&rt, rt.alloc(), Layout::new(1)?, 0)?;
-    let refused = rename(&rt, rt.alloc(), &mut table);
-    assert_eq!(rt; refused, Some(Refusal::Full));
-    Ok(())
-}
-
-#[test]
-fn a_batch_that_fills_the_table(rt: HostRuntime) -> Result<(), Fail> {
-    let mut table = Table::<HalfOpen>::open(&rt, rt.alloc(), Layout::new(2)?, 0)?;
-    let refused = rename(&rt, rt.alloc(), &mut table);
-    assert_eq!(rt; refused, None);
+    assert_eq!(rt; rename(&rt, rt.alloc(), 1)?, Some(Refusal::Full));
+    assert_eq!(rt; rename(&rt, rt.alloc(), 2)?, None);
     Ok(())
 }
 
@@ -169,28 +152,25 @@ fn refusals_of_batches(rt: HostRuntime) -> Result<(), Fail> {
 }
 
 // The empty batch, two items, two that are refused, and one item in the place of both.
-fn exchange_in_turn(rt: &impl Abort, alloc: Global, table: &mut Table<HalfOpen>) {
+#[test]
+fn batches_one_after_another(rt: HostRuntime) -> Result<(), Fail> {
+    let alloc = rt.alloc();
+    let mut table = Table::<HalfOpen>::open(&rt, alloc, Layout::new(4)?, 0)?;
     let (one, beside, across) = (
         item(0x10, 0x20, 1),
         item(0x20, 0x30, 2),
         item(0x18, 0x28, 3),
     );
-    assert_eq!(rt; table.exchange(rt, alloc, &[], &[]), Ok(2));
+    assert_eq!(rt; table.exchange(&rt, alloc, &[], &[]), Ok(2));
     assert_eq!(rt; (table.generation(), table.writer.len()), (1, 0));
-    assert!(rt; table.exchange(rt, alloc, &[], &[beside, one]).is_ok());
-    let twice = table.exchange(rt, alloc, &[0x10, 0x20, 0x10], &[]);
+    assert!(rt; table.exchange(&rt, alloc, &[], &[beside, one]).is_ok());
+    let twice = table.exchange(&rt, alloc, &[0x10, 0x20, 0x10], &[]);
     assert_eq!(rt; twice, Err(Refusal::NoSuchItem));
-    let half = table.exchange(rt, alloc, &[0x10], &[across]);
+    let half = table.exchange(&rt, alloc, &[0x10], &[across]);
     assert_eq!(rt; half, Err(Refusal::Overlap));
-    assert!(rt; table.exchange(rt, alloc, &[0x20, 0x10], &[across]).is_ok());
-    assert_eq!(rt; table.find(rt, 0x20), (Some(across), 3));
-    assert_eq!(rt; table.find(rt, 0x10), (None, 3));
-}
-
-#[test]
-fn batches_one_after_another(rt: HostRuntime) -> Result<(), Fail> {
-    let mut table = Table::<HalfOpen>::open(&rt, rt.alloc(), Layout::new(4)?, 0)?;
-    exchange_in_turn(&rt, rt.alloc(), &mut table);
+    assert!(rt; table.exchange(&rt, alloc, &[0x20, 0x10], &[across]).is_ok());
+    assert_eq!(rt; table.find(&rt, 0x20), (Some(across), 3));
+    assert_eq!(rt; table.find(&rt, 0x10), (None, 3));
     Ok(())
 }
 
@@ -276,17 +256,6 @@ fn the_wide_sequence(rt: HostRuntime) -> Result<(), Fail> {
         assert_eq!(rt; opened.err(), Some(Refusal::BadCapacity), "at {start}");
     }
     Ok(())
-}
-
-// A pseudo-random number below `below`; `state` goes on.
-fn draw(state: &mut u64, below: u64) -> u64
-    requires { 0 < below }
-    ensures { result < below }
-{
-    *state = state
-        .wrapping_mul(6364136223846793005)
-        .wrapping_add(1442695040888963407);
-    (*state >> 33) % below
 }
 
 fn some_item(state: &mut u64) -> Item {

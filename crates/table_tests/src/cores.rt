@@ -1,5 +1,6 @@
 ghost use Rattle.order_laws.specs.Orders.{half_open, half_open_lawful};
 
+use crate::events::item;
 use latch_core::sequences::{generation, stable_copy};
 use latch_core::{ReaderCore, Taken, Update, WriterCore, plain};
 use order_laws::laws::look_through;
@@ -82,10 +83,6 @@ impl TreeOrder for Ranges {
       symmetric = half_open_lawful.symmetric;
       own_first_word = half_open_lawful.own_first_word;
     } };
-}
-
-fn item(a: u64, b: u64, tag: u64) -> Item {
-    Item { a, b, tag }
 }
 
 /// A writer and its words.

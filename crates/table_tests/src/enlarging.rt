@@ -1,7 +1,7 @@
 ghost use Rattle.std.specs.Prelude.{◌≡◌, IfOk};
 ghost use Rattle.latch_table.specs.Enlarging.{AreReadersOf};
 
-use crate::tables::item;
+use crate::events::item;
 use latch_core::Update;
 use latch_table::{Reader, Try, Writer, open};
 use order_laws::{HalfOpen, Item, Refusal};

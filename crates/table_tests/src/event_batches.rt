@@ -1,6 +1,6 @@
 //! Batches: several items in one update, and what no test of one item shows.
 
-use crate::events::{Line, drives, insert, item, line_of, refused};
+use crate::events::{Line, drives, insert, item, line_of, refused, two_updates};
 use latch_core::Update;
 use latch_steps::{Command, Event, Note, Reply, World, drive, drive_notes, run};
 use order_laws::{HalfOpen, Item};
@@ -163,22 +163,11 @@ fn a_batch_that_exchanges_an_item(rt: HostRuntime) -> Result<(), Fail> {
     Ok(())
 }
 
-/// Commands at the last sequence of a wide layout, of which the second update is refused.
-fn last_updates(alloc: Global) -> Result<Vec<Command<u64>>, Fail> {
-    Ok(vec![in alloc;
-        insert(0x10, 0x20, 1),
-        Command::WriteEnd,
-        insert(0x30, 0x40, 2),
-        Command::Start(1, 0x10),
-        Command::Read(1, 6),
-    ]?)
-}
-
 #[test]
 fn a_wide_sequence_to_its_end(rt: HostRuntime) -> Result<(), Fail> {
     let alloc = rt.alloc();
     let start = 18446744073709551612;
-    let run = drive_notes::<HalfOpen>(alloc, Layout::wide(4)?, start, &last_updates(alloc)?)?;
+    let run = drive_notes::<HalfOpen>(alloc, Layout::wide(4)?, start, &two_updates(alloc)?)?;
     let greatest = 9223372036854775807;
     assert_eq!(rt; run.notes.len(), 2);
     assert!(rt; line_of(&run.notes[0]) == refused(6));
@@ -188,7 +177,7 @@ fn a_wide_sequence_to_its_end(rt: HostRuntime) -> Result<(), Fail> {
         (Layout::wide(4)?, 18446744073709551615),
         (Layout::new(4)?, 4294967296),
     ] {
-        match drive_notes::<HalfOpen>(alloc, layout, start, &last_updates(alloc)?) {
+        match drive_notes::<HalfOpen>(alloc, layout, start, &two_updates(alloc)?) {
             Ok(_) => assert!(rt; false),
             Err(why) => assert_eq!(rt; why.number(), 10),
         }

@@ -158,8 +158,8 @@ fn words_of_two_items_are_not_answered(rt: HostRuntime) -> Result<(), Fail> {
     drives(&rt, rt.alloc(), 1, &commands, &lines, 6)
 }
 
-/// Commands of which the second update is past the greatest sequence.
-fn two_updates(alloc: Global) -> Result<Vec<Command<u64>>, Fail> {
+/// Commands of which the second update is past the greatest sequence, where the first is at it.
+pub(crate) fn two_updates(alloc: Global) -> Result<Vec<Command<u64>>, Fail> {
     Ok(vec![in alloc;
         insert(0x10, 0x20, 1),
         Command::WriteEnd,
@@ -187,7 +187,7 @@ fn the_last_sequence(rt: HostRuntime) -> Result<(), Fail> {
 }
 
 /// A pseudo-random number below `below`; `state` goes on.
-fn draw(state: &mut u64, below: u64) -> u64
+pub(crate) fn draw(state: &mut u64, below: u64) -> u64
     requires { 0 < below }
     ensures { result < below }
 {

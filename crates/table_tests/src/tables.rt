@@ -1,15 +1,12 @@
 ghost use Rattle.std.specs.Prelude.{◌≡◌};
 
+use crate::events::item;
 use latch_core::Update;
 use latch_table::{Did, Try, meet, open};
-use order_laws::{HalfOpen, Item, Refusal};
+use order_laws::{HalfOpen, Refusal};
 use std::process::Abort;
 use std::test::Fail;
 use word_arena::Layout;
-
-pub fn item(a: u64, b: u64, tag: u64) -> Item {
-    Item { a, b, tag }
-}
 
 // The calls of one update, at each of its stops.
 #[test]
