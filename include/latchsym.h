@@ -15,7 +15,8 @@
  *   is closed.
  * - A pointer is never null, also where the length beside it is 0; what it points to is alive and
  *   aligned, and initialised where it is read.
- * - malloc, realloc and free are those of one allocator.
+ * - malloc, realloc and free are those of one allocator, and align as C says.
+ * - Calls that are not marked "handler" are not made in the forked child of a process with threads.
  *
  * A closed handle where an open one is wanted is no fault: the call returns LATCHSYM_BAD_HANDLE.
  * So is an open one where a closed one is wanted. A second close does nothing. A call that is
@@ -55,7 +56,7 @@ enum {
     LATCHSYM_NO_SUCH_ITEM = 3, /* no item begins there */
     LATCHSYM_FULL = 4,      /* the table has as many items as nodes */
     LATCHSYM_UPDATE_IN_HAND = 5, /* an update has begun and is not at its end */
-    LATCHSYM_SEQUENCE_SPENT = 6, /* after 2^63 updates */
+    LATCHSYM_SEQUENCE_SPENT = 6, /* after 2^63 - 1 updates */
     LATCHSYM_OUT_OF_MEMORY = 7,
     LATCHSYM_BAD_CAPACITY = 10, /* nodes not 1 to 65536 or fewer than before; readers not 1 to 64 */
     LATCHSYM_TOO_MANY_REGIONS = 14, /* more than 7 region lines have one name */
@@ -76,7 +77,7 @@ struct latchsym_counts {
  * names in bytes. */
 struct latchsym_symbol {
     uint64_t module_number, offset, size;
-    size_t name_len, module_len;
+    size_t name_len, module_len; /* of the whole names: more than the room, where that is shorter */
 };
 
 /* Addresses from a up to b, which is excluded, and a number of the caller's. */
@@ -95,7 +96,8 @@ uint32_t latchsym_catalog_open(const uint8_t *modules, size_t modules_len, const
                                struct latchsym_counts *counts);
 
 /* The same with a listing of regions (docs/FORMATS.md). Also LATCHSYM_TOO_MANY_REGIONS, and
- * LATCHSYM_BAD_LINE with the number of the first line that is not one. */
+ * LATCHSYM_BAD_LINE with the number of the first line that is not one, which is written then
+ * alone. */
 uint32_t latchsym_catalog_open_with_regions(const uint8_t *modules, size_t modules_len,
                                             const uint8_t *kallsyms, size_t kallsyms_len,
                                             const uint8_t *regions, size_t regions_len,
@@ -103,7 +105,8 @@ uint32_t latchsym_catalog_open_with_regions(const uint8_t *modules, size_t modul
                                             struct latchsym_counts *counts, uint64_t *bad_line);
 
 /* The symbol of an address, as `latchsym lookup` prints it. As many bytes of each name are copied
- * as there is room for, without a 0 byte at the end; the lengths are those of the whole names. 0,
+ * as there is room for, without a 0 byte at the end. The lengths are those of the whole names: read
+ * no more of a name than its room has. Rooms of 512 bytes hold every name of a kernel. 0,
  * LATCHSYM_NO_SYMBOL (the module alone is told), LATCHSYM_NOTHING (all numbers are 0) or
  * LATCHSYM_BAD_HANDLE (nothing is written). The time is logarithmic in regions and symbols.
  * Handler. */
@@ -121,8 +124,8 @@ void latchsym_catalog_close(struct latchsym_catalog *);
 /* ---- the table ---- */
 
 /* Opens an empty table of 1 to 65536 nodes: its writer, and a reader in each of 1 to 64 closed
- * handles; all of them or none. 0, LATCHSYM_BAD_CAPACITY, LATCHSYM_OUT_OF_MEMORY or
- * LATCHSYM_BAD_HANDLE. */
+ * handles; all of them or none. 0, LATCHSYM_BAD_HANDLE where a handle is open, else
+ * LATCHSYM_BAD_CAPACITY where nodes or readers are not so many, or LATCHSYM_OUT_OF_MEMORY. */
 uint32_t latchsym_table_open(uint32_t nodes, struct latchsym_writer *,
                              struct latchsym_reader *readers, size_t count);
 
@@ -165,7 +168,8 @@ uint32_t latchsym_reader_try_find(struct latchsym_reader *, uint64_t addr,
                                   struct latchsym_found *out);
 
 /* The same, and the symbol in the item that was found, whose tag is taken as the number of a
- * module of the catalog. Also LATCHSYM_NO_SYMBOL. Handler. */
+ * module of the catalog. Also LATCHSYM_NO_SYMBOL. Where a handle is closed no attempt is made.
+ * Handler. */
 uint32_t latchsym_reader_find_name(struct latchsym_reader *, struct latchsym_catalog *,
                                    uint64_t addr, struct latchsym_found *item,
                                    struct latchsym_symbol *out, uint8_t *name, size_t name_room,

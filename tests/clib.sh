@@ -1,9 +1,10 @@
 #!/usr/bin/env bash
 # Builds the library for C, and runs the programs of tests/c and examples/c with it: the table on
 # threads and beside signals, each request for memory refused, and the listings of examples/ as
-# `latchsym lookup` answers; under valgrind and sanitizers where these are there. Looks at the
-# object code that a call for signal handlers takes no memory. Needs gcc.
-set -eu
+# `latchsym lookup` answers; under valgrind and sanitizers where these are there, and names of 700
+# bytes in rooms of 512 under gcc's own for addresses. Looks at the object code that a call for
+# signal handlers takes no memory. Needs gcc.
+set -euo pipefail
 . "$(dirname "$0")/program.sh"
 . "$top/tests/library.sh"
 build_library
@@ -29,14 +30,40 @@ done
 
 echo '#include <latchsym.h>
 int main() { latchsym_catalog c = {}; latchsym_catalog_close(&c); }' >"$work/guards.cc"
-g++ -Wall -Wextra -Werror -I"$top/include" "$work/guards.cc" "$library" -o "$work/guards" && "$work/guards"
+g++ -Wall -Wextra -Werror -I"$top/include" "$work/guards.cc" "$library" -o "$work/guards"
+"$work/guards"
 
-gcc -std=gnu11 -Wall -Wextra -I"$top/include" "$top/examples/c/lookup.c" "$library" -o "$work/lookup"
+# watched SOURCE PROGRAM: compiled with the static library, under the sanitizer for addresses
+watched() {
+    gcc -std=gnu11 -Wall -Wextra -Werror -g -fsanitize=address -I"$top/include" "$1" "$library" -o "$2"
+}
+
+watched "$top/examples/c/lookup.c" "$work/lookup"
 cd "$top/examples/listings"
 for name in basic causes empty; do
     # shellcheck disable=SC2046
-    "$work/lookup" $name.modules $name.kallsyms $(cat $name.addresses) | cmp - <(grep '^0x' $name.expected)
+    "$work/lookup" $name.modules $name.kallsyms $(cat $name.addresses) >"$work/lines"
+    grep '^0x' $name.expected | cmp "$work/lines" -
 done
+
+# names of 700 bytes, of which a room holds 512: those of a module, and the sample's symbol
+long=$(printf '%0700d' 0)
+room=$(printf '%0512d' 0)
+echo "m$long 4096 1 - Live 0xffffffffc0000000" >"$work/modules"
+printf 'ffffffffc0000010 t %s\t[%s]\n' "s$long" "m$long" >"$work/kallsyms"
+"$work/lookup" "$work/modules" "$work/kallsyms" 0xffffffffc0000018 >"$work/lines"
+echo "0xffffffffc0000018 s${room%0}+0x8/0xff0 [m${room%0}]" | cmp "$work/lines" -
+{
+    printf '#include <latchsym.h>\n#include <stdio.h>\n#include <string.h>\n'
+    printf 'static const uint8_t modules[] = "%s", kallsyms[] = "%s";\n' "$(cat "$work/modules")\n" "$(cat "$work/kallsyms")\n"
+    printf 'enum { modules_len = sizeof modules - 1, kallsyms_len = sizeof kallsyms - 1 };\nint main(void) {\n'
+    sed -n '/^## An example/,/^The listings/s/^    //p' "$top/docs/C_LIBRARY.md"
+    printf '}\n'
+} >"$work/sample.c"
+watched "$work/sample.c" "$work/sample"
+"$work/sample" >"$work/lines"
+echo "s${room%0}+0x8" | cmp "$work/lines" -
+
 if command -v python3 >/dev/null; then
     python3 "$top/tests/c/names.py" "$shared" "$top/examples/listings"
 fi

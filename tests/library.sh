@@ -25,14 +25,18 @@ build_over_ci() {
 }
 
 # build_library: makes `library` the static library, with the kit's three functions over malloc in
-# it, and `shared` the shared one; ends the script where they cannot be built
+# it, and `shared` the shared one; builds where the crate's is missing or older than a source, and
+# ends the script where it cannot be built
 build_library() {
     local crate=$top/crates/latchsym_ffi kit jobs
     kit=$(dirname "$(rt doc)")
     jobs=$(nproc)
     jobs=$((jobs < 4 ? jobs : 4))
-    (cd "$crate" && { build_over_ci "$kit" $jobs || rt lib --jobs $jobs; }) >"$work/build" 2>&1 ||
-        { cat "$work/build" >&2 && exit 1; }
+    if [ ! -e "$crate/out/liblatchsym_ffi.a" ] ||
+        is_older "$crate/out/liblatchsym_ffi.a" "$top"/crates/*/{src,specs,proofs}; then
+        (cd "$crate" && { build_over_ci "$kit" $jobs || rt lib --jobs $jobs; }) >"$work/build" 2>&1 ||
+            { cat "$work/build" >&2; exit 1; }
+    fi
     mkdir "$work/objects"
     (cd "$work/objects" && ar x "$crate/out/liblatchsym_ffi.a" && ar x "$kit/c/liblibc_c.a" && ar rcs "$work/liblatchsym.a" ./*)
     library=$work/liblatchsym.a
