@@ -1,27 +1,72 @@
 #!/usr/bin/env bash
-# install.sh PREFIX: builds the program and the library for C, and puts them under PREFIX:
-# bin/latchsym, lib/liblatchsym.a, lib/liblatchsym.so, lib/pkgconfig/latchsym.pc and
-# include/latchsym.h.
-set -eu
-[ $# = 1 ] || { echo "usage: install.sh PREFIX" >&2 && exit 2; }
+# Builds and installs, as its `--help` says.
+set -euo pipefail
+
+usage='usage: install.sh [--uninstall] PREFIX
+
+Builds the program and the library for C, and puts them under PREFIX: bin/latchsym,
+lib/liblatchsym.a, lib/liblatchsym.so, lib/pkgconfig/latchsym.pc and include/latchsym.h.
+All are copied before the first is renamed to its name, so a program that runs goes on
+with the files that it has, and a copy that fails leaves them as they are.
+
+--uninstall   takes these files away again, and leaves the folders
+--help        this text
+
+Where DESTDIR is set, it stands before PREFIX, and latchsym.pc does not name it.'
+
+fault() {
+    printf 'install.sh: %s\n\n%s\n' "$1" "$usage" >&2
+    exit 2
+}
+
+uninstall=
+prefix=
+for word in "$@"; do
+    case $word in
+        --help)
+            printf '%s\n' "$usage"
+            exit
+            ;;
+        --uninstall) uninstall=1 ;;
+        -*) fault "there is no option $word" ;;
+        *)
+            [ -z "$prefix" ] || fault 'more than one PREFIX is given'
+            prefix=$(realpath -ms "$word")
+            ;;
+    esac
+done
+[ -n "$prefix" ] || fault 'no PREFIX is given'
+to=${DESTDIR:-}$prefix
+files=(bin/latchsym lib/liblatchsym.a lib/liblatchsym.so lib/pkgconfig/latchsym.pc include/latchsym.h)
+
+if [ -n "$uninstall" ]; then
+    rm -f "${files[@]/#/"$to/"}"
+    exit
+fi
+
 . "$(dirname "$0")/tests/program.sh"
 . "$top/tests/library.sh"
-mkdir -p "$1/bin" "$1/lib/pkgconfig" "$1/include"
-prefix=$(cd "$1" && pwd)
 build latchsym
 build_library
-cp "$program" "$prefix/bin/latchsym"
-cp "$library" "$prefix/lib/liblatchsym.a"
-cp "$shared" "$prefix/lib/liblatchsym.so"
-cp "$top/include/latchsym.h" "$prefix/include/latchsym.h"
-cat >"$prefix/lib/pkgconfig/latchsym.pc" <<EOF
+cat >"$work/latchsym.pc" <<END
 prefix=$prefix
 Name: latchsym
 Description: A catalog of kernel symbols and a latched table of address ranges
 Version: 1
 Cflags: -I\${prefix}/include
 Libs: -L\${prefix}/lib -Wl,-rpath,\${prefix}/lib -llatchsym
-EOF
-for file in bin/latchsym lib/liblatchsym.a lib/liblatchsym.so lib/pkgconfig/latchsym.pc include/latchsym.h; do
-    echo "$prefix/$file"
+END
+
+new=.latchsym.new
+copies=("${files[@]/#/"$to/"}")
+copies=("${copies[@]/%/$new}")
+trap 'rm -rf "$work" "${copies[@]}"' EXIT
+install -D -m 755 "$program" "$to/bin/latchsym$new"
+install -D -m 644 "$library" "$to/lib/liblatchsym.a$new"
+install -D -m 755 "$shared" "$to/lib/liblatchsym.so$new"
+install -D -m 644 "$work/latchsym.pc" "$to/lib/pkgconfig/latchsym.pc$new"
+install -D -m 644 "$top/include/latchsym.h" "$to/include/latchsym.h$new"
+for file in "${files[@]}"; do
+    mv -fT "$to/$file$new" "$to/$file"
+    echo "$to/$file"
 done

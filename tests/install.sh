@@ -1,0 +1,70 @@
+#!/usr/bin/env bash
+# Installs the program and the library for C by install.sh, installs them again while both are in
+# use, behind a DESTDIR, and where a folder cannot be made; and takes them away again. Needs gcc.
+set -euo pipefail
+. "$(dirname "$0")/program.sh"
+
+fail() {
+    echo "install: $1"
+    exit 1
+}
+
+# installed FOLDER: what lies under it
+installed() { (cd "$1" && find . ! -type d | LC_ALL=C sort | tr '\n' ' '); }
+whole='./bin/latchsym ./include/latchsym.h ./lib/liblatchsym.a ./lib/liblatchsym.so ./lib/pkgconfig/latchsym.pc '
+
+# run ARGUMENT..: install.sh with these arguments; what it writes is in out and err
+run() {
+    status=0
+    "$top/install.sh" "$@" >"$work/out" 2>"$work/err" || status=$?
+}
+
+run --help
+[ $status = 0 ] && [ -s "$work/out" ] && [ ! -s "$work/err" ] || fail '--help: not on standard output'
+for words in '' '--prefix' 'a b'; do
+    # shellcheck disable=SC2086
+    run $words
+    [ $status = 2 ] && [ ! -s "$work/out" ] && [ -s "$work/err" ] || fail "install.sh $words: status $status"
+done
+
+prefix=$work/prefix
+run "$prefix"
+[ $status = 0 ] || fail "$(cat "$work/err")"
+[ "$(installed "$prefix")" = "$whole" ] || fail "installed: $(installed "$prefix")"
+
+# both wait for a file while all is installed once more
+read -ra flags <<<"-I$prefix/include -L$prefix/lib -Wl,-rpath,$prefix/lib -llatchsym"
+if command -v pkg-config >/dev/null; then
+    read -ra flags < <(PKG_CONFIG_PATH=$prefix/lib/pkgconfig pkg-config --cflags --libs latchsym)
+fi
+gcc -std=gnu11 -Wall -Wextra -Werror "$top/tests/c/waits.c" "${flags[@]}" -o "$work/waits"
+cd "$top/examples/listings"
+mkfifo "$work/file" "$work/modules"
+"$work/waits" "$work/file" &
+waits=$!
+"$prefix/bin/latchsym" lookup --modules "$work/modules" --kallsyms basic.kallsyms --addresses basic.addresses >"$work/lines" &
+looks_up=$!
+exec 3>"$work/file" 4>"$work/modules"
+run "$prefix"
+[ $status = 0 ] || fail "while they are in use: $(cat "$work/err")"
+[ "$(installed "$prefix")" = "$whole" ] || fail "installed again: $(installed "$prefix")"
+cat basic.modules >&4
+exec 3>&- 4>&-
+wait $waits || fail "a program that uses the library died"
+wait $looks_up || fail "the program died"
+cmp "$work/lines" basic.expected
+
+DESTDIR=$work/stage run /opt/latchsym
+[ $status = 0 ] && [ "$(installed "$work/stage/opt/latchsym")" = "$whole" ] || fail "DESTDIR: $(cat "$work/err")"
+[ "$(head -n 1 "$work/stage/opt/latchsym/lib/pkgconfig/latchsym.pc")" = 'prefix=/opt/latchsym' ] || fail 'DESTDIR: another prefix'
+
+# no file is there where one cannot be
+mkdir "$work/narrow"
+echo kept >"$work/narrow/include"
+run "$work/narrow"
+[ $status = 1 ] && [ "$(installed "$work/narrow")" = './include ' ] || fail "without a folder: $(installed "$work/narrow")"
+
+echo kept >"$prefix/lib/other"
+run --uninstall "$prefix"
+[ $status = 0 ] && [ "$(installed "$prefix")" = './lib/other ' ] || fail "uninstalled: $(installed "$prefix")"
+echo "install: by rename beside running programs, behind a DESTDIR, and away again"
