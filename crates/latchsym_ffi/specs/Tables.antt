@@ -1,5 +1,5 @@
 -- What the opening of a table gives.
-use Rattle.std.specs.Prelude.{◌≡◌, ℕ, ◌≤◌, ◌<◌, ◌⊎◌, true, All, List, length, vec_len}
+use Rattle.std.specs.Prelude.{◌≡◌, ℕ, ◌≤◌, ◌<◌, ◌⊎◌, true, false, All, List, length, vec_len}
 use Rattle.atomic_table.specs.Seated.{TableId}
 use Rattle.word_arena.specs.declared.layouts.Layout.{Layout}
 use Rattle.word_arena.specs.Layouts.{capacity_of, limit_of}
@@ -15,6 +15,10 @@ use Rattle.latchsym_ffi.specs.declared.writer_slots.WriterSlot.{WriterSlot}
 -- a layout of so many nodes with 64-bit sequences
 abbrev pub IsWide : ℕ → Layout → Type 0
 IsWide nodes l = (capacity_of l ≡ nodes) × (limit_of l ≡ greatest_wide_sequence)
+
+-- the slots of a writer and of its readers are all closed
+abbrev pub AreClosed : WriterSlot → List ReaderSlot → Type 0
+AreClosed w readers = (w.is_open ≡ false) × All (λ s. s.is_open ≡ false) readers
 
 -- a reader of the empty table at a place
 abbrev pub first_reader : TableId → Layout → ReaderState
@@ -50,3 +54,9 @@ AreInRange nodes readers = (0 < nodes) × (nodes ≤ most_nodes) × (0 < readers
 abbrev pub RefusesTable : ℕ → ℕ → ℕ → Type 0
 RefusesTable nodes readers result =
     ((result ≡ 10) × (AreInRange nodes readers → ⊥)) ⊎ ((result ≡ 7) × AreInRange nodes readers)
+
+-- one of the slots is open, or else the number is that of such a refusal
+abbrev pub RefusesSlots : ℕ → WriterSlot → List ReaderSlot → ℕ → Type 0
+RefusesSlots nodes w readers result =
+    ((result ≡ 101) × (AreClosed w readers → ⊥))
+    ⊎ (AreClosed w readers × RefusesTable nodes (length readers) result)

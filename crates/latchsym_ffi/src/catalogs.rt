@@ -17,7 +17,8 @@ use std::alloc::Global;
 /// Why a catalog was not opened, as a number, and the number of the bad line.
 fn refusal(_texts: &CatalogTexts, fault: CatalogFault, bad_line: &mut u64) -> u32
     requires { RefusesTexts (shown_texts _texts.now) fault }
-    ensures { RefusesCatalog (shown_texts _texts.now) bad_line.new result }
+    ensures why { RefusesCatalog (shown_texts _texts.now) bad_line.new result }
+    ensures told { result ≢ 15 → bad_line.new ≡ bad_line.old }
 {
     match fault {
         CatalogFault::Refused(Refusal::TooManyRegions) => Refusal::TooManyRegions.number(),
@@ -42,6 +43,7 @@ fn open_in(
     ensures not_so { out.old.is_open ≡ true → result ≡ 101 }
     ensures why { out.old.is_open ≡ false → result ≢ 0
         → RefusesCatalog (shown_texts texts.now) bad_line.new result }
+    ensures told { result ≢ 15 → bad_line.new ≡ bad_line.old }
 {
     if out.is_open {
         return BAD_HANDLE;
@@ -99,6 +101,7 @@ pub extern "C" fn latchsym_catalog_open_with_regions(
     ensures not_so { out.old.is_open ≡ true → result ≡ 101 }
     ensures why { out.old.is_open ≡ false → result ≢ 0
         → RefusesCatalog (three_texts modules.now kallsyms.now regions.now) bad_line.new result }
+    ensures told { result ≢ 15 → bad_line.new ≡ bad_line.old }
 {
     let texts = CatalogTexts {
         modules,

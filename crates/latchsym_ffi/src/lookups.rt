@@ -1,6 +1,6 @@
 //! What C calls, of lookups in a table.
 
-ghost use Rattle.std.specs.Prelude.{◌≡◌, Option, true, false};
+ghost use Rattle.std.specs.Prelude.{◌≡◌, ◌⊎◌, Option, true, false};
 ghost use Rattle.order_laws.specs.declared.items.Item.{Item};
 ghost use Rattle.order_laws.specs.Orders.{half_open};
 ghost use Rattle.latch_table.specs.declared.readers.Try.{Try};
@@ -128,13 +128,16 @@ pub extern "C" fn latchsym_reader_find_name(
 ) -> u32
     ensures open { reader.new.is_open ≡ reader.old.is_open }
     ensures stays { Stays catalog.old catalog.new }
+    ensures place { reader.old.is_open ≡ true
+        → (reader_in reader.new).place ≡ (reader_in reader.old).place }
     ensures found { reader.old.is_open ≡ true → catalog.old.is_open ≡ true → (t : Try)
         × Tried half_open addr (reader_in reader.old).knowledge (reader_in reader.new).knowledge t
         × (result ≡ name_code catalog.old.handle.value addr t) × Shows t item.old item.new
         × Names catalog.old.handle.value addr t out.old out.new
         × Copies catalog.old.handle.value addr t name.old name.new owner.old owner.new }
-    ensures no_reader { reader.old.is_open ≡ false → result ≡ 101 }
-    ensures no_catalog { catalog.old.is_open ≡ false → result ≡ 101 }
+    ensures closed { (reader.old.is_open ≡ false) ⊎ (catalog.old.is_open ≡ false)
+        → (result ≡ 101) × (reader.new ≡ reader.old) × (item.new ≡ item.old)
+        × (out.new ≡ out.old) × (name.new ≡ name.old) × (owner.new ≡ owner.old) }
 {
     if !reader.is_open || !catalog.is_open {
         return BAD_HANDLE;

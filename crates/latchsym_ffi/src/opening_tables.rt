@@ -1,9 +1,11 @@
 //! Opening a table: all of it, or nothing where memory is refused.
 
-ghost use Rattle.std.specs.Prelude.{◌≡◌, ◌≢◌, All, IfOk, IfErr, false, length, true, vec_len};
+ghost use Rattle.std.specs.Prelude.{◌≡◌, ◌≢◌, ◌↔◌, All, IfOk, IfErr, IsTrue, false, length, true};
+ghost use Rattle.std.specs.Prelude.{vec_len};
 ghost use Rattle.order_laws.specs.Refusals.{refusal_number};
 ghost use Rattle.latch_table.specs.Readers.{ReaderState};
-ghost use Rattle.latchsym_ffi.specs.Tables.{AreOpened, HoldsReader, IsOpenedTable, RefusesTable};
+ghost use Rattle.latchsym_ffi.specs.Tables.{AreClosed, AreInRange, AreOpened, HoldsReader};
+ghost use Rattle.latchsym_ffi.specs.Tables.{IsOpenedTable, RefusesSlots, RefusesTable};
 
 use crate::answers::{BAD_HANDLE, DONE};
 use crate::reader_slots::ReaderSlot;
@@ -40,6 +42,7 @@ fn boxed(
 /// A table, in boxes.
 fn open_boxes(alloc: Global, nodes: u32, readers: u32) -> Result<Boxes, Refusal>
     ensures opened { IfOk result (AreOpened nodes readers) }
+    ensures may { IfOk result (λ _. AreInRange nodes readers) }
     ensures refused { IfErr result (λ e. RefusesTable nodes readers (refusal_number e)) }
 {
     let layout = Layout::wide(nodes)?;
@@ -64,11 +67,18 @@ fn fill(alloc: Global, slots: &mut [ReaderSlot], readers: Vec<Box<TableReader, G
     }
 }
 
-/// Whether one of the slots is open.
-fn some_open(slots: &[ReaderSlot]) -> bool
-    ensures { result ≡ false → All (λ s. s.is_open ≡ false) slots.now }
+/// Whether all of the slots are closed.
+fn all_closed(slots: &[ReaderSlot]) -> bool
+    ensures { IsTrue result ↔ All (λ s. s.is_open ≡ false) slots.now }
 {
-    slots.iter().any(|slot| slot.is_open)
+    slots.iter().all(|slot| !slot.is_open)
+}
+
+/// Whether the slots of a writer and of its readers are all closed.
+fn are_closed(writer: &WriterSlot, readers: &[ReaderSlot]) -> bool
+    ensures { IsTrue result ↔ AreClosed writer.now readers.now }
+{
+    !writer.is_open && all_closed(readers)
 }
 
 /// Opens an empty table of so many nodes, 1 to 65536: its writer, and a reader in each of 1 to 64
@@ -82,12 +92,12 @@ pub extern "C" fn latchsym_table_open(
 ) -> u32
     ensures opened { result ≡ 0 → IsOpenedTable nodes writer.new readers.new }
     ensures count { length readers.new ≡ length readers.old }
-    ensures were_closed { result ≡ 0 → (writer.old.is_open ≡ false)
-        × All (λ s. s.is_open ≡ false) readers.old }
+    ensures may { result ≡ 0 → AreClosed writer.old readers.old
+        × AreInRange nodes (length readers.old) }
     ensures refused { result ≢ 0 → (writer.new ≡ writer.old) × (readers.new ≡ readers.old) }
-    ensures why { result ≢ 0 → result ≢ 101 → RefusesTable nodes (length readers.old) result }
+    ensures why { result ≢ 0 → RefusesSlots nodes writer.old readers.old result }
 {
-    if writer.is_open || some_open(readers) {
+    if !are_closed(writer, readers) {
         return BAD_HANDLE;
     }
     let Ok(count) = u32::try_from(readers.len()) else {
