@@ -1,7 +1,7 @@
 #!/usr/bin/env bash
 # A writer that never rests and three readers for SECONDS (60), each answer compared with the replay
 # of its generation. Ends with status 1 where one was wrong.
-set -eu
+set -euo pipefail
 seconds=${1:-60}
 . "$(dirname "$0")/../tests/program.sh"
 build bench_table

@@ -2,14 +2,14 @@
 # Instructions that an update takes from its beginning to its last store, in tables of 7, 200, 1000
 # and 65536 items, as callgrind counts them: the mean over erasures and insertions in random places,
 # PAIRS of each (2000).
-set -eu
+set -euo pipefail
 pairs=${1:-2000}
 . "$(dirname "$0")/../tests/program.sh"
 build bench_update
 
 # instructions PAIRS ITEMS: of the whole program; its output is kept
 instructions() {
-    valgrind --tool=callgrind --callgrind-out-file="$work/profile" "$program" "$2" "$1" >"$work/out.$1" 2>"$work/log"
+    valgrind --tool=callgrind --callgrind-out-file="$work/profile" "$program" "$2" "$1" >"$work/out.$1" 2>"$work/log" || return
     sed -n 's/^summary: //p; s/^totals: //p' "$work/profile" | tail -1
 }
 

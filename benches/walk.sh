@@ -3,7 +3,7 @@
 # 200, 1000 and 65536 items inserted in shuffled order; beside them the same lookups in C over the
 # same words (walk.c), the nodes that these visit in a red-black tree of pointers, and the ratio of
 # both programs' user times, which take turns. Needs a C compiler and valgrind.
-set -eu
+set -euo pipefail
 . "$(dirname "$0")/../tests/program.sh"
 build bench_walk
 cc -O2 -o "$work/walk" "$top/benches/walk.c"
@@ -11,15 +11,15 @@ TIMEFORMAT=%U
 
 # instructions COMMAND..: of the whole program; its output is kept
 instructions() {
-    valgrind --tool=callgrind --callgrind-out-file="$work/profile" "$@" >"$work/out" 2>"$work/log"
+    valgrind --tool=callgrind --callgrind-out-file="$work/profile" "$@" >"$work/out" 2>"$work/log" || return
     sed -n 's/^summary: //p; s/^totals: //p' "$work/profile" | tail -1
 }
 
 # instructions_a_round COMMAND..
 instructions_a_round() {
     local one more
-    one=$(instructions "$@" 1)
-    more=$(instructions "$@" 6)
+    one=$(instructions "$@" 1) || return
+    more=$(instructions "$@" 6) || return
     echo $(((more - one) / 5))
 }
 

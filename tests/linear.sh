@@ -2,7 +2,7 @@
 # Compiles the programs of tests/linear over a copy of the crates. One whose second line says `//
 # refused: WORD` must not compile, with an error that has this word; the other one must. Nothing is
 # proved here.
-set -eu
+set -euo pipefail
 top=$(cd "$(dirname "$0")/.." && pwd)
 work=$(mktemp -d)
 trap 'rm -rf "$work"' EXIT

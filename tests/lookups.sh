@@ -2,7 +2,7 @@
 # Looks addresses up in the listings of examples/listings/, and compares what is written with the
 # lines beside them; cuts listings at each byte and adds the counts up; reads the listings of this
 # machine; and tries what may be wrong with the command line and the files.
-set -eu
+set -euo pipefail
 . "$(dirname "$0")/program.sh"
 build latchsym
 cd "$top/examples/listings"
@@ -60,7 +60,7 @@ writes() {
 # addresses of a file are those of the command line, or come after them; `-` is the standard input
 basic=(--modules basic.modules --kallsyms basic.kallsyms)
 head -n 2 basic.addresses >"$work/first"
-{ echo '# the others' && echo && tail -n +3 basic.addresses; } >"$work/rest"
+{ printf '# the others\n\n'; tail -n +3 basic.addresses; } >"$work/rest"
 writes basic "${basic[@]}" --addresses basic.addresses
 writes basic "${basic[@]}" --addresses - <basic.addresses
 # shellcheck disable=SC2046
@@ -90,8 +90,8 @@ for names in "_stext _end" "_etext _stext" "_stext _etex" "_stext _etext_"; do
 done
 
 # a line of 4096 bytes is read, and one byte more makes it long
-{ printf 'm 1 0 - Live 0x1000 ' && printf '%04076d\n' 0; } >"$work/whole"
-{ printf 'm 1 0 - Live 0x1000 ' && printf '%04077d\n' 0; } >"$work/long"
+printf 'm 1 0 - Live 0x1000 %04076d\n' 0 >"$work/whole"
+printf 'm 1 0 - Live 0x1000 %04077d\n' 0 >"$work/long"
 "$program" lookup --modules "$work/whole" --kallsyms empty.kallsyms 0x1000 | head -n 2 | cmp -s - <(printf '0x1000 ? [m]\nmodules 1 hidden 0 empty 0 wraps 0 overlap 0 double 0 long 0 malformed 0\n') || fail "a line of 4096 bytes"
 "$program" lookup --modules "$work/long" --kallsyms empty.kallsyms 0x1000 | head -n 2 | cmp -s - <(printf '0x1000 -\nmodules 0 hidden 0 empty 0 wraps 0 overlap 0 double 0 long 1 malformed 0\n') || fail "a line of 4097 bytes"
 
@@ -99,6 +99,28 @@ done
 awk 'BEGIN { for (i = 1; i <= 70000; i++) printf "m%d 4096 0 - Live 0x%x\n", i, i * 4096 }' >"$work/many"
 head -n 65536 "$work/many" >"$work/most"
 "$program" lookup --modules "$work/most" --kallsyms empty.kallsyms 0x10000fff | head -n 2 | cmp -s - <(printf '0x10000fff ? [m65536]\nmodules 65536 hidden 0 empty 0 wraps 0 overlap 0 double 0 long 0 malformed 0\n') || fail "65536 modules"
+
+# 400000 symbols of the kernel and 600000 of a module, a listed symbol in no order of addresses: of
+# each the first, some within, and the last
+echo 'm 9600000 0 - Live 0xffffffffc0000000' >"$work/million.modules"
+awk 'BEGIN {
+    print "ffffffff80000000 T _stext\nffffffff80000001 t k0"
+    for (j = 1; j < 399999; j++) { i = j * 7919 % 399999; printf "ffffffff%08x t k%d\n", 2147483648 + 16 * i, i }
+    for (j = 0; j < 600000; j++) { i = j * 7919 % 600000; printf "ffffffff%08x t m%d\t[m]\n", 3221225472 + 16 * i, i }
+    printf "ffffffff%08x T _end\n", 2147483648 + 16 * 400000
+}' >"$work/million.kallsyms"
+for i in 1 32767 65536 131072 262143 262144 300001 399998; do
+    printf '0x%x k%d+0x5/0x%x\n' $((0xffffffff80000005 + 16 * i)) $i $((i == 399998 ? 32 : 16))
+done >"$work/million.expected"
+for i in 0 1 65535 131071 262144 524287 524288 599998 599999; do
+    printf '0x%x m%d+0x5/0x10 [m]\n' $((0xffffffffc0000005 + 16 * i)) $i
+done >>"$work/million.expected"
+echo "0x$(printf %x $((0xffffffffc0000000 + 9600000))) -" >>"$work/million.expected"
+cut -d' ' -f1 "$work/million.expected" >"$work/million.addresses"
+printf 'modules 1 hidden 0 empty 0 wraps 0 overlap 0 double 0 long 0 malformed 0\nsymbols 1000000 hidden 0 stray 1 long 0 malformed 0\n' >>"$work/million.expected"
+"$program" lookup --modules "$work/million.modules" --kallsyms "$work/million.kallsyms" --addresses "$work/million.addresses" >"$work/out" ||
+    fail "1000000 symbols: status $?"
+cmp "$work/out" "$work/million.expected" || fail "1000000 symbols"
 
 # refused STATUS LINE ARGUMENT..: nothing on standard output, this line on standard error (any,
 # where it is empty), and this status
@@ -119,7 +141,7 @@ refused 1 "no_such: cannot be read" --modules no_such --kallsyms . 1
 printf 'latchregions 1\nm core 0 1\n' >"$work/bad.regions"
 printf 'latchregions 2\n' >"$work/other.regions"
 : >"$work/none.regions"
-{ echo 'latchregions 1' && for i in 1 2 3 4 5 6 7 8; do echo "m core $i 1"; done; } >"$work/eight.regions"
+{ printf 'latchregions 1\n'; printf 'm core %d 1\n' 1 2 3 4 5 6 7 8; } >"$work/eight.regions"
 refused 1 "$work/bad.regions: line 2 is not understood" --modules regions.modules --kallsyms regions.kallsyms --regions "$work/bad.regions" 1
 refused 1 "$work/other.regions: line 1 is not understood" --modules regions.modules --kallsyms regions.kallsyms --regions "$work/other.regions" 1
 refused 1 "$work/none.regions: line 1 is not understood" --modules regions.modules --kallsyms regions.kallsyms --regions "$work/none.regions" 1

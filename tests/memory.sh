@@ -28,7 +28,7 @@ limited() {
         echo "memory: $name of $lines lines in $limit KiB: status $status, $(head -c 200 "$work/err")"
         exit 1
     done
-    [ $refused != 0 ] || { echo "memory: $name: no limit was too low" && exit 1; }
+    [ $refused != 0 ] || { echo "memory: $name: no limit was too low"; exit 1; }
     echo "memory: $name of $lines lines: $(($(stat -c %s "$work/input") / 1048576)) MiB are served in $((limit / 1024)) MiB," \
         "and refused in $((limit / 2048)) MiB"
 }

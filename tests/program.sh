@@ -15,6 +15,6 @@ is_older() {
 build() {
     program=$top/crates/$1/out/$1
     if [ ! -x "$program" ] || is_older "$program" "$top"/crates/*/src; then
-        (cd "$top/crates/$1" && rt run -- --help) >"$work/build" 2>&1 || { cat "$work/build" >&2 && exit 1; }
+        (cd "$top/crates/$1" && rt run -- --help) >"$work/build" 2>&1 || { cat "$work/build" >&2; exit 1; }
     fi
 }

@@ -76,7 +76,8 @@ outcomes='(refused 1 (7|12) ext4/){0,2}refused 1 (7|11) nfs/1 0xffffffffc0000018
 
 cd "$top/examples/traces"
 for trace in torn_item both_ends batch_replaces_an_item wide_last_sequence; do
-    "$program" trace $trace.trace | cmp - $trace.expected
+    "$program" trace $trace.trace >"$work/lines"
+    cmp "$work/lines" $trace.expected
     try trace $trace.trace
 done
 cd "$top/examples/listings"

@@ -31,7 +31,7 @@ for items in 1 7 64 300; do
         $2 == "steps" && $3 == "begin" { before = $1 }
         $2 == "steps" && $3 == "end" { if ($1 != before) { print "a request within the steps"; exit } updates++ }
         END { print updates }')
-    [ "$steps" -gt 0 ] || { echo "refused_calls $items: $steps" && exit 1; }
+    [ "$steps" -gt 0 ] || { echo "refused_calls $items: $steps"; exit 1; }
     request=0 whole=0
     while :; do
         request=$((request + 1))
@@ -46,7 +46,7 @@ for items in 1 7 64 300; do
         fi
         [ -e "$work/mark" ] || break
     done
-    [ "$whole" -gt 1 ] || { echo "refused_calls $items: no call was made once more" && exit 1; }
+    [ "$whole" -gt 1 ] || { echo "refused_calls $items: no call was made once more"; exit 1; }
     echo "refused_calls: tables of $items items: $((request - 1)) requests, $((whole - 1)) of them refused to a call that came to the same" \
         "when it was made once more; no request within the steps of $steps updates"
 done

@@ -6,7 +6,7 @@
 # leaves them out to keep its time. Run it where a contract or a definition has changed. It works on
 # a copy, over what is proved here already, and takes 10 to 45 seconds an edit, and up to three
 # minutes where a crate has one alone.
-set -eu
+set -euo pipefail
 top=$(cd "$(dirname "$0")/.." && pwd)
 work=$(mktemp -d)
 trap 'rm -rf "$work"' EXIT
