@@ -17,6 +17,8 @@ pub mod CatalogTables
 pub mod LoadedWorlds
 -- the lines that a lookup of addresses writes
 pub mod LookupTexts
+-- what an engine returns that reads files one after the other
+pub mod Readings
 -- what a lookup of addresses reads, and what that says
 pub mod LookupInputs
 -- what is written for the listings and the addresses that are asked for
@@ -25,5 +27,7 @@ pub mod Lookups
 pub mod Assignments
 -- the lines that a run of a script writes
 pub mod RunTexts
+-- what a run of a script reads, and what that says
+pub mod RunInputs
 -- what is written for a script and the listings that it is run over
 pub mod Runs
