@@ -9,6 +9,8 @@ pub mod Texts
 pub mod Blocks
 -- why a run of the program failed, and the line that says so
 pub mod Faults
+-- what is said of a command line that gives no job
+pub mod Misuses
 -- what is written for a trace that is read
 pub mod Traces
 -- the table of a catalog's regions, and the answer that it has for an address
