@@ -71,11 +71,14 @@ writes regions --modules regions.modules --kallsyms regions.kallsyms --regions r
 printf '#\n' >"$work/none"
 "$program" lookup "${basic[@]}" --addresses "$work/none" | cmp -s - <(tail -n 2 basic.expected) || fail "a file without an address"
 "$program" lookup "${basic[@]}" --addresses /dev/null | cmp -s - <(tail -n 2 basic.expected) || fail "an empty file of addresses"
-awk 'BEGIN { for (i = 0; i < 100000; i++) printf "0xffffffffc%07x\n", i }' >"$work/hundred_thousand"
+# 250,000 addresses, by words that together pass for one command line, all in one module
+printf 'm 1000000 0 - Live 0x1000\n' >"$work/wide"
+wide=(--modules "$work/wide" --kallsyms empty.kallsyms)
+awk 'BEGIN { for (i = 0; i < 250000; i++) print 4096 + i }' >"$work/numbers"
 # shellcheck disable=SC2046
-(ulimit -s unlimited && "$program" lookup "${basic[@]}" $(cat "$work/hundred_thousand")) >"$work/given"
-"$program" lookup "${basic[@]}" --addresses "$work/hundred_thousand" | cmp -s - "$work/given" || fail "100000 addresses of a file"
-[ "$(wc -l <"$work/given")" = 100002 ] || fail "100000 addresses of the command line"
+(ulimit -s unlimited && "$program" lookup "${wide[@]}" $(cat "$work/numbers")) >"$work/given" || fail "250000 addresses of the command line: status $?"
+"$program" lookup "${wide[@]}" --addresses "$work/numbers" | cmp -s - "$work/given" || fail "250000 addresses of a file"
+[ "$(grep -c ' ? \[m\]$' "$work/given")" = 250000 ] && [ "$(wc -l <"$work/given")" = 250002 ] || fail "250000 addresses of the command line"
 
 # the names that bound the kernel itself, in a listing of symbols without the usual ones
 sed 's/_end$/_etext/' basic.kallsyms >"$work/etext.kallsyms"

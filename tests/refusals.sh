@@ -2,6 +2,8 @@
 # Refuses each request for memory of a run of the program in turn, until a run meets no refusal.
 # Each run has to give what it gives with ample memory, or nothing on standard output, `latchsym:
 # refused 7` on standard error and status 1.
+# A run of a script may also go on where memory was refused for a change, and say so of that change
+# (`refused 1 7 ext4`).
 #
 # The program is linked to the C library dynamically, so a library in front of it can refuse a
 # request. Needs a C compiler.

@@ -66,6 +66,12 @@ printf 'unload 8 b\nlook 2 7\nunload 1 a\n\nload 8 c\n# last\nlook 1 0x8\nlook 2
 run "${basic[@]}" --readers 3 "$work/order"
 printf 'refused 1 11 a\nrefused 8 11 b\nrefused 8 11 c\n1 0x8 -> - gen 0\n2 0x7 -> - gen 0\n2 0x9 -> - gen 0\nchecked 3 wrong 0 seq 0 gen 0\n' >"$work/ordered"
 cmp -s "$work/out" "$work/ordered" || fail "order: other lines"
+
+# the kernel itself is loaded and unloaded as a module
+printf 'load 1 -\nload 1 -\nunload 1 -\n' >"$work/kernel.script"
+run "${basic[@]}" --readers 1 "$work/kernel.script"
+printf 'refused 1 12 -\nchecked 0 wrong 0 seq 4 gen 2\n' | cmp -s - "$work/out" || fail "load 1 -: other lines"
+
 for readers in 1 64 0x40; do
     ends "checked 0 wrong 0 seq 0 gen 0" "${basic[@]}" --readers $readers /dev/null
 done
@@ -91,6 +97,8 @@ refused 1 "$work/bad.script: line 4 is not understood" "${basic[@]}" --readers 1
 run "${basic[@]}" --readers 2 "$work/bad.script"
 printf 'load 9 ext4\n' >"$work/ninth.script"
 refused 1 "$work/ninth.script: line 1 is not understood" "${basic[@]}" --readers 1 "$work/ninth.script"
+refused 1 "no_such: cannot be read" --modules no_such --kallsyms ../listings/basic.kallsyms --readers 1 no_other
+refused 1 "no_such: cannot be read" --modules ../listings/basic.modules --kallsyms no_such --readers 1 no_other
 refused 1 "no_such: cannot be read" "${basic[@]}" --readers 1 no_such
 refused 1 "no_such: cannot be read" "${basic[@]}" --regions no_such --readers 1 no_other
 printf 'latchregions 2\n' >"$work/other.regions"

@@ -16,8 +16,9 @@ use Rattle.latchsym.specs.declared.fault.Fault.{Fault}
 use Rattle.latchsym.specs.declared.fault.Fault.TheVariants.{Refused, BadLine, Read, Write}
 use Rattle.latchsym.specs.declared.lookup.ListingTexts.{ListingTexts}
 use Rattle.latchsym.specs.declared.lookup.Listings.{Listings}
-use Rattle.latchsym.specs.LookupInputs.{Inputs, Texts, all_addresses, catalog_in, counts_in, failures_in, inputs_after, inputs_of, inputs_with, region_lines_of_inputs, region_lines, texts_in, texts_of}
-use Rattle.latchsym.specs.Lookups.{AnswersInputs, AnswersWith, AreListingsOf, Failures, FitsTable, GivesAddresses, GivesLines, HasTooManyOfOne, HasTooManyRegions, HoldsOf, IsWritten, NoReaderFailed, OnlyFailed, last_failures}
+use Rattle.latchsym.specs.LookupInputs.{Inputs, Texts, all_addresses, catalog_in, counts_in, inputs_after, inputs_of, inputs_with, region_lines_of_inputs, region_lines, texts_in, texts_of}
+use Rattle.latchsym.specs.Lookups.{AnswersLookup, AnswersWith, AreListingsOf, FitsTable, GivesAddresses, GivesLines, HasTooManyOfOne, HasTooManyRegions, IsWritten}
+use Rattle.latchsym.specs.Readings.{AnswersInputs, Failures, HoldsOf, NoReaderFailed, OnlyFailed, failures_in, last_failures}
 
 -- each accepted module is counted
 modules_counted : (i : Inputs) → (counts_in i).modules ≡ length (catalog_in i).modules
@@ -33,14 +34,14 @@ all_counted i l said =
 no_rise : Rose 0 0 → ⊥
 no_rise rose = ⊎_elim (λ less. omega (arith, less)) (λ most. omega (arith, most)) rose
 
--- what holds of the inputs of the texts that were read holds of those that are known
-module _ (P : Result Inputs (ℕ × ℕ) → Type 0) (names : BoundNames) (given : List ℕ) (file : Option (Option (List ℕ))) (t : ListingTexts) where
+-- what holds of what the texts say that were read holds of what is known
+module _ {I : Type 0} (P : Result I (ℕ × ℕ) → Type 0) (said : Texts → Option (Result I (ℕ × ℕ))) (t : ListingTexts) where
   abbrev Known : Texts → Type 0
-  Known x = IfSome (inputs_of names given file x) P
+  Known x = IfSome (said x) P
 
   pub where_known : (a b : Option (List ℕ)) (d : Option (Option (List ℕ)))
       → IfSome a (λ x. t.modules.items ≡ x) → IfSome b (λ x. t.kallsyms.items ≡ x) → IfSome d (λ x. option_map (λ r. r.items) t.regions ≡ x)
-      → IfSome (inputs_of names given file (texts_in t)) P → IfSome (option_and_then (inputs_of names given file) (texts_of a b d)) P
+      → IfSome (said (texts_in t)) P → IfSome (option_and_then said (texts_of a b d)) P
   where_known None b d f g h p = tt
   where_known (Some x) None d f g h p = tt
   where_known (Some x) (Some y) None f g h p = tt
@@ -49,33 +50,41 @@ module _ (P : Result Inputs (ℕ × ℕ) → Type 0) (names : BoundNames) (given
       (subst (λ s. Known (record { modules = t.modules.items; kallsyms = s; regions = z })) g
       (subst (λ s. Known (record { modules = t.modules.items; kallsyms = t.kallsyms.items; regions = s })) h p))
 
--- what was returned after three readers that did not fail
-module _ {W A : Type 0} (contents : W → Option (List ℕ)) (inner known : Option (Result Inputs (ℕ × ℕ))) (all : (P : Result Inputs (ℕ × ℕ) → Type 0) → IfSome inner P → IfSome known P) (m k r : ℕ × ℕ) (m_same : m.1 ≡ m.0) (k_same : k.1 ≡ k.0) (r_same : r.1 ≡ r.0) (old new : Option (Counted A)) (w w' : Counted W) where
-  abbrev counts : Failures
-  counts = m ∷ k ∷ r ∷ (failures_in old, failures_in new) ∷ []
+-- the same answer, where more is known of the inputs and of which reader failed
+module _ {I V W : Type 0} (Says : I → Result V Fault → Type 0) (inner known : Option (Result I (ℕ × ℕ))) (all : (P : Result I (ℕ × ℕ) → Type 0) → IfSome inner P → IfSome known P) (had counts : Failures) (none : NoReaderFailed had → NoReaderFailed counts) (only : (place : ℕ) → OnlyFailed place had → OnlyFailed place counts) (w w' : Counted W) where
+  pub still_answered : (result : Result V Fault) → AnswersInputs Says inner had w w' result → AnswersInputs Says known counts w w' result
+  still_answered (Ok v) h = (none h.0, h.1, all (HoldsOf (λ i. Says i (Ok v))) h.2)
+  still_answered (Err (Refused refusal.OutOfMemory)) h = (none h.0, h.1)
+  still_answered (Err (Refused refusal.BadCapacity)) h = (none h.0, h.1, all (HoldsOf (λ i. Says i (Err (Refused refusal.BadCapacity)))) h.2)
+  still_answered (Err (Refused refusal.TooManyRegions)) h = (none h.0, h.1, all (HoldsOf (λ i. Says i (Err (Refused refusal.TooManyRegions)))) h.2)
+  still_answered (Err (BadLine place n)) h = (none h.0, h.1, h.2, all (λ i. i ≡ Err (place, n)) h.3)
+  still_answered (Err (Read place)) h = (h.0, only place h.1)
+  still_answered (Err Write) h = (none h.0, h.1, all (HoldsOf (λ i. Says i (Err Write))) h.2)
+  still_answered (Err _) h = absurd h
 
-  none : NoReaderFailed (last_failures old new) → NoReaderFailed counts
+-- what was returned after three readers that did not fail
+module _ {I V W : Type 0} (Says : I → Result V Fault → Type 0) (inner known : Option (Result I (ℕ × ℕ))) (all : (P : Result I (ℕ × ℕ) → Type 0) → IfSome inner P → IfSome known P) (m k r : ℕ × ℕ) (m_same : m.1 ≡ m.0) (k_same : k.1 ≡ k.0) (r_same : r.1 ≡ r.0) (before after : ℕ) (w w' : Counted W) where
+  abbrev counts : Failures
+  counts = m ∷ k ∷ r ∷ (before, after) ∷ []
+
+  none : NoReaderFailed (last_failures before after) → NoReaderFailed counts
   none h = (m_same, (k_same, (r_same, h.1.1.1)))
 
-  only : (place : ℕ) → OnlyFailed place (last_failures old new) → OnlyFailed place counts
+  only : (place : ℕ) → OnlyFailed place (last_failures before after) → OnlyFailed place counts
   only zero h = absurd (no_rise h.0)
   only (suc zero) h = absurd (no_rise h.1.0)
   only (suc (suc zero)) h = absurd (no_rise h.1.1.0)
   only (suc (suc (suc place))) h = (m_same, (k_same, (r_same, h.1.1.1)))
 
-  pub answered_behind : (result : Result (Unit {0}) Fault) → AnswersInputs contents inner (last_failures old new) w w' result → AnswersInputs contents known counts w w' result
-  answered_behind (Ok u) h = (none h.0, h.1, all (HoldsOf (IsWritten contents w w')) h.2)
-  answered_behind (Err (Refused refusal.OutOfMemory)) h = (none h.0, h.1)
-  answered_behind (Err (Refused refusal.BadCapacity)) h = (none h.0, h.1, all (HoldsOf HasTooManyRegions) h.2)
-  answered_behind (Err (Refused refusal.TooManyRegions)) h = (none h.0, h.1, all (HoldsOf HasTooManyOfOne) h.2)
-  answered_behind (Err (BadLine place n)) h = (none h.0, h.1, h.2, all (λ i. i ≡ Err (place, n)) h.3)
-  answered_behind (Err (Read place)) h = (h.0, only place h.1)
-  answered_behind (Err Write) h = (none h.0, h.1, all (HoldsOf FitsTable) h.2)
-  answered_behind (Err _) h = absurd h
+  pub answered_behind : (result : Result V Fault) → AnswersInputs Says inner (last_failures before after) w w' result → AnswersInputs Says known counts w w' result
+  answered_behind result h = still_answered Says inner known all (last_failures before after) counts none only w w' result h
 
 -- the texts of the listings are there, and a reader of the file of addresses
 module _ {W A : Type 0} (contents : W → Option (List ℕ)) (names : BoundNames) (given : List ℕ) (t : ListingTexts) (file : Option (Option (List ℕ))) (old new : Option (Counted A)) (w : Counted W) where
-  none_failed : failures_in new ≡ failures_in old → NoReaderFailed (last_failures old new)
+  abbrev counts_of_last : Failures
+  counts_of_last = last_failures (failures_in old) (failures_in new)
+
+  none_failed : failures_in new ≡ failures_in old → NoReaderFailed counts_of_last
   none_failed same = (refl, (refl, (refl, (same, tt))))
 
   abbrev known : Option (Result Inputs (ℕ × ℕ))
@@ -90,7 +99,7 @@ module _ {W A : Type 0} (contents : W → Option (List ℕ)) (names : BoundNames
   bad_region : (place n : ℕ) → place ≡ 2 → region_lines text ≡ Err n → IfSome known (λ i. i ≡ Err (place, n))
   bad_region place n is bad = subst (Behind (λ i. i ≡ Err (place, n))) (sym bad) (ap (λ p. Err (p, n)) (sym is))
 
-  pub no_lines : (f : Fault) → failures_in new ≡ failures_in old → GivesLines text (Err f) → AnswersInputs contents known (last_failures old new) w w (Err f)
+  pub no_lines : (f : Fault) → failures_in new ≡ failures_in old → GivesLines text (Err f) → AnswersLookup contents known counts_of_last w w (Err f)
   no_lines (Refused refusal.OutOfMemory) same g = (none_failed same, refl)
   no_lines (BadLine place n) same g = (none_failed same, refl, inl g.0, bad_region place n g.0 g.1)
   no_lines _ same g = absurd g
@@ -109,10 +118,10 @@ module _ {W A : Type 0} (contents : W → Option (List ℕ)) (names : BoundNames
     bad_address place n None is bad = tt
     bad_address place n (Some x) is bad = ap (inputs_with names (texts_in t) lines) bad ∙ ap (λ p. Err (p, n)) (sym is)
 
-    pub no_addresses : (f : Fault) → GivesAddresses given file (failures_in old) (failures_in new) (Err f) → AnswersInputs contents known (last_failures old new) w w (Err f)
+    pub no_addresses : (f : Fault) → GivesAddresses given file (failures_in old) (failures_in new) (Err f) → AnswersLookup contents known counts_of_last w w (Err f)
     no_addresses (Refused refusal.OutOfMemory) g = (none_failed g, refl)
     no_addresses (BadLine place n) g = (none_failed g.0, refl, inr g.1, where_read (λ i. i ≡ Err (place, n)) (bad_address place n file g.1 g.2))
-    no_addresses (Read place) g = (refl, subst (λ p. OnlyFailed p (last_failures old new)) (sym g.0) (refl, (refl, (refl, (g.1, tt)))))
+    no_addresses (Read place) g = (refl, subst (λ p. OnlyFailed p counts_of_last) (sym g.0) (refl, (refl, (refl, (g.1, tt)))))
     no_addresses _ g = absurd g
 
     -- the inputs are there
@@ -134,7 +143,7 @@ module _ {W A : Type 0} (contents : W → Option (List ℕ)) (names : BoundNames
       all_known : (P : Inputs → Type 0) → P inputs → IfSome known (HoldsOf P)
       all_known P p = where_read (HoldsOf P) (with_inputs P file listed p)
 
-      pub answered : (same : failures_in new ≡ failures_in old) (result : Result (Unit {0}) Fault) → AnswersWith contents inputs w w' result → AnswersInputs contents known (last_failures old new) w w' result
+      pub answered : (same : failures_in new ≡ failures_in old) (result : Result (Unit {0}) Fault) → AnswersWith contents inputs w w' result → AnswersLookup contents known counts_of_last w w' result
       answered same (Ok u) h = (none_failed same, h.0, all_known (IsWritten contents w w') h.1)
       answered same (Err (Refused refusal.OutOfMemory)) h = (none_failed same, h)
       answered same (Err (Refused refusal.BadCapacity)) h = (none_failed same, h.0, all_known HasTooManyRegions h.1)

@@ -68,10 +68,15 @@ pub record IsReported {D : Type 0} (contents : D → Option (List ℕ)) (old new
       ⊎ Rose (failures_of old) (failures_of new)
   pub never_falls : failures_of old ≤ failures_of new
 
+-- success of an engine that has no status of its own is status 0
+abbrev pub with_status : Result (Unit {0}) Fault → Result ℕ Fault
+with_status (Ok _) = Ok 0
+with_status (Err fault) = Err fault
+
 -- The program's status after a job with this outcome, and what it has said of it: nothing of a
--- success.
+-- status that the job itself came to.
 abbrev pub IsConcluded : {D : Type 0} → (D → Option (List ℕ)) → Job → Counted D → Counted D
-    → Result (Unit {0}) Fault → ℕ → Type 0
-IsConcluded contents job old new (Ok _) status = (status ≡ 0) × (new ≡ old)
+    → Result ℕ Fault → ℕ → Type 0
+IsConcluded contents job old new (Ok own) status = (status ≡ own) × (new ≡ old)
 IsConcluded contents job old new (Err fault) status =
     (status ≡ 1) × IsReported contents old new (fault_text (file_of job fault) fault)

@@ -9,6 +9,8 @@ pub mod Texts
 pub mod Blocks
 -- why a run of the program failed, and the line that says so
 pub mod Faults
+-- what is said of a command line that gives no job
+pub mod Misuses
 -- what is written for a trace that is read
 pub mod Traces
 -- the table of a catalog's regions, and the answer that it has for an address
@@ -17,6 +19,8 @@ pub mod CatalogTables
 pub mod LoadedWorlds
 -- the lines that a lookup of addresses writes
 pub mod LookupTexts
+-- what an engine returns that reads files one after the other
+pub mod Readings
 -- what a lookup of addresses reads, and what that says
 pub mod LookupInputs
 -- what is written for the listings and the addresses that are asked for
@@ -25,5 +29,7 @@ pub mod Lookups
 pub mod Assignments
 -- the lines that a run of a script writes
 pub mod RunTexts
+-- what a run of a script reads, and what that says
+pub mod RunInputs
 -- what is written for a script and the listings that it is run over
 pub mod Runs

@@ -1,9 +1,9 @@
 -- What a lookup of addresses reads, and what that says.
 use Rattle.std.specs.Prelude.{ℕ, List, [], Option, Some, None, Result, Ok, Err}
 use Rattle.std.specs.Prelude.{option_and_then, unwrap_or}
-use Rattle.std.specs.Option.{option_map, option_map_or}
+use Rattle.std.specs.Option.{option_map}
 use Rattle.devices.specs.declared.counted.Counted.{Counted}
-use Rattle.devices.specs.Counted.{device_of, failures_of}
+use Rattle.devices.specs.Counted.{device_of}
 use Rattle.listing.specs.Addresses.{addresses_of}
 use Rattle.listing.specs.Lines.{lines_of}
 use Rattle.listing.specs.ModuleListing.{modules_in}
@@ -109,10 +109,7 @@ counts_in i =
     counts_of i.names (modules_in (lines_of i.modules)) (region_lines_of_inputs i)
     (symbols_in (lines_of i.kallsyms))
 
--- a reader that may be there: how many of its calls failed, and what it gives, where that is known
-abbrev pub failures_in : {A : Type 0} → Option (Counted A) → ℕ
-failures_in reader = option_map_or failures_of reader 0
-
+-- what a reader gives that may be there, where that is known
 abbrev pub known_text : {A : Type 0} → (A → Option (List ℕ)) → Option (Counted A)
     → Option (Option (List ℕ))
 known_text remaining None = Some None

@@ -1,7 +1,6 @@
 -- What is written for the listings and the addresses that are asked for.
-use Rattle.std.specs.Prelude.{◌≡◌, ℕ, zero, suc, ◌⊎◌, List, [], ◌∷◌, ◌++◌, map, flat_map, Bool}
-use Rattle.std.specs.Prelude.{true, false, if◌then◌else◌, is_some, Option, Result, Ok}
-use Rattle.std.specs.Prelude.{Err, IfSome}
+use Rattle.std.specs.Prelude.{◌≡◌, ℕ, List, [], ◌∷◌, ◌++◌, map, flat_map, Bool, true, false}
+use Rattle.std.specs.Prelude.{if◌then◌else◌, is_some, Option, Result, Ok, Err, IfSome}
 use Rattle.std.specs.Global.{Vec}
 use Rattle.std.specs.Option.{option_map}
 use Rattle.std.specs.Io.KnownBytes.{Appends}
@@ -15,9 +14,10 @@ use Rattle.modules.specs.declared.catalog.BuildCounts.{BuildCounts}
 use Rattle.modules.specs.Listed.{ListedRegion}
 use Rattle.modules.specs.Placed.{are_few}
 use Rattle.latchsym.specs.CatalogTables.{HasFewRegions, HasManyRegions, answer_at}
-use Rattle.latchsym.specs.LookupInputs.{Inputs, all_addresses, catalog_in, counts_in, failures_in}
+use Rattle.latchsym.specs.LookupInputs.{Inputs, all_addresses, catalog_in, counts_in}
 use Rattle.latchsym.specs.LookupInputs.{region_lines_of_inputs, region_lines}
 use Rattle.latchsym.specs.LookupTexts.{answer_line, modules_line, regions_line, symbols_line}
+use Rattle.latchsym.specs.Readings.{AnswersInputs, Failures, failures_in}
 use Rattle.latchsym.specs.declared.fault.Fault.{Fault}
 use Rattle.latchsym.specs.declared.fault.Fault.TheVariants.{Refused, BadLine, Read, Write}
 use Rattle.latchsym.specs.declared.lookup.Listings.{Listings}
@@ -101,9 +101,20 @@ GivesAddresses given known before after (Err (BadLine place n)) =
 GivesAddresses given known before after (Err (Read place)) = (place ≡ 3) × Rose before after
 GivesAddresses given known before after (Err _) = ⊥
 
--- The counts of failed calls of each reader before and after, in the order in which they are read.
-abbrev pub Failures : Type 0
-Failures = List (ℕ × ℕ)
+-- what is said of the inputs where this is returned
+abbrev pub IsLookupOf : {W : Type 0} → (W → Option (List ℕ)) → Counted W → Counted W
+    → Inputs → Result (Unit {0}) Fault → Type 0
+IsLookupOf contents w w' i (Ok _) = IsWritten contents w w' i
+IsLookupOf contents w w' i (Err (Refused refusal.BadCapacity)) = HasTooManyRegions i
+IsLookupOf contents w w' i (Err (Refused refusal.TooManyRegions)) = HasTooManyOfOne i
+IsLookupOf contents w w' i (Err Write) = FitsTable i
+IsLookupOf contents w w' i (Err _) = Unit {0}
+
+-- what the engine returns that also read the inputs, where these are known
+abbrev pub AnswersLookup : {W : Type 0} → (W → Option (List ℕ)) → Option (Result Inputs (ℕ × ℕ))
+    → Failures → Counted W → Counted W → Result (Unit {0}) Fault → Type 0
+AnswersLookup contents known counts w w' result =
+    AnswersInputs (IsLookupOf contents w w') known counts w w' result
 
 abbrev pub failures_between : {M K R A : Type 0} → LookupReaders M K R A → LookupReaders M K R A
     → Failures
@@ -112,53 +123,3 @@ failures_between old new =
     ∷ (failures_of old.kallsyms, failures_of new.kallsyms)
     ∷ (failures_in old.regions, failures_in new.regions)
     ∷ (failures_in old.addresses, failures_in new.addresses) ∷ []
-
--- the same where the last of them alone is read
-abbrev pub last_failures : {A : Type 0} → Option (Counted A) → Option (Counted A) → Failures
-last_failures old new = (0, 0) ∷ (0, 0) ∷ (0, 0) ∷ (failures_in old, failures_in new) ∷ []
-
-abbrev pub NoReaderFailed : Failures → Type 0
-NoReaderFailed [] = Unit {0}
-NoReaderFailed (n ∷ rest) = (n.1 ≡ n.0) × NoReaderFailed rest
-
--- the reader at this place failed, and no other
-abbrev pub OnlyFailed : ℕ → Failures → Type 0
-OnlyFailed place [] = ⊥
-OnlyFailed zero (n ∷ rest) = Rose n.0 n.1 × NoReaderFailed rest
-OnlyFailed (suc place) (n ∷ rest) = (n.1 ≡ n.0) × OnlyFailed place rest
-
--- one reader was read whole, or not, as the file at this place
-abbrev pub IsReadAs : {A : Type 0} → ℕ → ℕ → ℕ → Result A Fault → Type 0
-IsReadAs place before after (Ok _) = after ≡ before
-IsReadAs place before after (Err (Refused refusal.OutOfMemory)) = after ≡ before
-IsReadAs place before after (Err (Read p)) = (p ≡ place) × Rose before after
-IsReadAs place before after (Err _) = ⊥
-
--- no file has a bad line, and this holds of the inputs
-abbrev pub HoldsOf : (Inputs → Type 0) → Result Inputs (ℕ × ℕ) → Type 0
-HoldsOf P (Ok i) = P i
-HoldsOf P (Err bad) = ⊥
-
--- the file at this place is one whose lines all have to be understood
-abbrev pub IsLinesPlace : ℕ → Type 0
-IsLinesPlace place = (place ≡ 2) ⊎ (place ≡ 3)
-
--- What an engine returns that also read the inputs, where these are known. A call of a reader
--- failed where the answer says so, and else none.
-abbrev pub AnswersInputs : {W : Type 0} → (W → Option (List ℕ)) → Option (Result Inputs (ℕ × ℕ))
-    → Failures
-    → Counted W → Counted W → Result (Unit {0}) Fault → Type 0
-AnswersInputs contents known counts w w' (Ok _) =
-    NoReaderFailed counts × NoneFailed w w' × IfSome known (HoldsOf (IsWritten contents w w'))
-AnswersInputs contents known counts w w' (Err (Refused refusal.OutOfMemory)) =
-    NoReaderFailed counts × (w' ≡ w)
-AnswersInputs contents known counts w w' (Err (Refused refusal.BadCapacity)) =
-    NoReaderFailed counts × (w' ≡ w) × IfSome known (HoldsOf HasTooManyRegions)
-AnswersInputs contents known counts w w' (Err (Refused refusal.TooManyRegions)) =
-    NoReaderFailed counts × (w' ≡ w) × IfSome known (HoldsOf HasTooManyOfOne)
-AnswersInputs contents known counts w w' (Err (BadLine place n)) =
-    NoReaderFailed counts × (w' ≡ w) × IsLinesPlace place × IfSome known (λ i. i ≡ Err (place, n))
-AnswersInputs contents known counts w w' (Err (Read place)) = (w' ≡ w) × OnlyFailed place counts
-AnswersInputs contents known counts w w' (Err Write) =
-    NoReaderFailed counts × Rose (failures_of w) (failures_of w') × IfSome known (HoldsOf FitsTable)
-AnswersInputs contents known counts w w' (Err _) = ⊥

@@ -1,25 +1,29 @@
 -- What is written for a script and the listings that it is run over.
-use Rattle.std.specs.Prelude.{◌≡◌, ◌⊎◌, ℕ, ◌<◌, ◌≤◌, ◌==◌, false, if◌then◌else◌, List, Option}
-use Rattle.std.specs.Prelude.{Result, Ok, Err}
+use Rattle.std.specs.Prelude.{◌≡◌, ℕ, ◌<◌, ◌≤◌, ◌==◌, true, false, if◌then◌else◌, List, [], ◌∷◌}
+use Rattle.std.specs.Prelude.{Option, Result, Ok, Err}
 use Rattle.std.specs.Io.KnownBytes.{Appends}
+use Rattle.std.specs.Global.{Vec}
 use Rattle.std.specs.List.{list_any}
 use Rattle.devices.specs.declared.counted.Counted.{Counted}
 use Rattle.devices.specs.Counted.{NoneFailed, Rose, device_of, failures_of}
 use Rattle.listing.specs.declared.scripts.ScriptLine.{ScriptLine}
-use Rattle.listing.specs.Scripts.{script_of}
 use Rattle.modules.specs.Entries.{CatalogEntries}
+use Rattle.modules.specs.Placed.{are_few}
 use Rattle.order_laws.specs.declared.refusals.Refusal.TheVariants as refusal
 use Rattle.shared_lookup.specs.Servings.{EachHasOutcome, EachIsAnswered, IsWrongCount}
 use Rattle.shared_lookup.specs.declared.served.Served.{Served}
 use Rattle.latchsym.specs.Assignments.{IsAssigned}
 use Rattle.latchsym.specs.CatalogTables.{HasFewRegions}
-use Rattle.latchsym.specs.LookupInputs.{Inputs, catalog_in}
+use Rattle.latchsym.specs.LookupInputs.{catalog_in, region_lines_of_inputs}
 use Rattle.latchsym.specs.Lookups.{HasTooManyOfOne}
+use Rattle.latchsym.specs.Readings.{AnswersInputs, Failures, failures_in}
+use Rattle.latchsym.specs.RunInputs.{RunInputs}
 use Rattle.latchsym.specs.RunTexts.{run_text}
 use Rattle.latchsym.specs.declared.assignments.Assignments.{Assignments}
 use Rattle.latchsym.specs.declared.command_line.TheConstants.{MOST_READERS}
 use Rattle.latchsym.specs.declared.fault.Fault.{Fault}
-use Rattle.latchsym.specs.declared.fault.Fault.TheVariants.{Refused, BadLine, Write}
+use Rattle.latchsym.specs.declared.fault.Fault.TheVariants.{Refused, Write}
+use Rattle.latchsym.specs.declared.runs.RunReaders.{RunReaders}
 
 -- a table can have the regions of the catalog, and so many readers
 abbrev pub MayRun : CatalogEntries → ℕ → Type 0
@@ -37,6 +41,18 @@ pub record IsServed (c : CatalogEntries) (a : Assignments) (s : Served) : Type 0
 abbrev pub status_of : ℕ → ℕ
 status_of wrong = if wrong == 0 then 0 else 1
 
+-- What is returned for what came back, where the changes are of modules of these names.
+abbrev pub TellsServed : {W : Type 0} → (W → Option (List ℕ)) → CatalogEntries
+    → List (Vec (List ℕ)) → Served
+    → Counted W → Counted W → Result ℕ Fault → Type 0
+TellsServed contents c names s w w' (Ok status) =
+    NoneFailed w w' × (list_any (λ e. e) s.ended.items ≡ false) × (status ≡ status_of s.wrong)
+    × Appends (contents (device_of w)) (contents (device_of w')) (run_text c names s)
+TellsServed contents c names s w w' (Err (Refused refusal.OutOfMemory)) =
+    (w' ≡ w) × (list_any (λ e. e) s.ended.items ≡ true)
+TellsServed contents c names s w w' (Err Write) = Rose (failures_of w) (failures_of w')
+TellsServed contents c names s w w' (Err _) = ⊥
+
 -- The writer has taken the text of what came back for these lines, and the status says whether
 -- something is wrong.
 abbrev pub IsRun : {W : Type 0} → (W → Option (List ℕ)) → CatalogEntries → ℕ → List ScriptLine
@@ -46,51 +62,51 @@ IsRun contents c readers lines w w' status =
     × ((s : Served) × IsServed c a s × (status ≡ status_of s.wrong)
     × Appends (contents (device_of w)) (contents (device_of w')) (run_text c a.names.items s))
 
--- What is returned for these lines. Every fault but a failed write leaves the writer as it was.
+-- What is returned for these lines. Every fault but a failed write leaves the writer as it was, and
+-- a call of it failed then alone.
 abbrev pub AnswersLines : {W : Type 0} → (W → Option (List ℕ)) → CatalogEntries → ℕ
     → List ScriptLine
     → Counted W → Counted W → Result ℕ Fault → Type 0
 AnswersLines contents c readers lines w w' (Ok status) =
-    NoneFailed w w' × IsRun contents c readers lines w w' status
+    NoneFailed w w' × MayRun c readers × IsRun contents c readers lines w w' status
 AnswersLines contents c readers lines w w' (Err (Refused refusal.OutOfMemory)) = w' ≡ w
 AnswersLines contents c readers lines w w' (Err (Refused refusal.BadCapacity)) =
     (w' ≡ w) × (MayRun c readers → ⊥)
-AnswersLines contents c readers lines w w' (Err Write) = Rose (failures_of w) (failures_of w')
+AnswersLines contents c readers lines w w' (Err Write) =
+    Rose (failures_of w) (failures_of w') × MayRun c readers
 AnswersLines contents c readers lines w w' (Err _) = ⊥
 
--- each line of the script is in the grammar
-abbrev pub IsUnderstood : ℕ → List ℕ → Type 0
-IsUnderstood readers text = (lines : List ScriptLine) × (script_of readers text ≡ Ok lines)
+-- no module has too many region lines, and a table can have all regions and so many readers
+abbrev pub FitsRun : ℕ → RunInputs → Type 0
+FitsRun readers i =
+    (are_few (region_lines_of_inputs i.listings) ≡ true) × MayRun (catalog_in i.listings) readers
 
--- What is returned for the text of a script, over these listings.
-abbrev pub AnswersScript : {W : Type 0} → (W → Option (List ℕ)) → Inputs → ℕ → List ℕ
-    → Counted W → Counted W → Result ℕ Fault → Type 0
-AnswersScript contents i readers text w w' (Ok status) =
-    (lines : List ScriptLine) × (script_of readers text ≡ Ok lines)
-    × NoneFailed w w' × IsRun contents (catalog_in i) readers lines w w' status
-AnswersScript contents i readers text w w' (Err (Refused refusal.OutOfMemory)) = w' ≡ w
-AnswersScript contents i readers text w w' (Err (Refused refusal.BadCapacity)) =
-    (w' ≡ w) × IsUnderstood readers text × (MayRun (catalog_in i) readers → ⊥)
-AnswersScript contents i readers text w w' (Err (Refused refusal.TooManyRegions)) =
-    (w' ≡ w) × IsUnderstood readers text × HasTooManyOfOne i
-AnswersScript contents i readers text w w' (Err (BadLine place n)) =
-    (w' ≡ w) × (place ≡ 3) × (script_of readers text ≡ Err n)
-AnswersScript contents i readers text w w' (Err Write) =
-    IsUnderstood readers text × Rose (failures_of w) (failures_of w')
-AnswersScript contents i readers text w w' (Err _) = ⊥
+-- a table can not have all regions, or not so many readers
+abbrev pub FitsNoRun : ℕ → RunInputs → Type 0
+FitsNoRun readers i =
+    (are_few (region_lines_of_inputs i.listings) ≡ true)
+    × (MayRun (catalog_in i.listings) readers → ⊥)
 
--- The same of a script whose listings are not spoken of. A bad line of the listing of regions comes
--- before one of the script.
-abbrev pub RunsScript : {W : Type 0} → (W → Option (List ℕ)) → ℕ → List ℕ → Counted W → Counted W
-    → Result ℕ Fault → Type 0
-RunsScript contents readers text w w' (Ok status) =
-    (c : CatalogEntries) × (lines : List ScriptLine) × (script_of readers text ≡ Ok lines)
-    × NoneFailed w w' × IsRun contents c readers lines w w' status
-RunsScript contents readers text w w' (Err (Refused refusal.BadCapacity)) =
-    IsUnderstood readers text
-RunsScript contents readers text w w' (Err (Refused refusal.TooManyRegions)) =
-    IsUnderstood readers text
-RunsScript contents readers text w w' (Err (BadLine place n)) =
-    (place ≡ 2) ⊎ ((place ≡ 3) × (script_of readers text ≡ Err n))
-RunsScript contents readers text w w' (Err Write) = IsUnderstood readers text
-RunsScript contents readers text w w' (Err _) = Unit {0}
+-- what is said of the inputs where this is returned
+abbrev pub IsRunOf : {W : Type 0} → (W → Option (List ℕ)) → ℕ → Counted W → Counted W
+    → RunInputs → Result ℕ Fault → Type 0
+IsRunOf contents readers w w' i (Ok status) =
+    FitsRun readers i × IsRun contents (catalog_in i.listings) readers i.lines w w' status
+IsRunOf contents readers w w' i (Err (Refused refusal.BadCapacity)) = FitsNoRun readers i
+IsRunOf contents readers w w' i (Err (Refused refusal.TooManyRegions)) = HasTooManyOfOne i.listings
+IsRunOf contents readers w w' i (Err Write) = FitsRun readers i
+IsRunOf contents readers w w' i (Err _) = Unit {0}
+
+-- what the engine returns that also read the inputs, where these are known
+abbrev pub AnswersRun : {W : Type 0} → (W → Option (List ℕ)) → ℕ
+    → Option (Result RunInputs (ℕ × ℕ)) → Failures → Counted W → Counted W → Result ℕ Fault → Type 0
+AnswersRun contents readers known counts w w' result =
+    AnswersInputs (IsRunOf contents readers w w') known counts w w' result
+
+abbrev pub run_failures_between : {M K R S : Type 0} → RunReaders M K R S → RunReaders M K R S
+    → Failures
+run_failures_between old new =
+    (failures_of old.modules, failures_of new.modules)
+    ∷ (failures_of old.kallsyms, failures_of new.kallsyms)
+    ∷ (failures_in old.regions, failures_in new.regions)
+    ∷ (failures_of old.script, failures_of new.script) ∷ []

@@ -3,7 +3,7 @@ ghost use Rattle.std.specs.Prelude.{◌≡◌, []};
 ghost use Rattle.devices.specs.Exact.{Wrote};
 ghost use Rattle.latchsym.specs.Faults.{IsConcluded, IsLineFault, IsReported, bad_line_text};
 ghost use Rattle.latchsym.specs.Faults.{fault_text, file_of, line_of, message_text, fault_number};
-ghost use Rattle.latchsym.specs.Faults.{fault_place, unread_text};
+ghost use Rattle.latchsym.specs.Faults.{fault_place, unread_text, with_status};
 
 use crate::command_line::Job;
 use crate::texts::{put_decimal, put_refused};
@@ -109,13 +109,23 @@ impl From<AllocError> for Fault {
     }
 }
 
-/// Ends a job: returns the program's status, 0 where the job succeeded. Where it failed, writes the
-/// line that says why.
-pub fn conclude<W: Write>(outcome: Result<(), Fault>, job: &Job<'_>, writer: &mut Counted<W>) -> u8
+/// The status of a job whose engine has none of its own: 0 where it succeeded.
+pub fn with_status(done: Result<(), Fault>) -> Result<u8, Fault>
+    ensures { result ≡ with_status done }
+{
+    match done {
+        Ok(()) => Ok(SUCCEEDED),
+        Err(fault) => Err(fault),
+    }
+}
+
+/// Ends a job: returns the program's status, which is the job's own where it came to one. Where it
+/// failed, writes the line that says why.
+pub fn conclude<W: Write>(outcome: Result<u8, Fault>, job: &Job<'_>, writer: &mut Counted<W>) -> u8
     ensures { IsConcluded W.contents job.now writer.old writer.new outcome result }
 {
     match outcome {
-        Ok(()) => SUCCEEDED,
+        Ok(status) => status,
         Err(fault) => report(&fault, job, writer),
     }
 }

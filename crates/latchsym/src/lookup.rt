@@ -5,12 +5,13 @@ ghost use Rattle.devices.specs.Counted.{device_of, failures_of};
 ghost use Rattle.devices.specs.Exact.{Wrote};
 ghost use Rattle.modules.specs.Catalogs.{IsBuildRefusal};
 ghost use Rattle.modules.specs.Lines.{region_fits};
-ghost use Rattle.latchsym.specs.LookupInputs.{failures_in, inputs_in, inputs_of, known_inputs};
-ghost use Rattle.latchsym.specs.LookupInputs.{known_text, region_lines_of_inputs, texts_in};
+ghost use Rattle.latchsym.specs.LookupInputs.{inputs_in, inputs_of, known_inputs, known_text};
+ghost use Rattle.latchsym.specs.LookupInputs.{region_lines_of_inputs, texts_in};
 ghost use Rattle.latchsym.specs.LookupTexts.{answer_line};
-ghost use Rattle.latchsym.specs.Lookups.{AnswersInputs, AnswersWith, AreListingsOf, GivesAddresses};
-ghost use Rattle.latchsym.specs.Lookups.{GivesLines, IsReadAs, counts_text, failures_between};
-ghost use Rattle.latchsym.specs.Lookups.{last_failures, regions_line_of};
+ghost use Rattle.latchsym.specs.Lookups.{AnswersLookup, AnswersWith, AreListingsOf, GivesAddresses};
+ghost use Rattle.latchsym.specs.Lookups.{GivesLines, counts_text, failures_between};
+ghost use Rattle.latchsym.specs.Lookups.{regions_line_of};
+ghost use Rattle.latchsym.specs.Readings.{IsReadAs, failures_in, last_failures};
 
 use crate::fault::Fault;
 use crate::lookup_texts::{put_answers, put_module_counts, put_region_counts, put_symbol_counts};
@@ -96,7 +97,7 @@ pub fn lookup_engine<M: Read, K: Read, R: Read, A: Read, W: Write>(
     addresses: &[u64],
     writer: &mut Counted<W>,
 ) -> Result<(), Fault>
-    ensures { AnswersInputs W.contents
+    ensures { AnswersLookup W.contents
         (known_inputs M.remaining K.remaining R.remaining A.remaining
         readers.old names.now addresses.now)
         (failures_between readers.old readers.new) writer.old writer.new result }
@@ -155,9 +156,9 @@ fn answer_from<A: Read, W: Write>(
     file: &mut Option<Counted<A>>,
     writer: &mut Counted<W>,
 ) -> Result<(), Fault>
-    ensures { AnswersInputs W.contents
+    ensures { AnswersLookup W.contents
         (inputs_of names.now given.now (known_text A.remaining file.old) (texts_in texts.now))
-        (last_failures file.old file.new) writer.old writer.new result }
+        (last_failures (failures_in file.old) (failures_in file.new)) writer.old writer.new result }
 {
     let regions = region_lines_in(alloc, &texts.regions)?;
     let addresses = all_addresses(alloc, given, file)?;

@@ -13,6 +13,7 @@ mod fault;
 mod input;
 mod lookup;
 mod lookup_texts;
+mod misuse;
 mod run_texts;
 mod runs;
 mod table;
@@ -21,12 +22,12 @@ mod tests;
 mod texts;
 mod trace;
 
-use clap::Error;
 use command_line::{Job, JobFault, LookupJob, RunJob, job_of};
-use devices::{BLOCK, Counted, put};
-use fault::{Fault, conclude, report, report_before_job};
+use devices::{BLOCK, Counted};
+use fault::{Fault, conclude, with_status};
 use input::Input;
 use lookup::{LookupReaders, lookup_engine};
+use misuse::{misused, refuse};
 use order_laws::Refusal;
 use runs::{RunReaders, run_engine};
 use std::io::{BufWriter, ErrorKind, Stderr};
@@ -35,9 +36,6 @@ use std::sync::Wait;
 use std::thread::Threads;
 use std::{env, fs};
 use trace::trace_engine;
-
-/// The program's status where the command line is at fault.
-const MISUSED: u8 = 2;
 
 fn main(rt: HostRuntime) -> ExitCode {
     let mut errors = Counted::new(rt.stderr());
@@ -69,12 +67,9 @@ fn run<T: Threads + Wait + Sync>(
     errors: &mut Counted<Stderr>,
 ) -> u8 {
     match job {
-        Job::Trace { file } => conclude(run_trace(rt, file), job, errors),
-        Job::Lookup(lookup) => conclude(run_lookup(rt, lookup), job, errors),
-        Job::Run(script) => match run_script(rt, threads, script) {
-            Ok(status) => status,
-            Err(fault) => report(&fault, job, errors),
-        },
+        Job::Trace { file } => conclude(with_status(run_trace(rt, file)), job, errors),
+        Job::Lookup(lookup) => conclude(with_status(run_lookup(rt, lookup)), job, errors),
+        Job::Run(script) => conclude(run_script(rt, threads, script), job, errors),
     }
 }
 
@@ -153,37 +148,4 @@ fn open(rt: &HostRuntime, file: &str) -> Result<Counted<Input>, Fault> {
         }
         Err(_) => Ok(Counted::new(Input::Unopened)),
     }
-}
-
-/// Says why the command line gives no job, and returns the program's status.
-fn refuse(rt: &HostRuntime, fault: JobFault<'_>, errors: &mut Counted<Stderr>) -> u8 {
-    match fault {
-        JobFault::OutOfMemory => report_before_job(&Fault::Refused(Refusal::OutOfMemory), errors),
-        JobFault::CommandLine(error) => explain(rt, &error, errors),
-        JobFault::BadAddress(word) => misused(b"bad address ", word, errors),
-        JobFault::NoAddress => misused(b"no address is given", "", errors),
-        JobFault::BadReaders(word) => misused(b"bad number of readers ", word, errors),
-        JobFault::NoJob => misused(b"the command line names no job", "", errors),
-    }
-}
-
-/// Prints what the parser of the command line has to say: help on the standard output, a fault on
-/// the standard error.
-fn explain(rt: &HostRuntime, error: &Error, errors: &mut Counted<Stderr>) -> u8 {
-    let printed = error.print(rt);
-    if error.use_stderr() {
-        return MISUSED;
-    }
-    match printed {
-        Ok(()) => 0,
-        Err(_) => report_before_job(&Fault::Write, errors),
-    }
-}
-
-/// Says what is wrong with the command line, and of which word.
-fn misused(message: &[u8], word: &str, errors: &mut Counted<Stderr>) -> u8 {
-    for part in [b"latchsym: ", message, word.as_bytes(), b"\n"] {
-        let _ = put(errors, part);
-    }
-    MISUSED
 }

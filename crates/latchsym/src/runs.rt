@@ -3,26 +3,29 @@
 //! The lines of the script are put into a list for each writer and a list for each reader. Each
 //! list is done by a thread of its own, all at once, over one table. What came back is checked
 //! against the log of the table's updates before the first byte is written.
-ghost use Rattle.std.specs.Prelude.{◌≡◌, ◌⊎◌, true, All, IfErr, IfSome};
+ghost use Rattle.std.specs.Prelude.{◌≡◌, [], Some, true, All};
 ghost use Rattle.std.specs.List.{list_any};
-ghost use Rattle.devices.specs.Counted.{device_of};
-ghost use Rattle.listing.specs.Scripts.{has_actor};
+ghost use Rattle.devices.specs.Counted.{device_of, failures_of};
+ghost use Rattle.listing.specs.Scripts.{has_actor, script_of};
 ghost use Rattle.modules.specs.Lines.{region_fits};
-ghost use Rattle.latchsym.specs.LookupInputs.{inputs_in, region_lines_of_inputs};
-ghost use Rattle.latchsym.specs.Runs.{AnswersLines, AnswersScript, RunsScript, status_of};
+ghost use Rattle.latchsym.specs.LookupInputs.{inputs_in, region_lines_of_inputs, texts_in};
+ghost use Rattle.latchsym.specs.Readings.{last_failures};
+ghost use Rattle.latchsym.specs.RunInputs.{known_run_inputs, run_inputs_of, run_inputs_with};
+ghost use Rattle.latchsym.specs.Runs.{AnswersLines, AnswersRun, TellsServed, run_failures_between};
+ghost use Rattle.latchsym.specs.Runs.{status_of};
 
 use crate::assignments::{Assignments, assign};
 use crate::fault::{FAILED, Fault, SUCCEEDED};
 use crate::lookup::{
-    KALLSYMS_PLACE, LookupInputs, MODULES_PLACE, listings_in, read_at, read_if_given,
+    KALLSYMS_PLACE, ListingTexts, LookupInputs, MODULES_PLACE, listings_in, read_at, read_if_given,
     region_lines_in,
 };
 use crate::run_texts::put_run;
 use devices::Counted;
-use listing::{ScriptLine, read_script};
+use listing::{ModuleName, ScriptLine, read_script};
 use modules::{Catalog, KernelBounds};
 use order_laws::Refusal;
-use shared_lookup::{Open, serve};
+use shared_lookup::{Open, Served, serve};
 use std::alloc::Global;
 use std::io::{Read, Write};
 use std::sync::Wait;
@@ -59,23 +62,46 @@ pub fn run_engine<T: Threads + Wait + Sync, M: Read, K: Read, R: Read, S: Read, 
     count: u32,
     writer: &mut Counted<W>,
 ) -> Result<u8, Fault>
-    ensures kept { IfErr result (λ e. (e ≡ Fault.Write) ⊎ (writer.new ≡ writer.old)) }
-    ensures script { IfSome (S.remaining (device_of readers.old.script))
-        (λ text. RunsScript W.contents count text writer.old writer.new result) }
+    ensures { AnswersRun W.contents count
+        (known_run_inputs M.remaining K.remaining R.remaining S.remaining readers.old count)
+        (run_failures_between readers.old readers.new) writer.old writer.new result }
 {
     let modules = read_at(alloc, &mut readers.modules, MODULES_PLACE)?;
     let kallsyms = read_at(alloc, &mut readers.kallsyms, KALLSYMS_PLACE)?;
     let regions = read_if_given(alloc, &mut readers.regions)?;
-    let regions = region_lines_in(alloc, &regions)?;
-    let script = read_at(alloc, &mut readers.script, SCRIPT_PLACE)?;
+    let texts = ListingTexts {
+        modules,
+        kallsyms,
+        regions,
+    };
+    let script = &mut readers.script;
+    run_from(rt, alloc, &texts, script, count, writer)
+}
+
+/// Does what a script for so many readers says, over the texts of the listings.
+fn run_from<T: Threads + Wait + Sync, S: Read, W: Write>(
+    rt: &T,
+    alloc: Global,
+    texts: &ListingTexts,
+    script: &mut Counted<S>,
+    readers: u32,
+    writer: &mut Counted<W>,
+) -> Result<u8, Fault>
+    ensures { AnswersRun W.contents readers
+        (run_inputs_of readers (S.remaining (device_of script.old)) (texts_in texts.now))
+        (last_failures (failures_of script.old) (failures_of script.new))
+        writer.old writer.new result }
+{
+    let regions = region_lines_in(alloc, &texts.regions)?;
+    let text = read_at(alloc, script, SCRIPT_PLACE)?;
     let inputs = LookupInputs {
         names: &KernelBounds::usual(),
-        modules: &modules,
-        kallsyms: &kallsyms,
+        modules: &texts.modules,
+        kallsyms: &texts.kallsyms,
         regions,
         addresses: Vec::new(alloc),
     };
-    run_with(rt, alloc, &inputs, &script, count, writer)
+    run_with(rt, alloc, &inputs, &text, readers, writer)
 }
 
 /// Does what the text of a script for so many readers says, over these listings.
@@ -88,7 +114,8 @@ fn run_with<T: Threads + Wait + Sync, W: Write>(
     writer: &mut Counted<W>,
 ) -> Result<u8, Fault>
     requires { All (λ r. region_fits r ≡ true) (region_lines_of_inputs (inputs_in inputs.now)) }
-    ensures { AnswersScript W.contents (inputs_in inputs.now) readers script.now
+    ensures { AnswersRun W.contents readers
+        (Some (run_inputs_with (inputs_in inputs.now) (script_of readers script.now))) []
         writer.old writer.new result }
 {
     let lines = match read_script(alloc, script, readers) {
@@ -118,10 +145,25 @@ fn run_lines<T: Threads + Wait + Sync, W: Write>(
         keys,
     } = assign(alloc, catalog, lines, readers)?;
     let served = serve(rt, alloc, &Open, catalog, changes, keys)?;
+    tell(writer, catalog, &names, &served)
+}
+
+/// Writes the lines of what came back, from writers whose changes are of modules of these names and
+/// from readers, and returns the program's status, 1 where something is wrong. Refused as out of
+/// memory where some list of addresses ended early.
+pub(crate) fn tell<W: Write>(
+    writer: &mut Counted<W>,
+    catalog: &Catalog<'_>,
+    names: &[Vec<ModuleName<'_>>],
+    served: &Served,
+) -> Result<u8, Fault>
+    ensures { TellsServed W.contents catalog.now names.now served.now
+        writer.old writer.new result }
+{
     if has_ended(&served.ended) {
         return Err(Fault::Refused(Refusal::OutOfMemory));
     }
-    match put_run(writer, catalog, &names, &served) {
+    match put_run(writer, catalog, names, served) {
         Ok(()) => Ok(status_of(served.wrong)),
         Err(_) => Err(Fault::Write),
     }

@@ -8,6 +8,7 @@ mod rows;
 mod scripts;
 mod stops;
 mod words;
+mod wrong_answers;
 
 use crate::fault::Fault;
 use crate::trace::trace_engine;

@@ -1,0 +1,47 @@
+-- What is said of a command line that gives no job, and the program's status.
+use Rattle.std.specs.Prelude.{◌≡◌, ◌≢◌, ◌⊎◌, ℕ, ◌≤◌, List, [], ◌++◌, Option, codes}
+use Rattle.clap.specs.Words.{Text, kind_of}
+use Rattle.clap.specs.declared.error.Error.{Error}
+use Rattle.clap.specs.declared.error.kind.ErrorKind.TheVariants as kind
+use Rattle.devices.specs.declared.counted.Counted.{Counted}
+use Rattle.order_laws.specs.declared.refusals.Refusal.TheVariants as refusal
+use Rattle.latchsym.specs.Faults.{IsReported, fault_text}
+use Rattle.latchsym.specs.declared.command_line.JobFault.{JobFault}
+use Rattle.latchsym.specs.declared.command_line.JobFault.TheVariants.{OutOfMemory, CommandLine}
+use Rattle.latchsym.specs.declared.command_line.JobFault.TheVariants.{BadAddress, NoAddress}
+use Rattle.latchsym.specs.declared.command_line.JobFault.TheVariants.{BadReaders, NoJob}
+use Rattle.latchsym.specs.declared.fault.Fault.TheVariants.{Refused}
+
+-- what is wrong with the command line, and with which word
+abbrev pub misuse_text : List ℕ → Text → List ℕ
+misuse_text message word = codes "latchsym: " ++ message ++ word ++ codes "\n"
+
+-- the writer has taken what is wrong, or a call of it failed, and the status is that of a misuse
+abbrev pub IsMisused : {D : Type 0} → (D → Option (List ℕ)) → Counted D → Counted D
+    → List ℕ → Text → ℕ → Type 0
+IsMisused contents old new message word status =
+    (status ≡ 2) × IsReported contents old new (misuse_text message word)
+
+-- the parser found a fault, and did not stop for help that was asked for
+abbrev pub IsParseFault : Error → Type 0
+IsParseFault e = (kind_of e ≢ kind.DisplayHelp) × (kind_of e ≢ kind.DisplayVersion)
+
+-- the status after the parser's own text: help that could not be printed is a failed write
+abbrev pub IsExplained : Error → ℕ → Type 0
+IsExplained e status =
+    (IsParseFault e × (status ≡ 2)) ⊎ ((IsParseFault e → ⊥) × (status ≤ 1))
+
+-- What is said of a command line that gives no job, and the status.
+abbrev pub IsNoJob : {D : Type 0} → (D → Option (List ℕ)) → Counted D → Counted D → JobFault
+    → ℕ → Type 0
+IsNoJob contents old new OutOfMemory status =
+    (status ≡ 1) × IsReported contents old new (fault_text [] (Refused refusal.OutOfMemory))
+IsNoJob contents old new (CommandLine e) status = IsExplained e status
+IsNoJob contents old new (BadAddress word) status =
+    IsMisused contents old new (codes "bad address ") word.now status
+IsNoJob contents old new NoAddress status =
+    IsMisused contents old new (codes "no address is given") [] status
+IsNoJob contents old new (BadReaders word) status =
+    IsMisused contents old new (codes "bad number of readers ") word.now status
+IsNoJob contents old new NoJob status =
+    IsMisused contents old new (codes "the command line names no job") [] status

@@ -1,0 +1,66 @@
+//! What is said of a command line that gives no job, and the program's status.
+ghost use Rattle.std.specs.Prelude.{◌≡◌};
+ghost use Rattle.devices.specs.Exact.{Wrote};
+ghost use Rattle.latchsym.specs.Misuses.{IsExplained, IsMisused, IsNoJob, misuse_text};
+
+use crate::command_line::JobFault;
+use crate::fault::{Fault, SUCCEEDED, report_before_job};
+use clap::Error;
+use devices::{Counted, put};
+use order_laws::Refusal;
+use std::io;
+use std::io::Write;
+
+/// The program's status where the command line is at fault.
+const MISUSED: u8 = 2;
+
+/// Says why the command line gives no job, and returns the program's status.
+pub fn refuse<P: Print + Eprint, E: Write>(
+    rt: &P,
+    fault: JobFault<'_>,
+    errors: &mut Counted<E>,
+) -> u8
+    ensures { IsNoJob E.contents errors.old errors.new fault.entry result }
+{
+    match fault {
+        JobFault::OutOfMemory => report_before_job(&Fault::Refused(Refusal::OutOfMemory), errors),
+        JobFault::CommandLine(error) => explain(rt, &error, errors),
+        JobFault::BadAddress(word) => misused(b"bad address ", word, errors),
+        JobFault::NoAddress => misused(b"no address is given", "", errors),
+        JobFault::BadReaders(word) => misused(b"bad number of readers ", word, errors),
+        JobFault::NoJob => misused(b"the command line names no job", "", errors),
+    }
+}
+
+/// Prints what the parser of the command line has to say: help on the standard output, a fault on
+/// the standard error.
+fn explain<P: Print + Eprint, E: Write>(rt: &P, error: &Error, errors: &mut Counted<E>) -> u8
+    ensures { IsExplained error.now result }
+{
+    let printed = error.print(rt);
+    if error.use_stderr() {
+        return MISUSED;
+    }
+    match printed {
+        Ok(()) => SUCCEEDED,
+        Err(_) => report_before_job(&Fault::Write, errors),
+    }
+}
+
+/// Says what is wrong with the command line, and with which word. Where the writer fails, the
+/// status is all that there is to tell.
+pub fn misused<E: Write>(message: &[u8], word: &str, errors: &mut Counted<E>) -> u8
+    ensures { IsMisused E.contents errors.old errors.new message.now word.now result }
+{
+    let _ = put_misuse(message, word, errors);
+    MISUSED
+}
+
+fn put_misuse<E: Write>(message: &[u8], word: &str, writer: &mut Counted<E>) -> io::Result<()>
+    ensures { Wrote E.contents writer.old writer.new result (misuse_text message.now word.now) }
+{
+    put(writer, b"latchsym: ")?;
+    put(writer, message)?;
+    put(writer, word.as_bytes())?;
+    put(writer, b"\n")
+}
