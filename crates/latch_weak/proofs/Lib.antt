@@ -1,0 +1,10 @@
+pub mod WorkLemmas
+pub mod RecordingLemmas
+pub mod MomentLemmas
+pub mod LoadLemmas
+pub mod SafeLemmas
+pub mod RisingLemmas
+pub mod RunLemmas
+pub mod NeededLemmas
+pub mod QuietLemmas
+pub mod BarrierLemmas

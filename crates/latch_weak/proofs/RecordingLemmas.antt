@@ -1,0 +1,109 @@
+-- What a writer has made, after one more deed.
+use Rattle.std.proofs.Common.{◌≡◌, ℕ, ◌<◌, ◌≤◌, List, [], ◌∷◌, ◌++◌, length, Option, Some, None, refl, sym, ◌∙◌, ap, subst, arith, append_assoc}
+use Rattle.order_laws.specs.Orders.{Order}
+use Rattle.word_arena.specs.declared.stores.Store.{Store}
+use Rattle.latch_core.specs.declared.updates.Update.{Update}
+use Rattle.latch_core.specs.Updates.{most_steps}
+use Rattle.latch_core.specs.Latches.{PendingUpdate, Latch, IsWriterStep, latch_after_step, latch_with_update, opening_latch}
+use Rattle.latch_core.specs.Writers.{next_store, why_refused, RefusesAsRepresented, RepresentsLatch, MayBeNext, StoresNext, HasBegun, latch_refusal}
+use Rattle.latch_core.specs.WriterViews.{WriterView}
+use Rattle.latch_weak.specs.Works.{Deed, Begins, Stores, Works, stores_of, updates_of}
+use Rattle.latch_weak.specs.Recordings.{WorksTo, HasMade}
+
+-- deeds that lead somewhere are lawful
+pub works_of : {K : Type 0} (o : Order K) (n limit : ℕ) (l l' : Latch) (deeds : List Deed) → WorksTo o n limit l deeds l' → Works o n limit l deeds
+works_of o n limit l l' [] to = tt
+works_of o n limit l l' (Begins u left ∷ rest) to = (to.0, to.1, to.2, works_of o n limit (latch_with_update o l u left) l' rest to.3)
+works_of o n limit l l' (Stores s ∷ rest) (h, pending, may, on) = (h, pending, may, works_of o n limit (latch_after_step l h s) l' rest on)
+
+-- one more deed
+begins_after : {K : Type 0} (o : Order K) (n limit : ℕ) (l l' : Latch) (deeds : List Deed) (u : Update) (left : ℕ) → WorksTo o n limit l deeds l'
+    → latch_refusal o n limit l' u ≡ None → 0 < left → left ≤ most_steps n u → WorksTo o n limit l (deeds ++ Begins u left ∷ []) (latch_with_update o l' u left)
+begins_after o n limit l l' [] u left to may some few =
+    (subst (λ x. latch_refusal o n limit x u ≡ None) to may, some, few, ap (λ x. latch_with_update o x u left) to)
+begins_after o n limit l l' (Begins v more ∷ rest) u left to may some few =
+    (to.0, to.1, to.2, begins_after o n limit (latch_with_update o l v more) l' rest u left to.3 may some few)
+begins_after o n limit l l' (Stores s ∷ rest) u left (h, pending, step, on) may some few =
+    (h, pending, step, begins_after o n limit (latch_after_step l h s) l' rest u left on may some few)
+
+stores_after : {K : Type 0} (o : Order K) (n limit : ℕ) (l l' : Latch) (deeds : List Deed) (h : PendingUpdate) (s : Store) → WorksTo o n limit l deeds l'
+    → l'.pending ≡ Some h → IsWriterStep n l' h s → WorksTo o n limit l (deeds ++ Stores s ∷ []) (latch_after_step l' h s)
+stores_after o n limit l l' [] h s to is may =
+    (h, subst (λ x. x.pending ≡ Some h) to is, subst (λ x. IsWriterStep n x h s) to may, ap (λ x. latch_after_step x h s) to)
+stores_after o n limit l l' (Begins v more ∷ rest) h s to is may =
+    (to.0, to.1, to.2, stores_after o n limit (latch_with_update o l v more) l' rest h s to.3 is may)
+stores_after o n limit l l' (Stores t ∷ rest) h s (g, pending, step, on) is may =
+    (g, pending, step, stores_after o n limit (latch_after_step l g t) l' rest h s on is may)
+
+-- the updates and the stores of one deed more
+updates_begun : (deeds : List Deed) (u : Update) (left : ℕ) → updates_of (deeds ++ Begins u left ∷ []) ≡ updates_of deeds ++ u ∷ []
+updates_begun [] u left = refl
+updates_begun (Begins v more ∷ rest) u left = ap (λ us. v ∷ us) (updates_begun rest u left)
+updates_begun (Stores t ∷ rest) u left = updates_begun rest u left
+
+stores_begun : (deeds : List Deed) (u : Update) (left : ℕ) → stores_of (deeds ++ Begins u left ∷ []) ≡ stores_of deeds
+stores_begun [] u left = refl
+stores_begun (Begins v more ∷ rest) u left = stores_begun rest u left
+stores_begun (Stores t ∷ rest) u left = ap (λ ss. t ∷ ss) (stores_begun rest u left)
+
+updates_stored : (deeds : List Deed) (s : Store) → updates_of (deeds ++ Stores s ∷ []) ≡ updates_of deeds
+updates_stored [] s = refl
+updates_stored (Begins v more ∷ rest) s = ap (λ us. v ∷ us) (updates_stored rest s)
+updates_stored (Stores t ∷ rest) s = updates_stored rest s
+
+stores_stored : (deeds : List Deed) (s : Store) → stores_of (deeds ++ Stores s ∷ []) ≡ stores_of deeds ++ s ∷ []
+stores_stored [] s = refl
+stores_stored (Begins v more ∷ rest) s = stores_stored rest s
+stores_stored (Stores t ∷ rest) s = ap (λ ss. t ∷ ss) (stores_stored rest s)
+
+module _ {K : Type 0} (o : Order K) (n limit start : ℕ) (us : List Update) (ss : List Store) (w w' : WriterView) (made : HasMade o n limit start us ss w) where
+  -- an update has begun
+  pub made_begun : (u : Update) → why_refused o w u ≡ None → RefusesAsRepresented o w u → HasBegun o w u w' → w'.capacity ≡ w.capacity → w'.limit ≡ w.limit
+      → HasMade o n limit start (us ++ u ∷ []) ss w'
+  made_begun u accepted pictured begun capacity most =
+      let may : latch_refusal o w.capacity w.limit made.latch u ≡ None = pictured made.latch made.pictures ∙ accepted in
+      let here : latch_refusal o n limit made.latch u ≡ None = ap (λ x. latch_refusal o x limit made.latch u) (sym made.capacity) ∙ ap (λ x. latch_refusal o w.capacity x made.latch u) (sym made.limit_is) ∙ may in
+      let left : ℕ = length w'.stores_left in
+      let few : left ≤ most_steps n u = subst (λ x. left ≤ most_steps x u) made.capacity begun.few in
+      record {
+        latch = latch_with_update o made.latch u left;
+        deeds = made.deeds ++ Begins u left ∷ [];
+        works = begins_after o n limit _ made.latch made.deeds u left made.works here begun.some few;
+        updates_are = updates_begun made.deeds u left ∙ ap (λ vs. vs ++ u ∷ []) made.updates_are;
+        stores_are = stores_begun made.deeds u left ∙ made.stores_are;
+        pictures = begun.pictures made.latch made.pictures;
+        capacity = capacity ∙ made.capacity;
+        limit_is = most ∙ made.limit_is;
+      }
+
+  -- a store was made
+  pub made_stored : (s : Store) → next_store w ≡ Some s → MayBeNext w (Some s) → StoresNext w w' → w'.capacity ≡ w.capacity → w'.limit ≡ w.limit
+      → HasMade o n limit start us (ss ++ s ∷ []) w'
+  made_stored s next may stores capacity most =
+      let step = may made.latch made.pictures in
+      let h : PendingUpdate = step.0 in
+      let here : IsWriterStep n made.latch h s = subst (λ x. IsWriterStep x made.latch h s) made.capacity step.2 in
+      record {
+        latch = latch_after_step made.latch h s;
+        deeds = made.deeds ++ Stores s ∷ [];
+        works = stores_after o n limit _ made.latch made.deeds h s made.works step.1 here;
+        updates_are = updates_stored made.deeds s ∙ made.updates_are;
+        stores_are = stores_stored made.deeds s ∙ ap (λ ts. ts ++ s ∷ []) made.stores_are;
+        pictures = stores made.latch h s made.pictures step.1 next;
+        capacity = capacity ∙ made.capacity;
+        limit_is = most ∙ made.limit_is;
+      }
+
+-- a writer that has made nothing
+pub made_nothing : {K : Type 0} (o : Order K) (n limit start : ℕ) (w : WriterView) → RepresentsLatch w (opening_latch n start) → w.capacity ≡ n → w.limit ≡ limit → HasMade o n limit start [] [] w
+made_nothing o n limit start w pictures capacity most =
+    record {
+      latch = opening_latch n start;
+      deeds = [];
+      works = refl;
+      updates_are = refl;
+      stores_are = refl;
+      pictures = pictures;
+      capacity = capacity;
+      limit_is = most;
+    }

@@ -1,0 +1,41 @@
+use Rattle.std.proofs.Common.{◌≡◌, sym, ◌∙◌, ap, subst, take, [], ◌∷◌, ◌++◌, ◌+◌, arith}
+use Rattle.std.proofs.lemmas.List.{take_all, take_more}
+use Rattle.std.specs.Prelude.{List}
+use Rattle.word_arena.specs.declared.stores.Store.{Store}
+use Rattle.word_arena.specs.Layouts.{capacity_of, limit_of}
+use Rattle.latch_weak.specs.Recordings.{HasMade}
+use Rattle.latch_weak.proofs.RecordingLemmas.{made_nothing, works_of}
+use Rattle.latch_weak.proofs.recording.record.Goals as goal
+
+pub loop-update-init : goal.loop-update-init
+loop-update-init g c =
+    let o = g.O.TreeOrder.order in
+    let l = c.args.l in
+    let w = c.in_ok-writer.writer in
+    let made = made_nothing o (capacity_of l) (limit_of l) c.args.start w c.in_ok-writer.ensures.pictures
+    (ap (λ x. x.capacity) c.in_ok-writer.ensures.opened) (ap (λ x. x.limit) c.in_ok-writer.ensures.opened) in
+    subst (λ ss. HasMade o (capacity_of l) (limit_of l) c.args.start [] ss w) (sym c.new-stores.ensures.items) made
+
+pub loop-update-preserved : goal.loop-update-preserved
+loop-update-preserved g c =
+    let o = g.O.TreeOrder.order in
+    let l = c.args.l in
+    let before = take c.loop-update.update-index c.args.updates.now in
+    let i = c.loop-update.update-index in
+    let u = c.update-item.result in
+    let all : before ++ u ∷ [] ≡ take (i + 1) c.args.updates.now = sym (take_more c.args.updates.now i u c.loop-update-test.true ∙ ap (λ x. before ++ x ∷ []) (sym c.update-item.is)) in
+    subst (λ us. HasMade o (capacity_of l) (limit_of l) c.args.start us c.carry_out.new.stores.items c.carry_out.new.writer) all
+    (c.in_ok-carry_out.ensures (capacity_of l) (limit_of l) c.args.start before c.loop-update.invariant)
+
+pub returns : goal.returns
+returns g c =
+    let o = g.O.TreeOrder.order in
+    let l = c.args.l in
+    let made = c.loop-update.invariant in
+    let all : take c.loop-update.update-index c.args.updates.now ≡ c.args.updates.now = take_all c.loop-update.update-index c.args.updates.now c.loop-update-test.false in
+    record {
+      deeds = made.deeds;
+      works = works_of o (capacity_of l) (limit_of l) _ made.latch made.deeds made.works;
+      updates_are = made.updates_are ∙ all;
+      stores_are = made.stores_are;
+    }

@@ -1,0 +1,9 @@
+use Rattle.std.proofs.Common.{take}
+use Rattle.word_arena.specs.Layouts.{capacity_of, limit_of}
+use Rattle.latch_weak.specs.Recordings.{HasMade}
+use Rattle.latch_weak.proofs.recording.record.Given as goal
+
+abbrev pub invariant-loop-update : goal.invariant-loop-update
+invariant-loop-update g l =
+    HasMade g.O.TreeOrder.order (capacity_of l.fn.l) (limit_of l.fn.l) l.start
+    (take l.update-index l.updates) l.stores.items l.writer

@@ -1,0 +1,50 @@
+//! The stores that a writer makes, one after another.
+
+ghost use Rattle.std.specs.Prelude.{◌≡◌, ℕ, List, ◌∷◌, ◌++◌, [], IfOk, OnOk};
+ghost use Rattle.word_arena.specs.Layouts.{capacity_of, limit_of};
+ghost use Rattle.latch_core.specs.declared.updates.Update.{Update};
+ghost use Rattle.latch_weak.specs.Works.{AreStoresOf};
+ghost use Rattle.latch_weak.specs.Recordings.{Continues};
+
+use latch_core::{Update, WriterCore};
+use order_laws::{Refusal, TreeOrder};
+use std::alloc::Global;
+use word_arena::{Layout, Store};
+
+/// The stores that a writer makes for these updates, one after another, from an empty table whose
+/// sequence begins at `start`.
+///
+/// Refused as the first update that is refused, as [`WriterCore::open`] where the sequence may not
+/// begin there, and by [`Refusal::OutOfMemory`].
+pub fn record<O: TreeOrder>(
+    alloc: Global,
+    l: Layout,
+    start: u64,
+    updates: &[Update],
+) -> Result<Vec<Store>, Refusal>
+    ensures { IfOk result (λ stores.
+        AreStoresOf O.order (capacity_of l) (limit_of l) start updates.now stores.items) }
+{
+    let mut writer = WriterCore::<O>::open(alloc, l, start)?;
+    let mut stores = Vec::new(alloc);
+    for update in updates {
+        carry_out(&mut writer, update, &mut stores)?;
+    }
+    Ok(stores)
+}
+
+/// Carries one update out, and adds its stores to those that the writer has made.
+fn carry_out<O: TreeOrder>(
+    writer: &mut WriterCore<O>,
+    update: &Update,
+    stores: &mut Vec<Store>,
+) -> Result<(), Refusal>
+    ensures { OnOk result (Continues O.order stores.old.items writer.old
+        (update.now ∷ []) stores.new.items writer.new) }
+{
+    writer.begin_from(update)?;
+    while let Some(store) = writer.step() {
+        stores.push(store)?;
+    }
+    Ok(())
+}
