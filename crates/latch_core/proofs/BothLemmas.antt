@@ -166,7 +166,7 @@ module _ {K : Type 0} (o : Order K) (n : ℕ) (zero new : Picture) (r : ℕ) (u 
         even = even;
         both_old = ((zero.tree, holds0), (zero.tree, holds1));
         old_trees = (zero.tree, zero.tree, holds0, holds1, red.0, red.0);
-        new_tree = red.1;
+        new_trees = (red.1, red.1);
         items_free = free_stores;
         links_zero = links_zero;
         links_one = links_one;

@@ -1,7 +1,5 @@
 pub mod ReadingLemmas
 pub mod WalkLemmas
-pub mod LoopWalkLemmas
-pub mod LoopLoadLemmas
 pub mod TestLemmas
 pub mod BatchLemmas
 pub mod StepLemmas
@@ -21,3 +19,5 @@ pub mod WideningLemmas
 pub mod AttemptLemmas
 pub mod HistoryLemmas
 pub mod RestLemmas
+pub mod LoadingLemmas
+pub mod StillLemmas

@@ -7,7 +7,7 @@ use Rattle.order_laws.proofs.Each.{all_append}
 use Rattle.word_arena.proofs.HeldLemmas.{leads_once}
 use Rattle.word_arena.proofs.LinkLemmas.{links_elsewhere, links_not_zero, not_in_use, zero_kept}
 use Rattle.word_arena.specs.declared.stores.Store.{Store}
-use Rattle.word_arena.specs.Words.{at, Nodes, none, root_word, Holds, InUse}
+use Rattle.word_arena.specs.Words.{words_per_node, at, Nodes, none, root_word, Holds, InUse}
 use Rattle.word_arena.specs.Stores.{words_after, words_after_all}
 use Rattle.word_arena.proofs.StoreLemmas.{after_append}
 use Rattle.word_arena.proofs.HoldsLemmas.{tree_untouched, tree_agree}
@@ -80,17 +80,20 @@ module _ (n : ℕ) (old new : List Item) (m : List ℕ) (items ls0 ls1 : List St
       let zero4 = new0_4 n old new m items ls0 ls1 t0 t1 is in
       let unused1 = not_in_use m4 n 0 ls1 (links_elsewhere n 1 0 ls1 refl is.links_one) in
       let nonzero1 = links_not_zero n 1 ls1 (omega arith) is.links_one in
-      let d = stays_end n m4 ls1 (each_shallow n m4 0 new t0 even zero4 is.new_tree ls1 (unused1, nonzero1)) (shallow_after n m4 0 new t0 even zero4 is.new_tree ls1 (unused1, nonzero1)) in
+      let d = stays_end n m4 ls1 (each_shallow n m4 0 new t0 even zero4 is.new_trees.0 ls1 (unused1, nonzero1)) (shallow_after n m4 0 new t0 even zero4 is.new_trees.0 ls1 (unused1, nonzero1)) in
       stays_append n m (items ++ f1 ∷ ls0) (f2 ∷ ls1) (each_append n m items (f1 ∷ ls0) a (s1, b))
       (subst (λ w. StaysShallow n w (f2 ∷ ls1)) (sym (words_front n old new m items ls0 ls1 t0 t1 is)) (s3, d))
+
+-- no nodes are a red-black tree
+pub none_is_red_black : CanBeRedBlack none
+none_is_red_black = (tip, record { black = refl; calm = tt; even = tt }, refl)
 
 -- before any step both copies are empty
 pub opening_shallow : (n start : ℕ) → stable_copy_of start ≡ 0 → (left : List Store) → left ≡ [] → StaysShallow n (opening_latch n start).words left
 opening_shallow n start even left e =
     let m = (opening_latch n start).words in
-    let root : at m (root_word (stable_copy_of start)) ≡ 0 = ap (λ c. at m (root_word c)) even ∙ get_or-replicate (7 * n + 2) 0 0 0 (omega arith) in
-    let good : CanBeRedBlack none = (tip, record { black = refl; calm = tt; even = tt }, refl) in
-    let now : IsShallow n m = ([], none, record { leads = root; listed_items = refl }, good) in
+    let root : at m (root_word (stable_copy_of start)) ≡ 0 = ap (λ c. at m (root_word c)) even ∙ get_or-replicate (words_per_node * n + 2) 0 0 0 (omega arith) in
+    let now : IsShallow n m = ([], none, record { leads = root; listed_items = refl }, none_is_red_black) in
     subst (StaysShallow n m) (sym e) now
 
 -- whichever table and tree the stable copy holds, the tree is red-black

@@ -9,7 +9,7 @@ use Rattle.order_laws.specs.Orders.{Order, IsLawful}
 use Rattle.order_laws.specs.Tables.{IsTable}
 use Rattle.latch_core.specs.Updates.{after, refusal_for}
 use Rattle.latch_core.specs.Histories.{replay, table_at, current_table}
-use Rattle.word_arena.specs.Words.{at, root_word, none, HoldsTable}
+use Rattle.word_arena.specs.Words.{words_per_node, at, root_word, none, HoldsTable}
 use Rattle.latch_core.specs.Sequences.{generation_of, stable_copy_of}
 use Rattle.latch_core.specs.Latches.{PendingUpdate, Latch, IsWriterStep, flips_after, latch_after_step, latch_with_update, opening_latch}
 use Rattle.word_arena.specs.Stores.{words_after}
@@ -125,7 +125,7 @@ pub sound_opening : {K : Type 0} (o : Order K) (n start : ℕ) → stable_copy_o
 sound_opening {K = K} o n start even =
     let m = (opening_latch n start).words in
     let no : (j : ℕ) → replay o [] (take j []) ≡ [] = λ j. ap (replay o []) (take_all j [] (omega arith)) in
-    let root : at m (root_word (stable_copy_of start)) ≡ 0 = ap (λ c. at m (root_word c)) even ∙ get_or-replicate (7 * n + 2) 0 0 0 (omega arith) in
+    let root : at m (root_word (stable_copy_of start)) ≡ 0 = ap (λ c. at m (root_word c)) even ∙ get_or-replicate (words_per_node * n + 2) 0 0 0 (omega arith) in
     record {
       even = even;
       sized = omega arith;

@@ -131,7 +131,7 @@ pub record Leading (n : ℕ) (old new : List Item) (m : List ℕ) (item_stores l
   pub leads_zero : Holds (words_after_all (words_after_all m item_stores) links0) n 0 new zero
   pub leads_one : Holds (words_after_all (words_after_all m item_stores) links1) n 1 new one
   pub old_trees : (t0 : Nodes) × (t1 : Nodes) × Holds m n 0 old t0 × Holds m n 1 old t1 × CanBeRedBlack t0 × CanBeRedBlack t1
-  pub new_tree : CanBeRedBlack zero
+  pub new_trees : CanBeRedBlack zero × CanBeRedBlack one
 
 -- stores of free nodes and of links keep away from word 0 and from what is in use
 pub items_not_zero : (m : List ℕ) (n : ℕ) (ss : List Store) → AreFreeStores m n ss → AllByRecursion (λ (s : Store). s.word ≢ 0) ss

@@ -7,7 +7,7 @@ use Rattle.order_laws.specs.declared.refusals.Refusal.TheVariants.{BadCapacity, 
 use Rattle.order_laws.proofs.Lists.{nil-from_length}
 use Rattle.word_arena.specs.declared.layouts.Layout.{Layout}
 use Rattle.word_arena.specs.Layouts.{capacity_of, limit_of}
-use Rattle.word_arena.specs.Words.{at, Holds, HoldsTable}
+use Rattle.word_arena.specs.Words.{words_per_node, at, Holds, HoldsTable}
 use Rattle.word_arena.specs.Wider.{wider_words}
 use Rattle.word_arena.proofs.WiderLemmas.{at_wider, length_wider, holds_wider, table_wider}
 use Rattle.latch_core.specs.declared.updates.Update.{Update}
@@ -59,6 +59,8 @@ widened_pictures w l idle le latch p rest =
         even = ap stable_copy_of same ∙ now.even;
         zero = holds_wider m n n' 0 w.table w.zero_tree le now.zero;
         one = holds_wider m n n' 1 w.table w.one_tree le now.one;
+        zero_balanced = now.zero_balanced;
+        one_balanced = now.one_balanced;
       };
       table = p.table;
       sequence = same ∙ p.sequence;
@@ -73,7 +75,7 @@ widened_sound o n n' start us l le is =
     let more = table_wider m n n' (stable_copy_of (at m 0)) (table_at o start us (generation_of (at m 0))) le is.current in
     record {
       even = is.even;
-      sized = (let some = is.sized in omega (arith, some, length-append m (replicate (7 * (n' - n)) 0)));
+      sized = (let some = is.sized in omega (arith, some, length-append m (replicate (words_per_node * (n' - n)) 0)));
       tables = λ j. let t = is.tables j in (t.0, (let few = t.1 in omega (arith, few, le)));
       table_is = is.table_is;
       in_hand = subst (λ q. IsPendingOf o start q us l.pending) (sym same) is.in_hand;

@@ -8,7 +8,7 @@ use Rattle.std.proofs.lemmas.List.{get_or-replicate, length-replicate}
 use Rattle.word_arena.specs.declared.layouts.Layout.{Layout}
 use Rattle.word_arena.specs.Layouts.{capacity_of}
 use Rattle.word_arena.specs.declared.stores.Store.{Store}
-use Rattle.word_arena.specs.Words.{at, words_for, Holds, IsUnreached, listed}
+use Rattle.word_arena.specs.Words.{words_per_node, at, words_for, Holds, IsUnreached, listed}
 use Rattle.word_arena.specs.Stores.{words_after, words_after_all}
 use Rattle.word_arena.proofs.StoreLemmas.{length_after}
 use Rattle.word_arena.proofs.ReachLemmas.{reached_listed}
@@ -20,7 +20,7 @@ use Rattle.latch_core.specs.Plans.{IsPlan, update_stores}
 use Rattle.latch_core.specs.WriterViews.{WriterView}
 use Rattle.latch_core.specs.Writers.{IsMemoryAtRest, StaysShallow, RepresentsLatch, next_store, why_refused, sequence_after, writer_after_step, opening_writer}
 use Rattle.latch_core.proofs.StoreOrderLemmas.{Leading, update_plan, update_zero, update_one, update_sequence}
-use Rattle.latch_core.proofs.ShallowLemmas.{update_shallow, opening_shallow}
+use Rattle.latch_core.proofs.ShallowLemmas.{update_shallow, opening_shallow, none_is_red_black}
 use Rattle.latch_core.proofs.PlanLemmas.{plan_step, plan_left}
 use Rattle.latch_core.specs.Writers.{has_pending}
 
@@ -65,6 +65,8 @@ did_pictures w l h s p pending is =
         even = subst (λ m. stable_copy_of (at m 0) ≡ 0) whole rest.even;
         zero = subst (λ m. Holds m w.capacity 0 w.table w.zero_tree) whole rest.zero;
         one = subst (λ m. Holds m w.capacity 1 w.table w.one_tree) whole rest.one;
+        zero_balanced = rest.zero_balanced;
+        one_balanced = rest.one_balanced;
       };
       table = p.table;
       sequence = sequence_stored l.words w.sequence s (omega (arith, sized)) p.sequence;
@@ -97,6 +99,8 @@ module _ {K : Type 0} (o : Order K) (w : WriterView) (u : Update) (items links0 
           even = subst (λ ss. stable_copy_of (at (words_after_all m ss) 0) ≡ 0) same even_then;
           zero = subst (λ ss. Holds (words_after_all m ss) n 0 after_u new.zero_tree) same (update_zero n w.table after_u m items links0 links1 new.zero_tree new.one_tree leading);
           one = subst (λ ss. Holds (words_after_all m ss) n 1 after_u new.one_tree) same (update_one n w.table after_u m items links0 links1 new.zero_tree new.one_tree leading);
+          zero_balanced = leading.new_trees.0;
+          one_balanced = leading.new_trees.1;
         };
         table = ap (λ t. after o t u) p.table;
         sequence = p.sequence;
@@ -122,15 +126,17 @@ pub opening_pictures : (l : Layout) (start : ℕ) → stable_copy_of start ≡ 0
 opening_pictures l start even =
     let n = capacity_of l in
     let m = (opening_latch n start).words in
-    let first : at m 1 ≡ 0 = get_or-replicate (7 * n + 2) 0 0 0 (omega arith) in
-    let second : at m 2 ≡ 0 = get_or-replicate (7 * n + 2) 1 0 0 (omega arith) in
+    let first : at m 1 ≡ 0 = get_or-replicate (words_per_node * n + 2) 0 0 0 (omega arith) in
+    let second : at m 2 ≡ 0 = get_or-replicate (words_per_node * n + 2) 1 0 0 (omega arith) in
     record {
       plan = refl;
       at_rest = record {
-        sized = omega (arith, length-replicate {A = ℕ} (7 * n + 2) 0);
+        sized = omega (arith, length-replicate {A = ℕ} (words_per_node * n + 2) 0);
         even = even;
         zero = record { leads = first; listed_items = refl };
         one = record { leads = second; listed_items = refl };
+        zero_balanced = none_is_red_black;
+        one_balanced = none_is_red_black;
       };
       table = refl;
       sequence = refl;

@@ -41,12 +41,18 @@ after_item s i x go Less = Load (left_word (stable_copy_of s) i) go
 after_item s i x go Equal = last_load s (AtItem x)
 after_item s i x go Greater = Load (right_word (stable_copy_of s) i) go
 
--- one node
-abbrev pub visit : {K : Type 0} → Order K → K → ℕ → ℕ → (ℕ → Reading) → Reading
-visit o k s i go =
-    Load (a_word i) (λ a. Load (b_word i) (λ b. Load (tag_word i) (λ tag.
+-- one node: the words of its item, one after another
+abbrev pub after_b : {K : Type 0} → Order K → K → ℕ → ℕ → (ℕ → Reading) → ℕ → ℕ → Reading
+after_b o k s i go a b =
+    Load (tag_word i) (λ tag.
     let x : Item = record { a = a; b = b; tag = tag } in
-    after_item s i x go (o.comp k x))))
+    after_item s i x go (o.comp k x))
+
+abbrev pub after_a : {K : Type 0} → Order K → K → ℕ → ℕ → (ℕ → Reading) → ℕ → Reading
+after_a o k s i go a = Load (b_word i) (after_b o k s i go a)
+
+abbrev pub visit : {K : Type 0} → Order K → K → ℕ → ℕ → (ℕ → Reading) → Reading
+visit o k s i go = Load (a_word i) (after_a o k s i go)
 
 -- a walk that begins at a link, with at most `left` visits
 abbrev pub walk : {K : Type 0} → Order K → ℕ → K → ℕ → ℕ → ℕ → Reading
@@ -55,9 +61,13 @@ walk o n k s zero (suc i) = last_load s Stuck
 walk o n k s (suc visits) (suc i) =
     if nat_lt i n then visit o k s i (walk o n k s visits) else last_load s Stuck
 
--- one attempt, at a capacity of n nodes
+-- what is left of an attempt that read the sequence s, at a capacity of n nodes
+abbrev pub attempt_after : {K : Type 0} → Order K → ℕ → K → ℕ → Reading
+attempt_after o n k s = Load (root_word (stable_copy_of s)) (walk o n k s n)
+
+-- one attempt
 abbrev pub attempt : {K : Type 0} → Order K → ℕ → K → Reading
-attempt o n k = Load 0 (λ s. Load (root_word (stable_copy_of s)) (walk o n k s n))
+attempt o n k = Load 0 (attempt_after o n k)
 
 -- what is left after these values were loaded; none where there are values after the end
 abbrev pub rest_after : Reading → List ℕ → Option Reading

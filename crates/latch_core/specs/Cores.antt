@@ -1,11 +1,11 @@
 -- What a reader's core has still to do, and how the values that it takes lead it on.
 use Rattle.std.specs.Prelude.{◌≡◌, ℕ, ◌+◌, ◌*◌, ◌<◌, ◌≤◌, List, [], ◌∷◌, ◌++◌, length, Some}
-use Rattle.order_laws.specs.declared.items.Item.{Item}
 use Rattle.order_laws.specs.Orders.{Order}
-use Rattle.word_arena.specs.Words.{root_word, b_word, tag_word, left_word, right_word}
+use Rattle.word_arena.specs.Words.{left_word, right_word}
 use Rattle.latch_core.specs.Sequences.{stable_copy_of}
 use Rattle.latch_core.specs.Attempts.{Answer, Again, Reading, Load, AtItem, AtEmptyLink, last_load}
-use Rattle.latch_core.specs.Attempts.{after_item, visit, walk, attempt, rest_after, IsAttempt}
+use Rattle.latch_core.specs.Attempts.{after_a, after_b, visit, walk, attempt_after, attempt}
+use Rattle.latch_core.specs.Attempts.{rest_after, IsAttempt}
 use Rattle.latch_core.specs.Attempts.{Stuck as AtStuck}
 use Rattle.latch_core.specs.Whole.{Wants}
 use Rattle.latch_core.specs.declared.readers.ReaderCore.{ReaderCore}
@@ -31,17 +31,10 @@ walk_from o k s = walk o s.capacity k s.first s.visits_left
 -- what is left of a key's attempt that stands at a spot, by the place whose value it waits for
 abbrev pub rest_of_attempt : {K : Type 0} → Order K → K → Progress → Awaited → Reading
 rest_of_attempt o k s First = attempt o s.capacity k
-rest_of_attempt o k s Root =
-    Load (root_word (stable_copy_of s.first)) (walk o s.capacity k s.first s.capacity)
+rest_of_attempt o k s Root = attempt_after o s.capacity k s.first
 rest_of_attempt o k s WordA = visit o k s.first s.node (walk_from o k s)
-rest_of_attempt o k s WordB =
-    Load (b_word s.node) (λ b. Load (tag_word s.node) (λ tag.
-    let x : Item = record { a = s.a; b = b; tag = tag } in
-    after_item s.first s.node x (walk_from o k s) (o.comp k x)))
-rest_of_attempt o k s Tag =
-    Load (tag_word s.node) (λ tag.
-    let x : Item = record { a = s.a; b = s.b; tag = tag } in
-    after_item s.first s.node x (walk_from o k s) (o.comp k x))
+rest_of_attempt o k s WordB = after_a o k s.first s.node (walk_from o k s) s.a
+rest_of_attempt o k s Tag = after_b o k s.first s.node (walk_from o k s) s.a s.b
 rest_of_attempt o k s Left = Load (left_word (stable_copy_of s.first) s.node) (walk_from o k s)
 rest_of_attempt o k s Right = Load (right_word (stable_copy_of s.first) s.node) (walk_from o k s)
 rest_of_attempt o k s Found = last_load s.first (AtItem (record { a = s.a; b = s.b; tag = s.tag }))

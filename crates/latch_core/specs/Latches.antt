@@ -4,7 +4,7 @@ use Rattle.std.specs.Prelude.{replicate, Option, Some, None, if◌then◌else◌
 use Rattle.order_laws.specs.declared.items.Item.{Item}
 use Rattle.word_arena.specs.declared.stores.Store.{Store}
 use Rattle.order_laws.specs.Orders.{Order}
-use Rattle.word_arena.specs.Words.{at, HoldsTable, InUse, IsUnreached}
+use Rattle.word_arena.specs.Words.{words_per_node, at, HoldsTable, InUse, IsUnreached}
 use Rattle.word_arena.specs.Stores.{words_after, IsItemWord}
 use Rattle.latch_core.specs.declared.updates.Update.{Update}
 use Rattle.latch_core.specs.Sequences.{stable_copy_of}
@@ -81,7 +81,7 @@ latch_after_step l h s =
 -- before any step: the sequence at its start, and all other words 0
 abbrev pub opening_latch : ℕ → ℕ → Latch
 opening_latch n start =
-    record { words = start ∷ replicate (7 * n + 2) 0; newest_table = []; pending = None }
+    record { words = start ∷ replicate (words_per_node * n + 2) 0; newest_table = []; pending = None }
 
 -- an update is accepted; how many steps it takes is the writer's choice
 abbrev pub latch_with_update : {K : Type 0} → Order K → Latch → Update → ℕ → Latch

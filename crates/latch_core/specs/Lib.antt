@@ -31,3 +31,5 @@ pub mod WriterViews
 pub mod PlanViews
 -- a latch in words that readers share, and what they have loaded of it
 pub mod Latched
+-- attempts whose loads are steps of somebody who learns by them
+pub mod Loading

@@ -39,12 +39,14 @@ abbrev pub latch_refusal : {K : Type 0} → Order K → ℕ → ℕ → Latch �
 latch_refusal o n limit l u =
     refusal_for o n limit (is_some l.pending) l.newest_table (at l.words 0) u
 
--- a memory at rest: both copies hold the core's table, in its trees
+-- a memory at rest: both copies hold the core's table, in its trees, and both trees are red-black
 pub record IsMemoryAtRest (w : WriterView) (m : List ℕ) : Type 0 where
   pub sized : length m ≡ words_for w.capacity
   pub even : stable_copy_of (at m 0) ≡ 0
   pub zero : Holds m w.capacity 0 w.table w.zero_tree
   pub one : Holds m w.capacity 1 w.table w.one_tree
+  pub zero_balanced : CanBeRedBlack w.zero_tree
+  pub one_balanced : CanBeRedBlack w.one_tree
 
 -- the stable copy holds a table in a red-black tree
 abbrev pub IsShallow : ℕ → List ℕ → Type 0

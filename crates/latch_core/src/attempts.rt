@@ -13,10 +13,12 @@
 //!                  no node, or more visits than nodes: failed
 //! ```
 
-ghost use Rattle.std.specs.Prelude.{◌≡◌, length};
+ghost use Rattle.std.specs.Prelude.{◌≡◌, ℕ, ◌+◌, ◌^◌, ◌<◌, length};
 ghost use Rattle.word_arena.specs.Layouts.{capacity_of};
-ghost use Rattle.word_arena.specs.Words.{words_for};
-ghost use Rattle.latch_core.specs.Attempts.{attempt};
+ghost use Rattle.word_arena.specs.Words.{at, words_for};
+ghost use Rattle.latch_core.specs.Attempts.{attempt, attempt_after, last_load};
+ghost use Rattle.latch_core.specs.Whole.{outcome_in, loads_in, outcome_of};
+ghost use Rattle.latch_core.specs.Loading.{found_by, IsReady, HasLoaded, HasTried};
 
 use crate::sequences::{generation, stable_copy};
 use order_laws::{Item, TreeOrder};
@@ -32,7 +34,146 @@ pub enum Attempted {
     Failed,
 }
 
-ghost use Rattle.latch_core.specs.Whole.{outcome_in, loads_in, outcome_of};
+/// How a walk ended.
+#[derive(Clone, Copy, Drop)]
+pub enum Walked {
+    /// At the item that the key is in.
+    At(Item),
+    /// At link 0.
+    Nowhere,
+    /// At a link that leads to no node, or after as many visits as there are nodes.
+    Lost,
+}
+
+/// How the words of a table are loaded: by whom, and what may be loaded and learnt.
+pub trait Loads {
+    /// Who loads them. A load may change what it knows.
+    type Seat;
+
+    /// How many words there are.
+    ghost size: { Self → ℕ };
+
+    /// Whether this word may be loaded next, and what a load gives: before it, the word, its value
+    /// and after it.
+    ghost can_load: { Self → Self.Seat → ℕ → Type 0 };
+
+    ghost load_gives: { Self → Self.Seat → ℕ → ℕ → Self.Seat → Type 0 };
+
+    /// The same of the second load of the sequence.
+    ghost can_end: { Self → Self.Seat → Type 0 };
+
+    ghost end_gives: { Self → Self.Seat → ℕ → Self.Seat → Type 0 };
+
+    /// Loads the word that lies so far behind `word`.
+    fn load(&self, seat: &mut Self::Seat, word: usize, skipped: usize) -> u64
+        requires fits { word + skipped < 2 ^ 64 }
+        requires within { word + skipped < size self.now }
+        requires can { can_load self.now seat.old (word + skipped) }
+        ensures { load_gives self.now seat.old (word + skipped) result seat.new };
+
+    /// Loads the sequence again.
+    fn sequence(&self, seat: &mut Self::Seat) -> u64
+        requires within { 0 < size self.now }
+        requires can { can_end self.now seat.old }
+        ensures { end_gives self.now seat.old result seat.new };
+}
+
+/// Walks the copy that is stable at the first reading of the sequence, and counts the loads.
+#[inline(always)]
+fn walk<O: TreeOrder, W: Loads>(
+    words: &W,
+    seat: &mut W::Seat,
+    l: Layout,
+    key: O::Key,
+    first: u64,
+) -> (Walked, u32)
+    requires sized { W.size words.now ≡ words_for (capacity_of l) }
+    requires ready { IsReady (W.can_load words.now) (W.load_gives words.now) (W.can_end words.now)
+        seat.old (attempt_after O.order (capacity_of l) key first) }
+    ensures { HasLoaded (W.load_gives words.now) seat.old
+        (attempt_after O.order (capacity_of l) key first) seat.new
+        (last_load first (found_by result.0)) result.1 }
+{
+    let copy = stable_copy(first);
+    let (left, right) = (places::left_of(copy, 0), places::right_of(copy, 0));
+    let mut link = words.load(seat, places::root_of(copy), 0);
+    let mut loads = 2;
+    // Link 0 wraps round to a number that no node has, so one comparison tells a node.
+    while link.wrapping_sub(1) < l.capacity() as u64 && loads < 4 * l.capacity() + 2 {
+        // Node 0's words, and as many further as the nodes before this one have.
+        let skipped = places::words_before((link - 1) as u32);
+        let a = words.load(seat, places::a_of(0), skipped);
+        let b = words.load(seat, places::b_of(0), skipped);
+        let tag = words.load(seat, places::tag_of(0), skipped);
+        let item = Item { a, b, tag };
+        loads += 4;
+        link = match O::comp(key, &item) {
+            Ordering::Less => words.load(seat, left, skipped),
+            Ordering::Greater => words.load(seat, right, skipped),
+            Ordering::Equal => return (Walked::At(item), loads - 1),
+        };
+    }
+    if link == 0 {
+        (Walked::Nowhere, loads)
+    } else {
+        (Walked::Lost, loads)
+    }
+}
+
+/// An attempt that read the sequence `first`, and how many loads it made.
+#[inline(always)]
+pub fn attempt_from<O: TreeOrder, W: Loads>(
+    words: &W,
+    seat: &mut W::Seat,
+    l: Layout,
+    key: O::Key,
+    first: u64,
+) -> (Attempted, u32)
+    requires sized { W.size words.now ≡ words_for (capacity_of l) }
+    requires ready { IsReady (W.can_load words.now) (W.load_gives words.now) (W.can_end words.now)
+        seat.old (attempt_after O.order (capacity_of l) key first) }
+    ensures { HasTried (W.load_gives words.now) (W.end_gives words.now) O.order (capacity_of l) key
+        first seat.old seat.new (outcome_of result.0) result.1 }
+{
+    let (walked, loads) = walk::<O, W>(words, seat, l, key, first);
+    let last = words.sequence(seat);
+    let came_to = match walked {
+        Walked::At(item) if last == first => Attempted::Answered(Some(item), generation(first)),
+        Walked::Nowhere if last == first => Attempted::Answered(None, generation(first)),
+        _ => Attempted::Failed,
+    };
+    (came_to, loads + 1)
+}
+
+/// Words that stand still. Nobody learns by a load.
+#[derive(Drop)]
+struct Still<'a> {
+    words: &'a [u64],
+}
+
+impl Loads for Still<'_> {
+    type Seat = ();
+
+    ghost size = { λ it. length it.words.now };
+
+    ghost can_load = { λ it s w. Unit {0} };
+
+    ghost load_gives = { λ it s w x s'. x ≡ at it.words.now w };
+
+    ghost can_end = { λ it s. Unit {0} };
+
+    ghost end_gives = { λ it s x s'. x ≡ at it.words.now 0 };
+
+    #[inline(always)]
+    fn load(&self, _seat: &mut (), word: usize, skipped: usize) -> u64 {
+        self.words[word..][skipped]
+    }
+
+    #[inline(always)]
+    fn sequence(&self, _seat: &mut ()) -> u64 {
+        self.words[0]
+    }
+}
 
 /// Makes an attempt in words that stand still, and counts its loads. The second load of the
 /// sequence is counted and not made.
@@ -43,36 +184,5 @@ pub fn attempt_in<O: TreeOrder>(words: &[u64], l: Layout, key: O::Key) -> (Attem
     ensures loads { result.1 ≡ loads_in words.now (attempt O.order (capacity_of l) key) }
 {
     let first = words[0];
-    let copy = stable_copy(first);
-    // The words from node 0's links on: a node's own then lie as far in as its item does.
-    let (below, above) = (
-        &words[places::left_of(copy, 0)..],
-        &words[places::right_of(copy, 0)..],
-    );
-    let mut link = words[places::root_of(copy)];
-    let mut loads = 2;
-    // Link 0 wraps round to a number that no node has, so one comparison tells a node.
-    while link.wrapping_sub(1) < l.capacity() as u64 && loads < 4 * l.capacity() + 2 {
-        // Node 0's words, and seven further for each node before this one.
-        let skipped = 7 * (link - 1) as usize;
-        let item = Item {
-            a: words[places::a_of(0) + skipped],
-            b: words[places::b_of(0) + skipped],
-            tag: words[places::tag_of(0) + skipped],
-        };
-        loads += 4;
-        link = match O::comp(key, &item) {
-            Ordering::Less => below[skipped],
-            Ordering::Greater => above[skipped],
-            Ordering::Equal => {
-                return (Attempted::Answered(Some(item), generation(first)), loads);
-            }
-        };
-    }
-    let came_to = if link == 0 {
-        Attempted::Answered(None, generation(first))
-    } else {
-        Attempted::Failed
-    };
-    (came_to, loads + 1)
+    attempt_from::<O, Still>(&Still { words }, &mut (), l, key, first)
 }

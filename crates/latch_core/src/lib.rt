@@ -27,12 +27,12 @@
 //! each copy. The item's words are stored once, while no link of either copy leads to the node. An
 //! erase takes the node out of copy 0 and then out of copy 1 and leaves its words as they are. From
 //! then on the node is free: the next update, which begins after the last store of this one, may
-//! store another item there. A reader that still stands on the node began two flips ago, so its
-//! second reading differs and what it loaded is thrown away.
+//! store another item there. A reader that still stands on the node began before the last flip, so
+//! its second reading differs and what it loaded is thrown away.
 //!
-//! **A walk over torn words ends.** Between two flips a reader may load words of different updates,
-//! and the links may lead it anywhere. So each link is compared with the number of nodes and visits
-//! are counted: an attempt ends after at most `4N + 3` loads, whatever it loads.
+//! **A walk over torn words ends.** Between its two readings a reader may load words of different
+//! updates, and the links may lead it anywhere. So each link is compared with the number of nodes
+//! and visits are counted: an attempt ends after at most `4N + 3` loads, whatever it loads.
 //!
 //! **Not promised:** that a reader beside a writer that never rests ever returns, though it tries
 //! again at most once for each flip; anything of weak memory orders. Here a reader is given one
@@ -54,7 +54,7 @@ pub mod sequences;
 pub mod updates;
 pub mod writers;
 
-pub use attempts::{Attempted, attempt_in};
+pub use attempts::{Attempted, Loads, attempt_from, attempt_in};
 pub use batches::Entries;
 pub use readers::{ReaderCore, Taken};
 pub use updates::Update;

@@ -6,7 +6,7 @@ use Rattle.atomic_table.specs.Seated.{TableId}
 use Rattle.order_laws.specs.Orders.{Order}
 use Rattle.word_arena.specs.declared.layouts.Layout.{Layout}
 use Rattle.word_arena.specs.Layouts.{capacity_of}
-use Rattle.word_arena.specs.Words.{HoldsTable}
+use Rattle.word_arena.specs.Words.{HoldsTable, words_per_node}
 use Rattle.latch_core.specs.Sequences.{generation_of, stable_copy_of}
 use Rattle.latch_core.specs.Histories.{replay}
 use Rattle.latch_core.specs.Latches.{opening_latch}
@@ -24,7 +24,7 @@ use Rattle.latch_table.proofs.RuleLemmas.{opens}
 module _ {K : Type 0} (o : Order K) (n start : ℕ) (even : stable_copy_of start ≡ 0) where
   latched_opening : IsLatched o n (generation_of start) (opening_latch n start).words []
   latched_opening = record {
-    sized = omega (arith, length-replicate {A = ℕ} (7 * n + 2) 0);
+    sized = omega (arith, length-replicate {A = ℕ} (words_per_node * n + 2) 0);
     counted = omega arith;
     is_table = tt;
     fits = omega arith;

@@ -1,134 +1,102 @@
 -- One attempt of a reader: a walk, whose loads are those of its seat.
-use Rattle.std.proofs.Common.{◌≡◌, ◌≢◌, ℕ, ◌+◌, ◌-◌, ◌*◌, ◌<◌, ◌≤◌, List, [], ◌∷◌, ◌++◌, Option, Some, refl, sym, ◌∙◌, ap, subst, arith, append_assoc, append-nil}
+use Rattle.std.proofs.Common.{◌≡◌, ℕ, List, [], ◌∷◌, ◌++◌, Option, Some, None, true, false, cond, refl, sym, ◌∙◌, ap, subst, append_assoc, append-nil}
+use Rattle.std.specs.Prelude.{◌==◌}
+use Rattle.std.proofs.lemmas.Bool.{eqb-true}
 use mathlib.Core.List.{IsPrefix}
 use Rattle.atomic_table.specs.Table.{Me}
-use Rattle.std.specs.declared.cmp.Ordering.{Ordering}
+use Rattle.atomic_table.specs.Seated.{TableId}
 use Rattle.order_laws.specs.declared.items.Item.{Item}
 use Rattle.order_laws.specs.Orders.{Order}
 use Rattle.order_laws.specs.Tables.{look}
 use Rattle.order_laws.proofs.Lists.{IsPrefix-along, IsPrefix-whole}
 use Rattle.latch_core.specs.declared.updates.Update.{Update}
-use Rattle.word_arena.specs.Words.{root_word}
-use Rattle.latch_core.specs.Sequences.{generation_of, stable_copy_of}
+use Rattle.latch_core.specs.Sequences.{generation_of}
 use Rattle.latch_core.specs.Histories.{replay}
-use Rattle.latch_core.specs.Attempts.{Reading, Load, Ends, Outcome, Answer, Again, outcome, last_load, after_item, visit, walk, attempt, rest_after, IsAttempt}
-use Rattle.latch_core.specs.Whole.{Wants}
+use Rattle.latch_core.specs.Attempts.{Reading, Load, Ends, Outcome, Answer, Again, WalkEnd, AtItem, AtEmptyLink, Stuck, outcome, last_load, attempt, attempt_after, rest_after, IsAttempt}
 use Rattle.latch_core.proofs.ReadingLemmas.{rest_push}
 use Rattle.latch_core.proofs.WalkLemmas.{attempt_length}
-use Rattle.latch_core.proofs.LoopLoadLemmas.{IsGoing, IsIn, goes_in, goes_on, in_node, wants}
+use Rattle.latch_core.specs.Loading.{Leads, IsReady, HasTried}
+use Rattle.latch_core.proofs.LoadingLemmas.{leads_along}
 use Rattle.latch_core.specs.Latched.{loads_of, IsKept, StandAll}
 use Rattle.latch_core.proofs.LatchedLemmas.{wanted_kept, loads_push}
 use Rattle.latch_table.specs.declared.knowledge.ReaderKnowledge.{ReaderKnowledge}
 use Rattle.latch_table.specs.declared.knowledge.Knowledge.{Knowledge}
+use Rattle.latch_table.specs.declared.readers.Try.{Try}
 use Rattle.latch_table.specs.declared.readers.Try.TheVariants.{Answered, Retry}
 use Rattle.latch_table.specs.Seats.{reader_knowledge, reader_of, with_sequence, with_word}
-use Rattle.latch_table.specs.Rule.{LoadsSequence, as_reader}
+use Rattle.latch_table.specs.Rule.{LoadsSequence}
 use Rattle.latch_table.specs.Readers.{KnowsMore, Attempted, Tried, Searched, Searches}
-use Rattle.latch_table.specs.declared.readers.attempts.Walked.{Walked}
-use Rattle.latch_table.specs.Walks.{MayLoad, HasWalked, found_by}
+use Rattle.latch_table.specs.Walks.{MayLoad, IsReading, LearnsWord, LearnsSequence}
 
--- a reader's seat after a load
-pub still_reading : {S : Type 0} (m m' : Me S Knowledge) (e : ReaderKnowledge) → m ≡ (reader_knowledge (reader_of m.0), []) → m' ≡ as_reader e m → (m' ≡ (reader_knowledge (reader_of m'.0), [])) × (reader_of m'.0 ≡ e)
-still_reading {S} m m' e reads is =
-    let here : m' ≡ (reader_knowledge e, []) = is ∙ (λ i. as_reader e (reads i)) in
-    let known : reader_of m'.0 ≡ e = ap (λ (z : Me S Knowledge). reader_of z.0) is in
-    (here ∙ (λ i. (reader_knowledge (sym known i), [])), known)
-
--- the word that an attempt wants is kept, wherever what it has loaded stands
-pub wanted_is_kept : {K : Type 0} (o : Order K) (n : ℕ) (k : K) (s : ℕ) (values : List ℕ) (word : ℕ) → Wants o n k (s ∷ values) word → (m : List ℕ) → StandAll n m (loads_of (attempt o n k) (s ∷ values)) → IsKept n m word
-wanted_is_kept o n k s values word w m = wanted_kept o n k m (s ∷ values) word w.0 w.1
-
--- what an attempt at the key k that first read s has loaded, and what it has left
-pub record IsAt {K : Type 0} (o : Order K) (n : ℕ) (k : K) (s : ℕ) (before e : ReaderKnowledge) (count : ℕ) (go : Reading) : Type 0 where
-  pub capacity : before.capacity ≡ n
+-- a walk that ended so, whose loads were those of a reader who learnt nothing else
+pub record HasWalked {K : Type 0} (o : Order K) (k : K) (first : ℕ) (before e : ReaderKnowledge) (found : WalkEnd) : Type 0 where
   pub same : e ≡ record before { loads = e.loads; ended = e.ended }
   pub values : List ℕ
-  pub made : e.loads ≡ loads_of (attempt o n k) (s ∷ values)
-  pub inside : IsIn o n k (s ∷ values) count go
+  pub loads : e.loads ≡ loads_of (attempt o e.capacity k) (first ∷ values)
+  pub rest : rest_after (attempt o e.capacity k) (first ∷ values) ≡ Some (last_load first found)
 
--- and where that is a walk from a link
-pub record IsOn {K : Type 0} (o : Order K) (n : ℕ) (k : K) (s : ℕ) (before e : ReaderKnowledge) (count link : ℕ) : Type 0 where
-  pub capacity : before.capacity ≡ n
-  pub same : e ≡ record before { loads = e.loads; ended = e.ended }
-  pub values : List ℕ
-  pub made : e.loads ≡ loads_of (attempt o n k) (s ∷ values)
-  pub going : IsGoing o n k s (s ∷ values) count link
+module _ {T S K : Type 0} (table_of : T → TableId) (me_of : T → Me S Knowledge) (o : Order K) (n : ℕ) (k : K) where
+  abbrev known : T → ReaderKnowledge
+  known s = reader_of (me_of s).0
 
-module _ {K : Type 0} (o : Order K) (n : ℕ) (k : K) (s : ℕ) (before : ReaderKnowledge) where
-  capacity_at : (e : ReaderKnowledge) (count : ℕ) (go : Reading) → IsAt o n k s before e count go → e.capacity ≡ n
-  capacity_at e count go at_e = ap (λ (z : ReaderKnowledge). z.capacity) at_e.same ∙ at_e.capacity
+  abbrev gives : T → ℕ → ℕ → T → Type 0
+  gives s w x s' = (table_of s' ≡ table_of s) × LearnsWord (me_of s) w x (me_of s')
 
-  pub may_load : (e : ReaderKnowledge) (count word at_word : ℕ) (go : ℕ → Reading) → IsAt o n k s before e count (Load word go) → at_word ≡ word → MayLoad o k e at_word
-  may_load e count word at_word go at_e is =
-      subst (λ c. (first : ℕ) × (values : List ℕ) × (e.loads ≡ loads_of (attempt o c k) (first ∷ values)) × Wants o c k (first ∷ values) at_word) (sym (capacity_at e count (Load word go) at_e))
-      (s, at_e.values, at_e.made, wants o n k s (s ∷ at_e.values) count word at_word go at_e.inside is)
+  -- a seat that has loaded these values of an attempt, and learnt nothing else
+  record IsAlong (table : TableId) (begun : ReaderKnowledge) (s : T) (values : List ℕ) : Type 0 where
+    reading : IsReading table (table_of s) (me_of s)
+    same : known s ≡ record begun { loads = (known s).loads; ended = (known s).ended }
+    made : (known s).loads ≡ loads_of (attempt o n k) values
 
-  pub loads_on : (e e' : ReaderKnowledge) (count word at_word x : ℕ) (go : ℕ → Reading) → IsAt o n k s before e count (Load word go) → at_word ≡ word → e' ≡ with_word at_word x e → IsAt o n k s before e' (count + 1) (go x)
-  loads_on e e' count word at_word x go at_e is there =
-      let at_own : e' ≡ with_word word x e = there ∙ (λ i. with_word (is i) x e) in
+  goes_along : (table : TableId) (begun : ReaderKnowledge) (s s' : T) (v : List ℕ) (w x : ℕ) (go : ℕ → Reading) → IsAlong table begun s v
+      → rest_after (attempt o n k) v ≡ Some (Load w go) → gives s w x s' → IsAlong table begun s' (v ++ x ∷ [])
+  goes_along table begun s s' v w x go h e g =
+      let there : known s' ≡ with_word w x (known s) = ap (λ (m : Me S Knowledge). reader_of m.0) g.1 in
       record {
-        capacity = at_e.capacity;
-        same = there ∙ (λ i. with_word at_word x (at_e.same i)) ∙ (λ i. record before { loads = (sym there i).loads; ended = (sym there i).ended });
-        values = at_e.values ++ x ∷ [];
-        made = ap (λ (z : ReaderKnowledge). z.loads) at_own ∙ ap (λ (z : List (ℕ × ℕ)). z ++ (word, x) ∷ []) at_e.made ∙ sym (loads_push (attempt o n k) (s ∷ at_e.values) word go x at_e.inside.rest);
-        inside = goes_in o n k s (s ∷ at_e.values) (s ∷ (at_e.values ++ x ∷ [])) count word x go at_e.inside refl;
+        reading = (g.0 ∙ h.reading.0, g.1 ∙ (λ i. (reader_knowledge (sym there i), [])));
+        same = there ∙ (λ i. with_word w x (h.same i)) ∙ (λ i. record begun { loads = (sym there i).loads; ended = (sym there i).ended });
+        made = ap (λ (z : ReaderKnowledge). z.loads) there ∙ ap (λ (z : List (ℕ × ℕ)). z ++ (w, x) ∷ []) h.made ∙ sym (loads_push (attempt o n k) v w go x e);
       }
 
-  pub first_at : before.capacity ≡ n → before.loads ≡ (0, s) ∷ [] → IsAt o n k s before before 1 (Load (root_word (stable_copy_of s)) (walk o n k s n))
-  first_at cap made = record { capacity = cap; same = refl; values = []; made = made; inside = record { counted = refl; rest = refl } }
+  module _ (table : TableId) (begun : ReaderKnowledge) (capacity : begun.capacity ≡ n) (first : ℕ) (loads : begun.loads ≡ (0, first) ∷ []) (s : T) (reading : IsReading table (table_of s) (me_of s)) (is : known s ≡ begun) where
+    begins : IsAlong table begun s (first ∷ [])
+    begins = record { reading = reading; same = is ∙ (λ i. record begun { loads = (sym is i).loads; ended = (sym is i).ended }); made = ap (λ (z : ReaderKnowledge). z.loads) is ∙ loads }
 
-  pub walk_starts : (e : ReaderKnowledge) (link : ℕ) → IsAt o n k s before e 2 (walk o n k s n link) → IsOn o n k s before e 2 link
-  walk_starts e link at_e = record {
-    capacity = at_e.capacity;
-    same = at_e.same;
-    values = at_e.values;
-    made = at_e.made;
-    going = record { visits_left = n; few = omega arith; counted = at_e.inside.counted; rest = at_e.inside.rest };
-  }
+    led : (v : List ℕ) (m : T) (r : Reading) → Leads gives s (attempt_after o n k first) v m r → IsAlong table begun m (first ∷ v) × (rest_after (attempt o n k) (first ∷ v) ≡ Some r)
+    led v m r h = leads_along gives (IsAlong table begun) (attempt o n k) (goes_along table begun) s (attempt_after o n k first) (first ∷ []) begins refl v m r h
 
-  module _ (e : ReaderKnowledge) (count link : ℕ) (on : IsOn o n k s before e count link) (some : link ≢ 0) (room : count < 4 * n + 2) where
-    abbrev left : ℕ
-    left = on.going.visits_left - 1
+    may_load : (v : List ℕ) (m : T) (w : ℕ) (go : ℕ → Reading) → IsAlong table begun m (first ∷ v) → rest_after (attempt o n k) (first ∷ v) ≡ Some (Load w go) → MayLoad (known m) w
+    may_load v m w go h e =
+        let at_own : (known m).capacity ≡ n = ap (λ (z : ReaderKnowledge). z.capacity) h.same ∙ capacity in (
+          (0, first),
+          loads_of (attempt_after o n k first) v,
+          h.made,
+          λ words st. subst (λ c. IsKept c words w) (sym at_own)
+              (wanted_kept o n k words (first ∷ v) w go e (subst (λ c. StandAll c words (loads_of (attempt o n k) (first ∷ v))) at_own st)),
+        )
 
-    pub enters : link ≤ n → IsAt o n k s before e count (visit o k s (link - 1) (walk o n k s left))
-    enters low = record {
-      capacity = on.capacity;
-      same = on.same;
-      values = on.values;
-      made = on.made;
-      inside = in_node o n k s (s ∷ on.values) count link on.going some low room;
+    pub ready : IsReady (λ m w. IsReading table (table_of m) (me_of m) × MayLoad (known m) w) gives (λ m. IsReading table (table_of m) (me_of m)) s (attempt_after o n k first)
+    ready = record {
+      loads = λ v m w go h some. let a = led v m (Load w go) h in (a.0.reading, may_load v m w go a.0 a.1);
+      ends = λ v m r h. (led v m r h).0.reading;
     }
 
-    pub leaves : (e' : ReaderKnowledge) (next : ℕ) → IsAt o n k s before e' (count + 4) (walk o n k s left next) → IsOn o n k s before e' (count + 4) next
-    leaves e' next at_e = record {
-      capacity = at_e.capacity;
-      same = at_e.same;
-      values = at_e.values;
-      made = at_e.made;
-      going = goes_on o n k s (s ∷ on.values) (s ∷ at_e.values) count link next on.going some room at_e.inside;
-    }
-
--- the rest of a visit, by the item that was loaded
-pub turns : {K : Type 0} (o : Order K) (n : ℕ) (k : K) (s : ℕ) (before e : ReaderKnowledge) (count i : ℕ) (x : Item) (go : ℕ → Reading) (c c' : Ordering) → c ≡ c' → IsAt o n k s before e count (after_item s i x go c) → IsAt o n k s before e count (after_item s i x go c')
-turns o n k s before e count i x go c c' is at_e = subst (λ d. IsAt o n k s before e count (after_item s i x go d)) is at_e
-
--- the end of a walk
-at_link : {K : Type 0} (o : Order K) (n : ℕ) (k : K) (s : ℕ) (before e : ReaderKnowledge) (walked : Walked) (values : List ℕ) → before.capacity ≡ n → e ≡ record before { loads = e.loads; ended = e.ended }
-    → e.loads ≡ loads_of (attempt o n k) (s ∷ values) → rest_after (attempt o n k) (s ∷ values) ≡ Some (last_load s (found_by walked)) → HasWalked o k s before e walked
-at_link o n k s before e walked values cap same made rest =
-    let at_own : e.capacity ≡ n = ap (λ (z : ReaderKnowledge). z.capacity) same ∙ cap in
-    record {
-      same = same;
-      values = values;
-      loads = subst (λ c. e.loads ≡ loads_of (attempt o c k) (s ∷ values)) (sym at_own) made;
-      rest = subst (λ c. rest_after (attempt o c k) (s ∷ values) ≡ Some (last_load s (found_by walked))) (sym at_own) rest;
-    }
-
-pub leaves_node : {K : Type 0} (o : Order K) (n : ℕ) (k : K) (s : ℕ) (before e : ReaderKnowledge) (walked : Walked) (count : ℕ) → IsAt o n k s before e count (last_load s (found_by walked)) → HasWalked o k s before e walked
-leaves_node o n k s before e walked count at_e = at_link o n k s before e walked at_e.values at_e.capacity at_e.same at_e.made at_e.inside.rest
+    -- the walk of a whole attempt
+    pub walked : (v : List ℕ) (m : T) (found : WalkEnd) → Leads gives s (attempt_after o n k first) v m (last_load first found) → IsReading table (table_of m) (me_of m) × HasWalked o k first begun (known m) found
+    walked v m found h =
+        let a = led v m (last_load first found) h in
+        let at_own : (known m).capacity ≡ n = ap (λ (z : ReaderKnowledge). z.capacity) a.0.same ∙ capacity in (
+          a.0.reading,
+          record {
+            same = a.0.same;
+            values = v;
+            loads = subst (λ c. (known m).loads ≡ loads_of (attempt o c k) (first ∷ v)) (sym at_own) a.0.made;
+            rest = subst (λ c. rest_after (attempt o c k) (first ∷ v) ≡ Some (last_load first found)) (sym at_own) a.1;
+          },
+        )
 
 -- the second reading of the sequence
-module _ {K : Type 0} (o : Order K) (k : K) (before begun e : ReaderKnowledge) (s : ℕ) (walked : Walked) (all : List Update) (first : LoadsSequence o before s all) (is_begun : begun ≡ with_sequence s all before) (walk_is : HasWalked o k s begun e walked) where
+module _ {K : Type 0} (o : Order K) (k : K) (before begun e : ReaderKnowledge) (s : ℕ) (found : WalkEnd) (all : List Update) (first : LoadsSequence o before s all) (is_begun : begun ≡ with_sequence s all before) (walk_is : HasWalked o k s begun e found) where
   module _ (t : ℕ) (known : List Update) (looks : LoadsSequence o e t known) where
     abbrev e' : ReaderKnowledge
     e' = with_sequence t known e
@@ -142,11 +110,11 @@ module _ {K : Type 0} (o : Order K) (k : K) (before begun e : ReaderKnowledge) (
     abbrev values : List ℕ
     values = s ∷ walk_is.values
 
-    ended : rest_after (attempt o n k) (values ++ t ∷ []) ≡ Some (Ends (outcome s t (found_by walked)))
-    ended = rest_push (attempt o n k) values 0 (λ x. Ends (outcome s x (found_by walked))) t walk_is.rest
+    ended : rest_after (attempt o n k) (values ++ t ∷ []) ≡ Some (Ends (outcome s t (found)))
+    ended = rest_push (attempt o n k) values 0 (λ x. Ends (outcome s x (found))) t walk_is.rest
 
     loads_now : e'.ended ≡ loads_of (attempt o n k) (values ++ t ∷ [])
-    loads_now = ap (λ (z : List (ℕ × ℕ)). z ++ (0, t) ∷ []) walk_is.loads ∙ sym (loads_push (attempt o n k) values 0 (λ x. Ends (outcome s x (found_by walked))) t walk_is.rest)
+    loads_now = ap (λ (z : List (ℕ × ℕ)). z ++ (0, t) ∷ []) walk_is.loads ∙ sym (loads_push (attempt o n k) values 0 (λ x. Ends (outcome s x (found))) t walk_is.rest)
 
     grows_now : KnowsMore before e'
     grows_now = record {
@@ -159,7 +127,7 @@ module _ {K : Type 0} (o : Order K) (k : K) (before begun e : ReaderKnowledge) (
     seen_now : e'.seen ≡ before.seen ++ s ∷ t ∷ []
     seen_now = ap (λ (z : ReaderKnowledge). z.seen ++ t ∷ []) along ∙ append_assoc before.seen (s ∷ []) (t ∷ [])
 
-    module _ (out : Outcome) (is : outcome s t (found_by walked) ≡ out) where
+    module _ (out : Outcome) (is : outcome s t (found) ≡ out) where
       whole : IsAttempt o n k (values ++ t ∷ []) out
       whole = ended ∙ ap (λ (z : Outcome). Some (Ends z)) is
 
@@ -179,7 +147,7 @@ module _ {K : Type 0} (o : Order K) (k : K) (before begun e : ReaderKnowledge) (
           (subst (λ v. IsAttempt o n k v out) tail whole)
           (subst (λ v. e'.ended ≡ loads_of (attempt o n k) v) tail loads_now)
 
-    pub answers_now : (a : Option Item) (g : ℕ) → t ≡ s → outcome s t (found_by walked) ≡ Answer a g → Tried o k before e' (Answered a g)
+    pub answers_now : (a : Option Item) (g : ℕ) → t ≡ s → outcome s t (found) ≡ Answer a g → Tried o k before e' (Answered a g)
     answers_now a g same is =
         let right : Answer a g ≡ Answer (look o k (replay o [] known)) (generation_of s) = right_now (Answer a g) is same in
         let found : a ≡ look o k (replay o [] known) = cc in
@@ -192,8 +160,63 @@ module _ {K : Type 0} (o : Order K) (k : K) (before begun e : ReaderKnowledge) (
           record { floored = looks.floored; counted = looks.counted ∙ ap generation_of same ∙ sym of; found = found },
         )
 
-    pub retries_now : outcome s t (found_by walked) ≡ Again → Tried o k before e' Retry
+    pub retries_now : outcome s t (found) ≡ Again → Tried o k before e' Retry
     retries_now is = (s, t, seen_now, (λ same. absurd (let wrong = right_now Again is same in cc)), grows_now, attempted Again is, looks.floored)
+
+-- an answer is given only where the two numbers are the same
+same_number : (s t : ℕ) (found : WalkEnd) (a : Option Item) (g : ℕ) → outcome s t found ≡ Answer a g → t ≡ s
+same_number s t Stuck a g e = absurd (cc)
+same_number s t (AtItem x) a g e =
+    elim (s == t) as (λ b. (s == t) ≡ b → cond b (Answer (Some x) (generation_of s)) Again ≡ Answer a g → t ≡ s) [
+      | true ↦ λ is h. sym (eqb-true s t is)
+      | false ↦ λ is h. absurd (cc)
+    ] refl e
+same_number s t AtEmptyLink a g e =
+    elim (s == t) as (λ b. (s == t) ≡ b → cond b (Answer None (generation_of s)) Again ≡ Answer a g → t ≡ s) [
+      | true ↦ λ is h. sym (eqb-true s t is)
+      | false ↦ λ is h. absurd (cc)
+    ] refl e
+
+-- what a try gives, as an outcome
+abbrev outcome_of_try : Try → Outcome
+outcome_of_try (Answered a g) = Answer a g
+outcome_of_try Retry = Again
+
+-- a whole attempt of a reader, whose seat has loaded the sequence once
+module _ {T S K : Type 0} (table_of : T → TableId) (me_of : T → Me S Knowledge) (o : Order K) (n : ℕ) (k : K) (table : TableId) (before : ReaderKnowledge) (capacity : before.capacity ≡ n) (first : ℕ) (s : T) (own : table_of s ≡ table) (learns : (all : List Update) × LoadsSequence o before first all × (me_of s ≡ (reader_knowledge (with_sequence first all before), []))) where
+  abbrev begun : ReaderKnowledge
+  begun = with_sequence first learns.0 before
+
+  begun_is : reader_of (me_of s).0 ≡ begun
+  begun_is = ap (λ (m : Me S Knowledge). reader_of m.0) learns.2
+
+  begun_reads : IsReading table (table_of s) (me_of s)
+  begun_reads = (own, learns.2 ∙ (λ i. (reader_knowledge (sym begun_is i), [])))
+
+  pub ready_now : IsReady (λ m w. IsReading table (table_of m) (me_of m) × MayLoad (reader_of (me_of m).0) w) (λ m w x m'. (table_of m' ≡ table_of m) × LearnsWord (me_of m) w x (me_of m')) (λ m. IsReading table (table_of m) (me_of m)) s (attempt_after o n k first)
+  ready_now = ready table_of me_of o n k table begun capacity first refl s begun_reads begun_is
+
+  module _ (s' : T) (out : Outcome) (loads : ℕ) (h : HasTried (λ m w x m'. (table_of m' ≡ table_of m) × LearnsWord (me_of m) w x (me_of m')) (λ m x m'. (table_of m' ≡ table_of m) × LearnsSequence o (me_of m) x (me_of m')) o n k first s s' out loads) where
+    there : IsReading table (table_of h.m) (me_of h.m) × HasWalked o k first begun (reader_of (me_of h.m).0) h.found
+    there = walked table_of me_of o n k table begun capacity first refl s begun_reads begun_is h.values h.m h.found h.leads
+
+    ends_is : reader_of (me_of s').0 ≡ with_sequence h.last h.ended.1.0 (reader_of (me_of h.m).0)
+    ends_is = ap (λ (m : Me S Knowledge). reader_of m.0) h.ended.1.2
+
+    pub table_now : table_of s' ≡ table
+    table_now = h.ended.0 ∙ there.0.0
+
+    pub reads_now : me_of s' ≡ (reader_knowledge (reader_of (me_of s').0), [])
+    reads_now = h.ended.1.2 ∙ (λ i. (reader_knowledge (sym ends_is i), []))
+
+    pub tried_now : (t : Try) → outcome_of_try t ≡ out → Tried o k before (reader_of (me_of s').0) t
+    tried_now (Answered a g) is =
+        let comes = sym h.comes_to ∙ sym is in
+        subst (λ (e : ReaderKnowledge). Tried o k before e (Answered a g)) (sym ends_is)
+        (answers_now o k before begun (reader_of (me_of h.m).0) first h.found learns.0 learns.1 refl there.1 h.last h.ended.1.0 h.ended.1.1 a g (same_number first h.last h.found a g comes) comes)
+    tried_now Retry is =
+        subst (λ (e : ReaderKnowledge). Tried o k before e Retry) (sym ends_is)
+        (retries_now o k before begun (reader_of (me_of h.m).0) first h.found learns.0 learns.1 refl there.1 h.last h.ended.1.0 h.ended.1.1 (sym h.comes_to ∙ sym is))
 
 -- one attempt after another
 grows_along : (a b c : ReaderKnowledge) → KnowsMore a b → KnowsMore b c → KnowsMore a c

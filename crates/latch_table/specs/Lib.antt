@@ -1,3 +1,4 @@
+pub mod Limits
 pub mod Seats
 pub mod Rule
 pub mod Writers

@@ -6,9 +6,7 @@ use Rattle.order_laws.specs.Tables.{look}
 use Rattle.word_arena.specs.Words.{at}
 use Rattle.latch_core.specs.Sequences.{generation_of}
 use Rattle.latch_core.specs.Histories.{replay}
-use Rattle.latch_core.specs.Attempts.{Answer, attempt, IsAttempt, Stand}
-use Rattle.latch_core.specs.declared.readers.ReaderCore.{ReaderCore}
-use Rattle.latch_core.specs.Cores.{capacity_of_core, key_of_core, HasTaken}
+use Rattle.latch_core.specs.Attempts.{Answer, attempt, IsAttempt}
 use Rattle.latch_table.specs.declared.knowledge.WriterKnowledge.{WriterKnowledge}
 use Rattle.latch_core.specs.Latched.{loads_of}
 
@@ -21,13 +19,3 @@ pub record FindsIn {K : Type 0} (o : Order K) (n : ℕ) (k : K) (p : WriterKnowl
   pub whole : IsAttempt o n k values (Answer r.0 r.1)
   pub loaded : loads ≡ loads_of (attempt o n k) values
   pub few : length values ≤ 4 * length (replay o [] p.known) + 3
-
--- the lookup on its way: what it has loaded of the writer's picture led to the core
-pub record IsLookingUp {O K : Type 0} (o : Order K) (n : ℕ) (k : K) (p : WriterKnowledge)
-    (made : List (ℕ × ℕ)) (core : ReaderCore O K) : Type 0 where
-  pub values : List ℕ
-  pub loads : made ≡ loads_of (attempt o n k) values
-  pub stand : Stand p.picture (attempt o n k) values
-  pub capacity : capacity_of_core core ≡ n
-  pub key : key_of_core core ≡ k
-  pub leads : HasTaken o values core

@@ -1,32 +1,44 @@
--- A reader's attempt on its way.
-use Rattle.std.specs.Prelude.{◌≡◌, ℕ, List, ◌∷◌, Some}
+-- The shared words as a seat loads them in an attempt.
+use Rattle.std.specs.Prelude.{◌≡◌, ℕ, List, [], ◌∷◌, ◌++◌}
+use Rattle.atomic_table.specs.Table.{Me}
+use Rattle.atomic_table.specs.Seated.{TableId}
 use Rattle.order_laws.specs.Orders.{Order}
-use Rattle.latch_core.specs.Attempts.{WalkEnd, AtItem, AtEmptyLink, Stuck, attempt, last_load}
-use Rattle.latch_core.specs.Attempts.{rest_after}
-use Rattle.latch_core.specs.Whole.{Wants}
-use Rattle.latch_core.specs.Latched.{loads_of}
+use Rattle.word_arena.specs.Words.{at}
+use Rattle.latch_core.specs.declared.updates.Update.{Update}
+use Rattle.latch_core.specs.Latched.{IsKept, StandAll}
 use Rattle.latch_table.specs.declared.knowledge.ReaderKnowledge.{ReaderKnowledge}
-use Rattle.latch_table.specs.declared.readers.attempts.Walked.{Walked}
-use Rattle.latch_table.specs.declared.readers.attempts.Walked.TheVariants.{At, Nowhere, Lost}
+use Rattle.latch_table.specs.declared.knowledge.Knowledge.{Knowledge}
+use Rattle.latch_table.specs.Seats.{reader_of, reader_knowledge, with_sequence, with_word}
+use Rattle.latch_table.specs.Seats.{writer_of, writer_knowledge, with_loads}
+use Rattle.latch_table.specs.Rule.{LoadsSequence}
 
--- its attempt wants this word next
-abbrev pub MayLoad : {K : Type 0} → Order K → K → ReaderKnowledge → ℕ → Type 0
-MayLoad o k e word =
-    (first : ℕ) × (values : List ℕ) × (e.loads ≡ loads_of (attempt o e.capacity k) (first ∷ values))
-    × Wants o e.capacity k (first ∷ values) word
+-- the word is kept, wherever what the reader has loaded stands
+abbrev pub MayLoad : ReaderKnowledge → ℕ → Type 0
+MayLoad e word =
+    (l : ℕ × ℕ) × (ls : List (ℕ × ℕ)) × (e.loads ≡ l ∷ ls)
+    × ((words : List ℕ) → StandAll e.capacity words (l ∷ ls) → IsKept e.capacity words word)
 
--- how a walk ended
-abbrev pub found_by : Walked → WalkEnd
-found_by (At item) = AtItem item
-found_by Nowhere = AtEmptyLink
-found_by Lost = Stuck
+module _ {S : Type 0} where
+  -- a reader's seat of this table, and the writer's
+  abbrev pub IsReading : TableId → TableId → Me S Knowledge → Type 0
+  IsReading table own me = (own ≡ table) × (me ≡ (reader_knowledge (reader_of me.0), []))
 
--- it has loaded words and learnt nothing else, and its attempt has the second reading of the
--- sequence left
-pub record HasWalked {K : Type 0} (o : Order K) (k : K) (first : ℕ) (before e : ReaderKnowledge)
-    (walked : Walked) : Type 0 where
-  pub same : e ≡ record before { loads = e.loads; ended = e.ended }
-  pub values : List ℕ
-  pub loads : e.loads ≡ loads_of (attempt o e.capacity k) (first ∷ values)
-  pub rest : rest_after (attempt o e.capacity k) (first ∷ values)
-      ≡ Some (last_load first (found_by walked))
+  abbrev pub IsWriting : TableId → TableId → Me S Knowledge → Type 0
+  IsWriting table own me = (own ≡ table) × (me ≡ (writer_knowledge (writer_of me.0), []))
+
+  -- what a load tells them
+  abbrev pub LearnsWord : Me S Knowledge → ℕ → ℕ → Me S Knowledge → Type 0
+  LearnsWord me w x me' = me' ≡ (reader_knowledge (with_word w x (reader_of me.0)), [])
+
+  abbrev pub LearnsSequence : {K : Type 0} → Order K → Me S Knowledge → ℕ → Me S Knowledge → Type 0
+  LearnsSequence o me s me' =
+      (known : List Update) × LoadsSequence o (reader_of me.0) s known
+      × (me' ≡ (reader_knowledge (with_sequence s known (reader_of me.0)), []))
+
+  abbrev pub WriterLearns : Me S Knowledge → ℕ → ℕ → Me S Knowledge → Type 0
+  WriterLearns me w x me' =
+      (x ≡ at (writer_of me.0).picture w)
+      × (me' ≡ (
+        writer_knowledge (with_loads ((writer_of me.0).loads ++ (w, x) ∷ []) (writer_of me.0)),
+        [],
+      ))

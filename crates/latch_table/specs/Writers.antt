@@ -27,6 +27,7 @@ use Rattle.latch_table.specs.declared.knowledge.WriterKnowledge.{WriterKnowledge
 use Rattle.latch_table.specs.declared.writers.Did.{Did}
 use Rattle.latch_table.specs.declared.writers.Did.TheVariants.{Flip, Store}
 use Rattle.latch_core.specs.Latched.{loads_of}
+use Rattle.latch_table.specs.Limits.{most_readers}
 use Rattle.latch_table.specs.Seats.{writer_of, writer_knowledge}
 
 -- The writer, as clauses see it: its table, how many readers came with it, the opening generation,
@@ -166,7 +167,7 @@ new_writer place l start readers =
 
 -- an opening is refused by its numbers, and else because memory ran out
 abbrev pub MayOpenWith : Layout → ℕ → ℕ → Type 0
-MayOpenWith l start readers = MayOpen l start × (0 < readers) × (readers ≤ 64)
+MayOpenWith l start readers = MayOpen l start × (0 < readers) × (readers ≤ most_readers)
 
 abbrev pub RefusesOpening : Layout → ℕ → ℕ → Refusal → Type 0
 RefusesOpening l start readers e =

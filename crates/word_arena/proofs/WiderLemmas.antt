@@ -5,12 +5,12 @@ use Rattle.std.proofs.lemmas.Bool.{cases_lt}
 use Rattle.std.proofs.Math.ListN.{get_or-eq_default}
 use Rattle.std.proofs.lemmas.List.{get_or_append_left, get_or-append_right, get_or-replicate, length-replicate}
 use Rattle.order_laws.specs.declared.items.Item.{Item}
-use Rattle.word_arena.specs.Words.{at, words_for, root_word, a_word, b_word, tag_word, left_word, right_word, item_at, Nodes, none, fork, items, Leads, Holds, HoldsTable}
+use Rattle.word_arena.specs.Words.{words_per_node, at, words_for, root_word, a_word, b_word, tag_word, left_word, right_word, item_at, Nodes, none, fork, items, Leads, Holds, HoldsTable}
 use Rattle.word_arena.specs.Wider.{wider_words}
 
 pub length_wider : (n n' : ℕ) (m : List ℕ) → n ≤ n' → length m ≡ words_for n → length (wider_words n n' m) ≡ words_for n'
 length_wider n n' m le sized =
-    omega (arith, length-append m (replicate (7 * (n' - n)) 0), length-replicate {A = ℕ} (7 * (n' - n)) 0)
+    omega (arith, length-append m (replicate (words_per_node * (n' - n)) 0), length-replicate {A = ℕ} (words_per_node * (n' - n)) 0)
 
 all_zero : (k w : ℕ) → at (replicate k 0) w ≡ 0
 all_zero k w =
@@ -22,10 +22,10 @@ all_zero k w =
 -- each word holds what it held: those after these hold 0, as a word that there is not
 pub at_wider : (n n' : ℕ) (m : List ℕ) (w : ℕ) → at (wider_words n n' m) w ≡ at m w
 at_wider n n' m w =
-    let zeros : List ℕ = replicate (7 * (n' - n)) 0 in
+    let zeros : List ℕ = replicate (words_per_node * (n' - n)) 0 in
     ⊎_elim
     (λ lt. get_or_append_left m zeros 0 w lt)
-    (λ ge. get_or-append_right m zeros (length m) w 0 refl ge ∙ all_zero (7 * (n' - n)) (w - length m) ∙ sym (get_or-eq_default m 0 ge))
+    (λ ge. get_or-append_right m zeros (length m) w 0 refl ge ∙ all_zero (words_per_node * (n' - n)) (w - length m) ∙ sym (get_or-eq_default m 0 ge))
     (cases_lt w (length m))
 
 -- so links lead where they led

@@ -1,7 +1,7 @@
 -- Where words lie: words of different fields, nodes and copies differ.
 use Rattle.std.proofs.Common.{◌≡◌, ◌≢◌, ℕ, ◌+◌, ◌*◌, ◌<◌, ◌≤◌, List, subst, inl, inr, ⊎_elim, arith}
 use Rattle.std.specs.Prelude.{◌⊎◌}
-use Rattle.word_arena.specs.Words.{words_for, root_word, left_word, right_word, IsWordOf, InUse, Reaches}
+use Rattle.word_arena.specs.Words.{words_per_node, words_for, root_word, left_word, right_word, IsWordOf, InUse, Reaches}
 use Rattle.word_arena.specs.Stores.{IsItemWord, IsLinkWord}
 
 -- a word that readers of this copy could load
@@ -11,11 +11,11 @@ IsCopyWord copy w = (w ≡ root_word copy) ⊎ ((i : ℕ) × IsWordOf copy i w)
 pub in_copy : (m : List ℕ) (n copy w : ℕ) → InUse m n copy w → IsCopyWord copy w
 in_copy m n copy w u = ⊎_elim (λ e. inl e) (λ (i, r, is). inr (i, is)) u
 
--- which of a node's seven words a word is
-pub of_item : (i w : ℕ) → IsItemWord i w → (k : ℕ) × (k < 3) × (w ≡ 3 + k + 7 * i)
+-- which of a node's words a word is
+pub of_item : (i w : ℕ) → IsItemWord i w → (k : ℕ) × (k < 3) × (w ≡ 3 + k + words_per_node * i)
 of_item i w is = ⊎_elim (λ e. (0, omega arith, omega arith)) (⊎_elim (λ e. (1, omega arith, omega arith)) (λ e. (2, omega arith, omega arith))) is
 
-pub of_word : (copy i w : ℕ) → copy ≤ 1 → IsWordOf copy i w → (k : ℕ) × (k < 7) × (w ≡ 3 + k + 7 * i)
+pub of_word : (copy i w : ℕ) → copy ≤ 1 → IsWordOf copy i w → (k : ℕ) × (k < words_per_node) × (w ≡ 3 + k + words_per_node * i)
 of_word copy i w c is =
     ⊎_elim (λ e. (0, omega arith, omega arith))
     (⊎_elim (λ e. (1, omega arith, omega arith))

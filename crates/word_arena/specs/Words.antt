@@ -3,33 +3,37 @@
 use Rattle.std.specs.Prelude.{◌≡◌, ℕ, suc, ◌+◌, ◌*◌, ◌<◌, ◌⊎◌, List, [], ◌∷◌, ◌++◌, slice_index}
 use Rattle.order_laws.specs.declared.items.Item.{Item}
 
+-- how many words a node has
+abbrev pub words_per_node : ℕ
+words_per_node = 7
+
 -- where the words lie; copy is 0 or 1
 abbrev pub root_word : ℕ → ℕ
 root_word copy = 1 + copy
 
 abbrev pub a_word : ℕ → ℕ
-a_word i = 3 + 7 * i
+a_word i = 3 + words_per_node * i
 
 abbrev pub b_word : ℕ → ℕ
-b_word i = 4 + 7 * i
+b_word i = 4 + words_per_node * i
 
 abbrev pub tag_word : ℕ → ℕ
-tag_word i = 5 + 7 * i
+tag_word i = 5 + words_per_node * i
 
 abbrev pub left_word : ℕ → ℕ → ℕ
-left_word copy i = 6 + 7 * i + 2 * copy
+left_word copy i = 6 + words_per_node * i + 2 * copy
 
 abbrev pub right_word : ℕ → ℕ → ℕ
-right_word copy i = 7 + 7 * i + 2 * copy
+right_word copy i = 7 + words_per_node * i + 2 * copy
 
 -- the seven words of a node by their place: a, b, tag, left and right link in copy 0, left and
 -- right link in copy 1
 abbrev pub word_of_node : ℕ → ℕ → ℕ
-word_of_node place i = 3 + place + 7 * i
+word_of_node place i = 3 + place + words_per_node * i
 
 -- how many words a memory has for n nodes
 abbrev pub words_for : ℕ → ℕ
-words_for n = 7 * n + 3
+words_for n = words_per_node * n + 3
 
 -- what a word holds
 abbrev pub at : List ℕ → ℕ → ℕ

@@ -3,6 +3,7 @@
 ghost use Rattle.std.specs.Prelude.{◌+◌, ◌*◌, ◌<◌, ◌≤◌, ◌^◌};
 ghost use Rattle.word_arena.specs.Limits.{most_nodes};
 
+use crate::places::WORDS_PER_NODE;
 use order_laws::Refusal;
 
 /// The greatest number of nodes.
@@ -91,6 +92,6 @@ impl Layout {
     pub fn words(&self) -> usize
         ensures { result ≡ words_for (capacity_of self.now) }
     {
-        7 * self.capacity as usize + 3
+        WORDS_PER_NODE * self.capacity as usize + 3
     }
 }

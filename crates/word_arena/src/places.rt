@@ -1,7 +1,7 @@
 //! Which word holds what.
 
-ghost use Rattle.std.specs.Prelude.{◌≡◌};
-ghost use Rattle.word_arena.specs.Words.{root_word, a_word, b_word, tag_word};
+ghost use Rattle.std.specs.Prelude.{◌≡◌, ◌*◌};
+ghost use Rattle.word_arena.specs.Words.{words_per_node, root_word, a_word, b_word, tag_word};
 ghost use Rattle.word_arena.specs.Words.{left_word, right_word};
 ghost use Rattle.word_arena.specs.Copies.{copy_number};
 
@@ -33,37 +33,47 @@ pub fn root_of(copy: TreeCopy) -> usize
     1 + copy.number()
 }
 
+/// How many words a node has.
+pub const WORDS_PER_NODE: usize = 7;
+
+/// How many words the nodes before this one have.
+pub fn words_before(node: u32) -> usize
+    ensures { result ≡ words_per_node * node }
+{
+    WORDS_PER_NODE * node as usize
+}
+
 /// The word of a node's `a`.
 pub fn a_of(node: u32) -> usize
     ensures { result ≡ a_word node }
 {
-    3 + 7 * node as usize
+    3 + words_before(node)
 }
 
 /// The word of a node's `b`.
 pub fn b_of(node: u32) -> usize
     ensures { result ≡ b_word node }
 {
-    4 + 7 * node as usize
+    4 + words_before(node)
 }
 
 /// The word of a node's `tag`.
 pub fn tag_of(node: u32) -> usize
     ensures { result ≡ tag_word node }
 {
-    5 + 7 * node as usize
+    5 + words_before(node)
 }
 
 /// The word of a node's left link in a copy.
 pub fn left_of(copy: TreeCopy, node: u32) -> usize
     ensures { result ≡ left_word (copy_number copy) node }
 {
-    6 + 7 * node as usize + 2 * copy.number()
+    6 + words_before(node) + 2 * copy.number()
 }
 
 /// The word of a node's right link in a copy.
 pub fn right_of(copy: TreeCopy, node: u32) -> usize
     ensures { result ≡ right_word (copy_number copy) node }
 {
-    7 + 7 * node as usize + 2 * copy.number()
+    7 + words_before(node) + 2 * copy.number()
 }

@@ -8,13 +8,44 @@ ghost use Rattle.latch_core.specs.Latched.{IsLatched};
 ghost use Rattle.latch_table.specs.Seats.{writer_of, writer_knowledge, with_loads};
 ghost use Rattle.latch_table.specs.Writers.{Finds};
 ghost use Rattle.latch_table.specs.Lookups.{FindsIn};
+ghost use Rattle.latch_table.specs.Walks.{IsWriting, WriterLearns};
 
 use super::{InHand, Writer};
 use crate::knowledge::TableSeat;
 use crate::rule::{BeginLookup, Words, WriterLoad};
-use latch_core::{ReaderCore, Taken};
+use latch_core::{Attempted, Loads, attempt_from};
 use order_laws::{Item, TreeOrder};
 use word_arena::Layout;
+
+/// The shared words, as the writer's seat loads them.
+#[derive(Drop)]
+struct WriterWords<'a, O: TreeOrder> {
+    words: &'a Words<O>,
+}
+
+impl<O: TreeOrder> Loads for WriterWords<'_, O> {
+    type Seat = TableSeat;
+
+    ghost size = { λ it. it.words.now.table_id.words };
+
+    ghost can_load = { λ it s w. IsWriting it.words.now.table_id s.table_id s.me };
+
+    ghost load_gives = { λ it s w x s'. (s'.table_id ≡ s.table_id) × WriterLearns s.me w x s'.me };
+
+    ghost can_end = { λ it s. IsWriting it.words.now.table_id s.table_id s.me };
+
+    ghost end_gives = { λ it s x s'. (s'.table_id ≡ s.table_id) × WriterLearns s.me 0 x s'.me };
+
+    #[inline(always)]
+    fn load(&self, seat: &mut TableSeat, word: usize, skipped: usize) -> u64 {
+        self.words.load::<WriterLoad>(seat, word + skipped)
+    }
+
+    #[inline(always)]
+    fn sequence(&self, seat: &mut TableSeat) -> u64 {
+        self.words.load::<WriterLoad>(seat, 0)
+    }
+}
 
 /// One attempt through the writer's seat, in words that nobody else changes.
 fn look_up<O: TreeOrder>(
@@ -39,19 +70,10 @@ fn look_up<O: TreeOrder>(
         (writer_of seat.new.me.0).loads result }
 {
     let first = words.load::<BeginLookup>(seat, 0);
-    let mut core = match ReaderCore::<O>::start(l, k).take(first) {
-        Taken::Going(core) => core,
-        Taken::Retrying(_) => unreachable!(),
-        Taken::Returned(_, _) => unreachable!(),
-    };
-    loop {
-        let word = core.wanted();
-        let value = words.load::<WriterLoad>(seat, word);
-        match core.take(value) {
-            Taken::Going(next) => core = next,
-            Taken::Returned(answer, generation) => return (answer, generation),
-            Taken::Retrying(_) => unreachable!(),
-        }
+    let through = WriterWords { words };
+    match attempt_from::<O, WriterWords<'_, O>>(&through, seat, l, k, first).0 {
+        Attempted::Answered(found, generation) => (found, generation),
+        Attempted::Failed => unreachable!(),
     }
 }
 

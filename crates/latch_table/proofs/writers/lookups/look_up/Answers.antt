@@ -1,11 +1,9 @@
-use Rattle.std.proofs.Common.{◌≡◌, ℕ, List, ◌∷◌, ◌++◌, [], Some, None, ap, sym, ◌∙◌, subst, arith}
+use Rattle.std.proofs.Common.{arith, sym, ◌∙◌, ap}
 use Rattle.word_arena.specs.Layouts.{capacity_of}
-use Rattle.word_arena.specs.Words.{at}
-use Rattle.latch_table.specs.declared.knowledge.WriterKnowledge.{WriterKnowledge}
-use Rattle.latch_table.specs.Seats.{writer_of, with_loads}
-use Rattle.latch_table.specs.Lookups.{IsLookingUp, FindsIn}
-use Rattle.latch_table.proofs.RuleLemmas.{allows_begin_lookup, allows_writer_load}
-use Rattle.latch_table.proofs.LookupLemmas.{first_not_retrying, first_not_returned, still_writing, looking_first, looking_more, not_again, finds}
+use Rattle.latch_core.specs.Whole.{outcome_of}
+use Rattle.latch_table.specs.Seats.{writer_of}
+use Rattle.latch_table.proofs.RuleLemmas.{allows_begin_lookup}
+use Rattle.latch_table.proofs.LookupLemmas.{begun_is, ready_now, table_now, view_now, not_again, finds}
 use Rattle.latch_table.proofs.writers.lookups.look_up.Goals as goal
 
 pub load-first-requires : goal.load-first-requires
@@ -13,80 +11,36 @@ load-first-requires g c =
     let e = ap (λ t. t.words) c.requires.table in
     (c.requires.table, omega (arith, c.requires.sized, e), allows_begin_lookup g.O.TreeOrder.order _ _ _ _ _ _ _ (ap (λ m. m.0.writer) c.requires.writes))
 
+pub attempt_from-requires-clause-ready : goal.attempt_from-requires-clause-ready
+attempt_from-requires-clause-ready g c =
+    let p = writer_of c.args.seat.now.me.0 in
+    ready_now (λ s. s.table_id) (λ s. s.me) g.O.TreeOrder.order (capacity_of c.args.l) c.args.k c.args.words.now.table_id p
+    c.load-first.result c.load-first.new.seat (c.load-first.ensures.0 ∙ c.requires.table) c.load-first.ensures.2.0 (begun_is c.args.seat.now.me c.load-first.new.seat.me p _ c.requires.writes c.load-first.ensures.2.1)
+
+pub returns-clause-table : goal.returns-clause-table
+returns-clause-table g c =
+    let p = writer_of c.args.seat.now.me.0 in
+    table_now (λ s. s.table_id) (λ s. s.me) g.O.TreeOrder.order (capacity_of c.args.l) c.args.k c.args.words.now.table_id p
+    c.load-first.result c.load-first.new.seat (c.load-first.ensures.0 ∙ c.requires.table) c.load-first.ensures.2.0 (begun_is c.args.seat.now.me c.load-first.new.seat.me p _ c.requires.writes c.load-first.ensures.2.1)
+    c.attempt_from.new.seat _ _ c.attempt_from.ensures ∙ sym c.requires.table
+
+pub returns-clause-view : goal.returns-clause-view
+returns-clause-view g c =
+    let p = writer_of c.args.seat.now.me.0 in
+    view_now (λ s. s.table_id) (λ s. s.me) g.O.TreeOrder.order (capacity_of c.args.l) c.args.k c.args.words.now.table_id p
+    c.load-first.result c.load-first.new.seat (c.load-first.ensures.0 ∙ c.requires.table) c.load-first.ensures.2.0 (begun_is c.args.seat.now.me c.load-first.new.seat.me p _ c.requires.writes c.load-first.ensures.2.1)
+    c.attempt_from.new.seat _ _ c.attempt_from.ensures
+
+pub returns-clause-found : goal.returns-clause-found
+returns-clause-found g c =
+    let p = writer_of c.args.seat.now.me.0 in
+    finds (λ s. s.table_id) (λ s. s.me) g.O.TreeOrder.order (capacity_of c.args.l) c.args.k c.args.words.now.table_id p
+    c.load-first.result c.load-first.new.seat (c.load-first.ensures.0 ∙ c.requires.table) c.load-first.ensures.2.0 (begun_is c.args.seat.now.me c.load-first.new.seat.me p _ c.requires.writes c.load-first.ensures.2.1)
+    c.attempt_from.new.seat _ _ c.attempt_from.ensures g.met.O.TreeOrder.lawful c.requires.latched _ _ (ap outcome_of c.in-Answered.is)
+
 pub unreachable-requires : goal.unreachable-requires
 unreachable-requires g c =
-    first_not_retrying g.O.TreeOrder.order (capacity_of c.args.l) c.args.k c.start.result c.load-first.result c.start.ensures.capacity c.start.ensures.key c.start.ensures.leads c.in-Retrying.field-0 c.in-Retrying.ensures.leads
-
-pub unreachable-requires-in-Returned : goal.unreachable-requires-in-Returned
-unreachable-requires-in-Returned g c =
-    first_not_returned g.O.TreeOrder.order (capacity_of c.args.l) c.args.k c.start.result c.load-first.result c.start.ensures.capacity c.start.ensures.key c.start.ensures.leads c.in-Returned.field-0 c.in-Returned.field-1 c.in-Returned.ensures.leads
-
-pub loop-next-init : goal.loop-next-init
-loop-next-init g c =
-    let p : WriterKnowledge = writer_of c.args.seat.now.me.0 in
-    let loads : List (ℕ × ℕ) = (0, c.load-first.result) ∷ [] in
-    let here = still_writing c.args.seat.now.me c.load-first.new.seat.me p p.loads loads c.requires.writes c.load-first.ensures.2.1 in
-    let same = ap (λ m. (writer_of m.0).loads) here in
-    let walk = looking_first g.O.TreeOrder.order (capacity_of c.args.l) c.args.k p c.start.result c.in-Going.core c.load-first.result c.start.ensures.capacity c.start.ensures.key c.start.ensures.leads c.load-first.ensures.2.0 c.in-Going.ensures.leads in (
-      c.load-first.ensures.0,
-      subst (λ z. c.load-first.new.seat.me ≡ (record { writer = Some (with_loads z p); reader = None }, [])) (sym same) here,
-      subst (λ z. IsLookingUp g.O.TreeOrder.order (capacity_of c.args.l) c.args.k p z c.in-Going.core) (sym same) walk,
-    )
-
-pub load-value-requires : goal.load-value-requires
-load-value-requires g c =
-    let inv = c.loop-next.invariant in
-    let words = ap (λ t. t.words) c.requires.table in (
-      inv.0 ∙ c.requires.table,
-      omega (arith, c.wanted-word.ensures.within, inv.2.capacity, c.requires.sized, words),
-      allows_writer_load g.O.TreeOrder.order _ _ _ _ _ _ _ (ap (λ m. m.0.writer) inv.1),
-    )
-
-pub loop-next-preserved : goal.loop-next-preserved
-loop-next-preserved g c =
-    let o = g.O.TreeOrder.order in
-    let n : ℕ = capacity_of c.args.l in
-    let inv = c.loop-next.invariant in
-    let p : WriterKnowledge = writer_of c.args.seat.now.me.0 in
-    let made : List (ℕ × ℕ) = (writer_of c.loop-next.seat.me.0).loads in
-    let loads : List (ℕ × ℕ) = made ++ (c.wanted-word.result, c.load-value.result) ∷ [] in
-    let here = still_writing c.loop-next.seat.me c.load-value.new.seat.me p made loads inv.1 c.load-value.ensures.2.1 in
-    let same = ap (λ m. (writer_of m.0).loads) here in
-    let value = c.load-value.ensures.2.0 ∙ ap (λ m. at (writer_of m.0).picture c.wanted-word.result) inv.1 in
-    let walk = looking_more o n c.args.k p made c.loop-next.core inv.2 c.wanted-word.result c.wanted-word.ensures.word c.load-value.result value c.in-Going-take.next c.in-Going-take.ensures.leads in (
-      c.load-value.ensures.0 ∙ inv.0,
-      subst (λ z. c.load-value.new.seat.me ≡ (record { writer = Some (with_loads z p); reader = None }, [])) (sym same) here,
-      subst (λ z. IsLookingUp o n c.args.k p z c.in-Going-take.next) (sym same) walk,
-    )
-
-pub returns-in-Returned-take-clause-view : goal.returns-in-Returned-take-clause-view
-returns-in-Returned-take-clause-view g c =
-    let inv = c.loop-next.invariant in
-    let p : WriterKnowledge = writer_of c.args.seat.now.me.0 in
-    let made : List (ℕ × ℕ) = (writer_of c.loop-next.seat.me.0).loads in
-    let loads : List (ℕ × ℕ) = made ++ (c.wanted-word.result, c.load-value.result) ∷ [] in
-    let here = still_writing c.loop-next.seat.me c.load-value.new.seat.me p made loads inv.1 c.load-value.ensures.2.1 in
-    let same = ap (λ m. (writer_of m.0).loads) here in
-    subst (λ z. c.load-value.new.seat.me ≡ (record { writer = Some (with_loads z p); reader = None }, [])) (sym same) here
-
-pub returns-in-Returned-take-clause-found : goal.returns-in-Returned-take-clause-found
-returns-in-Returned-take-clause-found g c =
-    let o = g.O.TreeOrder.order in
-    let n : ℕ = capacity_of c.args.l in
-    let inv = c.loop-next.invariant in
-    let p : WriterKnowledge = writer_of c.args.seat.now.me.0 in
-    let made : List (ℕ × ℕ) = (writer_of c.loop-next.seat.me.0).loads in
-    let loads : List (ℕ × ℕ) = made ++ (c.wanted-word.result, c.load-value.result) ∷ [] in
-    let here = still_writing c.loop-next.seat.me c.load-value.new.seat.me p made loads inv.1 c.load-value.ensures.2.1 in
-    let same = ap (λ m. (writer_of m.0).loads) here in
-    let value = c.load-value.ensures.2.0 ∙ ap (λ m. at (writer_of m.0).picture c.wanted-word.result) inv.1 in
-    subst (λ z. FindsIn o n c.args.k p z (c.in-Returned-take.answer, c.in-Returned-take.generation)) (sym same)
-    (finds o n c.args.k p made c.loop-next.core inv.2 c.wanted-word.result c.wanted-word.ensures.word c.load-value.result value g.met.O.TreeOrder.lawful c.requires.latched c.in-Returned-take.answer c.in-Returned-take.generation c.in-Returned-take.ensures.leads)
-
-pub unreachable-requires-in-Retrying-take : goal.unreachable-requires-in-Retrying-take
-unreachable-requires-in-Retrying-take g c =
-    let inv = c.loop-next.invariant in
-    let p : WriterKnowledge = writer_of c.args.seat.now.me.0 in
-    let made : List (ℕ × ℕ) = (writer_of c.loop-next.seat.me.0).loads in
-    let value = c.load-value.ensures.2.0 ∙ ap (λ m. at (writer_of m.0).picture c.wanted-word.result) inv.1 in
-    not_again g.O.TreeOrder.order (capacity_of c.args.l) c.args.k p made c.loop-next.core inv.2 c.wanted-word.result c.wanted-word.ensures.word c.load-value.result value g.met.O.TreeOrder.lawful c.requires.latched c.in-Retrying-take.field-0 c.in-Retrying-take.ensures.leads
+    let p = writer_of c.args.seat.now.me.0 in
+    not_again (λ s. s.table_id) (λ s. s.me) g.O.TreeOrder.order (capacity_of c.args.l) c.args.k c.args.words.now.table_id p
+    c.load-first.result c.load-first.new.seat (c.load-first.ensures.0 ∙ c.requires.table) c.load-first.ensures.2.0 (begun_is c.args.seat.now.me c.load-first.new.seat.me p _ c.requires.writes c.load-first.ensures.2.1)
+    c.attempt_from.new.seat _ _ c.attempt_from.ensures g.met.O.TreeOrder.lawful c.requires.latched (ap outcome_of c.in-Failed.is)

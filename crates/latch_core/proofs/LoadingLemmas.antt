@@ -1,0 +1,133 @@
+-- An attempt whose loads are steps of somebody who learns by them, load by load.
+use Rattle.std.proofs.Common.{◌≡◌, ◌≢◌, ℕ, zero, suc, ◌+◌, ◌-◌, ◌*◌, ◌<◌, ◌≤◌, ◌⊎◌, inl, inr, ⊎_elim, false, List, [], ◌∷◌, ◌++◌, Some, refl, sym, ◌∙◌, ap, subst, arith, append_assoc, append-nil, length-append}
+use Rattle.std.specs.declared.cmp.Ordering.{Ordering}
+use Rattle.std.specs.Prelude.{nat_lt}
+use Rattle.std.proofs.lemmas.Bool.{le-ltb}
+use Rattle.order_laws.specs.declared.items.Item.{Item}
+use Rattle.order_laws.specs.Orders.{Order}
+use Rattle.latch_core.specs.Attempts.{Reading, Load, Ends, Outcome, WalkEnd, AtEmptyLink, Stuck, outcome, last_load, after_item, visit, walk, attempt, attempt_after, rest_after}
+use Rattle.latch_core.specs.Loading.{Leads, IsReady, HasLoaded, HasTried}
+use Rattle.latch_core.proofs.ReadingLemmas.{rest_push}
+use Rattle.latch_core.proofs.ReaderLemmas.{walk_visits}
+use Rattle.latch_core.proofs.WalkLemmas.{attempt_length}
+
+-- a walk that comes to a link of no node, or has no visit left
+stuck_at : {K : Type 0} (o : Order K) (n : ℕ) (k : K) (s visits_left link : ℕ) → link ≢ 0 → (n < link) ⊎ (visits_left ≡ 0) → walk o n k s visits_left link ≡ last_load s Stuck
+stuck_at o n k s visits_left zero some h = absurd (some refl)
+stuck_at o n k s zero (suc i) some h = refl
+stuck_at o n k s (suc visits_left) (suc i) some h =
+    ⊎_elim
+    (λ far. let e : nat_lt i n ≡ false = le-ltb i n (omega arith) in rw e refl)
+    (λ no. absurd (omega arith))
+    h
+
+abbrev pub item_of : ℕ → ℕ → ℕ → Item
+item_of a b t = record { a = a; b = b; tag = t }
+
+module _ {S : Type 0} (gives : S → ℕ → ℕ → S → Type 0) where
+  -- one load more
+  leads_push : (s : S) (r : Reading) (v : List ℕ) (m : S) (w : ℕ) (go : ℕ → Reading) (x : ℕ) (m' : S)
+      → Leads gives s r v m (Load w go) → gives m w x m' → Leads gives s r (v ++ x ∷ []) m' (go x)
+  leads_push s (Load u go') [] m w go x m' h g =
+      let word : w ≡ u = (let e = h.1 in cc) in
+      let on : go ≡ go' = (let e = h.1 in cc) in
+      (m', subst (λ (z : S × ℕ). gives z.0 z.1 x m') (λ i. (h.0 i, word i)) g, (refl, ap (λ (f : ℕ → Reading). f x) on))
+  leads_push s (Ends out) [] m w go x m' h g = absurd (let e = h.1 in cc)
+  leads_push s (Load u go') (y ∷ v) m w go x m' h g = (h.0, h.1, leads_push h.0 (go' y) v m w go x m' h.2 g)
+  leads_push s (Ends out) (y ∷ v) m w go x m' h g = absurd h
+
+  -- what stays true at each load is true where they lead
+  pub leads_along : (P : S → List ℕ → Type 0) (whole : Reading)
+      → ((m m' : S) (v : List ℕ) (w x : ℕ) (go : ℕ → Reading) → P m v → rest_after whole v ≡ Some (Load w go) → gives m w x m' → P m' (v ++ x ∷ []))
+      → (s : S) (r : Reading) (u : List ℕ) → P s u → rest_after whole u ≡ Some r
+      → (v : List ℕ) (m : S) (r' : Reading) → Leads gives s r v m r' → P m (u ++ v) × (rest_after whole (u ++ v) ≡ Some r')
+  leads_along P whole step s r u p e [] m r' h =
+      subst (λ (z : S × Reading). P z.0 (u ++ []) × (rest_after whole (u ++ []) ≡ Some z.1)) (λ i. (sym h.0 i, sym h.1 i))
+      (subst (λ z. P s z × (rest_after whole z ≡ Some r)) (sym (append-nil u)) (p, e))
+  leads_along P whole step s (Load w go) u p e (x ∷ v) m r' h =
+      subst (λ z. P m z × (rest_after whole z ≡ Some r')) (append_assoc u (x ∷ []) v)
+      (leads_along P whole step h.0 (go x) (u ++ x ∷ []) (step s h.0 u w x go p e h.1) (rest_push whole u w go x e) v m r' h.2)
+  leads_along P whole step s (Ends out) u p e (x ∷ v) m r' h = absurd h
+
+  pub starts : (s : S) (r : Reading) → HasLoaded gives s r s r 1
+  starts s r = record { values = []; leads = (refl, refl); counted = refl }
+
+  module _ (s : S) (r : Reading) (m : S) (word at_word loads : ℕ) (go : ℕ → Reading) (h : HasLoaded gives s r m (Load word go) loads) (is : at_word ≡ word) where
+    pub may_load : (can : S → ℕ → Type 0) (can_end : S → Type 0) → IsReady can gives can_end s r → 0 < word → can m at_word
+    may_load can can_end ready some = subst (can m) (sym is) (ready.loads h.values m word go h.leads some)
+
+    pub loads_on : (x : ℕ) (m' : S) → gives m at_word x m' → HasLoaded gives s r m' (go x) (loads + 1)
+    loads_on x m' g = record {
+      values = h.values ++ x ∷ [];
+      leads = leads_push s r h.values m word go x m' h.leads (subst (λ w. gives m w x m') is g);
+      counted = ap (λ j. j + 1) (length-append h.values (x ∷ []) ∙ h.counted);
+    }
+
+  module _ {K : Type 0} (o : Order K) (n : ℕ) (k : K) (first : ℕ) (s : S) where
+    -- a walk that came to this link, with as many visits left as four loads each leave
+    pub record IsOn (m : S) (loads link : ℕ) : Type 0 where
+      pub visits_left : ℕ
+      pub few : loads + 4 * visits_left ≡ 4 * n + 2
+      pub here : HasLoaded gives s (attempt_after o n k first) m (walk o n k first visits_left link) loads
+
+    pub walk_starts : (m : S) (link : ℕ) → HasLoaded gives s (attempt_after o n k first) m (walk o n k first n link) 2 → IsOn m 2 link
+    walk_starts m link h = record { visits_left = n; few = omega arith; here = h }
+
+    module _ (m : S) (loads link : ℕ) (on : IsOn m loads link) where
+      pub enters : link ≢ 0 → link ≤ n → loads < 4 * n + 2
+          → HasLoaded gives s (attempt_after o n k first) m (visit o k first (link - 1) (walk o n k first (on.visits_left - 1))) loads
+      enters some low room =
+          let f = on.few in
+          let more : on.visits_left ≢ 0 = λ e. omega arith in
+          subst (λ r. HasLoaded gives s (attempt_after o n k first) m r loads) (sym (walk_visits o n k first on.visits_left link some more low)) on.here
+
+      pub leaves : link ≢ 0 → loads < 4 * n + 2 → (m' : S) (next : ℕ)
+          → HasLoaded gives s (attempt_after o n k first) m' (walk o n k first (on.visits_left - 1) next) (loads + 1 + 1 + 1 + 1) → IsOn m' (loads + 4) next
+      leaves some room m' next h =
+          let f = on.few in
+          let four : loads + 1 + 1 + 1 + 1 ≡ loads + 4 = omega arith in
+          record { visits_left = on.visits_left - 1; few = omega arith; here = subst (HasLoaded gives s (attempt_after o n k first) m' (walk o n k first (on.visits_left - 1) next)) four h }
+
+      pub ends_nowhere : link ≡ 0 → HasLoaded gives s (attempt_after o n k first) m (last_load first AtEmptyLink) loads
+      ends_nowhere is = subst (λ z. HasLoaded gives s (attempt_after o n k first) m (walk o n k first on.visits_left z) loads) is on.here
+
+      pub ends_lost : link ≢ 0 → (n < link) ⊎ (4 * n + 2 ≤ loads) → HasLoaded gives s (attempt_after o n k first) m (last_load first Stuck) loads
+      ends_lost some out =
+          let f = on.few in
+          subst (λ r. HasLoaded gives s (attempt_after o n k first) m r loads)
+          (stuck_at o n k first on.visits_left link some (⊎_elim (λ far. inl far) (λ no. inr (omega arith)) out)) on.here
+
+    -- the rest of a visit, by the item that was loaded
+    pub turns : (m : S) (loads i : ℕ) (x : Item) (go : ℕ → Reading) (c c' : Ordering) → c ≡ c'
+        → HasLoaded gives s (attempt_after o n k first) m (after_item first i x go c) loads → HasLoaded gives s (attempt_after o n k first) m (after_item first i x go c') loads
+    turns m loads i x go c c' is h = subst (λ d. HasLoaded gives s (attempt_after o n k first) m (after_item first i x go d) loads) is h
+
+-- the values of a reading so far
+leads_rest : {S : Type 0} (gives : S → ℕ → ℕ → S → Type 0) (s : S) (r : Reading) (v : List ℕ) (m : S) (r' : Reading) → Leads gives s r v m r' → rest_after r v ≡ Some r'
+leads_rest gives s r [] m r' h = ap Some (sym h.1)
+leads_rest gives s (Load w go) (x ∷ v) m r' h = leads_rest gives h.0 (go x) v m r' h.2
+leads_rest gives s (Ends out) (x ∷ v) m r' h = absurd h
+
+-- the second reading of the sequence
+pub tries : {S K : Type 0} (gives : S → ℕ → ℕ → S → Type 0) (ends : S → ℕ → S → Type 0) (o : Order K) (n : ℕ) (k : K) (first : ℕ) (s m s' : S) (found : WalkEnd) (loads last : ℕ) (out : Outcome)
+    → HasLoaded gives s (attempt_after o n k first) m (last_load first found) loads → ends m last s' → outcome first last found ≡ out → HasTried gives ends o n k first s s' out (loads + 1)
+tries gives ends o n k first s m s' found loads last out h ended is = record {
+  values = h.values;
+  last = last;
+  whole = rest_push (attempt o n k) (first ∷ h.values) 0 (λ t. Ends (outcome first t found)) last (leads_rest gives s (attempt_after o n k first) h.values m (last_load first found) h.leads) ∙ ap (λ z. Some (Ends z)) is;
+  m = m;
+  found = found;
+  leads = h.leads;
+  ended = ended;
+  comes_to = sym is;
+  counted = let c = h.counted in omega arith;
+}
+
+pub few : {S K : Type 0} (gives : S → ℕ → ℕ → S → Type 0) (o : Order K) (n : ℕ) (k : K) (first : ℕ) (s m : S) (found : WalkEnd) (loads : ℕ)
+    → HasLoaded gives s (attempt_after o n k first) m (last_load first found) loads → loads + 1 ≤ 4 * n + 3
+few gives o n k first s m found loads h =
+    let whole : HasTried gives (λ a x b. Unit {0}) o n k first s m (outcome first 0 found) (loads + 1) = tries gives (λ a x b. Unit {0}) o n k first s m m found loads 0 (outcome first 0 found) h tt refl in
+    let most = attempt_length o n k (first ∷ (whole.values ++ whole.last ∷ [])) (Ends (outcome first 0 found)) whole.whole in
+    let counted = whole.counted in
+    let one = length-append whole.values (whole.last ∷ []) in
+    omega arith
