@@ -8,3 +8,4 @@ pub mod RunLemmas
 pub mod NeededLemmas
 pub mod QuietLemmas
 pub mod BarrierLemmas
+pub mod ReaderLemmas

@@ -1,5 +1,7 @@
 -- What a writer has made, after one more deed.
-use Rattle.std.proofs.Common.{◌≡◌, ℕ, ◌<◌, ◌≤◌, List, [], ◌∷◌, ◌++◌, length, Option, Some, None, refl, sym, ◌∙◌, ap, subst, arith, append_assoc}
+use Rattle.std.proofs.Common.{◌≡◌, ℕ, ◌<◌, ◌≤◌, List, [], ◌∷◌, ◌++◌, length, Some, None, refl, sym, ◌∙◌, ap, subst}
+use Rattle.std.specs.Prelude.{Result, Ok, Err, IfErr, IsErrAnd}
+use Rattle.order_laws.specs.declared.refusals.Refusal.{Refusal}
 use Rattle.order_laws.specs.Orders.{Order}
 use Rattle.word_arena.specs.declared.stores.Store.{Store}
 use Rattle.latch_core.specs.declared.updates.Update.{Update}
@@ -107,3 +109,8 @@ made_nothing o n limit start w pictures capacity most =
       capacity = capacity;
       limit_is = most;
     }
+
+-- a refusal that is passed on
+pub passed_on : {T : Type 0} (r : Result T Refusal) (fault : Refusal) (P : Refusal → Type 0) → IsErrAnd r (λ f. f ≡ fault) → P fault → IfErr r P
+passed_on (Ok x) fault P is p = tt
+passed_on (Err f) fault P is p = subst P (sym is) p

@@ -9,6 +9,8 @@ pub mod Barriers
 pub mod Views
 -- the loads of an attempt, each of a store that the reader may see
 pub mod Loads
+-- an attempt of a reader whose view is kept in numbers
+pub mod Readers
 -- what is promised of attempts
 pub mod Weak
 -- what would be wrong without each of the barriers

@@ -3,8 +3,8 @@
 //! A processor may make a store visible late, and may load a word early. The kernel's latch has six
 //! orderings against that: a write barrier before and after each of the two flips of an update, the
 //! dependency of a walk on the first load, and a read barrier before the second load of the
-//! sequence. [`laws`] says that with these six every attempt that answers is right, and that each of
-//! them is needed.
+//! sequence. [`laws`] says that with these six every attempt that answers is right, and that each
+//! of them is needed. [`attempts`] makes such attempts over the stores that [`recording`] gives.
 //!
 //! ```text
 //! writer   stores 1, 2, 3 ..             one order: a moment is a number of stores
@@ -16,12 +16,14 @@
 //! Nothing here runs in the built table, whose steps are sequentially consistent.
 #![tactic(auto)]
 
+pub mod attempts;
 pub mod barriers;
 pub mod laws;
 pub mod recording;
 #[cfg(test)]
 mod schedule_tests;
 
+pub use attempts::{Glance, Moments, Reader, Schedule};
 pub use barriers::Barriers;
 pub use laws::{every_attempt_is_right, generations_never_fall, own_processor_returns};
 pub use recording::record;

@@ -1,10 +1,11 @@
 //! The stores that a writer makes, one after another.
 
-ghost use Rattle.std.specs.Prelude.{◌≡◌, ℕ, List, ◌∷◌, ◌++◌, [], IfOk, OnOk};
+ghost use Rattle.std.specs.Prelude.{◌≡◌, ℕ, List, ◌∷◌, ◌++◌, [], IfOk, IfErr, OnOk};
 ghost use Rattle.word_arena.specs.Layouts.{capacity_of, limit_of};
 ghost use Rattle.latch_core.specs.declared.updates.Update.{Update};
 ghost use Rattle.latch_weak.specs.Works.{AreStoresOf};
-ghost use Rattle.latch_weak.specs.Recordings.{Continues};
+ghost use Rattle.latch_core.specs.Writers.{IsRefusedBy};
+ghost use Rattle.latch_weak.specs.Recordings.{Continues, RefusesRecording};
 
 use latch_core::{Update, WriterCore};
 use order_laws::{Refusal, TreeOrder};
@@ -22,8 +23,9 @@ pub fn record<O: TreeOrder>(
     start: u64,
     updates: &[Update],
 ) -> Result<Vec<Store>, Refusal>
-    ensures { IfOk result (λ stores.
+    ensures stores { IfOk result (λ stores.
         AreStoresOf O.order (capacity_of l) (limit_of l) start updates.now stores.items) }
+    ensures refused { IfErr result (RefusesRecording O.order l start updates.now) }
 {
     let mut writer = WriterCore::<O>::open(alloc, l, start)?;
     let mut stores = Vec::new(alloc);
@@ -39,8 +41,9 @@ fn carry_out<O: TreeOrder>(
     update: &Update,
     stores: &mut Vec<Store>,
 ) -> Result<(), Refusal>
-    ensures { OnOk result (Continues O.order stores.old.items writer.old
+    ensures made { OnOk result (Continues O.order stores.old.items writer.old
         (update.now ∷ []) stores.new.items writer.new) }
+    ensures refused { IfErr result (IsRefusedBy O.order writer.old update.now) }
 {
     writer.begin_from(update)?;
     while let Some(store) = writer.step() {

@@ -1,14 +1,14 @@
 //! Attempts at random over the stores of a real writer, for each set of orderings.
 use super::*;
-use crate::barriers::{all_barriers, last_store, value_at};
-use crate::recording::record;
-use latch_core::{ReaderCore, Taken, Update};
-use order_laws::{HalfOpen, Item};
+use crate::barriers::all_barriers;
+use latch_core::{Attempted, Update};
+use order_laws::{HalfOpen, Item, Refusal};
 use std::alloc::{AllocError, Global};
 use std::test::Fail;
 use word_arena::{Layout, Store};
 
-/// The updates of the run of specs/Needed.antt: three items, the middle one goes, a least one comes.
+/// The updates of the run of specs/Needed.antt: three items, the middle one goes, a least one
+/// comes.
 fn updates(alloc: Global) -> Result<Vec<Update>, AllocError> {
     let item = |a: u64, b: u64, tag: u64| Item { a, b, tag };
     let first = [item(20, 30, 2), item(10, 20, 1), item(30, 40, 3)];
@@ -19,72 +19,38 @@ fn updates(alloc: Global) -> Result<Vec<Update>, AllocError> {
     Ok(updates)
 }
 
-/// The next of a row of numbers that look random.
-fn next(state: &mut u64) -> usize {
-    *state = state
-        .wrapping_mul(6364136223846793005)
-        .wrapping_add(1442695040888963407);
-    (*state >> 33) as usize
+/// A number that looks random, of two others.
+fn mixed(seed: u64, number: u64) -> usize {
+    let once = (seed ^ number.wrapping_mul(0x9E37_79B9_7F4A_7C15)).wrapping_mul(
+        0xBF58_476D_1CE4_E5B9,
+    );
+    let twice = (once ^ (once >> 29)).wrapping_mul(0x94D0_49BB_1331_11EB);
+    (twice >> 33) as usize
 }
 
-/// One attempt from a view of the first `from` stores, each load of which gives the value of a
-/// moment that it may give. Where `rises`, the moments of the loads of its walk never fall.
-fn attempt(
-    b: Barriers,
-    l: Layout,
-    key: u64,
-    opening: &[u64],
-    stores: &[Store],
-    from: usize,
+/// Chooses what looks random, by the number of the load alone.
+#[derive(Drop)]
+struct AtRandom {
+    seed: u64,
+    /// Whether the moments of the loads of a walk never fall.
     rises: bool,
-    state: &mut u64,
-) -> Option<(Option<Item>, u64)> {
-    let mut core = ReaderCore::<HalfOpen>::start(l, key);
-    let mut of_word = [from; 24];
-    let mut at_barrier = 0;
-    let mut made = from;
-    let mut walked = 0;
-    for turn in 0..16 {
-        let word = core.wanted();
-        if word >= 24 || word >= opening.len() {
-            return None;
-        }
-        if turn > 0 && word == 0 && b.before_last {
-            for least in of_word.iter_mut() {
-                *least = at_barrier.max(*least);
-            }
-        }
-        made = made.saturating_add(next(state) % 12).min(stores.len());
-        let mut least = of_word[word];
-        if rises && turn > 0 && word != 0 {
-            least = walked.max(least);
-        }
-        let span = made.saturating_sub(least);
-        let moment = least
-            .saturating_add(next(state) % span.saturating_add(1).max(1))
-            .min(stores.len());
-        if turn > 0 {
-            walked = moment;
-        }
-        let seen = last_store(stores, word, moment);
-        if seen > stores.len() {
-            return None;
-        }
-        let before = b.ordered_before(stores, seen);
-        of_word[word] = of_word[word].max(seen);
-        at_barrier = at_barrier.max(before);
-        if turn == 0 && b.dependency {
-            for least in of_word.iter_mut() {
-                *least = before.max(*least);
-            }
-        }
-        match core.take(value_at(opening, stores, word, moment)) {
-            Taken::Going(on) => core = on,
-            Taken::Retrying(_) => return None,
-            Taken::Returned(answer, generation) => return Some((answer, generation)),
-        }
+}
+
+impl Schedule for AtRandom {
+    fn glance(&self, load: u64, word: usize, last: Glance, least: usize, most: usize) -> Glance {
+        let walked = if self.rises && load > 1 && word != 0 {
+            last.moment.min(most)
+        } else {
+            0
+        };
+        let least = least.max(walked);
+        let more = mixed(self.seed, load.wrapping_mul(2)) % 12;
+        let made = last.made.saturating_add(more).min(most).max(least);
+        let span = (made - least).saturating_add(1);
+        let later = mixed(self.seed, load.wrapping_mul(2).wrapping_add(1)) % span;
+        let moment = least.saturating_add(later).min(made);
+        Glance { moment, made }
     }
-    None
 }
 
 /// The first word of the item that a key lies in, in the table of a generation of that run.
@@ -98,29 +64,71 @@ fn expected(key: u64, generation: u64) -> Option<u64> {
     }
 }
 
-/// How many of many attempts were answered, and how many wrongly.
-fn tried(b: Barriers, l: Layout, opening: &[u64], stores: &[Store], rises: bool) -> (u32, u32) {
-    let mut state = 1;
-    let (mut answered, mut wrong) = (0u32, 0u32);
-    for _ in 0..10000u32 {
-        let key = (next(&mut state) % 5 * 10 + 6) as u64;
-        let from = next(&mut state) % 28;
-        if let Some((answer, generation)) = attempt(
-            b, l, key, opening, stores, from, rises, &mut state,
-        ) {
-            answered = answered.saturating_add(1);
+/// How many attempts were answered, and how many of these wrongly.
+#[derive(Clone, Copy, Debug, PartialEq, Eq, Drop)]
+struct Tally {
+    answered: u32,
+    wrong: u32,
+}
+
+/// One attempt of a reader that has seen some of the stores.
+fn attempt(
+    alloc: Global,
+    barriers: Barriers,
+    l: Layout,
+    opening: &[u64],
+    stores: &[Store],
+    schedule: &AtRandom,
+    tally: &mut Tally,
+) -> Result<(), Refusal> {
+    let moments = Moments {
+        barriers,
+        opening,
+        stores,
+        schedule,
+    };
+    if opening.len() != l.words() {
+        return Err(Refusal::BadCapacity);
+    }
+    let from = mixed(schedule.seed, u64::MAX) % 28;
+    let key = (mixed(schedule.seed, u64::MAX - 1) % 5 * 10 + 6) as u64;
+    let mut reader = moments.reader(alloc, from.min(stores.len()))?;
+    match moments.attempt::<HalfOpen>(&mut reader, l, key) {
+        Attempted::Answered(answer, generation) => {
+            tally.answered = tally.answered.saturating_add(1);
             if answer.map(|item| item.a) != expected(key, generation) {
-                wrong = wrong.saturating_add(1);
+                tally.wrong = tally.wrong.saturating_add(1);
             }
         }
+        Attempted::Failed => {}
     }
-    (answered, wrong)
+    Ok(())
+}
+
+/// 50,000 attempts.
+fn tried(
+    alloc: Global,
+    barriers: Barriers,
+    l: Layout,
+    opening: &[u64],
+    stores: &[Store],
+    rises: bool,
+) -> Result<Tally, Refusal> {
+    let mut tally = Tally {
+        answered: 0,
+        wrong: 0,
+    };
+    for seed in 0..50000u64 {
+        let schedule = AtRandom { seed, rises };
+        attempt(alloc, barriers, l, opening, stores, &schedule, &mut tally)?;
+    }
+    Ok(tally)
 }
 
 #[test]
 fn random_attempts_are_right_with_all_barriers_alone(rt: HostRuntime) -> Result<(), Fail> {
-    let opening = [0u64; 24];
     let l = Layout::new(3)?;
+    let opening = vec![in rt.alloc(); 0u64; l.words()]?;
     let updates = updates(rt.alloc())?;
     let stores = record::<HalfOpen>(rt.alloc(), l, 0, updates.as_slice())?;
     let all = all_barriers();
@@ -151,12 +159,19 @@ fn random_attempts_are_right_with_all_barriers_alone(rt: HostRuntime) -> Result<
             ..all
         },
     ];
-    for (i, b) in sets.iter().enumerate() {
+    for (i, barriers) in sets.iter().enumerate() {
         for rises in [false, true] {
-            let (answered, wrong) = tried(*b, l, &opening, stores.as_slice(), rises);
-            println!(rt; "set {i}, walk rises {rises}: {answered} answered, {wrong} wrong")?;
-            assert!(rt; answered > 1000);
-            assert_eq!(rt; wrong == 0, i == 0);
+            let tally = tried(
+                rt.alloc(),
+                *barriers,
+                l,
+                opening.as_slice(),
+                stores.as_slice(),
+                rises,
+            )?;
+            println!(rt; "set {i}, walk rises {rises}: {tally:?}")?;
+            assert!(rt; tally.answered > 10000);
+            assert_eq!(rt; tally.wrong == 0, i == 0);
         }
     }
     Ok(())

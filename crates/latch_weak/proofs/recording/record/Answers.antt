@@ -1,10 +1,9 @@
-use Rattle.std.proofs.Common.{◌≡◌, sym, ◌∙◌, ap, subst, take, [], ◌∷◌, ◌++◌, ◌+◌, arith}
+use Rattle.std.proofs.Common.{◌≡◌, sym, ◌∙◌, ap, subst, take, drop, suc, inr, [], ◌∷◌, ◌++◌, ◌+◌}
 use Rattle.std.proofs.lemmas.List.{take_all, take_more}
-use Rattle.std.specs.Prelude.{List}
-use Rattle.word_arena.specs.declared.stores.Store.{Store}
 use Rattle.word_arena.specs.Layouts.{capacity_of, limit_of}
-use Rattle.latch_weak.specs.Recordings.{HasMade}
-use Rattle.latch_weak.proofs.RecordingLemmas.{made_nothing, works_of}
+use Rattle.std.proofs.Math.Seq.{split_at}
+use Rattle.latch_weak.specs.Recordings.{HasMade, RefusesRecording}
+use Rattle.latch_weak.proofs.RecordingLemmas.{made_nothing, works_of, passed_on}
 use Rattle.latch_weak.proofs.recording.record.Goals as goal
 
 pub loop-update-init : goal.loop-update-init
@@ -25,10 +24,10 @@ loop-update-preserved g c =
     let u = c.update-item.result in
     let all : before ++ u ∷ [] ≡ take (i + 1) c.args.updates.now = sym (take_more c.args.updates.now i u c.loop-update-test.true ∙ ap (λ x. before ++ x ∷ []) (sym c.update-item.is)) in
     subst (λ us. HasMade o (capacity_of l) (limit_of l) c.args.start us c.carry_out.new.stores.items c.carry_out.new.writer) all
-    (c.in_ok-carry_out.ensures (capacity_of l) (limit_of l) c.args.start before c.loop-update.invariant)
+    (c.in_ok-carry_out.ensures.made (capacity_of l) (limit_of l) c.args.start before c.loop-update.invariant)
 
-pub returns : goal.returns
-returns g c =
+pub returns-clause-stores : goal.returns-clause-stores
+returns-clause-stores g c =
     let o = g.O.TreeOrder.order in
     let l = c.args.l in
     let made = c.loop-update.invariant in
@@ -39,3 +38,22 @@ returns g c =
       updates_are = made.updates_are ∙ all;
       stores_are = made.stores_are;
     }
+
+pub returns-in_err-carry_out-clause-refused : goal.returns-in_err-carry_out-clause-refused
+returns-in_err-carry_out-clause-refused g c =
+    let o = g.O.TreeOrder.order in
+    let l = c.args.l in
+    let us = c.args.updates.now in
+    let i = c.loop-update.update-index in
+    let u = c.update-item.result in
+    passed_on c.from_residual-in_err-carry_out.result c.in_err-carry_out.field-0.0 (RefusesRecording o l c.args.start us) c.from_residual-in_err-carry_out.ensures.1
+    (inr (record {
+      before = take i us;
+      stopper = u;
+      rest = drop (suc i) us;
+      split = split_at us i u c.loop-update-test.true ∙ ap (λ x. take i us ++ x ∷ drop (suc i) us) (sym c.update-item.is);
+      stores = c.loop-update.stores.items;
+      writer = c.loop-update.writer;
+      made = c.loop-update.invariant;
+      refused = c.in_err-carry_out.ensures.refused;
+    }))

@@ -1,0 +1,22 @@
+use Rattle.std.proofs.Common.{arith, ap, ◌∙◌, sym, cond}
+use Rattle.latch_weak.specs.Barriers.{last_store, ordered_before}
+use Rattle.latch_weak.proofs.BarrierLemmas.{last_at_most}
+use Rattle.latch_weak.proofs.ReaderLemmas.{looked_first, looked_alone}
+use Rattle.latch_weak.proofs.attempts.Moments.look_first.Goals as goal
+
+pub ordered_before-requires : goal.ordered_before-requires
+ordered_before-requires g c =
+    omega (arith, c.last_store-seen.ensures, last_at_most c.args.self.now.stores.now 0 c.look-first.new.reader.last.moment, c.look-first.ensures.may.stored, c.look-first.ensures.still.made)
+
+pub returns-then-self : goal.returns-then-self
+returns-then-self g c =
+    let b = c.args.self.now.barriers in
+    let ss = c.args.self.now.stores.now in
+    let moment = c.look-first.new.reader.last.moment in
+    looked_first b c.args.self.now.opening.now ss c.args.reader.now c.look-first.new.reader c.raise.new.self c.look-first.result c.ordered_before.result
+    c.look-first.ensures (c.ordered_before.ensures ∙ ap (ordered_before b ss) c.last_store-seen.ensures ∙ ap (λ d. cond d (ordered_before b ss (last_store ss 0 moment)) 0) (sym c.if-self.true))
+    c.raise.ensures.view c.raise.ensures.words c.raise.ensures.barrier c.raise.ensures.last
+
+pub returns-else-self : goal.returns-else-self
+returns-else-self g c =
+    looked_alone c.args.self.now.barriers c.args.self.now.opening.now c.args.self.now.stores.now c.args.reader.now c.look-first.new.reader c.look-first.result c.look-first.ensures c.if-self.false
