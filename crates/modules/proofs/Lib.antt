@@ -26,6 +26,8 @@ pub mod GatheringLemmas
 pub mod NameLemmas
 -- the accepted modules have distinct names and regions that lie apart
 pub mod SoundnessLemmas
+-- a number above that of the regions is no module's
+pub mod AbsentLemmas
 -- the modules that are made of the accepted ones
 pub mod MakingLemmas
 -- each line is counted once

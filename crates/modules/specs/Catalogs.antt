@@ -1,6 +1,6 @@
 -- The catalog of the listings, and what is asked of it.
-use Rattle.std.specs.Prelude.{◌≡◌, ◌⊎◌, false, ℕ, ◌+◌, zero, suc, not, if◌then◌else◌, List, ◌++◌}
-use Rattle.std.specs.Prelude.{length, slice_get, map, count_by, codes, All, Option}
+use Rattle.std.specs.Prelude.{◌≡◌, ◌⊎◌, ◌<◌, false, ℕ, ◌+◌, zero, suc, not, if◌then◌else◌, List, ◌++◌}
+use Rattle.std.specs.Prelude.{length, slice_get, map, count_by, codes, All, Option, None, unwrap_or}
 use Rattle.std.specs.List.{flat_map, position_from}
 use Rattle.std.specs.Option.{option_map, option_to_list}
 use Rattle.std.specs.Str.{bytes_eq}
@@ -81,3 +81,15 @@ abbrev pub module_number_of : CatalogEntries → List ℕ → Option ℕ
 module_number_of c name =
     if bytes_eq name (codes "-") then option_map (λ _. 0) c.built_in
     else option_map (λ place. place + 1) (position_from (bytes_eq name) 0 (names_in c.modules))
+
+-- the number that stands for a module which a catalog lacks
+abbrev pub absent_module : ℕ
+absent_module = 4294967295
+
+-- the number of the module of this name, or that of an absent one
+abbrev pub number_for : CatalogEntries → List ℕ → ℕ
+number_for c name = unwrap_or (module_number_of c name) absent_module
+
+-- no module has the number of an absent one, as long as there are fewer regions
+abbrev pub IsNoneAbsent : CatalogEntries → Type 0
+IsNoneAbsent c = length (regions_of c) < absent_module → module_of c absent_module ≡ None

@@ -4,7 +4,8 @@ ghost use Rattle.std.specs.Prelude.{◌≡◌, ◌↔◌, IsTrue, [], true, All,
 ghost use Rattle.std.specs.Option.{option_copied};
 ghost use Rattle.modules.specs.Lines.{fits, region_fits, usual_bounds};
 ghost use Rattle.modules.specs.Catalogs.{catalog_of, counts_of, IsBuildRefusal, module_of};
-ghost use Rattle.modules.specs.Catalogs.{module_number_of, regions_of, IsSoundCatalog};
+ghost use Rattle.modules.specs.Catalogs.{module_number_of, number_for, regions_of, IsNoneAbsent};
+ghost use Rattle.modules.specs.Catalogs.{IsSoundCatalog};
 ghost use Rattle.modules.specs.Loads.{drop_init_of, GivesOrLacksMemory, GivesSome, load_of};
 ghost use Rattle.modules.specs.Loads.{unload_of};
 ghost use Rattle.modules.specs.Placed.{are_few};
@@ -20,6 +21,10 @@ use latch_core::Update;
 use order_laws::Refusal;
 use std::alloc::Global;
 use std::marker::Model;
+
+/// The number that stands for a module which a catalog lacks. No module has it where there are fewer
+/// regions, as in every catalog that a table can hold.
+pub const ABSENT_MODULE: u64 = 4294967295;
 
 /// How many lines went where. Each line of a listing is counted once.
 #[derive(Clone, Copy, Debug, PartialEq, Eq, Drop)]
@@ -177,6 +182,15 @@ impl<'a> Catalog<'a> {
         }
         let place = place_of(self.modules.as_slice(), self.by_name.as_slice(), name)?;
         Some(place as u64 + 1)
+    }
+
+    /// The number of the module of this name, and [`ABSENT_MODULE`] where there is none.
+    pub fn number_for(&self, name: &[u8]) -> u64
+        ensures number { result ≡ number_for self.now name.now }
+        ensures absent { IsNoneAbsent self.now }
+    {
+        self.stays_sound();
+        self.number_of(name).unwrap_or(ABSENT_MODULE)
     }
 
     /// What every catalog keeps, for a caller that reasons about it: its modules have regions, which

@@ -1,7 +1,9 @@
 //! What follows from the definitions, as contracts of functions that do nothing.
 
 ghost use Rattle.std.specs.Prelude.{◌≡◌, ◌+◌, true, All, List, length, sum_by};
-ghost use Rattle.modules.specs.Catalogs.{catalog_of, counts_of, entries_of, IsSoundCatalog};
+ghost use Rattle.modules.specs.Catalogs.{catalog_of, counts_of, entries_of, IsNoneAbsent};
+ghost use Rattle.modules.specs.Catalogs.{IsSoundCatalog};
+ghost use Rattle.modules.specs.Entries.{CatalogEntries};
 ghost use Rattle.modules.specs.Lines.{fits, region_fits};
 ghost use Rattle.modules.specs.Listed.{BoundNames, ListedModule, ListedRegion, ListedSymbol};
 ghost use Rattle.modules.specs.Placed.{are_few};
@@ -41,4 +43,10 @@ pub fn every_catalog_is_sound()
         → All (λ l. fits l ≡ true) modules → All (λ l. region_fits l ≡ true) regions
         → are_few regions ≡ true
         → IsSoundCatalog (catalog_of names modules regions symbols) }
+{}
+
+/// No module of a sound catalog has the number that stands for an absent one, as long as there are
+/// fewer regions.
+pub fn no_module_is_absent()
+    ensures { (c : CatalogEntries) → IsSoundCatalog c → IsNoneAbsent c }
 {}

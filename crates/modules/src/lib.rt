@@ -16,7 +16,7 @@ mod regions;
 pub mod symbol_lines;
 pub mod symbols;
 
-pub use catalog::{BuildCounts, Catalog, Held};
+pub use catalog::{ABSENT_MODULE, BuildCounts, Catalog, Held};
 pub use lines::{KernelBounds, ModuleLine, Part, RegionLine, SymbolLine};
 pub use module::{MOST_REGIONS, Module};
 pub use regions::Region;

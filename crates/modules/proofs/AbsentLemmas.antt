@@ -1,0 +1,44 @@
+-- A number above that of the regions is no module's.
+use Rattle.std.proofs.Common.{◌≡◌, ℕ, suc, ◌+◌, ◌<◌, ◌≤◌, true, List, [], ◌∷◌, ◌++◌, length, flat_map, Option, Some, None, arith, length-append}
+use Rattle.std.specs.Prelude.{All}
+use Rattle.std.specs.List.{list_any}
+use Rattle.std.specs.Option.{option_to_list}
+use Rattle.std.proofs.lemmas.List.Elements.{All-head, All-tail}
+use Rattle.std.proofs.lemmas.Option.{slice_get_past}
+use Rattle.modules.specs.Building.{placed_module_of}
+use Rattle.modules.specs.Catalogs.{module_of, regions_of, IsNoneAbsent, IsSoundCatalog}
+use Rattle.modules.specs.Entries.{CatalogEntries, ModuleEntry}
+use Rattle.modules.specs.Parts.{is_core}
+use Rattle.modules.specs.Placed.{IsPlaced}
+use Rattle.modules.specs.declared.lines.Part.{Part}
+
+abbrev IsPlacedEntry : ModuleEntry → Type 0
+IsPlacedEntry m = IsPlaced (placed_module_of m)
+
+some_part : (parts : List Part) → list_any is_core parts ≡ true → 0 < length parts
+some_part [] some = absurd (cc)
+some_part (p ∷ ps) some = omega arith
+
+-- each module has a region at least
+as_many_regions : (ms : List ModuleEntry) → All IsPlacedEntry ms → length ms ≤ length (flat_map (λ m. m.regions) ms)
+as_many_regions [] all = omega arith
+as_many_regions (m ∷ ms) all =
+    let placed : IsPlacedEntry m = All-head IsPlacedEntry m ms all in
+    let more = as_many_regions ms (All-tail IsPlacedEntry m ms all) in
+    let some = some_part m.parts placed.some_core in
+    omega (arith, more, some, placed.same, length-append m.regions (flat_map (λ (x : ModuleEntry). x.regions) ms))
+
+no_more_modules : (built_in : Option ModuleEntry) (ms : List ModuleEntry) → All IsPlacedEntry (option_to_list built_in ++ ms)
+    → length ms ≤ length (flat_map (λ m. m.regions) (option_to_list built_in ++ ms))
+no_more_modules None ms all = as_many_regions ms all
+no_more_modules (Some m) ms all =
+    let few = as_many_regions (m ∷ ms) all in
+    omega (arith, few)
+
+none_from : (c : CatalogEntries) (place : ℕ) → IsSoundCatalog c → length (regions_of c) ≤ place → module_of c (suc place) ≡ None
+none_from c place sound few =
+    let modules = no_more_modules c.built_in c.modules sound.placed in
+    slice_get_past c.modules place (omega (arith, few, modules))
+
+pub none_absent : (c : CatalogEntries) → IsSoundCatalog c → IsNoneAbsent c
+none_absent c sound few = none_from c 4294967294 sound (omega (arith, few))
