@@ -22,7 +22,7 @@ use Rattle.shared_lookup.specs.Servings.{EachHasOutcome, EachIsAnswered, IsWrong
 use Rattle.shared_lookup.specs.declared.served.Served.{Served}
 
 -- what came back of the lists of these lines is told
-module _ {W : Type 0} (contents : W → Option (List ℕ)) (c : CatalogEntries) (readers : ℕ) (lines : List ScriptLine) (a : Assignments) (assigned : IsAssigned c readers lines a) (s : Served) (may : MayServe c a.keys.items) (outcomes : EachHasOutcome a.changes.items s.changes.items) (answers : EachIsAnswered a.keys.items s.answers.items s.ended.items) (wrong : IsWrongCount c a.changes.items s.changes.items s.answers.items s.log.items s.wrong) (w w' : Counted W) where
+module _ {W : Type 0} (contents : W → Option (List ℕ)) (c : CatalogEntries) (readers : ℕ) (lines : List ScriptLine) (a : Assignments) (assigned : IsAssigned c readers lines a) (s : Served) (may : MayServe c a.keys.items) (outcomes : EachHasOutcome c a.changes.items s.changes.items) (answers : EachIsAnswered a.keys.items s.answers.items s.ended.items) (wrong : IsWrongCount c a.changes.items s.changes.items s.answers.items s.log.items s.wrong) (w w' : Counted W) where
   may_run : MayRun c readers
   may_run = (may.0, subst (λ n. 0 < n) assigned.keys.same may.1, subst (λ n. n ≤ 64) assigned.keys.same may.2)
 

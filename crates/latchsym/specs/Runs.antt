@@ -32,7 +32,7 @@ MayRun c readers = HasFewRegions c × (0 < readers) × (readers ≤ MOST_READERS
 -- What the writers and readers came back with for what they were assigned. No list of addresses
 -- ended early.
 pub record IsServed (c : CatalogEntries) (a : Assignments) (s : Served) : Type 0 where
-  pub outcomes : EachHasOutcome a.changes.items s.changes.items
+  pub outcomes : EachHasOutcome c a.changes.items s.changes.items
   pub answers : EachIsAnswered a.keys.items s.answers.items s.ended.items
   pub whole : list_any (λ e. e) s.ended.items ≡ false
   pub wrong : IsWrongCount c a.changes.items s.changes.items s.answers.items s.log.items s.wrong

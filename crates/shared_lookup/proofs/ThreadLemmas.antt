@@ -7,8 +7,12 @@ use Rattle.order_laws.proofs.Lists.{slice_get-between, slice_get-push_cases, sli
 use Rattle.order_laws.proofs.Pairs.{both_pushed}
 use Rattle.shared_lookup.specs.declared.served.Answer.{Answer}
 use Rattle.shared_lookup.specs.declared.threads.ReaderThread.{ReaderThread}
-use Rattle.shared_lookup.specs.Servings.{AreAnswered, EachIsAnswered}
-use Rattle.shared_lookup.specs.Threads.{AreReading}
+use Rattle.modules.specs.Entries.{CatalogEntries}
+use Rattle.shared_lookup.specs.declared.changes.Change.{Change}
+use Rattle.shared_lookup.specs.declared.threads.Changing.{Changing}
+use Rattle.shared_lookup.specs.declared.threads.WriterThread.{WriterThread}
+use Rattle.shared_lookup.specs.Servings.{AreAnswered, AreOutcomesOf, ChangeOutcome, EachHasOutcome, EachIsAnswered}
+use Rattle.shared_lookup.specs.Threads.{AreChanging, AreReading, HaveRoom}
 
 -- the thread of one list of keys more
 pub reading_more : (keys : List (Vec ℕ)) (i : ℕ) (list : Vec ℕ) (rs : List ReaderThread) (r : ReaderThread) → i < length keys → list ≡ get_or keys i list
@@ -70,3 +74,59 @@ joined_more keys done rest r answers found ended end reading all last =
     subst (λ z. AreAnswered z list.items found.items end) of.0 (subst (λ z. AreAnswered r.reader z found.items end) of.1 last) in
     subst (λ (ks : List (Vec ℕ)). EachIsAnswered ks (answers ++ found ∷ []) (ended ++ end ∷ [])) (sym more)
     (answered_more (take n keys) list answers found ended end all (subst (λ z. AreAnswered z list.items found.items end) (sym count) here))
+
+-- one list of changes with its room more
+pub room_more : (changes : List (Vec Change)) (i : ℕ) (list : Vec Change) (rs : List Changing) (r : Changing) → i < length changes → list ≡ get_or changes i list
+    → HaveRoom (take i changes) rs → r.changes.now ≡ list.items → HaveRoom (take (i + 1) changes) (rs ++ r ∷ [])
+room_more changes i list rs r less is all ek =
+    let some : take (i + 1) changes ≡ take i changes ++ list ∷ [] = take_more changes i list less ∙ ap (λ (k : Vec Change). take i changes ++ k ∷ []) (sym is) in
+    subst (λ (ks : List (Vec Change)). HaveRoom ks (rs ++ r ∷ [])) (sym some)
+    (record {
+      same = length-append rs (r ∷ []) ∙ (let s = all.same in omega (arith, s)) ∙ sym (length-append (take i changes) (list ∷ []));
+      each = both_pushed (λ place (k : Vec Change) (t : Changing). t.changes.now ≡ k.items) (take i changes) rs list r all.same all.each ek;
+    })
+
+-- the list at the place behind those that are done
+module _ (changes : List (Vec Change)) (n : ℕ) (less : n < length changes) where
+  abbrev next_list : Vec Change
+  next_list = (slice_get_some changes n less).0
+
+  next_taken : take (n + 1) changes ≡ take n changes ++ next_list ∷ []
+  next_taken =
+      take_more changes n next_list less ∙ ap (λ (k : Vec Change). take n changes ++ k ∷ []) (get_or_from_slice_get changes n next_list next_list (slice_get_some changes n less).1)
+
+-- the thread of one list of changes more
+pub changing_more : {W : Type 0} (c : W) (changes : List (Vec Change)) (done rest : List Changing) (l : Changing) (ws : List (WriterThread W)) (w : WriterThread W)
+    → HaveRoom changes (done ++ l ∷ rest) → AreChanging c (take (length done) changes) ws
+    → w.changer.now ≡ c → w.changes.now ≡ l.changes.now
+    → AreChanging c (take (length (done ++ l ∷ [])) changes) (ws ++ w ∷ [])
+changing_more c changes done rest l ws w room all ec ek =
+    let n = length done in
+    let less : n < length changes = (let s = room.same in let m = length-append done (l ∷ rest) in omega (arith, s, m)) in
+    let list = next_list changes n less in
+    let of = room.each n list l (slice_get_some changes n less).1 (slice_get-between done rest l) in
+    let more : take (length (done ++ l ∷ [])) changes ≡ take n changes ++ list ∷ [] = ap (λ k. take k changes) (length-append done (l ∷ [])) ∙ next_taken changes n less in
+    subst (λ (ks : List (Vec Change)). AreChanging c ks (ws ++ w ∷ [])) (sym more)
+    (record {
+      same = length-append ws (w ∷ []) ∙ (let s = all.same in omega (arith, s)) ∙ sym (length-append (take n changes) (list ∷ []));
+      each = both_pushed (λ place (k : Vec Change) (t : WriterThread _). (t.changer.now ≡ c) × (t.changes.now ≡ k.items)) (take n changes) ws list w all.same all.each (ec, ek ∙ of);
+    })
+
+-- one list more whose thread has come back
+pub made_more : {W : Type 0} (catalog : W → CatalogEntries) (c : W) (changes : List (Vec Change)) (done rest : List (WriterThread W)) (w : WriterThread W) (outcomes : List (Vec ChangeOutcome)) (made : Vec ChangeOutcome)
+    → AreChanging c changes (done ++ w ∷ rest) → EachHasOutcome (catalog c) (take (length done) changes) outcomes
+    → AreOutcomesOf (catalog w.changer.now) w.changes.now made.items
+    → EachHasOutcome (catalog c) (take (length (done ++ w ∷ [])) changes) (outcomes ++ made ∷ [])
+made_more catalog c changes done rest w outcomes made changing all last =
+    let n = length done in
+    let less : n < length changes = (let s = changing.same in let m = length-append done (w ∷ rest) in omega (arith, s, m)) in
+    let list = next_list changes n less in
+    let of = changing.each n list w (slice_get_some changes n less).1 (slice_get-between done rest w) in
+    let more : take (length (done ++ w ∷ [])) changes ≡ take n changes ++ list ∷ [] = ap (λ k. take k changes) (length-append done (w ∷ [])) ∙ next_taken changes n less in
+    let here : AreOutcomesOf (catalog c) list.items made.items =
+    subst (λ z. AreOutcomesOf (catalog z) list.items made.items) of.0 (subst (λ z. AreOutcomesOf (catalog w.changer.now) z made.items) of.1 last) in
+    subst (λ (ks : List (Vec Change)). EachHasOutcome (catalog c) ks (outcomes ++ made ∷ [])) (sym more)
+    (record {
+      same = length-append outcomes (made ∷ []) ∙ (let s = all.same in omega (arith, s)) ∙ sym (length-append (take n changes) (list ∷ []));
+      each = both_pushed (λ place (k : Vec Change) (m : Vec ChangeOutcome). AreOutcomesOf (catalog c) k.items m.items) (take n changes) outcomes list made all.same all.each here;
+    })

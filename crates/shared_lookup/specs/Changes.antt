@@ -63,3 +63,8 @@ RefusesChange c ch l e =
 -- the update is one that the catalog gives for the change, whatever is held
 abbrev pub IsUpdateFor : CatalogEntries → Change → Update → Type 0
 IsUpdateFor c ch u = (held : Held) × (asked c ch held ≡ Ok u)
+
+-- what becomes of a change: at some ledger it is applied, or it is refused there
+abbrev pub IsOutcomeOf : CatalogEntries → Change → Result ℕ Refusal → Type 0
+IsOutcomeOf c ch (Ok g) = (l : LedgerState) × (l' : LedgerState) × Changes c ch l l' g
+IsOutcomeOf c ch (Err e) = (l : LedgerState) × RefusesChange c ch l e

@@ -1,7 +1,7 @@
 -- What several writers and readers come back with, and how many of their answers are wrong.
-use Rattle.std.specs.Prelude.{◌≡◌, ◌≢◌, ◌⊎◌, ℕ, ◌+◌, ◌-◌, ◌^◌, ◌<◌, ◌≤◌, ◌==◌, Bool, false, List}
-use Rattle.std.specs.Prelude.{[], length, map, take, slice_get, count_by, zip, min, Some, Result}
-use Rattle.std.specs.Prelude.{Ok, Err}
+use Rattle.std.specs.Prelude.{◌≡◌, ◌≢◌, ◌⊎◌, ℕ, ◌+◌, ◌-◌, ◌^◌, ◌<◌, ◌≤◌, ◌==◌, Bool, false}
+use Rattle.std.specs.Prelude.{List, [], All, length, map, take, slice_get, count_by, zip, min}
+use Rattle.std.specs.Prelude.{Some, Result, Ok, Err}
 use Rattle.std.specs.Global.{Vec}
 use Rattle.std.specs.List.{flat_map, range_with_len}
 use Rattle.order_laws.specs.declared.refusals.Refusal.{Refusal}
@@ -9,13 +9,14 @@ use Rattle.order_laws.specs.declared.refusals.Refusal.TheVariants.{OutOfMemory, 
 use Rattle.order_laws.specs.Orders.{half_open}
 use Rattle.order_laws.specs.Tables.{look}
 use Rattle.word_arena.specs.Limits.{most_nodes}
+use Rattle.latch_table.specs.Limits.{most_readers}
 use Rattle.latch_core.specs.declared.updates.Update.{Update}
 use Rattle.latch_core.specs.Histories.{replay}
 use Rattle.modules.specs.Catalogs.{regions_of}
 use Rattle.modules.specs.Entries.{CatalogEntries}
 use Rattle.shared_lookup.specs.declared.changes.Change.{Change}
 use Rattle.shared_lookup.specs.declared.served.Answer.{Answer}
-use Rattle.shared_lookup.specs.Changes.{IsUpdateFor}
+use Rattle.shared_lookup.specs.Changes.{IsOutcomeOf, IsUpdateFor}
 use Rattle.shared_lookup.specs.Counts.{Counts}
 
 -- what became of a change: its generation, or why it was refused
@@ -26,10 +27,33 @@ ChangeOutcome = Result ℕ Refusal
 abbrev pub entries : {X : Type 0} → List (Vec X) → List X
 entries lists = flat_map (λ list. list.items) lists
 
--- each list of changes has a list of outcomes, one for each change
-abbrev pub EachHasOutcome : List (Vec Change) → List (Vec ChangeOutcome) → Type 0
-EachHasOutcome changes outcomes =
-    map (λ list. length list.items) outcomes ≡ map (λ list. length list.items) changes
+-- each list of the one has as many entries as that of the other
+abbrev pub AreAsLong : {X Y : Type 0} → List (Vec X) → List (Vec Y) → Type 0
+AreAsLong xs ys = map (λ list. length list.items) ys ≡ map (λ list. length list.items) xs
+
+-- at the place of each change of a list is what became of it
+pub record HasOutcomes (c : CatalogEntries) (changes : List Change) (outcomes : List ChangeOutcome)
+    : Type 0 where
+  pub same : length outcomes ≡ length changes
+  pub each : (place : ℕ) (ch : Change) (r : ChangeOutcome) → slice_get changes place ≡ Some ch
+      → slice_get outcomes place ≡ Some r → IsOutcomeOf c ch r
+
+-- each change of a list is refused, because no thread could be made for the list
+abbrev pub AreNotMade : List Change → List ChangeOutcome → Type 0
+AreNotMade changes outcomes =
+    (length outcomes ≡ length changes) × All (λ r. r ≡ Err OutOfMemory) outcomes
+
+-- what became of the changes of a list
+abbrev pub AreOutcomesOf : CatalogEntries → List Change → List ChangeOutcome → Type 0
+AreOutcomesOf c changes outcomes = HasOutcomes c changes outcomes ⊎ AreNotMade changes outcomes
+
+-- each list of changes has its outcomes
+pub record EachHasOutcome (c : CatalogEntries) (changes : List (Vec Change))
+    (outcomes : List (Vec ChangeOutcome)) : Type 0 where
+  pub same : length outcomes ≡ length changes
+  pub each : (writer : ℕ) (list : Vec Change) (made : Vec ChangeOutcome)
+      → slice_get changes writer ≡ Some list → slice_get outcomes writer ≡ Some made
+      → AreOutcomesOf c list.items made.items
 
 -- the answer is that of this reader to the key at this place
 pub record IsAnswerTo (reader place key : ℕ) (a : Answer) : Type 0 where
@@ -93,7 +117,7 @@ IsWrongCount c changes outcomes answers log wrong =
 
 -- a table can have so many regions, and so many readers
 abbrev pub MayServe : CatalogEntries → List (Vec ℕ) → Type 0
-MayServe c keys = (length (regions_of c) ≤ most_nodes) × (0 < length keys) × (length keys ≤ 64)
+MayServe c keys = (length (regions_of c) ≤ most_nodes) × (0 < length keys) × (length keys ≤ most_readers)
 
 -- by these numbers, and else because memory ran out
 abbrev pub RefusesServing : CatalogEntries → List (Vec ℕ) → Refusal → Type 0

@@ -1,22 +1,26 @@
--- What the threads of lists are given.
-use Rattle.std.specs.Prelude.{◌≡◌, ℕ, List, length, map, slice_get, Some}
+-- What the threads of lists are given, and what they come back with.
+use Rattle.std.specs.Prelude.{◌≡◌, ℕ, List, length, slice_get, Some}
 use Rattle.std.specs.Global.{Vec}
+use Rattle.shared_lookup.specs.declared.changes.Change.{Change}
 use Rattle.shared_lookup.specs.declared.threads.Changing.{Changing}
-use Rattle.shared_lookup.specs.declared.threads.WriterThread.{WriterThread}
 use Rattle.shared_lookup.specs.declared.threads.ReaderThread.{ReaderThread}
+use Rattle.shared_lookup.specs.declared.threads.WriterThread.{WriterThread}
 
--- how many entries each list has
-abbrev pub lists_of : {X : Type 0} → List (Vec X) → List ℕ
-lists_of lists = map (λ list. length list.items) lists
+-- each list of changes has room for its outcomes
+pub record HaveRoom (changes : List (Vec Change)) (lists : List Changing) : Type 0 where
+  pub same : length lists ≡ length changes
+  pub each : (writer : ℕ) (list : Vec Change) (l : Changing) → slice_get changes writer ≡ Some list
+      → slice_get lists writer ≡ Some l → l.changes.now ≡ list.items
 
--- how many changes each list has, and how many outcomes are awaited of each thread
-abbrev pub lengths_of : List Changing → List ℕ
-lengths_of lists = map (λ list. length list.changes.now) lists
+-- each list of changes has a thread, or none where it is empty or no thread could be made
+pub record AreChanging {W : Type 0} (changer : W) (changes : List (Vec Change))
+    (writers : List (WriterThread W)) : Type 0 where
+  pub same : length writers ≡ length changes
+  pub each : (writer : ℕ) (list : Vec Change) (w : WriterThread W)
+      → slice_get changes writer ≡ Some list → slice_get writers writer ≡ Some w
+      → (w.changer.now ≡ changer) × (w.changes.now ≡ list.items)
 
-abbrev pub counts_of_threads : List WriterThread → List ℕ
-counts_of_threads writers = map (λ w. w.count) writers
-
--- each list of keys has a thread
+-- each list of keys has a thread, or none where it is empty or no thread could be made
 pub record AreReading (keys : List (Vec ℕ)) (readers : List ReaderThread) : Type 0 where
   pub same : length readers ≡ length keys
   pub each : (place : ℕ) (list : Vec ℕ) (r : ReaderThread) → slice_get keys place ≡ Some list

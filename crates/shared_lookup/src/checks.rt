@@ -2,7 +2,7 @@
 
 ghost use Rattle.std.specs.Prelude.{◌≡◌, IfOk, IfErr};
 ghost use Rattle.order_laws.specs.declared.refusals.Refusal.TheVariants.{OutOfMemory};
-ghost use Rattle.shared_lookup.specs.Servings.{EachHasOutcome, IsWrongCount};
+ghost use Rattle.shared_lookup.specs.Servings.{AreAsLong, IsWrongCount};
 
 use crate::changes::Change;
 use crate::ledgers::Ledger;
@@ -23,7 +23,7 @@ pub(crate) fn wrong_count(
     outcomes: &[Vec<Result<u64, Refusal>>],
     answers: &[Vec<Answer>],
 ) -> Result<u64, Refusal>
-    requires { EachHasOutcome changes.now outcomes.now }
+    requires { AreAsLong changes.now outcomes.now }
     ensures counted { IfOk result
         (IsWrongCount c.now changes.now outcomes.now answers.now ledger.now.log) }
     ensures refusal { IfErr result (λ e. e ≡ OutOfMemory) }

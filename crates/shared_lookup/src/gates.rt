@@ -10,7 +10,7 @@ pub enum Point {
         seq: u64,
         remaining: u64,
     },
-    /// A writer has made its last change, and holds no lock.
+    /// A writer has made its last change, and holds no lock. That of an empty list is never told.
     WriterDone {
         writer: u32,
     },

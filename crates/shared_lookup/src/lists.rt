@@ -1,8 +1,9 @@
 //! The threads of all lists.
 
 ghost use Rattle.std.specs.Prelude.{◌≡◌, ◌≤◌, [], length, IfOk, vec_len};
-ghost use Rattle.shared_lookup.specs.Servings.{EachIsAnswered};
-ghost use Rattle.shared_lookup.specs.Threads.{AreReading, counts_of_threads, lengths_of, lists_of};
+ghost use Rattle.latch_table.specs.Limits.{most_readers};
+ghost use Rattle.shared_lookup.specs.Servings.{EachHasOutcome, EachIsAnswered};
+ghost use Rattle.shared_lookup.specs.Threads.{AreChanging, AreReading, HaveRoom};
 
 use crate::changes::Change;
 use crate::gates::Gate;
@@ -23,7 +24,7 @@ pub(crate) fn with_room<'s>(
     alloc: Global,
     changes: &'s [Vec<Change>],
 ) -> Result<Vec<Changing<'s>>, AllocError>
-    ensures { IfOk result (λ lists. lengths_of lists.items ≡ lists_of changes.now) }
+    ensures { IfOk result (λ lists. HaveRoom changes.now lists.items) }
 {
     let mut lists = Vec::with_capacity(alloc, changes.len())?;
     for list in changes {
@@ -39,11 +40,13 @@ pub(crate) fn start_writers<'s, E, R: Threads + Wait + Sync, G: Gate + Sync, W: 
     rt: &'s R,
     g: &'s G,
     changer: &'s W,
+    changes: &[Vec<Change>],
     lists: Vec<Changing<'s>>,
-    mut writers: Vec<WriterThread>,
-) -> Result<Vec<WriterThread>, AllocError>
-    requires { writers.items ≡ [] }
-    ensures { IfOk result (λ all. counts_of_threads all.items ≡ lengths_of lists.entry.items) }
+    mut writers: Vec<WriterThread<'s, W>>,
+) -> Result<Vec<WriterThread<'s, W>>, AllocError>
+    requires blank { writers.items ≡ [] }
+    requires room { HaveRoom changes.now lists.items }
+    ensures { IfOk result (λ all. AreChanging changer.now changes.now all.items) }
 {
     for list in lists {
         writers.push(start_writer(scope, rt, g, changer, list))?;
@@ -63,7 +66,7 @@ pub(crate) fn start_readers<'s, E, R: Threads + Wait + Sync, G: Gate + Sync>(
 ) -> Result<Vec<ReaderThread<'s>>, AllocError>
     requires blank { readers.items ≡ [] }
     requires same { vec_len seats ≡ length keys.now }
-    requires few { length keys.now ≤ 64 }
+    requires few { length keys.now ≤ most_readers }
     ensures { IfOk result (λ all. AreReading keys.now all.items) }
 {
     for list in keys {
@@ -77,14 +80,18 @@ pub(crate) fn start_readers<'s, E, R: Threads + Wait + Sync, G: Gate + Sync>(
 }
 
 /// Waits for the threads of lists of changes, and adds what they came back with to a list.
-pub(crate) fn join_writers<R: Threads>(
+pub(crate) fn join_writers<R: Threads, W: Changer>(
     rt: &R,
     alloc: Global,
-    writers: Vec<WriterThread>,
+    changer: &W,
+    changes: &[Vec<Change>],
+    writers: Vec<WriterThread<'_, W>>,
     mut outcomes: Vec<Outcomes>,
 ) -> Result<Vec<Outcomes>, AllocError>
-    requires { outcomes.items ≡ [] }
-    ensures { IfOk result (λ all. lists_of all.items ≡ counts_of_threads writers.items) }
+    requires blank { outcomes.items ≡ [] }
+    requires changing { AreChanging changer.now changes.now writers.items }
+    ensures { IfOk result (λ all.
+        EachHasOutcome (W.catalog changer.now) changes.now all.items) }
 {
     for writer in writers {
         outcomes.push(join_writer(rt, alloc, writer)?)?;

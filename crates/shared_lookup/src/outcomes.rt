@@ -6,7 +6,7 @@ ghost use Rattle.std.specs.List.{range_with_len};
 ghost use Rattle.std.specs.Prelude.{count_by};
 ghost use Rattle.shared_lookup.specs.Checks.{AreTallied, IsTalliedBy};
 ghost use Rattle.shared_lookup.specs.Counts.{CountsUpTo};
-ghost use Rattle.shared_lookup.specs.Servings.{EachHasOutcome, IsLogged, IsWrongChange};
+ghost use Rattle.shared_lookup.specs.Servings.{AreAsLong, IsLogged, IsWrongChange};
 ghost use Rattle.shared_lookup.specs.Servings.{IsWrongEntry};
 ghost use Rattle.shared_lookup.specs.Servings.{entries, has_generation};
 
@@ -66,7 +66,7 @@ pub(crate) fn wrong_changes(
     changes: &[Vec<Change>],
     outcomes: &[Vec<Result<u64, Refusal>>],
 ) -> u64
-    requires { EachHasOutcome changes.now outcomes.now }
+    requires { AreAsLong changes.now outcomes.now }
     ensures { CountsUpTo (IsWrongChange c.now log.now)
         (zip (entries changes.now) (entries outcomes.now)) result }
 {

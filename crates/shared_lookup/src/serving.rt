@@ -4,6 +4,7 @@ ghost use Rattle.std.specs.Prelude.{◌≡◌, ◌≤◌, length, IfOk, IfErr, v
 ghost use Rattle.modules.specs.Catalogs.{regions_of};
 ghost use Rattle.word_arena.specs.Layouts.{capacity_of};
 ghost use Rattle.word_arena.specs.Limits.{most_nodes};
+ghost use Rattle.latch_table.specs.Limits.{most_readers};
 ghost use Rattle.shared_lookup.specs.Servings.{EachHasOutcome, EachIsAnswered};
 ghost use Rattle.shared_lookup.specs.Servings.{IsWrongCount, MayServe, RefusesServing};
 
@@ -44,17 +45,18 @@ fn run_threads<R: Threads + Wait + Sync, G: Gate + Sync, W: Changer + Sync>(
     seats: Vec<Reader<HalfOpen>>,
 ) -> Result<Returned, AllocError>
     requires same { vec_len seats ≡ length keys.now }
-    requires few { length keys.now ≤ 64 }
-    ensures outcomes { IfOk result (λ r. EachHasOutcome changes.now r.outcomes.items) }
+    requires few { length keys.now ≤ most_readers }
+    ensures outcomes { IfOk result (λ r.
+        EachHasOutcome (W.catalog changer.now) changes.now r.outcomes.items) }
     ensures answers { IfOk result (λ r. EachIsAnswered keys.now r.answers.items r.ended.items) }
 {
     thread::scope(
         thread::scope_env(),
         rt,
         |scope| -> Result<Returned, AllocError>
-            requires { (vec_len seats ≡ length keys.now) × (length keys.now ≤ 64) }
+            requires { (vec_len seats ≡ length keys.now) × (length keys.now ≤ most_readers) }
             ensures outcomes { IfOk result (λ r.
-                EachHasOutcome changes.entry.now r.outcomes.items) }
+                EachHasOutcome (W.catalog changer.entry.now) changes.entry.now r.outcomes.items) }
             ensures answers { IfOk result (λ r.
                 EachIsAnswered keys.entry.now r.answers.items r.ended.items) }
         {
@@ -64,9 +66,9 @@ fn run_threads<R: Threads + Wait + Sync, G: Gate + Sync, W: Changer + Sync>(
             let ended = Vec::with_capacity(alloc, keys.len())?;
             let writers = Vec::with_capacity(alloc, changes.len())?;
             let readers = Vec::with_capacity(alloc, keys.len())?;
-            let writers = start_writers(scope, rt, g, changer, lists, writers)?;
+            let writers = start_writers(scope, rt, g, changer, changes, lists, writers)?;
             let readers = start_readers(scope, rt, alloc, g, seats, keys, readers)?;
-            let outcomes = join_writers(rt, alloc, writers, outcomes)?;
+            let outcomes = join_writers(rt, alloc, changer, changes, writers, outcomes)?;
             let (answers, ended) = join_readers(rt, alloc, keys, readers, answers, ended)?;
             Ok(Returned {
                 outcomes,
@@ -90,8 +92,8 @@ fn layout_for(c: &Catalog<'_>) -> Result<Layout, Refusal>
     }
 }
 
-/// Runs a thread for each list of changes and one for each list of keys, all at once, over a table
-/// that is empty at first, waits for them, and counts what is wrong.
+/// Runs a thread for each list of changes that is not empty and one for each list of keys, all at
+/// once, over a table that is empty at first, waits for them, and counts what is wrong.
 ///
 /// Each change is one [`SharedWriter::change`], each key one
 /// [`Reader::find`](latch_table::Reader::find). Writers, readers and places are numbered from 0.
@@ -116,7 +118,7 @@ pub fn serve<R: Threads + Wait + Sync, G: Gate + Sync>(
     keys: Vec<Vec<u64>>,
 ) -> Result<Served, Refusal>
     ensures may { IfOk result (λ s. MayServe c.now keys.items) }
-    ensures outcomes { IfOk result (λ s. EachHasOutcome changes.items s.changes.items) }
+    ensures outcomes { IfOk result (λ s. EachHasOutcome c.now changes.items s.changes.items) }
     ensures answers { IfOk result (λ s.
         EachIsAnswered keys.items s.answers.items s.ended.items) }
     ensures wrong { IfOk result (λ s.

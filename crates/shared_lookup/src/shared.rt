@@ -1,5 +1,7 @@
 //! A ledger under a lock.
 
+ghost use Rattle.shared_lookup.specs.Changes.{IsOutcomeOf};
+
 use crate::changes::Change;
 use crate::gates::Gate;
 use crate::ledgers::Ledger;
@@ -21,7 +23,8 @@ impl SharedWriter {
         }
     }
 
-    /// One [`Ledger::change`] in one taking of the lock.
+    /// One [`Ledger::change`] in one taking of the lock: what it returns, the change returns at some
+    /// ledger.
     pub fn change<R: Wait, G: Gate>(
         &self,
         rt: &R,
@@ -29,7 +32,9 @@ impl SharedWriter {
         who: u32,
         c: &Catalog<'_>,
         ch: Change,
-    ) -> Result<u64, Refusal> {
+    ) -> Result<u64, Refusal>
+        ensures { IsOutcomeOf c.now ch result }
+    {
         self.ledger.lock(rt).change(g, who, c, ch)
     }
 
@@ -42,8 +47,13 @@ impl SharedWriter {
 
 /// Makes changes, each on its own, for any number of threads.
 pub(crate) trait Changer {
+    ghost use Rattle.modules.specs.Entries.{CatalogEntries};
+
+    ghost catalog: { Self → CatalogEntries };
+
     /// The new generation, or why the change was refused.
-    fn change<R: Wait, G: Gate>(&self, rt: &R, g: &G, who: u32, ch: Change) -> Result<u64, Refusal>;
+    fn change<R: Wait, G: Gate>(&self, rt: &R, g: &G, who: u32, ch: Change) -> Result<u64, Refusal>
+        ensures { IsOutcomeOf (catalog self.now) ch result };
 }
 
 /// A shared writer with the catalog that its changes are of.
@@ -54,6 +64,8 @@ pub(crate) struct CatalogWriter<'a, 'c> {
 }
 
 impl<'a, 'c> Changer for CatalogWriter<'a, 'c> {
+    ghost catalog = { λ w. w.catalog.now };
+
     fn change<R: Wait, G: Gate>(
         &self,
         rt: &R,

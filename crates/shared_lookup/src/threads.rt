@@ -2,17 +2,21 @@
 
 ghost use Rattle.std.specs.Prelude.{◌≡◌, length, IfOk};
 ghost use Rattle.std.specs.Option.{ForSome};
-ghost use Rattle.shared_lookup.specs.Servings.{AreAnswered};
+ghost use Rattle.shared_lookup.specs.Servings.{AreAnswered, AreNotMade, AreOutcomesOf, HasOutcomes};
 
 use crate::changes::Change;
 use crate::gates::{Gate, Point};
 use crate::served::Answer;
 use crate::shared::Changer;
+use core::thread::Stack;
 use latch_table::Reader;
 use order_laws::{HalfOpen, Refusal};
 use std::alloc::{AllocError, Global};
 use std::sync::Wait;
-use std::thread::{JoinHandle, Promise, PromisedHandle, Scope, Threads};
+use std::thread::{Promise, PromisedHandle, Scope, Threads};
+
+/// How many bytes of stack each thread has.
+const STACK_SIZE: usize = 1 << 20;
 
 /// What becomes of each change of a list, by its place.
 pub(crate) type Outcomes = Vec<Result<u64, Refusal>>;
@@ -26,11 +30,25 @@ pub(crate) struct Changing<'s> {
     ghost room: { length outcomes.items ≡ length changes.now },
 }
 
-/// The thread of a list of so many changes; none where no thread could be made.
+/// The thread of a list of changes; none where the list is empty or no thread could be made.
 #[derive(Drop)]
-pub(crate) struct WriterThread {
-    pub(crate) count: usize,
-    thread: Option<JoinHandle<Outcomes>>,
+pub(crate) struct WriterThread<'s, W: Changer> {
+    pub(crate) changer: &'s W,
+    pub(crate) changes: &'s [Change],
+    thread: Option<PromisedHandle<Outcomes, OutcomesOf<'s, W>>>,
+    ghost same: { ForSome thread (λ h.
+        (h.promise.changer.now ≡ changer.now) × (h.promise.changes.now ≡ changes.now)) },
+}
+
+/// What a writer's thread returns: what became of the changes of its list.
+#[derive(Drop)]
+pub(crate) struct OutcomesOf<'a, W: Changer> {
+    changer: &'a W,
+    changes: &'a [Change],
+}
+
+impl<'a, W: Changer> Promise<Outcomes> for OutcomesOf<'a, W> {
+    ghost kept_by = { λ p r. HasOutcomes (W.catalog p.changer.now) p.changes.now r.items };
 }
 
 /// The thread of a list of keys; none where no thread could be made.
@@ -63,10 +81,10 @@ impl<'a> Promise<Found> for AnswersTo<'a> {
 }
 
 /// An outcome for each of so many changes: out of memory.
-fn refused(alloc: Global, count: usize) -> Result<Outcomes, AllocError>
-    ensures { IfOk result (λ outcomes. length outcomes.items ≡ count) }
+fn refused(alloc: Global, changes: &[Change]) -> Result<Outcomes, AllocError>
+    ensures { IfOk result (λ outcomes. AreNotMade changes.now outcomes.items) }
 {
-    vec![in alloc; Err(Refusal::OutOfMemory); count]
+    vec![in alloc; Err(Refusal::OutOfMemory); changes.len()]
 }
 
 /// Makes the changes of one list, and puts each outcome into its place.
@@ -74,13 +92,14 @@ fn make_changes<R: Wait, G: Gate, W: Changer>(
     rt: &R,
     g: &G,
     changer: &W,
-    list: Changing<'_>,
-) -> Outcomes {
-    let Changing {
-        writer,
-        changes,
-        mut outcomes,
-    } = list;
+    writer: u32,
+    changes: &[Change],
+    outcomes: Outcomes,
+) -> Outcomes
+    requires { length outcomes.items ≡ length changes.now }
+    ensures { HasOutcomes (W.catalog changer.now) changes.now result.items }
+{
+    let mut outcomes = outcomes;
     for place in 0..changes.len() {
         outcomes[place] = changer.change(rt, g, writer, changes[place]);
     }
@@ -125,19 +144,39 @@ fn look_up<R: Wait, G: Gate>(
     }
 }
 
-/// Starts the thread of one list of changes.
+/// Starts the thread of one list of changes, unless it is empty.
 pub(crate) fn start_writer<'s, E, R: Threads + Wait + Sync, G: Gate + Sync, W: Changer + Sync>(
     scope: &Scope<'s, E>,
     rt: &'s R,
     g: &'s G,
     changer: &'s W,
     list: Changing<'s>,
-) -> WriterThread
-    ensures { result.count ≡ length list.entry.changes.now }
+) -> WriterThread<'s, W>
+    ensures { (result.changer.now ≡ changer.now)
+        × (result.changes.now ≡ list.entry.changes.now) }
 {
-    let count = list.changes.len();
-    let thread = scope.spawn(move || make_changes(rt, g, changer, list)).ok();
-    WriterThread { count, thread }
+    let Changing {
+        writer,
+        changes,
+        outcomes,
+    } = list;
+    let mut thread = None;
+    if !changes.is_empty() {
+        let started = Stack::new().stack_size(STACK_SIZE).spawn_scoped_with(
+            scope,
+            OutcomesOf { changer, changes },
+            move || -> Outcomes
+                requires { length outcomes.items ≡ length changes.now }
+                ensures { HasOutcomes (W.catalog changer.entry.now) changes.entry.now result.items }
+            { make_changes(rt, g, changer, writer, changes, outcomes) },
+        );
+        thread = started.ok();
+    }
+    WriterThread {
+        changer,
+        changes,
+        thread,
+    }
 }
 
 /// Starts the thread of one list of keys.
@@ -170,22 +209,24 @@ pub(crate) fn start_reader<'s, E, R: Threads + Wait + Sync, G: Gate + Sync>(
 }
 
 /// Waits for the thread of one list of changes. Where there was none, each change is refused.
-pub(crate) fn join_writer<R: Threads>(
+pub(crate) fn join_writer<R: Threads, W: Changer>(
     rt: &R,
     alloc: Global,
-    writer: WriterThread,
+    writer: WriterThread<'_, W>,
 ) -> Result<Outcomes, AllocError>
-    ensures { IfOk result (λ outcomes. length outcomes.items ≡ writer.count) }
+    ensures { IfOk result (λ outcomes.
+        AreOutcomesOf (W.catalog writer.entry.changer.now) writer.entry.changes.now
+        outcomes.items) }
 {
-    let WriterThread { count, thread } = writer;
-    if let Some(thread) = thread {
-        let outcomes = thread.join(rt);
-        // It always has as many as there are changes.
-        if outcomes.len() == count {
-            return Ok(outcomes);
-        }
+    let WriterThread {
+        changer: _,
+        changes,
+        thread,
+    } = writer;
+    match thread {
+        Some(thread) => Ok(thread.join(rt)),
+        None => refused(alloc, changes),
     }
-    refused(alloc, count)
 }
 
 /// Waits for the thread of one list of keys. Where there was none, the list has ended.
@@ -215,7 +256,7 @@ pub(crate) fn list_with_room<'s>(
 ) -> Result<Changing<'s>, AllocError>
     ensures { IfOk result (λ list. list.changes.now ≡ changes.now) }
 {
-    let outcomes = refused(alloc, changes.len())?;
+    let outcomes = refused(alloc, changes)?;
     Ok(Changing {
         writer: u32::try_from(writer).unwrap_or(u32::MAX),
         changes,

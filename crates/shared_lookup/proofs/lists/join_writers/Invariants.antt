@@ -1,6 +1,11 @@
-use Rattle.std.proofs.Common.{◌≡◌}
-use Rattle.shared_lookup.specs.Threads.{counts_of_threads, lists_of}
+use Rattle.std.proofs.Common.{◌≡◌, ◌++◌, length, take}
+use Rattle.std.specs.Vec.Iter.{into_iter_items}
+use Rattle.shared_lookup.specs.Servings.{EachHasOutcome}
 use Rattle.shared_lookup.proofs.lists.join_writers.Given as goal
 
 abbrev pub invariant-loop-writer : goal.invariant-loop-writer
-invariant-loop-writer g l = lists_of l.outcomes.items ≡ counts_of_threads l.yielded
+invariant-loop-writer g l =
+    record {
+      gone : l.fn.writers.items ≡ l.yielded ++ into_iter_items l.writer-iterator;
+      made : EachHasOutcome (g.W.Changer.catalog l.changer) (take (length l.yielded) l.changes) l.outcomes.items;
+    }

@@ -1,6 +1,11 @@
-use Rattle.std.proofs.Common.{◌≡◌}
-use Rattle.shared_lookup.specs.Threads.{counts_of_threads, lengths_of}
+use Rattle.std.proofs.Common.{◌≡◌, ◌++◌, length, take}
+use Rattle.std.specs.Vec.Iter.{into_iter_items}
+use Rattle.shared_lookup.specs.Threads.{AreChanging}
 use Rattle.shared_lookup.proofs.lists.start_writers.Given as goal
 
 abbrev pub invariant-loop-list : goal.invariant-loop-list
-invariant-loop-list g l = counts_of_threads l.writers.items ≡ lengths_of l.yielded
+invariant-loop-list g l =
+    record {
+      gone : l.fn.lists.items ≡ l.yielded ++ into_iter_items l.list-iterator;
+      started : AreChanging l.changer (take (length l.yielded) l.changes) l.writers.items;
+    }

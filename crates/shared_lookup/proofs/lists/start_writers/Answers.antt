@@ -1,0 +1,23 @@
+use Rattle.std.proofs.Common.{◌≡◌, ◌∙◌, ◌++◌, ◌∷◌, [], List, length, take, sym, subst, ap, append_assoc}
+use Rattle.std.specs.Vec.Iter.{into_iter_items}
+use Rattle.shared_lookup.specs.declared.threads.Changing.{Changing}
+use Rattle.shared_lookup.specs.Threads.{AreChanging, HaveRoom}
+use Rattle.shared_lookup.proofs.ThreadLemmas.{changing_more}
+use Rattle.shared_lookup.proofs.lists.start_writers.Goals as goal
+
+pub loop-list-preserved : goal.loop-list-preserved
+loop-list-preserved g c =
+    let i = c.loop-list.invariant in
+    let done = c.loop-list.yielded in
+    let rest = into_iter_items c.next.new.self in
+    let l = c.in-Some.list in
+    let changes = c.args.changes.now in
+    let step = c.in-Some.ensures.steps.0 in
+    let all : c.args.lists.items ≡ done ++ l ∷ rest = i.gone ∙ ap (λ (xs : List Changing). done ++ xs) step in
+    let w = c.start_writer.result in
+    let e = c.start_writer.ensures in
+    let more = changing_more c.args.changer.now changes done rest l c.loop-list.writers.items w (subst (HaveRoom changes) all c.requires.room) i.started e.0 e.1 in
+    record {
+      gone = i.gone ∙ ap (λ (xs : List Changing). done ++ xs) step ∙ sym (append_assoc done (l ∷ []) rest);
+      started = subst (AreChanging c.args.changer.now (take (length (done ++ l ∷ [])) changes)) (sym c.in_ok-push.ensures.items) more;
+    }
