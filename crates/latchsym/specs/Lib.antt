@@ -33,3 +33,7 @@ pub mod RunTexts
 pub mod RunInputs
 -- what is written for a script and the listings that it is run over
 pub mod Runs
+-- the files of a job: what their names hold, and the readers that are opened on them
+pub mod Files
+-- what comes of a job: that of its engine over the job's own files
+pub mod Outcomes

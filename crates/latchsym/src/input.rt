@@ -1,5 +1,9 @@
 //! The files that a job reads.
 
+use crate::jobs::FileSource;
+use devices::Counted;
+use order_laws::Refusal;
+use std::fs;
 use std::fs::File;
 use std::io;
 use std::io::{ErrorKind, Read, Stdin};
@@ -21,5 +25,33 @@ impl Read for Input {
             Input::Standard(input) => input.read(buf),
             Input::Unopened => Err(io::Error::from(ErrorKind::NotFound)),
         }
+    }
+}
+
+/// The files of the host, of which nothing is known.
+#[derive(Drop)]
+pub struct FileSystem<'a> {
+    pub rt: &'a HostRuntime,
+}
+
+impl FileSource for FileSystem<'_> {
+    ghost use Rattle.std.specs.Prelude.{None};
+
+    type File = Input;
+
+    ghost held = { λ files name. None };
+
+    ghost standard = { λ files. None };
+
+    fn open(&self, name: &str) -> Result<Counted<Input>, Refusal> {
+        match fs::open(self.rt, name) {
+            Ok(opened) => Ok(Counted::new(Input::Opened(opened))),
+            Err(error) if error.kind() == ErrorKind::OutOfMemory => Err(Refusal::OutOfMemory),
+            Err(_) => Ok(Counted::new(Input::Unopened)),
+        }
+    }
+
+    fn standard_input(&self) -> Counted<Input> {
+        Counted::new(Input::Standard(self.rt.stdin()))
     }
 }

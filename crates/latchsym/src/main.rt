@@ -11,6 +11,7 @@ mod assignments;
 mod command_line;
 mod fault;
 mod input;
+mod jobs;
 mod lookup;
 mod lookup_texts;
 mod misuse;
@@ -22,20 +23,18 @@ mod tests;
 mod texts;
 mod trace;
 
-use command_line::{Job, JobFault, LookupJob, RunJob, job_of};
+use command_line::{Job, JobFault, job_of};
 use devices::{BLOCK, Counted};
-use fault::{Fault, conclude, with_status};
-use input::Input;
-use lookup::{LookupReaders, lookup_engine};
+use fault::{Fault, conclude};
+use input::FileSystem;
+use jobs::do_job;
 use misuse::{misused, refuse};
 use order_laws::Refusal;
-use runs::{RunReaders, run_engine};
+use std::env;
 use std::io::{BufWriter, ErrorKind, Stderr};
 use std::process::ExitCode;
 use std::sync::Wait;
 use std::thread::Threads;
-use std::{env, fs};
-use trace::trace_engine;
 
 fn main(rt: HostRuntime) -> ExitCode {
     let mut errors = Counted::new(rt.stderr());
@@ -59,93 +58,30 @@ fn words_of(rt: &HostRuntime) -> Result<Vec<String>, ErrorKind> {
 }
 
 /// Does the job, and returns the program's status. The host that may start threads and wait for
-/// them is taken beside the one that reads and writes, since a script alone needs it.
+/// them is taken beside the one that reads and writes, since a script alone needs it. The engine of
+/// traces writes blocks, so nothing gathers its output; for the others there is a buffer before
+/// anything is read.
 fn run<T: Threads + Wait + Sync>(
     rt: &HostRuntime,
     threads: &T,
     job: &Job<'_>,
     errors: &mut Counted<Stderr>,
 ) -> u8 {
-    match job {
-        Job::Trace { file } => conclude(with_status(run_trace(rt, file)), job, errors),
-        Job::Lookup(lookup) => conclude(with_status(run_lookup(rt, lookup)), job, errors),
-        Job::Run(script) => conclude(run_script(rt, threads, script), job, errors),
-    }
-}
-
-/// Runs the trace in a file. The engine writes blocks, so nothing gathers its output here.
-fn run_trace(rt: &HostRuntime, file: &str) -> Result<(), Fault> {
-    let mut reader = open(rt, file)?;
-    let mut writer = Counted::new(rt.stdout());
-    trace_engine(rt.alloc(), &mut reader, &mut writer)
-}
-
-/// Looks addresses up. The buffer for the output is there before anything is read.
-fn run_lookup(rt: &HostRuntime, job: &LookupJob<'_>) -> Result<(), Fault> {
-    let Ok(buffer) = BufWriter::with_capacity(rt.alloc(), BLOCK, rt.stdout()) else {
-        return Err(Fault::Refused(Refusal::OutOfMemory));
-    };
-    let mut writer = Counted::new(buffer);
-    let mut readers = open_for(rt, job)?;
-    lookup_engine(
-        rt.alloc(),
-        &mut readers,
-        &job.kernel,
-        &job.addresses,
-        &mut writer,
-    )
-}
-
-/// Runs a script. The buffer for the output is there before anything is read.
-fn run_script<T: Threads + Wait + Sync>(
-    rt: &HostRuntime,
-    threads: &T,
-    job: &RunJob<'_>,
-) -> Result<u8, Fault> {
-    let Ok(buffer) = BufWriter::with_capacity(rt.alloc(), BLOCK, rt.stdout()) else {
-        return Err(Fault::Refused(Refusal::OutOfMemory));
-    };
-    let mut writer = Counted::new(buffer);
-    let mut readers = RunReaders {
-        modules: open(rt, job.modules)?,
-        kallsyms: open(rt, job.kallsyms)?,
-        regions: match job.regions {
-            Some(file) => Some(open(rt, file)?),
-            None => None,
-        },
-        script: open(rt, job.script)?,
-    };
-    run_engine(threads, rt.alloc(), &mut readers, job.readers, &mut writer)
-}
-
-/// Opens the files of a lookup.
-fn open_for(
-    rt: &HostRuntime,
-    job: &LookupJob<'_>,
-) -> Result<LookupReaders<Input, Input, Input, Input>, Fault> {
-    Ok(LookupReaders {
-        modules: open(rt, job.modules)?,
-        kallsyms: open(rt, job.kallsyms)?,
-        regions: match job.regions {
-            Some(file) => Some(open(rt, file)?),
-            None => None,
-        },
-        addresses: match job.address_file {
-            Some("-") => Some(Counted::new(Input::Standard(rt.stdin()))),
-            Some(file) => Some(open(rt, file)?),
-            None => None,
-        },
-    })
-}
-
-/// Opens a file to be read. Refused only when out of memory: a file that cannot be opened for
-/// another reason fails when it is read.
-fn open(rt: &HostRuntime, file: &str) -> Result<Counted<Input>, Fault> {
-    match fs::open(rt, file) {
-        Ok(opened) => Ok(Counted::new(Input::Opened(opened))),
-        Err(error) if error.kind() == ErrorKind::OutOfMemory => {
-            Err(Fault::Refused(Refusal::OutOfMemory))
+    let files = FileSystem { rt };
+    let outcome = match job {
+        Job::Trace { .. } => {
+            let mut writer = Counted::new(rt.stdout());
+            do_job(threads, rt.alloc(), &files, job, &mut writer)
         }
-        Err(_) => Ok(Counted::new(Input::Unopened)),
-    }
+        Job::Lookup(_) | Job::Run(_) => {
+            match BufWriter::with_capacity(rt.alloc(), BLOCK, rt.stdout()) {
+                Ok(buffer) => {
+                    let mut writer = Counted::new(buffer);
+                    do_job(threads, rt.alloc(), &files, job, &mut writer)
+                }
+                Err(_) => Err(Fault::Refused(Refusal::OutOfMemory)),
+            }
+        }
+    };
+    conclude(outcome, job, errors)
 }

@@ -1,0 +1,23 @@
+use Rattle.std.proofs.Common.{inl, subst}
+use Rattle.latchsym.specs.LookupInputs.{known_inputs}
+use Rattle.latchsym.specs.Lookups.{AnswersLookup, failures_between}
+use Rattle.latchsym.proofs.jobs.do_lookup.Goals as goal
+
+pub returns : goal.returns
+returns g c =
+    let contents = g.W.Write.contents in
+    let remaining = g.F.File.Read.remaining in
+    let before = c.in_ok-readers.readers in
+    let after = c.lookup_engine.new.readers in
+    let kernel = c.args.job.now.kernel in
+    inl (record {
+      before = before;
+      after = after;
+      opened = c.in_ok-readers.ensures.opened;
+      result = c.lookup_engine.result;
+      answered = subst
+          (λ xs. AnswersLookup contents (known_inputs remaining remaining remaining remaining before kernel xs)
+          (failures_between before after) c.args.writer.now c.lookup_engine.new.writer c.lookup_engine.result)
+          c.deref.ensures.value c.lookup_engine.ensures;
+      status = c.with_status.ensures;
+    })

@@ -1,0 +1,46 @@
+-- The files of a job: what their names hold, and the readers that are opened on them.
+use Rattle.std.specs.Prelude.{◌≡◌, ℕ, List, codes, Option, Some, None, if◌then◌else◌}
+use Rattle.std.specs.Borrow.{Bor}
+use Rattle.std.specs.Str.{bytes_eq}
+use Rattle.clap.specs.Words.{Text}
+use Rattle.devices.specs.declared.counted.Counted.{Counted}
+use Rattle.devices.specs.Counted.{device_of}
+use Rattle.latchsym.specs.declared.command_line.LookupJob.{LookupJob}
+use Rattle.latchsym.specs.declared.command_line.RunJob.{RunJob}
+use Rattle.latchsym.specs.declared.lookup.LookupReaders.{LookupReaders}
+use Rattle.latchsym.specs.declared.runs.RunReaders.{RunReaders}
+
+-- what the file of each name holds, where that is known
+abbrev pub Held : Type 0
+Held = Text → Option (List ℕ)
+
+-- the reader gives what the file of this name holds
+abbrev pub IsOpened : {F : Type 0} → (F → Option (List ℕ)) → Held → Text → Counted F → Type 0
+IsOpened remaining held name reader = remaining (device_of reader) ≡ held name
+
+-- there is a reader where a file is named, and it gives what that file holds
+abbrev pub IsOpenedIfGiven : {F : Type 0} → (F → Option (List ℕ)) → Held
+    → Option (Bor Text) → Option (Counted F) → Type 0
+IsOpenedIfGiven remaining held None None = Unit {0}
+IsOpenedIfGiven remaining held (Some name) (Some reader) = IsOpened remaining held name.now reader
+IsOpenedIfGiven remaining held _ _ = ⊥
+
+-- what the names of files of addresses hold, of which `-` is the standard input
+abbrev pub or_standard : Option (List ℕ) → Held → Held
+or_standard standard held name = if bytes_eq name (codes "-") then standard else held name
+
+-- the readers of a lookup are those of the job's own files
+pub record AreLookupFiles {F : Type 0} (remaining : F → Option (List ℕ)) (held : Held)
+    (standard : Option (List ℕ)) (job : LookupJob) (r : LookupReaders F F F F) : Type 0 where
+  pub modules : IsOpened remaining held job.modules.now r.modules
+  pub kallsyms : IsOpened remaining held job.kallsyms.now r.kallsyms
+  pub regions : IsOpenedIfGiven remaining held job.regions r.regions
+  pub addresses : IsOpenedIfGiven remaining (or_standard standard held) job.address_file r.addresses
+
+-- the readers of a run are those of the job's own files
+pub record AreRunFiles {F : Type 0} (remaining : F → Option (List ℕ)) (held : Held)
+    (job : RunJob) (r : RunReaders F F F F) : Type 0 where
+  pub modules : IsOpened remaining held job.modules.now r.modules
+  pub kallsyms : IsOpened remaining held job.kallsyms.now r.kallsyms
+  pub regions : IsOpenedIfGiven remaining held job.regions r.regions
+  pub script : IsOpened remaining held job.script.now r.script
