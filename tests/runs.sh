@@ -54,11 +54,19 @@ ends "checked 800 wrong 0 seq 800 gen 400" --modules "$work/four" --kallsyms /de
 modules 8 >"$work/eight"
 awk 'BEGIN {
     for (i = 0; i < 100000; i++)
-        if (i % 3 == 0) printf "%s %d m%d\n", i % 2 ? "load" : "unload", 1 + i % 8, 1 + int(i / 16) % 8
+        if (i % 3 == 0) printf "%s %d m%d\n", int(i / 48) % 2 ? "unload" : "load", 1 + i % 8, 1 + int(i / 16) % 8
         else printf "look %d 0x%x\n", 1 + i % 64, (1 + i % 9) * 4096
 }' >"$work/eight.script"
 run --modules "$work/eight" --kallsyms /dev/null --readers 64 "$work/eight.script"
 tail -n 1 "$work/out" | grep -q '^checked 66666 wrong 0 seq ' || fail "eight writers beside 64 readers: $(tail -n 1 "$work/out")"
+# each change is refused or makes one generation, thousands are accepted, and no reader's generations
+# fall
+awk '
+    $1 == "refused" { refused++; next }
+    $1 == "checked" { generation = $NF + 0; next }
+    { if ($NF + 0 < last[$1]) fell = 1; last[$1] = $NF + 0 }
+    END { exit !(generation >= 2000 && refused + generation == 33334 && !fell) }
+' "$work/out" || fail "eight writers beside 64 readers: too few generations, or they do not add up, or fall"
 
 # the names of changes and the addresses of lookups come in the order of the script, by writer and
 # by reader

@@ -1,6 +1,7 @@
 //! What the tests share.
 
 mod meetings;
+mod others;
 mod stops;
 mod threads;
 

@@ -11,7 +11,7 @@ use std::test::Fail;
 use word_arena::Layout;
 
 /// A whole update, and the generation after it.
-fn carry_out(writer: &mut Writer<HalfOpen>, u: Update) -> Result<u64, Refusal>
+pub(crate) fn carry_out(writer: &mut Writer<HalfOpen>, u: Update) -> Result<u64, Refusal>
     ensures place { writer.new.place ≡ writer.old.place }
     ensures readers { writer.new.readers ≡ writer.old.readers }
 {

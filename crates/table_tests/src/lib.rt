@@ -21,6 +21,8 @@ mod interrupts;
 #[cfg(test)]
 mod ledgers;
 #[cfg(test)]
+mod openings;
+#[cfg(test)]
 mod tables;
 #[cfg(test)]
 mod widening;
