@@ -3,10 +3,9 @@
 use crate::jobs::FileSource;
 use devices::Counted;
 use order_laws::Refusal;
-use std::fs;
 use std::fs::File;
-use std::io;
 use std::io::{ErrorKind, Read, Stdin};
+use std::{fs, io};
 
 /// A file that was to be opened, or the standard input. Where a file cannot be opened, reading it
 /// fails, so that of several files the first in the order of reading is the one whose fault is

@@ -83,13 +83,7 @@ fn do_lookup<F: FileSource, W: Write>(
         job.now writer.old writer.new result ⊎ IsNotOpened writer.old writer.new result }
 {
     let mut readers = open_lookup(files, job)?;
-    with_status(lookup_engine(
-        alloc,
-        &mut readers,
-        &job.kernel,
-        &job.addresses,
-        writer,
-    ))
+    with_status(lookup_engine(alloc, &mut readers, &job.kernel, &job.addresses, writer))
 }
 
 /// Runs the script of a job.
