@@ -6,8 +6,8 @@
 #![tactic(auto)]
 
 ghost use Rattle.std.specs.Prelude.{◌≡◌, ◌<◌, ◌≤◌, IfOk, length};
+ghost use Rattle.word_arena.specs.Limits.{most_nodes};
 ghost use Rattle.word_arena.specs.Words.{words_for};
-ghost use Rattle.word_arena.specs.declared.layouts.TheConstants.{MOST_NODES};
 
 use bench_ranges::{Random, checksum, numbers, ranges, shuffle};
 use latch_core::{Update, WriterCore};
@@ -80,7 +80,7 @@ fn insert_all(table: &mut Table, ranges: &[Item]) -> Result<(), Refusal>
 fn exchange(table: &mut Table, ranges: &[Item], pairs: u32) -> Result<(), Refusal>
     requires sized { length table.old.words.items ≡ words_for table.old.writer.capacity }
     requires some { 0 < length ranges.now }
-    requires few { length ranges.now ≤ MOST_NODES }
+    requires few { length ranges.now ≤ most_nodes }
     ensures { length table.new.words.items ≡ words_for table.new.writer.capacity }
 {
     let mut random = Random(SEED_OF_UPDATES);

@@ -61,6 +61,6 @@ mod rule;
 pub mod writers;
 
 pub use meeting::meet;
-pub use opening::open;
+pub use opening::{MOST_READERS, open};
 pub use readers::{Reader, Try};
 pub use writers::{Did, InHand, Writer};

@@ -2,6 +2,7 @@
 use Rattle.std.proofs.Common.{◌≡◌, ◌<◌, ◌≤◌, ℕ, List, [], Option, Some, None, Result, Ok, Err, true, false, refl, sym, subst}
 use Rattle.std.specs.Prelude.{IfSome, option_and_then}
 use Rattle.devices.specs.declared.counted.Counted.{Counted}
+use Rattle.latch_table.specs.Limits.{most_readers}
 use Rattle.listing.specs.declared.scripts.ScriptLine.{ScriptLine}
 use Rattle.listing.specs.Scripts.{script_of}
 use Rattle.modules.specs.Entries.{CatalogEntries}
@@ -24,7 +25,7 @@ use Rattle.shared_lookup.specs.declared.served.Served.{Served}
 -- what came back of the lists of these lines is told
 module _ {W : Type 0} (contents : W → Option (List ℕ)) (c : CatalogEntries) (readers : ℕ) (lines : List ScriptLine) (a : Assignments) (assigned : IsAssigned c readers lines a) (s : Served) (may : MayServe c a.keys.items) (outcomes : EachHasOutcome c a.changes.items s.changes.items) (answers : EachIsAnswered a.keys.items s.answers.items s.ended.items) (wrong : IsWrongCount c a.changes.items s.changes.items s.answers.items s.log.items s.wrong) (w w' : Counted W) where
   may_run : MayRun c readers
-  may_run = (may.0, subst (λ n. 0 < n) assigned.keys.same may.1, subst (λ n. n ≤ 64) assigned.keys.same may.2)
+  may_run = (may.0, subst (λ n. 0 < n) assigned.keys.same may.1, subst (λ n. n ≤ most_readers) assigned.keys.same may.2)
 
   pub served_answered : (r : Result ℕ Fault) → TellsServed contents c a.names.items s w w' r → AnswersLines contents c readers lines w w' r
   served_answered (Ok status) h =

@@ -1,17 +1,16 @@
 -- What the lines of a script have each writer and each reader do.
 use Rattle.std.specs.Prelude.{◌≡◌, ℕ, ◌+◌, ◌<◌, ◌==◌, List, length, filter, map, slice_index_or}
-use Rattle.std.specs.Prelude.{unwrap_or, Option, Some, None}
+use Rattle.std.specs.Prelude.{Option, Some, None}
 use Rattle.std.specs.Global.{Vec}
 use Rattle.std.specs.List.{filter_map}
 use Rattle.listing.specs.declared.scripts.ScriptLine.{ScriptLine}
 use Rattle.listing.specs.declared.scripts.ScriptLine.TheVariants as line
 use Rattle.listing.specs.Scripts.{most_writers}
-use Rattle.modules.specs.Catalogs.{module_number_of}
+use Rattle.modules.specs.Catalogs.{number_for}
 use Rattle.modules.specs.Entries.{CatalogEntries}
 use Rattle.shared_lookup.specs.declared.changes.Change.{Change}
 use Rattle.shared_lookup.specs.declared.changes.Change.TheVariants.{Load, Unload, DropInit}
 use Rattle.latchsym.specs.declared.assignments.Assignments.{Assignments}
-use Rattle.latchsym.specs.declared.assignments.TheConstants.{ABSENT_MODULE}
 
 -- the entries with this number, in order
 abbrev pub listed_for : {T : Type 0} → ℕ → List (ℕ × T) → List T
@@ -23,10 +22,6 @@ pub record AreListed {T : Type 0} (count : ℕ) (entries : List (ℕ × T))
   pub same : length lists ≡ count
   pub each : (place : ℕ) (d : Vec T) → place < count
       → (slice_index_or lists place d).items ≡ listed_for (place + 1) entries
-
--- the number of the module of this name, or one that no module has
-abbrev pub number_for : CatalogEntries → List ℕ → ℕ
-number_for c name = unwrap_or (module_number_of c name) ABSENT_MODULE
 
 -- the writer of a line and its change
 abbrev pub change_in : CatalogEntries → ScriptLine → Option (ℕ × Change)

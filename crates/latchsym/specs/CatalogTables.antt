@@ -3,7 +3,7 @@ use Rattle.std.specs.Prelude.{ℕ, ◌<◌, ◌≤◌, List, length}
 use Rattle.order_laws.specs.declared.items.Item.{Item}
 use Rattle.order_laws.specs.Orders.{half_open}
 use Rattle.order_laws.specs.Tables.{look}
-use Rattle.word_arena.specs.declared.layouts.TheConstants.{MOST_NODES}
+use Rattle.word_arena.specs.Limits.{most_nodes}
 use Rattle.modules.specs.Catalogs.{regions_of}
 use Rattle.modules.specs.Entries.{CatalogEntries}
 use Rattle.modules.specs.Items.{items_of}
@@ -11,11 +11,11 @@ use Rattle.latchsym.specs.declared.table.Answer.{Answer}
 
 -- a table may have a node for each region
 abbrev pub HasFewRegions : CatalogEntries → Type 0
-HasFewRegions c = length (regions_of c) ≤ MOST_NODES
+HasFewRegions c = length (regions_of c) ≤ most_nodes
 
 -- there are more regions than a table may have nodes
 abbrev pub HasManyRegions : CatalogEntries → Type 0
-HasManyRegions c = MOST_NODES < length (regions_of c)
+HasManyRegions c = most_nodes < length (regions_of c)
 
 -- an address, and the item among these that holds it
 abbrev pub answer_in : List Item → ℕ → Answer

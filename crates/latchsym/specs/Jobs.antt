@@ -9,6 +9,7 @@ use Rattle.std.specs.Str.{bytes_eq}
 use Rattle.clap.specs.Words.{IsAmong, Row, Text, all_of, fault_of, first_of, kind_of, subcommand_of}
 use Rattle.clap.specs.declared.error.Error.{Error}
 use Rattle.clap.specs.declared.error.kind.ErrorKind.TheVariants as kind
+use Rattle.latch_table.specs.Limits.{most_readers}
 use Rattle.listing.specs.Numbers.{between, number_of}
 use Rattle.modules.specs.Lines.{usual_bounds}
 use Rattle.modules.specs.Listed.{BoundNames}
@@ -147,9 +148,9 @@ pub record IsLookupFor (asked : Asked) (job : LookupJob) : Type 0 where
   pub none_bad : find is_no_number words ≡ None
   pub addresses : job.addresses.items ≡ filter_map number_of words
 
--- the number of readers that a word is
+-- the number of readers that a word is, which are as many as one table may have
 abbrev pub readers_of : Text → Option ℕ
-readers_of word = between 1 64 (number_of word)
+readers_of word = between 1 most_readers (number_of word)
 
 -- what a run asks for whose number of readers is this word
 abbrev pub run_words_of : RunJob → Text → RunWords

@@ -8,7 +8,7 @@ use Rattle.order_laws.specs.declared.refusals.Refusal.{Refusal}
 use Rattle.order_laws.specs.declared.refusals.Refusal.TheVariants.{BadCapacity, OutOfMemory}
 use Rattle.order_laws.specs.Orders.{half_open}
 use Rattle.word_arena.specs.Layouts.{capacity_of, limit_of}
-use Rattle.word_arena.specs.declared.layouts.TheConstants.{GREATEST_WIDE_SEQUENCE}
+use Rattle.word_arena.specs.Limits.{greatest_wide_sequence}
 use Rattle.latch_core.specs.declared.updates.Update.{Update}
 use Rattle.latch_core.specs.Updates.{erased, inserted}
 use Rattle.latch_steps.specs.declared.worlds.World.{World}
@@ -39,7 +39,7 @@ pub record HasTable (items : List Item) (w : World HalfOpen ℕ) : Type 0 where
 -- the world has the wide layout, and room for all regions
 pub record HasRoomFor (c : CatalogEntries) (w : World HalfOpen ℕ) : Type 0 where
   pub capacity : length (items_of c) ≤ capacity_of (layout_in w)
-  pub limit : limit_of (layout_in w) ≡ GREATEST_WIDE_SEQUENCE
+  pub limit : limit_of (layout_in w) ≡ greatest_wide_sequence
 
 -- it has the items of the modules of all lesser numbers, and room for those of the others
 pub record HoldsBelow (c : CatalogEntries) (number : ℕ) (w : World HalfOpen ℕ) : Type 0 where

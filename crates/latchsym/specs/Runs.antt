@@ -6,6 +6,7 @@ use Rattle.std.specs.Global.{Vec}
 use Rattle.std.specs.List.{list_any}
 use Rattle.devices.specs.declared.counted.Counted.{Counted}
 use Rattle.devices.specs.Counted.{NoneFailed, Rose, device_of, failures_of}
+use Rattle.latch_table.specs.Limits.{most_readers}
 use Rattle.listing.specs.declared.scripts.ScriptLine.{ScriptLine}
 use Rattle.modules.specs.Entries.{CatalogEntries}
 use Rattle.modules.specs.Placed.{are_few}
@@ -20,14 +21,13 @@ use Rattle.latchsym.specs.Readings.{AnswersInputs, Failures, failures_in}
 use Rattle.latchsym.specs.RunInputs.{RunInputs}
 use Rattle.latchsym.specs.RunTexts.{run_text}
 use Rattle.latchsym.specs.declared.assignments.Assignments.{Assignments}
-use Rattle.latchsym.specs.declared.command_line.TheConstants.{MOST_READERS}
 use Rattle.latchsym.specs.declared.fault.Fault.{Fault}
 use Rattle.latchsym.specs.declared.fault.Fault.TheVariants.{Refused, Write}
 use Rattle.latchsym.specs.declared.runs.RunReaders.{RunReaders}
 
 -- a table can have the regions of the catalog, and so many readers
 abbrev pub MayRun : CatalogEntries → ℕ → Type 0
-MayRun c readers = HasFewRegions c × (0 < readers) × (readers ≤ MOST_READERS)
+MayRun c readers = HasFewRegions c × (0 < readers) × (readers ≤ most_readers)
 
 -- What the writers and readers came back with for what they were assigned. No list of addresses
 -- ended early.

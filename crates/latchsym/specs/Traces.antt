@@ -6,8 +6,7 @@ use Rattle.devices.specs.declared.counted.Counted.{Counted}
 use Rattle.devices.specs.Counted.{NoneFailed, Rose, device_of, failures_of}
 use Rattle.order_laws.specs.Orders.{Order, closed, half_open}
 use Rattle.order_laws.specs.declared.refusals.Refusal.TheVariants as refusal
-use Rattle.word_arena.specs.declared.layouts.TheConstants.{MOST_NODES, GREATEST_SEQUENCE}
-use Rattle.word_arena.specs.declared.layouts.TheConstants.{GREATEST_WIDE_SEQUENCE}
+use Rattle.word_arena.specs.Limits.{most_nodes, greatest_sequence, greatest_wide_sequence}
 use Rattle.word_arena.specs.Words.{at}
 use Rattle.latch_steps.specs.Runs.{Done, history, last_of, opening}
 use Rattle.latch_steps.specs.Steps.{machine, Run}
@@ -27,13 +26,13 @@ use Rattle.latchsym.specs.declared.fault.Fault.TheVariants.{Refused, BadLine, Re
 
 -- the greatest sequence of the tables that a trace of this version runs on
 abbrev pub greatest_of : Version → ℕ
-greatest_of version = if is_wide version then GREATEST_WIDE_SEQUENCE else GREATEST_SEQUENCE
+greatest_of version = if is_wide version then greatest_wide_sequence else greatest_sequence
 
 -- a table is opened with at least one node and at most as many as a layout may have, at an even
 -- sequence of at most the greatest of its version
 pub record HeaderMayOpen (h : Header) : Type 0 where
   pub some : 0 < h.capacity
-  pub most : h.capacity ≤ MOST_NODES
+  pub most : h.capacity ≤ most_nodes
   pub even : h.start % 2 ≡ 0
   pub within : h.start ≤ greatest_of h.version
 

@@ -2,17 +2,14 @@
 ghost use Rattle.std.specs.Prelude.{◌≡◌, ◌≤◌, ◌<◌, ◌++◌, ◌∷◌, ℕ, List, [], true, All, IfOk, length};
 ghost use Rattle.listing.specs.declared.scripts.ScriptLine.{ScriptLine};
 ghost use Rattle.listing.specs.Scripts.{has_actor, lies_between, most_writers};
+ghost use Rattle.modules.specs.Catalogs.{number_for};
 ghost use Rattle.shared_lookup.specs.declared.changes.Change.{Change};
-ghost use Rattle.latchsym.specs.Assignments.{AreListed, HasLists, IsAssigned, number_for};
+ghost use Rattle.latchsym.specs.Assignments.{AreListed, HasLists, IsAssigned};
 
 use listing::{MOST_WRITERS, ModuleName, ScriptLine};
 use modules::Catalog;
 use shared_lookup::Change;
 use std::alloc::{AllocError, Global};
-
-/// The number that stands for a module which the catalog lacks. No module has it, since a table has
-/// a node for each region of a catalog.
-const ABSENT_MODULE: u64 = 4294967295;
 
 /// For each writer from number 1 on its changes and the names of their modules, and for each reader
 /// from number 1 on the addresses that it looks up.
@@ -66,11 +63,11 @@ fn enlist<T: Drop>(lists: &mut Vec<Vec<T>>, number: u32, entry: T) -> Result<(),
     Ok(())
 }
 
-/// The number of the module of this name.
+/// The number of the module of this name, and one that no module has where there is none.
 fn number_for(catalog: &Catalog<'_>, name: &ModuleName<'_>) -> u64
     ensures { result ≡ number_for catalog.now name.now }
 {
-    catalog.number_of(name.bytes).unwrap_or(ABSENT_MODULE)
+    catalog.number_for(name.bytes)
 }
 
 impl<'a> Assignments<'a> {

@@ -11,13 +11,11 @@ ghost use Rattle.latchsym.specs.Jobs.{AreNumbers, IsFaultOf};
 
 use clap::error::ErrorKind;
 use clap::{Arg, ArgMatches, Command, Error};
+use latch_table::MOST_READERS;
 use listing::{number, number_up_to};
 use modules::KernelBounds;
 use std::alloc::{AllocError, AllocFailed, Global};
 use std::convert::AsStr;
-
-/// The most readers that a script may have, which are those of one table.
-const MOST_READERS: u32 = 64;
 
 /// What a command line asks for.
 #[derive(Debug, Drop)]

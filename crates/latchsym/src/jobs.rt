@@ -3,7 +3,8 @@ ghost use Rattle.std.specs.Prelude.{◌≡◌, ◌⊎◌, IfOk, IfErr, List, ℕ
 ghost use Rattle.devices.specs.Counted.{device_of};
 ghost use Rattle.latchsym.specs.Files.{AreLookupFiles, AreRunFiles, IsOpened};
 ghost use Rattle.latchsym.specs.Files.{IsOpenedIfGiven, or_standard};
-ghost use Rattle.latchsym.specs.Outcomes.{IsLookedUp, IsNotOpened, IsOutcome, IsScriptRun, IsTraced};
+ghost use Rattle.latchsym.specs.Outcomes.{IsLookedUp, IsNotOpened, IsOutcome};
+ghost use Rattle.latchsym.specs.Outcomes.{IsScriptRun, IsTraced};
 
 use crate::command_line::{Job, LookupJob, RunJob};
 use crate::fault::{Fault, with_status};

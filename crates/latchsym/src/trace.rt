@@ -4,7 +4,7 @@ ghost use Rattle.std.specs.Prelude.{flat_map, vec_capacity};
 ghost use Rattle.devices.specs.Exact.{Wrote};
 ghost use Rattle.listing.specs.Trace.{contents_of};
 ghost use Rattle.word_arena.specs.Layouts.{capacity_of, limit_of};
-ghost use Rattle.word_arena.specs.declared.layouts.TheConstants.{MOST_NODES};
+ghost use Rattle.word_arena.specs.Limits.{most_nodes};
 ghost use Rattle.latchsym.specs.Texts.{end_text, note_text};
 ghost use Rattle.latchsym.specs.Traces.{AnswersTrace, AnswersIn, greatest_of};
 
@@ -58,7 +58,7 @@ fn run_in<O: TreeOrder<Key = u64>, W: Write>(
 fn layout_for(version: Version, capacity: u32) -> Result<Layout, Refusal>
     ensures capacity { IfOk result (λ l. capacity_of l ≡ capacity) }
     ensures limit { IfOk result (λ l. limit_of l ≡ greatest_of version) }
-    ensures refused { IsErr result ↔ ((capacity ≡ 0) ⊎ (MOST_NODES < capacity)) }
+    ensures refused { IsErr result ↔ ((capacity ≡ 0) ⊎ (most_nodes < capacity)) }
     ensures refusal { IfErr result (λ e. e ≡ Refusal.BadCapacity) }
 {
     if version.is_wide() {

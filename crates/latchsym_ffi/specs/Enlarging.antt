@@ -27,7 +27,7 @@ pub record IsEnlarged (nodes : ℕ) (w w' : WriterState) (slots : List ReaderSlo
   pub moved : IsMoved nodes w w' readers
   pub each : All (HoldsReader (reader_beside w')) slots
 
--- the number of nodes is not 1 to 65536, or else the writer refuses them
+-- the number of nodes is none of a table, or else the writer refuses them
 abbrev pub RefusesMoving : ℕ → WriterState → Refusal → Type 0
 RefusesMoving nodes w e =
     ((e ≡ BadCapacity) × ((0 < nodes) × (nodes ≤ most_nodes) → ⊥))

@@ -5,6 +5,7 @@ use Rattle.word_arena.specs.declared.layouts.Layout.{Layout}
 use Rattle.word_arena.specs.Layouts.{capacity_of, limit_of}
 use Rattle.word_arena.specs.Limits.{greatest_wide_sequence, most_nodes}
 use Rattle.latch_table.specs.declared.knowledge.Origin.TheVariants.{Start}
+use Rattle.latch_table.specs.Limits.{most_readers}
 use Rattle.latch_table.specs.Readers.{ReaderState, new_reader}
 use Rattle.latch_table.specs.Seats.{first_knowledge}
 use Rattle.latch_table.specs.Writers.{new_writer}
@@ -46,9 +47,10 @@ pub record AreOpened (nodes readers : ℕ) (b : Boxes) : Type 0 where
   pub count : vec_len b.readers ≡ readers
   pub each : All (λ x. x.value.inner ≡ first_reader place layout) b.readers.items
 
--- the numbers of nodes and readers are 1 to 65536 and 1 to 64
+-- the numbers of nodes and readers are from 1 up to the most of a table
 abbrev pub AreInRange : ℕ → ℕ → Type 0
-AreInRange nodes readers = (0 < nodes) × (nodes ≤ most_nodes) × (0 < readers) × (readers ≤ 64)
+AreInRange nodes readers =
+    (0 < nodes) × (nodes ≤ most_nodes) × (0 < readers) × (readers ≤ most_readers)
 
 -- a refusal for numbers out of their ranges, and else because memory ran out
 abbrev pub RefusesTable : ℕ → ℕ → ℕ → Type 0

@@ -117,7 +117,9 @@ IsWrongCount c changes outcomes answers log wrong =
 
 -- a table can have so many regions, and so many readers
 abbrev pub MayServe : CatalogEntries → List (Vec ℕ) → Type 0
-MayServe c keys = (length (regions_of c) ≤ most_nodes) × (0 < length keys) × (length keys ≤ most_readers)
+MayServe c keys =
+    (length (regions_of c) ≤ most_nodes) × (0 < length keys)
+    × (length keys ≤ most_readers)
 
 -- by these numbers, and else because memory ran out
 abbrev pub RefusesServing : CatalogEntries → List (Vec ℕ) → Refusal → Type 0
