@@ -1,7 +1,8 @@
 #!/usr/bin/env bash
 # Compiles the programs of tests/linear over a copy of the crates. One whose second line says `//
-# refused: WORD` must not compile, with an error that has this word; the other one must. Nothing is
-# proved here.
+# refused: WORD` must not compile, with an error that has this word; the other one must. Nor must
+# that one compile over latch_table with an edit of tests/linear, whose first line names the word.
+# Nothing is proved here.
 set -euo pipefail
 top=$(cd "$(dirname "$0")/.." && pwd)
 work=$(mktemp -d)
@@ -13,24 +14,40 @@ mkdir -p "$work/crates/linear/src"
     cat "$top/crates.txt"
     echo 'linear: latch_table latch_core word_arena order_laws'
 } >"$work/crates.txt"
-
 failed=0
-for program in "$top"/tests/linear/*.rattle; do
-    name=$(basename "$program" .rattle)
-    cp "$program" "$work/crates/linear/src/main.rt"
-    status=0
+
+# compile NAME WORD: whether the program is refused for this word, or compiles where there is none
+compile() {
+    local status=0 verdict
     (cd "$work/crates/linear" && rt try) >"$work/said" 2>&1 || status=$?
-    word=$(sed -n 's|^// refused: ||p' "$program")
-    if [ -z "$word" ]; then
-        [ "$status" = 0 ] && verdict=compiles || verdict='does not compile'
-        [ "$status" = 0 ] || failed=1
-    elif [ "$status" = 1 ] && grep -q "error\[[a-z-]*$word" "$work/said"; then
+    if [ -z "$2" ] && [ "$status" = 0 ]; then
+        verdict=compiles
+    elif [ -n "$2" ] && [ "$status" = 1 ] && grep -q "error\[[a-z-]*$2" "$work/said"; then
         verdict='does not compile'
     else
-        verdict="is not refused for $word"
+        verdict="does not come to: ${2:-compiles}"
         failed=1
+        cat "$work/said"
     fi
-    echo "$name $verdict"
-    [ "$failed" = 0 ] || cat "$work/said"
+    echo "$1 $verdict"
+}
+
+for program in "$top"/tests/linear/*.rattle; do
+    cp "$program" "$work/crates/linear/src/main.rt"
+    compile "$(basename "$program" .rattle)" "$(sed -n 's|^// refused: ||p' "$program")"
+done
+
+# part LINE EDIT: what this line of an edit says
+part() { sed -n "s/^$1: //p" "$2"; }
+
+cp "$top/tests/linear/keeps_to_the_rules.rattle" "$work/crates/linear/src/main.rt"
+for edit in "$top"/tests/linear/*.edit; do
+    file=$work/crates/latch_table/$(part file "$edit")
+    was=$(cat "$file")
+    old=$(part old "$edit")
+    [[ $was == *"$old"* ]] || { echo "$edit: its old text is not in $file" >&2; exit 1; }
+    printf '%s\n%s\n%s' "${was%%"$old"*}" "$(part new "$edit")" "${was#*"$old"}" >"$file"
+    compile "$(basename "$edit" .edit)" "$(part refused "$edit")"
+    printf '%s\n' "$was" >"$file"
 done
 exit "$failed"

@@ -2,6 +2,7 @@ pub mod ReaderLemmas
 pub mod RuleLemmas
 pub mod WriterLemmas
 pub mod FinishLemmas
+pub mod MeetingLemmas
 pub mod WalkLemmas
 pub mod LookupLemmas
 pub mod OpeningLemmas

@@ -1,5 +1,5 @@
 -- One attempt of a reader: a walk, whose loads are those of its seat.
-use Rattle.std.proofs.Common.{◌≡◌, ℕ, List, [], ◌∷◌, ◌++◌, Option, Some, None, true, false, cond, refl, sym, ◌∙◌, ap, subst, append_assoc, append-nil}
+use Rattle.std.proofs.Common.{◌≡◌, ◌≢◌, ℕ, List, [], ◌∷◌, ◌++◌, Option, Some, None, true, false, cond, refl, sym, ◌∙◌, ap, subst, append_assoc, append-nil}
 use Rattle.std.specs.Prelude.{◌==◌}
 use Rattle.std.proofs.lemmas.Bool.{eqb-true}
 use mathlib.Core.List.{IsPrefix}
@@ -25,7 +25,7 @@ use Rattle.latch_table.specs.declared.readers.Try.{Try}
 use Rattle.latch_table.specs.declared.readers.Try.TheVariants.{Answered, Retry}
 use Rattle.latch_table.specs.Seats.{reader_knowledge, reader_of, with_sequence, with_word}
 use Rattle.latch_table.specs.Rule.{LoadsSequence}
-use Rattle.latch_table.specs.Readers.{KnowsMore, Attempted, Tried, Searched, Searches}
+use Rattle.latch_table.specs.Readers.{AreRetries, KnowsMore, Attempted, Tried, Searched, Searches}
 use Rattle.latch_table.specs.Walks.{MayLoad, IsReading, LearnsWord, LearnsSequence}
 
 -- a walk that ended so, whose loads were those of a reader who learnt nothing else
@@ -223,7 +223,13 @@ grows_along : (a b c : ReaderKnowledge) → KnowsMore a b → KnowsMore b c → 
 grows_along a b c p q = record { base = q.base ∙ p.base; capacity = q.capacity ∙ p.capacity; floor = q.floor ∙ p.floor; known = IsPrefix-along a.known b.known c.known p.known q.known }
 
 pub searches_none : (e : ReaderKnowledge) → Searches e e
-searches_none e = ([], sym (append-nil e.seen), record { base = refl; capacity = refl; floor = refl; known = IsPrefix-whole e.known })
+searches_none e = ([], sym (append-nil e.seen), record { base = refl; capacity = refl; floor = refl; known = IsPrefix-whole e.known }, tt)
+
+-- one attempt without an answer more
+retries_more : (more : List ℕ) (s t : ℕ) → AreRetries more → t ≢ s → AreRetries (more ++ s ∷ t ∷ [])
+retries_more [] s t h d = (d, tt)
+retries_more (x ∷ []) s t h d = absurd h
+retries_more (x ∷ y ∷ more) s t h d = (h.0, retries_more more s t h.1 d)
 
 module _ {K : Type 0} (o : Order K) (k : K) where
   pub searches_more : (a b c : ReaderKnowledge) → Searches a b → Tried o k b c Retry → Searches a c
@@ -231,7 +237,8 @@ module _ {K : Type 0} (o : Order K) (k : K) where
     s.0 ++ t.0 ∷ t.1 ∷ [],
     t.2 ∙ (ap (λ (z : List ℕ). z ++ t.0 ∷ t.1 ∷ []) s.1 ∙ append_assoc a.seen s.0 (t.0 ∷ t.1 ∷ [])),
     grows_along a b c s.2 t.4,
+    retries_more s.0 t.0 t.1 s.3 t.3,
   )
 
   pub searched : (a b c : ReaderKnowledge) (x : Option Item) (g : ℕ) → Searches a b → Tried o k b c (Answered x g) → Searched o k a c (x, g)
-  searched a b c x g s t = (s.0, t.0, t.1 ∙ ap (λ (z : List ℕ). z ++ t.0 ∷ t.0 ∷ []) s.1, t.2, grows_along a b c s.2 t.3, t.4, t.5)
+  searched a b c x g s t = (s.0, t.0, t.1 ∙ ap (λ (z : List ℕ). z ++ t.0 ∷ t.0 ∷ []) s.1, t.2, grows_along a b c s.2 t.3, t.4, t.5, s.3)

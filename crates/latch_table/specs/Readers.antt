@@ -14,7 +14,7 @@ use Rattle.latch_table.specs.declared.knowledge.Knowledge.{Knowledge}
 use Rattle.latch_table.specs.declared.readers.Try.{Try}
 use Rattle.latch_table.specs.declared.readers.Try.TheVariants.{Answered, Retry}
 use Rattle.latch_core.specs.Latched.{loads_of}
-use Rattle.latch_table.specs.Seats.{writer_of, blank_reader}
+use Rattle.latch_table.specs.Seats.{reader_of, writer_of, blank_reader}
 
 -- a reader, as clauses see it
 pub record ReaderState : Type 0 where
@@ -58,21 +58,33 @@ Tried o k e e' Retry =
     (s : ℕ) × (t : ℕ) × (e'.seen ≡ e.seen ++ s ∷ t ∷ []) × (t ≢ s)
     × KnowsMore e e' × Attempted o k e' Again × KnowsFloor e'
 
+-- the sequences that attempts without an answer loaded: for each attempt two that differ
+abbrev pub AreRetries : List ℕ → Type 0
+AreRetries [] = Unit {0}
+AreRetries (s ∷ []) = ⊥
+AreRetries (s ∷ t ∷ more) = (t ≢ s) × AreRetries more
+
 -- one or more attempts, of which the last gave an answer
 abbrev pub Searched : {K : Type 0} → Order K → K → ReaderKnowledge → ReaderKnowledge
     → Option Item × ℕ → Type 0
 Searched o k e e' r =
     (more : List ℕ) × (s : ℕ) × (e'.seen ≡ (e.seen ++ more) ++ s ∷ s ∷ []) × (generation_of s ≡ r.1)
     × KnowsMore e e' × Attempted o k e' (Answer r.0 r.1) × Answers o k e' r.0 r.1
+    × AreRetries more
 
 -- none or more attempts, of which none gave an answer
 abbrev pub Searches : ReaderKnowledge → ReaderKnowledge → Type 0
-Searches e e' = (more : List ℕ) × (e'.seen ≡ e.seen ++ more) × KnowsMore e e'
+Searches e e' =
+    (more : List ℕ) × (e'.seen ≡ e.seen ++ more) × KnowsMore e e' × AreRetries more
 
 -- the reader has loaded word 0 once more, and knows these updates
 abbrev pub Met : ReaderKnowledge → ReaderKnowledge → List Update → Type 0
 Met e e' all =
     (s : ℕ) × (e'.seen ≡ e.seen ++ s ∷ []) × (e'.known ≡ all) × KnowsMore e e' × KnowsFloor e'
+
+-- the reader whose seat knows this, and one that the writer's seat parts with
+abbrev pub reader_at : TableId → Knowledge → ReaderState
+reader_at place v = record { place = place; knowledge = reader_of v }
 
 abbrev pub new_reader : TableId → Knowledge → ReaderState
 new_reader place v =

@@ -16,11 +16,7 @@ pub fn meet<O: TreeOrder>(reader: Reader<O>, writer: Writer<O>) -> (Reader<O>, W
         × Met reader.knowledge result.0.knowledge (shown_updates writer) }
     ensures writer { result.1 ≡ writer }
 {
-    let Reader {
-        table: its,
-        seat: other,
-        layout,
-    } = reader;
+    let (its, other, layout) = reader.into_parts();
     let Writer {
         table,
         mut seat,
@@ -31,11 +27,7 @@ pub fn meet<O: TreeOrder>(reader: Reader<O>, writer: Writer<O>) -> (Reader<O>, W
     let _sequence = table.shared.load::<LoadSequence<O>>(&mut seat, 0);
     let back = table.shared.split_seat::<Meeting>(&mut seat);
     (
-        Reader {
-            table: its,
-            seat: back,
-            layout,
-        },
+        Reader::new(its, back, layout),
         Writer {
             table,
             seat,

@@ -1,43 +1,17 @@
-//! A reader.
+//! Readers.
+//!
+//! A reader's table is seen in [`seated`] alone, and the words of an attempt in [`words`] alone,
+//! where they are loaded one by one, each load a step that the seat knows of. So nothing that an
+//! attempt does, or a search of several, can look at a word in another way.
 
-use crate::knowledge::TableSeat;
-use crate::rule::WordTable;
-use order_laws::{Item, TreeOrder};
-use std::alloc::Global;
-use std::marker::Model;
-use std::sync::Arc;
-use word_arena::Layout;
+use order_laws::Item;
 
 mod attempts;
 mod lookups;
+mod seated;
+mod words;
 
-/// A reader of the table: a seat of its own, and with it what it knows.
-#[derive(Drop)]
-pub struct Reader<O: TreeOrder> {
-    pub(crate) table: Arc<WordTable<O>, Global>,
-    pub(crate) seat: TableSeat,
-    pub(crate) layout: Layout,
-}
-
-impl<O: TreeOrder> Model for Reader<O> {
-    ghost use Rattle.std.specs.Prelude.{◌≡◌, []};
-    ghost use Rattle.std.specs.Arc.{arc_value};
-    ghost use Rattle.word_arena.specs.Layouts.{capacity_of};
-    ghost use Rattle.word_arena.specs.Words.{words_for};
-    ghost use Rattle.latch_table.specs.Rule.{capacity_in};
-    ghost use Rattle.latch_table.specs.Seats.{reader_knowledge, reader_of};
-    ghost use Rattle.latch_table.specs.Readers.{ReaderState};
-
-    ghost Value = { ReaderState };
-
-    ghost view = { λ r. record { place = r.seat.table_id; knowledge = reader_of r.seat.me.0 } };
-
-    ghost invariant = { λ r. (r.seat.table_id ≡ (arc_value r.table).shared.table_id)
-        × (r.seat.table_id.words ≡ words_for (capacity_of r.layout))
-        × (capacity_in (arc_value r.table).shared.key ≡ capacity_of r.layout)
-        × (r.seat.me ≡ (reader_knowledge (reader_of r.seat.me.0), []))
-        × ((reader_of r.seat.me.0).capacity ≡ capacity_of r.layout) };
-}
+pub use seated::Reader;
 
 /// What an attempt came to.
 #[derive(Clone, Copy, Debug, PartialEq, Eq, Drop)]

@@ -11,6 +11,7 @@ use std::sync::Arc;
 mod lookups;
 mod steps;
 mod updates;
+mod words;
 
 /// The one writer of a table: the seat that alone may store, and the core that plans the stores.
 #[derive(Drop)]

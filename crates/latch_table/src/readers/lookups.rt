@@ -1,22 +1,13 @@
 //! Lookups.
 
 ghost use Rattle.std.specs.Prelude.{◌≡◌};
-ghost use Rattle.latch_table.specs.Readers.{Tried, Searched};
+ghost use Rattle.latch_table.specs.Readers.{Searched};
 
-use super::attempts::attempt;
 use super::{Reader, Try};
 use order_laws::{Item, TreeOrder};
 use std::sync::Wait;
 
 impl<O: TreeOrder> Reader<O> {
-    /// One attempt to find what a key lies in.
-    pub fn try_find(&mut self, k: O::Key) -> Try
-        ensures place { self.new.place ≡ self.old.place }
-        ensures tried { Tried O.order k self.old.knowledge self.new.knowledge result }
-    {
-        attempt::<O>(&self.table.shared, &mut self.seat, self.layout, k)
-    }
-
     /// Tries until it has an answer: what the key lies in, and the generation that this is of.
     pub fn find<R: Wait>(&mut self, rt: &R, k: O::Key) -> (Option<Item>, u64)
         ensures place { self.new.place ≡ self.old.place }

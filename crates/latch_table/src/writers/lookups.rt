@@ -8,53 +8,22 @@ ghost use Rattle.latch_core.specs.Latched.{IsLatched};
 ghost use Rattle.latch_table.specs.Seats.{writer_of, writer_knowledge, with_loads};
 ghost use Rattle.latch_table.specs.Writers.{Finds};
 ghost use Rattle.latch_table.specs.Lookups.{FindsIn};
-ghost use Rattle.latch_table.specs.Walks.{IsWriting, WriterLearns};
 
+use super::words::{UnreadWords, WriterWords};
 use super::{InHand, Writer};
 use crate::knowledge::TableSeat;
-use crate::rule::{BeginLookup, Words, WriterLoad};
-use latch_core::{Attempted, Loads, attempt_from};
+use latch_core::{Attempted, attempt_from};
 use order_laws::{Item, TreeOrder};
 use word_arena::Layout;
 
-/// The shared words, as the writer's seat loads them.
-#[derive(Drop)]
-struct WriterWords<'a, O: TreeOrder> {
-    words: &'a Words<O>,
-}
-
-impl<O: TreeOrder> Loads for WriterWords<'_, O> {
-    type Seat = TableSeat;
-
-    ghost size = { λ it. it.words.now.table_id.words };
-
-    ghost can_load = { λ it s w. IsWriting it.words.now.table_id s.table_id s.me };
-
-    ghost load_gives = { λ it s w x s'. (s'.table_id ≡ s.table_id) × WriterLearns s.me w x s'.me };
-
-    ghost can_end = { λ it s. IsWriting it.words.now.table_id s.table_id s.me };
-
-    ghost end_gives = { λ it s x s'. (s'.table_id ≡ s.table_id) × WriterLearns s.me 0 x s'.me };
-
-    #[inline(always)]
-    fn load(&self, seat: &mut TableSeat, word: usize, skipped: usize) -> u64 {
-        self.words.load::<WriterLoad>(seat, word + skipped)
-    }
-
-    #[inline(always)]
-    fn sequence(&self, seat: &mut TableSeat) -> u64 {
-        self.words.load::<WriterLoad>(seat, 0)
-    }
-}
-
 /// One attempt through the writer's seat, in words that nobody else changes.
 fn look_up<O: TreeOrder>(
-    words: &Words<O>,
+    words: UnreadWords<'_, O>,
     seat: &mut TableSeat,
     l: Layout,
     k: O::Key,
 ) -> (Option<Item>, u64)
-    requires table { seat.old.table_id ≡ words.now.table_id }
+    requires table { seat.old.table_id ≡ words.words.now.table_id }
     requires sized { seat.old.table_id.words ≡ words_for (capacity_of l) }
     requires writes { seat.old.me ≡ (writer_knowledge (writer_of seat.old.me.0), []) }
     requires latched { IsLatched O.order (capacity_of l) (writer_of seat.old.me.0).base
@@ -69,9 +38,8 @@ fn look_up<O: TreeOrder>(
     ensures found { FindsIn O.order (capacity_of l) k (writer_of seat.old.me.0)
         (writer_of seat.new.me.0).loads result }
 {
-    let first = words.load::<BeginLookup>(seat, 0);
-    let through = WriterWords { words };
-    match attempt_from::<O, WriterWords<'_, O>>(&through, seat, l, k, first).0 {
+    let (words, first) = words.begin(seat);
+    match attempt_from::<O, WriterWords<'_, O>>(&words, seat, l, k, first).0 {
         Attempted::Answered(found, generation) => (found, generation),
         Attempted::Failed => unreachable!(),
     }
@@ -83,7 +51,8 @@ impl<O: TreeOrder> Writer<O> {
         ensures { Finds O.order self.old k self.new result }
     {
         let layout = self.core.layout();
-        look_up::<O>(&self.table.shared, &mut self.seat, layout, k)
+        let words = UnreadWords::of(&self.table.shared);
+        look_up::<O>(words, &mut self.seat, layout, k)
     }
 }
 

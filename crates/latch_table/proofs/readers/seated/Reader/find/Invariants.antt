@@ -1,6 +1,6 @@
 use Rattle.std.proofs.Common.{◌≡◌}
 use Rattle.latch_table.specs.Readers.{Searches}
-use Rattle.latch_table.proofs.readers.Reader.find.Given as goal
+use Rattle.latch_table.proofs.readers.seated.Reader.find.Given as goal
 
 abbrev pub invariant-loop : goal.invariant-loop
 invariant-loop g l = (l.self.place ≡ l.fn.self.place) × Searches l.fn.self.knowledge l.self.knowledge

@@ -1,7 +1,7 @@
 use Rattle.std.proofs.Common.{ap}
 use Rattle.latch_table.specs.Seats.{reader_of}
 use Rattle.latch_table.proofs.RuleLemmas.{allows_word}
-use Rattle.latch_table.proofs.readers.attempts.ReadWordsLoads.load.Goals as goal
+use Rattle.latch_table.proofs.readers.words.ReadWordsLoads.load.Goals as goal
 
 pub load-requires : goal.load-requires
 load-requires g c =

@@ -1,6 +1,6 @@
 use Rattle.std.proofs.Common.{refl, ◌∙◌}
 use Rattle.latch_table.proofs.WalkLemmas.{searches_none, searches_more, searched}
-use Rattle.latch_table.proofs.readers.Reader.find.Goals as goal
+use Rattle.latch_table.proofs.readers.seated.Reader.find.Goals as goal
 
 pub loop-init : goal.loop-init
 loop-init g c = (refl, searches_none c.args.self.now.knowledge)
