@@ -3,6 +3,8 @@ mod address_files;
 mod at_size;
 mod bad_input;
 mod devices_that_fail;
+mod failing_runs;
+mod jobs;
 mod listings;
 mod rows;
 mod scripts;
