@@ -5,6 +5,6 @@ set -eu
 items=${1:-1000}
 rounds=${2:-500}
 . "$(dirname "$0")/../tests/program.sh"
-build bench_drive
+build bench_table
 
-/usr/bin/time -f '%e s, most memory: %M kB' "$program" "$items" "$rounds"
+/usr/bin/time -f '%e s, most memory: %M kB' "$program" drive "$items" "$rounds"

@@ -5,11 +5,11 @@
 set -euo pipefail
 pairs=${1:-2000}
 . "$(dirname "$0")/../tests/program.sh"
-build bench_update
+build bench_table
 
 # instructions PAIRS ITEMS: of the whole program; its output is kept
 instructions() {
-    valgrind --tool=callgrind --callgrind-out-file="$work/profile" "$program" "$2" "$1" >"$work/out.$1" 2>"$work/log" || return
+    valgrind --tool=callgrind --callgrind-out-file="$work/profile" "$program" stores "$2" "$1" >"$work/out.$1" 2>"$work/log" || return
     sed -n 's/^summary: //p; s/^totals: //p' "$work/profile" | tail -1
 }
 

@@ -1,11 +1,13 @@
-/* The lookups of bench_walk in C, over the same words and with the same addresses, as a measure to compare with.
+/* The lookups of `bench_table walk` in C, over the same words and with the same addresses, as a
+ * measure to compare with.
  *
  *   walk WORDS ROUNDS
  *
- * WORDS is what `bench_walk ITEMS` writes. The words are loaded in the order that readers load them
- * in, as sequentially consistent atomics. The line is that of `bench_walk ITEMS ROUNDS`, with the
- * nodes that the same lookups visit in a red-black tree of pointers, after lib/rbtree.c of Linux,
- * into which the items were inserted in the same order. */
+ * WORDS is what `bench_table words ITEMS` writes: the words, and then 4096 addresses. The words are
+ * loaded in the order that readers load them in, as sequentially consistent atomics. The line is
+ * that of `bench_table walk ITEMS ROUNDS`, with the nodes that the same lookups visit in a red-black
+ * tree of pointers, after lib/rbtree.c of Linux, into which the items were inserted in the same
+ * order. */
 #include <stdint.h>
 #include <stdio.h>
 #include <stdlib.h>
@@ -126,20 +128,15 @@ static u64 visited(u64 key) {
     return visits;
 }
 
-static u64 random_state = 7;
-
-static u64 below(u64 most) {
-    random_state = random_state * 6364136223846793005ull + 1442695040888963407ull;
-    return (unsigned __int128)random_state * most >> 64;
-}
-
 int main(int count, char **arguments) {
     FILE *file = count == 3 ? fopen(arguments[1], "r") : NULL;
     if (!file) return 2;
     u64 length = 0, room = 1 << 20, word;
     words = malloc(room * sizeof *words);
     while (length < room && fscanf(file, "%lu", &word) == 1) words[length++] = word;
-    items = (length - 3) / 7;
+    if (length < 3 + ADDRESSES) return 2;
+    u64 *addresses = words + length - ADDRESSES, visits = 0;
+    items = (length - ADDRESSES - 3) / 7;
     /* The first item went into the last node, the next into the one before it. */
     struct node *nodes = calloc(items, sizeof *nodes);
     for (u64 i = items; i-- > 0;) {
@@ -147,13 +144,7 @@ int main(int count, char **arguments) {
         nodes[i].b = words[4 + 7 * i];
         insert(&nodes[i]);
     }
-    static u64 addresses[ADDRESSES];
-    u64 visits = 0;
-    for (int i = 0; i < ADDRESSES; i++) {
-        u64 slot = below(items);
-        addresses[i] = 0x100000000000ull + slot * 8192 + below(8192);
-        visits += visited(addresses[i]);
-    }
+    for (int i = 0; i < ADDRESSES; i++) visits += visited(addresses[i]);
     u64 rounds = strtoull(arguments[2], NULL, 10), found = 0, loads = 0, tags = 0;
     for (u64 i = 0; i < rounds; i++) look_up_all(addresses, &found, &loads, &tags);
     printf("items %lu lookups %lu found %lu loads %lu tags %lu tree %.3f\n", items, rounds * ADDRESSES, found, loads, tags,

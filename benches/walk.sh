@@ -5,7 +5,7 @@
 # both programs' user times, which take turns. Needs a C compiler and valgrind.
 set -euo pipefail
 . "$(dirname "$0")/../tests/program.sh"
-build bench_walk
+build bench_table
 cc -O2 -o "$work/walk" "$top/benches/walk.c"
 TIMEFORMAT=%U
 
@@ -27,9 +27,9 @@ instructions_a_round() {
 seconds() { { time "$@" >"$work/out"; } 2>&1; }
 
 for items in 7 200 1000 65536; do
-    "$program" "$items" >"$work/words"
-    ours=$(instructions_a_round "$program" "$items")
-    "$program" "$items" 1 >"$work/ours"
+    "$program" words "$items" >"$work/words"
+    ours=$(instructions_a_round "$program" walk "$items")
+    "$program" walk "$items" 1 >"$work/ours"
     theirs=$(instructions_a_round "$work/walk" "$work/words")
     "$work/walk" "$work/words" 1 >"$work/theirs"
     if [ "$(cut -d' ' -f1-10 "$work/ours")" != "$(cut -d' ' -f1-10 "$work/theirs")" ]; then
@@ -38,7 +38,7 @@ for items in 7 200 1000 65536; do
     fi
     rounds=$((8000000 / (items + 4000) + 60))
     for _turn in 1 2 3 4 5 6 7; do
-        echo "$(seconds "$program" "$items" $((rounds + 1))) $(seconds "$program" "$items" 1)" \
+        echo "$(seconds "$program" walk "$items" $((rounds + 1))) $(seconds "$program" walk "$items" 1)" \
             "$(seconds "$work/walk" "$work/words" $((rounds + 1))) $(seconds "$work/walk" "$work/words" 1)"
     done | awk '{ print ($1 - $2) / ($3 - $4) }' | sort -g | sed -n 4p >"$work/ratio"
     awk -v ours="$ours" -v theirs="$theirs" -v ratio="$(cat "$work/ratio")" '{

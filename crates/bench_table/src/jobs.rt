@@ -43,6 +43,25 @@ pub enum Job {
     Soak {
         time: Duration,
     },
+    /// The words of a table that nobody changes, and the addresses that are looked up there.
+    Words {
+        items: u32,
+    },
+    /// So many rounds of lookups in these words.
+    Walk {
+        items: u32,
+        rounds: u32,
+    },
+    /// So many rounds of the step machine.
+    Drive {
+        items: u32,
+        rounds: u32,
+    },
+    /// So many pairs of updates of words, store by store.
+    Stores {
+        items: u32,
+        pairs: u32,
+    },
 }
 
 /// The job that the arguments name, if they name one.
@@ -62,11 +81,29 @@ fn parse(words: &[String]) -> Option<Job> {
         ("soak", [time]) => Some(Job::Soak {
             time: seconds(time)?,
         }),
+        ("words", [items]) => Some(Job::Words {
+            items: number(items)?,
+        }),
+        ("walk" | "drive" | "stores", [items, rounds]) => {
+            Some(counted(mode, number(items)?, number(rounds)?))
+        }
         (mode, [items, last]) => alone(mode, number(items)?, last),
         (mode, [items, readers, time]) => {
             beside(mode, number(items)?, number(readers)?, seconds(time)?)
         }
         _ => None,
+    }
+}
+
+/// A job that is counted in rounds and takes the same steps each time.
+fn counted(mode: &str, items: u32, rounds: u32) -> Job {
+    match mode {
+        "walk" => Job::Walk { items, rounds },
+        "drive" => Job::Drive { items, rounds },
+        _ => Job::Stores {
+            items,
+            pairs: rounds,
+        },
     }
 }
 

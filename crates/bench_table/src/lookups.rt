@@ -2,10 +2,10 @@
 
 ghost use Rattle.std.specs.Prelude.{◌<◌};
 
-use bench_ranges::Random;
 use latch_table::{Reader, Try};
 use order_laws::{HalfOpen, Item};
 use std::time::Duration;
+use workloads::Random;
 
 /// What a reader's lookups came to.
 #[derive(Clone, Copy, Drop)]
@@ -59,16 +59,15 @@ pub fn look_up(
     requires { 0 < slots }
 {
     // In locals, since an atomic step makes all else be read from memory again.
-    let mut numbers = Random(random.0);
+    let mut numbers = random.split();
     let mut found: u64 = 0;
     let mut tags: u64 = 0;
     for _ in 0..count {
-        if let Some(item) = find(reader, numbers.address(slots)) {
+        if let Some(item) = find(reader, numbers.address(slots, 0)) {
             found = found.wrapping_add(1);
             tags = tags.wrapping_add(item.tag);
         }
     }
-    *random = numbers;
     tally.add(count, found, tags);
 }
 
@@ -82,12 +81,11 @@ pub fn look_up_chain(
 )
     requires { 0 < slots }
 {
-    let mut numbers = Random(random.0);
+    let mut numbers = random.split();
     let (mut found, mut tags): (u64, u64) = (0, 0);
     let mut tag: u64 = 0;
     for _ in 0..count {
-        numbers.0 ^= tag;
-        tag = match find(reader, numbers.address(slots)) {
+        tag = match find(reader, numbers.address(slots, tag)) {
             Some(item) => {
                 found = found.wrapping_add(1);
                 item.tag
@@ -96,6 +94,5 @@ pub fn look_up_chain(
         };
         tags = tags.wrapping_add(tag);
     }
-    *random = numbers;
     tally.add(count, found, tags);
 }

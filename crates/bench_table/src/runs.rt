@@ -8,7 +8,6 @@ use crate::jobs::Writing;
 use crate::lookups::{Tally, look_up, look_up_chain};
 use crate::tables::{Measured, exchange, prepare};
 use crate::updates::{Written, write};
-use bench_ranges::Random;
 use latch_table::Reader;
 use order_laws::HalfOpen;
 use std::alloc::{AllocError, Global};
@@ -18,6 +17,7 @@ use std::rt::Files;
 use std::sync::atomic::{AtomicBool, Ordering};
 use std::thread::{Threads, join, map_vec};
 use std::time::{Clock, Duration, Instant};
+use workloads::Random;
 
 /// What the random numbers begin with where lookups or updates are counted, or are of one thread.
 const SEED: u64 = 7;
@@ -40,7 +40,13 @@ pub fn count_lookups<R: Print + Files + AllocGlobal>(
     let mut table = prepare(rt, items, 1)?;
     let mut tally = Tally::new();
     for reader in &mut table.readers {
-        look_up(reader, &mut Random(SEED), items, count, &mut tally);
+        look_up(
+            reader,
+            &mut Random::from_seed(SEED),
+            items,
+            count,
+            &mut tally,
+        );
     }
     println!(rt; "{} {}", tally.found, tally.tags)?;
     Ok(())
@@ -56,7 +62,7 @@ pub fn count_updates<R: Print + Files + AllocGlobal>(
     exchange(
         &mut table.writer,
         &table.ranges,
-        &mut Random(SEED),
+        &mut Random::from_seed(SEED),
         count / 2,
     )?;
     println!(rt; "{}", table.writer.generation())?;
@@ -88,7 +94,7 @@ fn chain<R: Clock>(
     requires { 0 < items }
 {
     let mut tally = Tally::new();
-    let mut random = Random(SEED);
+    let mut random = Random::from_seed(SEED);
     let start = Instant::now(rt)?;
     for _ in 0..u64::MAX {
         look_up_chain(reader, &mut random, items, BLOCK_OF_CHAIN, &mut tally);
@@ -140,7 +146,7 @@ fn read<R: Clock>(
     requires { 0 < items }
 {
     let mut tally = Tally::new();
-    let mut random = Random(seed);
+    let mut random = Random::from_seed(seed);
     let start = Instant::now(rt)?;
     for _ in 0..u64::MAX {
         if stop.load(Ordering::SeqCst) {

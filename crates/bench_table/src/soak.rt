@@ -1,7 +1,6 @@
 //! Readers beside a writer for a time, each answer compared with the replay of its generation.
 
 use crate::faults::Fault;
-use bench_ranges::{Random, addresses, ranges, shuffle};
 use latch_core::Update;
 use latch_table::{Reader, Writer, open};
 use order_laws::{HalfOpen, Item, Refusal};
@@ -12,6 +11,7 @@ use std::thread::{Threads, join, map_vec};
 use std::time::{Clock, Duration, Instant};
 use table_replay::{Observer, Schedule, Tally};
 use word_arena::Layout;
+use workloads::{Random, addresses, ranges, shuffle};
 
 /// How many ranges the schedule inserts.
 const SLOTS: u32 = 64;
@@ -153,7 +153,7 @@ pub fn soak<R: Threads + Clock + Print + AllocGlobal + Sync>(
     rt: &R,
     time: Duration,
 ) -> Result<(), Fault> {
-    let mut random = Random(SEED);
+    let mut random = Random::from_seed(SEED);
     let Some(schedule) = schedule(rt.alloc(), &mut random)? else {
         return Err(Fault::Refused(Refusal::NoSuchItem));
     };

@@ -5,7 +5,6 @@ ghost use Rattle.word_arena.specs.Limits.{most_nodes};
 
 use crate::faults::Fault;
 use crate::memory::resident;
-use bench_ranges::{Random, ranges, shuffle};
 use latch_core::Update;
 use latch_table::{Reader, Writer, open};
 use order_laws::{HalfOpen, Item, Refusal};
@@ -13,6 +12,7 @@ use std::alloc::Global;
 use std::num::nearest_u64_to_f64;
 use std::rt::Files;
 use word_arena::{Layout, MOST_NODES};
+use workloads::{Random, ranges, shuffle};
 
 /// What the random numbers of the ranges begin with.
 const SEED_OF_RANGES: u64 = 12345;
@@ -52,7 +52,7 @@ pub fn prepare<R: Files + AllocGlobal>(rt: &R, items: u32, readers: u32) -> Resu
     if items == 0 || items > MOST_NODES {
         return Err(Fault::Refused(Refusal::BadCapacity));
     }
-    let mut random = Random(SEED_OF_RANGES);
+    let mut random = Random::from_seed(SEED_OF_RANGES);
     let ranges = ranges(rt.alloc(), &mut random, items)?;
     let mut order = ranges.to_vec(rt.alloc())?;
     shuffle(&mut random, &mut order);

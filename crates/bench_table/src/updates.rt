@@ -6,11 +6,11 @@ ghost use Rattle.word_arena.specs.Limits.{most_nodes};
 use crate::faults::Fault;
 use crate::jobs::Writing;
 use crate::tables::exchange;
-use bench_ranges::Random;
 use latch_table::Writer;
 use order_laws::{HalfOpen, Item};
 use std::thread::sleep;
 use std::time::{Clock, Duration, Instant};
+use workloads::Random;
 
 /// What the random numbers of the updates begin with.
 const SEED: u64 = 99;
@@ -70,7 +70,7 @@ fn write_steadily<R: Clock>(
     } else {
         PAIRS
     };
-    let mut random = Random(SEED);
+    let mut random = Random::from_seed(SEED);
     let mut written = Written {
         updates: 0,
         time: Duration::ZERO,
@@ -97,7 +97,7 @@ fn write_paced<R: Clock>(
     requires some { 0 < length ranges.now }
     requires few { length ranges.now ≤ most_nodes }
 {
-    let mut random = Random(SEED);
+    let mut random = Random::from_seed(SEED);
     let mut written = Written {
         updates: 0,
         time: Duration::ZERO,

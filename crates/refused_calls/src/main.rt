@@ -19,7 +19,7 @@ mod updates;
 mod worlds;
 mod writers;
 
-use bench_ranges::numbers;
+use workloads::numbers;
 use order_laws::Refusal;
 use std::alloc::Global;
 use std::io;

@@ -1,0 +1,6 @@
+use Rattle.std.proofs.Common.{◌≡◌, length}
+use Rattle.word_arena.specs.Words.{words_for}
+use Rattle.bench_table.proofs.stores.exchange.Given as goal
+
+abbrev pub invariant-loop-pair : goal.invariant-loop-pair
+invariant-loop-pair l = length l.table.words.items ≡ words_for l.table.writer.capacity

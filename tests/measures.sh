@@ -1,0 +1,28 @@
+#!/usr/bin/env bash
+# The counted jobs of the programs that measure: what they write is the same on each machine.
+set -euo pipefail
+. "$(dirname "$0")/program.sh"
+
+# gives EXPECTED ARGUMENT..: the program writes this line
+gives() {
+    local expected=$1 seen
+    shift
+    seen=$("$program" "$@" 2>"$work/times")
+    [ "$seen" = "$expected" ] || { echo "measures: $*: $seen, not $expected" >&2; exit 1; }
+}
+
+build bench_table
+gives "items 20 lookups 12288 found 6258 loads 237366 tags 65058" walk 20 3
+gives "items 20 pairs 5 stores 399 words 11067153580527951182" stores 20 5
+gives "items 20 rounds 5 events 536 notes 5 sequence 60" drive 20 5
+gives "60" cw 20 40
+"$program" soak 0.2 >"$work/seen"
+grep -q ' wrong 0 ' "$work/seen"
+cc -O2 -o "$work/walk" "$top/benches/walk.c"
+"$program" words 20 >"$work/words"
+"$work/walk" "$work/words" 3 >"$work/seen"
+grep -q '^items 20 lookups 12288 found 6258 loads 237366 tags 65058 ' "$work/seen"
+
+build bench_listings
+gives "modules 3 symbols 89 stray 1 found 100 sizes 73625280" build 3 90 100
+echo "measures: all counts are as they were"
