@@ -5,7 +5,7 @@ use Rattle.order_laws.specs.declared.items.Item.{Item}
 use Rattle.modules.specs.Catalogs.{module_of}
 use Rattle.modules.specs.Entries.{CatalogEntries}
 use Rattle.symbols.specs.Found.{Found, symbol_at}
-use Rattle.region_index.specs.Items.{item_of_address}
+use Rattle.modules.specs.Items.{item_of_address}
 use Rattle.latchsym_ffi.specs.declared.finding.CatalogAnswer.{CatalogAnswer}
 use Rattle.latchsym_ffi.specs.declared.finding.Seen.{Seen}
 use Rattle.latchsym_ffi.specs.declared.finding.Description.{Description}

@@ -2,7 +2,7 @@
 
 ghost use Rattle.std.specs.Prelude.{◌≡◌, IfOk};
 
-use region_index::IndexedCatalog;
+use modules::IndexedCatalog;
 use std::alloc::{AllocError, Global};
 use std::marker::Model;
 use std::sync::Arc;

@@ -10,9 +10,8 @@ ghost use Rattle.latchsym_ffi.specs.Opening.{counts_in, shown_texts};
 
 use crate::open_catalogs::OpenCatalog;
 use listing::{LineFault, ModuleCounts, SymbolCounts, read_kallsyms, read_modules, read_regions};
-use modules::{BuildCounts, Catalog, KernelBounds, RegionLine};
+use modules::{BuildCounts, Catalog, IndexedCatalog, KernelBounds, RegionLine};
 use order_laws::Refusal;
-use region_index::IndexedCatalog;
 use std::alloc::{AllocError, AllocFailed, Global};
 
 /// How many lines of each listing went where: the accepted ones, and the others by the cause for
@@ -150,7 +149,7 @@ fn catalog_between(
         symbol_lines,
     )?;
     let counts = counts_of(&skipped_modules, &skipped_symbols, &built);
-    let indexed = IndexedCatalog::new(alloc, catalog, built.modules)?;
+    let indexed = IndexedCatalog::new(alloc, catalog)?;
     Ok((indexed, counts))
 }
 

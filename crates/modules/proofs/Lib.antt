@@ -44,3 +44,5 @@ pub mod NumberedItemLemmas
 pub mod LoadedItemLemmas
 -- the symbol below an address and the address above it
 pub mod AroundLemmas
+-- what a search of the regions by rising first address finds
+pub mod RegionIndexLemmas

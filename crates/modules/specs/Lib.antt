@@ -27,7 +27,7 @@ pub mod Around
 pub mod Starts
 -- what a load, an unload, and the end of a module's start change
 pub mod Loads
--- an item for each region of a catalog
+-- an item for each region of a catalog, and that of an address
 pub mod Items
 -- From here on how the crate keeps all this: no public clause cites it.
 -- lines of symbols that have the name of their module by the number of a run
@@ -46,3 +46,7 @@ pub mod Index
 pub mod Modules
 -- what a catalog keeps
 pub mod Sound
+-- the items of all regions by rising first address
+pub mod RegionIndexes
+-- what the catalog with this list keeps
+pub mod IndexedCatalogs

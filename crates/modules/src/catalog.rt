@@ -202,6 +202,13 @@ impl<'a> Catalog<'a> {
         let _ = &self.modules;
     }
 
+    /// How many modules there are, the kernel itself not counted: they have the numbers from 1 on.
+    pub fn len(&self) -> u64
+        ensures { result ≡ length self.now.modules }
+    {
+        self.modules.len() as u64
+    }
+
     /// The number of all regions, that of the kernel itself among them.
     pub fn regions(&self) -> usize
         ensures { result ≡ length (regions_of self.now) }

@@ -3,10 +3,10 @@ use Rattle.std.proofs.lemmas.List.{get_or_default}
 use Rattle.std.proofs.lemmas.List.Sorted.{IsPartitionPoint-from_clause, IsPartitionedBy-leb}
 use Rattle.order_laws.specs.declared.items.Item.{Item}
 use Rattle.modules.proofs.IndexLemmas.{IsSplitBy-from_partition}
-use Rattle.region_index.specs.Indexes.{IsItemSplit}
-use Rattle.region_index.proofs.FindLemmas.{IsSplit-between}
-use Rattle.region_index.proofs.split_at.Goals as goal
-use Rattle.region_index.proofs.split_at.Goals.{then-items-addr, else-items-addr}
+use Rattle.modules.specs.RegionIndexes.{IsItemSplit}
+use Rattle.modules.proofs.RegionIndexLemmas.{IsSplit-between}
+use Rattle.modules.proofs.region_index.split_at.Goals as goal
+use Rattle.modules.proofs.region_index.split_at.Goals.{then-items-addr, else-items-addr}
 
 pub returns : goal.returns
 returns c =

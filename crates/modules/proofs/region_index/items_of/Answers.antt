@@ -1,8 +1,8 @@
 use Rattle.std.proofs.Common.{◌≡◌, ◌++◌, ◌∙◌, ap, sym, ◌+◌, length, arith}
 use Rattle.modules.specs.Items.{items_at, items_below}
 use Rattle.modules.proofs.ItemLemmas.{one_number_more}
-use Rattle.region_index.proofs.items_of.Goals as goal
-use Rattle.region_index.proofs.items_of.Goals.{else-loop-number-test, then-loop-number-test+in_ok-push_items+else-number-modules}
+use Rattle.modules.proofs.region_index.items_of.Goals as goal
+use Rattle.modules.proofs.region_index.items_of.Goals.{else-loop-number-test, then-loop-number-test+in_ok-push_items+else-number-modules}
 
 pub loop-number-preserved : goal.loop-number-preserved
 loop-number-preserved c =

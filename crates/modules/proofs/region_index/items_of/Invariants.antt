@@ -1,6 +1,6 @@
 use Rattle.std.proofs.Common.{◌≡◌}
 use Rattle.modules.specs.Items.{items_below}
-use Rattle.region_index.proofs.items_of.Given as goal
+use Rattle.modules.proofs.region_index.items_of.Given as goal
 
 abbrev pub invariant-loop-number : goal.invariant-loop-number
 invariant-loop-number l = l.items.items ≡ items_below l.catalog l.number

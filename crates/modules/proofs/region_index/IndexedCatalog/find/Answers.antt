@@ -1,9 +1,9 @@
 use Rattle.std.proofs.Common.{◌∙◌, List, ap, subst, sym, arith}
 use Rattle.order_laws.specs.declared.items.Item.{Item}
-use Rattle.region_index.specs.Indexes.{IsItemSplit}
-use Rattle.region_index.specs.Items.{item_of_address}
-use Rattle.region_index.proofs.FindLemmas.{last_begins_below, last_ends_below, last_found, nothing_below}
-use Rattle.region_index.proofs.IndexedCatalog.find.Goals as goal
+use Rattle.modules.specs.RegionIndexes.{IsItemSplit}
+use Rattle.modules.specs.Items.{item_of_address}
+use Rattle.modules.proofs.RegionIndexLemmas.{last_begins_below, last_ends_below, last_found, nothing_below}
+use Rattle.modules.proofs.region_index.IndexedCatalog.find.Goals as goal
 
 pub returns-then-split-eq0-clause-is : goal.returns-then-split-eq0-clause-is
 returns-then-split-eq0-clause-is c =

@@ -7,16 +7,15 @@
 //!      | region |      | region  |   | region |
 //!                        ^ addr        the last that begins at or below it, if it ends above it
 //! ```
-#![tactic(auto)]
-
 ghost use Rattle.std.specs.Prelude.{◌≡◌, ◌≤◌, ◌<◌, ◌++◌, length, map, IfOk, IfSome};
 ghost use Rattle.std.specs.List.Sorted.{IsNonDecreasingBy};
 ghost use Rattle.modules.specs.Items.{items_at, items_below, items_of};
 ghost use Rattle.modules.specs.Loads.{item_of};
-ghost use Rattle.region_index.specs.Indexes.{IsItemSplit};
-ghost use Rattle.region_index.specs.Items.{item_of_address};
+ghost use Rattle.modules.specs.RegionIndexes.{IsItemSplit};
+ghost use Rattle.modules.specs.Items.{item_of_address};
 
-use modules::{Catalog, Region};
+use crate::catalog::Catalog;
+use crate::regions::Region;
 use order_laws::Item;
 use std::alloc::{AllocError, Global};
 use std::marker::Model;
@@ -33,7 +32,7 @@ impl<'a> Model for IndexedCatalog<'a> {
 
     ghost Value = { CatalogEntries };
 
-    ghost use Rattle.region_index.specs.Whole.{IsWholeIndex};
+    ghost use Rattle.modules.specs.IndexedCatalogs.{IsWholeIndex};
 
     ghost view = { λ c. c.catalog };
 
@@ -66,10 +65,10 @@ fn push_items(items: &mut Vec<Item>, catalog: &Catalog, number: u64) -> Result<(
 }
 
 /// The items of all regions, in the order of the catalog.
-fn items_of(alloc: Global, catalog: &Catalog, modules: u64) -> Result<Vec<Item>, AllocError>
-    requires { modules ≡ length catalog.now.modules }
+fn items_of(alloc: Global, catalog: &Catalog) -> Result<Vec<Item>, AllocError>
     ensures { IfOk result (λ v. v.items ≡ items_of catalog.now) }
 {
+    let modules = catalog.len();
     let mut items = Vec::new(alloc);
     for number in 0..=modules {
         push_items(&mut items, catalog, number)?;
@@ -92,18 +91,12 @@ fn split_at(items: &[Item], addr: u64) -> usize
 }
 
 impl<'a> IndexedCatalog<'a> {
-    /// Indexes the regions of a catalog of so many modules, the kernel itself not counted. Refused
-    /// only when out of memory.
-    pub fn new(
-        alloc: Global,
-        catalog: Catalog<'a>,
-        modules: u64,
-    ) -> Result<IndexedCatalog<'a>, AllocError>
-        requires { modules ≡ length catalog.modules }
+    /// Indexes the regions of a catalog. Refused only when out of memory.
+    pub fn new(alloc: Global, catalog: Catalog<'a>) -> Result<IndexedCatalog<'a>, AllocError>
         ensures { IfOk result (λ c. c ≡ catalog.entry) }
     {
         catalog.stays_sound();
-        let mut items = items_of(alloc, &catalog, modules)?;
+        let mut items = items_of(alloc, &catalog)?;
         items.sort_unstable_by_key(|item| item.a);
         Ok(IndexedCatalog { catalog, items })
     }

@@ -12,8 +12,8 @@ use Rattle.modules.specs.Catalogs.{IsSoundCatalog}
 use Rattle.modules.specs.Entries.{CatalogEntries}
 use Rattle.modules.specs.Items.{items_of}
 use Rattle.modules.proofs.ApartItemLemmas.{each_has_addresses, none_found, same_or_apart, some_found}
-use Rattle.region_index.specs.Indexes.{IsIndexOf, IsItemSplit}
-use Rattle.region_index.specs.Items.{item_of_address}
+use Rattle.modules.specs.RegionIndexes.{IsIndexOf, IsItemSplit}
+use Rattle.modules.specs.Items.{item_of_address}
 
 -- where the items rise, their neighbours tell a place
 pub IsSplit-between : (items : List Item) (addr split : ℕ) → IsNonDecreasingBy (λ i. i.a) items → split ≤ length items

@@ -1,6 +1,6 @@
 use Rattle.std.proofs.Common.{◌≡◌, ◌++◌, map, take}
 use Rattle.modules.specs.Loads.{item_of}
-use Rattle.region_index.proofs.push_regions.Given as goal
+use Rattle.modules.proofs.region_index.push_regions.Given as goal
 
 abbrev pub invariant-loop-region : goal.invariant-loop-region
 invariant-loop-region l = l.items.items ≡ l.initial.items.items ++ map (item_of l.number) (take l.region-index l.regions)

@@ -2,7 +2,7 @@ use Rattle.std.proofs.Common.{List, subst, rules}
 use Rattle.std.specs.List.Sorted.{IsPermutation}
 use Rattle.std.proofs.lemmas.List.Sorted.{IsNonDecreasingBy-from_sort_by_key}
 use Rattle.order_laws.specs.declared.items.Item.{Item}
-use Rattle.region_index.proofs.IndexedCatalog.new.Goals as goal
+use Rattle.modules.proofs.region_index.IndexedCatalog.new.Goals as goal
 
 pub invariant_of-result : goal.invariant_of-result
 invariant_of-result c =

@@ -1,7 +1,7 @@
 -- What an indexed catalog keeps.
 use Rattle.modules.specs.Catalogs.{IsSoundCatalog}
-use Rattle.region_index.specs.Indexes.{IsIndexOf}
-use Rattle.region_index.specs.declared.IndexedCatalog.TheInside.{Inside}
+use Rattle.modules.specs.RegionIndexes.{IsIndexOf}
+use Rattle.modules.specs.declared.region_index.IndexedCatalog.TheInside.{Inside}
 
 pub record IsWholeIndex (c : Inside) : Type 0 where
   pub sound : IsSoundCatalog c.catalog

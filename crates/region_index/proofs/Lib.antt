@@ -1,2 +1,0 @@
--- what a search of the list finds
-pub mod FindLemmas
