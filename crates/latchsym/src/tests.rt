@@ -4,6 +4,7 @@ mod at_size;
 mod bad_input;
 mod devices_that_fail;
 mod failing_runs;
+mod fault_texts;
 mod jobs;
 mod listings;
 mod rows;
