@@ -8,14 +8,14 @@ ghost use Rattle.word_arena.specs.declared.stores.Store.{Store};
 ghost use Rattle.word_arena.specs.Layouts.{capacity_of};
 ghost use Rattle.word_arena.specs.Stores.{AreLinkStores};
 ghost use Rattle.word_arena.specs.Words.{listed};
-ghost use Rattle.rb_words.specs.Mirrors.{mirror_stores, mirror_store};
+ghost use Rattle.rb_words.specs.Mirrors.{mirror_stores};
 ghost use Rattle.rb_words.specs.Pictures.{IsPicture};
 ghost use Rattle.rb_words.specs.Plans.{item_stores, Inserts, Erases};
 ghost use Rattle.latch_core.specs.Plans.{update_stores, flip_to};
 ghost use Rattle.latch_core.specs.Changes.{PlansBoth};
 
 use order_laws::{Item, Refusal, TreeOrder};
-use rb_words::{STORES, Shape, item_stores, mirrored};
+use rb_words::{STORES, Shape, item_stores, mirror_store, mirrored};
 use std::alloc::{AllocError, Global};
 use std::marker::Model;
 use word_arena::{Layout, Store, append};
@@ -260,18 +260,5 @@ fn flip_and_mirror(l: Layout, stores: &mut Vec<Store>, sequence: u64, from: usiz
     for place in from..end {
         let link = stores[place];
         stores.push_reserved(mirror_store(link));
-    }
-}
-
-/// The store of copy 1 for one of copy 0.
-#[inline(always)]
-fn mirror_store(link: Store) -> Store
-    requires { link.word + 2 < 2 ^ 64 }
-    ensures { result ≡ mirror_store link }
-{
-    let word = if link.word == 1 { 2 } else { link.word + 2 };
-    Store {
-        word,
-        value: link.value,
     }
 }

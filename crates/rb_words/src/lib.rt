@@ -14,5 +14,5 @@ pub mod shapes;
 #[cfg(test)]
 mod tests;
 
-pub use mirrors::mirrored;
+pub use mirrors::{mirror_store, mirrored};
 pub use shapes::{STORES, Shape, item_stores};

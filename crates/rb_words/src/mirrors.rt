@@ -37,8 +37,9 @@ pub fn mirrored(l: Layout, links: &[Store], out: &mut Vec<Store>)
     }
 }
 
-// The store of copy 1 for one of copy 0.
-fn mirror_store(link: Store) -> Store
+/// The store of copy 1 for one of copy 0.
+#[inline(always)]
+pub fn mirror_store(link: Store) -> Store
     requires { link.word + 2 < 2 ^ 64 }
     ensures { result ≡ mirror_store link }
 {
