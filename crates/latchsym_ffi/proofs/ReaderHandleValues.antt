@@ -29,7 +29,7 @@ use Rattle.std_heap.specs.contracts.Global as Heap
 use Rattle.std_heap.specs.contracts.GlobalAllocator.TheImpl.{ghosts, dict}
 use Rattle.std_heap.proofs.Global.TheLaws as heap
 use Rattle.order_laws.proofs.Bools.{T-and_true}
-use Rattle.loose.specs.contracts.Loose as Loose
+use Rattle.latchsym_ffi.specs.contracts.loose.Loose as Loose
 use Rattle.latchsym_ffi.specs.contracts.table_contents.TableReader as Content
 use Rattle.latchsym_ffi.specs.contracts.reader_handles.ReaderHandle as Handle
 

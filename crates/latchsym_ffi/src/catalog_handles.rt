@@ -8,8 +8,8 @@ ghost use Rattle.latchsym_ffi.specs.Owning.{owns_if};
 ghost use Rattle.modules.specs.Entries.{CatalogEntries};
 ghost use Rattle.latchsym_ffi.specs.contracts.open_catalogs.OpenCatalog.{the_row};
 
+use crate::loose::Loose;
 use crate::open_catalogs::OpenCatalog;
-use loose::Loose;
 use std::alloc::Global;
 use std::marker::Model;
 use std::ptr;

@@ -23,6 +23,7 @@ mod catalogs;
 mod enlarging;
 mod finding;
 mod lookups;
+mod loose;
 mod open_catalogs;
 mod opening;
 mod opening_tables;

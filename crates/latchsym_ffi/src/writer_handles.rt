@@ -5,8 +5,8 @@ ghost use Rattle.latchsym_ffi.specs.Owning.{owns_if};
 ghost use Rattle.latchsym_ffi.specs.declared.table_contents.TableWriter.{TableWriter};
 ghost use Rattle.latchsym_ffi.specs.contracts.table_contents.TableWriter.{the_row};
 
+use crate::loose::Loose;
 use crate::table_contents::TableWriter;
-use loose::Loose;
 use std::alloc::Global;
 use std::marker::Model;
 use std::ptr;

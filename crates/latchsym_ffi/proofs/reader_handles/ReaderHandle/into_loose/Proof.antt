@@ -23,7 +23,7 @@ use denote.Steps.{nothing, heard}
 use denote.Triple.Spec.{triple_of}
 use denote.Triple.Table.{entered}
 use denote.Triple.Walked.{says, Stays, stay_dropped, walk_of, ends_at, Goes-dropped, walk_Meets}
-use Rattle.loose.proofs.Values.{both, loose_good, loose_in}
+use Rattle.latchsym_ffi.proofs.LooseValues.{both, loose_good, loose_in}
 use Rattle.std_heap.specs.contracts.GlobalAllocator.TheImpl.{ghosts}
 use Rattle.latchsym_ffi.proofs.ReaderHandleValues.{R, Z, LZ, Hd, three, open_good, handle_out, FromHandle as From}
 use Rattle.latchsym_ffi.specs.contracts.reader_handles.ReaderHandle.into_loose as F

@@ -24,7 +24,7 @@ use denote.Steps.{nothing}
 use denote.Triple.Spec.{triple_of}
 use denote.Triple.Table.{entered}
 use denote.Triple.Walked.{Stays, stay_dropped, walk_of, ends_at, Goes-dropped, walk_Meets}
-use Rattle.loose.proofs.Values.{both, loose_good, loose_out}
+use Rattle.latchsym_ffi.proofs.LooseValues.{both, loose_good, loose_out}
 use Rattle.std_heap.specs.contracts.GlobalAllocator.TheImpl.{ghosts}
 use Rattle.latchsym_ffi.proofs.WriterHandleValues.{R, Z, LZ, Hd, three, open_good, handle_in, FromLoose as From}
 use Rattle.latchsym_ffi.specs.contracts.writer_handles.WriterHandle.of as F
