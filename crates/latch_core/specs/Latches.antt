@@ -81,7 +81,11 @@ latch_after_step l h s =
 -- before any step: the sequence at its start, and all other words 0
 abbrev pub opening_latch : ℕ → ℕ → Latch
 opening_latch n start =
-    record { words = start ∷ replicate (words_per_node * n + 2) 0; newest_table = []; pending = None }
+    record {
+      words = start ∷ replicate (words_per_node * n + 2) 0;
+      newest_table = [];
+      pending = None;
+    }
 
 -- an update is accepted; how many steps it takes is the writer's choice
 abbrev pub latch_with_update : {K : Type 0} → Order K → Latch → Update → ℕ → Latch

@@ -1,5 +1,6 @@
 -- The catalog of the listings, and what is asked of it.
-use Rattle.std.specs.Prelude.{◌≡◌, ◌⊎◌, ◌<◌, false, ℕ, ◌+◌, zero, suc, not, if◌then◌else◌, List, ◌++◌}
+use Rattle.std.specs.Prelude.{◌≡◌, ◌⊎◌, ◌<◌, false, ℕ, ◌+◌, zero, suc, not, if◌then◌else◌}
+use Rattle.std.specs.Prelude.{List, ◌++◌}
 use Rattle.std.specs.Prelude.{length, slice_get, map, count_by, codes, All, Option, None, unwrap_or}
 use Rattle.std.specs.List.{flat_map, position_from}
 use Rattle.std.specs.Option.{option_map, option_to_list}

@@ -22,8 +22,8 @@ use order_laws::Refusal;
 use std::alloc::Global;
 use std::marker::Model;
 
-/// The number that stands for a module which a catalog lacks. No module has it where there are fewer
-/// regions, as in every catalog that a table can hold.
+/// The number that stands for a module which a catalog lacks. No module has it where there are
+/// fewer regions, as in every catalog that a table can hold.
 pub const ABSENT_MODULE: u64 = 4294967295;
 
 /// How many lines went where. Each line of a listing is counted once.
@@ -193,8 +193,8 @@ impl<'a> Catalog<'a> {
         self.number_of(name).unwrap_or(ABSENT_MODULE)
     }
 
-    /// What every catalog keeps, for a caller that reasons about it: its modules have regions, which
-    /// lie apart, and names of their own. Does nothing.
+    /// What every catalog keeps, for a caller that reasons about it: its modules have regions,
+    /// which lie apart, and names of their own. Does nothing.
     #[inline(always)]
     pub fn stays_sound(&self)
         ensures { IsSoundCatalog self.now }
