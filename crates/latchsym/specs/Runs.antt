@@ -11,7 +11,7 @@ use Rattle.listing.specs.declared.scripts.ScriptLine.{ScriptLine}
 use Rattle.modules.specs.Entries.{CatalogEntries}
 use Rattle.modules.specs.Placed.{are_few}
 use Rattle.order_laws.specs.declared.refusals.Refusal.TheVariants as refusal
-use Rattle.shared_lookup.specs.Servings.{EachHasOutcome, EachIsAnswered, IsWrongCount}
+use Rattle.shared_lookup.specs.Servings.{EachHasOutcome, EachIsAnswered, EachIsFoundIn, IsWrongCount}
 use Rattle.shared_lookup.specs.declared.served.Served.{Served}
 use Rattle.latchsym.specs.Assignments.{IsAssigned}
 use Rattle.latchsym.specs.CatalogTables.{HasFewRegions}
@@ -30,10 +30,11 @@ abbrev pub MayRun : CatalogEntries → ℕ → Type 0
 MayRun c readers = HasFewRegions c × (0 < readers) × (readers ≤ most_readers)
 
 -- What the writers and readers came back with for what they were assigned. No list of addresses
--- ended early.
+-- ended early, and each answer is what its address lies in at its generation.
 pub record IsServed (c : CatalogEntries) (a : Assignments) (s : Served) : Type 0 where
   pub outcomes : EachHasOutcome c a.changes.items s.changes.items
   pub answers : EachIsAnswered a.keys.items s.answers.items s.ended.items
+  pub found : EachIsFoundIn s.log.items s.answers.items
   pub whole : list_any (λ e. e) s.ended.items ≡ false
   pub wrong : IsWrongCount c a.changes.items s.changes.items s.answers.items s.log.items s.wrong
 

@@ -1,29 +1,34 @@
 -- Lists of threads, one thread more at a time.
-use Rattle.std.proofs.Common.{◌≡◌, ℕ, ◌+◌, ◌<◌, Bool, List, [], ◌∷◌, ◌++◌, length, take, get_or, sym, ◌∙◌, ap, subst, ⊎_elim, arith, length-append}
+use Rattle.std.proofs.Common.{◌≡◌, ℕ, ◌+◌, ◌<◌, Bool, List, [], ◌∷◌, ◌++◌, length, take, get_or, Option, Some, None, sym, ◌∙◌, ap, subst, ⊎_elim, arith, length-append}
 use Rattle.std.specs.Global.{Vec}
+use Rattle.std.specs.Prelude.{IfSome}
 use Rattle.std.proofs.lemmas.List.{take_more, length-take-le}
 use Rattle.std.proofs.lemmas.Option.{get_or_from_slice_get}
+use Rattle.atomic_table.specs.Seated.{TableId}
+use Rattle.latch_table.specs.Readers.{ReaderState}
 use Rattle.order_laws.proofs.Lists.{slice_get-between, slice_get-push_cases, slice_get_some}
 use Rattle.order_laws.proofs.Pairs.{both_pushed}
 use Rattle.shared_lookup.specs.declared.served.Answer.{Answer}
+use Rattle.shared_lookup.specs.declared.threads.Found.{Found}
 use Rattle.shared_lookup.specs.declared.threads.ReaderThread.{ReaderThread}
 use Rattle.modules.specs.Entries.{CatalogEntries}
 use Rattle.shared_lookup.specs.declared.changes.Change.{Change}
 use Rattle.shared_lookup.specs.declared.threads.Changing.{Changing}
 use Rattle.shared_lookup.specs.declared.threads.WriterThread.{WriterThread}
 use Rattle.shared_lookup.specs.Servings.{AreAnswered, AreOutcomesOf, ChangeOutcome, EachHasOutcome, EachIsAnswered}
-use Rattle.shared_lookup.specs.Threads.{AreChanging, AreReading, HaveRoom}
+use Rattle.shared_lookup.specs.Readers.{IsHeard, IsReaderOf}
+use Rattle.shared_lookup.specs.Threads.{AreChanging, AreHeard, AreReading, HaveRoom}
 
 -- the thread of one list of keys more
-pub reading_more : (keys : List (Vec ℕ)) (i : ℕ) (list : Vec ℕ) (rs : List ReaderThread) (r : ReaderThread) → i < length keys → list ≡ get_or keys i list
-    → AreReading (take i keys) rs → length rs ≡ i → r.reader ≡ i → r.keys.now ≡ list.items → AreReading (take (i + 1) keys) (rs ++ r ∷ [])
-reading_more keys i list rs r less is all count er ek =
+pub reading_more : {W : Type 0} (c : W) (keys : List (Vec ℕ)) (i : ℕ) (list : Vec ℕ) (rs : List (ReaderThread W)) (r : ReaderThread W) → i < length keys → list ≡ get_or keys i list
+    → AreReading c (take i keys) rs → length rs ≡ i → r.changer.now ≡ c → r.reader ≡ i → r.keys.now ≡ list.items → AreReading c (take (i + 1) keys) (rs ++ r ∷ [])
+reading_more c keys i list rs r less is all count ec er ek =
     let some : take (i + 1) keys ≡ take i keys ++ list ∷ [] = take_more keys i list less ∙ ap (λ (k : Vec ℕ). take i keys ++ k ∷ []) (sym is) in
-    subst (λ (ks : List (Vec ℕ)). AreReading ks (rs ++ r ∷ [])) (sym some)
+    subst (λ (ks : List (Vec ℕ)). AreReading c ks (rs ++ r ∷ [])) (sym some)
     (record {
       same = length-append rs (r ∷ []) ∙ (let s = all.same in omega (arith, s)) ∙ sym (length-append (take i keys) (list ∷ []));
-      each = both_pushed (λ place (k : Vec ℕ) (t : ReaderThread). (t.reader ≡ place) × (t.keys.now ≡ k.items)) (take i keys) rs list r all.same all.each
-          (er ∙ (let s = all.same in omega (arith, s, count)), ek);
+      each = both_pushed (λ place (k : Vec ℕ) (t : ReaderThread _). (t.changer.now ≡ c) × (t.reader ≡ place) × (t.keys.now ≡ k.items)) (take i keys) rs list r all.same all.each
+          (ec, er ∙ (let s = all.same in omega (arith, s, count)), ek);
     })
 
 -- one list with its answers more
@@ -54,26 +59,65 @@ answered_more keys list answers found ended end all last =
           (slice_get-push_cases keys list k i ek);
     }
 
+-- the list at the place behind those that are done
+module _ {X : Type 0} (lists : List (Vec X)) (n : ℕ) (less : n < length lists) where
+  abbrev next_list : Vec X
+  next_list = (slice_get_some lists n less).0
+
+  next_taken : take (n + 1) lists ≡ take n lists ++ next_list ∷ []
+  next_taken =
+      take_more lists n next_list less ∙ ap (λ (k : Vec X). take n lists ++ k ∷ []) (get_or_from_slice_get lists n next_list next_list (slice_get_some lists n less).1)
+
 -- one thread more has come back
-pub joined_more : (keys : List (Vec ℕ)) (done rest : List ReaderThread) (r : ReaderThread) (answers : List (Vec Answer)) (found : Vec Answer) (ended : List Bool) (end : Bool)
-    → AreReading keys (done ++ r ∷ rest) → EachIsAnswered (take (length done) keys) answers ended
-    → AreAnswered r.reader r.keys.now found.items end
-    → EachIsAnswered (take (length (done ++ r ∷ [])) keys) (answers ++ found ∷ []) (ended ++ end ∷ [])
-joined_more keys done rest r answers found ended end reading all last =
+pub heard_more : {W : Type 0} (table : W → Option TableId) (c : W) (keys : List (Vec ℕ)) (done rest : List (ReaderThread W)) (r : ReaderThread W) (all : List Found) (f : Found)
+    → AreReading c keys (done ++ r ∷ rest) → AreHeard (table c) (take (length done) keys) all
+    → IsHeard (table r.changer.now) r.reader r.keys.now f.answers.items f.ended f.seat
+    → AreHeard (table c) (take (length (done ++ r ∷ [])) keys) (all ++ f ∷ [])
+heard_more table c keys done rest r all f reading before last =
     let n = length done in
     let less : n < length keys = (let s = reading.same in let m = length-append done (r ∷ rest) in omega (arith, s, m)) in
-    let e = slice_get_some keys n less in
-    let list = e.0 in
-    let of = reading.each n list r e.1 (slice_get-between done rest r) in
-    let some : take (n + 1) keys ≡ take n keys ++ list ∷ [] =
-    take_more keys n list less ∙ ap (λ (k : Vec ℕ). take n keys ++ k ∷ []) (get_or_from_slice_get keys n list list e.1) in
-    let more : take (length (done ++ r ∷ [])) keys ≡ take n keys ++ list ∷ [] =
-    ap (λ k. take k keys) (length-append done (r ∷ [])) ∙ some in
+    let list = next_list keys n less in
+    let of = reading.each n list r (slice_get_some keys n less).1 (slice_get-between done rest r) in
+    let more : take (length (done ++ r ∷ [])) keys ≡ take n keys ++ list ∷ [] = ap (λ k. take k keys) (length-append done (r ∷ [])) ∙ next_taken keys n less in
     let count : length (take n keys) ≡ n = length-take-le n keys (omega (arith, less)) in
-    let here : AreAnswered n list.items found.items end =
-    subst (λ z. AreAnswered z list.items found.items end) of.0 (subst (λ z. AreAnswered r.reader z found.items end) of.1 last) in
-    subst (λ (ks : List (Vec ℕ)). EachIsAnswered ks (answers ++ found ∷ []) (ended ++ end ∷ [])) (sym more)
-    (answered_more (take n keys) list answers found ended end all (subst (λ z. AreAnswered z list.items found.items end) (sym count) here))
+    let here : IsHeard (table c) (length (take n keys)) list.items f.answers.items f.ended f.seat =
+    subst (λ z. IsHeard (table z) (length (take n keys)) list.items f.answers.items f.ended f.seat) of.0
+    (subst (λ z. IsHeard (table r.changer.now) z list.items f.answers.items f.ended f.seat) (of.1 ∙ sym count)
+    (subst (λ z. IsHeard (table r.changer.now) r.reader z f.answers.items f.ended f.seat) of.2 last)) in
+    subst (λ (ks : List (Vec ℕ)). AreHeard (table c) ks (all ++ f ∷ [])) (sym more)
+    (record {
+      same = length-append all (f ∷ []) ∙ (let s = before.same in omega (arith, s)) ∙ sym (length-append (take n keys) (list ∷ []));
+      each = both_pushed (λ place (k : Vec ℕ) (g : Found). IsHeard (table c) place k.items g.answers.items g.ended g.seat) (take n keys) all list f before.same before.each here;
+    })
+
+at_place : (table : Option TableId) (place : TableId) → table ≡ Some place → (back : Option ReaderState) → IfSome back (IsReaderOf table) → IfSome back (λ r. r.place ≡ place)
+at_place table place is None h = tt
+at_place table place is (Some r) h = h.0 place is
+
+-- what came back of the list at the place behind those whose reader has met the writer
+module _ (table : Option TableId) (keys : List (Vec ℕ)) (done rest : List Found) (f : Found) (heard : AreHeard table keys (done ++ f ∷ rest)) where
+  pub left : length done < length keys
+  left = let s = heard.same in let m = length-append done (f ∷ rest) in omega (arith, s, m)
+
+  abbrev of_list : Vec ℕ
+  of_list = next_list keys (length done) left
+
+  pub heard_here : IsHeard table (length done) of_list.items f.answers.items f.ended f.seat
+  heard_here = heard.each (length done) of_list f (slice_get_some keys (length done) left).1 (slice_get-between done rest f)
+
+  pub answered_so_far : (answers : List (Vec Answer)) (ended : List Bool) → EachIsAnswered (take (length done) keys) answers ended
+      → EachIsAnswered (take (length (done ++ f ∷ [])) keys) (answers ++ f.answers ∷ []) (ended ++ f.ended ∷ [])
+  answered_so_far answers ended all =
+      let n = length done in
+      let more : take (length (done ++ f ∷ [])) keys ≡ take n keys ++ of_list ∷ [] = ap (λ k. take k keys) (length-append done (f ∷ [])) ∙ next_taken keys n left in
+      let count : length (take n keys) ≡ n = length-take-le n keys (let l = left in omega (arith, l)) in
+      subst (λ (ks : List (Vec ℕ)). EachIsAnswered ks (answers ++ f.answers ∷ []) (ended ++ f.ended ∷ [])) (sym more)
+      (answered_more (take n keys) of_list answers f.answers ended f.ended all
+      (subst (λ z. AreAnswered z of_list.items f.answers.items f.ended) (sym count) heard_here.answered))
+
+  -- a reader that came back is of the table
+  pub met_here : (place : TableId) → table ≡ Some place → IfSome f.seat (λ r. r.place ≡ place)
+  met_here place is = at_place table place is f.seat heard_here.reads
 
 -- one list of changes with its room more
 pub room_more : (changes : List (Vec Change)) (i : ℕ) (list : Vec Change) (rs : List Changing) (r : Changing) → i < length changes → list ≡ get_or changes i list
@@ -85,15 +129,6 @@ room_more changes i list rs r less is all ek =
       same = length-append rs (r ∷ []) ∙ (let s = all.same in omega (arith, s)) ∙ sym (length-append (take i changes) (list ∷ []));
       each = both_pushed (λ place (k : Vec Change) (t : Changing). t.changes.now ≡ k.items) (take i changes) rs list r all.same all.each ek;
     })
-
--- the list at the place behind those that are done
-module _ (changes : List (Vec Change)) (n : ℕ) (less : n < length changes) where
-  abbrev next_list : Vec Change
-  next_list = (slice_get_some changes n less).0
-
-  next_taken : take (n + 1) changes ≡ take n changes ++ next_list ∷ []
-  next_taken =
-      take_more changes n next_list less ∙ ap (λ (k : Vec Change). take n changes ++ k ∷ []) (get_or_from_slice_get changes n next_list next_list (slice_get_some changes n less).1)
 
 -- the thread of one list of changes more
 pub changing_more : {W : Type 0} (c : W) (changes : List (Vec Change)) (done rest : List Changing) (l : Changing) (ws : List (WriterThread W)) (w : WriterThread W)

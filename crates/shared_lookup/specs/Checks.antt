@@ -2,7 +2,6 @@
 use Rattle.std.specs.Prelude.{◌≡◌, ℕ, ◌+◌, ◌<◌, Bool, ◌&&◌, ◌||◌, not, nat_eq, nat_lt, List, []}
 use Rattle.std.specs.Prelude.{length, take, count_by, min, slice_index_or, Option, None}
 use Rattle.std.specs.Option.{option_eq}
-use Rattle.std.specs.List.Sorted.{IsNonDecreasingBy}
 use Rattle.order_laws.specs.declared.items.Item.{Item}
 use Rattle.order_laws.specs.Orders.{half_open}
 use Rattle.order_laws.specs.Tables.{look}
@@ -22,10 +21,6 @@ is_wrong_answer log a =
     nat_lt (length log) a.generation
     || not (is_same_item a.item
     (look half_open a.key (replay half_open [] (take a.generation log))))
-
--- the answers stand by rising generation
-abbrev pub AreInOrder : List Answer → Type 0
-AreInOrder answers = IsNonDecreasingBy (λ a. a.generation) answers
 
 -- the table of a ledger with these updates as its log
 abbrev pub with_log : List Update → LedgerState → LedgerState

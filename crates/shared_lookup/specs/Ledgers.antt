@@ -1,6 +1,7 @@
 -- A table with the log of its updates.
 use Rattle.std.specs.Prelude.{◌≡◌, ◌⊎◌, ℕ, ◌+◌, ◌*◌, List, [], ◌∷◌, ◌++◌, length, take, slice_get}
 use Rattle.std.specs.Prelude.{false, Option, Some, None}
+use Rattle.std.specs.Option.{ForSome}
 use Rattle.atomic_table.specs.Seated.{TableId}
 use Rattle.order_laws.specs.declared.items.Item.{Item}
 use Rattle.order_laws.specs.declared.refusals.Refusal.{Refusal}
@@ -23,6 +24,10 @@ pub record LedgerState : Type 0 where
   pub capacity : ℕ
   pub limit : ℕ
   pub log : List Update
+
+-- the table is the one that is named, if one is
+abbrev pub IsNamed : Option TableId → TableId → Type 0
+IsNamed named place = ForSome named (λ table. place ≡ table)
 
 -- the table after the updates of the log
 abbrev pub ledger_table : LedgerState → List Item

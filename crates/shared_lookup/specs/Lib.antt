@@ -11,6 +11,8 @@ pub mod Changes
 pub mod Counts
 -- what several writers and readers come back with
 pub mod Servings
+-- what the readers know
+pub mod Readers
 -- how their answers are checked
 pub mod Checks
 -- what their threads are given

@@ -4,6 +4,7 @@ use Rattle.std.specs.Prelude.{List, [], All, length, map, take, slice_get, count
 use Rattle.std.specs.Prelude.{Some, Result, Ok, Err}
 use Rattle.std.specs.Global.{Vec}
 use Rattle.std.specs.List.{flat_map, range_with_len}
+use Rattle.std.specs.List.Sorted.{IsNonDecreasingBy}
 use Rattle.order_laws.specs.declared.refusals.Refusal.{Refusal}
 use Rattle.order_laws.specs.declared.refusals.Refusal.TheVariants.{OutOfMemory, BadCapacity}
 use Rattle.order_laws.specs.Orders.{half_open}
@@ -79,6 +80,24 @@ pub record EachIsAnswered (keys : List (Vec ℕ)) (answers : List (Vec Answer)) 
       → slice_get keys reader ≡ Some list → slice_get answers reader ≡ Some found
       → slice_get ended reader ≡ Some end
       → AreAnswered reader list.items found.items end
+
+-- the answer is what the key lies in after as many of these updates as its generation says
+abbrev pub IsFoundIn : List Update → Answer → Type 0
+IsFoundIn log a =
+    (a.generation ≤ length log)
+    × (a.item ≡ look half_open a.key (replay half_open [] (take a.generation log)))
+
+-- the answers stand by rising generation
+abbrev pub AreInOrder : List Answer → Type 0
+AreInOrder answers = IsNonDecreasingBy (λ a. a.generation) answers
+
+-- each answer of a list is found in these updates, and no later one is of an earlier generation
+abbrev pub AreFoundIn : List Update → List Answer → Type 0
+AreFoundIn log answers = All (IsFoundIn log) answers × AreInOrder answers
+
+-- the answers of each list are
+abbrev pub EachIsFoundIn : List Update → List (Vec Answer) → Type 0
+EachIsFoundIn log answers = All (λ list. AreFoundIn log list.items) answers
 
 -- an answer of a generation that the log does not come to, or not what the key lies in at its
 -- generation

@@ -1,10 +1,13 @@
 -- What the threads of lists are given, and what they come back with.
-use Rattle.std.specs.Prelude.{◌≡◌, ℕ, List, length, slice_get, Some}
+use Rattle.std.specs.Prelude.{◌≡◌, ℕ, List, length, slice_get, Option, Some}
 use Rattle.std.specs.Global.{Vec}
+use Rattle.atomic_table.specs.Seated.{TableId}
 use Rattle.shared_lookup.specs.declared.changes.Change.{Change}
 use Rattle.shared_lookup.specs.declared.threads.Changing.{Changing}
+use Rattle.shared_lookup.specs.declared.threads.Found.{Found}
 use Rattle.shared_lookup.specs.declared.threads.ReaderThread.{ReaderThread}
 use Rattle.shared_lookup.specs.declared.threads.WriterThread.{WriterThread}
+use Rattle.shared_lookup.specs.Readers.{IsHeard}
 
 -- each list of changes has room for its outcomes
 pub record HaveRoom (changes : List (Vec Change)) (lists : List Changing) : Type 0 where
@@ -21,7 +24,17 @@ pub record AreChanging {W : Type 0} (changer : W) (changes : List (Vec Change))
       → (w.changer.now ≡ changer) × (w.changes.now ≡ list.items)
 
 -- each list of keys has a thread, or none where it is empty or no thread could be made
-pub record AreReading (keys : List (Vec ℕ)) (readers : List ReaderThread) : Type 0 where
+pub record AreReading {W : Type 0} (changer : W) (keys : List (Vec ℕ))
+    (readers : List (ReaderThread W)) : Type 0 where
   pub same : length readers ≡ length keys
-  pub each : (place : ℕ) (list : Vec ℕ) (r : ReaderThread) → slice_get keys place ≡ Some list
-      → slice_get readers place ≡ Some r → (r.reader ≡ place) × (r.keys.now ≡ list.items)
+  pub each : (place : ℕ) (list : Vec ℕ) (r : ReaderThread W) → slice_get keys place ≡ Some list
+      → slice_get readers place ≡ Some r
+      → (r.changer.now ≡ changer) × (r.reader ≡ place) × (r.keys.now ≡ list.items)
+
+-- each list of keys has come back with what its thread had
+pub record AreHeard (table : Option TableId) (keys : List (Vec ℕ)) (all : List Found)
+    : Type 0 where
+  pub same : length all ≡ length keys
+  pub each : (place : ℕ) (list : Vec ℕ) (f : Found) → slice_get keys place ≡ Some list
+      → slice_get all place ≡ Some f
+      → IsHeard table place list.items f.answers.items f.ended f.seat

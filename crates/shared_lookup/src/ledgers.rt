@@ -3,7 +3,7 @@
 ghost use Rattle.std.specs.Prelude.{◌≡◌, [], IfOk, IfErr, OnErr, All, vec_len};
 ghost use Rattle.order_laws.specs.declared.refusals.Refusal.TheVariants.{OutOfMemory};
 ghost use Rattle.latch_table.specs.declared.knowledge.Origin.TheVariants.{Start};
-ghost use Rattle.latch_table.specs.Readers.{new_reader};
+ghost use Rattle.latch_table.specs.Readers.{Met, new_reader};
 ghost use Rattle.latch_table.specs.Seats.{first_knowledge};
 ghost use Rattle.latch_table.specs.Writers.{MayOpenWith, RefusesOpening};
 ghost use Rattle.shared_lookup.specs.Checks.{with_log};
@@ -138,6 +138,29 @@ impl Ledger {
         ensures { result ≡ self.now.readers }
     {
         self.writer.readers()
+    }
+
+    /// A reader of the same table meets the writer: it then knows the whole log.
+    pub fn meet(self, reader: Reader<HalfOpen>) -> (Ledger, Reader<HalfOpen>)
+        requires { reader.place ≡ self.place }
+        ensures ledger { result.0 ≡ self }
+        ensures reader { (result.1.place ≡ reader.place)
+            × Met reader.knowledge result.1.knowledge self.log }
+    {
+        let Ledger {
+            writer,
+            log,
+            layout,
+            start,
+        } = self;
+        let (writer, reader) = writer.meet(reader);
+        let ledger = Ledger {
+            writer,
+            log,
+            layout,
+            start,
+        };
+        (ledger, reader)
     }
 
     /// Every update that was accepted, in order.

@@ -1,13 +1,13 @@
 //! The threads of all lists.
 
-ghost use Rattle.std.specs.Prelude.{◌≡◌, ◌≤◌, [], length, IfOk, vec_len};
+ghost use Rattle.std.specs.Prelude.{◌≡◌, ◌≤◌, [], length, All, IfOk, vec_len};
 ghost use Rattle.latch_table.specs.Limits.{most_readers};
-ghost use Rattle.shared_lookup.specs.Servings.{EachHasOutcome, EachIsAnswered};
-ghost use Rattle.shared_lookup.specs.Threads.{AreChanging, AreReading, HaveRoom};
+ghost use Rattle.shared_lookup.specs.Readers.{IsReaderOf};
+ghost use Rattle.shared_lookup.specs.Servings.{EachHasOutcome};
+ghost use Rattle.shared_lookup.specs.Threads.{AreChanging, AreHeard, AreReading, HaveRoom};
 
 use crate::changes::Change;
 use crate::gates::Gate;
-use crate::served::Answer;
 use crate::shared::Changer;
 use crate::threads::{
     Changing, Found, Outcomes, ReaderThread, WriterThread, join_reader, join_writer,
@@ -55,26 +55,29 @@ pub(crate) fn start_writers<'s, E, R: Threads + Wait + Sync, G: Gate + Sync, W: 
 }
 
 /// Starts the threads of lists of keys, one for each reader, and adds them to a list.
-pub(crate) fn start_readers<'s, E, R: Threads + Wait + Sync, G: Gate + Sync>(
+pub(crate) fn start_readers<'s, E, R: Threads + Wait + Sync, G: Gate + Sync, W: Changer + Sync>(
     scope: &Scope<'s, E>,
     rt: &'s R,
     alloc: Global,
     g: &'s G,
+    changer: &'s W,
     mut seats: Vec<Reader<HalfOpen>>,
     keys: &'s [Vec<u64>],
-    mut readers: Vec<ReaderThread<'s>>,
-) -> Result<Vec<ReaderThread<'s>>, AllocError>
+    mut readers: Vec<ReaderThread<'s, W>>,
+) -> Result<Vec<ReaderThread<'s, W>>, AllocError>
     requires blank { readers.items ≡ [] }
+    requires seats { All (IsReaderOf (W.table changer.now)) seats.items }
     requires same { vec_len seats ≡ length keys.now }
     requires few { length keys.now ≤ most_readers }
-    ensures { IfOk result (λ all. AreReading keys.now all.items) }
+    ensures { IfOk result (λ all. AreReading changer.now keys.now all.items) }
 {
     for list in keys {
         let Some(seat) = seats.pop() else {
             unreachable!()
         };
         let reader = readers.len() as u32;
-        readers.push(start_reader(scope, rt, alloc, g, reader, seat, list.as_slice()))?;
+        let thread = start_reader(scope, rt, alloc, g, changer, reader, seat, list.as_slice());
+        readers.push(thread)?;
     }
     Ok(readers)
 }
@@ -99,27 +102,21 @@ pub(crate) fn join_writers<R: Threads, W: Changer>(
     Ok(outcomes)
 }
 
-/// Waits for the threads of lists of keys, and adds what they came back with to two lists.
-pub(crate) fn join_readers<R: Threads>(
+/// Waits for the threads of lists of keys, and adds what they came back with to a list.
+pub(crate) fn join_readers<R: Threads, W: Changer>(
     rt: &R,
     alloc: Global,
+    changer: &W,
     keys: &[Vec<u64>],
-    readers: Vec<ReaderThread<'_>>,
-    mut answers: Vec<Vec<Answer>>,
-    mut ended: Vec<bool>,
-) -> Result<(Vec<Vec<Answer>>, Vec<bool>), AllocError>
-    requires reading { AreReading keys.now readers.items }
-    requires blank { (answers.items ≡ []) × (ended.items ≡ []) }
-    ensures { IfOk result (λ all. EachIsAnswered keys.now all.0.items all.1.items) }
+    readers: Vec<ReaderThread<'_, W>>,
+    mut heard: Vec<Found>,
+) -> Result<Vec<Found>, AllocError>
+    requires blank { heard.items ≡ [] }
+    requires reading { AreReading changer.now keys.now readers.items }
+    ensures { IfOk result (λ all. AreHeard (W.table changer.now) keys.now all.items) }
 {
     for reader in readers {
-        let found = join_reader(rt, alloc, reader);
-        let Found {
-            answers: list,
-            ended: end,
-        } = found;
-        answers.push(list)?;
-        ended.push(end)?;
+        heard.push(join_reader(rt, alloc, reader))?;
     }
-    Ok((answers, ended))
+    Ok(heard)
 }

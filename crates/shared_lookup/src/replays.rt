@@ -7,9 +7,9 @@
 ghost use Rattle.std.specs.Prelude.{◌≡◌, ◌≤◌, [], take, length, count_by, IfOk, IfErr, OnOk};
 ghost use Rattle.std.specs.List.Sorted.{IsPermutation};
 ghost use Rattle.order_laws.specs.declared.refusals.Refusal.TheVariants.{OutOfMemory};
-ghost use Rattle.shared_lookup.specs.Checks.{AreInOrder, is_wrong_answer, with_log};
+ghost use Rattle.shared_lookup.specs.Checks.{is_wrong_answer, with_log};
 ghost use Rattle.shared_lookup.specs.Ledgers.{AreAccepted};
-ghost use Rattle.shared_lookup.specs.Servings.{entries};
+ghost use Rattle.shared_lookup.specs.Servings.{AreInOrder, entries};
 
 use crate::gates::Open;
 use crate::resting::RestingWriter;

@@ -4,7 +4,7 @@ ghost use Rattle.std.specs.Prelude.{◌≡◌, IfOk, IfErr, OnErr, All, vec_len}
 ghost use Rattle.order_laws.specs.Orders.{half_open};
 ghost use Rattle.order_laws.specs.Tables.{has, look};
 ghost use Rattle.latch_table.specs.declared.knowledge.Origin.TheVariants.{Start};
-ghost use Rattle.latch_table.specs.Readers.{new_reader};
+ghost use Rattle.latch_table.specs.Readers.{Met, new_reader};
 ghost use Rattle.latch_table.specs.Seats.{first_knowledge};
 ghost use Rattle.latch_table.specs.Writers.{MayOpenWith, OnTheWay, Refuses, RefusesOpening};
 ghost use Rattle.shared_lookup.specs.Enlarging.{AreLedgerReaders, EnlargesLedger};
@@ -14,7 +14,7 @@ ghost use Rattle.shared_lookup.specs.Ledgers.{new_ledger, ledger_table};
 
 use crate::gates::{Gate, Point};
 use latch_core::Update;
-use latch_table::{Did, InHand, Reader, Writer, open};
+use latch_table::{Did, InHand, Reader, Writer, meet, open};
 use order_laws::{HalfOpen, Item, Refusal};
 use std::alloc::Global;
 use std::marker::Model;
@@ -118,6 +118,18 @@ impl RestingWriter {
         // Its clause `sound` says that the writer's tables are those of its history.
         let _generation = self.writer.generation();
         self.writer.enlarge(alloc, l, readers)
+    }
+
+    /// A reader of the same table meets the writer.
+    pub(crate) fn meet(self, reader: Reader<HalfOpen>) -> (RestingWriter, Reader<HalfOpen>)
+        requires { reader.place ≡ self.place }
+        ensures writer { result.0 ≡ self }
+        ensures reader { (result.1.place ≡ reader.place)
+            × Met reader.knowledge result.1.knowledge self.log }
+    {
+        let RestingWriter { writer } = self;
+        let (reader, writer) = meet(reader, writer);
+        (RestingWriter { writer }, reader)
     }
 
     /// What a key lies in.

@@ -1,25 +1,30 @@
 //! Lists of changes and lists of keys, each on a thread of its own.
 
-ghost use Rattle.std.specs.Prelude.{◌≡◌, ◌≤◌, length, IfOk, IfErr, vec_len};
+ghost use Rattle.std.specs.Prelude.{◌≡◌, ◌≤◌, length, All, Some, IfOk, IfErr, vec_len};
+ghost use Rattle.order_laws.specs.declared.refusals.Refusal.TheVariants.{OutOfMemory};
 ghost use Rattle.modules.specs.Catalogs.{regions_of};
 ghost use Rattle.word_arena.specs.Layouts.{capacity_of};
 ghost use Rattle.word_arena.specs.Limits.{most_nodes};
 ghost use Rattle.latch_table.specs.Limits.{most_readers};
-ghost use Rattle.shared_lookup.specs.Servings.{EachHasOutcome, EachIsAnswered};
+ghost use Rattle.shared_lookup.specs.Readers.{IsReaderOf};
+ghost use Rattle.shared_lookup.specs.Servings.{EachHasOutcome, EachIsAnswered, EachIsFoundIn};
 ghost use Rattle.shared_lookup.specs.Servings.{IsWrongCount, MayServe, RefusesServing};
+ghost use Rattle.shared_lookup.specs.Threads.{AreHeard};
 
 use crate::changes::Change;
 use crate::checks::wrong_count;
 use crate::gates::Gate;
 use crate::ledgers::Ledger;
 use crate::lists::{join_readers, join_writers, start_readers, start_writers, with_room};
-use crate::served::{Answer, Served};
-use crate::shared::{CatalogWriter, Changer, SharedWriter};
-use crate::threads::Outcomes;
+use crate::meetings::meet_all;
+use crate::served::Served;
+use crate::shared::{CatalogWriter, Changer, NamesTable, SharedWriter};
+use crate::threads::{Found, Outcomes};
 use latch_table::Reader;
 use modules::Catalog;
 use order_laws::{HalfOpen, Refusal};
 use std::alloc::{AllocError, Global};
+use std::marker::Brand;
 use std::sync::Wait;
 use std::thread;
 use std::thread::Threads;
@@ -29,12 +34,11 @@ use word_arena::Layout;
 #[derive(Drop)]
 struct Returned {
     outcomes: Vec<Outcomes>,
-    answers: Vec<Vec<Answer>>,
-    ended: Vec<bool>,
+    heard: Vec<Found>,
 }
 
-/// Runs a thread for each list, all at once, and waits for them. All memory but that of the answers
-/// is made before the first thread starts.
+/// Runs a thread for each list that is not empty, all at once, and waits for them. All memory but
+/// that of the answers is made before the first thread starts.
 fn run_threads<R: Threads + Wait + Sync, G: Gate + Sync, W: Changer + Sync>(
     rt: &R,
     alloc: Global,
@@ -44,39 +48,83 @@ fn run_threads<R: Threads + Wait + Sync, G: Gate + Sync, W: Changer + Sync>(
     keys: &[Vec<u64>],
     seats: Vec<Reader<HalfOpen>>,
 ) -> Result<Returned, AllocError>
+    requires seats { All (IsReaderOf (W.table changer.now)) seats.items }
     requires same { vec_len seats ≡ length keys.now }
     requires few { length keys.now ≤ most_readers }
     ensures outcomes { IfOk result (λ r.
         EachHasOutcome (W.catalog changer.now) changes.now r.outcomes.items) }
-    ensures answers { IfOk result (λ r. EachIsAnswered keys.now r.answers.items r.ended.items) }
+    ensures heard { IfOk result (λ r.
+        AreHeard (W.table changer.now) keys.now r.heard.items) }
 {
     thread::scope(
         thread::scope_env(),
         rt,
         |scope| -> Result<Returned, AllocError>
-            requires { (vec_len seats ≡ length keys.now) × (length keys.now ≤ most_readers) }
+            requires seats { All (IsReaderOf (W.table changer.now)) seats.items }
+            requires same { vec_len seats ≡ length keys.now }
+            requires few { length keys.now ≤ most_readers }
             ensures outcomes { IfOk result (λ r.
                 EachHasOutcome (W.catalog changer.entry.now) changes.entry.now r.outcomes.items) }
-            ensures answers { IfOk result (λ r.
-                EachIsAnswered keys.entry.now r.answers.items r.ended.items) }
+            ensures heard { IfOk result (λ r.
+                AreHeard (W.table changer.entry.now) keys.entry.now r.heard.items) }
         {
             let lists = with_room(alloc, changes)?;
             let outcomes = Vec::with_capacity(alloc, changes.len())?;
-            let answers = Vec::with_capacity(alloc, keys.len())?;
-            let ended = Vec::with_capacity(alloc, keys.len())?;
+            let heard = Vec::with_capacity(alloc, keys.len())?;
             let writers = Vec::with_capacity(alloc, changes.len())?;
             let readers = Vec::with_capacity(alloc, keys.len())?;
             let writers = start_writers(scope, rt, g, changer, changes, lists, writers)?;
-            let readers = start_readers(scope, rt, alloc, g, seats, keys, readers)?;
+            let readers = start_readers(scope, rt, alloc, g, changer, seats, keys, readers)?;
             let outcomes = join_writers(rt, alloc, changer, changes, writers, outcomes)?;
-            let (answers, ended) = join_readers(rt, alloc, keys, readers, answers, ended)?;
-            Ok(Returned {
-                outcomes,
-                answers,
-                ended,
-            })
+            let heard = join_readers(rt, alloc, changer, keys, readers, heard)?;
+            Ok(Returned { outcomes, heard })
         },
     )
+}
+
+/// Runs the threads over a ledger that was opened with so many readers, lets each reader that came
+/// back meet its writer, and counts what is wrong. Refused by [`Refusal::OutOfMemory`] alone.
+fn serve_from<K: NamesTable + Send + Sync, R: Threads + Wait + Sync, G: Gate + Sync>(
+    rt: &R,
+    alloc: Global,
+    g: &G,
+    c: &Catalog<'_>,
+    opened: (Ledger, Vec<Reader<HalfOpen>>),
+    changes: Vec<Vec<Change>>,
+    keys: Vec<Vec<u64>>,
+) -> Result<Served, Refusal>
+    requires named { K.table ≡ Some opened.0.place }
+    requires seats { All (IsReaderOf (Some opened.0.place)) opened.1.items }
+    requires same { vec_len opened.1 ≡ vec_len keys }
+    requires few { vec_len keys ≤ most_readers }
+    ensures outcomes { IfOk result (λ s. EachHasOutcome c.now changes.items s.changes.items) }
+    ensures answers { IfOk result (λ s.
+        EachIsAnswered keys.items s.answers.items s.ended.items) }
+    ensures found { IfOk result (λ s. EachIsFoundIn s.log.items s.answers.items) }
+    ensures wrong { IfOk result (λ s.
+        IsWrongCount c.now changes.items s.changes.items s.answers.items s.log.items s.wrong) }
+    ensures refusal { IfErr result (λ e. e ≡ OutOfMemory) }
+{
+    let (ledger, seats) = opened;
+    let answers = Vec::with_capacity(alloc, keys.len())?;
+    let ended = Vec::with_capacity(alloc, keys.len())?;
+    let shared = SharedWriter::<K>::new(ledger);
+    let changer = CatalogWriter {
+        shared: &shared,
+        catalog: c,
+    };
+    let returned = run_threads(rt, alloc, g, &changer, &changes, &keys, seats)?;
+    let Returned { outcomes, heard } = returned;
+    let ledger = shared.into_ledger();
+    let (ledger, answers, ended) = meet_all(ledger, &keys, heard, answers, ended)?;
+    let wrong = wrong_count(alloc, &ledger, c, &changes, &outcomes, &answers)?;
+    Ok(Served {
+        changes: outcomes,
+        answers,
+        ended,
+        log: ledger.into_log(),
+        wrong,
+    })
 }
 
 /// The layout of a table for all regions of a catalog. Refused by [`Refusal::BadCapacity`] where
@@ -92,8 +140,8 @@ fn layout_for(c: &Catalog<'_>) -> Result<Layout, Refusal>
     }
 }
 
-/// Runs a thread for each list of changes that is not empty and one for each list of keys, all at
-/// once, over a table that is empty at first, waits for them, and counts what is wrong.
+/// Runs a thread for each list that is not empty, all at once, over a table that is empty at first,
+/// waits for them, and counts what is wrong.
 ///
 /// Each change is one [`SharedWriter::change`], each key one
 /// [`Reader::find`](latch_table::Reader::find). Writers, readers and places are numbered from 0.
@@ -101,14 +149,18 @@ fn layout_for(c: &Catalog<'_>) -> Result<Layout, Refusal>
 /// Where no thread can be made for a list, its changes are refused by [`Refusal::OutOfMemory`], or
 /// it ends at its first key; so does a list of keys end where there is no memory for an answer.
 ///
+/// Each answer is what its key lies in after as many updates of the log as its generation says, and
+/// the generations of a list never fall.
+///
 /// Counted as wrong are each answer whose generation is above the log's length or that is not what
-/// the key lies in after as many updates of the log; each accepted change whose generation's entry
-/// of the log is none that the catalog gives for it; and each entry whose generation is not that of
-/// exactly one accepted change.
+/// the key lies in after as many updates of the log, of which there is none; each accepted change
+/// whose generation's entry of the log is none that the catalog gives for it; and each entry whose
+/// generation is not that of exactly one accepted change.
 ///
 /// Refused by [`Refusal::BadCapacity`] where the catalog has more than 65536 regions or there are
 /// not 1 to 64 lists of keys, and else by [`Refusal::OutOfMemory`]: before the threads start, or
 /// where there is none to check what came back.
+#[tactic(auto, using(crate::proofs::ReaderLemmas::readers_opened))]
 pub fn serve<R: Threads + Wait + Sync, G: Gate + Sync>(
     rt: &R,
     alloc: Global,
@@ -121,6 +173,7 @@ pub fn serve<R: Threads + Wait + Sync, G: Gate + Sync>(
     ensures outcomes { IfOk result (λ s. EachHasOutcome c.now changes.items s.changes.items) }
     ensures answers { IfOk result (λ s.
         EachIsAnswered keys.items s.answers.items s.ended.items) }
+    ensures found { IfOk result (λ s. EachIsFoundIn s.log.items s.answers.items) }
     ensures wrong { IfOk result (λ s.
         IsWrongCount c.now changes.items s.changes.items s.answers.items s.log.items s.wrong) }
     ensures refusal { IfErr result (RefusesServing c.now keys.items) }
@@ -129,25 +182,6 @@ pub fn serve<R: Threads + Wait + Sync, G: Gate + Sync>(
     if keys.is_empty() || keys.len() > 64 {
         return Err(Refusal::BadCapacity);
     }
-    let (ledger, seats) = Ledger::open(alloc, layout, 0, keys.len() as u32)?;
-    let shared = SharedWriter::new(ledger);
-    let changer = CatalogWriter {
-        shared: &shared,
-        catalog: c,
-    };
-    let returned = run_threads(rt, alloc, g, &changer, &changes, &keys, seats)?;
-    let ledger = shared.into_ledger();
-    let Returned {
-        outcomes,
-        answers,
-        ended,
-    } = returned;
-    let wrong = wrong_count(alloc, &ledger, c, &changes, &outcomes, &answers)?;
-    Ok(Served {
-        changes: outcomes,
-        answers,
-        ended,
-        log: ledger.into_log(),
-        wrong,
-    })
+    let opened = Ledger::open(alloc, layout, 0, keys.len() as u32)?;
+    serve_from::<Brand, R, G>(rt, alloc, g, c, opened, changes, keys)
 }

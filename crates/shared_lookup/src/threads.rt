@@ -2,7 +2,8 @@
 
 ghost use Rattle.std.specs.Prelude.{◌≡◌, length, IfOk};
 ghost use Rattle.std.specs.Option.{ForSome};
-ghost use Rattle.shared_lookup.specs.Servings.{AreAnswered, AreNotMade, AreOutcomesOf, HasOutcomes};
+ghost use Rattle.shared_lookup.specs.Readers.{IsHeard, IsReaderOf};
+ghost use Rattle.shared_lookup.specs.Servings.{AreNotMade, AreOutcomesOf, HasOutcomes};
 
 use crate::changes::Change;
 use crate::gates::{Gate, Point};
@@ -51,14 +52,15 @@ impl<'a, W: Changer> Promise<Outcomes> for OutcomesOf<'a, W> {
     ghost kept_by = { λ p r. HasOutcomes (W.catalog p.changer.now) p.changes.now r.items };
 }
 
-/// The thread of a list of keys; none where no thread could be made.
+/// The thread of a list of keys; none where the list is empty or no thread could be made.
 #[derive(Drop)]
-pub(crate) struct ReaderThread<'s> {
+pub(crate) struct ReaderThread<'s, W: Changer> {
+    pub(crate) changer: &'s W,
     pub(crate) reader: u32,
     keys: &'s [u64],
-    thread: Option<PromisedHandle<Found, AnswersTo<'s>>>,
-    ghost same: { ForSome thread (λ h.
-        (h.promise.reader ≡ reader) × (h.promise.keys.now ≡ keys.now)) },
+    thread: Option<PromisedHandle<Found, AnswersTo<'s, W>>>,
+    ghost same: { ForSome thread (λ h. (h.promise.changer.now ≡ changer.now)
+        × (h.promise.reader ≡ reader) × (h.promise.keys.now ≡ keys.now)) },
 }
 
 /// What a reader's thread comes back with.
@@ -67,17 +69,22 @@ pub(crate) struct Found {
     pub(crate) answers: Vec<Answer>,
     /// Whether the list ended early, because memory ran out.
     pub(crate) ended: bool,
+    /// The reader itself, where there was a thread.
+    pub(crate) seat: Option<Reader<HalfOpen>>,
 }
 
-/// What a reader's thread returns: the keys of its list, by their places.
-#[derive(Clone, Copy)]
-pub(crate) struct AnswersTo<'a> {
+/// What a reader's thread returns: answers to the keys of its list, by their places, and the reader
+/// itself, which is of the changer's table.
+#[derive(Drop)]
+pub(crate) struct AnswersTo<'a, W: Changer> {
+    changer: &'a W,
     reader: u32,
     keys: &'a [u64],
 }
 
-impl<'a> Promise<Found> for AnswersTo<'a> {
-    ghost kept_by = { λ p r. AreAnswered p.reader p.keys.now r.answers.items r.ended };
+impl<'a, W: Changer> Promise<Found> for AnswersTo<'a, W> {
+    ghost kept_by = { λ p r. IsHeard (W.table p.changer.now) p.reader p.keys.now r.answers.items
+        r.ended r.seat };
 }
 
 /// An outcome for each of so many changes: out of memory.
@@ -107,16 +114,20 @@ fn make_changes<R: Wait, G: Gate, W: Changer>(
     outcomes
 }
 
-/// Looks the keys of one list up.
-fn look_up<R: Wait, G: Gate>(
+/// Looks the keys of one list up, by a reader of the changer's table.
+#[tactic(auto, using(crate::proofs::FoundLemmas::none_found))]
+fn look_up<R: Wait, G: Gate, W: Changer>(
     rt: &R,
     alloc: Global,
     g: &G,
+    _changer: &W,
     reader: u32,
     mut seat: Reader<HalfOpen>,
     keys: &[u64],
 ) -> Found
-    ensures { AreAnswered reader keys.now result.answers.items result.ended }
+    requires { IsReaderOf (W.table _changer.now) seat }
+    ensures { IsHeard (W.table _changer.now) reader keys.now result.answers.items result.ended
+        result.seat }
 {
     let mut answers = Vec::new(alloc);
     for (index, key) in keys.iter().enumerate() {
@@ -124,6 +135,7 @@ fn look_up<R: Wait, G: Gate>(
             return Found {
                 answers,
                 ended: true,
+                seat: Some(seat),
             };
         }
         let place = index as u64;
@@ -141,6 +153,7 @@ fn look_up<R: Wait, G: Gate>(
     Found {
         answers,
         ended: false,
+        seat: Some(seat),
     }
 }
 
@@ -179,29 +192,40 @@ pub(crate) fn start_writer<'s, E, R: Threads + Wait + Sync, G: Gate + Sync, W: C
     }
 }
 
-/// Starts the thread of one list of keys.
-pub(crate) fn start_reader<'s, E, R: Threads + Wait + Sync, G: Gate + Sync>(
+/// Starts the thread of one list of keys, unless it is empty.
+pub(crate) fn start_reader<'s, E, R: Threads + Wait + Sync, G: Gate + Sync, W: Changer + Sync>(
     scope: &Scope<'s, E>,
     rt: &'s R,
     alloc: Global,
     g: &'s G,
+    changer: &'s W,
     reader: u32,
     seat: Reader<HalfOpen>,
     keys: &'s [u64],
-) -> ReaderThread<'s>
-    ensures { (result.reader ≡ reader) × (result.keys.now ≡ keys.now) }
+) -> ReaderThread<'s, W>
+    requires reads { IsReaderOf (W.table changer.now) seat }
+    ensures { (result.changer.now ≡ changer.now) × (result.reader ≡ reader)
+        × (result.keys.now ≡ keys.now) }
 {
-    let started = scope.spawn_with(
-        AnswersTo { reader, keys },
-        move || -> Found
-            ensures { AreAnswered reader keys.entry.now result.answers.items result.ended }
-        { look_up(rt, alloc, g, reader, seat, keys) },
-    );
-    let thread = match started {
-        Ok(thread) => Some(thread),
-        Err(_) => None,
-    };
+    let mut thread = None;
+    if !keys.is_empty() {
+        let started = Stack::new().stack_size(STACK_SIZE).spawn_scoped_with(
+            scope,
+            AnswersTo {
+                changer,
+                reader,
+                keys,
+            },
+            move || -> Found
+                requires { IsReaderOf (W.table changer.now) seat }
+                ensures { IsHeard (W.table changer.entry.now) reader keys.entry.now
+                    result.answers.items result.ended result.seat }
+            { look_up(rt, alloc, g, changer, reader, seat, keys) },
+        );
+        thread = started.ok();
+    }
     ReaderThread {
+        changer,
         reader,
         keys,
         thread,
@@ -229,21 +253,29 @@ pub(crate) fn join_writer<R: Threads, W: Changer>(
     }
 }
 
-/// Waits for the thread of one list of keys. Where there was none, the list has ended.
-pub(crate) fn join_reader<R: Threads>(rt: &R, alloc: Global, reader: ReaderThread<'_>) -> Found
-    ensures { AreAnswered reader.entry.reader reader.entry.keys.now result.answers.items
-        result.ended }
+/// Waits for the thread of one list of keys. Where there was none, no key has an answer, and the
+/// list has ended unless it is empty.
+#[tactic(auto, using(crate::proofs::FoundLemmas::none_found))]
+pub(crate) fn join_reader<R: Threads, W: Changer>(
+    rt: &R,
+    alloc: Global,
+    reader: ReaderThread<'_, W>,
+) -> Found
+    ensures { IsHeard (W.table reader.entry.changer.now) reader.entry.reader reader.entry.keys.now
+        result.answers.items result.ended result.seat }
 {
     let ReaderThread {
+        changer: _,
         reader: _,
-        keys: _,
+        keys,
         thread,
     } = reader;
     match thread {
         Some(thread) => thread.join(rt),
         None => Found {
             answers: Vec::new(alloc),
-            ended: true,
+            ended: !keys.is_empty(),
+            seat: None,
         },
     }
 }

@@ -11,7 +11,7 @@ returns g c =
     let s = c.in_ok-served.served in
     let served = c.in_ok-served.ensures in
     served_answered contents catalog c.args.readers c.args.lines.now a c.in_ok-changes.ensures s
-    served.may served.outcomes served.answers served.wrong c.args.writer.now c.tell.new.writer
+    served.may served.outcomes served.answers served.found served.wrong c.args.writer.now c.tell.new.writer
     c.tell.result
     (subst (λ n. TellsServed contents catalog n s c.args.writer.now c.tell.new.writer c.tell.result)
     c.deref.ensures.value c.tell.ensures)

@@ -2,8 +2,10 @@ use Rattle.std.proofs.Common.{◌≡◌, ◌∙◌, ◌++◌, ◌∷◌, [], ℕ
 use Rattle.std.specs.Prelude.{slice_get}
 use Rattle.std.proofs.lemmas.Option.{get_or_from_slice_get}
 use Rattle.order_laws.proofs.Lists.{slice_get-push_cases}
+use Rattle.latch_core.specs.declared.updates.Update.{Update}
 use Rattle.shared_lookup.specs.declared.served.Answer.{Answer}
-use Rattle.shared_lookup.specs.Servings.{IsAnswerTo}
+use Rattle.shared_lookup.specs.Servings.{AreFoundIn, IsAnswerTo}
+use Rattle.shared_lookup.proofs.FoundLemmas.{found_more}
 use Rattle.shared_lookup.proofs.threads.look_up.Goals as goal
 
 -- an answer more, at the place of its key
@@ -25,13 +27,22 @@ answer_more reader keys old new before er ep ek place key a k h =
 
 pub loop-index-preserved : goal.loop-index-preserved
 loop-index-preserved g c =
+    let i = c.loop-index.invariant in
     let new : Answer = record { reader = c.args.reader; place = c.loop-index.index; key = get_or c.args.keys.now c.loop-index.index 0; generation = c.find-item.result.1; item = c.find-item.result.0 } in
     let old = c.loop-index.answers.items in
-    let few = c.loop-index.invariant.few in
+    let few = i.few in
+    let searched = c.find-item.ensures.found in
+    let more = searched.4 in
+    let answers = searched.6 in
+    let base = i.reads.1 in
+    let known = c.find-item.new.self.knowledge.known in
+    let count : c.find-item.result.1 ≡ length known = (let counted = answers.counted in let same = more.base in omega (arith, counted, same, base)) in
     let items : c.push_reserved.new.self.items ≡ old ++ new ∷ [] = c.push_reserved.ensures.items ∙ ap (λ (xs : List Answer). xs ++ new ∷ []) c.reserve.ensures.items in
     record {
       few = ap length items ∙ (let n = length-append old (new ∷ []) in omega (arith, n, few));
       each = λ place key a k h.
-          answer_more c.args.reader c.args.keys.now old new c.loop-index.invariant.each refl (sym few) (ap (λ i. get_or c.args.keys.now i 0) (sym few)) place key a k
+          answer_more c.args.reader c.args.keys.now old new i.each refl (sym few) (ap (λ i. get_or c.args.keys.now i 0) (sym few)) place key a k
           (subst (λ (xs : List Answer). slice_get xs place ≡ Some a) items h);
+      reads = (λ it e. c.find-item.ensures.place ∙ i.reads.0 it e, more.base ∙ base);
+      found = subst (AreFoundIn known) (sym items) (found_more c.loop-index.seat.knowledge.known known old new more.known i.found count answers.found);
     }

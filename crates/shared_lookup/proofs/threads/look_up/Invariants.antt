@@ -1,7 +1,8 @@
 use Rattle.std.proofs.Common.{◌≡◌, length, Some}
 use Rattle.std.specs.Prelude.{slice_get}
 use Rattle.shared_lookup.specs.declared.served.Answer.{Answer}
-use Rattle.shared_lookup.specs.Servings.{IsAnswerTo}
+use Rattle.shared_lookup.specs.Readers.{IsReaderOf}
+use Rattle.shared_lookup.specs.Servings.{AreFoundIn, IsAnswerTo}
 use Rattle.shared_lookup.proofs.threads.look_up.Given as goal
 
 abbrev pub invariant-loop-index : goal.invariant-loop-index
@@ -9,4 +10,6 @@ invariant-loop-index g l =
     record {
       few : length l.answers.items ≡ l.index;
       each : (place key : _) (a : Answer) → slice_get l.keys place ≡ Some key → slice_get l.answers.items place ≡ Some a → IsAnswerTo l.reader place key a;
+      reads : IsReaderOf (g.W.Changer.table l._changer) l.seat;
+      found : AreFoundIn l.seat.knowledge.known l.answers.items;
     }

@@ -1,0 +1,34 @@
+-- Readers and ledgers of the table that is named.
+use Rattle.std.proofs.Common.{◌≡◌, ℕ, List, Option, Some, sym, ◌∙◌, ap, subst}
+use Rattle.std.specs.Global.{Vec}
+use Rattle.std.specs.Prelude.{All}
+use Rattle.atomic_table.specs.Seated.{TableId}
+use Rattle.word_arena.specs.declared.layouts.Layout.{Layout}
+use Rattle.latch_table.specs.declared.knowledge.Origin.TheVariants.{Start}
+use Rattle.latch_table.specs.Readers.{ReaderState, new_reader}
+use Rattle.latch_table.specs.Seats.{first_knowledge}
+use Rattle.shared_lookup.specs.declared.threads.Found.{Found}
+use Rattle.shared_lookup.specs.Ledgers.{IsNamed}
+use Rattle.shared_lookup.specs.Readers.{IsReaderOf}
+use Rattle.shared_lookup.specs.Threads.{AreHeard}
+
+same_place : (place it : TableId) → ◌≡◌ {A = Option TableId} (Some place) (Some it) → place ≡ it
+same_place place it e = cc
+
+-- the table that is named is the one that is named
+pub named_itself : (table : Option TableId) (place : TableId) → table ≡ Some place → IsNamed table place
+named_itself table place is = λ it e. same_place place it (sym is ∙ e)
+
+pub readers_named : (table : Option TableId) (place : TableId) (all : List ReaderState) → table ≡ Some place → All (IsReaderOf (Some place)) all → All (IsReaderOf table) all
+readers_named table place all is these = subst (λ (t : Option TableId). All (IsReaderOf t) all) (sym is) these
+
+-- the readers that a table is opened with
+pub readers_opened : (l : Layout) (place : TableId) (all : List ReaderState) → All (λ x. x ≡ new_reader place (first_knowledge (Start l 0))) all → All (IsReaderOf (Some place)) all
+readers_opened l place all new = λ k d less.
+    let is = new k d less in
+    (λ it e. ap (λ (r : ReaderState). r.place) is ∙ same_place place it e, ap (λ (r : ReaderState). r.knowledge.base) is)
+
+-- what came back is of the table of the ledger that comes out of the lock
+pub heard_named : (table : Option TableId) (place there : TableId) (keys : List (Vec ℕ)) (all : List Found) → table ≡ Some place → IsNamed table there → AreHeard table keys all → AreHeard (Some there) keys all
+heard_named table place there keys all is named heard =
+    subst (λ (t : Option TableId). AreHeard t keys all) (is ∙ ap (λ (p : TableId). Some p) (sym (named place is))) heard

@@ -1,0 +1,54 @@
+use Rattle.std.proofs.Common.{◌≡◌, ◌∙◌, ◌++◌, ◌∷◌, [], Bool, List, length, take, sym, subst, ap, append_assoc, refl, Some}
+use Rattle.std.specs.Global.{Vec}
+use Rattle.std.specs.Prelude.{IfSome}
+use Rattle.std.specs.Vec.Iter.{into_iter_items}
+use Rattle.std.proofs.lemmas.List.Elements.{All-push}
+use mathlib.Core.List.{IsPrefix}
+use Rattle.shared_lookup.specs.declared.served.Answer.{Answer}
+use Rattle.shared_lookup.specs.declared.threads.Found.{Found}
+use Rattle.shared_lookup.specs.Ledgers.{LedgerState}
+use Rattle.shared_lookup.specs.Readers.{known_by}
+use Rattle.shared_lookup.specs.Servings.{AreFoundIn, EachIsAnswered, EachIsFoundIn}
+use Rattle.shared_lookup.specs.Threads.{AreHeard}
+use Rattle.shared_lookup.proofs.FoundLemmas.{all_found_later}
+use Rattle.shared_lookup.proofs.ThreadLemmas.{answered_so_far, heard_here, met_here}
+use Rattle.shared_lookup.proofs.meetings.meet_all.Goals as goal
+
+pub met-ledger-requires : goal.met-ledger-requires
+met-ledger-requires c =
+    let i = c.loop-found.invariant in
+    let done = c.loop-found.yielded in
+    let rest = into_iter_items c.next.new.self in
+    let f = c.in-Some.found in
+    let keys = c.args.keys.now in
+    let place = c.args.ledger.place in
+    let step = c.in-Some.ensures.steps.0 in
+    let all : c.args.heard.items ≡ done ++ f ∷ rest = i.gone ∙ ap (λ (xs : List Found). done ++ xs) step in
+    let heard = subst (AreHeard (Some place) keys) all c.requires.heard in
+    subst (λ (l : LedgerState). IfSome f.seat (λ r. r.place ≡ l.place)) (sym i.same) (met_here (Some place) keys done rest f heard place refl)
+
+pub loop-found-preserved : goal.loop-found-preserved
+loop-found-preserved c =
+    let i = c.loop-found.invariant in
+    let done = c.loop-found.yielded in
+    let rest = into_iter_items c.next.new.self in
+    let f = c.in-Some.found in
+    let keys = c.args.keys.now in
+    let place = c.args.ledger.place in
+    let log = c.args.ledger.log in
+    let step = c.in-Some.ensures.steps.0 in
+    let all : c.args.heard.items ≡ done ++ f ∷ rest = i.gone ∙ ap (λ (xs : List Found). done ++ xs) step in
+    let heard = subst (AreHeard (Some place) keys) all c.requires.heard in
+    let here = heard_here (Some place) keys done rest f heard in
+    let known : IsPrefix (known_by f.seat) log = subst (λ (l : LedgerState). IsPrefix (known_by f.seat) l.log) i.same c.met-ledger.ensures.known in
+    let answered = answered_so_far (Some place) keys done rest f heard c.loop-found.answers.items c.loop-found.ended.items i.answered in
+    let found = All-push (λ (list : Vec Answer). AreFoundIn log list.items) c.loop-found.answers.items f.answers i.found
+    (all_found_later (known_by f.seat) log f.answers.items known here.found) in
+    record {
+      gone = i.gone ∙ ap (λ (xs : List Found). done ++ xs) step ∙ sym (append_assoc done (f ∷ []) rest);
+      same = c.met-ledger.ensures.same ∙ i.same;
+      answered =
+          subst (λ (xs : List (Vec Answer)). EachIsAnswered (take (length (done ++ f ∷ [])) keys) xs c.push-in-loop-found.new.self.items) (sym c.in_ok-push.ensures.items)
+          (subst (λ (es : List Bool). EachIsAnswered (take (length (done ++ f ∷ [])) keys) (c.loop-found.answers.items ++ f.answers ∷ []) es) (sym c.in_ok-push-2.ensures.items) answered);
+      found = subst (EachIsFoundIn log) (sym c.in_ok-push.ensures.items) found;
+    }

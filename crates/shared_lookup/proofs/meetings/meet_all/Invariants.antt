@@ -1,0 +1,13 @@
+use Rattle.std.proofs.Common.{◌≡◌, ◌++◌, length, take}
+use Rattle.std.specs.Vec.Iter.{into_iter_items}
+use Rattle.shared_lookup.specs.Servings.{EachIsAnswered, EachIsFoundIn}
+use Rattle.shared_lookup.proofs.meetings.meet_all.Given as goal
+
+abbrev pub invariant-loop-found : goal.invariant-loop-found
+invariant-loop-found l =
+    record {
+      gone : l.fn.heard.items ≡ l.yielded ++ into_iter_items l.found-iterator;
+      same : l.ledger ≡ l.fn.ledger;
+      answered : EachIsAnswered (take (length l.yielded) l.keys) l.answers.items l.ended.items;
+      found : EachIsFoundIn l.fn.ledger.log l.answers.items;
+    }
