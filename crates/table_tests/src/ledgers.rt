@@ -1,7 +1,9 @@
 //! What the tests share.
 
 mod changes;
+mod eight_writers;
 mod enlarging;
+mod recording;
 mod serving;
 
 use modules::{Catalog, ModuleLine, Part, RegionLine, SymbolLine, SymbolLines};

@@ -13,16 +13,16 @@ const KEY: u64 = START + 0x18;
 
 /// What the threads have told, and whether one waited in vain.
 #[derive(Drop)]
-struct Told {
+pub(super) struct Told {
     flips: AtomicU64,
     found: AtomicU64,
-    writers: AtomicU64,
-    readers: AtomicU64,
-    late: AtomicU64,
+    pub(super) writers: AtomicU64,
+    pub(super) readers: AtomicU64,
+    pub(super) late: AtomicU64,
 }
 
 impl Told {
-    fn new() -> Told {
+    pub(super) fn new() -> Told {
         Told {
             flips: AtomicU64::new(0),
             found: AtomicU64::new(0),
@@ -32,10 +32,11 @@ impl Told {
         }
     }
 
-    /// Waits until so much was told, for at most 20000 times a millisecond.
-    fn wait<R: Clock>(&self, rt: &R, told: &AtomicU64, count: u64) {
+    /// Waits until so much was told, for at most 20000 times a millisecond, and not where one has
+    /// waited so long already.
+    pub(super) fn wait<R: Clock>(&self, rt: &R, told: &AtomicU64, count: u64) {
         for _ in 0..20000 {
-            if told.load(Ordering::SeqCst) >= count {
+            if told.load(Ordering::SeqCst) >= count || self.late.load(Ordering::SeqCst) != 0 {
                 return;
             }
             sleep(rt, Duration::from_millis(1));
@@ -100,7 +101,7 @@ impl<'a, R: Clock> Gate for BothAtOnce<'a, R> {
 }
 
 /// So many lists of these entries.
-fn lists<T: Copy + Drop>(
+pub(super) fn lists<T: Copy + Drop>(
     alloc: Global,
     count: u64,
     entries: &[T],
@@ -113,7 +114,7 @@ fn lists<T: Copy + Drop>(
 }
 
 /// How many answers there are of all lists.
-fn answered(served: &Served) -> usize {
+pub(super) fn answered(served: &Served) -> usize {
     let mut count = 0usize;
     for answers in &served.answers {
         count = count.saturating_add(answers.len());
