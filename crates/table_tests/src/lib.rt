@@ -5,6 +5,8 @@
 #![tactic(auto)]
 
 #[cfg(test)]
+mod attempt_times;
+#[cfg(test)]
 mod batches;
 #[cfg(test)]
 mod cores;
