@@ -7,8 +7,8 @@ use Rattle.order_laws.specs.declared.items.Item.{Item}
 use Rattle.order_laws.specs.Orders.{Order, IsLawful}
 use Rattle.order_laws.specs.Tables.{IsTable, with_item, meets}
 use Rattle.order_laws.proofs.TableLemmas.{with_item_table, length_with_item, all_with_item}
-use Rattle.order_laws.proofs.Each.{all_weaker}
-use Rattle.order_laws.proofs.Tests.{all_fail}
+use Rattle.facts.proofs.Each.{all_weaker}
+use Rattle.facts.proofs.Tests.{all_fail}
 use Rattle.order_laws.proofs.MeetLemmas.{not_meeting}
 use Rattle.latch_core.specs.Updates.{with_items, some_invalid, some_overlap, some_meet}
 

@@ -12,7 +12,7 @@ use Rattle.word_arena.specs.declared.stores.Store.{Store}
 use Rattle.word_arena.specs.Words.{words_for, Nodes, listed}
 use Rattle.word_arena.specs.Stores.{AreLinkStores}
 use Rattle.rb_words.specs.Pictures.{Picture}
-use Rattle.order_laws.proofs.Lists.{nil-from_length}
+use Rattle.facts.proofs.Lists.{nil-from_length}
 use Rattle.word_arena.proofs.LinkLemmas.{links_in_range}
 use Rattle.latch_core.specs.declared.updates.Update.{Update}
 use Rattle.latch_core.specs.declared.updates.Update.TheVariants.{Batch}

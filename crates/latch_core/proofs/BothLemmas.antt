@@ -8,7 +8,7 @@ use Rattle.std.proofs.lemmas.List.Elements.{All-from_recursion, Contains-append_
 use Rattle.order_laws.specs.declared.items.Item.{Item}
 use Rattle.order_laws.specs.Orders.{Order}
 use Rattle.order_laws.specs.Tables.{place_for, place_of}
-use Rattle.order_laws.proofs.Each.{all_append, all_weaker}
+use Rattle.facts.proofs.Each.{all_append, all_weaker}
 use Rattle.word_arena.proofs.LinkLemmas.{same_item}
 use Rattle.word_arena.specs.declared.stores.Store.{Store}
 use Rattle.word_arena.specs.Words.{at, words_for, a_word, b_word, tag_word, Holds, IsUnreached, listed}

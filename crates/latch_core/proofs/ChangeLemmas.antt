@@ -10,9 +10,9 @@ use Rattle.order_laws.specs.declared.items.Item.{Item}
 use Rattle.order_laws.specs.Orders.{Order, IsLawful}
 use Rattle.order_laws.specs.Tables.{without, with_item, has, place_for, place_of}
 use Rattle.order_laws.proofs.PlaceLemmas.{without_none}
-use Rattle.order_laws.proofs.Each.{all_append, all_left, all_right, all_weaker}
-use Rattle.order_laws.proofs.Lists.{take-swap_remove}
-use Rattle.order_laws.proofs.Tests.{all_fail}
+use Rattle.facts.proofs.Each.{all_append, all_left, all_right, all_weaker}
+use Rattle.facts.proofs.Lists.{take-swap_remove}
+use Rattle.facts.proofs.Tests.{all_fail}
 use Rattle.order_laws.proofs.WithoutLemmas.{all_has_without, length_without_one, without_more}
 use Rattle.word_arena.proofs.LinkLemmas.{same_item}
 use Rattle.word_arena.specs.declared.stores.Store.{Store}

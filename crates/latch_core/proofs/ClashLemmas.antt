@@ -12,10 +12,10 @@ use Rattle.order_laws.specs.Orders.{Order, IsLawful, IsInLine}
 use Rattle.order_laws.specs.Tables.{has, meets}
 use Rattle.order_laws.specs.declared.refusals.Refusal.TheVariants.{BadItem, Overlap, NoSuchItem, Full}
 use Rattle.order_laws.proofs.LeftOutLemmas.{without_moved}
-use Rattle.order_laws.proofs.Bools.{same_by_false}
-use Rattle.order_laws.proofs.Each.{all_drop, all_not_below, all_weaker, rest_in_order}
-use Rattle.order_laws.proofs.Tests.{all_fail, list_any-all_fail}
-use Rattle.order_laws.proofs.Numbers.{eqb-flip}
+use Rattle.facts.proofs.Bools.{same_by_false}
+use Rattle.facts.proofs.Each.{all_drop, all_not_below, all_weaker, rest_in_order}
+use Rattle.facts.proofs.Tests.{all_fail, list_any-all_fail}
+use Rattle.facts.proofs.Numbers.{eqb-flip}
 use Rattle.order_laws.proofs.MeetLemmas.{no_meeting}
 use Rattle.order_laws.proofs.InLineLemmas.{precedes, beyond}
 use Rattle.latch_core.specs.declared.updates.Update.TheVariants.{Batch}

@@ -10,9 +10,9 @@ use Rattle.latch_core.specs.Histories.{replay}
 use Rattle.latch_core.specs.Updates.{after, erased, first_that_holds, inserted, refusal_for, some_invalid, some_meet, with_items}
 use Rattle.latch_core.specs.declared.updates.Update.{Update}
 use Rattle.latch_core.specs.declared.updates.Update.TheVariants.{Insert}
-use Rattle.order_laws.proofs.Lists.{append_nil_left, append_nil_right}
+use Rattle.facts.proofs.Lists.{append_nil_left, append_nil_right}
 use Rattle.order_laws.proofs.MeetLemmas.{none_meets}
-use Rattle.order_laws.proofs.Members.{Contains-cons_cases, Contains-none, Contains-rest}
+use Rattle.facts.proofs.Members.{Contains-cons_cases, Contains-none, Contains-rest}
 use Rattle.order_laws.proofs.PlaceLemmas.{without_none}
 use Rattle.order_laws.proofs.SetLemmas.{in_with_item}
 use Rattle.order_laws.specs.Orders.{Order, half_open}

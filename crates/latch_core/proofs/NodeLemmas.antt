@@ -10,9 +10,9 @@ use Rattle.std.proofs.lemmas.Option.{slice_get_within, slice_get-get_or}
 use Rattle.std.proofs.lemmas.Map.Keys.{IsDistinct-IsPermutation, IsDistinct-push, IsDistinct-head}
 use Rattle.std.proofs.lemmas.List.Elements.{All-nil, All-push, All-weaker, All-head, Contains-append_left}
 use Rattle.std.proofs.lemmas.List.Sorted.{IsPermutation-insert, IsPermutation-remove, IsPermutation-append_comm, IsPermutation-append_right, All-permutation, length_permutation}
-use Rattle.order_laws.proofs.Each.{all_at}
-use Rattle.order_laws.proofs.Lists.{pushed_before}
-use Rattle.order_laws.proofs.Tests.{list_any-above}
+use Rattle.facts.proofs.Each.{all_at}
+use Rattle.facts.proofs.Lists.{pushed_before}
+use Rattle.facts.proofs.Tests.{list_any-above}
 use Rattle.latch_core.specs.FreeNodes.{AreAllNodes}
 
 pub no_nodes : AreAllNodes 0 []

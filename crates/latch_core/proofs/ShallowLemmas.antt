@@ -3,7 +3,7 @@ use Rattle.std.proofs.Common.{◌≡◌, ◌≢◌, ℕ, ◌+◌, ◌*◌, List,
 use Rattle.std.specs.List.{AllByRecursion}
 use Rattle.std.proofs.lemmas.List.{get_or-replicate}
 use Rattle.order_laws.specs.declared.items.Item.{Item}
-use Rattle.order_laws.proofs.Each.{all_append}
+use Rattle.facts.proofs.Each.{all_append}
 use Rattle.word_arena.proofs.HeldLemmas.{leads_once}
 use Rattle.word_arena.proofs.LinkLemmas.{links_elsewhere, links_not_zero, not_in_use, zero_kept}
 use Rattle.word_arena.specs.declared.stores.Store.{Store}

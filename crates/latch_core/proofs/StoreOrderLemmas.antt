@@ -4,7 +4,7 @@ use Rattle.std.specs.Prelude.{◌⊎◌, ◌==◌}
 use Rattle.std.specs.List.{AllByRecursion}
 use Rattle.std.proofs.lemmas.Bool.{ne_eqb}
 use Rattle.order_laws.specs.declared.items.Item.{Item}
-use Rattle.order_laws.proofs.Each.{all_weaker}
+use Rattle.facts.proofs.Each.{all_weaker}
 use Rattle.word_arena.proofs.LinkLemmas.{links_elsewhere, links_not_zero, zero_kept}
 use Rattle.word_arena.specs.declared.stores.Store.{Store}
 use Rattle.word_arena.specs.Words.{at, words_for, root_word, left_word, right_word, Nodes, Holds, Reaches, by_root, by_left, by_right, InUse, IsUnreached}

@@ -12,7 +12,7 @@ use Rattle.latch_core.specs.declared.updates.Update.{Update}
 use Rattle.latch_core.specs.declared.updates.Update.TheVariants.{Insert, Erase, Batch}
 use Rattle.latch_core.specs.Updates.{Test, first_that_holds, tests_of, refusal_for, some_invalid, some_missing, some_twice, some_overlap, some_meet}
 use Rattle.std.proofs.Common.{◌≤◌}
-use Rattle.order_laws.proofs.Numbers.{eqb-false_wider, ltb-false_wider}
+use Rattle.facts.proofs.Numbers.{eqb-false_wider, ltb-false_wider}
 
 -- a list of which no test holds, and one whose first test holds
 pub none_holds : (tests : List Test) → first_that_holds tests ≡ None → AllByRecursion (λ (t : Test). t.0 ≡ false) tests

@@ -4,7 +4,7 @@ use Rattle.std.specs.Prelude.{◌-◌, ◌*◌, ◌||◌, nat_lt, replicate}
 use Rattle.std.proofs.lemmas.Bool.{ltb-false, or_parts}
 use Rattle.order_laws.specs.Orders.{Order}
 use Rattle.order_laws.specs.declared.refusals.Refusal.TheVariants.{BadCapacity, UpdateInHand}
-use Rattle.order_laws.proofs.Lists.{nil-from_length}
+use Rattle.facts.proofs.Lists.{nil-from_length}
 use Rattle.word_arena.specs.declared.layouts.Layout.{Layout}
 use Rattle.word_arena.specs.Layouts.{capacity_of, limit_of}
 use Rattle.word_arena.specs.Words.{words_per_node, at, Holds, HoldsTable}

@@ -3,7 +3,7 @@ use Rattle.std.proofs.Common.{◌≡◌, ℕ, suc, ◌+◌, ◌*◌, ◌%◌, �
 use Rattle.std.specs.Prelude.{◌==◌, MatchOption, is_some, nat_lt, slice_get, Contains, slice_set}
 use Rattle.std.proofs.lemmas.Bool.{lt-ltb, cases_eq, eq-eqb, ne_eqb}
 use Rattle.order_laws.specs.Orders.{Order}
-use Rattle.order_laws.proofs.Lists.{first_and_rest}
+use Rattle.facts.proofs.Lists.{first_and_rest}
 use Rattle.std.proofs.lemmas.List.{get_or-replicate, length-replicate}
 use Rattle.word_arena.specs.declared.layouts.Layout.{Layout}
 use Rattle.word_arena.specs.Layouts.{capacity_of}

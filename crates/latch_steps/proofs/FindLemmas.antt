@@ -7,8 +7,8 @@ use Rattle.std.proofs.lemmas.Bool.{cases_eq}
 use Rattle.order_laws.specs.declared.items.Item.{Item}
 use Rattle.order_laws.specs.Orders.{Order, IsLawful}
 use Rattle.order_laws.specs.Tables.{look}
-use Rattle.order_laws.proofs.Each.{all_push}
-use Rattle.order_laws.proofs.Maps.{get-insert_other, get-insert_same, get-remove_other, get-remove_same}
+use Rattle.facts.proofs.Each.{all_push}
+use Rattle.facts.proofs.Maps.{get-insert_other, get-insert_same, get-remove_other, get-remove_same}
 use Rattle.word_arena.specs.Layouts.{capacity_of, limit_of}
 use Rattle.word_arena.specs.Words.{at, words_for}
 use Rattle.word_arena.proofs.StoreLemmas.{length_after}

@@ -4,7 +4,7 @@ use Rattle.std.specs.List.{AllByRecursion}
 use Rattle.std.specs.FinMap.{get}
 use Rattle.std.proofs.lemmas.Bool.{cases_eq}
 use Rattle.order_laws.specs.Orders.{Order}
-use Rattle.order_laws.proofs.Maps.{get-insert_other, get-remove_other, get-remove_same}
+use Rattle.facts.proofs.Maps.{get-insert_other, get-remove_other, get-remove_same}
 use Rattle.latch_core.specs.Latches.{PendingUpdate}
 use Rattle.latch_steps.specs.declared.events.Event.TheVariants.{Write, Start, Read}
 use Rattle.latch_steps.specs.declared.replies.Reply.{Reply}

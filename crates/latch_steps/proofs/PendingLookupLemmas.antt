@@ -7,7 +7,7 @@ use Rattle.std.specs.FinMap.{FinMap, get, insert, remove}
 use Rattle.std.proofs.lemmas.Bool.{cases_eq}
 use Rattle.std.proofs.lemmas.Bool.Decides.{nat_tests}
 use Rattle.order_laws.specs.Orders.{Order}
-use Rattle.order_laws.proofs.Maps.{get-insert_other, get-insert_same, get-remove_other, get-remove_same}
+use Rattle.facts.proofs.Maps.{get-insert_other, get-insert_same, get-remove_other, get-remove_same}
 use Rattle.latch_steps.specs.declared.lookups.Lookup.{Lookup}
 use Rattle.latch_steps.specs.Runs.{PendingLookup}
 use Rattle.latch_steps.specs.Lookups.{IsPendingLookup, IsLookupOf, lookup_at}

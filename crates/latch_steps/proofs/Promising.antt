@@ -1,6 +1,6 @@
 -- What a recorder did from the opening on, and what is promised of its trace.
 use Rattle.std.proofs.Common.{◌≡◌, ℕ, ◌+◌, ◌^◌, ◌<◌, Bool, true, List, [], ◌++◌, length, take, get_or, refl, subst}
-use Rattle.order_laws.proofs.Lists.{take_push}
+use Rattle.facts.proofs.Lists.{take_push}
 use Rattle.order_laws.specs.Orders.{Order, IsLawful}
 use Rattle.word_arena.specs.declared.layouts.Layout.{Layout}
 use Rattle.word_arena.specs.Layouts.{capacity_of, limit_of}

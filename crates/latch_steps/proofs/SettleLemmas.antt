@@ -12,7 +12,7 @@ use Rattle.latch_steps.specs.declared.events.Event.TheVariants.{Begin, Write, St
 use Rattle.latch_steps.specs.declared.replies.Reply.{Reply}
 use Rattle.latch_steps.specs.declared.replies.Reply.TheVariants.{Wrote, Refused}
 use Rattle.order_laws.specs.declared.refusals.Refusal.TheVariants.{OutOfMemory}
-use Rattle.order_laws.proofs.Each.{all_push}
+use Rattle.facts.proofs.Each.{all_push}
 use Rattle.latch_steps.specs.declared.worlds.World.{World}
 use Rattle.latch_steps.specs.Runs.{Moment, Done, step_done, last_of, accepted, history}
 use Rattle.latch_steps.specs.Steps.{machine, machine_of, Run}

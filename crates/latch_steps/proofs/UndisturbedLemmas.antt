@@ -14,7 +14,7 @@ use Rattle.latch_steps.specs.declared.replies.Reply.{Reply}
 use Rattle.latch_steps.specs.declared.replies.Reply.TheVariants.{Started, Loaded, Returned as ReturnedReply, Refused}
 use Rattle.order_laws.specs.Orders.{Order, IsLawful}
 use Rattle.order_laws.specs.Tables.{IsTable}
-use Rattle.order_laws.proofs.Maps.{get-insert_other, get-insert_same, get-remove_other}
+use Rattle.facts.proofs.Maps.{get-insert_other, get-insert_same, get-remove_other}
 use Rattle.latch_core.specs.Histories.{replay, current_table}
 use Rattle.word_arena.specs.Words.{at, Nodes, Holds}
 use Rattle.latch_core.specs.Sequences.{generation_of, stable_copy_of}

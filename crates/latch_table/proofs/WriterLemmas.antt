@@ -10,7 +10,7 @@ use Rattle.atomic_table.specs.Seated.{TableId}
 use Rattle.order_laws.specs.Orders.{Order, IsLawful}
 use Rattle.order_laws.specs.Tables.{look}
 use Rattle.order_laws.specs.declared.items.Item.{Item}
-use Rattle.order_laws.proofs.Lists.{first_and_rest, IsPrefix-whole}
+use Rattle.facts.proofs.Lists.{first_and_rest, IsPrefix-whole}
 use Rattle.word_arena.specs.declared.stores.Store.{Store}
 use Rattle.word_arena.specs.Words.{at, words_for, HoldsTable}
 use Rattle.word_arena.specs.Stores.{words_after}

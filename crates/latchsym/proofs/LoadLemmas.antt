@@ -6,7 +6,7 @@ use Rattle.order_laws.specs.declared.items.Item.{Item}
 use Rattle.order_laws.specs.Orders.{Order, half_open, half_open_lawful}
 use Rattle.order_laws.specs.Tables.{IsTable, look}
 use Rattle.order_laws.proofs.TableLemmas.{look_is, look_only, same_look}
-use Rattle.order_laws.proofs.Members.{Contains-none}
+use Rattle.facts.proofs.Members.{Contains-none}
 use Rattle.latch_core.proofs.HistoryLemmas.{from_replay, length_replay, to_replay}
 use Rattle.latch_core.specs.declared.updates.Update.{Update}
 use Rattle.latch_core.specs.Histories.{replay}

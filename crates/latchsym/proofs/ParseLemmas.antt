@@ -3,7 +3,7 @@ use Rattle.std.proofs.Common.{◌≡◌, ◌∙◌, ◌||◌, ap, sym, List, [],
 use Rattle.std.specs.Borrow.{Bor}
 use Rattle.std.specs.Prelude.{Box, IfOk, option_map}
 use Rattle.std.specs.Box.{box_value}
-use Rattle.order_laws.proofs.Options.{Some-from_parts}
+use Rattle.facts.proofs.Options.{Some-from_parts}
 use Rattle.clap.specs.declared.parser.matches.ArgMatches.TheViews.{out-ArgMatches, out-SubCommand}
 use Rattle.clap.specs.declared.parser.matches.SubCommand.{SubCommand}
 use Rattle.clap.specs.Built.{AddsSubcommand}

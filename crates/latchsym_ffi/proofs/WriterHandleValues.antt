@@ -28,7 +28,7 @@ use Rattle.latchsym_ffi.specs.Owning.{owns_if}
 use Rattle.std_heap.specs.contracts.Global as Heap
 use Rattle.std_heap.specs.contracts.GlobalAllocator.TheImpl.{ghosts, dict}
 use Rattle.std_heap.proofs.Global.TheLaws as heap
-use Rattle.order_laws.proofs.Bools.{T-and_true}
+use Rattle.facts.proofs.Bools.{T-and_true}
 use Rattle.latchsym_ffi.specs.contracts.loose.Loose as Loose
 use Rattle.latchsym_ffi.specs.contracts.table_contents.TableWriter as Content
 use Rattle.latchsym_ffi.specs.contracts.writer_handles.WriterHandle as Handle

@@ -2,7 +2,7 @@
 use Rattle.std.proofs.Common.{◌≡◌, ◌≢◌, ℕ, ◌<◌, ◌≤◌, List, [], ◌∷◌, length, map, None, Option, refl, ap, arith, Bor, slice_index_or}
 use Rattle.std.specs.Str.{bytes_eq}
 use Rattle.std.specs.Prelude.{codes}
-use Rattle.order_laws.proofs.Options.{cond-None}
+use Rattle.facts.proofs.Options.{cond-None}
 use Rattle.listing.specs.Header.{header_of_words, header_with}
 use Rattle.listing.specs.Numbers.{count_of, number_of, short_number_of}
 use Rattle.listing.specs.Commands.{command_of, erase_of, erase_with, insert_of, insert_with, read_of, read_with, start_of, start_with, write_of, write_with}

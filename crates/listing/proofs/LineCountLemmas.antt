@@ -5,7 +5,7 @@ use Rattle.std.specs.Option.{option_to_list}
 use Rattle.std.specs.Result.{result_ok}
 use Rattle.std.proofs.lemmas.List.Elements.{filter_map-append}
 use Rattle.std.proofs.lemmas.List.Sums.{sum_by-append, sum_by-cons}
-use Rattle.order_laws.proofs.Lists.{length-onto_first}
+use Rattle.facts.proofs.Lists.{length-onto_first}
 use Rattle.listing.specs.Lines.{lines_of}
 use Rattle.listing.specs.Skipping.{one_more_if, skipped_by, taken_by}
 

@@ -7,8 +7,8 @@ use Rattle.std.specs.Str.Parse.{digits_value}
 use Rattle.std.proofs.lemmas.Bool.{and_parts}
 use Rattle.std.proofs.lemmas.List.{get_or-take, length-take}
 use Rattle.std.proofs.lemmas.List.Sums.{AllPass-from_list_all}
-use Rattle.order_laws.proofs.Digits.{digit_not_blank}
-use Rattle.order_laws.proofs.Options.{cond-Some_true}
+use Rattle.facts.proofs.Digits.{digit_not_blank}
+use Rattle.facts.proofs.Options.{cond-Some_true}
 use Rattle.memchr.specs.Find.{Nowhere, Passes, is_byte}
 use Rattle.listing.specs.Numbers.{numeral}
 use Rattle.listing.specs.SymbolListing.{address_in, cut_at}

@@ -9,8 +9,8 @@ use Rattle.std.specs.BTreeMap.{get_by}
 use Rattle.std.specs.Ordering.{nat_cmp}
 use Rattle.std.proofs.lemmas.List.{map-append, length-map}
 use Rattle.std.proofs.lemmas.List.Folds.{list_all-append, list_all_more}
-use Rattle.order_laws.proofs.Bools.{and_rotate}
-use Rattle.order_laws.proofs.Tests.{is_some-position_from, list_all-each_agree, position_from-new}
+use Rattle.facts.proofs.Bools.{and_rotate}
+use Rattle.facts.proofs.Tests.{is_some-position_from, list_all-each_agree, position_from-new}
 use Rattle.modules.specs.Accepted.{Accepted, after_module, names_of, taken_regions}
 use Rattle.modules.specs.Placed.{PlacedModule}
 use Rattle.modules.specs.Regions.{are_beside, is_apart, lie_apart}

@@ -6,11 +6,11 @@ use Rattle.std.proofs.lemmas.Bool.{cases_lt}
 use Rattle.std.proofs.lemmas.Bool.Decides.{nat_tests}
 use Rattle.std.proofs.lemmas.List.{get_or_default, length-map}
 use Rattle.std.proofs.lemmas.List.Elements.{All-contains}
-use Rattle.order_laws.proofs.Members.{Contains-map}
+use Rattle.facts.proofs.Members.{Contains-map}
 use Rattle.order_laws.specs.declared.items.Item.{Item}
 use Rattle.order_laws.specs.Orders.{half_open}
 use Rattle.order_laws.specs.Tables.{IsLook}
-use Rattle.order_laws.proofs.Lists.{get_or-map_default}
+use Rattle.facts.proofs.Lists.{get_or-map_default}
 use Rattle.order_laws.proofs.HalfOpenLemmas.{begins, ends, equal_inside}
 use Rattle.modules.specs.Catalogs.{IsSoundCatalog}
 use Rattle.modules.specs.Entries.{CatalogEntries}

@@ -9,9 +9,9 @@ use Rattle.std.proofs.lemmas.List.{length-map, get_or-map}
 use Rattle.std.proofs.lemmas.List.Sums.{length-filter, sum_by-cons}
 use Rattle.std.proofs.lemmas.List.Folds.{list_any_none}
 use Rattle.std.specs.Cmp.{first_so}
-use Rattle.order_laws.proofs.Bools.{count-and_false, count-or, count-or_apart}
-use Rattle.order_laws.proofs.Tests.{count_by-either}
-use Rattle.order_laws.proofs.Options.{bytes_eq-one_name}
+use Rattle.facts.proofs.Bools.{count-and_false, count-or, count-or_apart}
+use Rattle.facts.proofs.Tests.{count_by-either}
+use Rattle.facts.proofs.Options.{bytes_eq-one_name}
 use Rattle.modules.specs.Accepted.{Accepted, accepted_of, after_module, names_of, none_yet}
 use Rattle.modules.specs.Catalogs.{built_in_of, catalog_of, counts_of, entries_of, entry_for}
 use Rattle.modules.specs.Entries.{ModuleEntry}

@@ -9,7 +9,7 @@ use Rattle.std.proofs.lemmas.List.Folds.{list_any_at, list_any_none}
 use Rattle.std.proofs.lemmas.List.Sums.{sum_by-cons}
 use Rattle.std.proofs.lemmas.Option.{slice_get-get_or}
 use Rattle.std.proofs.Math.Bool.{or-false}
-use Rattle.order_laws.proofs.Bools.{count_either}
+use Rattle.facts.proofs.Bools.{count_either}
 use Rattle.modules.specs.Accepted.{Accepted, names_of}
 use Rattle.modules.specs.Entries.{SymbolEntry}
 use Rattle.modules.specs.Gathering.{lies_for}

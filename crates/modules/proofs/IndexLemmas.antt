@@ -12,8 +12,8 @@ use Rattle.std.specs.List.Sorted.{IsNonDecreasingBy, IsPartitionPoint}
 use Rattle.std.proofs.lemmas.Bool.{cases_lt, false_from_ne_true, and_parts, le-leb, le-ltb, leb-false, leb-true, lt-leb, lt-ltb, ltb-true}
 use Rattle.std.proofs.lemmas.List.Folds.{list_any_at}
 use Rattle.std.proofs.lemmas.List.Sums.{AllPass-from_list_all, list_all-from_AllPass}
-use Rattle.order_laws.proofs.Numbers.{le_or_past, le_unless_past, least_above, least_above_past, pairs_chain, pairs_not_before, pairs_one_way}
-use Rattle.order_laws.proofs.Tests.{find-first, find-none, find-number}
+use Rattle.facts.proofs.Numbers.{le_or_past, le_unless_past, least_above, least_above_past, pairs_chain, pairs_not_before, pairs_one_way}
+use Rattle.facts.proofs.Tests.{find-first, find-none, find-number}
 use Rattle.modules.specs.Around.{is_nearest, symbol_below, is_next, address_above}
 use Rattle.modules.specs.Entries.{SymbolEntry}
 use Rattle.modules.specs.Index.{comes_before, index_entries_of, IsIndex, IsSplit, IsSplitBy}

@@ -5,7 +5,7 @@ use Rattle.std.specs.List.{range_with_len}
 use Rattle.std.specs.Option.{option_map_or, option_to_list}
 use Rattle.std.proofs.lemmas.List.{map-append}
 use Rattle.std.proofs.lemmas.Grind.{flat_map-append}
-use Rattle.order_laws.proofs.Ranges.{range-append_from_zero}
+use Rattle.facts.proofs.Ranges.{range-append_from_zero}
 use Rattle.order_laws.specs.declared.items.Item.{Item}
 use Rattle.modules.specs.Catalogs.{module_of, regions_of}
 use Rattle.modules.specs.Entries.{CatalogEntries, ModuleEntry}

@@ -11,8 +11,8 @@ use Rattle.std.proofs.lemmas.Iterator.Adapters.{position_from-zero}
 use Rattle.std.proofs.lemmas.List.{get_or-map, length-map}
 use Rattle.std.proofs.lemmas.List.Folds.{list_any_at}
 use Rattle.std.proofs.lemmas.List.Quantifiers.{position-Some}
-use Rattle.order_laws.proofs.Bools.{and-second}
-use Rattle.order_laws.proofs.Tests.{is_some-position_from}
+use Rattle.facts.proofs.Bools.{and-second}
+use Rattle.facts.proofs.Tests.{is_some-position_from}
 use Rattle.modules.specs.Accepted.{Accepted, names_of}
 use Rattle.modules.specs.Admissions.{admission_view, IsAdmission}
 use Rattle.modules.specs.Gathering.{BelongsOnlyAt}

@@ -11,8 +11,8 @@ use Rattle.latch_core.specs.declared.updates.Update.TheVariants.{Insert, Erase, 
 use Rattle.order_laws.specs.declared.items.Item.{Item}
 use Rattle.order_laws.specs.declared.refusals.Refusal.{Refusal}
 use Rattle.order_laws.specs.declared.refusals.Refusal.TheVariants.{OutOfMemory, UnknownModule}
-use Rattle.order_laws.proofs.Bools.{and_by_second, or_by_first, or_by_second}
-use Rattle.order_laws.proofs.Numbers.{eqb-one_false, eqb-one_more}
+use Rattle.facts.proofs.Bools.{and_by_second, or_by_first, or_by_second}
+use Rattle.facts.proofs.Numbers.{eqb-one_false, eqb-one_more}
 use Rattle.modules.specs.Entries.{ModuleEntry}
 use Rattle.modules.specs.Loads.{GivesOrLacksMemory, GivesSome, TakesMemory, drop_init_update, is_erasing, is_inserting, item_of, load_update, has_no_items, same_items, unload_update, update_of}
 use Rattle.modules.specs.Parts.{is_init, is_of}

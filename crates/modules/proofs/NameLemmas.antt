@@ -14,8 +14,8 @@ use Rattle.std.proofs.lemmas.List.FromFn.{length-range_with_len, get_or-range_wi
 use Rattle.std.proofs.lemmas.List.Quantifiers.{position-Some}
 use Rattle.std.proofs.lemmas.List.Sorted.{All-permutation, IsPermutation-sym}
 use Rattle.std.proofs.lemmas.Map.Lookups.{exact_bytes}
-use Rattle.order_laws.proofs.Orderings.{slice_cmp-same}
-use Rattle.order_laws.proofs.Tests.{is_some-position_from}
+use Rattle.facts.proofs.Orderings.{slice_cmp-same}
+use Rattle.facts.proofs.Tests.{is_some-position_from}
 use Rattle.modules.specs.Kept.{AreDistinctNames}
 use Rattle.modules.specs.Names.{IsNameIndex}
 

@@ -6,9 +6,9 @@ use Rattle.std.proofs.lemmas.List.{map-append, length-map}
 use Rattle.std.proofs.lemmas.List.Elements.{Contains-append_left, Contains-append_right}
 use Rattle.std.proofs.lemmas.Grind.{flat_map-append}
 use Rattle.std.proofs.lemmas.Bool.{or_from}
-use Rattle.order_laws.proofs.Ranges.{range-append_from_zero}
-use Rattle.order_laws.proofs.Pairs.{AllPairs-across, AllPairs-left, AllPairs-right}
-use Rattle.order_laws.proofs.Members.{Contains-map}
+use Rattle.facts.proofs.Ranges.{range-append_from_zero}
+use Rattle.facts.proofs.Pairs.{AllPairs-across, AllPairs-left, AllPairs-right}
+use Rattle.facts.proofs.Members.{Contains-map}
 use Rattle.order_laws.specs.declared.items.Item.{Item}
 use Rattle.order_laws.specs.Orders.{half_open, half_open_lawful}
 use Rattle.order_laws.specs.Tables.{meets}

@@ -9,7 +9,7 @@ use Rattle.std.proofs.lemmas.Bool.Decides.{nat_tests}
 use Rattle.std.proofs.lemmas.List.{length-map}
 use Rattle.std.proofs.lemmas.List.Elements.{All-nil, All-cons, All-map, All-filter}
 use Rattle.std.proofs.lemmas.List.Sums.{AllPass-from_list_all}
-use Rattle.order_laws.proofs.Tests.{some_passes}
+use Rattle.facts.proofs.Tests.{some_passes}
 use Rattle.modules.specs.Lines.{region_line_region, fits, is_region, region_fits, module_line_region}
 use Rattle.modules.specs.Listed.{ListedModule, ListedRegion}
 use Rattle.modules.specs.Parts.{is_core}

@@ -7,8 +7,8 @@ use Rattle.std.proofs.lemmas.Bool.{cases_lt, false_from_ne_true, and_parts, le-l
 use Rattle.std.proofs.lemmas.List.{get_or_default}
 use Rattle.std.proofs.lemmas.List.Sums.{AllPass-from_list_all, list_all-from_AllPass}
 use Rattle.std.proofs.lemmas.Option.{slice_get_cases}
-use Rattle.order_laws.proofs.Numbers.{le_or_past, le_unless_past, least_above}
-use Rattle.order_laws.proofs.Tests.{find-first, find-none}
+use Rattle.facts.proofs.Numbers.{le_or_past, le_unless_past, least_above}
+use Rattle.facts.proofs.Tests.{find-first, find-none}
 use Rattle.modules.specs.Around.{is_nearest, symbol_below, is_next, address_above}
 use Rattle.modules.specs.Entries.{SymbolEntry}
 use Rattle.modules.specs.Index.{IsRising, IsSplitOf, IsFirstOf, IsFirstAt}

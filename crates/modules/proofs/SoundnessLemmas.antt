@@ -14,7 +14,7 @@ use Rattle.std.proofs.lemmas.List.Folds.{list_all-append, list_any_at}
 use Rattle.std.proofs.lemmas.List.Quantifiers.{all_pairs_push}
 use Rattle.std.proofs.lemmas.List.Sums.{AllPass-from_list_all}
 use Rattle.std.proofs.lemmas.Bool.{and_from, and_parts}
-use Rattle.order_laws.proofs.Pairs.{AllPairs-few}
+use Rattle.facts.proofs.Pairs.{AllPairs-few}
 use Rattle.modules.specs.Accepted.{Accepted, accepted_of, after_module, names_of, none_yet, taken_regions}
 use Rattle.modules.specs.Building.{built_in_with, kernel_at, placed_module_of}
 use Rattle.modules.specs.Catalogs.{IsSoundCatalog, built_in_of, catalog_of, entry_for}

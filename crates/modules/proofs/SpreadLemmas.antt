@@ -12,7 +12,7 @@ use Rattle.std.proofs.lemmas.List.Sums.{AllPass-from_list_all, list_all-from_All
 use Rattle.std.proofs.lemmas.List.Folds.{list_all_at}
 use Rattle.std.proofs.lemmas.Map.Lookups.{exact_unsigned}
 use Rattle.std.proofs.lemmas.Map.Views.{All-found, btree_map_get_iff}
-use Rattle.order_laws.proofs.Maps.{inserted_cases}
+use Rattle.facts.proofs.Maps.{inserted_cases}
 use Rattle.modules.specs.Regions.{is_apart}
 use Rattle.modules.specs.Spread.{IsSpread}
 

@@ -5,8 +5,8 @@ use Rattle.std.specs.Option.{option_and_then, option_map}
 use Rattle.std.proofs.lemmas.Iterator.Adapters.{position_from-zero}
 use Rattle.std.proofs.lemmas.List.Quantifiers.{position-Some}
 use Rattle.std.proofs.lemmas.Option.{slice_get-get_or}
-use Rattle.order_laws.proofs.Options.{Some_ne_None}
-use Rattle.order_laws.proofs.Tests.{is_some-position_from}
+use Rattle.facts.proofs.Options.{Some_ne_None}
+use Rattle.facts.proofs.Tests.{is_some-position_from}
 use Rattle.modules.specs.Building.{placed_module_of}
 use Rattle.modules.specs.Entries.{ModuleEntry}
 use Rattle.modules.specs.Parts.{is_core}

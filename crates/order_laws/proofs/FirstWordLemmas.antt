@@ -8,8 +8,8 @@ use Rattle.std.proofs.lemmas.Bool.{ne_eqb}
 use Rattle.order_laws.specs.declared.items.Item.{Item}
 use Rattle.order_laws.specs.Orders.{Order, Precedes, IsLawful}
 use Rattle.order_laws.specs.Tables.{IsTable, has}
-use Rattle.order_laws.proofs.Each.{all_at, all_right}
-use Rattle.order_laws.proofs.Members.{Contains-cons_cases}
+use Rattle.facts.proofs.Each.{all_at, all_right}
+use Rattle.facts.proofs.Members.{Contains-cons_cases}
 
 -- no item has a first word
 abbrev pub Lacks : ℕ → List Item → Type 0

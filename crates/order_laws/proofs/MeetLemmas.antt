@@ -12,7 +12,7 @@ use Rattle.std.specs.Prelude.{◌==◌, ◌&&◌}
 use Rattle.std.specs.List.{list_any}
 use Rattle.std.proofs.Math.Bool.{or-true}
 use Rattle.order_laws.specs.Tables.{without_all}
-use Rattle.order_laws.proofs.Bools.{or_assoc, or_swap}
+use Rattle.facts.proofs.Bools.{or_assoc, or_swap}
 
 -- an item that meets none is apart from each
 pub not_meeting : {K : Type 0} (o : Order K) (i : Item) (xs : List Item) → meets o i xs ≡ false

@@ -6,7 +6,7 @@ use Rattle.std.proofs.lemmas.Bool.{eqb-true, ne_eqb}
 use Rattle.order_laws.specs.declared.items.Item.{Item}
 use Rattle.order_laws.specs.Orders.{Order, Precedes, IsLawful}
 use Rattle.order_laws.specs.Tables.{IsTable, with_item, without, without_all, place_for, place_of, has}
-use Rattle.order_laws.proofs.Numbers.{eqb-flip}
+use Rattle.facts.proofs.Numbers.{eqb-flip}
 
 -- a table with one item more has it at its place
 pub with_place : {K : Type 0} (o : Order K) (i : Item) (xs : List Item) → with_item o i xs ≡ insert xs (place_for o i xs) i

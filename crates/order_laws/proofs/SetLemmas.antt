@@ -5,8 +5,8 @@ use Rattle.std.proofs.lemmas.Bool.{eq-eqb, eqb-true}
 use Rattle.order_laws.specs.declared.items.Item.{Item}
 use Rattle.order_laws.specs.Orders.{Order, Precedes, IsLawful}
 use Rattle.order_laws.specs.Tables.{IsTable, with_item, without}
-use Rattle.order_laws.proofs.Each.{all_at}
-use Rattle.order_laws.proofs.Members.{Contains-cons_cases, Contains-head, Contains-none, Contains-one, Contains-rest}
+use Rattle.facts.proofs.Each.{all_at}
+use Rattle.facts.proofs.Members.{Contains-cons_cases, Contains-head, Contains-none, Contains-one, Contains-rest}
 
 -- the items of a table with one item more
 module _ {K : Type 0} (o : Order K) (i x : Item) where

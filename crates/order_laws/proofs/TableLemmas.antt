@@ -7,9 +7,9 @@ use Rattle.std.specs.declared.cmp.Ordering.TheVariants.{Less, Equal, Greater}
 use Rattle.order_laws.specs.declared.items.Item.{Item}
 use Rattle.order_laws.specs.Orders.{Order, Precedes, IsLawful}
 use Rattle.order_laws.specs.Tables.{IsTable, look, IsLook, with_item, without}
-use Rattle.order_laws.proofs.Each.{all_at, all_filtered, all_left, all_right, all_weaker}
-use Rattle.order_laws.proofs.Members.{Contains-cons_cases, Contains-rest}
-use Rattle.order_laws.proofs.Orderings.{cases_ordering, greater_not_equal, is_equal, less_not_equal, not_equal}
+use Rattle.facts.proofs.Each.{all_at, all_filtered, all_left, all_right, all_weaker}
+use Rattle.facts.proofs.Members.{Contains-cons_cases, Contains-rest}
+use Rattle.facts.proofs.Orderings.{cases_ordering, greater_not_equal, is_equal, less_not_equal, not_equal}
 
 -- where a table is split at an item
 pub record Parted {K : Type 0} (o : Order K) (xs : List Item) (x : Item) (ys : List Item) : Type 0 where

@@ -3,9 +3,9 @@ use Rattle.std.proofs.Common.{◌++◌, ◌+◌, ◌∙◌, ◌∷◌, ◌≡◌
 use Rattle.std.specs.Prelude.{◌==◌, ◌||◌, Bool, filter, not}
 use Rattle.std.specs.List.{AllByRecursion, list_any}
 use Rattle.std.proofs.lemmas.Bool.{cases_eq, eq-eqb, eqb-true, ne_eqb, or_parts}
-use Rattle.order_laws.proofs.Each.{all_filtered}
+use Rattle.facts.proofs.Each.{all_filtered}
 use Rattle.order_laws.proofs.TableLemmas.{length_without}
-use Rattle.order_laws.proofs.Tests.{length-filter_le}
+use Rattle.facts.proofs.Tests.{length-filter_le}
 use Rattle.order_laws.specs.Orders.{Order, Precedes}
 use Rattle.order_laws.specs.Tables.{IsTable, has, without, without_all}
 use Rattle.order_laws.specs.declared.items.Item.{Item}

@@ -1,7 +1,7 @@
 -- The way up of an erase, as the calls of a cursor show it.
 use Rattle.std.proofs.Common.{◌≡◌, ℕ, suc, ◌+◌, ◌≤◌, ◌<◌, Bool, false, List, [], ◌++◌}
 use Rattle.std.proofs.Common.{sym, ◌∙◌, ap, subst, arith, length, length-append, append-nil}
-use Rattle.order_laws.proofs.Lists.{regrouped}
+use Rattle.facts.proofs.Lists.{regrouped}
 use Rattle.word_arena.specs.declared.stores.Store.{Store}
 use Rattle.rb_trees.specs.Trees.{shape}
 use Rattle.rb_trees.specs.Turns.{link}

@@ -3,7 +3,7 @@ use Rattle.std.proofs.Common.{◌≡◌, ℕ, suc, ◌+◌, ◌≤◌, Bool, tru
 use Rattle.std.proofs.Common.{sym, ◌∙◌, ap, subst, arith, length, length-append, append-nil}
 use Rattle.word_arena.specs.declared.stores.Store.{Store}
 use Rattle.order_laws.specs.declared.items.Item.{Item}
-use Rattle.order_laws.proofs.Lists.{regrouped}
+use Rattle.facts.proofs.Lists.{regrouped}
 use Rattle.rb_trees.specs.declared.Record.{Record}
 use Rattle.rb_trees.specs.declared.Clash.TheVariants.{Nowhere}
 use Rattle.rb_trees.specs.Trees.{ColouredTree, tip, branch, is_red, shape, HasNoClash, depth}

@@ -19,7 +19,7 @@ use Rattle.rb_cursor.specs.Sides.{child_at, side_by}
 use Rattle.order_laws.specs.declared.items.Item.{Item}
 use Rattle.rb_trees.specs.Found.{meets_on_the_way}
 use Rattle.order_laws.specs.Orders.{Order}
-use Rattle.order_laws.proofs.Orderings.{Greater-from_tests, Less-from_is_lt}
+use Rattle.facts.proofs.Orderings.{Greater-from_tests, Less-from_is_lt}
 use Rattle.rb_cursor.proofs.ChangeLemmas.{rewrites}
 use Rattle.rb_cursor.proofs.HeldLemmas.{same_value, written_back, IsInside, show, with_step, depth_is, opened, none_there}
 

@@ -3,8 +3,8 @@
 -- changes nothing.
 use Rattle.std.proofs.Common.{◌≡◌, ℕ, suc, true, false, cond, Bool, List, [], ◌∷◌, ◌++◌, refl, sym, ◌∙◌, ap, eq-eqb}
 use Rattle.order_laws.specs.declared.items.Item.{Item}
-use Rattle.order_laws.proofs.Bools.{false_by_contrary}
-use Rattle.order_laws.proofs.Lists.{regrouped}
+use Rattle.facts.proofs.Bools.{false_by_contrary}
+use Rattle.facts.proofs.Lists.{regrouped}
 use Rattle.rb_trees.specs.declared.Record.{Record}
 use Rattle.rb_trees.specs.declared.Side.{Side}
 use Rattle.rb_trees.specs.declared.Side.TheVariants.{Left, Right}

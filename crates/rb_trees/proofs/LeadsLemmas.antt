@@ -5,8 +5,8 @@ use Rattle.std.specs.List.{AllByRecursion}
 use Rattle.std.proofs.lemmas.Bool.{eqb-true}
 use Rattle.std.proofs.lemmas.List.{map-append}
 use Rattle.std.proofs.lemmas.List.Elements.{Contains-append_left, Contains-append_right}
-use Rattle.order_laws.proofs.Each.{all_append, all_left, all_right}
-use Rattle.order_laws.proofs.Members.{Contains-rest}
+use Rattle.facts.proofs.Each.{all_append, all_left, all_right}
+use Rattle.facts.proofs.Members.{Contains-rest}
 use Rattle.word_arena.specs.declared.stores.Store.{Store}
 use Rattle.word_arena.specs.Words.{Nodes, none, fork, at, root_word, left_word, right_word, item_at, items, listed, words_for, Leads}
 use Rattle.word_arena.specs.Stores.{words_after_all, IsLinkWord, AreLinkStores}

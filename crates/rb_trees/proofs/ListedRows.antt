@@ -4,7 +4,7 @@ use Rattle.std.specs.Prelude.{◌==◌, ◌||◌, ◌↔◌, Contains}
 use Rattle.std.proofs.lemmas.Bool.{eq-eqb, eqb-true, or_cases, or_left, or_right}
 use Rattle.std.proofs.lemmas.List.{length-map}
 use Rattle.std.proofs.lemmas.List.Elements.{Contains-append_cases, Contains-append_left, Contains-append_right}
-use Rattle.order_laws.proofs.Members.{Contains-cons_cases, Contains-rest}
+use Rattle.facts.proofs.Members.{Contains-cons_cases, Contains-rest}
 use Rattle.rb_trees.proofs.LeadsLemmas.{listed_rows}
 use Rattle.rb_trees.specs.Found.{has_node, items_of_records}
 use Rattle.rb_trees.specs.Trees.{ColouredTree, branch, rows, shape, tip}

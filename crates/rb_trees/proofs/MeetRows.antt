@@ -6,7 +6,7 @@ use Rattle.std.proofs.Math.Bool.{or-false}
 use Rattle.order_laws.specs.declared.items.Item.{Item}
 use Rattle.order_laws.specs.Orders.{Order, Precedes, IsLawful, IsInLine}
 use Rattle.order_laws.specs.Tables.{IsTable, meets, without_all}
-use Rattle.order_laws.proofs.Each.{all_weaker}
+use Rattle.facts.proofs.Each.{all_weaker}
 use Rattle.order_laws.proofs.MeetLemmas.{meets_split, meets_none, apart_head, any_head, meeting_head}
 use Rattle.rb_trees.specs.Trees.{ColouredTree, tip, branch, rows}
 use Rattle.rb_trees.specs.Found.{items_of_records, meets_on_the_way, meets_anywhere}

@@ -4,7 +4,7 @@ use Rattle.std.specs.Prelude.{max}
 use Rattle.std.specs.declared.cmp.Ordering.{Ordering}
 use Rattle.std.specs.declared.cmp.Ordering.TheVariants.{Less, Equal, Greater}
 use Rattle.order_laws.specs.declared.items.Item.{Item}
-use Rattle.order_laws.proofs.Numbers.{suc-max_left, suc-max_right}
+use Rattle.facts.proofs.Numbers.{suc-max_left, suc-max_right}
 use Rattle.rb_trees.specs.declared.Record.{Record}
 use Rattle.rb_trees.specs.Trees.{ColouredTree, tip, branch, shape, depth}
 use Rattle.rb_trees.specs.Paths.{Above, plugged, past_left, past_right, place_from, way_from, way_by, way_at, place_at, first_way, first_place}

@@ -7,7 +7,7 @@ use Rattle.order_laws.specs.declared.items.Item.{Item}
 use Rattle.order_laws.specs.Orders.{Order, Precedes, IsLawful}
 use Rattle.order_laws.specs.Tables.{IsTable, place_for}
 use Rattle.order_laws.proofs.TableLemmas.{Parted, parted}
-use Rattle.order_laws.proofs.Each.{all_weaker}
+use Rattle.facts.proofs.Each.{all_weaker}
 use Rattle.rb_trees.specs.declared.Record.{Record}
 use Rattle.rb_trees.specs.Trees.{ColouredTree, tip, branch, blackened, rows}
 use Rattle.rb_trees.specs.Turns.{turned_right, turned_left}

@@ -15,8 +15,8 @@ use Rattle.order_laws.specs.declared.items.Item.{Item}
 use Rattle.order_laws.specs.Orders.{Order, Precedes, IsLawful, IsInLine}
 use Rattle.order_laws.specs.Tables.{IsTable, place_of, has}
 use Rattle.order_laws.proofs.TableLemmas.{parted}
-use Rattle.order_laws.proofs.Each.{all_at, all_weaker}
-use Rattle.order_laws.proofs.Members.{Contains-cons_cases, Contains-rest}
+use Rattle.facts.proofs.Each.{all_at, all_weaker}
+use Rattle.facts.proofs.Members.{Contains-cons_cases, Contains-rest}
 use Rattle.order_laws.proofs.WithoutLemmas.{has_either}
 use Rattle.order_laws.proofs.FirstWordLemmas.{Lacks, has_front, has_back, across, all_before, differs, differs_before}
 use Rattle.rb_trees.specs.declared.Record.{Record}

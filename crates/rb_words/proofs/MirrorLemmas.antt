@@ -8,7 +8,7 @@ use Rattle.std.specs.List.{AllByRecursion}
 use Rattle.std.proofs.lemmas.Bool.{ne_eqb, cases_eq}
 use Rattle.order_laws.specs.declared.items.Item.{Item}
 use Rattle.order_laws.specs.Orders.{Order}
-use Rattle.order_laws.proofs.Numbers.{below_suc}
+use Rattle.facts.proofs.Numbers.{below_suc}
 use Rattle.word_arena.specs.declared.stores.Store.{Store}
 use Rattle.word_arena.specs.Words.{Nodes, none, fork, words_for, at, item_at, items, Leads, Holds}
 use Rattle.word_arena.specs.Words.{root_word, left_word, right_word, a_word, b_word, tag_word}

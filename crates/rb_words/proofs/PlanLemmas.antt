@@ -18,9 +18,9 @@ use Rattle.order_laws.specs.Tables.{IsTable, with_item, without, place_for, plac
 use Rattle.order_laws.proofs.TableLemmas.{with_item_table, without_table}
 use Rattle.order_laws.proofs.PlaceLemmas.{with_place, without_place, place_of_has}
 use Rattle.order_laws.proofs.PlaceLemmas.{place_of_fits, without_none}
-use Rattle.order_laws.proofs.Each.{all_differ, all_get, all_insert, all_left, all_remove, all_right}
-use Rattle.order_laws.proofs.Lists.{is_some-slice_get, length-insert, length-remove_at, map-insert, map-remove}
-use Rattle.order_laws.proofs.Members.{Contains-insert, Contains-insert_cases, Contains-remove}
+use Rattle.facts.proofs.Each.{all_differ, all_get, all_insert, all_left, all_remove, all_right}
+use Rattle.facts.proofs.Lists.{is_some-slice_get, length-insert, length-remove_at, map-insert, map-remove}
+use Rattle.facts.proofs.Members.{Contains-insert, Contains-insert_cases, Contains-remove}
 use Rattle.order_laws.proofs.MeetLemmas.{not_meeting}
 use Rattle.rb_trees.proofs.ListedRows.{as_many_rows}
 use Rattle.word_arena.proofs.LinkLemmas.{item_kept}

@@ -1,7 +1,7 @@
 -- A picture stays one in a memory of more nodes.
 use Rattle.std.proofs.Common.{ℕ, ◌<◌, ◌≤◌, List, arith}
 use Rattle.order_laws.specs.Orders.{Order}
-use Rattle.order_laws.proofs.Each.{all_weaker}
+use Rattle.facts.proofs.Each.{all_weaker}
 use Rattle.word_arena.specs.Words.{listed}
 use Rattle.word_arena.specs.Wider.{wider_words}
 use Rattle.word_arena.proofs.WiderLemmas.{length_wider, holds_wider}

@@ -6,8 +6,8 @@ use Rattle.std.proofs.lemmas.List.{take_more, length-take-le}
 use Rattle.std.proofs.lemmas.Option.{get_or_from_slice_get}
 use Rattle.atomic_table.specs.Seated.{TableId}
 use Rattle.latch_table.specs.Readers.{ReaderState}
-use Rattle.order_laws.proofs.Lists.{slice_get-between, slice_get-push_cases, slice_get_some}
-use Rattle.order_laws.proofs.Pairs.{both_pushed}
+use Rattle.facts.proofs.Lists.{slice_get-between, slice_get-push_cases, slice_get_some}
+use Rattle.facts.proofs.Pairs.{both_pushed}
 use Rattle.shared_lookup.specs.declared.served.Answer.{Answer}
 use Rattle.shared_lookup.specs.declared.threads.Found.{Found}
 use Rattle.shared_lookup.specs.declared.threads.ReaderThread.{ReaderThread}

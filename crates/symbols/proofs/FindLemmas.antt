@@ -5,10 +5,10 @@ use Rattle.std.specs.List.{list_all}
 use Rattle.std.specs.Option.{option_map}
 use Rattle.std.proofs.lemmas.Bool.{false≢true, and_parts, leb-true, ltb-true}
 use Rattle.std.proofs.lemmas.List.Sums.{AllPass-from_list_all}
-use Rattle.order_laws.proofs.Members.{Contains-slice_get}
-use Rattle.order_laws.proofs.Numbers.{le_or_past_cases, least_above_cases}
-use Rattle.order_laws.proofs.Tests.{find-passes}
-use Rattle.order_laws.proofs.Tests.{find_place}
+use Rattle.facts.proofs.Members.{Contains-slice_get}
+use Rattle.facts.proofs.Numbers.{le_or_past_cases, least_above_cases}
+use Rattle.facts.proofs.Tests.{find-passes}
+use Rattle.facts.proofs.Tests.{find_place}
 use Rattle.modules.proofs.AroundLemmas.{all_above, none_over}
 use Rattle.modules.specs.Around.{is_nearest, is_next, symbol_below}
 use Rattle.modules.specs.Entries.{SymbolEntry}

@@ -4,9 +4,9 @@ use Rattle.std.specs.Prelude.{find, unwrap_or}
 use Rattle.std.specs.List.{list_all}
 use Rattle.std.specs.Option.{option_map}
 use Rattle.std.proofs.lemmas.Bool.{le-leb, leb-true, lt-leb, lt-ltb, ltb-false, ltb-true}
-use Rattle.order_laws.proofs.Numbers.{le_or_past_within, least_above_within}
-use Rattle.order_laws.proofs.Tests.{find-agree, find-both_none, find-both_some, find-filter, list_all-agree, list_all-filter}
-use Rattle.order_laws.proofs.Bools.{and-needless_first, and-needless_second}
+use Rattle.facts.proofs.Numbers.{le_or_past_within, least_above_within}
+use Rattle.facts.proofs.Tests.{find-agree, find-both_none, find-both_some, find-filter, list_all-agree, list_all-filter}
+use Rattle.facts.proofs.Bools.{and-needless_first, and-needless_second}
 use Rattle.modules.proofs.AroundLemmas.{one_nearest, one_next}
 use Rattle.modules.specs.Around.{address_above, is_nearest, is_next, symbol_below}
 use Rattle.modules.specs.Entries.{SymbolEntry}

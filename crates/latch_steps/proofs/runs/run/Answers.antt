@@ -1,6 +1,6 @@
 use Rattle.std.proofs.Common.{true, ◌∙◌, ◌++◌, ◌∷◌, [], refl, ap, arith}
 use Rattle.std.proofs.lemmas.List.{take_all}
-use Rattle.order_laws.proofs.Lists.{take_push}
+use Rattle.facts.proofs.Lists.{take_push}
 use Rattle.word_arena.specs.Layouts.{capacity_of}
 use Rattle.latch_steps.specs.Runs.{step_done, last_of, opening}
 use Rattle.latch_steps.proofs.Promising.{safe_trace, quiet_trace, near_trace}

@@ -2,8 +2,8 @@ use Rattle.std.proofs.Common.{arith, inr, ◌∙◌, ◌+◌, length, subst}
 use Rattle.std.specs.Io.KnownBytes.{Appends}
 use Rattle.std.specs.List.{range_with_len, zip}
 use Rattle.std.proofs.lemmas.List.FromFn.{length-range_with_len}
-use Rattle.order_laws.proofs.Numbers.{below_min, past_min}
-use Rattle.order_laws.proofs.Pairs.{numbered-zip, written-zip_more, written-zip_whole, zip-past, zip-within}
+use Rattle.facts.proofs.Numbers.{below_min, past_min}
+use Rattle.facts.proofs.Pairs.{numbered-zip, written-zip_more, written-zip_whole, zip-past, zip-within}
 use Rattle.devices.specs.Counted.{device_of}
 use Rattle.latchsym.specs.RunTexts.{numbered_text, writer_text}
 use Rattle.latchsym.proofs.run_texts.put_refusals.Goals as goal

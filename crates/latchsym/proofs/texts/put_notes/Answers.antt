@@ -1,7 +1,7 @@
 use Rattle.std.proofs.Common.{rules, ◌≡◌, ◌∙◌, ◌+◌, ◌++◌, arith, flat_map, take}
 use Rattle.std.proofs.KnownBytes.{Appends-trans}
 use Rattle.std.proofs.lemmas.Grind.{common_steps}
-use Rattle.order_laws.proofs.Lists.{gathered}
+use Rattle.facts.proofs.Lists.{gathered}
 use Rattle.latchsym.specs.Texts.{note_text}
 use Rattle.latchsym.proofs.texts.put_notes.Goals as goal
 

@@ -1,5 +1,5 @@
 use Rattle.std.specs.Vec.Iter.{into_iter_items}
-use Rattle.order_laws.proofs.Tests.{All-map_same}
+use Rattle.facts.proofs.Tests.{All-map_same}
 use Rattle.latchsym_ffi.proofs.opening_tables.boxed.Goals as goal
 
 pub returns-clause-each : goal.returns-clause-each

@@ -1,6 +1,6 @@
 use Rattle.std.proofs.Common.{◌≡◌, List, [], ◌∷◌, ◌++◌, length, Ok, Err, refl, sym, ap, subst, ◌∙◌, arith, length-append}
 use Rattle.std.specs.Prelude.{All, true}
-use Rattle.order_laws.proofs.Lists.{moved_over}
+use Rattle.facts.proofs.Lists.{moved_over}
 use Rattle.modules.specs.Lines.{fits}
 use Rattle.modules.specs.Listed.{ListedModule}
 use Rattle.listing.specs.Lines.{lines_of}

@@ -1,6 +1,6 @@
 use Rattle.std.proofs.Common.{rules, ◌≤◌, ◌+◌, ◌*◌, ◌^◌, ap, sym, ◌∙◌, Some, arith, get_or}
 use Rattle.std.specs.Char.{digit_value, is_digit}
-use Rattle.order_laws.proofs.Digits.{digits_value_after-end, list_all-end}
+use Rattle.facts.proofs.Digits.{digits_value_after-end, list_all-end}
 use Rattle.listing.proofs.NumberLemmas.{overflows, is_value}
 use Rattle.listing.proofs.numbers.decimal.Goals as goal
 

@@ -2,7 +2,7 @@ use Rattle.std.proofs.Common.{◌+◌, ◌∙◌, arith, drop}
 use Rattle.std.specs.Char.{is_digit}
 use Rattle.std.specs.List.{list_all}
 use Rattle.std.proofs.lemmas.Grind.{common_steps}
-use Rattle.order_laws.proofs.Digits.{digit_room, more_bits, room_for_digit}
+use Rattle.facts.proofs.Digits.{digit_room, more_bits, room_for_digit}
 use Rattle.listing.proofs.numbers.eight_digits.Goals as goal
 
 pub overflow_mul-value : goal.overflow_mul-value

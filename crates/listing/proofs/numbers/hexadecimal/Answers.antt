@@ -1,7 +1,7 @@
 use Rattle.std.proofs.Common.{Some, ap, sym, ◌∙◌, arith, rules}
 use Rattle.std.specs.Char.{is_digit}
 use Rattle.std.proofs.lemmas.Grind.{common_steps}
-use Rattle.order_laws.proofs.Digits.{digit_fits, digits_value_after-end, list_all-end, next_digit}
+use Rattle.facts.proofs.Digits.{digit_fits, digits_value_after-end, list_all-end, next_digit}
 use Rattle.listing.proofs.NumberLemmas.{is_value}
 use Rattle.listing.proofs.numbers.hexadecimal.Goals as goal
 

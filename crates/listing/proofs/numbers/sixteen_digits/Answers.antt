@@ -3,7 +3,7 @@ use Rattle.std.proofs.lemmas.Bool.{lt-ltb}
 use Rattle.std.specs.Char.{is_digit}
 use Rattle.std.specs.List.{list_all}
 use Rattle.std.specs.Str.Parse.{digits_value}
-use Rattle.order_laws.proofs.Digits.{half_fits}
+use Rattle.facts.proofs.Digits.{half_fits}
 use Rattle.listing.specs.Numbers.{numeral}
 use Rattle.listing.proofs.NumberLemmas.{is_sixteen}
 use Rattle.listing.proofs.numbers.sixteen_digits.Goals as goal

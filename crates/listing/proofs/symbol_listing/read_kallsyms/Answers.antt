@@ -1,5 +1,5 @@
 use Rattle.std.proofs.Common.{◌≡◌, List, [], ◌∷◌, ◌++◌, length, Ok, Err, refl, sym, ap, ◌∙◌, arith, length-append}
-use Rattle.order_laws.proofs.Lists.{moved_over}
+use Rattle.facts.proofs.Lists.{moved_over}
 use Rattle.modules.specs.Listed.{ListedSymbol}
 use Rattle.listing.specs.Lines.{lines_of}
 use Rattle.listing.specs.SymbolListing.{symbol_of, symbol_counts, symbols_skipped, symbol_counts_after}

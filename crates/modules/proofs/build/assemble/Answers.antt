@@ -2,7 +2,7 @@ use Rattle.std.proofs.Common.{◌≡◌, ℕ, ◌+◌, ◌-◌, ◌<◌, List, O
 use Rattle.std.specs.Prelude.{IfSome, count_by, is_some}
 use Rattle.std.specs.Int.{from_bool}
 use Rattle.std.specs.List.{flat_map}
-use Rattle.order_laws.proofs.Tests.{count_by-either}
+use Rattle.facts.proofs.Tests.{count_by-either}
 use Rattle.modules.specs.Accepted.{Accepted, accepted_of, none_yet}
 use Rattle.modules.specs.Admissions.{admission_view}
 use Rattle.modules.specs.Building.{AreModules}

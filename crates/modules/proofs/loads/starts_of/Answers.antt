@@ -1,5 +1,5 @@
 use Rattle.std.proofs.Common.{◌≡◌, ℕ, ◌+◌, ◌≤◌, cond, List, [], ◌∷◌, ◌++◌, length, get_or, take, sym, ap, ◌∙◌, arith}
-use Rattle.order_laws.proofs.Lists.{length-picked}
+use Rattle.facts.proofs.Lists.{length-picked}
 use Rattle.modules.specs.Starts.{starts_of}
 use Rattle.modules.specs.declared.lines.Part.TheVariants.{Core}
 use Rattle.modules.proofs.LoadLemmas.{starts_more}

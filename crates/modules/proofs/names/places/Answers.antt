@@ -1,6 +1,6 @@
 use Rattle.std.proofs.Common.{[], ◌∷◌, ◌++◌, ap, sym, ◌∙◌, zero-add}
 use Rattle.std.specs.List.{range_with_len}
-use Rattle.order_laws.proofs.Ranges.{range-push}
+use Rattle.facts.proofs.Ranges.{range-push}
 use Rattle.modules.proofs.names.places.Goals as goal
 
 pub loop-place-preserved : goal.loop-place-preserved

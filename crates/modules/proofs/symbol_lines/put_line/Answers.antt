@@ -1,6 +1,6 @@
 use Rattle.std.proofs.Common.{◌∷◌, [], ◌++◌, List, ◌∙◌, ap, sym, append_assoc}
 use Rattle.std.specs.Option.{option_copied}
-use Rattle.order_laws.proofs.Options.{option_copied-same}
+use Rattle.facts.proofs.Options.{option_copied-same}
 use Rattle.modules.specs.Listed.{ListedSymbol}
 use Rattle.modules.specs.Runs.{lines_of_run, lines_of_all, unlettered}
 use Rattle.modules.proofs.RunLemmas.{lines_of-more, lines_of_all-last}

@@ -1,7 +1,7 @@
 use Rattle.std.proofs.Common.{◌≡◌, rules, ap, ◌∙◌}
 use Rattle.std.specs.Ordering.{is_lt, nat_cmp, ordering_then}
 use Rattle.std.proofs.lemmas.List.Sorted.{answers_always}
-use Rattle.order_laws.proofs.Numbers.{is_lt-then}
+use Rattle.facts.proofs.Numbers.{is_lt-then}
 use Rattle.modules.specs.Index.{comes_before}
 use Rattle.modules.proofs.IndexLemmas.{comes_before_weak}
 use Rattle.modules.proofs.symbols.by_address.Goals as goal

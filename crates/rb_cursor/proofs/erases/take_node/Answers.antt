@@ -1,7 +1,7 @@
 -- The next record in the place, and the stores of its links: the facts of NextSteps at the values
 -- of the calls.
 use Rattle.std.proofs.Common.{◌≡◌, ℕ, ◌+◌, true, [], ◌∷◌, ◌++◌, sym, ◌∙◌, ap, subst, arith, length, length-append}
-use Rattle.order_laws.proofs.Lists.{pushed_between}
+use Rattle.facts.proofs.Lists.{pushed_between}
 use Rattle.word_arena.specs.Copies.{copy_number}
 use Rattle.word_arena.specs.declared.stores.Store.{Store}
 use Rattle.rb_trees.specs.Trees.{shape}

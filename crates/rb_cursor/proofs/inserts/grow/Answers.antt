@@ -1,6 +1,6 @@
 -- The two links of the leaf, and then the way up.
 use Rattle.std.proofs.Common.{ℕ, [], ◌∷◌, ◌++◌, ◌∙◌, ap, arith, length}
-use Rattle.order_laws.proofs.Lists.{pushed_twice}
+use Rattle.facts.proofs.Lists.{pushed_twice}
 use Rattle.word_arena.specs.Copies.{copy_number}
 use Rattle.word_arena.specs.declared.stores.Store.{Store}
 use Rattle.rb_trees.specs.Turns.{set_left, set_right}

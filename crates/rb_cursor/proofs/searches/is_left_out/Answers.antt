@@ -1,5 +1,5 @@
 use Rattle.std.proofs.Common.{◌∙◌}
-use Rattle.order_laws.proofs.Tests.{list_any-binary_search}
+use Rattle.facts.proofs.Tests.{list_any-binary_search}
 use Rattle.rb_cursor.proofs.searches.is_left_out.Goals as goal
 
 pub returns-then-rising : goal.returns-then-rising

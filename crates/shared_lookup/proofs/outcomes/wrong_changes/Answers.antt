@@ -1,7 +1,7 @@
 use Rattle.std.proofs.Common.{◌∙◌, ap, length, take, sym, subst, arith}
 use Rattle.std.specs.Prelude.{zip}
-use Rattle.order_laws.proofs.Pairs.{zip-append}
-use Rattle.order_laws.proofs.Lists.{length-map_same, length-map_same_at}
+use Rattle.facts.proofs.Pairs.{zip-append}
+use Rattle.facts.proofs.Lists.{length-map_same, length-map_same_at}
 use Rattle.shared_lookup.specs.Counts.{CountsUpTo}
 use Rattle.shared_lookup.specs.Servings.{IsWrongChange, entries}
 use Rattle.shared_lookup.proofs.CountLemmas.{entries_more, entries_same, up_to_append}

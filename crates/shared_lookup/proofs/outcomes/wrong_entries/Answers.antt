@@ -1,7 +1,7 @@
 use Rattle.std.proofs.Common.{◌≡◌, ◌∙◌, ◌+◌, ◌<◌, ap, length, get_or, min, sym, subst, arith}
 use Rattle.std.specs.Prelude.{count_by}
 use Rattle.std.specs.List.{range_with_len}
-use Rattle.order_laws.proofs.Ranges.{range-push_from_zero}
+use Rattle.facts.proofs.Ranges.{range-push_from_zero}
 use Rattle.shared_lookup.specs.Counts.{CountsUpTo}
 use Rattle.shared_lookup.specs.Servings.{IsWrongEntry, entries, has_generation}
 use Rattle.shared_lookup.proofs.CountLemmas.{up_to_yes, up_to_no}

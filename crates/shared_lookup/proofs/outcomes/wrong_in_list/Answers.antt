@@ -2,7 +2,7 @@ use Rattle.std.proofs.Common.{◌≤◌, length, take, sym, subst, arith, ◌∙
 use Rattle.std.specs.Prelude.{zip}
 use Rattle.std.proofs.lemmas.Slice.Zip.{length-zip}
 use Rattle.std.proofs.lemmas.List.{take_all}
-use Rattle.order_laws.proofs.Pairs.{take-zip_more}
+use Rattle.facts.proofs.Pairs.{take-zip_more}
 use Rattle.shared_lookup.specs.Counts.{CountsUpTo}
 use Rattle.shared_lookup.specs.Servings.{IsWrongChange}
 use Rattle.shared_lookup.proofs.CountLemmas.{up_to_yes, up_to_no}

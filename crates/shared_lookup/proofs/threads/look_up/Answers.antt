@@ -1,7 +1,7 @@
 use Rattle.std.proofs.Common.{◌≡◌, ◌∙◌, ◌++◌, ◌∷◌, [], ℕ, List, length, Some, refl, ap, sym, subst, ⊎_elim, arith, length-append, get_or}
 use Rattle.std.specs.Prelude.{slice_get}
 use Rattle.std.proofs.lemmas.Option.{get_or_from_slice_get}
-use Rattle.order_laws.proofs.Lists.{slice_get-push_cases}
+use Rattle.facts.proofs.Lists.{slice_get-push_cases}
 use Rattle.latch_core.specs.declared.updates.Update.{Update}
 use Rattle.shared_lookup.specs.declared.served.Answer.{Answer}
 use Rattle.shared_lookup.specs.Servings.{AreFoundIn, IsAnswerTo}

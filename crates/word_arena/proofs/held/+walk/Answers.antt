@@ -1,7 +1,7 @@
 use Rattle.std.proofs.Common.{◌≡◌, ◌+◌, ◌-◌, ◌<◌, [], ◌∷◌, ◌++◌, length, suc, ◌∙◌, ap, subst, length-append, arith}
 use Rattle.std.specs.Prelude.{IfSome, IfNone}
 use Rattle.order_laws.specs.declared.items.Item.{Item}
-use Rattle.order_laws.proofs.Options.{IfNone-weaker, IfSome-weaker}
+use Rattle.facts.proofs.Options.{IfNone-weaker, IfSome-weaker}
 use Rattle.word_arena.specs.Layouts.{capacity_of}
 use Rattle.word_arena.specs.Copies.{copy_number}
 use Rattle.word_arena.specs.Words.{at, item_at, Nodes, fork, listed, items, Leads}

@@ -1,6 +1,6 @@
 use Rattle.std.proofs.Common.{◌+◌, ◌∙◌, sym, ap, length, arith}
 use Rattle.std.specs.Prelude.{nat_lt}
-use Rattle.order_laws.proofs.Lists.{ltb-length_nil}
+use Rattle.facts.proofs.Lists.{ltb-length_nil}
 use Rattle.latch_core.specs.WriterViews.{WriterView}
 use Rattle.latch_core.specs.Writers.{has_pending}
 use Rattle.latch_core.proofs.TestLemmas.{why_tested, why_spent, why_none}

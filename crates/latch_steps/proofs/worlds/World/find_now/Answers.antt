@@ -1,5 +1,5 @@
 use Rattle.std.proofs.Common.{◌∙◌, refl, sym, arith}
-use Rattle.order_laws.proofs.Options.{None-from_is_none}
+use Rattle.facts.proofs.Options.{None-from_is_none}
 use Rattle.latch_steps.proofs.FindLemmas.{look_found, look_right, look_near, look_never, after_found}
 use Rattle.latch_steps.proofs.worlds.World.find_now.Goals as goal
 

@@ -1,5 +1,5 @@
 use Rattle.std.proofs.Common.{Some, ◌∙◌, sym}
-use Rattle.order_laws.proofs.Options.{None-from_is_none}
+use Rattle.facts.proofs.Options.{None-from_is_none}
 use Rattle.latch_steps.proofs.WorldLemmas.{busy, starts}
 use Rattle.latch_steps.proofs.PendingLookupLemmas.{lookup_set}
 use Rattle.latch_steps.proofs.worlds.World.start.Goals as goal

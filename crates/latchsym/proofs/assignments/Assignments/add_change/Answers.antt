@@ -1,5 +1,5 @@
 use Rattle.std.proofs.Common.{◌∷◌, ◌++◌, [], IfOk, subst}
-use Rattle.order_laws.proofs.Options.{IfOk-Ok}
+use Rattle.facts.proofs.Options.{IfOk-Ok}
 use Rattle.latchsym.specs.Assignments.{AreListed}
 use Rattle.listing.specs.Scripts.{most_writers}
 use Rattle.latchsym.proofs.assignments.Assignments.add_change.Goals as goal

@@ -1,6 +1,6 @@
 use Rattle.std.proofs.Common.{◌≡◌, true}
 use Rattle.std.specs.List.{list_all}
-use Rattle.order_laws.proofs.Maps.{list_all-insert_entry}
+use Rattle.facts.proofs.Maps.{list_all-insert_entry}
 use Rattle.modules.specs.Regions.{is_apart}
 use Rattle.modules.proofs.SpreadLemmas.{IsSpread-inserted, absent_from_apart}
 use Rattle.modules.proofs.regions.Regions.insert.Goals as goal

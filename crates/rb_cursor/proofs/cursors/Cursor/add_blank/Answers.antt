@@ -1,6 +1,6 @@
 use Rattle.std.proofs.Common.{ℕ, ◌+◌, refl, sym, ap, ◌∙◌, arith, subst, Some}
 use Rattle.rb_cursor.proofs.BlankLemmas.{grows, blank_node, blanked}
-use Rattle.order_laws.proofs.Options.{OnErr-from}
+use Rattle.facts.proofs.Options.{OnErr-from}
 use Rattle.slab.specs.Slab.{Slab, slab_len, Updates}
 use Rattle.rb_cursor.specs.declared.nodes.Node.{Node}
 use Rattle.rb_cursor.proofs.HeldLemmas.{Moved}

@@ -5,7 +5,7 @@ use Rattle.rb_cursor.specs.Keyed.{record_of}
 use Rattle.rb_cursor.proofs.HeldLemmas.{show, written_back}
 use Rattle.rb_cursor.proofs.SeekLemmas.{Went, step_fits, seen_way, seen_goes, seen_ends, seen_misses}
 use Rattle.rb_cursor.proofs.cursors.Cursor.seek.Given.{Over}
-use Rattle.order_laws.proofs.Orderings.{Equal-from_is_eq}
+use Rattle.facts.proofs.Orderings.{Equal-from_is_eq}
 use Rattle.rb_cursor.proofs.cursors.Cursor.seek.Goals as goal
 
 pub set_step-requires : goal.set_step-requires

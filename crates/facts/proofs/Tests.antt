@@ -15,12 +15,12 @@ use Rattle.std.proofs.lemmas.List.Elements.{All-cons, All-head, All-nil, All-tai
 use Rattle.std.proofs.lemmas.List.Folds.{list_any_at, list_any_none}
 use Rattle.std.proofs.lemmas.List.Sorted.{searched}
 use Rattle.std.proofs.lemmas.List.Sums.{sum_by-cons}
-use Rattle.order_laws.proofs.Bools.{and-false_if, count_either}
-use Rattle.order_laws.proofs.Options.{cond-is_some}
+use Rattle.facts.proofs.Bools.{and-false_if, count_either}
+use Rattle.facts.proofs.Options.{cond-is_some}
 use Rattle.std.specs.Prelude.{Contains, slice_get}
 use Rattle.std.proofs.lemmas.Option.{get_or_from_slice_get, slice_get-get_or, slice_get_within}
-use Rattle.order_laws.proofs.Bools.{left_of_or}
-use Rattle.order_laws.proofs.Members.{Contains-head, Contains-rest}
+use Rattle.facts.proofs.Bools.{left_of_or}
+use Rattle.facts.proofs.Members.{Contains-head, Contains-rest}
 
 -- ---- whether any passes, or all
 
