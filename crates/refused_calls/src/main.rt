@@ -19,11 +19,11 @@ mod updates;
 mod worlds;
 mod writers;
 
-use workloads::numbers;
 use order_laws::Refusal;
 use std::alloc::Global;
 use std::io;
 use word_arena::Layout;
+use workloads::numbers;
 
 /// What ends the program before its last call: memory was refused for what a call is given, or a
 /// line was not written.
