@@ -12,7 +12,7 @@ tar -C "$top" --exclude=out --exclude=must-fail -cf - HANDLES crates | tar -C "$
 mkdir -p "$work/crates/linear/src"
 {
     cat "$top/crates.txt"
-    echo 'linear: latch_table latch_core word_arena order_laws'
+    echo 'linear: latch_table latch_core word_layout order_laws'
 } >"$work/crates.txt"
 failed=0
 

@@ -11,7 +11,7 @@ use latch_steps::{Command, Trace, drive};
 use order_laws::{HalfOpen, Item, Refusal};
 use std::alloc::{AllocError, Global};
 use std::io::Print;
-use word_arena::Layout;
+use word_layout::Layout;
 
 /// How far the first addresses of two ranges lie apart.
 const STEP: u64 = 32;

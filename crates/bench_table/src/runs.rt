@@ -1,7 +1,7 @@
 //! Measures of lookups and updates.
 
 ghost use Rattle.std.specs.Prelude.{◌<◌, ◌≤◌, length};
-ghost use Rattle.word_arena.specs.Limits.{most_nodes};
+ghost use Rattle.word_layout.specs.Limits.{most_nodes};
 
 use crate::faults::Fault;
 use crate::jobs::Writing;

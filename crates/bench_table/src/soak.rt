@@ -10,7 +10,7 @@ use std::sync::atomic::{AtomicBool, Ordering};
 use std::thread::{Threads, join, map_vec};
 use std::time::{Clock, Duration, Instant};
 use table_replay::{Observer, Schedule, Tally};
-use word_arena::Layout;
+use word_layout::Layout;
 use workloads::{Random, addresses, ranges, shuffle};
 
 /// How many ranges the schedule inserts.

@@ -5,15 +5,15 @@
 //! stores were made and a checksum of the words.
 
 ghost use Rattle.std.specs.Prelude.{◌≡◌, ◌<◌, ◌≤◌, IfOk, length};
-ghost use Rattle.word_arena.specs.Limits.{most_nodes};
-ghost use Rattle.word_arena.specs.Words.{words_for};
+ghost use Rattle.word_layout.specs.Limits.{most_nodes};
+ghost use Rattle.word_layout.specs.Words.{words_for};
 
 use crate::faults::Fault;
 use latch_core::{Update, WriterCore};
 use order_laws::{HalfOpen, Item, Refusal};
 use std::alloc::Global;
 use std::io::Print;
-use word_arena::{Layout, apply};
+use word_layout::{Layout, apply};
 use workloads::{Random, ranges, shuffle};
 
 /// What the random numbers of the ranges and of the updates begin with.

@@ -1,7 +1,7 @@
 //! The table that is measured, and its updates.
 
 ghost use Rattle.std.specs.Prelude.{◌≡◌, ◌<◌, ◌≤◌, IfOk, length};
-ghost use Rattle.word_arena.specs.Limits.{most_nodes};
+ghost use Rattle.word_layout.specs.Limits.{most_nodes};
 
 use crate::faults::Fault;
 use crate::memory::resident;
@@ -11,7 +11,7 @@ use order_laws::{HalfOpen, Item, Refusal};
 use std::alloc::Global;
 use std::num::nearest_u64_to_f64;
 use std::rt::Files;
-use word_arena::{Layout, MOST_NODES};
+use word_layout::{Layout, MOST_NODES};
 use workloads::{Random, ranges, shuffle};
 
 /// What the random numbers of the ranges begin with.

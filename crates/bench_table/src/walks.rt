@@ -5,16 +5,16 @@
 //! were found; or else the words and the addresses themselves, for the same walk in C.
 
 ghost use Rattle.std.specs.Prelude.{◌≡◌, ◌<◌, ◌≤◌, IfOk, length};
-ghost use Rattle.word_arena.specs.Layouts.{capacity_of};
-ghost use Rattle.word_arena.specs.Limits.{most_nodes};
-ghost use Rattle.word_arena.specs.Words.{words_for};
+ghost use Rattle.word_layout.specs.Layouts.{capacity_of};
+ghost use Rattle.word_layout.specs.Limits.{most_nodes};
+ghost use Rattle.word_layout.specs.Words.{words_for};
 
 use crate::faults::Fault;
 use latch_core::{Attempted, Update, WriterCore, attempt_in};
 use order_laws::{HalfOpen, Item, Refusal};
 use std::alloc::{AllocError, Global};
 use std::io::Print;
-use word_arena::{Layout, apply};
+use word_layout::{Layout, apply};
 use workloads::{Random, addresses, ranges, shuffle};
 
 /// What the random numbers of the ranges and of the addresses begin with.

@@ -5,7 +5,7 @@ use Rattle.std.proofs.lemmas.Bool.{eqb-true}
 use Rattle.std.specs.declared.cmp.Ordering.TheVariants.{Less, Equal, Greater}
 use Rattle.order_laws.specs.declared.items.Item.{Item}
 use Rattle.order_laws.specs.Orders.{Order}
-use Rattle.word_arena.specs.Words.{at, root_word}
+use Rattle.word_layout.specs.Words.{at, root_word}
 use Rattle.latch_core.specs.Sequences.{generation_of, stable_copy_of}
 use Rattle.latch_core.specs.Attempts.{Answer, Again, Reading, Load, Ends, WalkEnd, AtItem, AtEmptyLink, Stuck, last_load, after_item, visit, walk, attempt, rest_after, Stand}
 use Rattle.latch_core.specs.Invariants.{IsStanding}

@@ -8,12 +8,12 @@ use Rattle.std.proofs.Math.Nat.{mul-le-mul_right}
 use Rattle.order_laws.specs.declared.items.Item.{Item}
 use Rattle.order_laws.specs.Orders.{Order}
 use Rattle.order_laws.specs.Tables.{without_all}
-use Rattle.word_arena.specs.declared.stores.Store.{Store}
-use Rattle.word_arena.specs.Words.{words_for, Nodes, listed}
-use Rattle.word_arena.specs.Stores.{AreLinkStores}
+use Rattle.word_layout.specs.declared.stores.Store.{Store}
+use Rattle.word_layout.specs.Words.{words_for, Nodes, listed}
+use Rattle.word_layout.specs.Stores.{AreLinkStores}
 use Rattle.rb_words.specs.Pictures.{Picture}
 use Rattle.facts.proofs.Lists.{nil-from_length}
-use Rattle.word_arena.proofs.LinkLemmas.{links_in_range}
+use Rattle.word_layout.proofs.LinkLemmas.{links_in_range}
 use Rattle.latch_core.specs.declared.updates.Update.{Update}
 use Rattle.latch_core.specs.declared.updates.Update.TheVariants.{Batch}
 use Rattle.latch_core.specs.Updates.{after, size_of, some_invalid, some_missing, some_twice, some_overlap, some_meet}

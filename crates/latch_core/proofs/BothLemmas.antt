@@ -9,13 +9,13 @@ use Rattle.order_laws.specs.declared.items.Item.{Item}
 use Rattle.order_laws.specs.Orders.{Order}
 use Rattle.order_laws.specs.Tables.{place_for, place_of}
 use Rattle.facts.proofs.Each.{all_append, all_weaker}
-use Rattle.word_arena.proofs.LinkLemmas.{same_item}
-use Rattle.word_arena.specs.declared.stores.Store.{Store}
-use Rattle.word_arena.specs.Words.{at, words_for, a_word, b_word, tag_word, Holds, IsUnreached, listed}
-use Rattle.word_arena.specs.Stores.{words_after_all, IsItemWord, AreLinkStores}
-use Rattle.word_arena.proofs.WordLemmas.{one_item, item_place}
-use Rattle.word_arena.proofs.StoreLemmas.{length_after, untouched}
-use Rattle.word_arena.proofs.HoldsLemmas.{tree_untouched}
+use Rattle.word_layout.proofs.LinkLemmas.{same_item}
+use Rattle.word_layout.specs.declared.stores.Store.{Store}
+use Rattle.word_layout.specs.Words.{at, words_for, a_word, b_word, tag_word, Holds, IsUnreached, listed}
+use Rattle.word_layout.specs.Stores.{words_after_all, IsItemWord, AreLinkStores}
+use Rattle.word_layout.proofs.WordLemmas.{one_item, item_place}
+use Rattle.word_layout.proofs.StoreLemmas.{length_after, untouched}
+use Rattle.word_layout.proofs.HoldsLemmas.{tree_untouched}
 use Rattle.rb_trees.specs.Trees.{CanBeRedBlack}
 use Rattle.rb_words.specs.Pictures.{Picture, IsPictured}
 use Rattle.rb_words.specs.Plans.{Inserts, Erases, item_stores}

@@ -14,12 +14,12 @@ use Rattle.facts.proofs.Each.{all_append, all_left, all_right, all_weaker}
 use Rattle.facts.proofs.Lists.{take-swap_remove}
 use Rattle.facts.proofs.Tests.{all_fail}
 use Rattle.order_laws.proofs.WithoutLemmas.{all_has_without, length_without_one, without_more}
-use Rattle.word_arena.proofs.LinkLemmas.{same_item}
-use Rattle.word_arena.specs.declared.stores.Store.{Store}
-use Rattle.word_arena.specs.Words.{item_at, listed}
-use Rattle.word_arena.specs.Stores.{words_after_all, AreLinkStores, IsLinkWord, IsItemWord}
-use Rattle.word_arena.proofs.WordLemmas.{link_no_item}
-use Rattle.word_arena.proofs.StoreLemmas.{after_append, untouched}
+use Rattle.word_layout.proofs.LinkLemmas.{same_item}
+use Rattle.word_layout.specs.declared.stores.Store.{Store}
+use Rattle.word_layout.specs.Words.{item_at, listed}
+use Rattle.word_layout.specs.Stores.{words_after_all, AreLinkStores, IsLinkWord, IsItemWord}
+use Rattle.word_layout.proofs.WordLemmas.{link_no_item}
+use Rattle.word_layout.proofs.StoreLemmas.{after_append, untouched}
 use Rattle.rb_words.specs.Pictures.{Picture, IsPictured}
 use Rattle.rb_words.specs.Plans.{Inserts, Erases, LeadsWithItem, LeadsByLinks, item_stores}
 use Rattle.rb_words.specs.Mirrors.{mirror_stores, mirror_store, second_picture}

@@ -4,7 +4,7 @@ use Rattle.std.specs.Prelude.{◌==◌, slice_get}
 use Rattle.std.proofs.lemmas.Bool.{eqb-true}
 use Rattle.std.proofs.lemmas.List.{take_more, map-append}
 use Rattle.facts.proofs.Lists.{first_and_rest, get_or-drop_append}
-use Rattle.word_arena.specs.declared.stores.Store.{Store}
+use Rattle.word_layout.specs.declared.stores.Store.{Store}
 use Rattle.rb_words.specs.Mirrors.{mirror_stores, mirror_store}
 use Rattle.latch_core.specs.Latches.{PendingUpdate, Latch, latch_after_step}
 use Rattle.latch_core.specs.Plans.{IsPlan}

@@ -1,6 +1,6 @@
 -- Readings in one memory.
 use Rattle.std.proofs.Common.{◌≡◌, ℕ, suc, zero, ◌<◌, ◌≤◌, List, [], ◌∷◌, ◌++◌, length, Some, refl, sym, ◌∙◌, ap, subst, arith}
-use Rattle.word_arena.specs.Words.{at}
+use Rattle.word_layout.specs.Words.{at}
 use Rattle.latch_core.specs.Attempts.{Outcome, Reading, Load, Ends, rest_after, Stand}
 use Rattle.latch_core.specs.Whole.{outcome_in, loads_in}
 

@@ -4,13 +4,13 @@ use Rattle.std.specs.List.{AllByRecursion}
 use Rattle.std.proofs.lemmas.List.{get_or-replicate}
 use Rattle.order_laws.specs.declared.items.Item.{Item}
 use Rattle.facts.proofs.Each.{all_append}
-use Rattle.word_arena.proofs.HeldLemmas.{leads_once}
-use Rattle.word_arena.proofs.LinkLemmas.{links_elsewhere, links_not_zero, not_in_use, zero_kept}
-use Rattle.word_arena.specs.declared.stores.Store.{Store}
-use Rattle.word_arena.specs.Words.{words_per_node, at, Nodes, none, root_word, Holds, InUse}
-use Rattle.word_arena.specs.Stores.{words_after, words_after_all}
-use Rattle.word_arena.proofs.StoreLemmas.{after_append}
-use Rattle.word_arena.proofs.HoldsLemmas.{tree_untouched, tree_agree}
+use Rattle.word_layout.proofs.HeldLemmas.{leads_once}
+use Rattle.word_layout.proofs.LinkLemmas.{links_elsewhere, links_not_zero, not_in_use, zero_kept}
+use Rattle.word_layout.specs.declared.stores.Store.{Store}
+use Rattle.word_layout.specs.Words.{words_per_node, at, Nodes, none, root_word, Holds, InUse}
+use Rattle.word_layout.specs.Stores.{words_after, words_after_all}
+use Rattle.word_layout.proofs.StoreLemmas.{after_append}
+use Rattle.word_layout.proofs.HoldsLemmas.{tree_untouched, tree_agree}
 use Rattle.rb_trees.specs.Trees.{tip, CanBeRedBlack}
 use Rattle.latch_core.specs.Sequences.{stable_copy_of}
 use Rattle.latch_core.specs.Latches.{opening_latch}

@@ -4,19 +4,19 @@ use Rattle.std.specs.Prelude.{◌⊎◌, ◌==◌, not}
 use Rattle.std.proofs.lemmas.Bool.{cases_lt, eqb-false, ltb-false, not-false, or_parts}
 use Rattle.std.proofs.lemmas.List.{take-append-le, take_all}
 use Rattle.order_laws.specs.declared.items.Item.{Item}
-use Rattle.word_arena.specs.declared.stores.Store.{Store}
-use Rattle.word_arena.proofs.HoldsLemmas.{flip_adds}
+use Rattle.word_layout.specs.declared.stores.Store.{Store}
+use Rattle.word_layout.proofs.HoldsLemmas.{flip_adds}
 use Rattle.latch_core.specs.declared.updates.Update.{Update}
 use Rattle.latch_core.specs.declared.updates.Update.TheVariants.{Insert, Erase, Batch}
 use Rattle.order_laws.specs.Orders.{Order, IsLawful}
 use Rattle.order_laws.specs.Tables.{IsTable, meets, with_item, without, without_all}
 use Rattle.latch_core.specs.Updates.{after, refusal_for, some_overlap, some_meet}
 use Rattle.latch_core.specs.Histories.{replay}
-use Rattle.word_arena.specs.Words.{at, root_word, by_root, InUse}
+use Rattle.word_layout.specs.Words.{at, root_word, by_root, InUse}
 use Rattle.latch_core.specs.Sequences.{stable_copy_of}
 use Rattle.latch_core.specs.Attempts.{Reading, Load, attempt, rest_after}
 use Rattle.latch_core.specs.Latches.{PendingUpdate, Latch, IsHidden, IsWriterStep}
-use Rattle.word_arena.specs.Stores.{words_after}
+use Rattle.word_layout.specs.Stores.{words_after}
 use Rattle.latch_core.specs.Invariants.{IsStanding, AreTables}
 use Rattle.order_laws.proofs.PlaceLemmas.{without_none, without_one}
 use Rattle.order_laws.proofs.TableLemmas.{with_item_table, without_table, length_with_item, length_without}

@@ -1,7 +1,7 @@
 -- An attempt in words that stand still.
 use Rattle.std.proofs.Common.{◌≡◌, ℕ, List, [], ◌∷◌, ◌++◌, refl, sym, arith, length-append}
 use Rattle.order_laws.specs.Orders.{Order}
-use Rattle.word_arena.specs.Words.{at}
+use Rattle.word_layout.specs.Words.{at}
 use Rattle.latch_core.specs.Attempts.{Outcome, Ends, attempt, attempt_after, last_load, outcome, Stand}
 use Rattle.latch_core.specs.Whole.{outcome_in, loads_in}
 use Rattle.latch_core.specs.Loading.{HasTried}

@@ -5,18 +5,18 @@ use Rattle.std.specs.List.{AllByRecursion}
 use Rattle.std.proofs.lemmas.Bool.{ne_eqb}
 use Rattle.order_laws.specs.declared.items.Item.{Item}
 use Rattle.facts.proofs.Each.{all_weaker}
-use Rattle.word_arena.proofs.LinkLemmas.{links_elsewhere, links_not_zero, zero_kept}
-use Rattle.word_arena.specs.declared.stores.Store.{Store}
-use Rattle.word_arena.specs.Words.{at, words_for, root_word, left_word, right_word, Nodes, Holds, Reaches, by_root, by_left, by_right, InUse, IsUnreached}
-use Rattle.word_arena.specs.Stores.{IsItemWord, words_after, words_after_all, AreLinkStores}
-use Rattle.word_arena.proofs.WordLemmas.{IsCopyWord, in_copy, one_item, link_no_item, link_no_other, link_place, item_place, item_not_zero, item_not_root, item_not_left, item_not_right, copy_not_zero, unused_item}
-use Rattle.word_arena.proofs.StoreLemmas.{Agree, length_after, after_append, untouched, agree_after}
-use Rattle.word_arena.proofs.HoldsLemmas.{holds_untouched, tree_agree}
+use Rattle.word_layout.proofs.LinkLemmas.{links_elsewhere, links_not_zero, zero_kept}
+use Rattle.word_layout.specs.declared.stores.Store.{Store}
+use Rattle.word_layout.specs.Words.{at, words_for, root_word, left_word, right_word, Nodes, Holds, Reaches, by_root, by_left, by_right, InUse, IsUnreached}
+use Rattle.word_layout.specs.Stores.{IsItemWord, words_after, words_after_all, AreLinkStores}
+use Rattle.word_layout.proofs.WordLemmas.{IsCopyWord, in_copy, one_item, link_no_item, link_no_other, link_place, item_place, item_not_zero, item_not_root, item_not_left, item_not_right, copy_not_zero, unused_item}
+use Rattle.word_layout.proofs.StoreLemmas.{Agree, length_after, after_append, untouched, agree_after}
+use Rattle.word_layout.proofs.HoldsLemmas.{holds_untouched, tree_agree}
 use Rattle.rb_trees.specs.Trees.{CanBeRedBlack}
 use Rattle.latch_core.specs.Sequences.{stable_copy_of}
 use Rattle.latch_core.specs.Latches.{PendingUpdate, BothHold, IsHidden, IsFirstFlip, IsSecondFlip, flips_after}
 use Rattle.latch_core.specs.Plans.{IsPlan, flip_to, update_stores}
-use Rattle.word_arena.proofs.HoldsLemmas.{flip_adds}
+use Rattle.word_layout.proofs.HoldsLemmas.{flip_adds}
 use Rattle.latch_core.proofs.SoundLemmas.{flips_of_store}
 
 -- each step's kind, the last step's duty apart

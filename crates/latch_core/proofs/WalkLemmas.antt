@@ -6,11 +6,11 @@ use Rattle.std.proofs.lemmas.Bool.{lt-ltb, ltb-true, eq-eqb}
 use Rattle.order_laws.specs.declared.items.Item.{Item}
 use Rattle.order_laws.specs.Orders.{Order, IsLawful}
 use Rattle.order_laws.specs.Tables.{IsTable, look}
-use Rattle.word_arena.specs.Words.{at, root_word, left_word, right_word, item_at, Nodes, none, fork, items, Leads, Holds, Reaches, by_left, by_right, InUse}
+use Rattle.word_layout.specs.Words.{at, root_word, left_word, right_word, item_at, Nodes, none, fork, items, Leads, Holds, Reaches, by_left, by_right, InUse}
 use Rattle.latch_core.specs.Sequences.{generation_of, stable_copy_of}
 use Rattle.latch_core.specs.Attempts.{Outcome, Answer, Reading, Load, Ends, WalkEnd, AtItem, AtEmptyLink, Stuck, outcome, last_load, after_item, visit, walk, attempt, rest_after, Stand, IsAttempt}
-use Rattle.word_arena.proofs.HoldsLemmas.{size, size_items, size_listed}
-use Rattle.word_arena.specs.Words.{listed}
+use Rattle.word_layout.proofs.HoldsLemmas.{size, size_items, size_listed}
+use Rattle.word_layout.specs.Words.{listed}
 use Rattle.rb_trees.specs.Trees.{CanBeRedBlack, depth}
 use Rattle.rb_trees.proofs.DepthLemmas.{shallow}
 use Rattle.order_laws.proofs.TableLemmas.{parted, look_less, look_greater, look_equal}

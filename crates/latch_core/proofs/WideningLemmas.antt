@@ -5,11 +5,11 @@ use Rattle.std.proofs.lemmas.Bool.{ltb-false, or_parts}
 use Rattle.order_laws.specs.Orders.{Order}
 use Rattle.order_laws.specs.declared.refusals.Refusal.TheVariants.{BadCapacity, UpdateInHand}
 use Rattle.facts.proofs.Lists.{nil-from_length}
-use Rattle.word_arena.specs.declared.layouts.Layout.{Layout}
-use Rattle.word_arena.specs.Layouts.{capacity_of, limit_of}
-use Rattle.word_arena.specs.Words.{words_per_node, at, Holds, HoldsTable}
-use Rattle.word_arena.specs.Wider.{wider_words}
-use Rattle.word_arena.proofs.WiderLemmas.{at_wider, length_wider, holds_wider, table_wider}
+use Rattle.word_layout.specs.declared.layouts.Layout.{Layout}
+use Rattle.word_layout.specs.Layouts.{capacity_of, limit_of}
+use Rattle.word_layout.specs.Words.{words_per_node, at, Holds, HoldsTable}
+use Rattle.word_layout.specs.Wider.{wider_words}
+use Rattle.word_layout.proofs.WiderLemmas.{at_wider, length_wider, holds_wider, table_wider}
 use Rattle.latch_core.specs.declared.updates.Update.{Update}
 use Rattle.latch_core.specs.Sequences.{generation_of, stable_copy_of}
 use Rattle.latch_core.specs.Histories.{replay, table_at}

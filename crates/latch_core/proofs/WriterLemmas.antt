@@ -5,13 +5,13 @@ use Rattle.std.proofs.lemmas.Bool.{lt-ltb, cases_eq, eq-eqb, ne_eqb}
 use Rattle.order_laws.specs.Orders.{Order}
 use Rattle.facts.proofs.Lists.{first_and_rest}
 use Rattle.std.proofs.lemmas.List.{get_or-replicate, length-replicate}
-use Rattle.word_arena.specs.declared.layouts.Layout.{Layout}
-use Rattle.word_arena.specs.Layouts.{capacity_of}
-use Rattle.word_arena.specs.declared.stores.Store.{Store}
-use Rattle.word_arena.specs.Words.{words_per_node, at, words_for, Holds, IsUnreached, listed}
-use Rattle.word_arena.specs.Stores.{words_after, words_after_all}
-use Rattle.word_arena.proofs.StoreLemmas.{length_after}
-use Rattle.word_arena.proofs.ReachLemmas.{reached_listed}
+use Rattle.word_layout.specs.declared.layouts.Layout.{Layout}
+use Rattle.word_layout.specs.Layouts.{capacity_of}
+use Rattle.word_layout.specs.declared.stores.Store.{Store}
+use Rattle.word_layout.specs.Words.{words_per_node, at, words_for, Holds, IsUnreached, listed}
+use Rattle.word_layout.specs.Stores.{words_after, words_after_all}
+use Rattle.word_layout.proofs.StoreLemmas.{length_after}
+use Rattle.word_layout.proofs.ReachLemmas.{reached_listed}
 use Rattle.latch_core.specs.declared.updates.Update.{Update}
 use Rattle.latch_core.specs.Sequences.{stable_copy_of}
 use Rattle.latch_core.specs.Updates.{refusal_for, after}

@@ -6,7 +6,7 @@ use Rattle.std.specs.declared.cmp.Ordering.{Ordering}
 use Rattle.std.specs.declared.cmp.Ordering.TheVariants.{Less, Equal, Greater}
 use Rattle.order_laws.specs.declared.items.Item.{Item}
 use Rattle.order_laws.specs.Orders.{Order}
-use Rattle.word_arena.specs.Words.{root_word, a_word, b_word, tag_word, left_word, right_word, at}
+use Rattle.word_layout.specs.Words.{root_word, a_word, b_word, tag_word, left_word, right_word, at}
 use Rattle.latch_core.specs.Sequences.{generation_of, stable_copy_of}
 
 -- what an attempt came to: an answer with its generation, or another attempt

@@ -4,9 +4,9 @@ use Rattle.std.specs.List.{AllByRecursion}
 use Rattle.order_laws.specs.declared.items.Item.{Item}
 use Rattle.order_laws.specs.Orders.{Order}
 use Rattle.order_laws.specs.Tables.{without_all}
-use Rattle.word_arena.specs.declared.stores.Store.{Store}
-use Rattle.word_arena.specs.Words.{item_at, listed}
-use Rattle.word_arena.specs.Stores.{words_after_all, AreLinkStores}
+use Rattle.word_layout.specs.declared.stores.Store.{Store}
+use Rattle.word_layout.specs.Words.{item_at, listed}
+use Rattle.word_layout.specs.Stores.{words_after_all, AreLinkStores}
 use Rattle.rb_words.specs.Pictures.{Picture, IsPictured}
 use Rattle.rb_words.specs.Plans.{item_stores}
 use Rattle.rb_words.specs.Mirrors.{mirror_stores, second_picture}

@@ -1,7 +1,7 @@
 -- What a reader's core has still to do, and how the values that it takes lead it on.
 use Rattle.std.specs.Prelude.{◌≡◌, ℕ, ◌+◌, ◌*◌, ◌<◌, ◌≤◌, List, [], ◌∷◌, ◌++◌, length, Some}
 use Rattle.order_laws.specs.Orders.{Order}
-use Rattle.word_arena.specs.Words.{left_word, right_word}
+use Rattle.word_layout.specs.Words.{left_word, right_word}
 use Rattle.latch_core.specs.Sequences.{stable_copy_of}
 use Rattle.latch_core.specs.Attempts.{Answer, Again, Reading, Load, AtItem, AtEmptyLink, last_load}
 use Rattle.latch_core.specs.Attempts.{after_a, after_b, visit, walk, attempt_after, attempt}

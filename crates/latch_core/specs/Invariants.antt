@@ -5,7 +5,7 @@ use Rattle.latch_core.specs.declared.updates.Update.{Update}
 use Rattle.order_laws.specs.Orders.{Order}
 use Rattle.order_laws.specs.Tables.{IsTable}
 use Rattle.latch_core.specs.Histories.{replay, current_table}
-use Rattle.word_arena.specs.Words.{at, HoldsTable}
+use Rattle.word_layout.specs.Words.{at, HoldsTable}
 use Rattle.latch_core.specs.Sequences.{stable_copy_of}
 use Rattle.latch_core.specs.Attempts.{Reading, Stand}
 use Rattle.latch_core.specs.Latches.{PendingUpdate, Latch}

@@ -2,10 +2,10 @@
 use Rattle.std.specs.Prelude.{◌≡◌, ◌≢◌, ℕ, ◌+◌, ◌-◌, ◌*◌, ◌<◌, ◌⊎◌, List, [], ◌∷◌, length}
 use Rattle.std.specs.Prelude.{replicate, Option, Some, None, if◌then◌else◌, ◌==◌}
 use Rattle.order_laws.specs.declared.items.Item.{Item}
-use Rattle.word_arena.specs.declared.stores.Store.{Store}
+use Rattle.word_layout.specs.declared.stores.Store.{Store}
 use Rattle.order_laws.specs.Orders.{Order}
-use Rattle.word_arena.specs.Words.{words_per_node, at, HoldsTable, InUse, IsUnreached}
-use Rattle.word_arena.specs.Stores.{words_after, IsItemWord}
+use Rattle.word_layout.specs.Words.{words_per_node, at, HoldsTable, InUse, IsUnreached}
+use Rattle.word_layout.specs.Stores.{words_after, IsItemWord}
 use Rattle.latch_core.specs.declared.updates.Update.{Update}
 use Rattle.latch_core.specs.Sequences.{stable_copy_of}
 use Rattle.latch_core.specs.Updates.{after}

@@ -1,7 +1,7 @@
 -- What a writer's list of stores shows.
 use Rattle.std.specs.Prelude.{ℕ, List, drop, refl}
 use Rattle.std.specs.Coded.{Coded, code_by, coded×, coded_ℕ, coded_list}
-use Rattle.word_arena.specs.declared.stores.Store.{Store}
+use Rattle.word_layout.specs.declared.stores.Store.{Store}
 
 -- the stores that are still to be made, and how many more can be planned without memory
 pub record PlanView : Type 0 where

@@ -1,6 +1,6 @@
 -- Lists of stores that the writer plans, and when they carry an update out.
 use Rattle.std.specs.Prelude.{◌≡◌, ℕ, ◌+◌, List, [], ◌∷◌, ◌++◌, Some, None}
-use Rattle.word_arena.specs.declared.stores.Store.{Store}
+use Rattle.word_layout.specs.declared.stores.Store.{Store}
 use Rattle.latch_core.specs.Latches.{PendingUpdate, Latch, IsWriterStep, latch_after_step}
 
 -- the writer may make just these steps, one after another, and they end the pending update

@@ -1,7 +1,7 @@
 -- Whole attempts: what one comes to, and after how many loads.
 use Rattle.std.specs.Prelude.{◌≡◌, ℕ, suc, List, Some}
 use Rattle.order_laws.specs.Orders.{Order}
-use Rattle.word_arena.specs.Words.{at}
+use Rattle.word_layout.specs.Words.{at}
 use Rattle.latch_core.specs.Attempts.{Outcome, Answer, Again, Reading, Load, Ends, attempt}
 use Rattle.latch_core.specs.Attempts.{rest_after}
 use Rattle.latch_core.specs.declared.attempts.Attempted.{Attempted}

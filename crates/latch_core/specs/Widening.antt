@@ -3,9 +3,9 @@ use Rattle.std.specs.Prelude.{◌≡◌, ◌⊎◌, ℕ, [], ◌∷◌, ◌||◌
 use Rattle.order_laws.specs.declared.refusals.Refusal.{Refusal}
 use Rattle.order_laws.specs.declared.refusals.Refusal.TheVariants.{BadCapacity, UpdateInHand}
 use Rattle.order_laws.specs.declared.refusals.Refusal.TheVariants.{OutOfMemory}
-use Rattle.word_arena.specs.declared.layouts.Layout.{Layout}
-use Rattle.word_arena.specs.Layouts.{capacity_of, limit_of}
-use Rattle.word_arena.specs.Wider.{wider_words}
+use Rattle.word_layout.specs.declared.layouts.Layout.{Layout}
+use Rattle.word_layout.specs.Layouts.{capacity_of, limit_of}
+use Rattle.word_layout.specs.Wider.{wider_words}
 use Rattle.latch_core.specs.Updates.{first_that_holds}
 use Rattle.latch_core.specs.Latches.{Latch}
 use Rattle.latch_core.specs.WriterViews.{WriterView}

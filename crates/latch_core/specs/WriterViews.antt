@@ -3,9 +3,9 @@ use Rattle.std.specs.Prelude.{ℕ, List, refl}
 use Rattle.std.specs.Coded.{Coded, code_by, coded×, coded_ℕ, coded_list}
 use Rattle.order_laws.specs.declared.items.Item.{Item}
 use Rattle.order_laws.specs.Items.{item_code}
-use Rattle.word_arena.specs.declared.stores.Store.{Store}
-use Rattle.word_arena.specs.Words.{Nodes}
-use Rattle.word_arena.specs.NodesCode.{nodes_code}
+use Rattle.word_layout.specs.declared.stores.Store.{Store}
+use Rattle.word_layout.specs.Words.{Nodes}
+use Rattle.word_layout.specs.NodesCode.{nodes_code}
 use Rattle.latch_core.specs.PlanViews.{store_code}
 
 -- the number of nodes and the greatest sequence; the sequence; the table after all accepted

@@ -14,8 +14,8 @@
 //! ```
 
 ghost use Rattle.std.specs.Prelude.{◌≡◌, ℕ, ◌+◌, ◌^◌, ◌<◌, length};
-ghost use Rattle.word_arena.specs.Layouts.{capacity_of};
-ghost use Rattle.word_arena.specs.Words.{at, words_for};
+ghost use Rattle.word_layout.specs.Layouts.{capacity_of};
+ghost use Rattle.word_layout.specs.Words.{at, words_for};
 ghost use Rattle.latch_core.specs.Attempts.{attempt, attempt_after, last_load};
 ghost use Rattle.latch_core.specs.Whole.{outcome_in, loads_in, outcome_of};
 ghost use Rattle.latch_core.specs.Loading.{found_by, IsReady, HasLoaded, HasTried};
@@ -23,7 +23,7 @@ ghost use Rattle.latch_core.specs.Loading.{found_by, IsReady, HasLoaded, HasTrie
 use crate::sequences::{generation, stable_copy};
 use order_laws::{Item, TreeOrder};
 use std::cmp::Ordering;
-use word_arena::{Layout, places};
+use word_layout::{Layout, places};
 
 /// What a whole attempt comes to.
 #[derive(Clone, Copy, Debug, PartialEq, Eq, Drop)]

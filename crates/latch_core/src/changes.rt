@@ -3,8 +3,8 @@
 ghost use Rattle.std.specs.Prelude.{◌≡◌, ◌+◌, ◌*◌, ◌<◌, ◌≤◌, ◌++◌, [], false, List, length, take};
 ghost use Rattle.std.specs.Prelude.{drop, vec_len, vec_capacity};
 ghost use Rattle.order_laws.specs.Orders.{Order};
-ghost use Rattle.word_arena.specs.declared.stores.Store.{Store};
-ghost use Rattle.word_arena.specs.Words.{listed};
+ghost use Rattle.word_layout.specs.declared.stores.Store.{Store};
+ghost use Rattle.word_layout.specs.Words.{listed};
 ghost use Rattle.rb_words.specs.Pictures.{IsPicture};
 ghost use Rattle.latch_core.specs.Updates.{some_missing, some_twice, some_invalid, some_overlap};
 ghost use Rattle.latch_core.specs.Updates.{some_meet};
@@ -15,7 +15,7 @@ ghost use Rattle.latch_core.specs.Changes.{InsertsItems};
 use crate::plans::{ITEM_STORES, Plan};
 use order_laws::{Item, TreeOrder};
 use rb_words::{STORES, Shape};
-use word_arena::{Store, append};
+use word_layout::{Store, append};
 
 /// Plans to erase the items of these first words, and puts their nodes after the free ones.
 pub fn plan_erases<O: TreeOrder>(

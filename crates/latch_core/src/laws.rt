@@ -5,9 +5,9 @@ ghost use Rattle.std.specs.Prelude.{◌≡◌, ℕ, ◌+◌, ◌*◌, ◌^◌, �
 ghost use Rattle.std.specs.Prelude.{◌++◌, length, Some, None};
 ghost use Rattle.order_laws.specs.declared.items.Item.{Item};
 ghost use Rattle.order_laws.specs.Tables.{IsTable, look};
-ghost use Rattle.word_arena.specs.declared.stores.Store.{Store};
-ghost use Rattle.word_arena.specs.Words.{at, Nodes, Holds};
-ghost use Rattle.word_arena.specs.Stores.{words_after};
+ghost use Rattle.word_layout.specs.declared.stores.Store.{Store};
+ghost use Rattle.word_layout.specs.Words.{at, Nodes, Holds};
+ghost use Rattle.word_layout.specs.Stores.{words_after};
 ghost use Rattle.latch_core.specs.declared.updates.Update.{Update};
 ghost use Rattle.rb_trees.specs.Trees.{CanBeRedBlack, depth};
 ghost use Rattle.latch_core.specs.Sequences.{generation_of, stable_copy_of};

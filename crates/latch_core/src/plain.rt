@@ -2,7 +2,7 @@
 
 ghost use Rattle.std.specs.Prelude.{◌≡◌, [], None, Some, if◌then◌else◌, IfOk};
 ghost use Rattle.order_laws.specs.Tables.{has, meets, without_all};
-ghost use Rattle.word_arena.specs.Layouts.{capacity_of, limit_of};
+ghost use Rattle.word_layout.specs.Layouts.{capacity_of, limit_of};
 ghost use Rattle.latch_core.specs.Updates.{failed_test, refusal_for, some_invalid, some_missing};
 ghost use Rattle.latch_core.specs.Updates.{some_twice, cannot_erase};
 ghost use Rattle.latch_core.specs.Updates.{some_overlap, some_meet, cannot_insert, with_items};
@@ -14,7 +14,7 @@ use crate::updates::Update;
 use order_laws::tables::{with_item, without};
 use order_laws::{Item, Refusal, TreeOrder};
 use std::alloc::{AllocError, Global};
-use word_arena::Layout;
+use word_layout::Layout;
 
 /// Why an update of a table is refused, if it is.
 pub fn refusal_for<O: TreeOrder>(

@@ -4,10 +4,10 @@ ghost use Rattle.std.specs.Prelude.{◌≡◌, ◌+◌, ◌-◌, ◌*◌, ◌^�
 ghost use Rattle.std.specs.Prelude.{Some, None, IsSome, IfSome, is_some, OnOk, IfErr, Contains};
 ghost use Rattle.std.specs.Prelude.{take, drop, length, slice_get, vec_len, vec_capacity};
 ghost use Rattle.order_laws.specs.Tables.{has, meets};
-ghost use Rattle.word_arena.specs.declared.stores.Store.{Store};
-ghost use Rattle.word_arena.specs.Layouts.{capacity_of};
-ghost use Rattle.word_arena.specs.Stores.{AreLinkStores};
-ghost use Rattle.word_arena.specs.Words.{listed};
+ghost use Rattle.word_layout.specs.declared.stores.Store.{Store};
+ghost use Rattle.word_layout.specs.Layouts.{capacity_of};
+ghost use Rattle.word_layout.specs.Stores.{AreLinkStores};
+ghost use Rattle.word_layout.specs.Words.{listed};
 ghost use Rattle.rb_words.specs.Mirrors.{mirror_stores};
 ghost use Rattle.rb_words.specs.Pictures.{IsPicture};
 ghost use Rattle.rb_words.specs.Plans.{item_stores, Inserts, Erases};
@@ -18,7 +18,7 @@ use order_laws::{Item, Refusal, TreeOrder};
 use rb_words::{STORES, Shape, item_stores, mirror_store, mirrored};
 use std::alloc::{AllocError, Global};
 use std::marker::Model;
-use word_arena::{Layout, Store, append};
+use word_layout::{Layout, Store, append};
 
 /// How many stores an item's words take.
 pub const ITEM_STORES: usize = 3;

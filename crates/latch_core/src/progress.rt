@@ -1,7 +1,7 @@
 //! Where a reader stands in its attempt.
 
 ghost use Rattle.std.specs.Prelude.{◌<◌, ◌≤◌};
-ghost use Rattle.word_arena.specs.Limits.{most_nodes};
+ghost use Rattle.word_layout.specs.Limits.{most_nodes};
 
 /// Which value a reader waits for.
 #[derive(Clone, Copy, Debug, PartialEq, Eq, Drop)]

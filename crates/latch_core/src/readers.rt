@@ -1,15 +1,15 @@
 //! A reader of the latched tree, which is given one value of one word at a time.
 
 ghost use Rattle.std.specs.Prelude.{◌≡◌, ◌+◌, ◌*◌, ◌<◌, ◌≤◌, [], Some};
-ghost use Rattle.word_arena.specs.Layouts.{capacity_of};
-ghost use Rattle.word_arena.specs.Words.{words_for};
+ghost use Rattle.word_layout.specs.Layouts.{capacity_of};
+ghost use Rattle.word_layout.specs.Words.{words_for};
 ghost use Rattle.latch_core.specs.Attempts.{attempt};
 
 use crate::progress::{Awaited, Progress};
 use crate::sequences::{generation, stable_copy};
 use order_laws::{Item, TreeOrder};
 use std::cmp::Ordering;
-use word_arena::{Layout, places};
+use word_layout::{Layout, places};
 
 /// A pending lookup: its key, and where it stands in its attempt.
 ///

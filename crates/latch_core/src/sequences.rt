@@ -1,11 +1,11 @@
 //! What the sequence of a latch says (Documentation/locking/seqlock.rst, latch sequence counters).
 
 ghost use Rattle.std.specs.Prelude.{◌≡◌, ◌+◌, nat_lt};
-ghost use Rattle.word_arena.specs.Copies.{copy_number};
-ghost use Rattle.word_arena.specs.Layouts.{limit_of};
+ghost use Rattle.word_layout.specs.Copies.{copy_number};
+ghost use Rattle.word_layout.specs.Layouts.{limit_of};
 ghost use Rattle.latch_core.specs.Sequences.{generation_of, stable_copy_of};
 
-use word_arena::{Layout, TreeCopy};
+use word_layout::{Layout, TreeCopy};
 
 /// The generation that a sequence names: half of it, since an update adds 1 twice.
 pub fn generation(sequence: u64) -> u64

@@ -4,10 +4,10 @@ ghost use Rattle.std.specs.Prelude.{◌≡◌, false, ◌↔◌, ◌+◌, ◌*�
 ghost use Rattle.std.specs.Prelude.{IsTrue, IsSome, IfSome, IfOk, IfErr, OnOk, OnErr, length};
 ghost use Rattle.std.specs.Prelude.{vec_len, vec_capacity, IfNone, OnSome};
 ghost use Rattle.order_laws.specs.Tables.{has, without_all};
-ghost use Rattle.word_arena.specs.declared.stores.Store.{Store};
-ghost use Rattle.word_arena.specs.Layouts.{capacity_of, limit_of};
-ghost use Rattle.word_arena.specs.Limits.{most_nodes};
-ghost use Rattle.word_arena.specs.Words.{at, words_for};
+ghost use Rattle.word_layout.specs.declared.stores.Store.{Store};
+ghost use Rattle.word_layout.specs.Layouts.{capacity_of, limit_of};
+ghost use Rattle.word_layout.specs.Limits.{most_nodes};
+ghost use Rattle.word_layout.specs.Words.{at, words_for};
 ghost use Rattle.rb_words.specs.Pictures.{IsPicture};
 ghost use Rattle.latch_core.specs.Sequences.{generation_of};
 ghost use Rattle.latch_core.specs.Updates.{failed_test, some_invalid, some_missing, some_meet};
@@ -32,7 +32,7 @@ use order_laws::{Item, Refusal, TreeOrder};
 use rb_words::{STORES, Shape};
 use std::alloc::Global;
 use std::marker::Model;
-use word_arena::{Layout, Store, TreeCopy};
+use word_layout::{Layout, Store, TreeCopy};
 
 /// The writer's side of a latch (`latch_tree_insert`, `latch_tree_erase` and
 /// `raw_write_seqcount_latch` of include/linux/rbtree_latch.h and include/linux/seqlock.h).
@@ -53,8 +53,8 @@ pub struct WriterCore<O: TreeOrder> {
 
 impl<O: TreeOrder> Model for WriterCore<O> {
     ghost use Rattle.std.specs.Prelude.{◌≤◌, vec_capacity};
-    ghost use Rattle.word_arena.specs.Layouts.{capacity_of, limit_of};
-    ghost use Rattle.word_arena.specs.Limits.{most_nodes};
+    ghost use Rattle.word_layout.specs.Layouts.{capacity_of, limit_of};
+    ghost use Rattle.word_layout.specs.Limits.{most_nodes};
     ghost use Rattle.rb_words.specs.Mirrors.{second_picture};
     ghost use Rattle.latch_core.specs.WriterViews.{WriterView, writer_code};
     ghost use Rattle.latch_core.specs.Writers.{AreInStep};

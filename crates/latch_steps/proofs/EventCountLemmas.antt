@@ -4,7 +4,7 @@ use Rattle.std.specs.Prelude.{min, is_some}
 use Rattle.std.specs.FinMap.{get}
 use Rattle.order_laws.specs.declared.refusals.Refusal.{Refusal}
 use Rattle.order_laws.specs.Orders.{Order}
-use Rattle.word_arena.specs.Words.{at}
+use Rattle.word_layout.specs.Words.{at}
 use Rattle.latch_core.specs.declared.updates.Update.{Update}
 use Rattle.latch_core.specs.Updates.{refusal_for}
 use Rattle.latch_core.specs.Latches.{PendingUpdate}

@@ -9,9 +9,9 @@ use Rattle.order_laws.specs.Orders.{Order, IsLawful}
 use Rattle.order_laws.specs.Tables.{look}
 use Rattle.facts.proofs.Each.{all_push}
 use Rattle.facts.proofs.Maps.{get-insert_other, get-insert_same, get-remove_other, get-remove_same}
-use Rattle.word_arena.specs.Layouts.{capacity_of, limit_of}
-use Rattle.word_arena.specs.Words.{at, words_for}
-use Rattle.word_arena.proofs.StoreLemmas.{length_after}
+use Rattle.word_layout.specs.Layouts.{capacity_of, limit_of}
+use Rattle.word_layout.specs.Words.{at, words_for}
+use Rattle.word_layout.proofs.StoreLemmas.{length_after}
 use Rattle.latch_core.specs.declared.updates.Update.{Update}
 use Rattle.latch_core.specs.Sequences.{generation_of}
 use Rattle.latch_core.specs.Histories.{current_table}

@@ -24,7 +24,7 @@ use Rattle.latch_steps.specs.HeldLookups.{lookup_of, end_notes, ChangesOneLookup
 use Rattle.latch_steps.proofs.PendingLookupLemmas.{in_hand_at}
 use Rattle.latch_core.specs.Latches.{Latch}
 use Rattle.latch_core.specs.Writers.{RepresentsLatch}
-use Rattle.word_arena.specs.Layouts.{capacity_of, limit_of}
+use Rattle.word_layout.specs.Layouts.{capacity_of, limit_of}
 use Rattle.std.specs.List.{cons_option}
 use Rattle.std.specs.BTreeMap.{BTreeMap, is_at}
 use Rattle.latch_steps.specs.declared.worlds.World.{World}

@@ -2,7 +2,7 @@
 use Rattle.std.proofs.Common.{◌≡◌, ℕ, List, [], ◌∷◌, ◌++◌, Option, Some, sym, ◌∙◌, ap}
 use Rattle.order_laws.specs.declared.items.Item.{Item}
 use Rattle.order_laws.specs.Orders.{Order}
-use Rattle.word_arena.specs.Words.{at}
+use Rattle.word_layout.specs.Words.{at}
 use Rattle.latch_core.specs.Attempts.{Reading, Load, Ends, Again, Answer, attempt, rest_after}
 use Rattle.latch_core.specs.declared.readers.ReaderCore.{ReaderCore}
 use Rattle.latch_core.specs.declared.readers.Taken.TheVariants.{Going, Retrying, Returned}

@@ -11,11 +11,11 @@ use Rattle.latch_steps.specs.declared.events.Event.TheVariants.{Begin, Write, St
 use Rattle.latch_steps.specs.declared.replies.Reply.{Reply}
 use Rattle.latch_steps.specs.declared.replies.Reply.TheVariants.{Returned as ReturnedReply}
 use Rattle.order_laws.specs.Orders.{Order, IsLawful}
-use Rattle.word_arena.specs.Words.{at}
+use Rattle.word_layout.specs.Words.{at}
 use Rattle.latch_core.specs.Sequences.{stable_copy_of}
 use Rattle.latch_core.specs.Attempts.{Load, attempt, rest_after, Stand}
 use Rattle.latch_core.specs.Latches.{PendingUpdate, Latch}
-use Rattle.word_arena.specs.Stores.{words_after}
+use Rattle.word_layout.specs.Stores.{words_after}
 use Rattle.latch_steps.specs.Runs.{PendingLookup, Moment, opening, Done, accepted, history}
 use Rattle.latch_steps.specs.Steps.{machine, counted_up, IsBegin, IsWrite, after_load, start_done, load_done, read_done, Step, Run}
 use Rattle.latch_steps.specs.Quiet.{flips_between, IsPatientReply, IsQuiet}

@@ -2,8 +2,8 @@
 use Rattle.std.proofs.Common.{◌≡◌, ℕ, ◌+◌, ◌^◌, ◌<◌, Bool, true, List, [], ◌++◌, length, take, get_or, refl, subst}
 use Rattle.facts.proofs.Lists.{take_push}
 use Rattle.order_laws.specs.Orders.{Order, IsLawful}
-use Rattle.word_arena.specs.declared.layouts.Layout.{Layout}
-use Rattle.word_arena.specs.Layouts.{capacity_of, limit_of}
+use Rattle.word_layout.specs.declared.layouts.Layout.{Layout}
+use Rattle.word_layout.specs.Layouts.{capacity_of, limit_of}
 use Rattle.latch_steps.specs.declared.commands.Command.{Command}
 use Rattle.latch_steps.specs.declared.traces.Recorder.{Recorder}
 use Rattle.latch_steps.specs.declared.traces.Trace.{Trace}

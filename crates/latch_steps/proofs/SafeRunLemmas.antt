@@ -11,7 +11,7 @@ use Rattle.latch_steps.specs.declared.replies.Reply.TheVariants.{Returned as Ret
 use Rattle.order_laws.specs.Orders.{Order, IsLawful}
 use Rattle.order_laws.specs.Tables.{look}
 use Rattle.latch_core.specs.Histories.{replay, current_table}
-use Rattle.word_arena.specs.Words.{at}
+use Rattle.word_layout.specs.Words.{at}
 use Rattle.latch_core.specs.Sequences.{generation_of, stable_copy_of}
 use Rattle.latch_steps.specs.Runs.{Moment, Done, opening, accepted, history, moment_at}
 use Rattle.latch_steps.specs.Steps.{machine, Run}

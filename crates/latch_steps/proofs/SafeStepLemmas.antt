@@ -15,7 +15,7 @@ use Rattle.order_laws.specs.Orders.{Order, IsLawful}
 use Rattle.order_laws.specs.Tables.{look}
 use Rattle.latch_core.specs.Updates.{refusal_for}
 use Rattle.latch_core.specs.Histories.{current_table}
-use Rattle.word_arena.specs.Words.{at}
+use Rattle.word_layout.specs.Words.{at}
 use Rattle.latch_core.specs.Sequences.{generation_of}
 use Rattle.latch_core.specs.Latches.{PendingUpdate, latch_with_update}
 use Rattle.latch_steps.specs.Runs.{PendingLookup, Moment, accepted}

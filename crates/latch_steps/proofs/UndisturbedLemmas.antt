@@ -16,7 +16,7 @@ use Rattle.order_laws.specs.Orders.{Order, IsLawful}
 use Rattle.order_laws.specs.Tables.{IsTable}
 use Rattle.facts.proofs.Maps.{get-insert_other, get-insert_same, get-remove_other}
 use Rattle.latch_core.specs.Histories.{replay, current_table}
-use Rattle.word_arena.specs.Words.{at, Nodes, Holds}
+use Rattle.word_layout.specs.Words.{at, Nodes, Holds}
 use Rattle.latch_core.specs.Sequences.{generation_of, stable_copy_of}
 use Rattle.latch_core.specs.Attempts.{Reading, Load, attempt, rest_after, Stand}
 use Rattle.latch_core.specs.Latches.{PendingUpdate}

@@ -9,10 +9,10 @@ use Rattle.std.specs.FinMap.{FinMap, get, insert, remove, empty, get-empty}
 use Rattle.order_laws.specs.declared.refusals.Refusal.{Refusal}
 use Rattle.order_laws.specs.declared.refusals.Refusal.TheVariants.{OutOfMemory, ReaderBusy, ReaderIdle}
 use Rattle.order_laws.specs.Orders.{Order}
-use Rattle.word_arena.specs.declared.stores.Store.{Store}
-use Rattle.word_arena.specs.Layouts.{capacity_of, limit_of}
-use Rattle.word_arena.specs.Words.{at}
-use Rattle.word_arena.specs.Stores.{words_after}
+use Rattle.word_layout.specs.declared.stores.Store.{Store}
+use Rattle.word_layout.specs.Layouts.{capacity_of, limit_of}
+use Rattle.word_layout.specs.Words.{at}
+use Rattle.word_layout.specs.Stores.{words_after}
 use Rattle.latch_core.specs.declared.updates.Update.{Update}
 use Rattle.latch_core.specs.WriterViews.{WriterView}
 use Rattle.latch_core.specs.Updates.{refusal_for, most_steps}

@@ -11,9 +11,9 @@ use Rattle.latch_steps.specs.declared.events.Event.TheVariants.{Write, Start, Re
 use Rattle.latch_steps.specs.declared.replies.Returned.{Returned}
 use Rattle.latch_steps.specs.declared.replies.Reply.TheVariants.{Started, Returned as ReturnedReply}
 use Rattle.order_laws.specs.Orders.{Order}
-use Rattle.word_arena.specs.Words.{at, words_for}
+use Rattle.word_layout.specs.Words.{at, words_for}
 use Rattle.latch_core.specs.Attempts.{Answer, Again, attempt}
-use Rattle.word_arena.specs.Layouts.{capacity_of}
+use Rattle.word_layout.specs.Layouts.{capacity_of}
 use Rattle.latch_steps.specs.declared.worlds.World.{World}
 use Rattle.latch_steps.specs.Runs.{Moment, Done, step_done, last_of}
 use Rattle.latch_steps.specs.Steps.{Run, with_event}

@@ -1,8 +1,8 @@
 -- What is promised of a trace, and of every run: each word has the run inside.
 use Rattle.std.specs.Prelude.{◌≡◌, ℕ, ◌<◌, ◌^◌, List, [], length}
 use Rattle.order_laws.specs.Orders.{Order}
-use Rattle.word_arena.specs.declared.layouts.Layout.{Layout}
-use Rattle.word_arena.specs.Layouts.{capacity_of}
+use Rattle.word_layout.specs.declared.layouts.Layout.{Layout}
+use Rattle.word_layout.specs.Layouts.{capacity_of}
 use Rattle.latch_core.specs.Sequences.{stable_copy_of}
 use Rattle.latch_steps.specs.declared.commands.Command.{Command}
 use Rattle.latch_steps.specs.declared.traces.Trace.{Trace}

@@ -6,8 +6,8 @@ use Rattle.latch_steps.specs.declared.events.Event.{Event}
 use Rattle.latch_steps.specs.declared.events.Event.TheVariants.{Write}
 use Rattle.latch_steps.specs.declared.replies.Reply.{Reply}
 use Rattle.order_laws.specs.Orders.{Order}
-use Rattle.word_arena.specs.declared.layouts.Layout.{Layout}
-use Rattle.word_arena.specs.Layouts.{capacity_of}
+use Rattle.word_layout.specs.declared.layouts.Layout.{Layout}
+use Rattle.word_layout.specs.Layouts.{capacity_of}
 use Rattle.latch_core.specs.Writers.{MayOpen}
 use Rattle.latch_steps.specs.Runs.{Moment, Done, step_done, last_of, opening}
 use Rattle.latch_steps.specs.Steps.{Run}

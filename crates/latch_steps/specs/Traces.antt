@@ -8,9 +8,9 @@ use Rattle.latch_steps.specs.declared.replies.Note.{Note}
 use Rattle.latch_steps.specs.declared.replies.Note.TheVariants.{Returned as ReturnedNote}
 use Rattle.latch_steps.specs.declared.replies.Note.TheVariants.{Refused as RefusedNote}
 use Rattle.order_laws.specs.Orders.{Order}
-use Rattle.word_arena.specs.Words.{at}
-use Rattle.word_arena.specs.declared.layouts.Layout.{Layout}
-use Rattle.word_arena.specs.Layouts.{capacity_of}
+use Rattle.word_layout.specs.Words.{at}
+use Rattle.word_layout.specs.declared.layouts.Layout.{Layout}
+use Rattle.word_layout.specs.Layouts.{capacity_of}
 use Rattle.latch_steps.specs.Runs.{Done, last_of, opening}
 use Rattle.latch_steps.specs.Steps.{machine_of, Run}
 use Rattle.latch_steps.specs.declared.traces.Trace.{Trace}

@@ -1,7 +1,7 @@
 //! A pending lookup, and what one load makes of it.
 
 ghost use Rattle.std.specs.Prelude.{◌≡◌, ℕ};
-ghost use Rattle.word_arena.specs.Layouts.{capacity_of};
+ghost use Rattle.word_layout.specs.Layouts.{capacity_of};
 ghost use Rattle.latch_steps.specs.Runs.{PendingLookup};
 ghost use Rattle.latch_steps.specs.Steps.{new_lookup};
 
@@ -9,7 +9,7 @@ use crate::replies::Returned;
 use crate::words::word_at;
 use latch_core::{ReaderCore, Taken};
 use order_laws::TreeOrder;
-use word_arena::Layout;
+use word_layout::Layout;
 
 /// A pending lookup: the reader's core, the number of the event that started it, and the loads and
 /// attempts so far.

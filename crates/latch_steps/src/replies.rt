@@ -1,7 +1,7 @@
 //! What a step replies, and what a run notes.
 
 use order_laws::{Item, Refusal};
-use word_arena::Store;
+use word_layout::Store;
 
 /// A lookup that returned. The counts stay at the greatest `u64`.
 #[derive(Clone, Copy, Debug, PartialEq, Eq, Drop)]

@@ -10,7 +10,7 @@ use crate::events::Event;
 use crate::traces::{Notes, Recorder, Trace};
 use order_laws::{Refusal, TreeOrder};
 use std::alloc::Global;
-use word_arena::Layout;
+use word_layout::Layout;
 
 /// Does these events one after another, from an empty table with its sequence at `start`.
 ///

@@ -16,7 +16,7 @@ use crate::worlds::World;
 use latch_core::Update;
 use order_laws::{Refusal, TreeOrder};
 use std::alloc::Global;
-use word_arena::Layout;
+use word_layout::Layout;
 
 /// What a run leaves.
 #[derive(Drop)]

@@ -1,13 +1,13 @@
 //! The words of a world: before any event, one load, one store.
 
 ghost use Rattle.std.specs.Prelude.{◌≡◌, IfOk};
-ghost use Rattle.word_arena.specs.Words.{at};
-ghost use Rattle.word_arena.specs.Stores.{words_after};
-ghost use Rattle.word_arena.specs.Layouts.{capacity_of};
+ghost use Rattle.word_layout.specs.Words.{at};
+ghost use Rattle.word_layout.specs.Stores.{words_after};
+ghost use Rattle.word_layout.specs.Layouts.{capacity_of};
 ghost use Rattle.latch_core.specs.Latches.{opening_latch};
 
 use std::alloc::{AllocError, Global};
-use word_arena::{Layout, Store, apply};
+use word_layout::{Layout, Store, apply};
 
 /// The words before any event: the sequence at its start, and all others 0.
 pub(crate) fn opening_words(alloc: Global, l: Layout, start: u64) -> Result<Vec<u64>, AllocError>

@@ -2,8 +2,8 @@
 
 ghost use Rattle.std.specs.Prelude.{◌≡◌, ℕ, ◌-◌, ◌^◌, ◌<◌, true, List, [], ◌++◌, length, IfOk};
 ghost use Rattle.std.specs.Prelude.{IfErr, IfSome, IfNone, OnSome, OnOk, is_some};
-ghost use Rattle.word_arena.specs.Words.{at};
-ghost use Rattle.word_arena.specs.Layouts.{capacity_of};
+ghost use Rattle.word_layout.specs.Words.{at};
+ghost use Rattle.word_layout.specs.Layouts.{capacity_of};
 ghost use Rattle.latch_core.specs.Writers.{MayOpen, IsOpeningRefused};
 ghost use Rattle.latch_core.specs.declared.updates.Update.{Update};
 ghost use Rattle.latch_steps.specs.declared.events.Event.TheVariants.{Begin, Write, Start, Read};
@@ -17,7 +17,7 @@ use latch_core::{Attempted, Update, WriterCore, attempt_in};
 use order_laws::{Item, Refusal, TreeOrder};
 use std::alloc::Global;
 use std::collections::BTreeMap;
-use word_arena::{Layout, Store};
+use word_layout::{Layout, Store};
 
 /// The words of a latched tree with their writer, the pending lookups by reader, and the count of
 /// events, which stays at the greatest `u64`.

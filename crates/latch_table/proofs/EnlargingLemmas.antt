@@ -3,11 +3,11 @@ use Rattle.std.proofs.Common.{◌≡◌, ℕ, ◌-◌, ◌*◌, ◌≤◌, List,
 use Rattle.atomic_table.specs.Table.{Me, opening}
 use Rattle.atomic_table.specs.Seated.{TableId}
 use Rattle.order_laws.specs.Orders.{Order}
-use Rattle.word_arena.specs.declared.layouts.Layout.{Layout}
-use Rattle.word_arena.specs.Layouts.{capacity_of}
-use Rattle.word_arena.specs.Words.{at}
-use Rattle.word_arena.specs.Wider.{wider_words}
-use Rattle.word_arena.proofs.WiderLemmas.{at_wider}
+use Rattle.word_layout.specs.declared.layouts.Layout.{Layout}
+use Rattle.word_layout.specs.Layouts.{capacity_of}
+use Rattle.word_layout.specs.Words.{at}
+use Rattle.word_layout.specs.Wider.{wider_words}
+use Rattle.word_layout.proofs.WiderLemmas.{at_wider}
 use Rattle.latch_core.specs.Sequences.{generation_of}
 use Rattle.latch_core.specs.Invariants.{IsSound}
 use Rattle.latch_core.specs.WriterViews.{WriterView}

@@ -1,6 +1,6 @@
 -- The steps of an update up to its end.
 use Rattle.std.proofs.Common.{◌≡◌, ℕ, ◌+◌, ◌<◌, length, None, Some, refl, sym, ◌∙◌, ap, subst, arith}
-use Rattle.word_arena.specs.Words.{at}
+use Rattle.word_layout.specs.Words.{at}
 use Rattle.latch_core.specs.Sequences.{generation_of}
 use Rattle.latch_table.specs.declared.writers.Did.{Did}
 use Rattle.latch_table.specs.Writers.{WriterState, shown_updates, steps_left_of, Steps, OnTheWay, Finishes}

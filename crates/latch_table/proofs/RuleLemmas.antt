@@ -9,9 +9,9 @@ use Rattle.atomic_table.specs.Table.{State, Me, step, keeps, stepped, opening, A
 use Rattle.atomic_table.proofs.Lists.{at_set, at_snoc, set_else}
 use Rattle.order_laws.specs.Orders.{Order, IsLawful}
 use Rattle.order_laws.specs.declared.items.Item.{Item}
-use Rattle.word_arena.specs.declared.stores.Store.{Store}
-use Rattle.word_arena.specs.Words.{at}
-use Rattle.word_arena.specs.Stores.{words_after}
+use Rattle.word_layout.specs.declared.stores.Store.{Store}
+use Rattle.word_layout.specs.Words.{at}
+use Rattle.word_layout.specs.Stores.{words_after}
 use Rattle.latch_core.specs.declared.updates.Update.{Update}
 use Rattle.latch_core.specs.Latches.{PendingUpdate, IsWriterStep}
 use Rattle.latch_table.specs.declared.knowledge.ReaderKnowledge.{ReaderKnowledge}

@@ -11,10 +11,10 @@ use Rattle.order_laws.specs.Orders.{Order, IsLawful}
 use Rattle.order_laws.specs.Tables.{look}
 use Rattle.order_laws.specs.declared.items.Item.{Item}
 use Rattle.facts.proofs.Lists.{first_and_rest, IsPrefix-whole}
-use Rattle.word_arena.specs.declared.stores.Store.{Store}
-use Rattle.word_arena.specs.Words.{at, words_for, HoldsTable}
-use Rattle.word_arena.specs.Stores.{words_after}
-use Rattle.word_arena.proofs.StoreLemmas.{length_after}
+use Rattle.word_layout.specs.declared.stores.Store.{Store}
+use Rattle.word_layout.specs.Words.{at, words_for, HoldsTable}
+use Rattle.word_layout.specs.Stores.{words_after}
+use Rattle.word_layout.proofs.StoreLemmas.{length_after}
 use Rattle.latch_core.proofs.WriterLemmas.{rests_before}
 use Rattle.latch_core.specs.declared.updates.Update.{Update}
 use Rattle.latch_core.specs.Sequences.{generation_of, stable_copy_of}
@@ -24,7 +24,7 @@ use Rattle.latch_core.specs.Latches.{PendingUpdate, Latch, IsWriterStep, flips_a
 use Rattle.latch_core.specs.Invariants.{IsPendingUpdate, IsPendingOf, IsSound}
 use Rattle.latch_core.specs.WriterViews.{WriterView}
 use Rattle.latch_core.specs.Writers.{RepresentsLatch, next_store, why_refused, has_pending, writer_after_step, HasBegun}
-use Rattle.word_arena.proofs.HoldsLemmas.{flip_adds}
+use Rattle.word_layout.proofs.HoldsLemmas.{flip_adds}
 use Rattle.latch_core.proofs.StepLemmas.{hidden_same}
 use Rattle.latch_core.proofs.SoundLemmas.{flips_of_flip, flips_of_store, sound_step, sound_begin}
 use Rattle.latch_core.proofs.WriterLemmas.{next_may, did_pictures, refuses_pictured}

@@ -8,10 +8,10 @@ use Rattle.order_laws.specs.declared.refusals.Refusal.{Refusal}
 use Rattle.order_laws.specs.declared.refusals.Refusal.TheVariants.{OutOfMemory, BadCapacity}
 use Rattle.order_laws.specs.Orders.{Order}
 use Rattle.order_laws.specs.Tables.{look}
-use Rattle.word_arena.specs.declared.layouts.Layout.{Layout}
-use Rattle.word_arena.specs.declared.stores.Store.{Store as Stored}
-use Rattle.word_arena.specs.Layouts.{capacity_of, limit_of}
-use Rattle.word_arena.specs.Words.{at}
+use Rattle.word_layout.specs.declared.layouts.Layout.{Layout}
+use Rattle.word_layout.specs.declared.stores.Store.{Store as Stored}
+use Rattle.word_layout.specs.Layouts.{capacity_of, limit_of}
+use Rattle.word_layout.specs.Words.{at}
 use Rattle.latch_core.specs.declared.updates.Update.{Update}
 use Rattle.latch_core.specs.Sequences.{generation_of}
 use Rattle.latch_core.specs.Updates.{most_steps}

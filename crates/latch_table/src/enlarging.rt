@@ -5,9 +5,9 @@
 //! over to the new row, and the old row is freed with the readers that it has.
 
 ghost use Rattle.std.specs.Prelude.{◌≡◌, ◌≤◌, [], length, OnErr, IfOk, IfErr};
-ghost use Rattle.word_arena.specs.Layouts.{capacity_of};
-ghost use Rattle.word_arena.specs.Words.{words_for};
-ghost use Rattle.word_arena.specs.Wider.{wider_words};
+ghost use Rattle.word_layout.specs.Layouts.{capacity_of};
+ghost use Rattle.word_layout.specs.Words.{words_for};
+ghost use Rattle.word_layout.specs.Wider.{wider_words};
 ghost use Rattle.latch_table.specs.Seats.{writer_of, writer_knowledge};
 ghost use Rattle.latch_table.specs.Enlarging.{AreReadersOf, Enlarges, RefusesEnlarging};
 
@@ -19,7 +19,7 @@ use crate::writers::Writer;
 use order_laws::{Refusal, TreeOrder};
 use std::alloc::{AllocError, Global};
 use std::snapshot::Snapshot;
-use word_arena::Layout;
+use word_layout::Layout;
 
 /// The words of one layout, loaded through the writer's seat, and after them 0 in those that a
 /// larger layout has in addition.

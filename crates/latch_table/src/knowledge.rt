@@ -7,7 +7,7 @@ use atomic_table::Seat;
 use latch_core::Update;
 use order_laws::Item;
 use std::snapshot::Snapshot;
-use word_arena::Layout;
+use word_layout::Layout;
 
 /// What a reader knows.
 pub struct ReaderKnowledge {

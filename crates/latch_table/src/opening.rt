@@ -2,8 +2,8 @@
 
 ghost use Rattle.std.specs.Prelude.{◌≡◌, [], length, IfOk, IfErr, All, vec_len};
 ghost use Rattle.std.specs.Arc.{arc_value};
-ghost use Rattle.word_arena.specs.Layouts.{capacity_of};
-ghost use Rattle.word_arena.specs.Words.{words_for};
+ghost use Rattle.word_layout.specs.Layouts.{capacity_of};
+ghost use Rattle.word_layout.specs.Words.{words_for};
 ghost use Rattle.latch_core.specs.Latches.{opening_latch};
 ghost use Rattle.latch_table.specs.declared.knowledge.Origin.TheVariants.{Start};
 ghost use Rattle.latch_table.specs.Rule.{Opens, capacity_in};
@@ -19,7 +19,7 @@ use latch_core::WriterCore;
 use order_laws::{Refusal, TreeOrder};
 use std::alloc::{AllocError, Global};
 use std::sync::Arc;
-use word_arena::Layout;
+use word_layout::Layout;
 
 /// The most readers of a table.
 pub const MOST_READERS: u32 = 64;

@@ -25,7 +25,7 @@ pub struct Writer<O: TreeOrder> {
 impl<O: TreeOrder> Model for Writer<O> {
     ghost use Rattle.std.specs.Prelude.{◌≡◌};
     ghost use Rattle.std.specs.Arc.{arc_value};
-    ghost use Rattle.word_arena.specs.Words.{words_for};
+    ghost use Rattle.word_layout.specs.Words.{words_for};
     ghost use Rattle.latch_table.specs.Writers.{WriterState, writer_state, IsTied};
 
     ghost Value = { WriterState };

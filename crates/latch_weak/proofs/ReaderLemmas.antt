@@ -3,8 +3,8 @@ use Rattle.std.proofs.Common.{◌≡◌, ℕ, ◌<◌, ◌≤◌, true, false, c
 use Rattle.std.specs.Prelude.{◌==◌, ◌&&◌, max}
 use Rattle.std.proofs.lemmas.Bool.{eqb-true, eqb-false, eq-eqb}
 use Rattle.order_laws.specs.Orders.{Order}
-use Rattle.word_arena.specs.declared.stores.Store.{Store}
-use Rattle.word_arena.specs.Words.{at}
+use Rattle.word_layout.specs.declared.stores.Store.{Store}
+use Rattle.word_layout.specs.Words.{at}
 use Rattle.latch_core.specs.Attempts.{Reading, Load, Ends, Outcome, attempt_after, attempt, outcome, rest_after}
 use Rattle.latch_core.specs.Loading.{Leads, IsReady, HasTried}
 use Rattle.latch_core.proofs.LoadingLemmas.{leads_along}

@@ -1,7 +1,7 @@
 -- An attempt of a reader whose view is kept in numbers.
 use Rattle.std.specs.Prelude.{◌≡◌, ℕ, ◌≤◌, List, length, get_or, max}
 use Rattle.order_laws.specs.Orders.{Order}
-use Rattle.word_arena.specs.declared.stores.Store.{Store}
+use Rattle.word_layout.specs.declared.stores.Store.{Store}
 use Rattle.latch_core.specs.Attempts.{Outcome, attempt}
 use Rattle.latch_weak.specs.declared.barriers.Barriers.{Barriers}
 use Rattle.latch_weak.specs.declared.attempts.Reader.{Reader}

@@ -12,8 +12,8 @@
 //! The walk itself is that of every other reader ([`latch_core::attempt_from`]).
 
 ghost use Rattle.std.specs.Prelude.{◌≡◌, ◌<◌, ◌≤◌, length, IfOk};
-ghost use Rattle.word_arena.specs.Layouts.{capacity_of};
-ghost use Rattle.word_arena.specs.Words.{words_for};
+ghost use Rattle.word_layout.specs.Layouts.{capacity_of};
+ghost use Rattle.word_layout.specs.Words.{words_for};
 ghost use Rattle.latch_core.specs.Whole.{outcome_of};
 ghost use Rattle.latch_weak.specs.Views.{seen_up_to, raised};
 ghost use Rattle.latch_weak.specs.Readers.{view_of, IsReaderOf, Looks, LooksFirst, LooksNext};
@@ -23,7 +23,7 @@ use crate::barriers::{Barriers, last_store, value_at};
 use latch_core::{Attempted, Loads, attempt_from};
 use order_laws::TreeOrder;
 use std::alloc::{AllocError, Global};
-use word_arena::{Layout, Store};
+use word_layout::{Layout, Store};
 
 /// One load: the moment of which it gives the value, and how many stores the writer had made.
 #[derive(Clone, Copy, Debug, PartialEq, Eq, Drop)]

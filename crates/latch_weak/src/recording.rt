@@ -1,7 +1,7 @@
 //! The stores that a writer makes, one after another.
 
 ghost use Rattle.std.specs.Prelude.{◌≡◌, ℕ, List, ◌∷◌, ◌++◌, [], IfOk, IfErr, OnOk};
-ghost use Rattle.word_arena.specs.Layouts.{capacity_of, limit_of};
+ghost use Rattle.word_layout.specs.Layouts.{capacity_of, limit_of};
 ghost use Rattle.latch_core.specs.declared.updates.Update.{Update};
 ghost use Rattle.latch_weak.specs.Works.{AreStoresOf};
 ghost use Rattle.latch_core.specs.Writers.{IsRefusedBy};
@@ -10,7 +10,7 @@ ghost use Rattle.latch_weak.specs.Recordings.{Continues, RefusesRecording};
 use latch_core::{Update, WriterCore};
 use order_laws::{Refusal, TreeOrder};
 use std::alloc::Global;
-use word_arena::{Layout, Store};
+use word_layout::{Layout, Store};
 
 /// The stores that a writer makes for these updates, one after another, from an empty table whose
 /// sequence begins at `start`.

@@ -5,7 +5,7 @@ use latch_core::{Attempted, Update};
 use order_laws::{HalfOpen, Item, Refusal};
 use std::alloc::{AllocError, Global};
 use std::test::Fail;
-use word_arena::{Layout, Store};
+use word_layout::{Layout, Store};
 
 /// The updates of the run of specs/Needed.antt: three items, the middle one goes, a least one
 /// comes.

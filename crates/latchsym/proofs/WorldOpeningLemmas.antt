@@ -9,9 +9,9 @@ use Rattle.order_laws.specs.declared.refusals.Refusal.{Refusal}
 use Rattle.order_laws.specs.declared.refusals.Refusal.TheVariants.{OutOfMemory}
 use Rattle.order_laws.specs.Orders.{half_open}
 use Rattle.order_laws.specs.Tables.{look}
-use Rattle.word_arena.specs.declared.layouts.Layout.{Layout}
-use Rattle.word_arena.specs.Layouts.{capacity_of, limit_of}
-use Rattle.word_arena.specs.Limits.{greatest_wide_sequence}
+use Rattle.word_layout.specs.declared.layouts.Layout.{Layout}
+use Rattle.word_layout.specs.Layouts.{capacity_of, limit_of}
+use Rattle.word_layout.specs.Limits.{greatest_wide_sequence}
 use Rattle.latch_core.specs.declared.updates.Update.{Update}
 use Rattle.latch_steps.specs.declared.worlds.World.{World}
 use Rattle.latch_steps.specs.declared.replies.Returned.{Returned}

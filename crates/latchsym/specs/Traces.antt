@@ -6,8 +6,8 @@ use Rattle.devices.specs.declared.counted.Counted.{Counted}
 use Rattle.devices.specs.Counted.{NoneFailed, Rose, device_of, failures_of}
 use Rattle.order_laws.specs.Orders.{Order, closed, half_open}
 use Rattle.order_laws.specs.declared.refusals.Refusal.TheVariants as refusal
-use Rattle.word_arena.specs.Limits.{most_nodes, greatest_sequence, greatest_wide_sequence}
-use Rattle.word_arena.specs.Words.{at}
+use Rattle.word_layout.specs.Limits.{most_nodes, greatest_sequence, greatest_wide_sequence}
+use Rattle.word_layout.specs.Words.{at}
 use Rattle.latch_steps.specs.Runs.{Done, history, last_of, opening}
 use Rattle.latch_steps.specs.Steps.{machine, Run}
 use Rattle.latch_steps.specs.Traces.{notes_of}

@@ -9,7 +9,7 @@ use latch_steps::{Event, Reply, World};
 use modules::{Catalog, Held};
 use order_laws::{HalfOpen, Item, Refusal};
 use std::alloc::Global;
-use word_arena::Layout;
+use word_layout::Layout;
 
 /// An address, and the item that holds it.
 #[derive(Clone, Copy, Debug, Drop)]

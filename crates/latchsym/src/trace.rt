@@ -3,8 +3,8 @@ ghost use Rattle.std.specs.Prelude.{◌≡◌, ◌<◌, ◌≤◌, ◌++◌, ◌
 ghost use Rattle.std.specs.Prelude.{flat_map, vec_capacity};
 ghost use Rattle.devices.specs.Exact.{Wrote};
 ghost use Rattle.listing.specs.Trace.{contents_of};
-ghost use Rattle.word_arena.specs.Layouts.{capacity_of, limit_of};
-ghost use Rattle.word_arena.specs.Limits.{most_nodes};
+ghost use Rattle.word_layout.specs.Layouts.{capacity_of, limit_of};
+ghost use Rattle.word_layout.specs.Limits.{most_nodes};
 ghost use Rattle.latchsym.specs.Texts.{end_text, note_text};
 ghost use Rattle.latchsym.specs.Traces.{AnswersTrace, AnswersIn, greatest_of};
 
@@ -17,7 +17,7 @@ use order_laws::{Closed, HalfOpen, Refusal, TreeOrder};
 use std::alloc::Global;
 use std::io;
 use std::io::{Read, Write};
-use word_arena::Layout;
+use word_layout::Layout;
 
 /// Runs a trace, and writes a line for each lookup that returned and for each refusal, and the line
 /// of the last sequence.

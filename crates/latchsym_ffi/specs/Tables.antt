@@ -1,9 +1,9 @@
 -- What the opening of a table gives.
 use Rattle.std.specs.Prelude.{◌≡◌, ℕ, ◌≤◌, ◌<◌, ◌⊎◌, true, false, All, List, length, vec_len}
 use Rattle.atomic_table.specs.Seated.{TableId}
-use Rattle.word_arena.specs.declared.layouts.Layout.{Layout}
-use Rattle.word_arena.specs.Layouts.{capacity_of, limit_of}
-use Rattle.word_arena.specs.Limits.{greatest_wide_sequence, most_nodes}
+use Rattle.word_layout.specs.declared.layouts.Layout.{Layout}
+use Rattle.word_layout.specs.Layouts.{capacity_of, limit_of}
+use Rattle.word_layout.specs.Limits.{greatest_wide_sequence, most_nodes}
 use Rattle.latch_table.specs.declared.knowledge.Origin.TheVariants.{Start}
 use Rattle.latch_table.specs.Limits.{most_readers}
 use Rattle.latch_table.specs.Readers.{ReaderState, new_reader}

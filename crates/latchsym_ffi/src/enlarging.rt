@@ -16,7 +16,7 @@ use crate::writer_slots::WriterSlot;
 use latch_table::{Reader, Writer};
 use order_laws::{HalfOpen, Refusal};
 use std::alloc::Global;
-use word_arena::Layout;
+use word_layout::Layout;
 
 /// Whether all of the slots are open.
 fn all_open(slots: &[ReaderSlot]) -> bool

@@ -14,7 +14,7 @@ use crate::writer_slots::WriterSlot;
 use latch_table::{Reader, open};
 use order_laws::{HalfOpen, Refusal};
 use std::alloc::{AllocError, Global};
-use word_arena::Layout;
+use word_layout::Layout;
 
 /// A writer and its readers, each in a box.
 #[derive(Drop)]

@@ -2,7 +2,7 @@
 use Rattle.std.proofs.Common.{◌≡◌, ℕ, suc, ◌+◌, ◌≤◌, ◌<◌, Bool, false, List, [], ◌++◌}
 use Rattle.std.proofs.Common.{sym, ◌∙◌, ap, subst, arith, length, length-append, append-nil}
 use Rattle.facts.proofs.Lists.{regrouped}
-use Rattle.word_arena.specs.declared.stores.Store.{Store}
+use Rattle.word_layout.specs.declared.stores.Store.{Store}
 use Rattle.rb_trees.specs.Trees.{shape}
 use Rattle.rb_trees.specs.Turns.{link}
 use Rattle.rb_trees.specs.Erased.{Remainder}

@@ -1,7 +1,7 @@
 -- How the next node in order takes the place of a node, as the calls of a cursor show it.
 use Rattle.std.specs.Prelude.{not}
 use Rattle.std.proofs.Common.{◌≡◌, ℕ, ◌+◌, Bool, true, false, List, [], ◌∷◌, ◌++◌, refl, sym, ◌∙◌, ap, Some}
-use Rattle.word_arena.specs.declared.stores.Store.{Store}
+use Rattle.word_layout.specs.declared.stores.Store.{Store}
 use Rattle.rb_trees.specs.declared.Record.{Record}
 use Rattle.rb_trees.specs.Trees.{ColouredTree, tip, branch, shape}
 use Rattle.rb_trees.specs.Turns.{link, set_left, set_right}

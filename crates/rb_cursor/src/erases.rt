@@ -29,15 +29,15 @@ ghost use Rattle.rb_trees.specs.EraseClimb.{top_erased, top_erase_links};
 ghost use Rattle.rb_cursor.specs.Rising.{at_root, left_with, erase_rest, erase_stores};
 ghost use Rattle.rb_cursor.specs.Stores.{Fits, Adds};
 ghost use Rattle.rb_cursor.specs.Tops.{is_fork, row_of};
-ghost use Rattle.word_arena.specs.Copies.{copy_number};
+ghost use Rattle.word_layout.specs.Copies.{copy_number};
 
 use crate::cursors::Cursor;
 use crate::fills::{fill_right_if, lower};
 use crate::probes::Probe;
 use crate::rises::{fill, relink, rise};
 use rb_trees::{Record, Side};
-use word_arena::places::{left_of, right_of};
-use word_arena::{Store, TreeCopy};
+use word_layout::places::{left_of, right_of};
+use word_layout::{Store, TreeCopy};
 
 /// Takes the record that is sought out, if it is there. Returns it; with none, nothing changes.
 #[inline]

@@ -23,13 +23,13 @@ ghost use Rattle.rb_trees.specs.Erased.{filled_left_if_short, left_fill_links_if
 ghost use Rattle.rb_trees.specs.Erased.{filled_right_if_short, right_fill_links_if_short};
 ghost use Rattle.rb_cursor.specs.Zippers.{holding};
 ghost use Rattle.rb_cursor.specs.Stores.{Fits, Adds};
-ghost use Rattle.word_arena.specs.Copies.{copy_number};
+ghost use Rattle.word_layout.specs.Copies.{copy_number};
 
 use crate::cursors::Cursor;
 use crate::relinks::{relink_left, relink_right};
 use crate::turns::{turn_left, turn_right};
 use rb_trees::Side;
-use word_arena::{Store, TreeCopy};
+use word_layout::{Store, TreeCopy};
 
 /// What stands in the place of a node of this colour that had the tree in hand alone. Returns
 /// whether that is one black node short.

@@ -24,14 +24,14 @@ ghost use Rattle.rb_trees.specs.Inserted.{inserted_into, insert_links};
 ghost use Rattle.rb_trees.specs.InsertClimb.{HasNoClashAbove, insert_climb_links};
 ghost use Rattle.rb_cursor.specs.Rising.{at_root, insert_topped, grown, grown_links};
 ghost use Rattle.rb_cursor.specs.Stores.{Fits, Adds};
-ghost use Rattle.word_arena.specs.Copies.{copy_number};
+ghost use Rattle.word_layout.specs.Copies.{copy_number};
 
 use crate::cursors::Cursor;
 use crate::rises::{mend, relink, rise};
 use order_laws::TreeOrder;
 use rb_trees::Record;
-use word_arena::places::{left_of, right_of};
-use word_arena::{Store, TreeCopy};
+use word_layout::places::{left_of, right_of};
+use word_layout::{Store, TreeCopy};
 
 /// Puts a record after those that are not greater, in a tree that is in order. The top may be red
 /// with a red child then.

@@ -19,13 +19,13 @@ ghost use Rattle.rb_trees.specs.Inserted.{right_mend_links};
 ghost use Rattle.rb_cursor.specs.Tops.{red_over_black};
 ghost use Rattle.rb_cursor.specs.Zippers.{altered};
 ghost use Rattle.rb_cursor.specs.Stores.{Fits, Adds};
-ghost use Rattle.word_arena.specs.Copies.{copy_number};
+ghost use Rattle.word_layout.specs.Copies.{copy_number};
 
 use crate::cursors::Cursor;
 use crate::relinks::{relink_left, relink_right};
 use crate::turns::{turn_left, turn_right};
 use rb_trees::{Clash, Side};
-use word_arena::{Store, TreeCopy};
+use word_layout::{Store, TreeCopy};
 
 // Makes the node in hand red and its children black.
 #[inline]

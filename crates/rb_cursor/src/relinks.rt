@@ -3,10 +3,10 @@
 ghost use Rattle.std.specs.Prelude.{◌≡◌, vec_capacity};
 ghost use Rattle.rb_trees.specs.Turns.{relink_left, relink_right, relink_root};
 ghost use Rattle.rb_cursor.specs.Stores.{Fits, Adds};
-ghost use Rattle.word_arena.specs.Copies.{copy_number};
+ghost use Rattle.word_layout.specs.Copies.{copy_number};
 
-use word_arena::places::{left_of, right_of, root_of};
-use word_arena::{Store, TreeCopy};
+use word_layout::places::{left_of, right_of, root_of};
+use word_layout::{Store, TreeCopy};
 
 /// Stores the left link of a node, where it is another than before.
 #[inline(always)]

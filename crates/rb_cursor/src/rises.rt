@@ -6,14 +6,14 @@ ghost use Rattle.rb_trees.specs.EraseClimb.{filled_on, fill_links_on};
 ghost use Rattle.rb_cursor.specs.Zippers.{altered};
 ghost use Rattle.rb_cursor.specs.Rising.{risen, filled_at};
 ghost use Rattle.rb_cursor.specs.Stores.{Fits, Adds};
-ghost use Rattle.word_arena.specs.Copies.{copy_number};
+ghost use Rattle.word_layout.specs.Copies.{copy_number};
 
 use crate::cursors::Cursor;
 use crate::fills::{fill_left_if, fill_right_if};
 use crate::mends::{mend_left, mend_right};
 use crate::relinks::{relink_left, relink_right};
 use rb_trees::Side;
-use word_arena::{Store, TreeCopy};
+use word_layout::{Store, TreeCopy};
 
 /// Goes up to the nearest node above, which keeps its colour.
 #[inline(always)]

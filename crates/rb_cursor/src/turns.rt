@@ -5,11 +5,11 @@ ghost use Rattle.rb_trees.specs.Turns.{turned_right, right_turn_links, turned_le
 ghost use Rattle.rb_trees.specs.Turns.{left_turn_links};
 ghost use Rattle.rb_cursor.specs.Zippers.{altered};
 ghost use Rattle.rb_cursor.specs.Stores.{Fits, Adds};
-ghost use Rattle.word_arena.specs.Copies.{copy_number};
+ghost use Rattle.word_layout.specs.Copies.{copy_number};
 
 use crate::cursors::Cursor;
-use word_arena::places::{left_of, right_of};
-use word_arena::{Store, TreeCopy};
+use word_layout::places::{left_of, right_of};
+use word_layout::{Store, TreeCopy};
 
 /// Puts the left child of the node in hand in its place, and the node on the right of it. The child
 /// gets the first colour, the node the second.

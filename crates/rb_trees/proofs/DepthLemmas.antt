@@ -2,8 +2,8 @@
 use Rattle.std.proofs.Common.{◌≡◌, ℕ, suc, ◌+◌, ◌*◌, ◌≤◌, ◌^◌, true, false, Bool, sym, subst, arith, length}
 use Rattle.std.proofs.lemmas.Nat.{pow-add}
 use Rattle.std.proofs.Math.Nat.{pow-suc, pow-le-pow_right, mul-le-mul}
-use Rattle.word_arena.specs.Words.{Nodes, listed}
-use Rattle.word_arena.proofs.HoldsLemmas.{size, size_listed}
+use Rattle.word_layout.specs.Words.{Nodes, listed}
+use Rattle.word_layout.proofs.HoldsLemmas.{size, size_listed}
 use Rattle.rb_trees.specs.Trees.{ColouredTree, tip, branch, is_red, shape, black_height, HasEqualBlackHeights, HasNoClash, CanBeRedBlack, depth}
 
 -- at most two nodes for each black one, and one more under a red top

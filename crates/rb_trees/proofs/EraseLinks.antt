@@ -3,16 +3,16 @@ use Rattle.std.proofs.Common.{◌≡◌, ◌≢◌, ℕ, suc, ◌<◌, ◌≤◌
 use Rattle.std.specs.Prelude.{not}
 use Rattle.std.specs.declared.cmp.Ordering.{Ordering}
 use Rattle.std.specs.declared.cmp.Ordering.TheVariants.{Less, Equal, Greater}
-use Rattle.word_arena.specs.declared.stores.Store.{Store}
-use Rattle.word_arena.specs.Words.{Nodes, none, fork}
-use Rattle.word_arena.specs.Stores.{words_after_all}
-use Rattle.word_arena.proofs.StoreLemmas.{after_append, length_after}
+use Rattle.word_layout.specs.declared.stores.Store.{Store}
+use Rattle.word_layout.specs.Words.{Nodes, none, fork}
+use Rattle.word_layout.specs.Stores.{words_after_all}
+use Rattle.word_layout.proofs.StoreLemmas.{after_append, length_after}
 use Rattle.rb_trees.specs.declared.Record.{Record}
 use Rattle.rb_trees.specs.Trees.{ColouredTree, tip, branch, is_red, blackened, shape}
 use Rattle.rb_trees.specs.Turns.{link, set_left, set_right, turned_right, right_turn_links, turned_left, left_turn_links, relink_left, relink_right}
 use Rattle.rb_trees.specs.Erased.{Remainder, whole, lowered, filled_left_of_black, left_fill_links_of_black, filled_left, left_fill_links, filled_right_of_black, right_fill_links_of_black, filled_right, right_fill_links, filled_left_if_short, left_fill_links_if_short, filled_right_if_short, right_fill_links_if_short, first_record, without_first, first_links, without_top, top_links, erased_at, erased_from, links_at, erase_links}
 use Rattle.rb_trees.specs.Linked.{Inner, Among, IsSeparate}
-use Rattle.word_arena.proofs.OwnedLinkLemmas.{owns_append, owns_weaker}
+use Rattle.word_layout.proofs.OwnedLinkLemmas.{owns_append, owns_weaker}
 use Rattle.rb_trees.proofs.RelinkLemmas.{Relinks, inner_kept, link_fits, same, then, left_step, placed}
 use Rattle.rb_trees.proofs.InsertLinks.{shape_blackened, in_left, in_right, right_turn_relinks, left_turn_relinks}
 

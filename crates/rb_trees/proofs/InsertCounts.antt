@@ -4,8 +4,8 @@ use Rattle.std.specs.Prelude.{◌==◌}
 use Rattle.std.proofs.lemmas.Bool.{eq-eqb}
 use Rattle.order_laws.specs.declared.items.Item.{Item}
 use Rattle.facts.proofs.Lists.{length-append_nil}
-use Rattle.word_arena.specs.declared.stores.Store.{Store}
-use Rattle.word_arena.specs.Words.{root_word}
+use Rattle.word_layout.specs.declared.stores.Store.{Store}
+use Rattle.word_layout.specs.Words.{root_word}
 use Rattle.rb_trees.specs.declared.Record.{Record}
 use Rattle.rb_trees.specs.declared.Clash.{Clash}
 use Rattle.rb_trees.specs.declared.Clash.TheVariants.{Nowhere, Left, Right}

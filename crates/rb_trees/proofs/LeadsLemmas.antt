@@ -7,16 +7,16 @@ use Rattle.std.proofs.lemmas.List.{map-append}
 use Rattle.std.proofs.lemmas.List.Elements.{Contains-append_left, Contains-append_right}
 use Rattle.facts.proofs.Each.{all_append, all_left, all_right}
 use Rattle.facts.proofs.Members.{Contains-rest}
-use Rattle.word_arena.specs.declared.stores.Store.{Store}
-use Rattle.word_arena.specs.Words.{Nodes, none, fork, at, root_word, left_word, right_word, item_at, items, listed, words_for, Leads}
-use Rattle.word_arena.specs.Stores.{words_after_all, IsLinkWord, AreLinkStores}
-use Rattle.word_arena.proofs.StoreLemmas.{at_stored, at_other, untouched, after_append, length_after}
+use Rattle.word_layout.specs.declared.stores.Store.{Store}
+use Rattle.word_layout.specs.Words.{Nodes, none, fork, at, root_word, left_word, right_word, item_at, items, listed, words_for, Leads}
+use Rattle.word_layout.specs.Stores.{words_after_all, IsLinkWord, AreLinkStores}
+use Rattle.word_layout.proofs.StoreLemmas.{at_stored, at_other, untouched, after_append, length_after}
 use Rattle.rb_trees.specs.declared.Record.{Record}
 use Rattle.rb_trees.specs.Trees.{ColouredTree, tip, branch, shape, rows}
 use Rattle.rb_trees.specs.Turns.{link, relink_root}
 use Rattle.rb_trees.specs.Linked.{Inner, Among}
 use Rattle.rb_trees.specs.Found.{items_of_records}
-use Rattle.word_arena.proofs.OwnedLinkLemmas.{IsLinkOf, root_no_link, owns_no_root, owns_links, owns_values}
+use Rattle.word_layout.proofs.OwnedLinkLemmas.{IsLinkOf, root_no_link, owns_no_root, owns_links, owns_values}
 use Rattle.rb_trees.proofs.RelinkLemmas.{Relinks, link_fits}
 
 pub leads_link : (m : List ℕ) (n c w : ℕ) (t : Nodes) → Leads m n c w t → w ≡ link t

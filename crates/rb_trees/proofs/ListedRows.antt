@@ -8,7 +8,7 @@ use Rattle.facts.proofs.Members.{Contains-cons_cases, Contains-rest}
 use Rattle.rb_trees.proofs.LeadsLemmas.{listed_rows}
 use Rattle.rb_trees.specs.Found.{has_node, items_of_records}
 use Rattle.rb_trees.specs.Trees.{ColouredTree, branch, rows, shape, tip}
-use Rattle.word_arena.specs.Words.{listed}
+use Rattle.word_layout.specs.Words.{listed}
 
 pub as_many_rows : (t : ColouredTree) → length (listed (shape t)) ≡ length (items_of_records (rows t))
 as_many_rows t = ap length (listed_rows t) ∙ length-map (rows t) (λ r. r.node)

@@ -2,13 +2,13 @@
 use Rattle.std.proofs.Common.{◌≡◌, ◌≢◌, ℕ, suc, ◌<◌, ◌≤◌, true, false, cond, List, [], ◌∷◌, ◌++◌, length, refl, sym, ◌∙◌, subst, inl, inr, ⊎_elim, arith, length-set}
 use Rattle.std.specs.Prelude.{◌⊎◌, ◌==◌, slice_set}
 use Rattle.std.proofs.lemmas.Bool.{eqb-true}
-use Rattle.word_arena.proofs.WordLemmas.{left_not_left, left_not_right, right_not_right}
-use Rattle.word_arena.proofs.LinkLemmas.{left_in, right_in}
-use Rattle.word_arena.specs.declared.stores.Store.{Store}
-use Rattle.word_arena.specs.Words.{Nodes, none, fork, at, left_word, right_word, words_for}
-use Rattle.word_arena.specs.Stores.{words_after_all}
-use Rattle.word_arena.proofs.StoreLemmas.{at_stored, at_other, after_append, length_after}
-use Rattle.word_arena.proofs.OwnedLinkLemmas.{Owns, owns_append, owns_weaker, link_kept}
+use Rattle.word_layout.proofs.WordLemmas.{left_not_left, left_not_right, right_not_right}
+use Rattle.word_layout.proofs.LinkLemmas.{left_in, right_in}
+use Rattle.word_layout.specs.declared.stores.Store.{Store}
+use Rattle.word_layout.specs.Words.{Nodes, none, fork, at, left_word, right_word, words_for}
+use Rattle.word_layout.specs.Stores.{words_after_all}
+use Rattle.word_layout.proofs.StoreLemmas.{at_stored, at_other, after_append, length_after}
+use Rattle.word_layout.proofs.OwnedLinkLemmas.{Owns, owns_append, owns_weaker, link_kept}
 use Rattle.rb_trees.specs.Turns.{link, set_left, set_right, relink_left, relink_right}
 use Rattle.rb_trees.specs.Linked.{Inner, Among, IsSeparate}
 

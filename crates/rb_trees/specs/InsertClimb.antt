@@ -1,7 +1,7 @@
 -- An insert seen from the new leaf: at each node above, its link is stored where it changed, and
 -- two red nodes in line are mended.
 use Rattle.std.specs.Prelude.{◌≡◌, ℕ, suc, Bool, true, false, List, [], ◌∷◌, ◌++◌}
-use Rattle.word_arena.specs.declared.stores.Store.{Store}
+use Rattle.word_layout.specs.declared.stores.Store.{Store}
 use Rattle.rb_trees.specs.declared.Side.{Side}
 use Rattle.rb_trees.specs.declared.Side.TheVariants.{Left, Right}
 use Rattle.rb_trees.specs.Trees.{ColouredTree, is_red, shape}

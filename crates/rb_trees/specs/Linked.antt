@@ -1,6 +1,6 @@
 -- The links of a tree in a memory.
 use Rattle.std.specs.Prelude.{◌≡◌, ℕ, ◌⊎◌, List}
-use Rattle.word_arena.specs.Words.{Nodes, none, fork, at, left_word, right_word}
+use Rattle.word_layout.specs.Words.{Nodes, none, fork, at, left_word, right_word}
 use Rattle.rb_trees.specs.Turns.{link}
 
 -- the links inside a tree stand in the words of its nodes

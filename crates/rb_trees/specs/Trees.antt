@@ -1,6 +1,6 @@
 -- Trees of red and black nodes, each with its record.
 use Rattle.std.specs.Prelude.{◌≡◌, ℕ, suc, Bool, true, false, List, [], ◌∷◌, ◌++◌, max}
-use Rattle.word_arena.specs.Words.{Nodes, none, fork}
+use Rattle.word_layout.specs.Words.{Nodes, none, fork}
 use Rattle.rb_trees.specs.declared.Record.{Record}
 
 -- whether the node is red, its left subtree, its record, its right subtree

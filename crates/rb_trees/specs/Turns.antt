@@ -1,7 +1,7 @@
 -- Rotations: a child takes the place of a node, which becomes its child on the other side.
 use Rattle.std.specs.Prelude.{ℕ, suc, Bool, List, [], ◌∷◌, if◌then◌else◌, ◌==◌}
-use Rattle.word_arena.specs.declared.stores.Store.{Store}
-use Rattle.word_arena.specs.Words.{Nodes, none, fork, root_word, left_word, right_word}
+use Rattle.word_layout.specs.declared.stores.Store.{Store}
+use Rattle.word_layout.specs.Words.{Nodes, none, fork, root_word, left_word, right_word}
 use Rattle.rb_trees.specs.Trees.{ColouredTree, tip, branch, shape}
 
 -- the link that leads to a tree

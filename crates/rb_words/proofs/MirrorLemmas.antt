@@ -9,13 +9,13 @@ use Rattle.std.proofs.lemmas.Bool.{ne_eqb, cases_eq}
 use Rattle.order_laws.specs.declared.items.Item.{Item}
 use Rattle.order_laws.specs.Orders.{Order}
 use Rattle.facts.proofs.Numbers.{below_suc}
-use Rattle.word_arena.specs.declared.stores.Store.{Store}
-use Rattle.word_arena.specs.Words.{Nodes, none, fork, words_for, at, item_at, items, Leads, Holds}
-use Rattle.word_arena.specs.Words.{root_word, left_word, right_word, a_word, b_word, tag_word}
-use Rattle.word_arena.specs.Stores.{words_after, words_after_all, IsLinkWord, IsItemWord}
-use Rattle.word_arena.specs.Stores.{AreLinkStores}
-use Rattle.word_arena.proofs.WordLemmas.{of_item}
-use Rattle.word_arena.proofs.StoreLemmas.{at_stored, at_other, same_store, after_append}
+use Rattle.word_layout.specs.declared.stores.Store.{Store}
+use Rattle.word_layout.specs.Words.{Nodes, none, fork, words_for, at, item_at, items, Leads, Holds}
+use Rattle.word_layout.specs.Words.{root_word, left_word, right_word, a_word, b_word, tag_word}
+use Rattle.word_layout.specs.Stores.{words_after, words_after_all, IsLinkWord, IsItemWord}
+use Rattle.word_layout.specs.Stores.{AreLinkStores}
+use Rattle.word_layout.proofs.WordLemmas.{of_item}
+use Rattle.word_layout.proofs.StoreLemmas.{at_stored, at_other, same_store, after_append}
 use Rattle.rb_words.specs.Pictures.{Picture, IsPictured}
 use Rattle.rb_words.specs.Plans.{AreLinks, item_stores, Inserts, LeadsWithItem, Erases}
 use Rattle.rb_words.specs.Plans.{LeadsByLinks}

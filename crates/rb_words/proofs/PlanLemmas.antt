@@ -23,16 +23,16 @@ use Rattle.facts.proofs.Lists.{is_some-slice_get, length-insert, length-remove_a
 use Rattle.facts.proofs.Members.{Contains-insert, Contains-insert_cases, Contains-remove}
 use Rattle.order_laws.proofs.MeetLemmas.{not_meeting}
 use Rattle.rb_trees.proofs.ListedRows.{as_many_rows}
-use Rattle.word_arena.proofs.LinkLemmas.{item_kept}
-use Rattle.word_arena.specs.Limits.{most_nodes}
-use Rattle.word_arena.specs.declared.stores.Store.{Store}
-use Rattle.word_arena.specs.Words.{Nodes, none, fork, words_for, a_word, b_word}
-use Rattle.word_arena.specs.Words.{tag_word, item_at, listed, Reaches, InUse}
-use Rattle.word_arena.specs.Stores.{words_after_all, AreLinkStores}
-use Rattle.word_arena.proofs.WordLemmas.{unused_item}
-use Rattle.word_arena.proofs.StoreLemmas.{length_after, after_append, at_stored, at_other}
-use Rattle.word_arena.proofs.HoldsLemmas.{tree_untouched}
-use Rattle.word_arena.proofs.ReachLemmas.{reached_listed}
+use Rattle.word_layout.proofs.LinkLemmas.{item_kept}
+use Rattle.word_layout.specs.Limits.{most_nodes}
+use Rattle.word_layout.specs.declared.stores.Store.{Store}
+use Rattle.word_layout.specs.Words.{Nodes, none, fork, words_for, a_word, b_word}
+use Rattle.word_layout.specs.Words.{tag_word, item_at, listed, Reaches, InUse}
+use Rattle.word_layout.specs.Stores.{words_after_all, AreLinkStores}
+use Rattle.word_layout.proofs.WordLemmas.{unused_item}
+use Rattle.word_layout.proofs.StoreLemmas.{length_after, after_append, at_stored, at_other}
+use Rattle.word_layout.proofs.HoldsLemmas.{tree_untouched}
+use Rattle.word_layout.proofs.ReachLemmas.{reached_listed}
 use Rattle.rb_trees.specs.declared.Record.{Record}
 use Rattle.rb_trees.specs.Trees.{ColouredTree, blackened, shape, rows, depth, IsRedBlack}
 use Rattle.rb_trees.specs.Turns.{link, relink_root}

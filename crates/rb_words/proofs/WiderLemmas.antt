@@ -2,9 +2,9 @@
 use Rattle.std.proofs.Common.{ℕ, ◌<◌, ◌≤◌, List, arith}
 use Rattle.order_laws.specs.Orders.{Order}
 use Rattle.facts.proofs.Each.{all_weaker}
-use Rattle.word_arena.specs.Words.{listed}
-use Rattle.word_arena.specs.Wider.{wider_words}
-use Rattle.word_arena.proofs.WiderLemmas.{length_wider, holds_wider}
+use Rattle.word_layout.specs.Words.{listed}
+use Rattle.word_layout.specs.Wider.{wider_words}
+use Rattle.word_layout.proofs.WiderLemmas.{length_wider, holds_wider}
 use Rattle.rb_words.specs.Pictures.{Picture, IsPicture, IsPictured}
 
 pub picture_wider : {K : Type 0} (o : Order K) (p : Picture) (n : ℕ) → p.capacity ≤ n → IsPicture o p →

@@ -2,8 +2,8 @@
 use Rattle.std.specs.Prelude.{◌≡◌, ℕ, ◌+◌, ◌==◌, if◌then◌else◌, List, map}
 use Rattle.order_laws.specs.declared.items.Item.{Item}
 use Rattle.order_laws.specs.Orders.{Order}
-use Rattle.word_arena.specs.declared.stores.Store.{Store}
-use Rattle.word_arena.specs.Words.{root_word}
+use Rattle.word_layout.specs.declared.stores.Store.{Store}
+use Rattle.word_layout.specs.Words.{root_word}
 use Rattle.rb_words.specs.Pictures.{Picture}
 use Rattle.rb_words.specs.Plans.{Inserts, LeadsWithItem, Erases, LeadsByLinks}
 

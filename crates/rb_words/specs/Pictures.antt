@@ -6,8 +6,8 @@ use Rattle.order_laws.specs.declared.items.Item.{Item}
 use Rattle.order_laws.specs.Items.{item_code}
 use Rattle.order_laws.specs.Orders.{Order}
 use Rattle.order_laws.specs.Tables.{IsTable}
-use Rattle.word_arena.specs.Words.{Nodes, none, listed, Holds, words_for}
-use Rattle.word_arena.specs.NodesCode.{nodes_code}
+use Rattle.word_layout.specs.Words.{Nodes, none, listed, Holds, words_for}
+use Rattle.word_layout.specs.NodesCode.{nodes_code}
 use Rattle.rb_trees.specs.Trees.{CanBeRedBlack}
 use Rattle.rb_words.specs.Rows.{AreDistinct}
 

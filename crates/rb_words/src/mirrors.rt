@@ -12,15 +12,15 @@
 //! ```
 
 ghost use Rattle.std.specs.Prelude.{◌≡◌, ◌+◌, ◌≤◌, ◌++◌, ◌<◌, ◌^◌, length, vec_len, vec_capacity};
-ghost use Rattle.word_arena.specs.Layouts.{capacity_of};
-ghost use Rattle.word_arena.specs.Stores.{AreLinkStores};
+ghost use Rattle.word_layout.specs.Layouts.{capacity_of};
+ghost use Rattle.word_layout.specs.Stores.{AreLinkStores};
 ghost use Rattle.rb_words.specs.Pictures.{Picture, IsPicture};
 ghost use Rattle.rb_words.specs.Mirrors.{mirror_stores, mirror_store, second_picture};
 ghost use Rattle.rb_words.specs.Mirrors.{AreInsertsMirrored, ArePlansWithItemMirrored};
 ghost use Rattle.rb_words.specs.Mirrors.{AreErasesMirrored, ArePlansByLinksMirrored};
 
 use order_laws::TreeOrder;
-use word_arena::{Layout, Store};
+use word_layout::{Layout, Store};
 
 /// Appends for each of these stores of copy 0's root and links the store of the same value in copy
 /// 1. Takes no memory.

@@ -2,8 +2,8 @@
 
 ghost use Rattle.std.specs.Prelude.{◌≡◌, ◌<◌, ◌≤◌, ◌⊎◌, ℕ, Contains};
 ghost use Rattle.order_laws.specs.Orders.{half_open, half_open_lawful};
-ghost use Rattle.word_arena.specs.Layouts.{capacity_of};
-ghost use Rattle.word_arena.specs.Words.{none, listed};
+ghost use Rattle.word_layout.specs.Layouts.{capacity_of};
+ghost use Rattle.word_layout.specs.Words.{none, listed};
 
 use super::*;
 use order_laws::{HalfOpen, Item, TreeOrder};
@@ -11,9 +11,9 @@ use std::alloc::Global;
 use std::cmp::Ordering;
 use std::process::Abort;
 use std::test::Fail;
-use word_arena::held::held_in;
-use word_arena::places::{left_of, right_of, root_of};
-use word_arena::{Layout, Store, TreeCopy, apply};
+use word_layout::held::held_in;
+use word_layout::places::{left_of, right_of, root_of};
+use word_layout::{Layout, Store, TreeCopy, apply};
 
 // Half-open ranges in an order that offers nothing beyond its laws.
 struct Plain;

@@ -8,10 +8,10 @@ ghost use Rattle.std.specs.Prelude.{IsTrue, IfOk, IfErr, OnOk, IfSome, IsSome, i
 ghost use Rattle.std.specs.Prelude.{Contains, length, vec_len, vec_capacity};
 ghost use Rattle.std.specs.List.Sorted.{IsNonDecreasing};
 ghost use Rattle.order_laws.specs.Tables.{IsTable, has, meets, without_all, place_for, place_of};
-ghost use Rattle.word_arena.specs.declared.stores.Store.{Store};
-ghost use Rattle.word_arena.specs.Layouts.{capacity_of};
-ghost use Rattle.word_arena.specs.Copies.{copy_number};
-ghost use Rattle.word_arena.specs.Words.{listed};
+ghost use Rattle.word_layout.specs.declared.stores.Store.{Store};
+ghost use Rattle.word_layout.specs.Layouts.{capacity_of};
+ghost use Rattle.word_layout.specs.Copies.{copy_number};
+ghost use Rattle.word_layout.specs.Words.{listed};
 ghost use Rattle.rb_words.specs.Pictures.{IsPicture, empty_picture};
 ghost use Rattle.rb_words.specs.Wider.{IsPicturedWider};
 ghost use Rattle.rb_words.specs.Plans.{item_stores, Inserts, LeadsWithItem, Erases, LeadsByLinks};
@@ -32,8 +32,8 @@ use rb_cursor::searches::{find_any, has, meets, meets_any, reaches};
 use rb_trees::Record;
 use std::alloc::Global;
 use std::marker::{Model, PhantomData};
-use word_arena::places::{a_of, b_of, tag_of};
-use word_arena::{Layout, Store, TreeCopy, append};
+use word_layout::places::{a_of, b_of, tag_of};
+use word_layout::{Layout, Store, TreeCopy, append};
 
 /// A plan has at most so many stores for each item, whatever the table.
 pub const STORES: usize = 16;
@@ -53,8 +53,8 @@ pub struct Shape<O: TreeOrder> {
 }
 
 impl<O: TreeOrder> Model for Shape<O> {
-    ghost use Rattle.word_arena.specs.Layouts.{capacity_of};
-    ghost use Rattle.word_arena.specs.Copies.{copy_number};
+    ghost use Rattle.word_layout.specs.Layouts.{capacity_of};
+    ghost use Rattle.word_layout.specs.Copies.{copy_number};
     ghost use Rattle.rb_words.specs.Pictures.{Picture, picture_code, IsPicture};
     ghost use Rattle.rb_words.specs.TreePictures.{picture_of};
     ghost use Rattle.rb_trees.specs.Trees.{rows, IsRedBlack};

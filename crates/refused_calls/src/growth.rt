@@ -12,7 +12,7 @@ use order_laws::{HalfOpen, Item, Refusal};
 use shared_lookup::{Ledger, Open};
 use std::alloc::Global;
 use std::io::Print;
-use word_arena::Layout;
+use word_layout::Layout;
 
 /// An item of the table before it is enlarged, and one that comes after.
 const FIRST: Item = Item {

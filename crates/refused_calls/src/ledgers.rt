@@ -10,7 +10,7 @@ use order_laws::{HalfOpen, Refusal};
 use shared_lookup::{Change, Ledger, Open};
 use std::alloc::Global;
 use std::io::{self, Print};
-use word_arena::Layout;
+use word_layout::Layout;
 
 const READERS: u32 = 2;
 

@@ -22,7 +22,7 @@ mod writers;
 use order_laws::Refusal;
 use std::alloc::Global;
 use std::io;
-use word_arena::Layout;
+use word_layout::Layout;
 use workloads::numbers;
 
 /// What ends the program before its last call: memory was refused for what a call is given, or a

@@ -7,7 +7,7 @@ use latch_table::{InHand, Reader, Try, Writer, open};
 use order_laws::{HalfOpen, Item, Refusal};
 use std::alloc::Global;
 use std::io::{self, Print};
-use word_arena::Layout;
+use word_layout::Layout;
 
 const READERS: u32 = 2;
 

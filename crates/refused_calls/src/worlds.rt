@@ -7,7 +7,7 @@ use latch_steps::{Command, Event, Note, Reply, World, drive, run};
 use order_laws::{HalfOpen, Refusal};
 use std::alloc::Global;
 use std::io::{self, Print};
-use word_arena::Layout;
+use word_layout::Layout;
 
 /// How many readers have a pending lookup while the updates are made.
 const READERS: u32 = 3;

@@ -6,7 +6,7 @@ use latch_core::{Update, WriterCore};
 use order_laws::{HalfOpen, Refusal};
 use std::alloc::Global;
 use std::io::{self, Print};
-use word_arena::Layout;
+use word_layout::Layout;
 
 /// What a writer returns when it is asked.
 #[derive(Clone, Copy, PartialEq, Eq)]

@@ -5,7 +5,7 @@ use Rattle.std.proofs.lemmas.List.{take-append-le, take_all}
 use Rattle.order_laws.specs.declared.refusals.Refusal.{Refusal}
 use Rattle.order_laws.specs.Orders.{half_open}
 use Rattle.facts.proofs.Lists.{slice_get-push_cases}
-use Rattle.word_arena.specs.Words.{at}
+use Rattle.word_layout.specs.Words.{at}
 use Rattle.latch_core.specs.declared.updates.Update.{Update}
 use Rattle.latch_core.specs.Updates.{refusal_for}
 use Rattle.latch_core.specs.Latches.{PendingUpdate}

@@ -3,7 +3,7 @@ use Rattle.std.proofs.Common.{◌≡◌, ℕ, List, Option, Some, sym, ◌∙◌
 use Rattle.std.specs.Global.{Vec}
 use Rattle.std.specs.Prelude.{All}
 use Rattle.atomic_table.specs.Seated.{TableId}
-use Rattle.word_arena.specs.declared.layouts.Layout.{Layout}
+use Rattle.word_layout.specs.declared.layouts.Layout.{Layout}
 use Rattle.latch_table.specs.declared.knowledge.Origin.TheVariants.{Start}
 use Rattle.latch_table.specs.Readers.{ReaderState, new_reader}
 use Rattle.latch_table.specs.Seats.{first_knowledge}

@@ -3,8 +3,8 @@ use Rattle.std.specs.Prelude.{◌≡◌, ◌⊎◌, List, length, All}
 use Rattle.atomic_table.specs.Seated.{TableId}
 use Rattle.order_laws.specs.declared.refusals.Refusal.{Refusal}
 use Rattle.order_laws.specs.declared.refusals.Refusal.TheVariants.{OutOfMemory, BadCapacity}
-use Rattle.word_arena.specs.declared.layouts.Layout.{Layout}
-use Rattle.word_arena.specs.Layouts.{capacity_of, limit_of}
+use Rattle.word_layout.specs.declared.layouts.Layout.{Layout}
+use Rattle.word_layout.specs.Layouts.{capacity_of, limit_of}
 use Rattle.latch_table.specs.Readers.{ReaderState}
 use Rattle.latch_table.specs.Enlarging.{AreReadersAt, IsNoSmaller, reader_knowing}
 use Rattle.shared_lookup.specs.Ledgers.{LedgerState}

@@ -7,8 +7,8 @@ use Rattle.order_laws.specs.declared.items.Item.{Item}
 use Rattle.order_laws.specs.declared.refusals.Refusal.{Refusal}
 use Rattle.order_laws.specs.declared.refusals.Refusal.TheVariants.{OutOfMemory}
 use Rattle.order_laws.specs.Orders.{half_open}
-use Rattle.word_arena.specs.declared.layouts.Layout.{Layout}
-use Rattle.word_arena.specs.Layouts.{capacity_of, limit_of}
+use Rattle.word_layout.specs.declared.layouts.Layout.{Layout}
+use Rattle.word_layout.specs.Layouts.{capacity_of, limit_of}
 use Rattle.latch_core.specs.declared.updates.Update.{Update}
 use Rattle.latch_core.specs.Sequences.{generation_of}
 use Rattle.latch_core.specs.Updates.{refusal_for}

@@ -9,7 +9,7 @@ use Rattle.order_laws.specs.declared.refusals.Refusal.{Refusal}
 use Rattle.order_laws.specs.declared.refusals.Refusal.TheVariants.{OutOfMemory, BadCapacity}
 use Rattle.order_laws.specs.Orders.{half_open}
 use Rattle.order_laws.specs.Tables.{look}
-use Rattle.word_arena.specs.Limits.{most_nodes}
+use Rattle.word_layout.specs.Limits.{most_nodes}
 use Rattle.latch_table.specs.Limits.{most_readers}
 use Rattle.latch_core.specs.declared.updates.Update.{Update}
 use Rattle.latch_core.specs.Histories.{replay}

@@ -20,7 +20,7 @@ use modules::{Catalog, Held};
 use order_laws::{HalfOpen, Refusal};
 use std::alloc::Global;
 use std::marker::Model;
-use word_arena::Layout;
+use word_layout::Layout;
 
 mod enlarging;
 

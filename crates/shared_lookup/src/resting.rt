@@ -18,7 +18,7 @@ use latch_table::{Did, InHand, Reader, Writer, meet, open};
 use order_laws::{HalfOpen, Item, Refusal};
 use std::alloc::Global;
 use std::marker::Model;
-use word_arena::Layout;
+use word_layout::Layout;
 
 /// A writer with no pending update between its calls.
 #[derive(Drop)]

@@ -3,8 +3,8 @@
 ghost use Rattle.std.specs.Prelude.{◌≡◌, ◌≤◌, length, All, Some, IfOk, IfErr, vec_len};
 ghost use Rattle.order_laws.specs.declared.refusals.Refusal.TheVariants.{OutOfMemory};
 ghost use Rattle.modules.specs.Catalogs.{regions_of};
-ghost use Rattle.word_arena.specs.Layouts.{capacity_of};
-ghost use Rattle.word_arena.specs.Limits.{most_nodes};
+ghost use Rattle.word_layout.specs.Layouts.{capacity_of};
+ghost use Rattle.word_layout.specs.Limits.{most_nodes};
 ghost use Rattle.latch_table.specs.Limits.{most_readers};
 ghost use Rattle.shared_lookup.specs.Readers.{IsReaderOf};
 ghost use Rattle.shared_lookup.specs.Servings.{EachHasOutcome, EachIsAnswered, EachIsFoundIn};
@@ -28,7 +28,7 @@ use std::marker::Brand;
 use std::sync::Wait;
 use std::thread;
 use std::thread::Threads;
-use word_arena::Layout;
+use word_layout::Layout;
 
 /// What all threads came back with.
 #[derive(Drop)]

@@ -11,7 +11,7 @@ use std::process::Abort;
 use std::sync::atomic::{AtomicU64, Ordering};
 use std::test::Fail;
 use std::time::{Clock, Instant};
-use word_arena::Layout;
+use word_layout::Layout;
 
 /// How many items there are, and how many loads a lookup of one makes at most.
 const ITEMS: u64 = 63;

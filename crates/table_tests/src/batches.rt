@@ -8,7 +8,7 @@ use order_laws::{Closed, HalfOpen, Item, Refusal, TreeOrder};
 use std::alloc::Global;
 use std::process::Abort;
 use std::test::Fail;
-use word_arena::{Layout, apply};
+use word_layout::{Layout, apply};
 
 /// Item number i of a row that lies side by side, from 0x100 on.
 pub fn in_row(i: u64) -> Item {

@@ -9,7 +9,7 @@ use std::alloc::Global;
 use std::cmp::Ordering;
 use std::process::Abort;
 use std::test::Fail;
-use word_arena::{Layout, TreeCopy, apply};
+use word_layout::{Layout, TreeCopy, apply};
 
 /// An address that is no plain number.
 #[derive(Clone, Copy, Debug, PartialEq, Eq, Drop)]

@@ -8,7 +8,7 @@ use order_laws::{HalfOpen, Item, Refusal};
 use std::alloc::Global;
 use std::process::Abort;
 use std::test::Fail;
-use word_arena::Layout;
+use word_layout::Layout;
 
 /// A whole update, and the generation after it.
 pub(crate) fn carry_out(writer: &mut Writer<HalfOpen>, u: Update) -> Result<u64, Refusal>

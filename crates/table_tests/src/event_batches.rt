@@ -7,7 +7,7 @@ use order_laws::{HalfOpen, Item};
 use std::alloc::Global;
 use std::process::Abort;
 use std::test::Fail;
-use word_arena::Layout;
+use word_layout::Layout;
 
 #[test]
 fn a_batch_is_seen_whole_or_not_at_all(rt: HostRuntime) -> Result<(), Fail> {

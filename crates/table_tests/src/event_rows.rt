@@ -6,7 +6,7 @@ use order_laws::{HalfOpen, Item};
 use std::alloc::Global;
 use std::process::Abort;
 use std::test::Fail;
-use word_arena::Layout;
+use word_layout::Layout;
 
 /// How far the first addresses of two items lie apart.
 const STEP: u64 = 16;

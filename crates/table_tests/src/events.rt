@@ -6,7 +6,7 @@ use order_laws::{Closed, HalfOpen, Item, Refusal};
 use std::alloc::Global;
 use std::process::Abort;
 use std::test::Fail;
-use word_arena::Layout;
+use word_layout::Layout;
 
 pub(crate) fn item(a: u64, b: u64, tag: u64) -> Item {
     Item { a, b, tag }

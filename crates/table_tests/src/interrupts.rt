@@ -8,7 +8,7 @@ use order_laws::{HalfOpen, Item};
 use std::alloc::Global;
 use std::process::Abort;
 use std::test::Fail;
-use word_arena::Layout;
+use word_layout::Layout;
 
 /// An address above all items.
 const ABOVE: u64 = 0x400;

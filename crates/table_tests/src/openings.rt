@@ -8,7 +8,7 @@ use order_laws::HalfOpen;
 use std::alloc::Global;
 use std::process::Abort;
 use std::test::Fail;
-use word_arena::Layout;
+use word_layout::Layout;
 
 /// A table with so many readers, each of which answers.
 fn opens_with(rt: &impl Abort, alloc: Global, count: u32) -> Result<(), Fail> {

@@ -6,7 +6,7 @@ use latch_table::{Did, Try, meet, open};
 use order_laws::{HalfOpen, Refusal};
 use std::process::Abort;
 use std::test::Fail;
-use word_arena::Layout;
+use word_layout::Layout;
 
 // The calls of one update, at each of its stops.
 #[test]

@@ -4,7 +4,7 @@ use order_laws::{HalfOpen, Refusal, TreeOrder};
 use std::alloc::Global;
 use std::process::Abort;
 use std::test::Fail;
-use word_arena::Layout;
+use word_layout::Layout;
 
 /// Widens the writer, and puts the words of the new nodes after those that there are.
 fn widen<O: TreeOrder>(table: &mut Table<O>, alloc: Global, l: Layout) -> Result<(), Refusal> {

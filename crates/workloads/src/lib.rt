@@ -3,7 +3,7 @@
 #![tactic(auto)]
 
 ghost use Rattle.std.specs.Prelude.{◌≡◌, ◌+◌, ◌*◌, ◌<◌, ◌≤◌, IfOk, length};
-ghost use Rattle.word_arena.specs.Limits.{most_nodes};
+ghost use Rattle.word_layout.specs.Limits.{most_nodes};
 
 use order_laws::Item;
 use rand_xoshiro::SplitMix64;

@@ -1,8 +1,8 @@
 //! One attempt of a reader in shared words.
 
 ghost use Rattle.std.specs.Prelude.{◌≡◌, []};
-ghost use Rattle.word_arena.specs.Layouts.{capacity_of};
-ghost use Rattle.word_arena.specs.Words.{words_for};
+ghost use Rattle.word_layout.specs.Layouts.{capacity_of};
+ghost use Rattle.word_layout.specs.Words.{words_for};
 ghost use Rattle.latch_table.specs.Seats.{reader_knowledge, reader_of};
 ghost use Rattle.latch_table.specs.Readers.{Tried};
 
@@ -11,7 +11,7 @@ use super::words::ReadWords;
 use crate::knowledge::TableSeat;
 use latch_core::{Attempted, Loads, attempt_from};
 use order_laws::TreeOrder;
-use word_arena::Layout;
+use word_layout::Layout;
 
 /// One attempt through a seat.
 #[inline(always)]

@@ -2,8 +2,8 @@
 
 ghost use Rattle.std.specs.Prelude.{◌≡◌, []};
 ghost use Rattle.std.specs.Arc.{arc_value};
-ghost use Rattle.word_arena.specs.Layouts.{capacity_of};
-ghost use Rattle.word_arena.specs.Words.{words_for};
+ghost use Rattle.word_layout.specs.Layouts.{capacity_of};
+ghost use Rattle.word_layout.specs.Words.{words_for};
 ghost use Rattle.latch_table.specs.Rule.{capacity_in};
 ghost use Rattle.latch_table.specs.Seats.{reader_knowledge, reader_of};
 ghost use Rattle.latch_table.specs.Readers.{Tried, reader_at};
@@ -17,7 +17,7 @@ use order_laws::TreeOrder;
 use std::alloc::Global;
 use std::marker::Model;
 use std::sync::Arc;
-use word_arena::Layout;
+use word_layout::Layout;
 
 /// A reader of the table: a seat of its own, and with it what it knows.
 #[derive(Drop)]
@@ -30,8 +30,8 @@ pub struct Reader<O: TreeOrder> {
 impl<O: TreeOrder> Model for Reader<O> {
     ghost use Rattle.std.specs.Prelude.{◌≡◌, []};
     ghost use Rattle.std.specs.Arc.{arc_value};
-    ghost use Rattle.word_arena.specs.Layouts.{capacity_of};
-    ghost use Rattle.word_arena.specs.Words.{words_for};
+    ghost use Rattle.word_layout.specs.Layouts.{capacity_of};
+    ghost use Rattle.word_layout.specs.Words.{words_for};
     ghost use Rattle.latch_table.specs.Rule.{capacity_in};
     ghost use Rattle.latch_table.specs.Seats.{reader_knowledge, reader_of};
     ghost use Rattle.latch_table.specs.Readers.{ReaderState, reader_at};

@@ -1,8 +1,8 @@
 //! The writer's own lookups.
 
 ghost use Rattle.std.specs.Prelude.{◌≡◌, ◌+◌, ◌*◌, ◌≤◌, [], Some, length};
-ghost use Rattle.word_arena.specs.Layouts.{capacity_of};
-ghost use Rattle.word_arena.specs.Words.{at, words_for};
+ghost use Rattle.word_layout.specs.Layouts.{capacity_of};
+ghost use Rattle.word_layout.specs.Words.{at, words_for};
 ghost use Rattle.latch_core.specs.Attempts.{Answer, attempt, IsAttempt};
 ghost use Rattle.latch_core.specs.Latched.{IsLatched};
 ghost use Rattle.latch_table.specs.Seats.{writer_of, writer_knowledge, with_loads};
@@ -14,7 +14,7 @@ use super::{InHand, Writer};
 use crate::knowledge::TableSeat;
 use latch_core::{Attempted, attempt_from};
 use order_laws::{Item, TreeOrder};
-use word_arena::Layout;
+use word_layout::Layout;
 
 /// One attempt through the writer's seat, in words that nobody else changes.
 fn look_up<O: TreeOrder>(

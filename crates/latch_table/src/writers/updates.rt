@@ -3,7 +3,7 @@
 ghost use Rattle.std.specs.Prelude.{◌≡◌, ◌*◌, [], None, IfOk, IfErr};
 ghost use Rattle.std.specs.Borrow.{sem, RestsIfErr};
 ghost use Rattle.order_laws.specs.Tables.{has};
-ghost use Rattle.word_arena.specs.Words.{at};
+ghost use Rattle.word_layout.specs.Words.{at};
 ghost use Rattle.latch_core.specs.Sequences.{generation_of};
 ghost use Rattle.latch_core.specs.Histories.{replay};
 ghost use Rattle.latch_core.specs.Invariants.{IsSound};

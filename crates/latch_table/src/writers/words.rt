@@ -19,7 +19,7 @@ pub(super) struct WriterWords<'a, O: TreeOrder> {
 
 impl<'a, O: TreeOrder> UnreadWords<'a, O> {
     ghost use Rattle.std.specs.Prelude.{◌≡◌, ◌<◌, [], ◌∷◌};
-    ghost use Rattle.word_arena.specs.Words.{at};
+    ghost use Rattle.word_layout.specs.Words.{at};
     ghost use Rattle.latch_table.specs.Seats.{writer_of, writer_knowledge, with_loads};
 
     #[inline(always)]

@@ -8,7 +8,7 @@ use crate::ledgers::Ledger;
 use latch_table::Reader;
 use order_laws::{HalfOpen, Refusal};
 use std::alloc::Global;
-use word_arena::Layout;
+use word_layout::Layout;
 
 impl Ledger {
     /// Goes on with the nodes and the greatest sequence of a layout, in a new row of words: the

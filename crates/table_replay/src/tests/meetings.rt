@@ -8,7 +8,7 @@ use latch_table::{Reader, Try, Writer, meet, open};
 use order_laws::HalfOpen;
 use std::process::Abort;
 use std::test::Fail;
-use word_arena::Layout;
+use word_layout::Layout;
 
 /// How often the writer goes through its schedule, of ten updates.
 const ROUNDS: u32 = 100;

@@ -5,7 +5,7 @@ use latch_table::open;
 use order_laws::{HalfOpen, Item};
 use std::alloc::Global;
 use std::test::Fail;
-use word_arena::Layout;
+use word_layout::Layout;
 
 /// The item comes and goes.
 fn round(alloc: Global, x: Item) -> Result<Schedule, Fail> {

@@ -7,7 +7,7 @@ use order_laws::HalfOpen;
 use std::process::Abort;
 use std::test::Fail;
 use std::thread::{Threads, join};
-use word_arena::Layout;
+use word_layout::Layout;
 
 /// Two readers on threads of their own look a key up while the writer stands: each gets an answer
 /// at its first attempt.

@@ -8,7 +8,7 @@ use std::alloc::Global;
 use std::process::Abort;
 use std::test::Fail;
 use std::thread::Threads;
-use word_arena::Layout;
+use word_layout::Layout;
 
 /// How often the writer goes through its schedule, of ten updates.
 const ROUNDS: u32 = 2000;

@@ -6,7 +6,7 @@ use modules::Part;
 use order_laws::Refusal;
 use shared_lookup::{Change, Ledger, Open};
 use std::test::Fail;
-use word_arena::Layout;
+use word_layout::Layout;
 
 #[test]
 fn each_refusal(rt: HostRuntime) -> Result<(), Fail> {

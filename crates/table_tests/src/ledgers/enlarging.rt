@@ -10,7 +10,7 @@ use shared_lookup::{Ledger, Open};
 use std::alloc::Global;
 use std::process::Abort;
 use std::test::Fail;
-use word_arena::Layout;
+use word_layout::Layout;
 
 const FIRST: Item = Item {
     a: 0x10,

@@ -1,5 +1,5 @@
 use Rattle.std.proofs.Common.{◌≡◌, length}
-use Rattle.word_arena.specs.Words.{words_for}
+use Rattle.word_layout.specs.Words.{words_for}
 use Rattle.bench_table.proofs.stores.exchange.Given as goal
 
 abbrev pub invariant-loop-pair : goal.invariant-loop-pair

@@ -1,6 +1,6 @@
 use Rattle.std.proofs.Common.{◌≡◌, length}
-use Rattle.word_arena.specs.Layouts.{capacity_of}
-use Rattle.word_arena.specs.Words.{words_for}
+use Rattle.word_layout.specs.Layouts.{capacity_of}
+use Rattle.word_layout.specs.Words.{words_for}
 use Rattle.bench_table.proofs.walks.table.Given as goal
 
 abbrev pub invariant-loop-range : goal.invariant-loop-range

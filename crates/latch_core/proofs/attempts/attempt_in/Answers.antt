@@ -1,4 +1,4 @@
-use Rattle.word_arena.specs.Layouts.{capacity_of}
+use Rattle.word_layout.specs.Layouts.{capacity_of}
 use Rattle.latch_core.proofs.StillLemmas.{comes_to}
 use Rattle.latch_core.proofs.attempts.attempt_in.Goals as goal
 

@@ -3,7 +3,7 @@ use Rattle.std.specs.List.{AllByRecursion}
 use Rattle.std.proofs.lemmas.List.{take_all, drop_more}
 use Rattle.std.proofs.lemmas.Option.{slice_get_within}
 use Rattle.order_laws.specs.Tables.{has, place_of}
-use Rattle.word_arena.specs.Words.{listed}
+use Rattle.word_layout.specs.Words.{listed}
 use Rattle.latch_core.specs.Changes.{ErasesWords}
 use Rattle.latch_core.proofs.ChangeLemmas.{erasing_none, erasing_step}
 use Rattle.latch_core.proofs.changes.plan_erases.Goals as goal

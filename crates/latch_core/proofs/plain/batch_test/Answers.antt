@@ -1,5 +1,5 @@
 use Rattle.std.proofs.Common.{◌<◌, ◌+◌, ◌∙◌, sym, subst, length, arith}
-use Rattle.word_arena.specs.Layouts.{capacity_of}
+use Rattle.word_layout.specs.Layouts.{capacity_of}
 use Rattle.latch_core.proofs.TestLemmas.{batch_missing, batch_overlaps, batch_full, batch_passes}
 use Rattle.latch_core.proofs.plain.batch_test.Goals as goal
 

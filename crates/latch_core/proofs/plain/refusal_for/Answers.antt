@@ -1,5 +1,5 @@
 use Rattle.std.proofs.Common.{◌∙◌, sym}
-use Rattle.word_arena.specs.Layouts.{capacity_of, limit_of}
+use Rattle.word_layout.specs.Layouts.{capacity_of, limit_of}
 use Rattle.latch_core.proofs.TestLemmas.{why_tested, why_spent, why_none}
 use Rattle.latch_core.proofs.plain.refusal_for.Goals as goal
 

@@ -1,11 +1,11 @@
 use Rattle.std.proofs.Common.{◌≡◌, ◌+◌, ◌-◌, ◌<◌, ◌++◌, ◌∷◌, [], length, get_or, take, drop, sym, refl, ◌∙◌, ap, subst, arith, append_assoc}
 use Rattle.std.proofs.lemmas.List.{append-nil}
 use Rattle.facts.proofs.Lists.{take-drop_append}
-use Rattle.word_arena.specs.declared.stores.Store.{Store}
-use Rattle.word_arena.specs.Layouts.{capacity_of}
+use Rattle.word_layout.specs.declared.stores.Store.{Store}
+use Rattle.word_layout.specs.Layouts.{capacity_of}
 use Rattle.rb_words.specs.Mirrors.{mirror_stores, mirror_store}
 use Rattle.latch_core.specs.Plans.{flip_to}
-use Rattle.word_arena.proofs.LinkLemmas.{link_word_fits}
+use Rattle.word_layout.proofs.LinkLemmas.{link_word_fits}
 use Rattle.latch_core.proofs.PlanLemmas.{mirror_more}
 use Rattle.latch_core.proofs.plans.flip_and_mirror.Goals as goal
 

@@ -1,6 +1,6 @@
 use Rattle.std.proofs.Common.{true, subst, arith}
 use Rattle.std.proofs.lemmas.List.{take_all}
-use Rattle.word_arena.specs.Layouts.{capacity_of}
+use Rattle.word_layout.specs.Layouts.{capacity_of}
 use Rattle.latch_steps.specs.Runs.{opening}
 use Rattle.latch_steps.specs.Expands.{Expand}
 use Rattle.latch_steps.proofs.Promising.{obeyed_none, obeyed_more, safe_trace, quiet_trace, near_trace}

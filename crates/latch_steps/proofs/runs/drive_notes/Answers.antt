@@ -1,6 +1,6 @@
 use Rattle.std.proofs.Common.{false, subst, arith}
 use Rattle.std.proofs.lemmas.List.{take_all}
-use Rattle.word_arena.specs.Layouts.{capacity_of, limit_of}
+use Rattle.word_layout.specs.Layouts.{capacity_of, limit_of}
 use Rattle.latch_steps.specs.Runs.{last_of, opening}
 use Rattle.latch_steps.specs.Expands.{Expand}
 use Rattle.latch_steps.proofs.SafeRunLemmas.{safe}

@@ -1,5 +1,5 @@
 use Rattle.std.proofs.Common.{false, take}
-use Rattle.word_arena.specs.Layouts.{capacity_of}
+use Rattle.word_layout.specs.Layouts.{capacity_of}
 use Rattle.latch_steps.specs.Runs.{opening}
 use Rattle.latch_steps.proofs.Promising.{Obeyed}
 use Rattle.latch_steps.proofs.runs.drive_notes.Given as goal

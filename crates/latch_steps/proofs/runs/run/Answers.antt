@@ -1,7 +1,7 @@
 use Rattle.std.proofs.Common.{true, ◌∙◌, ◌++◌, ◌∷◌, [], refl, ap, arith}
 use Rattle.std.proofs.lemmas.List.{take_all}
 use Rattle.facts.proofs.Lists.{take_push}
-use Rattle.word_arena.specs.Layouts.{capacity_of}
+use Rattle.word_layout.specs.Layouts.{capacity_of}
 use Rattle.latch_steps.specs.Runs.{step_done, last_of, opening}
 use Rattle.latch_steps.proofs.Promising.{safe_trace, quiet_trace, near_trace}
 use Rattle.latch_steps.proofs.RecorderLemmas.{records_none, records_append, events_append, trace_of}

@@ -1,5 +1,5 @@
 use Rattle.std.proofs.Common.{true, ◌≡◌, List, take}
-use Rattle.word_arena.specs.Layouts.{capacity_of}
+use Rattle.word_layout.specs.Layouts.{capacity_of}
 use Rattle.latch_steps.specs.Runs.{Done, opening}
 use Rattle.latch_steps.specs.Traces.{events_of}
 use Rattle.latch_steps.specs.Recorders.{Records}

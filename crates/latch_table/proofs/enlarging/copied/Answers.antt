@@ -1,9 +1,9 @@
 use Rattle.std.proofs.Common.{rules, ◌≡◌, ℕ, List, ap, subst, ◌∙◌, arith}
 use Rattle.std.specs.Prelude.{slice_set}
-use Rattle.word_arena.specs.Layouts.{capacity_of}
-use Rattle.word_arena.specs.Words.{at, words_for}
+use Rattle.word_layout.specs.Layouts.{capacity_of}
+use Rattle.word_layout.specs.Words.{at, words_for}
 use Rattle.latch_table.specs.Seats.{writer_of}
-use Rattle.word_arena.proofs.StoreLemmas.{copy_next}
+use Rattle.word_layout.proofs.StoreLemmas.{copy_next}
 use Rattle.latch_table.proofs.RuleLemmas.{allows_copy}
 use Rattle.latch_table.proofs.enlarging.copied.Goals as goal
 

@@ -1,7 +1,7 @@
 use Rattle.std.proofs.Common.{◌≡◌, ◌-◌, ◌++◌, take}
 use Rattle.std.specs.Prelude.{replicate}
-use Rattle.word_arena.specs.Layouts.{capacity_of}
-use Rattle.word_arena.specs.Words.{words_for}
+use Rattle.word_layout.specs.Layouts.{capacity_of}
+use Rattle.word_layout.specs.Words.{words_for}
 use Rattle.latch_table.specs.Seats.{writer_of}
 use Rattle.latch_table.proofs.enlarging.copied.Given as goal
 

@@ -1,5 +1,5 @@
 use Rattle.std.proofs.Common.{rules, [], ◌∙◌}
-use Rattle.word_arena.specs.Layouts.{capacity_of}
+use Rattle.word_layout.specs.Layouts.{capacity_of}
 use Rattle.latch_table.proofs.OpeningLemmas.{opens_first, tied_opening}
 use Rattle.latch_table.proofs.opening.open.Goals as goal
 

@@ -1,6 +1,6 @@
 use Rattle.std.proofs.Common.{◌≡◌, sym, ◌∙◌, ap, subst, take, drop, suc, inr, [], ◌∷◌, ◌++◌, ◌+◌}
 use Rattle.std.proofs.lemmas.List.{take_all, take_more}
-use Rattle.word_arena.specs.Layouts.{capacity_of, limit_of}
+use Rattle.word_layout.specs.Layouts.{capacity_of, limit_of}
 use Rattle.std.proofs.Math.Seq.{split_at}
 use Rattle.latch_weak.specs.Recordings.{HasMade, RefusesRecording}
 use Rattle.latch_weak.proofs.RecordingLemmas.{made_nothing, works_of, passed_on}

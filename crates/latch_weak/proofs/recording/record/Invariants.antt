@@ -1,5 +1,5 @@
 use Rattle.std.proofs.Common.{take}
-use Rattle.word_arena.specs.Layouts.{capacity_of, limit_of}
+use Rattle.word_layout.specs.Layouts.{capacity_of, limit_of}
 use Rattle.latch_weak.specs.Recordings.{HasMade}
 use Rattle.latch_weak.proofs.recording.record.Given as goal
 

@@ -1,6 +1,6 @@
 use Rattle.std.proofs.Common.{◌≤◌, arith, length}
 use Rattle.modules.specs.Catalogs.{regions_of}
-use Rattle.word_arena.specs.Layouts.{capacity_of}
+use Rattle.word_layout.specs.Layouts.{capacity_of}
 use Rattle.latchsym.proofs.WorldOpeningLemmas.{opened}
 use Rattle.latchsym.proofs.table.open_for.Goals as goal
 

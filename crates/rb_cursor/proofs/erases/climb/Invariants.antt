@@ -1,5 +1,5 @@
 use Rattle.std.proofs.Common.{◌≡◌, length, vec_capacity}
-use Rattle.word_arena.specs.Copies.{copy_number}
+use Rattle.word_layout.specs.Copies.{copy_number}
 use Rattle.rb_trees.specs.Trees.{shape}
 use Rattle.rb_trees.specs.Turns.{link}
 use Rattle.rb_trees.specs.EraseClimb.{rest_with}

@@ -2,8 +2,8 @@
 -- calls.
 use Rattle.std.proofs.Common.{◌≡◌, ℕ, ◌+◌, List, [], ◌++◌, refl, sym, ◌∙◌, ap, arith, length}
 use Rattle.std.proofs.Common.{length-append, append_assoc}
-use Rattle.word_arena.specs.declared.stores.Store.{Store}
-use Rattle.word_arena.specs.Copies.{copy_number}
+use Rattle.word_layout.specs.declared.stores.Store.{Store}
+use Rattle.word_layout.specs.Copies.{copy_number}
 use Rattle.rb_trees.specs.Trees.{ColouredTree, shape, depth}
 use Rattle.rb_trees.specs.Turns.{link}
 use Rattle.rb_trees.specs.Erased.{erased_from, erase_links}

@@ -1,6 +1,6 @@
 -- The way up from the first node's place: the facts of FirstSteps at the values of the calls.
 use Rattle.std.proofs.Common.{◌≡◌, ℕ, ◌+◌, List, ◌++◌, sym, ◌∙◌, ap, arith, length}
-use Rattle.word_arena.specs.Copies.{copy_number}
+use Rattle.word_layout.specs.Copies.{copy_number}
 use Rattle.rb_trees.specs.Trees.{ColouredTree, shape}
 use Rattle.rb_trees.specs.Turns.{link}
 use Rattle.rb_trees.specs.Erased.{without_first, first_links}

@@ -2,8 +2,8 @@
 -- of the calls.
 use Rattle.std.proofs.Common.{◌≡◌, ℕ, ◌+◌, true, [], ◌∷◌, ◌++◌, sym, ◌∙◌, ap, subst, arith, length, length-append}
 use Rattle.facts.proofs.Lists.{pushed_between}
-use Rattle.word_arena.specs.Copies.{copy_number}
-use Rattle.word_arena.specs.declared.stores.Store.{Store}
+use Rattle.word_layout.specs.Copies.{copy_number}
+use Rattle.word_layout.specs.declared.stores.Store.{Store}
 use Rattle.rb_trees.specs.Trees.{shape}
 use Rattle.rb_trees.specs.Turns.{link, set_left, set_right}
 use Rattle.rb_trees.specs.Erased.{first_links, filled_right_if_short, right_fill_links_if_short}

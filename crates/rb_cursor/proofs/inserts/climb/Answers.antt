@@ -1,6 +1,6 @@
 -- Each goal of the loop is one of the facts of InsertSteps at the values of the step.
 use Rattle.std.proofs.Common.{◌++◌, sym, ◌∙◌, ap, subst, arith, length, length-append, vec_capacity}
-use Rattle.word_arena.specs.Copies.{copy_number}
+use Rattle.word_layout.specs.Copies.{copy_number}
 use Rattle.rb_trees.specs.InsertClimb.{mended_on, mend_links_on}
 use Rattle.rb_cursor.specs.Zippers.{altered}
 use Rattle.rb_cursor.specs.Rising.{at_root}

@@ -1,8 +1,8 @@
 -- The two links of the leaf, and then the way up.
 use Rattle.std.proofs.Common.{ℕ, [], ◌∷◌, ◌++◌, ◌∙◌, ap, arith, length}
 use Rattle.facts.proofs.Lists.{pushed_twice}
-use Rattle.word_arena.specs.Copies.{copy_number}
-use Rattle.word_arena.specs.declared.stores.Store.{Store}
+use Rattle.word_layout.specs.Copies.{copy_number}
+use Rattle.word_layout.specs.declared.stores.Store.{Store}
 use Rattle.rb_trees.specs.Turns.{set_left, set_right}
 use Rattle.rb_trees.specs.InsertClimb.{insert_climbed, insert_climb_links}
 use Rattle.rb_cursor.specs.Rising.{at_root}

@@ -1,6 +1,6 @@
 -- The way up from the place of the item is the whole insert: the facts of InsertSteps there.
 use Rattle.std.proofs.Common.{◌-◌, ◌++◌, refl, sym, ◌∙◌, ap, arith, length}
-use Rattle.word_arena.specs.Copies.{copy_number}
+use Rattle.word_layout.specs.Copies.{copy_number}
 use Rattle.rb_trees.specs.Inserted.{inserted_into}
 use Rattle.rb_cursor.specs.Rising.{at_root}
 use Rattle.rb_cursor.proofs.InsertSteps.{insert_calm, insert_few, insert_tree, insert_stores}

@@ -1,7 +1,7 @@
 use Rattle.std.proofs.Common.{◌≡◌, ℕ, ◌<◌}
 use Rattle.std.specs.Prelude.{Contains}
-use Rattle.word_arena.specs.Layouts.{capacity_of}
-use Rattle.word_arena.specs.Words.{listed}
+use Rattle.word_layout.specs.Layouts.{capacity_of}
+use Rattle.word_layout.specs.Words.{listed}
 use Rattle.rb_words.proofs.run_tests.fill.Given as goal
 
 -- the nodes so far are those of the slots so far

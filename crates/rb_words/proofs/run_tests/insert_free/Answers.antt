@@ -1,6 +1,6 @@
 use Rattle.std.proofs.Common.{◌≡◌, ◌∙◌, ap, subst, inr}
 use Rattle.std.specs.Prelude.{◌⊎◌, Contains}
-use Rattle.word_arena.specs.Words.{Nodes, listed}
+use Rattle.word_layout.specs.Words.{Nodes, listed}
 use Rattle.rb_words.proofs.run_tests.insert_free.Goals as goal
 
 pub returns-then-plan_insert_apart-clause-nodes : goal.returns-then-plan_insert_apart-clause-nodes

@@ -1,6 +1,6 @@
 use Rattle.std.proofs.Common.{◌∙◌, refl, sym, ap, arith, length, length-append}
 use Rattle.std.specs.Prelude.{is_some}
-use Rattle.word_arena.specs.Copies.{copy_number}
+use Rattle.word_layout.specs.Copies.{copy_number}
 use Rattle.rb_trees.specs.Erased.{first_word_at, item_lies}
 use Rattle.rb_trees.specs.Found.{item_with_word}
 use Rattle.rb_trees.proofs.SoughtRows.{sought_by_word, sought_by_any, found_by_word, any_has}

@@ -1,7 +1,7 @@
 use Rattle.std.proofs.Common.{◌≡◌, ◌≤◌, ◌+◌, ◌*◌, ◌++◌, [], false, length, take, refl, sym, ◌∙◌, ap, subst, arith}
 use Rattle.order_laws.specs.Tables.{without_all}
 use Rattle.std.proofs.lemmas.List.{length-map}
-use Rattle.word_arena.specs.Layouts.{capacity_of, limit_of}
+use Rattle.word_layout.specs.Layouts.{capacity_of, limit_of}
 use Rattle.rb_trees.specs.Trees.{CanBeRedBlack}
 use Rattle.rb_words.specs.Pictures.{Picture}
 use Rattle.rb_words.specs.Mirrors.{mirror_stores, mirror_store}

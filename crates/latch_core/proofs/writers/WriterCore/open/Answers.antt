@@ -1,5 +1,5 @@
 use Rattle.std.proofs.Common.{◌≡◌, sym, subst, arith}
-use Rattle.word_arena.specs.Layouts.{capacity_of, limit_of}
+use Rattle.word_layout.specs.Layouts.{capacity_of, limit_of}
 use Rattle.latch_core.specs.Latches.{opening_latch}
 use Rattle.latch_core.specs.WriterViews.{WriterView}
 use Rattle.latch_core.specs.Writers.{RepresentsLatch, opening_writer}

@@ -1,5 +1,5 @@
 use Rattle.std.proofs.Common.{◌≡◌, sym, ◌∙◌, ap, subst}
-use Rattle.word_arena.specs.Layouts.{capacity_of, limit_of}
+use Rattle.word_layout.specs.Layouts.{capacity_of, limit_of}
 use Rattle.rb_words.specs.Pictures.{Picture}
 use Rattle.latch_core.specs.WriterViews.{WriterView}
 use Rattle.latch_core.specs.Widening.{widened_writer, RepresentsWidened}

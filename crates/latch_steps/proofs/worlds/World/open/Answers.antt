@@ -1,6 +1,6 @@
 use Rattle.std.proofs.Common.{refl, ap}
 use Rattle.latch_core.specs.WriterViews.{WriterView}
-use Rattle.word_arena.specs.Layouts.{capacity_of}
+use Rattle.word_layout.specs.Layouts.{capacity_of}
 use Rattle.latch_core.proofs.SoundLemmas.{sound_opening}
 use Rattle.latch_steps.specs.Runs.{opening}
 use Rattle.latch_steps.proofs.WorldLemmas.{none_in_hand}

@@ -3,7 +3,7 @@ use Rattle.std.specs.Prelude.{IsSome}
 use Rattle.std.specs.Option.{option_copied_mut, option_flatten}
 use Rattle.std.specs.Ordering.{nat_cmp}
 use Rattle.std.specs.BTreeMap.{is_at}
-use Rattle.word_arena.specs.Layouts.{capacity_of}
+use Rattle.word_layout.specs.Layouts.{capacity_of}
 use Rattle.latch_steps.specs.Lookups.{lookup_at}
 use Rattle.latch_steps.proofs.PendingLookupLemmas.{lookup_set, lookup_kept}
 use Rattle.latch_steps.proofs.WorldLemmas.{idle, goes_on, tries_again, returns}

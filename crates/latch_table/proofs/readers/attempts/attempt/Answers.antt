@@ -1,5 +1,5 @@
 use Rattle.std.proofs.Common.{sym, ◌∙◌, ap}
-use Rattle.word_arena.specs.Layouts.{capacity_of}
+use Rattle.word_layout.specs.Layouts.{capacity_of}
 use Rattle.latch_core.specs.Whole.{outcome_of}
 use Rattle.latch_table.specs.declared.readers.Try.TheVariants.{Answered, Retry}
 use Rattle.latch_table.specs.Seats.{reader_of}

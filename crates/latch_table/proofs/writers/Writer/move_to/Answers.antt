@@ -1,7 +1,7 @@
 use Rattle.std.proofs.Common.{rules, sym, ap, ◌∙◌, subst}
-use Rattle.word_arena.specs.Layouts.{capacity_of}
-use Rattle.word_arena.specs.Words.{words_for}
-use Rattle.word_arena.specs.Wider.{wider_words}
+use Rattle.word_layout.specs.Layouts.{capacity_of}
+use Rattle.word_layout.specs.Words.{words_for}
+use Rattle.word_layout.specs.Wider.{wider_words}
 use Rattle.latch_core.specs.WriterViews.{WriterView}
 use Rattle.latch_table.specs.Seats.{writer_of}
 use Rattle.latch_table.specs.Writers.{WriterState, writer_state}

@@ -1,6 +1,6 @@
 use Rattle.std.proofs.Common.{rules, ◌≡◌, Some, sym, subst}
 use Rattle.std.specs.Arc.{arc_value}
-use Rattle.word_arena.specs.Words.{words_for}
+use Rattle.word_layout.specs.Words.{words_for}
 use Rattle.atomic_table.specs.Table.{Me}
 use Rattle.atomic_table.specs.Seated.{TableId}
 use Rattle.latch_core.specs.WriterViews.{WriterView}

@@ -1,5 +1,5 @@
 use Rattle.std.proofs.Common.{arith, sym, ◌∙◌, ap}
-use Rattle.word_arena.specs.Layouts.{capacity_of}
+use Rattle.word_layout.specs.Layouts.{capacity_of}
 use Rattle.latch_core.specs.Whole.{outcome_of}
 use Rattle.latch_table.specs.Seats.{writer_of}
 use Rattle.latch_table.proofs.LookupLemmas.{ready_now, table_now, view_now, not_again, finds}

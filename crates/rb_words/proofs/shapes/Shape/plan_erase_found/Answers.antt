@@ -1,7 +1,7 @@
 use Rattle.std.proofs.Common.{◌∙◌, refl, sym, ap, arith}
 use Rattle.order_laws.specs.Tables.{has}
-use Rattle.word_arena.specs.Layouts.{capacity_of}
-use Rattle.word_arena.specs.Copies.{copy_number}
+use Rattle.word_layout.specs.Layouts.{capacity_of}
+use Rattle.word_layout.specs.Copies.{copy_number}
 use Rattle.rb_words.specs.Pictures.{Picture}
 use Rattle.rb_words.specs.TreePictures.{links_without}
 use Rattle.rb_words.proofs.PlanLemmas.{AfterErase, shown_erase, few_steps}

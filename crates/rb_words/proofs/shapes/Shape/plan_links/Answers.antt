@@ -1,8 +1,8 @@
 use Rattle.std.proofs.Common.{List, ap, arith}
 use Rattle.std.proofs.Common.{rules}
-use Rattle.word_arena.specs.Layouts.{capacity_of}
-use Rattle.word_arena.specs.Copies.{copy_number}
-use Rattle.word_arena.specs.declared.stores.Store.{Store}
+use Rattle.word_layout.specs.Layouts.{capacity_of}
+use Rattle.word_layout.specs.Copies.{copy_number}
+use Rattle.word_layout.specs.declared.stores.Store.{Store}
 use Rattle.rb_trees.specs.declared.Record.{Record}
 use Rattle.rb_cursor.specs.Zippers.{Zipper}
 use Rattle.rb_words.specs.Pictures.{Picture}

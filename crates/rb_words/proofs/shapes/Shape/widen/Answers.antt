@@ -1,6 +1,6 @@
 use Rattle.std.proofs.Common.{◌≤◌, sym, subst}
-use Rattle.word_arena.specs.Layouts.{capacity_of}
-use Rattle.word_arena.specs.Copies.{copy_number}
+use Rattle.word_layout.specs.Layouts.{capacity_of}
+use Rattle.word_layout.specs.Copies.{copy_number}
 use Rattle.rb_words.specs.Pictures.{Picture}
 use Rattle.rb_words.specs.Wider.{IsPicturedWider}
 use Rattle.rb_words.specs.TreePictures.{picture_of}

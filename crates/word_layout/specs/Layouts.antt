@@ -1,6 +1,6 @@
 -- What a layout shows.
 use Rattle.std.specs.Prelude.{ℕ}
-use Rattle.word_arena.specs.declared.layouts.Layout.{Layout}
+use Rattle.word_layout.specs.declared.layouts.Layout.{Layout}
 
 -- how many nodes there are
 abbrev pub capacity_of : Layout → ℕ

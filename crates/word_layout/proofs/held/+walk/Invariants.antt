@@ -1,4 +1,4 @@
-use Rattle.word_arena.proofs.held.+walk.Given as goal
+use Rattle.word_layout.proofs.held.+walk.Given as goal
 
 abbrev pub decreases-walk : goal.decreases-walk
 decreases-walk l = l.left

@@ -2,9 +2,9 @@
 
 ghost use Rattle.std.specs.Prelude.{◌≡◌, ◌<◌, ◌≤◌, ◌+◌, ◌++◌, List, length, IfOk, IfSome, IfNone};
 ghost use Rattle.order_laws.specs.declared.items.Item.{Item};
-ghost use Rattle.word_arena.specs.Copies.{copy_number};
-ghost use Rattle.word_arena.specs.Layouts.{capacity_of};
-ghost use Rattle.word_arena.specs.Words.{words_for, Nodes, listed, items, Leads, HoldsTable};
+ghost use Rattle.word_layout.specs.Copies.{copy_number};
+ghost use Rattle.word_layout.specs.Layouts.{capacity_of};
+ghost use Rattle.word_layout.specs.Words.{words_for, Nodes, listed, items, Leads, HoldsTable};
 
 use crate::layouts::Layout;
 use crate::places::{TreeCopy, a_of, b_of, left_of, right_of, root_of, tag_of};

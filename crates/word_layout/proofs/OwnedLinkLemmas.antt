@@ -2,10 +2,10 @@
 use Rattle.std.proofs.Common.{◌≡◌, ◌≢◌, ℕ, ◌<◌, ◌≤◌, List, [], ◌∷◌, ◌++◌, subst, inr, ⊎_elim, arith}
 use Rattle.std.specs.Prelude.{◌⊎◌}
 use Rattle.std.specs.List.{AllByRecursion}
-use Rattle.word_arena.specs.declared.stores.Store.{Store}
-use Rattle.word_arena.specs.Words.{at, left_word, right_word, root_word}
-use Rattle.word_arena.specs.Stores.{words_after_all, AreLinkStores}
-use Rattle.word_arena.proofs.StoreLemmas.{untouched}
+use Rattle.word_layout.specs.declared.stores.Store.{Store}
+use Rattle.word_layout.specs.Words.{at, left_word, right_word, root_word}
+use Rattle.word_layout.specs.Stores.{words_after_all, AreLinkStores}
+use Rattle.word_layout.proofs.StoreLemmas.{untouched}
 
 abbrev pub IsLinkOf : ℕ → ℕ → ℕ → Type 0
 IsLinkOf c i w = (w ≡ left_word c i) ⊎ (w ≡ right_word c i)

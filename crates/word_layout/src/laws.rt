@@ -1,8 +1,8 @@
 //! Where words lie, as contracts of a function that does nothing.
 
 ghost use Rattle.std.specs.Prelude.{◌≡◌, ◌≢◌, ◌<◌, ◌+◌, ◌*◌, ℕ};
-ghost use Rattle.word_arena.specs.Words.{root_word, a_word, b_word, tag_word, words_per_node};
-ghost use Rattle.word_arena.specs.Words.{left_word, right_word, word_of_node, words_for};
+ghost use Rattle.word_layout.specs.Words.{root_word, a_word, b_word, tag_word, words_per_node};
+ghost use Rattle.word_layout.specs.Words.{left_word, right_word, word_of_node, words_for};
 
 /// Each node has [`WORDS_PER_NODE`](crate::places::WORDS_PER_NODE) words of its own, none of them
 /// is the sequence or a root, and the two roots differ.

@@ -5,10 +5,10 @@ use Rattle.std.specs.List.{AllByRecursion}
 use Rattle.std.proofs.lemmas.List.Elements.{Contains-append_left, Contains-append_right, Contains-append_cases}
 use Rattle.facts.proofs.Each.{all_append}
 use Rattle.facts.proofs.Members.{Contains-cons_cases, Contains-rest}
-use Rattle.word_arena.specs.Words.{at, root_word, left_word, right_word, Nodes, none, fork, listed, Leads, Reaches, by_root, by_left, by_right}
-use Rattle.word_arena.specs.Stores.{IsItemWord}
-use Rattle.word_arena.proofs.WordLemmas.{item_not_root, item_not_left, item_not_right}
-use Rattle.word_arena.proofs.StoreLemmas.{Agree}
+use Rattle.word_layout.specs.Words.{at, root_word, left_word, right_word, Nodes, none, fork, listed, Leads, Reaches, by_root, by_left, by_right}
+use Rattle.word_layout.specs.Stores.{IsItemWord}
+use Rattle.word_layout.proofs.WordLemmas.{item_not_root, item_not_left, item_not_right}
+use Rattle.word_layout.proofs.StoreLemmas.{Agree}
 
 abbrev pub IsIn : Nodes → ℕ → Type 0
 IsIn none i = ⊥

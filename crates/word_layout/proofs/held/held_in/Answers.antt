@@ -1,10 +1,10 @@
 use Rattle.std.proofs.Common.{◌<◌, length, subst, arith}
 use Rattle.std.specs.Prelude.{IfNone}
-use Rattle.word_arena.specs.Layouts.{capacity_of}
-use Rattle.word_arena.specs.Copies.{copy_number}
-use Rattle.word_arena.specs.Words.{at, root_word, Nodes, listed, Leads}
-use Rattle.word_arena.proofs.HeldLemmas.{table_length}
-use Rattle.word_arena.proofs.held.held_in.Goals as goal
+use Rattle.word_layout.specs.Layouts.{capacity_of}
+use Rattle.word_layout.specs.Copies.{copy_number}
+use Rattle.word_layout.specs.Words.{at, root_word, Nodes, listed, Leads}
+use Rattle.word_layout.proofs.HeldLemmas.{table_length}
+use Rattle.word_layout.proofs.held.held_in.Goals as goal
 
 pub returns-in-None-clause-none : goal.returns-in-None-clause-none
 returns-in-None-clause-none c =

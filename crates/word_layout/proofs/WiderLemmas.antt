@@ -5,8 +5,8 @@ use Rattle.std.proofs.lemmas.Bool.{cases_lt}
 use Rattle.std.proofs.Math.ListN.{get_or-eq_default}
 use Rattle.std.proofs.lemmas.List.{get_or_append_left, get_or-append_right, get_or-replicate, length-replicate}
 use Rattle.order_laws.specs.declared.items.Item.{Item}
-use Rattle.word_arena.specs.Words.{words_per_node, at, words_for, root_word, a_word, b_word, tag_word, left_word, right_word, item_at, Nodes, none, fork, items, Leads, Holds, HoldsTable}
-use Rattle.word_arena.specs.Wider.{wider_words}
+use Rattle.word_layout.specs.Words.{words_per_node, at, words_for, root_word, a_word, b_word, tag_word, left_word, right_word, item_at, Nodes, none, fork, items, Leads, Holds, HoldsTable}
+use Rattle.word_layout.specs.Wider.{wider_words}
 
 pub length_wider : (n n' : ℕ) (m : List ℕ) → n ≤ n' → length m ≡ words_for n → length (wider_words n n' m) ≡ words_for n'
 length_wider n n' m le sized =

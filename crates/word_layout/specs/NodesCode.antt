@@ -3,7 +3,7 @@
 use Rattle.std.specs.Prelude.{◌≡◌, ℕ, List, [], ◌∷◌, ◌++◌, Option, Some, None, refl}
 use Rattle.std.specs.Coded.{Coded, code_by, coded_ℕ, coded_list, coded_option}
 use Rattle.std.proofs.Common.{◌∙◌, ap}
-use Rattle.word_arena.specs.Words.{Nodes, none, fork}
+use Rattle.word_layout.specs.Words.{Nodes, none, fork}
 
 -- both trees of a node before the node, and nothing for no tree
 abbrev pub written : Nodes → List (Option ℕ)

@@ -1,9 +1,9 @@
 //! Which word holds what.
 
 ghost use Rattle.std.specs.Prelude.{◌≡◌, ◌*◌};
-ghost use Rattle.word_arena.specs.Words.{words_per_node, root_word, a_word, b_word, tag_word};
-ghost use Rattle.word_arena.specs.Words.{left_word, right_word};
-ghost use Rattle.word_arena.specs.Copies.{copy_number};
+ghost use Rattle.word_layout.specs.Words.{words_per_node, root_word, a_word, b_word, tag_word};
+ghost use Rattle.word_layout.specs.Words.{left_word, right_word};
+ghost use Rattle.word_layout.specs.Copies.{copy_number};
 
 /// One of the two copies of the tree.
 #[derive(Clone, Copy, Debug, PartialEq, Eq, Drop)]

@@ -1,7 +1,7 @@
 //! How many nodes there are, and which word holds what.
 
 ghost use Rattle.std.specs.Prelude.{◌+◌, ◌*◌, ◌<◌, ◌≤◌, ◌^◌};
-ghost use Rattle.word_arena.specs.Limits.{most_nodes};
+ghost use Rattle.word_layout.specs.Limits.{most_nodes};
 
 use crate::places::WORDS_PER_NODE;
 use order_laws::Refusal;
@@ -29,9 +29,9 @@ pub struct Layout {
 
 impl Layout {
     ghost use Rattle.std.specs.Prelude.{◌≡◌, ◌↔◌, ◌⊎◌, IfOk, IsErr, IfErr};
-    ghost use Rattle.word_arena.specs.Layouts.{capacity_of, limit_of};
-    ghost use Rattle.word_arena.specs.Limits.{greatest_sequence, greatest_wide_sequence};
-    ghost use Rattle.word_arena.specs.Words.{words_for};
+    ghost use Rattle.word_layout.specs.Layouts.{capacity_of, limit_of};
+    ghost use Rattle.word_layout.specs.Limits.{greatest_sequence, greatest_wide_sequence};
+    ghost use Rattle.word_layout.specs.Words.{words_for};
 
     /// A layout of `n` nodes with 32-bit sequences. Refused by [`Refusal::BadCapacity`] outside 1
     /// to 65536.

@@ -4,9 +4,9 @@ use Rattle.std.specs.Prelude.{slice_set}
 use Rattle.std.specs.List.{AllByRecursion}
 use Rattle.std.proofs.lemmas.Bool.{cases_eq, cases_lt}
 use Rattle.std.proofs.lemmas.List.{set_past}
-use Rattle.word_arena.specs.declared.stores.Store.{Store}
-use Rattle.word_arena.specs.Words.{at}
-use Rattle.word_arena.specs.Stores.{words_after, words_after_all}
+use Rattle.word_layout.specs.declared.stores.Store.{Store}
+use Rattle.word_layout.specs.Words.{at}
+use Rattle.word_layout.specs.Stores.{words_after, words_after_all}
 use Rattle.std.proofs.Common.{suc, ◌+◌, ◌-◌, ◌≤◌, take, append_assoc}
 use Rattle.std.specs.Prelude.{replicate}
 use Rattle.std.proofs.Math.Seq.{set-append_seam}

@@ -10,7 +10,7 @@ pub struct Store {
 }
 
 ghost use Rattle.std.specs.Prelude.{◌≡◌, ◌+◌, ◌<◌, ◌≤◌, ◌++◌, length, vec_len, vec_capacity};
-ghost use Rattle.word_arena.specs.Stores.{words_after};
+ghost use Rattle.word_layout.specs.Stores.{words_after};
 
 /// Gives the word its value and changes no other.
 pub fn apply(words: &mut [u64], s: Store)

@@ -1,8 +1,8 @@
 -- Stores: what they change, and which words they are of.
 use Rattle.std.specs.Prelude.{◌≡◌, ℕ, ◌<◌, ◌⊎◌, List, [], ◌∷◌, slice_set}
 use Rattle.std.specs.List.{AllByRecursion}
-use Rattle.word_arena.specs.declared.stores.Store.{Store}
-use Rattle.word_arena.specs.Words.{root_word, a_word, b_word, tag_word, left_word, right_word}
+use Rattle.word_layout.specs.declared.stores.Store.{Store}
+use Rattle.word_layout.specs.Words.{root_word, a_word, b_word, tag_word, left_word, right_word}
 
 -- the words after a store
 abbrev pub words_after : List ℕ → Store → List ℕ
