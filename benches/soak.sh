@@ -4,7 +4,7 @@
 set -euo pipefail
 seconds=${1:-60}
 . "$(dirname "$0")/../tests/program.sh"
-build bench_table
+build measures
 
 "$program" soak "$seconds" | tee "$work/seen"
 grep -q ' wrong 0 ' "$work/seen"

@@ -6,12 +6,12 @@
 #
 #     benches/table.sh [PEER ..]
 #
-# A PEER is a program that takes the arguments of bench_table and writes what it writes.
+# A PEER is a program that takes the arguments of measures and writes what it writes.
 set -eu
 repeats=${REPEATS:-7}
 seconds=${SECONDS_A_RUN:-0.2}
 . "$(dirname "$0")/../tests/program.sh"
-build bench_table
+build measures
 programs=("$@" "$program")
 
 # measure LABEL FIELD MODE ITEMS [READERS]: a line for each program

@@ -1,11 +1,11 @@
-/* The lookups of `bench_table walk` in C, over the same words and with the same addresses, as a
+/* The lookups of `measures walk` in C, over the same words and with the same addresses, as a
  * measure to compare with.
  *
  *   walk WORDS ROUNDS
  *
- * WORDS is what `bench_table words ITEMS` writes: the words, and then 4096 addresses. The words are
+ * WORDS is what `measures words ITEMS` writes: the words, and then 4096 addresses. The words are
  * loaded in the order that readers load them in, as sequentially consistent atomics. The line is
- * that of `bench_table walk ITEMS ROUNDS`, with the nodes that the same lookups visit in a red-black
+ * that of `measures walk ITEMS ROUNDS`, with the nodes that the same lookups visit in a red-black
  * tree of pointers, after lib/rbtree.c of Linux, into which the items were inserted in the same
  * order. */
 #include <stdint.h>

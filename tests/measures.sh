@@ -1,9 +1,9 @@
 #!/usr/bin/env bash
-# The counted jobs of the programs that measure: what they write is the same on each machine.
+# The counted jobs of the program that measures: what they write is the same on each machine.
 set -euo pipefail
 . "$(dirname "$0")/program.sh"
 
-# gives EXPECTED ARGUMENT..: the program writes this line
+# gives EXPECTED ARGUMENT..: the program writes this text
 gives() {
     local expected=$1 seen
     shift
@@ -11,7 +11,8 @@ gives() {
     [ "$seen" = "$expected" ] || { echo "measures: $*: $seen, not $expected" >&2; exit 1; }
 }
 
-build bench_table
+build measures
+data=$top/crates/measures/data
 gives "items 20 lookups 12288 found 6258 loads 237366 tags 65058" walk 20 3
 gives "items 20 pairs 5 stores 399 words 11067153580527951182" stores 20 5
 gives "items 20 rounds 5 events 536 notes 5 sequence 60" drive 20 5
@@ -23,6 +24,7 @@ cc -O2 -o "$work/walk" "$top/benches/walk.c"
 "$work/walk" "$work/words" 3 >"$work/seen"
 grep -q '^items 20 lookups 12288 found 6258 loads 237366 tags 65058 ' "$work/seen"
 
-build bench_listings
 gives "modules 3 symbols 89 stray 1 found 100 sizes 73625280" build 3 90 100
+gives "modules 2 hidden 1 empty 1 wraps 1 overlap 1 double 1 long 0 malformed 1
+symbols 2 hidden 1 stray 2 long 0 malformed 1" read "$data/modules" "$data/kallsyms"
 echo "measures: all counts are as they were"

@@ -1,7 +1,6 @@
 //! Files of addresses.
 
-use devices::{Counted, FailAt};
-use listing::{LONGEST_LINE, LineFault, read_addresses};
+use listing::{Counted, FailAt, LONGEST_LINE, LineFault, read_addresses};
 use std::alloc::{AllocError, Global};
 use std::test::Fail;
 

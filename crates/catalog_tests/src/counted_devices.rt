@@ -1,4 +1,4 @@
-use devices::{Counted, FailAt, put, put_hexadecimal};
+use listing::{Counted, FailAt, put, put_hexadecimal};
 use std::io::{ErrorKind, Read, Write};
 use std::test::Fail;
 

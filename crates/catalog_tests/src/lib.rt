@@ -1,4 +1,4 @@
-//! Tests of listings, catalogs and symbols: of `devices`, `listing`, `modules` and `symbols`.
+//! Tests of listings, catalogs and symbols: of `listing` and `modules`.
 //!
 //! They call what those crates offer to anyone, and stand beside them, since a crate with tests is
 //! proved twice.

@@ -1,12 +1,11 @@
 //! Answers over small catalogs.
 
-use devices::{Counted, FailAt};
-use modules::{Catalog, ModuleLine, Part, RegionLine, SymbolLine, SymbolLines};
+use listing::{Counted, FailAt, write_answer};
+use modules::{Catalog, ModuleLine, Part, RegionLine, SymbolLine, SymbolLines, symbol_of};
 use order_laws::Item;
 use std::alloc::Global;
 use std::process::Abort;
 use std::test::Fail;
-use symbols::{symbol_of, write_answer};
 
 const EXT4: Item = Item {
     a: 0xffff_ffff_c000_0000,

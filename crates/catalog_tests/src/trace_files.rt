@@ -1,8 +1,8 @@
-use devices::{Counted, FailAt};
 use latch_core::Update;
 use latch_steps::Command;
 use listing::{
-    Header, LONGEST_LINE, LineFault, ReadFault, TraceFile, Version, number, read_trace, read_whole,
+    Counted, FailAt, Header, LONGEST_LINE, LineFault, ReadFault, TraceFile, Version, number,
+    read_trace, read_whole,
 };
 use order_laws::Item;
 use std::alloc::{AllocError, Global};

@@ -2,8 +2,8 @@
 use Rattle.std.proofs.Common.{◌≡◌, ℕ, zero, suc, List, [], ◌∷◌, length, Option, Some, None, Result, Ok, Err, refl, sym, ◌∙◌, ap, subst, inl, inr, ⊎_elim, option_map, arith}
 use Rattle.std.specs.Prelude.{IfSome, option_and_then}
 use Rattle.std.proofs.lemmas.List.{length-map}
-use Rattle.devices.specs.declared.counted.Counted.{Counted}
-use Rattle.devices.specs.Counted.{Rose}
+use Rattle.listing.specs.declared.counted.Counted.{Counted}
+use Rattle.listing.specs.Counted.{Rose}
 use Rattle.order_laws.specs.declared.refusals.Refusal.TheVariants as refusal
 use Rattle.listing.specs.Lines.{lines_of}
 use Rattle.listing.specs.ModuleListing.{modules_in}

@@ -3,8 +3,8 @@ use Rattle.std.specs.Prelude.{◌≡◌, ℕ, ◌+◌, ◌≤◌, List, ◌++◌
 use Rattle.std.specs.Prelude.{vec_capacity}
 use Rattle.std.specs.declared.vec.Vec.{Vec}
 use Rattle.std.specs.Io.KnownBytes.{Appends}
-use Rattle.devices.specs.declared.counted.Counted.{Counted}
-use Rattle.devices.specs.Counted.{NoneFailed, Rose, device_of, failures_of}
+use Rattle.listing.specs.declared.counted.Counted.{Counted}
+use Rattle.listing.specs.Counted.{NoneFailed, Rose, device_of, failures_of}
 
 -- the block has this text more, of at most so many bytes, and no less room
 pub record IsAppended {A : Type 0} (old new : Vec ℕ A) (most : ℕ) (text : List ℕ) : Type 0 where

@@ -3,8 +3,8 @@ use Rattle.std.specs.Prelude.{◌≡◌, ℕ, List, [], ◌++◌, ◌≤◌, ◌
 use Rattle.std.specs.Prelude.{codes, decimal, option_and_then, unwrap_or}
 use Rattle.std.specs.Io.KnownBytes.{Appends}
 use Rattle.clap.specs.Words.{Text}
-use Rattle.devices.specs.declared.counted.Counted.{Counted}
-use Rattle.devices.specs.Counted.{Rose, device_of, failures_of}
+use Rattle.listing.specs.declared.counted.Counted.{Counted}
+use Rattle.listing.specs.Counted.{Rose, device_of, failures_of}
 use Rattle.listing.specs.declared.faults.LineFault.{LineFault}
 use Rattle.listing.specs.declared.faults.LineFault.TheVariants as line
 use Rattle.order_laws.specs.Refusals.{refusal_number}

@@ -2,8 +2,8 @@
 use Rattle.std.specs.Prelude.{ℕ, List, [], Option, Some, None, Result, Ok, Err}
 use Rattle.std.specs.Prelude.{option_and_then, unwrap_or}
 use Rattle.std.specs.Option.{option_map}
-use Rattle.devices.specs.declared.counted.Counted.{Counted}
-use Rattle.devices.specs.Counted.{device_of}
+use Rattle.listing.specs.declared.counted.Counted.{Counted}
+use Rattle.listing.specs.Counted.{device_of}
 use Rattle.listing.specs.Addresses.{addresses_of}
 use Rattle.listing.specs.Lines.{lines_of}
 use Rattle.listing.specs.ModuleListing.{modules_in}

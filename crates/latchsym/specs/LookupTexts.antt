@@ -1,11 +1,11 @@
 -- The lines that a lookup of addresses writes.
 use Rattle.std.specs.Prelude.{ℕ, List, ◌++◌, codes, decimal}
-use Rattle.devices.specs.Exact.{hexadecimal}
+use Rattle.listing.specs.Exact.{hexadecimal}
 use Rattle.listing.specs.declared.module_listing.ModuleCounts.{ModuleCounts}
 use Rattle.listing.specs.declared.symbol_listing.SymbolCounts.{SymbolCounts}
 use Rattle.modules.specs.declared.catalog.BuildCounts.{BuildCounts}
 use Rattle.modules.specs.Entries.{CatalogEntries}
-use Rattle.symbols.specs.Answers.{answer_text}
+use Rattle.listing.specs.Answers.{answer_text}
 use Rattle.latchsym.specs.declared.table.Answer.{Answer}
 
 -- an address, and the text of its answer

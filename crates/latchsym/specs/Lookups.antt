@@ -4,8 +4,8 @@ use Rattle.std.specs.Prelude.{if◌then◌else◌, is_some, Option, Result, Ok, 
 use Rattle.std.specs.Global.{Vec}
 use Rattle.std.specs.Option.{option_map}
 use Rattle.std.specs.Io.KnownBytes.{Appends}
-use Rattle.devices.specs.declared.counted.Counted.{Counted}
-use Rattle.devices.specs.Counted.{NoneFailed, Rose, device_of, failures_of}
+use Rattle.listing.specs.declared.counted.Counted.{Counted}
+use Rattle.listing.specs.Counted.{NoneFailed, Rose, device_of, failures_of}
 use Rattle.order_laws.specs.declared.refusals.Refusal.TheVariants as refusal
 use Rattle.listing.specs.Lines.{lines_of}
 use Rattle.listing.specs.ModuleListing.{module_counts}

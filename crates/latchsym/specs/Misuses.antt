@@ -3,7 +3,7 @@ use Rattle.std.specs.Prelude.{◌≡◌, ◌≢◌, ◌⊎◌, ℕ, ◌≤◌, L
 use Rattle.clap.specs.Words.{Text, kind_of}
 use Rattle.clap.specs.declared.error.Error.{Error}
 use Rattle.clap.specs.declared.error.kind.ErrorKind.TheVariants as kind
-use Rattle.devices.specs.declared.counted.Counted.{Counted}
+use Rattle.listing.specs.declared.counted.Counted.{Counted}
 use Rattle.order_laws.specs.declared.refusals.Refusal.TheVariants as refusal
 use Rattle.latchsym.specs.Faults.{IsReported, fault_text}
 use Rattle.latchsym.specs.declared.command_line.JobFault.{JobFault}

@@ -1,7 +1,7 @@
 -- What comes of a job: that of its engine over the job's own files.
 use Rattle.std.specs.Prelude.{◌≡◌, ◌⊎◌, ℕ, List, Option, Result, Ok, Err}
 use Rattle.clap.specs.Words.{Text}
-use Rattle.devices.specs.declared.counted.Counted.{Counted}
+use Rattle.listing.specs.declared.counted.Counted.{Counted}
 use Rattle.order_laws.specs.declared.refusals.Refusal.TheVariants as refusal
 use Rattle.latchsym.specs.Faults.{with_status}
 use Rattle.latchsym.specs.Files.{AreLookupFiles, AreRunFiles, Held, IsOpened}

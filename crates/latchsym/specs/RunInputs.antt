@@ -1,7 +1,7 @@
 -- What a run of a script reads, and what that says.
 use Rattle.std.specs.Prelude.{ℕ, List, [], Option, Some, None, Result, Ok, Err, option_and_then}
 use Rattle.std.specs.Option.{option_map}
-use Rattle.devices.specs.Counted.{device_of}
+use Rattle.listing.specs.Counted.{device_of}
 use Rattle.listing.specs.declared.scripts.ScriptLine.{ScriptLine}
 use Rattle.listing.specs.Scripts.{script_of}
 use Rattle.modules.specs.Lines.{usual_bounds}

@@ -3,13 +3,13 @@ use Rattle.std.specs.Prelude.{ℕ, ◌+◌, ◌-◌, ◌*◌, ◌^◌, List, [],
 use Rattle.std.specs.Prelude.{length, min, sum_by, Ok, Err}
 use Rattle.std.specs.Global.{Vec}
 use Rattle.std.specs.List.{range_with_len, zip}
-use Rattle.devices.specs.Exact.{hexadecimal}
+use Rattle.listing.specs.Exact.{hexadecimal}
 use Rattle.modules.specs.Entries.{CatalogEntries}
 use Rattle.order_laws.specs.Refusals.{refusal_number}
 use Rattle.shared_lookup.specs.Servings.{ChangeOutcome}
 use Rattle.shared_lookup.specs.declared.served.Answer.{Answer}
 use Rattle.shared_lookup.specs.declared.served.Served.{Served}
-use Rattle.symbols.specs.Answers.{answer_text}
+use Rattle.listing.specs.Answers.{answer_text}
 use Rattle.latchsym.specs.LookupTexts.{count_text}
 
 -- `refused W N NAME` for a change that was refused, nothing for one that was accepted

@@ -4,8 +4,8 @@ use Rattle.std.specs.Prelude.{Option, Result, Ok, Err}
 use Rattle.std.specs.Io.KnownBytes.{Appends}
 use Rattle.std.specs.Global.{Vec}
 use Rattle.std.specs.List.{list_any}
-use Rattle.devices.specs.declared.counted.Counted.{Counted}
-use Rattle.devices.specs.Counted.{NoneFailed, Rose, device_of, failures_of}
+use Rattle.listing.specs.declared.counted.Counted.{Counted}
+use Rattle.listing.specs.Counted.{NoneFailed, Rose, device_of, failures_of}
 use Rattle.latch_table.specs.Limits.{most_readers}
 use Rattle.listing.specs.declared.scripts.ScriptLine.{ScriptLine}
 use Rattle.modules.specs.Entries.{CatalogEntries}

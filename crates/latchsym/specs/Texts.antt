@@ -1,7 +1,7 @@
 -- The lines that a trace writes.
 use Rattle.std.specs.Prelude.{ℕ, ◌/◌, List, ◌++◌, Option, codes, decimal}
 use Rattle.std.specs.Option.{option_map_or}
-use Rattle.devices.specs.Exact.{hexadecimal}
+use Rattle.listing.specs.Exact.{hexadecimal}
 use Rattle.order_laws.specs.declared.items.Item.{Item}
 use Rattle.order_laws.specs.Refusals.{refusal_number}
 use Rattle.latch_steps.specs.declared.replies.Note.{Note}

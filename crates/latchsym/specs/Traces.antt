@@ -2,8 +2,8 @@
 use Rattle.std.specs.Prelude.{◌≡◌, ℕ, ◌%◌, ◌<◌, ◌≤◌, List, ◌++◌, Bool, true, false, Option, Result}
 use Rattle.std.specs.Prelude.{Ok, Err, IfSome, flat_map, if◌then◌else◌}
 use Rattle.std.specs.Io.KnownBytes.{Appends}
-use Rattle.devices.specs.declared.counted.Counted.{Counted}
-use Rattle.devices.specs.Counted.{NoneFailed, Rose, device_of, failures_of}
+use Rattle.listing.specs.declared.counted.Counted.{Counted}
+use Rattle.listing.specs.Counted.{NoneFailed, Rose, device_of, failures_of}
 use Rattle.order_laws.specs.Orders.{Order, closed, half_open}
 use Rattle.order_laws.specs.declared.refusals.Refusal.TheVariants as refusal
 use Rattle.word_layout.specs.Limits.{most_nodes, greatest_sequence, greatest_wide_sequence}

@@ -1,14 +1,13 @@
 //! Why a run of the program fails, and the line that says so.
 ghost use Rattle.std.specs.Prelude.{◌≡◌, []};
-ghost use Rattle.devices.specs.Exact.{Wrote};
+ghost use Rattle.listing.specs.Exact.{Wrote};
 ghost use Rattle.latchsym.specs.Faults.{IsConcluded, IsLineFault, IsReported, bad_line_text};
 ghost use Rattle.latchsym.specs.Faults.{fault_text, file_of, line_of, message_text, fault_number};
 ghost use Rattle.latchsym.specs.Faults.{fault_place, unread_text, with_status};
 
 use crate::command_line::Job;
 use crate::texts::{put_decimal, put_refused};
-use devices::{Counted, put};
-use listing::LineFault;
+use listing::{Counted, LineFault, put};
 use order_laws::Refusal;
 use std::alloc::AllocError;
 use std::io;

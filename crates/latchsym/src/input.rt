@@ -1,7 +1,7 @@
 //! The files that a job reads.
 
 use crate::jobs::FileSource;
-use devices::Counted;
+use listing::Counted;
 use order_laws::Refusal;
 use std::fs::File;
 use std::io::{ErrorKind, Read, Stdin};

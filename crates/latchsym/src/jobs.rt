@@ -1,6 +1,6 @@
 //! A job from the names of its files to its status.
 ghost use Rattle.std.specs.Prelude.{◌≡◌, ◌⊎◌, IfOk, IfErr, List, ℕ, Option};
-ghost use Rattle.devices.specs.Counted.{device_of};
+ghost use Rattle.listing.specs.Counted.{device_of};
 ghost use Rattle.latchsym.specs.Files.{AreLookupFiles, AreRunFiles, IsOpened};
 ghost use Rattle.latchsym.specs.Files.{IsOpenedIfGiven, or_standard};
 ghost use Rattle.latchsym.specs.Outcomes.{IsLookedUp, IsNotOpened, IsOutcome};
@@ -11,7 +11,7 @@ use crate::fault::{Fault, with_status};
 use crate::lookup::{LookupReaders, lookup_engine};
 use crate::runs::{RunReaders, run_engine};
 use crate::trace::trace_engine;
-use devices::Counted;
+use listing::Counted;
 use order_laws::Refusal;
 use std::alloc::Global;
 use std::io::{Read, Write};

@@ -1,8 +1,8 @@
 //! From the bytes of the listings to the lines that a lookup of addresses writes.
 ghost use Rattle.std.specs.Prelude.{◌≡◌, ◌++◌, ◌∷◌, [], Err, All, flat_map, is_some, option_map};
 ghost use Rattle.std.specs.Prelude.{true, IfOk, IfErr, IfSome};
-ghost use Rattle.devices.specs.Counted.{device_of, failures_of};
-ghost use Rattle.devices.specs.Exact.{Wrote};
+ghost use Rattle.listing.specs.Counted.{device_of, failures_of};
+ghost use Rattle.listing.specs.Exact.{Wrote};
 ghost use Rattle.modules.specs.Catalogs.{IsBuildRefusal};
 ghost use Rattle.modules.specs.Lines.{region_fits};
 ghost use Rattle.latchsym.specs.LookupInputs.{inputs_in, inputs_of, known_inputs, known_text};
@@ -16,9 +16,8 @@ ghost use Rattle.latchsym.specs.Readings.{IsReadAs, failures_in, last_failures};
 use crate::fault::Fault;
 use crate::lookup_texts::{put_answers, put_module_counts, put_region_counts, put_symbol_counts};
 use crate::table::{Answer, answers_of};
-use devices::Counted;
 use listing::{
-    ModuleCounts, ReadFault, SymbolCounts, read_addresses, read_kallsyms, read_modules,
+    Counted, ModuleCounts, ReadFault, SymbolCounts, read_addresses, read_kallsyms, read_modules,
     read_regions, read_whole,
 };
 use modules::{BuildCounts, Catalog, KernelBounds, RegionLine};

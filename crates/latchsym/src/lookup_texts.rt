@@ -1,17 +1,15 @@
 //! The lines that a lookup of addresses writes, byte for byte, with no memory taken.
 ghost use Rattle.std.specs.Prelude.{◌++◌, codes, decimal, flat_map};
-ghost use Rattle.devices.specs.Exact.{Wrote};
+ghost use Rattle.listing.specs.Exact.{Wrote};
 ghost use Rattle.latchsym.specs.LookupTexts.{answer_line, count_text, modules_line, regions_line};
 ghost use Rattle.latchsym.specs.LookupTexts.{symbols_line};
 
 use crate::table::Answer;
 use crate::texts::put_decimal;
-use devices::{Counted, put, put_hexadecimal};
-use listing::{ModuleCounts, SymbolCounts};
+use listing::{Counted, ModuleCounts, SymbolCounts, put, put_hexadecimal, write_answer};
 use modules::{BuildCounts, Catalog};
 use std::io;
 use std::io::Write;
-use symbols::write_answer;
 
 /// Writes the line of each answer, in order.
 pub fn put_answers<W: Write>(

@@ -24,10 +24,10 @@ mod texts;
 mod trace;
 
 use command_line::{Job, JobFault, job_of};
-use devices::{BLOCK, Counted};
 use fault::{Fault, conclude};
 use input::FileSystem;
 use jobs::do_job;
+use listing::{BLOCK, Counted};
 use misuse::{misused, refuse};
 use order_laws::Refusal;
 use std::env;

@@ -1,12 +1,12 @@
 //! What is said of a command line that gives no job, and the program's status.
 ghost use Rattle.std.specs.Prelude.{◌≡◌};
-ghost use Rattle.devices.specs.Exact.{Wrote};
+ghost use Rattle.listing.specs.Exact.{Wrote};
 ghost use Rattle.latchsym.specs.Misuses.{IsExplained, IsMisused, IsNoJob, misuse_text};
 
 use crate::command_line::JobFault;
 use crate::fault::{Fault, SUCCEEDED, report_before_job};
 use clap::Error;
-use devices::{Counted, put};
+use listing::{Counted, put};
 use order_laws::Refusal;
 use std::io;
 use std::io::Write;

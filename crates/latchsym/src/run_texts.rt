@@ -1,7 +1,7 @@
 //! The lines that a run of a script writes, byte for byte, with no memory taken.
 ghost use Rattle.std.specs.Prelude.{◌++◌, ◌≡◌, codes, decimal, flat_map, min, sum_by, vec_len};
 ghost use Rattle.std.specs.List.{zip};
-ghost use Rattle.devices.specs.Exact.{Wrote};
+ghost use Rattle.listing.specs.Exact.{Wrote};
 ghost use Rattle.latchsym.specs.LookupTexts.{count_text};
 ghost use Rattle.latchsym.specs.RunTexts.{answered_text, answers_text, change_text};
 ghost use Rattle.latchsym.specs.RunTexts.{count_of_answers, refusals_text, run_text, totals_text};
@@ -9,14 +9,12 @@ ghost use Rattle.latchsym.specs.RunTexts.{writer_text};
 
 use crate::lookup_texts::put_count;
 use crate::texts::put_decimal;
-use devices::{Counted, put, put_hexadecimal};
-use listing::ModuleName;
+use listing::{Counted, ModuleName, put, put_hexadecimal, write_answer};
 use modules::Catalog;
 use order_laws::Refusal;
 use shared_lookup::{Answer, Served};
 use std::io;
 use std::io::Write;
-use symbols::write_answer;
 
 /// Writes what came back from the writers, whose changes are of modules of these names, and from
 /// the readers; and lets the writer keep nothing back.

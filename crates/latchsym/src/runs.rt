@@ -5,7 +5,7 @@
 //! against the log of the table's updates before the first byte is written.
 ghost use Rattle.std.specs.Prelude.{◌≡◌, [], Some, true, All};
 ghost use Rattle.std.specs.List.{list_any};
-ghost use Rattle.devices.specs.Counted.{device_of, failures_of};
+ghost use Rattle.listing.specs.Counted.{device_of, failures_of};
 ghost use Rattle.listing.specs.Scripts.{has_actor, script_of};
 ghost use Rattle.modules.specs.Lines.{region_fits};
 ghost use Rattle.latchsym.specs.LookupInputs.{inputs_in, region_lines_of_inputs, texts_in};
@@ -21,8 +21,7 @@ use crate::lookup::{
     region_lines_in,
 };
 use crate::run_texts::put_run;
-use devices::Counted;
-use listing::{ModuleName, ScriptLine, read_script};
+use listing::{Counted, ModuleName, ScriptLine, read_script};
 use modules::{Catalog, KernelBounds};
 use order_laws::Refusal;
 use shared_lookup::{Open, Served, serve};

@@ -15,7 +15,7 @@ mod wrong_answers;
 
 use crate::fault::Fault;
 use crate::trace::trace_engine;
-use devices::Counted;
+use listing::Counted;
 use std::alloc::Global;
 
 /// What the engine returns for a trace, and what it writes.

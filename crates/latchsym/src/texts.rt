@@ -4,15 +4,15 @@
 //! the next line might not fit: a call of the writer costs as much as a whole line.
 ghost use Rattle.std.specs.Prelude.{◌≡◌, ◌+◌, ◌≤◌, ◌++◌, [], OnOk, decimal, flat_map, vec_len};
 ghost use Rattle.std.specs.Prelude.{vec_capacity};
-ghost use Rattle.devices.specs.Exact.{Wrote};
+ghost use Rattle.listing.specs.Exact.{Wrote};
 ghost use Rattle.order_laws.specs.Refusals.{refusal_number};
 ghost use Rattle.latchsym.specs.Texts.{load_counts_text, end_text, found_text, note_text};
 ghost use Rattle.latchsym.specs.Texts.{refused_text, returned_text, tag_text};
 ghost use Rattle.latchsym.specs.Blocks.{IsGathered, IsAppended};
 
-use devices::{Counted, append, append_hexadecimal, put};
 use itoa::Buffer;
 use latch_steps::{Note, Returned};
+use listing::{Counted, append, append_hexadecimal, put};
 use order_laws::{Item, Refusal};
 use std::io;
 use std::io::Write;

@@ -1,7 +1,7 @@
 //! From the bytes of a trace to the lines that it writes.
 ghost use Rattle.std.specs.Prelude.{◌≡◌, ◌<◌, ◌≤◌, ◌++◌, ◌↔◌, ◌⊎◌, [], IfErr, IfOk, IsErr};
 ghost use Rattle.std.specs.Prelude.{flat_map, vec_capacity};
-ghost use Rattle.devices.specs.Exact.{Wrote};
+ghost use Rattle.listing.specs.Exact.{Wrote};
 ghost use Rattle.listing.specs.Trace.{contents_of};
 ghost use Rattle.word_layout.specs.Layouts.{capacity_of, limit_of};
 ghost use Rattle.word_layout.specs.Limits.{most_nodes};
@@ -10,9 +10,8 @@ ghost use Rattle.latchsym.specs.Traces.{AnswersTrace, AnswersIn, greatest_of};
 
 use crate::fault::Fault;
 use crate::texts::{append_end, put_notes};
-use devices::{BLOCK, Counted, put};
 use latch_steps::{Note, drive_notes};
-use listing::{TraceFile, Version, read_trace};
+use listing::{BLOCK, Counted, TraceFile, Version, put, read_trace};
 use order_laws::{Closed, HalfOpen, Refusal, TreeOrder};
 use std::alloc::Global;
 use std::io;

@@ -4,7 +4,7 @@ use Rattle.std.specs.Option.{option_map, option_map_or}
 use Rattle.order_laws.specs.declared.items.Item.{Item}
 use Rattle.modules.specs.Catalogs.{module_of}
 use Rattle.modules.specs.Entries.{CatalogEntries}
-use Rattle.symbols.specs.Found.{Found, symbol_at}
+use Rattle.modules.specs.Found.{Found, symbol_at}
 use Rattle.modules.specs.Items.{item_of_address}
 use Rattle.latchsym_ffi.specs.declared.finding.CatalogAnswer.{CatalogAnswer}
 use Rattle.latchsym_ffi.specs.declared.finding.Seen.{Seen}

@@ -6,9 +6,8 @@ ghost use Rattle.latchsym_ffi.specs.Finding.{Describes, answer_of, copied, known
 ghost use Rattle.latchsym_ffi.specs.Finding.{known_in, module_name, owner_named, shown_seen};
 ghost use Rattle.latchsym_ffi.specs.Finding.{symbol_named};
 
-use modules::{Catalog, IndexedCatalog};
+use modules::{Catalog, FoundSymbol, IndexedCatalog, symbol_of};
 use order_laws::Item;
-use symbols::{FoundSymbol, symbol_of};
 
 /// What is told of an address.
 #[repr(C)]

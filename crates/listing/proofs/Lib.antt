@@ -1,3 +1,7 @@
+-- the digits of an address
+pub mod HexadecimalLemmas
+-- texts that are written one after the other
+pub mod WriteLemmas
 -- what the first place of a byte says of lines and of words
 pub mod LineCutLemmas
 -- words that blanks and tabs part

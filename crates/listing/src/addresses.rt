@@ -2,7 +2,7 @@
 //!
 //! Each line is a NUMBER, is empty, or is a comment that begins with `#`.
 ghost use Rattle.std.specs.Prelude.{◌≡◌, ◌≢◌, ◌≤◌, ◌<◌, Err, IfSome, IsErrOf};
-ghost use Rattle.devices.specs.Counted.{device_of, failures_of, Rose};
+ghost use Rattle.listing.specs.Counted.{device_of, failures_of, Rose};
 ghost use Rattle.listing.specs.Numbers.{number_of};
 ghost use Rattle.listing.specs.Said.{said_by, Gives, GivesInGrammar};
 ghost use Rattle.listing.specs.Addresses.{addresses_of};
@@ -10,8 +10,7 @@ ghost use Rattle.listing.specs.Addresses.{addresses_of};
 use crate::lines::cut_line;
 use crate::numbers::number;
 use crate::said::{Said, is_passed_over, is_too_long};
-use crate::{LineFault, read_whole};
-use devices::Counted;
+use crate::{Counted, LineFault, read_whole};
 use std::alloc::Global;
 use std::io::Read;
 

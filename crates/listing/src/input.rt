@@ -1,9 +1,8 @@
 //! Input that is read whole.
 ghost use Rattle.std.specs.Prelude.{◌≡◌, ◌≢◌, ◌≤◌, Err, IfOk, IfSome, IsErrOf};
-ghost use Rattle.devices.specs.Counted.{device_of, failures_of, Rose};
+ghost use Rattle.listing.specs.Counted.{device_of, failures_of, Rose};
 
-use crate::ReadFault;
-use devices::{BLOCK, Counted};
+use crate::{BLOCK, Counted, ReadFault};
 use std::alloc::Global;
 use std::io::Read;
 

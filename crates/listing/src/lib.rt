@@ -1,13 +1,22 @@
-//! The grammars of the texts that are read.
+//! Texts that are read and written: the grammars of the listings, and the text of an answer.
 //!
 //! A text is read whole, then cut into lines, and a line into words, in time linear in its length.
+//!
+//! A fault of input or output may be reported only where a call of the device failed. So the calls
+//! of a device are made through [`Counted`], and each contract that speaks of a fault speaks of
+//! its count.
 #![tactic(auto)]
 
 mod addresses;
+mod answers;
 mod batch;
 mod commands;
+mod counted;
+mod exact;
+mod fail_at;
 mod faults;
 mod gaps;
+mod gathered;
 mod header;
 mod input;
 mod laws;
@@ -21,7 +30,12 @@ mod symbol_listing;
 mod trace;
 
 pub use addresses::read_addresses;
+pub use answers::write_answer;
+pub use counted::{BLOCK, Counted};
+pub use exact::{put, put_hexadecimal};
+pub use fail_at::FailAt;
 pub use faults::{LineFault, ReadFault};
+pub use gathered::{LONGEST_HEXADECIMAL, append, append_hexadecimal};
 pub use header::{Header, Version};
 pub use input::read_whole;
 pub use laws::{

@@ -1,6 +1,6 @@
 //! Trace files: a header, and the commands of a run.
 ghost use Rattle.std.specs.Prelude.{◌≡◌, ◌≢◌, ◌≤◌, ◌<◌, Err, IfSome, IsErrOf};
-ghost use Rattle.devices.specs.Counted.{device_of, failures_of, Rose};
+ghost use Rattle.listing.specs.Counted.{device_of, failures_of, Rose};
 ghost use Rattle.listing.specs.Lines.{lines_of};
 ghost use Rattle.listing.specs.Said.{entries_from, Gives, GivesInGrammar};
 ghost use Rattle.listing.specs.Commands.{command_by};
@@ -10,8 +10,7 @@ use crate::commands::said_by;
 use crate::header::{Header, Version, header_in};
 use crate::lines::cut_line;
 use crate::said::Said;
-use crate::{LineFault, read_whole};
-use devices::Counted;
+use crate::{Counted, LineFault, read_whole};
 use latch_steps::Command;
 use std::alloc::Global;
 use std::io::Read;

@@ -46,3 +46,9 @@ pub mod LoadedItemLemmas
 pub mod AroundLemmas
 -- what a search of the regions by rising first address finds
 pub mod RegionIndexLemmas
+-- the symbols below and above an address, by their places
+pub mod NearestLemmas
+-- the symbols of a module that lie in one of its regions
+pub mod WithinLemmas
+-- what is found for an address, by places
+pub mod FindLemmas

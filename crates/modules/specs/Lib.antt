@@ -23,6 +23,8 @@ pub mod Names
 pub mod Catalogs
 -- the symbols around an address, in a list that is in no order
 pub mod Around
+-- the symbol that an address belongs to
+pub mod Found
 -- where the regions of a module begin, by their parts
 pub mod Starts
 -- what a load, an unload, and the end of a module's start change

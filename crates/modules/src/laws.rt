@@ -1,9 +1,11 @@
 //! What follows from the definitions, as contracts of functions that do nothing.
 
-ghost use Rattle.std.specs.Prelude.{◌≡◌, ◌+◌, true, All, List, length, sum_by};
+ghost use Rattle.std.specs.Prelude.{◌≡◌, ◌+◌, ◌<◌, true, ℕ, All, List, MatchOption, length};
+ghost use Rattle.std.specs.Prelude.{sum_by};
 ghost use Rattle.modules.specs.Catalogs.{catalog_of, counts_of, entries_of, IsNoneAbsent};
 ghost use Rattle.modules.specs.Catalogs.{IsSoundCatalog};
-ghost use Rattle.modules.specs.Entries.{CatalogEntries};
+ghost use Rattle.modules.specs.Entries.{CatalogEntries, SymbolEntry};
+ghost use Rattle.modules.specs.Found.{IsFound, found_in};
 ghost use Rattle.modules.specs.Lines.{fits, region_fits};
 ghost use Rattle.modules.specs.Listed.{BoundNames, ListedModule, ListedRegion, ListedSymbol};
 ghost use Rattle.modules.specs.Placed.{are_few};
@@ -49,4 +51,13 @@ pub fn every_catalog_is_sound()
 /// fewer regions.
 pub fn no_module_is_absent()
     ensures { (c : CatalogEntries) → IsSoundCatalog c → IsNoneAbsent c }
+{}
+
+/// What is found for an address is the symbol at or below it that no other lies between, the first
+/// of those listed, and it reaches to the next symbol above its own address or to the region's end.
+/// Nothing is found exactly where all symbols lie above the address.
+pub fn a_found_symbol_is_the_nearest()
+    ensures { (symbols : List SymbolEntry) (end addr : ℕ)
+        → MatchOption (found_in symbols end addr) (All (λ s. addr < s.addr) symbols)
+        (IsFound symbols end addr) }
 {}

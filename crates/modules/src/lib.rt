@@ -1,10 +1,12 @@
-//! The catalog of the modules that may be loaded, with the symbols of each.
+//! The catalog of the modules that may be loaded, with the symbols of each, and the symbol that an
+//! address belongs to.
 #![tactic(auto)]
 
 mod admission;
 mod blocks;
 mod build;
 pub mod catalog;
+pub mod found_symbols;
 mod gathering;
 pub mod laws;
 pub mod lines;
@@ -18,6 +20,7 @@ pub mod symbol_lines;
 pub mod symbols;
 
 pub use catalog::{ABSENT_MODULE, BuildCounts, Catalog, Held};
+pub use found_symbols::{FoundSymbol, symbol_in, symbol_of};
 pub use lines::{KernelBounds, ModuleLine, Part, RegionLine, SymbolLine};
 pub use module::{MOST_REGIONS, Module};
 pub use region_index::IndexedCatalog;

@@ -1,7 +1,7 @@
 //! Addresses from a file, and names of the symbols that bound the kernel itself.
 use crate::fault::Fault;
 use crate::lookup::{LookupReaders, lookup_engine};
-use devices::{Counted, FailAt};
+use listing::{Counted, FailAt};
 use modules::KernelBounds;
 use std::alloc::Global;
 use std::io::Read;

@@ -3,7 +3,7 @@ use crate::fault::Fault;
 use crate::tests::rows::ROWS;
 use crate::tests::traced;
 use crate::trace::trace_engine;
-use devices::{Counted, FailAt};
+use listing::{Counted, FailAt};
 use std::alloc::{AllocError, Global};
 use std::test::Fail;
 

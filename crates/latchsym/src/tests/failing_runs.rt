@@ -1,7 +1,7 @@
 //! Runs of a script in which one of the files fails, at each of its reads in turn.
 use crate::fault::Fault;
 use crate::runs::{RunReaders, run_engine};
-use devices::{Counted, FailAt};
+use listing::{Counted, FailAt};
 use std::alloc::{AllocError, Global};
 use std::sync::Wait;
 use std::test::Fail;

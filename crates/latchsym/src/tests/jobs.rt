@@ -3,7 +3,7 @@ use crate::command_line::{Job, JobFault, LookupJob, RunJob};
 use crate::fault::{Fault, conclude};
 use crate::jobs::{FileSource, do_job};
 use crate::misuse::refuse;
-use devices::{Counted, FailAt};
+use listing::{Counted, FailAt};
 use modules::KernelBounds;
 use order_laws::Refusal;
 use std::alloc::{AllocError, Global};

@@ -1,7 +1,7 @@
 //! Addresses that are looked up in listings.
 use crate::fault::Fault;
 use crate::lookup::{LookupReaders, lookup_engine};
-use devices::{Counted, FailAt};
+use listing::{Counted, FailAt};
 use modules::KernelBounds;
 use order_laws::Refusal;
 use std::alloc::{AllocError, Global};

@@ -1,7 +1,7 @@
 //! Scripts that writers and readers carry out on threads.
 use crate::fault::Fault;
 use crate::runs::{RunReaders, run_engine};
-use devices::{Counted, FailAt};
+use listing::{Counted, FailAt};
 use order_laws::Refusal;
 use std::alloc::{AllocError, Global};
 use std::io::Read;

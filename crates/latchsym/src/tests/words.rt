@@ -2,7 +2,7 @@
 use crate::command_line::{Job, JobFault, LookupJob, RunJob, job_of};
 use crate::fault::{Fault, report, report_before_job};
 use clap::error::ErrorKind;
-use devices::Counted;
+use listing::Counted;
 use order_laws::Refusal;
 use std::alloc::Global;
 use std::test::Fail;

@@ -3,7 +3,7 @@
 use crate::fault::Fault;
 use crate::lookup::{LookupInputs, listings_in};
 use crate::runs::tell;
-use devices::Counted;
+use listing::Counted;
 use modules::KernelBounds;
 use order_laws::Refusal;
 use shared_lookup::{Answer, Served};

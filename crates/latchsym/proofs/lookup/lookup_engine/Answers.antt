@@ -1,4 +1,4 @@
-use Rattle.devices.specs.Counted.{device_of, failures_of}
+use Rattle.listing.specs.Counted.{device_of, failures_of}
 use Rattle.latchsym.specs.LookupInputs.{inputs_of, known_inputs, known_text, texts_in}
 use Rattle.latchsym.specs.Lookups.{IsLookupOf}
 use Rattle.latchsym.specs.Readings.{failures_in}

@@ -1,4 +1,4 @@
-use Rattle.devices.proofs.WriteLemmas.{then}
+use Rattle.listing.proofs.WriteLemmas.{then}
 use Rattle.latchsym.proofs.lookup.put_counts.Goals as goal
 
 pub returns : goal.returns

@@ -1,6 +1,6 @@
 use Rattle.std.proofs.Common.{flat_map, take}
 use Rattle.std.specs.Io.KnownBytes.{Appends}
-use Rattle.devices.specs.Counted.{NoneFailed, device_of}
+use Rattle.listing.specs.Counted.{NoneFailed, device_of}
 use Rattle.latchsym.specs.LookupTexts.{answer_line}
 use Rattle.latchsym.proofs.lookup_texts.put_answers.Given as goal
 

@@ -1,5 +1,5 @@
 use Rattle.latchsym.specs.LookupTexts.{symbols_line}
-use Rattle.devices.proofs.WriteLemmas.{then}
+use Rattle.listing.proofs.WriteLemmas.{then}
 use Rattle.latchsym.proofs.lookup_texts.put_symbol_counts.Goals as goal
 
 pub returns : goal.returns

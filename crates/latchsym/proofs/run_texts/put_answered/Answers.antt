@@ -1,7 +1,7 @@
 use Rattle.std.proofs.Common.{◌+◌, decimal, subst}
-use Rattle.devices.specs.Exact.{Wrote}
+use Rattle.listing.specs.Exact.{Wrote}
 use Rattle.latchsym.specs.RunTexts.{answered_text}
-use Rattle.devices.proofs.WriteLemmas.{then}
+use Rattle.listing.proofs.WriteLemmas.{then}
 use Rattle.latchsym.proofs.run_texts.put_answered.Goals as goal
 
 pub returns : goal.returns

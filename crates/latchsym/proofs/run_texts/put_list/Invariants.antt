@@ -1,6 +1,6 @@
 use Rattle.std.proofs.Common.{flat_map, take}
 use Rattle.std.specs.Io.KnownBytes.{Appends}
-use Rattle.devices.specs.Counted.{NoneFailed, device_of}
+use Rattle.listing.specs.Counted.{NoneFailed, device_of}
 use Rattle.latchsym.specs.RunTexts.{answered_text}
 use Rattle.latchsym.proofs.run_texts.put_list.Given as goal
 

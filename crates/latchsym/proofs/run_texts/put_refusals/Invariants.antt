@@ -1,7 +1,7 @@
 use Rattle.std.proofs.Common.{flat_map, length, take}
 use Rattle.std.specs.Io.KnownBytes.{Appends}
 use Rattle.std.specs.List.{range_with_len, zip}
-use Rattle.devices.specs.Counted.{NoneFailed, device_of}
+use Rattle.listing.specs.Counted.{NoneFailed, device_of}
 use Rattle.latchsym.specs.RunTexts.{numbered_text}
 use Rattle.latchsym.proofs.run_texts.put_refusals.Given as goal
 

@@ -1,7 +1,7 @@
 use Rattle.std.proofs.Common.{flat_map, take}
 use Rattle.std.specs.Io.KnownBytes.{Appends}
 use Rattle.std.specs.List.{zip}
-use Rattle.devices.specs.Counted.{NoneFailed, device_of}
+use Rattle.listing.specs.Counted.{NoneFailed, device_of}
 use Rattle.latchsym.specs.RunTexts.{change_text}
 use Rattle.latchsym.proofs.run_texts.put_writer.Given as goal
 

@@ -1,6 +1,6 @@
 use Rattle.std.proofs.Common.{ℕ, ◌≡◌, ◌≤◌, ◌++◌, List, take, flat_map, vec_capacity}
 use Rattle.std.specs.Io.KnownBytes.{Appends}
-use Rattle.devices.specs.Counted.{NoneFailed, device_of}
+use Rattle.listing.specs.Counted.{NoneFailed, device_of}
 use Rattle.latchsym.specs.Texts.{note_text}
 use Rattle.latchsym.proofs.texts.put_notes.Given as goal
 

@@ -1,6 +1,6 @@
 use Rattle.std.proofs.Common.{◌≡◌, ℕ, IfSome, subst, sym}
 use Rattle.std.specs.Global.{Vec}
-use Rattle.devices.specs.Counted.{device_of}
+use Rattle.listing.specs.Counted.{device_of}
 use Rattle.listing.specs.Addresses.{addresses_of}
 use Rattle.listing.proofs.ReadLemmas.{gives_read}
 use Rattle.listing.proofs.addresses.read_addresses.Goals as goal

@@ -1,6 +1,6 @@
 use Rattle.std.proofs.Common.{◌-◌, ◌^◌, ◌≡◌, vec_len}
 use Rattle.std.specs.Io.KnownBytes.{Consumes}
-use Rattle.devices.specs.Counted.{device_of, failures_of}
+use Rattle.listing.specs.Counted.{device_of, failures_of}
 use Rattle.listing.proofs.input.read_whole.Given as goal
 
 -- what is read so far is gone from the reader

@@ -1,5 +1,5 @@
 use Rattle.std.proofs.Common.{◌≡◌, IfSome, subst, sym}
-use Rattle.devices.specs.Counted.{device_of}
+use Rattle.listing.specs.Counted.{device_of}
 use Rattle.listing.specs.Trace.{trace_of, contents_of}
 use Rattle.listing.proofs.ReadLemmas.{gives_read}
 use Rattle.listing.proofs.trace.read_trace.Goals as goal

@@ -1,3 +1,0 @@
-pub mod HexadecimalLemmas
--- texts that are written one after the other
-pub mod WriteLemmas

@@ -1,0 +1,41 @@
+-- The text of an answer.
+use Rattle.std.specs.Prelude.{ℕ, ◌&&◌, nat_eq, nat_le, nat_lt, if◌then◌else◌, List, [], ◌++◌, codes}
+use Rattle.std.specs.Prelude.{Option, Some, None}
+use Rattle.std.specs.Option.{option_map_or}
+use Rattle.listing.specs.Exact.{hexadecimal}
+use Rattle.order_laws.specs.declared.items.Item.{Item}
+use Rattle.modules.specs.Catalogs.{module_of}
+use Rattle.modules.specs.Entries.{CatalogEntries, ModuleEntry}
+use Rattle.modules.specs.Found.{Found, found_in, symbols_from}
+
+-- `NAME+0xOFFSET/0xSIZE`
+unfoldable pub symbol_text : Found → List ℕ
+symbol_text f =
+    f.symbol.name ++ codes "+" ++ hexadecimal f.offset ++ codes "/" ++ hexadecimal f.size
+
+-- ` [MODULE]`, and nothing for the kernel itself
+unfoldable pub module_text : ℕ → List ℕ → List ℕ
+module_text number name = if nat_eq number 0 then [] else codes " [" ++ name ++ codes "]"
+
+-- what is known of an address where no symbol is at or below it
+abbrev pub unknown_text : ℕ → List ℕ → List ℕ
+unknown_text number name =
+    if nat_eq number 0 then codes "-" else codes "?" ++ module_text number name
+
+-- of an address in a region of the module
+abbrev pub text_in : ModuleEntry → Item → ℕ → List ℕ
+text_in m item addr =
+    option_map_or
+    (λ f. symbol_text f ++ module_text item.tag m.name)
+    (found_in (symbols_from m.symbols item.a item.b) item.b addr)
+    (unknown_text item.tag m.name)
+
+-- of an address that the item holds
+abbrev pub held_text : CatalogEntries → Item → ℕ → List ℕ
+held_text c item addr = option_map_or (λ m. text_in m item addr) (module_of c item.tag) (codes "-")
+
+-- of an address and the item that was found for it
+abbrev pub answer_text : CatalogEntries → Option Item → ℕ → List ℕ
+answer_text c None addr = codes "-"
+answer_text c (Some item) addr =
+    if nat_le item.a addr && nat_lt addr item.b then held_text c item addr else codes "-"

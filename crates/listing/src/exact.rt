@@ -1,0 +1,63 @@
+//! Exact bytes on a counted writer, with no memory taken.
+ghost use Rattle.std.specs.Prelude.{◌≡◌, ◌<◌, drop, false};
+ghost use Rattle.std.specs.Fmt.{digits, digit_glyph};
+ghost use Rattle.listing.specs.Exact.{Wrote, hexadecimal};
+
+use crate::Counted;
+use std::io;
+use std::io::{ErrorKind, Write};
+
+/// Writes all the bytes.
+///
+/// The first failed call of the device ends it with an error, so an error means that the count
+/// rose. A call that was interrupted failed like any other and is not made again.
+pub fn put<W: Write>(writer: &mut Counted<W>, bytes: &[u8]) -> io::Result<()>
+    ensures { Wrote W.contents writer.old writer.new result bytes.now }
+{
+    let mut rest = bytes;
+    while !rest.is_empty() {
+        let taken = writer.write(rest)?;
+        if taken == 0 {
+            return Err(io::Error::from(ErrorKind::WriteZero));
+        }
+        rest = &rest[taken..];
+    }
+    Ok(())
+}
+
+/// Writes `0x` and the number in lower case hexadecimal without leading zeros, `0x0` for zero.
+///
+/// Its errors are those of [`put`].
+pub fn put_hexadecimal<W: Write>(writer: &mut Counted<W>, n: u64) -> io::Result<()>
+    ensures { Wrote W.contents writer.old writer.new result (hexadecimal n) }
+{
+    let mut buffer = [0u8; 16];
+    let start = write_digits(n, &mut buffer);
+    put(writer, b"0x")?;
+    put(writer, &buffer[start..])
+}
+
+/// Writes the hexadecimal digits of a number at the end of the buffer, and returns where they
+/// begin.
+pub(crate) fn write_digits(n: u64, buffer: &mut [u8; 16]) -> usize
+    ensures start { result < 16 }
+    ensures written { drop result buffer.new ≡ digits 16 false n }
+{
+    let mut start = 16usize;
+    let mut left = n;
+    while start > 1 && left >= 16 {
+        start -= 1;
+        buffer[start] = digit(left % 16);
+        left /= 16;
+    }
+    start -= 1;
+    buffer[start] = digit(left % 16);
+    start
+}
+
+fn digit(n: u64) -> u8
+    requires { n < 16 }
+    ensures { result ≡ digit_glyph false n }
+{
+    b"0123456789abcdef"[n as usize]
+}

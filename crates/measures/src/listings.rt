@@ -1,0 +1,71 @@
+//! Two listings that are read from files, cut into lines and built into a catalog.
+
+use crate::faults::Fault;
+use listing::{Counted, ReadFault, read_kallsyms, read_modules, read_whole};
+use modules::Catalog;
+use std::alloc::Global;
+use std::io::{Eprint, Print};
+use std::time::{Clock, Instant};
+use std::{fs, io};
+
+/// Tells how long a part took.
+pub fn tell<R: Eprint + Clock>(rt: &R, part: &str, start: &Instant) -> io::Result<()> {
+    let elapsed = start.elapsed(rt)?.as_micros();
+    eprintln!(rt; "{part}: {elapsed} us")
+}
+
+/// Cuts the listings into lines, builds their catalog, and writes two lines.
+fn build<R: Print + Eprint + Clock>(
+    rt: &R,
+    alloc: Global,
+    modules: &[u8],
+    kallsyms: &[u8],
+) -> Result<(), Fault> {
+    let start = Instant::now(rt)?;
+    let (modules, skipped_modules) = read_modules(alloc, modules)?;
+    let (symbols, skipped_symbols) = read_kallsyms(alloc, kallsyms)?;
+    tell(rt, "lines", &start)?;
+    let start = Instant::now(rt)?;
+    let (_, counts) = Catalog::build(alloc, &modules, symbols)?;
+    tell(rt, "build", &start)?;
+    println!(rt;
+        "modules {} hidden {} empty {} wraps {} overlap {} double {} long {} malformed {}",
+        counts.modules,
+        skipped_modules.hidden,
+        skipped_modules.empty,
+        skipped_modules.wraps,
+        counts.overlap,
+        counts.double,
+        skipped_modules.long,
+        skipped_modules.malformed
+    )?;
+    println!(rt;
+        "symbols {} hidden {} stray {} long {} malformed {}",
+        counts.symbols,
+        skipped_symbols.hidden,
+        counts.stray,
+        skipped_symbols.long,
+        skipped_symbols.malformed
+    )?;
+    Ok(())
+}
+
+/// The text of a file.
+fn text_of(rt: &HostRuntime, file: &str) -> io::Result<Vec<u8>> {
+    let mut reader = Counted::new(fs::open(rt, file)?);
+    match read_whole(rt.alloc(), &mut reader) {
+        Ok(text) => Ok(text),
+        Err(ReadFault::OutOfMemory) => Err(io::Error::from(io::ErrorKind::OutOfMemory)),
+        Err(ReadFault::Read) => Err(io::Error::from(io::ErrorKind::Other)),
+    }
+}
+
+/// Reads the listings in these two files, builds their catalog, and writes the counts of their
+/// lines.
+pub fn read_and_build(rt: &HostRuntime, modules: &str, kallsyms: &str) -> Result<(), Fault> {
+    let start = Instant::now(rt)?;
+    let modules = text_of(rt, modules)?;
+    let kallsyms = text_of(rt, kallsyms)?;
+    tell(rt, "read", &start)?;
+    build(rt, rt.alloc(), &modules, &kallsyms)
+}

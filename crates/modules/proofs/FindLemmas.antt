@@ -1,0 +1,44 @@
+-- What is found for an address, by places.
+use Rattle.std.proofs.Common.{◌≡◌, ℕ, ◌-◌, ◌<◌, Bool, true, false, ◌&&◌, ◌||◌, nat_lt, nat_le, List, get_or, Some, None, Option, refl, sym, ap, ◌∙◌, inl, inr}
+use Rattle.std.specs.Prelude.{All, MatchOption, find, unwrap_or}
+use Rattle.std.specs.List.{list_all}
+use Rattle.std.specs.Option.{option_map}
+use Rattle.std.proofs.lemmas.Bool.{false≢true, and_parts, leb-true, ltb-true}
+use Rattle.std.proofs.lemmas.List.Sums.{AllPass-from_list_all}
+use Rattle.facts.proofs.Members.{Contains-slice_get}
+use Rattle.facts.proofs.Numbers.{le_or_past_cases, least_above_cases}
+use Rattle.facts.proofs.Tests.{find-passes}
+use Rattle.facts.proofs.Tests.{find_place}
+use Rattle.modules.proofs.AroundLemmas.{all_above, none_over}
+use Rattle.modules.specs.Around.{is_nearest, is_next, symbol_below}
+use Rattle.modules.specs.Entries.{SymbolEntry}
+use Rattle.modules.specs.Found.{IsFound, ReachesUpTo, symbol_found_at, found_in}
+
+reach_of : (symbols : List SymbolEntry) (end : ℕ) (s : SymbolEntry) (o : Option SymbolEntry) → find (is_next symbols s.addr) symbols ≡ o → ReachesUpTo symbols end s (unwrap_or (option_map (λ (t : SymbolEntry). t.addr) o) end - s.addr)
+reach_of symbols end s None none = inl (none_over symbols s.addr none, refl)
+reach_of symbols end s (Some t) is =
+    let there = find_place (is_next symbols s.addr) symbols t is in
+    let passes = and_parts (nat_lt s.addr t.addr) (list_all (λ (u : SymbolEntry). nat_le u.addr s.addr || nat_le t.addr u.addr) symbols) (find-passes (is_next symbols s.addr) symbols t is) in
+    let others = AllPass-from_list_all (λ (u : SymbolEntry). nat_le u.addr s.addr || nat_le t.addr u.addr) symbols passes.1 in
+    inr (t, Contains-slice_get symbols there.0 t there.1.at, ltb-true s.addr t.addr passes.0, (λ k d lt. least_above_cases (get_or symbols k d).addr t.addr s.addr (others k d lt)), refl)
+
+pub found_by_place : (symbols : List SymbolEntry) (end addr : ℕ) → MatchOption (found_in symbols end addr) (All (λ s. addr < s.addr) symbols) (IsFound symbols end addr)
+found_by_place symbols end addr =
+    elim (symbol_below symbols addr) as (λ o. symbol_below symbols addr ≡ o → MatchOption (option_map (symbol_found_at symbols end addr) o) (All (λ s. addr < s.addr) symbols) (IsFound symbols end addr)) [
+      | None ↦ λ none. all_above symbols addr none
+      | Some s ↦ λ is.
+          let there = find_place (is_nearest symbols addr) symbols s is in
+          let yes : is_nearest symbols addr s ≡ true = find-passes (is_nearest symbols addr) symbols s is in
+          let passes = and_parts (nat_le s.addr addr) (list_all (λ (t : SymbolEntry). nat_le t.addr s.addr || nat_lt addr t.addr) symbols) yes in
+          let others = AllPass-from_list_all (λ (t : SymbolEntry). nat_le t.addr s.addr || nat_lt addr t.addr) symbols passes.1 in
+          let test : ℕ → Bool = λ a. nat_le a addr && list_all (λ (t : SymbolEntry). nat_le t.addr a || nat_lt addr t.addr) symbols in
+          record {
+            place = there.0;
+            listed = there.1.at;
+            below = leb-true s.addr addr passes.0;
+            nearest = λ k d lt. le_or_past_cases (get_or symbols k d).addr s.addr addr (others k d lt);
+            first = λ k d lt same. let no : test (get_or symbols k d).addr ≡ false = there.1.before k d lt in let so : test (get_or symbols k d).addr ≡ test s.addr = ap test same in let sure : test s.addr ≡ true = yes in false≢true (sym no ∙ so ∙ sure);
+            offset = refl;
+            reaches = reach_of symbols end s (find (is_next symbols s.addr) symbols) refl;
+          }
+    ] refl
