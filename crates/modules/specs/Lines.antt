@@ -1,6 +1,6 @@
 -- What the lines of the listings stand for.
-use Rattle.std.specs.Prelude.{ℕ, ◌+◌, ◌^◌, Bool, not, ◌&&◌, nat_lt, nat_eq, is_none, if◌then◌else◌}
-use Rattle.std.specs.Prelude.{List, find, Option, Some, None, codes}
+use Rattle.std.specs.Prelude.{ℕ, ◌+◌, ◌^◌, Bool, not, ◌&&◌, nat_lt, nat_eq, is_none, is_some}
+use Rattle.std.specs.Prelude.{if◌then◌else◌, List, find, Option, Some, None, codes}
 use Rattle.std.specs.Option.{option_map, option_and_then}
 use Rattle.std.specs.Str.{bytes_eq}
 use Rattle.modules.specs.Listed.{BoundNames, ListedModule, ListedRegion, ListedSymbol}
@@ -42,3 +42,15 @@ built_in_region names lines =
 -- the names where none are given
 abbrev pub usual_bounds : BoundNames
 usual_bounds = record { start = codes "_stext"; end = codes "_end" }
+
+-- the name of the symbol at which the kernel itself ends, as a listing has it: the first of `_end`,
+-- `_einittext` and `_etext`, in this order, that a line without a module has
+abbrev pub usual_end : List ListedSymbol → List ℕ
+usual_end lines =
+    if is_some (first_address (codes "_end") lines) then codes "_end"
+    else if is_some (first_address (codes "_einittext") lines) then codes "_einittext"
+    else codes "_etext"
+
+-- the names that a listing itself has for both bounds of the kernel
+abbrev pub usual_bounds_of : List ListedSymbol → BoundNames
+usual_bounds_of lines = record { start = codes "_stext"; end = usual_end lines }

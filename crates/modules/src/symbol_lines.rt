@@ -9,8 +9,9 @@
 //! letters:        T t D           t b         T
 //! ```
 
-ghost use Rattle.std.specs.Prelude.{◌≡◌, ◌++◌, ◌∷◌, [], length, find, IfOk, OnOk, OnErr};
-ghost use Rattle.modules.specs.Lines.{first_address, built_in_region};
+ghost use Rattle.std.specs.Prelude.{◌≡◌, ◌++◌, ◌∷◌, [], length, find, is_some, IfOk, OnOk};
+ghost use Rattle.std.specs.Prelude.{OnErr};
+ghost use Rattle.modules.specs.Lines.{first_address, built_in_region, usual_bounds_of, usual_end};
 ghost use Rattle.std.specs.Option.{option_copied, option_map};
 ghost use Rattle.std.specs.Str.{bytes_eq};
 ghost use Rattle.modules.specs.Runs.{lines_of_run, lines_of_all, one_line};
@@ -152,6 +153,17 @@ impl<'a> SymbolLines<'a> {
         self.letters.push(line.letter).unwrap();
         Ok(())
     }
+
+    /// The names of the two symbols that bound the region of the kernel itself, as this listing has
+    /// them: `_stext`, and `_end` or, where it is missing, `_einittext` or else `_etext`.
+    pub fn usual_bounds(&self) -> KernelBounds<'static>
+        ensures { result ≡ usual_bounds_of self.now }
+    {
+        KernelBounds {
+            start: b"_stext",
+            end: usual_end(self),
+        }
+    }
 }
 
 /// The address of the first line without a module that has this name, of lines in runs.
@@ -173,6 +185,26 @@ fn first_address(lines: &SymbolLines, name: &[u8]) -> Option<u64>
     match first_in_runs(lines.runs.as_slice(), name) {
         None => lines.last.first_address(name),
         found => found,
+    }
+}
+
+/// Whether a line without a module has this name.
+fn lists_kernel_symbol(lines: &SymbolLines, name: &[u8]) -> bool
+    ensures { result ≡ is_some (first_address name.now lines.now) }
+{
+    first_address(lines, name).is_some()
+}
+
+/// The name of the symbol at which the kernel itself ends. Many kernels list no `_end`.
+fn usual_end(lines: &SymbolLines) -> &'static [u8]
+    ensures { result.now ≡ usual_end lines.now }
+{
+    if lists_kernel_symbol(lines, b"_end") {
+        b"_end"
+    } else if lists_kernel_symbol(lines, b"_einittext") {
+        b"_einittext"
+    } else {
+        b"_etext"
     }
 }
 
