@@ -52,3 +52,17 @@ pub mod NearestLemmas
 pub mod WithinLemmas
 -- what is found for an address, by places
 pub mod FindLemmas
+-- what a further piece of a region changes
+pub mod PieceLemmas
+-- what one step of the sweep over marks adds
+pub mod SweepLemmas
+-- a stable sort of marks leaves the nearest one
+pub mod MarkOrderLemmas
+-- the region that an address lies in, of regions by rising address
+pub mod LaidLemmas
+-- regions by rising address, with addresses between any two
+pub mod SpacedLemmas
+-- what is kept by the regions is what is kept by the lines
+pub mod OwnLineLemmas
+-- regions by the numbers of their modules
+pub mod MarkedModuleLemmas

@@ -25,6 +25,10 @@ pub mod Catalogs
 pub mod Around
 -- the symbol that an address belongs to
 pub mod Found
+-- whose an address is, by a listing of symbols alone
+pub mod Owners
+-- the modules of such a listing, and their regions
+pub mod FromSymbols
 -- where the regions of a module begin, by their parts
 pub mod Starts
 -- what a load, an unload, and the end of a module's start change
@@ -32,6 +36,10 @@ pub mod Loads
 -- an item for each region of a catalog, and that of an address
 pub mod Items
 -- From here on how the crate keeps all this: no public clause cites it.
+-- marks, and the regions that they stand for
+pub mod Marks
+-- modules whose regions are those of marks
+pub mod MarkedModules
 -- lines of symbols that have the name of their module by the number of a run
 pub mod Runs
 -- regions in the order of their first addresses

@@ -1,14 +1,17 @@
 //! What follows from the definitions, as contracts of functions that do nothing.
 
-ghost use Rattle.std.specs.Prelude.{◌≡◌, ◌+◌, ◌<◌, true, ℕ, All, List, MatchOption, length};
-ghost use Rattle.std.specs.Prelude.{sum_by};
+ghost use Rattle.std.specs.Prelude.{◌≡◌, ◌+◌, ◌-◌, ◌^◌, ◌<◌, true, ℕ, All, List, MatchOption};
+ghost use Rattle.std.specs.Prelude.{length, sum_by, Some};
+ghost use Rattle.modules.specs.Accepted.{Accepted};
 ghost use Rattle.modules.specs.Catalogs.{catalog_of, counts_of, entries_of, IsNoneAbsent};
 ghost use Rattle.modules.specs.Catalogs.{IsSoundCatalog};
 ghost use Rattle.modules.specs.Entries.{CatalogEntries, SymbolEntry};
 ghost use Rattle.modules.specs.Found.{IsFound, found_in};
+ghost use Rattle.modules.specs.FromSymbols.{HasItsRegions, is_kept_line, IsFromSymbols};
+ghost use Rattle.modules.specs.Kept.{belongs};
 ghost use Rattle.modules.specs.Lines.{fits, region_fits};
 ghost use Rattle.modules.specs.Listed.{BoundNames, ListedModule, ListedRegion, ListedSymbol};
-ghost use Rattle.modules.specs.Placed.{are_few};
+ghost use Rattle.modules.specs.Placed.{are_few, PlacedModule};
 
 /// Each line of each listing is counted once.
 pub fn each_line_is_counted_once()
@@ -60,4 +63,18 @@ pub fn a_found_symbol_is_the_nearest()
     ensures { (symbols : List SymbolEntry) (end addr : ℕ)
         → MatchOption (found_in symbols end addr) (All (λ s. addr < s.addr) symbols)
         (IsFound symbols end addr) }
+{}
+
+/// A listing of symbols alone determines the kernel's region and the modules with their regions.
+pub fn the_symbols_determine_the_modules()
+    ensures { (names : BoundNames) (lines : List ListedSymbol) (a b : Accepted)
+        → IsFromSymbols names lines a → IsFromSymbols names lines b → a ≡ b }
+{}
+
+/// A line of a module that has its regions lies in one of them where its own address is that
+/// module's, and nowhere else: so what is kept by the regions is what is kept by the lines.
+pub fn a_line_is_kept_by_its_own_address()
+    ensures { (lines : List ListedSymbol) (m : PlacedModule) (l : ListedSymbol)
+        → HasItsRegions lines m → l.addr < 2 ^ 64 - 1 → l.owner ≡ Some m.name
+        → belongs m l ≡ is_kept_line lines l }
 {}

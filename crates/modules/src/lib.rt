@@ -11,6 +11,7 @@ mod gathering;
 pub mod laws;
 pub mod lines;
 mod loads;
+mod marks;
 pub mod module;
 mod names;
 mod placing;

@@ -1,0 +1,88 @@
+-- The region that an address lies in, among regions that are laid.
+use Rattle.std.proofs.Common.{◌≡◌, ℕ, ◌-◌, ◌<◌, ◌≤◌, true, false, nat_le, List, length, get_or, Option, Some, None, refl, ap, sym, subst, ◌∙◌, ⊎_elim, arith}
+use Rattle.std.specs.Prelude.{Contains}
+use Rattle.std.specs.List.Sorted.{IsNonDecreasingBy, IsPartitionPoint}
+use Rattle.std.proofs.lemmas.Bool.{cases_lt, leb-true, leb-false}
+use Rattle.std.proofs.lemmas.List.{get_or_default}
+use Rattle.order_laws.specs.declared.items.Item.{Item}
+use Rattle.order_laws.specs.Orders.{half_open}
+use Rattle.order_laws.specs.Tables.{IsLook, look}
+use Rattle.order_laws.proofs.HalfOpenLemmas.{begins, ends, equal_inside}
+use Rattle.order_laws.proofs.TableLemmas.{look_is}
+use Rattle.modules.specs.Marks.{AreLaid}
+
+module _ (items : List Item) (laid : AreLaid items) where
+  ends_before : (i j : ℕ) (d : Item) → i < j → j < length items → (get_or items i d).b ≤ (get_or items j d).a
+  ends_before i j d less lt = (laid.follow i j d less lt).apart
+
+  pub rising : IsNonDecreasingBy (λ i. i.a) items
+  rising = λ i j d le lt. ⊎_elim
+      (λ less. let e = ends_before i j d less lt in let v : (get_or items i d).a < (get_or items i d).b = laid.valid i d (omega arith) in omega arith)
+      (λ ge. let same : i ≡ j = omega arith in subst (λ k. (get_or items i d).a ≤ (get_or items k d).a) same (omega arith))
+      (cases_lt i j)
+
+  -- what holds an address at a place ends where all further items begin
+  not_before : (x y : Item) (addr i j : ℕ) → i < j → j < length items → get_or items i x ≡ x → get_or items j y ≡ y → addr < x.b → y.a ≤ addr → ⊥
+  not_before x y addr i j less lt at there below from =
+      let e : (get_or items i x).b ≤ (get_or items j x).a = ends_before i j x less lt in
+      let f : (get_or items i x).b ≡ x.b = ap (λ (k : Item). k.b) at in
+      let g : (get_or items j x).a ≡ y.a = ap (λ (k : Item). k.a) (get_or_default items j x y lt ∙ there) in
+      omega arith
+
+  -- one item at most holds an address
+  pub one_holds : (x y : Item) (addr : ℕ) → Contains items x → x.a ≤ addr → addr < x.b → Contains items y → y.a ≤ addr → addr < y.b → x ≡ y
+  one_holds x y addr (i, lt, at) from below (j, less, there) from' below' =
+      ⊎_elim
+      (λ before. absurd (not_before x y addr i j before less at there below from'))
+      (λ ge. ⊎_elim
+      (λ after. absurd (not_before y x addr j i after lt there at below' from))
+      (λ le. let e : i ≡ j = omega arith in sym at ∙ get_or_default items i x y lt ∙ ap (λ k. get_or items k y) e ∙ there)
+      (cases_lt j i))
+      (cases_lt i j)
+
+  found : (x : Item) (addr : ℕ) → Contains items x → x.a ≤ addr → addr < x.b → (r : Option Item) → IsLook half_open addr items r → Some x ≡ r
+  found x addr there from below None h = absurd (h x there (equal_inside addr x from below))
+  found x addr there from below (Some y) h = ap Some (one_holds x y addr there from below h.0 (begins addr y h.1) (ends addr y h.1))
+
+  none : (addr : ℕ) → ((y : Item) → Contains items y → y.a ≤ addr → addr < y.b → ⊥) → (r : Option Item) → IsLook half_open addr items r → None ≡ r
+  none addr not_in None h = refl
+  none addr not_in (Some y) h = absurd (not_in y h.0 (begins addr y h.1) (ends addr y h.1))
+
+  module _ (addr split : ℕ) (bound : split ≤ length items) (point : IsPartitionPoint (λ i. nat_le i.a addr ≡ true) (λ i. nat_le i.a addr ≡ false) items split) where
+    from_below : (k : ℕ) (d : Item) → k < split → (get_or items k d).a ≤ addr
+    from_below k d lt = leb-true (get_or items k d).a addr (point.0 k d (omega arith) lt)
+
+    from_above : (k : ℕ) (d : Item) → split ≤ k → k < length items → addr < (get_or items k d).a
+    from_above k d le lt = leb-false (get_or items k d).a addr (point.1 k d le lt)
+
+    -- what holds the address stands below the place
+    stands_below : (y : Item) → Contains items y → y.a ≤ addr → (k : ℕ) × (k < split) × (get_or items k y ≡ y)
+    stands_below y (k, lt, at) from = (k, ⊎_elim (λ less. less) (λ ge. absurd (let f = from_above k y ge lt in let e : (get_or items k y).a ≡ y.a = ap (λ (i : Item). i.a) at in omega arith)) (cases_lt k split), at)
+
+    pub look_first : split ≡ 0 → None ≡ look half_open addr items
+    look_first e = none addr (λ y there from below. let (k, lt, at) = stands_below y there from in omega arith) (look half_open addr items) (look_is half_open addr items)
+
+    module _ (x : Item) (some : 0 < split) (last : get_or items (split - 1) x ≡ x) where
+      listed : Contains items x
+      listed = (split - 1, omega arith, last)
+
+      begins_below : x.a ≤ addr
+      begins_below = let f = from_below (split - 1) x (omega arith) in let e : (get_or items (split - 1) x).a ≡ x.a = ap (λ (i : Item). i.a) last in omega arith
+
+      pub look_last : addr < x.b → Some x ≡ look half_open addr items
+      look_last below = found x addr listed begins_below below (look half_open addr items) (look_is half_open addr items)
+
+      pub look_past : x.b ≤ addr → None ≡ look half_open addr items
+      look_past past = none addr (λ y there from below.
+          let (k, lt, at) = stands_below y there from in
+          ⊎_elim
+          (λ before. not_before_last y k before at below)
+          (λ ge. let same : k ≡ split - 1 = omega arith in
+          let e : x ≡ y = sym last ∙ get_or_default items (split - 1) x y (omega arith) ∙ ap (λ j. get_or items j y) (sym same) ∙ at in
+          let f : x.b ≡ y.b = ap (λ (i : Item). i.b) e in omega arith)
+          (cases_lt k (split - 1)))
+          (look half_open addr items) (look_is half_open addr items)
+        where
+          not_before_last : (y : Item) (k : ℕ) → k < split - 1 → get_or items k y ≡ y → addr < y.b → ⊥
+          not_before_last y k before at below =
+              not_before y x addr k (split - 1) before (omega arith) at last below begins_below

@@ -1,0 +1,72 @@
+-- A stable sort by address leaves the nearest mark.
+use Rattle.std.proofs.Common.{◌≡◌, ℕ, ◌<◌, ◌≤◌, Bool, true, false, ◌&&◌, nat_eq, List, get_or, Some, refl, ap, sym, ◌∙◌, arith}
+use Rattle.std.specs.Prelude.{◌⊎◌, filter, find}
+use Rattle.std.specs.List.Sorted.{IsPermutation, IsStableByKey, ties}
+use Rattle.std.specs.Ordering.{is_lt, nat_cmp}
+use Rattle.std.proofs.lemmas.Bool.{eq-eqb, eqb-false, ne_eqb}
+use Rattle.std.proofs.lemmas.Bool.Decides.{nat_tests}
+use Rattle.std.proofs.lemmas.List.Elements.{All-contains, filter_agree}
+use Rattle.std.proofs.lemmas.List.Sorted.{Contains-permutation, IsPermutation-sym}
+use Rattle.std.proofs.lemmas.List.{get_or_default}
+use Rattle.std.proofs.lemmas.Option.{get_or_from_slice_get, slice_get_within}
+use Rattle.order_laws.specs.declared.items.Item.{Item}
+use Rattle.facts.proofs.Tests.{find-first, find_place, find-filter, find-agree}
+use Rattle.modules.specs.Marks.{IsNearestMark, Owns}
+use Rattle.modules.specs.Marks.{AreRegions}
+use Rattle.modules.specs.declared.marks.Mark.{Mark}
+
+-- the mark is of the address
+abbrev pub is_at : ℕ → Mark → Bool
+is_at addr s = nat_eq s.addr addr
+
+as_ties : (l s : Mark) → ties (λ (x y : Mark). is_lt (nat_cmp x.addr y.addr)) l s ≡ is_at l.addr s
+as_ties l s = grind (arith, nat_tests)
+
+find_in_filter : (p : Mark → Bool) (xs ys : List Mark) → filter p xs ≡ filter p ys → find p xs ≡ find p ys
+find_in_filter p xs ys same = sym (whole xs) ∙ ap (find p) same ∙ whole ys
+  where
+    twice : (b : Bool) → (b && b) ≡ b
+    twice true = refl
+    twice false = refl
+
+    whole : (zs : List Mark) → find p (filter p zs) ≡ find p zs
+    whole zs = find-filter p p zs ∙ find-agree (λ x. p x && p x) p zs (λ k d lt. twice (p (get_or zs k d)))
+
+-- the first listed of its address
+found_first : (xs : List Mark) (x : ℕ) (l : Mark) → IsNearestMark xs x l → find (is_at l.addr) xs ≡ Some l
+found_first xs x l n =
+    find-first (is_at l.addr) xs n.place l n.within
+    (eq-eqb (get_or xs n.place l).addr l.addr (ap (λ (s : Mark). s.addr) n.listed))
+    (λ k lt. ne_eqb (get_or xs k l).addr l.addr (n.first k l lt))
+    ∙ ap (λ (s : Mark). Some s) n.listed
+
+pub nearest_moved : (xs ys : List Mark) → IsPermutation xs ys → IsStableByKey (λ (s : Mark). s.addr) nat_cmp xs ys → (x : ℕ) (l : Mark) → IsNearestMark ys x l → IsNearestMark xs x l
+nearest_moved xs ys moved stable x l n =
+    let same : filter (is_at l.addr) ys ≡ filter (is_at l.addr) xs = sym (filter_agree (ties (λ (a b : Mark). is_lt (nat_cmp a.addr b.addr)) l) (is_at l.addr) (as_ties l) ys) ∙ stable l ∙ filter_agree (ties (λ (a b : Mark). is_lt (nat_cmp a.addr b.addr)) l) (is_at l.addr) (as_ties l) xs in
+    let found : find (is_at l.addr) xs ≡ Some l = find_in_filter (is_at l.addr) xs ys (sym same) ∙ found_first ys x l n in
+    let (place, first) = find_place (is_at l.addr) xs l found in
+    record {
+      place = place;
+      within = slice_get_within xs place l first.at;
+      listed = get_or_from_slice_get xs place l l first.at;
+      below = n.below;
+      nearest = λ k d lt. All-contains (λ (s : Mark). (s.addr ≤ l.addr) ⊎ (x < s.addr)) ys (get_or xs k d) n.nearest (Contains-permutation xs ys (get_or xs k d) moved (k, lt, get_or_default xs k (get_or xs k d) d lt));
+      first = λ k d lt e. eqb-false (get_or xs k d).addr l.addr (first.before k d lt) e;
+    }
+
+-- a key sort the other way
+stable_back : (xs ys : List Mark) → IsStableByKey (λ (s : Mark). s.addr) nat_cmp xs ys → IsStableByKey (λ (s : Mark). s.addr) nat_cmp ys xs
+stable_back xs ys stable = λ l. sym (stable l)
+
+owns_moved : (xs ys : List Mark) → IsPermutation xs ys → IsStableByKey (λ (s : Mark). s.addr) nat_cmp xs ys → (m x : ℕ) → Owns ys m x → Owns xs m x
+owns_moved xs ys moved stable m x o = record { mark = o.mark; nearest = nearest_moved xs ys moved stable x o.mark o.nearest; its = o.its; reached = o.reached; some = o.some }
+
+-- the regions of the sorted marks are those of the marks
+pub regions_moved : (xs ys : List Mark) (items : List Item) → IsPermutation xs ys → IsStableByKey (λ (s : Mark). s.addr) nat_cmp xs ys → AreRegions ys items → AreRegions xs items
+regions_moved xs ys items moved stable r = record {
+  laid = r.laid;
+  exact = λ m x. (
+    λ h. let (lt, o) = (r.exact m x).0 h in (lt, owns_moved xs ys moved stable m x o),
+    λ (lt, o). (r.exact m x).1 (lt, owns_moved ys xs (IsPermutation-sym xs ys moved) (stable_back xs ys stable) m x o),
+  );
+}

@@ -1,0 +1,94 @@
+-- Regions by the numbers of their modules.
+use Rattle.std.proofs.Common.{◌≡◌, ℕ, ◌<◌, ◌≤◌, zero, suc, true, false, cond, nat_eq, List, [], ◌∷◌, length, get_or, map, refl, ap, sym, subst, ◌∙◌, ⊎_elim, arith}
+use Rattle.std.specs.Prelude.{All, Contains, filter}
+use Rattle.std.specs.List.{AllPairs}
+use Rattle.std.proofs.lemmas.Bool.{cases_lt, or_cases, or_left, or_right, eqb-true, eq-eqb}
+use Rattle.std.proofs.lemmas.List.Elements.{All-head, All-tail, All-cons, All-nil}
+use Rattle.order_laws.specs.declared.items.Item.{Item}
+use Rattle.facts.proofs.Members.{Contains-cons_cases, Contains-head, Contains-rest}
+use Rattle.modules.specs.Listed.{ListedSymbol}
+use Rattle.modules.specs.Regions.{holds}
+use Rattle.modules.specs.Marks.{Follows, HoldsFor}
+use Rattle.modules.specs.Marks.{AreRegions}
+use Rattle.modules.specs.declared.marks.Mark.{Mark}
+use Rattle.modules.specs.MarkedModules.{ranges_of, numbered_module, StandsFor}
+use Rattle.modules.specs.FromSymbols.{HasItsRegions}
+use Rattle.modules.proofs.SpacedLemmas.{lies, inside, within, Range}
+
+module _ {X : Type 0} (R : X → X → Type 0) (x : X) (xs : List X) where
+  pairs_rest : AllPairs R (x ∷ xs) → AllPairs R xs
+  pairs_rest pairs = λ i j d less lt. pairs (suc i) (suc j) d (omega arith) (omega arith)
+
+  pairs_first : AllPairs R (x ∷ xs) → All (R x) xs
+  pairs_first pairs = λ k d lt. pairs 0 (suc k) d (omega arith) (omega arith)
+
+  pairs_cons : All (R x) xs → AllPairs R xs → (i j : ℕ) (d : X) → i < j → j < length (x ∷ xs) → R (get_or (x ∷ xs) i d) (get_or (x ∷ xs) j d)
+  pairs_cons head tail i zero d less lt = absurd (omega arith)
+  pairs_cons head tail zero (suc j) d less lt = head j d (omega arith)
+  pairs_cons head tail (suc i) (suc j) d less lt = tail i j d (omega arith) (omega arith)
+
+module _ (n : ℕ) where
+  valid_ranges : (items : List Item) → All (λ i. i.a < i.b) items → All (λ (r : Range). r.0 < r.1) (ranges_of n items)
+  valid_ranges [] all = All-nil (λ (r : Range). r.0 < r.1)
+  valid_ranges (i ∷ is) all =
+      elim (nat_eq i.tag n) as (λ b. All (λ (r : Range). r.0 < r.1) (map (λ (x : Item). (x.a, x.b)) (cond b (i ∷ filter (λ x. nat_eq x.tag n) is) (filter (λ x. nat_eq x.tag n) is)))) [
+        | true ↦ All-cons (λ (r : Range). r.0 < r.1) (i.a, i.b) (ranges_of n is) (All-head (λ (x : Item). x.a < x.b) i is all) (valid_ranges is (All-tail (λ (x : Item). x.a < x.b) i is all))
+        | false ↦ valid_ranges is (All-tail (λ (x : Item). x.a < x.b) i is all)
+      ]
+
+  past : (i : Item) (is : List Item) → i.tag ≡ n → All (Follows i) is → All (λ (r : Range). i.b < r.0) (ranges_of n is)
+  past i [] its all = All-nil (λ (r : Range). i.b < r.0)
+  past i (j ∷ js) its all =
+      elim (nat_eq j.tag n) as (λ b. nat_eq j.tag n ≡ b → All (λ (r : Range). i.b < r.0) (map (λ (x : Item). (x.a, x.b)) (cond b (j ∷ filter (λ x. nat_eq x.tag n) js) (filter (λ x. nat_eq x.tag n) js)))) [
+        | true ↦ λ e. All-cons (λ (r : Range). i.b < r.0) (j.a, j.b) (ranges_of n js)
+            (let f = All-head (Follows i) j js all in ⊎_elim (λ lt. lt) (λ ge. let a : i.b ≤ j.a = f.apart in absurd (f.longest (omega arith) (its ∙ sym (eqb-true j.tag n e)))) (cases_lt i.b j.a))
+            (past i js its (All-tail (Follows i) j js all))
+        | false ↦ λ _. past i js its (All-tail (Follows i) j js all)
+      ] refl
+
+  spaced : (items : List Item) → AllPairs (λ i j. Follows i j) items → AllPairs (λ (r s : Range). r.1 < s.0) (ranges_of n items)
+  spaced [] pairs = λ i j d less lt. absurd (omega arith)
+  spaced (i ∷ is) pairs =
+      elim (nat_eq i.tag n) as (λ b. nat_eq i.tag n ≡ b → AllPairs (λ (r s : Range). r.1 < s.0) (map (λ (x : Item). (x.a, x.b)) (cond b (i ∷ filter (λ x. nat_eq x.tag n) is) (filter (λ x. nat_eq x.tag n) is)))) [
+        | true ↦ λ e. pairs_cons (λ (r s : Range). r.1 < s.0) (i.a, i.b) (ranges_of n is) (past i is (eqb-true i.tag n e) (pairs_first (λ i j. Follows i j) i is pairs)) (spaced is (pairs_rest (λ i j. Follows i j) i is pairs))
+        | false ↦ λ _. spaced is (pairs_rest (λ i j. Follows i j) i is pairs)
+      ] refl
+
+  more : (i : Item) (is : List Item) (x : ℕ) → HoldsFor is n x → HoldsFor (i ∷ is) n x
+  more i is x h = record { item = h.item; there = Contains-rest i h.item is h.there; its = h.its; from = h.from; below = h.below }
+
+  to_holds : (items : List Item) (x : ℕ) → lies (ranges_of n items) x ≡ true → HoldsFor items n x
+  to_holds [] x h = absurd (cc)
+  to_holds (i ∷ is) x h =
+      elim (nat_eq i.tag n) as (λ b. nat_eq i.tag n ≡ b → lies (map (λ (y : Item). (y.a, y.b)) (cond b (i ∷ filter (λ y. nat_eq y.tag n) is) (filter (λ y. nat_eq y.tag n) is))) x ≡ true → HoldsFor (i ∷ is) n x) [
+        | true ↦ λ e l. ⊎_elim
+            (λ here. let (le, lt) = inside (i.a, i.b) x here in record { item = i; there = Contains-head i i is refl; its = eqb-true i.tag n e; from = le; below = lt })
+            (λ rest. more i is x (to_holds is x rest))
+            (or_cases (holds (i.a, i.b) x) (lies (ranges_of n is) x) l)
+        | false ↦ λ _ l. more i is x (to_holds is x l)
+      ] refl h
+
+  from_holds : (items : List Item) (x : ℕ) (i : Item) → Contains items i → i.tag ≡ n → i.a ≤ x → x < i.b → lies (ranges_of n items) x ≡ true
+  from_holds [] x i there its from below = absurd (omega (arith, there.1))
+  from_holds (j ∷ js) x i there its from below =
+      elim (nat_eq j.tag n) as (λ b. nat_eq j.tag n ≡ b → lies (map (λ (y : Item). (y.a, y.b)) (cond b (j ∷ filter (λ y. nat_eq y.tag n) js) (filter (λ y. nat_eq y.tag n) js))) x ≡ true) [
+        | true ↦ λ e. ⊎_elim
+            (λ same. or_left (holds (j.a, j.b) x) (lies (ranges_of n js) x) (within (j.a, j.b) x (subst (λ (y : Item). y.a ≤ x) (sym same) from) (subst (λ (y : Item). x < y.b) (sym same) below)))
+            (λ rest. or_right (holds (j.a, j.b) x) (lies (ranges_of n js) x) (from_holds js x i rest its from below))
+            (Contains-cons_cases j i js there)
+        | false ↦ λ e. ⊎_elim
+            (λ same. let tag : nat_eq j.tag n ≡ true = eq-eqb j.tag n (ap (λ (y : Item). y.tag) same ∙ its) in absurd (cc))
+            (λ rest. from_holds js x i rest its from below)
+            (Contains-cons_cases j i js there)
+      ] refl
+
+pub its_regions : (marks : List Mark) (items : List Item) (lines : List ListedSymbol) (n : ℕ) (name : List ℕ) → AreRegions marks items → StandsFor marks lines n name → HasItsRegions lines (numbered_module n name items)
+its_regions marks items lines n name r stands = record {
+  valid = valid_ranges n items r.laid.valid;
+  longest = spaced n items r.laid.follow;
+  exact = λ x. (
+    λ h. let (lt, owns) = (r.exact n x).0 (to_holds n items x h) in (lt, (stands x lt).0 owns),
+    λ (lt, is). let h = (r.exact n x).1 (lt, (stands x lt).1 is) in from_holds n items x h.item h.there h.its h.from h.below,
+  );
+  parts = refl;
+}

@@ -1,0 +1,111 @@
+-- What a further piece changes.
+use Rattle.std.proofs.Common.{◌≡◌, ℕ, ◌<◌, ◌≤◌, List, [], ◌∷◌, ◌++◌, length, get_or, sym, subst, ◌∙◌, inl, inr, ⊎_elim, arith, length-append}
+use Rattle.std.specs.Prelude.{◌≢◌, ◌⊎◌, ◌↔◌, All}
+use Rattle.std.specs.List.{AllPairs}
+use Rattle.std.proofs.lemmas.Bool.{cases_lt}
+use Rattle.std.proofs.lemmas.List.{get_or_append_left}
+use Rattle.std.proofs.Math.Seq.{get_or-append_seam}
+use Rattle.std.proofs.lemmas.List.Elements.{All-push, Contains-push, Contains-append_left, Contains-push_cases}
+use Rattle.std.proofs.lemmas.List.Quantifiers.{all_pairs_push}
+use Rattle.order_laws.specs.declared.items.Item.{Item}
+use Rattle.modules.specs.Marks.{AreLaid, Follows, HoldsFor}
+
+module _ {X : Type 0} (xs : List X) (y : X) where
+  longer : (k : ℕ) → k < length xs → k < length (xs ++ y ∷ [])
+  longer k lt = omega (arith, length-append xs (y ∷ []))
+
+  at_end : length xs < length (xs ++ y ∷ [])
+  at_end = omega (arith, length-append xs (y ∷ []))
+
+  all_front : (P : X → Type 0) → All P (xs ++ y ∷ []) → All P xs
+  all_front P h = λ k d lt. subst P (get_or_append_left xs (y ∷ []) d k lt) (h k d (longer k lt))
+
+  all_last : (P : X → Type 0) → All P (xs ++ y ∷ []) → P y
+  all_last P h = subst P (get_or-append_seam xs y [] y) (h (length xs) y at_end)
+
+  pairs_front : (R : X → X → Type 0) → AllPairs R (xs ++ y ∷ []) → AllPairs R xs
+  pairs_front R h = λ i j d less lt.
+      subst (λ a. R a (get_or xs j d)) (get_or_append_left xs (y ∷ []) d i (omega arith))
+      (subst (λ b. R (get_or (xs ++ y ∷ []) i d) b) (get_or_append_left xs (y ∷ []) d j lt) (h i j d less (longer j lt)))
+
+  pairs_last : (R : X → X → Type 0) → AllPairs R (xs ++ y ∷ []) → All (λ x. R x y) xs
+  pairs_last R h = λ k d lt.
+      subst (λ a. R a y) (get_or_append_left xs (y ∷ []) d k lt)
+      (subst (λ b. R (get_or (xs ++ y ∷ []) k d) b) (get_or-append_seam xs y [] d) (h k (length xs) d lt at_end))
+
+-- a piece that the items do not go on into
+laid_with : (items : List Item) (p : Item) → AreLaid items → p.a < p.b → All (λ i. Follows i p) items → AreLaid (items ++ p ∷ [])
+laid_with items p laid valid after = record {
+  valid = All-push (λ (i : Item). i.a < i.b) items p laid.valid valid;
+  follow = all_pairs_push (λ i j. Follows i j) items p laid.follow after;
+}
+
+front_laid : (items : List Item) (last : Item) → AreLaid (items ++ last ∷ []) → AreLaid items
+front_laid items last laid = record {
+  valid = all_front items last (λ i. i.a < i.b) laid.valid;
+  follow = pairs_front items last (λ i j. Follows i j) laid.follow;
+}
+
+module _ (init old new : List Item) (last p : Item) (was : old ≡ init ++ last ∷ []) (laid : AreLaid old) where
+  whole : AreLaid (init ++ last ∷ [])
+  whole = subst AreLaid was laid
+
+  pub last_valid : last.a < last.b
+  last_valid = all_last init last (λ i. i.a < i.b) whole.valid
+
+  before_last : All (λ i. Follows i last) init
+  before_last = pairs_last init last (λ i j. Follows i j) whole.follow
+
+  -- the piece is put behind the last item
+  pub laid_put : new ≡ old ++ p ∷ [] → p.a < p.b → last.b ≤ p.a → (last.b ≡ p.a → last.tag ≢ p.tag) → AreLaid new
+  laid_put is valid behind longest =
+      subst AreLaid (sym is) (laid_with old p laid valid (subst (λ (xs : List Item). All (λ i. Follows i p) xs) (sym was)
+      (All-push (λ (i : Item). Follows i p) init last
+      (λ k d lt. let f = before_last k d lt in let e : (get_or init k d).b ≤ last.a = f.apart in let g = last_valid in record { apart = omega arith; longest = λ same. absurd (omega arith) })
+      (record { apart = behind; longest = longest }))))
+
+  -- the last item becomes longer
+  module _ (m : Item) (is : new ≡ init ++ m ∷ []) (from : m.a ≡ last.a) (to : m.b ≡ p.b) (its : m.tag ≡ last.tag) (on : last.b ≡ p.a) (of : last.tag ≡ p.tag) (valid : p.a < p.b) where
+    pub laid_merged : AreLaid new
+    laid_merged =
+        subst AreLaid (sym is) (laid_with init m (front_laid init last whole) (let g = last_valid in omega arith)
+        (λ k d lt. let f = before_last k d lt in record { apart = subst (λ n. (get_or init k d).b ≤ n) (sym from) f.apart; longest = λ same. λ tags. f.longest (same ∙ from) (tags ∙ its) }))
+
+-- the address lies in the piece, for this owner
+abbrev pub InPiece : Item → ℕ → ℕ → Type 0
+InPiece p m x = (p.tag ≡ m) × (p.a ≤ x) × (x < p.b)
+
+pub holds_with : (items : List Item) (p : Item) (m x : ℕ) → HoldsFor (items ++ p ∷ []) m x ↔ (HoldsFor items m x ⊎ InPiece p m x)
+holds_with items p m x = (
+  λ h. ⊎_elim
+      (λ old. inl (record { item = h.item; there = old; its = h.its; from = h.from; below = h.below }))
+      (λ same. inr (subst (λ (i : Item). InPiece i m x) (sym same) (h.its, h.from, h.below)))
+      (Contains-push_cases items p h.item h.there),
+  λ e. ⊎_elim
+      (λ h. record { item = h.item; there = Contains-append_left items (p ∷ []) h.item h.there; its = h.its; from = h.from; below = h.below })
+      (λ q. record { item = p; there = Contains-push items p; its = q.0; from = q.1; below = q.2 })
+      e,
+)
+
+-- the longer item holds what the last one held, and the piece
+pub holds_merged : (init old new : List Item) (last p m : Item) → old ≡ init ++ last ∷ [] → new ≡ init ++ m ∷ [] → m.a ≡ last.a → m.b ≡ p.b → m.tag ≡ last.tag → last.b ≡ p.a → last.tag ≡ p.tag → last.a < last.b → p.a < p.b → (owner x : ℕ)
+    → HoldsFor new owner x ↔ (HoldsFor old owner x ⊎ InPiece p owner x)
+holds_merged init old new last p m was is from to its on of valid more owner x = (
+  λ h. ⊎_elim
+      (λ front. inl (in_old (inl front)))
+      (λ (tag, le, lt). ⊎_elim
+      (λ below. inl (in_old (inr (sym its ∙ tag, omega arith, below))))
+      (λ above. inr (sym of ∙ sym its ∙ tag, omega arith, omega arith))
+      (cases_lt x last.b))
+      ((holds_with init m owner x).0 (subst (λ (xs : List Item). HoldsFor xs owner x) is h)),
+  λ e. subst (λ (xs : List Item). HoldsFor xs owner x) (sym is) ((holds_with init m owner x).1 (⊎_elim
+      (λ h. ⊎_elim
+      (λ front. inl front)
+      (λ (tag, le, lt). inr (its ∙ tag, omega arith, omega arith))
+      ((holds_with init last owner x).0 (subst (λ (xs : List Item). HoldsFor xs owner x) was h)))
+      (λ (tag, le, lt). inr (its ∙ of ∙ tag, omega arith, omega arith))
+      e)),
+)
+  where
+    in_old : HoldsFor init owner x ⊎ InPiece last owner x → HoldsFor old owner x
+    in_old e = subst (λ (xs : List Item). HoldsFor xs owner x) (sym was) ((holds_with init last owner x).1 e)

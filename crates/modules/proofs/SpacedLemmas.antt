@@ -1,0 +1,123 @@
+-- Regions by rising address, with addresses between any two, are determined by what they hold.
+use Rattle.std.proofs.Common.{◌≡◌, ℕ, ◌<◌, ◌≤◌, suc, Bool, true, List, [], ◌∷◌, map, Some, refl, ap, sym, ◌∙◌, ⊎_elim, arith}
+use Rattle.std.specs.Prelude.{All}
+use Rattle.std.specs.List.{AllPairs, list_any}
+use Rattle.std.proofs.lemmas.Bool.{cases_lt, or_cases, or_left, or_right}
+use Rattle.std.proofs.lemmas.Bool.Decides.{nat_tests}
+use Rattle.std.proofs.lemmas.List.Elements.{All-head, All-tail}
+use Rattle.modules.specs.Accepted.{Accepted}
+use Rattle.modules.specs.Lines.{built_in_region}
+use Rattle.modules.specs.Listed.{BoundNames, ListedSymbol}
+use Rattle.modules.specs.Owners.{posts}
+use Rattle.modules.specs.Placed.{PlacedModule}
+use Rattle.modules.specs.Regions.{holds}
+use Rattle.modules.specs.declared.lines.Part.TheVariants.{Core}
+use Rattle.modules.specs.FromSymbols.{HasItsRegions, IsFromSymbols}
+
+abbrev pub Range : Type 0
+Range = ℕ × ℕ
+
+pub inside : (r : Range) (x : ℕ) → holds r x ≡ true → (r.0 ≤ x) × (x < r.1)
+inside r x h = (grind (arith, nat_tests), grind (arith, nat_tests))
+
+pub within : (r : Range) (x : ℕ) → r.0 ≤ x → x < r.1 → holds r x ≡ true
+within r x le lt = grind (arith, nat_tests)
+
+-- the address lies in one of the regions
+abbrev pub lies : List Range → ℕ → Bool
+lies rs x = list_any (λ r. holds r x) rs
+
+pairs_head : (r : Range) (rs : List Range) → AllPairs (λ r s. r.1 < s.0) (r ∷ rs) → All (λ s. r.1 < s.0) rs
+pairs_head r rs pairs = λ k d lt. pairs 0 (suc k) d (omega arith) (omega arith)
+
+pairs_tail : (r : Range) (rs : List Range) → AllPairs (λ r s. r.1 < s.0) (r ∷ rs) → AllPairs (λ r s. r.1 < s.0) rs
+pairs_tail r rs pairs = λ i j d less lt. pairs (suc i) (suc j) d (omega arith) (omega arith)
+
+-- all addresses of regions that begin above one lie above it
+above : (rs : List Range) (n x : ℕ) → All (λ s. n < s.0) rs → lies rs x ≡ true → n < x
+above [] n x all h = absurd (cc)
+above (s ∷ ss) n x all h =
+    ⊎_elim
+    (λ here. let (le, lt) = inside s x here in let a : n < s.0 = All-head (λ (t : Range). n < t.0) s ss all in omega arith)
+    (λ rest. above ss n x (All-tail (λ (t : Range). n < t.0) s ss all) rest)
+    (or_cases (holds s x) (lies ss x) h)
+
+module _ (r : Range) (rs : List Range) (s : Range) (ss : List Range) (r_valid : r.0 < r.1) (s_valid : s.0 < s.1) (r_last : All (λ t. r.1 < t.0) rs) (s_last : All (λ t. s.1 < t.0) ss) (sub : (x : ℕ) → lies (r ∷ rs) x ≡ true → lies (s ∷ ss) x ≡ true) where
+  in_first : (x : ℕ) → r.0 ≤ x → x < r.1 → lies (s ∷ ss) x ≡ true
+  in_first x le lt = sub x (or_left (holds r x) (lies rs x) (within r x le lt))
+
+  first_ge : s.0 ≤ r.0
+  first_ge =
+      ⊎_elim
+      (λ here. (inside s r.0 here).0)
+      (λ rest. let a : s.1 < r.0 = above ss s.1 r.0 s_last rest in omega arith)
+      (or_cases (holds s r.0) (lies ss r.0) (in_first r.0 (omega arith) r_valid))
+
+  end_le : r.0 ≡ s.0 → r.1 ≤ s.1
+  end_le same =
+      ⊎_elim
+      (λ past. absurd (⊎_elim
+      (λ here. let (le, lt) = inside s s.1 here in omega arith)
+      (λ rest. let a : s.1 < s.1 = above ss s.1 s.1 s_last rest in omega arith)
+      (or_cases (holds s s.1) (lies ss s.1) (in_first s.1 (omega arith) past))))
+      (λ le. le)
+      (cases_lt s.1 r.1)
+
+  tail_sub : r.1 ≡ s.1 → (x : ℕ) → lies rs x ≡ true → lies ss x ≡ true
+  tail_sub same x h =
+      let over : r.1 < x = above rs r.1 x r_last h in
+      ⊎_elim
+      (λ here. let (le, lt) = inside s x here in absurd (omega arith))
+      (λ rest. rest)
+      (or_cases (holds s x) (lies ss x) (sub x (or_right (holds r x) (lies rs x) h)))
+
+pub same_regions : (rs ss : List Range) → All (λ r. r.0 < r.1) rs → AllPairs (λ r s. r.1 < s.0) rs → All (λ r. r.0 < r.1) ss → AllPairs (λ r s. r.1 < s.0) ss
+    → ((x : ℕ) → lies rs x ≡ true → lies ss x ≡ true) → ((x : ℕ) → lies ss x ≡ true → lies rs x ≡ true) → rs ≡ ss
+same_regions [] [] v g w f to from = refl
+same_regions [] (s ∷ ss) v g w f to from =
+    let no : lies [] s.0 ≡ true = from s.0 (or_left (holds s s.0) (lies ss s.0) (within s s.0 (omega arith) (All-head (λ (t : Range). t.0 < t.1) s ss w))) in absurd (cc)
+same_regions (r ∷ rs) [] v g w f to from =
+    let no : lies [] r.0 ≡ true = to r.0 (or_left (holds r r.0) (lies rs r.0) (within r r.0 (omega arith) (All-head (λ (t : Range). t.0 < t.1) r rs v))) in absurd (cc)
+same_regions (r ∷ rs) (s ∷ ss) v g w f to from =
+    let r_valid = All-head (λ (t : Range). t.0 < t.1) r rs v in
+    let s_valid = All-head (λ (t : Range). t.0 < t.1) s ss w in
+    let r_last = pairs_head r rs g in
+    let s_last = pairs_head s ss f in
+    let ge : s.0 ≤ r.0 = first_ge r rs s ss r_valid s_valid r_last s_last to in
+    let le : r.0 ≤ s.0 = first_ge s ss r rs s_valid r_valid s_last r_last from in
+    let start : r.0 ≡ s.0 = omega arith in
+    let up : r.1 ≤ s.1 = end_le r rs s ss r_valid s_valid r_last s_last to start in
+    let down : s.1 ≤ r.1 = end_le s ss r rs s_valid r_valid s_last r_last from (sym start) in
+    let end : r.1 ≡ s.1 = omega arith in
+    let same : r ≡ s = ap (λ n. (n, r.1)) start ∙ ap (λ n. (s.0, n)) end in
+    ap (λ t. t ∷ rs) same
+    ∙ ap (λ ts. s ∷ ts) (same_regions rs ss (All-tail (λ (t : Range). t.0 < t.1) r rs v) (pairs_tail r rs g) (All-tail (λ (t : Range). t.0 < t.1) s ss w) (pairs_tail s ss f)
+    (tail_sub r rs s ss r_valid s_valid r_last s_last to end) (tail_sub s ss r rs s_valid r_valid s_last r_last from (sym end)))
+
+pub one_module : (lines : List ListedSymbol) (m n : PlacedModule) → HasItsRegions lines m → HasItsRegions lines n → m.name ≡ n.name → m ≡ n
+one_module lines m n p q name =
+    let regions : m.regions ≡ n.regions = same_regions m.regions n.regions p.valid p.longest q.valid q.longest
+    (λ x h. let (lt, is) = (p.exact x).0 h in (q.exact x).1 (lt, is ∙ ap Some name))
+    (λ x h. let (lt, is) = (q.exact x).0 h in (p.exact x).1 (lt, is ∙ ap Some (sym name))) in
+    let parts : m.parts ≡ n.parts = p.parts ∙ ap (map (λ _. Core)) regions ∙ sym q.parts in
+    ap (λ x. record { name = x; regions = m.regions; parts = m.parts }) name
+    ∙ ap (λ x. record { name = n.name; regions = x; parts = m.parts }) regions
+    ∙ ap (λ x. record { name = n.name; regions = n.regions; parts = x }) parts
+
+pub same_modules : (lines : List ListedSymbol) (ms ns : List PlacedModule) → map (λ m. m.name) ms ≡ map (λ m. m.name) ns → All (HasItsRegions lines) ms → All (HasItsRegions lines) ns → ms ≡ ns
+same_modules lines [] [] e p q = refl
+same_modules lines [] (n ∷ ns) e p q = absurd (cc)
+same_modules lines (m ∷ ms) [] e p q = absurd (cc)
+same_modules lines (m ∷ ms) (n ∷ ns) e p q =
+    let name : m.name ≡ n.name = cc in
+    let rest : map (λ (x : PlacedModule). x.name) ms ≡ map (λ (x : PlacedModule). x.name) ns = cc in
+    ap (λ x. x ∷ ms) (one_module lines m n (All-head (HasItsRegions lines) m ms p) (All-head (HasItsRegions lines) n ns q) name)
+    ∙ ap (λ xs. n ∷ xs) (same_modules lines ms ns rest (All-tail (HasItsRegions lines) m ms p) (All-tail (HasItsRegions lines) n ns q))
+
+pub same_accepted : (names : BoundNames) (lines : List ListedSymbol) (a b : Accepted) → IsFromSymbols names lines a → IsFromSymbols names lines b → a ≡ b
+same_accepted names lines a b p q =
+    let modules : a.modules ≡ b.modules = same_modules (posts (built_in_region names lines) lines) a.modules b.modules (p.named ∙ sym q.named) p.regions q.regions in
+    ap (λ x. record { built_in = x; modules = a.modules; double = a.double; overlap = a.overlap }) (p.kernel ∙ sym q.kernel)
+    ∙ ap (λ x. record { built_in = b.built_in; modules = x; double = a.double; overlap = a.overlap }) modules
+    ∙ ap (λ x. record { built_in = b.built_in; modules = b.modules; double = x; overlap = a.overlap }) (p.double ∙ sym q.double)
+    ∙ ap (λ x. record { built_in = b.built_in; modules = b.modules; double = b.double; overlap = x }) (p.overlap ∙ sym q.overlap)

@@ -1,0 +1,152 @@
+-- What one step of the sweep adds.
+use Rattle.std.proofs.Common.{◌≡◌, ℕ, ◌+◌, ◌<◌, ◌≤◌, List, length, get_or, ap, sym, subst, ◌∙◌, inl, inr, ⊎_elim, arith}
+use Rattle.std.specs.Prelude.{◌≢◌, ◌⊎◌, ◌↔◌}
+use Rattle.std.specs.List.Sorted.{IsNonDecreasingBy}
+use Rattle.std.proofs.lemmas.Bool.{cases_lt}
+use Rattle.std.proofs.lemmas.List.{get_or_default}
+use Rattle.order_laws.specs.declared.items.Item.{Item}
+use Rattle.modules.specs.Marks.{HoldsFor}
+use Rattle.modules.specs.Marks.{IsNearestMark, Owns}
+use Rattle.modules.specs.declared.marks.Mark.{Mark}
+
+-- of the marks below a place, this is the first of the greatest address
+pub record IsFrom (marks : List Mark) (done : ℕ) (from : Mark) : Type 0 where
+  pub place : ℕ
+  pub within : place < length marks
+  pub listed : get_or marks place from ≡ from
+  pub first : (k : ℕ) (d : Mark) → k < place → (get_or marks k d).addr < from.addr
+  pub greatest : (k : ℕ) (d : Mark) → k < done → k < length marks → (get_or marks k d).addr ≤ from.addr
+
+-- the marks from a place on lie at or above an address
+abbrev pub AreAbove : List Mark → ℕ → ℕ → Type 0
+AreAbove marks done next = (k : ℕ) (d : Mark) → done ≤ k → k < length marks → next ≤ (get_or marks k d).addr
+
+-- ---- the nearest mark
+
+pub nearest_from : (marks : List Mark) (done : ℕ) (from : Mark) (next x : ℕ) → IsFrom marks done from → AreAbove marks done next → from.addr ≤ x → x < next → IsNearestMark marks x from
+nearest_from marks done from next x is rest le lt = record {
+  place = is.place;
+  within = is.within;
+  listed = is.listed;
+  below = le;
+  nearest = λ k d within. ⊎_elim
+      (λ less. inl (is.greatest k d less within))
+      (λ ge. inr (let r = rest k d ge within in omega arith))
+      (cases_lt k done);
+  first = λ k d less e. (let f = is.first k d less in omega arith);
+}
+
+address_le : (marks : List Mark) (x : ℕ) (l n : Mark) → IsNearestMark marks x l → IsNearestMark marks x n → l.addr ≤ n.addr
+address_le marks x l n p q =
+    let e : (get_or marks p.place l).addr ≡ l.addr = ap (λ (s : Mark). s.addr) p.listed in
+    let b = p.below in
+    ⊎_elim (λ le. omega arith) (λ lt. absurd (omega arith)) (q.nearest p.place l p.within)
+
+place_ge : (marks : List Mark) (x : ℕ) (l n : Mark) → (p : IsNearestMark marks x l) → (q : IsNearestMark marks x n) → p.place < q.place → ⊥
+place_ge marks x l n p q lt =
+    let e : (get_or marks p.place l).addr ≡ l.addr = ap (λ (s : Mark). s.addr) p.listed in
+    let a = address_le marks x l n p q in
+    let b = address_le marks x n l q p in
+    q.first p.place l lt (omega arith)
+
+-- there is one
+pub nearest_is_one : (marks : List Mark) (x : ℕ) (l n : Mark) → IsNearestMark marks x l → IsNearestMark marks x n → l ≡ n
+nearest_is_one marks x l n p q =
+    ⊎_elim
+    (λ lt. absurd (place_ge marks x l n p q lt))
+    (λ ge. ⊎_elim
+    (λ lt. absurd (place_ge marks x n l q p lt))
+    (λ le. let e : p.place ≡ q.place = omega arith in
+    sym p.listed ∙ get_or_default marks p.place l n p.within ∙ ap (λ k. get_or marks k n) e ∙ q.listed)
+    (cases_lt q.place p.place))
+    (cases_lt p.place q.place)
+
+-- ---- the items of the addresses so far
+
+-- the items hold the addresses of each owner below a bound
+abbrev pub AreExact : List Mark → List Item → ℕ → Type 0
+AreExact marks items bound = (m x : ℕ) → HoldsFor items m x ↔ ((x < bound) × Owns marks m x)
+
+-- the addresses that a mark has below the next
+abbrev pub Reaches : Mark → ℕ → ℕ → ℕ → Type 0
+Reaches from next m x = (from.owner ≢ 0) × (from.owner ≡ m) × (from.addr ≤ x) × (x < next) × (x < from.addr + 1048576)
+
+pub exact_with : (marks : List Mark) (done : ℕ) (from : Mark) (next : ℕ) (old new : List Item) → IsFrom marks done from → AreAbove marks done next → from.addr ≤ next → AreExact marks old from.addr
+    → ((m x : ℕ) → HoldsFor new m x ↔ (HoldsFor old m x ⊎ Reaches from next m x)) → AreExact marks new next
+exact_with marks done from next old new is rest le exact more m x = (
+  λ h. ⊎_elim
+      (λ before. let (lt, owns) = (exact m x).0 before in (omega arith, owns))
+      (λ (some, its, ge, lt, reached). (lt, record { mark = from; nearest = nearest_from marks done from next x is rest ge lt; its = its; reached = reached; some = λ zero. some (its ∙ zero) }))
+      ((more m x).0 h),
+  λ (lt, owns). (more m x).1 (⊎_elim
+      (λ before. inl ((exact m x).1 (before, owns)))
+      (λ ge.
+      let e : owns.mark ≡ from = nearest_is_one marks x owns.mark from owns.nearest (nearest_from marks done from next x is rest ge lt) in
+      let its : from.owner ≡ m = ap (λ (s : Mark). s.owner) (sym e) ∙ owns.its in
+      inr (λ zero. owns.some (sym its ∙ zero), its, ge, lt, subst (λ (s : Mark). x < s.addr + 1048576) e owns.reached))
+      (cases_lt x from.addr)),
+)
+
+-- no address below the first mark is anyone's
+pub exact_none : (marks : List Mark) (items : List Item) (from : Mark) → IsNonDecreasingBy (λ l. l.addr) marks → get_or marks 0 from ≡ from → length items ≡ 0 → AreExact marks items from.addr
+exact_none marks items from rising is none m x = (
+  λ h. absurd (let (k, lt, at) = h.there in omega arith),
+  λ (lt, owns).
+      let n = owns.nearest in
+      let up : (get_or marks 0 owns.mark).addr ≤ (get_or marks n.place owns.mark).addr = rising 0 n.place owns.mark (omega arith) n.within in
+      let e : (get_or marks n.place owns.mark).addr ≡ owns.mark.addr = ap (λ (s : Mark). s.addr) n.listed in
+      let f : (get_or marks 0 owns.mark).addr ≡ from.addr = ap (λ (s : Mark). s.addr) (get_or_default marks 0 owns.mark from (let w = n.within in omega arith) ∙ is) in
+      let b = n.below in
+      absurd (omega arith),
+)
+
+-- ---- the first mark of the greatest address so far
+
+pub from_first : (marks : List Mark) (from : Mark) → 0 < length marks → get_or marks 0 from ≡ from → IsFrom marks 0 from
+from_first marks from some is = record {
+  place = 0;
+  within = some;
+  listed = is;
+  first = λ k d lt. absurd (omega arith);
+  greatest = λ k d lt within. absurd (omega arith);
+}
+
+-- the next mark lies above
+pub from_next : (marks : List Mark) (done : ℕ) (from next : Mark) → IsNonDecreasingBy (λ l. l.addr) marks → IsFrom marks done from → done < length marks → get_or marks done next ≡ next → from.addr < next.addr → IsFrom marks (done + 1) next
+from_next marks done from next rising is within at above = record {
+  place = done;
+  within = within;
+  listed = at;
+  first = λ k d lt. (let g = is.greatest k d lt (omega arith) in omega arith);
+  greatest = λ k d lt inside.
+      let up : (get_or marks k next).addr ≤ (get_or marks done next).addr = rising k done next (omega arith) within in
+      let e : (get_or marks done next).addr ≡ next.addr = ap (λ (s : Mark). s.addr) at in
+      let f : (get_or marks k d).addr ≡ (get_or marks k next).addr = ap (λ (s : Mark). s.addr) (get_or_default marks k d next inside) in
+      omega arith;
+}
+
+-- the next mark does not
+pub from_same : (marks : List Mark) (done : ℕ) (from next : Mark) → IsFrom marks done from → get_or marks done next ≡ next → next.addr ≤ from.addr → IsFrom marks (done + 1) from
+from_same marks done from next is at below = record {
+  place = is.place;
+  within = is.within;
+  listed = is.listed;
+  first = is.first;
+  greatest = λ k d lt inside. ⊎_elim
+      (λ less. is.greatest k d less inside)
+      (λ ge.
+      let same : k ≡ done = omega arith in
+      let f : (get_or marks k d).addr ≡ next.addr = ap (λ (s : Mark). s.addr) (get_or_default marks k d next inside ∙ ap (λ j. get_or marks j next) same ∙ at) in
+      omega arith)
+      (cases_lt k done);
+}
+
+pub is_above : (marks : List Mark) (done : ℕ) (next : Mark) → IsNonDecreasingBy (λ l. l.addr) marks → get_or marks done next ≡ next → AreAbove marks done next.addr
+is_above marks done next rising at = λ k d le inside.
+    let up : (get_or marks done next).addr ≤ (get_or marks k next).addr = rising done k next le inside in
+    let e : (get_or marks done next).addr ≡ next.addr = ap (λ (s : Mark). s.addr) at in
+    let f : (get_or marks k d).addr ≡ (get_or marks k next).addr = ap (λ (s : Mark). s.addr) (get_or_default marks k d next inside) in
+    omega arith
+
+pub none_above : (marks : List Mark) (done next : ℕ) → length marks ≤ done → AreAbove marks done next
+none_above marks done next all = λ k d le inside. absurd (omega arith)

@@ -1,0 +1,53 @@
+use Rattle.std.proofs.Common.{◌≡◌, ◌-◌, ◌^◌, ◌<◌, ◌≤◌, length, get_or, arith, rules}
+use Rattle.std.proofs.lemmas.List.{get_or_default}
+use Rattle.modules.specs.declared.marks.Mark.{Mark}
+use Rattle.modules.proofs.SweepLemmas.{exact_with, exact_none, from_first, from_next, from_same, is_above, none_above}
+use Rattle.modules.proofs.marks.regions_of_rising.Goals as goal
+use Rattle.modules.proofs.marks.regions_of_rising.Goals.{then-from-mark+in_ok-cover, else-from-mark}
+
+pub loop-mark-init : goal.loop-mark-init
+loop-mark-init c =
+    let from : Mark = get_or c.args.marks.now 0 (record { addr = 0; owner = 0 }) in
+    let some : 0 < length c.args.marks.now = search rules in
+    let listed : get_or c.args.marks.now 0 from ≡ from = get_or_default c.args.marks.now 0 from (record { addr = 0; owner = 0 }) some in
+    record {
+      laid = search rules;
+      ends = search rules;
+      exact = exact_none c.args.marks.now c.new-items.result.items from c.requires listed (search rules);
+      head = from_first c.args.marks.now from some listed;
+    }
+
+pub loop-mark-preserved : goal.loop-mark-preserved
+loop-mark-preserved c =
+    let marks = c.args.marks.now in
+    let i = c.loop-mark.invariant in
+    let k = c.loop-mark.mark-index in
+    let next : Mark = get_or marks k (record { addr = 0; owner = 0 }) in
+    let listed : get_or marks k next ≡ next = get_or_default marks k next (record { addr = 0; owner = 0 }) c.loop-mark-test.true in
+    elim c.if-from-mark.branch [
+      | then-from-mark+in_ok-cover w ↦
+          rw (w.items-is, w.from-is) (record {
+            laid = w.in_ok-cover.ensures.laid;
+            ends = w.in_ok-cover.ensures.ends;
+            exact = exact_with marks k c.loop-mark.from next.addr c.loop-mark.items.items w.cover.new.items.items i.head (is_above marks k next c.requires listed) (omega (arith, w.if-from-mark.true)) i.exact w.in_ok-cover.ensures.holds;
+            head = from_next marks k c.loop-mark.from next c.requires i.head c.loop-mark-test.true listed w.if-from-mark.true;
+          })
+      | else-from-mark w ↦
+          rw (w.items-is, w.from-is) (record {
+            laid = i.laid;
+            ends = i.ends;
+            exact = i.exact;
+            head = from_same marks k c.loop-mark.from next i.head listed (omega (arith, w.if-from-mark.false));
+          })
+    ]
+
+pub returns : goal.returns
+returns c =
+    let marks = c.args.marks.now in
+    let i = c.loop-mark.invariant in
+    let k = c.loop-mark.mark-index in
+    let all : length marks ≤ k = omega (arith, c.loop-mark-test.false) in
+    record {
+      laid = c.in_ok-cover_last.ensures.laid;
+      exact = exact_with marks k c.loop-mark.from (2 ^ 64 - 1) c.loop-mark.items.items c.cover_last.new.items.items i.head (none_above marks k (2 ^ 64 - 1) all) c.in_ok-cover_last.ensures.bound i.exact c.in_ok-cover_last.ensures.holds;
+    }

@@ -1,0 +1,14 @@
+use Rattle.std.proofs.Common.{◌≤◌, ◌<◌, ℕ}
+use Rattle.std.specs.Prelude.{◌↔◌, All}
+use Rattle.modules.specs.Marks.{AreLaid, HoldsFor}
+use Rattle.modules.specs.Marks.{Owns}
+use Rattle.modules.proofs.SweepLemmas.{IsFrom}
+use Rattle.modules.proofs.marks.regions_of_rising.Given as goal
+
+abbrev pub invariant-loop-mark : goal.invariant-loop-mark
+invariant-loop-mark l = record {
+  laid : AreLaid l.items.items;
+  ends : All (λ i. i.b ≤ l.from.addr) l.items.items;
+  exact : (m x : ℕ) → HoldsFor l.items.items m x ↔ ((x < l.from.addr) × Owns l.marks m x);
+  head : IsFrom l.marks l.mark-index l.from;
+}

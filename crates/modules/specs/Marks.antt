@@ -1,0 +1,49 @@
+-- Marks, and the regions that they stand for.
+use Rattle.std.specs.Prelude.{◌≡◌, ◌≢◌, ℕ, ◌+◌, ◌-◌, ◌<◌, ◌≤◌, ◌^◌, ◌⊎◌, ◌↔◌, All, Contains, List}
+use Rattle.std.specs.Prelude.{length, slice_index_or}
+use Rattle.std.specs.List.{AllPairs}
+use Rattle.order_laws.specs.declared.items.Item.{Item}
+use Rattle.modules.specs.declared.marks.Mark.{Mark}
+
+-- the mark is not above the address, none lies between them, and none that is listed before it has
+-- its address
+pub record IsNearestMark (marks : List Mark) (addr : ℕ) (m : Mark) : Type 0 where
+  pub place : ℕ
+  pub within : place < length marks
+  pub listed : slice_index_or marks place m ≡ m
+  pub below : m.addr ≤ addr
+  pub nearest : All (λ s. (s.addr ≤ m.addr) ⊎ (addr < s.addr)) marks
+  pub first : (k : ℕ) (d : Mark) → k < place → (slice_index_or marks k d).addr ≢ m.addr
+
+-- the address is that of the owner of the nearest mark, which is less than 1048576 below it, and
+-- this owner is not the kernel itself
+pub record Owns (marks : List Mark) (owner addr : ℕ) : Type 0 where
+  pub mark : Mark
+  pub nearest : IsNearestMark marks addr mark
+  pub its : mark.owner ≡ owner
+  pub reached : addr < mark.addr + 1048576
+  pub some : owner ≢ 0
+
+-- the first ends before the second begins, or where it begins if they are of two owners
+pub record Follows (i j : Item) : Type 0 where
+  pub apart : i.b ≤ j.a
+  pub longest : i.b ≡ j.a → i.tag ≢ j.tag
+
+-- regions by rising address, each as long as its owner's addresses go on
+pub record AreLaid (items : List Item) : Type 0 where
+  pub valid : All (λ i. i.a < i.b) items
+  pub follow : AllPairs (λ i j. Follows i j) items
+
+-- a region of the owner holds the address
+pub record HoldsFor (items : List Item) (owner addr : ℕ) : Type 0 where
+  pub item : Item
+  pub there : Contains items item
+  pub its : item.tag ≡ owner
+  pub from : item.a ≤ addr
+  pub below : addr < item.b
+
+-- the longest runs of addresses of one owner, below the greatest address
+pub record AreRegions (marks : List Mark) (items : List Item) : Type 0 where
+  pub laid : AreLaid items
+  pub exact : (owner addr : ℕ)
+      → HoldsFor items owner addr ↔ ((addr < 2 ^ 64 - 1) × Owns marks owner addr)
