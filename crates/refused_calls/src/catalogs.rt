@@ -1,13 +1,15 @@
-//! `Catalog::build_with` and `load`, and `Ledger::change` by that catalog.
+//! `Catalog::build_with` and `load`, and `Ledger::change` and `serve` by that catalog.
 
 ghost use Rattle.std.specs.Prelude.{◌≡◌, true, All};
 ghost use Rattle.modules.specs.Lines.{fits, region_fits};
 
-use crate::{End, ledgers};
+use crate::{End, ledgers, servings};
 use modules::{Catalog, Held, ModuleLine, Part, RegionLine, SymbolLine, SymbolLines};
 use order_laws::Refusal;
 use std::alloc::Global;
 use std::io::Print;
+use std::sync::Wait;
+use std::thread::Threads;
 
 const NAME: &[u8] = b"module";
 
@@ -57,8 +59,8 @@ fn regions() -> [RegionLine<'static>; 2] {
 
 /// The catalog with so many symbols, built once more where memory was refused, the update that
 /// loads its module, and the changes of a ledger.
-fn build(
-    rt: &impl Print,
+fn build<R: Threads + Wait + Print + Sync>(
+    rt: &R,
     alloc: Global,
     modules: &[ModuleLine<'_>],
     regions: &[RegionLine<'_>],
@@ -85,11 +87,16 @@ fn build(
         answered => answered?,
     };
     println!(rt; "load: {:?}", loaded)?;
-    ledgers::change_all(rt, alloc, &catalog, &[CORE, INIT])
+    ledgers::change_all(rt, alloc, &catalog, &[CORE, INIT])?;
+    servings::call_all(rt, alloc, &catalog, CORE)
 }
 
 /// Builds a catalog of so many symbols.
-pub(crate) fn call_all(rt: &impl Print, alloc: Global, count: u32) -> Result<(), End> {
+pub(crate) fn call_all<R: Threads + Wait + Print + Sync>(
+    rt: &R,
+    alloc: Global,
+    count: u32,
+) -> Result<(), End> {
     let (modules, regions) = (modules(), regions());
     if modules.iter().all(|line| line.fits()) && regions.iter().all(|line| line.fits()) {
         build(rt, alloc, &modules, &regions, count)?;

@@ -14,6 +14,7 @@
 mod catalogs;
 mod growth;
 mod ledgers;
+mod servings;
 mod tables;
 mod updates;
 mod worlds;
@@ -22,6 +23,9 @@ mod writers;
 use order_laws::Refusal;
 use std::alloc::Global;
 use std::io;
+use std::io::Print;
+use std::sync::Wait;
+use std::thread::Threads;
 use word_layout::Layout;
 use workloads::numbers;
 
@@ -46,7 +50,11 @@ impl From<io::Error> for End {
 }
 
 /// All calls, on tables of so many items.
-fn call_all(rt: &HostRuntime, alloc: Global, items: u32) -> Result<(), End> {
+fn call_all<R: Threads + Wait + Print + Sync>(
+    rt: &R,
+    alloc: Global,
+    items: u32,
+) -> Result<(), End> {
     let layout = Layout::new(items)?;
     let updates = updates::updates(alloc, items)?;
     writers::call_all(rt, alloc, layout, &updates)?;

@@ -1,17 +1,20 @@
 -- The count of wrong answers, by its test.
-use Rattle.std.proofs.Common.{◌≡◌, Bool, true, false, List, [], length, take, Option, Some, None, refl, ap, inl, inr, ⊎_elim, arith}
-use Rattle.std.specs.Prelude.{count_by, nat_lt, not, ◌||◌}
+use Rattle.std.proofs.Common.{◌≡◌, ℕ, suc, Bool, true, false, List, [], ◌∷◌, length, take, subst, sym, Option, Some, None, refl, ap, inl, inr, ⊎_elim, arith}
+use Rattle.std.specs.Global.{Vec}
+use Rattle.std.specs.Prelude.{All, count_by, nat_lt, not, ◌||◌, IfOk, Ok, Err, Result}
 use Rattle.std.proofs.lemmas.Bool.Decides.{nat_tests}
 use Rattle.order_laws.specs.declared.items.Item.{Item}
 use Rattle.order_laws.specs.Orders.{half_open}
 use Rattle.order_laws.specs.Tables.{look}
 use Rattle.latch_core.specs.declared.updates.Update.{Update}
 use Rattle.latch_core.specs.Histories.{replay}
+use Rattle.std.specs.Result.{result_unwrap_or}
+use Rattle.order_laws.specs.declared.refusals.Refusal.{Refusal}
 use Rattle.shared_lookup.specs.declared.served.Answer.{Answer}
 use Rattle.shared_lookup.specs.Checks.{is_same_item, is_wrong_answer}
 use Rattle.shared_lookup.specs.Counts.{Counts}
-use Rattle.shared_lookup.specs.Servings.{IsWrongAnswer}
-use Rattle.shared_lookup.proofs.CountLemmas.{counts_of}
+use Rattle.shared_lookup.specs.Servings.{EachIsFoundIn, IsFoundIn, IsWrongAnswer, entries}
+use Rattle.shared_lookup.proofs.CountLemmas.{counts_append, counts_of}
 
 same_items : (x y : Option Item) → is_same_item x y ≡ true → x ≡ y
 same_items None None e = refl
@@ -48,3 +51,26 @@ pub wrong_counted : (log : List Update) (answers : List Answer) → Counts (IsWr
 wrong_counted log answers =
     counts_of (IsWrongAnswer log) (is_wrong_answer log)
     (λ a e. wrong_by log a _ _ refl refl e) (λ a e. right_by log a _ _ refl refl e) answers
+
+not_wrong : (log : List Update) (a : Answer) → IsFoundIn log a → IsWrongAnswer log a → ⊥
+not_wrong log a found wrong = ⊎_elim (λ past. absurd (let few = found.0 in omega (arith, past, few))) (λ other. other found.1) wrong
+
+none_in_list : (log : List Update) (answers : List Answer) → All (IsFoundIn log) answers → Counts (IsWrongAnswer log) answers 0
+none_in_list log [] all = refl
+none_in_list log (a ∷ more) all =
+    inl (not_wrong log a (all 0 a (omega arith)), none_in_list log more (λ k d l. all (suc k) d (omega (arith, l))))
+
+-- of answers that are found in the log none is wrong
+pub none_wrong : (log : List Update) (answers : List (Vec Answer)) → EachIsFoundIn log answers → Counts (IsWrongAnswer log) (entries answers) 0
+none_wrong log [] all = refl
+none_wrong log (list ∷ more) all =
+    counts_append (IsWrongAnswer log) list.items (entries more) 0 0
+    (none_in_list log list.items (all 0 list (omega arith)).0)
+    (none_wrong log more (λ k d l. all (suc k) d (omega (arith, l))))
+
+-- so many are wrong as a test of them says, and as 0 says where there was none
+pub counted_or_none : (log : List Update) (answers : List (Vec Answer)) (tested : Result ℕ Refusal)
+    → IfOk tested (λ n. n ≡ count_by (is_wrong_answer log) (entries answers)) → EachIsFoundIn log answers
+    → Counts (IsWrongAnswer log) (entries answers) (result_unwrap_or tested 0)
+counted_or_none log answers (Ok n) is all = subst (λ m. Counts (IsWrongAnswer log) (entries answers) m) (sym is) (wrong_counted log (entries answers))
+counted_or_none log answers (Err e) is all = none_wrong log answers all

@@ -1,7 +1,7 @@
 -- Lists of threads, one thread more at a time.
 use Rattle.std.proofs.Common.{◌≡◌, ℕ, ◌+◌, ◌<◌, Bool, List, [], ◌∷◌, ◌++◌, length, take, get_or, Option, Some, None, sym, ◌∙◌, ap, subst, ⊎_elim, arith, length-append}
 use Rattle.std.specs.Global.{Vec}
-use Rattle.std.specs.Prelude.{IfSome}
+use Rattle.std.specs.Prelude.{◌≤◌, IfSome, vec_capacity, vec_len}
 use Rattle.std.proofs.lemmas.List.{take_more, length-take-le}
 use Rattle.std.proofs.lemmas.Option.{get_or_from_slice_get}
 use Rattle.atomic_table.specs.Seated.{TableId}
@@ -18,6 +18,15 @@ use Rattle.shared_lookup.specs.declared.threads.WriterThread.{WriterThread}
 use Rattle.shared_lookup.specs.Servings.{AreAnswered, AreOutcomesOf, ChangeOutcome, EachHasOutcome, EachIsAnswered}
 use Rattle.shared_lookup.specs.Readers.{IsHeard, IsReaderOf}
 use Rattle.shared_lookup.specs.Threads.{AreChanging, AreHeard, AreReading, HaveRoom}
+
+-- while a list of threads or of what they came back with is put together there is room for one more
+pub room_left : {A B C : Type 0} (lists : List A) (done rest : List B) (x : B) (all : Vec C) → length (done ++ x ∷ rest) ≡ length lists
+    → length all.items ≡ length (take (length done) lists) → length lists ≤ vec_capacity all → vec_len all < vec_capacity all
+room_left lists done rest x all whole same long =
+    let m = length-append done (x ∷ rest) in
+    let t = length-take-le (length done) lists (omega (arith, whole, m)) in
+    let k = all.ok.0 in
+    omega (arith, whole, m, t, same, long, k)
 
 -- the thread of one list of keys more
 pub reading_more : {W : Type 0} (c : W) (keys : List (Vec ℕ)) (i : ℕ) (list : Vec ℕ) (rs : List (ReaderThread W)) (r : ReaderThread W) → i < length keys → list ≡ get_or keys i list

@@ -26,18 +26,19 @@ is_wrong_answer log a =
 abbrev pub with_log : List Update → LedgerState → LedgerState
 with_log log l = record l { log = log }
 
--- for each entry of the log how many of the accepted changes have its generation: none, one or more
-abbrev pub AreTallied : List ChangeOutcome → List ℕ → Type 0
-AreTallied outcomes times =
+-- for each entry of the log behind so many how many of the accepted changes have its generation:
+-- none, one or more
+abbrev pub AreTallied : ℕ → List ChangeOutcome → List ℕ → Type 0
+AreTallied from outcomes times =
     (place : ℕ) → place < length times
-    → slice_index_or times place 0 ≡ min 255 (count_by (has_generation (place + 1)) outcomes)
+    → slice_index_or times place 0 ≡ min 255 (count_by (has_generation (from + place + 1)) outcomes)
 
 abbrev pub no_answer : Answer
 no_answer = record { reader = 0; place = 0; key = 0; generation = 0; item = None }
 
 -- the same after these outcomes more
-abbrev pub IsTalliedBy : List ChangeOutcome → List ℕ → List ℕ → Type 0
-IsTalliedBy outcomes times times' =
+abbrev pub IsTalliedBy : ℕ → List ChangeOutcome → List ℕ → List ℕ → Type 0
+IsTalliedBy from outcomes times times' =
     (place : ℕ) → place < length times
     → slice_index_or times' place 0
-    ≡ min 255 (slice_index_or times place 0 + count_by (has_generation (place + 1)) outcomes)
+    ≡ min 255 (slice_index_or times place 0 + count_by (has_generation (from + place + 1)) outcomes)

@@ -1,6 +1,6 @@
 //! The threads of all lists.
 
-ghost use Rattle.std.specs.Prelude.{◌≡◌, ◌≤◌, [], length, All, IfOk, vec_len};
+ghost use Rattle.std.specs.Prelude.{◌≡◌, ◌≤◌, [], length, All, IfOk, vec_capacity, vec_len};
 ghost use Rattle.latch_table.specs.Limits.{most_readers};
 ghost use Rattle.shared_lookup.specs.Readers.{IsReaderOf};
 ghost use Rattle.shared_lookup.specs.Servings.{EachHasOutcome};
@@ -38,20 +38,22 @@ pub(crate) fn with_room<'s>(
 pub(crate) fn start_writers<'s, E, R: Threads + Wait + Sync, G: Gate + Sync, W: Changer + Sync>(
     scope: &Scope<'s, E>,
     rt: &'s R,
+    alloc: Global,
     g: &'s G,
     changer: &'s W,
     changes: &[Vec<Change>],
     lists: Vec<Changing<'s>>,
     mut writers: Vec<WriterThread<'s, W>>,
-) -> Result<Vec<WriterThread<'s, W>>, AllocError>
+) -> Vec<WriterThread<'s, W>>
     requires blank { writers.items ≡ [] }
+    requires long { length changes.now ≤ vec_capacity writers }
     requires room { HaveRoom changes.now lists.items }
-    ensures { IfOk result (λ all. AreChanging changer.now changes.now all.items) }
+    ensures { AreChanging changer.now changes.now result.items }
 {
     for list in lists {
-        writers.push(start_writer(scope, rt, g, changer, list))?;
+        writers.push_reserved(start_writer(scope, rt, alloc, g, changer, list));
     }
-    Ok(writers)
+    writers
 }
 
 /// Starts the threads of lists of keys, one for each reader, and adds them to a list.
@@ -64,12 +66,13 @@ pub(crate) fn start_readers<'s, E, R: Threads + Wait + Sync, G: Gate + Sync, W: 
     mut seats: Vec<Reader<HalfOpen>>,
     keys: &'s [Vec<u64>],
     mut readers: Vec<ReaderThread<'s, W>>,
-) -> Result<Vec<ReaderThread<'s, W>>, AllocError>
+) -> Vec<ReaderThread<'s, W>>
     requires blank { readers.items ≡ [] }
+    requires long { length keys.now ≤ vec_capacity readers }
     requires seats { All (IsReaderOf (W.table changer.now)) seats.items }
     requires same { vec_len seats ≡ length keys.now }
     requires few { length keys.now ≤ most_readers }
-    ensures { IfOk result (λ all. AreReading changer.now keys.now all.items) }
+    ensures { AreReading changer.now keys.now result.items }
 {
     for list in keys {
         let Some(seat) = seats.pop() else {
@@ -77,29 +80,28 @@ pub(crate) fn start_readers<'s, E, R: Threads + Wait + Sync, G: Gate + Sync, W: 
         };
         let reader = readers.len() as u32;
         let thread = start_reader(scope, rt, alloc, g, changer, reader, seat, list.as_slice());
-        readers.push(thread)?;
+        readers.push_reserved(thread);
     }
-    Ok(readers)
+    readers
 }
 
 /// Waits for the threads of lists of changes, and adds what they came back with to a list.
 pub(crate) fn join_writers<R: Threads, W: Changer>(
     rt: &R,
-    alloc: Global,
     changer: &W,
     changes: &[Vec<Change>],
     writers: Vec<WriterThread<'_, W>>,
     mut outcomes: Vec<Outcomes>,
-) -> Result<Vec<Outcomes>, AllocError>
+) -> Vec<Outcomes>
     requires blank { outcomes.items ≡ [] }
+    requires long { length changes.now ≤ vec_capacity outcomes }
     requires changing { AreChanging changer.now changes.now writers.items }
-    ensures { IfOk result (λ all.
-        EachHasOutcome (W.catalog changer.now) changes.now all.items) }
+    ensures { EachHasOutcome (W.catalog changer.now) changes.now result.items }
 {
     for writer in writers {
-        outcomes.push(join_writer(rt, alloc, writer)?)?;
+        outcomes.push_reserved(join_writer(rt, writer));
     }
-    Ok(outcomes)
+    outcomes
 }
 
 /// Waits for the threads of lists of keys, and adds what they came back with to a list.
@@ -110,13 +112,14 @@ pub(crate) fn join_readers<R: Threads, W: Changer>(
     keys: &[Vec<u64>],
     readers: Vec<ReaderThread<'_, W>>,
     mut heard: Vec<Found>,
-) -> Result<Vec<Found>, AllocError>
+) -> Vec<Found>
     requires blank { heard.items ≡ [] }
+    requires long { length keys.now ≤ vec_capacity heard }
     requires reading { AreReading changer.now keys.now readers.items }
-    ensures { IfOk result (λ all. AreHeard (W.table changer.now) keys.now all.items) }
+    ensures { AreHeard (W.table changer.now) keys.now result.items }
 {
     for reader in readers {
-        heard.push(join_reader(rt, alloc, reader))?;
+        heard.push_reserved(join_reader(rt, alloc, reader));
     }
-    Ok(heard)
+    heard
 }

@@ -3,7 +3,7 @@
 //! What a reader knew when it gave its last answer is a beginning of what it knows once it has met
 //! the writer, which is the whole log. So all its answers are those of the log.
 
-ghost use Rattle.std.specs.Prelude.{◌≡◌, [], Some, IfOk, IfSome};
+ghost use Rattle.std.specs.Prelude.{◌≡◌, ◌≤◌, [], length, Some, IfSome, vec_capacity};
 ghost use mathlib.Core.List.{IsPrefix};
 ghost use Rattle.shared_lookup.specs.Readers.{known_by};
 ghost use Rattle.shared_lookup.specs.Servings.{EachIsAnswered, EachIsFoundIn};
@@ -14,7 +14,6 @@ use crate::served::Answer;
 use crate::threads::Found;
 use latch_table::Reader;
 use order_laws::HalfOpen;
-use std::alloc::AllocError;
 
 /// The ledger, once the reader has met it, if there is one.
 fn met(ledger: Ledger, seat: Option<Reader<HalfOpen>>) -> Ledger
@@ -36,12 +35,14 @@ pub(crate) fn meet_all(
     heard: Vec<Found>,
     mut answers: Vec<Vec<Answer>>,
     mut ended: Vec<bool>,
-) -> Result<(Ledger, Vec<Vec<Answer>>, Vec<bool>), AllocError>
+) -> (Ledger, Vec<Vec<Answer>>, Vec<bool>)
     requires heard { AreHeard (Some ledger.place) keys.now heard.items }
     requires blank { (answers.items ≡ []) × (ended.items ≡ []) }
-    ensures same { IfOk result (λ r. r.0 ≡ ledger) }
-    ensures answered { IfOk result (λ r. EachIsAnswered keys.now r.1.items r.2.items) }
-    ensures found { IfOk result (λ r. EachIsFoundIn ledger.log r.1.items) }
+    requires long { length keys.now ≤ vec_capacity answers }
+    requires told { length keys.now ≤ vec_capacity ended }
+    ensures same { result.0 ≡ ledger }
+    ensures answered { EachIsAnswered keys.now result.1.items result.2.items }
+    ensures found { EachIsFoundIn ledger.log result.1.items }
 {
     let mut ledger = ledger;
     for found in heard {
@@ -51,8 +52,8 @@ pub(crate) fn meet_all(
             seat,
         } = found;
         ledger = met(ledger, seat);
-        answers.push(list)?;
-        ended.push(end)?;
+        answers.push_reserved(list);
+        ended.push_reserved(end);
     }
-    Ok((ledger, answers, ended))
+    (ledger, answers, ended)
 }

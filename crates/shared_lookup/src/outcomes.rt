@@ -1,7 +1,7 @@
 //! The outcomes of the changes, compared with the log.
 
 ghost use Rattle.std.specs.Prelude.{◌≡◌, ◌↔◌, ◌+◌, ◌<◌, ◌≤◌, IsTrue, length, min, slice_index_or};
-ghost use Rattle.std.specs.Prelude.{zip, IfOk};
+ghost use Rattle.std.specs.Prelude.{zip};
 ghost use Rattle.std.specs.List.{range_with_len};
 ghost use Rattle.std.specs.Prelude.{count_by};
 ghost use Rattle.shared_lookup.specs.Checks.{AreTallied, IsTalliedBy};
@@ -14,7 +14,6 @@ use crate::changes::Change;
 use latch_core::Update;
 use modules::Catalog;
 use order_laws::Refusal;
-use std::alloc::{AllocError, Global};
 
 /// Whether the entry of a generation is one that the catalog gives for a change.
 fn is_logged(c: &Catalog<'_>, log: &[Update], change: Change, generation: u64) -> bool
@@ -78,56 +77,70 @@ pub(crate) fn wrong_changes(
     wrong
 }
 
-/// Counts the accepted changes of one list at the entries of their generations; each count stays at
-/// the greatest number.
-fn tally(outcomes: &[Result<u64, Refusal>], times: &mut [u8])
+/// Counts the accepted changes of one list at the entries of their generations, of which the first
+/// `from` are left out; each count stays at the greatest number.
+fn tally(outcomes: &[Result<u64, Refusal>], from: usize, times: &mut [u8])
     ensures length { length times.new ≡ length times.old }
-    ensures tallied { IsTalliedBy outcomes.now times.old times.new }
+    ensures tallied { IsTalliedBy from outcomes.now times.old times.new }
 {
     for outcome in outcomes {
-        let Ok(generation) = outcome else {
-            continue;
+        let place = match outcome {
+            Ok(generation) if *generation > from as u64 => *generation - from as u64 - 1,
+            _ => continue,
         };
-        let place = generation.wrapping_sub(1);
         if place < times.len() as u64 {
             times[place as usize] = times[place as usize].saturating_add(1);
         }
     }
 }
 
-/// For each of the first entries of the log how many accepted changes have its generation; it stays
-/// at the greatest number.
-fn tallied(
-    alloc: Global,
-    count: usize,
-    outcomes: &[Vec<Result<u64, Refusal>>],
-) -> Result<Vec<u8>, AllocError>
-    ensures { IfOk result (λ times. (length times.items ≡ count)
-        × AreTallied (entries outcomes.now) times.items) }
+/// For each of the entries of the log behind the first `from` ones how many accepted changes have
+/// its generation; it stays at the greatest number.
+fn tally_all(outcomes: &[Vec<Result<u64, Refusal>>], from: usize, times: &mut [u8])
+    ensures length { length times.new ≡ length times.old }
+    ensures tallied { AreTallied from (entries outcomes.now) times.new }
 {
-    let mut times = vec![in alloc; 0u8; count]?;
+    times.fill(0);
     for list in outcomes {
-        tally(list.as_slice(), times.as_mut_slice());
+        tally(list.as_slice(), from, times);
     }
-    Ok(times)
 }
 
-/// How many of the first entries of the log have a generation that is not that of exactly one
-/// accepted change; it stays at the greatest number.
-pub(crate) fn wrong_entries(
-    alloc: Global,
-    count: usize,
-    outcomes: &[Vec<Result<u64, Refusal>>],
-) -> Result<u64, AllocError>
-    ensures { IfOk result (λ n. CountsUpTo (IsWrongEntry (entries outcomes.now))
-        (range_with_len 0 count) n) }
+/// How many of the entries behind the first `from` ones, as many as there are times, have a
+/// generation that is not that of exactly one accepted change; it stays at the greatest number.
+fn wrong_behind(outcomes: &[Vec<Result<u64, Refusal>>], from: usize, times: &mut [u8]) -> u64
+    ensures length { length times.new ≡ length times.old }
+    ensures counted { CountsUpTo (IsWrongEntry (entries outcomes.now))
+        (range_with_len from (length times.old)) result }
 {
-    let times = tallied(alloc, count, outcomes)?;
+    tally_all(outcomes, from, times);
     let mut wrong = 0u64;
-    for time in &times {
+    for time in times.iter() {
         if *time != 1 {
             wrong = wrong.saturating_add(1);
         }
     }
-    Ok(wrong)
+    wrong
+}
+
+/// How many of the first entries of the log have a generation that is not that of exactly one
+/// accepted change; it stays at the greatest number. Takes as many entries at a time as there are
+/// times: all at once, where these are as many as the changes.
+pub(crate) fn wrong_entries(
+    count: usize,
+    outcomes: &[Vec<Result<u64, Refusal>>],
+    times: &mut [u8],
+) -> u64
+    requires { 0 < length times.old }
+    ensures { CountsUpTo (IsWrongEntry (entries outcomes.now)) (range_with_len 0 count) result }
+{
+    let mut wrong = 0u64;
+    let mut from = 0;
+    while from < count {
+        let length = times.len().min(count - from);
+        let here = wrong_behind(outcomes, from, &mut times[..length]);
+        wrong = wrong.saturating_add(here);
+        from += length;
+    }
+    wrong
 }

@@ -1,6 +1,6 @@
 //! Lists of changes and lists of keys, each on a thread of its own.
 
-ghost use Rattle.std.specs.Prelude.{◌≡◌, ◌≤◌, length, All, Some, IfOk, IfErr, vec_len};
+ghost use Rattle.std.specs.Prelude.{◌≡◌, ◌<◌, ◌≤◌, length, All, Some, IfOk, IfErr, vec_len};
 ghost use Rattle.order_laws.specs.declared.refusals.Refusal.TheVariants.{OutOfMemory};
 ghost use Rattle.modules.specs.Catalogs.{regions_of};
 ghost use Rattle.word_layout.specs.Layouts.{capacity_of};
@@ -20,7 +20,7 @@ use crate::meetings::meet_all;
 use crate::served::Served;
 use crate::shared::{CatalogWriter, Changer, NamesTable, SharedWriter};
 use crate::threads::{Found, Outcomes};
-use latch_table::Reader;
+use latch_table::{MOST_READERS, Reader};
 use modules::Catalog;
 use order_laws::{HalfOpen, Refusal};
 use std::alloc::{AllocError, Global};
@@ -37,8 +37,8 @@ struct Returned {
     heard: Vec<Found>,
 }
 
-/// Runs a thread for each list that is not empty, all at once, and waits for them. All memory but
-/// that of the answers is made before the first thread starts.
+/// Runs a thread for each list that is not empty, all at once, and waits for them. Refused before
+/// the first thread starts, and never later.
 fn run_threads<R: Threads + Wait + Sync, G: Gate + Sync, W: Changer + Sync>(
     rt: &R,
     alloc: Global,
@@ -73,17 +73,28 @@ fn run_threads<R: Threads + Wait + Sync, G: Gate + Sync, W: Changer + Sync>(
             let heard = Vec::with_capacity(alloc, keys.len())?;
             let writers = Vec::with_capacity(alloc, changes.len())?;
             let readers = Vec::with_capacity(alloc, keys.len())?;
-            let writers = start_writers(scope, rt, g, changer, changes, lists, writers)?;
-            let readers = start_readers(scope, rt, alloc, g, changer, seats, keys, readers)?;
-            let outcomes = join_writers(rt, alloc, changer, changes, writers, outcomes)?;
-            let heard = join_readers(rt, alloc, changer, keys, readers, heard)?;
+            let writers = start_writers(scope, rt, alloc, g, changer, changes, lists, writers);
+            let readers = start_readers(scope, rt, alloc, g, changer, seats, keys, readers);
+            let outcomes = join_writers(rt, changer, changes, writers, outcomes);
+            let heard = join_readers(rt, alloc, changer, keys, readers, heard);
             Ok(Returned { outcomes, heard })
         },
     )
 }
 
+/// A time for each change, and one at least, for the count of wrong entries.
+fn times_for(alloc: Global, changes: &[Vec<Change>]) -> Result<Vec<u8>, AllocError>
+    ensures { IfOk result (λ times. 0 < length times.items) }
+{
+    let count = changes
+        .iter()
+        .fold(0usize, |count, list| count.saturating_add(list.len()));
+    vec![in alloc; 0u8; count.max(1)]
+}
+
 /// Runs the threads over a ledger that was opened with so many readers, lets each reader that came
-/// back meet its writer, and counts what is wrong. Refused by [`Refusal::OutOfMemory`] alone.
+/// back meet its writer, and counts what is wrong. Refused by [`Refusal::OutOfMemory`] alone, before
+/// the first thread starts.
 fn serve_from<K: NamesTable + Send + Sync, R: Threads + Wait + Sync, G: Gate + Sync>(
     rt: &R,
     alloc: Global,
@@ -108,6 +119,7 @@ fn serve_from<K: NamesTable + Send + Sync, R: Threads + Wait + Sync, G: Gate + S
     let (ledger, seats) = opened;
     let answers = Vec::with_capacity(alloc, keys.len())?;
     let ended = Vec::with_capacity(alloc, keys.len())?;
+    let mut times = times_for(alloc, &changes)?;
     let shared = SharedWriter::<K>::new(ledger);
     let changer = CatalogWriter {
         shared: &shared,
@@ -116,8 +128,8 @@ fn serve_from<K: NamesTable + Send + Sync, R: Threads + Wait + Sync, G: Gate + S
     let returned = run_threads(rt, alloc, g, &changer, &changes, &keys, seats)?;
     let Returned { outcomes, heard } = returned;
     let ledger = shared.into_ledger();
-    let (ledger, answers, ended) = meet_all(ledger, &keys, heard, answers, ended)?;
-    let wrong = wrong_count(alloc, &ledger, c, &changes, &outcomes, &answers)?;
+    let (ledger, answers, ended) = meet_all(ledger, &keys, heard, answers, ended);
+    let wrong = wrong_count(alloc, &ledger, c, &changes, &outcomes, &answers, &mut times);
     Ok(Served {
         changes: outcomes,
         answers,
@@ -158,8 +170,8 @@ fn layout_for(c: &Catalog<'_>) -> Result<Layout, Refusal>
 /// generation is not that of exactly one accepted change.
 ///
 /// Refused by [`Refusal::BadCapacity`] where the catalog has more than 65536 regions or there are
-/// not 1 to 64 lists of keys, and else by [`Refusal::OutOfMemory`]: before the threads start, or
-/// where there is none to check what came back.
+/// not 1 to 64 lists of keys, and else by [`Refusal::OutOfMemory`]; in either case no thread has
+/// started.
 #[tactic(auto, using(crate::proofs::ReaderLemmas::readers_opened))]
 pub fn serve<R: Threads + Wait + Sync, G: Gate + Sync>(
     rt: &R,
@@ -179,7 +191,7 @@ pub fn serve<R: Threads + Wait + Sync, G: Gate + Sync>(
     ensures refusal { IfErr result (RefusesServing c.now keys.items) }
 {
     let layout = layout_for(c)?;
-    if keys.is_empty() || keys.len() > 64 {
+    if keys.is_empty() || keys.len() > MOST_READERS as usize {
         return Err(Refusal::BadCapacity);
     }
     let opened = Ledger::open(alloc, layout, 0, keys.len() as u32)?;

@@ -1,9 +1,10 @@
 //! The threads of lists of changes and of lists of keys.
 
-ghost use Rattle.std.specs.Prelude.{◌≡◌, length, IfOk};
-ghost use Rattle.std.specs.Option.{ForSome};
+ghost use Rattle.std.specs.Prelude.{◌≡◌, length, All, Err, IfOk};
+ghost use Rattle.std.specs.Option.{ForNone, ForSome};
+ghost use Rattle.order_laws.specs.declared.refusals.Refusal.TheVariants.{OutOfMemory};
 ghost use Rattle.shared_lookup.specs.Readers.{IsHeard, IsReaderOf};
-ghost use Rattle.shared_lookup.specs.Servings.{AreNotMade, AreOutcomesOf, HasOutcomes};
+ghost use Rattle.shared_lookup.specs.Servings.{AreOutcomesOf, HasOutcomes};
 
 use crate::changes::Change;
 use crate::gates::{Gate, Point};
@@ -31,14 +32,17 @@ pub(crate) struct Changing<'s> {
     ghost room: { length outcomes.items ≡ length changes.now },
 }
 
-/// The thread of a list of changes; none where the list is empty or no thread could be made.
+/// The thread of a list of changes, or the room for their outcomes where there is none: the list is
+/// empty or no thread could be made.
 #[derive(Drop)]
 pub(crate) struct WriterThread<'s, W: Changer> {
     pub(crate) changer: &'s W,
     pub(crate) changes: &'s [Change],
     thread: Option<PromisedHandle<Outcomes, OutcomesOf<'s, W>>>,
+    outcomes: Outcomes,
     ghost same: { ForSome thread (λ h.
         (h.promise.changer.now ≡ changer.now) × (h.promise.changes.now ≡ changes.now)) },
+    ghost room: { ForNone thread (length outcomes.items ≡ length changes.now) },
 }
 
 /// What a writer's thread returns: what became of the changes of its list.
@@ -46,6 +50,21 @@ pub(crate) struct WriterThread<'s, W: Changer> {
 pub(crate) struct OutcomesOf<'a, W: Changer> {
     changer: &'a W,
     changes: &'a [Change],
+}
+
+impl<'s, W: Changer> WriterThread<'s, W> {
+    /// No thread.
+    fn without(changer: &'s W, changes: &'s [Change], outcomes: Outcomes) -> WriterThread<'s, W>
+        requires { length outcomes.items ≡ length changes.now }
+        ensures { (result.changer.now ≡ changer.now) × (result.changes.now ≡ changes.now) }
+    {
+        WriterThread {
+            changer,
+            changes,
+            thread: None,
+            outcomes,
+        }
+    }
 }
 
 impl<'a, W: Changer> Promise<Outcomes> for OutcomesOf<'a, W> {
@@ -87,11 +106,20 @@ impl<'a, W: Changer> Promise<Found> for AnswersTo<'a, W> {
         r.ended r.seat };
 }
 
-/// An outcome for each of so many changes: out of memory.
-fn refused(alloc: Global, changes: &[Change]) -> Result<Outcomes, AllocError>
-    ensures { IfOk result (λ outcomes. AreNotMade changes.now outcomes.items) }
+/// Room for an outcome of each change.
+fn room_for(alloc: Global, changes: &[Change]) -> Result<Outcomes, AllocError>
+    ensures { IfOk result (λ outcomes. length outcomes.items ≡ length changes.now) }
 {
     vec![in alloc; Err(Refusal::OutOfMemory); changes.len()]
+}
+
+/// Each outcome: out of memory.
+fn refused(mut outcomes: Outcomes) -> Outcomes
+    ensures same { length result.items ≡ length outcomes.items }
+    ensures refused { All (λ r. r ≡ Err OutOfMemory) result.items }
+{
+    outcomes.fill(Err(Refusal::OutOfMemory));
+    outcomes
 }
 
 /// Makes the changes of one list, and puts each outcome into its place.
@@ -157,10 +185,12 @@ fn look_up<R: Wait, G: Gate, W: Changer>(
     }
 }
 
-/// Starts the thread of one list of changes, unless it is empty.
+/// Starts the thread of one list of changes, unless it is empty. The room for the outcomes goes with
+/// the thread, even where none can be made; so there is to be room once more before.
 pub(crate) fn start_writer<'s, E, R: Threads + Wait + Sync, G: Gate + Sync, W: Changer + Sync>(
     scope: &Scope<'s, E>,
     rt: &'s R,
+    alloc: Global,
     g: &'s G,
     changer: &'s W,
     list: Changing<'s>,
@@ -173,22 +203,26 @@ pub(crate) fn start_writer<'s, E, R: Threads + Wait + Sync, G: Gate + Sync, W: C
         changes,
         outcomes,
     } = list;
-    let mut thread = None;
-    if !changes.is_empty() {
-        let started = Stack::new().stack_size(STACK_SIZE).spawn_scoped_with(
-            scope,
-            OutcomesOf { changer, changes },
-            move || -> Outcomes
-                requires { length outcomes.items ≡ length changes.now }
-                ensures { HasOutcomes (W.catalog changer.entry.now) changes.entry.now result.items }
-            { make_changes(rt, g, changer, writer, changes, outcomes) },
-        );
-        thread = started.ok();
-    }
-    WriterThread {
-        changer,
-        changes,
-        thread,
+    let spare = match room_for(alloc, changes) {
+        Ok(spare) if !changes.is_empty() => spare,
+        _ => return WriterThread::without(changer, changes, outcomes),
+    };
+    let started = Stack::new().stack_size(STACK_SIZE).spawn_scoped_with(
+        scope,
+        OutcomesOf { changer, changes },
+        move || -> Outcomes
+            requires { length outcomes.items ≡ length changes.now }
+            ensures { HasOutcomes (W.catalog changer.entry.now) changes.entry.now result.items }
+        { make_changes(rt, g, changer, writer, changes, outcomes) },
+    );
+    match started {
+        Ok(thread) => WriterThread {
+            changer,
+            changes,
+            thread: Some(thread),
+            outcomes: Vec::new(alloc),
+        },
+        Err(_) => WriterThread::without(changer, changes, spare),
     }
 }
 
@@ -233,23 +267,19 @@ pub(crate) fn start_reader<'s, E, R: Threads + Wait + Sync, G: Gate + Sync, W: C
 }
 
 /// Waits for the thread of one list of changes. Where there was none, each change is refused.
-pub(crate) fn join_writer<R: Threads, W: Changer>(
-    rt: &R,
-    alloc: Global,
-    writer: WriterThread<'_, W>,
-) -> Result<Outcomes, AllocError>
-    ensures { IfOk result (λ outcomes.
-        AreOutcomesOf (W.catalog writer.entry.changer.now) writer.entry.changes.now
-        outcomes.items) }
+pub(crate) fn join_writer<R: Threads, W: Changer>(rt: &R, writer: WriterThread<'_, W>) -> Outcomes
+    ensures { AreOutcomesOf (W.catalog writer.entry.changer.now) writer.entry.changes.now
+        result.items }
 {
     let WriterThread {
         changer: _,
-        changes,
+        changes: _,
         thread,
+        outcomes,
     } = writer;
     match thread {
-        Some(thread) => Ok(thread.join(rt)),
-        None => refused(alloc, changes),
+        Some(thread) => thread.join(rt),
+        None => refused(outcomes),
     }
 }
 
@@ -288,7 +318,7 @@ pub(crate) fn list_with_room<'s>(
 ) -> Result<Changing<'s>, AllocError>
     ensures { IfOk result (λ list. list.changes.now ≡ changes.now) }
 {
-    let outcomes = refused(alloc, changes)?;
+    let outcomes = room_for(alloc, changes)?;
     Ok(Changing {
         writer: u32::try_from(writer).unwrap_or(u32::MAX),
         changes,

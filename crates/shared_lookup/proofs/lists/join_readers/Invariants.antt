@@ -1,4 +1,5 @@
-use Rattle.std.proofs.Common.{◌≡◌, ◌++◌, length, take}
+use Rattle.std.proofs.Common.{◌≡◌, ◌≤◌, ◌++◌, length, take}
+use Rattle.std.specs.Prelude.{vec_capacity}
 use Rattle.std.specs.Vec.Iter.{into_iter_items}
 use Rattle.shared_lookup.specs.Threads.{AreHeard}
 use Rattle.shared_lookup.proofs.lists.join_readers.Given as goal
@@ -8,4 +9,5 @@ invariant-loop-reader g l =
     record {
       gone : l.fn.readers.items ≡ l.yielded ++ into_iter_items l.reader-iterator;
       heard : AreHeard (g.W.Changer.table l.changer) (take (length l.yielded) l.keys) l.heard.items;
+      long : length l.keys ≤ vec_capacity l.heard;
     }

@@ -1,4 +1,5 @@
-use Rattle.std.proofs.Common.{◌≡◌, ◌++◌, length, take}
+use Rattle.std.proofs.Common.{◌≡◌, ◌≤◌, ◌++◌, length, take}
+use Rattle.std.specs.Prelude.{vec_capacity}
 use Rattle.std.specs.Vec.Iter.{into_iter_items}
 use Rattle.shared_lookup.specs.Servings.{EachHasOutcome}
 use Rattle.shared_lookup.proofs.lists.join_writers.Given as goal
@@ -8,4 +9,5 @@ invariant-loop-writer g l =
     record {
       gone : l.fn.writers.items ≡ l.yielded ++ into_iter_items l.writer-iterator;
       made : EachHasOutcome (g.W.Changer.catalog l.changer) (take (length l.yielded) l.changes) l.outcomes.items;
+      long : length l.changes ≤ vec_capacity l.outcomes;
     }

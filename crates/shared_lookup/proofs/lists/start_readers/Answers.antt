@@ -24,6 +24,17 @@ loop-list-preserved g c =
       seats = (All-pop (IsReaderOf (g.W.Changer.table c.args.changer.now)) c.loop-list.seats.items c.pop.new.self.items (Some c.in-Some.seat) c.in-Some.ensures.items c.loop-list.invariant.seats).0;
       left = let a = c.in-Some.ensures.len in let b = c.loop-list.invariant.left in omega (arith, a, b);
       reading =
-          subst (AreReading c.args.changer.now (take (i + 1) keys)) (sym c.in_ok-push.ensures.items)
+          subst (AreReading c.args.changer.now (take (i + 1) keys)) (sym c.push_reserved.ensures.items)
           (reading_more c.args.changer.now keys i c.list-item.result c.loop-list.readers.items c.start_reader-thread.result less c.list-item.is all count started.0 (started.1 ∙ place) (started.2 ∙ c.as_slice.ensures.value));
+      long = let l = c.loop-list.invariant.long in let k = c.push_reserved.ensures.capacity in omega (arith, l, k);
     }
+
+pub push_reserved-requires : goal.push_reserved-requires
+push_reserved-requires g c =
+    let i = c.loop-list.list-index in
+    let less = c.loop-list-test.true in
+    let some : length (take i c.args.keys.now) ≡ i = length-take-le i c.args.keys.now (omega (arith, less)) in
+    let same = c.loop-list.invariant.reading.same in
+    let long = c.loop-list.invariant.long in
+    let k = c.loop-list.readers.ok.0 in
+    omega (arith, less, some, same, long, k)

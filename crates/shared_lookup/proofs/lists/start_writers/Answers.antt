@@ -1,8 +1,8 @@
-use Rattle.std.proofs.Common.{◌≡◌, ◌∙◌, ◌++◌, ◌∷◌, [], List, length, take, sym, subst, ap, append_assoc}
+use Rattle.std.proofs.Common.{◌≡◌, ◌∙◌, ◌++◌, ◌∷◌, [], List, length, take, sym, subst, ap, append_assoc, arith}
 use Rattle.std.specs.Vec.Iter.{into_iter_items}
 use Rattle.shared_lookup.specs.declared.threads.Changing.{Changing}
 use Rattle.shared_lookup.specs.Threads.{AreChanging, HaveRoom}
-use Rattle.shared_lookup.proofs.ThreadLemmas.{changing_more}
+use Rattle.shared_lookup.proofs.ThreadLemmas.{changing_more, room_left}
 use Rattle.shared_lookup.proofs.lists.start_writers.Goals as goal
 
 pub loop-list-preserved : goal.loop-list-preserved
@@ -19,5 +19,15 @@ loop-list-preserved g c =
     let more = changing_more c.args.changer.now changes done rest l c.loop-list.writers.items w (subst (HaveRoom changes) all c.requires.room) i.started e.0 e.1 in
     record {
       gone = i.gone ∙ ap (λ (xs : List Changing). done ++ xs) step ∙ sym (append_assoc done (l ∷ []) rest);
-      started = subst (AreChanging c.args.changer.now (take (length (done ++ l ∷ [])) changes)) (sym c.in_ok-push.ensures.items) more;
+      started = subst (AreChanging c.args.changer.now (take (length (done ++ l ∷ [])) changes)) (sym c.push_reserved.ensures.items) more;
+      long = let l = i.long in let k = c.push_reserved.ensures.capacity in omega (arith, l, k);
     }
+
+pub push_reserved-requires : goal.push_reserved-requires
+push_reserved-requires g c =
+    let i = c.loop-list.invariant in
+    let done = c.loop-list.yielded in
+    let rest = into_iter_items c.next.new.self in
+    let l = c.in-Some.list in
+    let all : c.args.lists.items ≡ done ++ l ∷ rest = i.gone ∙ ap (λ (xs : List Changing). done ++ xs) c.in-Some.ensures.steps.0 in
+    room_left c.args.changes.now done rest l c.loop-list.writers (ap length (sym all) ∙ c.requires.room.same) i.started.same i.long

@@ -1,4 +1,4 @@
-use Rattle.std.proofs.Common.{◌≡◌, ◌∙◌, ◌++◌, ◌∷◌, [], Bool, List, length, take, sym, subst, ap, append_assoc, refl, Some}
+use Rattle.std.proofs.Common.{◌≡◌, ◌∙◌, ◌++◌, ◌∷◌, [], Bool, List, length, take, sym, subst, ap, append_assoc, arith, refl, Some}
 use Rattle.std.specs.Global.{Vec}
 use Rattle.std.specs.Prelude.{IfSome}
 use Rattle.std.specs.Vec.Iter.{into_iter_items}
@@ -11,7 +11,7 @@ use Rattle.shared_lookup.specs.Readers.{known_by}
 use Rattle.shared_lookup.specs.Servings.{AreFoundIn, EachIsAnswered, EachIsFoundIn}
 use Rattle.shared_lookup.specs.Threads.{AreHeard}
 use Rattle.shared_lookup.proofs.FoundLemmas.{all_found_later}
-use Rattle.shared_lookup.proofs.ThreadLemmas.{answered_so_far, heard_here, met_here}
+use Rattle.shared_lookup.proofs.ThreadLemmas.{answered_so_far, heard_here, met_here, room_left}
 use Rattle.shared_lookup.proofs.meetings.meet_all.Goals as goal
 
 pub met-ledger-requires : goal.met-ledger-requires
@@ -48,7 +48,27 @@ loop-found-preserved c =
       gone = i.gone ∙ ap (λ (xs : List Found). done ++ xs) step ∙ sym (append_assoc done (f ∷ []) rest);
       same = c.met-ledger.ensures.same ∙ i.same;
       answered =
-          subst (λ (xs : List (Vec Answer)). EachIsAnswered (take (length (done ++ f ∷ [])) keys) xs c.push-in-loop-found.new.self.items) (sym c.in_ok-push.ensures.items)
-          (subst (λ (es : List Bool). EachIsAnswered (take (length (done ++ f ∷ [])) keys) (c.loop-found.answers.items ++ f.answers ∷ []) es) (sym c.in_ok-push-2.ensures.items) answered);
-      found = subst (EachIsFoundIn log) (sym c.in_ok-push.ensures.items) found;
+          subst (λ (xs : List (Vec Answer)). EachIsAnswered (take (length (done ++ f ∷ [])) keys) xs c.push_reserved-in-loop-found.new.self.items) (sym c.push_reserved.ensures.items)
+          (subst (λ (es : List Bool). EachIsAnswered (take (length (done ++ f ∷ [])) keys) (c.loop-found.answers.items ++ f.answers ∷ []) es) (sym c.push_reserved-in-loop-found.ensures.items) answered);
+      found = subst (EachIsFoundIn log) (sym c.push_reserved.ensures.items) found;
+      long = let l = i.long in let k = c.push_reserved.ensures.capacity in omega (arith, l, k);
+      told = let l = i.told in let k = c.push_reserved-in-loop-found.ensures.capacity in omega (arith, l, k);
     }
+
+pub push_reserved-requires : goal.push_reserved-requires
+push_reserved-requires c =
+    let i = c.loop-found.invariant in
+    let done = c.loop-found.yielded in
+    let rest = into_iter_items c.next.new.self in
+    let f = c.in-Some.found in
+    let all : c.args.heard.items ≡ done ++ f ∷ rest = i.gone ∙ ap (λ (xs : List Found). done ++ xs) c.in-Some.ensures.steps.0 in
+    room_left c.args.keys.now done rest f c.loop-found.answers (ap length (sym all) ∙ c.requires.heard.same) i.answered.same i.long
+
+pub push_reserved-requires-in-loop-found : goal.push_reserved-requires-in-loop-found
+push_reserved-requires-in-loop-found c =
+    let i = c.loop-found.invariant in
+    let done = c.loop-found.yielded in
+    let rest = into_iter_items c.next.new.self in
+    let f = c.in-Some.found in
+    let all : c.args.heard.items ≡ done ++ f ∷ rest = i.gone ∙ ap (λ (xs : List Found). done ++ xs) c.in-Some.ensures.steps.0 in
+    room_left c.args.keys.now done rest f c.loop-found.ended (ap length (sym all) ∙ c.requires.heard.same) i.answered.told i.told

@@ -6,5 +6,5 @@ abbrev pub invariant-loop-outcome : goal.invariant-loop-outcome
 invariant-loop-outcome l =
     record {
       length : length l.times ≡ length l.fn.times;
-      tallied : IsTalliedBy (take l.outcome-index l.outcomes) l.fn.times l.times;
+      tallied : IsTalliedBy l.from (take l.outcome-index l.outcomes) l.fn.times l.times;
     }

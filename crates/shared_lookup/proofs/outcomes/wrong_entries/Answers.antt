@@ -1,25 +1,32 @@
-use Rattle.std.proofs.Common.{◌≡◌, ◌∙◌, ◌+◌, ◌<◌, ap, length, get_or, min, sym, subst, arith}
-use Rattle.std.specs.Prelude.{count_by}
+use Rattle.std.proofs.Common.{◌≡◌, ◌∙◌, length, take, drop, sym, subst, arith, length-append, length-drop}
 use Rattle.std.specs.List.{range_with_len}
-use Rattle.facts.proofs.Ranges.{range-push_from_zero}
+use Rattle.std.proofs.lemmas.List.{length-take-le}
+use Rattle.facts.proofs.Ranges.{range-append_from_zero}
 use Rattle.shared_lookup.specs.Counts.{CountsUpTo}
-use Rattle.shared_lookup.specs.Servings.{IsWrongEntry, entries, has_generation}
-use Rattle.shared_lookup.proofs.CountLemmas.{up_to_yes, up_to_no}
-use Rattle.shared_lookup.proofs.outcomes.wrong_entries.Goals.{then-time-ne1, else-time-ne1}
+use Rattle.shared_lookup.specs.Servings.{IsWrongEntry, entries}
+use Rattle.shared_lookup.proofs.CountLemmas.{up_to_append}
 use Rattle.shared_lookup.proofs.outcomes.wrong_entries.Goals as goal
 
-pub loop-time-preserved : goal.loop-time-preserved
-loop-time-preserved c =
-    let all = entries c.args.outcomes.now in
-    let P = IsWrongEntry all in
-    let i = c.loop-time.time-index in
-    let now = c.deref-time-items.result.now in
-    let value = c.deref-time-items.ensures.value in
-    let less : i < length c.in_ok-times.times.items = subst (λ (xs : _). i < length xs) value c.loop-time-test.true in
-    let time : get_or now i 0 ≡ min 255 (count_by (has_generation (i + 1)) all) = ap (λ xs. get_or xs i 0) value ∙ c.in_ok-times.ensures.1 i less in
-    let r = c.if-time-ne1.wrong in
-    subst (λ (zs : _). CountsUpTo P zs r) (sym (range-push_from_zero i))
-    (elim c.if-time-ne1.branch [
-      | then-time-ne1 w ↦ up_to_yes P (range_with_len 0 i) i c.loop-time.wrong r c.loop-time.invariant (λ e. w.if-time-ne1.true (omega (arith, time, e))) (w.wrong-is ∙ w.saturating_add-wrong.ensures)
-      | else-time-ne1 w ↦ up_to_no P (range_with_len 0 i) i c.loop-time.wrong r c.loop-time.invariant (λ h. h (let one = w.if-time-ne1.false in omega (arith, time, one))) w.wrong-is
-    ])
+pub loop-from-preserved : goal.loop-from-preserved
+loop-from-preserved c =
+    let P = IsWrongEntry (entries c.args.outcomes.now) in
+    let from = c.loop-from.from in
+    let times = c.loop-from.times in
+    let n = c.min-length.result in
+    let least = c.min-length.ensures in
+    let less = c.loop-from-test.true in
+    let before = c.loop-from.invariant in
+    let here = c.wrong_behind-here.ensures in
+    let taken : length (take n times) ≡ n = length-take-le n times (omega (arith, least)) in
+    let same = here.length in
+    let left = length-drop n times in
+    let all = length-append c.wrong_behind-here.new.times (drop n times) in
+    let whole = before.length in
+    record {
+      within = omega (arith, least, less);
+      length = all ∙ omega (arith, same, taken, left, whole, least);
+      counted =
+          subst (λ xs. CountsUpTo P xs c.saturating_add-wrong.result) (sym (range-append_from_zero from n))
+          (up_to_append P (range_with_len 0 from) (range_with_len from n) c.loop-from.wrong c.wrong_behind-here.result c.saturating_add-wrong.result before.counted
+          (subst (λ k. CountsUpTo P (range_with_len from k) c.wrong_behind-here.result) taken here.counted) c.saturating_add-wrong.ensures);
+    }

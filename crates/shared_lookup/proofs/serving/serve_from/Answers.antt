@@ -16,32 +16,38 @@ new-shared-requires g c = named_itself g.K.NamesTable.table c.args.opened.0.plac
 pub run_threads-requires-clause-seats : goal.run_threads-requires-clause-seats
 run_threads-requires-clause-seats g c κs lives = readers_named g.K.NamesTable.table c.args.opened.0.place c.args.opened.1.items c.requires.named c.requires.seats
 
-pub meet_all-requires-clause-heard : goal.meet_all-requires-clause-heard
-meet_all-requires-clause-heard g c =
+pub meet_all-ledger-requires-clause-heard : goal.meet_all-ledger-requires-clause-heard
+meet_all-ledger-requires-clause-heard g c =
     let back = c.in_ok-returned in
     let table = g.K.NamesTable.table in
-    heard_named table c.args.opened.0.place c.into_ledger-ledger.result.place c.deref-3.result.now back.returned.heard.items c.requires.named c.into_ledger-ledger.ensures
-    (subst (λ ks. AreHeard table ks back.returned.heard.items) (c.deref-2.ensures.value ∙ sym c.deref-3.ensures.value) back.ensures.heard)
+    heard_named table c.args.opened.0.place c.into_ledger-ledger.result.place c.deref-4.result.now back.returned.heard.items c.requires.named c.into_ledger-ledger.ensures
+    (subst (λ ks. AreHeard table ks back.returned.heard.items) (c.deref-3.ensures.value ∙ sym c.deref-4.ensures.value) back.ensures.heard)
 
 pub returns-clause-found : goal.returns-clause-found
 returns-clause-found g c =
-    let out = c.in_ok-ledger in
-    subst (λ log. EachIsFoundIn log out.answers.items) (ap (λ (l : LedgerState). l.log) (sym out.ensures.same) ∙ sym c.into_log.ensures) out.ensures.found
+    let out = c.meet_all-ledger in
+    subst (λ log. EachIsFoundIn log out.result.1.items) (ap (λ (l : LedgerState). l.log) (sym out.ensures.same) ∙ sym c.into_log.ensures) out.ensures.found
 
 pub returns-clause-wrong : goal.returns-clause-wrong
 returns-clause-wrong g c =
     let catalog = c.args.c.now in
     let outcomes = c.in_ok-returned.returned.outcomes.items in
-    let log = c.in_ok-ledger.ledger.log in
-    let wrong = c.in_ok-wrong.wrong in
-    subst (λ (us : List Update). IsWrongCount catalog c.args.changes.items outcomes c.in_ok-ledger.answers.items us wrong) (sym c.into_log.ensures)
-    (subst (λ (xs : List (Vec Answer)). IsWrongCount catalog c.args.changes.items outcomes xs log wrong) c.deref-6.ensures.value
-    (subst (λ (xs : List (Vec ChangeOutcome)). IsWrongCount catalog c.args.changes.items xs c.deref-6.result.now log wrong) c.deref-5.ensures.value
-    (subst (λ (xs : List (Vec Change)). IsWrongCount catalog xs c.deref-5.result.now c.deref-6.result.now log wrong) c.deref-4.ensures.value c.in_ok-wrong.ensures.counted)))
+    let log = c.meet_all-ledger.result.0.log in
+    let wrong = c.wrong_count-wrong.result in
+    subst (λ (us : List Update). IsWrongCount catalog c.args.changes.items outcomes c.meet_all-ledger.result.1.items us wrong) (sym c.into_log.ensures)
+    (subst (λ (xs : List (Vec Answer)). IsWrongCount catalog c.args.changes.items outcomes xs log wrong) c.deref-7.ensures.value
+    (subst (λ (xs : List (Vec ChangeOutcome)). IsWrongCount catalog c.args.changes.items xs c.deref-7.result.now log wrong) c.deref-6.ensures.value
+    (subst (λ (xs : List (Vec Change)). IsWrongCount catalog xs c.deref-6.result.now c.deref-7.result.now log wrong) c.deref-5.ensures.value c.wrong_count-wrong.ensures)))
 
-pub wrong_count-requires : goal.wrong_count-requires
-wrong_count-requires g c =
+pub wrong_count-wrong-requires-clause-same : goal.wrong_count-wrong-requires-clause-same
+wrong_count-wrong-requires-clause-same g c =
     let back = c.in_ok-returned in
-    let made = each_as_long c.args.c.now c.deref.result.now back.returned.outcomes.items back.ensures.outcomes in
-    subst (λ xs. AreAsLong xs c.deref-5.result.now) (c.deref.ensures.value ∙ sym c.deref-4.ensures.value)
-    (subst (AreAsLong c.deref.result.now) (sym c.deref-5.ensures.value) made)
+    let made = each_as_long c.args.c.now c.deref-2.result.now back.returned.outcomes.items back.ensures.outcomes in
+    subst (λ xs. AreAsLong xs c.deref-6.result.now) (c.deref-2.ensures.value ∙ sym c.deref-5.ensures.value)
+    (subst (AreAsLong c.deref-2.result.now) (sym c.deref-6.ensures.value) made)
+
+pub wrong_count-wrong-requires-clause-found : goal.wrong_count-wrong-requires-clause-found
+wrong_count-wrong-requires-clause-found g c =
+    let out = c.meet_all-ledger in
+    subst (λ (l : LedgerState). EachIsFoundIn l.log c.deref-7.result.now) (sym out.ensures.same)
+    (subst (λ (xs : List (Vec Answer)). EachIsFoundIn c.into_ledger-ledger.result.log xs) (sym c.deref-7.ensures.value) out.ensures.found)

@@ -2,7 +2,6 @@ use Rattle.std.proofs.Common.{◌≡◌, ◌∙◌, ◌++◌, ◌∷◌, [], ℕ
 use Rattle.std.specs.Prelude.{slice_get}
 use Rattle.std.proofs.lemmas.Option.{get_or_from_slice_get}
 use Rattle.facts.proofs.Lists.{slice_get-push_cases}
-use Rattle.latch_core.specs.declared.updates.Update.{Update}
 use Rattle.shared_lookup.specs.declared.served.Answer.{Answer}
 use Rattle.shared_lookup.specs.Servings.{AreFoundIn, IsAnswerTo}
 use Rattle.shared_lookup.proofs.FoundLemmas.{found_more}

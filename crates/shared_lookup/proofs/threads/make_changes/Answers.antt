@@ -1,6 +1,5 @@
-use Rattle.std.proofs.Common.{◌≡◌, ◌≤◌, length, Some, subst, sym, arith}
+use Rattle.std.proofs.Common.{arith}
 use Rattle.std.proofs.lemmas.Option.{slice_get_within}
-use Rattle.shared_lookup.specs.Servings.{HasOutcomes}
 use Rattle.shared_lookup.proofs.threads.make_changes.Goals as goal
 
 pub returns : goal.returns

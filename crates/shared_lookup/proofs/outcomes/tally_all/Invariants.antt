@@ -1,11 +1,11 @@
 use Rattle.std.proofs.Common.{◌≡◌, length, take}
 use Rattle.shared_lookup.specs.Checks.{AreTallied}
 use Rattle.shared_lookup.specs.Servings.{entries}
-use Rattle.shared_lookup.proofs.outcomes.tallied.Given as goal
+use Rattle.shared_lookup.proofs.outcomes.tally_all.Given as goal
 
 abbrev pub invariant-loop-list : goal.invariant-loop-list
 invariant-loop-list l =
     record {
-      length : length l.times.items ≡ l.count;
-      tallied : AreTallied (entries (take l.list-index l.outcomes)) l.times.items;
+      length : length l.times ≡ length l.fn.times;
+      tallied : AreTallied l.from (entries (take l.list-index l.outcomes)) l.times;
     }

@@ -1,0 +1,7 @@
+use Rattle.std.specs.List.{range_with_len}
+use Rattle.shared_lookup.specs.Counts.{CountsUpTo}
+use Rattle.shared_lookup.specs.Servings.{IsWrongEntry, entries}
+use Rattle.shared_lookup.proofs.outcomes.wrong_behind.Given as goal
+
+abbrev pub invariant-loop-time : goal.invariant-loop-time
+invariant-loop-time l = CountsUpTo (IsWrongEntry (entries l.outcomes)) (range_with_len l.from l.time-index) l.wrong
