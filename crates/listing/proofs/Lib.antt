@@ -16,10 +16,8 @@ pub mod ModuleLineLemmas
 pub mod SymbolLineLemmas
 -- what the digits that are left say of a numeral
 pub mod NumberLemmas
--- words of another number than that of a form are not of this form
+-- how many words a form has
 pub mod FormLemmas
--- one line more
-pub mod StepLemmas
 -- what is said of the bytes of a text, where these are all that its reader had
 pub mod ReadLemmas
 -- a table of digits

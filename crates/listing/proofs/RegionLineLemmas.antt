@@ -1,5 +1,5 @@
 -- What a line of a listing of regions is.
-use Rattle.std.proofs.Common.{cond, ◌≡◌, ◌≢◌, ℕ, ◌<◌, slice_index_or, Bool, true, false, nat_lt, List, [], ◌∷◌, length, map, Option, Some, None, Result, Ok, Err, MatchResult, inl, inr, refl, sym, ap, ◌∙◌, subst, arith, Bor}
+use Rattle.std.proofs.Common.{cond, ◌≡◌, ℕ, ◌<◌, ◌≤◌, Bool, true, false, nat_lt, List, [], ◌∷◌, length, map, Option, Some, None, Result, Ok, Err, MatchResult, inl, inr, refl, sym, ap, ◌∙◌, subst, arith}
 use Rattle.std.specs.Prelude.{All, IfOk}
 use Rattle.std.specs.Global.{Vec}
 use Rattle.std.specs.List.{filter_map, cons_option}
@@ -13,7 +13,7 @@ use Rattle.listing.specs.declared.said.Said.{Said}
 use Rattle.listing.specs.declared.said.Said.TheVariants.{Nothing, One, Bad}
 use Rattle.listing.specs.Lines.{words_of}
 use Rattle.listing.specs.Numbers.{number_of}
-use Rattle.listing.specs.RegionListing.{is_regions_header, part_of, regions_of_lines, region_by, region_of_parts, region_of_words, region_with}
+use Rattle.listing.specs.RegionListing.{is_regions_header, part_of, regions_of_lines, region_by, region_of_parts, region_of_words}
 use Rattle.listing.specs.Said.{entries_from, GivesInGrammar, is_passed_over, is_too_long}
 use Rattle.listing.specs.Understood.{entry_by, AreSaidBy, IsFirstBadFrom, IsFirstBadRegion, IsRegionListingBy}
 use Rattle.listing.proofs.UnderstoodLemmas.{are_entries}
@@ -21,25 +21,22 @@ use Rattle.listing.proofs.FormLemmas.{Words}
 
 -- ---- words of another number
 
-pub no_region : (words : Words) → length words ≢ 4 → region_of_words (map (λ w. w.now) words) ≡ None
-no_region [] other = refl
-no_region (a ∷ []) other = refl
-no_region (a ∷ b ∷ []) other = refl
-no_region (a ∷ b ∷ c ∷ []) other = refl
-no_region (a ∷ b ∷ c ∷ d ∷ []) other = absurd (other refl)
-no_region (a ∷ b ∷ c ∷ d ∷ e ∷ words) other = refl
+pub region_short : (words : Words) → length words < 4 → region_of_words (map (λ w. w.now) words) ≡ None
+region_short [] few = refl
+region_short (a ∷ []) few = refl
+region_short (a ∷ b ∷ []) few = refl
+region_short (a ∷ b ∷ c ∷ []) few = refl
+region_short (a ∷ b ∷ c ∷ d ∷ words) few = absurd (omega arith)
 
-pub region_of_four : (words : Words) (w : Bor (List ℕ)) → length words ≡ 4
-    → region_with (slice_index_or words 0 w).now (slice_index_or words 1 w).now (slice_index_or words 2 w).now (slice_index_or words 3 w).now
-    ≡ region_of_words (map (λ w. w.now) words)
-region_of_four [] w four = absurd (omega arith)
-region_of_four (a ∷ []) w four = absurd (omega arith)
-region_of_four (a ∷ b ∷ []) w four = absurd (omega arith)
-region_of_four (a ∷ b ∷ c ∷ []) w four = absurd (omega arith)
-region_of_four (a ∷ b ∷ c ∷ d ∷ []) w four = refl
-region_of_four (a ∷ b ∷ c ∷ d ∷ e ∷ words) w four = absurd (omega arith)
+pub region_long : (words : Words) → 5 ≤ length words → region_of_words (map (λ w. w.now) words) ≡ None
+region_long [] many = absurd (omega arith)
+region_long (a ∷ []) many = absurd (omega arith)
+region_long (a ∷ b ∷ []) many = absurd (omega arith)
+region_long (a ∷ b ∷ c ∷ []) many = absurd (omega arith)
+region_long (a ∷ b ∷ c ∷ d ∷ []) many = absurd (omega arith)
+region_long (a ∷ b ∷ c ∷ d ∷ e ∷ words) many = refl
 
-pub regions_too_long : (words : List (List ℕ)) → 5 < length words → region_of_words words ≡ None
+pub regions_too_long : (words : List (List ℕ)) → 4 < length words → region_of_words words ≡ None
 regions_too_long [] many = refl
 regions_too_long (a ∷ []) many = refl
 regions_too_long (a ∷ b ∷ []) many = refl

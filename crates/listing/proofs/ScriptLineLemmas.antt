@@ -1,5 +1,5 @@
 -- What a line of a script is.
-use Rattle.std.proofs.Common.{cond, ◌≡◌, ◌≢◌, ℕ, ◌<◌, slice_index_or, Bool, true, false, nat_lt, List, [], ◌∷◌, length, map, Option, Some, None, Result, Ok, Err, MatchResult, refl, sym, ap, ◌∙◌, subst, arith, Bor}
+use Rattle.std.proofs.Common.{cond, ◌≡◌, ℕ, ◌<◌, ◌≤◌, Bool, true, false, nat_lt, List, [], ◌∷◌, length, map, Option, Some, None, Result, Ok, Err, MatchResult, refl, sym, ap, ◌∙◌, subst, arith}
 use Rattle.std.specs.Prelude.{All, IfOk, codes}
 use Rattle.std.specs.Global.{Vec}
 use Rattle.std.specs.List.{filter_map, cons_option}
@@ -14,30 +14,27 @@ use Rattle.listing.specs.declared.scripts.ScriptLine.TheVariants.{Load, Unload, 
 use Rattle.listing.specs.Lines.{words_of}
 use Rattle.listing.specs.Numbers.{between, number_of}
 use Rattle.listing.specs.Said.{entries_from, GivesInGrammar, is_passed_over, is_too_long}
-use Rattle.listing.specs.Scripts.{change_by, change_named, has_actor, lies_between, look_with, most_writers, script_line_by, script_line_of, script_line_with}
+use Rattle.listing.specs.Scripts.{change_by, change_named, has_actor, lies_between, look_with, most_writers, script_line_by, script_line_of}
 use Rattle.listing.specs.Understood.{entry_by, AreSaidBy, IsFirstBadFrom}
 use Rattle.listing.proofs.UnderstoodLemmas.{are_entries}
 use Rattle.listing.proofs.FormLemmas.{Words}
 
 -- ---- words of another number
 
-pub no_line : (readers : ℕ) (words : Words) → length words ≢ 3 → script_line_of readers (map (λ w. w.now) words) ≡ None
-no_line readers [] other = refl
-no_line readers (a ∷ []) other = refl
-no_line readers (a ∷ b ∷ []) other = refl
-no_line readers (a ∷ b ∷ c ∷ []) other = absurd (other refl)
-no_line readers (a ∷ b ∷ c ∷ d ∷ words) other = refl
+pub line_short : (readers : ℕ) (words : Words) → length words < 3 → script_line_of readers (map (λ w. w.now) words) ≡ None
+line_short readers [] few = refl
+line_short readers (a ∷ []) few = refl
+line_short readers (a ∷ b ∷ []) few = refl
+line_short readers (a ∷ b ∷ c ∷ words) few = absurd (omega arith)
 
-pub line_of_three : (readers : ℕ) (words : Words) (w : Bor (List ℕ)) → length words ≡ 3
-    → script_line_with readers (slice_index_or words 0 w).now (slice_index_or words 1 w).now (slice_index_or words 2 w).now
-    ≡ script_line_of readers (map (λ w. w.now) words)
-line_of_three readers [] w three = absurd (omega arith)
-line_of_three readers (a ∷ []) w three = absurd (omega arith)
-line_of_three readers (a ∷ b ∷ []) w three = absurd (omega arith)
-line_of_three readers (a ∷ b ∷ c ∷ []) w three = refl
-line_of_three readers (a ∷ b ∷ c ∷ d ∷ words) w three = absurd (omega arith)
+pub line_long : (readers : ℕ) (words : Words) → 4 ≤ length words → script_line_of readers (map (λ w. w.now) words) ≡ None
+line_long readers [] many = absurd (omega arith)
+line_long readers (a ∷ []) many = absurd (omega arith)
+line_long readers (a ∷ b ∷ []) many = absurd (omega arith)
+line_long readers (a ∷ b ∷ c ∷ []) many = absurd (omega arith)
+line_long readers (a ∷ b ∷ c ∷ d ∷ words) many = refl
 
-pub line_too_long : (readers : ℕ) (words : List (List ℕ)) → 5 < length words → script_line_of readers words ≡ None
+pub line_too_long : (readers : ℕ) (words : List (List ℕ)) → 3 < length words → script_line_of readers words ≡ None
 line_too_long readers [] many = refl
 line_too_long readers (a ∷ []) many = refl
 line_too_long readers (a ∷ b ∷ []) many = refl

@@ -4,29 +4,26 @@
 ghost use Rattle.std.specs.Prelude.{◌≡◌, ◌≢◌, ◌≤◌, ◌<◌, Err, IfSome, IsErrOf};
 ghost use Rattle.listing.specs.Counted.{device_of, failures_of, Rose};
 ghost use Rattle.listing.specs.Numbers.{number_of};
-ghost use Rattle.listing.specs.Said.{said_by, Gives, GivesInGrammar};
+ghost use Rattle.listing.specs.Said.{Gives};
 ghost use Rattle.listing.specs.Addresses.{addresses_of};
 
-use crate::lines::cut_line;
 use crate::numbers::number;
-use crate::said::{Said, is_passed_over, is_too_long};
+use crate::said::{Form, entries_in};
 use crate::{Counted, LineFault, read_whole};
-use std::alloc::Global;
+use std::alloc::{AllocError, Global};
 use std::io::Read;
 
-/// What a line says.
-fn said_by(line: &[u8]) -> Said<u64>
-    ensures { result ≡ said_by number_of line.now }
-{
-    if is_too_long(line) {
-        return Said::Bad;
-    }
-    if is_passed_over(line) {
-        return Said::Nothing;
-    }
-    match number(line) {
-        Some(addr) => Said::One(addr),
-        None => Said::Bad,
+/// The form of a line that is an address.
+#[derive(Drop)]
+struct AddressForm;
+
+impl<'a> Form<'a> for AddressForm {
+    type Entry = u64;
+
+    ghost entry_of = { λ _ line. number_of line };
+
+    fn entry(&self, line: &'a [u8]) -> Result<Option<u64>, AllocError> {
+        Ok(number(line))
     }
 }
 
@@ -49,25 +46,5 @@ pub fn read_addresses<R: Read>(
     ensures never_falls { failures_of reader.old ≤ failures_of reader.new }
 {
     let bytes = read_whole(alloc, reader)?;
-    addresses_in(alloc, &bytes)
-}
-
-/// The addresses that the lines are.
-fn addresses_in(alloc: Global, bytes: &[u8]) -> Result<Vec<u64>, LineFault>
-    ensures { GivesInGrammar (λ addresses. addresses.items) result (addresses_of bytes.now) }
-{
-    let mut addresses = Vec::new(alloc);
-    let mut rest = bytes;
-    let mut number = 1u64;
-    while !rest.is_empty() {
-        let (line, after) = cut_line(rest);
-        match said_by(line) {
-            Said::Nothing => {}
-            Said::One(addr) => addresses.push(addr)?,
-            Said::Bad => return Err(LineFault::BadLine(number)),
-        }
-        rest = after;
-        number += 1;
-    }
-    Ok(addresses)
+    entries_in(alloc, &AddressForm, 1, &bytes)
 }

@@ -62,7 +62,7 @@ pub(crate) fn header_in(line: &[u8]) -> Option<Header>
     if is_too_long(line) {
         return None;
     }
-    header_in_words(&words_in(line)?)
+    header_in_words(&words_in::<5>(line)?)
 }
 
 #[tactic(auto, using(crate::proofs::FormLemmas::header_short, crate::proofs::FormLemmas::header_long))]

@@ -32,18 +32,15 @@ pub(crate) fn cut_word(line: &[u8]) -> (&[u8], Option<&[u8]>)
     }
 }
 
-/// The most words that a line of fixed length has.
-const MOST_WORDS: usize = 5;
-
-/// The words of a line that has at most so many.
+/// The words of a line that has at most `N` of them.
 #[tactic(auto, using(crate::proofs::LineCutLemmas::some_word))]
-pub(crate) fn words_in<'a>(line: &'a [u8]) -> Option<ArrayVec<&'a [u8], MOST_WORDS>>
+pub(crate) fn words_in<'a, const N: usize>(line: &'a [u8]) -> Option<ArrayVec<&'a [u8], N>>
     ensures some { IfSome result (λ words. map (λ w. w.now) words.items ≡ words_of line.now) }
-    ensures none { IfNone result (5 < length (words_of line.now)) }
+    ensures none { IfNone result (N < length (words_of line.now)) }
 {
     let mut words = ArrayVec::new();
     let mut rest = line;
-    for _ in 0..MOST_WORDS {
+    for _ in 0..N {
         let (word, after) = cut_word(rest);
         words.push(word);
         match after {

@@ -11,21 +11,17 @@
 //!
 //! The parts have exactly one blank between them, and names any bytes but a blank.
 ghost use Rattle.std.specs.Prelude.{◌≡◌, true, All, map, IfOk};
-ghost use Rattle.listing.specs.Lines.{lines_of, words_of};
-ghost use Rattle.listing.specs.Said.{entries_from, said_by, GivesInGrammar};
-ghost use Rattle.listing.specs.RegionListing.{part_of, placed_region, region_by, region_of_words};
-ghost use Rattle.listing.specs.RegionListing.{region_with, regions_of_text};
+ghost use Rattle.listing.specs.Said.{GivesInGrammar};
+ghost use Rattle.listing.specs.RegionListing.{part_of, placed_region, region_by};
+ghost use Rattle.listing.specs.RegionListing.{region_of_words, regions_of_text};
 ghost use Rattle.modules.specs.Lines.{region_fits};
 
 use crate::LineFault;
 use crate::lines::{cut_line, words_in};
 use crate::numbers::number;
-use crate::said::{Said, is_passed_over, is_too_long};
+use crate::said::{Form, entries_in};
 use modules::{Part, RegionLine};
-use std::alloc::Global;
-
-/// How many words the line of a region has.
-const REGION_WORDS: usize = 4;
+use std::alloc::{AllocError, Global};
 
 /// The part of a module that a word names.
 fn part_named(word: &[u8]) -> Option<Part>
@@ -40,31 +36,29 @@ fn part_named(word: &[u8]) -> Option<Part>
     }
 }
 
-/// The region of these words, where each of them is one and there is a region there.
-fn make_region<'a>(name: &'a [u8], part: &[u8], base: &[u8], size: &[u8]) -> Option<RegionLine<'a>>
-    ensures { result ≡ region_with name.now part.now base.now size.now }
+/// The region, where there is one of so many bytes at its address.
+fn placed(region: RegionLine<'_>) -> Option<RegionLine<'_>>
+    ensures { result ≡ placed_region region.entry }
 {
-    if name.is_empty() {
-        return None;
-    }
-    let region = RegionLine {
-        name,
-        part: part_named(part)?,
-        base: number(base)?,
-        size: number(size)?,
-    };
     if region.fits() { Some(region) } else { None }
 }
 
 /// The region that these words are.
-#[tactic(auto, using(crate::proofs::RegionLineLemmas::region_of_four, crate::proofs::RegionLineLemmas::no_region))]
 fn region_in_words<'a>(words: &[&'a [u8]]) -> Option<RegionLine<'a>>
     ensures { result ≡ region_of_words (map (λ w. w.now) words.now) }
 {
-    if words.len() != REGION_WORDS {
+    let [name, part, base, size] = words else {
+        return None;
+    };
+    if name.is_empty() {
         return None;
     }
-    make_region(words[0], words[1], words[2], words[3])
+    placed(RegionLine {
+        name,
+        part: part_named(part)?,
+        base: number(base)?,
+        size: number(size)?,
+    })
 }
 
 /// The region that a line is.
@@ -72,22 +66,20 @@ fn region_in_words<'a>(words: &[&'a [u8]]) -> Option<RegionLine<'a>>
 fn region_in<'a>(line: &'a [u8]) -> Option<RegionLine<'a>>
     ensures { result ≡ region_by line.now }
 {
-    region_in_words(&words_in(line)?)
+    region_in_words(&words_in::<4>(line)?)
 }
 
-/// What a line after the first says.
-fn said_by<'a>(line: &'a [u8]) -> Said<RegionLine<'a>>
-    ensures { result ≡ said_by region_by line.now }
-{
-    if is_too_long(line) {
-        return Said::Bad;
-    }
-    if is_passed_over(line) {
-        return Said::Nothing;
-    }
-    match region_in(line) {
-        Some(region) => Said::One(region),
-        None => Said::Bad,
+/// The form of a line after the first.
+#[derive(Drop)]
+struct RegionForm;
+
+impl<'a> Form<'a> for RegionForm {
+    type Entry = RegionLine<'a>;
+
+    ghost entry_of = { λ _ line. region_by line };
+
+    fn entry(&self, line: &'a [u8]) -> Result<Option<RegionLine<'a>>, AllocError> {
+        Ok(region_in(line))
     }
 }
 
@@ -111,26 +103,5 @@ pub fn read_regions<'a>(alloc: Global, text: &'a [u8]) -> Result<Vec<RegionLine<
     if first != b"latchregions 1".as_slice() {
         return Err(LineFault::BadLine(1));
     }
-    regions_in(alloc, rest)
-}
-
-/// The regions that the lines after the first are.
-fn regions_in<'a>(alloc: Global, text: &'a [u8]) -> Result<Vec<RegionLine<'a>>, LineFault>
-    ensures { GivesInGrammar (λ regions. regions.items) result
-        (entries_from region_by 2 (lines_of text.now)) }
-{
-    let mut regions = Vec::new(alloc);
-    let mut rest = text;
-    let mut number = 2u64;
-    while !rest.is_empty() {
-        let (line, after) = cut_line(rest);
-        match said_by(line) {
-            Said::Nothing => {}
-            Said::One(region) => regions.push(region)?,
-            Said::Bad => return Err(LineFault::BadLine(number)),
-        }
-        rest = after;
-        number += 1;
-    }
-    Ok(regions)
+    entries_in(alloc, &RegionForm, 2, rest)
 }

@@ -1,9 +1,27 @@
-//! What a line says, of a text of which each line has to be understood.
+//! What the lines of a text say, each of which has to be understood.
+ghost use Rattle.std.specs.Prelude.{◌≡◌, length, IfOk};
+ghost use Rattle.listing.specs.Lines.{lines_of};
+ghost use Rattle.listing.specs.Said.{entries_from, is_passed_over, is_too_long, said_by};
+ghost use Rattle.listing.specs.Said.{GivesInGrammar};
 
-ghost use Rattle.std.specs.Prelude.{◌≡◌, length};
-ghost use Rattle.listing.specs.Said.{is_passed_over, is_too_long};
+use crate::LineFault;
+use crate::lines::{LONGEST_LINE, cut_line};
+use std::alloc::{AllocError, Global};
 
-use crate::lines::LONGEST_LINE;
+/// A form of lines.
+pub(crate) trait Form<'a> {
+    ghost use Rattle.std.specs.Prelude.{ℕ, List, Option};
+
+    /// What a line of this form is.
+    type Entry: Drop;
+
+    /// The entry that the bytes of a line are, if they are one.
+    ghost entry_of: { Self → List ℕ → Option Self.Entry };
+
+    /// The entry that a line is, if it is one.
+    fn entry(&self, line: &'a [u8]) -> Result<Option<Self::Entry>, AllocError>
+        ensures { IfOk result (λ entry. entry ≡ entry_of self.now line.now) };
+}
 
 /// What a line says.
 #[derive(Debug, Drop)]
@@ -24,11 +42,53 @@ pub(crate) fn is_too_long(line: &[u8]) -> bool
 }
 
 /// Whether the line is empty, or a comment: a line whose first byte is `#`.
-pub(crate) fn is_passed_over(line: &[u8]) -> bool
+fn is_passed_over(line: &[u8]) -> bool
     ensures { result ≡ is_passed_over line.now }
 {
     match line {
         [] => true,
         [first, ..] => *first == b'#',
     }
+}
+
+/// What a line says, in a text whose lines have this form.
+fn said_by<'a, F: Form<'a>>(form: &F, line: &'a [u8]) -> Result<Said<F::Entry>, AllocError>
+    ensures { IfOk result (λ said. said ≡ said_by (F.entry_of form.now) line.now) }
+{
+    if is_too_long(line) {
+        return Ok(Said::Bad);
+    }
+    if is_passed_over(line) {
+        return Ok(Said::Nothing);
+    }
+    match form.entry(line)? {
+        Some(entry) => Ok(Said::One(entry)),
+        None => Ok(Said::Bad),
+    }
+}
+
+/// The entries that the lines of a text are, in their order. The first line has the number `first`.
+pub(crate) fn entries_in<'a, F: Form<'a>>(
+    alloc: Global,
+    form: &F,
+    first: u32,
+    text: &'a [u8],
+) -> Result<Vec<F::Entry>, LineFault>
+    ensures { GivesInGrammar (λ entries. entries.items) result
+        (entries_from (F.entry_of form.now) first (lines_of text.now)) }
+{
+    let mut entries = Vec::new(alloc);
+    let mut rest = text;
+    let mut number = u64::from(first);
+    while !rest.is_empty() {
+        let (line, after) = cut_line(rest);
+        match said_by(form, line)? {
+            Said::Nothing => {}
+            Said::One(entry) => entries.push(entry)?,
+            Said::Bad => return Err(LineFault::BadLine(number)),
+        }
+        rest = after;
+        number += 1;
+    }
+    Ok(entries)
 }

@@ -11,24 +11,19 @@
 //! A line has three words with exactly one blank between two of them. The actor is the number of a
 //! writer or of a reader, and names are any bytes but a blank.
 ghost use Rattle.std.specs.Prelude.{◌≡◌, true, All, map, IfOk};
-ghost use Rattle.listing.specs.Lines.{lines_of, words_of};
-ghost use Rattle.listing.specs.Numbers.{between, number_of};
-ghost use Rattle.listing.specs.Said.{entries_from, said_by, GivesInGrammar};
-ghost use Rattle.listing.specs.Scripts.{change_by, has_actor, look_with, script_line_by};
-ghost use Rattle.listing.specs.Scripts.{script_line_of, script_line_with, script_of};
+ghost use Rattle.listing.specs.Said.{GivesInGrammar};
+ghost use Rattle.listing.specs.Scripts.{change_by, has_actor, script_line_by, script_line_of};
+ghost use Rattle.listing.specs.Scripts.{script_of};
 
 use crate::LineFault;
-use crate::lines::{cut_line, words_in};
+use crate::lines::words_in;
 use crate::numbers::{number, number_up_to};
-use crate::said::{Said, is_passed_over, is_too_long};
-use std::alloc::Global;
+use crate::said::{Form, entries_in};
+use std::alloc::{AllocError, Global};
 use std::marker::Model;
 
 /// The greatest number of a writer.
 pub const MOST_WRITERS: u32 = 8;
-
-/// How many words a line has.
-const LINE_WORDS: usize = 3;
 
 /// The name of a module, any bytes of the text that was read; `-` is the built-in region.
 #[derive(Debug, Drop)]
@@ -57,8 +52,8 @@ pub enum ScriptLine<'a> {
     Look { reader: u32, address: u64 },
 }
 
-/// `load W NAME`, `unload W NAME` and `init W NAME`
-fn make_change<'a>(verb: &[u8], writer: u32, name: &'a [u8]) -> Option<ScriptLine<'a>>
+/// What `load`, `unload` or `init` has this writer do with the module of this name.
+fn change_in<'a>(verb: &[u8], writer: u32, name: &'a [u8]) -> Option<ScriptLine<'a>>
     ensures { result ≡ change_by verb.now writer name.now }
 {
     if name.is_empty() {
@@ -76,37 +71,18 @@ fn make_change<'a>(verb: &[u8], writer: u32, name: &'a [u8]) -> Option<ScriptLin
     }
 }
 
-/// `look R ADDR`
-fn make_look<'a>(reader: &[u8], address: &[u8], readers: u32) -> Option<ScriptLine<'a>>
-    ensures { result
-        ≡ look_with (between 1 readers (number_of reader.now)) (number_of address.now) }
-{
-    Some(ScriptLine::Look {
-        reader: number_up_to(reader, readers)?,
-        address: number(address)?,
-    })
-}
-
-/// What these three words have an actor do.
-fn make_line<'a>(verb: &[u8], actor: &[u8], what: &'a [u8], readers: u32) -> Option<ScriptLine<'a>>
-    ensures { result ≡ script_line_with readers verb.now actor.now what.now }
-{
-    if verb == b"look".as_slice() {
-        make_look(actor, what, readers)
-    } else {
-        make_change(verb, number_up_to(actor, MOST_WRITERS)?, what)
-    }
-}
-
 /// What these words have an actor do.
-#[tactic(auto, using(crate::proofs::ScriptLineLemmas::line_of_three, crate::proofs::ScriptLineLemmas::no_line))]
 fn line_in_words<'a>(words: &[&'a [u8]], readers: u32) -> Option<ScriptLine<'a>>
     ensures { result ≡ script_line_of readers (map (λ w. w.now) words.now) }
 {
-    if words.len() != LINE_WORDS {
-        return None;
+    match words {
+        [verb, actor, what] if *verb == b"look".as_slice() => Some(ScriptLine::Look {
+            reader: number_up_to(actor, readers)?,
+            address: number(what)?,
+        }),
+        [verb, actor, what] => change_in(verb, number_up_to(actor, MOST_WRITERS)?, what),
+        _ => None,
     }
-    make_line(words[0], words[1], words[2], readers)
 }
 
 /// What a line has an actor do.
@@ -114,22 +90,22 @@ fn line_in_words<'a>(words: &[&'a [u8]], readers: u32) -> Option<ScriptLine<'a>>
 fn line_in<'a>(line: &'a [u8], readers: u32) -> Option<ScriptLine<'a>>
     ensures { result ≡ script_line_by readers line.now }
 {
-    line_in_words(&words_in(line)?, readers)
+    line_in_words(&words_in::<3>(line)?, readers)
 }
 
-/// What a line says.
-fn said_by<'a>(line: &'a [u8], readers: u32) -> Said<ScriptLine<'a>>
-    ensures { result ≡ said_by (script_line_by readers) line.now }
-{
-    if is_too_long(line) {
-        return Said::Bad;
-    }
-    if is_passed_over(line) {
-        return Said::Nothing;
-    }
-    match line_in(line, readers) {
-        Some(entry) => Said::One(entry),
-        None => Said::Bad,
+/// The form of a line, where there are so many readers.
+#[derive(Drop)]
+struct ScriptForm {
+    readers: u32,
+}
+
+impl<'a> Form<'a> for ScriptForm {
+    type Entry = ScriptLine<'a>;
+
+    ghost entry_of = { λ form line. script_line_by form.readers line };
+
+    fn entry(&self, line: &'a [u8]) -> Result<Option<ScriptLine<'a>>, AllocError> {
+        Ok(line_in(line, self.readers))
     }
 }
 
@@ -150,18 +126,5 @@ pub fn read_script<'a>(
     ensures lines { GivesInGrammar (λ lines. lines.items) result (script_of readers text.now) }
     ensures actors { IfOk result (λ lines. All (λ l. has_actor readers l ≡ true) lines.items) }
 {
-    let mut lines = Vec::new(alloc);
-    let mut rest = text;
-    let mut number = 1u64;
-    while !rest.is_empty() {
-        let (line, after) = cut_line(rest);
-        match said_by(line, readers) {
-            Said::Nothing => {}
-            Said::One(entry) => lines.push(entry)?,
-            Said::Bad => return Err(LineFault::BadLine(number)),
-        }
-        rest = after;
-        number += 1;
-    }
-    Ok(lines)
+    entries_in(alloc, &ScriptForm { readers }, 1, text)
 }

@@ -1,15 +1,13 @@
 //! Trace files: a header, and the commands of a run.
 ghost use Rattle.std.specs.Prelude.{◌≡◌, ◌≢◌, ◌≤◌, ◌<◌, Err, IfSome, IsErrOf};
 ghost use Rattle.listing.specs.Counted.{device_of, failures_of, Rose};
-ghost use Rattle.listing.specs.Lines.{lines_of};
-ghost use Rattle.listing.specs.Said.{entries_from, Gives, GivesInGrammar};
-ghost use Rattle.listing.specs.Commands.{command_by};
+ghost use Rattle.listing.specs.Said.{Gives, GivesInGrammar};
 ghost use Rattle.listing.specs.Trace.{trace_of, contents_of};
 
-use crate::commands::said_by;
-use crate::header::{Header, Version, header_in};
+use crate::commands::CommandForm;
+use crate::header::{Header, header_in};
 use crate::lines::cut_line;
-use crate::said::Said;
+use crate::said::entries_in;
 use crate::{Counted, LineFault, read_whole};
 use latch_steps::Command;
 use std::alloc::Global;
@@ -57,32 +55,10 @@ fn trace_in(alloc: Global, bytes: &[u8]) -> Result<TraceFile, LineFault>
     let Some(header) = header_in(line) else {
         return Err(LineFault::BadLine(1));
     };
-    let commands = commands_in(alloc, header.version, rest)?;
+    let form = CommandForm {
+        alloc,
+        version: header.version,
+    };
+    let commands = entries_in(alloc, &form, 2, rest)?;
     Ok(TraceFile { header, commands })
-}
-
-/// The commands that the lines after the header are.
-fn commands_in(
-    alloc: Global,
-    version: Version,
-    bytes: &[u8],
-) -> Result<Vec<Command<u64>>, LineFault>
-    ensures { GivesInGrammar (λ commands. commands.items) result
-        (entries_from (command_by version) 2 (lines_of bytes.now)) }
-{
-    let mut commands = Vec::new(alloc);
-    let mut rest = bytes;
-    let mut number = 2u64;
-    while !rest.is_empty() {
-        let (line, after) = cut_line(rest);
-        let said = said_by(alloc, version, line)?;
-        match said {
-            Said::Nothing => {}
-            Said::One(command) => commands.push(command)?,
-            Said::Bad => return Err(LineFault::BadLine(number)),
-        }
-        rest = after;
-        number += 1;
-    }
-    Ok(commands)
 }

@@ -5,7 +5,7 @@ use Rattle.listing.proofs.lines.words_in.Given as goal
 
 -- the words so far, and those that are left
 abbrev pub invariant-loop : goal.invariant-loop
-invariant-loop l = record {
+invariant-loop g l = record {
   cut : map (λ w. w.now) l.words.items ++ words_of l.rest ≡ words_of l.line;
   counted : array_vec_len l.words ≡ l.counter;
   all : length l.words.items ≡ l.counter;
