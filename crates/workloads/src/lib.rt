@@ -6,11 +6,11 @@
 #![tactic(auto)]
 
 pub mod observers;
-mod ranges;
 pub mod schedules;
+mod slots;
 #[cfg(test)]
 mod tests;
 
 pub use observers::{Observer, Tally};
-pub use ranges::{Random, addresses, numbers, ranges, shuffle};
 pub use schedules::Schedule;
+pub use slots::{Random, addresses, numbers, ranges, shuffle};

@@ -1,5 +1,5 @@
 use Rattle.std.proofs.Common.{◌≡◌, length}
-use Rattle.workloads.proofs.ranges.Given as goal
+use Rattle.workloads.proofs.slots.ranges.Given as goal
 
 abbrev pub invariant-loop-slot : goal.invariant-loop-slot
 invariant-loop-slot l = length l.all.items ≡ l.slot
