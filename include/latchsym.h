@@ -19,8 +19,9 @@
  * - Calls that are not marked "handler" are not made in the forked child of a process with threads.
  *
  * A closed handle where an open one is wanted is no fault: the call returns LATCHSYM_BAD_HANDLE.
- * So is an open one where a closed one is wanted. A second close does nothing. A call that is
- * refused changes nothing but what is said of it here.
+ * So is an open one where a closed one is wanted, and, past a cast, one that holds something else
+ * than the call is of. A second close does nothing. A call that is refused changes nothing but what
+ * is said of it here.
  *
  * From a signal handler only the calls marked "handler" may be made, each with handles that no call
  * which the signal interrupts has: they take no memory. It is proved that they return rightly where
@@ -29,18 +30,24 @@
  */
 #ifndef LATCHSYM_H
 #define LATCHSYM_H
-#include <stdbool.h>
+#include <assert.h>
 #include <stddef.h>
 #include <stdint.h>
 #ifdef __cplusplus
 extern "C" {
 #endif
 
-/* What a handle holds is the library's own. */
-struct latchsym_handle { bool is_open; struct { void *at; bool is_open; } inside; };
+/* What a handle holds is the library's own. The library has one type of handle; its three names
+ * here let the compiler tell a catalog, a writer and a reader apart. */
+struct latchsym_handle { uint32_t kind; void *at; };
 struct latchsym_catalog { struct latchsym_handle handle; };
 struct latchsym_writer { struct latchsym_handle handle; };
 struct latchsym_reader { struct latchsym_handle handle; };
+#if (defined(__cplusplus) ? __cplusplus >= 201103L : __STDC_VERSION__ >= 201112L)
+static_assert(sizeof(struct latchsym_catalog) == sizeof(struct latchsym_handle), "one handle");
+static_assert(sizeof(struct latchsym_writer) == sizeof(struct latchsym_handle), "one handle");
+static_assert(sizeof(struct latchsym_reader) == sizeof(struct latchsym_handle), "one handle");
+#endif
 
 /* What calls return. Numbers from 1 to 14 of a call that opens, begins or enlarges are refusals. */
 enum {
@@ -61,7 +68,7 @@ enum {
     LATCHSYM_BAD_CAPACITY = 10, /* nodes not 1 to 65536 or fewer than before; readers not 1 to 64 */
     LATCHSYM_TOO_MANY_REGIONS = 14, /* more than 7 region lines have one name */
     LATCHSYM_BAD_LINE = 15,         /* a line of the listing of regions is not one */
-    LATCHSYM_BAD_HANDLE = 101       /* closed where open is wanted, or the other way round */
+    LATCHSYM_BAD_HANDLE = 101 /* closed where open is wanted, the other way round, or of others */
 };
 
 /* How many lines of each listing went where, as `latchsym lookup` prints them. */

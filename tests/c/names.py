@@ -1,12 +1,9 @@
 """Compares what the library finds with the lines of examples/listings: names.py liblatchsym.so FOLDER"""
 import ctypes, pathlib, sys
-from ctypes import POINTER, byref, c_bool, c_size_t, c_uint32, c_uint64, c_void_p
-
-class Inside(ctypes.Structure):
-    _fields_ = [("at", c_void_p), ("is_open", c_bool)]
+from ctypes import POINTER, byref, c_size_t, c_uint32, c_uint64, c_void_p
 
 class Handle(ctypes.Structure):
-    _fields_ = [("is_open", c_bool), ("inside", Inside)]
+    _fields_ = [("kind", c_uint32), ("at", c_void_p)]
 
 COUNTS = ("modules modules_hidden modules_empty modules_wraps modules_overlap modules_double modules_long "
           "modules_malformed symbols symbols_hidden symbols_stray symbols_long symbols_malformed regions "
@@ -65,7 +62,7 @@ def compare(folder, name):
     else:
         got = lib.latchsym_catalog_open_with_regions(modules, len(modules), kallsyms, len(kallsyms), regions,
                                                      len(regions), catalog, counts, bad)
-    assert got == 0 and catalog.is_open, (name, got)
+    assert got == 0 and catalog.kind == 1, (name, got)
     assert lib.latchsym_catalog_share(catalog, other) == 0
     lib.latchsym_catalog_close(catalog)
     lib.latchsym_catalog_close(catalog)
@@ -99,7 +96,7 @@ def short_rooms_and_a_table(catalog):
 def a_bad_line():
     bad, handle = c_uint64(), Handle()
     got = lib.latchsym_catalog_open_with_regions(b"", 0, b"", 0, b"latchregions 1\nx\n", 17, handle, Counts(), bad)
-    assert got == 15 and bad.value == 2 and not handle.is_open
+    assert got == 15 and bad.value == 2 and handle.kind == 0
 
 folder = pathlib.Path(sys.argv[2])
 for path in sorted(folder.glob("*.modules")):

@@ -1,11 +1,12 @@
 /* The table by its calls: an update step by step, three readers on threads beside the writer, a batch, a larger
- * table, closed handles, and a timer's signal that looks up between the writer's calls and inside them. */
+ * table, closed handles and those of other kinds, and a timer's signal that looks up between the writer's calls and inside them. */
 #define _GNU_SOURCE
 #include <latchsym.h>
 #include <pthread.h>
 #include <signal.h>
 #include <stdio.h>
 #include <stdlib.h>
+#include <string.h>
 #include <sys/time.h>
 
 #define CHECK(x) do { if (!(x)) { printf("table: line %d: %s\n", __LINE__, #x); exit(1); } } while (0)
@@ -42,6 +43,32 @@ static void closed_handles(void) {
     CHECK(latchsym_reader_try_find(&none, 1, &found) == LATCHSYM_BAD_HANDLE && found.generation == 4);
     latchsym_reader_close(&none);
     latchsym_writer_close(&writer);
+}
+
+/* An open handle of another kind, past a cast: refused, and nothing is written. */
+static void handles_of_other_kinds(void) {
+    struct latchsym_found found = {1, 2, 3, 4};
+    struct latchsym_symbol symbol = {1, 2, 3, 4, 5};
+    struct latchsym_handle both[2] = {writer.handle, readers[0].handle};
+    struct latchsym_writer *no_writer = (struct latchsym_writer *)&readers[0];
+    struct latchsym_reader *no_reader = (struct latchsym_reader *)&writer;
+    struct latchsym_catalog *no_catalog = (struct latchsym_catalog *)&writer;
+    struct latchsym_catalog closed = {0};
+    uint64_t generation = 9;
+    uint8_t name[1] = {7}, module[1] = {8};
+    CHECK(latchsym_writer_step(no_writer) == LATCHSYM_BAD_HANDLE);
+    CHECK(latchsym_writer_finish(no_writer, &generation) == LATCHSYM_BAD_HANDLE && generation == 9);
+    CHECK(latchsym_writer_begin_insert(no_writer, &first) == LATCHSYM_BAD_HANDLE);
+    CHECK(latchsym_writer_begin_erase(no_writer, 1) == LATCHSYM_BAD_HANDLE);
+    CHECK(latchsym_writer_begin_batch(no_writer, &generation, 0, &first, 1) == LATCHSYM_BAD_HANDLE);
+    CHECK(latchsym_writer_find(no_writer, 1, &found) == LATCHSYM_BAD_HANDLE && found.a == 1);
+    CHECK(latchsym_reader_try_find(no_reader, 1, &found) == LATCHSYM_BAD_HANDLE && found.a == 1);
+    CHECK(latchsym_table_enlarge(8, no_writer, no_reader, 1) == LATCHSYM_BAD_HANDLE);
+    CHECK(latchsym_catalog_find(no_catalog, 1, &symbol, name, 1, module, 1) == LATCHSYM_BAD_HANDLE);
+    CHECK(latchsym_reader_find_name(&readers[0], no_catalog, 1, &found, &symbol, name, 1, module, 1) == LATCHSYM_BAD_HANDLE);
+    CHECK(found.a == 1 && symbol.offset == 2 && name[0] == 7 && module[0] == 8);
+    CHECK(latchsym_catalog_share(no_catalog, &closed) == LATCHSYM_BAD_HANDLE && !closed.handle.at);
+    CHECK(!memcmp(&both[0], &writer, sizeof writer) && !memcmp(&both[1], &readers[0], sizeof readers[0]));
 }
 
 static void an_update_by_its_steps(void) {
@@ -181,6 +208,7 @@ int main(int argc, char **argv) {
     CHECK(latchsym_table_open(8, &writer, readers, 0) == LATCHSYM_BAD_CAPACITY);
     CHECK(latchsym_table_open(8, &writer, readers, READERS) == LATCHSYM_DONE);
     CHECK(latchsym_table_open(8, &writer, readers, READERS) == LATCHSYM_BAD_HANDLE);
+    handles_of_other_kinds();
     an_update_by_its_steps();
     int k = beside_threads(3);
     if (signals) k = beside_signals(beside_signals(k, 1, signals), 0, signals);

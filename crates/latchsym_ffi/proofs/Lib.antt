@@ -1,7 +1,5 @@
--- the machine values of a box that is out of its place, and of the handles
+-- the machine values of a box that is out of its place, and of the pointer to content
 pub mod LooseValues
-pub mod CatalogHandleValues
-pub mod WriterHandleValues
-pub mod ReaderHandleValues
+pub mod PointerValues
 -- handles may go to other threads
 mod Sent

@@ -1,16 +1,17 @@
--- A handle may go to another thread where what it holds may. Assumes nothing.
-use mathlib.Core.Bool.{Bool, true, false}
+-- A pointer may go to another thread where the content may. Assumes nothing.
+use Rattle.std.specs.Prelude.{Option, Some, None}
 use mir.Raw.{raw}
 use base.Shift.{Keyless}
-use denote.RattleType.{RattleType}
 use denote.Memory.{lone}
 use denote.Param.Send.{IsSend}
 use denote.RawPtr.{Ptr}
 use Rattle.std.specs.Global.{Global}
 use Rattle.std.proofs.Crossing as heap
 use Rattle.std_alloc.proofs.SendSync.{lies}
-use Rattle.latchsym_ffi.specs.Owning.{owns_if}
+use Rattle.latchsym_ffi.specs.Owning.{owns_content}
+use Rattle.latchsym_ffi.specs.declared.contents.Content.{Content}
+use Rattle.latchsym_ffi.specs.contracts.contents.Content.{the_row}
 
-pub owned_keyless : (R : RattleType) → IsSend R → (y : Bool) (a : Global) (p : Ptr) (x : R.Denot) → Keyless (owns_if y a R p x)
-owned_keyless R s true a p x = (lies R s p x, heap.frees.frees a (raw (lone R.mir)) p)
-owned_keyless R s false a p x = tt
+pub owned_keyless : IsSend the_row → (a : Global) (p : Ptr) (x : Option Content) → Keyless (owns_content a p x)
+owned_keyless s a p None = tt
+owned_keyless s a p (Some x) = (lies the_row s p x, heap.frees.frees a (raw (lone the_row.mir)) p)

@@ -1,7 +1,9 @@
 -- What the calls on catalogs return.
-use Rattle.std.specs.Prelude.{◌≡◌, ℕ, ◌⊎◌, List, true, false, Some, None, Err}
-use Rattle.latchsym_ffi.specs.declared.catalog_slots.CatalogSlot.{CatalogSlot}
+use Rattle.std.specs.Prelude.{◌≡◌, ℕ, ◌⊎◌, List, Some, None, Err}
+use Rattle.modules.specs.Entries.{CatalogEntries}
+use Rattle.latchsym_ffi.specs.declared.handles.Handle.{Handle}
 use Rattle.latchsym_ffi.specs.declared.opening.CatalogCounts.{CatalogCounts}
+use Rattle.latchsym_ffi.specs.Handles.{HoldsCatalog}
 use Rattle.latchsym_ffi.specs.Opening.{AreRead, HasTooManyRegionLines, ListingTexts}
 use Rattle.latchsym_ffi.specs.Opening.{region_lines_of_text}
 
@@ -13,9 +15,9 @@ abbrev pub three_texts : List ℕ → List ℕ → List ℕ → ListingTexts
 three_texts modules kallsyms regions =
     record (two_texts modules kallsyms) { regions = Some regions }
 
--- the slot was closed, and now holds the catalog of the texts, with their counts
-abbrev pub OpensCatalog : ListingTexts → CatalogSlot → CatalogSlot → CatalogCounts → Type 0
-OpensCatalog t s s' n = (s.is_open ≡ false) × (s'.is_open ≡ true) × AreRead t s'.handle.value n
+-- the handle was closed, and now holds the catalog of the texts, with their counts
+abbrev pub OpensCatalog : ListingTexts → Handle → Handle → CatalogCounts → Type 0
+OpensCatalog t h h' n = (h.kind ≡ 0) × ((c : CatalogEntries) × HoldsCatalog c h' × AreRead t c n)
 
 -- a refusal as out of memory, of too many region lines, or of a bad line of the listing of regions
 abbrev pub RefusesCatalog : ListingTexts → ℕ → ℕ → Type 0
@@ -23,7 +25,3 @@ RefusesCatalog t bad result =
     (result ≡ 7)
     ⊎ ((result ≡ 14) × HasTooManyRegionLines t)
     ⊎ ((result ≡ 15) × (region_lines_of_text t.regions ≡ Err bad))
-
--- the slot holds what it held
-abbrev pub Stays : CatalogSlot → CatalogSlot → Type 0
-Stays s s' = (s'.is_open ≡ s.is_open) × (s.is_open ≡ true → s'.handle.value ≡ s.handle.value)

@@ -1,5 +1,5 @@
 -- What the enlarging of a table gives.
-use Rattle.std.specs.Prelude.{◌≡◌, ℕ, ◌<◌, ◌≤◌, ◌⊎◌, true, All, List, length}
+use Rattle.std.specs.Prelude.{◌≡◌, ℕ, ◌<◌, ◌≤◌, ◌⊎◌, All, List, length}
 use Rattle.order_laws.specs.declared.refusals.Refusal.{Refusal}
 use Rattle.order_laws.specs.declared.refusals.Refusal.TheVariants.{BadCapacity}
 use Rattle.order_laws.specs.Refusals.{refusal_number}
@@ -8,12 +8,14 @@ use Rattle.word_layout.specs.Limits.{most_nodes}
 use Rattle.latch_table.specs.Enlarging.{Enlarges, RefusesEnlarging, reader_beside}
 use Rattle.latch_table.specs.Readers.{ReaderState}
 use Rattle.latch_table.specs.Writers.{WriterState}
-use Rattle.latchsym_ffi.specs.declared.reader_slots.ReaderSlot.{ReaderSlot}
-use Rattle.latchsym_ffi.specs.Tables.{HoldsReader, IsWide}
+use Rattle.latchsym_ffi.specs.declared.handles.Handle.{Handle}
+use Rattle.latchsym_ffi.specs.Handles.{HoldsReader}
+use Rattle.latchsym_ffi.specs.Kinds.{reader_kind}
+use Rattle.latchsym_ffi.specs.Tables.{IsWide}
 
--- as many slots as the writer has readers, and all of them open
-abbrev pub AreItsReaders : WriterState → List ReaderSlot → Type 0
-AreItsReaders w slots = (length slots ≡ w.readers) × All (λ s. s.is_open ≡ true) slots
+-- as many handles as the writer has readers, and a reader in each
+abbrev pub AreItsReaders : WriterState → List Handle → Type 0
+AreItsReaders w handles = (length handles ≡ w.readers) × All (λ h. h.kind ≡ reader_kind) handles
 
 -- the writer goes on with so many nodes, and with these readers
 pub record IsMoved (nodes : ℕ) (w w' : WriterState) (readers : List ReaderState) : Type 0 where
@@ -21,11 +23,11 @@ pub record IsMoved (nodes : ℕ) (w w' : WriterState) (readers : List ReaderStat
   pub wide : IsWide nodes layout
   pub enlarges : Enlarges w layout w' readers
 
--- the same, and each of the slots holds such a reader
-pub record IsEnlarged (nodes : ℕ) (w w' : WriterState) (slots : List ReaderSlot) : Type 0 where
+-- the same, and each of the handles holds such a reader
+pub record IsEnlarged (nodes : ℕ) (w w' : WriterState) (handles : List Handle) : Type 0 where
   pub readers : List ReaderState
   pub moved : IsMoved nodes w w' readers
-  pub each : All (HoldsReader (reader_beside w')) slots
+  pub each : All (HoldsReader (reader_beside w')) handles
 
 -- the number of nodes is none of a table, or else the writer refuses them
 abbrev pub RefusesMoving : ℕ → WriterState → Refusal → Type 0
@@ -33,9 +35,9 @@ RefusesMoving nodes w e =
     ((e ≡ BadCapacity) × ((0 < nodes) × (nodes ≤ most_nodes) → ⊥))
     ⊎ ((l : Layout) × IsWide nodes l × RefusesEnlarging w l e)
 
--- the slots are not those of its readers, or else the number is that of such a refusal
-abbrev pub RefusesNodes : ℕ → WriterState → List ReaderSlot → ℕ → Type 0
-RefusesNodes nodes w slots result =
-    ((result ≡ 101) × (AreItsReaders w slots → ⊥))
-    ⊎ (AreItsReaders w slots
+-- the handles are not those of its readers, or else the number is that of such a refusal
+abbrev pub RefusesNodes : ℕ → WriterState → List Handle → ℕ → Type 0
+RefusesNodes nodes w handles result =
+    ((result ≡ 101) × (AreItsReaders w handles → ⊥))
+    ⊎ (AreItsReaders w handles
     × ((e : Refusal) × (result ≡ refusal_number e) × RefusesMoving nodes w e))

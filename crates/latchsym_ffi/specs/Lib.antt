@@ -1,8 +1,10 @@
 -- The definitions of this crate, in the order in which to read them.
+-- the numbers of the kinds of content
+pub mod Kinds
 -- what a handle owns
 pub mod Owning
--- what an open slot holds
-pub mod Slots
+-- what a handle holds
+pub mod Handles
 -- what the bytes of the listings say
 pub mod Opening
 -- what is known of an address, and what is told of it

@@ -1,5 +1,5 @@
 -- What the opening of a table gives.
-use Rattle.std.specs.Prelude.{◌≡◌, ℕ, ◌≤◌, ◌<◌, ◌⊎◌, true, false, All, List, length, vec_len}
+use Rattle.std.specs.Prelude.{◌≡◌, ℕ, ◌≤◌, ◌<◌, ◌⊎◌, All, List, length, vec_len}
 use Rattle.atomic_table.specs.Seated.{TableId}
 use Rattle.word_layout.specs.declared.layouts.Layout.{Layout}
 use Rattle.word_layout.specs.Layouts.{capacity_of, limit_of}
@@ -10,32 +10,28 @@ use Rattle.latch_table.specs.Readers.{ReaderState, new_reader}
 use Rattle.latch_table.specs.Seats.{first_knowledge}
 use Rattle.latch_table.specs.Writers.{new_writer}
 use Rattle.latchsym_ffi.specs.declared.opening_tables.Boxes.{Boxes}
-use Rattle.latchsym_ffi.specs.declared.reader_slots.ReaderSlot.{ReaderSlot}
-use Rattle.latchsym_ffi.specs.declared.writer_slots.WriterSlot.{WriterSlot}
+use Rattle.latchsym_ffi.specs.declared.contents.Content.TheVariants.{Reader, Writer}
+use Rattle.latchsym_ffi.specs.declared.handles.Handle.{Handle}
+use Rattle.latchsym_ffi.specs.Handles.{HoldsReader, HoldsWriter}
 
 -- a layout of so many nodes with 64-bit sequences
 abbrev pub IsWide : ℕ → Layout → Type 0
 IsWide nodes l = (capacity_of l ≡ nodes) × (limit_of l ≡ greatest_wide_sequence)
 
--- the slots of a writer and of its readers are all closed
-abbrev pub AreClosed : WriterSlot → List ReaderSlot → Type 0
-AreClosed w readers = (w.is_open ≡ false) × All (λ s. s.is_open ≡ false) readers
+-- the handles for a writer and for its readers are all closed
+abbrev pub AreClosed : Handle → List Handle → Type 0
+AreClosed w readers = (w.kind ≡ 0) × All (λ h. h.kind ≡ 0) readers
 
 -- a reader of the empty table at a place
 abbrev pub first_reader : TableId → Layout → ReaderState
 first_reader place l = new_reader place (first_knowledge (Start l 0))
 
--- the slot holds this reader
-abbrev pub HoldsReader : ReaderState → ReaderSlot → Type 0
-HoldsReader r s = (s.is_open ≡ true) × (s.handle.value.inner ≡ r)
-
--- an empty table of so many nodes, with its writer in one slot and a reader in each of the others
-pub record IsOpenedTable (nodes : ℕ) (w : WriterSlot) (readers : List ReaderSlot) : Type 0 where
+-- an empty table of so many nodes: its writer in one handle, and a reader in each of the others
+pub record IsOpenedTable (nodes : ℕ) (w : Handle) (readers : List Handle) : Type 0 where
   pub place : TableId
   pub layout : Layout
   pub wide : IsWide nodes layout
-  pub is_open : w.is_open ≡ true
-  pub writer : w.handle.value.inner ≡ new_writer place layout 0 (length readers)
+  pub writer : HoldsWriter (new_writer place layout 0 (length readers)) w
   pub each : All (HoldsReader (first_reader place layout)) readers
 
 -- the same, in boxes
@@ -43,9 +39,9 @@ pub record AreOpened (nodes readers : ℕ) (b : Boxes) : Type 0 where
   pub place : TableId
   pub layout : Layout
   pub wide : IsWide nodes layout
-  pub writer : b.writer.value.inner ≡ new_writer place layout 0 readers
+  pub writer : b.writer.value ≡ Writer (new_writer place layout 0 readers)
   pub count : vec_len b.readers ≡ readers
-  pub each : All (λ x. x.value.inner ≡ first_reader place layout) b.readers.items
+  pub each : All (λ x. x.value ≡ Reader (first_reader place layout)) b.readers.items
 
 -- the numbers of nodes and readers are from 1 up to the most of a table
 abbrev pub AreInRange : ℕ → ℕ → Type 0
@@ -57,8 +53,8 @@ abbrev pub RefusesTable : ℕ → ℕ → ℕ → Type 0
 RefusesTable nodes readers result =
     ((result ≡ 10) × (AreInRange nodes readers → ⊥)) ⊎ ((result ≡ 7) × AreInRange nodes readers)
 
--- one of the slots is open, or else the number is that of such a refusal
-abbrev pub RefusesSlots : ℕ → WriterSlot → List ReaderSlot → ℕ → Type 0
-RefusesSlots nodes w readers result =
+-- one of the handles is open, or else the number is that of such a refusal
+abbrev pub RefusesHandles : ℕ → Handle → List Handle → ℕ → Type 0
+RefusesHandles nodes w readers result =
     ((result ≡ 101) × (AreClosed w readers → ⊥))
     ⊎ (AreClosed w readers × RefusesTable nodes (length readers) result)

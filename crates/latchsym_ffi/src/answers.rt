@@ -6,5 +6,5 @@ pub(crate) const DONE: u32 = 0;
 /// A listing has a line that is not in its grammar.
 pub(crate) const BAD_LINE: u32 = 15;
 
-/// The slot is closed, or is open where a closed one is wanted.
+/// The handle holds nothing, or something else than is wanted.
 pub(crate) const BAD_HANDLE: u32 = 101;

@@ -1,18 +1,22 @@
 //! What C calls, of catalogs.
 
-ghost use Rattle.std.specs.Prelude.{◌≡◌, ◌≢◌, true, false};
-ghost use Rattle.latchsym_ffi.specs.Catalogs.{OpensCatalog, RefusesCatalog, Stays, three_texts};
+ghost use Rattle.std.specs.Prelude.{◌≡◌, ◌≢◌, IfOk};
+ghost use Rattle.modules.specs.Entries.{CatalogEntries};
+ghost use Rattle.latchsym_ffi.specs.Catalogs.{OpensCatalog, RefusesCatalog, three_texts};
 ghost use Rattle.latchsym_ffi.specs.Catalogs.{two_texts};
 ghost use Rattle.latchsym_ffi.specs.Finding.{answer_of, copied, known_at, known_code, owner_named};
 ghost use Rattle.latchsym_ffi.specs.Finding.{symbol_named};
+ghost use Rattle.latchsym_ffi.specs.Handles.{HoldsCatalog, Stays};
+ghost use Rattle.latchsym_ffi.specs.Kinds.{catalog_kind};
 ghost use Rattle.latchsym_ffi.specs.Opening.{RefusesTexts, shown_texts};
 
 use crate::answers::{BAD_HANDLE, BAD_LINE, DONE};
-use crate::catalog_slots::CatalogSlot;
+use crate::contents::{CATALOG, CLOSED, Content};
 use crate::finding::{CatalogAnswer, find};
+use crate::handles::Handle;
 use crate::opening::{CatalogCounts, CatalogFault, CatalogTexts, open_catalog};
 use order_laws::Refusal;
-use std::alloc::Global;
+use std::alloc::{AllocError, Global};
 
 /// Why a catalog was not opened, as a number, and the number of the bad line.
 fn refusal(_texts: &CatalogTexts, fault: CatalogFault, bad_line: &mut u64) -> u32
@@ -30,27 +34,27 @@ fn refusal(_texts: &CatalogTexts, fault: CatalogFault, bad_line: &mut u64) -> u3
     }
 }
 
-/// Opens the catalog of these texts in a closed slot.
+/// Opens the catalog of these texts in a closed handle.
 fn open_in(
     alloc: Global,
     texts: &CatalogTexts,
-    out: &mut CatalogSlot,
+    out: &mut Handle,
     counts: &mut CatalogCounts,
     bad_line: &mut u64,
 ) -> u32
     ensures opened { result ≡ 0 → OpensCatalog (shown_texts texts.now) out.old out.new counts.new }
     ensures refused { result ≢ 0 → (out.new ≡ out.old) × (counts.new ≡ counts.old) }
-    ensures not_so { out.old.is_open ≡ true → result ≡ 101 }
-    ensures why { out.old.is_open ≡ false → result ≢ 0
+    ensures not_so { out.old.kind ≢ 0 → result ≡ 101 }
+    ensures why { out.old.kind ≡ 0 → result ≢ 0
         → RefusesCatalog (shown_texts texts.now) bad_line.new result }
     ensures told { result ≢ 15 → bad_line.new ≡ bad_line.old }
 {
-    if out.is_open {
+    if out.kind != CLOSED {
         return BAD_HANDLE;
     }
     match open_catalog(alloc, texts) {
         Ok((content, counted)) => {
-            *out = CatalogSlot::open(alloc, content);
+            out.put(content);
             *counts = counted;
             DONE
         }
@@ -65,14 +69,14 @@ pub extern "C" fn latchsym_catalog_open(
     alloc: Global,
     modules: &'static [u8],
     kallsyms: &'static [u8],
-    out: &mut CatalogSlot,
+    out: &mut Handle,
     counts: &mut CatalogCounts,
 ) -> u32
     ensures opened { result ≡ 0
         → OpensCatalog (two_texts modules.now kallsyms.now) out.old out.new counts.new }
     ensures refused { result ≢ 0 → (out.new ≡ out.old) × (counts.new ≡ counts.old) }
-    ensures not_so { out.old.is_open ≡ true → result ≡ 101 }
-    ensures why { out.old.is_open ≡ false → result ≢ 0 → result ≡ 7 }
+    ensures not_so { out.old.kind ≢ 0 → result ≡ 101 }
+    ensures why { out.old.kind ≡ 0 → result ≢ 0 → result ≡ 7 }
 {
     let texts = CatalogTexts {
         modules,
@@ -90,7 +94,7 @@ pub extern "C" fn latchsym_catalog_open_with_regions(
     modules: &'static [u8],
     kallsyms: &'static [u8],
     regions: &'static [u8],
-    out: &mut CatalogSlot,
+    out: &mut Handle,
     counts: &mut CatalogCounts,
     bad_line: &mut u64,
 ) -> u32
@@ -98,8 +102,8 @@ pub extern "C" fn latchsym_catalog_open_with_regions(
         → OpensCatalog
         (three_texts modules.now kallsyms.now regions.now) out.old out.new counts.new }
     ensures refused { result ≢ 0 → (out.new ≡ out.old) × (counts.new ≡ counts.old) }
-    ensures not_so { out.old.is_open ≡ true → result ≡ 101 }
-    ensures why { out.old.is_open ≡ false → result ≢ 0
+    ensures not_so { out.old.kind ≢ 0 → result ≡ 101 }
+    ensures why { out.old.kind ≡ 0 → result ≢ 0
         → RefusesCatalog (three_texts modules.now kallsyms.now regions.now) bad_line.new result }
     ensures told { result ≢ 15 → bad_line.new ≡ bad_line.old }
 {
@@ -114,58 +118,71 @@ pub extern "C" fn latchsym_catalog_open_with_regions(
 /// Tells of an address, and copies as much of the names as there is room for.
 #[unsafe(no_mangle)]
 pub extern "C" fn latchsym_catalog_find(
-    catalog: &mut CatalogSlot,
+    catalog: &mut Handle,
     addr: u64,
     out: &mut CatalogAnswer,
     name: &mut [u8],
     owner: &mut [u8],
 ) -> u32
     ensures stays { Stays catalog.old catalog.new }
-    ensures code { catalog.old.is_open ≡ true
-        → result ≡ known_code (known_at catalog.old.handle.value addr) }
-    ensures answer { catalog.old.is_open ≡ true
-        → out.new ≡ answer_of catalog.old.handle.value (known_at catalog.old.handle.value addr) }
-    ensures name { catalog.old.is_open ≡ true
-        → name.new ≡ copied (symbol_named (known_at catalog.old.handle.value addr)) name.old }
-    ensures owner { let c = catalog.old.handle.value in
-        catalog.old.is_open ≡ true
+    ensures code { (c : CatalogEntries) → HoldsCatalog c catalog.old
+        → result ≡ known_code (known_at c addr) }
+    ensures answer { (c : CatalogEntries) → HoldsCatalog c catalog.old
+        → out.new ≡ answer_of c (known_at c addr) }
+    ensures name { (c : CatalogEntries) → HoldsCatalog c catalog.old
+        → name.new ≡ copied (symbol_named (known_at c addr)) name.old }
+    ensures owner { (c : CatalogEntries) → HoldsCatalog c catalog.old
         → owner.new ≡ copied (owner_named c (known_at c addr)) owner.old }
-    ensures closed { catalog.old.is_open ≡ false
-        → (result ≡ 101) × (out.new ≡ out.old) × (name.new ≡ name.old) × (owner.new ≡ owner.old) }
+    ensures other { catalog.old.kind ≢ catalog_kind → (result ≡ 101) × (catalog.new ≡ catalog.old)
+        × (out.new ≡ out.old) × (name.new ≡ name.old) × (owner.new ≡ owner.old) }
 {
-    if !catalog.is_open {
+    if catalog.kind != CATALOG {
         return BAD_HANDLE;
     }
     let content = catalog.take();
-    let result = find(content.indexed(), addr, out, name, owner);
-    *catalog = CatalogSlot::open(catalog.alloc, content);
+    let result = match &*content {
+        Content::Catalog(shared) => find(shared.indexed(), addr, out, name, owner),
+        _ => BAD_HANDLE,
+    };
+    catalog.put(content);
     result
+}
+
+/// The same catalog once more, in a box.
+fn shared_in(alloc: Global, content: &Content) -> Result<Box<Content, Global>, AllocError>
+    ensures { IfOk result (λ shared. shared.value ≡ content.now) }
+{
+    match content {
+        Content::Catalog(catalog) => Ok(Box::new(alloc, Content::Catalog(catalog.share()?))?),
+        _ => Err(AllocError),
+    }
 }
 
 /// Opens another handle of the same catalog, for another thread.
 #[unsafe(no_mangle)]
 pub extern "C" fn latchsym_catalog_share(
     alloc: Global,
-    catalog: &mut CatalogSlot,
-    out: &mut CatalogSlot,
+    catalog: &mut Handle,
+    out: &mut Handle,
 ) -> u32
     ensures stays { Stays catalog.old catalog.new }
-    ensures shared { result ≡ 0 → (catalog.old.is_open ≡ true) × (out.old.is_open ≡ false)
-        × (out.new.is_open ≡ true) × (out.new.handle.value ≡ catalog.old.handle.value) }
+    ensures shared { result ≡ 0 → (catalog.old.kind ≡ catalog_kind) × (out.old.kind ≡ 0)
+        × (out.new.pointer.content ≡ catalog.old.pointer.content) }
     ensures refused { result ≢ 0 → out.new ≡ out.old }
-    ensures closed { catalog.old.is_open ≡ false → result ≡ 101 }
-    ensures not_so { out.old.is_open ≡ true → result ≡ 101 }
-    ensures why { catalog.old.is_open ≡ true → out.old.is_open ≡ false → result ≢ 0 → result ≡ 7 }
+    ensures other { catalog.old.kind ≢ catalog_kind
+        → (result ≡ 101) × (catalog.new ≡ catalog.old) }
+    ensures not_so { out.old.kind ≢ 0 → (result ≡ 101) × (catalog.new ≡ catalog.old) }
+    ensures why { catalog.old.kind ≡ catalog_kind → out.old.kind ≡ 0 → result ≢ 0 → result ≡ 7 }
 {
-    if !catalog.is_open || out.is_open {
+    if catalog.kind != CATALOG || out.kind != CLOSED {
         return BAD_HANDLE;
     }
     let content = catalog.take();
-    let shared = content.share_in(alloc);
-    *catalog = CatalogSlot::open(catalog.alloc, content);
+    let shared = shared_in(alloc, &content);
+    catalog.put(content);
     match shared {
         Ok(shared) => {
-            *out = CatalogSlot::open(alloc, shared);
+            out.put(shared);
             DONE
         }
         Err(_) => Refusal::OutOfMemory.number(),
@@ -174,10 +191,8 @@ pub extern "C" fn latchsym_catalog_share(
 
 /// Closes a handle. The catalog goes with its last handle.
 #[unsafe(no_mangle)]
-pub extern "C" fn latchsym_catalog_close(catalog: &mut CatalogSlot)
-    ensures { catalog.new.is_open ≡ false }
+pub extern "C" fn latchsym_catalog_close(catalog: &mut Handle)
+    ensures { catalog.new.kind ≡ 0 }
 {
-    if catalog.is_open {
-        let _content = catalog.take();
-    }
+    catalog.close();
 }

@@ -2,48 +2,59 @@
 //!
 //! The readers' boxes are there already, so no request for memory is made after the writer moved.
 
-ghost use Rattle.std.specs.Prelude.{◌≡◌, ◌≢◌, ◌↔◌, All, IfOk, IfErr, OnErr, IsTrue, false, length};
-ghost use Rattle.std.specs.Prelude.{true, vec_len};
+ghost use Rattle.std.specs.Prelude.{◌≡◌, ◌≢◌, ◌↔◌, All, IfOk, IfErr, OnErr, IsTrue, length};
+ghost use Rattle.std.specs.Prelude.{vec_len};
 ghost use Rattle.latch_table.specs.Readers.{ReaderState};
+ghost use Rattle.latch_table.specs.Writers.{WriterState};
 ghost use Rattle.latchsym_ffi.specs.Enlarging.{AreItsReaders, IsEnlarged, IsMoved, RefusesMoving};
 ghost use Rattle.latchsym_ffi.specs.Enlarging.{RefusesNodes};
-ghost use Rattle.latchsym_ffi.specs.Tables.{HoldsReader};
-ghost use Rattle.latchsym_ffi.specs.Slots.{writer_in};
+ghost use Rattle.latchsym_ffi.specs.Handles.{HoldsReader, HoldsWriter, WriterGoes};
+ghost use Rattle.latchsym_ffi.specs.Kinds.{reader_kind, writer_kind};
 
 use crate::answers::{BAD_HANDLE, DONE};
-use crate::reader_slots::ReaderSlot;
-use crate::writer_slots::WriterSlot;
+use crate::contents::{Content, READER, WRITER};
+use crate::handles::Handle;
 use latch_table::{Reader, Writer};
 use order_laws::{HalfOpen, Refusal};
 use std::alloc::Global;
 use word_layout::Layout;
 
-/// Whether all of the slots are open.
-fn all_open(slots: &[ReaderSlot]) -> bool
-    ensures { IsTrue result ↔ All (λ s. s.is_open ≡ true) slots.now }
+/// Whether all of the handles hold a reader.
+fn all_readers(handles: &[Handle]) -> bool
+    ensures { IsTrue result ↔ All (λ h. h.kind ≡ reader_kind) handles.now }
 {
-    slots.iter().all(|slot| slot.is_open)
+    handles.iter().all(|handle| handle.kind == READER)
 }
 
-/// Whether the slots are as many as the writer has readers, and all open.
-fn are_its_readers(writer: &Writer<HalfOpen>, slots: &[ReaderSlot]) -> bool
-    ensures { IsTrue result ↔ AreItsReaders writer.now slots.now }
+/// Whether the handles are as many as the writer has readers, and each holds a reader.
+fn are_its_readers(writer: &Writer<HalfOpen>, handles: &[Handle]) -> bool
+    ensures { IsTrue result ↔ AreItsReaders writer.now handles.now }
 {
-    slots.len() == writer.readers() as usize && all_open(slots)
+    handles.len() == writer.readers() as usize && all_readers(handles)
 }
 
-/// Puts a reader of these in each slot, in place of the one that it holds.
-fn replace_readers(slots: &mut [ReaderSlot], readers: Vec<Reader<HalfOpen>>)
-    requires count { vec_len readers ≡ length slots.old }
-    requires open { All (λ s. s.is_open ≡ true) slots.old }
-    ensures count { length slots.new ≡ length slots.old }
+/// Puts a reader in place of the one that the handle holds, in the same box.
+fn replace_reader(handle: &mut Handle, reader: Reader<HalfOpen>)
+    requires { handle.old.kind ≡ reader_kind }
+    ensures { HoldsReader reader handle.new }
+{
+    let mut content = handle.take();
+    *content = Content::Reader(reader);
+    handle.put(content);
+}
+
+/// Puts a reader of these in each handle, in place of the one that it holds.
+fn replace_readers(handles: &mut [Handle], readers: Vec<Reader<HalfOpen>>)
+    requires count { vec_len readers ≡ length handles.old }
+    requires open { All (λ h. h.kind ≡ reader_kind) handles.old }
+    ensures count { length handles.new ≡ length handles.old }
     ensures each { (r : ReaderState) → All (λ x. x ≡ r) readers.items
-        → All (HoldsReader r) slots.new }
+        → All (HoldsReader r) handles.new }
 {
     let mut readers = readers;
-    for place in 0..slots.len() {
+    for place in 0..handles.len() {
         if let Some(reader) = readers.pop() {
-            slots[place].replace_reader(reader);
+            replace_reader(&mut handles[place], reader);
         }
     }
 }
@@ -63,12 +74,7 @@ fn move_writer(
 }
 
 /// Lets the writer go on with so many nodes, and its readers with it.
-fn enlarge(
-    alloc: Global,
-    nodes: u32,
-    writer: &mut Writer<HalfOpen>,
-    readers: &mut [ReaderSlot],
-) -> u32
+fn enlarge(alloc: Global, nodes: u32, writer: &mut Writer<HalfOpen>, readers: &mut [Handle]) -> u32
     ensures enlarged { result ≡ 0 → AreItsReaders writer.old readers.old
         × IsEnlarged nodes writer.old writer.new readers.new }
     ensures count { length readers.new ≡ length readers.old }
@@ -93,25 +99,27 @@ fn enlarge(
 pub extern "C" fn latchsym_table_enlarge(
     alloc: Global,
     nodes: u32,
-    writer: &mut WriterSlot,
-    readers: &mut [ReaderSlot],
+    writer: &mut Handle,
+    readers: &mut [Handle],
 ) -> u32
-    ensures open { writer.new.is_open ≡ writer.old.is_open }
     ensures count { length readers.new ≡ length readers.old }
-    ensures enlarged { writer.old.is_open ≡ true → result ≡ 0
-        → AreItsReaders (writer_in writer.old) readers.old
-        × IsEnlarged nodes (writer_in writer.old) (writer_in writer.new) readers.new }
-    ensures unchanged { writer.old.is_open ≡ true → result ≢ 0
-        → (writer.new.handle.value ≡ writer.old.handle.value) × (readers.new ≡ readers.old) }
-    ensures why { writer.old.is_open ≡ true → result ≢ 0
-        → RefusesNodes nodes (writer_in writer.old) readers.old result }
-    ensures closed { writer.old.is_open ≡ false → (result ≡ 101) × (readers.new ≡ readers.old) }
+    ensures enlarged { result ≡ 0 → WriterGoes (λ w w'. AreItsReaders w readers.old
+        × IsEnlarged nodes w w' readers.new) writer.old writer.new }
+    ensures unchanged { (w : WriterState) → HoldsWriter w writer.old → result ≢ 0
+        → HoldsWriter w writer.new × (readers.new ≡ readers.old) }
+    ensures why { (w : WriterState) → HoldsWriter w writer.old → result ≢ 0
+        → RefusesNodes nodes w readers.old result }
+    ensures other { writer.old.kind ≢ writer_kind
+        → (result ≡ 101) × (writer.new ≡ writer.old) × (readers.new ≡ readers.old) }
 {
-    if !writer.is_open {
+    if writer.kind != WRITER {
         return BAD_HANDLE;
     }
     let mut content = writer.take();
-    let result = enlarge(alloc, nodes, &mut content.inner, readers);
-    *writer = WriterSlot::open(writer.alloc, content);
+    let result = match &mut *content {
+        Content::Writer(inner) => enlarge(alloc, nodes, inner, readers),
+        _ => BAD_HANDLE,
+    };
+    writer.put(content);
     result
 }

@@ -1,23 +1,26 @@
 //! What C calls, of lookups in a table.
 
-ghost use Rattle.std.specs.Prelude.{◌≡◌, ◌⊎◌, Option, true, false};
+ghost use Rattle.std.specs.Prelude.{◌≡◌, ◌≢◌, ◌≤◌, ◌<◌, ◌⊎◌, IfSome, Option};
 ghost use Rattle.order_laws.specs.declared.items.Item.{Item};
 ghost use Rattle.order_laws.specs.Orders.{half_open};
 ghost use Rattle.latch_table.specs.declared.readers.Try.{Try};
 ghost use Rattle.latch_table.specs.Readers.{Tried};
 ghost use Rattle.latch_table.specs.Writers.{Finds};
-ghost use Rattle.latchsym_ffi.specs.Catalogs.{Stays};
+ghost use Rattle.modules.specs.Entries.{CatalogEntries};
+ghost use Rattle.latchsym_ffi.specs.Handles.{HoldsCatalog, HoldsReader, ReaderGoes, Stays};
+ghost use Rattle.latchsym_ffi.specs.Handles.{WriterGoes};
+ghost use Rattle.latchsym_ffi.specs.Kinds.{catalog_kind, reader_kind, writer_kind};
+ghost use Rattle.latchsym_ffi.specs.Finding.{answer_of as told_of, copied, known_code, known_in};
+ghost use Rattle.latchsym_ffi.specs.Finding.{owner_named, symbol_named};
 ghost use Rattle.latchsym_ffi.specs.Lookups.{Copies, Names, Shows, answer_from, found_code};
 ghost use Rattle.latchsym_ffi.specs.Lookups.{name_code, try_code};
-ghost use Rattle.latchsym_ffi.specs.Slots.{reader_in, writer_in};
 
 use crate::answers::{BAD_HANDLE, DONE};
-use crate::catalog_slots::CatalogSlot;
+use crate::contents::{CATALOG, Content, READER, WRITER};
 use crate::finding::{CatalogAnswer, NOTHING, find_in};
-use crate::reader_slots::ReaderSlot;
-use crate::writer_slots::WriterSlot;
-use latch_table::Try;
-use order_laws::Item;
+use crate::handles::Handle;
+use latch_table::{Try, Writer};
+use order_laws::{HalfOpen, Item};
 
 /// The writer flipped meanwhile: another attempt is to be made.
 const RETRY: u32 = 3;
@@ -62,51 +65,70 @@ fn code_of(item: Option<Item>) -> u32
     }
 }
 
+/// The lookup of a writer, told with its number.
+fn find(writer: &mut Writer<HalfOpen>, addr: u64, out: &mut TableAnswer) -> u32
+    ensures { (x : Option Item) × Finds half_open writer.old addr writer.new (x, out.new.generation)
+        × (result ≡ found_code x) × (out.new ≡ answer_from x out.new.generation) }
+{
+    let (item, generation) = writer.find(addr);
+    *out = answer_of(item, generation);
+    code_of(item)
+}
+
 /// The writer's own lookup, even with a pending update: what readers find now.
 #[unsafe(no_mangle)]
-pub extern "C" fn latchsym_writer_find(
-    writer: &mut WriterSlot,
-    addr: u64,
-    out: &mut TableAnswer,
-) -> u32
-    ensures open { writer.new.is_open ≡ writer.old.is_open }
-    ensures found { writer.old.is_open ≡ true → (x : Option Item)
-        × Finds half_open (writer_in writer.old) addr (writer_in writer.new) (x, out.new.generation)
-        × (result ≡ found_code x) × (out.new ≡ answer_from x out.new.generation) }
-    ensures closed { writer.old.is_open ≡ false → (result ≡ 101) × (out.new ≡ out.old) }
+pub extern "C" fn latchsym_writer_find(writer: &mut Handle, addr: u64, out: &mut TableAnswer) -> u32
+    ensures found { WriterGoes (λ w w'. (x : Option Item)
+        × Finds half_open w addr w' (x, out.new.generation) × (result ≡ found_code x)
+        × (out.new ≡ answer_from x out.new.generation)) writer.old writer.new }
+    ensures other { writer.old.kind ≢ writer_kind
+        → (result ≡ 101) × (writer.new ≡ writer.old) × (out.new ≡ out.old) }
 {
-    if !writer.is_open {
+    if writer.kind != WRITER {
         return BAD_HANDLE;
     }
     let mut content = writer.take();
-    let (item, generation) = content.inner.find(addr);
-    *writer = WriterSlot::open(writer.alloc, content);
-    *out = answer_of(item, generation);
-    code_of(item)
+    let result = match &mut *content {
+        Content::Writer(inner) => find(inner, addr, out),
+        _ => BAD_HANDLE,
+    };
+    writer.put(content);
+    result
+}
+
+/// One attempt with the reader that a handle holds.
+fn try_find(reader: &mut Handle, addr: u64) -> Try
+    requires { reader.old.kind ≡ reader_kind }
+    ensures { ReaderGoes
+        (λ r r'. (r'.place ≡ r.place) × Tried half_open addr r.knowledge r'.knowledge result)
+        reader.old reader.new }
+{
+    let mut content = reader.take();
+    let tried = match &mut *content {
+        Content::Reader(inner) => inner.try_find(addr),
+        _ => Try::Retry,
+    };
+    reader.put(content);
+    tried
 }
 
 /// One attempt to find the item that an address lies in.
 #[unsafe(no_mangle)]
 pub extern "C" fn latchsym_reader_try_find(
-    reader: &mut ReaderSlot,
+    reader: &mut Handle,
     addr: u64,
     out: &mut TableAnswer,
 ) -> u32
-    ensures open { reader.new.is_open ≡ reader.old.is_open }
-    ensures place { reader.old.is_open ≡ true
-        → (reader_in reader.new).place ≡ (reader_in reader.old).place }
-    ensures tried { reader.old.is_open ≡ true → (t : Try)
-        × Tried half_open addr (reader_in reader.old).knowledge (reader_in reader.new).knowledge t
-        × (result ≡ try_code t) × Shows t out.old out.new }
-    ensures closed { reader.old.is_open ≡ false → (result ≡ 101) × (out.new ≡ out.old) }
+    ensures tried { ReaderGoes (λ r r'. (r'.place ≡ r.place) × ((t : Try)
+        × Tried half_open addr r.knowledge r'.knowledge t
+        × (result ≡ try_code t) × Shows t out.old out.new)) reader.old reader.new }
+    ensures other { reader.old.kind ≢ reader_kind
+        → (result ≡ 101) × (reader.new ≡ reader.old) × (out.new ≡ out.old) }
 {
-    if !reader.is_open {
+    if reader.kind != READER {
         return BAD_HANDLE;
     }
-    let mut content = reader.take();
-    let tried = content.inner.try_find(addr);
-    *reader = ReaderSlot::open(reader.alloc, content);
-    match tried {
+    match try_find(reader, addr) {
         Try::Retry => RETRY,
         Try::Answered(item, generation) => {
             *out = answer_of(item, generation);
@@ -115,52 +137,70 @@ pub extern "C" fn latchsym_reader_try_find(
     }
 }
 
+/// The symbol in an item, by the catalog that a handle holds.
+fn name_in(
+    catalog: &mut Handle,
+    item: Option<Item>,
+    addr: u64,
+    out: &mut CatalogAnswer,
+    name: &mut [u8],
+    owner: &mut [u8],
+) -> u32
+    requires kind { catalog.old.kind ≡ catalog_kind }
+    requires there { IfSome item (λ i. (i.a ≤ addr) × (addr < i.b)) }
+    ensures stays { Stays catalog.old catalog.new }
+    ensures told { (c : CatalogEntries) → HoldsCatalog c catalog.old
+        → (result ≡ known_code (known_in c addr item))
+        × (out.new ≡ told_of c (known_in c addr item))
+        × (name.new ≡ copied (symbol_named (known_in c addr item)) name.old)
+        × (owner.new ≡ copied (owner_named c (known_in c addr item)) owner.old) }
+{
+    let content = catalog.take();
+    let result = match &*content {
+        Content::Catalog(shared) => find_in(shared.indexed(), item, addr, out, name, owner),
+        _ => BAD_HANDLE,
+    };
+    catalog.put(content);
+    result
+}
+
 /// One attempt to find the item that an address lies in, and the symbol of the catalog in it.
 #[unsafe(no_mangle)]
 pub extern "C" fn latchsym_reader_find_name(
-    reader: &mut ReaderSlot,
-    catalog: &mut CatalogSlot,
+    reader: &mut Handle,
+    catalog: &mut Handle,
     addr: u64,
     item: &mut TableAnswer,
     out: &mut CatalogAnswer,
     name: &mut [u8],
     owner: &mut [u8],
 ) -> u32
-    ensures open { reader.new.is_open ≡ reader.old.is_open }
     ensures stays { Stays catalog.old catalog.new }
-    ensures place { reader.old.is_open ≡ true
-        → (reader_in reader.new).place ≡ (reader_in reader.old).place }
-    ensures found { reader.old.is_open ≡ true → catalog.old.is_open ≡ true → (t : Try)
-        × Tried half_open addr (reader_in reader.old).knowledge (reader_in reader.new).knowledge t
-        × (result ≡ name_code catalog.old.handle.value addr t) × Shows t item.old item.new
-        × Names catalog.old.handle.value addr t out.old out.new
-        × Copies catalog.old.handle.value addr t name.old name.new owner.old owner.new }
-    ensures closed { (reader.old.is_open ≡ false) ⊎ (catalog.old.is_open ≡ false)
-        → (result ≡ 101) × (reader.new ≡ reader.old) × (item.new ≡ item.old)
-        × (out.new ≡ out.old) × (name.new ≡ name.old) × (owner.new ≡ owner.old) }
+    ensures found { (c : CatalogEntries) → HoldsCatalog c catalog.old
+        → ReaderGoes (λ r r'. (r'.place ≡ r.place) × ((t : Try)
+        × Tried half_open addr r.knowledge r'.knowledge t
+        × (result ≡ name_code c addr t) × Shows t item.old item.new
+        × Names c addr t out.old out.new
+        × Copies c addr t name.old name.new owner.old owner.new)) reader.old reader.new }
+    ensures other { (reader.old.kind ≢ reader_kind) ⊎ (catalog.old.kind ≢ catalog_kind)
+        → (result ≡ 101) × (reader.new ≡ reader.old) × (catalog.new ≡ catalog.old)
+        × (item.new ≡ item.old) × (out.new ≡ out.old) × (name.new ≡ name.old)
+        × (owner.new ≡ owner.old) }
 {
-    if !reader.is_open || !catalog.is_open {
+    if reader.kind != READER || catalog.kind != CATALOG {
         return BAD_HANDLE;
     }
-    let mut content = reader.take();
-    let tried = content.inner.try_find(addr);
-    *reader = ReaderSlot::open(reader.alloc, content);
-    let Try::Answered(found, generation) = tried else {
+    let Try::Answered(found, generation) = try_find(reader, addr) else {
         return RETRY;
     };
     *item = answer_of(found, generation);
-    let shared = catalog.take();
-    let result = find_in(shared.indexed(), found, addr, out, name, owner);
-    *catalog = CatalogSlot::open(catalog.alloc, shared);
-    result
+    name_in(catalog, found, addr, out, name, owner)
 }
 
 /// Closes a reader.
 #[unsafe(no_mangle)]
-pub extern "C" fn latchsym_reader_close(reader: &mut ReaderSlot)
-    ensures { reader.new.is_open ≡ false }
+pub extern "C" fn latchsym_reader_close(reader: &mut Handle)
+    ensures { reader.new.kind ≡ 0 }
 {
-    if reader.is_open {
-        let _content = reader.take();
-    }
+    reader.close();
 }

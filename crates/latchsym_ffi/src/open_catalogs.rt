@@ -35,14 +35,13 @@ impl OpenCatalog {
         })
     }
 
-    /// The same catalog once more, in a box.
-    pub(crate) fn share_in(&self, alloc: Global) -> Result<Box<OpenCatalog, Global>, AllocError>
-        ensures { IfOk result (λ b. b.value ≡ self.now) }
+    /// The same catalog once more.
+    pub(crate) fn share(&self) -> Result<OpenCatalog, AllocError>
+        ensures { IfOk result (λ c. c ≡ self.now) }
     {
-        let shared = OpenCatalog {
+        Ok(OpenCatalog {
             shared: Arc::try_clone(&self.shared)?,
-        };
-        Ok(Box::new(alloc, shared)?)
+        })
     }
 
     /// The catalog with its index.

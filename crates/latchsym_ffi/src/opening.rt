@@ -3,11 +3,14 @@
 ghost use Rattle.std.specs.Prelude.{◌≡◌, true, All, IfOk, IfErr};
 ghost use Rattle.std.specs.Option.{option_copied};
 ghost use Rattle.modules.specs.Catalogs.{IsBuildRefusal};
+ghost use Rattle.modules.specs.Entries.{CatalogEntries};
 ghost use Rattle.modules.specs.Lines.{region_fits};
 ghost use Rattle.modules.specs.Placed.{are_few};
+ghost use Rattle.latchsym_ffi.specs.declared.contents.Content.TheVariants as content;
 ghost use Rattle.latchsym_ffi.specs.Opening.{AreRead, GivesRegions, IsOpenedCatalog, RefusesTexts};
 ghost use Rattle.latchsym_ffi.specs.Opening.{counts_in, shown_texts};
 
+use crate::contents::Content;
 use crate::open_catalogs::OpenCatalog;
 use listing::{LineFault, ModuleCounts, SymbolCounts, read_kallsyms, read_modules, read_regions};
 use modules::{BuildCounts, Catalog, IndexedCatalog, KernelBounds, RegionLine};
@@ -165,15 +168,16 @@ fn catalog_of(
     Ok(catalog_between(alloc, texts, &regions)?)
 }
 
-/// The same, in a box.
+/// The same, as a handle holds it.
 pub(crate) fn open_catalog(
     alloc: Global,
     texts: &CatalogTexts,
-) -> Result<(Box<OpenCatalog, Global>, CatalogCounts), CatalogFault>
-    ensures opened { IfOk result (λ r. AreRead (shown_texts texts.now) r.0.value r.1) }
+) -> Result<(Box<Content, Global>, CatalogCounts), CatalogFault>
+    ensures opened { IfOk result (λ r. (c : CatalogEntries)
+        × (r.0.value ≡ content.Catalog c) × AreRead (shown_texts texts.now) c r.1) }
     ensures fault { IfErr result (RefusesTexts (shown_texts texts.now)) }
 {
     let (catalog, counts) = catalog_of(alloc, texts)?;
-    let content = OpenCatalog::new(alloc, catalog)?;
+    let content = Content::Catalog(OpenCatalog::new(alloc, catalog)?);
     Ok((Box::new(alloc, content)?, counts))
 }

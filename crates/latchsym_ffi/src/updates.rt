@@ -1,16 +1,17 @@
 //! What C calls, of a writer's updates.
 
-ghost use Rattle.std.specs.Prelude.{◌≡◌, ◌≢◌, ◌⊎◌, IfOk, Option, map, true, false};
+ghost use Rattle.std.specs.Prelude.{◌≡◌, ◌≢◌, ◌⊎◌, IfOk, Option, map};
 ghost use Rattle.order_laws.specs.Orders.{half_open};
 ghost use Rattle.latch_core.specs.declared.updates.Update.TheVariants.{Batch, Erase, Insert};
 ghost use Rattle.latch_table.specs.declared.writers.Did.{Did};
-ghost use Rattle.latch_table.specs.Writers.{Begins, Finishes, Steps};
+ghost use Rattle.latch_table.specs.Writers.{Begins, Finishes, Steps, WriterState};
 ghost use Rattle.latchsym_ffi.specs.Updates.{RefusesAs, did_code, item_from};
-ghost use Rattle.latchsym_ffi.specs.Slots.{writer_in};
+ghost use Rattle.latchsym_ffi.specs.Handles.{HoldsWriter, WriterGoes};
+ghost use Rattle.latchsym_ffi.specs.Kinds.{writer_kind};
 
 use crate::answers::{BAD_HANDLE, DONE};
-use crate::table_contents::TableWriter;
-use crate::writer_slots::WriterSlot;
+use crate::contents::{Content, WRITER};
+use crate::handles::Handle;
 use latch_core::{Entries, Update};
 use latch_table::{Did, Writer};
 use order_laws::{HalfOpen, Item, Refusal};
@@ -28,7 +29,8 @@ pub struct TableItem {
 /// Begins an update, and leaves it there.
 fn begin(writer: &mut Writer<HalfOpen>, update: Update) -> u32
     ensures begun { result ≡ 0 → Begins half_open writer.old update writer.new }
-    ensures refused { result ≢ 0 → (writer.new ≡ writer.old) × RefusesAs writer.old update result }
+    ensures unchanged { result ≢ 0 → writer.new ≡ writer.old }
+    ensures refused { result ≢ 0 → RefusesAs writer.old update result }
 {
     match writer.begin(update) {
         Ok(pending) => {
@@ -39,57 +41,66 @@ fn begin(writer: &mut Writer<HalfOpen>, update: Update) -> u32
     }
 }
 
+/// The same with the writer that a handle holds.
+fn begin_in(writer: &mut Handle, update: Update) -> u32
+    ensures begun { result ≡ 0
+        → WriterGoes (λ w w'. Begins half_open w update w') writer.old writer.new }
+    ensures unchanged { (w : WriterState) → HoldsWriter w writer.old → result ≢ 0
+        → HoldsWriter w writer.new }
+    ensures refused { (w : WriterState) → HoldsWriter w writer.old → result ≢ 0
+        → RefusesAs w update result }
+    ensures other { writer.old.kind ≢ writer_kind
+        → (result ≡ 101) × (writer.new ≡ writer.old) }
+{
+    if writer.kind != WRITER {
+        return BAD_HANDLE;
+    }
+    let mut content = writer.take();
+    let result = match &mut *content {
+        Content::Writer(inner) => begin(inner, update),
+        _ => BAD_HANDLE,
+    };
+    writer.put(content);
+    result
+}
+
 /// Begins to insert an item.
 #[unsafe(no_mangle)]
 pub extern "C" fn latchsym_writer_begin_insert(
     _alloc: Global,
-    writer: &mut WriterSlot,
+    writer: &mut Handle,
     item: &TableItem,
 ) -> u32
-    ensures open { writer.new.is_open ≡ writer.old.is_open }
-    ensures begun { writer.old.is_open ≡ true → result ≡ 0 → Begins half_open
-        (writer_in writer.old) (Insert (item_from item.now)) (writer_in writer.new) }
-    ensures refused { writer.old.is_open ≡ true → result ≢ 0
-        → (writer.new.handle.value ≡ writer.old.handle.value)
-        × RefusesAs (writer_in writer.old) (Insert (item_from item.now)) result }
-    ensures closed { writer.old.is_open ≡ false → result ≡ 101 }
+    ensures begun { let u = Insert (item_from item.now) in
+        result ≡ 0 → WriterGoes (λ w w'. Begins half_open w u w') writer.old writer.new }
+    ensures unchanged { (w : WriterState) → HoldsWriter w writer.old → result ≢ 0
+        → HoldsWriter w writer.new }
+    ensures refused { (w : WriterState) → HoldsWriter w writer.old → result ≢ 0
+        → RefusesAs w (Insert (item_from item.now)) result }
+    ensures other { writer.old.kind ≢ writer_kind
+        → (result ≡ 101) × (writer.new ≡ writer.old) }
 {
-    if !writer.is_open {
-        return BAD_HANDLE;
-    }
-    let mut content = writer.take();
     let item = Item {
         a: item.a,
         b: item.b,
         tag: item.tag,
     };
-    let result = begin(&mut content.inner, Update::Insert(item));
-    *writer = WriterSlot::open(writer.alloc, content);
-    result
+    begin_in(writer, Update::Insert(item))
 }
 
 /// Begins to take out the item that begins at an address.
 #[unsafe(no_mangle)]
-pub extern "C" fn latchsym_writer_begin_erase(
-    _alloc: Global,
-    writer: &mut WriterSlot,
-    a: u64,
-) -> u32
-    ensures open { writer.new.is_open ≡ writer.old.is_open }
-    ensures begun { writer.old.is_open ≡ true → result ≡ 0 → Begins half_open
-        (writer_in writer.old) (Erase a) (writer_in writer.new) }
-    ensures refused { writer.old.is_open ≡ true → result ≢ 0
-        → (writer.new.handle.value ≡ writer.old.handle.value)
-        × RefusesAs (writer_in writer.old) (Erase a) result }
-    ensures closed { writer.old.is_open ≡ false → result ≡ 101 }
+pub extern "C" fn latchsym_writer_begin_erase(_alloc: Global, writer: &mut Handle, a: u64) -> u32
+    ensures begun { result ≡ 0
+        → WriterGoes (λ w w'. Begins half_open w (Erase a) w') writer.old writer.new }
+    ensures unchanged { (w : WriterState) → HoldsWriter w writer.old → result ≢ 0
+        → HoldsWriter w writer.new }
+    ensures refused { (w : WriterState) → HoldsWriter w writer.old → result ≢ 0
+        → RefusesAs w (Erase a) result }
+    ensures other { writer.old.kind ≢ writer_kind
+        → (result ≡ 101) × (writer.new ≡ writer.old) }
 {
-    if !writer.is_open {
-        return BAD_HANDLE;
-    }
-    let mut content = writer.take();
-    let result = begin(&mut content.inner, Update::Erase(a));
-    *writer = WriterSlot::open(writer.alloc, content);
-    result
+    begin_in(writer, Update::Erase(a))
 }
 
 /// The items as the table has them.
@@ -120,79 +131,84 @@ fn batch_of(alloc: Global, erase: &[u64], insert: &[TableItem]) -> Result<Update
 #[unsafe(no_mangle)]
 pub extern "C" fn latchsym_writer_begin_batch(
     alloc: Global,
-    writer: &mut WriterSlot,
+    writer: &mut Handle,
     erase: &[u64],
     insert: &[TableItem],
 ) -> u32
-    ensures open { writer.new.is_open ≡ writer.old.is_open }
-    ensures begun { writer.old.is_open ≡ true → result ≡ 0
-        → Begins half_open (writer_in writer.old) (Batch erase.now (map item_from insert.now))
-        (writer_in writer.new) }
-    ensures unchanged { writer.old.is_open ≡ true → result ≢ 0
-        → writer.new.handle.value ≡ writer.old.handle.value }
-    ensures refused { writer.old.is_open ≡ true → result ≢ 0 → result ≢ 7
-        → RefusesAs (writer_in writer.old) (Batch erase.now (map item_from insert.now)) result }
-    ensures closed { writer.old.is_open ≡ false → result ≡ 101 }
+    ensures begun { let u = Batch erase.now (map item_from insert.now) in
+        result ≡ 0 → WriterGoes (λ w w'. Begins half_open w u w') writer.old writer.new }
+    ensures unchanged { (w : WriterState) → HoldsWriter w writer.old → result ≢ 0
+        → HoldsWriter w writer.new }
+    ensures refused { (w : WriterState) → HoldsWriter w writer.old → result ≢ 0 → result ≢ 7
+        → RefusesAs w (Batch erase.now (map item_from insert.now)) result }
+    ensures other { writer.old.kind ≢ writer_kind
+        → (result ≡ 101) × (writer.new ≡ writer.old) }
 {
-    if !writer.is_open {
+    if writer.kind != WRITER {
         return BAD_HANDLE;
     }
     let Ok(update) = batch_of(alloc, erase, insert) else {
         return Refusal::OutOfMemory.number();
     };
-    let mut content = writer.take();
-    let result = begin(&mut content.inner, update);
-    *writer = WriterSlot::open(writer.alloc, content);
-    result
+    begin_in(writer, update)
 }
 
-/// Makes one step of the pending update: 0 where it is at its end, 1 for a flip of the sequence, 2
-/// for a store of another word.
-#[unsafe(no_mangle)]
-pub extern "C" fn latchsym_writer_step(writer: &mut WriterSlot) -> u32
-    ensures open { writer.new.is_open ≡ writer.old.is_open }
-    ensures step { writer.old.is_open ≡ true → (d : Option Did) × (result ≡ did_code d)
-        × Steps (writer_in writer.old) (writer_in writer.new) d }
-    ensures closed { writer.old.is_open ≡ false → result ≡ 101 }
+/// Makes one step, and tells which by its number.
+fn step(writer: &mut Writer<HalfOpen>) -> u32
+    ensures { (d : Option Did) × (result ≡ did_code d) × Steps writer.old writer.new d }
 {
-    if !writer.is_open {
-        return BAD_HANDLE;
-    }
-    let mut content = writer.take();
-    let did = content.inner.step();
-    *writer = WriterSlot::open(writer.alloc, content);
-    match did {
+    match writer.step() {
         None => 0,
         Some(Did::Flip) => 1,
         Some(Did::Store) => 2,
     }
 }
 
-/// Makes the steps that are left of the pending update, if there is one, and tells the new
-/// generation.
+/// Makes one step of the pending update: 0 where it is at its end, 1 for a flip of the sequence, 2
+/// for a store of another word.
 #[unsafe(no_mangle)]
-pub extern "C" fn latchsym_writer_finish(writer: &mut WriterSlot, generation: &mut u64) -> u32
-    ensures open { writer.new.is_open ≡ writer.old.is_open }
-    ensures finished { writer.old.is_open ≡ true → (result ≡ 0)
-        × Finishes (writer_in writer.old) (writer_in writer.new) generation.new }
-    ensures closed { writer.old.is_open ≡ false
-        → (result ≡ 101) × (generation.new ≡ generation.old) }
+pub extern "C" fn latchsym_writer_step(writer: &mut Handle) -> u32
+    ensures step { WriterGoes
+        (λ w w'. (d : Option Did) × (result ≡ did_code d) × Steps w w' d) writer.old writer.new }
+    ensures other { writer.old.kind ≢ writer_kind
+        → (result ≡ 101) × (writer.new ≡ writer.old) }
 {
-    if !writer.is_open {
+    if writer.kind != WRITER {
         return BAD_HANDLE;
     }
     let mut content = writer.take();
-    *generation = content.inner.finish();
-    *writer = WriterSlot::open(writer.alloc, content);
+    let result = match &mut *content {
+        Content::Writer(inner) => step(inner),
+        _ => BAD_HANDLE,
+    };
+    writer.put(content);
+    result
+}
+
+/// Makes the steps that are left of the pending update, if there is one, and tells the new
+/// generation.
+#[unsafe(no_mangle)]
+pub extern "C" fn latchsym_writer_finish(writer: &mut Handle, generation: &mut u64) -> u32
+    ensures finished { WriterGoes
+        (λ w w'. (result ≡ 0) × Finishes w w' generation.new) writer.old writer.new }
+    ensures other { writer.old.kind ≢ writer_kind → (result ≡ 101) × (writer.new ≡ writer.old)
+        × (generation.new ≡ generation.old) }
+{
+    if writer.kind != WRITER {
+        return BAD_HANDLE;
+    }
+    let mut content = writer.take();
+    if let Content::Writer(inner) = &mut *content {
+        *generation = inner.finish();
+    }
+    writer.put(content);
     DONE
 }
 
 /// Closes a writer. Readers that are open go on with the table as it is.
 #[unsafe(no_mangle)]
-pub extern "C" fn latchsym_writer_close(writer: &mut WriterSlot)
-    ensures { writer.new.is_open ≡ false }
+pub extern "C" fn latchsym_writer_close(writer: &mut Handle)
+    ensures { writer.new.kind ≡ 0 }
 {
-    if writer.is_open {
-        let _content = writer.take();
-    }
+    writer.close();
 }

@@ -2,8 +2,10 @@ use Rattle.std.proofs.Common.{◌≡◌, ◌+◌, ◌<◌, ◌∙◌, List, [], 
 use Rattle.std.specs.Prelude.{All}
 use Rattle.std.specs.List.{AllWithin}
 use Rattle.std.proofs.lemmas.List.Elements.{All-pop, All-set, AllWithin-more_set}
-use Rattle.latchsym_ffi.specs.declared.reader_slots.ReaderSlot.{ReaderSlot}
-use Rattle.latchsym_ffi.specs.Tables.{HoldsReader}
+use Rattle.latchsym_ffi.specs.declared.contents.Content.TheVariants.{Reader}
+use Rattle.latchsym_ffi.specs.declared.handles.Handle.{Handle}
+use Rattle.latchsym_ffi.specs.Handles.{HoldsReader}
+use Rattle.latchsym_ffi.specs.Kinds.{kind_in, reader_kind}
 use Rattle.latchsym_ffi.proofs.enlarging.replace_readers.Goals as goal
 use Rattle.latchsym_ffi.proofs.enlarging.replace_readers.Goals.{in-Some, in_default}
 
@@ -11,24 +13,24 @@ pub loop-place-preserved : goal.loop-place-preserved
 loop-place-preserved c =
     let i = c.loop-place.invariant in
     let n = c.loop-place.place in
-    let slots = c.loop-place.slots in
-    let within : n < length slots = let t = c.loop-place-test.true in let e = i.count in omega arith in
+    let handles = c.loop-place.handles in
+    let within : n < length handles = let t = c.loop-place-test.true in let e = i.count in omega arith in
     elim c.match-pop.branch [
       | in-Some w ↦
-          let new = w.replace_reader.new.self in
+          let new = w.replace_reader.new.handle in
           let rest = c.pop.new.self.items in
           let reader = w.in-Some.reader in
           let taken = w.in-Some.ensures.items in
           record {
-            count = c.match-pop.auto.slots ∙ i.count;
-            left = omega (arith, ap length taken, length-append rest (reader ∷ []), i.left, c.match-pop.auto.slots);
-            open_ones = subst (All (λ (s : ReaderSlot). s.is_open ≡ true)) (sym w.slots-is)
-                (All-set (λ (s : ReaderSlot). s.is_open ≡ true) slots n new w.replace_reader.ensures.«open» i.open_ones);
+            count = c.match-pop.auto.handles ∙ i.count;
+            left = omega (arith, ap length taken, length-append rest (reader ∷ []), i.left, c.match-pop.auto.handles);
+            open_ones = subst (All (λ (h : Handle). h.kind ≡ reader_kind)) (sym w.handles-is)
+                (All-set (λ (h : Handle). h.kind ≡ reader_kind) handles n new (new.tied ∙ ap kind_in w.replace_reader.ensures) i.open_ones);
             each = λ r all. (All-pop (λ x. x ≡ r) c.loop-place.readers.items rest (Some reader) taken (i.each r all)).0;
             filled = λ r all.
                 let is = (All-pop (λ x. x ≡ r) c.loop-place.readers.items rest (Some reader) taken (i.each r all)).1 in
-                subst (λ (l : List ReaderSlot). AllWithin (HoldsReader r) l 0 (n + 1)) (sym w.slots-is)
-                (AllWithin-more_set slots n new within (HoldsReader r) (i.filled r all) (w.replace_reader.ensures.«open», w.replace_reader.ensures.value ∙ is));
+                subst (λ (l : List Handle). AllWithin (HoldsReader r) l 0 (n + 1)) (sym w.handles-is)
+                (AllWithin-more_set handles n new within (HoldsReader r) (i.filled r all) (w.replace_reader.ensures ∙ ap (λ x. Some (Reader x)) is));
           }
       | in_default w ↦ absurd (omega (arith, w.in_default.ensures.cases.0, c.loop-place.readers.ok.0, i.left, within))
     ]

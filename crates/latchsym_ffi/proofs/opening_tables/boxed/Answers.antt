@@ -1,8 +1,16 @@
+use Rattle.std.proofs.Common.{◌≡◌, ◌∙◌, ap, map}
 use Rattle.std.specs.Vec.Iter.{into_iter_items}
+use Rattle.std.proofs.lemmas.List.{map-append}
+use Rattle.std.proofs.lemmas.List.Elements.{All-map}
 use Rattle.facts.proofs.Tests.{All-map_same}
+use Rattle.latchsym_ffi.specs.declared.contents.Content.TheVariants.{Reader}
 use Rattle.latchsym_ffi.proofs.opening_tables.boxed.Goals as goal
 
 pub returns-clause-each : goal.returns-clause-each
 returns-clause-each c r all =
-    All-map_same (λ b. b.value.inner) c.loop-inner.boxes.items c.loop-inner.yielded (into_iter_items c.loop-inner.inner-iterator) c.args.readers.items r
-    c.loop-inner.invariant.made c.loop-inner.invariant.gone all
+    let items = c.args.readers.items in
+    let yielded = c.loop-inner.yielded in
+    let rest = into_iter_items c.loop-inner.inner-iterator in
+    All-map_same (λ b. b.value) c.loop-inner.boxes.items (map Reader yielded) (map Reader rest) (map Reader items) (Reader r)
+    c.loop-inner.invariant.made (ap (map Reader) c.loop-inner.invariant.gone ∙ map-append Reader yielded rest)
+    (All-map (λ x. x ≡ Reader r) Reader items (λ k d lt. ap Reader (all k d lt)))

@@ -2,8 +2,9 @@ use Rattle.std.proofs.Common.{◌≡◌, ◌+◌, ◌<◌, ◌∙◌, List, [], 
 use Rattle.std.specs.List.{AllWithin}
 use Rattle.std.proofs.lemmas.List.{get_or-set_same}
 use Rattle.std.proofs.lemmas.List.Elements.{All-pop, AllWithin-kept, AllWithin-more}
-use Rattle.latchsym_ffi.specs.declared.reader_slots.ReaderSlot.{ReaderSlot}
-use Rattle.latchsym_ffi.specs.Tables.{HoldsReader}
+use Rattle.latchsym_ffi.specs.declared.contents.Content.TheVariants.{Reader}
+use Rattle.latchsym_ffi.specs.declared.handles.Handle.{Handle}
+use Rattle.latchsym_ffi.specs.Handles.{HoldsReader}
 use Rattle.latchsym_ffi.proofs.opening_tables.fill.Goals as goal
 use Rattle.latchsym_ffi.proofs.opening_tables.fill.Goals.{in-Some, in_default}
 
@@ -11,8 +12,8 @@ pub loop-place-preserved : goal.loop-place-preserved
 loop-place-preserved c =
     let i = c.loop-place.invariant in
     let n = c.loop-place.place in
-    let slots = c.loop-place.slots in
-    let within : n < length slots = let t = c.loop-place-test.true in let e = i.count in omega arith in
+    let handles = c.loop-place.handles in
+    let within : n < length handles = let t = c.loop-place-test.true in let e = i.count in omega arith in
     elim c.match-pop.branch [
       | in-Some w ↦
           let new = w.open.result in
@@ -20,14 +21,14 @@ loop-place-preserved c =
           let content = w.in-Some.content in
           let taken = w.in-Some.ensures.items in
           record {
-            count = c.match-pop.auto.slots ∙ i.count;
-            left = omega (arith, ap length taken, length-append rest (content ∷ []), i.left, c.match-pop.auto.slots);
-            each = λ r all. (All-pop (λ b. b.value.inner ≡ r) c.loop-place.readers.items rest (Some content) taken (i.each r all)).0;
+            count = c.match-pop.auto.handles ∙ i.count;
+            left = omega (arith, ap length taken, length-append rest (content ∷ []), i.left, c.match-pop.auto.handles);
+            each = λ r all. (All-pop (λ b. b.value ≡ Reader r) c.loop-place.readers.items rest (Some content) taken (i.each r all)).0;
             filled = λ r all.
-                let is = (All-pop (λ b. b.value.inner ≡ r) c.loop-place.readers.items rest (Some content) taken (i.each r all)).1 in
-                subst (λ (l : List ReaderSlot). AllWithin (HoldsReader r) l 0 (n + 1)) (sym w.slots-is)
-                (AllWithin-more (HoldsReader r) (set slots n new) 0 n (AllWithin-kept slots n new within (HoldsReader r) (i.filled r all))
-                (λ d. subst (HoldsReader r) (sym (get_or-set_same slots n new d within)) (w.open.ensures.«open», ap (λ v. v.inner) w.open.ensures.value ∙ is)));
+                let is = (All-pop (λ b. b.value ≡ Reader r) c.loop-place.readers.items rest (Some content) taken (i.each r all)).1 in
+                subst (λ (l : List Handle). AllWithin (HoldsReader r) l 0 (n + 1)) (sym w.handles-is)
+                (AllWithin-more (HoldsReader r) (set handles n new) 0 n (AllWithin-kept handles n new within (HoldsReader r) (i.filled r all))
+                (λ d. subst (HoldsReader r) (sym (get_or-set_same handles n new d within)) (w.open.ensures ∙ ap Some is)));
           }
       | in_default w ↦ absurd (omega (arith, w.in_default.ensures.cases.0, c.loop-place.readers.ok.0, i.left, within))
     ]

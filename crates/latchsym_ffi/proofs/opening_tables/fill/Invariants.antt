@@ -2,14 +2,15 @@ use Rattle.std.proofs.Common.{◌≡◌, ◌+◌, length}
 use Rattle.std.specs.Prelude.{All}
 use Rattle.std.specs.List.{AllWithin}
 use Rattle.latch_table.specs.Readers.{ReaderState}
-use Rattle.latchsym_ffi.specs.Tables.{HoldsReader}
+use Rattle.latchsym_ffi.specs.Handles.{HoldsReader}
+use Rattle.latchsym_ffi.specs.declared.contents.Content.TheVariants.{Reader}
 use Rattle.latchsym_ffi.proofs.opening_tables.fill.Given as goal
 
 abbrev pub invariant-loop-place : goal.invariant-loop-place
 invariant-loop-place l =
     record {
-      count : length l.slots ≡ length l.initial.slots;
-      left : length l.readers.items + l.place ≡ length l.slots;
-      each : (r : ReaderState) → All (λ b. b.value.inner ≡ r) l.fn.readers.items → All (λ b. b.value.inner ≡ r) l.readers.items;
-      filled : (r : ReaderState) → All (λ b. b.value.inner ≡ r) l.fn.readers.items → AllWithin (HoldsReader r) l.slots 0 l.place;
+      count : length l.handles ≡ length l.initial.handles;
+      left : length l.readers.items + l.place ≡ length l.handles;
+      each : (r : ReaderState) → All (λ b. b.value ≡ Reader r) l.fn.readers.items → All (λ b. b.value ≡ Reader r) l.readers.items;
+      filled : (r : ReaderState) → All (λ b. b.value ≡ Reader r) l.fn.readers.items → AllWithin (HoldsReader r) l.handles 0 l.place;
     }

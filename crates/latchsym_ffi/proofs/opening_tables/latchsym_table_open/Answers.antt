@@ -1,5 +1,6 @@
-use Rattle.std.proofs.Common.{◌∙◌, ap, sym}
+use Rattle.std.proofs.Common.{◌∙◌, Some, ap, sym}
 use Rattle.latch_table.specs.Writers.{new_writer}
+use Rattle.latchsym_ffi.specs.declared.contents.Content.TheVariants.{Writer}
 use Rattle.latchsym_ffi.specs.Tables.{first_reader}
 use Rattle.latchsym_ffi.proofs.opening_tables.latchsym_table_open.Goals as goal
 
@@ -10,7 +11,6 @@ returns-in-Ok-open_boxes-clause-opened c zero =
       place = o.place;
       layout = o.layout;
       wide = o.wide;
-      is_open = c.open.ensures.open;
-      writer = ap (λ w. w.inner) c.open.ensures.value ∙ o.writer ∙ ap (new_writer o.place o.layout 0) (c.in-Ok.ensures.1 ∙ sym c.fill.ensures.count);
+      writer = c.put.ensures ∙ ap Some (o.writer ∙ ap (λ n. Writer (new_writer o.place o.layout 0 n)) (c.in-Ok.ensures.1 ∙ sym c.fill.ensures.count));
       each = c.fill.ensures.each (first_reader o.place o.layout) o.each;
     }

@@ -1,4 +1,5 @@
 use Rattle.std.proofs.Common.{◌∙◌, ap}
+use Rattle.latchsym_ffi.specs.declared.contents.Content.TheVariants.{Writer}
 use Rattle.latchsym_ffi.specs.Tables.{first_reader}
 use Rattle.latchsym_ffi.proofs.opening_tables.open_boxes.Goals as goal
 
@@ -8,7 +9,7 @@ returns-clause-opened c =
       place = c.in_ok-inner.inner.place;
       layout = c.in_ok-layout.layout;
       wide = (c.in_ok-layout.ensures.capacity, c.in_ok-layout.ensures.limit);
-      writer = ap (λ w. w.inner) c.in_ok-writer.ensures.ok ∙ c.in_ok-inner.ensures.writer;
+      writer = c.in_ok-writer.ensures.ok ∙ ap Writer c.in_ok-inner.ensures.writer;
       count = c.in_ok-readers.ensures.count ∙ c.in_ok-inner.ensures.readers.0;
       each = c.in_ok-readers.ensures.each (first_reader c.in_ok-inner.inner.place c.in_ok-layout.layout) c.in_ok-inner.ensures.readers.1;
     }

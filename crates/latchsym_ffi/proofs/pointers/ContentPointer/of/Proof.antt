@@ -1,8 +1,7 @@
 use mathlib.Core.Path.{refl, sym, subst}
 use mathlib.Core.List.{List, [], ◌∷◌, ◌++◌}
-use mathlib.Core.Bool.{true}
 use seplogic.Ra.Ura.{Ura}
-use mir.Val.{Val, vptr, vbool}
+use mir.Val.{Val, vptr}
 use base.Logic.{SProp, ent, emp}
 use base.Fml.{ftrue, fsep}
 use prog.Memory.{Memory}
@@ -14,26 +13,26 @@ use contract.Running.{tables, tables_of}
 use sound.WpLaws.{WpFn-mono}
 use types.Kit.{Item, ‵, raw, ◌⊛◌, ◌$◌, ◌∵◌, !, qed, by, move, drop, use1, join, split, fsplit, fjoin, suffices, done, rewrite}
 use types.Part.{whole, sub, agg}
-use types.Run.{stop, fld, no_more, and_then, of_opd, returns, enter, true_lit}
+use types.Run.{stop, fld, no_more, and_then, of_opd, returns, enter}
 use types.ByLocal.{alloc_all, pass_all, free_all, look_at, get, get_in, sets}
-use denote.Exit.{yes}
-use Rattle.core.proofs.mem.Facts.{says_two}
+use denote.Exit.{no}
 use denote.RawPtr.{Ptr}
 use denote.Signature.{type_at}
 use denote.Steps.{nothing}
 use denote.Triple.Spec.{triple_of}
 use denote.Triple.Table.{entered}
-use denote.Triple.Walked.{Stays, stay_dropped, walk_of, ends_at, Goes-dropped, walk_Meets}
+use denote.Triple.Walked.{says, Stays, stay_dropped, walk_of, ends_at, Goes-dropped, walk_Meets}
 use Rattle.latchsym_ffi.proofs.LooseValues.{both, loose_good, loose_out}
+use Rattle.std.specs.Prelude.{Some}
 use Rattle.std_heap.specs.contracts.GlobalAllocator.TheImpl.{ghosts}
-use Rattle.latchsym_ffi.proofs.WriterHandleValues.{R, Z, LZ, Hd, three, open_good, handle_in, FromLoose as From}
-use Rattle.latchsym_ffi.specs.contracts.writer_handles.WriterHandle.of as F
-use Rattle.latchsym_ffi.specs.contracts.writer_handles.WriterHandle.of.Key.{name as #self}
-use Rattle.latchsym_ffi.proofs.writer_handles.WriterHandle.of.Statement as stated
-use Rattle.latchsym_ffi.proofs.writer_handles.WriterHandle.of.Code as code
+use Rattle.latchsym_ffi.proofs.PointerValues.{R, Z, LZ, P, good, pointer_in, FromLoose as From}
+use Rattle.latchsym_ffi.specs.contracts.pointers.ContentPointer.of as F
+use Rattle.latchsym_ffi.specs.contracts.pointers.ContentPointer.of.Key.{name as #self}
+use Rattle.latchsym_ffi.proofs.pointers.ContentPointer.of.Statement as stated
+use Rattle.latchsym_ffi.proofs.pointers.ContentPointer.of.Code as code
 
 abbrev stayed : Stays (F.ended).signature.params (F.ended).kept
-stayed = (stay_dropped From yes, tt)
+stayed = (stay_dropped From no, tt)
 
 module _ {M : Type 1} {𝓤 : Ura M} (𝓛 : Logic 𝓤) (at_mem : Memory → SProp 𝓤) (run : Routine → Fun 𝓤) (𝓣 : Tables 𝓤 𝓛.H) where
   open 𝓛 use {H}
@@ -44,18 +43,18 @@ module _ {M : Type 1} {𝓤 : Ura M} (𝓛 : Logic 𝓤) (at_mem : Memory → SP
       let Post = (walk_of 𝓛 F.ended stayed (F.clauses 𝓛 at_mem run)).post z in
       let v = z.0.3.0 in
       let To = type_at (F.signature).result tt in
-      let made : To.Denot = record { at = v.at; alloc = v.alloc; is_open = true; value = v.value } in
+      let made : To.Denot = record { at = v.at; alloc = v.alloc; content = Some v.value } in
       qed 𝓛 ((‵ ftrue ⊛ ‵ (fsep ((type_at From tt).own_val v z.0.4.0) ftrue)) ∷ raw (emp 𝓤) ∷ []) ∵ split ! $ drop ! $ fsplit ! $
-      loose_out R Z LZ ghosts ! v z.0.4.0 (λ b o hv e ws fa. handle_in ! b o hv v.alloc v.value $
-      rewrite ! 0 (λ (p : Ptr). ‵ (Hd.own_val (record made { at = p }) (three (vptr b o) hv (vbool true) ∷ []))) (sym e) refl $ move ! (1 ∷ 2 ∷ []) $ drop ! $ drop ! $
-      let w = three (vptr b o) hv (vbool true) in
+      loose_out R Z LZ ghosts ! v z.0.4.0 (λ b o hv e ws fa. pointer_in ! b o hv v.alloc v.value $
+      rewrite ! 0 (λ (p : Ptr). ‵ (P.own_val (record made { at = p }) (both (vptr b o) hv ∷ []))) (sym e) refl $ move ! (1 ∷ 2 ∷ []) $ drop ! $ drop ! $
+      let w = both (vptr b o) hv in
       let u = both (vptr b o) hv in
       let Γ : List (Item 𝓤) = ‵ (To.own_val made (w ∷ [])) ∷ [] in
       by ! (subst (λ (us : List Val). ent 𝓤 (types.Kit.⋆ 𝓛 Γ) (WpFn 𝓤 H 𝓣.C 𝓣.Λ code.function (us ++ []) Post)) (sym ws)
       (qed 𝓛 Γ ∵ enter ! 𝓣.C 𝓣.Λ code.function (u ∷ []) _ $ alloc_all ! (λ ls. pass_all ! refl (loose_good R Z LZ ghosts b o hv fa, tt) $
       sets ! (of_opd ! (get_in ! (fld ! refl (stop !)) (sub ! 0 refl (whole !)))) refl (tt, tt) $ sets ! (of_opd ! (get_in ! (fld ! refl (stop !)) (sub ! 1 refl (whole !)))) refl fa $
-      sets ! (of_opd ! (get ! refl)) refl (tt, tt) $ sets ! (agg ! (and_then ! (get ! refl) (and_then ! (get ! refl) (and_then ! (true_lit !) (no_more !))))) refl (open_good (vptr b o) tt true hv fa) $ returns ! (look_at ! 0 refl) $ free_all ! refl $
-      suffices ! _ (ends_at 𝓛 F.ended stayed (F.clauses 𝓛 at_mem run) z w made (tt, tt) (tt, tt)) $ says_two ! (refl, refl) $
+      sets ! (of_opd ! (get ! refl)) refl (tt, tt) $ sets ! (agg ! (and_then ! (get ! refl) (and_then ! (get ! refl) (no_more !)))) refl (good (vptr b o) tt hv fa) $ returns ! (look_at ! 0 refl) $ free_all ! refl $
+      suffices ! _ (ends_at 𝓛 F.ended stayed (F.clauses 𝓛 at_mem run) z w made (tt, tt) (tt, tt)) $ says ! refl $
       nothing ! $ nothing ! $ fjoin ! $ join ! $ nothing ! $ join ! $ done !))))
 
 pub of_spec : {M : Type 1} → stated.statement M
@@ -63,5 +62,5 @@ unfolding tables_of
 of_spec 𝓤 𝓛 𝓜 𝓡 wired =
     let 𝓣 : Tables 𝓤 𝓛.H = tables_of 𝓤 𝓛.H 𝓜 (tables 𝓤 𝓛.H 𝓜 𝓡 𝓡.env) in
     entered 𝓤 𝓛.H (triple_of 𝓛 F.signature (F.spec 𝓛 𝓜.mem 𝓡.returns)) 𝓣.C 𝓣.Λ #self code.function (code.unfolded 𝓤 𝓛.H 𝓜 𝓡 wired)
-    (walk_Meets 𝓛 F.ended stayed (Goes-dropped 𝓛 0 From yes (λ κs x f. refl), tt) (F.clauses 𝓛 𝓜.mem 𝓡.returns) (WpFn 𝓤 𝓛.H 𝓣.C 𝓣.Λ code.function) (WpFn-mono 𝓤 𝓛.H 𝓛.laws 𝓣 code.function)
+    (walk_Meets 𝓛 F.ended stayed (Goes-dropped 𝓛 0 From no (λ κs x f. refl), tt) (F.clauses 𝓛 𝓜.mem 𝓡.returns) (WpFn 𝓤 𝓛.H 𝓣.C 𝓣.Λ code.function) (WpFn-mono 𝓤 𝓛.H 𝓛.laws 𝓣 code.function)
     (walk 𝓛 𝓜.mem 𝓡.returns 𝓣))

@@ -1,8 +1,8 @@
 use mathlib.Core.Path.{◌≡◌, refl, sym, subst}
 use mathlib.Core.List.{List, [], ◌∷◌, ◌++◌}
-use mathlib.Core.Bool.{true}
+use Rattle.std.specs.Prelude.{IsSome}
 use seplogic.Ra.Ura.{Ura}
-use mir.Val.{Val, vptr, vbool}
+use mir.Val.{Val, vptr}
 use base.Logic.{SProp, ent, id⊢}
 use base.Fml.{ftrue, fsep}
 use prog.Memory.{Memory}
@@ -25,11 +25,11 @@ use denote.Triple.Table.{entered}
 use denote.Triple.Walked.{says, Stays, stay_dropped, walk_of, ends_at, Goes-dropped, walk_Meets}
 use Rattle.latchsym_ffi.proofs.LooseValues.{both, loose_good, loose_in}
 use Rattle.std_heap.specs.contracts.GlobalAllocator.TheImpl.{ghosts}
-use Rattle.latchsym_ffi.proofs.WriterHandleValues.{R, Z, LZ, Hd, three, open_good, handle_out, FromHandle as From}
-use Rattle.latchsym_ffi.specs.contracts.writer_handles.WriterHandle.into_loose as F
-use Rattle.latchsym_ffi.specs.contracts.writer_handles.WriterHandle.into_loose.Key.{name as #self}
-use Rattle.latchsym_ffi.proofs.writer_handles.WriterHandle.into_loose.Statement as stated
-use Rattle.latchsym_ffi.proofs.writer_handles.WriterHandle.into_loose.Code as code
+use Rattle.latchsym_ffi.proofs.PointerValues.{R, Z, LZ, P, content_of, good, pointer_out, FromPointer as From}
+use Rattle.latchsym_ffi.specs.contracts.pointers.ContentPointer.into_loose as F
+use Rattle.latchsym_ffi.specs.contracts.pointers.ContentPointer.into_loose.Key.{name as #self}
+use Rattle.latchsym_ffi.proofs.pointers.ContentPointer.into_loose.Statement as stated
+use Rattle.latchsym_ffi.proofs.pointers.ContentPointer.into_loose.Code as code
 
 abbrev stayed : Stays (F.ended).signature.params (F.ended).kept
 stayed = (stay_dropped From yes, tt)
@@ -43,18 +43,17 @@ module _ {M : Type 1} {𝓤 : Ura M} (𝓛 : Logic 𝓤) (at_mem : Memory → SP
       let Post = (walk_of 𝓛 F.ended stayed (F.clauses 𝓛 at_mem run)).post z in
       let v = z.0.3.0 in
       let To = type_at (F.signature).result tt in
-      let made : To.Denot = record { at = v.at; alloc = v.alloc; value = v.value } in
-      qed 𝓛 ((‵ ftrue ⊛ ‵ (fsep (Hd.own_val v z.0.4.0) ftrue)) ∷ raw (fact 𝓤 (v.is_open ≡ true)) ∷ []) ∵ move ! (1 ∷ []) $ heard ! (v.is_open ≡ true) (λ op. split ! $ drop ! $ fsplit ! $
-      handle_out ! v z.0.4.0 op (λ b o hv e ws fa. loose_in R Z LZ ghosts ! b o hv v.alloc v.value $ use1 𝓛 (‵ (To.own_val (record made { at = block_ptr b o }) (both (vptr b o) hv ∷ []))) (id⊢ 𝓤 _) $
+      qed 𝓛 ((‵ ftrue ⊛ ‵ (fsep (P.own_val v z.0.4.0) ftrue)) ∷ raw (fact 𝓤 (IsSome v.content)) ∷ []) ∵ move ! (1 ∷ []) $ heard ! (IsSome v.content) (λ given. let some = content_of v.content given in let x = some.0 in let made : To.Denot = record { at = v.at; alloc = v.alloc; value = x } in split ! $ drop ! $ fsplit ! $
+      pointer_out ! v z.0.4.0 x some.1 (λ b o hv e ws fa. loose_in R Z LZ ghosts ! b o hv v.alloc x $ use1 𝓛 (‵ (To.own_val (record made { at = block_ptr b o }) (both (vptr b o) hv ∷ []))) (id⊢ 𝓤 _) $
       rewrite ! 0 (λ (p : Ptr). ‵ (To.own_val (record made { at = p }) (both (vptr b o) hv ∷ []))) (sym e) refl $ move ! (1 ∷ []) $ drop ! $
       let w = both (vptr b o) hv in
-      let u = three (vptr b o) hv (vbool true) in
+      let u = both (vptr b o) hv in
       let Γ : List (Item 𝓤) = ‵ (To.own_val made (w ∷ [])) ∷ [] in
       by ! (subst (λ (us : List Val). ent 𝓤 (types.Kit.⋆ 𝓛 Γ) (WpFn 𝓤 H 𝓣.C 𝓣.Λ code.function (us ++ []) Post)) (sym ws)
-      (qed 𝓛 Γ ∵ enter ! 𝓣.C 𝓣.Λ code.function (u ∷ []) _ $ alloc_all ! (λ ls. pass_all ! refl (open_good (vptr b o) tt true hv fa, tt) $
+      (qed 𝓛 Γ ∵ enter ! 𝓣.C 𝓣.Λ code.function (u ∷ []) _ $ alloc_all ! (λ ls. pass_all ! refl (good (vptr b o) tt hv fa, tt) $
       sets ! (of_opd ! (get_in ! (fld ! refl (stop !)) (sub ! 0 refl (whole !)))) refl (tt, tt) $ sets ! (of_opd ! (get_in ! (fld ! refl (stop !)) (sub ! 1 refl (whole !)))) refl fa $
       sets ! (of_opd ! (get ! refl)) refl (tt, tt) $ sets ! (agg ! (and_then ! (get ! refl) (and_then ! (get ! refl) (no_more !)))) refl (loose_good R Z LZ ghosts b o hv fa) $ returns ! (look_at ! 0 refl) $ free_all ! refl $
-      suffices ! _ (ends_at 𝓛 F.ended stayed (F.clauses 𝓛 at_mem run) z w made (tt, tt) (tt, tt)) $ says ! refl $
+      suffices ! _ (ends_at 𝓛 F.ended stayed (F.clauses 𝓛 at_mem run) z w made (tt, tt) (tt, tt)) $ says ! some.1 $
       nothing ! $ nothing ! $ fjoin ! $ join ! $ nothing ! $ join ! $ done !)))))
 
 pub into_loose_spec : {M : Type 1} → stated.statement M

@@ -16,21 +16,21 @@ use contract.Running.{tables, tables_of}
 use sound.WpLaws.{WpFn-mono}
 use types.Kit.{Item, ‵, raw, ◌⊛◌, ◌$◌, ◌∵◌, !, qed, by, move, drop, use1, join, split, fsplit, fjoin, suffices, done, rewrite}
 use types.Part.{agg}
-use types.Run.{no_more, and_then, returns, enter, lit, false_lit}
+use types.Run.{no_more, and_then, returns, enter, lit}
 use types.ByLocal.{alloc_all, pass_all, free_all, look_at, get, sets}
 use denote.Exit.{yes}
-use denote.RawPtr.{null_ptr}
 use Rattle.core.proofs.alloc.Calls.{handle_tells}
 use denote.Signature.{type_at}
 use denote.Steps.{nothing}
 use denote.Triple.Spec.{triple_of}
 use denote.Triple.Table.{entered}
 use denote.Triple.Walked.{says, Stays, stay_dropped, walk_of, ends_at, Goes-dropped, walk_Meets}
-use Rattle.latchsym_ffi.proofs.WriterHandleValues.{Z, three, open_good, closed_in, al, FromGlobal as From}
-use Rattle.latchsym_ffi.specs.contracts.writer_handles.WriterHandle.closed as F
-use Rattle.latchsym_ffi.specs.contracts.writer_handles.WriterHandle.closed.Key.{name as #self}
-use Rattle.latchsym_ffi.proofs.writer_handles.WriterHandle.closed.Statement as stated
-use Rattle.latchsym_ffi.proofs.writer_handles.WriterHandle.closed.Code as code
+use Rattle.latchsym_ffi.proofs.PointerValues.{Z, al, empty, empty_in, good, FromGlobal as From}
+use Rattle.latchsym_ffi.proofs.LooseValues.{both}
+use Rattle.latchsym_ffi.specs.contracts.pointers.ContentPointer.none as F
+use Rattle.latchsym_ffi.specs.contracts.pointers.ContentPointer.none.Key.{name as #self}
+use Rattle.latchsym_ffi.proofs.pointers.ContentPointer.none.Statement as stated
+use Rattle.latchsym_ffi.proofs.pointers.ContentPointer.none.Code as code
 
 abbrev stayed : Stays (F.ended).signature.params (F.ended).kept
 stayed = (stay_dropped From yes, tt)
@@ -44,19 +44,18 @@ module _ {M : Type 1} {𝓤 : Ura M} (𝓛 : Logic 𝓤) (at_mem : Memory → SP
       let Post = (walk_of 𝓛 F.ended stayed (F.clauses 𝓛 at_mem run)).post z in
       let v = z.0.3.0 in
       let To = type_at (F.signature).result tt in
-      let made : To.Denot = record { at = null_ptr; alloc = v; is_open = false; value = (record { inner = record { place = (record { words = 0; slots = 0; views_name = 0; atom = 0; block = 0; offset = 0; slot_names = [] }); readers = 0; base = 0; capacity = 0; limit = 0; history = []; latch = record { words = []; newest_table = []; pending = None }; loads = [] } }) } in
-      qed 𝓛 ((‵ ftrue ⊛ ‵ (fsep (Z.own_val v z.0.4.0) ftrue)) ∷ raw (emp 𝓤) ∷ []) ∵ split ! $ drop ! $ fsplit ! $ handle_tells al ! v z.0.4.0 (λ hv ws fa. closed_in ! hv v (record { inner = record { place = (record { words = 0; slots = 0; views_name = 0; atom = 0; block = 0; offset = 0; slot_names = [] }); readers = 0; base = 0; capacity = 0; limit = 0; history = []; latch = record { words = []; newest_table = []; pending = None }; loads = [] } }) $ move ! (1 ∷ 2 ∷ []) $ drop ! $ drop ! $
-      let w = three vnull hv (vbool false) in
-      let Γ : List (Item 𝓤) = ‵ (To.own_val made (w ∷ [])) ∷ [] in
+      qed 𝓛 ((‵ ftrue ⊛ ‵ (fsep (Z.own_val v z.0.4.0) ftrue)) ∷ raw (emp 𝓤) ∷ []) ∵ split ! $ drop ! $ fsplit ! $ handle_tells al ! v z.0.4.0 (λ hv ws fa. empty_in ! hv v $ move ! (1 ∷ 2 ∷ []) $ drop ! $ drop ! $
+      let w = both vnull hv in
+      let Γ : List (Item 𝓤) = ‵ (To.own_val (empty v) (w ∷ [])) ∷ [] in
       by ! (subst (λ (us : List Val). ent 𝓤 (types.Kit.⋆ 𝓛 Γ) (WpFn 𝓤 H 𝓣.C 𝓣.Λ code.function (us ++ []) Post)) (sym ws)
       (qed 𝓛 Γ ∵ enter ! 𝓣.C 𝓣.Λ code.function (hv ∷ []) _ $ alloc_all ! (λ ls. pass_all ! refl (fa, tt) $
-      sets ! (agg ! (and_then ! (lit ! tt) (and_then ! (get ! refl) (and_then ! (false_lit !) (no_more !))))) refl (open_good vnull (record { fits = lit< tt }) false hv fa) $ returns ! (look_at ! 0 refl) $ free_all ! refl $
-      suffices ! _ (ends_at 𝓛 F.ended stayed (F.clauses 𝓛 at_mem run) z w made (tt, tt) (tt, tt)) $ says ! refl $
+      sets ! (agg ! (and_then ! (lit ! tt) (and_then ! (get ! refl) (no_more !)))) refl (good vnull (record { fits = lit< tt }) hv fa) $ returns ! (look_at ! 0 refl) $ free_all ! refl $
+      suffices ! _ (ends_at 𝓛 F.ended stayed (F.clauses 𝓛 at_mem run) z w (empty v) (tt, tt) (tt, tt)) $ says ! refl $
       nothing ! $ nothing ! $ fjoin ! $ join ! $ nothing ! $ join ! $ done !))))
 
-pub closed_spec : {M : Type 1} → stated.statement M
+pub none_spec : {M : Type 1} → stated.statement M
 unfolding tables_of
-closed_spec 𝓤 𝓛 𝓜 𝓡 wired =
+none_spec 𝓤 𝓛 𝓜 𝓡 wired =
     let 𝓣 : Tables 𝓤 𝓛.H = tables_of 𝓤 𝓛.H 𝓜 (tables 𝓤 𝓛.H 𝓜 𝓡 𝓡.env) in
     entered 𝓤 𝓛.H (triple_of 𝓛 F.signature (F.spec 𝓛 𝓜.mem 𝓡.returns)) 𝓣.C 𝓣.Λ #self code.function (code.unfolded 𝓤 𝓛.H 𝓜 𝓡 wired)
     (walk_Meets 𝓛 F.ended stayed (Goes-dropped 𝓛 0 From yes (λ κs x f. refl), tt) (F.clauses 𝓛 𝓜.mem 𝓡.returns) (WpFn 𝓤 𝓛.H 𝓣.C 𝓣.Λ code.function) (WpFn-mono 𝓤 𝓛.H 𝓛.laws 𝓣 code.function)

@@ -1,0 +1,30 @@
+-- What a handle holds.
+use Rattle.std.specs.Prelude.{◌≡◌, Some}
+use Rattle.latch_table.specs.Readers.{ReaderState}
+use Rattle.latch_table.specs.Writers.{WriterState}
+use Rattle.modules.specs.Entries.{CatalogEntries}
+use Rattle.latchsym_ffi.specs.declared.contents.Content.TheVariants.{Catalog, Writer, Reader}
+use Rattle.latchsym_ffi.specs.declared.handles.Handle.{Handle}
+
+abbrev pub HoldsCatalog : CatalogEntries → Handle → Type 0
+HoldsCatalog c h = h.pointer.content ≡ Some (Catalog c)
+
+abbrev pub HoldsWriter : WriterState → Handle → Type 0
+HoldsWriter w h = h.pointer.content ≡ Some (Writer w)
+
+abbrev pub HoldsReader : ReaderState → Handle → Type 0
+HoldsReader r h = h.pointer.content ≡ Some (Reader r)
+
+-- the handle holds what it held
+abbrev pub Stays : Handle → Handle → Type 0
+Stays h h' = h'.pointer.content ≡ h.pointer.content
+
+-- the writer that the handle held, and the one that it then holds, are so
+abbrev pub WriterGoes : (WriterState → WriterState → Type 0) → Handle → Handle → Type 0
+WriterGoes P h h' =
+    (w : WriterState) → HoldsWriter w h → (w' : WriterState) × HoldsWriter w' h' × P w w'
+
+-- the same of a reader
+abbrev pub ReaderGoes : (ReaderState → ReaderState → Type 0) → Handle → Handle → Type 0
+ReaderGoes P h h' =
+    (r : ReaderState) → HoldsReader r h → (r' : ReaderState) × HoldsReader r' h' × P r r'
