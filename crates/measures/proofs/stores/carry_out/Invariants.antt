@@ -1,6 +1,6 @@
 use Rattle.std.proofs.Common.{◌≡◌, length}
 use Rattle.word_layout.specs.Words.{words_for}
-use Rattle.bench_table.proofs.stores.carry_out.Given as goal
+use Rattle.measures.proofs.stores.carry_out.Given as goal
 
 abbrev pub invariant-loop-store : goal.invariant-loop-store
 invariant-loop-store l = length l.words ≡ words_for l.writer.capacity
