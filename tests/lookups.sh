@@ -92,6 +92,19 @@ for names in "_stext _end" "_etext _stext" "_stext _etex" "_stext _etext_"; do
         | head -n 1 | cmp -s - <(echo '0xffffffff81000108 -') || fail "a kernel between $names"
 done
 
+# return addresses, of which one is the first address of the next symbol; addresses of a kernel that
+# was moved; and both
+lines() {
+    local want=$1
+    shift
+    "$program" lookup "${basic[@]}" "$@" | head -n -2 | cmp -s - <(printf "%b" "$want") || fail "lookup $*: other lines"
+}
+lines '0xffffffffc0000040 ext4_a+0x30/0x30 [ext4]\n0x0 -\n0xffffffff81002000 do_one+0x1f00/0x1f00\n' --callers 0xffffffffc0000040 0 0xffffffff81002000
+lines '0xffffffffc0001058 ext4_c+0x18/0xfc0 [ext4]\n0xfff -\n' --offset 0x1000 0xffffffffc0001058 0xfff
+lines '0xffffffffc0001040 ext4_a+0x30/0x30 [ext4]\n0x1000 -\n' --offset 4096 --callers 0xffffffffc0001040 4096
+"$program" --version | cmp -s - <(echo 'latchsym 1.0.0') || fail "--version"
+"$program" --help | grep -q 'hold an address' || fail "--help says not what the program is for"
+
 # a line of 4096 bytes is read, and one byte more makes it long
 printf 'm 1 0 - Live 0x1000 %04076d\n' 0 >"$work/whole"
 printf 'm 1 0 - Live 0x1000 %04077d\n' 0 >"$work/long"
@@ -135,6 +148,8 @@ refused() {
     [ -z "$line" ] || [ "$(cat "$work/err")" = "latchsym: $line" ] || fail "lookup $*: $(cat "$work/err")"
 }
 refused 1 "refused 10" --modules "$work/many" --kallsyms empty.kallsyms 1
+refused 2 "bad offset x" "${basic[@]}" --offset x 1
+refused 2 "--kernel takes two names of symbols, and its END is 0x10" "${basic[@]}" --kernel _stext 0x10
 refused 1 "no_such: cannot be read" --modules no_such --kallsyms basic.kallsyms 1
 refused 1 "no_such: cannot be read" --modules basic.modules --kallsyms no_such 1
 refused 1 "no_such: cannot be read" --modules no_such --kallsyms no_other 1

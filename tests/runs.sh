@@ -80,6 +80,13 @@ printf 'load 1 -\nload 1 -\nunload 1 -\n' >"$work/kernel.script"
 run "${basic[@]}" --readers 1 "$work/kernel.script"
 printf 'refused 1 12 -\nchecked 0 wrong 0 seq 4 gen 2\n' | cmp -s - "$work/out" || fail "load 1 -: other lines"
 
+# between other names there is no kernel where no symbol has one of them
+sed 's/_end$/_einittext/' ../listings/basic.kallsyms >"$work/einittext"
+run --modules ../listings/basic.modules --kallsyms "$work/einittext" --readers 1 "$work/kernel.script"
+printf 'refused 1 11 -\nrefused 1 11 -\nrefused 1 11 -\nchecked 0 wrong 0 seq 0 gen 0\n' | cmp -s - "$work/out" || fail "load 1 - without _end: other lines"
+run --modules ../listings/basic.modules --kallsyms "$work/einittext" --kernel _stext _einittext --readers 1 "$work/kernel.script"
+printf 'refused 1 12 -\nchecked 0 wrong 0 seq 4 gen 2\n' | cmp -s - "$work/out" || fail "--kernel of run: other lines"
+
 for readers in 1 64 0x40; do
     ends "checked 0 wrong 0 seq 0 gen 0" "${basic[@]}" --readers $readers /dev/null
 done
@@ -96,6 +103,7 @@ refused() {
 for word in 0 65 x 64x ''; do
     refused 2 "bad number of readers $word" "${basic[@]}" --readers "$word" loads.script
 done
+refused 2 "--kernel takes two names of symbols, and its END is 0x10" "${basic[@]}" --kernel _stext 0x10 --readers 1 loads.script
 refused 2 "" "${basic[@]}" loads.script
 refused 2 "" "${basic[@]}" --readers 1
 refused 2 "" "${basic[@]}" --readers 1 --readers 2 loads.script

@@ -11,11 +11,12 @@ use Rattle.listing.specs.SymbolListing.{symbols_in}
 use Rattle.modules.specs.Accepted.{accepted_of}
 use Rattle.modules.specs.Catalogs.{entry_for}
 use Rattle.modules.specs.Lines.{built_in_region}
-use Rattle.modules.specs.Listed.{BoundNames, ListedRegion}
+use Rattle.modules.specs.Listed.{ListedRegion}
 use Rattle.latchsym.specs.declared.fault.Fault.{Fault}
 use Rattle.latchsym.specs.declared.fault.Fault.TheVariants.{Refused, BadLine, Read, Write}
 use Rattle.latchsym.specs.declared.lookup.ListingTexts.{ListingTexts}
 use Rattle.latchsym.specs.declared.lookup.Listings.{Listings}
+use Rattle.latchsym.specs.declared.lookup.LookupOptions.{LookupOptions}
 use Rattle.latchsym.specs.LookupInputs.{Inputs, Texts, all_addresses, catalog_in, counts_in, inputs_after, inputs_of, inputs_with, region_lines_of_inputs, region_lines, texts_in, texts_of}
 use Rattle.latchsym.specs.Lookups.{AnswersLookup, AnswersWith, AreListingsOf, FitsTable, GivesAddresses, GivesLines, HasTooManyOfOne, HasTooManyRegions, IsWritten}
 use Rattle.latchsym.specs.Readings.{AnswersInputs, Failures, HoldsOf, NoReaderFailed, OnlyFailed, failures_in, last_failures}
@@ -25,7 +26,7 @@ modules_counted : (i : Inputs) → (counts_in i).modules ≡ length (catalog_in 
 unfolding catalog_in counts_in
 modules_counted i =
     let symbols = symbols_in (lines_of i.kallsyms) in
-    sym (length-map (accepted_of (built_in_region i.names symbols) (region_lines_of_inputs i) (modules_in (lines_of i.modules))).modules (entry_for symbols))
+    sym (length-map (accepted_of (built_in_region i.options.kernel symbols) (region_lines_of_inputs i) (modules_in (lines_of i.modules))).modules (entry_for symbols))
 
 pub all_counted : (i : Inputs) (l : Listings) → AreListingsOf i l → l.built.modules ≡ length l.catalog.modules
 all_counted i l said =
@@ -80,7 +81,7 @@ module _ {I V W : Type 0} (Says : I → Result V Fault → Type 0) (inner known 
   answered_behind result h = still_answered Says inner known all (last_failures before after) counts none only w w' result h
 
 -- the texts of the listings are there, and a reader of the file of addresses
-module _ {W A : Type 0} (contents : W → Option (List ℕ)) (names : BoundNames) (given : List ℕ) (t : ListingTexts) (file : Option (Option (List ℕ))) (old new : Option (Counted A)) (w : Counted W) where
+module _ {W A : Type 0} (contents : W → Option (List ℕ)) (options : LookupOptions) (given : List ℕ) (t : ListingTexts) (file : Option (Option (List ℕ))) (old new : Option (Counted A)) (w : Counted W) where
   abbrev counts_of_last : Failures
   counts_of_last = last_failures (failures_in old) (failures_in new)
 
@@ -88,13 +89,13 @@ module _ {W A : Type 0} (contents : W → Option (List ℕ)) (names : BoundNames
   none_failed same = (refl, (refl, (refl, (same, tt))))
 
   abbrev known : Option (Result Inputs (ℕ × ℕ))
-  known = inputs_of names given file (texts_in t)
+  known = inputs_of options given file (texts_in t)
 
   abbrev text : Option (List ℕ)
   text = option_map (λ r. r.items) t.regions
 
   abbrev Behind : (Result Inputs (ℕ × ℕ) → Type 0) → Result (Option (List ListedRegion)) ℕ → Type 0
-  Behind P lines = IfSome (inputs_after names given (texts_in t) lines file) P
+  Behind P lines = IfSome (inputs_after options given (texts_in t) lines file) P
 
   bad_region : (place n : ℕ) → place ≡ 2 → region_lines text ≡ Err n → IfSome known (λ i. i ≡ Err (place, n))
   bad_region place n is bad = subst (Behind (λ i. i ≡ Err (place, n))) (sym bad) (ap (λ p. Err (p, n)) (sym is))
@@ -105,18 +106,18 @@ module _ {W A : Type 0} (contents : W → Option (List ℕ)) (names : BoundNames
   no_lines _ same g = absurd g
 
   module _ (lines : Option (List ListedRegion)) (read : region_lines text ≡ Ok lines) where
-    with_text : (P : Result Inputs (ℕ × ℕ) → Type 0) (e : Option (Option (List ℕ))) → IfSome e (λ x. P (inputs_with names (texts_in t) lines (all_addresses given x)))
-        → IfSome (inputs_after names given (texts_in t) (Ok lines) e) P
+    with_text : (P : Result Inputs (ℕ × ℕ) → Type 0) (e : Option (Option (List ℕ))) → IfSome e (λ x. P (inputs_with options (texts_in t) lines (all_addresses given x)))
+        → IfSome (inputs_after options given (texts_in t) (Ok lines) e) P
     with_text P None h = tt
     with_text P (Some x) h = h
 
-    where_read : (P : Result Inputs (ℕ × ℕ) → Type 0) → IfSome file (λ x. P (inputs_with names (texts_in t) lines (all_addresses given x))) → IfSome known P
+    where_read : (P : Result Inputs (ℕ × ℕ) → Type 0) → IfSome file (λ x. P (inputs_with options (texts_in t) lines (all_addresses given x))) → IfSome known P
     where_read P h = subst (Behind P) (sym read) (with_text P file h)
 
     bad_address : (place n : ℕ) (e : Option (Option (List ℕ))) → place ≡ 3 → IfSome e (λ x. all_addresses given x ≡ Err n)
-        → IfSome e (λ x. inputs_with names (texts_in t) lines (all_addresses given x) ≡ Err (place, n))
+        → IfSome e (λ x. inputs_with options (texts_in t) lines (all_addresses given x) ≡ Err (place, n))
     bad_address place n None is bad = tt
-    bad_address place n (Some x) is bad = ap (inputs_with names (texts_in t) lines) bad ∙ ap (λ p. Err (p, n)) (sym is)
+    bad_address place n (Some x) is bad = ap (inputs_with options (texts_in t) lines) bad ∙ ap (λ p. Err (p, n)) (sym is)
 
     pub no_addresses : (f : Fault) → GivesAddresses given file (failures_in old) (failures_in new) (Err f) → AnswersLookup contents known counts_of_last w w (Err f)
     no_addresses (Refused refusal.OutOfMemory) g = (none_failed g, refl)
@@ -127,16 +128,16 @@ module _ {W A : Type 0} (contents : W → Option (List ℕ)) (names : BoundNames
     -- the inputs are there
     module _ (modules kallsyms addresses : List ℕ) (is_modules : modules ≡ t.modules.items) (is_kallsyms : kallsyms ≡ t.kallsyms.items) (listed : IfSome file (λ x. all_addresses given x ≡ Ok addresses)) (w' : Counted W) where
       abbrev inputs : Inputs
-      inputs = record { names = names; modules = modules; kallsyms = kallsyms; regions = lines; addresses = addresses }
+      inputs = record { options = options; modules = modules; kallsyms = kallsyms; regions = lines; addresses = addresses }
 
-      inputs_are : (x : Option (List ℕ)) → all_addresses given x ≡ Ok addresses → inputs_with names (texts_in t) lines (all_addresses given x) ≡ Ok inputs
+      inputs_are : (x : Option (List ℕ)) → all_addresses given x ≡ Ok addresses → inputs_with options (texts_in t) lines (all_addresses given x) ≡ Ok inputs
       inputs_are x e =
-          ap (inputs_with names (texts_in t) lines) e
-          ∙ ap (λ s. Ok (record { names = names; modules = s; kallsyms = t.kallsyms.items; regions = lines; addresses = addresses })) (sym is_modules)
-          ∙ ap (λ s. Ok (record { names = names; modules = modules; kallsyms = s; regions = lines; addresses = addresses })) (sym is_kallsyms)
+          ap (inputs_with options (texts_in t) lines) e
+          ∙ ap (λ s. Ok (record { options = options; modules = s; kallsyms = t.kallsyms.items; regions = lines; addresses = addresses })) (sym is_modules)
+          ∙ ap (λ s. Ok (record { options = options; modules = modules; kallsyms = s; regions = lines; addresses = addresses })) (sym is_kallsyms)
 
       with_inputs : (P : Inputs → Type 0) (e : Option (Option (List ℕ))) → IfSome e (λ x. all_addresses given x ≡ Ok addresses) → P inputs
-          → IfSome e (λ x. HoldsOf P (inputs_with names (texts_in t) lines (all_addresses given x)))
+          → IfSome e (λ x. HoldsOf P (inputs_with options (texts_in t) lines (all_addresses given x)))
       with_inputs P None h p = tt
       with_inputs P (Some x) h p = subst (HoldsOf P) (sym (inputs_are x h)) p
 

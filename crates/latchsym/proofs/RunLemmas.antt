@@ -6,8 +6,7 @@ use Rattle.latch_table.specs.Limits.{most_readers}
 use Rattle.listing.specs.declared.scripts.ScriptLine.{ScriptLine}
 use Rattle.listing.specs.Scripts.{script_of}
 use Rattle.modules.specs.Entries.{CatalogEntries}
-use Rattle.modules.specs.Lines.{usual_bounds}
-use Rattle.modules.specs.Listed.{ListedRegion}
+use Rattle.modules.specs.Listed.{BoundNames, ListedRegion}
 use Rattle.modules.specs.Placed.{are_few}
 use Rattle.order_laws.specs.declared.refusals.Refusal.TheVariants as refusal
 use Rattle.latchsym.specs.declared.fault.Fault.{Fault}
@@ -15,7 +14,7 @@ use Rattle.latchsym.specs.declared.fault.Fault.TheVariants.{Refused, Write}
 use Rattle.latchsym.specs.declared.lookup.ListingTexts.{ListingTexts}
 use Rattle.latchsym.specs.LookupInputs.{Inputs, catalog_in, inputs_after, region_lines, region_lines_of_inputs, texts_in}
 use Rattle.latchsym.specs.Readings.{HoldsOf}
-use Rattle.latchsym.specs.RunInputs.{RunInputs, run_inputs_after, run_inputs_of, run_inputs_with}
+use Rattle.latchsym.specs.RunInputs.{RunInputs, run_inputs_after, run_inputs_of, run_inputs_with, run_options}
 use Rattle.latchsym.specs.Runs.{AnswersLines, AnswersRun, FitsRun, IsRun, IsServed, MayRun, TellsServed}
 use Rattle.latchsym.specs.Assignments.{IsAssigned}
 use Rattle.latchsym.specs.declared.assignments.Assignments.{Assignments}
@@ -58,14 +57,14 @@ module _ {W : Type 0} (contents : W → Option (List ℕ)) (i : Inputs) (readers
   script_answered c few is (Err _) h = absurd h
 
 -- the inputs that the texts of listings are, with these region lines
-abbrev pub listings_with : ListingTexts → Option (List ListedRegion) → Inputs
-listings_with t lines =
-    record { names = usual_bounds; modules = t.modules.items; kallsyms = t.kallsyms.items; regions = lines; addresses = [] }
+abbrev pub listings_with : BoundNames → ListingTexts → Option (List ListedRegion) → Inputs
+listings_with names t lines =
+    record { options = run_options names; modules = t.modules.items; kallsyms = t.kallsyms.items; regions = lines; addresses = [] }
 
 -- what holds of the inputs that were read holds of those that are known
-module _ (P : Result RunInputs (ℕ × ℕ) → Type 0) (readers : ℕ) (t : ListingTexts) where
+module _ (P : Result RunInputs (ℕ × ℕ) → Type 0) (names : BoundNames) (readers : ℕ) (t : ListingTexts) where
   abbrev Behind : Option (List ℕ) → Result (Option (List ListedRegion)) ℕ → Type 0
-  Behind file lines = IfSome (option_and_then (run_inputs_after readers file) (inputs_after usual_bounds [] (texts_in t) lines (Some None))) P
+  Behind file lines = IfSome (option_and_then (run_inputs_after readers file) (inputs_after (run_options names) [] (texts_in t) lines (Some None))) P
 
   with_script : (i : Inputs) (file : Option (List ℕ)) (text : List ℕ) → IfSome file (λ x. text ≡ x)
       → P (run_inputs_with i (script_of readers text)) → IfSome (run_inputs_after readers file (Ok i)) P
@@ -73,10 +72,10 @@ module _ (P : Result RunInputs (ℕ × ℕ) → Type 0) (readers : ℕ) (t : Lis
   with_script i (Some x) text is p = subst (λ s. P (run_inputs_with i (script_of readers s))) is p
 
   pub run_known : (lines : Option (List ListedRegion)) (file : Option (List ℕ)) (text : List ℕ) → region_lines (texts_in t).regions ≡ Ok lines
-      → IfSome file (λ x. text ≡ x) → P (run_inputs_with (listings_with t lines) (script_of readers text))
-      → IfSome (run_inputs_of readers file (texts_in t)) P
-  run_known lines file text read is p = subst (Behind file) (sym read) (with_script (listings_with t lines) file text is p)
+      → IfSome file (λ x. text ≡ x) → P (run_inputs_with (listings_with names t lines) (script_of readers text))
+      → IfSome (run_inputs_of names readers file (texts_in t)) P
+  run_known lines file text read is p = subst (Behind file) (sym read) (with_script (listings_with names t lines) file text is p)
 
   pub bad_region : (n : ℕ) (file : Option (List ℕ)) → region_lines (texts_in t).regions ≡ Err n → P (Err (2, n))
-      → IfSome (run_inputs_of readers file (texts_in t)) P
+      → IfSome (run_inputs_of names readers file (texts_in t)) P
   bad_region n file bad p = subst (Behind file) (sym bad) p

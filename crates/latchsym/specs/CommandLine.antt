@@ -4,6 +4,7 @@ use Rattle.clap.specs.Lexer.{usize_max}
 use Rattle.clap.specs.Words.{App, Rule, Text, app_of, new_app, new_rule, rule_of, with_rule}
 use Rattle.clap.specs.Words.{with_subcommand}
 use Rattle.clap.specs.Simple.{on_top}
+use Rattle.clap.specs.declared.builder.action.ArgAction.TheVariants.{SetTrue}
 use Rattle.clap.specs.declared.builder.arg.Arg.{Arg}
 use Rattle.clap.specs.declared.builder.command.Command.{Command}
 use Rattle.clap.specs.declared.builder.command.Command.TheViews.{out-Command}
@@ -20,6 +21,10 @@ option_rule id = record (new_rule id) { long = Some id; value_names = 1; require
 abbrev pub optional_rule : Text → Rule
 optional_rule id = record (new_rule id) { long = Some id; value_names = 1 }
 
+-- an option that may be given, without a value
+abbrev pub flag_rule : Text → Rule
+flag_rule id = record (new_rule id) { long = Some id; action = Some SetTrue }
+
 -- an option that may be given, with two values
 abbrev pub pair_rule : Text → Rule
 pair_rule id = record (new_rule id) { long = Some id; value_names = 2 }
@@ -35,33 +40,39 @@ words_rule id = record (new_rule id) {
 abbrev pub trace_app : App
 trace_app = with_rule (new_app (codes "trace")) (word_rule (codes "file"))
 
--- --modules FILE --kallsyms FILE [--regions FILE]
+-- --modules FILE --kallsyms FILE [--regions FILE] [--kernel START END]
 abbrev pub with_listings : App → App
 with_listings app =
     with_rule
+    (with_rule
     (with_rule (with_rule app (option_rule (codes "modules"))) (option_rule (codes "kallsyms")))
-    (optional_rule (codes "regions"))
+    (optional_rule (codes "regions")))
+    (pair_rule (codes "kernel"))
 
--- lookup --modules FILE --kallsyms FILE [--regions FILE] [--addresses FILE] [--kernel START END]
--- [ADDR]..
+-- lookup --modules FILE --kallsyms FILE [--regions FILE] [--kernel START END] [--addresses FILE]
+-- [--callers] [--offset N] [ADDR]..
 abbrev pub lookup_app : App
 lookup_app =
     with_rule
     (with_rule
+    (with_rule
     (with_rule (with_listings (new_app (codes "lookup"))) (optional_rule (codes "addresses")))
-    (pair_rule (codes "kernel")))
+    (flag_rule (codes "callers")))
+    (optional_rule (codes "offset")))
     (words_rule (codes "address"))
 
--- run --modules FILE --kallsyms FILE [--regions FILE] --readers N SCRIPT
+-- run --modules FILE --kallsyms FILE [--regions FILE] [--kernel START END] --readers N SCRIPT
 abbrev pub run_app : App
 run_app =
     with_rule
     (with_rule (with_listings (new_app (codes "run"))) (option_rule (codes "readers")))
     (word_rule (codes "script"))
 
--- a subcommand has to be given
+-- a subcommand has to be given, but for `--version`
 abbrev pub top_app : App
-top_app = on_top (λ s. record s { subcommand_required = true }) (new_app (codes "latchsym"))
+top_app =
+    on_top (λ s. record s { has_version = true; subcommand_required = true })
+    (new_app (codes "latchsym"))
 
 abbrev pub latchsym_app : App
 latchsym_app =

@@ -12,9 +12,10 @@ use Rattle.listing.specs.SymbolListing.{symbols_in}
 use Rattle.modules.specs.declared.catalog.BuildCounts.{BuildCounts}
 use Rattle.modules.specs.Catalogs.{catalog_of, counts_of}
 use Rattle.modules.specs.Entries.{CatalogEntries}
-use Rattle.modules.specs.Listed.{BoundNames, ListedRegion}
+use Rattle.modules.specs.Listed.{ListedRegion}
 use Rattle.latchsym.specs.declared.lookup.ListingTexts.{ListingTexts}
 use Rattle.latchsym.specs.declared.lookup.LookupInputs.{LookupInputs}
+use Rattle.latchsym.specs.declared.lookup.LookupOptions.{LookupOptions}
 use Rattle.latchsym.specs.declared.lookup.LookupReaders.{LookupReaders}
 use Rattle.listing.specs.RegionListing.{regions_of_text as listed_regions}
 
@@ -32,10 +33,10 @@ texts_in t = record {
   regions = option_map (λ text. text.items) t.regions;
 }
 
--- What a lookup is asked over: the names that bound the kernel's own region, the texts of two
--- listings, the lines of that of regions, where there is one, and the addresses of both places.
+-- What a lookup is asked over: the options, the texts of two listings, the lines of that of regions,
+-- where there is one, and the addresses of both places.
 pub record Inputs : Type 0 where
-  pub names : BoundNames
+  pub options : LookupOptions
   pub modules : List ℕ
   pub kallsyms : List ℕ
   pub regions : Option (List ListedRegion)
@@ -61,11 +62,11 @@ all_addresses given text = entries_after given (listed_addresses text)
 
 -- the inputs with these region lines and addresses, or the first bad line of the file of addresses,
 -- as the place of that file and the number of the line
-abbrev pub inputs_with : BoundNames → Texts → Option (List ListedRegion) → Result (List ℕ) ℕ
+abbrev pub inputs_with : LookupOptions → Texts → Option (List ListedRegion) → Result (List ℕ) ℕ
     → Result Inputs (ℕ × ℕ)
-inputs_with names t regions (Err n) = Err (3, n)
-inputs_with names t regions (Ok addresses) = Ok (record {
-  names = names;
+inputs_with options t regions (Err n) = Err (3, n)
+inputs_with options t regions (Ok addresses) = Ok (record {
+  options = options;
   modules = t.modules;
   kallsyms = t.kallsyms;
   regions = regions;
@@ -73,21 +74,21 @@ inputs_with names t regions (Ok addresses) = Ok (record {
 })
 
 -- The same, where the text of that file is known. A bad region line is told before it is read.
-abbrev pub inputs_after : BoundNames → List ℕ → Texts → Result (Option (List ListedRegion)) ℕ
+abbrev pub inputs_after : LookupOptions → List ℕ → Texts → Result (Option (List ListedRegion)) ℕ
     → Option (Option (List ℕ)) → Option (Result Inputs (ℕ × ℕ))
-inputs_after names given t (Err n) file = Some (Err (2, n))
-inputs_after names given t (Ok regions) file =
-    option_map (λ text. inputs_with names t regions (all_addresses given text)) file
+inputs_after options given t (Err n) file = Some (Err (2, n))
+inputs_after options given t (Ok regions) file =
+    option_map (λ text. inputs_with options t regions (all_addresses given text)) file
 
--- the inputs that these texts are, after the names and the addresses of the command line
-abbrev pub inputs_of : BoundNames → List ℕ → Option (Option (List ℕ)) → Texts
+-- the inputs that these texts are, after the options and the addresses of the command line
+abbrev pub inputs_of : LookupOptions → List ℕ → Option (Option (List ℕ)) → Texts
     → Option (Result Inputs (ℕ × ℕ))
-inputs_of names given file t = inputs_after names given t (region_lines t.regions) file
+inputs_of options given file t = inputs_after options given t (region_lines t.regions) file
 
 -- the inputs that the program gathers
 abbrev pub inputs_in : LookupInputs → Inputs
 inputs_in i = record {
-  names = i.names.now;
+  options = i.options.now;
   modules = i.modules.now;
   kallsyms = i.kallsyms.now;
   regions = option_map (λ lines. lines.items) i.regions;
@@ -101,12 +102,12 @@ region_lines_of_inputs i = unwrap_or i.regions []
 -- the catalog that the listings say, and how many of their entries went where
 unfoldable pub catalog_in : Inputs → CatalogEntries
 catalog_in i =
-    catalog_of i.names (modules_in (lines_of i.modules)) (region_lines_of_inputs i)
+    catalog_of i.options.kernel (modules_in (lines_of i.modules)) (region_lines_of_inputs i)
     (symbols_in (lines_of i.kallsyms))
 
 unfoldable pub counts_in : Inputs → BuildCounts
 counts_in i =
-    counts_of i.names (modules_in (lines_of i.modules)) (region_lines_of_inputs i)
+    counts_of i.options.kernel (modules_in (lines_of i.modules)) (region_lines_of_inputs i)
     (symbols_in (lines_of i.kallsyms))
 
 -- what a reader gives that may be there, where that is known
@@ -123,9 +124,9 @@ texts_of _ _ _ = None
 
 -- the inputs that readers give, where the bytes of each that is read for them are known
 abbrev pub known_inputs : {M K R A : Type 0} → (M → Option (List ℕ)) → (K → Option (List ℕ))
-    → (R → Option (List ℕ)) → (A → Option (List ℕ)) → LookupReaders M K R A → BoundNames → List ℕ
+    → (R → Option (List ℕ)) → (A → Option (List ℕ)) → LookupReaders M K R A → LookupOptions → List ℕ
     → Option (Result Inputs (ℕ × ℕ))
-known_inputs modules kallsyms regions addresses readers names given =
-    option_and_then (inputs_of names given (known_text addresses readers.addresses))
+known_inputs modules kallsyms regions addresses readers options given =
+    option_and_then (inputs_of options given (known_text addresses readers.addresses))
     (texts_of (modules (device_of readers.modules)) (kallsyms (device_of readers.kallsyms))
     (known_text regions readers.regions))

@@ -5,12 +5,14 @@ use Rattle.listing.specs.declared.module_listing.ModuleCounts.{ModuleCounts}
 use Rattle.listing.specs.declared.symbol_listing.SymbolCounts.{SymbolCounts}
 use Rattle.modules.specs.declared.catalog.BuildCounts.{BuildCounts}
 use Rattle.modules.specs.Entries.{CatalogEntries}
-use Rattle.listing.specs.Answers.{answer_text}
+use Rattle.listing.specs.Answers.{answer_text_by}
+use Rattle.listing.specs.declared.address_rules.AddressRule.{AddressRule}
 use Rattle.latchsym.specs.declared.table.Answer.{Answer}
 
 -- an address, and the text of its answer
-unfoldable pub answer_line : CatalogEntries → Answer → List ℕ
-answer_line c a = hexadecimal a.addr ++ codes " " ++ answer_text c a.item a.addr ++ codes "\n"
+unfoldable pub answer_line : CatalogEntries → AddressRule → Answer → List ℕ
+answer_line c rule a =
+    hexadecimal a.addr ++ codes " " ++ answer_text_by c rule a.item a.addr ++ codes "\n"
 
 -- a word, with the blanks around it, and a count
 abbrev pub count_text : List ℕ → ℕ → List ℕ

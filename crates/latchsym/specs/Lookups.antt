@@ -38,7 +38,8 @@ count_lines i =
 abbrev pub lookup_text : Inputs → List ℕ
 lookup_text i =
     let c = catalog_in i in
-    flat_map (answer_line c) (map (answer_at c) i.addresses) ++ count_lines i
+    let rule = i.options.rule in
+    flat_map (answer_line c rule) (map (answer_at c rule) i.addresses) ++ count_lines i
 
 -- no module has too many region lines, and a table of all regions has so many nodes at most
 abbrev pub FitsTable : Inputs → Type 0

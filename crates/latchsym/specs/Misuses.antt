@@ -9,6 +9,7 @@ use Rattle.latchsym.specs.Faults.{IsReported, fault_text}
 use Rattle.latchsym.specs.declared.command_line.JobFault.{JobFault}
 use Rattle.latchsym.specs.declared.command_line.JobFault.TheVariants.{OutOfMemory, CommandLine}
 use Rattle.latchsym.specs.declared.command_line.JobFault.TheVariants.{BadAddress, NoAddress}
+use Rattle.latchsym.specs.declared.command_line.JobFault.TheVariants.{BadEnd, BadOffset}
 use Rattle.latchsym.specs.declared.command_line.JobFault.TheVariants.{BadReaders, NoJob}
 use Rattle.latchsym.specs.declared.fault.Fault.TheVariants.{Refused}
 
@@ -41,6 +42,11 @@ IsNoJob contents old new (BadAddress word) status =
     IsMisused contents old new (codes "bad address ") word.now status
 IsNoJob contents old new NoAddress status =
     IsMisused contents old new (codes "no address is given") [] status
+IsNoJob contents old new (BadOffset word) status =
+    IsMisused contents old new (codes "bad offset ") word.now status
+IsNoJob contents old new (BadEnd word) status =
+    IsMisused contents old new (codes "--kernel takes two names of symbols, and its END is ") word.now
+    status
 IsNoJob contents old new (BadReaders word) status =
     IsMisused contents old new (codes "bad number of readers ") word.now status
 IsNoJob contents old new NoJob status =

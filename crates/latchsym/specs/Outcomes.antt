@@ -30,7 +30,7 @@ pub record IsTraced {F W : Type 0} (remaining : F → Option (List ℕ))
   pub answered : AnswersTrace remaining contents before after w w' result
   pub status : outcome ≡ with_status result
 
--- what the engine of lookups returned for the job's own files, bounds and addresses, whose success
+-- what the engine of lookups returned for the job's own files, options and addresses, whose success
 -- is status 0
 pub record IsLookedUp {F W : Type 0} (remaining : F → Option (List ℕ))
     (contents : W → Option (List ℕ)) (held : Held) (standard : Option (List ℕ)) (job : LookupJob)
@@ -40,11 +40,11 @@ pub record IsLookedUp {F W : Type 0} (remaining : F → Option (List ℕ))
   pub opened : AreLookupFiles remaining held standard job before
   pub result : Result (Unit {0}) Fault
   pub answered : AnswersLookup contents
-      (known_inputs remaining remaining remaining remaining before job.kernel job.addresses.items)
+      (known_inputs remaining remaining remaining remaining before job.options job.addresses.items)
       (failures_between before after) w w' result
   pub status : outcome ≡ with_status result
 
--- what the engine of scripts returned for the job's own files and number of readers
+-- what the engine of scripts returned for the job's own files, bounds and number of readers
 pub record IsScriptRun {F W : Type 0} (remaining : F → Option (List ℕ))
     (contents : W → Option (List ℕ)) (held : Held) (job : RunJob)
     (w w' : Counted W) (outcome : Result ℕ Fault) : Type 0 where
@@ -52,7 +52,7 @@ pub record IsScriptRun {F W : Type 0} (remaining : F → Option (List ℕ))
   pub after : RunReaders F F F F
   pub opened : AreRunFiles remaining held job before
   pub answered : AnswersRun contents job.readers
-      (known_run_inputs remaining remaining remaining remaining before job.readers)
+      (known_run_inputs remaining remaining remaining remaining before job.kernel job.readers)
       (run_failures_between before after) w w' outcome
 
 -- memory ran out before the engine began

@@ -1,18 +1,20 @@
 //! The command line: what it may say, and the job that it asks for.
-ghost use Rattle.std.specs.Prelude.{◌≡◌, Some, IfOk, codes, map, option_map};
+ghost use Rattle.std.specs.Prelude.{◌≡◌, ◌∷◌, [], Some, IfOk, codes, map, option_map};
 ghost use Rattle.clap.specs.Words.{found_of, first_of, rows_of, subcommand_rows_of};
 ghost use Rattle.clap.specs.Words.{with_subcommand, App};
 ghost use Rattle.latchsym.specs.CommandLine.{lookup_app, run_app, trace_app, latchsym_app};
 ghost use Rattle.latchsym.specs.CommandLine.{option_rule, optional_rule, pair_rule, with_listings};
-ghost use Rattle.latchsym.specs.CommandLine.{word_rule, words_rule, IsCommand, IsPlainArg};
-ghost use Rattle.latchsym.specs.Jobs.{asked_lookup, asked_run, asked_trace, readers_of, bounds_in};
-ghost use Rattle.latchsym.specs.Jobs.{values_in, AnswersAsked, AnswersMatches, AnswersWords};
+ghost use Rattle.latchsym.specs.CommandLine.{flag_rule, word_rule, words_rule, IsCommand, IsPlainArg};
+ghost use Rattle.latchsym.specs.Jobs.{asked_lookup, asked_run, asked_trace, is_like_address};
+ghost use Rattle.latchsym.specs.Jobs.{readers_of, values_in, AnswersAsked, AnswersMatches};
+ghost use Rattle.latchsym.specs.Jobs.{AnswersWords, GivesBounds, GivesOffset};
 ghost use Rattle.latchsym.specs.Jobs.{AreNumbers, IsFaultOf};
 
+use crate::lookup::LookupOptions;
 use clap::error::ErrorKind;
-use clap::{Arg, ArgMatches, Command, Error};
+use clap::{Arg, ArgAction, ArgMatches, Command, Error};
 use latch_table::MOST_READERS;
-use listing::{number, number_up_to};
+use listing::{AddressRule, number, number_up_to};
 use modules::KernelBounds;
 use std::alloc::{AllocError, AllocFailed, Global};
 use std::convert::AsStr;
@@ -22,11 +24,11 @@ use std::convert::AsStr;
 pub enum Job<'a> {
     /// `latchsym trace FILE`: run the trace in this file.
     Trace { file: &'a str },
-    /// `latchsym lookup --modules FILE --kallsyms FILE [--regions FILE] [--addresses FILE]
-    /// [--kernel START END] [ADDR]..`: look addresses up.
+    /// `latchsym lookup --modules FILE --kallsyms FILE [--regions FILE] [--kernel START END]
+    /// [--addresses FILE] [--callers] [--offset N] [ADDR]..`: look addresses up.
     Lookup(LookupJob<'a>),
-    /// `latchsym run --modules FILE --kallsyms FILE [--regions FILE] --readers N SCRIPT`: do what a
-    /// script says, each writer and each reader on a thread.
+    /// `latchsym run --modules FILE --kallsyms FILE [--regions FILE] [--kernel START END] --readers N
+    /// SCRIPT`: do what a script says, each writer and each reader on a thread.
     Run(RunJob<'a>),
 }
 
@@ -41,8 +43,8 @@ pub struct LookupJob<'a> {
     pub regions: Option<&'a str>,
     /// The file of further addresses, where there is one; `-` is the standard input.
     pub address_file: Option<&'a str>,
-    /// The names of the symbols that bound the kernel's own region.
-    pub kernel: KernelBounds<'a>,
+    /// How the kernel's own region is found, and how the addresses are taken.
+    pub options: LookupOptions<'a>,
     /// The addresses of the command line, in the order of their words.
     pub addresses: Vec<u64>,
 }
@@ -56,6 +58,8 @@ pub struct RunJob<'a> {
     pub kallsyms: &'a str,
     /// The file of the listing of regions, where there is one.
     pub regions: Option<&'a str>,
+    /// The names of the symbols that bound the kernel's own region.
+    pub kernel: KernelBounds<'a>,
     /// How many readers there are, 1 to 64.
     pub readers: u32,
     /// The file of the script.
@@ -98,6 +102,10 @@ pub enum JobFault<'a> {
     BadAddress(&'a str),
     /// A lookup without an address.
     NoAddress,
+    /// A value of `--offset` that is no NUMBER.
+    BadOffset(&'a str),
+    /// An END of `--kernel` that begins with `0x`, as an address does.
+    BadEnd(&'a str),
     /// A value of `--readers` that is no NUMBER from 1 to 64.
     BadReaders(&'a str),
     /// The words pass, and still name no job.
@@ -113,6 +121,16 @@ impl<T: Drop> From<AllocFailed<T>> for JobFault<'_> {
         JobFault::OutOfMemory
     }
 }
+
+/// The version that `--version` tells.
+const VERSION: &str = "1.0.0";
+
+/// What the help ends with.
+const STATUSES: &str = "\
+ADDR and N are numbers: decimal, or hexadecimal behind 0x.
+
+Status 0: done. 1: a file or the output failed, or the program was refused. 2: the command line is
+at fault.";
 
 /// The job that a program's words ask for, the first of which is the program's name.
 pub fn job_of<'a, S: AsStr>(alloc: Global, words: &'a [S]) -> Result<Job<'a>, JobFault<'a>>
@@ -132,7 +150,9 @@ fn latchsym_command<'a>(alloc: Global) -> Result<Command<'a>, AllocError>
     ensures { IfOk result (IsCommand latchsym_app) }
 {
     let command = Command::new(alloc, "latchsym")
-        .about("A latched address tree, step by step")
+        .about("Says which symbol and which module of a Linux kernel hold an address")
+        .after_help(STATUSES)
+        .version(VERSION)
         .subcommand_required(true);
     let command = with_subcommand(command, trace_command(alloc))?;
     let command = with_subcommand(command, lookup_command(alloc))?;
@@ -166,24 +186,30 @@ fn with_listings<'a>(alloc: Global, command: Command<'a>) -> Result<Command<'a>,
 {
     let modules_help = "The modules, in the form of /proc/modules";
     let kallsyms_help = "The symbols, in the form of /proc/kallsyms";
+    let regions_help = "The regions of the modules, where they have more than one";
+    let kernel_help = "The symbols that bound the kernel itself, in place of _stext and _end";
     command
         .arg(required_option(alloc, "modules", "FILE").help(modules_help))?
         .arg(required_option(alloc, "kallsyms", "FILE").help(kallsyms_help))?
-        .arg(optional_option(alloc, "regions").help("The regions of the modules"))
+        .arg(optional_option(alloc, "regions", "FILE").help(regions_help))?
+        .arg(optional_pair(alloc, "kernel", &["START", "END"]).help(kernel_help))
 }
 
 fn lookup_command<'a>(alloc: Global) -> Result<Command<'a>, AllocError>
     ensures { IfOk result (IsCommand lookup_app) }
 {
     let file_help = "Further addresses, a number a line; - is the standard input";
-    let kernel_help = "The symbols that bound the kernel itself, in place of _stext and _end";
+    let callers_help = "Return addresses: look up the call before each, and tell its own offset";
+    let offset_help = "Look each address up N bytes lower, as of a kernel moved up by N at boot";
+    let address_help = "The addresses, decimal, or hexadecimal behind 0x";
     let command = Command::new(alloc, "lookup").about(
         "Say which module and which symbol hold an address",
     );
     with_listings(alloc, command)?
-        .arg(optional_option(alloc, "addresses").help(file_help))?
-        .arg(optional_pair(alloc, "kernel", &["START", "END"]).help(kernel_help))?
-        .arg(any_words(alloc, "address", "ADDR").help("The addresses"))
+        .arg(optional_option(alloc, "addresses", "FILE").help(file_help))?
+        .arg(flag(alloc, "callers").help(callers_help))?
+        .arg(optional_option(alloc, "offset", "N").help(offset_help))?
+        .arg(any_words(alloc, "address", "ADDR").help(address_help))
 }
 
 fn run_command<'a>(alloc: Global) -> Result<Command<'a>, AllocError>
@@ -214,10 +240,16 @@ fn required_option<'a>(alloc: Global, id: &'a str, value: &'a str) -> Arg<'a>
         .required(true)
 }
 
-fn optional_option<'a>(alloc: Global, id: &'a str) -> Arg<'a>
+fn optional_option<'a>(alloc: Global, id: &'a str, value: &'a str) -> Arg<'a>
     ensures { IsPlainArg (optional_rule id.entry.now) result }
 {
-    Arg::new(alloc, id).long(id).value_name("FILE")
+    Arg::new(alloc, id).long(id).value_name(value)
+}
+
+fn flag<'a>(alloc: Global, id: &'a str) -> Arg<'a>
+    ensures { IsPlainArg (flag_rule id.entry.now) result }
+{
+    Arg::new(alloc, id).long(id).action(ArgAction::SetTrue)
 }
 
 fn optional_pair<'a>(alloc: Global, id: &'a str, values: &'a [&'a str; 2]) -> Arg<'a>
@@ -275,11 +307,11 @@ fn lookup_job<'a>(alloc: Global, found: &ArgMatches<'a>) -> Result<Job<'a>, JobF
     let Some(kallsyms) = value_of(found, "kallsyms") else {
         return Err(JobFault::NoJob);
     };
-    let Some(kernel) = bounds_in(values_of(found, "kernel")) else {
-        return Err(JobFault::NoJob);
-    };
+    let kernel = bounds_in(values_of(found, "kernel"))?;
     let regions = value_of(found, "regions");
     let address_file = value_of(found, "addresses");
+    let callers = value_of(found, "callers") == Some("true");
+    let offset = offset_in(value_of(found, "offset"))?;
     let words = values_of(found, "address");
     if words.is_empty() && address_file.is_none() {
         return Err(JobFault::NoAddress);
@@ -290,7 +322,10 @@ fn lookup_job<'a>(alloc: Global, found: &ArgMatches<'a>) -> Result<Job<'a>, JobF
         kallsyms,
         regions,
         address_file,
-        kernel,
+        options: LookupOptions {
+            kernel,
+            rule: AddressRule { callers, offset },
+        },
         addresses,
     }))
 }
@@ -306,6 +341,7 @@ fn run_job<'a>(found: &ArgMatches<'a>) -> Result<Job<'a>, JobFault<'a>>
         return Err(JobFault::NoJob);
     };
     let regions = value_of(found, "regions");
+    let kernel = bounds_in(values_of(found, "kernel"))?;
     let Some(readers) = readers_in(word) else {
         return Err(JobFault::BadReaders(word));
     };
@@ -313,6 +349,7 @@ fn run_job<'a>(found: &ArgMatches<'a>) -> Result<Job<'a>, JobFault<'a>>
         modules,
         kallsyms,
         regions,
+        kernel,
         readers,
         script,
     }))
@@ -326,18 +363,45 @@ fn readers_in(word: &str) -> Option<u32>
 }
 
 /// The names of the symbols that bound the kernel's own region: the two that are given, or the
-/// usual ones where none is.
-fn bounds_in<'a>(names: &[&'a str]) -> Option<KernelBounds<'a>>
-    ensures { result ≡ bounds_in (map (λ n. n.now) names.now) }
+/// usual ones where none is. Where a lookup is asked for with one name alone, its first address is
+/// taken for the other, which is what a `0x` in front of it tells.
+fn bounds_in<'a>(names: &[&'a str]) -> Result<KernelBounds<'a>, JobFault<'a>>
+    ensures { GivesBounds (map (λ n. n.now) names.now) result }
 {
     match names {
-        [] => Some(KernelBounds::usual()),
-        [start, end] => Some(KernelBounds {
-            start: start.as_bytes(),
-            end: end.as_bytes(),
-        }),
-        _ => None,
+        [] => Ok(KernelBounds::usual()),
+        [start, end] => bounds_between(start, end),
+        _ => Err(JobFault::NoJob),
     }
+}
+
+fn bounds_between<'a>(start: &'a str, end: &'a str) -> Result<KernelBounds<'a>, JobFault<'a>>
+    ensures { GivesBounds (start.entry.now ∷ end.entry.now ∷ []) result }
+{
+    if is_like_address(end) {
+        return Err(JobFault::BadEnd(end));
+    }
+    Ok(KernelBounds {
+        start: start.as_bytes(),
+        end: end.as_bytes(),
+    })
+}
+
+/// Whether a word looks like an address, and not like the name of a symbol.
+fn is_like_address(word: &str) -> bool
+    ensures { result ≡ is_like_address word.now }
+{
+    word.as_bytes().starts_with(b"0x")
+}
+
+/// How many bytes lower the addresses are looked up: none where no word says it.
+fn offset_in<'a>(word: Option<&'a str>) -> Result<u64, JobFault<'a>>
+    ensures { GivesOffset (option_map (λ w. w.now) word.entry) result }
+{
+    let Some(word) = word else {
+        return Ok(0);
+    };
+    number(word.as_bytes()).ok_or(JobFault::BadOffset(word))
 }
 
 /// The numbers that words are.

@@ -41,7 +41,7 @@ pub trait FileSource {
 }
 
 /// Does the job over the files that it names: opens them, and has its engine answer with the job's
-/// own bounds, addresses and number of readers. Returns the program's status, or why it failed.
+/// own options, addresses and number of readers. Returns the program's status, or why it failed.
 pub fn do_job<T: Threads + Wait + Sync, F: FileSource, W: Write>(
     threads: &T,
     alloc: Global,
@@ -84,7 +84,7 @@ fn do_lookup<F: FileSource, W: Write>(
         job.now writer.old writer.new result ⊎ IsNotOpened writer.old writer.new result }
 {
     let mut readers = open_lookup(files, job)?;
-    with_status(lookup_engine(alloc, &mut readers, &job.kernel, &job.addresses, writer))
+    with_status(lookup_engine(alloc, &mut readers, &job.options, &job.addresses, writer))
 }
 
 /// Runs the script of a job.
@@ -99,7 +99,8 @@ fn do_run<T: Threads + Wait + Sync, F: FileSource, W: Write>(
         job.now writer.old writer.new result ⊎ IsNotOpened writer.old writer.new result }
 {
     let mut readers = open_run(files, job)?;
-    run_engine(threads, alloc, &mut readers, job.readers, writer)
+    let kernel = &job.kernel;
+    run_engine(threads, alloc, &mut readers, kernel, job.readers, writer)
 }
 
 /// Opens the files of a lookup.

@@ -17,8 +17,8 @@ use crate::fault::Fault;
 use crate::lookup_texts::{put_answers, put_module_counts, put_region_counts, put_symbol_counts};
 use crate::table::{Answer, answers_of};
 use listing::{
-    Counted, ModuleCounts, ReadFault, SymbolCounts, read_addresses, read_kallsyms, read_modules,
-    read_regions, read_whole,
+    AddressRule, Counted, ModuleCounts, ReadFault, SymbolCounts, read_addresses, read_kallsyms,
+    read_modules, read_regions, read_whole,
 };
 use modules::{BuildCounts, Catalog, KernelBounds, RegionLine};
 use order_laws::Refusal;
@@ -56,11 +56,19 @@ pub struct ListingTexts {
     pub regions: Option<Vec<u8>>,
 }
 
+/// How the kernel's own region is found, and how addresses are taken.
+#[derive(Debug, Drop)]
+pub struct LookupOptions<'a> {
+    /// The names of the symbols that bound the kernel's own region.
+    pub kernel: KernelBounds<'a>,
+    /// How the addresses are taken that are looked up.
+    pub rule: AddressRule,
+}
+
 /// What a lookup is asked over.
 #[derive(Drop)]
 pub struct LookupInputs<'a> {
-    /// The names of the symbols that bound the kernel's own region.
-    pub names: &'a KernelBounds<'a>,
+    pub options: &'a LookupOptions<'a>,
     /// The text of the listing of modules.
     pub modules: &'a [u8],
     /// The text of the listing of symbols.
@@ -84,21 +92,21 @@ pub struct Listings<'a> {
 
 /// Looks addresses up in the listings of modules and of symbols, and writes a line for each address
 /// and a line of counts for each listing. A listing of regions may say where modules lie, and a
-/// file of addresses which are looked up after the given ones. The kernel's own region lies
-/// between the symbols of these names.
+/// file of addresses which are looked up after the given ones. The options name the symbols between
+/// which the kernel's own region lies, and say how the addresses are taken.
 ///
 /// All is read, and all answers are there, before the first byte is written; so every fault but a
 /// failed write leaves the writer as it was. docs/FORMATS.md has the files and the lines.
 pub fn lookup_engine<M: Read, K: Read, R: Read, A: Read, W: Write>(
     alloc: Global,
     readers: &mut LookupReaders<M, K, R, A>,
-    names: &KernelBounds<'_>,
+    options: &LookupOptions<'_>,
     addresses: &[u64],
     writer: &mut Counted<W>,
 ) -> Result<(), Fault>
     ensures { AnswersLookup W.contents
         (known_inputs M.remaining K.remaining R.remaining A.remaining
-        readers.old names.now addresses.now)
+        readers.old options.now addresses.now)
         (failures_between readers.old readers.new) writer.old writer.new result }
 {
     let modules = read_at(alloc, &mut readers.modules, MODULES_PLACE)?;
@@ -110,7 +118,7 @@ pub fn lookup_engine<M: Read, K: Read, R: Read, A: Read, W: Write>(
         regions,
     };
     let file = &mut readers.addresses;
-    answer_from(alloc, names, addresses, &texts, file, writer)
+    answer_from(alloc, options, addresses, &texts, file, writer)
 }
 
 /// Reads the listing of regions, where there is one.
@@ -149,20 +157,20 @@ pub(crate) fn read_at<R: Read>(
 /// of a file.
 fn answer_from<A: Read, W: Write>(
     alloc: Global,
-    names: &KernelBounds<'_>,
+    options: &LookupOptions<'_>,
     given: &[u64],
     texts: &ListingTexts,
     file: &mut Option<Counted<A>>,
     writer: &mut Counted<W>,
 ) -> Result<(), Fault>
     ensures { AnswersLookup W.contents
-        (inputs_of names.now given.now (known_text A.remaining file.old) (texts_in texts.now))
+        (inputs_of options.now given.now (known_text A.remaining file.old) (texts_in texts.now))
         (last_failures (failures_in file.old) (failures_in file.new)) writer.old writer.new result }
 {
     let regions = region_lines_in(alloc, &texts.regions)?;
     let addresses = all_addresses(alloc, given, file)?;
     let inputs = LookupInputs {
-        names,
+        options,
         modules: &texts.modules,
         kallsyms: &texts.kallsyms,
         regions,
@@ -217,13 +225,15 @@ fn answer_with<W: Write>(
     ensures { AnswersWith W.contents (inputs_in inputs.now) writer.old writer.new result }
 {
     let listings = listings_in(alloc, inputs)?;
+    let rule = inputs.options.rule;
     let answers = answers_of(
         alloc,
         &listings.catalog,
         listings.built.modules,
+        rule,
         &inputs.addresses,
     )?;
-    put_lookup(writer, &listings, &answers).map_err(|_| Fault::Write)
+    put_lookup(writer, &listings, rule, &answers).map_err(|_| Fault::Write)
 }
 
 /// Reads the lines of the first two listings, and builds the catalog of all three. Refused where
@@ -243,7 +253,7 @@ pub(crate) fn listings_in<'a>(
     let regions = region_lines_of(inputs);
     let (catalog, built) = Catalog::build_between(
         alloc,
-        inputs.names,
+        &inputs.options.kernel,
         &module_lines,
         regions,
         symbol_lines,
@@ -271,12 +281,13 @@ fn region_lines_of<'i, 'a>(inputs: &'i LookupInputs<'a>) -> &'i [RegionLine<'a>]
 fn put_lookup<W: Write>(
     writer: &mut Counted<W>,
     listings: &Listings,
+    rule: AddressRule,
     answers: &[Answer],
 ) -> io::Result<()>
     ensures { Wrote W.contents writer.old writer.new result
-        (flat_map (answer_line listings.now.catalog) answers.now ++ counts_text listings.now) }
+        (flat_map (answer_line listings.now.catalog rule) answers.now ++ counts_text listings.now) }
 {
-    put_answers(writer, &listings.catalog, answers)?;
+    put_answers(writer, &listings.catalog, rule, answers)?;
     put_counts(writer, listings)?;
     writer.flush()
 }

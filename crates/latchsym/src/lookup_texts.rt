@@ -6,22 +6,25 @@ ghost use Rattle.latchsym.specs.LookupTexts.{symbols_line};
 
 use crate::table::Answer;
 use crate::texts::put_decimal;
-use listing::{Counted, ModuleCounts, SymbolCounts, put, put_hexadecimal, write_answer};
+use listing::{
+    AddressRule, Counted, ModuleCounts, SymbolCounts, put, put_hexadecimal, write_answer_by,
+};
 use modules::{BuildCounts, Catalog};
 use std::io;
 use std::io::Write;
 
-/// Writes the line of each answer, in order.
+/// Writes the line of each answer, in order, for addresses that are taken by this rule.
 pub fn put_answers<W: Write>(
     writer: &mut Counted<W>,
     catalog: &Catalog,
+    rule: AddressRule,
     answers: &[Answer],
 ) -> io::Result<()>
     ensures { Wrote W.contents writer.old writer.new result
-        (flat_map (answer_line catalog.now) answers.now) }
+        (flat_map (answer_line catalog.now rule) answers.now) }
 {
     for answer in answers {
-        put_answer(writer, catalog, answer)?;
+        put_answer(writer, catalog, rule, answer)?;
     }
     Ok(())
 }
@@ -31,13 +34,14 @@ pub fn put_answers<W: Write>(
 fn put_answer<W: Write>(
     writer: &mut Counted<W>,
     catalog: &Catalog,
+    rule: AddressRule,
     answer: &Answer,
 ) -> io::Result<()>
-    ensures { Wrote W.contents writer.old writer.new result (answer_line catalog.now answer.now) }
+    ensures { Wrote W.contents writer.old writer.new result (answer_line catalog.now rule answer.now) }
 {
     put_hexadecimal(writer, answer.addr)?;
     put(writer, b" ")?;
-    write_answer(writer, catalog, answer.item, answer.addr)?;
+    write_answer_by(writer, catalog, rule, answer.item, answer.addr)?;
     put(writer, b"\n")
 }
 

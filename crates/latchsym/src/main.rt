@@ -1,10 +1,10 @@
 //! The program `latchsym`: a latched address tree, one word at a time.
 //!
 //! `latchsym trace FILE` runs a trace in the step machine and writes what its lookups found.
-//! `latchsym lookup --modules FILE --kallsyms FILE [--regions FILE] [--addresses FILE]
-//! [--kernel START END] [ADDR]..` says which module and which symbol hold an address.
-//! `latchsym run --modules FILE --kallsyms FILE [--regions FILE] --readers N SCRIPT` does what a
-//! script says, each writer and each reader on a thread of its own.
+//! `latchsym lookup --modules FILE --kallsyms FILE [--regions FILE] [--kernel START END]
+//! [--addresses FILE] [--callers] [--offset N] [ADDR]..` says which module and which symbol hold an
+//! address. `latchsym run --modules FILE --kallsyms FILE [--regions FILE] [--kernel START END]
+//! --readers N SCRIPT` does what a script says, each writer and each reader on a thread of its own.
 #![tactic(auto)]
 
 mod assignments;

@@ -27,6 +27,12 @@ pub fn refuse<P: Print + Eprint, E: Write>(
         JobFault::CommandLine(error) => explain(rt, &error, errors),
         JobFault::BadAddress(word) => misused(b"bad address ", word, errors),
         JobFault::NoAddress => misused(b"no address is given", "", errors),
+        JobFault::BadOffset(word) => misused(b"bad offset ", word, errors),
+        JobFault::BadEnd(word) => misused(
+            b"--kernel takes two names of symbols, and its END is ",
+            word,
+            errors,
+        ),
         JobFault::BadReaders(word) => misused(b"bad number of readers ", word, errors),
         JobFault::NoJob => misused(b"the command line names no job", "", errors),
     }

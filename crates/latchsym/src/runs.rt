@@ -17,11 +17,11 @@ ghost use Rattle.latchsym.specs.Runs.{status_of};
 use crate::assignments::{Assignments, assign};
 use crate::fault::{FAILED, Fault, SUCCEEDED};
 use crate::lookup::{
-    KALLSYMS_PLACE, ListingTexts, LookupInputs, MODULES_PLACE, listings_in, read_at, read_if_given,
-    region_lines_in,
+    KALLSYMS_PLACE, ListingTexts, LookupInputs, LookupOptions, MODULES_PLACE, listings_in, read_at,
+    read_if_given, region_lines_in,
 };
 use crate::run_texts::put_run;
-use listing::{Counted, ModuleName, ScriptLine, read_script};
+use listing::{AddressRule, Counted, ModuleName, ScriptLine, read_script};
 use modules::{Catalog, KernelBounds};
 use order_laws::Refusal;
 use shared_lookup::{Open, Served, serve};
@@ -47,7 +47,8 @@ pub struct RunReaders<M, K, R, S> {
 const SCRIPT_PLACE: u64 = 3;
 
 /// Does what a script for so many readers says, over a table that is empty at first, and writes a
-/// line for each refused change and each lookup and the line of the totals. Returns the program's
+/// line for each refused change and each lookup and the line of the totals. The kernel's own region
+/// lies between the symbols of these names. Returns the program's
 /// status, 1 where an answer was not that of its generation or a change is not in the log as it was
 /// accepted.
 ///
@@ -58,11 +59,13 @@ pub fn run_engine<T: Threads + Wait + Sync, M: Read, K: Read, R: Read, S: Read, 
     rt: &T,
     alloc: Global,
     readers: &mut RunReaders<M, K, R, S>,
+    kernel: &KernelBounds<'_>,
     count: u32,
     writer: &mut Counted<W>,
 ) -> Result<u8, Fault>
     ensures { AnswersRun W.contents count
-        (known_run_inputs M.remaining K.remaining R.remaining S.remaining readers.old count)
+        (known_run_inputs M.remaining K.remaining R.remaining S.remaining
+        readers.old kernel.now count)
         (run_failures_between readers.old readers.new) writer.old writer.new result }
 {
     let modules = read_at(alloc, &mut readers.modules, MODULES_PLACE)?;
@@ -74,7 +77,7 @@ pub fn run_engine<T: Threads + Wait + Sync, M: Read, K: Read, R: Read, S: Read, 
         regions,
     };
     let script = &mut readers.script;
-    run_from(rt, alloc, &texts, script, count, writer)
+    run_from(rt, alloc, &texts, script, kernel, count, writer)
 }
 
 /// Does what a script for so many readers says, over the texts of the listings.
@@ -83,18 +86,26 @@ fn run_from<T: Threads + Wait + Sync, S: Read, W: Write>(
     alloc: Global,
     texts: &ListingTexts,
     script: &mut Counted<S>,
+    kernel: &KernelBounds<'_>,
     readers: u32,
     writer: &mut Counted<W>,
 ) -> Result<u8, Fault>
     ensures { AnswersRun W.contents readers
-        (run_inputs_of readers (S.remaining (device_of script.old)) (texts_in texts.now))
+        (run_inputs_of kernel.now readers (S.remaining (device_of script.old)) (texts_in texts.now))
         (last_failures (failures_of script.old) (failures_of script.new))
         writer.old writer.new result }
 {
     let regions = region_lines_in(alloc, &texts.regions)?;
     let text = read_at(alloc, script, SCRIPT_PLACE)?;
+    let options = LookupOptions {
+        kernel: KernelBounds {
+            start: kernel.start,
+            end: kernel.end,
+        },
+        rule: AddressRule::AS_GIVEN,
+    };
     let inputs = LookupInputs {
-        names: &KernelBounds::usual(),
+        options: &options,
         modules: &texts.modules,
         kallsyms: &texts.kallsyms,
         regions,

@@ -6,19 +6,21 @@ ghost use Rattle.latchsym.specs.CatalogTables.{answer_at, answer_in, HasFewRegio
 ghost use Rattle.latchsym.specs.LoadedWorlds.{HasTable, HoldsBelow, IsRefusedFor};
 
 use latch_steps::{Event, Reply, World};
+use listing::AddressRule;
 use modules::{Catalog, Held};
 use order_laws::{HalfOpen, Item, Refusal};
 use std::alloc::Global;
 use word_layout::Layout;
 
-/// An address, and the item that holds it.
+/// An address, and the item that holds the one that is looked up for it.
 #[derive(Clone, Copy, Debug, Drop)]
 pub struct Answer {
     pub addr: u64,
     pub item: Option<Item>,
 }
 
-/// Looks each address up in the table of all regions of a catalog of so many modules.
+/// Looks each address up, as the rule takes it, in the table of all regions of a catalog of so many
+/// modules.
 ///
 /// Refused by [`Refusal::BadCapacity`] where there are more regions than a table has nodes, and by
 /// [`Refusal::OutOfMemory`].
@@ -26,10 +28,11 @@ pub fn answers_of(
     alloc: Global,
     catalog: &Catalog,
     modules: u64,
+    rule: AddressRule,
     addresses: &[u64],
 ) -> Result<Vec<Answer>, Refusal>
     requires { modules ≡ length catalog.now.modules }
-    ensures answers { IfOk result (λ v. v.items ≡ map (answer_at catalog.now) addresses.now) }
+    ensures answers { IfOk result (λ v. v.items ≡ map (answer_at catalog.now rule) addresses.now) }
     ensures fits { IfOk result (λ _. HasFewRegions catalog.now) }
     ensures refusal { IfErr result (IsRefusedFor catalog.now) }
 {
@@ -37,7 +40,7 @@ pub fn answers_of(
     load_all(&mut world, catalog, modules)?;
     let mut answers = Vec::new(alloc);
     for addr in addresses {
-        let answer = look_up(&mut world, *addr)?;
+        let answer = look_up(&mut world, rule, *addr)?;
         answers.push(answer)?;
     }
     Ok(answers)
@@ -91,16 +94,20 @@ fn load(world: &mut World<HalfOpen>, catalog: &Catalog, number: u64) -> Result<(
     Ok(())
 }
 
-/// Looks one address up. No step of the writer comes between, so the first attempt returns.
-fn look_up(world: &mut World<HalfOpen>, addr: u64) -> Result<Answer, Refusal>
+/// Looks one address up, as the rule takes it. No step of the writer comes between, so the first
+/// attempt returns.
+fn look_up(world: &mut World<HalfOpen>, rule: AddressRule, addr: u64) -> Result<Answer, Refusal>
     ensures found { (items : List Item) → HasTable items world.old
-        → IfOk result (λ a. a ≡ answer_in items addr) }
+        → IfOk result (λ a. a ≡ answer_in items rule addr) }
     ensures holds { (items : List Item) → HasTable items world.old
         → IfOk result (λ _. HasTable items world.new) }
     ensures refusal { (items : List Item) → HasTable items world.old
         → IfErr result (λ e. e ≡ Refusal.OutOfMemory) }
 {
-    let found = world.find_now(0, addr)?;
+    let Some(place) = rule.place_of(addr) else {
+        return Ok(Answer { addr, item: None });
+    };
+    let found = world.find_now(0, place)?;
     Ok(Answer {
         addr,
         item: found.answer,

@@ -1,5 +1,6 @@
 //! The engine over readers and writers in memory.
 mod address_files;
+mod address_rules;
 mod at_size;
 mod bad_input;
 mod devices_that_fail;
@@ -7,6 +8,7 @@ mod failing_runs;
 mod fault_texts;
 mod jobs;
 mod listings;
+mod option_words;
 mod rows;
 mod scripts;
 mod stops;
@@ -14,8 +16,10 @@ mod words;
 mod wrong_answers;
 
 use crate::fault::Fault;
+use crate::lookup::LookupOptions;
 use crate::trace::trace_engine;
-use listing::Counted;
+use listing::{AddressRule, Counted};
+use modules::KernelBounds;
 use std::alloc::Global;
 
 /// What the engine returns for a trace, and what it writes.
@@ -24,4 +28,12 @@ fn traced(alloc: Global, trace: &[u8]) -> (Result<(), Fault>, Vec<u8>) {
     let mut writer = Counted::new(Vec::new(alloc));
     let answer = trace_engine(alloc, &mut reader, &mut writer);
     (answer, writer.into_inner())
+}
+
+/// The kernel between its usual bounds, and addresses that are taken as they are.
+fn usual_options() -> LookupOptions<'static> {
+    LookupOptions {
+        kernel: KernelBounds::usual(),
+        rule: AddressRule::AS_GIVEN,
+    }
 }

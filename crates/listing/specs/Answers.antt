@@ -1,7 +1,9 @@
 -- The text of an answer.
-use Rattle.std.specs.Prelude.{ℕ, ◌&&◌, nat_eq, nat_le, nat_lt, if◌then◌else◌, List, [], ◌++◌, codes}
+use Rattle.std.specs.Prelude.{ℕ, ◌+◌, ◌&&◌, nat_eq, nat_le, nat_lt, if◌then◌else◌, List, [], ◌++◌, codes}
 use Rattle.std.specs.Prelude.{Option, Some, None}
 use Rattle.std.specs.Option.{option_map_or}
+use Rattle.listing.specs.declared.address_rules.AddressRule.{AddressRule}
+use Rattle.listing.specs.AddressRules.{before_of, place_of}
 use Rattle.listing.specs.Exact.{hexadecimal}
 use Rattle.order_laws.specs.declared.items.Item.{Item}
 use Rattle.modules.specs.Catalogs.{module_of}
@@ -22,20 +24,34 @@ abbrev pub unknown_text : ℕ → List ℕ → List ℕ
 unknown_text number name =
     if nat_eq number 0 then codes "-" else codes "?" ++ module_text number name
 
--- of an address in a region of the module
-abbrev pub text_in : ModuleEntry → Item → ℕ → List ℕ
-text_in m item addr =
+-- the symbol, as it is told of an address so many bytes farther on
+abbrev pub farther : ℕ → Found → Found
+farther bytes f = record f { offset = f.offset + bytes }
+
+-- of an address in a region of the module, told of one that lies `before` bytes farther on
+abbrev pub text_in : ModuleEntry → Item → ℕ → ℕ → List ℕ
+text_in m item before addr =
     option_map_or
-    (λ f. symbol_text f ++ module_text item.tag m.name)
+    (λ f. symbol_text (farther before f) ++ module_text item.tag m.name)
     (found_in (symbols_from m.symbols item.a item.b) item.b addr)
     (unknown_text item.tag m.name)
 
 -- of an address that the item holds
-abbrev pub held_text : CatalogEntries → Item → ℕ → List ℕ
-held_text c item addr = option_map_or (λ m. text_in m item addr) (module_of c item.tag) (codes "-")
+abbrev pub held_text : CatalogEntries → Item → ℕ → ℕ → List ℕ
+held_text c item before addr =
+    option_map_or (λ m. text_in m item before addr) (module_of c item.tag) (codes "-")
 
 -- of an address and the item that was found for it
+abbrev pub found_text : CatalogEntries → Option Item → ℕ → ℕ → List ℕ
+found_text c None before addr = codes "-"
+found_text c (Some item) before addr =
+    if nat_le item.a addr && nat_lt addr item.b then held_text c item before addr else codes "-"
+
+-- of an address that is looked up as it is
 abbrev pub answer_text : CatalogEntries → Option Item → ℕ → List ℕ
-answer_text c None addr = codes "-"
-answer_text c (Some item) addr =
-    if nat_le item.a addr && nat_lt addr item.b then held_text c item addr else codes "-"
+answer_text c item addr = found_text c item 0 addr
+
+-- of an address that is taken by a rule, and the item that was found for the one looked up
+abbrev pub answer_text_by : CatalogEntries → AddressRule → Option Item → ℕ → List ℕ
+answer_text_by c rule item addr =
+    option_map_or (found_text c item (before_of rule)) (place_of rule addr) (codes "-")

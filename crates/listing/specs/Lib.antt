@@ -5,6 +5,8 @@ pub mod Counted
 pub mod Exact
 -- what a clause reads of a device that fails at one call
 pub mod FailAt
+-- how an address is taken that a user gives
+pub mod AddressRules
 -- the text of an answer
 pub mod Answers
 -- the lines of a text and the words of a line

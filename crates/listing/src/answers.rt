@@ -1,10 +1,11 @@
 //! The text of an answer.
 
-ghost use Rattle.std.specs.Prelude.{◌≤◌, ◌<◌};
+ghost use Rattle.std.specs.Prelude.{◌≡◌, ◌+◌, ◌^◌, ◌≤◌, ◌<◌};
 ghost use Rattle.listing.specs.Exact.{Wrote};
-ghost use Rattle.listing.specs.Answers.{answer_text, held_text, symbol_text, module_text};
+ghost use Rattle.listing.specs.Answers.{answer_text, answer_text_by, farther, found_text};
+ghost use Rattle.listing.specs.Answers.{held_text, module_text, symbol_text};
 
-use crate::{Counted, put, put_hexadecimal};
+use crate::{AddressRule, Counted, put, put_hexadecimal};
 use modules::{Catalog, FoundSymbol, symbol_in};
 use order_laws::Item;
 use std::io;
@@ -36,35 +37,46 @@ fn write_module<W: Write>(writer: &mut Counted<W>, number: u64, name: &[u8]) -> 
     put(writer, b"]")
 }
 
-/// Writes what is known of an address that the item holds.
+/// The symbol as it is told of an address so many bytes farther on.
+fn farther<'c, 'a>(found: FoundSymbol<'c, 'a>, bytes: u64) -> FoundSymbol<'c, 'a>
+    requires { found.offset + bytes < 2 ^ 64 }
+    ensures { result ≡ farther bytes found.entry }
+{
+    FoundSymbol {
+        symbol: found.symbol,
+        offset: found.offset + bytes,
+        size: found.size,
+    }
+}
+
+/// Writes what is known of an address that the item holds, for one that lies `before` bytes
+/// farther on.
 fn write_held<W: Write>(
     writer: &mut Counted<W>,
     catalog: &Catalog,
     item: Item,
     addr: u64,
+    before: u64,
 ) -> io::Result<()>
     requires from { item.a ≤ addr }
     requires below { addr < item.b }
-    ensures { Wrote W.contents writer.old writer.new result (held_text catalog.now item addr) }
+    requires near { before ≤ 1 }
+    ensures { Wrote W.contents writer.old writer.new result
+        (held_text catalog.now item before addr) }
 {
     let Some(module) = catalog.module(item.tag) else {
         return put(writer, b"-");
     };
     match symbol_in(module, item.a, item.b, addr) {
-        Some(found) => write_symbol(writer, &found)?,
+        Some(found) => write_symbol(writer, &farther(found, before))?,
         None if item.tag == 0 => return put(writer, b"-"),
         None => put(writer, b"?")?,
     }
     write_module(writer, item.tag, module.name())
 }
 
-/// Writes the text of an answer for an address: `NAME+0xOFFSET/0xSIZE [MODULE]`, without `
-/// [MODULE]` for the kernel itself, and `? [MODULE]` where no symbol of the module is at or below
-/// the address.
-///
-/// It writes `-` where there is no item, the item does not hold the address, its tag is the number
-/// of no module, or the kernel itself has no symbol at or below the address. It takes no memory. An
-/// error is a failed call of the writer.
+/// Writes the text of an answer for an address that is looked up as it is: `write_answer_by` of
+/// [`AddressRule::AS_GIVEN`].
 pub fn write_answer<W: Write>(
     writer: &mut Counted<W>,
     catalog: &Catalog,
@@ -73,8 +85,48 @@ pub fn write_answer<W: Write>(
 ) -> io::Result<()>
     ensures { Wrote W.contents writer.old writer.new result (answer_text catalog.now item addr) }
 {
+    write_found(writer, catalog, item, addr, 0)
+}
+
+/// Writes the text of an answer for an address, where `item` was found for the address that the
+/// rule looks up in its place: `NAME+0xOFFSET/0xSIZE [MODULE]`, without ` [MODULE]` for the kernel
+/// itself, and `? [MODULE]` where no symbol of the module is at or below the address.
+///
+/// It writes `-` where the rule looks nothing up, there is no item, the item does not hold the
+/// address, its tag is the number of no module, or the kernel itself has no symbol at or below the
+/// address. It takes no memory. An error is a failed call of the writer.
+pub fn write_answer_by<W: Write>(
+    writer: &mut Counted<W>,
+    catalog: &Catalog,
+    rule: AddressRule,
+    item: Option<Item>,
+    addr: u64,
+) -> io::Result<()>
+    ensures { Wrote W.contents writer.old writer.new result
+        (answer_text_by catalog.now rule item addr) }
+{
+    match rule.place_of(addr) {
+        Some(place) => write_found(writer, catalog, item, place, rule.before()),
+        None => put(writer, b"-"),
+    }
+}
+
+/// Writes the text of the answer for an address, told of one that lies `before` bytes farther on.
+fn write_found<W: Write>(
+    writer: &mut Counted<W>,
+    catalog: &Catalog,
+    item: Option<Item>,
+    addr: u64,
+    before: u64,
+) -> io::Result<()>
+    requires near { before ≤ 1 }
+    ensures { Wrote W.contents writer.old writer.new result
+        (found_text catalog.now item before addr) }
+{
     match item {
-        Some(item) if item.a <= addr && addr < item.b => write_held(writer, catalog, item, addr),
+        Some(item) if item.a <= addr && addr < item.b => {
+            write_held(writer, catalog, item, addr, before)
+        }
         _ => put(writer, b"-"),
     }
 }

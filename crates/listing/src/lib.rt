@@ -7,6 +7,7 @@
 //! its count.
 #![tactic(auto)]
 
+mod address_rules;
 mod addresses;
 mod answers;
 mod batch;
@@ -29,8 +30,9 @@ mod scripts;
 mod symbol_listing;
 mod trace;
 
+pub use address_rules::AddressRule;
 pub use addresses::read_addresses;
-pub use answers::write_answer;
+pub use answers::{write_answer, write_answer_by};
 pub use counted::{BLOCK, Counted};
 pub use exact::{put, put_hexadecimal};
 pub use fail_at::FailAt;

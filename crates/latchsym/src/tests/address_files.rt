@@ -1,7 +1,8 @@
 //! Addresses from a file, and names of the symbols that bound the kernel itself.
 use crate::fault::Fault;
-use crate::lookup::{LookupReaders, lookup_engine};
-use listing::{Counted, FailAt};
+use crate::lookup::{LookupOptions, LookupReaders, lookup_engine};
+use crate::tests::usual_options;
+use listing::{AddressRule, Counted, FailAt};
 use modules::KernelBounds;
 use std::alloc::Global;
 use std::io::Read;
@@ -24,18 +25,21 @@ const LINES: &[u8] = b"0xffffffff81000108 do_one+0x8/0x1f00\n\
     modules 1 hidden 0 empty 0 wraps 0 overlap 0 double 0 long 0 malformed 0\n\
     symbols 3 hidden 0 stray 1 long 0 malformed 0\n";
 
-/// The names that bound the kernel in [`SYMBOLS`].
-fn text_bounds() -> KernelBounds<'static> {
-    KernelBounds {
-        start: b"_stext",
-        end: b"_etext",
+/// The kernel lies where [`SYMBOLS`] has its text.
+fn text_bounds() -> LookupOptions<'static> {
+    LookupOptions {
+        kernel: KernelBounds {
+            start: b"_stext",
+            end: b"_etext",
+        },
+        rule: AddressRule::AS_GIVEN,
     }
 }
 
 /// What the engine returns for a file of addresses and a listing of regions, and what it writes.
 fn looked_up<A: Read + Drop>(
     alloc: Global,
-    names: &KernelBounds<'_>,
+    options: &LookupOptions<'_>,
     regions: Option<&[u8]>,
     given: &[u64],
     file: A,
@@ -47,7 +51,7 @@ fn looked_up<A: Read + Drop>(
         addresses: Some(Counted::new(file)),
     };
     let mut writer = Counted::new(Vec::new(alloc));
-    let answer = lookup_engine(alloc, &mut readers, names, given, &mut writer);
+    let answer = lookup_engine(alloc, &mut readers, options, given, &mut writer);
     (answer, writer.into_inner())
 }
 
@@ -65,8 +69,7 @@ fn addresses_of_a_file_come_after_those_given(rt: HostRuntime) {
 
 #[test]
 fn a_kernel_without_its_end_has_no_region(rt: HostRuntime) {
-    let usual = KernelBounds::usual();
-    let (answer, written) = looked_up(rt.alloc(), &usual, None, &GIVEN, b"".as_slice());
+    let (answer, written) = looked_up(rt.alloc(), &usual_options(), None, &GIVEN, b"".as_slice());
     assert_eq!(rt; answer, Ok(()));
     let lines = b"0xffffffff81000108 -\n\
         modules 1 hidden 0 empty 0 wraps 0 overlap 0 double 0 long 0 malformed 0\n\

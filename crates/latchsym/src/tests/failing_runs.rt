@@ -2,6 +2,7 @@
 use crate::fault::Fault;
 use crate::runs::{RunReaders, run_engine};
 use listing::{Counted, FailAt};
+use modules::KernelBounds;
 use std::alloc::{AllocError, Global};
 use std::sync::Wait;
 use std::test::Fail;
@@ -58,7 +59,14 @@ fn failing_run<T: Threads + Wait + Sync>(
         script: reader_of(&files.script, place == 3, call),
     };
     let mut writer = Counted::new(Vec::new(alloc));
-    let answer = run_engine(rt, alloc, &mut readers, 1, &mut writer);
+    let answer = run_engine(
+        rt,
+        alloc,
+        &mut readers,
+        &KernelBounds::usual(),
+        1,
+        &mut writer,
+    );
     (answer, writer.into_inner())
 }
 

@@ -2,8 +2,9 @@
 use crate::command_line::{Job, JobFault, LookupJob, RunJob};
 use crate::fault::{Fault, conclude};
 use crate::jobs::{FileSource, do_job};
+use crate::lookup::LookupOptions;
 use crate::misuse::refuse;
-use listing::{Counted, FailAt};
+use listing::{AddressRule, Counted, FailAt};
 use modules::KernelBounds;
 use order_laws::Refusal;
 use std::alloc::{AllocError, Global};
@@ -124,9 +125,12 @@ fn lookup_job(alloc: Global, address_file: &str) -> Result<Job<'_>, AllocError> 
         kallsyms: "its kallsyms",
         regions: Some("its regions"),
         address_file: Some(address_file),
-        kernel: KernelBounds {
-            start: b"here",
-            end: b"there",
+        options: LookupOptions {
+            kernel: KernelBounds {
+                start: b"here",
+                end: b"there",
+            },
+            rule: AddressRule::AS_GIVEN,
         },
         addresses: Vec::from_slice(alloc, &[0x7008])?,
     }))
@@ -138,6 +142,7 @@ fn run_job(readers: u32) -> Job<'static> {
         modules: "its modules",
         kallsyms: "its kallsyms",
         regions: Some("its regions"),
+        kernel: KernelBounds::usual(),
         readers,
         script: "its script",
     })

@@ -1,8 +1,8 @@
 //! Addresses that are looked up in listings.
 use crate::fault::Fault;
 use crate::lookup::{LookupReaders, lookup_engine};
+use crate::tests::usual_options;
 use listing::{Counted, FailAt};
-use modules::KernelBounds;
 use order_laws::Refusal;
 use std::alloc::{AllocError, Global};
 use std::io::Read;
@@ -50,8 +50,13 @@ fn answered<M: Read + Drop, K: Read + Drop, R: Read + Drop, A: Read + Drop>(
     addresses: &[u64],
 ) -> (Result<(), Fault>, Vec<u8>) {
     let mut writer = Counted::new(Vec::new(alloc));
-    let names = KernelBounds::usual();
-    let answer = lookup_engine(alloc, &mut readers, &names, addresses, &mut writer);
+    let answer = lookup_engine(
+        alloc,
+        &mut readers,
+        &usual_options(),
+        addresses,
+        &mut writer,
+    );
     (answer, writer.into_inner())
 }
 
@@ -164,8 +169,8 @@ fn each_failed_write_of_a_lookup_is_reported(rt: HostRuntime) {
     for turn in 1..200u64 {
         let mut writer = Counted::new(FailAt::new(Vec::new(alloc), turn));
         let mut readers = readers_of(MODULES, SYMBOLS);
-        let names = KernelBounds::usual();
-        let answer = lookup_engine(alloc, &mut readers, &names, &ADDRESSES, &mut writer);
+        let options = usual_options();
+        let answer = lookup_engine(alloc, &mut readers, &options, &ADDRESSES, &mut writer);
         let memory = writer.into_inner().into_memory();
         assert!(rt; LINES.starts_with(&memory));
         if answer == Ok(()) {

@@ -2,6 +2,7 @@
 use crate::fault::Fault;
 use crate::runs::{RunReaders, run_engine};
 use listing::{Counted, FailAt};
+use modules::KernelBounds;
 use order_laws::Refusal;
 use std::alloc::{AllocError, Global};
 use std::io::Read;
@@ -54,7 +55,14 @@ fn answered<
     count: u32,
 ) -> (Result<u8, Fault>, Vec<u8>) {
     let mut writer = Counted::new(Vec::new(alloc));
-    let answer = run_engine(rt, alloc, &mut readers, count, &mut writer);
+    let answer = run_engine(
+        rt,
+        alloc,
+        &mut readers,
+        &KernelBounds::usual(),
+        count,
+        &mut writer,
+    );
     (answer, writer.into_inner())
 }
 
@@ -171,7 +179,14 @@ fn each_failing_call_is_told(rt: HostRuntime) {
     for call in [1, 2, 7] {
         let mut readers = readers_of(None, SCRIPT);
         let mut writer = Counted::new(FailAt::new(Vec::new(alloc), call));
-        let answer = run_engine(&rt, alloc, &mut readers, 1, &mut writer);
+        let answer = run_engine(
+            &rt,
+            alloc,
+            &mut readers,
+            &KernelBounds::usual(),
+            1,
+            &mut writer,
+        );
         assert_eq!(rt; answer, Err(Fault::Write));
     }
 }

@@ -52,8 +52,8 @@ fn a_command_line_asks_for_a_lookup(rt: HostRuntime) -> Result<(), Fail> {
     ];
     let job = lookup_in(rt.alloc(), &words).ok_or("no lookup")?;
     assert_eq!(rt; job.addresses.as_slice(), [16, u64::MAX].as_slice());
-    assert_eq!(rt; job.kernel.start, b"_stext".as_slice());
-    assert_eq!(rt; job.kernel.end, b"_end".as_slice());
+    assert_eq!(rt; job.options.kernel.start, b"_stext".as_slice());
+    assert_eq!(rt; job.options.kernel.end, b"_end".as_slice());
     let job = Job::Lookup(job);
     assert!(rt; job.file(0) == Some("m"));
     assert!(rt; job.file(1) == Some("k"));
@@ -82,8 +82,8 @@ fn a_lookup_has_options(rt: HostRuntime) -> Result<(), Fail> {
     ];
     let job = lookup_in(alloc, &words).ok_or("no lookup")?;
     assert_eq!(rt; job.addresses.as_slice(), [16].as_slice());
-    assert_eq!(rt; job.kernel.start, b"_stext".as_slice());
-    assert_eq!(rt; job.kernel.end, b"_etext".as_slice());
+    assert_eq!(rt; job.options.kernel.start, b"_stext".as_slice());
+    assert_eq!(rt; job.options.kernel.end, b"_etext".as_slice());
     let job = Job::Lookup(job);
     assert!(rt; job.file(2) == None);
     assert!(rt; job.file(3) == Some("-"));

@@ -3,8 +3,8 @@
 use crate::fault::Fault;
 use crate::lookup::{LookupInputs, listings_in};
 use crate::runs::tell;
+use crate::tests::usual_options;
 use listing::Counted;
-use modules::KernelBounds;
 use order_laws::Refusal;
 use shared_lookup::{Answer, Served};
 use std::alloc::{AllocError, Global};
@@ -41,7 +41,7 @@ fn served(alloc: Global, ended: bool) -> Result<Served, AllocError> {
 /// The status that is told of what came back, and what is written.
 fn told(alloc: Global, served: &Served) -> Result<(Result<u8, Fault>, Vec<u8>), Refusal> {
     let inputs = LookupInputs {
-        names: &KernelBounds::usual(),
+        options: &usual_options(),
         modules: b"",
         kallsyms: SYMBOLS,
         regions: None,

@@ -9,14 +9,14 @@ returns g c =
     let remaining = g.F.File.Read.remaining in
     let before = c.in_ok-readers.readers in
     let after = c.lookup_engine.new.readers in
-    let kernel = c.args.job.now.kernel in
+    let options = c.args.job.now.options in
     inl (record {
       before = before;
       after = after;
       opened = c.in_ok-readers.ensures.opened;
       result = c.lookup_engine.result;
       answered = subst
-          (λ xs. AnswersLookup contents (known_inputs remaining remaining remaining remaining before kernel xs)
+          (λ xs. AnswersLookup contents (known_inputs remaining remaining remaining remaining before options xs)
           (failures_between before after) c.args.writer.now c.lookup_engine.new.writer c.lookup_engine.result)
           c.deref.ensures.value c.lookup_engine.ensures;
       status = c.with_status.ensures;

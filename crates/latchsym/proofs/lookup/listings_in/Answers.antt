@@ -17,7 +17,7 @@ pub returns-clause-said : goal.returns-clause-said
 unfolding catalog_in counts_in
 returns-clause-said c =
     let i = c.args.inputs.now in
-    let names = i.names.now in
+    let names = i.options.now.kernel in
     let lines = c.region_lines_of-regions.result.now in
     let symbols = c.in_ok-symbol_lines.symbol_lines in
     let all_modules = modules_in (lines_of i.modules.now) in

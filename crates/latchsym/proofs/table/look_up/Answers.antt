@@ -1,6 +1,8 @@
-use Rattle.std.proofs.Common.{ap, rules}
+use Rattle.std.proofs.Common.{◌∙◌, ap, rules}
 use Rattle.order_laws.specs.declared.items.Item.{Item}
-use Rattle.std.specs.Prelude.{Option}
+use Rattle.order_laws.specs.Orders.{half_open}
+use Rattle.order_laws.specs.Tables.{look}
+use Rattle.std.specs.Prelude.{Option, option_and_then}
 use Rattle.latchsym.specs.declared.table.Answer.{Answer}
 use Rattle.latchsym.proofs.WorldOpeningLemmas.{only_for_memory, right_item, still_holds}
 use Rattle.latchsym.proofs.table.look_up.Goals as goal
@@ -12,8 +14,9 @@ returns-in_err-found-clause-refusal c = λ items h.
 
 pub returns-clause-found : goal.returns-clause-found
 returns-clause-found c = λ items h.
-    let same = right_item items c.args.world.now c.find_now.new.self h 0 c.args.addr c.in_ok-found.found c.in_ok-found.ensures.found in
-    ap (λ (o : Option Item). let a : Answer = record { addr = c.args.addr; item = o } in a) same
+    let same = right_item items c.args.world.now c.find_now.new.self h 0 c.in-Some.place c.in_ok-found.found c.in_ok-found.ensures.found in
+    let found = same ∙ ap (option_and_then (λ place. look half_open place items)) c.in-Some.ensures in
+    ap (λ (o : Option Item). let a : Answer = record { addr = c.args.addr; item = o } in a) found
 
 pub returns-clause-holds : goal.returns-clause-holds
-returns-clause-holds c = λ items h. still_holds items c.args.world.now c.find_now.new.self h 0 c.args.addr c.in_ok-found.found c.find_now.ensures.layout c.in_ok-found.ensures.finds
+returns-clause-holds c = λ items h. still_holds items c.args.world.now c.find_now.new.self h 0 c.in-Some.place c.in_ok-found.found c.find_now.ensures.layout c.in_ok-found.ensures.finds
