@@ -7,6 +7,7 @@ use Rattle.std.proofs.lemmas.List.{get_or_default}
 use Rattle.order_laws.specs.declared.items.Item.{Item}
 use Rattle.modules.specs.Marks.{HoldsFor}
 use Rattle.modules.specs.Marks.{IsNearestMark, Owns}
+use Rattle.modules.specs.Owners.{reach}
 use Rattle.modules.specs.declared.marks.Mark.{Mark}
 
 -- of the marks below a place, this is the first of the greatest address
@@ -69,7 +70,7 @@ AreExact marks items bound = (m x : ℕ) → HoldsFor items m x ↔ ((x < bound)
 
 -- the addresses that a mark has below the next
 abbrev pub Reaches : Mark → ℕ → ℕ → ℕ → Type 0
-Reaches from next m x = (from.owner ≢ 0) × (from.owner ≡ m) × (from.addr ≤ x) × (x < next) × (x < from.addr + 1048576)
+Reaches from next m x = (from.owner ≢ 0) × (from.owner ≡ m) × (from.addr ≤ x) × (x < next) × (x < from.addr + reach)
 
 pub exact_with : (marks : List Mark) (done : ℕ) (from : Mark) (next : ℕ) (old new : List Item) → IsFrom marks done from → AreAbove marks done next → from.addr ≤ next → AreExact marks old from.addr
     → ((m x : ℕ) → HoldsFor new m x ↔ (HoldsFor old m x ⊎ Reaches from next m x)) → AreExact marks new next
@@ -83,7 +84,7 @@ exact_with marks done from next old new is rest le exact more m x = (
       (λ ge.
       let e : owns.mark ≡ from = nearest_is_one marks x owns.mark from owns.nearest (nearest_from marks done from next x is rest ge lt) in
       let its : from.owner ≡ m = ap (λ (s : Mark). s.owner) (sym e) ∙ owns.its in
-      inr (λ zero. owns.some (sym its ∙ zero), its, ge, lt, subst (λ (s : Mark). x < s.addr + 1048576) e owns.reached))
+      inr (λ zero. owns.some (sym its ∙ zero), its, ge, lt, subst (λ (s : Mark). x < s.addr + reach) e owns.reached))
       (cases_lt x from.addr)),
 )
 

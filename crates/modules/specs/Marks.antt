@@ -3,6 +3,7 @@ use Rattle.std.specs.Prelude.{◌≡◌, ◌≢◌, ℕ, ◌+◌, ◌-◌, ◌<�
 use Rattle.std.specs.Prelude.{length, slice_index_or}
 use Rattle.std.specs.List.{AllPairs}
 use Rattle.order_laws.specs.declared.items.Item.{Item}
+use Rattle.modules.specs.Owners.{reach}
 use Rattle.modules.specs.declared.marks.Mark.{Mark}
 
 -- the mark is not above the address, none lies between them, and none that is listed before it has
@@ -15,13 +16,13 @@ pub record IsNearestMark (marks : List Mark) (addr : ℕ) (m : Mark) : Type 0 wh
   pub nearest : All (λ s. (s.addr ≤ m.addr) ⊎ (addr < s.addr)) marks
   pub first : (k : ℕ) (d : Mark) → k < place → (slice_index_or marks k d).addr ≢ m.addr
 
--- the address is that of the owner of the nearest mark, which is less than 1048576 below it, and
--- this owner is not the kernel itself
+-- the address is that of the owner of the nearest mark, which reaches it, and this owner is not the
+-- kernel itself
 pub record Owns (marks : List Mark) (owner addr : ℕ) : Type 0 where
   pub mark : Mark
   pub nearest : IsNearestMark marks addr mark
   pub its : mark.owner ≡ owner
-  pub reached : addr < mark.addr + 1048576
+  pub reached : addr < mark.addr + reach
   pub some : owner ≢ 0
 
 -- the first ends before the second begins, or where it begins if they are of two owners

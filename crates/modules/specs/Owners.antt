@@ -23,10 +23,14 @@ abbrev pub is_nearest_line : List ListedSymbol → ℕ → ListedSymbol → Bool
 is_nearest_line lines addr l =
     nat_le l.addr addr && list_all (λ t. nat_le t.addr l.addr || nat_lt addr t.addr) lines
 
--- the first listed of the nearest lines, if it is less than 1048576 below the address
+-- how many addresses from its own on a line reaches at most
+abbrev pub reach : ℕ
+reach = 1048576
+
+-- the first listed of the nearest lines, if it reaches the address
 abbrev pub line_below : List ListedSymbol → ℕ → Option ListedSymbol
 line_below lines addr =
-    option_and_then (λ l. if nat_lt addr (l.addr + 1048576) then Some l else None)
+    option_and_then (λ l. if nat_lt addr (l.addr + reach) then Some l else None)
     (find (is_nearest_line lines addr) lines)
 
 -- the name of the module whose address it is; none where it is the kernel's own or nobody's

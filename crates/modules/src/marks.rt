@@ -17,13 +17,14 @@ ghost use Rattle.modules.specs.FromSymbols.{HasItsRegions};
 ghost use Rattle.modules.specs.Listed.{ListedSymbol};
 ghost use Rattle.modules.specs.MarkedModules.{numbered_module, StandsFor};
 ghost use Rattle.modules.specs.Marks.{AreLaid, AreRegions, HoldsFor};
+ghost use Rattle.modules.specs.Owners.{reach};
 ghost use Rattle.modules.specs.declared.marks.Mark.{Mark};
 ghost use Rattle.order_laws.specs.declared.items.Item.{Item};
 
 use order_laws::Item;
 use std::alloc::{AllocError, Global};
 
-/// How many addresses a mark reaches at most.
+/// How many addresses from its own on a mark reaches at most.
 const REACH: u64 = 1048576;
 
 /// An address, and the number of its owner: 0 is the kernel itself.
@@ -70,7 +71,7 @@ fn cover(items: &mut Vec<Item>, mark: Mark, next: u64) -> Result<(), AllocError>
     ensures holds { OnOk result ((owner addr : ℕ) → HoldsFor items.new.items owner addr
         ↔ (HoldsFor items.old.items owner addr
         ⊎ ((mark.owner ≢ 0) × (mark.owner ≡ owner) × (mark.addr ≤ addr) × (addr < next)
-        × (addr < mark.addr + 1048576)))) }
+        × (addr < mark.addr + reach)))) }
 {
     let end = next.min(mark.addr.saturating_add(REACH));
     if mark.owner == 0 || end <= mark.addr {
@@ -95,7 +96,7 @@ fn cover_last(items: &mut Vec<Item>, mark: Mark) -> Result<(), AllocError>
     ensures holds { OnOk result ((owner addr : ℕ) → HoldsFor items.new.items owner addr
         ↔ (HoldsFor items.old.items owner addr
         ⊎ ((mark.owner ≢ 0) × (mark.owner ≡ owner) × (mark.addr ≤ addr) × (addr < 2 ^ 64 - 1)
-        × (addr < mark.addr + 1048576)))) }
+        × (addr < mark.addr + reach)))) }
 {
     cover(items, mark, u64::MAX)
 }
