@@ -140,5 +140,5 @@ pub kept_in_one : (names : BoundNames) (modules : List ListedModule) (regions : 
 kept_in_one names modules regions symbols fit regions_fit few =
     let built_in : Option (ℕ × ℕ) = built_in_region names symbols in
     let a : Accepted = accepted_of built_in regions modules in
-    let good : IsGood a = accepted_good names modules regions symbols fit regions_fit few in
+    let good : IsGood a = accepted_good names modules regions symbols fit regions_fit in
     sum_of_entries built_in symbols a.modules ∙ ap (λ n. count_by (is_built_in built_in) symbols + n) (symbols_by_home a.modules symbols) ∙ kept_by_home built_in a symbols (built_in_kept (none_yet built_in) (map (placed_line regions) modules)) good.distinct

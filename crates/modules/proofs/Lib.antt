@@ -34,6 +34,8 @@ pub mod MakingLemmas
 pub mod CountLemmas
 -- which updates a load, an unload, and the end of a module's start give
 pub mod LoadLemmas
+-- which first addresses an update takes out
+pub mod ErasingLemmas
 -- the items of a catalog are its regions
 pub mod ItemLemmas
 -- items of a catalog lie apart, and what is found among them

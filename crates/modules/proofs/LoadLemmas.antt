@@ -1,5 +1,5 @@
 -- Which updates a load, an unload, and the end of a module's start give.
-use Rattle.std.proofs.Common.{◌≡◌, ℕ, ◌+◌, ◌<◌, Bool, true, false, ◌&&◌, ◌||◌, not, nat_eq, cond, zero, suc, List, [], ◌∷◌, ◌++◌, length, get_or, map, take, Some, None, Ok, Err, Option, Result, refl, sym, ap, subst, ◌∙◌, inl, inr, ⊎_elim, arith, add-one}
+use Rattle.std.proofs.Common.{◌≡◌, ℕ, ◌+◌, ◌<◌, ◌≤◌, Bool, true, false, ◌&&◌, ◌||◌, not, nat_eq, cond, zero, suc, List, [], ◌∷◌, ◌++◌, length, get_or, map, take, drop, drop-cons, Some, None, Ok, Err, Option, Result, refl, sym, ap, subst, ◌∙◌, inl, inr, ⊎_elim, arith, add-one}
 use Rattle.std.specs.Cmp.Lexicographic.{bytes_decides}
 use Rattle.std.specs.List.{list_any}
 use Rattle.std.specs.Option.{option_map_or}
@@ -14,7 +14,7 @@ use Rattle.order_laws.specs.declared.refusals.Refusal.TheVariants.{OutOfMemory, 
 use Rattle.facts.proofs.Bools.{and_by_second, or_by_first, or_by_second}
 use Rattle.facts.proofs.Numbers.{eqb-one_false, eqb-one_more}
 use Rattle.modules.specs.Entries.{ModuleEntry}
-use Rattle.modules.specs.Loads.{GivesOrLacksMemory, GivesSome, TakesMemory, drop_init_update, is_erasing, is_inserting, item_of, load_update, has_no_items, same_items, unload_update, update_of}
+use Rattle.modules.specs.Loads.{GivesOrLacksMemory, GivesSome, TakesMemory, drop_init_update, is_erasing, is_inserting, item_of, load_update, has_no_items, is_item_of, same_items, unload_update, update_of}
 use Rattle.modules.specs.Parts.{is_init, is_of}
 use Rattle.modules.specs.Starts.{starts_of}
 use Rattle.modules.specs.declared.catalog.Held.{Held}
@@ -56,6 +56,34 @@ items_from number (r ∷ rs) (i ∷ is) h =
 pub items_same : (number : ℕ) (rs : List (ℕ × ℕ)) → same_items number rs (map (item_of number) rs) ≡ true
 items_same number [] = refl
 items_same number (r ∷ rs) = rw (eq-eqb r.0 r.0 refl, eq-eqb r.1 r.1 refl, eq-eqb number number refl) (items_same number rs)
+
+-- ---- the items of regions, one after the other
+
+drop_past : {X : Type 0} (xs : List X) (n : ℕ) → length xs ≤ n → drop n xs ≡ []
+drop_past [] zero le = refl
+drop_past [] (suc n) le = refl
+drop_past (x ∷ xs) zero le = absurd (omega arith)
+drop_past (x ∷ xs) (suc n) le = drop_past xs n (omega arith)
+
+pub same_here : (number : ℕ) (rs : List (ℕ × ℕ)) (is : List Item) (n : ℕ) (r : ℕ × ℕ) (i : Item) → n < length rs → n < length is → same_items number (drop n rs) (drop n is) ≡ (is_item_of number (get_or rs n r) (get_or is n i) && same_items number (drop (suc n) rs) (drop (suc n) is))
+same_here number rs is n r i lt less =
+    ap (λ (xs : List (ℕ × ℕ)). same_items number xs (drop n is)) (drop-cons rs n r lt)
+    ∙ ap (λ (xs : List Item). same_items number (get_or rs n r ∷ drop (suc n) rs) xs) (drop-cons is n i less)
+
+pub same_end : (number : ℕ) (rs : List (ℕ × ℕ)) (is : List Item) (n : ℕ) → length rs ≤ n → length is ≤ n → same_items number (drop n rs) (drop n is) ≡ true
+same_end number rs is n le less =
+    ap (λ (xs : List (ℕ × ℕ)). same_items number xs (drop n is)) (drop_past rs n le) ∙ ap (λ (xs : List Item). has_no_items xs) (drop_past is n less)
+
+pub other_length : (number : ℕ) (rs : List (ℕ × ℕ)) (is : List Item) → (length rs ≡ length is → ⊥) → false ≡ same_items number rs is
+other_length number [] [] other = absurd (other refl)
+other_length number [] (i ∷ is) other = refl
+other_length number (r ∷ rs) [] other = refl
+other_length number (r ∷ rs) (i ∷ is) other =
+    ends (is_item_of number r i) ∙ ap (λ b. is_item_of number r i && b) (other_length number rs is (λ e. other (omega arith)))
+  where
+    ends : (b : Bool) → false ≡ (b && false)
+    ends true = refl
+    ends false = refl
 
 -- ---- the updates
 

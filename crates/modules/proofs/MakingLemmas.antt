@@ -1,5 +1,5 @@
 -- The modules that are made of the accepted ones.
-use Rattle.std.proofs.Common.{◌≡◌, ℕ, ◌<◌, List, [], ◌∷◌, ◌++◌, length, get_or, map, not, Option, sym, ap, ◌∙◌, ⊎_elim, arith, length-append}
+use Rattle.std.proofs.Common.{◌≡◌, ℕ, zero, suc, ◌<◌, ◌≤◌, List, [], ◌∷◌, ◌++◌, length, get_or, map, drop, not, Option, sym, ap, ◌∙◌, ⊎_elim, arith, length-append}
 use Rattle.std.specs.Prelude.{count_by}
 use Rattle.std.specs.Global.{Vec}
 use Rattle.std.proofs.lemmas.Bool.{cases_lt}
@@ -71,3 +71,16 @@ counts_from n g names modules regions symbols len used strays is gathers all use
     ∙ ap (λ k. counts (length a.modules) a (count_by (is_used a regions) regions) (count_by (λ r. not (is_used a regions r)) regions) k g.stray) gathers.kept
     ∙ ap (λ k. counts (length a.modules) a (count_by (is_used a regions) regions) (count_by (λ r. not (is_used a regions r)) regions) (count_by (is_kept a) symbols) k) gathers.stray
     ∙ ap (λ (b : Accepted). counts (length b.modules) b (count_by (is_used b regions) regions) (count_by (λ r. not (is_used b regions r)) regions) (count_by (is_kept b) symbols) (count_by (λ s. not (is_kept b s)) symbols)) is
+
+-- ---- what is left of a list
+
+pub drop_next : {X : Type 0} (xs rest : List X) (n : ℕ) (x : X) → drop n xs ≡ x ∷ rest → (n < length xs) × ((d : X) → get_or xs n d ≡ x) × (drop (suc n) xs ≡ rest)
+drop_next [] rest zero x h = absurd (cc)
+drop_next [] rest (suc n) x h = absurd (cc)
+drop_next (y ∷ ys) rest zero x h = (omega arith, (λ d. let e : y ≡ x = cc in e), (let e : ys ≡ rest = cc in e))
+drop_next (y ∷ ys) rest (suc n) x h = let (lt, at, left) = drop_next ys rest n x h in (omega arith, at, left)
+
+pub drop_none : {X : Type 0} (xs : List X) (n : ℕ) → drop n xs ≡ [] → length xs ≤ n
+drop_none [] n h = omega arith
+drop_none (y ∷ ys) zero h = absurd (cc)
+drop_none (y ∷ ys) (suc n) h = let le : length ys ≤ n = drop_none ys n h in omega arith

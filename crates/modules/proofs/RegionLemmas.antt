@@ -13,7 +13,7 @@ use Rattle.facts.proofs.Tests.{some_passes}
 use Rattle.modules.specs.Lines.{region_line_region, fits, is_region, region_fits, module_line_region}
 use Rattle.modules.specs.Listed.{ListedModule, ListedRegion}
 use Rattle.modules.specs.Parts.{is_core}
-use Rattle.modules.specs.Placed.{IsPlaced, are_few, has_core, lines_named, placed_line, placed_alone, placed_by}
+use Rattle.modules.specs.Placed.{IsPlaced, PlacedModule, are_few, has_core, lines_named, placed_line, placed_alone, placed_by}
 
 pub region_parts : (base size : ℕ) → is_region base size ≡ true → (base < base + size) × (base + size < 2 ^ 64)
 region_parts base size h = (grind (arith, nat_tests), grind (arith, nat_tests))
@@ -38,22 +38,33 @@ parts_mapped : (lines : List ListedRegion) → list_any is_core (map (λ r. r.pa
 parts_mapped [] = refl
 parts_mapped (l ∷ ls) = ap (λ b. is_core l.part || b) (parts_mapped ls)
 
-placed_in_lines : (lines : List ListedRegion) (line : ListedModule) → length lines ≤ 7 → has_core lines ≡ true → All (λ l. region_fits l ≡ true) lines → IsPlaced (placed_by lines line)
-placed_in_lines lines line few core fit =
+placed_in_lines : (lines : List ListedRegion) (line : ListedModule) → has_core lines ≡ true → All (λ l. region_fits l ≡ true) lines → IsPlaced (placed_by lines line)
+placed_in_lines lines line core fit =
     record {
-      few = let n : length (map region_line_region lines) ≡ length lines = length-map lines region_line_region in omega arith;
       same = length-map lines (λ (r : ListedRegion). r.part) ∙ sym (length-map lines region_line_region);
       some_core = parts_mapped lines ∙ core;
       valid = All-map (λ (r : ℕ × ℕ). r.0 < r.1) region_line_region lines (λ k d lt. (region_parts (get_or lines k d).base (get_or lines k d).size (fit k d lt)).0);
     }
 
 placed_in_one : (line : ListedModule) → fits line ≡ true → IsPlaced (placed_alone line)
-placed_in_one line fit = record { few = omega arith; same = refl; some_core = refl; valid = All-cons (λ (x : ℕ × ℕ). x.0 < x.1) (module_line_region line) [] (region_parts line.base line.size fit).0 (All-nil (λ (x : ℕ × ℕ). x.0 < x.1)) }
+placed_in_one line fit = record { same = refl; some_core = refl; valid = All-cons (λ (x : ℕ × ℕ). x.0 < x.1) (module_line_region line) [] (region_parts line.base line.size fit).0 (All-nil (λ (x : ℕ × ℕ). x.0 < x.1)) }
 
-pub IsPlaced-placed : (regions : List ListedRegion) (line : ListedModule) → fits line ≡ true → All (λ l. region_fits l ≡ true) regions → are_few regions ≡ true → IsPlaced (placed_line regions line)
-IsPlaced-placed regions line fit regions_fit few =
+pub IsPlaced-placed : (regions : List ListedRegion) (line : ListedModule) → fits line ≡ true → All (λ l. region_fits l ≡ true) regions → IsPlaced (placed_line regions line)
+IsPlaced-placed regions line fit regions_fit =
     let own : List ListedRegion = lines_named line.name regions in
     elim (has_core own) as (λ b. has_core own ≡ b → IsPlaced (cond b (placed_by own line) (placed_alone line))) [
-      | true ↦ λ core. placed_in_lines own line (few_named regions line.name few) core (All-filter (λ (r : ListedRegion). bytes_eq r.name line.name) (λ (l : ListedRegion). region_fits l ≡ true) regions regions_fit)
+      | true ↦ λ core. placed_in_lines own line core (All-filter (λ (r : ListedRegion). bytes_eq r.name line.name) (λ (l : ListedRegion). region_fits l ≡ true) regions regions_fit)
       | false ↦ λ _. placed_in_one line fit
     ] refl
+
+-- the module has at most seven regions
+abbrev pub HasFew : PlacedModule → Type 0
+HasFew m = length m.regions ≤ 7
+
+pub few_placed : (regions : List ListedRegion) (line : ListedModule) → are_few regions ≡ true → HasFew (placed_line regions line)
+few_placed regions line few =
+    let own : List ListedRegion = lines_named line.name regions in
+    elim (has_core own) as (λ b. HasFew (cond b (placed_by own line) (placed_alone line))) [
+      | true ↦ let n : length (map region_line_region own) ≡ length own = length-map own region_line_region in let f = few_named regions line.name few in omega arith
+      | false ↦ omega arith
+    ]

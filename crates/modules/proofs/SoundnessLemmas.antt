@@ -1,5 +1,5 @@
 -- The accepted modules have distinct names and regions that lie apart.
-use Rattle.std.proofs.Common.{◌≡◌, ◌≢◌, ℕ, ◌+◌, ◌<◌, true, false, ◌&&◌, nat_lt, cond, List, [], ◌∷◌, ◌++◌, length, get_or, map, Some, None, Option, refl, sym, ap, ◌∙◌, subst, arith, append_assoc, length-append}
+use Rattle.std.proofs.Common.{◌≡◌, ◌≢◌, ℕ, ◌+◌, ◌<◌, ◌≤◌, true, false, ◌&&◌, nat_lt, cond, List, [], ◌∷◌, ◌++◌, length, get_or, map, Some, None, Option, refl, sym, ap, ◌∙◌, subst, arith, append_assoc, length-append}
 use Rattle.std.specs.Prelude.{All, IfSome, fold, is_some, codes}
 use Rattle.std.specs.Cmp.Lexicographic.{bytes_decides}
 use Rattle.std.specs.List.{flat_map, list_any, list_all}
@@ -25,7 +25,7 @@ use Rattle.modules.specs.Listed.{BoundNames, ListedModule, ListedRegion, ListedS
 use Rattle.modules.specs.Names.{names_in}
 use Rattle.modules.specs.Placed.{IsPlaced, PlacedModule, are_few, placed_line}
 use Rattle.modules.specs.Regions.{AreApart, are_beside, is_apart, lie_apart}
-use Rattle.modules.proofs.RegionLemmas.{IsPlaced-placed}
+use Rattle.modules.proofs.RegionLemmas.{HasFew, IsPlaced-placed, few_placed}
 
 -- what the accepted modules keep
 pub record IsGood (a : Accepted) : Type 0 where
@@ -121,13 +121,13 @@ valid_built_in None end = tt
 valid_built_in (Some s) None = tt
 valid_built_in (Some s) (Some e) = picked s e
 
-pub all_placed : (regions : List ListedRegion) (modules : List ListedModule) → All (λ l. fits l ≡ true) modules → All (λ l. region_fits l ≡ true) regions → are_few regions ≡ true → All IsPlaced (map (placed_line regions) modules)
-all_placed regions [] fit regions_fit few = All-nil IsPlaced
-all_placed regions (l ∷ ls) fit regions_fit few =
-    All-cons IsPlaced (placed_line regions l) (map (placed_line regions) ls) (IsPlaced-placed regions l (All-head (λ (x : ListedModule). fits x ≡ true) l ls fit) regions_fit few) (all_placed regions ls (All-tail (λ (x : ListedModule). fits x ≡ true) l ls fit) regions_fit few)
+pub all_placed : (regions : List ListedRegion) (modules : List ListedModule) → All (λ l. fits l ≡ true) modules → All (λ l. region_fits l ≡ true) regions → All IsPlaced (map (placed_line regions) modules)
+all_placed regions [] fit regions_fit = All-nil IsPlaced
+all_placed regions (l ∷ ls) fit regions_fit =
+    All-cons IsPlaced (placed_line regions l) (map (placed_line regions) ls) (IsPlaced-placed regions l (All-head (λ (x : ListedModule). fits x ≡ true) l ls fit) regions_fit) (all_placed regions ls (All-tail (λ (x : ListedModule). fits x ≡ true) l ls fit) regions_fit)
 
-pub accepted_good : (names : BoundNames) (modules : List ListedModule) (regions : List ListedRegion) (symbols : List ListedSymbol) → All (λ l. fits l ≡ true) modules → All (λ l. region_fits l ≡ true) regions → are_few regions ≡ true → IsGood (accepted_of (built_in_region names symbols) regions modules)
-accepted_good names modules regions symbols fit regions_fit few = IsGood-fold (none_yet (built_in_region names symbols)) (map (placed_line regions) modules) (IsGood-none (built_in_region names symbols) (valid_built_in (first_address names.start symbols) (first_address names.end symbols))) (all_placed regions modules fit regions_fit few)
+pub accepted_good : (names : BoundNames) (modules : List ListedModule) (regions : List ListedRegion) (symbols : List ListedSymbol) → All (λ l. fits l ≡ true) modules → All (λ l. region_fits l ≡ true) regions → IsGood (accepted_of (built_in_region names symbols) regions modules)
+accepted_good names modules regions symbols fit regions_fit = IsGood-fold (none_yet (built_in_region names symbols)) (map (placed_line regions) modules) (IsGood-none (built_in_region names symbols) (valid_built_in (first_address names.start symbols) (first_address names.end symbols))) (all_placed regions modules fit regions_fit)
 
 -- ---- of the catalog
 
@@ -156,7 +156,7 @@ module_names symbols (m ∷ ms) = ap (λ ns. m.name ∷ ns) (module_names symbol
 
 -- the kernel itself lies in its one region
 pub kernel_placed : (r : ℕ × ℕ) → r.0 < r.1 → IsPlaced (kernel_at r)
-kernel_placed r valid = record { few = omega arith; same = refl; some_core = refl; valid = All-cons (λ (x : ℕ × ℕ). x.0 < x.1) r [] valid (All-nil (λ (x : ℕ × ℕ). x.0 < x.1)) }
+kernel_placed r valid = record { same = refl; some_core = refl; valid = All-cons (λ (x : ℕ × ℕ). x.0 < x.1) r [] valid (All-nil (λ (x : ℕ × ℕ). x.0 < x.1)) }
 
 modules_placed : (symbols : List ListedSymbol) (ms : List PlacedModule) → All IsPlaced ms → All (λ m. IsPlaced (placed_module_of m)) (map (entry_for symbols) ms)
 modules_placed symbols [] all = All-nil (λ (m : ModuleEntry). IsPlaced (placed_module_of m))
@@ -166,11 +166,11 @@ entries_placed : (built_in : Option (ℕ × ℕ)) (symbols : List ListedSymbol) 
 entries_placed None symbols ms valid all = modules_placed symbols ms all
 entries_placed (Some r) symbols ms valid all = All-cons (λ (x : ModuleEntry). IsPlaced (placed_module_of x)) (record { name = codes "-"; regions = r ∷ []; parts = (kernel_at r).parts; symbols = symbols_that (is_built_in (Some r)) symbols }) (map (entry_for symbols) ms) (kernel_placed r valid) (modules_placed symbols ms all)
 
-pub IsSound-catalog_of : (names : BoundNames) (modules : List ListedModule) (regions : List ListedRegion) (symbols : List ListedSymbol) → All (λ l. fits l ≡ true) modules → All (λ l. region_fits l ≡ true) regions → are_few regions ≡ true → IsSoundCatalog (catalog_of names modules regions symbols)
-IsSound-catalog_of names modules regions symbols fit regions_fit few =
+pub IsSound-catalog_of : (names : BoundNames) (modules : List ListedModule) (regions : List ListedRegion) (symbols : List ListedSymbol) → All (λ l. fits l ≡ true) modules → All (λ l. region_fits l ≡ true) regions → IsSoundCatalog (catalog_of names modules regions symbols)
+IsSound-catalog_of names modules regions symbols fit regions_fit =
     let built_in : Option (ℕ × ℕ) = built_in_region names symbols in
     let a : Accepted = accepted_of built_in regions modules in
-    let good : IsGood a = accepted_good names modules regions symbols fit regions_fit few in
+    let good : IsGood a = accepted_good names modules regions symbols fit regions_fit in
     let kept : a.built_in ≡ built_in = built_in_kept (none_yet built_in) (map (placed_line regions) modules) in
     record {
       placed = entries_placed built_in symbols a.modules (valid_built_in (first_address names.start symbols) (first_address names.end symbols)) good.places;
@@ -191,3 +191,28 @@ kernel_one (Some r) symbols = refl
 pub fold_placed : (regions : List ListedRegion) (a : Accepted) (lines : List ListedModule) → fold (λ b x. after_module b (placed_line regions x)) a lines ≡ fold after_module a (map (placed_line regions) lines)
 fold_placed regions a [] = refl
 fold_placed regions a (l ∷ ls) = fold_placed regions (after_module a (placed_line regions l)) ls
+
+-- ---- how many regions
+
+few_after : (a : Accepted) (m : PlacedModule) → All HasFew a.modules → HasFew m → All HasFew (after_module a m).modules
+few_after a m all few =
+    elim (list_any (bytes_eq m.name) (names_of a.modules)) as (λ b. All HasFew (cond b (record a { double = a.double + 1 }) (cond (lie_apart m.regions && are_beside (taken_regions a) m.regions) (record a { modules = a.modules ++ m ∷ [] }) (record a { overlap = a.overlap + 1 }))).modules) [
+      | true ↦ all
+      | false ↦ elim (lie_apart m.regions && are_beside (taken_regions a) m.regions) as (λ b. All HasFew (cond b (record a { modules = a.modules ++ m ∷ [] }) (record a { overlap = a.overlap + 1 })).modules) [ true ↦ All-push HasFew a.modules m all few | false ↦ all ]
+    ]
+
+few_fold : (regions : List ListedRegion) (a : Accepted) (modules : List ListedModule) → are_few regions ≡ true → All HasFew a.modules → All HasFew (fold after_module a (map (placed_line regions) modules)).modules
+few_fold regions a [] few all = all
+few_fold regions a (l ∷ ls) few all = few_fold regions (after_module a (placed_line regions l)) ls few (few_after a (placed_line regions l) all (few_placed regions l few))
+
+pub accepted_few : (built_in : Option (ℕ × ℕ)) (regions : List ListedRegion) (modules : List ListedModule) → are_few regions ≡ true → All HasFew (accepted_of built_in regions modules).modules
+accepted_few built_in regions modules few = few_fold regions (none_yet built_in) modules few (All-nil HasFew)
+
+few_entries : (symbols : List ListedSymbol) (ms : List PlacedModule) → All HasFew ms → All (λ (m : ModuleEntry). length m.regions ≤ 7) (map (entry_for symbols) ms)
+few_entries symbols [] all = All-nil (λ (m : ModuleEntry). length m.regions ≤ 7)
+few_entries symbols (m ∷ ms) all = All-cons (λ (x : ModuleEntry). length x.regions ≤ 7) (entry_for symbols m) (map (entry_for symbols) ms) (All-head HasFew m ms all) (few_entries symbols ms (All-tail HasFew m ms all))
+
+-- no module of the catalog of listings has more than seven
+pub few_in_catalog : (names : BoundNames) (modules : List ListedModule) (regions : List ListedRegion) (symbols : List ListedSymbol) → are_few regions ≡ true → All (λ m. length m.regions ≤ 7) (catalog_of names modules regions symbols).modules
+few_in_catalog names modules regions symbols few =
+    few_entries symbols (accepted_of (built_in_region names symbols) regions modules).modules (accepted_few (built_in_region names symbols) regions modules few)

@@ -1,6 +1,7 @@
 -- What a load, an unload, and the end of a module's start change.
 use Rattle.std.specs.Prelude.{◌≡◌, ℕ, Bool, true, false, ◌&&◌, ◌⊎◌, not, nat_eq, length}
-use Rattle.std.specs.Prelude.{if◌then◌else◌, List, [], ◌∷◌, map, Result, Ok, Err}
+use Rattle.std.specs.Prelude.{if◌then◌else◌, List, [], ◌∷◌, map, Option, Some, None, Result, Ok}
+use Rattle.std.specs.Prelude.{Err}
 use Rattle.std.specs.List.{list_any}
 use Rattle.std.specs.Option.{option_map_or}
 use Rattle.std.specs.Str.{bytes_eq}
@@ -24,6 +25,12 @@ update_of [] (i ∷ j ∷ rest) = Batch [] (i ∷ j ∷ rest)
 update_of (a ∷ []) [] = Erase a
 update_of (a ∷ []) (i ∷ rest) = Batch (a ∷ []) (i ∷ rest)
 update_of (a ∷ b ∷ rest) items = Batch (a ∷ b ∷ rest) items
+
+-- what a list has where it has just one thing
+abbrev pub only_of : {A : Type 0} → List A → Option A
+only_of [] = None
+only_of (x ∷ []) = Some x
+only_of (x ∷ y ∷ rest) = None
 
 -- the item of a region of this module
 abbrev pub item_of : ℕ → ℕ × ℕ → Item
@@ -82,12 +89,15 @@ abbrev pub has_no_items : {A : Type 0} → List A → Bool
 has_no_items [] = true
 has_no_items (x ∷ xs) = false
 
+-- the item is that of the region
+abbrev pub is_item_of : ℕ → ℕ × ℕ → Item → Bool
+is_item_of number r i = nat_eq i.a r.0 && nat_eq i.b r.1 && nat_eq i.tag number
+
 -- the items are those of the regions
 abbrev pub same_items : ℕ → List (ℕ × ℕ) → List Item → Bool
 same_items number [] items = has_no_items items
 same_items number (r ∷ rs) [] = false
-same_items number (r ∷ rs) (i ∷ is) =
-    nat_eq i.a r.0 && nat_eq i.b r.1 && nat_eq i.tag number && same_items number rs is
+same_items number (r ∷ rs) (i ∷ is) = is_item_of number r i && same_items number rs is
 
 -- the update takes out the items of these first words, and does nothing else
 abbrev pub is_erasing : List ℕ → Update → Bool

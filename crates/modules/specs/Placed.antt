@@ -47,9 +47,8 @@ placed_with lines line = if has_core lines then placed_by lines line else placed
 abbrev pub placed_line : List ListedRegion → ListedModule → PlacedModule
 placed_line regions line = placed_with (lines_named line.name regions) line
 
--- the module has at most seven regions, each with an address, and one of them is a core region
+-- each region of the module has an address, and one of them is a core region
 pub record IsPlaced (m : PlacedModule) : Type 0 where
-  pub few : length m.regions ≤ 7
   pub same : length m.parts ≡ length m.regions
   pub some_core : list_any is_core m.parts ≡ true
   pub valid : All (λ r. r.0 < r.1) m.regions

@@ -5,7 +5,6 @@ ghost use Rattle.std.specs.List.{list_all};
 ghost use Rattle.modules.specs.Lines.{fits, region_fits};
 ghost use Rattle.modules.specs.Accepted.{none_yet, after_module, accepted_of};
 ghost use Rattle.modules.specs.Admissions.{admission_view, IsAdmission};
-ghost use Rattle.modules.specs.Placed.{are_few};
 ghost use Rattle.modules.specs.Regions.{is_apart, are_beside, lie_apart};
 
 use crate::lines::ModuleLine;
@@ -127,14 +126,13 @@ pub(crate) fn admit<'a>(
 ) -> Result<Admission<'a>, AllocError>
     requires fit { All (λ l. fits l ≡ true) lines.now }
     requires regions_fit { All (λ l. region_fits l ≡ true) regions.now }
-    requires few { are_few regions.now ≡ true }
     ensures admitted { IfOk result
         (λ a. admission_view a ≡ accepted_of built_in regions.now lines.now) }
     ensures tied { IfOk result IsAdmission }
 {
     let mut admission = Admission::new(alloc, built_in)?;
     for line in lines {
-        admission.take_module(regions.place(line))?;
+        admission.take_module(regions.place(alloc, line)?)?;
     }
     Ok(admission)
 }

@@ -1,6 +1,6 @@
 //! How a catalog is built, step by step.
 
-ghost use Rattle.std.specs.Prelude.{◌≡◌, ◌+◌, ◌<◌, is_some, true, All, length, IfOk, IfSome};
+ghost use Rattle.std.specs.Prelude.{◌≡◌, ◌+◌, ◌<◌, ◌≤◌, is_some, true, All, length, IfOk, IfSome};
 ghost use Rattle.std.specs.Prelude.{count_by};
 ghost use Rattle.std.specs.Int.{from_bool};
 ghost use Rattle.std.specs.List.{flat_map};
@@ -33,7 +33,10 @@ fn built_in_module<'a>(
     ensures { IfOk result (λ m. m ≡ built_in_with region symbols.entry.items) }
 {
     match region {
-        Some(region) => Ok(Some(Module::new(alloc, &Placed::kernel(region), symbols)?)),
+        Some(region) => {
+            let placed = Placed::kernel(alloc, region)?;
+            Ok(Some(Module::new(alloc, placed, symbols)?))
+        }
         None => Ok(None),
     }
 }
@@ -41,23 +44,26 @@ fn built_in_module<'a>(
 /// The accepted modules, each with its symbols.
 fn modules_from<'a>(
     alloc: Global,
-    places: &[Placed<'a>],
+    places: Vec<Placed<'a>>,
     lists: Vec<Vec<Symbol<'a>>>,
 ) -> Result<Vec<Module<'a>>, AllocError>
-    requires placed { All IsPlaced places.now }
-    requires same { length lists.items ≡ length places.now }
-    ensures { IfOk result (λ v. AreModules places.now lists.entry.items v.items) }
+    requires placed { All IsPlaced places.items }
+    requires same { length lists.items ≡ length places.items }
+    ensures { IfOk result (λ v. AreModules places.entry.items lists.entry.items v.items) }
 {
     let mut modules = Vec::new(alloc);
+    let mut rest = places.into_iter();
     for symbols in lists {
-        let place = &places[modules.len()];
-        modules.push(Module::new(alloc, place, symbols)?)?;
+        if let Some(place) = rest.next() {
+            modules.push(Module::new(alloc, place, symbols)?)?;
+        }
     }
     Ok(modules)
 }
 
 /// How many regions the kernel itself and the modules have.
 fn regions_in(built_in: Option<&Module>, modules: &[Module]) -> usize
+    requires { All (λ m. length m.regions ≤ 7) modules.now }
     ensures { result
         ≡ from_bool (is_some built_in.entry) + length (flat_map (λ m. m.regions) modules.now) }
 {
@@ -118,7 +124,7 @@ pub(crate) fn assemble<'a>(
         stray: gathered.stray,
     };
     let built_in = built_in_module(alloc, admission.built_in, gathered.built_in)?;
-    let modules = modules_from(alloc, admission.modules.as_slice(), gathered.modules)?;
+    let modules = modules_from(alloc, admission.modules, gathered.modules)?;
     let by_name = by_name(alloc, modules.as_slice())?;
     let regions = regions_in(built_in.as_ref(), modules.as_slice());
     let catalog = Catalog {

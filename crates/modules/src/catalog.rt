@@ -12,7 +12,7 @@ ghost use Rattle.modules.specs.Placed.{are_few};
 
 use crate::build::assemble;
 use crate::lines::{KernelBounds, ModuleLine, RegionLine};
-use crate::loads::{erasing, inserting, is_erasing, is_inserting};
+use crate::loads::{inserting, is_inserting};
 use crate::module::Module;
 use crate::names::place_of;
 use crate::placing::RegionLines;
@@ -246,8 +246,7 @@ impl<'a> Catalog<'a> {
         if !held.core {
             return Err(Refusal::NotLoaded);
         }
-        let starts = module.starts_of(true, held.init);
-        erasing(*self.modules.allocator(), starts.as_slice())
+        module.erasing(*self.modules.allocator(), true, held.init)
     }
 
     /// The update that ends a module's start: its init regions are taken out.
@@ -267,8 +266,7 @@ impl<'a> Catalog<'a> {
         if !(held.init && module.has_init()) {
             return Err(Refusal::NoInit);
         }
-        let starts = module.starts_of(false, true);
-        erasing(*self.modules.allocator(), starts.as_slice())
+        module.erasing(*self.modules.allocator(), false, true)
     }
 
     /// Whether [`Catalog::load`] gives this update, whatever is held. It takes no memory.
@@ -288,8 +286,7 @@ impl<'a> Catalog<'a> {
         let Some(module) = self.module(number) else {
             return false;
         };
-        is_erasing(module.starts_of(true, false).as_slice(), update)
-            || is_erasing(module.starts_of(true, true).as_slice(), update)
+        module.is_erasing(true, false, update) || module.is_erasing(true, true, update)
     }
 
     /// Whether [`Catalog::drop_init`] gives this update, whatever is held. It takes no memory.
@@ -299,6 +296,6 @@ impl<'a> Catalog<'a> {
         let Some(module) = self.module(number) else {
             return false;
         };
-        module.has_init() && is_erasing(module.starts_of(false, true).as_slice(), update)
+        module.has_init() && module.is_erasing(false, true, update)
     }
 }

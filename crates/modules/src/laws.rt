@@ -1,6 +1,6 @@
 //! What follows from the definitions, as contracts of functions that do nothing.
 
-ghost use Rattle.std.specs.Prelude.{◌≡◌, ◌+◌, ◌-◌, ◌^◌, ◌<◌, true, ℕ, All, List, MatchOption};
+ghost use Rattle.std.specs.Prelude.{◌≡◌, ◌+◌, ◌-◌, ◌^◌, ◌<◌, ◌≤◌, true, ℕ, All, List, MatchOption};
 ghost use Rattle.std.specs.Prelude.{length, sum_by, Some};
 ghost use Rattle.modules.specs.Accepted.{Accepted};
 ghost use Rattle.modules.specs.Catalogs.{catalog_of, counts_of, entries_of, IsNoneAbsent};
@@ -43,11 +43,15 @@ pub fn each_kept_line_is_in_one_module()
 /// In the catalog of lines that fit, each module has 1 to 7 regions and one of its core, the
 /// regions have addresses and lie apart, and no two modules from number 1 on have one name.
 pub fn every_catalog_is_sound()
-    ensures { (names : BoundNames) (modules : List ListedModule) (regions : List ListedRegion)
+    ensures sound { (names : BoundNames) (modules : List ListedModule) (regions : List ListedRegion)
         (symbols : List ListedSymbol)
         → All (λ l. fits l ≡ true) modules → All (λ l. region_fits l ≡ true) regions
         → are_few regions ≡ true
         → IsSoundCatalog (catalog_of names modules regions symbols) }
+    ensures few { (names : BoundNames) (modules : List ListedModule) (regions : List ListedRegion)
+        (symbols : List ListedSymbol)
+        → are_few regions ≡ true
+        → All (λ m. length m.regions ≤ 7) (catalog_of names modules regions symbols).modules }
 {}
 
 /// No module of a sound catalog has the number that stands for an absent one, as long as there are

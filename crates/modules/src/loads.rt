@@ -3,18 +3,15 @@
 //! One item put in, or one taken out, is an update of its own; anything else is a batch. Whether an
 //! update is one of these is told without memory.
 
-ghost use Rattle.std.specs.Prelude.{◌≡◌, ◌≢◌, ◌<◌, ◌≤◌, [], ◌∷◌, ◌++◌, if◌then◌else◌, IfOk, Ok};
+ghost use Rattle.std.specs.Prelude.{◌≡◌, ◌≢◌, [], IfOk, Ok};
 ghost use Rattle.std.specs.Prelude.{length, map};
-ghost use Rattle.arrayvec.specs.ArrayVec.{array_vec_len};
 ghost use Rattle.std.specs.Str.{bytes_eq};
 ghost use Rattle.modules.specs.Loads.{GivesOrLacksMemory, is_erasing, is_inserting, item_of};
-ghost use Rattle.modules.specs.Loads.{same_items, update_of};
+ghost use Rattle.modules.specs.Loads.{is_item_of, only_of, same_items, update_of};
 ghost use Rattle.modules.specs.Starts.{starts_of};
 
 use crate::lines::Part;
-use crate::module::MOST_REGIONS;
 use crate::regions::Region;
-use arrayvec::ArrayVec;
 use latch_core::{Entries, Update};
 use order_laws::{Item, Refusal};
 use std::alloc::{AllocError, Global};
@@ -61,8 +58,45 @@ pub(crate) fn inserting(alloc: Global, regions: &[Region], number: u64) -> Resul
     }
 }
 
+/// The first addresses of the core regions, where `core` asks for them, and of the init regions,
+/// where `init` does.
+fn starts_of(
+    alloc: Global,
+    regions: &[Region],
+    parts: &[Part],
+    core: bool,
+    init: bool,
+) -> Result<Vec<u64>, AllocError>
+    requires { length parts.now ≡ length regions.now }
+    ensures { IfOk result (λ v. v.items ≡ starts_of core init regions.now parts.now) }
+{
+    let mut starts = Vec::new(alloc);
+    for (place, part) in parts.iter().enumerate() {
+        if part.is_of(core, init) {
+            starts.push(regions[place].start())?;
+        }
+    }
+    Ok(starts)
+}
+
+/// The only one of these first addresses, where there is just one. It takes no memory.
+fn only_start(regions: &[Region], parts: &[Part], core: bool, init: bool) -> Option<u64>
+    requires { length parts.now ≡ length regions.now }
+    ensures { result ≡ only_of (starts_of core init regions.now parts.now) }
+{
+    let mut count: usize = 0;
+    let mut last = 0;
+    for (place, part) in parts.iter().enumerate() {
+        if part.is_of(core, init) {
+            count += 1;
+            last = regions[place].start();
+        }
+    }
+    if count == 1 { Some(last) } else { None }
+}
+
 /// The update that takes out the items of these first words.
-pub(crate) fn erasing(alloc: Global, starts: &[u64]) -> Result<Update, Refusal>
+fn erasing_words(alloc: Global, starts: &[u64]) -> Result<Update, Refusal>
     ensures { GivesOrLacksMemory (Ok (update_of starts.now [])) result }
 {
     if let [start] = starts {
@@ -71,74 +105,85 @@ pub(crate) fn erasing(alloc: Global, starts: &[u64]) -> Result<Update, Refusal>
     Ok(Update::batch(alloc, starts, &[])?)
 }
 
-/// Puts the address after these where it is wanted.
-fn push_if(starts: &mut ArrayVec<u64, MOST_REGIONS>, wanted: bool, start: u64)
-    requires { array_vec_len starts.old < 7 }
-    ensures { starts.new.items ≡ starts.old.items ++ (if wanted then start ∷ [] else []) }
-{
-    if wanted {
-        starts.push(start);
-    }
-}
-
-/// The first addresses of the core regions, where `core` asks for them, and of the init regions,
+/// The update that takes out the core regions, where `core` asks for them, and the init regions,
 /// where `init` does.
-pub(crate) fn starts_of(
+pub(crate) fn erasing(
+    alloc: Global,
     regions: &[Region],
     parts: &[Part],
     core: bool,
     init: bool,
-) -> ArrayVec<u64, MOST_REGIONS>
-    requires few { length regions.now ≤ 7 }
-    requires same { length parts.now ≡ length regions.now }
-    ensures { result.items ≡ starts_of core init regions.now parts.now }
+) -> Result<Update, Refusal>
+    requires { length parts.now ≡ length regions.now }
+    ensures { GivesOrLacksMemory
+        (Ok (update_of (starts_of core init regions.now parts.now) [])) result }
 {
-    let mut starts = ArrayVec::new();
-    for (place, part) in parts.iter().enumerate() {
-        let wanted = part.is_of(core, init);
-        push_if(&mut starts, wanted, regions[place].start());
+    if let Some(start) = only_start(regions, parts, core, init) {
+        return Ok(Update::Erase(start));
     }
-    starts
+    let starts = starts_of(alloc, regions, parts, core, init)?;
+    erasing_words(alloc, starts.as_slice())
 }
 
-/// Whether the words are the same.
-fn same_words(words: &[u64], others: &[u64]) -> bool
-    ensures { result ≡ bytes_eq words.now others.now }
+/// Whether the words are the first addresses of the regions that are asked for.
+fn are_starts(words: &[u64], regions: &[Region], parts: &[Part], core: bool, init: bool) -> bool
+    requires { length parts.now ≡ length regions.now }
+    ensures { result ≡ bytes_eq (starts_of core init regions.now parts.now) words.now }
 {
-    words == others
+    let mut count: usize = 0;
+    for (place, part) in parts.iter().enumerate() {
+        if part.is_of(core, init) {
+            if count == words.len() || words[count] != regions[place].start() {
+                return false;
+            }
+            count += 1;
+        }
+    }
+    count == words.len()
 }
 
-/// Whether the update is the one that takes out the items of these first words.
-pub(crate) fn is_erasing(starts: &[u64], update: &Update) -> bool
-    ensures { result ≡ is_erasing starts.now update.now }
+/// Whether the update is the one that takes out the regions that are asked for.
+pub(crate) fn is_erasing(
+    regions: &[Region],
+    parts: &[Part],
+    core: bool,
+    init: bool,
+    update: &Update,
+) -> bool
+    requires { length parts.now ≡ length regions.now }
+    ensures { result ≡ is_erasing (starts_of core init regions.now parts.now) update.now }
 {
     match update {
         Update::Insert(_) => false,
-        Update::Erase(start) => same_words(starts, &[*start]),
+        Update::Erase(start) => are_starts(&[*start], regions, parts, core, init),
         Update::Batch { erase, insert } => {
-            starts.len() != 1
+            erase.as_slice().len() != 1
                 && insert.as_slice().is_empty()
-                && same_words(starts, erase.as_slice())
+                && are_starts(erase.as_slice(), regions, parts, core, init)
         }
     }
+}
+
+/// Whether the item is that of the region.
+fn is_item_of(region: Region, number: u64, item: Item) -> bool
+    ensures { result ≡ is_item_of number region item }
+{
+    item.a == region.start() && item.b == region.end() && item.tag == number
 }
 
 /// Whether the items are those of the regions.
 fn same_items(regions: &[Region], number: u64, items: &[Item]) -> bool
     ensures { result ≡ same_items number regions.now items.now }
 {
-    match regions {
-        [] => items.is_empty(),
-        [region, regions @ ..] => match items {
-            [] => false,
-            [item, items @ ..] => {
-                item.a == region.start()
-                    && item.b == region.end()
-                    && item.tag == number
-                    && same_items(regions, number, items)
-            }
-        },
+    if regions.len() != items.len() {
+        return false;
     }
+    for (place, region) in regions.iter().enumerate() {
+        if !is_item_of(*region, number, items[place]) {
+            return false;
+        }
+    }
+    true
 }
 
 /// Whether the update is the one that puts in the regions of a module.

@@ -1,28 +1,30 @@
 //! A module: its name, where it lies, and its symbols.
 
-ghost use Rattle.std.specs.Prelude.{◌≡◌, ◌≤◌, length, position, IfOk};
+ghost use Rattle.std.specs.Prelude.{◌≡◌, [], position, IfOk, Ok};
 ghost use Rattle.std.specs.List.{list_any};
 ghost use Rattle.std.specs.Option.{option_copied};
 ghost use Rattle.modules.specs.Around.{symbol_below, address_above};
 ghost use Rattle.modules.specs.Index.{IsOrdered};
 ghost use Rattle.modules.specs.Building.{module_with, placed_module_of};
+ghost use Rattle.modules.specs.Loads.{GivesOrLacksMemory, is_erasing, update_of};
 ghost use Rattle.modules.specs.Parts.{is_core, is_init};
 ghost use Rattle.modules.specs.Placed.{IsPlaced};
 ghost use Rattle.modules.specs.Starts.{first_start, start_at, start_where, starts_of};
 
 use crate::blocks::Blocks;
 use crate::lines::Part;
-use crate::loads::starts_of;
+use crate::loads::{erasing, is_erasing};
 use crate::placing::Placed;
 use crate::regions::Region;
 use crate::symbols::{
     IndexEntry, Symbol, around_as_listed, around_in_index, by_address, is_rising,
 };
-use arrayvec::ArrayVec;
+use latch_core::Update;
+use order_laws::Refusal;
 use std::alloc::{AllocError, Global};
 use std::marker::Model;
 
-/// The greatest number of regions of one module, as the kernel's `enum mod_mem_type` has seven
+/// The greatest number of region lines of one module, as the kernel's `enum mod_mem_type` has seven
 /// kinds of memory.
 pub const MOST_REGIONS: usize = 7;
 
@@ -31,9 +33,9 @@ pub const MOST_REGIONS: usize = 7;
 pub struct Module<'a> {
     name: &'a [u8],
     /// Its regions in their order.
-    regions: ArrayVec<Region, MOST_REGIONS>,
+    regions: Vec<Region>,
     /// The part that each of them is.
-    parts: ArrayVec<Part, MOST_REGIONS>,
+    parts: Vec<Part>,
     symbols: Vec<Symbol<'a>>,
     /// An index of the symbols, where they are not listed by rising address.
     by_address: Option<Vec<IndexEntry>>,
@@ -61,17 +63,6 @@ fn index_of(alloc: Global, symbols: &[Symbol]) -> Result<Option<Vec<IndexEntry>>
         Ok(None)
     } else {
         Ok(Some(by_address(alloc, symbols)?))
-    }
-}
-
-/// The items of a slice, which are few.
-fn copied<T: Copy + Default + Drop>(items: &[T]) -> ArrayVec<T, MOST_REGIONS>
-    requires { length items.now ≤ 7 }
-    ensures { result.items ≡ items.now }
-{
-    match ArrayVec::try_from(items) {
-        Ok(copied) => copied,
-        Err(_) => unreachable!(),
     }
 }
 
@@ -131,18 +122,18 @@ fn blocks_of(
 impl<'a> Module<'a> {
     pub(crate) fn new(
         alloc: Global,
-        placed: &Placed<'a>,
+        placed: Placed<'a>,
         symbols: Vec<Symbol<'a>>,
     ) -> Result<Module<'a>, AllocError>
-        requires { IsPlaced placed.now }
-        ensures { IfOk result (λ m. m ≡ module_with placed.now symbols.entry.items) }
+        requires { IsPlaced placed }
+        ensures { IfOk result (λ m. m ≡ module_with placed.entry symbols.entry.items) }
     {
         let by_address = index_of(alloc, symbols.as_slice())?;
         let blocks = blocks_of(alloc, symbols.as_slice(), &by_address)?;
         Ok(Module {
             name: placed.name,
-            regions: copied(placed.regions.as_slice()),
-            parts: copied(placed.parts.as_slice()),
+            regions: placed.regions,
+            parts: placed.parts,
             symbols,
             by_address,
             blocks,
@@ -156,7 +147,7 @@ impl<'a> Module<'a> {
         self.name
     }
 
-    /// Its 1 to 7 regions, in order.
+    /// Its regions, in order: at least one.
     pub fn regions(&self) -> &[Region]
         ensures regions { result.now ≡ self.now.regions }
         ensures placed { IsPlaced (placed_module_of self.now) }
@@ -186,12 +177,33 @@ impl<'a> Module<'a> {
         )
     }
 
-    /// The first addresses of its core regions, where `core` asks for them, and of its init
+    /// The update that takes out its core regions, where `core` asks for them, and its init
     /// regions, where `init` does.
-    pub(crate) fn starts_of(&self, core: bool, init: bool) -> ArrayVec<u64, MOST_REGIONS>
-        ensures { result.items ≡ starts_of core init self.now.regions self.now.parts }
+    pub(crate) fn erasing(&self, alloc: Global, core: bool, init: bool) -> Result<Update, Refusal>
+        ensures { GivesOrLacksMemory
+            (Ok (update_of (starts_of core init self.now.regions self.now.parts) [])) result }
     {
-        starts_of(self.regions.as_slice(), self.parts.as_slice(), core, init)
+        erasing(
+            alloc,
+            self.regions.as_slice(),
+            self.parts.as_slice(),
+            core,
+            init,
+        )
+    }
+
+    /// Whether the update is this one.
+    pub(crate) fn is_erasing(&self, core: bool, init: bool, update: &Update) -> bool
+        ensures { result
+            ≡ is_erasing (starts_of core init self.now.regions self.now.parts) update.now }
+    {
+        is_erasing(
+            self.regions.as_slice(),
+            self.parts.as_slice(),
+            core,
+            init,
+            update,
+        )
     }
 
     /// Whether it has init regions.

@@ -8,7 +8,7 @@
 //! sorted:  ext4 core   ext4 init  nfs core
 //! ```
 
-ghost use Rattle.std.specs.Prelude.{◌≡◌, ◌≤◌, nat_le, true, [], ◌∷◌, length, All, IfOk, map};
+ghost use Rattle.std.specs.Prelude.{◌≡◌, nat_le, true, [], ◌∷◌, length, All, IfOk, map};
 ghost use Rattle.std.specs.Cmp.Lexicographic.{slice_cmp};
 ghost use Rattle.std.specs.List.{list_any};
 ghost use Rattle.std.specs.List.Sorted.{IsSortedBy};
@@ -24,7 +24,6 @@ ghost use Rattle.modules.specs.declared.lines.Part.TheVariants.{Core};
 use crate::lines::{ModuleLine, Part, RegionLine};
 use crate::module::MOST_REGIONS;
 use crate::regions::Region;
-use arrayvec::ArrayVec;
 use std::alloc::{AllocError, Global};
 use std::cmp::Ordering;
 use std::marker::Model;
@@ -34,9 +33,9 @@ use std::marker::Model;
 pub(crate) struct Placed<'a> {
     pub(crate) name: &'a [u8],
     /// Its regions in their order.
-    pub(crate) regions: ArrayVec<Region, MOST_REGIONS>,
+    pub(crate) regions: Vec<Region>,
     /// The part that each of them is.
-    pub(crate) parts: ArrayVec<Part, MOST_REGIONS>,
+    pub(crate) parts: Vec<Part>,
 }
 
 impl<'a> Model for Placed<'a> {
@@ -53,10 +52,10 @@ impl<'a> Model for Placed<'a> {
 
 impl<'a> Placed<'a> {
     /// The kernel itself, in its region.
-    pub(crate) fn kernel(region: Region) -> Placed<'static>
-        ensures { result ≡ kernel_at region }
+    pub(crate) fn kernel(alloc: Global, region: Region) -> Result<Placed<'static>, AllocError>
+        ensures { IfOk result (λ p. p ≡ kernel_at region) }
     {
-        Placed::in_one(b"-", region)
+        Placed::in_one(alloc, b"-", region)
     }
 
     /// Whether the address lies in one of its regions.
@@ -70,41 +69,45 @@ impl<'a> Placed<'a> {
     }
 
     /// A module with one region, of its core.
-    fn in_one(name: &'a [u8], region: Region) -> Placed<'a>
-        ensures { result ≡ record { name = name.now; regions = region ∷ []; parts = Core ∷ [] } }
+    fn in_one(alloc: Global, name: &'a [u8], region: Region) -> Result<Placed<'a>, AllocError>
+        ensures { IfOk result
+            (λ p. p ≡ record { name = name.now; regions = region ∷ []; parts = Core ∷ [] }) }
     {
-        let mut regions = ArrayVec::new();
-        regions.push(region);
-        let mut parts = ArrayVec::new();
-        parts.push(Part::Core);
-        Placed {
+        let mut regions = Vec::with_capacity(alloc, 1)?;
+        regions.push(region)?;
+        let mut parts = Vec::with_capacity(alloc, 1)?;
+        parts.push(Part::Core)?;
+        Ok(Placed {
             name,
             regions,
             parts,
-        }
+        })
     }
 
     /// A module that lies where these region lines say.
-    fn in_lines(name: &'a [u8], lines: &[&RegionLine]) -> Placed<'a>
-        requires few { length lines.now ≤ 7 }
-        requires fit { All (λ l. region_fits l.now ≡ true) lines.now }
-        ensures { result ≡ record {
+    fn in_lines(
+        alloc: Global,
+        name: &'a [u8],
+        lines: &[&RegionLine],
+    ) -> Result<Placed<'a>, AllocError>
+        requires { All (λ l. region_fits l.now ≡ true) lines.now }
+        ensures { IfOk result (λ p. p ≡ record {
           name = name.now;
           regions = map region_line_region (lines_at lines.now);
           parts = map (λ l. l.part) (lines_at lines.now);
-        } }
+        }) }
     {
-        let mut regions = ArrayVec::new();
-        let mut parts = ArrayVec::new();
+        let mut regions = Vec::with_capacity(alloc, lines.len())?;
+        let mut parts = Vec::with_capacity(alloc, lines.len())?;
         for line in lines {
-            regions.push(line.region());
-            parts.push(line.part);
+            regions.push(line.region())?;
+            parts.push(line.part)?;
         }
-        Placed {
+        Ok(Placed {
             name,
             regions,
             parts,
-        }
+        })
     }
 }
 
@@ -228,17 +231,20 @@ impl<'l, 'a> RegionLines<'l, 'a> {
 
     /// Where a module lies: in the regions of its lines if one of them is of its core, or else in
     /// that of its own line.
-    pub(crate) fn place(&self, line: &ModuleLine<'a>) -> Placed<'a>
-        requires few { are_few self.now ≡ true }
+    pub(crate) fn place(
+        &self,
+        alloc: Global,
+        line: &ModuleLine<'a>,
+    ) -> Result<Placed<'a>, AllocError>
         requires region_fits { All (λ l. region_fits l ≡ true) self.now }
         requires fits { fits line.now ≡ true }
-        ensures { result ≡ placed_line self.now line.now }
+        ensures { IfOk result (λ p. p ≡ placed_line self.now line.now) }
     {
         let lines = self.named(line.name);
         if has_core(lines) {
-            Placed::in_lines(line.name, lines)
+            Placed::in_lines(alloc, line.name, lines)
         } else {
-            Placed::in_one(line.name, line.region())
+            Placed::in_one(alloc, line.name, line.region())
         }
     }
 }

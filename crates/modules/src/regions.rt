@@ -28,15 +28,6 @@ impl Model for Region {
     ghost inverse = { λ r. record { start = r.0; end = r.1 } };
 }
 
-impl Default for Region {
-    ghost is_default = { λ r. r ≡ (0, 1) };
-
-    /// The region of address 0 alone, as what an unused place of an `ArrayVec` holds.
-    fn default() -> Region {
-        Region { start: 0, end: 1 }
-    }
-}
-
 impl Region {
     /// The region from `start` up to `end`, which is excluded.
     pub fn new(start: u64, end: u64) -> Region

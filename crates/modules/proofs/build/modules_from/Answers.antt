@@ -1,25 +1,66 @@
-use Rattle.std.proofs.Common.{◌≡◌, ◌+◌, ◌<◌, [], ◌∷◌, ◌++◌, length, get_or, sym, ap, subst, List, ◌∙◌, arith, length-append, append_assoc}
-use Rattle.std.proofs.lemmas.List.{get_or_default}
+use Rattle.std.proofs.Common.{◌≡◌, ◌+◌, ◌≤◌, ℕ, suc, [], ◌∷◌, ◌++◌, length, get_or, drop, sym, ap, subst, List, ◌∙◌, arith, length-append, append_assoc}
+use Rattle.std.proofs.lemmas.List.{append-nil, nil_from_length}
+use Rattle.std.specs.Global.{Vec}
 use Rattle.std.specs.Vec.Iter.{into_iter_items}
 use Rattle.modules.specs.Building.{EachMade, module_with}
-use Rattle.modules.specs.Entries.{ModuleEntry}
-use Rattle.modules.specs.Placed.{PlacedModule}
-use Rattle.modules.proofs.MakingLemmas.{EachMade-push}
+use Rattle.modules.specs.Entries.{ModuleEntry, SymbolEntry}
+use Rattle.modules.specs.Placed.{IsPlaced, PlacedModule}
+use Rattle.modules.proofs.MakingLemmas.{EachMade-push, drop_next, drop_none}
 use Rattle.modules.proofs.build.modules_from.Goals as goal
 
+pub loop-symbols-init : goal.loop-symbols-init
+loop-symbols-init c =
+    record {
+      can_next = tt;
+      finite = tt;
+      gone = sym c.into_iter-symbols-iterator.ensures.into_iter_gives.0;
+      left = c.into_iter-rest.ensures.rest;
+      count = ap length c.new-modules.ensures.items;
+      each = λ j p d m lt. absurd (omega (arith, lt));
+    }
+
+pub new-requires : goal.new-requires
+new-requires c =
+    let places = c.args.places.items in
+    let n : ℕ = length c.loop-symbols.yielded in
+    let place = c.in-Some-next.place in
+    let next = drop_next places (into_iter_items c.next-in-loop-symbols.new.self) n place (sym c.loop-symbols.invariant.left ∙ c.in-Some-next.ensures.items) in
+    subst IsPlaced (next.1 place) (c.requires.placed n place next.0)
+
+-- there is a place for each list
 pub loop-symbols-preserved : goal.loop-symbols-preserved
 loop-symbols-preserved c =
     let i = c.loop-symbols.invariant in
     let done = c.loop-symbols.yielded in
-    let place : c.len.result ≡ length done = c.len.ensures ∙ c.loop-symbols.modules.ok.0 ∙ i.count in
-    let within : length done < length c.args.places.now = omega (arith, ap length i.gone, length-append done (into_iter_items c.loop-symbols.symbols-iterator), ap length c.in-Some.ensures.steps.0, c.requires.same) in
-    let made : (p : PlacedModule) → c.in_ok-new.field-0 ≡ module_with (get_or c.args.places.now (length done) p) c.in-Some.symbols.items = λ p.
-    c.in_ok-new.ensures
-    ∙ ap (λ (x : PlacedModule). module_with x c.in-Some.symbols.items) (c.index-places-len.is ∙ ap (λ n. get_or c.args.places.now n c.index-places-len.result) place ∙ get_or_default c.args.places.now (length done) c.index-places-len.result p within) in
+    let places = c.args.places.items in
+    let past : length places ≤ length done = drop_none places (length done) (sym i.left ∙ nil_from_length (into_iter_items c.loop-symbols.rest) (sym c.loop-symbols.rest.rest.ok.0 ∙ c.in_default.ensures.cases.0)) in
+    absurd (omega (arith, past, ap length i.gone, length-append done (into_iter_items c.loop-symbols.symbols-iterator), ap length c.in-Some.ensures.steps.0, c.requires.same))
+
+pub loop-symbols-preserved-in_ok-push : goal.loop-symbols-preserved-in_ok-push
+loop-symbols-preserved-in_ok-push c =
+    let i = c.loop-symbols.invariant in
+    let done = c.loop-symbols.yielded in
+    let places = c.args.places.items in
+    let place = c.in-Some-next.place in
+    let next = drop_next places (into_iter_items c.next-in-loop-symbols.new.self) (length done) place (sym i.left ∙ c.in-Some-next.ensures.items) in
+    let more : suc (length done) ≡ length (done ++ c.in-Some.symbols ∷ []) = omega (arith, length-append done (c.in-Some.symbols ∷ [])) in
+    let made : (p : PlacedModule) → c.in_ok-new.field-0 ≡ module_with (get_or places (length done) p) c.in-Some.symbols.items = λ p.
+    c.in_ok-new.ensures ∙ ap (λ (x : PlacedModule). module_with x c.in-Some.symbols.items) (sym (next.1 p)) in
     record {
       can_next = tt;
       finite = tt;
       gone = i.gone ∙ ap (λ xs. done ++ xs) c.in-Some.ensures.steps.0 ∙ sym (append_assoc done (c.in-Some.symbols ∷ []) (into_iter_items c.next.new.self));
+      left = sym next.2 ∙ ap (λ n. drop n places) more;
       count = ap length c.in_ok-push.ensures.items ∙ length-append c.loop-symbols.modules.items (c.in_ok-new.field-0 ∷ []) ∙ ap (λ n. n + 1) i.count ∙ sym (length-append done (c.in-Some.symbols ∷ []));
-      each = subst (λ (ms : List ModuleEntry). EachMade c.args.places.now (done ++ c.in-Some.symbols ∷ []) ms) (sym c.in_ok-push.ensures.items) (EachMade-push c.args.places.now done c.loop-symbols.modules.items c.in-Some.symbols c.in_ok-new.field-0 i.count i.each made);
+      each = subst (λ (ms : List ModuleEntry). EachMade places (done ++ c.in-Some.symbols ∷ []) ms) (sym c.in_ok-push.ensures.items) (EachMade-push places done c.loop-symbols.modules.items c.in-Some.symbols c.in_ok-new.field-0 i.count i.each made);
+    }
+
+pub returns : goal.returns
+returns c =
+    let i = c.loop-symbols.invariant in
+    let done = c.loop-symbols.yielded in
+    let all : c.args.lists.items ≡ done = i.gone ∙ ap (λ xs. done ++ xs) (nil_from_length (into_iter_items c.loop-symbols.symbols-iterator) (sym c.loop-symbols.symbols-iterator.rest.ok.0 ∙ c.in-None.ensures.steps.0)) ∙ append-nil done in
+    record {
+      same = i.count ∙ ap length (sym all);
+      each = subst (λ (ls : List (Vec SymbolEntry)). EachMade c.args.places.items ls c.loop-symbols.modules.items) (sym all) i.each;
     }

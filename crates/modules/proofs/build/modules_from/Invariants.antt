@@ -1,4 +1,4 @@
-use Rattle.std.proofs.Common.{◌≡◌, ◌++◌, length}
+use Rattle.std.proofs.Common.{◌≡◌, ◌++◌, length, drop}
 use Rattle.std.specs.Vec.Iter.{into_iter_items}
 use Rattle.modules.specs.Building.{EachMade}
 use Rattle.modules.proofs.build.modules_from.Given as goal
@@ -9,6 +9,7 @@ invariant-loop-symbols l =
       can_next : (goal.iterator-loop-symbols).can_next l.symbols-iterator;
       finite : (goal.iterator-loop-symbols).is_finite l.symbols-iterator;
       gone : l.fn.lists.items ≡ l.yielded ++ into_iter_items l.symbols-iterator;
+      left : into_iter_items l.rest ≡ drop (length l.yielded) l.fn.places.items;
       count : length l.modules.items ≡ length l.yielded;
-      each : EachMade l.places l.yielded l.modules.items;
+      each : EachMade l.fn.places.items l.yielded l.modules.items;
     }

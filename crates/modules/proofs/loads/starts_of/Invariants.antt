@@ -1,10 +1,7 @@
-use Rattle.std.proofs.Common.{◌≡◌, ◌≤◌, length, take}
+use Rattle.std.proofs.Common.{◌≡◌, take}
 use Rattle.modules.specs.Starts.{starts_of}
 use Rattle.modules.proofs.loads.starts_of.Given as goal
 
 abbrev pub invariant-loop-place : goal.invariant-loop-place
 invariant-loop-place l =
-    record {
-      starts : l.starts.items ≡ starts_of l.core l.init (take l.place l.regions) (take l.place l.parts);
-      few : length l.starts.items ≤ l.place;
-    }
+    l.starts.items ≡ starts_of l.core l.init (take l.place l.regions) (take l.place l.parts)

@@ -1,8 +1,7 @@
-use Rattle.std.proofs.Common.{◌≡◌, ℕ, List, Some, Bor, Option, sym, ap, ◌∙◌}
+use Rattle.std.proofs.Common.{◌≡◌, Some, Bor, Option, sym, ap, ◌∙◌}
 use Rattle.std.specs.Option.{option_copied}
 use Rattle.modules.specs.Catalogs.{module_of}
 use Rattle.modules.specs.Entries.{ModuleEntry}
-use Rattle.modules.specs.Loads.{is_erasing}
 use Rattle.modules.proofs.LoadLemmas.{drop_answers}
 use Rattle.modules.proofs.catalog.Catalog.gives_drop_init.Goals as goal
 
@@ -10,7 +9,5 @@ pub returns-then-has_init : goal.returns-then-has_init
 returns-then-has_init c =
     let m = c.in-Some.module.now in
     let o = module_of c.args.self.now c.args.number in
-    let u = c.args.update.now in
     let at : Some m ≡ o = sym (ap (λ (x : Option (Bor ModuleEntry)). option_copied x) c.in-Some.is) ∙ c.module.ensures in
-    let is = c.is_erasing.ensures ∙ ap (λ (s : List ℕ). is_erasing s u) (c.as_slice.ensures.value ∙ c.starts_of.ensures) in
-    drop_answers o m u c.has_init.result c.is_erasing.result at c.has_init.ensures c.if-has_init.true is
+    drop_answers o m c.args.update.now c.has_init.result c.is_erasing.result at c.has_init.ensures c.if-has_init.true c.is_erasing.ensures

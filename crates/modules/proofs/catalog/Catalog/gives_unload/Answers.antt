@@ -1,8 +1,7 @@
-use Rattle.std.proofs.Common.{◌≡◌, ℕ, List, Some, Bor, Option, sym, ap, ◌∙◌}
+use Rattle.std.proofs.Common.{◌≡◌, Some, Bor, Option, sym, ap, ◌∙◌}
 use Rattle.std.specs.Option.{option_copied}
 use Rattle.modules.specs.Catalogs.{module_of}
 use Rattle.modules.specs.Entries.{ModuleEntry}
-use Rattle.modules.specs.Loads.{is_erasing}
 use Rattle.modules.proofs.LoadLemmas.{unload_answers_first, unload_answers_second}
 use Rattle.modules.proofs.catalog.Catalog.gives_unload.Goals as goal
 
@@ -10,17 +9,12 @@ pub returns-then-is_erasing : goal.returns-then-is_erasing
 returns-then-is_erasing c =
     let m = c.in-Some.module.now in
     let o = module_of c.args.self.now c.args.number in
-    let u = c.args.update.now in
     let at : Some m ≡ o = sym (ap (λ (x : Option (Bor ModuleEntry)). option_copied x) c.in-Some.is) ∙ c.module.ensures in
-    let first = c.is_erasing.ensures ∙ ap (λ (s : List ℕ). is_erasing s u) (c.as_slice.ensures.value ∙ c.starts_of.ensures) in
-    unload_answers_first o m u c.is_erasing.result at first c.if-is_erasing.true
+    unload_answers_first o m c.args.update.now c.is_erasing.result at c.is_erasing.ensures c.if-is_erasing.true
 
 pub returns-else-is_erasing : goal.returns-else-is_erasing
 returns-else-is_erasing c =
     let m = c.in-Some.module.now in
     let o = module_of c.args.self.now c.args.number in
-    let u = c.args.update.now in
     let at : Some m ≡ o = sym (ap (λ (x : Option (Bor ModuleEntry)). option_copied x) c.in-Some.is) ∙ c.module.ensures in
-    let first = c.is_erasing.ensures ∙ ap (λ (s : List ℕ). is_erasing s u) (c.as_slice.ensures.value ∙ c.starts_of.ensures) in
-    let second = c.is_erasing-else-is_erasing.ensures ∙ ap (λ (s : List ℕ). is_erasing s u) (c.as_slice-else-is_erasing.ensures.value ∙ c.starts_of-else-is_erasing.ensures) in
-    unload_answers_second o m u c.is_erasing.result c.is_erasing-else-is_erasing.result at first c.if-is_erasing.false second
+    unload_answers_second o m c.args.update.now c.is_erasing.result c.is_erasing-else-is_erasing.result at c.is_erasing.ensures c.if-is_erasing.false c.is_erasing-else-is_erasing.ensures

@@ -12,16 +12,7 @@ use Rattle.modules.proofs.GroupLemmas.{all_at}
 use Rattle.modules.proofs.RegionLemmas.{few_named}
 use Rattle.modules.proofs.placing.RegionLines.place.Goals as goal
 
-pub in_lines-requires-clause-few : goal.in_lines-requires-clause-few
-in_lines-requires-clause-few c =
-    let lines = c.named-lines.result.now in
-    let name = c.line.inside.name.now in
-    let same : length (lines_at lines) ≡ length (lines_named name c.args.self.now) = ap length c.named-lines.ensures in
-    let few : length (lines_named name c.args.self.now) ≤ 7 = few_named c.args.self.now name c.requires.few in
-    let count : length (lines_at lines) ≡ length lines = length-map lines (λ (l : Bor ListedRegion). l.now) in
-    omega arith
-
-pub in_lines-requires-clause-fit : goal.in_lines-requires-clause-fit
-in_lines-requires-clause-fit c =
+pub in_lines-requires : goal.in_lines-requires
+in_lines-requires c =
     all_at (λ (l : ListedRegion). region_fits l ≡ true) c.named-lines.result.now
     (subst (All (λ (l : ListedRegion). region_fits l ≡ true)) (sym c.named-lines.ensures) (All-filter (λ (r : ListedRegion). bytes_eq r.name c.line.inside.name.now) (λ (l : ListedRegion). region_fits l ≡ true) c.args.self.now c.requires.region_fits))

@@ -1,0 +1,119 @@
+-- Which first addresses an update takes out.
+use Rattle.std.proofs.Common.{◌≡◌, ℕ, ◌+◌, ◌<◌, ◌≤◌, Bool, true, false, ◌&&◌, not, nat_eq, cond, zero, suc, List, [], ◌∷◌, ◌++◌, length, get_or, take, drop, Some, None, Ok, refl, sym, ap, ◌∙◌, ⊎_elim, arith, length-append}
+use Rattle.std.specs.Cmp.Lexicographic.{bytes_decides}
+use Rattle.std.specs.Str.{bytes_eq}
+use Rattle.std.proofs.lemmas.Bool.{cases_lt, eqb-true, eq-eqb}
+use Rattle.std.proofs.lemmas.List.{append-nil, length-take-le}
+use Rattle.std.proofs.Math.Seq.{get_or-append_seam, take-length}
+use Rattle.latch_core.specs.declared.updates.Update.TheVariants.{Erase}
+use Rattle.order_laws.specs.declared.items.Item.{Item}
+use Rattle.modules.specs.Loads.{TakesMemory, has_no_items, only_of, update_of}
+use Rattle.modules.specs.Parts.{is_of}
+use Rattle.modules.specs.Starts.{starts_of}
+use Rattle.modules.specs.declared.lines.Part.{Part}
+use Rattle.modules.proofs.LoadLemmas.{starts_more}
+
+-- ---- just one first address, or several
+
+pub only_erased : (starts : List ℕ) (a : ℕ) → only_of starts ≡ Some a → update_of starts [] ≡ Erase a
+only_erased [] a h = absurd (cc)
+only_erased (x ∷ []) a h = let e : x ≡ a = cc in ap (λ n. Erase n) e
+only_erased (x ∷ y ∷ rest) a h = absurd (cc)
+
+pub several_take_memory : (starts : List ℕ) → only_of starts ≡ None → TakesMemory (Ok (update_of starts []))
+several_take_memory [] h = tt
+several_take_memory (x ∷ []) h = absurd (cc)
+several_take_memory (x ∷ y ∷ rest) h = tt
+
+pub only_one : (starts : List ℕ) (last : ℕ) → starts ≡ last ∷ [] → Some last ≡ only_of starts
+only_one starts last is = sym (ap (λ (xs : List ℕ). only_of xs) is)
+
+pub not_only_one : (starts : List ℕ) → (length starts ≡ 1 → ⊥) → None ≡ only_of starts
+not_only_one [] several = refl
+not_only_one (x ∷ []) several = absurd (several refl)
+not_only_one (x ∷ y ∷ rest) several = refl
+
+pub none_of_length : (xs : List ℕ) → length xs ≡ 0 → xs ≡ []
+none_of_length [] h = refl
+none_of_length (x ∷ xs) h = absurd (omega arith)
+
+-- ---- first addresses compared with words
+
+module _ (core init : Bool) (rs : List (ℕ × ℕ)) (ps : List Part) (i : ℕ) (r : ℕ × ℕ) (p : Part) (lt : i < length rs) (lp : i < length ps) where
+  pub wanted_more : is_of core init (get_or ps i p) ≡ true → starts_of core init (take (i + 1) rs) (take (i + 1) ps) ≡ starts_of core init (take i rs) (take i ps) ++ (get_or rs i r).0 ∷ []
+  wanted_more is = starts_more core init rs ps i r p lt lp ∙ ap (λ b. starts_of core init (take i rs) (take i ps) ++ cond b ((get_or rs i r).0 ∷ []) []) is
+
+  pub other_more : is_of core init (get_or ps i p) ≡ false → starts_of core init (take (i + 1) rs) (take (i + 1) ps) ≡ starts_of core init (take i rs) (take i ps)
+  other_more is = starts_more core init rs ps i r p lt lp ∙ ap (λ b. starts_of core init (take i rs) (take i ps) ++ cond b ((get_or rs i r).0 ∷ []) []) is ∙ append-nil (starts_of core init (take i rs) (take i ps))
+
+take_past : {X : Type 0} (xs : List X) (i : ℕ) → length xs ≤ i → take i xs ≡ xs
+take_past [] zero le = refl
+take_past [] (suc i) le = refl
+take_past (x ∷ xs) zero le = absurd (omega arith)
+take_past (x ∷ xs) (suc i) le = ap (λ ys. x ∷ ys) (take_past xs i (omega arith))
+
+-- past the last place these are all
+pub whole_starts : (core init : Bool) (rs : List (ℕ × ℕ)) (ps : List Part) (i : ℕ) → length rs ≤ i → length ps ≤ i → starts_of core init (take i rs) (take i ps) ≡ starts_of core init rs ps
+whole_starts core init rs ps i le lp = ap (λ (xs : List (ℕ × ℕ)). starts_of core init xs (take i ps)) (take_past rs i le) ∙ ap (λ (xs : List Part). starts_of core init rs xs) (take_past ps i lp)
+
+-- all first addresses are those before a place, that of the place, and those after it
+pub starts_split : (core init : Bool) (rs : List (ℕ × ℕ)) (ps : List Part) (i : ℕ) (r : ℕ × ℕ) (p : Part) → i < length rs → i < length ps → is_of core init (get_or ps i p) ≡ true
+    → starts_of core init rs ps ≡ starts_of core init (take i rs) (take i ps) ++ (get_or rs i r).0 ∷ starts_of core init (drop (suc i) rs) (drop (suc i) ps)
+starts_split core init [] ps i r p lt lp is = absurd (omega arith)
+starts_split core init (x ∷ xs) [] i r p lt lp is = absurd (omega arith)
+starts_split core init (x ∷ xs) (y ∷ ys) zero r p lt lp is = rw is refl
+starts_split core init (x ∷ xs) (y ∷ ys) (suc i) r p lt lp is =
+    by_first (is_of core init y) (starts_of core init xs ys) (starts_of core init (take i xs) (take i ys)) ((get_or xs i r).0 ∷ starts_of core init (drop (suc i) xs) (drop (suc i) ys)) (starts_split core init xs ys i r p (omega arith) (omega arith) is)
+  where
+    by_first : (b : Bool) (new old last : List ℕ) → new ≡ old ++ last → cond b (x.0 ∷ new) new ≡ cond b (x.0 ∷ old) old ++ last
+    by_first true new old last h = ap (λ ys. x.0 ∷ ys) h
+    by_first false new old last h = h
+
+-- words that begin with the first addresses so far, and have another one next or none, are not all
+pub other_words : (words starts more : List ℕ) (start count : ℕ) → starts ≡ take count words → count ≤ length words → (count < length words → (d : ℕ) → get_or words count d ≡ start → ⊥)
+    → bytes_eq (starts ++ start ∷ more) words ≡ false
+other_words words starts more start count is bound other =
+    not_true (bytes_eq (starts ++ start ∷ more) words) (λ same.
+    let all : starts ++ start ∷ more ≡ words = (bytes_decides (starts ++ start ∷ more) words).0 same in
+    let length_is : length starts ≡ count = ap (λ (xs : List ℕ). length xs) is ∙ length-take-le count words bound in
+    let long : length starts + suc (length more) ≡ length words = sym (length-append starts (start ∷ more)) ∙ ap (λ (xs : List ℕ). length xs) all in
+    let within : count < length words = omega arith in
+    other within 0 (ap (λ (xs : List ℕ). get_or xs count 0) (sym all) ∙ ap (λ n. get_or (starts ++ start ∷ more) n 0) (sym length_is) ∙ get_or-append_seam starts start more 0))
+  where
+    not_true : (b : Bool) → (b ≡ true → ⊥) → b ≡ false
+    not_true true h = absurd (h refl)
+    not_true false h = refl
+
+pub all_words : (words starts : List ℕ) (count : ℕ) → starts ≡ take count words → count ≤ length words → nat_eq count (length words) ≡ bytes_eq starts words
+all_words words starts count is bound =
+    ⊎_elim
+    (λ less.
+    eqb_by (nat_eq count (length words)) (bytes_eq starts words)
+    (λ e. let k : count ≡ length words = eqb-true count (length words) e in absurd (omega arith))
+    (λ e.
+    let same : starts ≡ words = (bytes_decides starts words).0 e in
+    let length_is : length starts ≡ count = ap (λ (xs : List ℕ). length xs) is ∙ length-take-le count words bound in
+    let k : length starts ≡ length words = ap (λ (xs : List ℕ). length xs) same in absurd (omega arith)))
+    (λ ge.
+    let k : count ≡ length words = omega arith in
+    let same : starts ≡ words = is ∙ ap (λ n. take n words) k ∙ take-length words in
+    eq-eqb count (length words) k ∙ sym ((bytes_decides starts words).1 same))
+    (cases_lt count (length words))
+  where
+    eqb_by : (a b : Bool) → (a ≡ true → ⊥) → (b ≡ true → ⊥) → a ≡ b
+    eqb_by true b f g = absurd (f refl)
+    eqb_by false true f g = absurd (g refl)
+    eqb_by false false f g = refl
+
+-- an update of these words takes out just the items of these first addresses
+pub erasing_batch : (starts erase : List ℕ) (insert : List Item) → (not (nat_eq (length erase) 1) && has_no_items insert && bytes_eq starts erase) ≡ (not (nat_eq (length starts) 1) && has_no_items insert && bytes_eq starts erase)
+erasing_batch starts erase insert =
+    by (bytes_eq starts erase) refl
+  where
+    by : (b : Bool) → bytes_eq starts erase ≡ b → (not (nat_eq (length erase) 1) && has_no_items insert && b) ≡ (not (nat_eq (length starts) 1) && has_no_items insert && b)
+    by true h = ap (λ (xs : List ℕ). not (nat_eq (length xs) 1) && has_no_items insert && true) (sym ((bytes_decides starts erase).0 h))
+    by false h = ends (not (nat_eq (length erase) 1) && has_no_items insert) ∙ sym (ends (not (nat_eq (length starts) 1) && has_no_items insert))
+      where
+        ends : (b : Bool) → (b && false) ≡ false
+        ends true = refl
+        ends false = refl

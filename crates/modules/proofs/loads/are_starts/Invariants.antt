@@ -1,0 +1,10 @@
+use Rattle.std.proofs.Common.{◌≡◌, ◌≤◌, length, take}
+use Rattle.modules.specs.Starts.{starts_of}
+use Rattle.modules.proofs.loads.are_starts.Given as goal
+
+abbrev pub invariant-loop-place : goal.invariant-loop-place
+invariant-loop-place l =
+    record {
+      begins : starts_of l.core l.init (take l.place l.regions) (take l.place l.parts) ≡ take l.count l.words;
+      bounded : l.count ≤ length l.words;
+    }

@@ -1,0 +1,11 @@
+use Rattle.std.proofs.Common.{◌≡◌, ◌≤◌, [], ◌∷◌, length, take}
+use Rattle.modules.specs.Starts.{starts_of}
+use Rattle.modules.proofs.loads.only_start.Given as goal
+
+abbrev pub invariant-loop-place : goal.invariant-loop-place
+invariant-loop-place l =
+    record {
+      counted : l.count ≡ length (starts_of l.core l.init (take l.place l.regions) (take l.place l.parts));
+      bounded : l.count ≤ l.place;
+      one : l.count ≡ 1 → starts_of l.core l.init (take l.place l.regions) (take l.place l.parts) ≡ l.last ∷ [];
+    }
