@@ -1,10 +1,8 @@
-use Rattle.std.proofs.Common.{◌≡◌, ℕ, suc, ◌+◌, ◌<◌, ◌≤◌, List, [], ◌∷◌, ◌++◌, length, get_or, take, drop, sym, ap, ◌∙◌, subst, arith}
+use Rattle.std.proofs.Common.{ℕ, suc, ◌+◌, ◌<◌, List, [], ◌∷◌, ◌++◌, length, get_or, take, drop, sym, ap, ◌∙◌, arith}
 use Rattle.std.specs.Str.{bytes_eq}
-use Rattle.std.proofs.Math.Seq.{take-length}
 use Rattle.std.proofs.lemmas.List.{get_or_default}
 use Rattle.facts.proofs.Lists.{take_push}
 use Rattle.modules.specs.Starts.{starts_of}
-use Rattle.modules.specs.declared.lines.Part.{Part}
 use Rattle.modules.specs.declared.lines.Part.TheVariants.{Core}
 use Rattle.modules.proofs.ErasingLemmas.{all_words, other_more, other_words, starts_split, wanted_more, whole_starts}
 use Rattle.modules.proofs.loads.are_starts.Goals as goal

@@ -1,4 +1,4 @@
-use Rattle.std.proofs.Common.{◌≡◌, ℕ, suc, ◌&&◌, true, false, length, get_or, drop, sym, ap, ◌∙◌, arith, add-one}
+use Rattle.std.proofs.Common.{◌≡◌, ℕ, suc, ◌&&◌, true, false, get_or, drop, sym, ap, ◌∙◌, arith, add-one}
 use Rattle.order_laws.specs.declared.items.Item.{Item}
 use Rattle.modules.specs.Loads.{is_item_of, same_items}
 use Rattle.modules.proofs.LoadLemmas.{other_length, same_end, same_here}

@@ -1,15 +1,10 @@
-use Rattle.std.proofs.Common.{◌≡◌, ◌≤◌, length, sym, ap, subst, true, arith}
+use Rattle.std.proofs.Common.{◌≡◌, sym, subst, true}
 use Rattle.std.specs.Prelude.{All}
 use Rattle.std.specs.Str.{bytes_eq}
-use Rattle.std.proofs.lemmas.List.{length-map}
-use Rattle.std.specs.Borrow.{Bor}
 use Rattle.std.proofs.lemmas.List.Elements.{All-filter}
-use Rattle.modules.specs.Grouped.{lines_at}
 use Rattle.modules.specs.Lines.{region_fits}
 use Rattle.modules.specs.Listed.{ListedRegion}
-use Rattle.modules.specs.Placed.{lines_named}
 use Rattle.modules.proofs.GroupLemmas.{all_at}
-use Rattle.modules.proofs.RegionLemmas.{few_named}
 use Rattle.modules.proofs.placing.RegionLines.place.Goals as goal
 
 pub in_lines-requires : goal.in_lines-requires
