@@ -15,7 +15,7 @@ use Rattle.latch_steps.specs.declared.replies.Note.TheVariants.{Returned as Retu
 use Rattle.latch_steps.specs.declared.replies.Reply.TheVariants.{Loaded, Retried, Refused, Returned as ReturnedReply}
 use Rattle.latch_steps.specs.declared.lookups.Lookup.{Lookup}
 use Rattle.latch_steps.specs.declared.lookups.Loaded.TheVariants.{Going, Retrying, Returned as ReturnedLoad}
-use Rattle.latch_steps.specs.declared.lookups.Held.TheVariants.{Going as Holds, Returned as Ends}
+use Rattle.latch_steps.specs.declared.lookups.LookupState.TheVariants.{Going as Holds, Returned as Ends}
 use Rattle.latch_steps.specs.Runs.{PendingLookup, Moment, Done, step_done, last_of}
 use Rattle.latch_steps.specs.Steps.{machine, counted_up, with_lookups, after_load, load_done, read_done, Run}
 use Rattle.latch_steps.specs.Traces.{kept, events_of, note_of, notes_of}
@@ -28,7 +28,7 @@ use Rattle.word_layout.specs.Layouts.{capacity_of, limit_of}
 use Rattle.std.specs.List.{cons_option}
 use Rattle.std.specs.BTreeMap.{BTreeMap, is_at}
 use Rattle.latch_steps.specs.declared.worlds.World.{World}
-use Rattle.latch_steps.specs.declared.lookups.Held.{Held}
+use Rattle.latch_steps.specs.declared.lookups.LookupState.{LookupState}
 use Rattle.latch_steps.specs.Worlds.{RepresentsMoment, layout_in}
 use Rattle.latch_steps.specs.Recorders.{Obeys}
 use Rattle.latch_steps.specs.declared.traces.Recorder.{Recorder}
@@ -143,7 +143,7 @@ module _ {O K : Type 0} (o : Order K) (c : World O K) (r : ℕ) where
       }
 
   module _ (lk : Lookup O K) (there : Some lk ≡ lookup_at c.lookups r) (words : List ℕ) (same : words ≡ c.words.items) (most loads count : ℕ) (ds : BTreeMap ℕ (Option (Lookup O K))) (w : Moment K) (s : RepresentsMoment o c w) where
-    reads : (h : Held O K) (found : Option (Note K)) → end_notes h ≡ cons_option found [] → ((q : ℕ) → lookup_at ds q ≡ cond (is_at (nat_cmp r) q) (lookup_of h) (lookup_at c.lookups q))
+    reads : (h : LookupState O K) (found : Option (Note K)) → end_notes h ≡ cons_option found [] → ((q : ℕ) → lookup_at ds q ≡ cond (is_at (nat_cmp r) q) (lookup_of h) (lookup_at c.lookups q))
         → LoadsFrom o words lk r most c.events (record { held = h; count = loads; events = count })
         → ReadsOn o c w r most (loads, found) (record c { lookups = ds; events = count })
     reads h found quiet e made =

@@ -13,19 +13,19 @@ use Rattle.latch_steps.specs.Lookups.{IsPendingLookup}
 use Rattle.std.specs.List.{cons_option}
 use Rattle.latch_steps.specs.Worlds.{RepresentsMoment, machine_in}
 use Rattle.latch_steps.specs.declared.commands.Command.TheVariants.{Read as ReadCommand}
-use Rattle.latch_steps.specs.declared.lookups.Held.{Held}
-use Rattle.latch_steps.specs.declared.lookups.Loads.{Loads}
-use Rattle.latch_steps.specs.declared.lookups.Held.TheVariants.{Going, Returned}
+use Rattle.latch_steps.specs.declared.lookups.LookupState.{LookupState}
+use Rattle.latch_steps.specs.declared.lookups.LookupProgress.{LookupProgress}
+use Rattle.latch_steps.specs.declared.lookups.LookupState.TheVariants.{Going, Returned}
 use Rattle.latch_steps.specs.Traces.{notes_of}
 use Rattle.latch_steps.specs.Expands.{Repeats, reads_within}
 
 -- the lookup that is left pending
-abbrev pub lookup_of : {O K : Type 0} → Held O K → Option (Lookup O K)
+abbrev pub lookup_of : {O K : Type 0} → LookupState O K → Option (Lookup O K)
 lookup_of (Going c) = Some c
 lookup_of (Returned x) = None
 
 -- what its end is noted as
-abbrev pub end_notes : {O K : Type 0} → Held O K → List (Note K)
+abbrev pub end_notes : {O K : Type 0} → LookupState O K → List (Note K)
 end_notes (Going c) = []
 end_notes (Returned x) = ReturnedNote x ∷ []
 
@@ -39,7 +39,7 @@ pub record ChangesOneLookup {O K : Type 0} (o : Order K) (n : ℕ) (w v : Moment
 
 -- loads of the reader from a moment, as one command asks for them, came to this
 pub record LoadsOn {O K : Type 0} (m : Machine K) (w : Moment K) (r most : ℕ)
-    (loads : Loads O K) : Type 0 where
+    (loads : LookupProgress O K) : Type 0 where
   pub run : List (Done K)
   pub made : length run ≡ loads.count
   pub steps : Run m w run
@@ -51,7 +51,7 @@ pub record LoadsOn {O K : Type 0} (m : Machine K) (w : Moment K) (r most : ℕ)
 -- they came to it from each moment of these words that has this pending lookup, after so many
 -- events
 abbrev pub LoadsFrom :
-    {O K : Type 0} → Order K → List ℕ → Lookup O K → ℕ → ℕ → ℕ → Loads O K → Type 0
+    {O K : Type 0} → Order K → List ℕ → Lookup O K → ℕ → ℕ → ℕ → LookupProgress O K → Type 0
 LoadsFrom {O} {K} o words c r most events loads =
     (n limit : ℕ) (w : Moment K) → w.latch.words ≡ words
     → IsPendingLookup o n (Some c) (get w.lookups r) → events ≡ w.events

@@ -32,7 +32,7 @@ pub(crate) enum Loaded<O: TreeOrder> {
 }
 
 /// What some loads make of a lookup.
-pub(crate) enum Held<O: TreeOrder> {
+pub(crate) enum LookupState<O: TreeOrder> {
     /// It is pending.
     Going(Lookup<O>),
     /// It is at its end.
@@ -40,9 +40,9 @@ pub(crate) enum Held<O: TreeOrder> {
 }
 
 /// What some loads of a lookup come to.
-pub(crate) struct Loads<O: TreeOrder> {
+pub(crate) struct LookupProgress<O: TreeOrder> {
     /// What they make of it.
-    pub(crate) held: Held<O>,
+    pub(crate) held: LookupState<O>,
     /// How many they are.
     pub(crate) count: u32,
     /// How many events there are then.
@@ -66,7 +66,13 @@ impl<O: TreeOrder> Lookup<O> {
     }
 
     /// Loads of the reader, at most so many and up to its return, after `events` events.
-    pub(crate) fn load_on(self, words: &[u64], reader: u32, most: u32, mut events: u64) -> Loads<O>
+    pub(crate) fn load_on(
+        self,
+        words: &[u64],
+        reader: u32,
+        most: u32,
+        mut events: u64,
+    ) -> LookupProgress<O>
         ensures { LoadsFrom O.order words.now self reader most events result }
     {
         let mut lookup = self;
@@ -76,16 +82,16 @@ impl<O: TreeOrder> Lookup<O> {
                 Loaded::Going(next) => lookup = next,
                 Loaded::Retrying(next) => lookup = next,
                 Loaded::Returned(returned) => {
-                    return Loads {
-                        held: Held::Returned(returned),
+                    return LookupProgress {
+                        held: LookupState::Returned(returned),
                         count: turn + 1,
                         events,
                     };
                 }
             }
         }
-        Loads {
-            held: Held::Going(lookup),
+        LookupProgress {
+            held: LookupState::Going(lookup),
             count: most,
             events,
         }

@@ -10,7 +10,7 @@ ghost use Rattle.latch_steps.specs.declared.events.Event.TheVariants.{Begin, Wri
 ghost use Rattle.latch_steps.specs.Runs.{Moment, accepted, opening};
 
 use crate::events::Event;
-use crate::lookups::{Held, Loaded, Loads, Lookup};
+use crate::lookups::{Loaded, Lookup, LookupProgress, LookupState};
 use crate::replies::{Note, Reply, Returned};
 use crate::words::{opening_words, put, word_at};
 use latch_core::{Attempted, Update, WriterCore, attempt_in};
@@ -273,18 +273,18 @@ impl<O: TreeOrder> World<O> {
             self.events = self.events.saturating_add(1);
             return (1, Some(Note::Refused(Refusal::ReaderIdle)));
         };
-        let Loads {
+        let LookupProgress {
             held,
             count,
             events,
         } = lookup.load_on(self.words.as_slice(), reader, most, self.events);
         self.events = events;
         match held {
-            Held::Going(next) => {
+            LookupState::Going(next) => {
                 *place = Some(next);
                 (count, None)
             }
-            Held::Returned(returned) => (count, Some(Note::Returned(returned))),
+            LookupState::Returned(returned) => (count, Some(Note::Returned(returned))),
         }
     }
 

@@ -10,7 +10,7 @@ use Rattle.latch_core.specs.Loading.{Leads, IsReady, HasTried}
 use Rattle.latch_core.proofs.LoadingLemmas.{leads_along}
 use Rattle.latch_weak.specs.Works.{words_at}
 use Rattle.latch_weak.specs.declared.barriers.Barriers.{Barriers}
-use Rattle.latch_weak.specs.declared.attempts.Reader.{Reader}
+use Rattle.latch_weak.specs.declared.attempts.ReaderView.{ReaderView}
 use Rattle.latch_weak.specs.Barriers.{last_store, ordered_before}
 use Rattle.latch_weak.specs.Views.{View, Glance, MayLoad, raised, after_load, after_first, before_load}
 use Rattle.latch_weak.specs.Loads.{value_at, AreLoads, values_seen, view_left}
@@ -39,7 +39,7 @@ module _ (b : Barriers) (m : List ℕ) (ss : List Store) where
   bounded_first true y le = le
   bounded_first false y le = omega arith
 
-  module _ (r r' : Reader) (w x : ℕ) (g : Glance) (is : IsReaderOf m ss r) (within : w < length m) where
+  module _ (r r' : ReaderView) (w x : ℕ) (g : Glance) (is : IsReaderOf m ss r) (within : w < length m) where
     -- one load
     pub looked : max (get_or r.least.items w 0) r.floor ≤ g.moment → g.moment ≤ g.made → r.last.made ≤ g.made → g.made ≤ length ss
         → r'.least.items ≡ set r.least.items w (max (get_or r.least.items w 0) (last_store ss w g.moment)) → r'.floor ≡ r.floor
@@ -65,7 +65,7 @@ module _ (b : Barriers) (m : List ℕ) (ss : List Store) where
         }
 
   -- a reader whose floor was raised
-  raised_still : (r r' : Reader) (least : ℕ) → IsReaderOf m ss r → least ≤ length ss → view_of r' ≡ raised (view_of r) least → r'.least.items ≡ r.least.items → r'.at_barrier ≡ r.at_barrier → r'.last ≡ r.last → IsReaderOf m ss r'
+  raised_still : (r r' : ReaderView) (least : ℕ) → IsReaderOf m ss r → least ≤ length ss → view_of r' ≡ raised (view_of r) least → r'.least.items ≡ r.least.items → r'.at_barrier ≡ r.at_barrier → r'.last ≡ r.last → IsReaderOf m ss r'
   raised_still r r' least is few view words barrier last = record {
     sized = ap length words ∙ is.sized;
     seen = λ u. (let e : (view_of r').of_word u ≡ max ((view_of r).of_word u) least = ap (λ (v : View). v.of_word u) view in let s = is.seen u in omega arith);
@@ -74,7 +74,7 @@ module _ (b : Barriers) (m : List ℕ) (ss : List Store) where
   }
 
   -- the first load, with what the dependency orders after it
-  pub looked_first : (r n r' : Reader) (x least : ℕ) → Looks b m ss r 0 x n → least ≡ cond b.dependency (ordered_before b ss (last_store ss 0 n.last.moment)) 0
+  pub looked_first : (r n r' : ReaderView) (x least : ℕ) → Looks b m ss r 0 x n → least ≡ cond b.dependency (ordered_before b ss (last_store ss 0 n.last.moment)) 0
       → view_of r' ≡ raised (view_of n) least → r'.least.items ≡ n.least.items → r'.at_barrier ≡ n.at_barrier → r'.last ≡ n.last → LooksFirst b m ss r x r'
   looked_first r n r' x least looks is view words barrier last =
       let made = looks.still.made in
@@ -89,12 +89,12 @@ module _ (b : Barriers) (m : List ℕ) (ss : List Store) where
       }
 
   -- before a later load
-  pub behind_barrier : (r n : Reader) (w : ℕ) → b.before_last ≡ true → w ≡ 0 → view_of n ≡ raised (view_of r) r.at_barrier → n.least.items ≡ r.least.items → n.at_barrier ≡ r.at_barrier → n.last ≡ r.last → StandsBefore b r n w
+  pub behind_barrier : (r n : ReaderView) (w : ℕ) → b.before_last ≡ true → w ≡ 0 → view_of n ≡ raised (view_of r) r.at_barrier → n.least.items ≡ r.least.items → n.at_barrier ≡ r.at_barrier → n.last ≡ r.last → StandsBefore b r n w
   behind_barrier r n w has is view words barrier last =
       let stands : (b.before_last && (w == 0)) ≡ true = λ i. (has i && eq-eqb w 0 is i) in
       record { view = view ∙ ap (λ c. raised (view_of r) (cond c r.at_barrier 0)) (sym stands); words = words; barrier = barrier; last = last }
 
-  pub behind_none : (r : Reader) (w : ℕ) → (b.before_last && (w == 0)) ≡ false → StandsBefore b r r w
+  pub behind_none : (r : ReaderView) (w : ℕ) → (b.before_last && (w == 0)) ≡ false → StandsBefore b r r w
   behind_none r w none = record {
     view = (λ i. record { of_word = λ u. (let e : max (get_or r.least.items u 0) r.floor ≡ max (max (get_or r.least.items u 0) r.floor) 0 = omega arith in e i); at_barrier = r.at_barrier })
         ∙ ap (λ c. raised (view_of r) (cond c r.at_barrier 0)) (sym none);
@@ -103,11 +103,11 @@ module _ (b : Barriers) (m : List ℕ) (ss : List Store) where
     last = refl;
   }
 
-  pub next_ready : (r n : Reader) (w : ℕ) → IsReaderOf m ss r → StandsBefore b r n w → IsReaderOf m ss n
+  pub next_ready : (r n : ReaderView) (w : ℕ) → IsReaderOf m ss r → StandsBefore b r n w → IsReaderOf m ss n
   next_ready r n w is h =
       raised_still r n (cond (b.before_last && (w == 0)) r.at_barrier 0) is (bounded_first (b.before_last && (w == 0)) r.at_barrier is.barrier) h.view h.words h.barrier h.last
 
-  pub looked_next : (r n r' : Reader) (w x : ℕ) → StandsBefore b r n w → Looks b m ss n w x r' → LooksNext b m ss r w x r'
+  pub looked_next : (r n r' : ReaderView) (w x : ℕ) → StandsBefore b r n w → Looks b m ss n w x r' → LooksNext b m ss r w x r'
   looked_next r n r' w x h looks = record {
     may = subst (λ v. MayLoad ss v w r.last.made r'.last) h.view (subst (λ (q : Glance). MayLoad ss (view_of n) w q.made r'.last) h.last looks.may);
     value_is = looks.value_is;
@@ -116,30 +116,30 @@ module _ (b : Barriers) (m : List ℕ) (ss : List Store) where
   }
 
   -- a first load that orders nothing after it
-  pub looked_alone : (r n : Reader) (x : ℕ) → Looks b m ss r 0 x n → b.dependency ≡ false → LooksFirst b m ss r x n
+  pub looked_alone : (r n : ReaderView) (x : ℕ) → Looks b m ss r 0 x n → b.dependency ≡ false → LooksFirst b m ss r x n
   looked_alone r n x looks none =
       looked_first r n n x 0 looks (ap (λ c. cond c (ordered_before b ss (last_store ss 0 n.last.moment)) 0) (sym none))
       (λ i. record { of_word = λ u. (let e : max (get_or n.least.items u 0) n.floor ≡ max (max (get_or n.least.items u 0) n.floor) 0 = omega arith in e i); at_barrier = n.at_barrier }) refl refl refl
 
-  abbrev gives : Reader → ℕ → ℕ → Reader → Type 0
+  abbrev gives : ReaderView → ℕ → ℕ → ReaderView → Type 0
   gives s w x s' = LooksNext b m ss s w x s'
 
   -- a reader stays one at each load, so it may make the next
-  pub ready : {K : Type 0} (o : Order K) (n : ℕ) (k : K) (first : ℕ) (s : Reader) → IsReaderOf m ss s
+  pub ready : {K : Type 0} (o : Order K) (n : ℕ) (k : K) (first : ℕ) (s : ReaderView) → IsReaderOf m ss s
       → IsReady (λ q w. IsReaderOf m ss q) gives (λ q. IsReaderOf m ss q) s (attempt_after o n k first)
   ready o n k first s is =
-      let led = λ (v : List ℕ) (q : Reader) (r : Reading) (h : Leads gives s (attempt_after o n k first) v q r).
+      let led = λ (v : List ℕ) (q : ReaderView) (r : Reading) (h : Leads gives s (attempt_after o n k first) v q r).
       (leads_along gives (λ a u. IsReaderOf m ss a) (attempt_after o n k first) (λ a a' u w x go p e g. g.still) s (attempt_after o n k first) [] is refl v q r h).0 in
       record { loads = λ v q w go h some. led v q (Load w go) h; ends = λ v q r h. led v q r h }
 
   -- what these loads looked at
-  record HasLooked (s : Reader) (r : Reading) (values : List ℕ) (s' : Reader) : Type 0 where
+  record HasLooked (s : ReaderView) (r : Reading) (values : List ℕ) (s' : ReaderView) : Type 0 where
     glances : List Glance
     loads : AreLoads b m ss (view_of s) s.last.made r glances
     seen : values_seen m ss r glances ≡ values
     leaves : view_left b m ss (view_of s) r glances ≡ view_of s'
 
-  last_looked : (s s' : Reader) (last : ℕ) (go : ℕ → Reading) → LooksNext b m ss s 0 last s' → HasLooked s (Load 0 go) (last ∷ []) s'
+  last_looked : (s s' : ReaderView) (last : ℕ) (go : ℕ → Reading) → LooksNext b m ss s 0 last s' → HasLooked s (Load 0 go) (last ∷ []) s'
   last_looked s s' last go g = record {
     glances = s'.last ∷ [];
     loads = (g.may, tt);
@@ -147,9 +147,9 @@ module _ (b : Barriers) (m : List ℕ) (ss : List Store) where
     leaves = sym g.view_is;
   }
 
-  all_looked : (s s' q : Reader) (r : Reading) (v : List ℕ) (last : ℕ) (go : ℕ → Reading) → Leads gives s r v q (Load 0 go) → LooksNext b m ss q 0 last s' → HasLooked s r (v ++ last ∷ []) s'
+  all_looked : (s s' q : ReaderView) (r : Reading) (v : List ℕ) (last : ℕ) (go : ℕ → Reading) → Leads gives s r v q (Load 0 go) → LooksNext b m ss q 0 last s' → HasLooked s r (v ++ last ∷ []) s'
   all_looked s s' q r [] last go h g =
-      subst (λ (z : Reader × Reading). HasLooked z.0 z.1 (last ∷ []) s') (λ i. (h.0 i, h.1 i)) (last_looked q s' last go g)
+      subst (λ (z : ReaderView × Reading). HasLooked z.0 z.1 (last ∷ []) s') (λ i. (h.0 i, h.1 i)) (last_looked q s' last go g)
   all_looked s s' q (Load w on) (x ∷ v) last go (n, g, h) e =
       let rest = all_looked n s' q (on x) v last go h e in
       let is : x ≡ value_at m ss w n.last = g.value_is in
@@ -164,7 +164,7 @@ module _ (b : Barriers) (m : List ℕ) (ss : List Store) where
   all_looked s s' q (Ends out) (x ∷ v) last go h e = absurd h
 
   -- a whole attempt
-  pub attempted : {K : Type 0} (o : Order K) (n : ℕ) (k : K) (s f s' : Reader) (first : ℕ) (out : Outcome) (count : ℕ) → LooksFirst b m ss s first f
+  pub attempted : {K : Type 0} (o : Order K) (n : ℕ) (k : K) (s f s' : ReaderView) (first : ℕ) (out : Outcome) (count : ℕ) → LooksFirst b m ss s first f
       → IsReaderOf m ss f → HasTried gives (λ q x q'. LooksNext b m ss q 0 x q') o n k first f s' out count → HasAttempted b o n m ss s k out s'
   attempted o n k s f s' first out count begun is h =
       let looked = all_looked f s' h.m (attempt_after o n k first) h.values h.last (λ t. Ends (outcome first t h.found)) h.leads h.ended in

@@ -1,7 +1,7 @@
 //! An attempt each of whose loads gives what its reader may see then.
 //!
-//! A reader's [`Reader`] is what it has to see: its view. A [`Schedule`] chooses, for each load,
-//! among the moments that the view still allows, and the load changes the view:
+//! A reader's [`ReaderView`] is what it has to see: its view. A [`LoadSchedule`] chooses, for each
+//! load, among the moments that the view still allows, and the load changes the view:
 //!
 //! ```text
 //! first load of word 0      raised to what its store was ordered after, by the dependency
@@ -35,7 +35,7 @@ pub struct Glance {
 }
 
 /// Chooses what each load of a reader gives.
-pub trait Schedule {
+pub trait LoadSchedule {
     /// What load number `load` of the reader gives, of `word`: a moment from `least` on, where the
     /// writer makes at most `most` stores and had made `last.made` at the load before.
     fn glance(&self, load: u64, word: usize, last: Glance, least: usize, most: usize) -> Glance
@@ -49,7 +49,7 @@ pub trait Schedule {
 
 /// What a reader has to see.
 #[derive(Drop)]
-pub struct Reader {
+pub struct ReaderView {
     /// For each word, the least moment that a load of it may still show, if above the floor.
     pub least: Vec<usize>,
     /// The least moment that a load of any word may still show.
@@ -62,7 +62,7 @@ pub struct Reader {
     pub last: Glance,
 }
 
-impl Reader {
+impl ReaderView {
     /// No word older than this.
     fn raise(&mut self, least: usize)
         ensures view { view_of self.new ≡ raised (view_of self.old) least }
@@ -76,7 +76,7 @@ impl Reader {
 
 /// The stores of a writer, as readers may see them.
 #[derive(Drop)]
-pub struct Moments<'a, S: Schedule> {
+pub struct Moments<'a, S: LoadSchedule> {
     /// The barriers that order them.
     pub barriers: Barriers,
     /// The words before the first store.
@@ -87,15 +87,15 @@ pub struct Moments<'a, S: Schedule> {
     pub schedule: &'a S,
 }
 
-impl<S: Schedule> Moments<'_, S> {
+impl<S: LoadSchedule> Moments<'_, S> {
     /// A reader that has to see the first so many stores.
-    pub fn reader(&self, alloc: Global, from: usize) -> Result<Reader, AllocError>
+    pub fn reader(&self, alloc: Global, from: usize) -> Result<ReaderView, AllocError>
         requires { from ≤ length self.now.stores.now }
         ensures reader { IfOk result (IsReaderOf self.now.opening.now self.now.stores.now) }
         ensures view { IfOk result (λ reader. view_of reader ≡ seen_up_to from) }
         ensures made { IfOk result (λ reader. reader.last.made ≡ from) }
     {
-        Ok(Reader {
+        Ok(ReaderView {
             least: vec![in alloc; 0; self.opening.len()]?,
             floor: from,
             at_barrier: 0,
@@ -108,7 +108,7 @@ impl<S: Schedule> Moments<'_, S> {
     }
 
     /// One load, with no barrier before it.
-    fn look(&self, reader: &mut Reader, word: usize) -> u64
+    fn look(&self, reader: &mut ReaderView, word: usize) -> u64
         requires word { word < length self.now.opening.now }
         requires reader { IsReaderOf self.now.opening.now self.now.stores.now reader.old }
         ensures { Looks self.now.barriers self.now.opening.now self.now.stores.now reader.old word
@@ -129,7 +129,7 @@ impl<S: Schedule> Moments<'_, S> {
     }
 
     /// The first load of an attempt, on which those of its walk depend.
-    fn look_first(&self, reader: &mut Reader) -> u64
+    fn look_first(&self, reader: &mut ReaderView) -> u64
         requires word { 0 < length self.now.opening.now }
         requires reader { IsReaderOf self.now.opening.now self.now.stores.now reader.old }
         ensures { LooksFirst self.now.barriers self.now.opening.now self.now.stores.now reader.old
@@ -144,7 +144,7 @@ impl<S: Schedule> Moments<'_, S> {
     }
 
     /// Before a later one: a read barrier stands before that of word 0.
-    fn stand_before(&self, reader: &mut Reader, word: usize)
+    fn stand_before(&self, reader: &mut ReaderView, word: usize)
         ensures { StandsBefore self.now.barriers reader.old reader.new word }
     {
         if self.barriers.before_last && word == 0 {
@@ -153,7 +153,7 @@ impl<S: Schedule> Moments<'_, S> {
     }
 
     /// A later load.
-    fn look_next(&self, reader: &mut Reader, word: usize) -> u64
+    fn look_next(&self, reader: &mut ReaderView, word: usize) -> u64
         requires word { word < length self.now.opening.now }
         requires reader { IsReaderOf self.now.opening.now self.now.stores.now reader.old }
         ensures { LooksNext self.now.barriers self.now.opening.now self.now.stores.now reader.old
@@ -165,7 +165,12 @@ impl<S: Schedule> Moments<'_, S> {
 
     /// One attempt, each load of which gives what the schedule chooses among what the reader may
     /// see.
-    pub fn attempt<O: TreeOrder>(&self, reader: &mut Reader, l: Layout, key: O::Key) -> Attempted
+    pub fn attempt<O: TreeOrder>(
+        &self,
+        reader: &mut ReaderView,
+        l: Layout,
+        key: O::Key,
+    ) -> Attempted
         requires sized { length self.now.opening.now ≡ words_for (capacity_of l) }
         requires reader { IsReaderOf self.now.opening.now self.now.stores.now reader.old }
         ensures { HasAttempted self.now.barriers O.order (capacity_of l) self.now.opening.now
@@ -176,8 +181,8 @@ impl<S: Schedule> Moments<'_, S> {
     }
 }
 
-impl<S: Schedule> Loads for Moments<'_, S> {
-    type Seat = Reader;
+impl<S: LoadSchedule> Loads for Moments<'_, S> {
+    type Seat = ReaderView;
 
     ghost size = { λ it. length it.opening.now };
 
@@ -191,11 +196,11 @@ impl<S: Schedule> Loads for Moments<'_, S> {
     ghost end_gives = { λ it s x s'.
         LooksNext it.barriers it.opening.now it.stores.now s 0 x s' };
 
-    fn load(&self, reader: &mut Reader, word: usize, skipped: usize) -> u64 {
+    fn load(&self, reader: &mut ReaderView, word: usize, skipped: usize) -> u64 {
         self.look_next(reader, word + skipped)
     }
 
-    fn sequence(&self, reader: &mut Reader) -> u64 {
+    fn sequence(&self, reader: &mut ReaderView) -> u64 {
         self.look_next(reader, 0)
     }
 }

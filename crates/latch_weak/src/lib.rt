@@ -23,7 +23,7 @@ pub mod recording;
 #[cfg(test)]
 mod schedule_tests;
 
-pub use attempts::{Glance, Moments, Reader, Schedule};
+pub use attempts::{Glance, LoadSchedule, Moments, ReaderView};
 pub use barriers::Barriers;
 pub use laws::{every_attempt_is_right, generations_never_fall, own_processor_returns};
 pub use recording::record;

@@ -36,7 +36,7 @@ struct AtRandom {
     rises: bool,
 }
 
-impl Schedule for AtRandom {
+impl LoadSchedule for AtRandom {
     fn glance(&self, load: u64, word: usize, last: Glance, least: usize, most: usize) -> Glance {
         let walked = if self.rises && load > 1 && word != 0 {
             last.moment.min(most)
@@ -66,7 +66,7 @@ fn expected(key: u64, generation: u64) -> Option<u64> {
 
 /// How many attempts were answered, and how many of these wrongly.
 #[derive(Clone, Copy, Debug, PartialEq, Eq, Drop)]
-struct Tally {
+struct AttemptCounts {
     answered: u32,
     wrong: u32,
 }
@@ -79,7 +79,7 @@ fn attempt(
     opening: &[u64],
     stores: &[Store],
     schedule: &AtRandom,
-    tally: &mut Tally,
+    tally: &mut AttemptCounts,
 ) -> Result<(), Refusal> {
     let moments = Moments {
         barriers,
@@ -113,8 +113,8 @@ fn tried(
     opening: &[u64],
     stores: &[Store],
     rises: bool,
-) -> Result<Tally, Refusal> {
-    let mut tally = Tally {
+) -> Result<AttemptCounts, Refusal> {
+    let mut tally = AttemptCounts {
         answered: 0,
         wrong: 0,
     };

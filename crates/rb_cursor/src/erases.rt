@@ -110,13 +110,13 @@ fn take_node(out: &mut Vec<Store>, copy: TreeCopy, cursor: &mut Cursor) -> bool
 
 // The first record of a tree that it lost, and whether what is left is short.
 #[derive(Drop)]
-struct Taken {
+struct TakenFirst {
     row: Record,
     short: bool,
 }
 
 // Takes the first node out of the tree in hand.
-fn take_first(out: &mut Vec<Store>, copy: TreeCopy, cursor: &mut Cursor) -> Taken
+fn take_first(out: &mut Vec<Store>, copy: TreeCopy, cursor: &mut Cursor) -> TakenFirst
     requires fork { is_fork cursor.old.tree ≡ true }
     requires steps { depth (shape cursor.old.tree) + length cursor.old.path ≤ 64 }
     requires list { Fits out.old (first_links (copy_number copy) cursor.old.tree) }
@@ -135,7 +135,7 @@ fn take_first(out: &mut Vec<Store>, copy: TreeCopy, cursor: &mut Cursor) -> Take
     cursor.take_top();
     let short = lower(cursor, red);
     let short = climb(out, copy, cursor, depth, row.node as u64 + 1, short);
-    Taken { row, short }
+    TakenFirst { row, short }
 }
 
 // Goes up until `depth` nodes are above, from a subtree that may be short and to which the link was

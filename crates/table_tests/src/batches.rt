@@ -18,18 +18,18 @@ pub fn in_row(i: u64) -> Item {
 
 /// A writer and its words.
 #[derive(Drop)]
-pub struct Table<O: TreeOrder> {
+pub struct WriterWithWords<O: TreeOrder> {
     pub words: Vec<u64>,
     pub writer: WriterCore<O>,
 }
 
-impl<O: TreeOrder> Table<O> {
+impl<O: TreeOrder> WriterWithWords<O> {
     pub fn open(rt: &impl Abort, alloc: Global, l: Layout, start: u64) -> Result<Self, Fail> {
         let writer = WriterCore::open(alloc, l, start)?;
         let mut words = vec![in alloc; 0; l.words()]?;
         assert!(rt; !words.is_empty());
         words[0] = start;
-        Ok(Table { words, writer })
+        Ok(WriterWithWords { words, writer })
     }
 
     /// One step of the pending update; says whether there was one.
@@ -85,7 +85,7 @@ impl<O: TreeOrder> Table<O> {
 fn a_batch_of_two_items(rt: HostRuntime) -> Result<(), Fail> {
     let two = [item(0x10, 0x20, 1), item(0x30, 0x40, 2)];
     let update = Update::batch(rt.alloc(), &[], &two)?;
-    let mut table = Table::<HalfOpen>::open(&rt, rt.alloc(), Layout::new(4)?, 0)?;
+    let mut table = WriterWithWords::<HalfOpen>::open(&rt, rt.alloc(), Layout::new(4)?, 0)?;
     for _ in 0..table.writer.begin(update)? {
         let found = if table.generation() == 0 {
             None
@@ -102,7 +102,7 @@ fn a_batch_of_two_items(rt: HostRuntime) -> Result<(), Fail> {
 
 // Why one item for another is refused, in a table of so many nodes. A refusal leaves it as it was.
 fn rename(rt: &impl Abort, alloc: Global, capacity: u32) -> Result<Option<Refusal>, Fail> {
-    let mut table = Table::<HalfOpen>::open(rt, alloc, Layout::new(capacity)?, 0)?;
+    let mut table = WriterWithWords::<HalfOpen>::open(rt, alloc, Layout::new(capacity)?, 0)?;
     let first = table.exchange(rt, alloc, &[], &[item(0x10, 0x20, 1)]);
     assert!(rt; first.is_ok());
     let refused = table
@@ -132,7 +132,7 @@ fn refused_at_once(
     let l = Layout::new(4)?;
     let update = Update::batch(alloc, erase, insert)?;
     let why = plain::refusal_for::<HalfOpen>(l, false, &[], 0, &update);
-    let mut table = Table::<HalfOpen>::open(rt, alloc, l, 0)?;
+    let mut table = WriterWithWords::<HalfOpen>::open(rt, alloc, l, 0)?;
     assert_eq!(rt; table.carry_out(rt, update).err(), why);
     assert_eq!(rt; table.find(rt, 0x10), (None, 0));
     Ok(why)
@@ -155,7 +155,7 @@ fn refusals_of_batches(rt: HostRuntime) -> Result<(), Fail> {
 #[test]
 fn batches_one_after_another(rt: HostRuntime) -> Result<(), Fail> {
     let alloc = rt.alloc();
-    let mut table = Table::<HalfOpen>::open(&rt, alloc, Layout::new(4)?, 0)?;
+    let mut table = WriterWithWords::<HalfOpen>::open(&rt, alloc, Layout::new(4)?, 0)?;
     let (one, beside, across) = (
         item(0x10, 0x20, 1),
         item(0x20, 0x30, 2),
@@ -178,7 +178,7 @@ fn batches_one_after_another(rt: HostRuntime) -> Result<(), Fail> {
 // has.
 fn all_or_none<O: TreeOrder<Key = u64>>(
     rt: &impl Abort,
-    table: &mut Table<O>,
+    table: &mut WriterWithWords<O>,
     before: &[Item],
     after: &[Item],
     keys: &[u64],
@@ -202,7 +202,7 @@ fn all_or_none<O: TreeOrder<Key = u64>>(
 #[test]
 fn a_stop_at_each_step_of_a_batch(rt: HostRuntime) -> Result<(), Fail> {
     let alloc = rt.alloc();
-    let mut table = Table::<HalfOpen>::open(&rt, alloc, Layout::new(16)?, 0)?;
+    let mut table = WriterWithWords::<HalfOpen>::open(&rt, alloc, Layout::new(16)?, 0)?;
     let seven: [Item; 7] = [
         in_row(3),
         in_row(0),
@@ -235,7 +235,7 @@ fn a_stop_at_each_step_of_a_batch(rt: HostRuntime) -> Result<(), Fail> {
 #[test]
 fn the_wide_sequence(rt: HostRuntime) -> Result<(), Fail> {
     let l = Layout::wide(4)?;
-    let mut table = Table::<HalfOpen>::open(&rt, rt.alloc(), l, 18446744073709551612)?;
+    let mut table = WriterWithWords::<HalfOpen>::open(&rt, rt.alloc(), l, 18446744073709551612)?;
     let one = item(0x10, 0x20, 1);
     table.carry_out(&rt, Update::Insert(one))?;
     for u in [
@@ -247,7 +247,7 @@ fn the_wide_sequence(rt: HostRuntime) -> Result<(), Fail> {
     }
     assert_eq!(rt; table.find(&rt, 0x10), (Some(one), 9223372036854775807));
     assert_eq!(rt; table.words.first().copied(), Some(18446744073709551614));
-    let mut beyond = Table::<HalfOpen>::open(&rt, rt.alloc(), l, 4294967292)?;
+    let mut beyond = WriterWithWords::<HalfOpen>::open(&rt, rt.alloc(), l, 4294967292)?;
     beyond.carry_out(&rt, Update::Insert(one))?;
     beyond.carry_out(&rt, Update::Erase(0x10))?;
     assert_eq!(rt; beyond.find(&rt, 0x10), (None, 2147483648));
@@ -291,7 +291,7 @@ fn run_at_random<O: TreeOrder>(
     mut state: u64,
 ) -> Result<(), Fail> {
     let l = Layout::new(9)?;
-    let mut table = Table::<O>::open(rt, alloc, l, 0)?;
+    let mut table = WriterWithWords::<O>::open(rt, alloc, l, 0)?;
     let mut plain_table = Vec::new(alloc);
     for _ in 0..400 {
         let u = some_update(alloc, &mut state)?;

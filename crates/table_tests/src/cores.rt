@@ -131,7 +131,7 @@ impl<O: TreeOrder> Latch<O> {
 
     /// A lookup that nobody disturbs: what it found, its generation and its loads.
     fn find(&self, rt: &impl Abort, l: Layout, key: O::Key) -> (Option<Item>, u64, u32) {
-        let mut lookup = Lookup::<O>::start(l, key);
+        let mut lookup = CountedLookup::<O>::start(l, key);
         lookup.read(rt, &self.words, 1000);
         assert_eq!(rt; lookup.attempts, 1);
         (lookup.answer, lookup.generation, lookup.loads)
@@ -140,7 +140,7 @@ impl<O: TreeOrder> Latch<O> {
 
 /// A lookup, pending or returned, with its counts.
 #[derive(Drop)]
-struct Lookup<O: TreeOrder> {
+struct CountedLookup<O: TreeOrder> {
     core: Option<ReaderCore<O>>,
     answer: Option<Item>,
     generation: u64,
@@ -148,9 +148,9 @@ struct Lookup<O: TreeOrder> {
     attempts: u32,
 }
 
-impl<O: TreeOrder> Lookup<O> {
+impl<O: TreeOrder> CountedLookup<O> {
     fn start(l: Layout, key: O::Key) -> Self {
-        Lookup {
+        CountedLookup {
             core: Some(ReaderCore::start(l, key)),
             answer: None,
             generation: 0,
@@ -214,7 +214,7 @@ fn a_torn_item_is_not_answered(rt: HostRuntime) -> Result<(), Fail> {
         Err(Refusal::NoSuchItem)
     );
     latch.carry_out(&rt, Update::Insert(item(0x10, 0x20, 1)))?;
-    let mut lookup = Lookup::<HalfOpen>::start(l, 0x28);
+    let mut lookup = CountedLookup::<HalfOpen>::start(l, 0x28);
     lookup.read(&rt, &latch.words, 3);
     latch.carry_out(&rt, Update::Erase(0x10))?;
     latch.carry_out(&rt, Update::Insert(item(0x30, 0x40, 2)))?;

@@ -1,4 +1,4 @@
-use crate::batches::{Table, in_row};
+use crate::batches::{WriterWithWords, in_row};
 use latch_core::{Update, WriterCore};
 use order_laws::{HalfOpen, Refusal, TreeOrder};
 use std::alloc::Global;
@@ -7,7 +7,11 @@ use std::test::Fail;
 use word_layout::Layout;
 
 /// Widens the writer, and puts the words of the new nodes after those that there are.
-fn widen<O: TreeOrder>(table: &mut Table<O>, alloc: Global, l: Layout) -> Result<(), Refusal> {
+fn widen<O: TreeOrder>(
+    table: &mut WriterWithWords<O>,
+    alloc: Global,
+    l: Layout,
+) -> Result<(), Refusal> {
     let mut words = vec![in alloc; 0; l.words()]?;
     table.writer.widen(l)?;
     for (new, old) in words.iter_mut().zip(&table.words) {
@@ -18,7 +22,7 @@ fn widen<O: TreeOrder>(table: &mut Table<O>, alloc: Global, l: Layout) -> Result
 }
 
 // Rows 0 to `count` are found, the next one is not.
-fn has_rows(rt: &impl Abort, table: &Table<HalfOpen>, count: u64) {
+fn has_rows(rt: &impl Abort, table: &WriterWithWords<HalfOpen>, count: u64) {
     for row in 0..count {
         let item = in_row(row);
         assert_eq!(rt; table.find(rt, item.a), (Some(item), count));
@@ -27,7 +31,12 @@ fn has_rows(rt: &impl Abort, table: &Table<HalfOpen>, count: u64) {
 }
 
 // Inserts the rows from `from` to `to`, after which the table is full.
-fn fill(rt: &impl Abort, table: &mut Table<HalfOpen>, from: u64, to: u64) -> Result<(), Fail> {
+fn fill(
+    rt: &impl Abort,
+    table: &mut WriterWithWords<HalfOpen>,
+    from: u64,
+    to: u64,
+) -> Result<(), Fail> {
     for row in from..to {
         table.carry_out(rt, Update::Insert(in_row(row)))?;
     }
@@ -39,7 +48,7 @@ fn fill(rt: &impl Abort, table: &mut Table<HalfOpen>, from: u64, to: u64) -> Res
 #[test]
 fn a_full_table_is_widened_and_filled(rt: HostRuntime) -> Result<(), Fail> {
     let alloc = rt.alloc();
-    let mut table = Table::<HalfOpen>::open(&rt, alloc, Layout::new(2)?, 0)?;
+    let mut table = WriterWithWords::<HalfOpen>::open(&rt, alloc, Layout::new(2)?, 0)?;
     fill(&rt, &mut table, 0, 2)?;
     if widen(&mut table, alloc, Layout::new(9)?) == Err(Refusal::OutOfMemory) {
         has_rows(&rt, &table, 2);
@@ -72,7 +81,7 @@ fn layouts_that_are_not_taken(rt: HostRuntime) -> Result<(), Fail> {
 #[test]
 fn a_greater_limit_is_taken(rt: HostRuntime) -> Result<(), Fail> {
     let alloc = rt.alloc();
-    let mut table = Table::<HalfOpen>::open(&rt, alloc, Layout::new(2)?, 4294967292)?;
+    let mut table = WriterWithWords::<HalfOpen>::open(&rt, alloc, Layout::new(2)?, 4294967292)?;
     table.carry_out(&rt, Update::Insert(in_row(0)))?;
     let spent = table.carry_out(&rt, Update::Insert(in_row(1)));
     assert_eq!(rt; spent, Err(Refusal::SequenceSpent));

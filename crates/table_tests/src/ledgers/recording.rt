@@ -11,13 +11,13 @@ use std::time::Clock;
 
 /// Keeps each point, in the order in which they are told. The reader begins when the writer is done.
 #[derive(Clone, Copy)]
-struct Recorder<'a, R: Wait + Clock> {
+struct RecordingGate<'a, R: Wait + Clock> {
     rt: &'a R,
     told: &'a Told,
     points: &'a Mutex<Vec<Point>>,
 }
 
-impl<'a, R: Wait + Clock> Gate for Recorder<'a, R> {
+impl<'a, R: Wait + Clock> Gate for RecordingGate<'a, R> {
     fn tell(&self, p: Point) {
         let told = self.told;
         if let Point::ReaderStart { place: 0, .. } = p {
@@ -91,7 +91,7 @@ fn each_point_of_two_updates(rt: HostRuntime) -> Result<(), Fail> {
     let c = catalog(&rt, alloc, &[b"ext4"], &[])?;
     let told = Told::new();
     let points = Mutex::new(Vec::new(alloc));
-    let gate = Recorder {
+    let gate = RecordingGate {
         rt: &rt,
         told: &told,
         points: &points,

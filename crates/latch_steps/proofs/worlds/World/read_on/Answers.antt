@@ -3,7 +3,7 @@ use Rattle.std.specs.Prelude.{IsSome}
 use Rattle.std.specs.Ordering.{nat_cmp}
 use Rattle.std.specs.Option.{option_copied_mut, option_flatten}
 use Rattle.std.specs.BTreeMap.{is_at}
-use Rattle.latch_steps.specs.declared.lookups.Held.{Held}
+use Rattle.latch_steps.specs.declared.lookups.LookupState.{LookupState}
 use Rattle.latch_steps.specs.Lookups.{lookup_at}
 use Rattle.latch_steps.specs.HeldLookups.{LoadsFrom}
 use Rattle.latch_steps.proofs.PendingLookupLemmas.{lookup_set, lookup_kept}
@@ -31,7 +31,7 @@ returns-in-Going-clause-reads g c = λ w s.
     let there = sym c.in-Some-take.is ∙ c.take.ensures.value ∙ ap option_flatten c.in-Some.ensures.value in
     reads_hold o c.args.self.now c.args.reader c.in-Some-take.lookup there c.as_slice.result.now c.as_slice.ensures.value c.args.most c.load_on-held.result.count c.load_on-held.result.events _ w s c.in-Going.next
     (lookup_set c.args.self.now.lookups (c.get_mut.follows.lender (Some c.in-Going.next)) c.args.reader (Some c.in-Going.next) ((c.get_mut.follows.holds (Some c.in-Going.next)).3 (subst IsSome c.in-Some.ensures.value refl)).0)
-    (subst (λ (h : Held g.row.O.Denot g.row.O-Key.Denot). LoadsFrom o c.as_slice.result.now c.in-Some-take.lookup c.args.reader c.args.most c.args.self.now.events (record c.load_on-held.result { held = h })) c.in-Going.is c.load_on-held.ensures)
+    (subst (λ (h : LookupState g.row.O.Denot g.row.O-Key.Denot). LoadsFrom o c.as_slice.result.now c.in-Some-take.lookup c.args.reader c.args.most c.args.self.now.events (record c.load_on-held.result { held = h })) c.in-Going.is c.load_on-held.ensures)
 
 pub returns-in-Returned-clause-reads : goal.returns-in-Returned-clause-reads
 returns-in-Returned-clause-reads g c = λ w s.
@@ -40,4 +40,4 @@ returns-in-Returned-clause-reads g c = λ w s.
     let none = lookup_set c.args.self.now.lookups (c.get_mut.follows.lender c.take.new.self) c.args.reader c.take.new.self ((c.get_mut.follows.holds c.take.new.self).3 (subst IsSome c.in-Some.ensures.value refl)).0 in
     reads_end o c.args.self.now c.args.reader c.in-Some-take.lookup there c.as_slice.result.now c.as_slice.ensures.value c.args.most c.load_on-held.result.count c.load_on-held.result.events _ w s c.in-Returned.returned
     (λ q. none q ∙ ap (λ p. cond (is_at (nat_cmp c.args.reader) q) p (lookup_at c.args.self.now.lookups q)) c.take.ensures.after)
-    (subst (λ (h : Held g.row.O.Denot g.row.O-Key.Denot). LoadsFrom o c.as_slice.result.now c.in-Some-take.lookup c.args.reader c.args.most c.args.self.now.events (record c.load_on-held.result { held = h })) c.in-Returned.is c.load_on-held.ensures)
+    (subst (λ (h : LookupState g.row.O.Denot g.row.O-Key.Denot). LoadsFrom o c.as_slice.result.now c.in-Some-take.lookup c.args.reader c.args.most c.args.self.now.events (record c.load_on-held.result { held = h })) c.in-Returned.is c.load_on-held.ensures)
