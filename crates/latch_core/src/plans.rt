@@ -254,7 +254,6 @@ fn flip_and_mirror(l: Layout, stores: &mut Vec<Store>, sequence: u64, from: usiz
     ensures len { vec_len stores.new + from ≡ 2 * vec_len stores.old + 1 }
     ensures capacity { vec_capacity stores.new ≡ vec_capacity stores.old }
 {
-    let _most = l.capacity();
     let end = stores.len();
     stores.push_reserved(flip_to(sequence));
     for place in from..end {

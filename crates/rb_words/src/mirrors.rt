@@ -31,7 +31,6 @@ pub fn mirrored(l: Layout, links: &[Store], out: &mut Vec<Store>)
     ensures len { vec_len out.new ≡ vec_len out.old + length links.now }
     ensures capacity { vec_capacity out.new ≡ vec_capacity out.old }
 {
-    let _most = l.capacity();
     for link in links {
         out.push_reserved(mirror_store(*link));
     }

@@ -106,6 +106,7 @@ impl<O: TreeOrder> Shape<O> {
     pub fn stays_sound(&self)
         ensures { IsPicture O.order self.now }
     {
+        // A method learns its type's invariant where it reads a field.
         let _ = &self.layout;
     }
 
@@ -248,7 +249,6 @@ impl<O: TreeOrder> Shape<O> {
         ensures few { vec_len out.new + 3 ≤ vec_len out.old + STORES }
         ensures capacity { vec_capacity out.new ≡ vec_capacity out.old }
     {
-        let _most = self.layout.capacity();
         with_record::<O>(out, self.copy, &mut self.cursor, Record { node, item });
         self.count += 1;
     }
@@ -309,7 +309,6 @@ impl<O: TreeOrder> Shape<O> {
         ensures few { vec_len out.new + 3 ≤ vec_len out.old + STORES }
         ensures capacity { vec_capacity out.new ≡ vec_capacity out.old }
     {
-        let _most = self.layout.capacity();
         if !O::in_line() {
             if self.meets(&item, &[]) {
                 return true;
@@ -362,7 +361,6 @@ impl<O: TreeOrder> Shape<O> {
         ensures few { vec_len out.new ≤ vec_len out.old + STORES }
         ensures capacity { vec_capacity out.new ≡ vec_capacity out.old }
     {
-        let _most = self.layout.capacity();
         let node = without_word::<O>(out, self.copy, &mut self.cursor, a)?;
         self.count -= 1;
         Some(node)

@@ -33,7 +33,7 @@ mirror_store-requires c =
     let is = c.index-link.ensures ∙ ap (λ xs. get_or xs place link) whole in
     subst (λ (s : Store). s.word + 2 < 18446744073709551616) (sym is)
     (link_word_fits (capacity_of c.args.l) before (c.flip_to.result ∷ more) c.args.from place link
-    (omega (arith, c.capacity-most.ensures.is, c.capacity-most.ensures.most))
+    (omega (arith, c.args.l.most))
     c.loop-place.invariant.from
     (omega (arith, c.loop-place-test.true, c.len-end.ensures, c.args.stores.now.ok.0))
     c.requires.links_only)

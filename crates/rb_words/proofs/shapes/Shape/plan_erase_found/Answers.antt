@@ -13,7 +13,7 @@ without_word-requires-clause-steps g c =
     few_steps g.O.TreeOrder.order (capacity_of c.self.inside.layout)
     (copy_number c.self.inside.copy)
     c.self.inside.cursor.tree c.self.inside.cursor.room
-    (omega (arith, c.capacity-most.ensures.most, c.capacity-most.ensures.is)) c.self.invariant.0
+    (omega (arith, c.self.inside.layout.most)) c.self.invariant.0
 
 -- what the shape shows without the item
 after : (g : Over) (c : goal.After-self-1 g) →

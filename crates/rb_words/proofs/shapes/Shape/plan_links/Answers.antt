@@ -15,7 +15,7 @@ pub with_record-requires-clause-steps : goal.with_record-requires-clause-steps
 with_record-requires-clause-steps g c =
     few_steps g.O.TreeOrder.order (capacity_of c.self.inside.layout)
     (copy_number c.self.inside.copy) c.self.inside.cursor.tree c.self.inside.cursor.room
-    (omega (arith, c.capacity-most.ensures.most, c.capacity-most.ensures.is)) c.self.invariant.0
+    (omega (arith, c.self.inside.layout.most)) c.self.invariant.0
 
 pub with_record-requires-clause-list : goal.with_record-requires-clause-list
 with_record-requires-clause-list g c =

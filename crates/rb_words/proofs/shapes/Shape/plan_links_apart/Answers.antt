@@ -32,7 +32,7 @@ pub with_record_apart-requires-clause-steps : goal.with_record_apart-requires-cl
 with_record_apart-requires-clause-steps g c =
     few_steps g.O.TreeOrder.order (capacity_of c.self.inside.layout)
     (copy_number c.self.inside.copy) c.self.inside.cursor.tree c.self.inside.cursor.room
-    (omega (arith, c.capacity-most.ensures.most, c.capacity-most.ensures.is)) c.self.invariant.0
+    (omega (arith, c.self.inside.layout.most)) c.self.invariant.0
 
 pub with_record_apart-requires-clause-list : goal.with_record_apart-requires-clause-list
 with_record_apart-requires-clause-list g c =
