@@ -27,6 +27,8 @@ for _ in 1 2 3 4 5 6 7 8 9 10; do
     run "${basic[@]}" --readers 1 loads.script
     cmp -s "$work/out" loads.before || cmp -s "$work/out" loads.after || fail "loads: other lines than those beside it"
 done
+run "${basic[@]}" --readers 1 - <loads.script
+cmp -s "$work/out" loads.before || cmp -s "$work/out" loads.after || fail "a script from the standard input: other lines"
 run "${regions[@]}" --readers 1 init.script
 cmp -s "$work/out" init.expected || fail "init: other lines than those beside it"
 

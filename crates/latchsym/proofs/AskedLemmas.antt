@@ -5,7 +5,7 @@ use Rattle.std.specs.Borrow.{Bor}
 use Rattle.std.proofs.lemmas.Bool.{false≢true}
 use Rattle.clap.specs.Words.{Row, Text, first_of}
 use Rattle.modules.specs.Listed.{BoundNames}
-use Rattle.latchsym.specs.Jobs.{AnswersAsked, AreNumbers, Asked, ForLookup, ForNothing, ForRun, GivesBounds, GivesOffset, LookupWords, RunWords, asked_lookup, asked_run, bounds_asked, bounds_in, has_flag, is_no_number, lookup_in, run_in, values_in}
+use Rattle.latchsym.specs.Jobs.{AnswersAsked, AreNumbers, Asked, ForLookup, ForNothing, ForRun, GivesBounds, GivesOffset, LookupWords, asked_lookup, asked_run, bounds_asked, bounds_in, has_flag, is_no_number, lookup_in, run_in, values_in}
 use Rattle.latchsym.specs.declared.command_line.Job.{Job}
 use Rattle.latchsym.specs.declared.command_line.JobFault.{JobFault}
 use Rattle.latchsym.specs.declared.command_line.JobFault.TheVariants.{OutOfMemory, CommandLine, BadAddress, NoAddress, BadOffset, BadEnd, BadReaders, NoJob}

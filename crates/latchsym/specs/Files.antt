@@ -25,7 +25,7 @@ IsOpenedIfGiven remaining held None None = Unit {0}
 IsOpenedIfGiven remaining held (Some name) (Some reader) = IsOpened remaining held name.now reader
 IsOpenedIfGiven remaining held _ _ = ⊥
 
--- what the names of files of addresses hold, of which `-` is the standard input
+-- what the names hold of files of addresses and of scripts, of which `-` is the standard input
 abbrev pub or_standard : Option (List ℕ) → Held → Held
 or_standard standard held name = if bytes_eq name (codes "-") then standard else held name
 
@@ -39,8 +39,8 @@ pub record AreLookupFiles {F : Type 0} (remaining : F → Option (List ℕ)) (he
 
 -- the readers of a run are those of the job's own files
 pub record AreRunFiles {F : Type 0} (remaining : F → Option (List ℕ)) (held : Held)
-    (job : RunJob) (r : RunReaders F F F F) : Type 0 where
+    (standard : Option (List ℕ)) (job : RunJob) (r : RunReaders F F F F) : Type 0 where
   pub modules : IsOpened remaining held job.modules.now r.modules
   pub kallsyms : IsOpened remaining held job.kallsyms.now r.kallsyms
   pub regions : IsOpenedIfGiven remaining held job.regions r.regions
-  pub script : IsOpened remaining held job.script.now r.script
+  pub script : IsOpened remaining (or_standard standard held) job.script.now r.script

@@ -46,11 +46,11 @@ pub record IsLookedUp {F W : Type 0} (remaining : F → Option (List ℕ))
 
 -- what the engine of scripts returned for the job's own files, bounds and number of readers
 pub record IsScriptRun {F W : Type 0} (remaining : F → Option (List ℕ))
-    (contents : W → Option (List ℕ)) (held : Held) (job : RunJob)
+    (contents : W → Option (List ℕ)) (held : Held) (standard : Option (List ℕ)) (job : RunJob)
     (w w' : Counted W) (outcome : Result ℕ Fault) : Type 0 where
   pub before : RunReaders F F F F
   pub after : RunReaders F F F F
-  pub opened : AreRunFiles remaining held job before
+  pub opened : AreRunFiles remaining held standard job before
   pub answered : AnswersRun contents job.readers
       (known_run_inputs remaining remaining remaining remaining before job.kernel job.readers)
       (run_failures_between before after) w w' outcome
@@ -67,4 +67,4 @@ IsOutcome remaining contents held standard (Trace file) w w' outcome =
 IsOutcome remaining contents held standard (Lookup job) w w' outcome =
     IsLookedUp remaining contents held standard job w w' outcome ⊎ IsNotOpened w w' outcome
 IsOutcome remaining contents held standard (Run job) w w' outcome =
-    IsScriptRun remaining contents held job w w' outcome ⊎ IsNotOpened w w' outcome
+    IsScriptRun remaining contents held standard job w w' outcome ⊎ IsNotOpened w w' outcome

@@ -62,7 +62,7 @@ pub struct RunJob<'a> {
     pub kernel: KernelBounds<'a>,
     /// How many readers there are, 1 to 64.
     pub readers: u32,
-    /// The file of the script.
+    /// The file of the script; `-` is the standard input.
     pub script: &'a str,
 }
 
@@ -216,7 +216,7 @@ fn run_command<'a>(alloc: Global) -> Result<Command<'a>, AllocError>
     ensures { IfOk result (IsCommand run_app) }
 {
     let readers_help = "How many readers there are, 1 to 64";
-    let script_help = "What each writer and reader does";
+    let script_help = "What each writer and reader does; - is the standard input";
     let command = Command::new(alloc, "run").about(
         "Load and look up beside each other, as a script says",
     );

@@ -95,7 +95,7 @@ fn do_run<T: Threads + Wait + Sync, F: FileSource, W: Write>(
     job: &RunJob<'_>,
     writer: &mut Counted<W>,
 ) -> Result<u8, Fault>
-    ensures { IsScriptRun F.File.remaining W.contents (F.held files.now)
+    ensures { IsScriptRun F.File.remaining W.contents (F.held files.now) (F.standard files.now)
         job.now writer.old writer.new result ⊎ IsNotOpened writer.old writer.new result }
 {
     let mut readers = open_run(files, job)?;
@@ -125,14 +125,15 @@ fn open_run<F: FileSource>(
     files: &F,
     job: &RunJob<'_>,
 ) -> Result<RunReaders<F::File, F::File, F::File, F::File>, Refusal>
-    ensures opened { IfOk result (AreRunFiles F.File.remaining (F.held files.now) job.now) }
+    ensures opened { IfOk result
+        (AreRunFiles F.File.remaining (F.held files.now) (F.standard files.now) job.now) }
     ensures refusal { IfErr result (λ e. e ≡ Refusal.OutOfMemory) }
 {
     Ok(RunReaders {
         modules: files.open(job.modules)?,
         kallsyms: files.open(job.kallsyms)?,
         regions: open_if_given(files, job.regions)?,
-        script: files.open(job.script)?,
+        script: open_or_standard(files, job.script)?,
     })
 }
 
@@ -150,7 +151,19 @@ fn open_if_given<F: FileSource>(
     }
 }
 
-/// Opens the file of further addresses, where one is named; `-` is the standard input.
+/// Opens a file of addresses or a script; `-` is the standard input.
+fn open_or_standard<F: FileSource>(files: &F, name: &str) -> Result<Counted<F::File>, Refusal>
+    ensures opened { IfOk result (IsOpened F.File.remaining
+        (or_standard (F.standard files.now) (F.held files.now)) name.now) }
+    ensures refusal { IfErr result (λ e. e ≡ Refusal.OutOfMemory) }
+{
+    match name {
+        "-" => Ok(files.standard_input()),
+        name => files.open(name),
+    }
+}
+
+/// Opens the file of further addresses, where one is named.
 fn open_addresses<F: FileSource>(
     files: &F,
     name: Option<&str>,
@@ -160,8 +173,7 @@ fn open_addresses<F: FileSource>(
     ensures refusal { IfErr result (λ e. e ≡ Refusal.OutOfMemory) }
 {
     match name {
-        Some("-") => Ok(Some(files.standard_input())),
-        Some(name) => Ok(Some(files.open(name)?)),
+        Some(name) => Ok(Some(open_or_standard(files, name)?)),
         None => Ok(None),
     }
 }

@@ -136,15 +136,15 @@ fn lookup_job(alloc: Global, address_file: &str) -> Result<Job<'_>, AllocError> 
     }))
 }
 
-/// A run of the script for so many readers.
-fn run_job(readers: u32) -> Job<'static> {
+/// A run of the script in this file for so many readers.
+fn run_job(script: &str, readers: u32) -> Job<'_> {
     Job::Run(RunJob {
         modules: "its modules",
         kallsyms: "its kallsyms",
         regions: Some("its regions"),
         kernel: KernelBounds::usual(),
         readers,
-        script: "its script",
+        script,
     })
 }
 
@@ -183,12 +183,15 @@ fn a_lookup_has_its_own_files_bounds_and_addresses(rt: HostRuntime) -> Result<()
 
 #[test]
 fn a_run_has_its_own_files_and_number_of_readers(rt: HostRuntime) {
-    let (outcome, written) = done(&rt, rt.alloc(), &WHOLE, &run_job(2));
+    let (outcome, written) = done(&rt, rt.alloc(), &WHOLE, &run_job("its script", 2));
     assert_eq!(rt; outcome, Ok(0));
     assert!(rt; written.as_slice() == BEFORE || written.as_slice() == BEHIND);
-    let (outcome, written) = done(&rt, rt.alloc(), &WHOLE, &run_job(1));
-    assert_eq!(rt; outcome, Err(Fault::BadLine { place: 3, line: 3 }));
-    assert!(rt; written.is_empty());
+    // the third line is one for a second reader, and the standard input has no script
+    for (script, line) in [("its script", 3), ("-", 1)] {
+        let (outcome, written) = done(&rt, rt.alloc(), &WHOLE, &run_job(script, 1));
+        assert_eq!(rt; outcome, Err(Fault::BadLine { place: 3, line }));
+        assert!(rt; written.is_empty());
+    }
 }
 
 /// Whether the outcome is a failed read of the file of this name.
@@ -237,7 +240,10 @@ fn each_file_that_fails_is_told(rt: HostRuntime) -> Result<(), Fail> {
     let job = lookup_job(alloc, "-")?;
     assert_eq!(rt; first_untold(&rt, alloc, &job, &["-"]), None);
     let names = ["its modules", "its kallsyms", "its regions", "its script"];
-    assert_eq!(rt; first_untold(&rt, alloc, &run_job(2), &names), None);
+    assert_eq!(rt;
+        first_untold(&rt, alloc, &run_job("its script", 2), &names),
+        None
+    );
     Ok(())
 }
 
