@@ -64,16 +64,6 @@ impl<O: TreeOrder> ReaderCore<O> {
         self.key
     }
 
-    /// The same core once more.
-    pub fn copy(&self) -> Self
-        ensures { result ≡ self.now }
-    {
-        ReaderCore {
-            key: self.key,
-            progress: self.progress,
-        }
-    }
-
     /// The word whose value is taken next.
     pub fn wanted(&self) -> usize
         ensures within { result < words_for (capacity_of_core self.now) }

@@ -199,7 +199,7 @@ fn the_least_lookup_and_both_ends_of_a_range(rt: HostRuntime) -> Result<(), Fail
     assert!(rt; latch.writer.holds(0x1000));
     assert!(rt; !latch.writer.holds(0x2000));
     assert_eq!(rt; latch.writer.layout(), l);
-    assert_eq!(rt; ReaderCore::<HalfOpen>::start(l, 9).copy().key(), 9);
+    assert_eq!(rt; ReaderCore::<HalfOpen>::start(l, 9).key(), 9);
     Ok(())
 }
 
