@@ -22,12 +22,11 @@ mod writers;
 
 use order_laws::Refusal;
 use std::alloc::Global;
-use std::io;
 use std::io::Print;
 use std::sync::Wait;
 use std::thread::Threads;
+use std::{env, io};
 use word_layout::Layout;
-use workloads::numbers;
 
 /// What ends the program before its last call: memory was refused for what a call is given, or a
 /// line was not written.
@@ -63,6 +62,18 @@ fn call_all<R: Threads + Wait + Print + Sync>(
     ledgers::call_all(rt, alloc, layout, &updates)?;
     growth::call_all(rt, alloc, layout)?;
     catalogs::call_all(rt, alloc, items)
+}
+
+/// The numbers that the program was given as arguments; none at all where one is no number.
+fn numbers(rt: &HostRuntime) -> io::Result<Vec<u32>> {
+    let mut numbers = Vec::new(rt.alloc());
+    for word in env::args(rt)?.skip(1) {
+        match word.parse::<u32>() {
+            Ok(number) => numbers.push(number)?,
+            Err(_) => return Ok(Vec::new(rt.alloc())),
+        }
+    }
+    Ok(numbers)
 }
 
 fn main(rt: HostRuntime) -> io::Result<()> {

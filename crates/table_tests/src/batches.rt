@@ -1,5 +1,5 @@
 use crate::cores::{Address, Ranges};
-use crate::events::{draw, item};
+use crate::events::item;
 use latch_core::attempts::Attempted;
 use latch_core::sequences::generation;
 use latch_core::{Update, WriterCore, attempt_in, plain};
@@ -9,6 +9,7 @@ use std::alloc::Global;
 use std::process::Abort;
 use std::test::Fail;
 use word_layout::{Layout, apply};
+use workloads::Random;
 
 /// Item number i of a row that lies side by side, from 0x100 on.
 pub fn in_row(i: u64) -> Item {
@@ -258,24 +259,24 @@ fn the_wide_sequence(rt: HostRuntime) -> Result<(), Fail> {
     Ok(())
 }
 
-fn some_item(state: &mut u64) -> Item {
-    let a = 16 * draw(state, 12);
-    item(a, a + draw(state, 24), draw(state, 1000))
+fn some_item(random: &mut Random) -> Item {
+    let a = 16 * random.below(12) as u64;
+    item(a, a + random.below(24) as u64, random.below(1000) as u64)
 }
 
 // One item more or less, or a batch of at most three first words and four items.
-fn some_update(alloc: Global, state: &mut u64) -> Result<Update, Fail> {
-    match draw(state, 4) {
-        0 => Ok(Update::Insert(some_item(state))),
-        1 => Ok(Update::Erase(16 * draw(state, 12))),
+fn some_update(alloc: Global, random: &mut Random) -> Result<Update, Fail> {
+    match random.below(4) {
+        0 => Ok(Update::Insert(some_item(random))),
+        1 => Ok(Update::Erase(16 * random.below(12) as u64)),
         _ => {
             let mut erase = Vec::new(alloc);
-            for _ in 0..draw(state, 4) {
-                erase.push(16 * draw(state, 12))?;
+            for _ in 0..random.below(4) {
+                erase.push(16 * random.below(12) as u64)?;
             }
             let mut insert = Vec::new(alloc);
-            for _ in 0..draw(state, 5) {
-                insert.push(some_item(state))?;
+            for _ in 0..random.below(5) {
+                insert.push(some_item(random))?;
             }
             Ok(Update::batch(alloc, &erase, &insert)?)
         }
@@ -288,13 +289,14 @@ fn run_at_random<O: TreeOrder>(
     rt: &impl Abort,
     alloc: Global,
     keys: &[O::Key],
-    mut state: u64,
+    seed: u64,
 ) -> Result<(), Fail> {
     let l = Layout::new(9)?;
     let mut table = WriterWithWords::<O>::open(rt, alloc, l, 0)?;
     let mut plain_table = Vec::new(alloc);
+    let mut random = Random::from_seed(seed);
     for _ in 0..400 {
-        let u = some_update(alloc, &mut state)?;
+        let u = some_update(alloc, &mut random)?;
         let sequence = table.words.first().copied().ok_or("no words")?;
         let why = plain::refusal_for::<O>(l, false, plain_table.as_slice(), sequence, &u);
         if why.is_none() {

@@ -1,5 +1,3 @@
-ghost use Rattle.std.specs.Prelude.{◌<◌};
-
 use latch_core::{Entries, Update, plain};
 use latch_steps::{Command, Event, Note, Reply, Returned, World, drive, run};
 use order_laws::{Closed, HalfOpen, Item, Refusal};
@@ -7,6 +5,7 @@ use std::alloc::Global;
 use std::process::Abort;
 use std::test::Fail;
 use word_layout::Layout;
+use workloads::Random;
 
 pub(crate) fn item(a: u64, b: u64, tag: u64) -> Item {
     Item { a, b, tag }
@@ -186,31 +185,20 @@ fn the_last_sequence(rt: HostRuntime) -> Result<(), Fail> {
     Ok(())
 }
 
-/// A pseudo-random number below `below`; `state` goes on.
-pub(crate) fn draw(state: &mut u64, below: u64) -> u64
-    requires { 0 < below }
-    ensures { result < below }
-{
-    *state = state
-        .wrapping_mul(6364136223846793005)
-        .wrapping_add(1442695040888963407);
-    (*state >> 33) % below
-}
-
-fn some_item(state: &mut u64) -> Item {
-    let a = 16 * draw(state, 12);
-    item(a, a + 8 + draw(state, 16), a + 1)
+fn some_item(random: &mut Random) -> Item {
+    let a = 16 * random.below(12) as u64;
+    item(a, a + 8 + random.below(16) as u64, a + 1)
 }
 
 /// A batch of up to two first words and up to three items.
-fn some_batch(alloc: Global, state: &mut u64) -> Result<Update, Fail> {
+fn some_batch(alloc: Global, random: &mut Random) -> Result<Update, Fail> {
     let mut words = Vec::new(alloc);
-    for _ in 0..draw(state, 3) {
-        words.push(16 * draw(state, 12))?;
+    for _ in 0..random.below(3) {
+        words.push(16 * random.below(12) as u64)?;
     }
     let mut items = Vec::new(alloc);
-    for _ in 0..draw(state, 4) {
-        items.push(some_item(state))?;
+    for _ in 0..random.below(4) {
+        items.push(some_item(random))?;
     }
     Ok(Update::Batch {
         erase: Entries::new(words)?,
@@ -218,15 +206,15 @@ fn some_batch(alloc: Global, state: &mut u64) -> Result<Update, Fail> {
     })
 }
 
-fn some_event(alloc: Global, state: &mut u64) -> Result<Event<u64>, Fail> {
-    let a = 16 * draw(state, 12);
-    let reader = draw(state, 3) as u32;
-    Ok(match draw(state, 40) {
-        0 => Event::Begin(Update::Insert(some_item(state))),
+fn some_event(alloc: Global, random: &mut Random) -> Result<Event<u64>, Fail> {
+    let a = 16 * random.below(12) as u64;
+    let reader = random.below(3);
+    Ok(match random.below(40) {
+        0 => Event::Begin(Update::Insert(some_item(random))),
         1 => Event::Begin(Update::Erase(a)),
-        2 => Event::Begin(some_batch(alloc, state)?),
+        2 => Event::Begin(some_batch(alloc, random)?),
         3 | 4 | 5 | 6 => Event::Write,
-        7 | 8 | 9 | 10 => Event::Start(reader, a + draw(state, 24)),
+        7 | 8 | 9 | 10 => Event::Start(reader, a + random.below(24) as u64),
         _ => Event::Read(reader),
     })
 }
@@ -359,9 +347,10 @@ impl Account {
     }
 
     /// So many events with three readers.
-    fn steps(&mut self, rt: &impl Abort, alloc: Global, mut state: u64) -> Result<(), Fail> {
+    fn steps(&mut self, rt: &impl Abort, alloc: Global, seed: u64) -> Result<(), Fail> {
+        let mut random = Random::from_seed(seed);
         for _ in 0..2500 {
-            let event = some_event(alloc, &mut state)?;
+            let event = some_event(alloc, &mut random)?;
             self.step(rt, alloc, &event)?;
         }
         Ok(())

@@ -1,5 +1,5 @@
-//! Work for a table, for the programs that measure and that refuse memory: what is looked up and
-//! changed there, and a table for threads beside the replay of its updates.
+//! Work for a table, for tests and for the program that measures: what is looked up and changed
+//! there, and a table for threads beside the replay of its updates.
 //!
 //! A writer goes through a schedule of updates again and again, and readers on threads of their own
 //! compare each answer with the plain table after as many updates as its generation tells.
@@ -13,4 +13,4 @@ mod tests;
 
 pub use observers::{Observer, Tally};
 pub use schedules::Schedule;
-pub use slots::{Random, addresses, numbers, ranges, shuffle};
+pub use slots::{Random, addresses, ranges, shuffle};

@@ -1,5 +1,4 @@
-//! Ranges in slots, random numbers, and shuffled order; and the numbers that a program is given as
-//! its arguments.
+//! Ranges in slots, random numbers, and shuffled order.
 
 ghost use Rattle.std.specs.Prelude.{◌≡◌, ◌+◌, ◌*◌, ◌<◌, ◌≤◌, IfOk, length};
 ghost use Rattle.word_layout.specs.Limits.{most_nodes};
@@ -8,7 +7,6 @@ use order_laws::Item;
 use rand_xoshiro::SplitMix64;
 use rand_xoshiro::rand_core::{Rng, SeedableRng};
 use std::alloc::{AllocError, Global};
-use std::{env, io};
 
 /// Where the slots begin.
 const BASE: u64 = 0x1000_0000_0000;
@@ -111,16 +109,4 @@ pub fn addresses(
         all.push(BASE + slot * SLOT + random.below(SLOT as u32) as u64)?;
     }
     Ok(all)
-}
-
-/// The numbers that the program was given as arguments; none at all where one is no number.
-pub fn numbers(rt: &HostRuntime) -> io::Result<Vec<u32>> {
-    let mut numbers = Vec::new(rt.alloc());
-    for word in env::args(rt)?.skip(1) {
-        match word.parse::<u32>() {
-            Ok(number) => numbers.push(number)?,
-            Err(_) => return Ok(Vec::new(rt.alloc())),
-        }
-    }
-    Ok(numbers)
 }

@@ -2,7 +2,6 @@
 
 use super::START;
 use super::serving::Told;
-use crate::events::draw;
 use modules::{Catalog, ModuleLine, Part, RegionLine, SymbolLines};
 use order_laws::Refusal;
 use shared_lookup::{Answer, Change, Gate, Point, Served, serve};
@@ -11,6 +10,7 @@ use std::process::Abort;
 use std::sync::atomic::Ordering;
 use std::test::Fail;
 use std::time::Clock;
+use workloads::Random;
 
 /// How many writers there are.
 const WRITERS: u64 = 8;
@@ -119,14 +119,16 @@ fn all_modules(rt: &impl Abort, alloc: Global) -> Result<Catalog<'static>, Refus
 
 /// The changes of one writer: of its own modules, and of one that is in no catalog.
 fn changes_of(alloc: Global, writer: u64) -> Result<Vec<Change>, AllocError> {
-    let mut state = writer;
+    let mut random = Random::from_seed(writer);
     let mut changes = Vec::new(alloc);
     for _ in 0..CHANGES {
-        let number = match draw(&mut state, 16) {
+        let number = match random.below(16) {
             0 => 1000,
-            drawn => writer.saturating_mul(3).saturating_add(1 + drawn % 3),
+            drawn => writer
+                .saturating_mul(3)
+                .saturating_add(1 + drawn as u64 % 3),
         };
-        changes.push(match draw(&mut state, 5) {
+        changes.push(match random.below(5) {
             0 | 1 => Change::Load(number),
             2 | 3 => Change::Unload(number),
             _ => Change::DropInit(number),
