@@ -1,5 +1,5 @@
 -- Lists of threads, one thread more at a time.
-use Rattle.std.proofs.Common.{◌≡◌, ℕ, ◌+◌, ◌<◌, Bool, List, [], ◌∷◌, ◌++◌, length, take, get_or, Option, Some, None, sym, ◌∙◌, ap, subst, ⊎_elim, arith, length-append}
+use Rattle.std.proofs.Common.{◌≡◌, ℕ, ◌+◌, ◌<◌, Bool, List, [], ◌∷◌, ◌++◌, length, take, get_or, Option, Some, None, sym, ◌∙◌, ap, subst, ⊎_elim, arith, append_assoc, length-append}
 use Rattle.std.specs.Global.{Vec}
 use Rattle.std.specs.Prelude.{◌≤◌, IfSome, vec_capacity, vec_len}
 use Rattle.std.proofs.lemmas.List.{take_more, length-take-le}
@@ -18,6 +18,17 @@ use Rattle.shared_lookup.specs.declared.threads.WriterThread.{WriterThread}
 use Rattle.shared_lookup.specs.Servings.{AreAnswered, AreOutcomesOf, ChangeOutcome, EachHasOutcome, EachIsAnswered}
 use Rattle.shared_lookup.specs.Readers.{IsHeard, IsReaderOf}
 use Rattle.shared_lookup.specs.Threads.{AreChanging, AreHeard, AreReading, HaveRoom}
+
+-- what a loop has yielded, the next, and what is left are all that it goes over
+pub next_yielded : {A : Type 0} (all done left rest : List A) (x : A) → all ≡ done ++ left → left ≡ x ∷ rest
+    → all ≡ done ++ x ∷ rest
+next_yielded all done left rest x gone next = gone ∙ ap (λ xs. done ++ xs) next
+
+-- and so they are once the next is yielded
+pub one_yielded : {A : Type 0} (all done left rest : List A) (x : A) → all ≡ done ++ left → left ≡ x ∷ rest
+    → all ≡ (done ++ x ∷ []) ++ rest
+one_yielded all done left rest x gone next =
+    next_yielded all done left rest x gone next ∙ sym (append_assoc done (x ∷ []) rest)
 
 -- while a list of threads or of what they came back with is put together there is room for one more
 pub room_left : {A B C : Type 0} (lists : List A) (done rest : List B) (x : B) (all : Vec C) → length (done ++ x ∷ rest) ≡ length lists

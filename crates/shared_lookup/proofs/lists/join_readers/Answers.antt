@@ -1,8 +1,7 @@
-use Rattle.std.proofs.Common.{◌≡◌, ◌∙◌, ◌++◌, ◌∷◌, [], List, length, take, sym, subst, ap, append_assoc, arith}
+use Rattle.std.proofs.Common.{◌∙◌, ◌++◌, ◌∷◌, [], length, take, sym, subst, ap, arith}
 use Rattle.std.specs.Vec.Iter.{into_iter_items}
-use Rattle.shared_lookup.specs.declared.threads.ReaderThread.{ReaderThread}
 use Rattle.shared_lookup.specs.Threads.{AreHeard, AreReading}
-use Rattle.shared_lookup.proofs.ThreadLemmas.{heard_more, room_left}
+use Rattle.shared_lookup.proofs.ThreadLemmas.{heard_more, next_yielded, one_yielded, room_left}
 use Rattle.shared_lookup.proofs.lists.join_readers.Goals as goal
 
 pub loop-reader-preserved : goal.loop-reader-preserved
@@ -14,11 +13,12 @@ loop-reader-preserved g c =
     let keys = c.args.keys.now in
     let changer = c.args.changer.now in
     let table = g.W.Changer.table in
+    let left = into_iter_items c.loop-reader.reader-iterator in
     let step = c.in-Some.ensures.steps.0 in
-    let all : c.args.readers.items ≡ done ++ r ∷ rest = i.gone ∙ ap (λ (xs : List (ReaderThread _)). done ++ xs) step in
+    let all = next_yielded c.args.readers.items done left rest r i.gone step in
     let more = heard_more table changer keys done rest r c.loop-reader.heard.items c.join_reader.result (subst (AreReading changer keys) all c.requires.reading) i.heard c.join_reader.ensures in
     record {
-      gone = i.gone ∙ ap (λ (xs : List (ReaderThread _)). done ++ xs) step ∙ sym (append_assoc done (r ∷ []) rest);
+      gone = one_yielded c.args.readers.items done left rest r i.gone step;
       heard = subst (AreHeard (table changer) (take (length (done ++ r ∷ [])) keys)) (sym c.push_reserved.ensures.items) more;
       long = let l = i.long in let k = c.push_reserved.ensures.capacity in omega (arith, l, k);
     }
@@ -29,5 +29,6 @@ push_reserved-requires g c =
     let done = c.loop-reader.yielded in
     let rest = into_iter_items c.next.new.self in
     let r = c.in-Some.reader in
-    let all : c.args.readers.items ≡ done ++ r ∷ rest = i.gone ∙ ap (λ (xs : List (ReaderThread _)). done ++ xs) c.in-Some.ensures.steps.0 in
+    let left = into_iter_items c.loop-reader.reader-iterator in
+    let all = next_yielded c.args.readers.items done left rest r i.gone c.in-Some.ensures.steps.0 in
     room_left c.args.keys.now done rest r c.loop-reader.heard (ap length (sym all) ∙ c.requires.reading.same) i.heard.same i.long

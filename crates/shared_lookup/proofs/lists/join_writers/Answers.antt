@@ -1,9 +1,8 @@
-use Rattle.std.proofs.Common.{◌≡◌, ◌∙◌, ◌++◌, ◌∷◌, [], List, length, take, sym, subst, ap, append_assoc, arith}
+use Rattle.std.proofs.Common.{◌∙◌, ◌++◌, ◌∷◌, [], length, take, sym, subst, ap, arith}
 use Rattle.std.specs.Vec.Iter.{into_iter_items}
-use Rattle.shared_lookup.specs.declared.threads.WriterThread.{WriterThread}
 use Rattle.shared_lookup.specs.Servings.{EachHasOutcome}
 use Rattle.shared_lookup.specs.Threads.{AreChanging}
-use Rattle.shared_lookup.proofs.ThreadLemmas.{made_more, room_left}
+use Rattle.shared_lookup.proofs.ThreadLemmas.{made_more, next_yielded, one_yielded, room_left}
 use Rattle.shared_lookup.proofs.lists.join_writers.Goals as goal
 
 pub loop-writer-preserved : goal.loop-writer-preserved
@@ -13,11 +12,12 @@ loop-writer-preserved g c =
     let rest = into_iter_items c.next.new.self in
     let w = c.in-Some.writer in
     let changes = c.args.changes.now in
+    let left = into_iter_items c.loop-writer.writer-iterator in
     let step = c.in-Some.ensures.steps.0 in
-    let all : c.args.writers.items ≡ done ++ w ∷ rest = i.gone ∙ ap (λ (xs : List (WriterThread _)). done ++ xs) step in
+    let all = next_yielded c.args.writers.items done left rest w i.gone step in
     let more = made_more g.W.Changer.catalog c.args.changer.now changes done rest w c.loop-writer.outcomes.items c.join_writer.result (subst (AreChanging c.args.changer.now changes) all c.requires.changing) i.made c.join_writer.ensures in
     record {
-      gone = i.gone ∙ ap (λ (xs : List (WriterThread _)). done ++ xs) step ∙ sym (append_assoc done (w ∷ []) rest);
+      gone = one_yielded c.args.writers.items done left rest w i.gone step;
       made = subst (EachHasOutcome (g.W.Changer.catalog c.args.changer.now) (take (length (done ++ w ∷ [])) changes)) (sym c.push_reserved.ensures.items) more;
       long = let l = i.long in let k = c.push_reserved.ensures.capacity in omega (arith, l, k);
     }
@@ -28,5 +28,6 @@ push_reserved-requires g c =
     let done = c.loop-writer.yielded in
     let rest = into_iter_items c.next.new.self in
     let w = c.in-Some.writer in
-    let all : c.args.writers.items ≡ done ++ w ∷ rest = i.gone ∙ ap (λ (xs : List (WriterThread _)). done ++ xs) c.in-Some.ensures.steps.0 in
+    let left = into_iter_items c.loop-writer.writer-iterator in
+    let all = next_yielded c.args.writers.items done left rest w i.gone c.in-Some.ensures.steps.0 in
     room_left c.args.changes.now done rest w c.loop-writer.outcomes (ap length (sym all) ∙ c.requires.changing.same) i.made.same i.long

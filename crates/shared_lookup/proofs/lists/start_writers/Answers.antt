@@ -1,8 +1,7 @@
-use Rattle.std.proofs.Common.{◌≡◌, ◌∙◌, ◌++◌, ◌∷◌, [], List, length, take, sym, subst, ap, append_assoc, arith}
+use Rattle.std.proofs.Common.{◌∙◌, ◌++◌, ◌∷◌, [], length, take, sym, subst, ap, arith}
 use Rattle.std.specs.Vec.Iter.{into_iter_items}
-use Rattle.shared_lookup.specs.declared.threads.Changing.{Changing}
 use Rattle.shared_lookup.specs.Threads.{AreChanging, HaveRoom}
-use Rattle.shared_lookup.proofs.ThreadLemmas.{changing_more, room_left}
+use Rattle.shared_lookup.proofs.ThreadLemmas.{changing_more, next_yielded, one_yielded, room_left}
 use Rattle.shared_lookup.proofs.lists.start_writers.Goals as goal
 
 pub loop-list-preserved : goal.loop-list-preserved
@@ -12,13 +11,14 @@ loop-list-preserved g c =
     let rest = into_iter_items c.next.new.self in
     let l = c.in-Some.list in
     let changes = c.args.changes.now in
+    let left = into_iter_items c.loop-list.list-iterator in
     let step = c.in-Some.ensures.steps.0 in
-    let all : c.args.lists.items ≡ done ++ l ∷ rest = i.gone ∙ ap (λ (xs : List Changing). done ++ xs) step in
+    let all = next_yielded c.args.lists.items done left rest l i.gone step in
     let w = c.start_writer.result in
     let e = c.start_writer.ensures in
     let more = changing_more c.args.changer.now changes done rest l c.loop-list.writers.items w (subst (HaveRoom changes) all c.requires.room) i.started e.0 e.1 in
     record {
-      gone = i.gone ∙ ap (λ (xs : List Changing). done ++ xs) step ∙ sym (append_assoc done (l ∷ []) rest);
+      gone = one_yielded c.args.lists.items done left rest l i.gone step;
       started = subst (AreChanging c.args.changer.now (take (length (done ++ l ∷ [])) changes)) (sym c.push_reserved.ensures.items) more;
       long = let l = i.long in let k = c.push_reserved.ensures.capacity in omega (arith, l, k);
     }
@@ -29,5 +29,6 @@ push_reserved-requires g c =
     let done = c.loop-list.yielded in
     let rest = into_iter_items c.next.new.self in
     let l = c.in-Some.list in
-    let all : c.args.lists.items ≡ done ++ l ∷ rest = i.gone ∙ ap (λ (xs : List Changing). done ++ xs) c.in-Some.ensures.steps.0 in
+    let left = into_iter_items c.loop-list.list-iterator in
+    let all = next_yielded c.args.lists.items done left rest l i.gone c.in-Some.ensures.steps.0 in
     room_left c.args.changes.now done rest l c.loop-list.writers (ap length (sym all) ∙ c.requires.room.same) i.started.same i.long
