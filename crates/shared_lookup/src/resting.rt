@@ -1,8 +1,9 @@
 //! A writer that makes whole updates.
 
-ghost use Rattle.std.specs.Prelude.{◌≡◌, IfOk, IfErr, OnErr, All, vec_len};
+ghost use Rattle.std.specs.Prelude.{◌≡◌, ◌*◌, IfOk, IfErr, OnErr, All, vec_len};
 ghost use Rattle.order_laws.specs.Orders.{half_open};
 ghost use Rattle.order_laws.specs.Tables.{has, look};
+ghost use Rattle.latch_core.specs.Invariants.{IsSound};
 ghost use Rattle.latch_table.specs.declared.knowledge.Origin.TheVariants.{Start};
 ghost use Rattle.latch_table.specs.Readers.{Met, new_reader};
 ghost use Rattle.latch_table.specs.Seats.{first_knowledge};
@@ -65,6 +66,8 @@ fn carry_out<G: Gate>(
     ensures carried { IfOk result (CarriesOut writer.old u writer.new) }
     ensures unchanged { OnErr result (writer.new ≡ writer.old) }
     ensures refused { IfErr result (Refuses half_open writer.old u) }
+    ensures sound { IsSound half_open writer.old.capacity (2 * writer.old.base) writer.old.history
+        writer.old.latch }
 {
     let sequence = writer.generation().saturating_mul(2);
     let mut pending = writer.begin(u)?;
@@ -97,8 +100,6 @@ impl RestingWriter {
         ensures unchanged { OnErr result (self.new ≡ self.old) }
         ensures refused { IfErr result (RefusesUpdate u self.old) }
     {
-        // Its clause `sound` says that the writer's tables are those of its history.
-        let _generation = self.writer.generation();
         carry_out(&mut self.writer, g, who, u)
     }
 
