@@ -48,26 +48,30 @@ fn with_answer(sum: u64, answer: Try) -> u64 {
 
 /// A writer with all of its readers.
 #[derive(Drop)]
-struct Table {
+struct WriterWithReaders {
     writer: Writer<HalfOpen>,
     readers: Vec<Reader<HalfOpen>>,
     ghost whole: { AreReadersOfWriter writer readers.items },
 }
 
-impl Growing for Table {
+impl Growing for WriterWithReaders {
     fn insert(&mut self, item: Item) -> Result<(), Refusal> {
         self.writer.begin(Update::Insert(item))?.finish();
         Ok(())
     }
 
-    fn enlarge(self, alloc: Global, l: Layout) -> Result<Table, (Refusal, Table)> {
-        let Table {
+    fn enlarge(
+        self,
+        alloc: Global,
+        l: Layout,
+    ) -> Result<WriterWithReaders, (Refusal, WriterWithReaders)> {
+        let WriterWithReaders {
             mut writer,
             readers,
         } = self;
         match writer.enlarge(alloc, l, readers) {
-            Ok(readers) => Ok(Table { writer, readers }),
-            Err((refusal, readers)) => Err((refusal, Table { writer, readers })),
+            Ok(readers) => Ok(WriterWithReaders { writer, readers }),
+            Err((refusal, readers)) => Err((refusal, WriterWithReaders { writer, readers })),
         }
     }
 
@@ -158,7 +162,7 @@ fn grow<T: Growing>(rt: &impl Print, alloc: Global, l: Layout, mut table: T) -> 
 /// Opens a table and a ledger and enlarges each.
 pub(crate) fn call_all(rt: &impl Print, alloc: Global, l: Layout) -> Result<(), End> {
     let (writer, readers) = open(alloc, l, 0, 2)?;
-    grow(rt, alloc, l, Table { writer, readers })?;
+    grow(rt, alloc, l, WriterWithReaders { writer, readers })?;
     let (ledger, readers) = Ledger::open(alloc, l, 0, 2)?;
     grow(rt, alloc, l, LedgerTable { ledger, readers })
 }

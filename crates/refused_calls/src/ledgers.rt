@@ -16,7 +16,7 @@ const READERS: u32 = 2;
 
 /// A ledger with its readers, and the keys that they are asked for.
 #[derive(Drop)]
-struct Table<'a> {
+struct LedgerWithReaders<'a> {
     ledger: Ledger,
     readers: Vec<Reader<HalfOpen>>,
     keys: &'a [u64],
@@ -41,13 +41,13 @@ fn tell(rt: &impl Print, call: &str, outcome: Result<u64, Refusal>, found: u64) 
     }
 }
 
-impl<'a> Table<'a> {
-    fn open(alloc: Global, l: Layout, keys: &'a [u64]) -> Result<Table<'a>, Refusal> {
+impl<'a> LedgerWithReaders<'a> {
+    fn open(alloc: Global, l: Layout, keys: &'a [u64]) -> Result<LedgerWithReaders<'a>, Refusal> {
         let (ledger, readers) = match Ledger::open(alloc, l, 0, READERS) {
             Ok(opened) => opened,
             Err(_) => Ledger::open(alloc, l, 0, READERS)?,
         };
-        Ok(Table {
+        Ok(LedgerWithReaders {
             ledger,
             readers,
             keys,
@@ -109,7 +109,7 @@ pub(crate) fn call_all(
     updates: &[Update],
 ) -> Result<(), End> {
     let keys = keys(alloc, l.capacity())?;
-    let mut table = Table::open(alloc, l, &keys)?;
+    let mut table = LedgerWithReaders::open(alloc, l, &keys)?;
     for update in updates {
         table.apply(rt, update)?;
     }
@@ -123,7 +123,7 @@ pub(crate) fn change_all(
     c: &Catalog<'_>,
     starts: &[u64],
 ) -> Result<(), End> {
-    let mut table = Table::open(alloc, Layout::new(4)?, starts)?;
+    let mut table = LedgerWithReaders::open(alloc, Layout::new(4)?, starts)?;
     for change in [
         Change::Load(1),
         Change::Load(1),

@@ -76,13 +76,13 @@ fn update(
 
 /// A table with its readers.
 #[derive(Drop)]
-struct Table {
+struct TableWithReaders {
     writer: Writer<HalfOpen>,
     readers: Vec<Reader<HalfOpen>>,
     capacity: u32,
 }
 
-impl Table {
+impl TableWithReaders {
     /// What is found now, in one number.
     fn account(&mut self) -> u64 {
         let mut sum = found_by(&mut self.writer, self.capacity);
@@ -124,7 +124,7 @@ pub(crate) fn call_all(
         Ok(opened) => opened,
         Err(_) => open(alloc, l, 0, READERS)?,
     };
-    let mut table = Table {
+    let mut table = TableWithReaders {
         writer,
         readers,
         capacity: l.capacity(),

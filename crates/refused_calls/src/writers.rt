@@ -10,21 +10,21 @@ use word_layout::Layout;
 
 /// What a writer returns when it is asked.
 #[derive(Clone, Copy, PartialEq, Eq)]
-struct Account {
+struct WriterState {
     generation: u64,
     remaining: u64,
     len: u32,
     held: u64,
 }
 
-impl Account {
-    fn of(writer: &WriterCore<HalfOpen>) -> Account {
+impl WriterState {
+    fn of(writer: &WriterCore<HalfOpen>) -> WriterState {
         let mut held: u64 = 0;
         for place in 0..KEYS {
             let is_held = writer.holds(key(place, writer.layout().capacity()));
             held = held.wrapping_mul(3).wrapping_add(is_held as u64);
         }
-        Account {
+        WriterState {
             generation: writer.generation(),
             remaining: writer.remaining(),
             len: writer.len(),
@@ -46,10 +46,10 @@ fn carry_out(
     writer: &mut WriterCore<HalfOpen>,
     update: &Update,
 ) -> io::Result<()> {
-    let before = Account::of(writer);
+    let before = WriterState::of(writer);
     let mut begun = writer.begin_from(update);
     if begun == Err(Refusal::OutOfMemory) {
-        if Account::of(writer) != before {
+        if WriterState::of(writer) != before {
             println!(rt; "begin: changed by a refusal")?;
         }
         begun = writer.begin_from(update);
@@ -80,7 +80,7 @@ pub(crate) fn call_all(
     println!(rt;
         "writer: generation {} held {}",
         writer.generation(),
-        Account::of(&writer).held
+        WriterState::of(&writer).held
     )?;
     Ok(())
 }

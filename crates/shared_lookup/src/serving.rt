@@ -32,7 +32,7 @@ use word_layout::Layout;
 
 /// What all threads came back with.
 #[derive(Drop)]
-struct Returned {
+struct ThreadResults {
     outcomes: Vec<Outcomes>,
     heard: Vec<Found>,
 }
@@ -47,7 +47,7 @@ fn run_threads<R: Threads + Wait + Sync, G: Gate + Sync, W: Changer + Sync>(
     changes: &[Vec<Change>],
     keys: &[Vec<u64>],
     seats: Vec<Reader<HalfOpen>>,
-) -> Result<Returned, AllocError>
+) -> Result<ThreadResults, AllocError>
     requires seats { All (IsReaderOf (W.table changer.now)) seats.items }
     requires same { vec_len seats ≡ length keys.now }
     requires few { length keys.now ≤ most_readers }
@@ -59,7 +59,7 @@ fn run_threads<R: Threads + Wait + Sync, G: Gate + Sync, W: Changer + Sync>(
     thread::scope(
         thread::scope_env(),
         rt,
-        |scope| -> Result<Returned, AllocError>
+        |scope| -> Result<ThreadResults, AllocError>
             requires seats { All (IsReaderOf (W.table changer.now)) seats.items }
             requires same { vec_len seats ≡ length keys.now }
             requires few { length keys.now ≤ most_readers }
@@ -77,7 +77,7 @@ fn run_threads<R: Threads + Wait + Sync, G: Gate + Sync, W: Changer + Sync>(
             let readers = start_readers(scope, rt, alloc, g, changer, seats, keys, readers);
             let outcomes = join_writers(rt, changer, changes, writers, outcomes);
             let heard = join_readers(rt, alloc, changer, keys, readers, heard);
-            Ok(Returned { outcomes, heard })
+            Ok(ThreadResults { outcomes, heard })
         },
     )
 }
@@ -126,7 +126,7 @@ fn serve_from<K: NamesTable + Send + Sync, R: Threads + Wait + Sync, G: Gate + S
         catalog: c,
     };
     let returned = run_threads(rt, alloc, g, &changer, &changes, &keys, seats)?;
-    let Returned { outcomes, heard } = returned;
+    let ThreadResults { outcomes, heard } = returned;
     let ledger = shared.into_ledger();
     let (ledger, answers, ended) = meet_all(ledger, &keys, heard, answers, ended);
     let wrong = wrong_count(alloc, &ledger, c, &changes, &outcomes, &answers, &mut times);
