@@ -1,7 +1,7 @@
 //! A large catalog of lines that are made here: so many modules and symbols, a third of the symbols
 //! in modules and listed there in no order; and the look for the symbols of addresses in them.
 
-use crate::faults::Fault;
+use crate::faults::MeasureFault;
 use crate::listings::tell;
 use latch_core::Update;
 use modules::{Catalog, Held, ModuleLine, SymbolLine, SymbolLines, symbol_of};
@@ -159,7 +159,7 @@ pub fn build_and_look_up<R: Print + Eprint + Clock>(
     modules: u32,
     symbols: u32,
     lookups: u32,
-) -> Result<(), Fault> {
+) -> Result<(), MeasureFault> {
     let module_names = names(alloc, "module", modules.min(MOST))?;
     let symbol_names = names(alloc, "symbol", symbols)?;
     let module_lines = module_lines(alloc, &lines_of(alloc, &module_names)?)?;

@@ -5,7 +5,7 @@
 
 ghost use Rattle.std.specs.Prelude.{◌<◌};
 
-use crate::faults::Fault;
+use crate::faults::MeasureFault;
 use latch_core::Update;
 use latch_steps::{Command, Trace, drive};
 use order_laws::{HalfOpen, Item, Refusal};
@@ -65,7 +65,11 @@ fn rounds(alloc: Global, items: u32, rounds: u32) -> Result<Trace<HalfOpen>, Ref
 }
 
 /// Drives so many rounds over so many ranges, and writes one line.
-pub fn count_events<R: Print + AllocGlobal>(rt: &R, items: u32, count: u32) -> Result<(), Fault> {
+pub fn count_events<R: Print + AllocGlobal>(
+    rt: &R,
+    items: u32,
+    count: u32,
+) -> Result<(), MeasureFault> {
     let trace = rounds(rt.alloc(), items, count)?;
     println!(rt;
         "items {items} rounds {count} events {} notes {} sequence {}",

@@ -6,25 +6,25 @@ use std::io;
 
 /// The table refused an update or its opening, or a device failed.
 #[derive(Drop)]
-pub enum Fault {
+pub enum MeasureFault {
     Refused(Refusal),
     Failed(io::Error),
 }
 
-impl From<Refusal> for Fault {
-    fn from(refusal: Refusal) -> Fault {
-        Fault::Refused(refusal)
+impl From<Refusal> for MeasureFault {
+    fn from(refusal: Refusal) -> MeasureFault {
+        MeasureFault::Refused(refusal)
     }
 }
 
-impl From<AllocError> for Fault {
-    fn from(error: AllocError) -> Fault {
-        Fault::Refused(Refusal::from(error))
+impl From<AllocError> for MeasureFault {
+    fn from(error: AllocError) -> MeasureFault {
+        MeasureFault::Refused(Refusal::from(error))
     }
 }
 
-impl From<io::Error> for Fault {
-    fn from(error: io::Error) -> Fault {
-        Fault::Failed(error)
+impl From<io::Error> for MeasureFault {
+    fn from(error: io::Error) -> MeasureFault {
+        MeasureFault::Failed(error)
     }
 }

@@ -15,7 +15,7 @@ pub enum Writing {
 
 /// A measure, at a table of so many items, or of listings.
 #[derive(Clone, Copy, Drop)]
-pub enum Job<'w> {
+pub enum MeasureJob<'w> {
     /// So many lookups.
     Lookups {
         items: u32,
@@ -75,25 +75,25 @@ pub enum Job<'w> {
 }
 
 /// The job that these words name, if they name one.
-pub fn job_of(words: &[String]) -> Option<Job<'_>> {
+pub fn job_of(words: &[String]) -> Option<MeasureJob<'_>> {
     let [mode, rest @ ..] = words else {
         return None;
     };
     match (mode.as_str(), rest) {
-        ("soak", [time]) => Some(Job::Soak {
+        ("soak", [time]) => Some(MeasureJob::Soak {
             time: seconds(time)?,
         }),
-        ("words", [items]) => Some(Job::Words {
+        ("words", [items]) => Some(MeasureJob::Words {
             items: number(items)?,
         }),
         ("walk" | "drive" | "stores", [items, rounds]) => {
             Some(counted(mode, number(items)?, number(rounds)?))
         }
-        ("read", [modules, kallsyms]) => Some(Job::Read {
+        ("read", [modules, kallsyms]) => Some(MeasureJob::Read {
             modules: modules.as_str(),
             kallsyms: kallsyms.as_str(),
         }),
-        ("build", [modules, symbols, lookups]) => Some(Job::Build {
+        ("build", [modules, symbols, lookups]) => Some(MeasureJob::Build {
             modules: number(modules)?,
             symbols: number(symbols)?,
             lookups: number(lookups)?,
@@ -107,11 +107,11 @@ pub fn job_of(words: &[String]) -> Option<Job<'_>> {
 }
 
 /// A job that is counted in rounds and takes the same steps each time.
-fn counted(mode: &str, items: u32, rounds: u32) -> Job<'static> {
+fn counted(mode: &str, items: u32, rounds: u32) -> MeasureJob<'static> {
     match mode {
-        "walk" => Job::Walk { items, rounds },
-        "drive" => Job::Drive { items, rounds },
-        _ => Job::Stores {
+        "walk" => MeasureJob::Walk { items, rounds },
+        "drive" => MeasureJob::Drive { items, rounds },
+        _ => MeasureJob::Stores {
             items,
             pairs: rounds,
         },
@@ -119,9 +119,9 @@ fn counted(mode: &str, items: u32, rounds: u32) -> Job<'static> {
 }
 
 /// A job of one thread, or of the writer or a reader alone.
-fn alone(mode: &str, items: u32, last: &str) -> Option<Job<'static>> {
+fn alone(mode: &str, items: u32, last: &str) -> Option<MeasureJob<'static>> {
     let beside = |readers, writing| {
-        Some(Job::Beside {
+        Some(MeasureJob::Beside {
             items,
             readers,
             writing,
@@ -131,15 +131,15 @@ fn alone(mode: &str, items: u32, last: &str) -> Option<Job<'static>> {
     match mode {
         "r" => beside(1, Writing::Nothing),
         "w" => beside(0, Writing::Steady),
-        "d" => Some(Job::Chain {
+        "d" => Some(MeasureJob::Chain {
             items,
             time: seconds(last)?,
         }),
-        "c" => Some(Job::Lookups {
+        "c" => Some(MeasureJob::Lookups {
             items,
             count: last.parse::<u64>().ok()?,
         }),
-        "cw" => Some(Job::Updates {
+        "cw" => Some(MeasureJob::Updates {
             items,
             count: last.parse::<u64>().ok()?,
         }),
@@ -148,13 +148,13 @@ fn alone(mode: &str, items: u32, last: &str) -> Option<Job<'static>> {
 }
 
 /// A job of several readers beside a writer.
-fn beside(mode: &str, items: u32, readers: u32, time: Duration) -> Option<Job<'static>> {
+fn beside(mode: &str, items: u32, readers: u32, time: Duration) -> Option<MeasureJob<'static>> {
     let writing = match mode {
         "rw" => Writing::Steady,
         "rp" => Writing::Paced,
         _ => return None,
     };
-    Some(Job::Beside {
+    Some(MeasureJob::Beside {
         items,
         readers,
         writing,

@@ -1,6 +1,6 @@
 //! Two listings that are read from files, cut into lines and built into a catalog.
 
-use crate::faults::Fault;
+use crate::faults::MeasureFault;
 use listing::{Counted, ReadFault, read_kallsyms, read_modules, read_whole};
 use modules::Catalog;
 use std::alloc::Global;
@@ -20,7 +20,7 @@ fn build<R: Print + Eprint + Clock>(
     alloc: Global,
     modules: &[u8],
     kallsyms: &[u8],
-) -> Result<(), Fault> {
+) -> Result<(), MeasureFault> {
     let start = Instant::now(rt)?;
     let (modules, skipped_modules) = read_modules(alloc, modules)?;
     let (symbols, skipped_symbols) = read_kallsyms(alloc, kallsyms)?;
@@ -62,7 +62,7 @@ fn text_of(rt: &HostRuntime, file: &str) -> io::Result<Vec<u8>> {
 
 /// Reads the listings in these two files, builds their catalog, and writes the counts of their
 /// lines.
-pub fn read_and_build(rt: &HostRuntime, modules: &str, kallsyms: &str) -> Result<(), Fault> {
+pub fn read_and_build(rt: &HostRuntime, modules: &str, kallsyms: &str) -> Result<(), MeasureFault> {
     let start = Instant::now(rt)?;
     let modules = text_of(rt, modules)?;
     let kallsyms = text_of(rt, kallsyms)?;

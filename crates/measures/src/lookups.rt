@@ -9,7 +9,7 @@ use workloads::Random;
 
 /// What a reader's lookups came to.
 #[derive(Clone, Copy, Drop)]
-pub struct Tally {
+pub struct LookupCounts {
     pub lookups: u64,
     /// How many found a range.
     pub found: u64,
@@ -19,9 +19,9 @@ pub struct Tally {
     pub time: Duration,
 }
 
-impl Tally {
-    pub fn new() -> Tally {
-        Tally {
+impl LookupCounts {
+    pub fn new() -> LookupCounts {
+        LookupCounts {
             lookups: 0,
             found: 0,
             tags: 0,
@@ -54,7 +54,7 @@ pub fn look_up(
     random: &mut Random,
     slots: u32,
     count: u64,
-    tally: &mut Tally,
+    tally: &mut LookupCounts,
 )
     requires { 0 < slots }
 {
@@ -77,7 +77,7 @@ pub fn look_up_chain(
     random: &mut Random,
     slots: u32,
     count: u64,
-    tally: &mut Tally,
+    tally: &mut LookupCounts,
 )
     requires { 0 < slots }
 {

@@ -45,8 +45,8 @@ mod walks;
 
 use catalogs::build_and_look_up;
 use drives::count_events;
-use faults::Fault;
-use jobs::{Job, job_of};
+use faults::MeasureFault;
+use jobs::{MeasureJob, job_of};
 use listings::read_and_build;
 use runs::{count_lookups, count_updates, measure_beside, measure_chain};
 use soak::soak;
@@ -68,22 +68,22 @@ fn main(rt: HostRuntime) -> io::Result<()> {
         return eprintln!(rt; "{USAGE}");
     };
     let done = match job {
-        Job::Lookups { items, count } => count_lookups(&rt, items, count),
-        Job::Updates { items, count } => count_updates(&rt, items, count),
-        Job::Chain { items, time } => measure_chain(&rt, items, time),
-        Job::Beside {
+        MeasureJob::Lookups { items, count } => count_lookups(&rt, items, count),
+        MeasureJob::Updates { items, count } => count_updates(&rt, items, count),
+        MeasureJob::Chain { items, time } => measure_chain(&rt, items, time),
+        MeasureJob::Beside {
             items,
             readers,
             writing,
             time,
         } => measure_beside(&rt, items, readers, writing, time),
-        Job::Soak { time } => soak(&rt, time),
-        Job::Words { items } => tell_words(&rt, items),
-        Job::Walk { items, rounds } => walk(&rt, items, rounds),
-        Job::Drive { items, rounds } => count_events(&rt, items, rounds),
-        Job::Stores { items, pairs } => count_stores(&rt, items, pairs),
-        Job::Read { modules, kallsyms } => read_and_build(&rt, modules, kallsyms),
-        Job::Build {
+        MeasureJob::Soak { time } => soak(&rt, time),
+        MeasureJob::Words { items } => tell_words(&rt, items),
+        MeasureJob::Walk { items, rounds } => walk(&rt, items, rounds),
+        MeasureJob::Drive { items, rounds } => count_events(&rt, items, rounds),
+        MeasureJob::Stores { items, pairs } => count_stores(&rt, items, pairs),
+        MeasureJob::Read { modules, kallsyms } => read_and_build(&rt, modules, kallsyms),
+        MeasureJob::Build {
             modules,
             symbols,
             lookups,
@@ -91,7 +91,7 @@ fn main(rt: HostRuntime) -> io::Result<()> {
     };
     match done {
         Ok(()) => Ok(()),
-        Err(Fault::Refused(refusal)) => eprintln!(rt; "refused {}", refusal.number()),
-        Err(Fault::Failed(error)) => Err(error),
+        Err(MeasureFault::Refused(refusal)) => eprintln!(rt; "refused {}", refusal.number()),
+        Err(MeasureFault::Failed(error)) => Err(error),
     }
 }

@@ -3,9 +3,9 @@
 ghost use Rattle.std.specs.Prelude.{◌<◌, ◌≤◌, length};
 ghost use Rattle.word_layout.specs.Limits.{most_nodes};
 
-use crate::faults::Fault;
+use crate::faults::MeasureFault;
 use crate::jobs::Writing;
-use crate::lookups::{Tally, look_up, look_up_chain};
+use crate::lookups::{LookupCounts, look_up, look_up_chain};
 use crate::tables::{Measured, exchange, prepare};
 use crate::updates::{Written, write};
 use latch_table::Reader;
@@ -36,9 +36,9 @@ pub fn count_lookups<R: Print + Files + AllocGlobal>(
     rt: &R,
     items: u32,
     count: u64,
-) -> Result<(), Fault> {
+) -> Result<(), MeasureFault> {
     let mut table = prepare(rt, items, 1)?;
-    let mut tally = Tally::new();
+    let mut tally = LookupCounts::new();
     for reader in &mut table.readers {
         look_up(
             reader,
@@ -57,7 +57,7 @@ pub fn count_updates<R: Print + Files + AllocGlobal>(
     rt: &R,
     items: u32,
     count: u64,
-) -> Result<(), Fault> {
+) -> Result<(), MeasureFault> {
     let mut table = prepare(rt, items, 1)?;
     exchange(
         &mut table.writer,
@@ -71,7 +71,7 @@ pub fn count_updates<R: Print + Files + AllocGlobal>(
 
 /// Writes lookups a second, updates a second, bytes an item, and the share of lookups that found a
 /// range.
-fn report(rt: &impl Print, written: Written, seen: &[Tally], bytes: f64) -> io::Result<()> {
+fn report(rt: &impl Print, written: Written, seen: &[LookupCounts], bytes: f64) -> io::Result<()> {
     let mut rate = 0.0;
     let (mut lookups, mut found) = (0.0, 0.0);
     for tally in seen {
@@ -90,10 +90,10 @@ fn chain<R: Clock>(
     reader: &mut Reader<HalfOpen>,
     items: u32,
     time: Duration,
-) -> io::Result<Tally>
+) -> io::Result<LookupCounts>
     requires { 0 < items }
 {
-    let mut tally = Tally::new();
+    let mut tally = LookupCounts::new();
     let mut random = Random::from_seed(SEED);
     let start = Instant::now(rt)?;
     for _ in 0..u64::MAX {
@@ -112,7 +112,7 @@ fn chains<R: Clock + AllocGlobal>(
     readers: Vec<Reader<HalfOpen>>,
     items: u32,
     time: Duration,
-) -> io::Result<Vec<Tally>>
+) -> io::Result<Vec<LookupCounts>>
     requires { 0 < items }
 {
     let mut seen = Vec::new(rt.alloc());
@@ -127,7 +127,7 @@ pub fn measure_chain<R: Clock + Print + Files + AllocGlobal>(
     rt: &R,
     items: u32,
     time: Duration,
-) -> Result<(), Fault> {
+) -> Result<(), MeasureFault> {
     let table = prepare(rt, items, 1)?;
     let seen = chains(rt, table.readers, items, time)?;
     let none = Written { updates: 0, time };
@@ -142,10 +142,10 @@ fn read<R: Clock>(
     reader: &mut Reader<HalfOpen>,
     seed: u64,
     items: u32,
-) -> io::Result<Tally>
+) -> io::Result<LookupCounts>
     requires { 0 < items }
 {
-    let mut tally = Tally::new();
+    let mut tally = LookupCounts::new();
     let mut random = Random::from_seed(seed);
     let start = Instant::now(rt)?;
     for _ in 0..u64::MAX {
@@ -177,7 +177,7 @@ fn read_all<R: Threads + Clock + Sync>(
     stop: &AtomicBool,
     jobs: Vec<(Reader<HalfOpen>, u64)>,
     items: u32,
-) -> Result<Vec<io::Result<Tally>>, AllocError>
+) -> Result<Vec<io::Result<LookupCounts>>, AllocError>
     requires { 0 < items }
 {
     map_vec(
@@ -193,7 +193,7 @@ fn read_all<R: Threads + Clock + Sync>(
 }
 
 /// What the readers saw, where the clock told each its time.
-fn whole(alloc: Global, seen: Vec<io::Result<Tally>>) -> io::Result<Vec<Tally>> {
+fn whole(alloc: Global, seen: Vec<io::Result<LookupCounts>>) -> io::Result<Vec<LookupCounts>> {
     let mut all = Vec::new(alloc);
     for tally in seen {
         all.push(tally?)?;
@@ -208,7 +208,7 @@ pub fn measure_beside<R: Threads + Clock + Print + Files + AllocGlobal + Sync>(
     readers: u32,
     writing: Writing,
     time: Duration,
-) -> Result<(), Fault> {
+) -> Result<(), MeasureFault> {
     let Measured {
         ranges,
         mut writer,

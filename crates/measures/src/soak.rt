@@ -1,6 +1,6 @@
 //! Readers beside a writer for a time, each answer compared with the replay of its generation.
 
-use crate::faults::Fault;
+use crate::faults::MeasureFault;
 use latch_core::Update;
 use latch_table::{Reader, Writer, open};
 use order_laws::{HalfOpen, Item, Refusal};
@@ -87,7 +87,7 @@ fn write<R: Clock>(
     schedule: &Schedule,
     writer: &mut Writer<HalfOpen>,
     time: Duration,
-) -> Result<u64, Fault> {
+) -> Result<u64, MeasureFault> {
     let start = Instant::now(rt)?;
     let mut generation = 0;
     for _ in 0..u64::MAX {
@@ -128,7 +128,7 @@ fn beside<R: Threads + Clock + Sync>(
     writer: &mut Writer<HalfOpen>,
     readers: Vec<Reader<HalfOpen>>,
     time: Duration,
-) -> Result<(u64, Vec<Tally>), Fault> {
+) -> Result<(u64, Vec<Tally>), MeasureFault> {
     let stop = AtomicBool::new(false);
     let (written, seen) = join(
         rt,
@@ -151,10 +151,10 @@ fn beside<R: Threads + Clock + Sync>(
 pub fn soak<R: Threads + Clock + Print + AllocGlobal + Sync>(
     rt: &R,
     time: Duration,
-) -> Result<(), Fault> {
+) -> Result<(), MeasureFault> {
     let mut random = Random::from_seed(SEED);
     let Some(schedule) = schedule(rt.alloc(), &mut random)? else {
-        return Err(Fault::Refused(Refusal::NoSuchItem));
+        return Err(MeasureFault::Refused(Refusal::NoSuchItem));
     };
     let keys = addresses(rt.alloc(), &mut random, SLOTS, KEYS)?;
     let observer = Observer {

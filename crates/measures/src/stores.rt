@@ -8,7 +8,7 @@ ghost use Rattle.std.specs.Prelude.{◌≡◌, ◌<◌, ◌≤◌, IfOk, length}
 ghost use Rattle.word_layout.specs.Limits.{most_nodes};
 ghost use Rattle.word_layout.specs.Words.{words_for};
 
-use crate::faults::Fault;
+use crate::faults::MeasureFault;
 use latch_core::{Update, WriterCore};
 use order_laws::{HalfOpen, Item, Refusal};
 use std::alloc::Global;
@@ -23,20 +23,20 @@ const SEED_OF_UPDATES: u64 = 7;
 
 /// A table with the words that it is kept in, and how many stores its updates took.
 #[derive(Drop)]
-struct WordTable {
+struct CountedTable {
     writer: WriterCore<HalfOpen>,
     words: Vec<u64>,
     stores: u64,
 }
 
-impl WordTable {
+impl CountedTable {
     /// A table with no items.
-    fn open(alloc: Global, l: Layout) -> Result<WordTable, Refusal>
+    fn open(alloc: Global, l: Layout) -> Result<CountedTable, Refusal>
         ensures { IfOk result (λ t. length t.words.items ≡ words_for t.writer.capacity) }
     {
         let writer = WriterCore::<HalfOpen>::open(alloc, l, 0)?;
         let words = vec![in alloc; 0; l.words()]?;
-        Ok(WordTable {
+        Ok(CountedTable {
             writer,
             words,
             stores: 0,
@@ -66,7 +66,7 @@ fn carry_out(writer: &mut WriterCore<HalfOpen>, words: &mut [u64])
 }
 
 /// Inserts the ranges.
-fn insert_all(table: &mut WordTable, ranges: &[Item]) -> Result<(), Refusal>
+fn insert_all(table: &mut CountedTable, ranges: &[Item]) -> Result<(), Refusal>
     requires { length table.old.words.items ≡ words_for table.old.writer.capacity }
     ensures { length table.new.words.items ≡ words_for table.new.writer.capacity }
 {
@@ -77,7 +77,7 @@ fn insert_all(table: &mut WordTable, ranges: &[Item]) -> Result<(), Refusal>
 }
 
 /// Erases the range of a random slot and inserts it again, so many times.
-fn exchange(table: &mut WordTable, ranges: &[Item], pairs: u32) -> Result<(), Refusal>
+fn exchange(table: &mut CountedTable, ranges: &[Item], pairs: u32) -> Result<(), Refusal>
     requires sized { length table.old.words.items ≡ words_for table.old.writer.capacity }
     requires some { 0 < length ranges.now }
     requires few { length ranges.now ≤ most_nodes }
@@ -93,13 +93,13 @@ fn exchange(table: &mut WordTable, ranges: &[Item], pairs: u32) -> Result<(), Re
 }
 
 /// A table of so many ranges after so many exchanges.
-fn run(alloc: Global, items: u32, pairs: u32) -> Result<WordTable, Refusal> {
+fn run(alloc: Global, items: u32, pairs: u32) -> Result<CountedTable, Refusal> {
     let layout = Layout::new(items)?;
     let mut random = Random::from_seed(SEED_OF_RANGES);
     let ranges = ranges(alloc, &mut random, items)?;
     let mut order = ranges.to_vec(alloc)?;
     shuffle(&mut random, &mut order);
-    let mut table = WordTable::open(alloc, layout)?;
+    let mut table = CountedTable::open(alloc, layout)?;
     insert_all(&mut table, &order)?;
     exchange(&mut table, &ranges, pairs)?;
     Ok(table)
@@ -115,7 +115,11 @@ fn checksum(words: &[u64]) -> u64 {
 }
 
 /// Makes so many exchanges over so many ranges, and writes one line.
-pub fn count_stores<R: Print + AllocGlobal>(rt: &R, items: u32, pairs: u32) -> Result<(), Fault> {
+pub fn count_stores<R: Print + AllocGlobal>(
+    rt: &R,
+    items: u32,
+    pairs: u32,
+) -> Result<(), MeasureFault> {
     let table = run(rt.alloc(), items, pairs)?;
     println!(rt;
         "items {items} pairs {pairs} stores {} words {}",

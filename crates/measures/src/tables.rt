@@ -3,7 +3,7 @@
 ghost use Rattle.std.specs.Prelude.{◌≡◌, ◌<◌, ◌≤◌, IfOk, length};
 ghost use Rattle.word_layout.specs.Limits.{most_nodes};
 
-use crate::faults::Fault;
+use crate::faults::MeasureFault;
 use crate::memory::resident;
 use latch_core::Update;
 use latch_table::{Reader, Writer, open};
@@ -44,13 +44,17 @@ fn build(
 }
 
 /// A table of so many items, with so many readers and at least one.
-pub fn prepare<R: Files + AllocGlobal>(rt: &R, items: u32, readers: u32) -> Result<Measured, Fault>
+pub fn prepare<R: Files + AllocGlobal>(
+    rt: &R,
+    items: u32,
+    readers: u32,
+) -> Result<Measured, MeasureFault>
     ensures some { IfOk result (λ made. 0 < items) }
     ensures most { IfOk result (λ made. items ≤ most_nodes) }
     ensures ranges { IfOk result (λ made. length made.ranges.items ≡ items) }
 {
     if items == 0 || items > MOST_NODES {
-        return Err(Fault::Refused(Refusal::BadCapacity));
+        return Err(MeasureFault::Refused(Refusal::BadCapacity));
     }
     let mut random = Random::from_seed(SEED_OF_RANGES);
     let ranges = ranges(rt.alloc(), &mut random, items)?;

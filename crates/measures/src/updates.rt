@@ -3,7 +3,7 @@
 ghost use Rattle.std.specs.Prelude.{◌<◌, ◌≤◌, length};
 ghost use Rattle.word_layout.specs.Limits.{most_nodes};
 
-use crate::faults::Fault;
+use crate::faults::MeasureFault;
 use crate::jobs::Writing;
 use crate::tables::exchange;
 use latch_table::Writer;
@@ -41,7 +41,7 @@ pub fn write<R: Clock>(
     ranges: &[Item],
     writing: Writing,
     time: Duration,
-) -> Result<Written, Fault>
+) -> Result<Written, MeasureFault>
     requires some { 0 < length ranges.now }
     requires few { length ranges.now ≤ most_nodes }
 {
@@ -61,7 +61,7 @@ fn write_steadily<R: Clock>(
     writer: &mut Writer<HalfOpen>,
     ranges: &[Item],
     time: Duration,
-) -> Result<Written, Fault>
+) -> Result<Written, MeasureFault>
     requires some { 0 < length ranges.now }
     requires few { length ranges.now ≤ most_nodes }
 {
@@ -93,7 +93,7 @@ fn write_paced<R: Clock>(
     writer: &mut Writer<HalfOpen>,
     ranges: &[Item],
     time: Duration,
-) -> Result<Written, Fault>
+) -> Result<Written, MeasureFault>
     requires some { 0 < length ranges.now }
     requires few { length ranges.now ≤ most_nodes }
 {

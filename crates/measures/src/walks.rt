@@ -9,7 +9,7 @@ ghost use Rattle.word_layout.specs.Layouts.{capacity_of};
 ghost use Rattle.word_layout.specs.Limits.{most_nodes};
 ghost use Rattle.word_layout.specs.Words.{words_for};
 
-use crate::faults::Fault;
+use crate::faults::MeasureFault;
 use latch_core::{Attempted, Update, WriterCore, attempt_in};
 use order_laws::{HalfOpen, Item, Refusal};
 use std::alloc::{AllocError, Global};
@@ -51,14 +51,14 @@ fn write_to_end(words: &mut [u64], writer: &mut WriterCore<HalfOpen>)
 
 /// What lookups came to.
 #[derive(Drop)]
-struct Walked {
+struct WalkCounts {
     found: u64,
     loads: u64,
     tags: u64,
 }
 
 /// Looks each address up, and adds to the tally.
-fn look_up_all(tally: &mut Walked, words: &[u64], l: Layout, addresses: &[u64])
+fn look_up_all(tally: &mut WalkCounts, words: &[u64], l: Layout, addresses: &[u64])
     requires { length words.now ≡ words_for (capacity_of l) }
 {
     for address in addresses {
@@ -97,10 +97,10 @@ fn keys(alloc: Global, items: u32) -> Result<Vec<u64>, AllocError>
 }
 
 /// Looks the addresses up so many times, and writes one line.
-pub fn walk<R: Print + AllocGlobal>(rt: &R, items: u32, rounds: u32) -> Result<(), Fault> {
+pub fn walk<R: Print + AllocGlobal>(rt: &R, items: u32, rounds: u32) -> Result<(), MeasureFault> {
     let (layout, words) = prepare(rt.alloc(), items)?;
     let keys = keys(rt.alloc(), layout.capacity())?;
-    let mut tally = Walked {
+    let mut tally = WalkCounts {
         found: 0,
         loads: 0,
         tags: 0,
@@ -117,7 +117,7 @@ pub fn walk<R: Print + AllocGlobal>(rt: &R, items: u32, rounds: u32) -> Result<(
 }
 
 /// Writes the words, one on each line, and then the addresses.
-pub fn tell_words<R: Print + AllocGlobal>(rt: &R, items: u32) -> Result<(), Fault> {
+pub fn tell_words<R: Print + AllocGlobal>(rt: &R, items: u32) -> Result<(), MeasureFault> {
     let (layout, words) = prepare(rt.alloc(), items)?;
     for word in &words {
         println!(rt; "{word}")?;
