@@ -1,24 +1,16 @@
 //! Listings of modules and of symbols.
 
-use listing::{LONGEST_LINE, ModuleCounts, SymbolCounts, read_kallsyms, read_modules};
+use listing::{LONGEST_LINE, SkippedModule, SkippedSymbol, read_kallsyms, read_modules};
 use modules::{BuildCounts, Catalog};
 use std::alloc::{AllocError, Global};
 use std::process::Abort;
 use std::test::Fail;
 
-const NO_MODULES_SKIPPED: ModuleCounts = ModuleCounts {
-    hidden: 0,
-    empty: 0,
-    wraps: 0,
-    long: 0,
-    malformed: 0,
-};
+/// No line is hidden, empty, wraps, is long or malformed.
+const NO_MODULES_SKIPPED: [u64; 5] = [0; 5];
 
-const NO_SYMBOLS_SKIPPED: SymbolCounts = SymbolCounts {
-    hidden: 0,
-    long: 0,
-    malformed: 0,
-};
+/// No line is hidden, long or malformed.
+const NO_SYMBOLS_SKIPPED: [u64; 3] = [0; 3];
 
 /// Every cause for which a line of modules is skipped, but for its length.
 const MODULES: &[u8] = b"a 4096 0 - Live 0x0000000000000000\n\
@@ -41,14 +33,7 @@ const SYMBOLS: &[u8] = b"0000000000000000 A fixed_percpu_data\n\
 #[test]
 fn modules_are_skipped_by_cause(rt: HostRuntime) -> Result<(), Fail> {
     let (modules, counts) = read_modules(rt.alloc(), MODULES)?;
-    let expected = ModuleCounts {
-        hidden: 1,
-        empty: 1,
-        wraps: 1,
-        long: 0,
-        malformed: 1,
-    };
-    assert_eq!(rt; counts, expected);
+    assert_eq!(rt; counts.by_place, [1, 1, 1, 0, 1]);
     assert_eq!(rt; modules.len(), 4);
     assert_eq!(rt; modules[0].name, b"b".as_slice());
     assert_eq!(rt; modules[0].base, 0xffff_ffff_c010_0000);
@@ -61,12 +46,7 @@ fn modules_are_skipped_by_cause(rt: HostRuntime) -> Result<(), Fail> {
 #[test]
 fn symbols_are_skipped_by_cause(rt: HostRuntime) -> Result<(), Fail> {
     let (symbols, counts) = read_kallsyms(rt.alloc(), SYMBOLS)?;
-    let expected = SymbolCounts {
-        hidden: 1,
-        long: 0,
-        malformed: 1,
-    };
-    assert_eq!(rt; counts, expected);
+    assert_eq!(rt; counts.by_place, [1, 0, 1]);
     assert_eq!(rt; symbols.len(), 4);
     Ok(())
 }
@@ -101,11 +81,11 @@ fn check_modules(
     alloc: Global,
     text: &[u8],
     count: usize,
-    skipped: ModuleCounts,
+    skipped: [u64; 5],
 ) -> Result<(), AllocError> {
     let (modules, counts) = read_modules(alloc, text)?;
     assert_eq!(rt; modules.len(), count);
-    assert_eq!(rt; counts, skipped);
+    assert_eq!(rt; counts.by_place, skipped);
     Ok(())
 }
 
@@ -115,11 +95,11 @@ fn check_symbols(
     alloc: Global,
     text: &[u8],
     count: usize,
-    skipped: SymbolCounts,
+    skipped: [u64; 3],
 ) -> Result<(), AllocError> {
     let (symbols, counts) = read_kallsyms(alloc, text)?;
     assert_eq!(rt; symbols.len(), count);
-    assert_eq!(rt; counts, skipped);
+    assert_eq!(rt; counts.by_place, skipped);
     Ok(())
 }
 
@@ -137,11 +117,8 @@ fn line_of(alloc: Global, begin: &[u8], length: usize) -> Result<Vec<u8>, AllocE
 fn the_longest_lines_of_modules(rt: HostRuntime) -> Result<(), Fail> {
     for (length, long) in [(LONGEST_LINE, 0), (LONGEST_LINE + 1, 1)] {
         let text = line_of(rt.alloc(), b"a 1 0 - Live 0x1 ", length)?;
-        let expected = ModuleCounts {
-            long,
-            ..NO_MODULES_SKIPPED
-        };
-        check_modules(&rt, rt.alloc(), &text, usize::from(long == 0), expected)?;
+        let skipped = [0, 0, 0, long, 0];
+        check_modules(&rt, rt.alloc(), &text, usize::from(long == 0), skipped)?;
     }
     Ok(())
 }
@@ -150,11 +127,8 @@ fn the_longest_lines_of_modules(rt: HostRuntime) -> Result<(), Fail> {
 fn the_longest_lines_of_symbols(rt: HostRuntime) -> Result<(), Fail> {
     for (length, long) in [(LONGEST_LINE, 0), (LONGEST_LINE + 1, 1)] {
         let text = line_of(rt.alloc(), b"1 t ", length)?;
-        let expected = SymbolCounts {
-            long,
-            ..NO_SYMBOLS_SKIPPED
-        };
-        check_symbols(&rt, rt.alloc(), &text, usize::from(long == 0), expected)?;
+        let skipped = [0, long, 0];
+        check_symbols(&rt, rt.alloc(), &text, usize::from(long == 0), skipped)?;
     }
     Ok(())
 }
@@ -164,7 +138,7 @@ fn count_in_modules_line(alloc: Global, line: &[u8]) -> Result<(usize, u64), All
     let mut text = Vec::from_slice(alloc, line)?;
     text.push(b'\n')?;
     let (modules, counts) = read_modules(alloc, &text)?;
-    Ok((modules.len(), counts.malformed))
+    Ok((modules.len(), counts.count(SkippedModule::Malformed)))
 }
 
 #[test]
@@ -192,40 +166,39 @@ fn lines_just_inside_and_outside_the_form_of_modules(rt: HostRuntime) -> Result<
 
 #[test]
 fn modules_just_inside_and_outside_each_cause(rt: HostRuntime) -> Result<(), Fail> {
-    let cases: [(&[u8], [u64; 4]); 10] = [
-        (b"\x00\xff[\r 1 0 - Live 0x1", [0, 0, 0, 0]),
-        (b"a 1 0 - Live 0x0", [1, 0, 0, 0]),
-        (b"a 0 0 - Live 0x0", [1, 0, 0, 0]),
-        (b"a 0 0 - Live 0x1", [0, 1, 0, 0]),
-        (b"a 18446744073709551614 0 - Live 0x1", [0, 0, 0, 0]),
-        (b"a 18446744073709551615 0 - Live 0x1", [0, 0, 1, 0]),
-        (b"a 1 0 - Live 0xfffffffffffffffe", [0, 0, 0, 0]),
-        (b"a 1 0 - Live 0xffffffffffffffff", [0, 0, 1, 0]),
-        (b"a 0 0 - Live 0", [0, 0, 0, 1]),
-        (b"a 0 0 - 0x0", [0, 0, 0, 1]),
+    let cases: [(&[u8], [u64; 5]); 10] = [
+        (b"\x00\xff[\r 1 0 - Live 0x1", [0, 0, 0, 0, 0]),
+        (b"a 1 0 - Live 0x0", [1, 0, 0, 0, 0]),
+        (b"a 0 0 - Live 0x0", [1, 0, 0, 0, 0]),
+        (b"a 0 0 - Live 0x1", [0, 1, 0, 0, 0]),
+        (b"a 18446744073709551614 0 - Live 0x1", [0, 0, 0, 0, 0]),
+        (b"a 18446744073709551615 0 - Live 0x1", [0, 0, 1, 0, 0]),
+        (b"a 1 0 - Live 0xfffffffffffffffe", [0, 0, 0, 0, 0]),
+        (b"a 1 0 - Live 0xffffffffffffffff", [0, 0, 1, 0, 0]),
+        (b"a 0 0 - Live 0", [0, 0, 0, 0, 1]),
+        (b"a 0 0 - 0x0", [0, 0, 0, 0, 1]),
     ];
     for (line, expected) in cases {
         let (modules, counts) = read_modules(rt.alloc(), line)?;
-        let skipped = [counts.hidden, counts.empty, counts.wraps, counts.malformed];
-        assert_eq!(rt; skipped, expected, "in {line:?}");
-        assert_eq!(rt; modules.len() == 1, expected == [0, 0, 0, 0]);
+        assert_eq!(rt; counts.by_place, expected, "in {line:?}");
+        assert_eq!(rt; modules.len() == 1, expected == NO_MODULES_SKIPPED);
     }
     Ok(())
 }
 
 #[test]
 fn symbols_just_inside_and_outside_each_cause(rt: HostRuntime) -> Result<(), Fail> {
-    let cases: [(&[u8], [u64; 2]); 5] = [
-        (b"0000000000000001 t \x00\xff[", [0, 0]),
-        (b"0000000000000000 t a", [1, 0]),
-        (b"0 t a", [1, 0]),
-        (b"000000000000000g t a", [0, 1]),
-        (b"0000000000000000 t ", [0, 1]),
+    let cases: [(&[u8], [u64; 3]); 5] = [
+        (b"0000000000000001 t \x00\xff[", [0, 0, 0]),
+        (b"0000000000000000 t a", [1, 0, 0]),
+        (b"0 t a", [1, 0, 0]),
+        (b"000000000000000g t a", [0, 0, 1]),
+        (b"0000000000000000 t ", [0, 0, 1]),
     ];
     for (line, expected) in cases {
         let (symbols, counts) = read_kallsyms(rt.alloc(), line)?;
-        assert_eq!(rt; [counts.hidden, counts.malformed], expected, "in {line:?}");
-        assert_eq!(rt; symbols.len() == 1, expected == [0, 0]);
+        assert_eq!(rt; counts.by_place, expected, "in {line:?}");
+        assert_eq!(rt; symbols.len() == 1, expected == NO_SYMBOLS_SKIPPED);
     }
     Ok(())
 }
@@ -256,7 +229,7 @@ fn seventy_thousand_lines_of_symbols(rt: HostRuntime) -> Result<(), Fail> {
 /// How many symbols are read of a line, and how many lines are malformed.
 fn count_in_symbols_line(alloc: Global, line: &[u8]) -> Result<(usize, u64), AllocError> {
     let (symbols, counts) = read_kallsyms(alloc, line)?;
-    Ok((symbols.len(), counts.malformed))
+    Ok((symbols.len(), counts.count(SkippedSymbol::Malformed)))
 }
 
 #[test]
@@ -299,26 +272,21 @@ fn line_count(text: &[u8], length: usize) -> u64 {
     count
 }
 
+/// How many lines are skipped, by whatever cause.
+fn skipped_lines(counts: &[u64]) -> u64 {
+    counts
+        .iter()
+        .fold(0u64, |sum, count| sum.saturating_add(*count))
+}
+
 fn check_cut_after(rt: &impl Abort, alloc: Global, text: &[u8], length: usize) -> Result<(), Fail> {
     let (front, _) = text.split_at(length.min(text.len()));
     let lines = line_count(text, length);
     let (modules, counts) = read_modules(alloc, front)?;
-    let skipped = [
-        counts.hidden,
-        counts.empty,
-        counts.wraps,
-        counts.long,
-        counts.malformed,
-    ];
-    let skipped = skipped
-        .iter()
-        .fold(0u64, |sum, count| sum.saturating_add(*count));
+    let skipped = skipped_lines(&counts.by_place);
     assert_eq!(rt; skipped.saturating_add(modules.len() as u64), lines);
     let (symbols, counts) = read_kallsyms(alloc, front)?;
-    let skipped = counts
-        .hidden
-        .saturating_add(counts.long)
-        .saturating_add(counts.malformed);
+    let skipped = skipped_lines(&counts.by_place);
     assert_eq!(rt; skipped.saturating_add(symbols.len() as u64), lines);
     Ok(())
 }

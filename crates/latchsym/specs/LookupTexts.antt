@@ -1,8 +1,12 @@
 -- The lines that a lookup of addresses writes.
-use Rattle.std.specs.Prelude.{ℕ, List, ◌++◌, codes, decimal}
+use Rattle.std.specs.Prelude.{ℕ, List, ◌++◌, codes, decimal, take, drop, flat_map, slice_index}
 use Rattle.listing.specs.Exact.{hexadecimal}
-use Rattle.listing.specs.declared.module_listing.ModuleCounts.{ModuleCounts}
-use Rattle.listing.specs.declared.symbol_listing.SymbolCounts.{SymbolCounts}
+use Rattle.listing.specs.ModuleListing.{module_cause_name, module_causes, module_place}
+use Rattle.listing.specs.SymbolListing.{symbol_cause_name, symbol_causes, symbol_place}
+use Rattle.listing.specs.declared.module_listing.SkippedModule.{SkippedModule}
+use Rattle.listing.specs.declared.module_listing.SkippedModule.TheVariants as module_cause
+use Rattle.listing.specs.declared.symbol_listing.SkippedSymbol.{SkippedSymbol}
+use Rattle.listing.specs.declared.symbol_listing.SkippedSymbol.TheVariants as symbol_cause
 use Rattle.modules.specs.declared.catalog.BuildCounts.{BuildCounts}
 use Rattle.modules.specs.Entries.{CatalogEntries}
 use Rattle.listing.specs.Answers.{answer_text_by}
@@ -18,17 +22,28 @@ answer_line c rule a =
 abbrev pub count_text : List ℕ → ℕ → List ℕ
 count_text word count = word ++ decimal count
 
+-- these causes with their counts, a blank before each word
+abbrev pub causes_text : {E : Type 0} → (E → ℕ) → (E → List ℕ) → List ℕ → List E → List ℕ
+causes_text place name counts causes =
+    flat_map (λ c. codes " " ++ name c ++ count_text (codes " ") (slice_index counts (place c)))
+    causes
+
+-- The same of a listing of modules and of one of symbols. The causes that the build finds stand
+-- before the first cause of a line's form, which is that it is long.
+abbrev pub module_causes_text : List ℕ → List SkippedModule → List ℕ
+module_causes_text skipped causes = causes_text module_place module_cause_name skipped causes
+
+abbrev pub symbol_causes_text : List ℕ → List SkippedSymbol → List ℕ
+symbol_causes_text skipped causes = causes_text symbol_place symbol_cause_name skipped causes
+
 -- how many lines of the listing of modules went where
-unfoldable pub modules_line : ModuleCounts → BuildCounts → List ℕ
+unfoldable pub modules_line : List ℕ → BuildCounts → List ℕ
 modules_line skipped built =
     count_text (codes "modules ") built.modules
-    ++ count_text (codes " hidden ") skipped.hidden
-    ++ count_text (codes " empty ") skipped.empty
-    ++ count_text (codes " wraps ") skipped.wraps
+    ++ module_causes_text skipped (take (module_place module_cause.Long) module_causes)
     ++ count_text (codes " overlap ") built.overlap
     ++ count_text (codes " double ") built.double
-    ++ count_text (codes " long ") skipped.long
-    ++ count_text (codes " malformed ") skipped.malformed
+    ++ module_causes_text skipped (drop (module_place module_cause.Long) module_causes)
     ++ codes "\n"
 
 -- how many lines of the listing of regions a module has its regions from, and how many none has
@@ -39,11 +54,10 @@ regions_line built =
     ++ codes "\n"
 
 -- how many lines of the listing of symbols went where
-unfoldable pub symbols_line : SymbolCounts → BuildCounts → List ℕ
+unfoldable pub symbols_line : List ℕ → BuildCounts → List ℕ
 symbols_line skipped built =
     count_text (codes "symbols ") built.symbols
-    ++ count_text (codes " hidden ") skipped.hidden
+    ++ symbol_causes_text skipped (take (symbol_place symbol_cause.Long) symbol_causes)
     ++ count_text (codes " stray ") built.stray
-    ++ count_text (codes " long ") skipped.long
-    ++ count_text (codes " malformed ") skipped.malformed
+    ++ symbol_causes_text skipped (drop (symbol_place symbol_cause.Long) symbol_causes)
     ++ codes "\n"

@@ -57,14 +57,15 @@ pub record AreListingsOf (i : Inputs) (l : Listings) : Type 0 where
   pub few : are_few (region_lines_of_inputs i) ≡ true
   pub catalog : l.catalog ≡ catalog_in i
   pub built : l.built ≡ counts_in i
-  pub skipped_modules : l.skipped_modules ≡ module_counts (lines_of i.modules)
-  pub skipped_symbols : l.skipped_symbols ≡ symbol_counts (lines_of i.kallsyms)
+  pub skipped_modules : l.skipped_modules.by_place ≡ module_counts (lines_of i.modules)
+  pub skipped_symbols : l.skipped_symbols.by_place ≡ symbol_counts (lines_of i.kallsyms)
   pub has_regions : l.has_regions ≡ is_some i.regions
 
 -- the lines of counts of these listings
 abbrev pub counts_text : Listings → List ℕ
 counts_text l =
-    modules_line l.skipped_modules l.built ++ symbols_line l.skipped_symbols l.built
+    modules_line l.skipped_modules.by_place l.built
+    ++ symbols_line l.skipped_symbols.by_place l.built
     ++ regions_line_of l.has_regions l.built
 
 -- the writer has taken the lines of these inputs

@@ -1,13 +1,14 @@
 //! The lines that a lookup of addresses writes, byte for byte, with no memory taken.
 ghost use Rattle.std.specs.Prelude.{◌++◌, codes, decimal, flat_map};
 ghost use Rattle.listing.specs.Exact.{Wrote};
-ghost use Rattle.latchsym.specs.LookupTexts.{answer_line, count_text, modules_line, regions_line};
-ghost use Rattle.latchsym.specs.LookupTexts.{symbols_line};
+ghost use Rattle.latchsym.specs.LookupTexts.{answer_line, causes_text, count_text, modules_line};
+ghost use Rattle.latchsym.specs.LookupTexts.{regions_line, symbols_line};
 
 use crate::table::Answer;
 use crate::texts::put_decimal;
 use listing::{
-    AddressRule, Counted, ModuleCounts, SymbolCounts, put, put_hexadecimal, write_answer_by,
+    AddressRule, Cause, Counted, Counts, ModuleCounts, SkippedModule, SkippedSymbol, SymbolCounts,
+    put, put_hexadecimal, write_answer_by,
 };
 use modules::{BuildCounts, Catalog};
 use std::io;
@@ -45,6 +46,23 @@ fn put_answer<W: Write>(
     put(writer, b"\n")
 }
 
+/// Writes each of these causes and its count, with a blank before each word.
+fn put_causes<W: Write, C: Cause<N>, const N: usize>(
+    writer: &mut Counted<W>,
+    causes: &[C],
+    counts: &Counts<C, N>,
+) -> io::Result<()>
+    ensures { Wrote W.contents writer.old writer.new result
+        (causes_text C.place_of C.name_of counts.now.by_place causes.now) }
+{
+    for cause in causes {
+        put(writer, b" ")?;
+        put(writer, cause.name().as_bytes())?;
+        put_count(writer, b" ", counts.count(*cause))?;
+    }
+    Ok(())
+}
+
 /// Writes the counts of the listing of modules: the accepted ones, and the others by the cause for
 /// which they were skipped.
 pub fn put_module_counts<W: Write>(
@@ -52,16 +70,14 @@ pub fn put_module_counts<W: Write>(
     skipped: &ModuleCounts,
     built: &BuildCounts,
 ) -> io::Result<()>
-    ensures { Wrote W.contents writer.old writer.new result (modules_line skipped.now built.now) }
+    ensures { Wrote W.contents writer.old writer.new result (modules_line skipped.now.by_place built.now) }
 {
+    let (of_content, of_form) = SkippedModule::all().split_at(SkippedModule::Long.place());
     put_count(writer, b"modules ", built.modules)?;
-    put_count(writer, b" hidden ", skipped.hidden)?;
-    put_count(writer, b" empty ", skipped.empty)?;
-    put_count(writer, b" wraps ", skipped.wraps)?;
+    put_causes(writer, of_content, skipped)?;
     put_count(writer, b" overlap ", built.overlap)?;
     put_count(writer, b" double ", built.double)?;
-    put_count(writer, b" long ", skipped.long)?;
-    put_count(writer, b" malformed ", skipped.malformed)?;
+    put_causes(writer, of_form, skipped)?;
     put(writer, b"\n")
 }
 
@@ -72,13 +88,13 @@ pub fn put_symbol_counts<W: Write>(
     skipped: &SymbolCounts,
     built: &BuildCounts,
 ) -> io::Result<()>
-    ensures { Wrote W.contents writer.old writer.new result (symbols_line skipped.now built.now) }
+    ensures { Wrote W.contents writer.old writer.new result (symbols_line skipped.now.by_place built.now) }
 {
+    let (of_content, of_form) = SkippedSymbol::all().split_at(SkippedSymbol::Long.place());
     put_count(writer, b"symbols ", built.symbols)?;
-    put_count(writer, b" hidden ", skipped.hidden)?;
+    put_causes(writer, of_content, skipped)?;
     put_count(writer, b" stray ", built.stray)?;
-    put_count(writer, b" long ", skipped.long)?;
-    put_count(writer, b" malformed ", skipped.malformed)?;
+    put_causes(writer, of_form, skipped)?;
     put(writer, b"\n")
 }
 

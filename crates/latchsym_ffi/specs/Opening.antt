@@ -1,13 +1,14 @@
 -- What the bytes of the listings say.
 use Rattle.std.specs.Prelude.{◌≡◌, ℕ, List, [], true, false, Option, Some, None, Result, Ok, Err}
+use Rattle.std.specs.Prelude.{slice_index}
 use Rattle.std.specs.Global.{Vec}
 use Rattle.std.specs.Option.{option_copied}
 use Rattle.order_laws.specs.declared.refusals.Refusal.TheVariants as refusal
-use Rattle.listing.specs.declared.module_listing.ModuleCounts.{ModuleCounts}
-use Rattle.listing.specs.declared.symbol_listing.SymbolCounts.{SymbolCounts}
+use Rattle.listing.specs.declared.module_listing.SkippedModule.TheVariants as module_cause
+use Rattle.listing.specs.declared.symbol_listing.SkippedSymbol.TheVariants as symbol_cause
 use Rattle.listing.specs.Lines.{lines_of}
-use Rattle.listing.specs.ModuleListing.{module_counts, modules_in}
-use Rattle.listing.specs.SymbolListing.{symbol_counts, symbols_in}
+use Rattle.listing.specs.ModuleListing.{module_counts, module_place, modules_in}
+use Rattle.listing.specs.SymbolListing.{symbol_counts, symbol_place, symbols_in}
 use Rattle.modules.specs.Catalogs.{catalog_of, counts_of}
 use Rattle.modules.specs.Entries.{CatalogEntries}
 use Rattle.modules.specs.Lines.{usual_bounds}
@@ -39,22 +40,22 @@ abbrev pub region_lines_of_text : Option (List ℕ) → Result (List ListedRegio
 region_lines_of_text None = Ok []
 region_lines_of_text (Some text) = listed_regions text
 
--- the counts of the skipped lines of both listings, and those of the build
-abbrev pub counts_in : ModuleCounts → SymbolCounts → BuildCounts → CatalogCounts
+-- the counts of the skipped lines of both listings, by cause, and those of the build
+abbrev pub counts_in : List ℕ → List ℕ → BuildCounts → CatalogCounts
 counts_in m s b = record {
   modules = b.modules;
-  modules_hidden = m.hidden;
-  modules_empty = m.empty;
-  modules_wraps = m.wraps;
+  modules_hidden = slice_index m (module_place module_cause.Hidden);
+  modules_empty = slice_index m (module_place module_cause.Empty);
+  modules_wraps = slice_index m (module_place module_cause.Wraps);
   modules_overlap = b.overlap;
   modules_double = b.double;
-  modules_long = m.long;
-  modules_malformed = m.malformed;
+  modules_long = slice_index m (module_place module_cause.Long);
+  modules_malformed = slice_index m (module_place module_cause.Malformed);
   symbols = b.symbols;
-  symbols_hidden = s.hidden;
+  symbols_hidden = slice_index s (symbol_place symbol_cause.Hidden);
   symbols_stray = b.stray;
-  symbols_long = s.long;
-  symbols_malformed = s.malformed;
+  symbols_long = slice_index s (symbol_place symbol_cause.Long);
+  symbols_malformed = slice_index s (symbol_place symbol_cause.Malformed);
   regions = b.regions;
   regions_stray = b.stray_regions;
 }

@@ -12,7 +12,10 @@ ghost use Rattle.latchsym_ffi.specs.Opening.{counts_in, shown_texts};
 
 use crate::contents::Content;
 use crate::open_catalogs::OpenCatalog;
-use listing::{LineFault, ModuleCounts, SymbolCounts, read_kallsyms, read_modules, read_regions};
+use listing::{
+    LineFault, ModuleCounts, SkippedModule, SkippedSymbol, SymbolCounts, read_kallsyms,
+    read_modules, read_regions,
+};
 use modules::{BuildCounts, Catalog, IndexedCatalog, KernelBounds, RegionLine};
 use order_laws::Refusal;
 use std::alloc::{AllocError, AllocFailed, Global};
@@ -108,22 +111,22 @@ fn region_lines(
 
 /// The counts as C has them.
 fn counts_of(modules: &ModuleCounts, symbols: &SymbolCounts, built: &BuildCounts) -> CatalogCounts
-    ensures { result ≡ counts_in modules.now symbols.now built.now }
+    ensures { result ≡ counts_in modules.now.by_place symbols.now.by_place built.now }
 {
     CatalogCounts {
         modules: built.modules,
-        modules_hidden: modules.hidden,
-        modules_empty: modules.empty,
-        modules_wraps: modules.wraps,
+        modules_hidden: modules.count(SkippedModule::Hidden),
+        modules_empty: modules.count(SkippedModule::Empty),
+        modules_wraps: modules.count(SkippedModule::Wraps),
         modules_overlap: built.overlap,
         modules_double: built.double,
-        modules_long: modules.long,
-        modules_malformed: modules.malformed,
+        modules_long: modules.count(SkippedModule::Long),
+        modules_malformed: modules.count(SkippedModule::Malformed),
         symbols: built.symbols,
-        symbols_hidden: symbols.hidden,
+        symbols_hidden: symbols.count(SkippedSymbol::Hidden),
         symbols_stray: built.stray,
-        symbols_long: symbols.long,
-        symbols_malformed: symbols.malformed,
+        symbols_long: symbols.count(SkippedSymbol::Long),
+        symbols_malformed: symbols.count(SkippedSymbol::Malformed),
         regions: built.regions,
         regions_stray: built.stray_regions,
     }

@@ -8,12 +8,10 @@ pub mod LineCutLemmas
 pub mod WordRunLemmas
 -- an address of sixteen digits has no blank
 pub mod SymbolAddressLemmas
--- one more line of a listing
-pub mod LineCountLemmas
--- one more line of a listing of modules
+-- lines that are taken, or skipped for a cause, one after the other
+pub mod SkippingLemmas
+-- what is read of a listing of modules
 pub mod ModuleLineLemmas
--- one more line of a listing of symbols
-pub mod SymbolLineLemmas
 -- what the digits that are left say of a numeral
 pub mod NumberLemmas
 -- how many words a form has

@@ -24,3 +24,7 @@ behind contents old mid new u (Err e) t more first second = record {
 pub then : {D E : Type 0} {contents : D → Option (List ℕ)} {old mid new : Counted D} {first last : Result (Unit {0}) E} {u : Unit {0}} {t more : List ℕ} → first ≡ Ok u → Wrote contents old mid first t
     → Wrote contents mid new last more → Wrote contents old new last (t ++ more)
 then {D} {E} {contents} {old} {mid} {new} {first} {last} {u} {t} {more} is wrote = behind contents old mid new u last t more (subst (λ r. Wrote contents old mid r t) is wrote)
+
+-- the same text, said otherwise
+pub same_text : {D E : Type 0} {contents : D → Option (List ℕ)} {old new : Counted D} {result : Result (Unit {0}) E} {t text : List ℕ} → t ≡ text → Wrote contents old new result t → Wrote contents old new result text
+same_text {D} {E} {contents} {old} {new} {result} = subst (λ text. Wrote contents old new result text)

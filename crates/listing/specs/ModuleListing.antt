@@ -1,16 +1,15 @@
 -- The lines of a listing of modules, in the form of /proc/modules.
-use Rattle.std.specs.Prelude.{ℕ, ◌+◌, ◌^◌, Bool, true, false, ◌||◌, ◌==◌, nat_eq, nat_lt}
-use Rattle.std.specs.Prelude.{if◌then◌else◌, List, ◌∷◌, length, drop, filter, codes, Option}
+use Rattle.std.specs.Prelude.{ℕ, ◌+◌, ◌^◌, Bool, ◌||◌, ◌==◌, nat_eq, nat_lt}
+use Rattle.std.specs.Prelude.{if◌then◌else◌, List, [], ◌∷◌, length, drop, filter, codes, Option}
 use Rattle.std.specs.Prelude.{Some, None, Result, Ok, Err}
 use Rattle.std.specs.List.{slice_split, starts_with}
 use Rattle.modules.specs.Listed.{ListedModule}
 use Rattle.listing.specs.Lines.{longest_line}
 use Rattle.listing.specs.Numbers.{numeral}
-use Rattle.listing.specs.Skipping.{one_more_if, skipped_by, taken_by}
-use Rattle.listing.specs.declared.module_listing.ModuleCounts.{ModuleCounts}
+use Rattle.listing.specs.Skipping.{counts_by, taken_by}
 use Rattle.listing.specs.declared.module_listing.SkippedModule.{SkippedModule}
-use Rattle.listing.specs.declared.module_listing.SkippedModule.TheVariants.{Long, Malformed, Hidden}
-use Rattle.listing.specs.declared.module_listing.SkippedModule.TheVariants.{Empty, Wraps}
+use Rattle.listing.specs.declared.module_listing.SkippedModule.TheVariants.{Hidden, Empty, Wraps}
+use Rattle.listing.specs.declared.module_listing.SkippedModule.TheVariants.{Long, Malformed}
 
 -- a blank or a tab
 abbrev pub is_gap : ℕ → Bool
@@ -54,40 +53,30 @@ module_of_line line =
     if nat_lt longest_line (length line) then Err Long
     else checked_module (module_of_words (runs_of line))
 
-abbrev pub is_skipped_module : SkippedModule → Result ListedModule SkippedModule → Bool
-is_skipped_module Long (Err Long) = true
-is_skipped_module Malformed (Err Malformed) = true
-is_skipped_module Hidden (Err Hidden) = true
-is_skipped_module Empty (Err Empty) = true
-is_skipped_module Wraps (Err Wraps) = true
-is_skipped_module cause said = false
+-- the causes, in the order in which their counts are written
+abbrev pub module_causes : List SkippedModule
+module_causes = Hidden ∷ Empty ∷ Wraps ∷ Long ∷ Malformed ∷ []
+
+-- where a cause stands in that order
+abbrev pub module_place : SkippedModule → ℕ
+module_place Hidden = 0
+module_place Empty = 1
+module_place Wraps = 2
+module_place Long = 3
+module_place Malformed = 4
+
+-- what a cause is called
+abbrev pub module_cause_name : SkippedModule → List ℕ
+module_cause_name Hidden = codes "hidden"
+module_cause_name Empty = codes "empty"
+module_cause_name Wraps = codes "wraps"
+module_cause_name Long = codes "long"
+module_cause_name Malformed = codes "malformed"
 
 -- the modules that the lines are, in their order
 abbrev pub modules_in : List (List ℕ) → List ListedModule
 modules_in lines = taken_by module_of_line lines
 
 -- how many lines are skipped, by cause
-abbrev pub module_counts : List (List ℕ) → ModuleCounts
-module_counts lines =
-    record {
-      hidden = skipped_by (is_skipped_module Hidden) module_of_line lines;
-      empty = skipped_by (is_skipped_module Empty) module_of_line lines;
-      wraps = skipped_by (is_skipped_module Wraps) module_of_line lines;
-      long = skipped_by (is_skipped_module Long) module_of_line lines;
-      malformed = skipped_by (is_skipped_module Malformed) module_of_line lines;
-    }
-
--- the counts after one more line
-abbrev pub module_counts_after : ModuleCounts → Result ListedModule SkippedModule → ModuleCounts
-module_counts_after n said =
-    record {
-      hidden = one_more_if (is_skipped_module Hidden said) n.hidden;
-      empty = one_more_if (is_skipped_module Empty said) n.empty;
-      wraps = one_more_if (is_skipped_module Wraps said) n.wraps;
-      long = one_more_if (is_skipped_module Long said) n.long;
-      malformed = one_more_if (is_skipped_module Malformed said) n.malformed;
-    }
-
--- how many lines are skipped for any cause
-abbrev pub modules_skipped : ModuleCounts → ℕ
-modules_skipped n = n.hidden + n.empty + n.wraps + n.long + n.malformed
+abbrev pub module_counts : List (List ℕ) → List ℕ
+module_counts lines = counts_by module_place module_causes module_of_line lines

@@ -1,5 +1,5 @@
 -- The lines of a listing of symbols, in the form of /proc/kallsyms.
-use Rattle.std.specs.Prelude.{ℕ, ◌+◌, ◌-◌, Bool, true, false, not, ◌&&◌, ◌==◌, nat_lt}
+use Rattle.std.specs.Prelude.{ℕ, ◌-◌, not, ◌&&◌, ◌==◌, nat_lt, codes}
 use Rattle.std.specs.Prelude.{if◌then◌else◌, List, [], ◌∷◌, length, slice_index, slice_range}
 use Rattle.std.specs.Prelude.{Option, Some, None, Result, Ok, Err}
 use Rattle.std.specs.List.{list_any}
@@ -8,10 +8,9 @@ use Rattle.modules.specs.Listed.{ListedSymbol}
 use Rattle.listing.specs.Lines.{longest_line}
 use Rattle.listing.specs.ModuleListing.{is_gap}
 use Rattle.listing.specs.Numbers.{numeral}
-use Rattle.listing.specs.Skipping.{one_more_if, skipped_by, taken_by}
-use Rattle.listing.specs.declared.symbol_listing.SymbolCounts.{SymbolCounts}
+use Rattle.listing.specs.Skipping.{counts_by, taken_by}
 use Rattle.listing.specs.declared.symbol_listing.SkippedSymbol.{SkippedSymbol}
-use Rattle.listing.specs.declared.symbol_listing.SkippedSymbol.TheVariants.{Long, Malformed, Hidden}
+use Rattle.listing.specs.declared.symbol_listing.SkippedSymbol.TheVariants.{Hidden, Long, Malformed}
 
 -- what stands before the first such byte, and what stands after it
 abbrev pub cut_at : ℕ → List ℕ → Option (List ℕ × List ℕ)
@@ -64,34 +63,26 @@ symbol_of line =
     if nat_lt longest_line (length line) then Err Long
     else checked_symbol (symbol_before (cut_at 9 line) line)
 
-abbrev pub is_skipped_symbol : SkippedSymbol → Result ListedSymbol SkippedSymbol → Bool
-is_skipped_symbol Long (Err Long) = true
-is_skipped_symbol Malformed (Err Malformed) = true
-is_skipped_symbol Hidden (Err Hidden) = true
-is_skipped_symbol cause said = false
+-- the causes, in the order in which their counts are written
+abbrev pub symbol_causes : List SkippedSymbol
+symbol_causes = Hidden ∷ Long ∷ Malformed ∷ []
+
+-- where a cause stands in that order
+abbrev pub symbol_place : SkippedSymbol → ℕ
+symbol_place Hidden = 0
+symbol_place Long = 1
+symbol_place Malformed = 2
+
+-- what a cause is called
+abbrev pub symbol_cause_name : SkippedSymbol → List ℕ
+symbol_cause_name Hidden = codes "hidden"
+symbol_cause_name Long = codes "long"
+symbol_cause_name Malformed = codes "malformed"
 
 -- the symbols that the lines are, in their order
 abbrev pub symbols_in : List (List ℕ) → List ListedSymbol
 symbols_in lines = taken_by symbol_of lines
 
 -- how many lines are skipped, by cause
-abbrev pub symbol_counts : List (List ℕ) → SymbolCounts
-symbol_counts lines =
-    record {
-      hidden = skipped_by (is_skipped_symbol Hidden) symbol_of lines;
-      long = skipped_by (is_skipped_symbol Long) symbol_of lines;
-      malformed = skipped_by (is_skipped_symbol Malformed) symbol_of lines;
-    }
-
--- the counts after one more line
-abbrev pub symbol_counts_after : SymbolCounts → Result ListedSymbol SkippedSymbol → SymbolCounts
-symbol_counts_after n said =
-    record {
-      hidden = one_more_if (is_skipped_symbol Hidden said) n.hidden;
-      long = one_more_if (is_skipped_symbol Long said) n.long;
-      malformed = one_more_if (is_skipped_symbol Malformed said) n.malformed;
-    }
-
--- how many lines are skipped for any cause
-abbrev pub symbols_skipped : SymbolCounts → ℕ
-symbols_skipped n = n.hidden + n.long + n.malformed
+abbrev pub symbol_counts : List (List ℕ) → List ℕ
+symbol_counts lines = counts_by symbol_place symbol_causes symbol_of lines

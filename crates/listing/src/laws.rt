@@ -1,8 +1,8 @@
 //! What follows from the grammars, as contracts of functions that do nothing.
-ghost use Rattle.std.specs.Prelude.{◌≡◌, ℕ, ◌+◌, List, length, MatchResult};
+ghost use Rattle.std.specs.Prelude.{◌≡◌, ℕ, ◌+◌, List, length, sum, MatchResult};
 ghost use Rattle.listing.specs.Lines.{lines_of};
-ghost use Rattle.listing.specs.ModuleListing.{module_counts, modules_in, modules_skipped};
-ghost use Rattle.listing.specs.SymbolListing.{symbol_counts, symbols_in, symbols_skipped};
+ghost use Rattle.listing.specs.ModuleListing.{module_counts, modules_in};
+ghost use Rattle.listing.specs.SymbolListing.{symbol_counts, symbols_in};
 ghost use Rattle.listing.specs.Addresses.{addresses_of};
 ghost use Rattle.listing.specs.Numbers.{number_of};
 ghost use Rattle.listing.specs.RegionListing.{regions_of_text};
@@ -10,6 +10,11 @@ ghost use Rattle.listing.specs.Scripts.{script_line_by, script_of};
 ghost use Rattle.listing.specs.Trace.{trace_of};
 ghost use Rattle.listing.specs.Understood.{AreSaidBy, IsFirstBad, IsFirstBadFrom, IsFirstBadRegion};
 ghost use Rattle.listing.specs.Understood.{IsRegionListingBy, IsTraceBy};
+
+use crate::causes::each_line_is_counted_once;
+use crate::module_listing::SkippedModule;
+use crate::symbol_listing::SkippedSymbol;
+use modules::{ModuleLine, SymbolLine};
 
 /// A text is a trace exactly where each of its lines is in the grammar, and its commands are then
 /// those of its lines, in their order; otherwise the line that is named is the first one that is
@@ -45,7 +50,10 @@ pub fn script_by_its_lines()
 /// Each line of a listing is taken, or is counted for one cause for which it is skipped.
 pub fn each_listed_line_is_counted_once()
     ensures modules { (text : List ℕ) → let lines = lines_of text in
-        length (modules_in lines) + modules_skipped (module_counts lines) ≡ length lines }
+        length (modules_in lines) + sum (module_counts lines) ≡ length lines }
     ensures symbols { (text : List ℕ) → let lines = lines_of text in
-        length (symbols_in lines) + symbols_skipped (symbol_counts lines) ≡ length lines }
-{}
+        length (symbols_in lines) + sum (symbol_counts lines) ≡ length lines }
+{
+    each_line_is_counted_once::<ModuleLine<'static>, SkippedModule, 5>();
+    each_line_is_counted_once::<SymbolLine<'static>, SkippedSymbol, 3>();
+}

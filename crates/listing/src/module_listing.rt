@@ -7,64 +7,87 @@
 //! NAME SIZE    not      BASE               not looked at
 //!              looked at
 //! ```
-ghost use Rattle.std.specs.Prelude.{◌≡◌, ◌+◌, ◌<◌, ◌^◌, true, All, Err, map, IfOk};
+ghost use Rattle.std.specs.Prelude.{◌≡◌, true, All, map, refl, IfOk};
 ghost use Rattle.listing.specs.Lines.{lines_of};
 ghost use Rattle.listing.specs.Numbers.{numeral};
-ghost use Rattle.listing.specs.ModuleListing.{base_of, module_counts_after, module_counts};
-ghost use Rattle.listing.specs.ModuleListing.{module_of_line, module_of_words, module_of_parts};
-ghost use Rattle.listing.specs.ModuleListing.{modules_in, modules_skipped};
+ghost use Rattle.listing.specs.ModuleListing.{base_of, module_cause_name, module_causes};
+ghost use Rattle.listing.specs.ModuleListing.{module_counts, module_of_line, module_of_words};
+ghost use Rattle.listing.specs.ModuleListing.{module_of_parts, module_place, modules_in};
+ghost use Rattle.listing.specs.declared.module_listing.SkippedModule.TheVariants.{Hidden, Empty};
+ghost use Rattle.listing.specs.declared.module_listing.SkippedModule.TheVariants.{Wraps, Long};
+ghost use Rattle.listing.specs.declared.module_listing.SkippedModule.TheVariants.{Malformed};
 ghost use Rattle.modules.specs.Lines.{fits};
 
+use crate::causes::{Cause, Counts};
 use crate::gaps::first_words;
 use crate::lines::{LONGEST_LINE, cut_line};
 use crate::numbers::{decimal, hexadecimal};
 use modules::ModuleLine;
 use std::alloc::{AllocError, Global};
 
-/// Why a line of a listing of modules is skipped: the first cause that holds.
+/// Why a line of a listing of modules is skipped. The causes stand in the order in which their
+/// counts are written, and a line is skipped for the first that holds of it in the order long,
+/// malformed, hidden, empty, wraps.
 #[derive(Clone, Copy, Debug, PartialEq, Eq, Drop)]
 pub enum SkippedModule {
-    /// It has more than 4096 bytes.
-    Long,
-    /// It has fewer than six words, or its size or its base is no number of the form.
-    Malformed,
     /// Its base is 0, as it is shown to a reader without privileges.
     Hidden,
     /// Its size is 0.
     Empty,
     /// Its region goes past the greatest address.
     Wraps,
+    /// It has more than 4096 bytes.
+    Long,
+    /// It has fewer than six words, or its size or its base is no number of the form.
+    Malformed,
+}
+
+const ALL: [SkippedModule; 5] = [
+    SkippedModule::Hidden,
+    SkippedModule::Empty,
+    SkippedModule::Wraps,
+    SkippedModule::Long,
+    SkippedModule::Malformed,
+];
+
+impl Cause<5> for SkippedModule {
+    ghost causes = { module_causes };
+
+    ghost place_of = { module_place };
+
+    ghost name_of = { module_cause_name };
+
+    fn all() -> &'static [SkippedModule] {
+        &ALL
+    }
+
+    fn place(self) -> usize {
+        self as usize
+    }
+
+    fn name(self) -> &'static str {
+        match self {
+            SkippedModule::Hidden => "hidden",
+            SkippedModule::Empty => "empty",
+            SkippedModule::Wraps => "wraps",
+            SkippedModule::Long => "long",
+            SkippedModule::Malformed => "malformed",
+        }
+    }
+
+    ghost at_place = { elim [
+      | Hidden ↦ refl
+      | Empty ↦ refl
+      | Wraps ↦ refl
+      | Long ↦ refl
+      | Malformed ↦ refl
+    ] };
+
+    ghost in_order = { refl };
 }
 
 /// How many lines of a listing of modules were skipped, by cause.
-#[derive(Clone, Copy, Debug, PartialEq, Eq, Drop)]
-pub struct ModuleCounts {
-    /// Lines whose base is 0.
-    pub hidden: u64,
-    /// Others whose size is 0.
-    pub empty: u64,
-    /// Others whose base plus size is above the greatest `u64`.
-    pub wraps: u64,
-    /// Lines of more than 4096 bytes.
-    pub long: u64,
-    /// Other lines that are not of the form.
-    pub malformed: u64,
-}
-
-impl ModuleCounts {
-    fn count(&mut self, cause: SkippedModule)
-        requires { modules_skipped self.old + 1 < 2 ^ 64 }
-        ensures { self.new ≡ module_counts_after self.old (Err cause) }
-    {
-        match cause {
-            SkippedModule::Long => self.long += 1,
-            SkippedModule::Malformed => self.malformed += 1,
-            SkippedModule::Hidden => self.hidden += 1,
-            SkippedModule::Empty => self.empty += 1,
-            SkippedModule::Wraps => self.wraps += 1,
-        }
-    }
-}
+pub type ModuleCounts = Counts<SkippedModule, 5>;
 
 /// The base of a module: `0x` and 1 to 16 hexadecimal digits.
 fn base(word: &[u8]) -> Option<u64>
@@ -133,23 +156,17 @@ pub fn read_modules<'a>(
     text: &'a [u8],
 ) -> Result<(Vec<ModuleLine<'a>>, ModuleCounts), AllocError>
     ensures modules { IfOk result (λ r. r.0.items ≡ modules_in (lines_of text.now)) }
-    ensures counts { IfOk result (λ r. r.1 ≡ module_counts (lines_of text.now)) }
+    ensures counts { IfOk result (λ r. r.1.by_place ≡ module_counts (lines_of text.now)) }
     ensures fit { IfOk result (λ r. All (λ m. fits m ≡ true) r.0.items) }
 {
     let mut modules = Vec::new(alloc);
-    let mut counts = ModuleCounts {
-        hidden: 0,
-        empty: 0,
-        wraps: 0,
-        long: 0,
-        malformed: 0,
-    };
+    let mut counts = ModuleCounts::new();
     let mut rest = text;
     while !rest.is_empty() {
         let (line, after) = cut_line(rest);
         match module_in(line) {
             Ok(module) => modules.push(module)?,
-            Err(cause) => counts.count(cause),
+            Err(cause) => counts.add(cause),
         }
         rest = after;
     }

@@ -9,54 +9,72 @@
 //! ```
 //!
 //! The parts have exactly one blank between them, and names any bytes but a tab.
-ghost use Rattle.std.specs.Prelude.{◌≡◌, ◌+◌, ◌<◌, ◌^◌, ◌∷◌, Err, IfOk, length, unwrap_or};
+ghost use Rattle.std.specs.Prelude.{◌≡◌, ◌<◌, ◌∷◌, refl, IfOk, length, unwrap_or};
 ghost use Rattle.memchr.specs.Find.{IsFirst, IsFirstByte, Passes, is_byte};
 ghost use Rattle.std.specs.Option.{option_copied, option_map};
 ghost use Rattle.listing.specs.Lines.{lines_of};
-ghost use Rattle.listing.specs.SymbolListing.{address_in, bracketed, symbol_counts_after, cut_at};
-ghost use Rattle.listing.specs.SymbolListing.{symbol_before, symbol_counts, symbol_of_text};
-ghost use Rattle.listing.specs.SymbolListing.{symbol_of, symbols_in, symbols_skipped};
+ghost use Rattle.listing.specs.SymbolListing.{address_in, bracketed, cut_at, symbol_before};
+ghost use Rattle.listing.specs.SymbolListing.{symbol_cause_name, symbol_causes, symbol_counts};
+ghost use Rattle.listing.specs.SymbolListing.{symbol_of, symbol_of_text, symbol_place, symbols_in};
+ghost use Rattle.listing.specs.declared.symbol_listing.SkippedSymbol.TheVariants.{Hidden, Long};
+ghost use Rattle.listing.specs.declared.symbol_listing.SkippedSymbol.TheVariants.{Malformed};
 
+use crate::causes::{Cause, Counts};
 use crate::lines::LONGEST_LINE;
 use crate::numbers::{hexadecimal, sixteen_digits};
 use memchr::{memchr, memchr2};
 use modules::{SymbolLine, SymbolLines};
 use std::alloc::{AllocError, Global};
 
-/// Why a line of a listing of symbols is skipped: the first cause that holds.
+/// Why a line of a listing of symbols is skipped. The causes stand in the order in which their
+/// counts are written, and a line is skipped for the first that holds of it in the order long,
+/// malformed, hidden.
 #[derive(Clone, Copy, Debug, PartialEq, Eq, Drop)]
 pub enum SkippedSymbol {
+    /// Its address is 0, as it is shown to a reader without privileges.
+    Hidden,
     /// It has more than 4096 bytes.
     Long,
     /// It is not of the form.
     Malformed,
-    /// Its address is 0, as it is shown to a reader without privileges.
-    Hidden,
+}
+
+const ALL: [SkippedSymbol; 3] = [
+    SkippedSymbol::Hidden,
+    SkippedSymbol::Long,
+    SkippedSymbol::Malformed,
+];
+
+impl Cause<3> for SkippedSymbol {
+    ghost causes = { symbol_causes };
+
+    ghost place_of = { symbol_place };
+
+    ghost name_of = { symbol_cause_name };
+
+    fn all() -> &'static [SkippedSymbol] {
+        &ALL
+    }
+
+    fn place(self) -> usize {
+        self as usize
+    }
+
+    fn name(self) -> &'static str {
+        match self {
+            SkippedSymbol::Hidden => "hidden",
+            SkippedSymbol::Long => "long",
+            SkippedSymbol::Malformed => "malformed",
+        }
+    }
+
+    ghost at_place = { elim [ Hidden ↦ refl | Long ↦ refl | Malformed ↦ refl ] };
+
+    ghost in_order = { refl };
 }
 
 /// How many lines of a listing of symbols were skipped, by cause.
-#[derive(Clone, Copy, Debug, PartialEq, Eq, Drop)]
-pub struct SymbolCounts {
-    /// Lines whose address is 0.
-    pub hidden: u64,
-    /// Lines of more than 4096 bytes.
-    pub long: u64,
-    /// Other lines that are not of the form.
-    pub malformed: u64,
-}
-
-impl SymbolCounts {
-    fn count(&mut self, cause: SkippedSymbol)
-        requires { symbols_skipped self.old + 1 < 2 ^ 64 }
-        ensures { self.new ≡ symbol_counts_after self.old (Err cause) }
-    {
-        match cause {
-            SkippedSymbol::Long => self.long += 1,
-            SkippedSymbol::Malformed => self.malformed += 1,
-            SkippedSymbol::Hidden => self.hidden += 1,
-        }
-    }
-}
+pub type SymbolCounts = Counts<SkippedSymbol, 3>;
 
 /// Where the first line has its first tab, and where it ends, each if it does. Both are sought at
 /// once, since a search pays off in a long text, and most lines have no tab.
@@ -194,20 +212,16 @@ pub fn read_kallsyms<'a>(
     text: &'a [u8],
 ) -> Result<(SymbolLines<'a>, SymbolCounts), AllocError>
     ensures symbols { IfOk result (λ r. r.0 ≡ symbols_in (lines_of text.now)) }
-    ensures counts { IfOk result (λ r. r.1 ≡ symbol_counts (lines_of text.now)) }
+    ensures counts { IfOk result (λ r. r.1.by_place ≡ symbol_counts (lines_of text.now)) }
 {
     let mut symbols = SymbolLines::new(alloc);
-    let mut counts = SymbolCounts {
-        hidden: 0,
-        long: 0,
-        malformed: 0,
-    };
+    let mut counts = SymbolCounts::new();
     let mut rest = text;
     while !rest.is_empty() {
         let (line, tab, after) = cut_tabbed_line(rest);
         match symbol_in(line, tab) {
             Ok(symbol) => symbols.push(symbol)?,
-            Err(cause) => counts.count(cause),
+            Err(cause) => counts.add(cause),
         }
         rest = after;
     }

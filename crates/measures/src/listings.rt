@@ -1,7 +1,10 @@
 //! Two listings that are read from files, cut into lines and built into a catalog.
 
 use crate::faults::MeasureFault;
-use listing::{Counted, ReadFault, read_kallsyms, read_modules, read_whole};
+use listing::{
+    Cause, Counted, Counts, ReadFault, SkippedModule, SkippedSymbol, read_kallsyms, read_modules,
+    read_whole,
+};
 use modules::Catalog;
 use std::alloc::Global;
 use std::io::{Eprint, Print};
@@ -12,6 +15,18 @@ use std::{fs, io};
 pub fn tell<R: Eprint + Clock>(rt: &R, part: &str, start: &Instant) -> io::Result<()> {
     let elapsed = start.elapsed(rt)?.as_micros();
     eprintln!(rt; "{part}: {elapsed} us")
+}
+
+/// Writes each of these causes with its count.
+fn print_causes<R: Print, C: Cause<N>, const N: usize>(
+    rt: &R,
+    causes: &[C],
+    counts: &Counts<C, N>,
+) -> io::Result<()> {
+    for cause in causes {
+        print!(rt; " {} {}", cause.name(), counts.count(*cause))?;
+    }
+    Ok(())
 }
 
 /// Cuts the listings into lines, builds their catalog, and writes two lines.
@@ -28,25 +43,17 @@ fn build<R: Print + Eprint + Clock>(
     let start = Instant::now(rt)?;
     let (_, counts) = Catalog::build(alloc, &modules, symbols)?;
     tell(rt, "build", &start)?;
-    println!(rt;
-        "modules {} hidden {} empty {} wraps {} overlap {} double {} long {} malformed {}",
-        counts.modules,
-        skipped_modules.hidden,
-        skipped_modules.empty,
-        skipped_modules.wraps,
-        counts.overlap,
-        counts.double,
-        skipped_modules.long,
-        skipped_modules.malformed
-    )?;
-    println!(rt;
-        "symbols {} hidden {} stray {} long {} malformed {}",
-        counts.symbols,
-        skipped_symbols.hidden,
-        counts.stray,
-        skipped_symbols.long,
-        skipped_symbols.malformed
-    )?;
+    let (of_content, of_form) = SkippedModule::all().split_at(SkippedModule::Long.place());
+    print!(rt; "modules {}", counts.modules)?;
+    print_causes(rt, of_content, &skipped_modules)?;
+    print!(rt; " overlap {} double {}", counts.overlap, counts.double)?;
+    print_causes(rt, of_form, &skipped_modules)?;
+    let (of_content, of_form) = SkippedSymbol::all().split_at(SkippedSymbol::Long.place());
+    print!(rt; "\nsymbols {}", counts.symbols)?;
+    print_causes(rt, of_content, &skipped_symbols)?;
+    print!(rt; " stray {}", counts.stray)?;
+    print_causes(rt, of_form, &skipped_symbols)?;
+    println!(rt;)?;
     Ok(())
 }
 

@@ -1,11 +1,10 @@
-use Rattle.std.proofs.Common.{◌≡◌, ◌++◌, ℕ, List, length}
-use Rattle.listing.specs.Lines.{lines_of}
-use Rattle.listing.specs.SymbolListing.{symbols_in, symbol_counts}
+use Rattle.std.proofs.Common.{length}
+use Rattle.listing.specs.SymbolListing.{symbol_causes, symbol_place, symbol_of}
+use Rattle.listing.proofs.SkippingLemmas.{IsReadTo}
 use Rattle.listing.proofs.symbol_listing.read_kallsyms.Given as goal
 
--- the lines gone through, and what they are
 abbrev pub invariant-loop-rest : goal.invariant-loop-rest
-invariant-loop-rest l = (done : List (List ℕ)) × (done ++ lines_of l.rest ≡ lines_of l.text) × (l.symbols ≡ symbols_in done) × (l.counts ≡ symbol_counts done)
+invariant-loop-rest l = IsReadTo symbol_place symbol_causes symbol_of l.text l.rest l.symbols l.counts.by_place
 
 abbrev pub decreases-loop-rest : goal.decreases-loop-rest
 decreases-loop-rest l = length l.rest
