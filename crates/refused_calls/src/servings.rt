@@ -10,7 +10,10 @@ use std::sync::Wait;
 use std::sync::atomic::{AtomicU64, Ordering};
 use std::thread::Threads;
 
-const WRITERS: u32 = 3;
+/// One alone, so that each run makes the same requests in the same order. With several, the number of
+/// changes that are accepted, and so that of a request behind the threads, is another in each run, and
+/// a script that refuses one number after another would miss it.
+const WRITERS: u32 = 1;
 
 const READERS: u32 = 3;
 
