@@ -1,6 +1,7 @@
 //! Options that `lookup` and `run` have, and what is said of those that are at fault.
-use crate::command_line::{Job, JobFault, job_of};
+use crate::command_line::{JobFault, job_of};
 use crate::misuse::refuse;
+use crate::tests::words::{lookup_in, run_of};
 use clap::error::ErrorKind;
 use listing::Counted;
 use std::alloc::{AllocError, Global};
@@ -43,13 +44,9 @@ fn a_lookup_says_how_addresses_are_taken(rt: HostRuntime) -> Result<(), Fail> {
         ),
     ] {
         let words = with_options(rt.alloc(), &LOOKUP, options)?;
-        match job_of(rt.alloc(), &words) {
-            Ok(Job::Lookup(job)) => {
-                assert!(rt; job.options.rule.callers == callers);
-                assert!(rt; job.options.rule.offset == offset);
-            }
-            _ => assert!(rt; false, "no lookup"),
-        }
+        let job = lookup_in(rt.alloc(), &words).ok_or("no lookup")?;
+        assert!(rt; job.options.rule.callers == callers);
+        assert!(rt; job.options.rule.offset == offset);
     }
     Ok(())
 }
@@ -68,18 +65,12 @@ fn an_offset_is_a_number(rt: HostRuntime) -> Result<(), Fail> {
 
 #[test]
 fn a_run_has_bounds_of_its_own(rt: HostRuntime) -> Result<(), Fail> {
-    match job_of(rt.alloc(), &RUN) {
-        Ok(Job::Run(job)) => assert_eq!(rt; job.kernel.end, b"_end".as_slice()),
-        _ => assert!(rt; false, "no run"),
-    }
+    let job = run_of(rt.alloc(), &RUN).ok_or("no run")?;
+    assert_eq!(rt; job.kernel.end, b"_end".as_slice());
     let words = with_options(rt.alloc(), &RUN, &["--kernel", "_stext", "_einittext"])?;
-    match job_of(rt.alloc(), &words) {
-        Ok(Job::Run(job)) => {
-            assert_eq!(rt; job.kernel.start, b"_stext".as_slice());
-            assert_eq!(rt; job.kernel.end, b"_einittext".as_slice());
-        }
-        _ => assert!(rt; false, "no run"),
-    }
+    let job = run_of(rt.alloc(), &words).ok_or("no run")?;
+    assert_eq!(rt; job.kernel.start, b"_stext".as_slice());
+    assert_eq!(rt; job.kernel.end, b"_einittext".as_slice());
     Ok(())
 }
 

@@ -30,7 +30,7 @@ fn a_command_line_asks_for_a_trace(rt: HostRuntime) {
 }
 
 /// The lookup that these words ask for.
-fn lookup_in<'a>(alloc: Global, words: &'a [&'a str]) -> Option<LookupJob<'a>> {
+pub(crate) fn lookup_in<'a>(alloc: Global, words: &'a [&'a str]) -> Option<LookupJob<'a>> {
     match job_of(alloc, words) {
         Ok(Job::Lookup(job)) => Some(job),
         _ => None,
@@ -168,10 +168,13 @@ fn a_lookup_needs_addresses_that_are_numbers(rt: HostRuntime) {
 }
 
 /// The run that these words ask for, with this number of readers.
-fn run_of<'a>(alloc: Global, words: &'a [&'a str]) -> Option<RunJob<'a>> {
+pub(crate) fn run_of<'a>(alloc: Global, words: &'a [&'a str]) -> Option<RunJob<'a>> {
     match job_of(alloc, words) {
-        Ok(Job::Run(job)) => Some(job),
-        _ => None,
+        Ok(job) => match job {
+            Job::Run(run) => Some(run),
+            _other => None,
+        },
+        Err(_fault) => None,
     }
 }
 
