@@ -1,16 +1,11 @@
 -- One more module.
-use Rattle.std.proofs.Common.{◌≡◌, ℕ, ◌+◌, Bool, true, false, ◌&&◌, cond, List, [], ◌∷◌, ◌++◌, length, Some, Option, refl, sym, ap, ◌∙◌, arith, length-append, add-one, take, drop, drop-cons, get_or, ◌<◌}
-use Rattle.std.specs.Prelude.{is_some}
-use Rattle.std.specs.List.{list_any, list_all, position_from}
+use Rattle.std.proofs.Common.{◌≡◌, ℕ, ◌+◌, Bool, true, false, ◌&&◌, cond, List, [], ◌∷◌, ◌++◌, length, refl, sym, ap, ◌∙◌, arith, length-append, add-one, take, drop, drop-cons, get_or, ◌<◌}
+use Rattle.std.specs.List.{list_any, list_all}
 use Rattle.std.specs.Str.{bytes_eq}
-use Rattle.std.specs.Cmp.Lexicographic.{slice_cmp}
 use Rattle.std.proofs.lemmas.Bool.{and_from, and_parts}
-use Rattle.std.specs.BTreeMap.{get_by}
-use Rattle.std.specs.Ordering.{nat_cmp}
-use Rattle.std.proofs.lemmas.List.{map-append, length-map}
 use Rattle.std.proofs.lemmas.List.Folds.{list_all-append, list_all_more}
 use Rattle.facts.proofs.Bools.{and_rotate}
-use Rattle.facts.proofs.Tests.{is_some-position_from, list_all-each_agree, position_from-new}
+use Rattle.facts.proofs.Tests.{list_all-each_agree}
 use Rattle.modules.specs.Accepted.{Accepted, after_module, names_of, taken_regions}
 use Rattle.modules.specs.Placed.{PlacedModule}
 use Rattle.modules.specs.Regions.{are_beside, is_apart, lie_apart}
@@ -45,24 +40,15 @@ total-after_module a m =
       ]
     ]
 
--- what the map of names gives is what the definitions ask
-pub found_in : (a : Admission) → IsAdmission a → (name query : List ℕ) (r : Bool) → r ≡ is_some (get_by (λ k. slice_cmp nat_cmp query k.now) a.places) → query ≡ name → list_any (bytes_eq name) (names_of (admission_view a).modules) ≡ r
-found_in a tied name query r answers is =
-    sym (is_some-position_from (bytes_eq name) 0 (names_of (admission_view a).modules)) ∙ sym (ap is_some (tied.placed name)) ∙ ap (λ (w : List ℕ). is_some (get_by (λ k. slice_cmp nat_cmp w k.now) a.places)) (sym is) ∙ sym answers
-
 pub free_in : (a : Admission) → IsAdmission a → (regions : List (ℕ × ℕ)) → are_beside (taken_regions (admission_view a)) regions ≡ are_beside a.taken regions
 free_in a tied regions = sym (list_all-each_agree is_apart a.taken (taken_regions (admission_view a)) regions tied.free)
 
--- the map of names and the regions once a module was accepted
-pub IsTied-accepted : (a : Admission) (m : PlacedModule) → IsAdmission a → (n : Admission) → admission_view n ≡ record (admission_view a) { modules = (admission_view a).modules ++ m ∷ [] } → list_any (bytes_eq m.name) (names_of (admission_view a).modules) ≡ false → (k : ℕ) → k ≡ length (admission_view a).modules
-    → ((name : List ℕ) → get_by (λ q. slice_cmp nat_cmp name q.now) n.places ≡ cond (bytes_eq m.name name) (Some k) (get_by (λ q. slice_cmp nat_cmp name q.now) a.places))
+-- the regions that are taken once a module was accepted
+pub IsTied-accepted : (a : Admission) (m : PlacedModule) → IsAdmission a → (n : Admission) → admission_view n ≡ record (admission_view a) { modules = (admission_view a).modules ++ m ∷ [] }
     → ((p : ℕ × ℕ → Bool) → list_all p n.taken ≡ (list_all p a.taken && list_all p m.regions))
     → IsAdmission n
-IsTied-accepted a m tied n shows absent k last names regions =
+IsTied-accepted a m tied n shows regions =
     record {
-      placed = λ name.
-          let names_are : names_of (admission_view n).modules ≡ names_of (admission_view a).modules ++ m.name ∷ [] = ap (λ (s : Accepted). names_of s.modules) shows ∙ map-append (λ (l : PlacedModule). l.name) (admission_view a).modules (m ∷ []) in
-          names name ∙ ap (λ (o : Option ℕ). cond (bytes_eq m.name name) (Some k) o) (tied.placed name) ∙ position_from-new (names_of (admission_view a).modules) m.name name k absent (last ∙ sym (length-map (admission_view a).modules (λ (l : PlacedModule). l.name))) ∙ ap (position_from (bytes_eq name) 0) (sym names_are);
       free = λ p.
           regions p ∙ ap (λ w. w && list_all p m.regions) (tied.free p) ∙ sym (list_all-taken_after p (admission_view a) m) ∙ ap (λ (s : Accepted). list_all p (taken_regions s)) (sym shows);
     }

@@ -13,7 +13,7 @@ use Rattle.facts.proofs.Bools.{count-and_false, count-or, count-or_apart}
 use Rattle.facts.proofs.Tests.{count_by-either}
 use Rattle.facts.proofs.Options.{bytes_eq-one_name}
 use Rattle.modules.specs.Accepted.{Accepted, accepted_of, after_module, names_of, none_yet}
-use Rattle.modules.specs.Catalogs.{built_in_of, catalog_of, counts_of, entries_of, entry_for}
+use Rattle.modules.specs.Catalogs.{built_in_of, catalog_of, catalog_with, counts_of, entries_of, entry_for}
 use Rattle.modules.specs.Entries.{ModuleEntry}
 use Rattle.modules.specs.Building.{kernel_at}
 use Rattle.modules.specs.Kept.{AreDistinctNames, belongs, entry_of, is_built_in, is_kept, is_used, lies_in, symbols_that}
@@ -22,7 +22,7 @@ use Rattle.modules.specs.Listed.{BoundNames, ListedModule, ListedRegion, ListedS
 use Rattle.modules.specs.Placed.{PlacedModule, are_few, placed_line}
 use Rattle.modules.specs.Regions.{holds}
 use Rattle.modules.proofs.AdmissionLemmas.{total, total-after_module}
-use Rattle.modules.proofs.SoundnessLemmas.{IsGood, accepted_good, built_in_kept}
+use Rattle.modules.proofs.SoundnessLemmas.{accepted_good}
 
 pub total-fold : (a : Accepted) (ms : List PlacedModule) → total (fold after_module a ms) ≡ total a + length ms
 total-fold a [] = omega arith
@@ -135,10 +135,12 @@ sum_of_entries : (built_in : Option (ℕ × ℕ)) (symbols : List ListedSymbol) 
 sum_of_entries None symbols lines = omega (arith, none_built_in symbols, sum_of_modules symbols lines)
 sum_of_entries (Some r) symbols lines = omega (arith, length-symbols_that (is_built_in (Some r)) symbols, sum_of_modules symbols lines, sum_by-cons (λ (e : ModuleEntry). length e.symbols) (kernel r symbols) (map (entry_for symbols) lines))
 
+pub kept_in_one_of : (a : Accepted) (symbols : List ListedSymbol) → AreDistinctNames (names_of a.modules)
+    → sum_by (λ m. length m.symbols) (entries_of (catalog_with a symbols)) ≡ count_by (is_kept a) symbols
+kept_in_one_of a symbols distinct =
+    sum_of_entries a.built_in symbols a.modules ∙ ap (λ n. count_by (is_built_in a.built_in) symbols + n) (symbols_by_home a.modules symbols) ∙ kept_by_home a.built_in a symbols refl distinct
+
 pub kept_in_one : (names : BoundNames) (modules : List ListedModule) (regions : List ListedRegion) (symbols : List ListedSymbol) → All (λ l. fits l ≡ true) modules → All (λ l. region_fits l ≡ true) regions → are_few regions ≡ true
     → sum_by (λ m. length m.symbols) (entries_of (catalog_of names modules regions symbols)) ≡ (counts_of names modules regions symbols).symbols
 kept_in_one names modules regions symbols fit regions_fit few =
-    let built_in : Option (ℕ × ℕ) = built_in_region names symbols in
-    let a : Accepted = accepted_of built_in regions modules in
-    let good : IsGood a = accepted_good names modules regions symbols fit regions_fit in
-    sum_of_entries built_in symbols a.modules ∙ ap (λ n. count_by (is_built_in built_in) symbols + n) (symbols_by_home a.modules symbols) ∙ kept_by_home built_in a symbols (built_in_kept (none_yet built_in) (map (placed_line regions) modules)) good.distinct
+    kept_in_one_of (accepted_of (built_in_region names symbols) regions modules) symbols (accepted_good names modules regions symbols fit regions_fit).distinct

@@ -1,10 +1,8 @@
 -- Where a symbol is kept.
 use Rattle.std.proofs.Common.{◌≡◌, ℕ, ◌<◌, true, false, ◌&&◌, List, [], length, get_or, Some, None, Option, sym, ap, ◌∙◌, ⊎_elim}
 use Rattle.std.specs.Prelude.{is_some}
-use Rattle.std.specs.BTreeMap.{get_by}
-use Rattle.std.specs.Cmp.Lexicographic.{bytes_decides, slice_cmp}
+use Rattle.std.specs.Cmp.Lexicographic.{bytes_decides}
 use Rattle.std.specs.List.{list_any, position_from}
-use Rattle.std.specs.Ordering.{nat_cmp}
 use Rattle.std.specs.Str.{bytes_eq}
 use Rattle.std.proofs.lemmas.Bool.{cases_order, false_from_ne_true, and_left}
 use Rattle.std.proofs.lemmas.Iterator.Adapters.{position_from-zero}
@@ -14,16 +12,10 @@ use Rattle.std.proofs.lemmas.List.Quantifiers.{position-Some}
 use Rattle.facts.proofs.Bools.{and-second}
 use Rattle.facts.proofs.Tests.{is_some-position_from}
 use Rattle.modules.specs.Accepted.{Accepted, names_of}
-use Rattle.modules.specs.Admissions.{admission_view, IsAdmission}
 use Rattle.modules.specs.Gathering.{BelongsOnlyAt}
 use Rattle.modules.specs.Kept.{AreDistinctNames, belongs, is_built_in, lies_in}
 use Rattle.modules.specs.Listed.{ListedSymbol}
 use Rattle.modules.specs.Placed.{PlacedModule}
-use Rattle.modules.specs.declared.admission.Admission.{Admission}
-
--- what the map of names gives is the place of the name
-pub found_at : (a : Admission) → IsAdmission a → (name query : List ℕ) (o : Option ℕ) → o ≡ get_by (λ k. slice_cmp nat_cmp query k.now) a.places → query ≡ name → position_from (bytes_eq name) 0 (names_of (admission_view a).modules) ≡ o
-found_at a tied name query o answers is = sym (tied.placed name) ∙ ap (λ (w : List ℕ). get_by (λ k. slice_cmp nat_cmp w k.now) a.places) (sym is) ∙ sym answers
 
 pub not_built_in : (built_in : Option (ℕ × ℕ)) (s : ListedSymbol) (name : List ℕ) → s.owner ≡ Some name → is_built_in built_in s ≡ false
 not_built_in built_in s name owner = rw owner

@@ -40,7 +40,7 @@ module _ (items : List Item) (laid : AreLaid items) where
       (cases_lt j i))
       (cases_lt i j)
 
-  found : (x : Item) (addr : ℕ) → Contains items x → x.a ≤ addr → addr < x.b → (r : Option Item) → IsLook half_open addr items r → Some x ≡ r
+  pub found : (x : Item) (addr : ℕ) → Contains items x → x.a ≤ addr → addr < x.b → (r : Option Item) → IsLook half_open addr items r → Some x ≡ r
   found x addr there from below None h = absurd (h x there (equal_inside addr x from below))
   found x addr there from below (Some y) h = ap Some (one_holds x y addr there from below h.0 (begins addr y h.1) (ends addr y h.1))
 

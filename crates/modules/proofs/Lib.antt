@@ -4,6 +4,8 @@ pub mod SpreadLemmas
 pub mod GroupLemmas
 -- each module has 1 to 7 regions
 pub mod RegionLemmas
+-- a module whose name is new
+pub mod NewNameLemmas
 -- one more module
 pub mod AdmissionLemmas
 -- each module has a region of its core
@@ -68,3 +70,19 @@ pub mod SpacedLemmas
 pub mod OwnLineLemmas
 -- regions by the numbers of their modules
 pub mod MarkedModuleLemmas
+-- whose an address is by the marks of a listing is what its lines say
+pub mod PostLemmas
+-- the modules in the order of their first kept lines are those of the lines
+pub mod KeptOrderLemmas
+-- the region that an address lies in, of regions that rise
+pub mod RisingRegionLemmas
+-- the names of modules, their numbers, and one name more
+pub mod NumberLemmas
+-- the marks of the lines of runs
+pub mod LineMarkLemmas
+-- the regions of numbers, of which some are taken
+pub mod TakenLemmas
+-- the modules of a listing that is kept in runs
+pub mod SymbolModuleLemmas
+-- the modules of symbols alone lie apart, and have distinct names
+pub mod AloneLemmas

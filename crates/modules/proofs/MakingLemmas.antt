@@ -1,24 +1,25 @@
 -- The modules that are made of the accepted ones.
-use Rattle.std.proofs.Common.{◌≡◌, ℕ, zero, suc, ◌<◌, ◌≤◌, List, [], ◌∷◌, ◌++◌, length, get_or, map, drop, not, Option, sym, ap, ◌∙◌, ⊎_elim, arith, length-append}
+use Rattle.std.proofs.Common.{◌≡◌, ℕ, zero, suc, ◌<◌, ◌≤◌, List, [], ◌∷◌, ◌++◌, length, get_or, map, drop, not, Option, sym, ap, ◌∙◌, ⊎_elim, arith, length-append, take, ◌+◌}
 use Rattle.std.specs.Prelude.{count_by}
 use Rattle.std.specs.Global.{Vec}
+use Rattle.std.specs.List.{flat_map}
 use Rattle.std.proofs.lemmas.Bool.{cases_lt}
-use Rattle.std.proofs.lemmas.List.{get_or-map, get_or_append_left, get_or_push, length-map, same_lists}
+use Rattle.std.proofs.lemmas.Grind.{flat_map-append}
+use Rattle.std.proofs.lemmas.List.{append-nil, get_or-map, get_or_append_left, get_or_push, length-map, same_lists, take_more}
 use Rattle.std.proofs.lemmas.Option.{slice_get_cases}
-use Rattle.modules.specs.Accepted.{Accepted, accepted_of, none_yet}
-use Rattle.modules.specs.Admissions.{admission_view}
+use Rattle.modules.specs.Accepted.{Accepted, accepted_of}
 use Rattle.modules.specs.Building.{AreModules, EachMade, module_with, built_in_with}
-use Rattle.modules.specs.Catalogs.{built_in_of, catalog_of, counts_of, entry_for}
+use Rattle.modules.specs.Catalogs.{built_in_of, catalog_with, counts_of, entry_for, kept_counts}
 use Rattle.modules.specs.Entries.{CatalogEntries, ModuleEntry, SymbolEntry}
 use Rattle.modules.specs.Gathering.{Gathers}
 use Rattle.modules.specs.Kept.{is_kept, is_used}
 use Rattle.modules.specs.Lines.{built_in_region}
 use Rattle.modules.specs.Listed.{BoundNames, ListedModule, ListedRegion, ListedSymbol}
-use Rattle.modules.specs.Placed.{PlacedModule, placed_line}
-use Rattle.modules.specs.declared.admission.Admission.{Admission}
+use Rattle.modules.specs.Placed.{PlacedModule}
 use Rattle.modules.specs.declared.catalog.BuildCounts.{BuildCounts}
+use Rattle.modules.specs.declared.catalog.KeptCounts.{KeptCounts}
 use Rattle.modules.specs.declared.gathering.Gathered.{Gathered}
-use Rattle.modules.proofs.SoundnessLemmas.{built_in_kept}
+use Rattle.modules.proofs.SoundnessLemmas.{module_regions}
 
 pub EachMade-push : (places : List PlacedModule) (lists : List (Vec SymbolEntry)) (modules : List ModuleEntry) (list : Vec SymbolEntry) (made : ModuleEntry) → length modules ≡ length lists → EachMade places lists modules → ((p : PlacedModule) → made ≡ module_with (get_or places (length lists) p) list.items) → EachMade places (lists ++ list ∷ []) (modules ++ made ∷ [])
 EachMade-push places lists modules list made same each is = λ j p d m lt.
@@ -47,30 +48,42 @@ modules_are a symbols g modules gathers made =
 abbrev pub entries : Option ModuleEntry → List ModuleEntry → CatalogEntries
 entries built_in modules = record { built_in = built_in; modules = modules }
 
--- what the steps made is the catalog of the lines
-pub catalog_from : (n : Admission) (g : Gathered) (names : BoundNames) (modules : List ListedModule) (regions : List ListedRegion) (symbols : List ListedSymbol) (built_in : Option ModuleEntry) (made : List ModuleEntry) → admission_view n ≡ accepted_of (built_in_region names symbols) regions modules → Gathers (admission_view n) symbols g → built_in ≡ built_in_with n.built_in g.built_in.items → AreModules n.modules.items g.modules.items made
-    → entries built_in made ≡ catalog_of names modules regions symbols
-catalog_from n g names modules regions symbols built_in made is gathers first others =
-    let bounds : Option (ℕ × ℕ) = built_in_region names symbols in
-    let region : n.built_in ≡ bounds = ap (λ (a : Accepted). a.built_in) is ∙ built_in_kept (none_yet bounds) (map (placed_line regions) modules) in
-    let its : built_in ≡ built_in_of bounds symbols = first ∙ ap (λ ss. built_in_with n.built_in ss) gathers.built_in ∙ ap (λ (b : Option (ℕ × ℕ)). built_in_of b symbols) region in
-    let theirs : made ≡ map (entry_for symbols) (accepted_of bounds regions modules).modules = modules_are (admission_view n) symbols g made gathers others ∙ ap (λ (a : Accepted). map (entry_for symbols) a.modules) is in
-    ap (λ (b : Option ModuleEntry). entries b made) its ∙ ap (λ (ms : List ModuleEntry). entries (built_in_of bounds symbols) ms) theirs
+-- what the steps made is the catalog of these modules
+pub catalog_from : (a : Accepted) (g : Gathered) (symbols : List ListedSymbol) (built_in : Option ModuleEntry) (made : List ModuleEntry) → Gathers a symbols g → built_in ≡ built_in_with a.built_in g.built_in.items → made ≡ map (entry_for symbols) a.modules
+    → entries built_in made ≡ catalog_with a symbols
+catalog_from a g symbols built_in made gathers first others =
+    let its : built_in ≡ built_in_of a.built_in symbols = first ∙ ap (λ ss. built_in_with a.built_in ss) gathers.built_in in
+    ap (λ (b : Option ModuleEntry). entries b made) its ∙ ap (λ (ms : List ModuleEntry). entries (built_in_of a.built_in symbols) ms) others
 
-abbrev pub counts : ℕ → Accepted → ℕ → ℕ → ℕ → ℕ → BuildCounts
-counts n a regions stray_regions kept stray = record { modules = n; double = a.double; overlap = a.overlap; regions = regions; stray_regions = stray_regions; symbols = kept; stray = stray }
+abbrev pub kept : ℕ → ℕ → ℕ → ℕ → KeptCounts
+kept n regions symbols stray = record { modules = n; regions = regions; symbols = symbols; stray = stray }
 
--- what the steps counted are the counts of the lines
-pub counts_from : (n : Admission) (g : Gathered) (names : BoundNames) (modules : List ListedModule) (regions : List ListedRegion) (symbols : List ListedSymbol) (len used strays : ℕ) → admission_view n ≡ accepted_of (built_in_region names symbols) regions modules → Gathers (admission_view n) symbols g → len ≡ length n.modules.items → used ≡ count_by (is_used (admission_view n) regions) regions → strays ≡ count_by (λ r. not (is_used (admission_view n) regions r)) regions
-    → counts len (admission_view n) used strays g.kept g.stray ≡ counts_of names modules regions symbols
-counts_from n g names modules regions symbols len used strays is gathers all used_is strays_are =
-    let a : Accepted = admission_view n in
-    ap (λ k. counts k a used strays g.kept g.stray) all
-    ∙ ap (λ k. counts (length a.modules) a k strays g.kept g.stray) used_is
-    ∙ ap (λ k. counts (length a.modules) a (count_by (is_used a regions) regions) k g.kept g.stray) strays_are
-    ∙ ap (λ k. counts (length a.modules) a (count_by (is_used a regions) regions) (count_by (λ r. not (is_used a regions r)) regions) k g.stray) gathers.kept
-    ∙ ap (λ k. counts (length a.modules) a (count_by (is_used a regions) regions) (count_by (λ r. not (is_used a regions r)) regions) (count_by (is_kept a) symbols) k) gathers.stray
-    ∙ ap (λ (b : Accepted). counts (length b.modules) b (count_by (is_used b regions) regions) (count_by (λ r. not (is_used b regions r)) regions) (count_by (is_kept b) symbols) (count_by (λ s. not (is_kept b s)) symbols)) is
+-- how many regions the modules that were made have
+pub regions_made : (a : Accepted) (symbols : List ListedSymbol) (made : List ModuleEntry) → made ≡ map (entry_for symbols) a.modules → flat_map (λ m. m.regions) made ≡ flat_map (λ m. m.regions) a.modules
+regions_made a symbols made others = ap (λ (ms : List ModuleEntry). flat_map (λ m. m.regions) ms) others ∙ module_regions symbols a.modules
+
+-- what the steps counted are the counts of these modules
+pub kept_from : (a : Accepted) (g : Gathered) (symbols : List ListedSymbol) (made : List ModuleEntry) (len regions : ℕ) → Gathers a symbols g → made ≡ map (entry_for symbols) a.modules → len ≡ length made → regions ≡ length (flat_map (λ m. m.regions) made)
+    → kept len regions g.kept g.stray ≡ kept_counts a symbols
+kept_from a g symbols made len regions gathers others all counted =
+    let n : len ≡ length a.modules = all ∙ ap (λ (ms : List ModuleEntry). length ms) others ∙ length-map a.modules (entry_for symbols) in
+    let r : regions ≡ length (flat_map (λ m. m.regions) a.modules) = counted ∙ ap (λ (rs : List (ℕ × ℕ)). length rs) (regions_made a symbols made others) in
+    ap (λ k. kept k regions g.kept g.stray) n
+    ∙ ap (λ k. kept (length a.modules) k g.kept g.stray) r
+    ∙ ap (λ k. kept (length a.modules) (length (flat_map (λ m. m.regions) a.modules)) k g.stray) gathers.kept
+    ∙ ap (λ k. kept (length a.modules) (length (flat_map (λ m. m.regions) a.modules)) (count_by (is_kept a) symbols) k) gathers.stray
+
+abbrev pub counts : Accepted → ℕ → ℕ → KeptCounts → BuildCounts
+counts a regions stray_regions k = record { modules = k.modules; double = a.double; overlap = a.overlap; regions = regions; stray_regions = stray_regions; symbols = k.symbols; stray = k.stray }
+
+-- with what the accepted lines and those of regions were counted, they are the counts of the lines
+pub counts_from : (a : Accepted) (names : BoundNames) (modules : List ListedModule) (regions : List ListedRegion) (symbols : List ListedSymbol) (used strays : ℕ) (k : KeptCounts) → a ≡ accepted_of (built_in_region names symbols) regions modules → k ≡ kept_counts a symbols → used ≡ count_by (is_used a regions) regions → strays ≡ count_by (λ r. not (is_used a regions r)) regions
+    → counts a used strays k ≡ counts_of names modules regions symbols
+counts_from a names modules regions symbols used strays k is all used_is strays_are =
+    ap (λ n. counts a n strays k) used_is
+    ∙ ap (λ n. counts a (count_by (is_used a regions) regions) n k) strays_are
+    ∙ ap (λ (n : KeptCounts). counts a (count_by (is_used a regions) regions) (count_by (λ r. not (is_used a regions r)) regions) n) all
+    ∙ ap (λ (b : Accepted). counts b (count_by (is_used b regions) regions) (count_by (λ r. not (is_used b regions r)) regions) (kept_counts b symbols)) is
 
 -- ---- what is left of a list
 
@@ -84,3 +97,18 @@ pub drop_none : {X : Type 0} (xs : List X) (n : ℕ) → drop n xs ≡ [] → le
 drop_none [] n h = omega arith
 drop_none (y ∷ ys) zero h = absurd (cc)
 drop_none (y ∷ ys) (suc n) h = let le : length ys ≤ n = drop_none ys n h in omega arith
+
+-- ---- how many things a list of lists has
+
+module _ {X Y : Type 0} (f : X → List Y) where
+  pub length-flat_map_take : (xs : List X) (n : ℕ) → length (flat_map f (take n xs)) ≤ length (flat_map f xs)
+  length-flat_map_take xs zero = omega arith
+  length-flat_map_take [] (suc n) = omega arith
+  length-flat_map_take (x ∷ xs) (suc n) = omega (arith, length-flat_map_take xs n, length-append (f x) (flat_map f (take n xs)), length-append (f x) (flat_map f xs))
+
+  pub flat_map_more : (xs : List X) (n : ℕ) (d : X) → n < length xs → length (flat_map f (take (n + 1) xs)) ≡ length (flat_map f (take n xs)) + length (f (get_or xs n d))
+  flat_map_more xs n d lt =
+      ap (λ (ys : List X). length (flat_map f ys)) (take_more xs n d lt)
+      ∙ ap length (flat_map-append f (take n xs) (get_or xs n d ∷ []))
+      ∙ ap (λ ys. length (flat_map f (take n xs) ++ ys)) (append-nil (f (get_or xs n d)))
+      ∙ length-append (flat_map f (take n xs)) (f (get_or xs n d))

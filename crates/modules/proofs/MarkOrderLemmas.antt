@@ -33,7 +33,7 @@ find_in_filter p xs ys same = sym (whole xs) ∙ ap (find p) same ∙ whole ys
     whole zs = find-filter p p zs ∙ find-agree (λ x. p x && p x) p zs (λ k d lt. twice (p (get_or zs k d)))
 
 -- the first listed of its address
-found_first : (xs : List Mark) (x : ℕ) (l : Mark) → IsNearestMark xs x l → find (is_at l.addr) xs ≡ Some l
+pub found_first : (xs : List Mark) (x : ℕ) (l : Mark) → IsNearestMark xs x l → find (is_at l.addr) xs ≡ Some l
 found_first xs x l n =
     find-first (is_at l.addr) xs n.place l n.within
     (eq-eqb (get_or xs n.place l).addr l.addr (ap (λ (s : Mark). s.addr) n.listed))

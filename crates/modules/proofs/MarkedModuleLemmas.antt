@@ -16,19 +16,19 @@ use Rattle.modules.specs.FromSymbols.{HasItsRegions}
 use Rattle.modules.proofs.SpacedLemmas.{lies, inside, within, Range}
 
 module _ {X : Type 0} (R : X → X → Type 0) (x : X) (xs : List X) where
-  pairs_rest : AllPairs R (x ∷ xs) → AllPairs R xs
+  pub pairs_rest : AllPairs R (x ∷ xs) → AllPairs R xs
   pairs_rest pairs = λ i j d less lt. pairs (suc i) (suc j) d (omega arith) (omega arith)
 
-  pairs_first : AllPairs R (x ∷ xs) → All (R x) xs
+  pub pairs_first : AllPairs R (x ∷ xs) → All (R x) xs
   pairs_first pairs = λ k d lt. pairs 0 (suc k) d (omega arith) (omega arith)
 
-  pairs_cons : All (R x) xs → AllPairs R xs → (i j : ℕ) (d : X) → i < j → j < length (x ∷ xs) → R (get_or (x ∷ xs) i d) (get_or (x ∷ xs) j d)
+  pub pairs_cons : All (R x) xs → AllPairs R xs → (i j : ℕ) (d : X) → i < j → j < length (x ∷ xs) → R (get_or (x ∷ xs) i d) (get_or (x ∷ xs) j d)
   pairs_cons head tail i zero d less lt = absurd (omega arith)
   pairs_cons head tail zero (suc j) d less lt = head j d (omega arith)
   pairs_cons head tail (suc i) (suc j) d less lt = tail i j d (omega arith) (omega arith)
 
 module _ (n : ℕ) where
-  valid_ranges : (items : List Item) → All (λ i. i.a < i.b) items → All (λ (r : Range). r.0 < r.1) (ranges_of n items)
+  pub valid_ranges : (items : List Item) → All (λ i. i.a < i.b) items → All (λ (r : Range). r.0 < r.1) (ranges_of n items)
   valid_ranges [] all = All-nil (λ (r : Range). r.0 < r.1)
   valid_ranges (i ∷ is) all =
       elim (nat_eq i.tag n) as (λ b. All (λ (r : Range). r.0 < r.1) (map (λ (x : Item). (x.a, x.b)) (cond b (i ∷ filter (λ x. nat_eq x.tag n) is) (filter (λ x. nat_eq x.tag n) is)))) [
@@ -46,7 +46,7 @@ module _ (n : ℕ) where
         | false ↦ λ _. past i js its (All-tail (Follows i) j js all)
       ] refl
 
-  spaced : (items : List Item) → AllPairs (λ i j. Follows i j) items → AllPairs (λ (r s : Range). r.1 < s.0) (ranges_of n items)
+  pub spaced : (items : List Item) → AllPairs (λ i j. Follows i j) items → AllPairs (λ (r s : Range). r.1 < s.0) (ranges_of n items)
   spaced [] pairs = λ i j d less lt. absurd (omega arith)
   spaced (i ∷ is) pairs =
       elim (nat_eq i.tag n) as (λ b. nat_eq i.tag n ≡ b → AllPairs (λ (r s : Range). r.1 < s.0) (map (λ (x : Item). (x.a, x.b)) (cond b (i ∷ filter (λ x. nat_eq x.tag n) is) (filter (λ x. nat_eq x.tag n) is)))) [
@@ -68,7 +68,7 @@ module _ (n : ℕ) where
         | false ↦ λ _ l. more i is x (to_holds is x l)
       ] refl h
 
-  from_holds : (items : List Item) (x : ℕ) (i : Item) → Contains items i → i.tag ≡ n → i.a ≤ x → x < i.b → lies (ranges_of n items) x ≡ true
+  pub from_holds : (items : List Item) (x : ℕ) (i : Item) → Contains items i → i.tag ≡ n → i.a ≤ x → x < i.b → lies (ranges_of n items) x ≡ true
   from_holds [] x i there its from below = absurd (omega (arith, there.1))
   from_holds (j ∷ js) x i there its from below =
       elim (nat_eq j.tag n) as (λ b. nat_eq j.tag n ≡ b → lies (map (λ (y : Item). (y.a, y.b)) (cond b (j ∷ filter (λ y. nat_eq y.tag n) js) (filter (λ y. nat_eq y.tag n) js))) x ≡ true) [

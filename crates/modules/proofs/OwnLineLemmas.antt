@@ -9,19 +9,19 @@ use Rattle.modules.specs.Placed.{PlacedModule}
 use Rattle.modules.specs.Owners.{module_of_address}
 use Rattle.modules.specs.FromSymbols.{HasItsRegions, is_kept_line}
 
-same_bool : (a b : Bool) → (a ≡ true → b ≡ true) → (b ≡ true → a ≡ true) → a ≡ b
+pub same_bool : (a b : Bool) → (a ≡ true → b ≡ true) → (b ≡ true → a ≡ true) → a ≡ b
 same_bool true b f g = sym (f refl)
 same_bool false true f g = g refl
 same_bool false false f g = refl
 
-named : (name : List ℕ) → bytes_eq name name ≡ true
+pub named : (name : List ℕ) → bytes_eq name name ≡ true
 named name = (bytes_decides name name).1 refl
 
-is_of : (name : List ℕ) (o : Option (List ℕ)) → option_map_or (bytes_eq name) o false ≡ true → o ≡ Some name
+pub is_of : (name : List ℕ) (o : Option (List ℕ)) → option_map_or (bytes_eq name) o false ≡ true → o ≡ Some name
 is_of name None h = absurd (cc)
 is_of name (Some other) h = ap Some (sym ((bytes_decides name other).0 h))
 
-of_is : (name : List ℕ) (o : Option (List ℕ)) → o ≡ Some name → option_map_or (bytes_eq name) o false ≡ true
+pub of_is : (name : List ℕ) (o : Option (List ℕ)) → o ≡ Some name → option_map_or (bytes_eq name) o false ≡ true
 of_is name o e = rw e (named name)
 
 pub kept_same : (lines : List ListedSymbol) (m : PlacedModule) (l : ListedSymbol) → HasItsRegions lines m → l.addr < 2 ^ 64 - 1 → l.owner ≡ Some m.name → belongs m l ≡ is_kept_line lines l

@@ -1,5 +1,5 @@
 -- The accepted modules have distinct names and regions that lie apart.
-use Rattle.std.proofs.Common.{◌≡◌, ◌≢◌, ℕ, ◌+◌, ◌<◌, ◌≤◌, true, false, ◌&&◌, nat_lt, cond, List, [], ◌∷◌, ◌++◌, length, get_or, map, Some, None, Option, refl, sym, ap, ◌∙◌, subst, arith, append_assoc, length-append}
+use Rattle.std.proofs.Common.{◌≡◌, ◌≢◌, ℕ, ◌+◌, ◌*◌, ◌<◌, ◌≤◌, true, false, ◌&&◌, nat_lt, cond, List, [], ◌∷◌, ◌++◌, length, get_or, map, Some, None, Option, refl, sym, ap, ◌∙◌, subst, arith, append_assoc, length-append}
 use Rattle.std.specs.Prelude.{All, IfSome, fold, is_some, codes}
 use Rattle.std.specs.Cmp.Lexicographic.{bytes_decides}
 use Rattle.std.specs.List.{flat_map, list_any, list_all}
@@ -7,7 +7,7 @@ use Rattle.std.specs.Option.{option_to_list, option_and_then}
 use Rattle.std.specs.Int.{from_bool}
 use Rattle.std.specs.Str.{bytes_eq}
 use Rattle.std.proofs.lemmas.Bool.Decides.{nat_tests}
-use Rattle.std.proofs.lemmas.List.{append-nil, map-append}
+use Rattle.std.proofs.lemmas.List.{append-nil, length-map, map-append}
 use Rattle.std.proofs.lemmas.List.Concat.{flat_map-append}
 use Rattle.std.proofs.lemmas.List.Elements.{All-nil, All-push, All-head, All-tail, All-cons}
 use Rattle.std.proofs.lemmas.List.Folds.{list_all-append, list_any_at}
@@ -17,21 +17,16 @@ use Rattle.std.proofs.lemmas.Bool.{and_from, and_parts}
 use Rattle.facts.proofs.Pairs.{AllPairs-few}
 use Rattle.modules.specs.Accepted.{Accepted, accepted_of, after_module, names_of, none_yet, taken_regions}
 use Rattle.modules.specs.Building.{built_in_with, kernel_at, placed_module_of}
-use Rattle.modules.specs.Catalogs.{IsSoundCatalog, built_in_of, catalog_of, entry_for}
+use Rattle.modules.specs.Catalogs.{IsSoundCatalog, built_in_of, catalog_of, catalog_with, entry_for}
 use Rattle.modules.specs.Entries.{ModuleEntry, SymbolEntry}
 use Rattle.modules.specs.Kept.{AreDistinctNames, is_built_in, symbols_that}
 use Rattle.modules.specs.Lines.{fits, region_fits, first_address, built_in_region}
 use Rattle.modules.specs.Listed.{BoundNames, ListedModule, ListedRegion, ListedSymbol}
 use Rattle.modules.specs.Names.{names_in}
 use Rattle.modules.specs.Placed.{IsPlaced, PlacedModule, are_few, placed_line}
+use Rattle.modules.specs.PlacedModules.{AreSoundModules}
 use Rattle.modules.specs.Regions.{AreApart, are_beside, is_apart, lie_apart}
 use Rattle.modules.proofs.RegionLemmas.{HasFew, IsPlaced-placed, few_placed}
-
--- what the accepted modules keep
-pub record IsGood (a : Accepted) : Type 0 where
-  pub places : All IsPlaced a.modules
-  pub distinct : AreDistinctNames (names_of a.modules)
-  pub apart : AreApart (taken_regions a)
 
 pub turned : (r s : ℕ × ℕ) → is_apart r s ≡ true → is_apart s r ≡ true
 turned r s h = grind (arith, nat_tests)
@@ -75,37 +70,37 @@ taken_more a m =
 names_more : (a : Accepted) (m : PlacedModule) → names_of (a.modules ++ m ∷ []) ≡ names_of a.modules ++ m.name ∷ []
 names_more a m = map-append (λ (n : PlacedModule). n.name) a.modules (m ∷ [])
 
-pub IsGood-after_module : (a : Accepted) (m : PlacedModule) → IsGood a → IsPlaced m → IsGood (after_module a m)
-IsGood-after_module a m good place =
-    elim (list_any (bytes_eq m.name) (names_of a.modules)) as (λ b. list_any (bytes_eq m.name) (names_of a.modules) ≡ b → IsGood (cond b (record a { double = a.double + 1 }) (cond (lie_apart m.regions && are_beside (taken_regions a) m.regions) (record a { modules = a.modules ++ m ∷ [] }) (record a { overlap = a.overlap + 1 })))) [
-      | true ↦ λ _. record { places = good.places; distinct = good.distinct; apart = good.apart }
+pub AreSoundModules-after_module : (a : Accepted) (m : PlacedModule) → AreSoundModules a → IsPlaced m → AreSoundModules (after_module a m)
+AreSoundModules-after_module a m good place =
+    elim (list_any (bytes_eq m.name) (names_of a.modules)) as (λ b. list_any (bytes_eq m.name) (names_of a.modules) ≡ b → AreSoundModules (cond b (record a { double = a.double + 1 }) (cond (lie_apart m.regions && are_beside (taken_regions a) m.regions) (record a { modules = a.modules ++ m ∷ [] }) (record a { overlap = a.overlap + 1 })))) [
+      | true ↦ λ _. record { placed = good.placed; distinct = good.distinct; apart = good.apart }
       | false ↦ λ absent.
-          elim (lie_apart m.regions && are_beside (taken_regions a) m.regions) as (λ b. (lie_apart m.regions && are_beside (taken_regions a) m.regions) ≡ b → IsGood (cond b (record a { modules = a.modules ++ m ∷ [] }) (record a { overlap = a.overlap + 1 }))) [
+          elim (lie_apart m.regions && are_beside (taken_regions a) m.regions) as (λ b. (lie_apart m.regions && are_beside (taken_regions a) m.regions) ≡ b → AreSoundModules (cond b (record a { modules = a.modules ++ m ∷ [] }) (record a { overlap = a.overlap + 1 }))) [
             | true ↦ λ free.
                 let parts = and_parts (lie_apart m.regions) (are_beside (taken_regions a) m.regions) free in
                 record {
-                  places = All-push IsPlaced a.modules m good.places place;
+                  placed = All-push IsPlaced a.modules m good.placed place;
                   distinct = subst AreDistinctNames (sym (names_more a m)) (AreDistinct-push (names_of a.modules) m.name good.distinct absent);
                   apart = subst AreApart (sym (taken_more a m)) (AreApart-append (taken_regions a) m.regions good.apart place.valid parts.0 parts.1);
                 }
-            | false ↦ λ _. record { places = good.places; distinct = good.distinct; apart = good.apart }
+            | false ↦ λ _. record { placed = good.placed; distinct = good.distinct; apart = good.apart }
           ] refl
     ] refl
 
-pub IsGood-fold : (a : Accepted) (ms : List PlacedModule) → IsGood a → All IsPlaced ms → IsGood (fold after_module a ms)
-IsGood-fold a [] good all = good
-IsGood-fold a (m ∷ ms) good all = IsGood-fold (after_module a m) ms (IsGood-after_module a m good (All-head IsPlaced m ms all)) (All-tail IsPlaced m ms all)
+pub AreSoundModules-fold : (a : Accepted) (ms : List PlacedModule) → AreSoundModules a → All IsPlaced ms → AreSoundModules (fold after_module a ms)
+AreSoundModules-fold a [] good all = good
+AreSoundModules-fold a (m ∷ ms) good all = AreSoundModules-fold (after_module a m) ms (AreSoundModules-after_module a m good (All-head IsPlaced m ms all)) (All-tail IsPlaced m ms all)
 
-pub IsGood-none : (built_in : Option (ℕ × ℕ)) → IfSome built_in (λ r. r.0 < r.1) → IsGood (none_yet built_in)
-IsGood-none None valid =
+pub AreSoundModules-none : (built_in : Option (ℕ × ℕ)) → IfSome built_in (λ r. r.0 < r.1) → AreSoundModules (none_yet built_in)
+AreSoundModules-none None valid =
     record {
-      places = All-nil IsPlaced;
+      placed = All-nil IsPlaced;
       distinct = AllPairs-few (λ (x y : List ℕ). x ≢ y) [] (omega arith);
       apart = record { valid = All-nil (λ (x : ℕ × ℕ). x.0 < x.1); apart = AllPairs-few (λ (x y : ℕ × ℕ). is_apart x y ≡ true) [] (omega arith) };
     }
-IsGood-none (Some r) valid =
+AreSoundModules-none (Some r) valid =
     record {
-      places = All-nil IsPlaced;
+      placed = All-nil IsPlaced;
       distinct = AllPairs-few (λ (x y : List ℕ). x ≢ y) [] (omega arith);
       apart = record { valid = All-cons (λ (x : ℕ × ℕ). x.0 < x.1) r [] valid (All-nil (λ (x : ℕ × ℕ). x.0 < x.1)); apart = AllPairs-few (λ (x y : ℕ × ℕ). is_apart x y ≡ true) (r ∷ []) (omega arith) };
     }
@@ -126,8 +121,8 @@ all_placed regions [] fit regions_fit = All-nil IsPlaced
 all_placed regions (l ∷ ls) fit regions_fit =
     All-cons IsPlaced (placed_line regions l) (map (placed_line regions) ls) (IsPlaced-placed regions l (All-head (λ (x : ListedModule). fits x ≡ true) l ls fit) regions_fit) (all_placed regions ls (All-tail (λ (x : ListedModule). fits x ≡ true) l ls fit) regions_fit)
 
-pub accepted_good : (names : BoundNames) (modules : List ListedModule) (regions : List ListedRegion) (symbols : List ListedSymbol) → All (λ l. fits l ≡ true) modules → All (λ l. region_fits l ≡ true) regions → IsGood (accepted_of (built_in_region names symbols) regions modules)
-accepted_good names modules regions symbols fit regions_fit = IsGood-fold (none_yet (built_in_region names symbols)) (map (placed_line regions) modules) (IsGood-none (built_in_region names symbols) (valid_built_in (first_address names.start symbols) (first_address names.end symbols))) (all_placed regions modules fit regions_fit)
+pub accepted_good : (names : BoundNames) (modules : List ListedModule) (regions : List ListedRegion) (symbols : List ListedSymbol) → All (λ l. fits l ≡ true) modules → All (λ l. region_fits l ≡ true) regions → AreSoundModules (accepted_of (built_in_region names symbols) regions modules)
+accepted_good names modules regions symbols fit regions_fit = AreSoundModules-fold (none_yet (built_in_region names symbols)) (map (placed_line regions) modules) (AreSoundModules-none (built_in_region names symbols) (valid_built_in (first_address names.start symbols) (first_address names.end symbols))) (all_placed regions modules fit regions_fit)
 
 -- ---- of the catalog
 
@@ -142,7 +137,7 @@ pub built_in_kept : (a : Accepted) (ms : List PlacedModule) → (fold after_modu
 built_in_kept a [] = refl
 built_in_kept a (m ∷ ms) = built_in_kept (after_module a m) ms ∙ built_in_after a m
 
-module_regions : (symbols : List ListedSymbol) (ms : List PlacedModule) → flat_map (λ (m : ModuleEntry). m.regions) (map (entry_for symbols) ms) ≡ flat_map (λ (m : PlacedModule). m.regions) ms
+pub module_regions : (symbols : List ListedSymbol) (ms : List PlacedModule) → flat_map (λ (m : ModuleEntry). m.regions) (map (entry_for symbols) ms) ≡ flat_map (λ (m : PlacedModule). m.regions) ms
 module_regions symbols [] = refl
 module_regions symbols (m ∷ ms) = ap (λ rs. m.regions ++ rs) (module_regions symbols ms)
 
@@ -166,17 +161,21 @@ entries_placed : (built_in : Option (ℕ × ℕ)) (symbols : List ListedSymbol) 
 entries_placed None symbols ms valid all = modules_placed symbols ms all
 entries_placed (Some r) symbols ms valid all = All-cons (λ (x : ModuleEntry). IsPlaced (placed_module_of x)) (record { name = codes "-"; regions = r ∷ []; parts = (kernel_at r).parts; symbols = symbols_that (is_built_in (Some r)) symbols }) (map (entry_for symbols) ms) (kernel_placed r valid) (modules_placed symbols ms all)
 
-pub IsSound-catalog_of : (names : BoundNames) (modules : List ListedModule) (regions : List ListedRegion) (symbols : List ListedSymbol) → All (λ l. fits l ≡ true) modules → All (λ l. region_fits l ≡ true) regions → IsSoundCatalog (catalog_of names modules regions symbols)
-IsSound-catalog_of names modules regions symbols fit regions_fit =
-    let built_in : Option (ℕ × ℕ) = built_in_region names symbols in
-    let a : Accepted = accepted_of built_in regions modules in
-    let good : IsGood a = accepted_good names modules regions symbols fit regions_fit in
-    let kept : a.built_in ≡ built_in = built_in_kept (none_yet built_in) (map (placed_line regions) modules) in
+pub valid_kernel : (built_in : Option (ℕ × ℕ)) (rest : List (ℕ × ℕ)) → All (λ r. r.0 < r.1) (option_to_list built_in ++ rest) → IfSome built_in (λ r. r.0 < r.1)
+valid_kernel None rest valid = tt
+valid_kernel (Some r) rest valid = All-head (λ (x : ℕ × ℕ). x.0 < x.1) r rest valid
+
+pub IsSound-catalog_with : (a : Accepted) (symbols : List ListedSymbol) → AreSoundModules a → IsSoundCatalog (catalog_with a symbols)
+IsSound-catalog_with a symbols good =
     record {
-      placed = entries_placed built_in symbols a.modules (valid_built_in (first_address names.start symbols) (first_address names.end symbols)) good.places;
-      apart = subst AreApart (ap (λ (b : Option (ℕ × ℕ)). option_to_list b ++ flat_map (λ (m : PlacedModule). m.regions) a.modules) kept ∙ sym (all_regions built_in symbols a.modules)) good.apart;
+      placed = entries_placed a.built_in symbols a.modules (valid_kernel a.built_in (flat_map (λ (m : PlacedModule). m.regions) a.modules) good.apart.valid) good.placed;
+      apart = subst AreApart (sym (all_regions a.built_in symbols a.modules)) good.apart;
       distinct = subst AreDistinctNames (sym (module_names symbols a.modules)) good.distinct;
     }
+
+pub IsSound-catalog_of : (names : BoundNames) (modules : List ListedModule) (regions : List ListedRegion) (symbols : List ListedSymbol) → All (λ l. fits l ≡ true) modules → All (λ l. region_fits l ≡ true) regions → IsSoundCatalog (catalog_of names modules regions symbols)
+IsSound-catalog_of names modules regions symbols fit regions_fit =
+    IsSound-catalog_with (accepted_of (built_in_region names symbols) regions modules) symbols (accepted_good names modules regions symbols fit regions_fit)
 
 -- how many regions the kernel itself and the modules have
 pub count_of_regions : (built_in : Option ModuleEntry) (modules : List ModuleEntry) → IfSome built_in (λ m. length m.regions ≡ 1) → from_bool (is_some built_in) + length (flat_map (λ m. m.regions) modules) ≡ length (flat_map (λ m. m.regions) (option_to_list built_in ++ modules))
@@ -216,3 +215,35 @@ few_entries symbols (m ∷ ms) all = All-cons (λ (x : ModuleEntry). length x.re
 pub few_in_catalog : (names : BoundNames) (modules : List ListedModule) (regions : List ListedRegion) (symbols : List ListedSymbol) → are_few regions ≡ true → All (λ m. length m.regions ≤ 7) (catalog_of names modules regions symbols).modules
 few_in_catalog names modules regions symbols few =
     few_entries symbols (accepted_of (built_in_region names symbols) regions modules).modules (accepted_few (built_in_region names symbols) regions modules few)
+
+-- so many modules of at most seven regions
+few_regions : (ms : List PlacedModule) → All HasFew ms → length (flat_map (λ (m : PlacedModule). m.regions) ms) ≤ 7 * length ms
+few_regions [] all = omega arith
+few_regions (m ∷ ms) all =
+    let one : length m.regions ≤ 7 = All-head HasFew m ms all in
+    omega (arith, one, few_regions ms (All-tail HasFew m ms all), length-append m.regions (flat_map (λ (n : PlacedModule). n.regions) ms))
+
+count_after : (a : Accepted) (m : PlacedModule) → length (after_module a m).modules ≤ length a.modules + 1
+count_after a m =
+    elim (list_any (bytes_eq m.name) (names_of a.modules)) as (λ b. length (cond b (record a { double = a.double + 1 }) (cond (lie_apart m.regions && are_beside (taken_regions a) m.regions) (record a { modules = a.modules ++ m ∷ [] }) (record a { overlap = a.overlap + 1 }))).modules ≤ length a.modules + 1) [
+      | true ↦ omega arith
+      | false ↦ elim (lie_apart m.regions && are_beside (taken_regions a) m.regions) as (λ b. length (cond b (record a { modules = a.modules ++ m ∷ [] }) (record a { overlap = a.overlap + 1 })).modules ≤ length a.modules + 1) [
+        | true ↦ omega (arith, length-append a.modules (m ∷ []))
+        | false ↦ omega arith
+      ]
+    ]
+
+count_fold : (a : Accepted) (ms : List PlacedModule) → length (fold after_module a ms).modules ≤ length a.modules + length ms
+count_fold a [] = omega arith
+count_fold a (m ∷ ms) = omega (arith, count_fold (after_module a m) ms, count_after a m)
+
+-- no more than seven regions a line of a module
+pub few_accepted : (built_in : Option (ℕ × ℕ)) (regions : List ListedRegion) (modules : List ListedModule) → are_few regions ≡ true → length (flat_map (λ m. m.regions) (accepted_of built_in regions modules).modules) ≤ 7 * length modules
+few_accepted built_in regions modules few =
+    let placed : List PlacedModule = map (placed_line regions) modules in
+    omega (
+      arith,
+      few_regions (accepted_of built_in regions modules).modules (accepted_few built_in regions modules few),
+      count_fold (none_yet built_in) placed,
+      length-map modules (placed_line regions),
+    )

@@ -24,6 +24,11 @@ names_of modules = map (λ m. m.name) modules
 abbrev pub taken_regions : Accepted → List (ℕ × ℕ)
 taken_regions a = option_to_list a.built_in ++ flat_map (λ m. m.regions) a.modules
 
+-- the region of the kernel itself and these modules, with no line that is not accepted
+abbrev pub accepted_with : Option (ℕ × ℕ) → List PlacedModule → Accepted
+accepted_with built_in modules =
+    record { built_in = built_in; modules = modules; double = 0; overlap = 0 }
+
 abbrev pub none_yet : Option (ℕ × ℕ) → Accepted
 none_yet built_in = record { built_in = built_in; modules = []; double = 0; overlap = 0 }
 

@@ -7,7 +7,7 @@ use Rattle.std.specs.Option.{option_map, option_to_list}
 use Rattle.std.specs.Str.{bytes_eq}
 use Rattle.order_laws.specs.declared.refusals.Refusal.{Refusal}
 use Rattle.order_laws.specs.declared.refusals.Refusal.TheVariants.{OutOfMemory, TooManyRegions}
-use Rattle.modules.specs.Accepted.{accepted_of}
+use Rattle.modules.specs.Accepted.{Accepted, accepted_of}
 use Rattle.modules.specs.Building.{built_in_with, module_with, placed_module_of}
 use Rattle.modules.specs.Entries.{CatalogEntries, ModuleEntry}
 use Rattle.modules.specs.Kept.{AreDistinctNames, belongs, is_built_in, is_kept, is_used}
@@ -18,6 +18,7 @@ use Rattle.modules.specs.Names.{names_in}
 use Rattle.modules.specs.Placed.{IsPlaced, PlacedModule, are_few}
 use Rattle.modules.specs.Regions.{AreApart}
 use Rattle.modules.specs.declared.catalog.BuildCounts.{BuildCounts}
+use Rattle.modules.specs.declared.catalog.KeptCounts.{KeptCounts}
 
 -- the kernel itself, with the symbols that have no module and lie in its region
 abbrev pub built_in_of : Option (ℕ × ℕ) → List ListedSymbol → Option ModuleEntry
@@ -28,14 +29,17 @@ abbrev pub entry_for : List ListedSymbol → PlacedModule → ModuleEntry
 entry_for symbols m = module_with m (symbols_that (belongs m) symbols)
 
 -- the kernel itself where it has a region, and the accepted modules
+abbrev pub catalog_with : Accepted → List ListedSymbol → CatalogEntries
+catalog_with a symbols = record {
+  built_in = built_in_of a.built_in symbols;
+  modules = map (entry_for symbols) a.modules;
+}
+
+-- those that lines of modules and of regions say
 abbrev pub catalog_of : BoundNames → List ListedModule → List ListedRegion → List ListedSymbol
     → CatalogEntries
 catalog_of names modules regions symbols =
-    let a = accepted_of (built_in_region names symbols) regions modules in
-    record {
-      built_in = built_in_of (built_in_region names symbols) symbols;
-      modules = map (entry_for symbols) a.modules;
-    }
+    catalog_with (accepted_of (built_in_region names symbols) regions modules) symbols
 
 -- how many lines went where
 abbrev pub counts_of : BoundNames → List ListedModule → List ListedRegion → List ListedSymbol
@@ -51,6 +55,15 @@ counts_of names modules regions symbols =
       symbols = count_by (is_kept a) symbols;
       stray = count_by (λ s. not (is_kept a s)) symbols;
     }
+
+-- how many modules, how many regions these have, and how many lines of symbols went where
+abbrev pub kept_counts : Accepted → List ListedSymbol → KeptCounts
+kept_counts a symbols = record {
+  modules = length a.modules;
+  regions = length (flat_map (λ m. m.regions) a.modules);
+  symbols = count_by (is_kept a) symbols;
+  stray = count_by (λ s. not (is_kept a s)) symbols;
+}
 
 -- the kernel itself where it has a region, and then the modules
 abbrev pub entries_of : CatalogEntries → List ModuleEntry

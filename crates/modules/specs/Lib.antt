@@ -40,12 +40,18 @@ pub mod Items
 pub mod Marks
 -- modules whose regions are those of marks
 pub mod MarkedModules
+-- the marks of the lines of a listing, by the numbers of their modules
+pub mod LineMarks
+-- the numbers of names
+pub mod Numbered
 -- lines of symbols that have the name of their module by the number of a run
 pub mod Runs
 -- regions in the order of their first addresses
 pub mod Spread
 -- the region lines by name
 pub mod Grouped
+-- modules in their regions, with the place of each name
+pub mod PlacedModules
 -- what the lines accepted so far stand for
 pub mod Admissions
 -- symbols that are put where they are kept

@@ -54,3 +54,8 @@ usual_end lines =
 -- the names that a listing itself has for both bounds of the kernel
 abbrev pub usual_bounds_of : List ListedSymbol → BoundNames
 usual_bounds_of lines = record { start = codes "_stext"; end = usual_end lines }
+
+-- the names that are given, or else those that the listing has
+abbrev pub bounds_for : Option BoundNames → List ListedSymbol → BoundNames
+bounds_for None lines = usual_bounds_of lines
+bounds_for (Some names) lines = names

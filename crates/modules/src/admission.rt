@@ -1,6 +1,7 @@
 //! Which lines of the listing of modules are accepted.
 
-ghost use Rattle.std.specs.Prelude.{◌≡◌, ℕ, Bool, ◌+◌, ◌<◌, ◌^◌, ◌&&◌, true, All, IfOk, OnOk};
+ghost use Rattle.std.specs.Prelude.{◌≡◌, ℕ, Bool, ◌+◌, ◌-◌, ◌*◌, ◌<◌, ◌^◌, ◌&&◌, true, All};
+ghost use Rattle.std.specs.Prelude.{length, IfOk, OnOk};
 ghost use Rattle.std.specs.List.{list_all};
 ghost use Rattle.modules.specs.Lines.{fits, region_fits};
 ghost use Rattle.modules.specs.Accepted.{none_yet, after_module, accepted_of};
@@ -8,20 +9,16 @@ ghost use Rattle.modules.specs.Admissions.{admission_view, IsAdmission};
 ghost use Rattle.modules.specs.Regions.{is_apart, are_beside, lie_apart};
 
 use crate::lines::ModuleLine;
+use crate::placed_modules::PlacedModules;
 use crate::placing::{Placed, RegionLines};
 use crate::regions::{Region, Regions};
 use std::alloc::{AllocError, Global};
-use std::collections::BTreeMap;
 
 /// The modules accepted so far, and how many lines were not.
 #[derive(Drop)]
 pub(crate) struct Admission<'a> {
-    /// The region of the kernel itself.
-    pub(crate) built_in: Option<Region>,
-    /// The accepted modules in the order of their lines.
-    pub(crate) modules: Vec<Placed<'a>>,
-    /// The place of each name among the accepted modules.
-    pub(crate) places: BTreeMap<&'a [u8], usize>,
+    /// The region of the kernel itself, and the accepted modules in the order of their lines.
+    pub(crate) accepted: PlacedModules<'a>,
     /// The regions that those of a further module are to lie apart from.
     taken: Regions,
     /// How many lines have the name of an accepted one.
@@ -84,9 +81,7 @@ impl<'a> Admission<'a> {
             taken.insert(region)?;
         }
         Ok(Admission {
-            built_in,
-            modules: Vec::new(alloc),
-            places: BTreeMap::new(alloc),
+            accepted: PlacedModules::new(alloc, built_in),
             taken,
             double: 0,
             overlap: 0,
@@ -101,7 +96,7 @@ impl<'a> Admission<'a> {
             (admission_view self.new ≡ after_module (admission_view self.old) placed.entry) }
         ensures tied { OnOk result (IsAdmission self.new) }
     {
-        if self.places.contains_key(placed.name) {
+        if self.accepted.has(placed.name) {
             self.double += 1;
             return Ok(());
         }
@@ -111,8 +106,7 @@ impl<'a> Admission<'a> {
             return Ok(());
         }
         take_all(&mut self.taken, regions)?;
-        self.places.insert(placed.name, self.modules.len())?;
-        self.modules.push(placed)?;
+        self.accepted.push(placed)?;
         Ok(())
     }
 }
@@ -129,6 +123,7 @@ pub(crate) fn admit<'a>(
     ensures admitted { IfOk result
         (λ a. admission_view a ≡ accepted_of built_in regions.now lines.now) }
     ensures tied { IfOk result IsAdmission }
+    ensures short { IfOk result (λ _. 7 * length lines.now < 2 ^ 64 - 1) }
 {
     let mut admission = Admission::new(alloc, built_in)?;
     for line in lines {

@@ -1,22 +1,26 @@
 //! How a catalog is built, step by step.
 
-ghost use Rattle.std.specs.Prelude.{◌≡◌, ◌+◌, ◌<◌, ◌≤◌, is_some, true, All, length, IfOk, IfSome};
-ghost use Rattle.std.specs.Prelude.{count_by};
-ghost use Rattle.std.specs.Int.{from_bool};
+ghost use Rattle.std.specs.Prelude.{◌≡◌, ◌+◌, ◌-◌, ◌^◌, ◌<◌, ◌≤◌, true, All, length, IfOk};
+ghost use Rattle.std.specs.Prelude.{IfSome, count_by};
 ghost use Rattle.std.specs.List.{flat_map};
-ghost use Rattle.modules.specs.Admissions.{admission_view, IsAdmission};
-ghost use Rattle.modules.specs.Lines.{fits, region_fits};
+ghost use Rattle.std.specs.Option.{option_copied};
+ghost use Rattle.modules.specs.Accepted.{Accepted};
 ghost use Rattle.modules.specs.Building.{AreModules, built_in_with};
-ghost use Rattle.modules.specs.Catalogs.{catalog_of, counts_of, regions_of, IsSoundCatalog};
+ghost use Rattle.modules.specs.Catalogs.{catalog_of, catalog_with, counts_of, kept_counts};
+ghost use Rattle.modules.specs.FromSymbols.{IsFromSymbols};
 ghost use Rattle.modules.specs.Kept.{is_used};
+ghost use Rattle.modules.specs.Lines.{bounds_for, built_in_region, fits, region_fits};
 ghost use Rattle.modules.specs.Placed.{are_few, IsPlaced};
+ghost use Rattle.modules.specs.PlacedModules.{AreSoundModules};
 
-use crate::admission::{Admission, admit};
-use crate::catalog::{BuildCounts, Catalog};
+use crate::admission::admit;
+use crate::catalog::{BuildCounts, Catalog, KeptCounts};
+use crate::from_symbols::modules_of;
 use crate::gathering::gather;
 use crate::lines::{KernelBounds, ModuleLine, RegionLine};
 use crate::module::Module;
 use crate::names::by_name;
+use crate::placed_modules::PlacedModules;
 use crate::placing::{Placed, RegionLines};
 use crate::regions::Region;
 use crate::symbol_lines::{SymbolLines, built_in_region};
@@ -61,40 +65,68 @@ fn modules_from<'a>(
     Ok(modules)
 }
 
-/// How many regions the kernel itself and the modules have.
-fn regions_in(built_in: Option<&Module>, modules: &[Module]) -> usize
-    requires { All (λ m. length m.regions ≤ 7) modules.now }
-    ensures { result
-        ≡ from_bool (is_some built_in.entry) + length (flat_map (λ m. m.regions) modules.now) }
+/// How many regions the modules have.
+fn regions_in(modules: &[Module]) -> usize
+    requires { length (flat_map (λ m. m.regions) modules.now) < 2 ^ 64 }
+    ensures { result ≡ length (flat_map (λ m. m.regions) modules.now) }
 {
-    let mut count = usize::from(built_in.is_some());
+    let mut count = 0;
     for module in modules {
         count += module.regions().len();
     }
     count
 }
 
-/// Whether the line is one of an accepted module that has a core line.
-fn is_used(admission: &Admission, regions: &RegionLines, line: &RegionLine) -> bool
-    requires { IsAdmission admission.now }
-    ensures { result ≡ is_used (admission_view admission.now) regions.now line.now }
+/// Puts each symbol where it is kept, and indexes symbols and names.
+fn catalog_with<'a>(
+    alloc: Global,
+    placed: PlacedModules<'a>,
+    symbols: SymbolLines<'a>,
+) -> Result<(Catalog<'a>, KeptCounts), AllocError>
+    requires sound { AreSoundModules placed }
+    requires few { length (flat_map (λ m. m.regions) placed.modules) < 2 ^ 64 - 1 }
+    ensures built { IfOk result (λ r. r.0 ≡ catalog_with placed.entry symbols.entry) }
+    ensures counted { IfOk result (λ r. r.1 ≡ kept_counts placed.entry symbols.entry) }
 {
-    admission.places.contains_key(line.name) && regions.has_core_of(line.name)
+    let gathered = gather(alloc, &placed, symbols)?;
+    let built_in = built_in_module(alloc, placed.built_in, gathered.built_in)?;
+    let modules = modules_from(alloc, placed.modules, gathered.modules)?;
+    let by_name = by_name(alloc, modules.as_slice())?;
+    let regions = regions_in(modules.as_slice());
+    let counts = KeptCounts {
+        modules: modules.len() as u64,
+        regions: regions as u64,
+        symbols: gathered.kept,
+        stray: gathered.stray,
+    };
+    let catalog = Catalog {
+        regions: usize::from(built_in.is_some()) + regions,
+        built_in,
+        modules,
+        by_name,
+    };
+    Ok((catalog, counts))
+}
+
+/// Whether the line is one of an accepted module that has a core line.
+fn is_used(accepted: &PlacedModules, regions: &RegionLines, line: &RegionLine) -> bool
+    ensures { result ≡ is_used accepted.now regions.now line.now }
+{
+    accepted.has(line.name) && regions.has_core_of(line.name)
 }
 
 /// How many of the region lines are used.
-fn used_in(admission: &Admission, regions: &RegionLines) -> usize
-    requires { IsAdmission admission.now }
-    ensures { result ≡ count_by (is_used (admission_view admission.now) regions.now) regions.now }
+fn used_in(accepted: &PlacedModules, regions: &RegionLines) -> usize
+    ensures { result ≡ count_by (is_used accepted.now regions.now) regions.now }
 {
     regions
         .listed
         .iter()
-        .filter(|line| is_used(admission, regions, line))
+        .filter(|line| is_used(accepted, regions, line))
         .count()
 }
 
-/// Accepts module lines, puts each symbol where it is kept, and indexes symbols and names.
+/// Accepts module lines, and makes the catalog of these modules.
 pub(crate) fn assemble<'a>(
     alloc: Global,
     names: &KernelBounds,
@@ -112,26 +144,43 @@ pub(crate) fn assemble<'a>(
 {
     let built_in = built_in_region(&symbols, names);
     let admission = admit(alloc, built_in, regions, modules)?;
-    let gathered = gather(alloc, &admission, symbols)?;
-    let used = used_in(&admission, regions) as u64;
+    let used = used_in(&admission.accepted, regions) as u64;
+    let (catalog, kept) = catalog_with(alloc, admission.accepted, symbols)?;
     let counts = BuildCounts {
-        modules: admission.modules.len() as u64,
+        modules: kept.modules,
         double: admission.double,
         overlap: admission.overlap,
         regions: used,
         stray_regions: regions.listed.len() as u64 - used,
-        symbols: gathered.kept,
-        stray: gathered.stray,
-    };
-    let built_in = built_in_module(alloc, admission.built_in, gathered.built_in)?;
-    let modules = modules_from(alloc, admission.modules, gathered.modules)?;
-    let by_name = by_name(alloc, modules.as_slice())?;
-    let regions = regions_in(built_in.as_ref(), modules.as_slice());
-    let catalog = Catalog {
-        built_in,
-        modules,
-        by_name,
-        regions,
+        symbols: kept.symbols,
+        stray: kept.stray,
     };
     Ok((catalog, counts))
+}
+
+/// The region of the kernel itself, between these names or those that the listing has.
+fn kernel_region(lines: &SymbolLines, names: Option<&KernelBounds>) -> Option<Region>
+    ensures { result
+        ≡ built_in_region (bounds_for (option_copied names.entry) lines.now) lines.now }
+{
+    match names {
+        Some(names) => built_in_region(lines, names),
+        None => built_in_region(lines, &lines.usual_bounds()),
+    }
+}
+
+/// Finds the modules in the lines, and makes the catalog of these modules.
+pub(crate) fn assemble_symbols<'a>(
+    alloc: Global,
+    names: Option<&KernelBounds>,
+    symbols: SymbolLines<'a>,
+) -> Result<(Catalog<'a>, KeptCounts), AllocError>
+    ensures { IfOk result (λ r. (a : Accepted)
+        × IsFromSymbols (bounds_for (option_copied names.entry) symbols.entry) symbols.entry a
+        × (r.0 ≡ catalog_with a symbols.entry) × (r.1 ≡ kept_counts a symbols.entry)) }
+{
+    let kernel = kernel_region(&symbols, names);
+    let modules = modules_of(alloc, &kernel, &symbols)?;
+    let placed = PlacedModules::of(alloc, kernel, modules)?;
+    catalog_with(alloc, placed, symbols)
 }

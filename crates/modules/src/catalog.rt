@@ -2,15 +2,18 @@
 
 ghost use Rattle.std.specs.Prelude.{◌≡◌, ◌↔◌, IsTrue, [], true, All, length, IfOk, IfErr};
 ghost use Rattle.std.specs.Option.{option_copied};
-ghost use Rattle.modules.specs.Lines.{fits, region_fits, usual_bounds};
-ghost use Rattle.modules.specs.Catalogs.{catalog_of, counts_of, IsBuildRefusal, module_of};
+ghost use Rattle.modules.specs.Accepted.{Accepted};
+ghost use Rattle.modules.specs.Lines.{bounds_for, fits, region_fits, usual_bounds};
+ghost use Rattle.modules.specs.Catalogs.{catalog_of, catalog_with, counts_of, IsBuildRefusal};
+ghost use Rattle.modules.specs.Catalogs.{kept_counts, module_of};
 ghost use Rattle.modules.specs.Catalogs.{module_number_of, number_for, regions_of, IsNoneAbsent};
 ghost use Rattle.modules.specs.Catalogs.{IsSoundCatalog};
+ghost use Rattle.modules.specs.FromSymbols.{IsFromSymbols};
 ghost use Rattle.modules.specs.Loads.{drop_init_of, GivesOrLacksMemory, GivesSome, load_of};
 ghost use Rattle.modules.specs.Loads.{unload_of};
 ghost use Rattle.modules.specs.Placed.{are_few};
 
-use crate::build::assemble;
+use crate::build::{assemble, assemble_symbols};
 use crate::lines::{KernelBounds, ModuleLine, RegionLine};
 use crate::loads::{inserting, is_inserting};
 use crate::module::Module;
@@ -19,7 +22,7 @@ use crate::placing::RegionLines;
 use crate::symbol_lines::SymbolLines;
 use latch_core::Update;
 use order_laws::Refusal;
-use std::alloc::Global;
+use std::alloc::{AllocError, Global};
 use std::marker::Model;
 
 /// The number that stands for a module which a catalog lacks. No module has it where there are
@@ -46,6 +49,19 @@ pub struct BuildCounts {
     pub stray: u64,
 }
 
+/// What a catalog of symbols alone has, and how many lines are not in it.
+#[derive(Clone, Copy, Debug, PartialEq, Eq, Drop)]
+pub struct KeptCounts {
+    /// The modules, the kernel itself not counted.
+    pub modules: u64,
+    /// The regions of these modules.
+    pub regions: u64,
+    /// Kept lines.
+    pub symbols: u64,
+    /// Lines that are not kept.
+    pub stray: u64,
+}
+
 /// What of a module a table holds.
 #[derive(Clone, Copy, Debug, PartialEq, Eq, Drop)]
 pub struct Held {
@@ -56,8 +72,9 @@ pub struct Held {
 }
 
 /// The kernel itself as number 0, where the listing of symbols has its region, and the accepted
-/// modules from number 1 on in the order of their lines. Their regions lie apart and no two of the
-/// modules have one name. It does not change.
+/// modules from number 1 on in the order of their lines; those of symbols alone in the order of
+/// their first kept lines. Their regions lie apart and no two of the modules have one name. It does
+/// not change.
 #[derive(Drop)]
 pub struct Catalog<'a> {
     pub(crate) built_in: Option<Module<'a>>,
@@ -155,6 +172,32 @@ impl<'a> Catalog<'a> {
             return Err(Refusal::TooManyRegions);
         }
         Ok(assemble(alloc, names, modules, &regions, symbols)?)
+    }
+
+    /// Builds the catalog of a listing of symbols alone.
+    ///
+    /// The kernel's region is between the two symbols of `names`, or else between those that the
+    /// listing itself has ([`SymbolLines::usual_bounds`]). The lines that count are those without a
+    /// module inside of it, and those of modules outside of it and below the greatest address. An
+    /// address is a module's where of the nearest of these lines at or below it the first listed is
+    /// that module's, and less than 1048576 below. The regions of a module are the longest runs of
+    /// addresses that are its own, by rising address, all of its core.
+    ///
+    /// A line of a module is kept where its own address is its module's, and one without a module
+    /// where it lies in the kernel's region; the rest are stray. The modules are those that have a
+    /// kept line, in the order of their first ones.
+    ///
+    /// Refused only when out of memory.
+    pub fn from_symbols(
+        alloc: Global,
+        names: Option<&KernelBounds>,
+        symbols: SymbolLines<'a>,
+    ) -> Result<(Catalog<'a>, KeptCounts), AllocError>
+        ensures built { IfOk result (λ r. (a : Accepted)
+            × IsFromSymbols (bounds_for (option_copied names.entry) symbols.entry) symbols.entry a
+            × (r.0 ≡ catalog_with a symbols.entry) × (r.1 ≡ kept_counts a symbols.entry)) }
+    {
+        assemble_symbols(alloc, names, symbols)
     }
 
     /// The module of a number.

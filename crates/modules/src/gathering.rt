@@ -17,13 +17,12 @@ ghost use Rattle.std.specs.Prelude.{◌≡◌, ◌+◌, ◌<◌, ◌^◌, ◌++�
 ghost use Rattle.std.specs.Prelude.{vec_len};
 ghost use Rattle.std.specs.Option.{option_copied};
 ghost use Rattle.modules.specs.Accepted.{names_of};
-ghost use Rattle.modules.specs.Admissions.{admission_view, IsAdmission};
 ghost use Rattle.modules.specs.Kept.{AreDistinctNames};
 ghost use Rattle.modules.specs.Gathering.{owner_for, lies_for, CountsStay, HasRoom, Keeps};
 ghost use Rattle.modules.specs.Gathering.{KeepsRun, IsEmptyFor, Gathers};
 ghost use Rattle.modules.specs.Runs.{lines_of_all};
 
-use crate::admission::Admission;
+use crate::placed_modules::PlacedModules;
 use crate::symbol_lines::{Run, SymbolLines};
 use crate::symbols::Symbol;
 use std::alloc::{AllocError, Global};
@@ -85,17 +84,14 @@ impl<'a> Gathered<'a> {
     }
 
     /// Goes through the lines of a run.
-    fn keep_run(&mut self, admission: &Admission, run: Run<'a>) -> Result<(), AllocError>
-        requires tied { IsAdmission admission.now }
-        requires lists { length self.old.modules.items
-            ≡ length (admission_view admission.now).modules }
+    fn keep_run(&mut self, placed: &PlacedModules, run: Run<'a>) -> Result<(), AllocError>
+        requires lists { length self.old.modules.items ≡ length placed.now.modules }
         requires counts { self.old.kept + self.old.stray + vec_len run.symbols < 2 ^ 64 }
-        ensures { OnOk result
-            (KeepsRun (admission_view admission.now) run.entry self.old self.new) }
+        ensures { OnOk result (KeepsRun placed.now run.entry self.old self.new) }
     {
-        let owner = owner_of(admission, run.module);
+        let owner = owner_of(placed, run.module);
         let listed = run.symbols.len();
-        let symbols = without_strays(admission, owner, run.symbols);
+        let symbols = without_strays(placed, owner, run.symbols);
         self.kept += symbols.len() as u64;
         self.stray += (listed - symbols.len()) as u64;
         self.put(owner, symbols)
@@ -115,29 +111,28 @@ fn join<'a>(list: &mut Vec<Symbol<'a>>, symbols: Vec<Symbol<'a>>) -> Result<(), 
 }
 
 /// Whose symbols the lines of a module of this name are.
-fn owner_of(admission: &Admission, name: Option<&[u8]>) -> Owner
-    requires { IsAdmission admission.now }
-    ensures { result ≡ owner_for (admission_view admission.now) (option_copied name.entry) }
+fn owner_of(placed: &PlacedModules, name: Option<&[u8]>) -> Owner
+    ensures { result ≡ owner_for placed.now (option_copied name.entry) }
 {
     let Some(name) = name else {
         return Owner::BuiltIn;
     };
-    match admission.places.get(name) {
-        Some(place) => Owner::Module(*place),
+    match placed.place_of(name) {
+        Some(place) => Owner::Module(place),
         None => Owner::Nobody,
     }
 }
 
 /// Whether a symbol of this owner is kept at this address.
-fn lies_at(admission: &Admission, owner: Owner, addr: u64) -> bool
-    ensures { result ≡ lies_for (admission_view admission.now) owner addr }
+fn lies_at(placed: &PlacedModules, owner: Owner, addr: u64) -> bool
+    ensures { result ≡ lies_for placed.now owner addr }
 {
     match owner {
-        Owner::BuiltIn => match admission.built_in {
+        Owner::BuiltIn => match placed.built_in {
             Some(region) => region.holds(addr),
             None => false,
         },
-        Owner::Module(place) => match admission.modules.get(place) {
+        Owner::Module(place) => match placed.modules.get(place) {
             Some(module) => module.lies_at(addr),
             None => false,
         },
@@ -147,50 +142,46 @@ fn lies_at(admission: &Admission, owner: Owner, addr: u64) -> bool
 
 /// The symbols of this owner that are kept.
 fn without_strays<'a>(
-    admission: &Admission,
+    placed: &PlacedModules,
     owner: Owner,
     symbols: Vec<Symbol<'a>>,
 ) -> Vec<Symbol<'a>>
-    ensures { result.items
-        ≡ filter (λ s. lies_for (admission_view admission.now) owner s.addr) symbols.entry.items }
+    ensures { result.items ≡ filter (λ s. lies_for placed.now owner s.addr) symbols.entry.items }
 {
     let mut kept = symbols;
-    kept.retain(|symbol| lies_at(admission, owner, symbol.addr));
+    kept.retain(|symbol| lies_at(placed, owner, symbol.addr));
     kept
 }
 
 /// Goes through the lines of runs in their order.
 fn gather_runs<'a>(
     alloc: Global,
-    admission: &Admission,
+    placed: &PlacedModules,
     runs: Vec<Run<'a>>,
     last: Run<'a>,
 ) -> Result<Gathered<'a>, AllocError>
-    requires tied { IsAdmission admission.now }
-    requires distinct { AreDistinctNames (names_of (admission_view admission.now).modules) }
+    requires distinct { AreDistinctNames (names_of placed.now.modules) }
     requires few { length (lines_of_all (runs.items ++ last ∷ [])) < 2 ^ 64 }
     ensures { IfOk result
-        (Gathers (admission_view admission.now)
-        (lines_of_all (runs.entry.items ++ last.entry ∷ []))) }
+        (Gathers placed.now (lines_of_all (runs.entry.items ++ last.entry ∷ []))) }
 {
-    let mut gathered = Gathered::new(alloc, admission.modules.len())?;
+    let mut gathered = Gathered::new(alloc, placed.len())?;
     for run in runs {
-        gathered.keep_run(admission, run)?;
+        gathered.keep_run(placed, run)?;
     }
-    gathered.keep_run(admission, last)?;
+    gathered.keep_run(placed, last)?;
     Ok(gathered)
 }
 
 /// Goes through the lines of a listing in their order.
 pub(crate) fn gather<'a>(
     alloc: Global,
-    admission: &Admission,
+    placed: &PlacedModules,
     symbols: SymbolLines<'a>,
 ) -> Result<Gathered<'a>, AllocError>
-    requires tied { IsAdmission admission.now }
-    requires distinct { AreDistinctNames (names_of (admission_view admission.now).modules) }
-    ensures { IfOk result (Gathers (admission_view admission.now) symbols.entry) }
+    requires distinct { AreDistinctNames (names_of placed.now.modules) }
+    ensures { IfOk result (Gathers placed.now symbols.entry) }
 {
     let SymbolLines { runs, last, .. } = symbols;
-    gather_runs(alloc, admission, runs, last)
+    gather_runs(alloc, placed, runs, last)
 }

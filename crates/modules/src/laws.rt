@@ -3,8 +3,8 @@
 ghost use Rattle.std.specs.Prelude.{◌≡◌, ◌+◌, ◌-◌, ◌^◌, ◌<◌, ◌≤◌, true, ℕ, All, List, MatchOption};
 ghost use Rattle.std.specs.Prelude.{length, sum_by, Some};
 ghost use Rattle.modules.specs.Accepted.{Accepted};
-ghost use Rattle.modules.specs.Catalogs.{catalog_of, counts_of, entries_of, IsNoneAbsent};
-ghost use Rattle.modules.specs.Catalogs.{IsSoundCatalog};
+ghost use Rattle.modules.specs.Catalogs.{catalog_of, catalog_with, counts_of, entries_of};
+ghost use Rattle.modules.specs.Catalogs.{IsNoneAbsent, IsSoundCatalog, kept_counts};
 ghost use Rattle.modules.specs.Entries.{CatalogEntries, SymbolEntry};
 ghost use Rattle.modules.specs.Found.{IsFound, found_in};
 ghost use Rattle.modules.specs.FromSymbols.{HasItsRegions, is_kept_line, IsFromSymbols};
@@ -40,6 +40,18 @@ pub fn each_kept_line_is_in_one_module()
         ≡ (counts_of names modules regions symbols).symbols }
 {}
 
+/// So it is with the lines of symbols alone: each is counted once, and is the symbol of one module
+/// if it is kept.
+pub fn each_line_of_symbols_alone_is_counted_once()
+    ensures counted { (a : Accepted) (symbols : List ListedSymbol)
+        → let n = kept_counts a symbols in
+        n.symbols + n.stray ≡ length symbols }
+    ensures kept { (names : BoundNames) (symbols : List ListedSymbol) (a : Accepted)
+        → IsFromSymbols names symbols a
+        → sum_by (λ m. length m.symbols) (entries_of (catalog_with a symbols))
+        ≡ (kept_counts a symbols).symbols }
+{}
+
 /// In the catalog of lines that fit, each module has 1 to 7 regions and one of its core, the
 /// regions have addresses and lie apart, and no two modules from number 1 on have one name.
 pub fn every_catalog_is_sound()
@@ -52,6 +64,13 @@ pub fn every_catalog_is_sound()
         (symbols : List ListedSymbol)
         → are_few regions ≡ true
         → All (λ m. length m.regions ≤ 7) (catalog_of names modules regions symbols).modules }
+{}
+
+/// The modules of symbols alone make a sound catalog: each has a region, the regions have addresses
+/// and lie apart, and no two modules from number 1 on have one name.
+pub fn every_catalog_of_symbols_is_sound()
+    ensures { (names : BoundNames) (lines : List ListedSymbol) (a : Accepted)
+        → IsFromSymbols names lines a → IsSoundCatalog (catalog_with a lines) }
 {}
 
 /// No module of a sound catalog has the number that stands for an absent one, as long as there are

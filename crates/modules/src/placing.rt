@@ -7,10 +7,13 @@
 //! listed:  ext4 core   nfs core   ext4 init
 //! sorted:  ext4 core   ext4 init  nfs core
 //! ```
+//!
+//! A module has up to seven regions there, in the order of its lines. One of symbols alone may have
+//! many, but they rise, and then a binary search tells whether an address lies in one.
 
-ghost use Rattle.std.specs.Prelude.{◌≡◌, nat_le, true, [], ◌∷◌, length, All, IfOk, map};
+ghost use Rattle.std.specs.Prelude.{◌≡◌, ◌<◌, nat_le, true, [], ◌∷◌, length, All, IfOk, map};
 ghost use Rattle.std.specs.Cmp.Lexicographic.{slice_cmp};
-ghost use Rattle.std.specs.List.{list_any};
+ghost use Rattle.std.specs.List.{AllPairs, list_any};
 ghost use Rattle.std.specs.List.Sorted.{IsSortedBy};
 ghost use Rattle.std.specs.Ordering.{is_le, is_lt, nat_cmp};
 ghost use Rattle.modules.specs.Building.{kernel_at};
@@ -19,6 +22,7 @@ ghost use Rattle.modules.specs.Kept.{lies_in};
 ghost use Rattle.modules.specs.Lines.{region_line_region, fits, region_fits};
 ghost use Rattle.modules.specs.Parts.{is_core};
 ghost use Rattle.modules.specs.Placed.{are_few, has_core, lines_named, placed_line};
+ghost use Rattle.modules.specs.Regions.{AreRising, lies_in_any};
 ghost use Rattle.modules.specs.declared.lines.Part.TheVariants.{Core};
 
 use crate::lines::{ModuleLine, Part, RegionLine};
@@ -36,10 +40,14 @@ pub(crate) struct Placed<'a> {
     pub(crate) regions: Vec<Region>,
     /// The part that each of them is.
     pub(crate) parts: Vec<Part>,
+    /// Whether the regions are known to rise, so that they can be searched.
+    rising: bool,
 }
 
 impl<'a> Model for Placed<'a> {
+    ghost use Rattle.std.specs.Prelude.{◌≡◌, true};
     ghost use Rattle.modules.specs.Placed.{PlacedModule};
+    ghost use Rattle.modules.specs.Regions.{AreRising};
 
     ghost Value = { PlacedModule };
 
@@ -48,6 +56,24 @@ impl<'a> Model for Placed<'a> {
       regions = p.regions.items;
       parts = p.parts.items;
     } };
+
+    ghost invariant = { λ p. p.rising ≡ true → AreRising p.regions.items };
+}
+
+/// Whether the address lies in one of the regions, which rise.
+fn lies_in_rising(regions: &[Region], addr: u64) -> bool
+    requires { AreRising regions.now }
+    ensures { result ≡ lies_in_any regions.now addr }
+{
+    let split = regions.partition_point(|region| region.start() <= addr);
+    split > 0 && regions[split - 1].holds(addr)
+}
+
+/// Whether the address lies in one of the regions.
+fn lies_in_any(regions: &[Region], addr: u64) -> bool
+    ensures { result ≡ lies_in_any regions.now addr }
+{
+    regions.iter().any(|region| region.holds(addr))
 }
 
 impl<'a> Placed<'a> {
@@ -62,10 +88,12 @@ impl<'a> Placed<'a> {
     pub(crate) fn lies_at(&self, addr: u64) -> bool
         ensures { result ≡ lies_in self.now addr }
     {
-        self.regions
-            .as_slice()
-            .iter()
-            .any(|region| region.holds(addr))
+        let regions = self.regions.as_slice();
+        if self.rising {
+            lies_in_rising(regions, addr)
+        } else {
+            lies_in_any(regions, addr)
+        }
     }
 
     /// A module with one region, of its core.
@@ -81,6 +109,29 @@ impl<'a> Placed<'a> {
             name,
             regions,
             parts,
+            rising: false,
+        })
+    }
+
+    /// A module whose regions rise, all of its core.
+    pub(crate) fn in_rising(
+        alloc: Global,
+        name: &'a [u8],
+        regions: Vec<Region>,
+    ) -> Result<Placed<'a>, AllocError>
+        requires { AreRising regions.items }
+        ensures { IfOk result (λ p. p ≡ record {
+          name = name.now;
+          regions = regions.items;
+          parts = map (λ _. Core) regions.items;
+        }) }
+    {
+        let parts = vec![in alloc; Part::Core; regions.len()]?;
+        Ok(Placed {
+            name,
+            regions,
+            parts,
+            rising: true,
         })
     }
 
@@ -107,6 +158,7 @@ impl<'a> Placed<'a> {
             name,
             regions,
             parts,
+            rising: false,
         })
     }
 }

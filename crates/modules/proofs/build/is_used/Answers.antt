@@ -1,20 +1,22 @@
 use Rattle.std.proofs.Common.{◌≡◌, ◌&&◌, sym, ap, ◌∙◌}
+use Rattle.std.specs.List.{list_any}
+use Rattle.std.specs.Str.{bytes_eq}
+use Rattle.modules.specs.Accepted.{names_of}
 use Rattle.modules.specs.Listed.{ListedRegion}
 use Rattle.modules.specs.Placed.{has_core, lines_named}
-use Rattle.modules.proofs.AdmissionLemmas.{found_in}
 use Rattle.modules.proofs.build.is_used.Goals as goal
 
-pub returns-then-contains_key : goal.returns-then-contains_key
-returns-then-contains_key c =
-    let a = c.args.admission.now in
-    let line = c.args.line.now in
+pub returns-then-has : goal.returns-then-has
+returns-then-has c =
+    let a = c.args.accepted.now in
+    let line : ListedRegion = c.args.line.now in
     let core : c.has_core_of.result ≡ has_core (lines_named line.name c.args.regions.now) = c.has_core_of.ensures ∙ ap (λ (l : ListedRegion). has_core (lines_named l.name c.args.regions.now)) c.line.view_is in
-    let found = found_in a c.requires line.name c.line.inside.name.now c.contains_key.result c.contains_key.ensures (ap (λ (l : ListedRegion). l.name) c.line.view_is) in
-    core ∙ sym (ap (λ b. b && has_core (lines_named line.name c.args.regions.now)) (found ∙ c.if-contains_key.true))
+    let found : list_any (bytes_eq line.name) (names_of a.modules) ≡ c.has.result = ap (λ (l : ListedRegion). list_any (bytes_eq l.name) (names_of a.modules)) (sym c.line.view_is) ∙ sym c.has.ensures in
+    core ∙ sym (ap (λ b. b && has_core (lines_named line.name c.args.regions.now)) (found ∙ c.if-has.true))
 
-pub returns-else-contains_key : goal.returns-else-contains_key
-returns-else-contains_key c =
-    let a = c.args.admission.now in
-    let line = c.args.line.now in
-    let found = found_in a c.requires line.name c.line.inside.name.now c.contains_key.result c.contains_key.ensures (ap (λ (l : ListedRegion). l.name) c.line.view_is) in
-    c.if-contains_key.false ∙ sym (ap (λ b. b && has_core (lines_named line.name c.args.regions.now)) (found ∙ c.if-contains_key.false))
+pub returns-else-has : goal.returns-else-has
+returns-else-has c =
+    let a = c.args.accepted.now in
+    let line : ListedRegion = c.args.line.now in
+    let found : list_any (bytes_eq line.name) (names_of a.modules) ≡ c.has.result = ap (λ (l : ListedRegion). list_any (bytes_eq l.name) (names_of a.modules)) (sym c.line.view_is) ∙ sym c.has.ensures in
+    c.if-has.false ∙ sym (ap (λ b. b && has_core (lines_named line.name c.args.regions.now)) (found ∙ c.if-has.false))

@@ -1,24 +1,20 @@
-use Rattle.std.proofs.Common.{◌≡◌, ℕ, ◌+◌, ◌≤◌, List, [], ◌∷◌, ◌++◌, length, get_or, take, sym, ap, ◌∙◌, subst, arith, length-append}
-use Rattle.std.specs.List.{flat_map}
-use Rattle.std.proofs.lemmas.Grind.{flat_map-append}
-use Rattle.std.proofs.lemmas.List.{append-nil, take_more}
+use Rattle.std.proofs.Common.{◌+◌, length, ap, arith}
 use Rattle.modules.specs.Entries.{ModuleEntry}
+use Rattle.modules.proofs.MakingLemmas.{flat_map_more, length-flat_map_take}
 use Rattle.modules.proofs.build.regions_in.Goals as goal
 
-pub loop-module-preserved : goal.loop-module-preserved
-loop-module-preserved c =
-    let i = c.loop-module.invariant in
+pub overflow_add-count : goal.overflow_add-count
+overflow_add-count c =
     let modules = c.args.modules.now in
     let index = c.loop-module.module-index in
     let m = c.module-item.result in
-    let before : List (ℕ × ℕ) = flat_map (λ (x : ModuleEntry). x.regions) (take index modules) in
-    let here = c.module-item.is in
-    let few : length m.regions ≤ 7 = subst (λ (x : ModuleEntry). length x.regions ≤ 7) (sym here) (c.requires index m c.loop-module-test.true) in
-    let more : flat_map (λ (x : ModuleEntry). x.regions) (take (index + 1) modules) ≡ before ++ m.regions = ap (λ (ms : List ModuleEntry). flat_map (λ (x : ModuleEntry). x.regions) ms) (take_more modules index m c.loop-module-test.true)
-    ∙ flat_map-append (λ (x : ModuleEntry). x.regions) (take index modules) (get_or modules index m ∷ [])
-    ∙ ap (λ (rs : List (ℕ × ℕ)). before ++ rs) (append-nil (get_or modules index m).regions)
-    ∙ ap (λ (x : ModuleEntry). before ++ x.regions) (sym here) in
-    record {
-      counted = omega (arith, i.counted, ap length more, length-append before m.regions, ap length c.regions.ensures.regions);
-      bounded = omega (arith, i.bounded, few, ap length c.regions.ensures.regions);
-    }
+    let more = flat_map_more (λ (x : ModuleEntry). x.regions) modules index m c.loop-module-test.true in
+    let here = ap (λ (x : ModuleEntry). length x.regions) c.module-item.is in
+    let whole = length-flat_map_take (λ (x : ModuleEntry). x.regions) modules (index + 1) in
+    omega (arith, more, here, whole, c.requires, c.loop-module.invariant, ap length c.regions.ensures.regions)
+
+pub loop-module-preserved : goal.loop-module-preserved
+loop-module-preserved c =
+    let more = flat_map_more (λ (x : ModuleEntry). x.regions) c.args.modules.now c.loop-module.module-index c.module-item.result c.loop-module-test.true in
+    let here = ap (λ (x : ModuleEntry). length x.regions) c.module-item.is in
+    omega (arith, more, here, c.loop-module.invariant, ap length c.regions.ensures.regions)

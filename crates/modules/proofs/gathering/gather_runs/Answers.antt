@@ -1,7 +1,6 @@
 use Rattle.std.proofs.Common.{◌≡◌, ◌∷◌, [], ◌++◌, List, length, ap, sym, subst, ◌∙◌, append_assoc}
 use Rattle.std.proofs.lemmas.List.{append-nil, nil_from_length}
 use Rattle.std.specs.Vec.Iter.{into_iter_items}
-use Rattle.modules.specs.Admissions.{admission_view}
 use Rattle.modules.specs.Gathering.{Gathers}
 use Rattle.modules.specs.Listed.{ListedSymbol}
 use Rattle.modules.specs.Runs.{lines_of_run, lines_of_all}
@@ -12,7 +11,7 @@ use Rattle.modules.proofs.gathering.gather_runs.Goals as goal
 
 pub loop-run-preserved : goal.loop-run-preserved
 loop-run-preserved c =
-    let a = admission_view c.args.admission.now in
+    let a = c.args.placed.now in
     let i = c.loop-run.invariant in
     let done = c.loop-run.yielded in
     let run : Run = c.in-Some.run' in
@@ -27,7 +26,7 @@ loop-run-preserved c =
 
 pub returns : goal.returns
 returns c =
-    let a = admission_view c.args.admission.now in
+    let a = c.args.placed.now in
     let i = c.loop-run.invariant in
     let done = c.loop-run.yielded in
     let last : Run = c.args.last in

@@ -1,6 +1,5 @@
 use Rattle.std.proofs.Common.{◌≡◌, ◌+◌, ◌++◌, length}
 use Rattle.std.specs.Vec.Iter.{into_iter_items}
-use Rattle.modules.specs.Admissions.{admission_view}
 use Rattle.modules.specs.Gathering.{Gathers}
 use Rattle.modules.specs.Runs.{lines_of_all}
 use Rattle.modules.proofs.gathering.gather_runs.Given as goal
@@ -10,6 +9,6 @@ invariant-loop-run l = record {
   can_next : (goal.iterator-loop-run).can_next l.run-iterator;
   finite : (goal.iterator-loop-run).is_finite l.run-iterator;
   gone : l.fn.runs.items ≡ l.yielded ++ into_iter_items l.run-iterator;
-  gathers : Gathers (admission_view l.admission) (lines_of_all l.yielded) l.gathered;
+  gathers : Gathers l.placed (lines_of_all l.yielded) l.gathered;
   counted : l.gathered.kept + l.gathered.stray ≡ length (lines_of_all l.yielded);
 }

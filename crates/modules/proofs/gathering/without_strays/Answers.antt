@@ -1,9 +1,8 @@
 use Rattle.std.proofs.Common.{rules}
 use Rattle.std.proofs.lemmas.Fn.{filter_same}
-use Rattle.modules.specs.Admissions.{admission_view}
 use Rattle.modules.specs.Entries.{SymbolEntry}
 use Rattle.modules.specs.Gathering.{lies_for}
 use Rattle.modules.proofs.gathering.without_strays.Goals as goal
 
 pub returns : goal.returns
-returns c = filter_same _ (λ (s : SymbolEntry). lies_for (admission_view c.args.admission.now) c.args.owner s.addr) _ (λ x b f' k. search rules) _ _ c.retain.ensures.filtered
+returns c = filter_same _ (λ (s : SymbolEntry). lies_for c.args.placed.now c.args.owner s.addr) _ (λ x b f' k. search rules) _ _ c.retain.ensures.filtered

@@ -1,29 +1,28 @@
 use Rattle.std.proofs.Common.{◌≡◌, ◌≤◌, ◌+◌, ◌-◌, length, ◌∙◌, arith}
-use Rattle.modules.specs.Admissions.{admission_view}
 use Rattle.modules.specs.declared.gathering.Gathered.{Gathered}
 use Rattle.modules.proofs.GatheringLemmas.{kept_or_fails, kept_within, room_of}
 use Rattle.modules.proofs.gathering.Gathered.keep_run.Goals as goal
 
 pub overflow_add-self : goal.overflow_add-self
 overflow_add-self c =
-    let a = admission_view c.args.admission.now in
+    let a = c.args.placed.now in
     let few : length c.without_strays-symbols.result.items ≤ length c.args.run.symbols.items = kept_within a c.owner_of-owner.result c.args.run.symbols.items c.without_strays-symbols.result.items c.without_strays-symbols.ensures in
     omega (arith, few, c.len.ensures, c.without_strays-symbols.result.ok.0, c.args.run.symbols.ok.0, c.requires.counts)
 
 pub overflow_sub-self : goal.overflow_sub-self
 overflow_sub-self c =
-    let a = admission_view c.args.admission.now in
+    let a = c.args.placed.now in
     let few : length c.without_strays-symbols.result.items ≤ length c.args.run.symbols.items = kept_within a c.owner_of-owner.result c.args.run.symbols.items c.without_strays-symbols.result.items c.without_strays-symbols.ensures in
     omega (arith, few, c.len-2.ensures, c.len-listed.ensures, c.without_strays-symbols.result.ok.0, c.args.run.symbols.ok.0)
 
 pub put-requires : goal.put-requires
 put-requires c =
     let g : Gathered = record c.args.self.now { kept = c.args.self.now.kept + c.len.result; stray = c.args.self.now.stray + (c.len-listed.result - c.len-2.result) } in
-    record { room = room_of (admission_view c.args.admission.now) c.args.run.module g c.owner_of-owner.result c.owner_of-owner.ensures c.requires.lists }
+    record { room = room_of c.args.placed.now c.args.run.module g c.owner_of-owner.result c.owner_of-owner.ensures c.requires.lists }
 
 pub returns : goal.returns
 returns c =
-    let a = admission_view c.args.admission.now in
+    let a = c.args.placed.now in
     let g = c.args.self.now in
     let listed = c.args.run.symbols in
     let symbols = c.without_strays-symbols.result in

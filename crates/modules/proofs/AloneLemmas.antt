@@ -1,0 +1,258 @@
+-- The modules of symbols alone lie apart, and have distinct names.
+use Rattle.std.proofs.Common.{◌≡◌, ◌≢◌, ℕ, ◌+◌, ◌-◌, ◌^◌, ◌<◌, ◌≤◌, Bool, true, false, ◌&&◌, ◌||◌, not, nat_le, nat_lt, cond, List, [], ◌∷◌, ◌++◌, length, get_or, map, Option, Some, None, refl, sym, ap, subst, ◌∙◌, ⊎_elim, arith}
+use Rattle.std.specs.Prelude.{All, IfSome, filter, find, fold}
+use Rattle.std.specs.Cmp.{first_so, second_so}
+use Rattle.std.specs.List.{AllPairs, flat_map, list_any}
+use Rattle.std.specs.Option.{option_and_then, option_to_list}
+use Rattle.std.specs.Str.{bytes_eq}
+use Rattle.std.proofs.lemmas.Bool.{and_parts, cases_lt, le-leb, leb-false, leb-true, ltb-true, or_cases, or_left, or_parts}
+use Rattle.std.proofs.lemmas.List.{get_or-map, length-map}
+use Rattle.std.proofs.lemmas.List.Elements.{All-append, All-contains, All-filter, All-head, All-nil, All-cons, All-push, All-tail, filter_passes}
+use Rattle.std.proofs.lemmas.List.Folds.{list_any_at}
+use Rattle.std.proofs.lemmas.List.Sums.{AllPass-from_list_all}
+use Rattle.facts.proofs.Pairs.{AllPairs-few}
+use Rattle.facts.proofs.Tests.{find-has, find-passes}
+use Rattle.modules.specs.Accepted.{Accepted, names_of}
+use Rattle.modules.specs.FromSymbols.{HasItsRegions, IsFromSymbols, is_kept_line, owner_names, with_name}
+use Rattle.modules.specs.Kept.{AreDistinctNames, is_built_in, lies_in}
+use Rattle.modules.specs.LineMarks.{HasFirstLine}
+use Rattle.modules.specs.Lines.{built_in_region}
+use Rattle.modules.specs.Listed.{BoundNames, ListedSymbol}
+use Rattle.modules.specs.Owners.{is_nearest_line, is_outside, module_of_address, posts, reach}
+use Rattle.modules.specs.Parts.{is_core}
+use Rattle.modules.specs.Placed.{IsPlaced, PlacedModule}
+use Rattle.modules.specs.PlacedModules.{AreSoundModules}
+use Rattle.modules.specs.Regions.{AreApart, holds, is_apart}
+use Rattle.modules.specs.declared.lines.Part.TheVariants.{Core}
+use Rattle.modules.proofs.KeptOrderLemmas.{has_first_line}
+use Rattle.modules.proofs.MarkedModuleLemmas.{pairs_cons, pairs_first, pairs_rest}
+use Rattle.modules.proofs.OwnLineLemmas.{is_of}
+use Rattle.modules.proofs.PostLemmas.{all_of_passing}
+use Rattle.modules.proofs.SoundnessLemmas.{AreDistinct-push}
+use Rattle.modules.proofs.SpacedLemmas.{Range, inside, within}
+
+-- ---- whose an address is
+
+-- the line of a module that says so
+record IsOwner (lines : List ListedSymbol) (addr : ℕ) (name : List ℕ) (l : ListedSymbol) : Type 0 where
+  pub found : find (is_nearest_line lines addr) lines ≡ Some l
+  pub its : l.owner ≡ Some name
+
+owner_of : (lines : List ListedSymbol) (addr : ℕ) (name : List ℕ) → module_of_address lines addr ≡ Some name → (l : ListedSymbol) × IsOwner lines addr name l
+owner_of lines addr name h = by (find (is_nearest_line lines addr) lines) refl h
+  where
+    reached : (l : ListedSymbol) (b : Bool) → option_and_then (λ (t : ListedSymbol). t.owner) (cond b (Some l) None) ≡ Some name → l.owner ≡ Some name
+    reached l true e = e
+    reached l false e = absurd (cc)
+
+    by : (o : Option ListedSymbol) → find (is_nearest_line lines addr) lines ≡ o
+        → option_and_then (λ (t : ListedSymbol). t.owner) (option_and_then (λ (t : ListedSymbol). cond (nat_lt addr (t.addr + reach)) (Some t) None) o) ≡ Some name
+        → (l : ListedSymbol) × IsOwner lines addr name l
+    by None at e = absurd (cc)
+    by (Some l) at e = (l, record { found = at; its = reached l (nat_lt addr (l.addr + reach)) e })
+
+-- ---- a module and the kernel itself
+
+abbrev is_post : Option (ℕ × ℕ) → ListedSymbol → Bool
+is_post kernel l = is_built_in kernel l || is_outside kernel l
+
+-- a post of a module lies outside the kernel's region
+outside : (r : Range) (l : ListedSymbol) (name : List ℕ) → l.owner ≡ Some name → is_post (Some r) l ≡ true → holds r l.addr ≡ false
+outside r l name own h =
+    let out : is_outside (Some r) l ≡ true = ⊎_elim (λ built. absurd (let no : is_built_in (Some r) l ≡ false = rw own refl in cc)) (λ o. o) (or_cases (is_built_in (Some r) l) (is_outside (Some r) l) h) in
+    let free : (not (holds r l.addr) && nat_lt l.addr (2 ^ 64 - 1)) ≡ true = (rw own at out) in
+    by (holds r l.addr) refl (and_parts (not (holds r l.addr)) (nat_lt l.addr (2 ^ 64 - 1)) free).0
+  where
+    by : (b : Bool) → holds r l.addr ≡ b → not b ≡ true → b ≡ false
+    by true e h = absurd (cc)
+    by false e h = refl
+
+-- no address of the kernel's region is a module's
+kernel_owns : (names : BoundNames) (lines : List ListedSymbol) (r : Range) (addr : ℕ) (name : List ℕ) → built_in_region names lines ≡ Some r → holds r addr ≡ true → module_of_address (posts (Some r) lines) addr ≡ Some name → ⊥
+kernel_owns names lines r addr name is in' h =
+    let kept = posts (Some r) lines in
+    let (l, owner) = owner_of kept addr name h in
+    let near : is_nearest_line kept addr l ≡ true = find-passes (is_nearest_line kept addr) kept l owner.found in
+    let passes : is_post (Some r) l ≡ true = find-has (is_nearest_line kept addr) kept l owner.found (λ t. is_post (Some r) t ≡ true) (filter_passes (is_post (Some r)) lines) in
+    let out : holds r l.addr ≡ false = outside r l name owner.its passes in
+    let first = subst (λ (o : Option Range). HasFirstLine o lines) is (has_first_line names lines) in
+    let nonempty : r.0 < r.1 = first.0 in
+    let (t, there, unowned, at_start) = first.1 in
+    let clear : All (λ t. (nat_le t.addr l.addr || nat_lt addr t.addr) ≡ true) kept = AllPass-from_list_all (λ (t : ListedSymbol). nat_le t.addr l.addr || nat_lt addr t.addr) kept (second_so (nat_le l.addr addr) _ near) in
+    let valid = inside r addr in' in
+    let here : holds r t.addr ≡ true = within r t.addr (omega (arith, at_start)) (omega (arith, at_start)) in
+    let start : is_post (Some r) t ≡ true = or_left (is_built_in (Some r) t) (is_outside (Some r) t) (rw unowned here) in
+    let cleared : (nat_le t.addr l.addr || nat_lt addr t.addr) ≡ true = All-contains (λ (u : ListedSymbol). is_post (Some r) u ≡ true → (nat_le u.addr l.addr || nat_lt addr u.addr) ≡ true) lines t (all_of_passing (is_post (Some r)) (λ u. (nat_le u.addr l.addr || nat_lt addr u.addr) ≡ true) lines clear) there start in
+    let below : l.addr ≤ addr = leb-true l.addr addr (first_so (nat_le l.addr addr) _ near) in
+    ⊎_elim
+    (λ le. let from : t.addr ≤ l.addr = leb-true t.addr l.addr le in let its : holds r l.addr ≡ true = within r l.addr (omega (arith, at_start)) (omega arith) in cc)
+    (λ past. let over : addr < t.addr = ltb-true addr t.addr past in omega (arith, at_start))
+    (or_cases (nat_le t.addr l.addr) (nat_lt addr t.addr) cleared)
+
+-- ---- each module has a kept line
+
+-- an address is that of the module of this name
+abbrev HasAddress : List ListedSymbol → List ℕ → Type 0
+HasAddress lines name = (addr : ℕ) × (addr < 2 ^ 64 - 1) × (module_of_address lines addr ≡ Some name)
+
+below_top : (kernel : Option (ℕ × ℕ)) (l : ListedSymbol) (name : List ℕ) → l.owner ≡ Some name → is_post kernel l ≡ true → l.addr < 2 ^ 64 - 1
+below_top kernel l name own h =
+    ltb-true l.addr (2 ^ 64 - 1)
+    (⊎_elim
+    (λ built. absurd (let no : is_built_in kernel l ≡ false = rw own refl in cc))
+    (λ out. (and_parts _ (nat_lt l.addr (2 ^ 64 - 1)) out).1)
+    (or_cases (is_built_in kernel l) (is_outside kernel l) h))
+
+module _ (kernel : Option (ℕ × ℕ)) (lines : List ListedSymbol) where
+  kept_owner : (l : ListedSymbol) (o : Option (List ℕ)) → l.owner ≡ o → is_post kernel l ≡ true → is_kept_line lines l ≡ true → All (HasAddress lines) (option_to_list o)
+  kept_owner l None own post kept = All-nil (HasAddress lines)
+  kept_owner l (Some name) own post kept =
+      let its : module_of_address lines l.addr ≡ Some name = is_of name (module_of_address lines l.addr) (rw own at kept) in
+      All-cons (HasAddress lines) name [] (l.addr, below_top kernel l name own post, its) (All-nil (HasAddress lines))
+
+  kept_owners : (ls : List ListedSymbol) → All (λ l. is_post kernel l ≡ true) ls → All (λ l. is_kept_line lines l ≡ true) ls → All (HasAddress lines) (flat_map (λ l. option_to_list l.owner) ls)
+  kept_owners [] posts kept = All-nil (HasAddress lines)
+  kept_owners (l ∷ ls) posts kept =
+      All-append (HasAddress lines) (option_to_list l.owner) (flat_map (λ (t : ListedSymbol). option_to_list t.owner) ls)
+      (kept_owner l l.owner refl (All-head (λ (t : ListedSymbol). is_post kernel t ≡ true) l ls posts) (All-head (λ (t : ListedSymbol). is_kept_line lines t ≡ true) l ls kept))
+      (kept_owners ls (All-tail (λ (t : ListedSymbol). is_post kernel t ≡ true) l ls posts) (All-tail (λ (t : ListedSymbol). is_kept_line lines t ≡ true) l ls kept))
+
+all_names : (P : List ℕ → Type 0) (names acc : List (List ℕ)) → All P names → All P acc → All P (fold with_name acc names)
+all_names P [] acc every all = all
+all_names P (n ∷ ns) acc every all =
+    let more : All P (with_name acc n) = elim (list_any (bytes_eq n) acc) as (λ b. All P (cond b acc (acc ++ n ∷ []))) [ true ↦ all | false ↦ All-push P acc n all (All-head P n ns every) ] in
+    all_names P ns (with_name acc n) (All-tail P n ns every) more
+
+distinct_names : (names acc : List (List ℕ)) → AreDistinctNames acc → AreDistinctNames (fold with_name acc names)
+distinct_names [] acc distinct = distinct
+distinct_names (n ∷ ns) acc distinct =
+    let more : AreDistinctNames (with_name acc n) = elim (list_any (bytes_eq n) acc) as (λ b. list_any (bytes_eq n) acc ≡ b → AreDistinctNames (cond b acc (acc ++ n ∷ []))) [ true ↦ λ _. distinct | false ↦ λ absent. AreDistinct-push acc n distinct absent ] refl in
+    distinct_names ns (with_name acc n) more
+
+named_addresses : (kernel : Option (ℕ × ℕ)) (lines : List ListedSymbol) → All (HasAddress (posts kernel lines)) (owner_names (posts kernel lines))
+named_addresses kernel lines =
+    let ps : List ListedSymbol = posts kernel lines in
+    let kept : List ListedSymbol = filter (is_kept_line ps) ps in
+    all_names (HasAddress ps) (flat_map (λ l. option_to_list l.owner) kept) []
+    (kept_owners kernel ps kept (All-filter (is_kept_line ps) (λ l. is_post kernel l ≡ true) ps (filter_passes (is_post kernel) lines)) (filter_passes (is_kept_line ps) ps))
+    (All-nil (HasAddress ps))
+
+placed : (lines : List ListedSymbol) (m : PlacedModule) → HasItsRegions lines m → HasAddress lines m.name → IsPlaced m
+placed lines m its (addr, lt, is) =
+    record {
+      same = ap length its.parts ∙ length-map m.regions (λ (r : Range). Core);
+      some_core = ap (list_any is_core) its.parts ∙ some m.regions ((its.exact addr).1 (lt, is));
+      valid = its.valid;
+    }
+  where
+    some : (rs : List Range) → list_any (λ r. holds r addr) rs ≡ true → list_any is_core (map (λ _. Core) rs) ≡ true
+    some [] h = absurd (cc)
+    some (r ∷ rs) h = refl
+
+-- ---- regions that lie apart
+
+apart_or_meet : (r s : Range) → r.0 < r.1 → s.0 < s.1 → ((x : ℕ) → holds r x ≡ true → holds s x ≡ true → ⊥) → is_apart r s ≡ true
+apart_or_meet r s r_valid s_valid none = by (is_apart r s) refl
+  where
+    by : (b : Bool) → is_apart r s ≡ b → b ≡ true
+    by true e = refl
+    by false e =
+        let both = or_parts (nat_le r.1 s.0) (nat_le s.1 r.0) e in
+        let before : s.0 < r.1 = leb-false r.1 s.0 both.0 in
+        let after : r.0 < s.1 = leb-false s.1 r.0 both.1 in
+        absurd (⊎_elim
+        (λ less. none s.0 (within r s.0 (omega arith) before) (within s s.0 (omega arith) s_valid))
+        (λ ge. none r.0 (within r r.0 (omega arith) r_valid) (within s r.0 ge after))
+        (cases_lt r.0 s.0))
+
+-- no address lies in the region and in the module
+abbrev IsClear : Range → PlacedModule → Type 0
+IsClear r m = (x : ℕ) → holds r x ≡ true → lies_in m x ≡ true → ⊥
+
+abbrev AreValid : PlacedModule → Type 0
+AreValid m = All (λ r. r.0 < r.1) m.regions
+
+apart_from_module : (r : Range) (m : PlacedModule) → r.0 < r.1 → AreValid m → IsClear r m → All (λ s. is_apart r s ≡ true) m.regions
+apart_from_module r m r_valid valid clear = λ k d lt.
+    apart_or_meet r (get_or m.regions k d) r_valid (valid k d lt) (λ x h i. clear x h (list_any_at (λ s. holds s x) m.regions k d lt i))
+
+apart_from_modules : (r : Range) (ms : List PlacedModule) → r.0 < r.1 → All AreValid ms → All (IsClear r) ms → All (λ s. is_apart r s ≡ true) (flat_map (λ m. m.regions) ms)
+apart_from_modules r [] r_valid valid clear = All-nil (λ s. is_apart r s ≡ true)
+apart_from_modules r (m ∷ ms) r_valid valid clear =
+    All-append (λ s. is_apart r s ≡ true) m.regions (flat_map (λ (n : PlacedModule). n.regions) ms)
+    (apart_from_module r m r_valid (All-head AreValid m ms valid) (All-head (IsClear r) m ms clear))
+    (apart_from_modules r ms r_valid (All-tail AreValid m ms valid) (All-tail (IsClear r) m ms clear))
+
+all_valid : (ms : List PlacedModule) → All AreValid ms → All (λ r. r.0 < r.1) (flat_map (λ m. m.regions) ms)
+all_valid [] valid = All-nil (λ (r : Range). r.0 < r.1)
+all_valid (m ∷ ms) valid = All-append (λ (r : Range). r.0 < r.1) m.regions (flat_map (λ (n : PlacedModule). n.regions) ms) (All-head AreValid m ms valid) (all_valid ms (All-tail AreValid m ms valid))
+
+pairs_append : {X : Type 0} (R : X → X → Type 0) (xs ys : List X) → AllPairs R xs → AllPairs R ys → All (λ x. All (R x) ys) xs → AllPairs R (xs ++ ys)
+pairs_append R [] ys of_xs of_ys across = of_ys
+pairs_append R (x ∷ xs) ys of_xs of_ys across =
+    pairs_cons R x (xs ++ ys)
+    (All-append (R x) xs ys (pairs_first R x xs of_xs) (All-head (λ z. All (R z) ys) x xs across))
+    (pairs_append R xs ys (pairs_rest R x xs of_xs) of_ys (All-tail (λ z. All (R z) ys) x xs across))
+
+spaced_apart : (rs : List Range) → AllPairs (λ r s. r.1 < s.0) rs → AllPairs (λ r s. is_apart r s ≡ true) rs
+spaced_apart rs spaced = λ i j d less lt. let gap : (get_or rs i d).1 < (get_or rs j d).0 = spaced i j d less lt in or_left (nat_le (get_or rs i d).1 (get_or rs j d).0) (nat_le (get_or rs j d).1 (get_or rs i d).0) (le-leb (get_or rs i d).1 (get_or rs j d).0 (omega arith))
+
+module _ (lines : List ListedSymbol) where
+  valid_in : (ms : List PlacedModule) → All (HasItsRegions lines) ms → All AreValid ms
+  valid_in ms all = λ k d lt. (all k d lt).valid
+
+  -- two modules of two names have no address in common
+  two_clear : (m n : PlacedModule) (r : Range) → HasItsRegions lines m → HasItsRegions lines n → m.name ≢ n.name → ((x : ℕ) → holds r x ≡ true → lies_in m x ≡ true) → IsClear r n
+  two_clear m n r of_m of_n other within_m = λ x h i.
+      let a = ((of_m.exact x).0 (within_m x h)).1 in
+      let b = ((of_n.exact x).0 i).1 in
+      other (let e : Some m.name ≡ Some n.name = sym a ∙ b in let same : m.name ≡ n.name = cc in same)
+
+  apart_modules : (ms : List PlacedModule) → All (HasItsRegions lines) ms → AreDistinctNames (names_of ms) → AllPairs (λ r s. is_apart r s ≡ true) (flat_map (λ m. m.regions) ms)
+  apart_modules [] all distinct = AllPairs-few (λ (r s : Range). is_apart r s ≡ true) [] (omega arith)
+  apart_modules (m ∷ ms) all distinct =
+      let its = All-head (HasItsRegions lines) m ms all in
+      let rest = All-tail (HasItsRegions lines) m ms all in
+      let others : All (λ name. m.name ≢ name) (names_of ms) = pairs_first (λ (x y : List ℕ). x ≢ y) m.name (names_of ms) distinct in
+      pairs_append (λ (r s : Range). is_apart r s ≡ true) m.regions (flat_map (λ (n : PlacedModule). n.regions) ms)
+      (spaced_apart m.regions its.longest)
+      (apart_modules ms rest (pairs_rest (λ (x y : List ℕ). x ≢ y) m.name (names_of ms) distinct))
+      (λ k d lt.
+      let r : Range = get_or m.regions k d in
+      apart_from_modules r ms (its.valid k d lt) (valid_in ms rest) (λ j n less.
+      two_clear m (get_or ms j n) r its (rest j n less)
+      (subst (λ (name : List ℕ). m.name ≢ name) (get_or-map (λ (x : PlacedModule). x.name) ms j n [] less) (others j [] (omega (arith, length-map ms (λ (x : PlacedModule). x.name)))))
+      (λ x h. list_any_at (λ s. holds s x) m.regions k d lt h)))
+
+-- ---- all of it
+
+with_kernel : (kernel : Option Range) (rs : List Range) → IfSome kernel (λ k. (k.0 < k.1) × All (λ s. is_apart k s ≡ true) rs) → All (λ r. r.0 < r.1) rs → AllPairs (λ r s. is_apart r s ≡ true) rs → AreApart (option_to_list kernel ++ rs)
+with_kernel None rs first valid apart = record { valid = valid; apart = apart }
+with_kernel (Some k) rs first valid apart = record {
+  valid = All-cons (λ (r : Range). r.0 < r.1) k rs first.0 valid;
+  apart = pairs_cons (λ (r s : Range). is_apart r s ≡ true) k rs first.1 apart;
+}
+
+kernel_apart : (names : BoundNames) (lines : List ListedSymbol) (ms : List PlacedModule) (kernel : Option Range) → built_in_region names lines ≡ kernel → All (HasItsRegions (posts kernel lines)) ms → IfSome kernel (λ k. (k.0 < k.1) × All (λ s. is_apart k s ≡ true) (flat_map (λ m. m.regions) ms))
+kernel_apart names lines ms None is all = tt
+kernel_apart names lines ms (Some k) is all =
+    let first = subst (λ (o : Option Range). HasFirstLine o lines) is (has_first_line names lines) in (
+      first.0,
+      apart_from_modules k ms first.0 (valid_in (posts (Some k) lines) ms all) (λ j m lt x h i.
+          kernel_owns names lines k x (get_or ms j m).name is h (((all j m lt).exact x).0 i).1),
+    )
+
+pub sound_alone : (names : BoundNames) (lines : List ListedSymbol) (a : Accepted) → IsFromSymbols names lines a → AreSoundModules a
+sound_alone names lines a h =
+    let kernel : Option Range = built_in_region names lines in
+    let ps : List ListedSymbol = posts kernel lines in
+    let ms : List PlacedModule = a.modules in
+    let addresses : All (HasAddress ps) (names_of ms) = subst (All (HasAddress ps)) (sym h.named) (named_addresses kernel lines) in
+    let distinct : AreDistinctNames (names_of ms) = subst AreDistinctNames (sym h.named) (distinct_names (flat_map (λ l. option_to_list l.owner) (filter (is_kept_line ps) ps)) [] (AllPairs-few (λ (x y : List ℕ). x ≢ y) [] (omega arith))) in
+    record {
+      placed = λ k d lt. placed ps (get_or ms k d) (h.regions k d lt)
+          (subst (HasAddress ps) (get_or-map (λ (m : PlacedModule). m.name) ms k d [] lt) (addresses k [] (omega (arith, length-map ms (λ (m : PlacedModule). m.name)))));
+      apart = subst (λ (k : Option Range). AreApart (option_to_list k ++ flat_map (λ m. m.regions) ms)) (sym h.kernel)
+          (with_kernel kernel (flat_map (λ m. m.regions) ms) (kernel_apart names lines ms kernel refl h.regions) (all_valid ms (valid_in ps ms h.regions)) (apart_modules ps ms h.regions distinct));
+      distinct = distinct;
+    }

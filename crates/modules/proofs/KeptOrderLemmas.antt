@@ -1,0 +1,248 @@
+-- The modules in the order of their first kept lines are those of the lines.
+use Rattle.std.proofs.Common.{◌≡◌, ◌≢◌, ℕ, ◌-◌, ◌^◌, ◌<◌, Bool, true, false, ◌&&◌, ◌||◌, nat_lt, nat_eq, cond, suc, List, [], ◌∷◌, ◌++◌, get_or, map, Option, Some, None, refl, sym, ap, subst, ◌∙◌, arith}
+use Rattle.std.specs.Prelude.{All, Contains, filter, find, fold, is_none, is_some}
+use Rattle.std.specs.List.{flat_map, list_any, position_from}
+use Rattle.std.specs.Option.{option_and_then, option_map, option_map_or, option_to_list}
+use Rattle.std.specs.Str.{bytes_eq}
+use Rattle.std.specs.Cmp.Lexicographic.{bytes_decides}
+use Rattle.std.proofs.lemmas.Bool.{and_parts, eq-eqb, eqb-true, ltb-true}
+use Rattle.std.proofs.lemmas.List.{map-append}
+use Rattle.std.proofs.lemmas.List.Elements.{All-cons, All-filter, All-head, All-nil, All-push, All-tail}
+use Rattle.order_laws.specs.declared.items.Item.{Item}
+use Rattle.order_laws.specs.Orders.{half_open}
+use Rattle.order_laws.specs.Tables.{IsLook, look}
+use Rattle.order_laws.proofs.HalfOpenLemmas.{begins, ends}
+use Rattle.order_laws.proofs.TableLemmas.{look_is}
+use Rattle.facts.proofs.Tests.{find-passes, is_some-position_from}
+use Rattle.modules.specs.FromSymbols.{HasItsRegions, IsFromSymbols, is_kept_line, with_name}
+use Rattle.modules.specs.Kept.{is_built_in}
+use Rattle.modules.specs.Accepted.{accepted_with}
+use Rattle.modules.specs.LineMarks.{AreNamed, HasFirstLine, is_kept_mark, kept_numbers, kernel_marks, mark_of, marks_of, modules_numbered, name_of, number_for, number_in, with_number}
+use Rattle.modules.specs.Lines.{built_in_region, first_address}
+use Rattle.modules.specs.Listed.{BoundNames, ListedSymbol}
+use Rattle.modules.specs.MarkedModules.{numbered_module}
+use Rattle.modules.specs.Marks.{AreRegions, HoldsFor}
+use Rattle.modules.specs.Owners.{is_outside, module_of_address, posts}
+use Rattle.modules.specs.Placed.{PlacedModule}
+use Rattle.modules.specs.declared.marks.Mark.{Mark}
+use Rattle.modules.proofs.LaidLemmas.{found}
+use Rattle.modules.proofs.MarkedModuleLemmas.{its_regions}
+use Rattle.modules.proofs.OwnLineLemmas.{is_of, of_is, same_bool}
+use Rattle.modules.proofs.PostLemmas.{all_mapped, listed_found, marks_stand, number_names}
+
+-- ---- the kernel's first line
+
+first_line : (name : List ℕ) (lines : List ListedSymbol) (a : ℕ) → first_address name lines ≡ Some a → (l : ListedSymbol) × Contains lines l × (l.owner ≡ None) × (l.addr ≡ a)
+first_line name lines a h = by (find (λ l. is_none l.owner && bytes_eq l.name name) lines) refl h
+  where
+    unnamed : (o : Option (List ℕ)) (b : Bool) → (is_none o && b) ≡ true → o ≡ None
+    unnamed None b e = refl
+    unnamed (Some n) b e = absurd (cc)
+
+    by : (o : Option ListedSymbol) → find (λ l. is_none l.owner && bytes_eq l.name name) lines ≡ o → option_map (λ (l : ListedSymbol). l.addr) o ≡ Some a → (l : ListedSymbol) × Contains lines l × (l.owner ≡ None) × (l.addr ≡ a)
+    by None at e = absurd (cc)
+    by (Some l) at e = (l, listed_found (λ (t : ListedSymbol). is_none t.owner && bytes_eq t.name name) lines l at, unnamed l.owner (bytes_eq l.name name) (find-passes (λ (t : ListedSymbol). is_none t.owner && bytes_eq t.name name) lines l at), (let same : l.addr ≡ a = cc in same))
+
+pub has_first_line : (names : BoundNames) (lines : List ListedSymbol) → HasFirstLine (built_in_region names lines) lines
+has_first_line names lines = by (first_address names.start lines) (first_address names.end lines) refl
+  where
+    by : (s e : Option ℕ) → first_address names.start lines ≡ s → HasFirstLine (option_and_then (λ start. option_and_then (λ end. cond (nat_lt start end) (Some (start, end)) None) e) s) lines
+    by None e at = tt
+    by (Some s) None at = tt
+    by (Some s) (Some e) at =
+        elim (nat_lt s e) as (λ b. nat_lt s e ≡ b → HasFirstLine (cond b (Some (s, e)) None) lines) [
+          | true ↦ λ lt. (ltb-true s e lt, first_line names.start lines s at)
+          | false ↦ λ _. tt
+        ] refl
+
+-- ---- numbers
+
+-- the number is that of a name among these
+abbrev IsNumber : List (List ℕ) → ℕ → Type 0
+IsNumber names n = (n ≢ 0) × (number_in names (name_of names n) ≡ n)
+
+numbered : (names : List (List ℕ)) (name : List ℕ) → list_any (bytes_eq name) names ≡ true → number_in names name ≢ 0
+numbered names name some = by (position_from (bytes_eq name) 0 names) (is_some-position_from (bytes_eq name) 0 names ∙ some)
+  where
+    by : (o : Option ℕ) → is_some o ≡ true → option_map_or suc o 0 ≢ 0
+    by None h = absurd (cc)
+    by (Some k) h = λ e. absurd (omega arith)
+
+IsNumber-in : (names : List (List ℕ)) (name : List ℕ) → list_any (bytes_eq name) names ≡ true → IsNumber names (number_in names name)
+IsNumber-in names name some =
+    let not_zero = numbered names name some in
+    (not_zero, ap (number_in names) (number_names names name (number_in names name) refl not_zero))
+
+-- ---- what is kept by the marks is what is kept by the lines
+
+module _ (kernel : Option (ℕ × ℕ)) (names : List (List ℕ)) (lines : List ListedSymbol) (items : List Item) (has : HasFirstLine kernel lines) (regions : AreRegions (marks_of kernel names lines) items) where
+  at_look : (n addr : ℕ) (o : Option Item) → look half_open addr items ≡ o → option_map_or (λ (i : Item). nat_eq i.tag n) o false ≡ true → HoldsFor items n addr
+  at_look n addr None at h = absurd (cc)
+  at_look n addr (Some i) at h =
+      let is : IsLook half_open addr items (Some i) = subst (λ (o : Option Item). IsLook half_open addr items o) at (look_is half_open addr items) in
+      record { item = i; there = is.0; its = eqb-true i.tag n h; from = begins addr i is.1; below = ends addr i is.1 }
+
+  by_look : (n addr : ℕ) → HoldsFor items n addr → option_map_or (λ (i : Item). nat_eq i.tag n) (look half_open addr items) false ≡ true
+  by_look n addr h =
+      ap (λ (o : Option Item). option_map_or (λ (i : Item). nat_eq i.tag n) o false) (sym (found items regions.laid h.item addr h.there h.from h.below (look half_open addr items) (look_is half_open addr items)))
+      ∙ eq-eqb h.item.tag n h.its
+
+  kept_same : (l : ListedSymbol) (name : List ℕ) → l.owner ≡ Some name → list_any (bytes_eq name) names ≡ true → l.addr < 2 ^ 64 - 1 → is_kept_mark items (mark_of names l) ≡ is_kept_line (posts kernel lines) l
+  kept_same l name own some lt =
+      let n : ℕ = number_in names name in
+      let stands = marks_stand names lines kernel n name has (numbered names name some) refl in
+      rw own
+      (same_bool (option_map_or (λ (i : Item). nat_eq i.tag n) (look half_open l.addr items) false) (option_map_or (bytes_eq name) (module_of_address (posts kernel lines) l.addr) false)
+      (λ kept. of_is name (module_of_address (posts kernel lines) l.addr) ((stands l.addr lt).0 ((regions.exact n l.addr).0 (at_look n l.addr (look half_open l.addr items) refl kept)).1))
+      (λ kept. by_look n l.addr ((regions.exact n l.addr).1 (lt, (stands l.addr lt).1 (is_of name (module_of_address (posts kernel lines) l.addr) kept)))))
+
+  kernel_not_kept : (r : ℕ × ℕ) → is_kept_mark items (record { addr = r.0; owner = 0 }) ≡ false
+  kernel_not_kept r = by (is_kept_mark items (record { addr = r.0; owner = 0 })) refl
+    where
+      by : (b : Bool) → is_kept_mark items (record { addr = r.0; owner = 0 }) ≡ b → b ≡ false
+      by true h = absurd (let owns = ((regions.exact 0 r.0).0 (at_look 0 r.0 (look half_open r.0 items) refl h)).1 in owns.some refl)
+      by false h = refl
+
+  -- ---- line by line
+
+  abbrev kept_marks : List Mark → List ℕ
+  kept_marks ms = map (λ (m : Mark). m.owner) (filter (is_kept_mark items) ms)
+
+  abbrev kept_owners : List ListedSymbol → List (List ℕ)
+  kept_owners ls = flat_map (λ (l : ListedSymbol). option_to_list l.owner) (filter (is_kept_line (posts kernel lines)) ls)
+
+  abbrev posts_in : List ListedSymbol → List ListedSymbol
+  posts_in ls = filter (λ l. is_built_in kernel l || is_outside kernel l) ls
+
+  below_top : (l : ListedSymbol) → is_outside kernel l ≡ true → l.addr < 2 ^ 64 - 1
+  below_top l h = ltb-true l.addr (2 ^ 64 - 1) (and_parts _ (nat_lt l.addr (2 ^ 64 - 1)) h).1
+
+  -- one line more
+  one_kept : (l : ListedSymbol) (b : Bool) (ns : List ℕ) (os : List (List ℕ)) (ms : List Mark) (ls : List ListedSymbol) (name : List ℕ) → l.owner ≡ Some name → list_any (bytes_eq name) names ≡ true
+      → map (name_of names) (kept_marks ms) ≡ kept_owners ls → is_kept_mark items (mark_of names l) ≡ b → is_kept_line (posts kernel lines) l ≡ b
+      → map (name_of names) (kept_marks (mark_of names l ∷ ms)) ≡ kept_owners (l ∷ ls)
+  one_kept l true ns os ms ls name own some rest by_mark by_line =
+      let number : number_for names l.owner ≡ number_in names name = ap (number_for names) own in
+      let not_zero = numbered names name some in
+      rw (by_mark, by_line)
+      (ap (λ (w : List ℕ). w ∷ map (name_of names) (kept_marks ms)) (ap (name_of names) number ∙ number_names names name (number_in names name) refl not_zero)
+      ∙ ap (λ (ws : List (List ℕ)). name ∷ ws) rest
+      ∙ ap (λ (o : Option (List ℕ)). option_to_list o ++ kept_owners ls) (sym own))
+  one_kept l false ns os ms ls name own some rest by_mark by_line = rw (by_mark, by_line) rest
+
+  by_lines : (ls : List ListedSymbol) → AreNamed names ls → map (name_of names) (kept_marks (map (mark_of names) (filter (is_outside kernel) ls))) ≡ kept_owners (posts_in ls)
+  by_lines [] all = refl
+  by_lines (l ∷ ls) all =
+      let rest = by_lines ls (All-tail (λ (t : ListedSymbol). option_map_or (λ name. list_any (bytes_eq name) names) t.owner true ≡ true) l ls all) in
+      by l.owner refl (All-head (λ (t : ListedSymbol). option_map_or (λ name. list_any (bytes_eq name) names) t.owner true ≡ true) l ls all) rest
+    where
+      unowned : (b : Bool) → l.owner ≡ None → is_built_in kernel l ≡ b → map (name_of names) (kept_marks (map (mark_of names) (filter (is_outside kernel) ls))) ≡ kept_owners (posts_in ls) → map (name_of names) (kept_marks (map (mark_of names) (filter (is_outside kernel) ls))) ≡ kept_owners (cond (b || false) (l ∷ posts_in ls) (posts_in ls))
+      unowned true none is rest = let no : is_kept_line (posts kernel lines) l ≡ false = rw none refl in rw no rest
+      unowned false none is rest = rest
+
+      owned : (b : Bool) (name : List ℕ) → l.owner ≡ Some name → list_any (bytes_eq name) names ≡ true → is_outside kernel l ≡ b → map (name_of names) (kept_marks (map (mark_of names) (filter (is_outside kernel) ls))) ≡ kept_owners (posts_in ls) → map (name_of names) (kept_marks (map (mark_of names) (cond b (l ∷ filter (is_outside kernel) ls) (filter (is_outside kernel) ls)))) ≡ kept_owners (cond b (l ∷ posts_in ls) (posts_in ls))
+      owned true name own some is rest = one_kept l (is_kept_line (posts kernel lines) l) [] [] (map (mark_of names) (filter (is_outside kernel) ls)) (posts_in ls) name own some rest (kept_same l name own some (below_top l is)) refl
+      owned false name own some is rest = rest
+
+      by : (o : Option (List ℕ)) → l.owner ≡ o → option_map_or (λ name. list_any (bytes_eq name) names) l.owner true ≡ true → map (name_of names) (kept_marks (map (mark_of names) (filter (is_outside kernel) ls))) ≡ kept_owners (posts_in ls) → map (name_of names) (kept_marks (map (mark_of names) (filter (is_outside kernel) (l ∷ ls)))) ≡ kept_owners (posts_in (l ∷ ls))
+      by None own some rest =
+          let out : is_outside kernel l ≡ false = rw own refl in
+          rw out (unowned (is_built_in kernel l) own refl rest)
+      by (Some name) own some rest =
+          let out : is_built_in kernel l ≡ false = rw own refl in
+          let known : list_any (bytes_eq name) names ≡ true = sym (ap (λ (o : Option (List ℕ)). option_map_or (λ (w : List ℕ). list_any (bytes_eq w) names) o true) own) ∙ some in
+          rw out (owned (is_outside kernel l) name own known refl rest)
+
+  without_kernel : (k : Option (ℕ × ℕ)) (ms : List Mark) → filter (is_kept_mark items) (kernel_marks k ++ ms) ≡ filter (is_kept_mark items) ms
+  without_kernel None ms = refl
+  without_kernel (Some r) ms =
+      let first : Mark = record { addr = r.0; owner = 0 } in
+      ap (λ b. cond b (first ∷ filter (is_kept_mark items) ms) (filter (is_kept_mark items) ms)) (kernel_not_kept r)
+
+  kept_names : AreNamed names lines → map (name_of names) (kept_marks (marks_of kernel names lines)) ≡ kept_owners (posts kernel lines)
+  kept_names all =
+      ap (λ (ms : List Mark). map (name_of names) (map (λ (m : Mark). m.owner) ms)) (without_kernel kernel (map (mark_of names) (filter (is_outside kernel) lines))) ∙ by_lines lines all
+
+  good_lines : (ls : List ListedSymbol) → AreNamed names ls → All (λ (m : Mark). IsNumber names m.owner) (map (mark_of names) (filter (is_outside kernel) ls))
+  good_lines [] all = All-nil (λ (m : Mark). IsNumber names m.owner)
+  good_lines (l ∷ ls) all =
+      let rest = good_lines ls (All-tail (λ (t : ListedSymbol). option_map_or (λ name. list_any (bytes_eq name) names) t.owner true ≡ true) l ls all) in
+      elim (is_outside kernel l) as (λ b. is_outside kernel l ≡ b → All (λ (m : Mark). IsNumber names m.owner) (map (mark_of names) (cond b (l ∷ filter (is_outside kernel) ls) (filter (is_outside kernel) ls)))) [
+        | true ↦ λ out. All-cons (λ (m : Mark). IsNumber names m.owner) (mark_of names l) (map (mark_of names) (filter (is_outside kernel) ls)) (by l.owner refl (All-head (λ (t : ListedSymbol). option_map_or (λ name. list_any (bytes_eq name) names) t.owner true ≡ true) l ls all) out) rest
+        | false ↦ λ _. rest
+      ] refl
+    where
+      by : (o : Option (List ℕ)) → l.owner ≡ o → option_map_or (λ name. list_any (bytes_eq name) names) l.owner true ≡ true → is_outside kernel l ≡ true → IsNumber names (number_for names l.owner)
+      by None own some out = absurd (let no : is_outside kernel l ≡ false = rw own refl in cc)
+      by (Some name) own some out =
+          let known : list_any (bytes_eq name) names ≡ true = sym (ap (λ (o : Option (List ℕ)). option_map_or (λ (w : List ℕ). list_any (bytes_eq w) names) o true) own) ∙ some in
+          subst (λ (o : Option (List ℕ)). IsNumber names (number_for names o)) (sym own) (IsNumber-in names name known)
+
+  good_marks : AreNamed names lines → All (IsNumber names) (kept_marks (marks_of kernel names lines))
+  good_marks all =
+      subst (λ (ms : List Mark). All (IsNumber names) (map (λ (m : Mark). m.owner) ms)) (sym (without_kernel kernel (map (mark_of names) (filter (is_outside kernel) lines))))
+      (all_mapped (λ (m : Mark). m.owner) (IsNumber names) (filter (is_kept_mark items) (map (mark_of names) (filter (is_outside kernel) lines)))
+      (All-filter (is_kept_mark items) (λ (m : Mark). IsNumber names m.owner) (map (mark_of names) (filter (is_outside kernel) lines)) (good_lines lines all)))
+
+-- ---- numbers in the order of names
+
+module _ (names : List (List ℕ)) where
+  same_number : (n m : ℕ) → IsNumber names n → IsNumber names m → nat_eq n m ≡ bytes_eq (name_of names n) (name_of names m)
+  same_number n m good well =
+      same_bool (nat_eq n m) (bytes_eq (name_of names n) (name_of names m))
+      (λ e. (bytes_decides (name_of names n) (name_of names m)).1 (ap (name_of names) (eqb-true n m e)))
+      (λ e. eq-eqb n m (sym good.1 ∙ ap (number_in names) ((bytes_decides (name_of names n) (name_of names m)).0 e) ∙ well.1))
+
+  same_has : (acc : List ℕ) (n : ℕ) → All (IsNumber names) acc → IsNumber names n → list_any (nat_eq n) acc ≡ list_any (bytes_eq (name_of names n)) (map (name_of names) acc)
+  same_has [] n all good = refl
+  same_has (a ∷ as') n all good =
+      ap (λ b. b || list_any (nat_eq n) as') (same_number n a good (All-head (IsNumber names) a as' all))
+      ∙ ap (λ b. bytes_eq (name_of names n) (name_of names a) || b) (same_has as' n (All-tail (IsNumber names) a as' all) good)
+
+  one_more : (acc : List ℕ) (n : ℕ) → All (IsNumber names) acc → IsNumber names n → map (name_of names) (with_number acc n) ≡ with_name (map (name_of names) acc) (name_of names n)
+  one_more acc n all good =
+      elim (list_any (nat_eq n) acc) as (λ b. list_any (nat_eq n) acc ≡ b → map (name_of names) (cond b acc (acc ++ n ∷ [])) ≡ cond (list_any (bytes_eq (name_of names n)) (map (name_of names) acc)) (map (name_of names) acc) (map (name_of names) acc ++ name_of names n ∷ [])) [
+        | true ↦ λ e. let same : list_any (bytes_eq (name_of names n)) (map (name_of names) acc) ≡ true = sym (same_has acc n all good) ∙ e in rw same refl
+        | false ↦ λ e. let same : list_any (bytes_eq (name_of names n)) (map (name_of names) acc) ≡ false = sym (same_has acc n all good) ∙ e in rw same (map-append (name_of names) acc (n ∷ []))
+      ] refl
+
+  good_more : (acc : List ℕ) (n : ℕ) → All (IsNumber names) acc → IsNumber names n → All (IsNumber names) (with_number acc n)
+  good_more acc n all good = elim (list_any (nat_eq n) acc) as (λ b. All (IsNumber names) (cond b acc (acc ++ n ∷ []))) [ true ↦ all | false ↦ All-push (IsNumber names) acc n all good ]
+
+  fold_names : (ns acc : List ℕ) → All (IsNumber names) ns → All (IsNumber names) acc → map (name_of names) (fold with_number acc ns) ≡ fold with_name (map (name_of names) acc) (map (name_of names) ns)
+  fold_names [] acc every all = refl
+  fold_names (n ∷ ns) acc every all =
+      let good = All-head (IsNumber names) n ns every in
+      fold_names ns (with_number acc n) (All-tail (IsNumber names) n ns every) (good_more acc n all good)
+      ∙ ap (λ (ws : List (List ℕ)). fold with_name ws (map (name_of names) ns)) (one_more acc n all good)
+
+  fold_good : (ns acc : List ℕ) → All (IsNumber names) ns → All (IsNumber names) acc → All (IsNumber names) (fold with_number acc ns)
+  fold_good [] acc every all = all
+  fold_good (n ∷ ns) acc every all = fold_good ns (with_number acc n) (All-tail (IsNumber names) n ns every) (good_more acc n all (All-head (IsNumber names) n ns every))
+
+  names_numbered : (items : List Item) (ns : List ℕ) → map (λ (m : PlacedModule). m.name) (modules_numbered names items ns) ≡ map (name_of names) ns
+  names_numbered items [] = refl
+  names_numbered items (n ∷ ns) = ap (λ (ws : List (List ℕ)). name_of names n ∷ ws) (names_numbered items ns)
+
+-- what the marks give is what the lines say
+pub from_symbols : (bounds : BoundNames) (lines : List ListedSymbol) (names : List (List ℕ)) (items : List Item) → AreNamed names lines → AreRegions (marks_of (built_in_region bounds lines) names lines) items
+    → IsFromSymbols bounds lines (accepted_with (built_in_region bounds lines) (modules_numbered names items (kept_numbers items (marks_of (built_in_region bounds lines) names lines))))
+from_symbols bounds lines names items all regions =
+    let kernel : Option (ℕ × ℕ) = built_in_region bounds lines in
+    let marks : List Mark = marks_of kernel names lines in
+    let has : HasFirstLine kernel lines = has_first_line bounds lines in
+    let every : All (IsNumber names) (map (λ (m : Mark). m.owner) (filter (is_kept_mark items) marks)) = good_marks kernel names lines items has regions all in
+    let numbers : List ℕ = kept_numbers items marks in
+    let good : All (IsNumber names) numbers = fold_good names (map (λ (m : Mark). m.owner) (filter (is_kept_mark items) marks)) [] every (All-nil (IsNumber names)) in
+    record {
+      kernel = refl;
+      named = names_numbered names items numbers
+          ∙ fold_names names (map (λ (m : Mark). m.owner) (filter (is_kept_mark items) marks)) [] every (All-nil (IsNumber names))
+          ∙ ap (fold with_name []) (kept_names kernel names lines items has regions all);
+      regions = all_mapped (λ n. numbered_module n (name_of names n) items) (HasItsRegions (posts kernel lines)) numbers (λ k d lt.
+          let n : ℕ = get_or numbers k d in
+          let its = good k d lt in
+          its_regions marks items (posts kernel lines) n (name_of names n) regions (marks_stand names lines kernel n (name_of names n) has its.0 its.1));
+      double = refl;
+      overlap = refl;
+    }

@@ -1,0 +1,69 @@
+-- The marks of the lines of runs.
+use Rattle.std.proofs.Common.{◌≡◌, ℕ, ◌≤◌, true, false, cond, List, [], ◌∷◌, ◌++◌, length, get_or, map, Option, Some, None, refl, sym, ap, ◌∙◌, arith, append_assoc}
+use Rattle.std.specs.Prelude.{All, filter, is_some}
+use Rattle.std.specs.Borrow.{Bor}
+use Rattle.std.specs.Option.{option_copied, option_to_list}
+use Rattle.std.proofs.lemmas.List.{map-append}
+use Rattle.std.proofs.lemmas.List.Elements.{All-append, filter-append}
+use Rattle.modules.specs.Entries.{SymbolEntry}
+use Rattle.modules.specs.LineMarks.{is_free, kernel_marks, line_marks, mark_of, marks_of, number_for, number_in, symbol_marks}
+use Rattle.modules.specs.Listed.{ListedSymbol}
+use Rattle.modules.specs.Owners.{is_outside}
+use Rattle.modules.specs.Runs.{lines_of_all, lines_of_run, unlettered}
+use Rattle.modules.specs.declared.marks.Mark.{Mark}
+use Rattle.modules.specs.declared.symbol_lines.Run.{Run}
+use Rattle.modules.proofs.NumberLemmas.{number_within}
+use Rattle.modules.proofs.PostLemmas.{all_mapped}
+use Rattle.modules.proofs.RunLemmas.{lines_of_all-last}
+
+-- the number of the owner of a mark is at most the count of the names
+pub owners_within : (kernel : Option (ℕ × ℕ)) (names : List (List ℕ)) (lines : List ListedSymbol) → All (λ m. m.owner ≤ length names) (marks_of kernel names lines)
+owners_within kernel names lines =
+    All-append (λ (m : Mark). m.owner ≤ length names) (kernel_marks kernel) (line_marks kernel names lines)
+    (all_mapped (λ (r : ℕ × ℕ). record { addr = r.0; owner = 0 }) (λ (m : Mark). m.owner ≤ length names) (option_to_list kernel) (λ k d lt. omega arith))
+    (all_mapped (mark_of names) (λ (m : Mark). m.owner ≤ length names) (filter (is_outside kernel) lines) (λ k d lt. number_within names (get_or (filter (is_outside kernel) lines) k d).owner))
+
+module _ (kernel : Option (ℕ × ℕ)) (names : List (List ℕ)) where
+  -- ---- the lines of a run
+
+  of_kernel : (ss : List SymbolEntry) → line_marks kernel names (map (unlettered None) ss) ≡ []
+  of_kernel [] = refl
+  of_kernel (s ∷ ss) = of_kernel ss
+
+  of_module : (name : List ℕ) (ss : List SymbolEntry) → line_marks kernel names (map (unlettered (Some name)) ss) ≡ symbol_marks kernel (number_in names name) ss
+  of_module name [] = refl
+  of_module name (s ∷ ss) =
+      elim (is_free kernel s.addr) as (λ b. map (mark_of names) (cond b (unlettered (Some name) s ∷ filter (is_outside kernel) (map (unlettered (Some name)) ss)) (filter (is_outside kernel) (map (unlettered (Some name)) ss))) ≡ map (λ (t : SymbolEntry). record { addr = t.addr; owner = number_in names name }) (cond b (s ∷ filter (λ (t : SymbolEntry). is_free kernel t.addr) ss) (filter (λ (t : SymbolEntry). is_free kernel t.addr) ss))) [
+        | true ↦ ap (λ (ms : List Mark). record { addr = s.addr; owner = number_in names name } ∷ ms) (of_module name ss)
+        | false ↦ of_module name ss
+      ]
+
+  -- the lines of the kernel itself have none
+  pub marks_of_kernel_run : (r : Run) → is_some r.module ≡ false → line_marks kernel names (lines_of_run r) ≡ []
+  marks_of_kernel_run r none = by r.module none
+    where
+      by : (m : Option (Bor (List ℕ))) → is_some m ≡ false → line_marks kernel names (map (unlettered (option_copied m)) r.symbols.items) ≡ []
+      by None e = of_kernel r.symbols.items
+      by (Some b) e = absurd (cc)
+
+  -- those of a module have its number
+  pub marks_of_module_run : (r : Run) → is_some r.module ≡ true → line_marks kernel names (lines_of_run r) ≡ symbol_marks kernel (number_for names (option_copied r.module)) r.symbols.items
+  marks_of_module_run r some = by r.module some
+    where
+      by : (m : Option (Bor (List ℕ))) → is_some m ≡ true → line_marks kernel names (map (unlettered (option_copied m)) r.symbols.items) ≡ symbol_marks kernel (number_for names (option_copied m)) r.symbols.items
+      by None e = absurd (cc)
+      by (Some b) e = of_module b.now r.symbols.items
+
+  -- ---- one run more
+
+  line_marks-append : (xs ys : List ListedSymbol) → line_marks kernel names (xs ++ ys) ≡ line_marks kernel names xs ++ line_marks kernel names ys
+  line_marks-append xs ys =
+      ap (λ (ls : List ListedSymbol). map (mark_of names) ls) (filter-append (is_outside kernel) xs ys)
+      ∙ map-append (mark_of names) (filter (is_outside kernel) xs) (filter (is_outside kernel) ys)
+
+  pub marks_more : (runs : List Run) (run : Run) (marks new : List Mark) → marks ≡ marks_of kernel names (lines_of_all runs) → new ≡ marks ++ line_marks kernel names (lines_of_run run) → new ≡ marks_of kernel names (lines_of_all (runs ++ run ∷ []))
+  marks_more runs run marks new before pushed =
+      pushed
+      ∙ ap (λ (ms : List Mark). ms ++ line_marks kernel names (lines_of_run run)) before
+      ∙ append_assoc (kernel_marks kernel) (line_marks kernel names (lines_of_all runs)) (line_marks kernel names (lines_of_run run))
+      ∙ ap (λ (ms : List Mark). kernel_marks kernel ++ ms) (sym (line_marks-append (lines_of_all runs) (lines_of_run run)) ∙ ap (λ (ls : List ListedSymbol). line_marks kernel names ls) (sym (lines_of_all-last runs run)))

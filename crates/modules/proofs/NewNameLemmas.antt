@@ -1,0 +1,35 @@
+-- A module whose name is new.
+use Rattle.std.proofs.Common.{◌≡◌, ℕ, false, cond, List, [], ◌∷◌, ◌++◌, length, get_or, Some, Option, refl, sym, ap, ◌∙◌, subst}
+use Rattle.std.specs.Cmp.Lexicographic.{bytes_decides}
+use Rattle.std.specs.List.{list_any, position_from}
+use Rattle.std.specs.Str.{bytes_eq}
+use Rattle.std.proofs.lemmas.Bool.{false_from_ne_true}
+use Rattle.std.proofs.lemmas.List.{get_or_default, length-map, map-append}
+use Rattle.std.proofs.lemmas.List.Folds.{list_any_none}
+use Rattle.facts.proofs.Members.{Contains-head}
+use Rattle.facts.proofs.Pairs.{AllPairs-across}
+use Rattle.facts.proofs.Tests.{position_from-new}
+use Rattle.modules.specs.Accepted.{names_of}
+use Rattle.modules.specs.Kept.{AreDistinctNames}
+use Rattle.modules.specs.Placed.{PlacedModule}
+
+-- the place of each name, once a module of a new name stands after the others
+pub places_more : (modules after : List PlacedModule) (m : PlacedModule) (name : List ℕ) (k : ℕ) (o p : Option ℕ)
+    → list_any (bytes_eq m.name) (names_of modules) ≡ false → k ≡ length modules
+    → o ≡ position_from (bytes_eq name) 0 (names_of modules)
+    → p ≡ cond (bytes_eq m.name name) (Some k) o → after ≡ modules ++ m ∷ []
+    → p ≡ position_from (bytes_eq name) 0 (names_of after)
+places_more modules after m name k o p new last was is more =
+    let names : names_of after ≡ names_of modules ++ m.name ∷ [] = ap (λ (ms : List PlacedModule). names_of ms) more ∙ map-append (λ (n : PlacedModule). n.name) modules (m ∷ []) in
+    is ∙ ap (λ (q : Option ℕ). cond (bytes_eq m.name name) (Some k) q) was
+    ∙ position_from-new (names_of modules) m.name name k new (last ∙ sym (length-map modules (λ (n : PlacedModule). n.name)))
+    ∙ ap (position_from (bytes_eq name) 0) (sym names)
+
+-- of modules with distinct names, none has the name of one after it
+pub new_after : (before rest : List PlacedModule) (m : PlacedModule) → AreDistinctNames (names_of (before ++ m ∷ rest)) → list_any (bytes_eq m.name) (names_of before) ≡ false
+new_after before rest m distinct =
+    let joined : AreDistinctNames (names_of before ++ names_of (m ∷ rest)) = subst AreDistinctNames (map-append (λ (n : PlacedModule). n.name) before (m ∷ rest)) distinct in
+    list_any_none (bytes_eq m.name) (names_of before) (λ k d lt. false_from_ne_true (bytes_eq m.name (get_or (names_of before) k d)) (λ same.
+    let is : m.name ≡ get_or (names_of before) k d = (bytes_decides m.name (get_or (names_of before) k d)).0 same in
+    AllPairs-across (λ (x y : List ℕ). x ≡ y → ⊥) (names_of before) (names_of (m ∷ rest)) (get_or (names_of before) k d) m.name joined
+    (k, lt, get_or_default (names_of before) k (get_or (names_of before) k d) d lt) (Contains-head m.name m.name (names_of rest) refl) (sym is)))

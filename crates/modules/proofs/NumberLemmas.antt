@@ -1,0 +1,107 @@
+-- The names of modules, their numbers, and one name more.
+use Rattle.std.proofs.Common.{◌≡◌, ℕ, ◌≤◌, Bool, true, false, cond, suc, List, [], ◌∷◌, ◌++◌, length, get_or, Option, Some, None, refl, sym, ap, subst, ◌∙◌, arith}
+use Rattle.std.specs.Prelude.{All, is_some}
+use Rattle.std.specs.Borrow.{Bor}
+use Rattle.std.specs.Cmp.Lexicographic.{bytes_decides}
+use Rattle.std.specs.List.{list_any, position_from}
+use Rattle.std.specs.Option.{option_copied, option_map, option_map_or}
+use Rattle.std.specs.Str.{bytes_eq}
+use Rattle.std.proofs.lemmas.Bool.{or_left, or_right}
+use Rattle.std.proofs.lemmas.Iterator.Adapters.{position_from-zero}
+use Rattle.std.proofs.lemmas.List.{map-append}
+use Rattle.std.proofs.lemmas.List.Elements.{All-append}
+use Rattle.std.proofs.lemmas.List.Folds.{list_any-append}
+use Rattle.std.proofs.lemmas.List.Quantifiers.{position-Some}
+use Rattle.facts.proofs.Tests.{is_some-position_from, position_from-new}
+use Rattle.modules.specs.FromSymbols.{with_name}
+use Rattle.modules.specs.LineMarks.{AreNamed, number_for, with_owner}
+use Rattle.modules.specs.Listed.{ListedSymbol}
+use Rattle.modules.specs.Numbered.{names_at}
+use Rattle.modules.specs.Runs.{lines_of_all, lines_of_run, unlettered}
+use Rattle.modules.specs.declared.symbol_lines.Run.{Run}
+use Rattle.modules.proofs.PostLemmas.{all_mapped}
+use Rattle.modules.proofs.RunLemmas.{lines_of_all-last}
+
+-- ---- the map of numbers
+
+mapped_some : {X Y : Type 0} (f : X → Y) (o : Option X) → is_some (option_map f o) ≡ is_some o
+mapped_some f None = refl
+mapped_some f (Some x) = refl
+
+-- a name has a number where it is among the names
+pub has_number : (names : List (List ℕ)) (name : List ℕ) (o : Option ℕ) (r : Bool) → o ≡ option_map suc (position_from (bytes_eq name) 0 names) → r ≡ is_some o → list_any (bytes_eq name) names ≡ r
+has_number names name o r found answers =
+    sym (is_some-position_from (bytes_eq name) 0 names) ∙ sym (mapped_some suc (position_from (bytes_eq name) 0 names)) ∙ sym (ap is_some found) ∙ sym answers
+
+mapped_either : (b : Bool) (n : ℕ) (o : Option ℕ) → cond b (Some (suc n)) (option_map suc o) ≡ option_map suc (cond b (Some n) o)
+mapped_either true n o = refl
+mapped_either false n o = refl
+
+-- the numbers once a name that was not there stands at the end
+pub numbers_more : (names : List (List ℕ)) (new name : List ℕ) (n : ℕ) (o : Option ℕ) → list_any (bytes_eq new) names ≡ false → n ≡ suc (length names) → o ≡ option_map suc (position_from (bytes_eq name) 0 names)
+    → cond (bytes_eq new name) (Some n) o ≡ option_map suc (position_from (bytes_eq name) 0 (names ++ new ∷ []))
+numbers_more names new name n o absent last found =
+    ap (λ (m : ℕ). cond (bytes_eq new name) (Some m) o) last
+    ∙ ap (λ (p : Option ℕ). cond (bytes_eq new name) (Some (suc (length names))) p) found
+    ∙ mapped_either (bytes_eq new name) (length names) (position_from (bytes_eq name) 0 names)
+    ∙ ap (λ (p : Option ℕ). option_map suc p) (position_from-new names new name (length names) absent refl)
+
+pub names_more : (items pushed : List (Bor (List ℕ))) (b : Bor (List ℕ)) → pushed ≡ items ++ b ∷ [] → names_at pushed ≡ names_at items ++ b.now ∷ []
+names_more items pushed b is = ap names_at is ∙ map-append (λ (n : Bor (List ℕ)). n.now) items (b ∷ [])
+
+-- no number is above the count of the names
+pub number_within : (names : List (List ℕ)) (owner : Option (List ℕ)) → number_for names owner ≤ length names
+number_within names None = omega arith
+number_within names (Some name) = by (position_from (bytes_eq name) 0 names) refl
+  where
+    by : (o : Option ℕ) → position_from (bytes_eq name) 0 names ≡ o → option_map_or suc o 0 ≤ length names
+    by None at = omega arith
+    by (Some k) at = let there = position-Some (bytes_eq name) names k [] (position_from-zero (bytes_eq name) names ∙ at) in omega (arith, there.0)
+
+-- ---- the names with that of an owner
+
+pub owner_known : (names : List (List ℕ)) (o : Option (Bor (List ℕ))) (b : Bor (List ℕ)) → o ≡ Some b → list_any (bytes_eq b.now) names ≡ true → names ≡ with_owner names (option_copied o)
+owner_known names o b is known =
+    sym (ap (λ (x : Option (Bor (List ℕ))). with_owner names (option_copied x)) is ∙ ap (λ t. cond t names (names ++ b.now ∷ [])) known)
+
+pub owner_new : (names : List (List ℕ)) (o : Option (Bor (List ℕ))) (b : Bor (List ℕ)) → o ≡ Some b → list_any (bytes_eq b.now) names ≡ false → names ++ b.now ∷ [] ≡ with_owner names (option_copied o)
+owner_new names o b is absent =
+    sym (ap (λ (x : Option (Bor (List ℕ))). with_owner names (option_copied x)) is ∙ ap (λ t. cond t names (names ++ b.now ∷ [])) absent)
+
+module _ (names : List (List ℕ)) where
+  -- the module of a line is among these
+  abbrev IsOwner : List (List ℕ) → Option (List ℕ) → Type 0
+  IsOwner ns o = option_map_or (λ name. list_any (bytes_eq name) ns) o true ≡ true
+
+  still_there : (new name : List ℕ) → list_any (bytes_eq name) names ≡ true → list_any (bytes_eq name) (with_name names new) ≡ true
+  still_there new name there =
+      elim (list_any (bytes_eq new) names) as (λ b. list_any (bytes_eq name) (cond b names (names ++ new ∷ [])) ≡ true) [
+        | true ↦ there
+        | false ↦ list_any-append (bytes_eq name) names (new ∷ []) ∙ or_left (list_any (bytes_eq name) names) (list_any (bytes_eq name) (new ∷ [])) there
+      ]
+
+  now_there : (new : List ℕ) → list_any (bytes_eq new) (with_name names new) ≡ true
+  now_there new =
+      elim (list_any (bytes_eq new) names) as (λ b. list_any (bytes_eq new) names ≡ b → list_any (bytes_eq new) (cond b names (names ++ new ∷ [])) ≡ true) [
+        | true ↦ λ there. there
+        | false ↦ λ _. list_any-append (bytes_eq new) names (new ∷ []) ∙ or_right (list_any (bytes_eq new) names) (list_any (bytes_eq new) (new ∷ [])) (or_left (bytes_eq new new) false ((bytes_decides new new).1 refl))
+      ] refl
+
+  stays_owner : (owner o : Option (List ℕ)) → IsOwner names o → IsOwner (with_owner names owner) o
+  stays_owner owner None is = refl
+  stays_owner None (Some name) is = is
+  stays_owner (Some new) (Some name) is = still_there new name is
+
+  is_owner : (owner : Option (List ℕ)) → IsOwner (with_owner names owner) owner
+  is_owner None = refl
+  is_owner (Some new) = now_there new
+
+  -- the modules of the lines of one run more
+  pub named_more : (runs : List Run) (run : Run) → AreNamed names (lines_of_all runs) → AreNamed (with_owner names (option_copied run.module)) (lines_of_all (runs ++ run ∷ []))
+  named_more runs run named =
+      let owner : Option (List ℕ) = option_copied run.module in
+      let IsNamed = λ (l : ListedSymbol). IsOwner (with_owner names owner) l.owner in
+      subst (λ (ls : List ListedSymbol). All IsNamed ls) (sym (lines_of_all-last runs run))
+      (All-append IsNamed (lines_of_all runs) (lines_of_run run)
+      (λ k d lt. stays_owner owner (get_or (lines_of_all runs) k d).owner (named k d lt))
+      (all_mapped (unlettered owner) IsNamed run.symbols.items (λ k d lt. is_owner owner)))

@@ -1,0 +1,322 @@
+-- Whose an address is by the marks of a listing is what its lines say.
+use Rattle.std.proofs.Common.{◌≡◌, ◌≢◌, ℕ, ◌+◌, ◌-◌, ◌^◌, ◌<◌, ◌≤◌, Bool, true, false, ◌&&◌, ◌||◌, not, nat_le, nat_lt, nat_eq, cond, suc, List, [], ◌∷◌, get_or, map, Option, Some, None, refl, sym, ap, subst, ◌∙◌, inl, inr, ⊎_elim, arith}
+use Rattle.std.specs.Prelude.{◌⊎◌, All, Contains, filter, find, is_none, is_some}
+use Rattle.std.specs.Cmp.{first_so, second_so}
+use Rattle.std.specs.List.{list_all, position_from}
+use Rattle.std.specs.Option.{option_and_then, option_map, option_map_or}
+use Rattle.std.specs.Str.{bytes_eq}
+use Rattle.std.specs.Cmp.Lexicographic.{bytes_decides}
+use Rattle.std.proofs.lemmas.Bool.{and_from, and_parts, cases_lt, eq-eqb, eqb-false, eqb-true, le-leb, leb-true, lt-ltb, ltb-true, ne_eqb, or_cases, or_left, or_right}
+use Rattle.std.proofs.lemmas.Iterator.Adapters.{position_from-zero}
+use Rattle.std.proofs.lemmas.List.Elements.{All-cons, All-contains, All-head, All-nil, All-tail}
+use Rattle.std.proofs.lemmas.List.Quantifiers.{position-Some}
+use Rattle.std.proofs.lemmas.List.Sums.{AllPass-from_list_all, list_all-from_AllPass}
+use Rattle.std.proofs.lemmas.Option.{get_or_from_slice_get, slice_get_within}
+use Rattle.facts.proofs.Members.{Contains-slice_get}
+use Rattle.facts.proofs.Tests.{find-agree, find-filter, find-has, find-passes, find_place}
+use Rattle.modules.specs.Kept.{is_built_in}
+use Rattle.modules.specs.LineMarks.{HasFirstLine, mark_of, marks_of, name_of, number_for, number_in}
+use Rattle.modules.specs.Listed.{ListedSymbol}
+use Rattle.modules.specs.MarkedModules.{StandsFor}
+use Rattle.modules.specs.Marks.{IsNearestMark, Owns}
+use Rattle.modules.specs.Owners.{is_nearest_line, is_outside, module_of_address, posts, reach}
+use Rattle.modules.specs.Regions.{holds}
+use Rattle.modules.specs.declared.marks.Mark.{Mark}
+use Rattle.modules.proofs.KeptLemmas.{not_built_in}
+use Rattle.modules.proofs.MarkOrderLemmas.{found_first, is_at}
+use Rattle.modules.proofs.OwnLineLemmas.{same_bool}
+use Rattle.modules.proofs.SpacedLemmas.{inside, within}
+
+-- ---- what passes a test
+
+pub all_passing : {X : Type 0} (p : X → Bool) (Q : X → Type 0) (xs : List X) → All (λ x. p x ≡ true → Q x) xs → All Q (filter p xs)
+all_passing p Q [] all = All-nil Q
+all_passing p Q (x ∷ xs) all =
+    elim (p x) as (λ b. (b ≡ true → Q x) → All Q (cond b (x ∷ filter p xs) (filter p xs))) [
+      | true ↦ λ here. All-cons Q x (filter p xs) (here refl) (all_passing p Q xs (All-tail (λ y. p y ≡ true → Q y) x xs all))
+      | false ↦ λ _. all_passing p Q xs (All-tail (λ y. p y ≡ true → Q y) x xs all)
+    ] (All-head (λ y. p y ≡ true → Q y) x xs all)
+
+pub all_of_passing : {X : Type 0} (p : X → Bool) (Q : X → Type 0) (xs : List X) → All Q (filter p xs) → All (λ x. p x ≡ true → Q x) xs
+all_of_passing p Q [] all = All-nil (λ x. p x ≡ true → Q x)
+all_of_passing p Q (x ∷ xs) all =
+    elim (p x) as (λ b. p x ≡ b → All Q (cond b (x ∷ filter p xs) (filter p xs)) → All (λ y. p y ≡ true → Q y) (x ∷ xs)) [
+      | true ↦ λ _ both. All-cons (λ y. p y ≡ true → Q y) x xs (λ _. All-head Q x (filter p xs) both) (all_of_passing p Q xs (All-tail Q x (filter p xs) both))
+      | false ↦ λ fails rest. All-cons (λ y. p y ≡ true → Q y) x xs (λ passes. absurd (cc)) (all_of_passing p Q xs rest)
+    ] refl all
+
+pub all_mapped : {X Y : Type 0} (f : X → Y) (Q : Y → Type 0) (xs : List X) → All (λ x. Q (f x)) xs → All Q (map f xs)
+all_mapped f Q [] all = All-nil Q
+all_mapped f Q (x ∷ xs) all = All-cons Q (f x) (map f xs) (All-head (λ y. Q (f y)) x xs all) (all_mapped f Q xs (All-tail (λ y. Q (f y)) x xs all))
+
+all_of_mapped : {X Y : Type 0} (f : X → Y) (Q : Y → Type 0) (xs : List X) → All Q (map f xs) → All (λ x. Q (f x)) xs
+all_of_mapped f Q [] all = All-nil (λ x. Q (f x))
+all_of_mapped f Q (x ∷ xs) all = All-cons (λ y. Q (f y)) x xs (All-head Q (f x) (map f xs) all) (all_of_mapped f Q xs (All-tail Q (f x) (map f xs) all))
+
+find_mapped : {X Y : Type 0} (p : Y → Bool) (f : X → Y) (xs : List X) → find p (map f xs) ≡ option_map f (find (λ x. p (f x)) xs)
+find_mapped p f [] = refl
+find_mapped p f (x ∷ xs) =
+    elim (p (f x)) as (λ b. cond b (Some (f x)) (find p (map f xs)) ≡ option_map f (cond b (Some x) (find (λ y. p (f y)) xs)))
+    [ true ↦ refl | false ↦ find_mapped p f xs ]
+
+some_mapped : {X Y : Type 0} (f : X → Y) (o : Option X) (y : Y) → option_map f o ≡ Some y → (x : X) × (o ≡ Some x) × (f x ≡ y)
+some_mapped f None y h = absurd (cc)
+some_mapped f (Some x) y h = (x, refl, (let e : f x ≡ y = cc in e))
+
+pub listed_found : {X : Type 0} (p : X → Bool) (xs : List X) (x : X) → find p xs ≡ Some x → Contains xs x
+listed_found p xs x h = let (place, first) = find_place p xs x h in Contains-slice_get xs place x first.at
+
+-- ---- the nearest address
+
+-- the address is at or below x, and none of the list lies between them
+pub record IsNearestAddress {X : Type 0} (at : X → ℕ) (xs : List X) (x a : ℕ) : Type 0 where
+  pub below : a ≤ x
+  pub clear : All (λ t. (at t ≤ a) ⊎ (x < at t)) xs
+
+abbrev IsNearestOf : List ListedSymbol → ℕ → ℕ → Type 0
+IsNearestOf ls x a = IsNearestAddress (λ (t : ListedSymbol). t.addr) ls x a
+
+abbrev IsNearestIn : List Mark → ℕ → ℕ → Type 0
+IsNearestIn ms x a = IsNearestAddress (λ (t : Mark). t.addr) ms x a
+
+-- the line is of the address
+abbrev is_line_at : ℕ → ListedSymbol → Bool
+is_line_at a t = nat_eq t.addr a
+
+either : (t a x : ℕ) → (nat_le t a || nat_lt x t) ≡ true → (t ≤ a) ⊎ (x < t)
+either t a x h = ⊎_elim (λ e. inl (leb-true t a e)) (λ e. inr (ltb-true x t e)) (or_cases (nat_le t a) (nat_lt x t) h)
+
+from_either : (t a x : ℕ) → (t ≤ a) ⊎ (x < t) → (nat_le t a || nat_lt x t) ≡ true
+from_either t a x h = ⊎_elim (λ e. or_left (nat_le t a) (nat_lt x t) (le-leb t a e)) (λ e. or_right (nat_le t a) (nat_lt x t) (lt-ltb x t e)) h
+
+nearest_line_is : (ls : List ListedSymbol) (x : ℕ) (l : ListedSymbol) → is_nearest_line ls x l ≡ true → IsNearestOf ls x l.addr
+nearest_line_is ls x l h = record {
+  below = leb-true l.addr x (first_so (nat_le l.addr x) (list_all (λ (t : ListedSymbol). nat_le t.addr l.addr || nat_lt x t.addr) ls) h);
+  clear = λ k d lt. either (get_or ls k d).addr l.addr x (AllPass-from_list_all (λ (t : ListedSymbol). nat_le t.addr l.addr || nat_lt x t.addr) ls (second_so (nat_le l.addr x) (list_all (λ (t : ListedSymbol). nat_le t.addr l.addr || nat_lt x t.addr) ls) h) k d lt);
+}
+
+line_is_nearest : (ls : List ListedSymbol) (x : ℕ) (l : ListedSymbol) → IsNearestOf ls x l.addr → is_nearest_line ls x l ≡ true
+line_is_nearest ls x l n =
+    and_from (nat_le l.addr x) (list_all (λ (t : ListedSymbol). nat_le t.addr l.addr || nat_lt x t.addr) ls)
+    (le-leb l.addr x n.below)
+    (list_all-from_AllPass (λ (t : ListedSymbol). nat_le t.addr l.addr || nat_lt x t.addr) ls (λ k d lt. from_either (get_or ls k d).addr l.addr x (n.clear k d lt)))
+
+-- of two nearest addresses that are listed neither is above the other
+not_above : {X : Type 0} (at : X → ℕ) (xs : List X) (x a b : ℕ) (t : X) → IsNearestAddress at xs x a → IsNearestAddress at xs x b → Contains xs t → at t ≡ b → b ≤ a
+not_above at xs x a b t n m there is =
+    ⊎_elim (λ le. subst (λ c. c ≤ a) is le) (λ past. absurd (let low = m.below in omega (arith, is))) (All-contains (λ s. (at s ≤ a) ⊎ (x < at s)) xs t n.clear there)
+
+-- the first of the nearest lines is the first of their address
+nearest_by_address : (ls : List ListedSymbol) (x : ℕ) (l : ListedSymbol) → Contains ls l → IsNearestOf ls x l.addr → find (is_nearest_line ls x) ls ≡ find (is_line_at l.addr) ls
+nearest_by_address ls x l there n =
+    find-agree (is_nearest_line ls x) (is_line_at l.addr) ls (λ k d lt.
+    let t : ListedSymbol = get_or ls k d in
+    same_bool (is_nearest_line ls x t) (is_line_at l.addr t)
+    (λ yes.
+    let m = nearest_line_is ls x t yes in
+    let low : l.addr ≤ t.addr = not_above (λ (s : ListedSymbol). s.addr) ls x t.addr l.addr l m n there refl in
+    let high : t.addr ≤ l.addr = ⊎_elim (λ le. le) (λ past. absurd (let b = m.below in omega arith)) (n.clear k d lt) in
+    eq-eqb t.addr l.addr (omega arith))
+    (λ e. line_is_nearest ls x t (subst (λ a. IsNearestOf ls x a) (sym (eqb-true t.addr l.addr e)) n)))
+
+mark_nearest : (ms : List Mark) (x : ℕ) (m : Mark) → IsNearestIn ms x m.addr → find (is_at m.addr) ms ≡ Some m → IsNearestMark ms x m
+mark_nearest ms x m n found =
+    let (place, first) = find_place (is_at m.addr) ms m found in
+    record {
+      place = place;
+      within = slice_get_within ms place m first.at;
+      listed = get_or_from_slice_get ms place m m first.at;
+      below = n.below;
+      nearest = n.clear;
+      first = λ k d lt e. eqb-false (get_or ms k d).addr m.addr (first.before k d lt) e;
+    }
+
+-- ---- numbers and names
+
+number_some : (names : List (List ℕ)) (name : List ℕ) (o : Option ℕ) (n : ℕ) → position_from (bytes_eq name) 0 names ≡ o → option_map_or suc o 0 ≡ n → n ≢ 0 → name_of names n ≡ name
+number_some names name None n at is some = absurd (some (sym is))
+number_some names name (Some k) n at is some =
+    let found = position-Some (bytes_eq name) names k [] (position_from-zero (bytes_eq name) names ∙ at) in
+    let place : n - 1 ≡ k = omega (arith, is) in
+    ap (λ j. get_or names j []) place ∙ sym ((bytes_decides name (get_or names k [])).0 found.1)
+
+pub number_names : (names : List (List ℕ)) (name : List ℕ) (n : ℕ) → number_in names name ≡ n → n ≢ 0 → name_of names n ≡ name
+number_names names name n is some = number_some names name (position_from (bytes_eq name) 0 names) n refl is some
+
+owner_named : (names : List (List ℕ)) (o : Option (List ℕ)) (n : ℕ) → number_for names o ≡ n → n ≢ 0 → o ≡ Some (name_of names n)
+owner_named names None n is some = absurd (some (sym is))
+owner_named names (Some name) n is some = ap (λ (w : List ℕ). Some w) (sym (number_names names name n is some))
+
+-- ---- the kernel and the lines outside
+
+abbrev is_inside : Option (ℕ × ℕ) → ℕ → Bool
+is_inside kernel a = option_map_or (λ r. holds r a) kernel false
+
+outside_not_inside : (kernel : Option (ℕ × ℕ)) (l : ListedSymbol) → is_outside kernel l ≡ true → is_inside kernel l.addr ≡ false
+outside_not_inside kernel l h =
+    let first = and_parts (is_some l.owner && not (is_inside kernel l.addr)) (nat_lt l.addr (2 ^ 64 - 1)) h in
+    let both = and_parts (is_some l.owner) (not (is_inside kernel l.addr)) first.0 in
+    turned (is_inside kernel l.addr) both.1
+  where
+    turned : (b : Bool) → not b ≡ true → b ≡ false
+    turned true h = absurd (cc)
+    turned false h = refl
+
+not_outside_unnamed : (kernel : Option (ℕ × ℕ)) (l : ListedSymbol) → l.owner ≡ None → is_outside kernel l ≡ false
+not_outside_unnamed kernel l none = rw none refl
+
+-- of lines at an address outside the kernel's region, just those of modules are posts
+posts_at : (kernel : Option (ℕ × ℕ)) (lines : List ListedSymbol) (a : ℕ) → is_inside kernel a ≡ false → find (is_line_at a) (posts kernel lines) ≡ find (is_line_at a) (filter (is_outside kernel) lines)
+posts_at kernel lines a out =
+    find-filter (is_line_at a) (λ l. is_built_in kernel l || is_outside kernel l) lines
+    ∙ find-agree (λ l. (is_built_in kernel l || is_outside kernel l) && is_line_at a l) (λ l. is_outside kernel l && is_line_at a l) lines (λ k d lt. here (get_or lines k d))
+    ∙ sym (find-filter (is_line_at a) (is_outside kernel) lines)
+  where
+    by : (built_in outside at : Bool) → (at ≡ true → built_in ≡ false) → ((built_in || outside) && at) ≡ (outside && at)
+    by true outside true h = absurd (let e = h refl in cc)
+    by true true false h = refl
+    by true false false h = refl
+    by false outside at h = refl
+
+    no : (b : Bool) → (b && false) ≡ false
+    no true = refl
+    no false = refl
+
+    here : (l : ListedSymbol) → ((is_built_in kernel l || is_outside kernel l) && is_line_at a l) ≡ (is_outside kernel l && is_line_at a l)
+    here l = by (is_built_in kernel l) (is_outside kernel l) (is_line_at a l) (λ at.
+        ap (λ n. is_none l.owner && is_inside kernel n) (eqb-true l.addr a at) ∙ ap (λ b. is_none l.owner && b) out ∙ no (is_none l.owner))
+
+kernel_apart : (r : ℕ × ℕ) (a : ℕ) → r.0 < r.1 → holds r a ≡ false → r.0 ≡ a → ⊥
+kernel_apart r a valid out e = let in' : holds r a ≡ true = within r a (omega arith) (omega arith) in cc
+
+module _ (names : List (List ℕ)) (lines : List ListedSymbol) where
+  -- ---- the first mark of an address
+
+  found_mark : (kernel : Option (ℕ × ℕ)) (l : ListedSymbol) → HasFirstLine kernel lines → is_inside kernel l.addr ≡ false → find (is_line_at l.addr) (filter (is_outside kernel) lines) ≡ Some l → find (is_at l.addr) (marks_of kernel names lines) ≡ Some (mark_of names l)
+  found_mark None l has out h = find_mapped (is_at l.addr) (mark_of names) (filter (is_outside None) lines) ∙ ap (option_map (mark_of names)) h
+  found_mark (Some r) l has out h =
+      let other : nat_eq r.0 l.addr ≡ false = ne_eqb r.0 l.addr (kernel_apart r l.addr has.0 out) in
+      rw other (find_mapped (is_at l.addr) (mark_of names) (filter (is_outside (Some r)) lines) ∙ ap (option_map (mark_of names)) h)
+
+  marked : (kernel : Option (ℕ × ℕ)) (m : Mark) → find (is_at m.addr) (map (mark_of names) (filter (is_outside kernel) lines)) ≡ Some m → (l : ListedSymbol) × (find (is_line_at m.addr) (filter (is_outside kernel) lines) ≡ Some l) × (mark_of names l ≡ m)
+  marked kernel m h = some_mapped (mark_of names) (find (is_line_at m.addr) (filter (is_outside kernel) lines)) m (sym (find_mapped (is_at m.addr) (mark_of names) (filter (is_outside kernel) lines)) ∙ h)
+
+  mark_found : (kernel : Option (ℕ × ℕ)) (m : Mark) → m.owner ≢ 0 → find (is_at m.addr) (marks_of kernel names lines) ≡ Some m → (l : ListedSymbol) × (find (is_line_at m.addr) (filter (is_outside kernel) lines) ≡ Some l) × (mark_of names l ≡ m)
+  mark_found None m some h = marked None m h
+  mark_found (Some r) m some h =
+      let first : Mark = record { addr = r.0; owner = 0 } in
+      elim (nat_eq r.0 m.addr) as (λ b. cond b (Some first) (find (is_at m.addr) (map (mark_of names) (filter (is_outside (Some r)) lines))) ≡ Some m → (l : ListedSymbol) × (find (is_line_at m.addr) (filter (is_outside (Some r)) lines) ≡ Some l) × (mark_of names l ≡ m)) [
+        | true ↦ λ e. let same : first ≡ m = cc in absurd (some (sym (ap (λ (s : Mark). s.owner) same)))
+        | false ↦ λ e. marked (Some r) m e
+      ] h
+
+  -- ---- the nearest address of marks and of posts
+
+  outside_clear : (kernel : Option (ℕ × ℕ)) (x a : ℕ) → All (λ (t : Mark). (t.addr ≤ a) ⊎ (x < t.addr)) (marks_of kernel names lines) → All (λ (t : ListedSymbol). is_outside kernel t ≡ true → (t.addr ≤ a) ⊎ (x < t.addr)) lines
+  outside_clear None x a all = all_of_passing (is_outside None) (λ (t : ListedSymbol). (t.addr ≤ a) ⊎ (x < t.addr)) lines (all_of_mapped (mark_of names) (λ (t : Mark). (t.addr ≤ a) ⊎ (x < t.addr)) (filter (is_outside None) lines) all)
+  outside_clear (Some r) x a all = all_of_passing (is_outside (Some r)) (λ (t : ListedSymbol). (t.addr ≤ a) ⊎ (x < t.addr)) lines (all_of_mapped (mark_of names) (λ (t : Mark). (t.addr ≤ a) ⊎ (x < t.addr)) (filter (is_outside (Some r)) lines) (All-tail (λ (t : Mark). (t.addr ≤ a) ⊎ (x < t.addr)) (record { addr = r.0; owner = 0 }) (map (mark_of names) (filter (is_outside (Some r)) lines)) all))
+
+  kernel_clear : (kernel : Option (ℕ × ℕ)) (x a : ℕ) (t : ListedSymbol) → is_inside kernel a ≡ false → All (λ (s : Mark). (s.addr ≤ a) ⊎ (x < s.addr)) (marks_of kernel names lines) → is_inside kernel t.addr ≡ true → (t.addr ≤ a) ⊎ (x < t.addr)
+  kernel_clear None x a t out all in' = absurd (cc)
+  kernel_clear (Some r) x a t out all in' =
+      let (from, below) = inside r t.addr in' in
+      ⊎_elim
+      (λ le. ⊎_elim
+      (λ lt. absurd (let at : holds r a ≡ true = within r a le lt in cc))
+      (λ ge. inl (omega arith))
+      (cases_lt a r.1))
+      (λ past. inr (omega arith))
+      (All-head (λ (s : Mark). (s.addr ≤ a) ⊎ (x < s.addr)) (record { addr = r.0; owner = 0 }) (map (mark_of names) (filter (is_outside (Some r)) lines)) all)
+
+  built_in_inside : (kernel : Option (ℕ × ℕ)) (t : ListedSymbol) → is_built_in kernel t ≡ true → is_inside kernel t.addr ≡ true
+  built_in_inside kernel t h = (and_parts (is_none t.owner) (is_inside kernel t.addr) h).1
+
+  near_posts : (kernel : Option (ℕ × ℕ)) (x a : ℕ) → is_inside kernel a ≡ false → IsNearestIn (marks_of kernel names lines) x a → IsNearestOf (posts kernel lines) x a
+  near_posts kernel x a out n = record {
+    below = n.below;
+    clear = all_passing (λ l. is_built_in kernel l || is_outside kernel l) (λ (t : ListedSymbol). (t.addr ≤ a) ⊎ (x < t.addr)) lines (λ k d lt passes.
+        let t : ListedSymbol = get_or lines k d in
+        ⊎_elim
+        (λ own. kernel_clear kernel x a t out n.clear (built_in_inside kernel t own))
+        (λ its. outside_clear kernel x a n.clear k d lt its)
+        (or_cases (is_built_in kernel t) (is_outside kernel t) passes));
+  }
+
+  posts_clear : (kernel : Option (ℕ × ℕ)) (x a : ℕ) → IsNearestOf (posts kernel lines) x a → All (λ (t : ListedSymbol). (is_built_in kernel t || is_outside kernel t) ≡ true → (t.addr ≤ a) ⊎ (x < t.addr)) lines
+  posts_clear kernel x a n = all_of_passing (λ l. is_built_in kernel l || is_outside kernel l) (λ (t : ListedSymbol). (t.addr ≤ a) ⊎ (x < t.addr)) lines n.clear
+
+  others_clear : (kernel : Option (ℕ × ℕ)) (x a : ℕ) → IsNearestOf (posts kernel lines) x a → All (λ (t : Mark). (t.addr ≤ a) ⊎ (x < t.addr)) (map (mark_of names) (filter (is_outside kernel) lines))
+  others_clear kernel x a n =
+      all_mapped (mark_of names) (λ (t : Mark). (t.addr ≤ a) ⊎ (x < t.addr)) (filter (is_outside kernel) lines)
+      (all_passing (is_outside kernel) (λ (t : ListedSymbol). (t.addr ≤ a) ⊎ (x < t.addr)) lines (λ k d lt yes.
+      let t : ListedSymbol = get_or lines k d in
+      posts_clear kernel x a n k d lt (or_right (is_built_in kernel t) (is_outside kernel t) yes)))
+
+  first_passes : (r : ℕ × ℕ) (l : ListedSymbol) → r.0 < r.1 → l.owner ≡ None → l.addr ≡ r.0 → is_built_in (Some r) l ≡ true
+  first_passes r l valid none at = rw (none, at) (within r r.0 (omega arith) valid)
+
+  near_marks : (kernel : Option (ℕ × ℕ)) (x a : ℕ) → HasFirstLine kernel lines → IsNearestOf (posts kernel lines) x a → IsNearestIn (marks_of kernel names lines) x a
+  near_marks None x a has n = record { below = n.below; clear = others_clear None x a n }
+  near_marks (Some r) x a (valid, first) n =
+      let (l, there, none, at) = first in
+      record {
+        below = n.below;
+        clear = All-cons (λ (t : Mark). (t.addr ≤ a) ⊎ (x < t.addr)) (record { addr = r.0; owner = 0 }) (map (mark_of names) (filter (is_outside (Some r)) lines))
+            (subst (λ b. (b ≤ a) ⊎ (x < b)) at
+            (All-contains (λ (t : ListedSymbol). (is_built_in (Some r) t || is_outside (Some r) t) ≡ true → (t.addr ≤ a) ⊎ (x < t.addr)) lines l (posts_clear (Some r) x a n) there
+            (or_left (is_built_in (Some r) l) (is_outside (Some r) l) (first_passes r l valid none at))))
+            (others_clear (Some r) x a n);
+      }
+
+  -- ---- whose an address is
+
+  owned : (x : ℕ) (name : List ℕ) (o : Option ListedSymbol) → option_and_then (λ (l : ListedSymbol). l.owner) (option_and_then (λ (l : ListedSymbol). cond (nat_lt x (l.addr + reach)) (Some l) None) o) ≡ Some name → (l : ListedSymbol) × (o ≡ Some l) × (x < l.addr + reach) × (l.owner ≡ Some name)
+  owned x name None h = absurd (cc)
+  owned x name (Some l) h =
+      elim (nat_lt x (l.addr + reach)) as (λ b. nat_lt x (l.addr + reach) ≡ b → option_and_then (λ (t : ListedSymbol). t.owner) (cond b (Some l) None) ≡ Some name → (t : ListedSymbol) × (Some l ≡ Some t) × (x < t.addr + reach) × (t.owner ≡ Some name)) [
+        | true ↦ λ e k. (l, refl, ltb-true x (l.addr + reach) e, k)
+        | false ↦ λ _ k. absurd (cc)
+      ] refl h
+
+  passes_outside : (kernel : Option (ℕ × ℕ)) (l : ListedSymbol) (a : ℕ) → find (is_line_at a) (filter (is_outside kernel) lines) ≡ Some l → is_outside kernel l ≡ true
+  passes_outside kernel l a at = find-has (is_line_at a) (filter (is_outside kernel) lines) l at (λ t. is_outside kernel t ≡ true) (all_passing (is_outside kernel) (λ t. is_outside kernel t ≡ true) lines (λ k d lt yes. yes))
+
+  nearest_found : (kernel : Option (ℕ × ℕ)) (x : ℕ) (l : ListedSymbol) → IsNearestIn (marks_of kernel names lines) x l.addr → find (is_line_at l.addr) (filter (is_outside kernel) lines) ≡ Some l → find (is_nearest_line (posts kernel lines) x) (posts kernel lines) ≡ Some l
+  nearest_found kernel x l near at =
+      let out : is_inside kernel l.addr ≡ false = outside_not_inside kernel l (passes_outside kernel l l.addr at) in
+      let found : find (is_line_at l.addr) (posts kernel lines) ≡ Some l = posts_at kernel lines l.addr out ∙ at in
+      nearest_by_address (posts kernel lines) x l (listed_found (is_line_at l.addr) (posts kernel lines) l found) (near_posts kernel x l.addr out near) ∙ found
+
+  to_lines : (kernel : Option (ℕ × ℕ)) (n x : ℕ) (name : List ℕ) → n ≢ 0 → number_in names name ≡ n → Owns (marks_of kernel names lines) n x → module_of_address (posts kernel lines) x ≡ Some name
+  to_lines kernel n x name some is o =
+      let m : Mark = o.mark in
+      let (l, at, made) = mark_found kernel m (λ zero. some (sym o.its ∙ zero)) (found_first (marks_of kernel names lines) x m o.nearest) in
+      let addr : l.addr ≡ m.addr = ap (λ (s : Mark). s.addr) made in
+      let near : IsNearestIn (marks_of kernel names lines) x l.addr = subst (λ a. IsNearestIn (marks_of kernel names lines) x a) (sym addr) (record { below = o.nearest.below; clear = o.nearest.nearest }) in
+      let line : find (is_nearest_line (posts kernel lines) x) (posts kernel lines) ≡ Some l = nearest_found kernel x l near (subst (λ a. find (is_line_at a) (filter (is_outside kernel) lines) ≡ Some l) (sym addr) at) in
+      let own : l.owner ≡ Some name = owner_named names l.owner n (ap (λ (s : Mark). s.owner) made ∙ o.its) some ∙ ap (λ (w : List ℕ). Some w) (number_names names name n is some) in
+      let reached : nat_lt x (l.addr + reach) ≡ true = lt-ltb x (l.addr + reach) (subst (λ a. x < a + reach) (sym addr) o.reached) in
+      ap (λ (p : Option ListedSymbol). option_and_then (λ (t : ListedSymbol). t.owner) (option_and_then (λ (t : ListedSymbol). cond (nat_lt x (t.addr + reach)) (Some t) None) p)) line ∙ rw reached own
+
+  is_named_outside : (kernel : Option (ℕ × ℕ)) (l : ListedSymbol) (name : List ℕ) → l.owner ≡ Some name → (is_built_in kernel l || is_outside kernel l) ≡ true → is_outside kernel l ≡ true
+  is_named_outside kernel l name own passes = ⊎_elim (λ built_in. absurd (let other : is_built_in kernel l ≡ false = not_built_in kernel l name own in cc)) (λ its. its) (or_cases (is_built_in kernel l) (is_outside kernel l) passes)
+
+  from_lines : (kernel : Option (ℕ × ℕ)) (n x : ℕ) (name : List ℕ) → HasFirstLine kernel lines → n ≢ 0 → number_in names name ≡ n → module_of_address (posts kernel lines) x ≡ Some name → Owns (marks_of kernel names lines) n x
+  from_lines kernel n x name has some is h =
+      let ps : List ListedSymbol = posts kernel lines in
+      let (l, at, reached, own) = owned x name (find (is_nearest_line ps x) ps) h in
+      let near : IsNearestOf ps x l.addr = nearest_line_is ps x l (find-passes (is_nearest_line ps x) ps l at) in
+      let found : find (is_line_at l.addr) ps ≡ Some l = sym (nearest_by_address ps x l (listed_found (is_nearest_line ps x) ps l at) near) ∙ at in
+      let passes : (is_built_in kernel l || is_outside kernel l) ≡ true = find-has (is_nearest_line ps x) ps l at (λ t. (is_built_in kernel t || is_outside kernel t) ≡ true) (all_passing (λ t. is_built_in kernel t || is_outside kernel t) (λ t. (is_built_in kernel t || is_outside kernel t) ≡ true) lines (λ k d lt yes. yes)) in
+      let out : is_inside kernel l.addr ≡ false = outside_not_inside kernel l (is_named_outside kernel l name own passes) in
+      record {
+        mark = mark_of names l;
+        nearest = mark_nearest (marks_of kernel names lines) x (mark_of names l) (near_marks kernel x l.addr has near) (found_mark kernel l has out (sym (posts_at kernel lines l.addr out) ∙ found));
+        its = ap (number_for names) own ∙ is;
+        reached = reached;
+        some = some;
+      }
+
+  -- the marks of a number stand for the posts of the module of its name
+  pub marks_stand : (kernel : Option (ℕ × ℕ)) (n : ℕ) (name : List ℕ) → HasFirstLine kernel lines → n ≢ 0 → number_in names name ≡ n → StandsFor (marks_of kernel names lines) (posts kernel lines) n name
+  marks_stand kernel n name has some is = λ x lt. (to_lines kernel n x name some is, from_lines kernel n x name has some is)

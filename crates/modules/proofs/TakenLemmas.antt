@@ -1,0 +1,249 @@
+-- The regions of numbers, of which some are taken.
+use Rattle.std.proofs.Common.{◌≡◌, ◌≢◌, ℕ, zero, suc, zero-add, ◌+◌, ◌<◌, ◌≤◌, Bool, true, false, ◌||◌, nat_eq, cond, List, [], ◌∷◌, ◌++◌, length, get_or, map, take, Option, Some, None, refl, sym, ap, subst, ◌∙◌, ⊎_elim, arith, length-append}
+use Rattle.std.specs.Prelude.{All, Contains, filter, fold, count_by}
+use Rattle.std.specs.Global.{Vec}
+use Rattle.std.specs.List.{flat_map, list_any}
+use Rattle.std.specs.Option.{option_map_or}
+use Rattle.std.proofs.Math.ListN.{set, length-set}
+use Rattle.std.proofs.lemmas.Bool.{cases_eq, eqb-true, eq-eqb, ne_eqb, or_left, or_parts, or_right}
+use Rattle.std.proofs.lemmas.List.{append-nil, get_or-set_other, get_or_default, map-append, take_more}
+use Rattle.std.proofs.lemmas.List.Elements.{All-contains}
+use Rattle.std.proofs.lemmas.List.Folds.{list_any-append}
+use Rattle.std.proofs.lemmas.List.Sums.{count_by-le-length, sum_by-append, sum_by-cons}
+use Rattle.std.proofs.lemmas.Grind.{get_or-set_at}
+use Rattle.order_laws.specs.declared.items.Item.{Item}
+use Rattle.order_laws.specs.Orders.{half_open}
+use Rattle.order_laws.specs.Tables.{IsLook, look}
+use Rattle.order_laws.proofs.TableLemmas.{look_is}
+use Rattle.modules.specs.LineMarks.{AreLeft, is_kept_mark, kept_numbers, modules_numbered, name_of, with_number}
+use Rattle.modules.specs.MarkedModules.{numbered_module, ranges_of}
+use Rattle.modules.specs.Marks.{AreLaid, AreRegions, HoldsFor}
+use Rattle.modules.specs.Placed.{PlacedModule}
+use Rattle.modules.specs.Regions.{AreRising}
+use Rattle.modules.specs.declared.marks.Mark.{Mark}
+use Rattle.modules.proofs.MarkedModuleLemmas.{from_holds, spaced, valid_ranges}
+use Rattle.modules.proofs.SpacedLemmas.{lies}
+
+-- ---- the ranges of one item more
+
+abbrev range_of : Item → ℕ × ℕ
+range_of i = (i.a, i.b)
+
+ranges_more : (n : ℕ) (is : List Item) (i : Item) → ranges_of n (is ++ i ∷ []) ≡ ranges_of n is ++ cond (nat_eq i.tag n) (range_of i ∷ []) []
+ranges_more n [] i = elim (nat_eq i.tag n) as (λ b. map range_of (cond b (i ∷ []) []) ≡ cond b (range_of i ∷ []) []) [ true ↦ refl | false ↦ refl ]
+ranges_more n (j ∷ js) i =
+    elim (nat_eq j.tag n) as (λ b. map range_of (cond b (j ∷ filter (λ x. nat_eq x.tag n) (js ++ i ∷ [])) (filter (λ x. nat_eq x.tag n) (js ++ i ∷ []))) ≡ map range_of (cond b (j ∷ filter (λ x. nat_eq x.tag n) js) (filter (λ x. nat_eq x.tag n) js)) ++ cond (nat_eq i.tag n) (range_of i ∷ []) [])
+    [ true ↦ ap (λ (rs : List (ℕ × ℕ)). range_of j ∷ rs) (ranges_more n js i) | false ↦ ranges_more n js i ]
+
+-- ---- a list at a place
+
+-- the list of a number grows by the range of an item
+pub left_more : (count k : ℕ) (items : List Item) (i d : Item) (lists : List (Vec (ℕ × ℕ))) (v u : Vec (ℕ × ℕ)) → k < length items → i ≡ get_or items k d → i.tag < count → AreLeft count (take k items) [] lists
+    → u ≡ get_or lists i.tag u → v.items ≡ u.items ++ range_of i ∷ [] → AreLeft count (take (k + 1) items) [] (set lists i.tag v)
+left_more count k items i d lists v u lt is within left at pushed = (length-set lists i.tag v ∙ left.0, λ n e below. ⊎_elim (own n e below) (other n e below) (cases_eq n i.tag))
+  where
+    taken : (n : ℕ) → ranges_of n (take (k + 1) items) ≡ ranges_of n (take k items) ++ cond (nat_eq i.tag n) (range_of i ∷ []) []
+    taken n =
+        ap (ranges_of n) (take_more items k d lt ∙ ap (λ (x : Item). take k items ++ x ∷ []) (sym is))
+        ∙ ranges_more n (take k items) i
+
+    own : (n : ℕ) (e : Vec (ℕ × ℕ)) → n < count → n ≡ i.tag → (get_or (set lists i.tag v) n e).items ≡ ranges_of n (take (k + 1) items)
+    own n e below same =
+        let fits : i.tag < length lists = (let l = left.0 in omega arith) in
+        ap (λ (w : Vec (ℕ × ℕ)). w.items) (get_or-set_at lists i.tag n v e same fits)
+        ∙ pushed
+        ∙ ap (λ (rs : List (ℕ × ℕ)). rs ++ range_of i ∷ []) (ap (λ (w : Vec (ℕ × ℕ)). w.items) at ∙ left.1 i.tag u within)
+        ∙ ap (λ (m : ℕ). ranges_of m (take k items) ++ range_of i ∷ []) (sym same)
+        ∙ ap (λ (b : Bool). ranges_of n (take k items) ++ cond b (range_of i ∷ []) []) (sym (eq-eqb i.tag n (sym same)))
+        ∙ sym (taken n)
+
+    other : (n : ℕ) (e : Vec (ℕ × ℕ)) → n < count → n ≢ i.tag → (get_or (set lists i.tag v) n e).items ≡ ranges_of n (take (k + 1) items)
+    other n e below differs =
+        ap (λ (w : Vec (ℕ × ℕ)). w.items) (get_or-set_other lists i.tag n v e differs)
+        ∙ left.1 n e below
+        ∙ sym (append-nil (ranges_of n (take k items)))
+        ∙ ap (λ (b : Bool). ranges_of n (take k items) ++ cond b (range_of i ∷ []) []) (sym (ne_eqb i.tag n (λ is. differs (sym is))))
+        ∙ sym (taken n)
+
+-- ---- one number more that is taken
+
+any_own : (taken : List ℕ) (n : ℕ) → list_any (nat_eq n) (with_number taken n) ≡ true
+any_own taken n =
+    elim (list_any (nat_eq n) taken) as (λ b. list_any (nat_eq n) taken ≡ b → list_any (nat_eq n) (cond b taken (taken ++ n ∷ [])) ≡ true) [
+      | true ↦ λ there. there
+      | false ↦ λ _. list_any-append (nat_eq n) taken (n ∷ []) ∙ or_right (list_any (nat_eq n) taken) (list_any (nat_eq n) (n ∷ [])) (or_left (nat_eq n n) false (eq-eqb n n refl))
+    ] refl
+
+any_other : (taken : List ℕ) (n j : ℕ) → j ≢ n → list_any (nat_eq j) (with_number taken n) ≡ list_any (nat_eq j) taken
+any_other taken n j differs =
+    elim (list_any (nat_eq n) taken) as (λ b. list_any (nat_eq j) (cond b taken (taken ++ n ∷ [])) ≡ list_any (nat_eq j) taken) [
+      | true ↦ refl
+      | false ↦ list_any-append (nat_eq j) taken (n ∷ []) ∙ ap (λ b. list_any (nat_eq j) taken || (b || false)) (ne_eqb j n differs) ∙ or_none (list_any (nat_eq j) taken)
+    ]
+  where
+    or_none : (b : Bool) → (b || (false || false)) ≡ b
+    or_none true = refl
+    or_none false = refl
+
+pub left_taken : (count n : ℕ) (items : List Item) (taken : List ℕ) (lists : List (Vec (ℕ × ℕ))) (v : Vec (ℕ × ℕ)) → n < count → v.items ≡ [] → AreLeft count items taken lists → AreLeft count items (with_number taken n) (set lists n v)
+left_taken count n items taken lists v within empty left = (length-set lists n v ∙ left.0, λ j d below. ⊎_elim (own j d below) (other j d below) (cases_eq j n))
+  where
+    own : (j : ℕ) (d : Vec (ℕ × ℕ)) → j < count → j ≡ n → (get_or (set lists n v) j d).items ≡ cond (list_any (nat_eq j) (with_number taken n)) [] (ranges_of j items)
+    own j d below same =
+        let fits : n < length lists = (let l = left.0 in omega arith) in
+        let there : list_any (nat_eq j) (with_number taken n) ≡ true = ap (λ m. list_any (nat_eq m) (with_number taken n)) same ∙ any_own taken n in
+        ap (λ (w : Vec (ℕ × ℕ)). w.items) (get_or-set_at lists n j v d same fits) ∙ empty ∙ ap (λ (b : Bool). cond b [] (ranges_of j items)) (sym there)
+
+    other : (j : ℕ) (d : Vec (ℕ × ℕ)) → j < count → j ≢ n → (get_or (set lists n v) j d).items ≡ cond (list_any (nat_eq j) (with_number taken n)) [] (ranges_of j items)
+    other j d below differs =
+        ap (λ (w : Vec (ℕ × ℕ)). w.items) (get_or-set_other lists n j v d differs) ∙ left.1 j d below ∙ ap (λ (b : Bool). cond b [] (ranges_of j items)) (sym (any_other taken n j differs))
+
+-- ---- the number of a kept mark
+
+kept_by : (items : List Item) (m : Mark) (o : Option Item) → look half_open m.addr items ≡ o → option_map_or (λ (i : Item). nat_eq i.tag m.owner) o false ≡ true → (i : Item) × Contains items i × (i.tag ≡ m.owner)
+kept_by items m None at h = absurd (cc)
+kept_by items m (Some i) at h =
+    let is : IsLook half_open m.addr items (Some i) = subst (λ (o : Option Item). IsLook half_open m.addr items o) at (look_is half_open m.addr items) in
+    (i, is.0, eqb-true i.tag m.owner h)
+
+-- some item has it
+pub kept_item : (items : List Item) (m : Mark) → is_kept_mark items m ≡ true → (i : Item) × Contains items i × (i.tag ≡ m.owner)
+kept_item items m kept = kept_by items m (look half_open m.addr items) refl kept
+
+pub kept_number : (count : ℕ) (items : List Item) (m : Mark) → All (λ i. (0 < i.tag) × (i.tag ≤ count)) items → is_kept_mark items m ≡ true → (0 < m.owner) × (m.owner ≤ count)
+kept_number count items m numbered kept =
+    let (i, there, its) = kept_item items m kept in
+    subst (λ n. (0 < n) × (n ≤ count)) its (All-contains (λ (x : Item). (0 < x.tag) × (x.tag ≤ count)) items i numbered there)
+
+-- and its module has a region
+kept_ranges : (items : List Item) (m : Mark) → All (λ i. i.a < i.b) items → is_kept_mark items m ≡ true → ranges_of m.owner items ≢ []
+kept_ranges items m valid kept none =
+    let (i, there, its) = kept_item items m kept in
+    let some : i.a < i.b = All-contains (λ (x : Item). x.a < x.b) items i valid there in
+    let holds : lies (ranges_of m.owner items) i.a ≡ true = from_holds m.owner items i.a i there its (omega arith) some in
+    let never : lies [] i.a ≡ true = subst (λ (rs : List (ℕ × ℕ)). lies rs i.a ≡ true) none holds in
+    absurd (cc)
+
+-- ---- what a kept mark takes
+
+kept_numbers_push : (items : List Item) (acc : List ℕ) (ms : List Mark) (m : Mark) → fold with_number acc (map (λ (t : Mark). t.owner) (filter (is_kept_mark items) (ms ++ m ∷ [])))
+    ≡ cond (is_kept_mark items m) (with_number (fold with_number acc (map (λ (t : Mark). t.owner) (filter (is_kept_mark items) ms))) m.owner) (fold with_number acc (map (λ (t : Mark). t.owner) (filter (is_kept_mark items) ms)))
+kept_numbers_push items acc [] m =
+    elim (is_kept_mark items m) as (λ b. fold with_number acc (map (λ (t : Mark). t.owner) (cond b (m ∷ []) [])) ≡ cond b (with_number acc m.owner) acc)
+    [ true ↦ refl | false ↦ refl ]
+kept_numbers_push items acc (x ∷ ms) m =
+    elim (is_kept_mark items x) as (λ b. fold with_number acc (map (λ (t : Mark). t.owner) (cond b (x ∷ filter (is_kept_mark items) (ms ++ m ∷ [])) (filter (is_kept_mark items) (ms ++ m ∷ []))))
+    ≡ cond (is_kept_mark items m) (with_number (fold with_number acc (map (λ (t : Mark). t.owner) (cond b (x ∷ filter (is_kept_mark items) ms) (filter (is_kept_mark items) ms)))) m.owner) (fold with_number acc (map (λ (t : Mark). t.owner) (cond b (x ∷ filter (is_kept_mark items) ms) (filter (is_kept_mark items) ms)))))
+    [ true ↦ kept_numbers_push items (with_number acc x.owner) ms m | false ↦ kept_numbers_push items acc ms m ]
+
+-- the numbers with that of one mark more
+pub kept_numbers_more : (items : List Item) (marks : List Mark) (k : ℕ) (d : Mark) → k < length marks
+    → kept_numbers items (take (k + 1) marks) ≡ cond (is_kept_mark items (get_or marks k d)) (with_number (kept_numbers items (take k marks)) (get_or marks k d).owner) (kept_numbers items (take k marks))
+kept_numbers_more items marks k d lt = ap (kept_numbers items) (take_more marks k d lt) ∙ kept_numbers_push items [] (take k marks) (get_or marks k d)
+
+taken_by : (b : Bool) (rs left : List (ℕ × ℕ)) → left ≡ cond b [] rs → rs ≢ [] → left ≡ [] → b ≡ true
+taken_by true rs left is some none = refl
+taken_by false rs left is some none = absurd (some (sym is ∙ none))
+
+left_by : (b : Bool) (rs left : List (ℕ × ℕ)) → left ≡ cond b [] rs → left ≢ [] → (b ≡ false) × (left ≡ rs)
+left_by true rs left is some = absurd (some is)
+left_by false rs left is some = (refl, is)
+
+module _ (names : List (List ℕ)) (items : List Item) (taken : List ℕ) (m : Mark) (left : List (ℕ × ℕ)) (is : left ≡ cond (list_any (nat_eq m.owner) taken) [] (ranges_of m.owner items)) where
+  -- a module that was taken has no regions left
+  pub taken_before : All (λ i. i.a < i.b) items → is_kept_mark items m ≡ true → left ≡ [] → modules_numbered names items taken ≡ modules_numbered names items (with_number taken m.owner)
+  taken_before valid kept none =
+      let there : list_any (nat_eq m.owner) taken ≡ true = taken_by (list_any (nat_eq m.owner) taken) (ranges_of m.owner items) left is (kept_ranges items m valid kept) none in
+      ap (λ (b : Bool). modules_numbered names items (cond b taken (taken ++ m.owner ∷ []))) (sym there)
+
+  pub own_ranges : left ≢ [] → left ≡ ranges_of m.owner items
+  own_ranges some = (left_by (list_any (nat_eq m.owner) taken) (ranges_of m.owner items) left is some).1
+
+  -- one that was not has all of its regions
+  pub taken_now : left ≢ [] → modules_numbered names items taken ++ numbered_module m.owner (name_of names m.owner) items ∷ [] ≡ modules_numbered names items (with_number taken m.owner)
+  taken_now some =
+      let absent : list_any (nat_eq m.owner) taken ≡ false = (left_by (list_any (nat_eq m.owner) taken) (ranges_of m.owner items) left is some).0 in
+      sym (map-append (λ n. numbered_module n (name_of names n) items) taken (m.owner ∷ []))
+      ∙ ap (λ (b : Bool). modules_numbered names items (cond b taken (taken ++ m.owner ∷ []))) (sym absent)
+
+-- what is left is empty, or rises
+pub left_rising : (n : ℕ) (items : List Item) (taken : List ℕ) (left : List (ℕ × ℕ)) → AreLaid items → left ≡ cond (list_any (nat_eq n) taken) [] (ranges_of n items) → AreRising left
+left_rising n items taken left laid is = subst AreRising (sym is) (by (list_any (nat_eq n) taken))
+  where
+    by : (b : Bool) → AreRising (cond b [] (ranges_of n items))
+    by true = record { valid = λ k d lt. absurd (omega arith); rising = λ i j d less lt. absurd (omega arith) }
+    by false = record { valid = valid_ranges n items laid.valid; rising = spaced n items laid.follow }
+
+-- ---- there are no more regions than items
+
+range_count : (i : Item) (is : List Item) (n : ℕ) → length (ranges_of n (i ∷ is)) ≡ cond (nat_eq i.tag n) 1 0 + length (ranges_of n is)
+range_count i is n =
+    elim (nat_eq i.tag n) as (λ b. length (map range_of (cond b (i ∷ filter (λ x. nat_eq x.tag n) is) (filter (λ x. nat_eq x.tag n) is))) ≡ cond b 1 0 + length (ranges_of n is))
+    [ true ↦ omega arith | false ↦ omega arith ]
+
+one_item : (i : Item) (is : List Item) (ns : List ℕ) → length (flat_map (λ n. ranges_of n (i ∷ is)) ns) ≡ count_by (nat_eq i.tag) ns + length (flat_map (λ n. ranges_of n is) ns)
+one_item i is [] = omega arith
+one_item i is (n ∷ ns) =
+    omega (arith, one_item i is ns, range_count i is n, sum_by-cons (λ (x : ℕ). cond (nat_eq i.tag x) 1 0) n ns, length-append (ranges_of n (i ∷ is)) (flat_map (λ x. ranges_of x (i ∷ is)) ns), length-append (ranges_of n is) (flat_map (λ x. ranges_of x is) ns))
+
+no_items : (ns : List ℕ) → length (flat_map (λ n. ranges_of n []) ns) ≡ 0
+no_items [] = refl
+no_items (n ∷ ns) = no_items ns
+
+-- each number stands there once at most
+abbrev AreOnce : List ℕ → Type 0
+AreOnce ns = (t : ℕ) → count_by (nat_eq t) ns ≤ 1
+
+few_ranges : (items : List Item) (ns : List ℕ) → AreOnce ns → length (flat_map (λ n. ranges_of n items) ns) ≤ length items
+few_ranges [] ns once = omega (arith, no_items ns)
+few_ranges (i ∷ is) ns once = omega (arith, few_ranges is ns once, one_item i is ns, once i.tag)
+
+none_counted : (t : ℕ) (ns : List ℕ) → list_any (nat_eq t) ns ≡ false → count_by (nat_eq t) ns ≡ 0
+none_counted t [] absent = refl
+none_counted t (n ∷ ns) absent =
+    let both = or_parts (nat_eq t n) (list_any (nat_eq t) ns) absent in
+    sum_by-cons (λ (x : ℕ). cond (nat_eq t x) 1 0) n ns ∙ ap (λ b. cond b 1 0 + count_by (nat_eq t) ns) both.0 ∙ zero-add (count_by (nat_eq t) ns) ∙ none_counted t ns both.1
+
+once_more : (ns : List ℕ) (n : ℕ) → AreOnce ns → AreOnce (with_number ns n)
+once_more ns n once =
+    elim (list_any (nat_eq n) ns) as (λ b. list_any (nat_eq n) ns ≡ b → AreOnce (cond b ns (ns ++ n ∷ []))) [
+      | true ↦ λ _. once
+      | false ↦ λ absent t.
+          let whole : count_by (nat_eq t) (ns ++ n ∷ []) ≡ count_by (nat_eq t) ns + count_by (nat_eq t) (n ∷ []) = sum_by-append (λ (x : ℕ). cond (nat_eq t x) 1 0) ns (n ∷ []) in
+          ⊎_elim
+          (λ same. let none : count_by (nat_eq t) ns ≡ 0 = none_counted t ns (ap (λ m. list_any (nat_eq m) ns) same ∙ absent) in let last = count_by-le-length (nat_eq t) (n ∷ []) in omega arith)
+          (λ differs. let last : count_by (nat_eq t) (n ∷ []) ≡ 0 = none_counted t (n ∷ []) (ap (λ b. b || false) (ne_eqb t n differs)) in let before = once t in omega arith)
+          (cases_eq t n)
+    ] refl
+
+once_all : (ns acc : List ℕ) → AreOnce acc → AreOnce (fold with_number acc ns)
+once_all [] acc once = once
+once_all (n ∷ ns) acc once = once_all ns (with_number acc n) (once_more acc n once)
+
+regions_of_numbered : (names : List (List ℕ)) (items : List Item) (ns : List ℕ) → flat_map (λ (m : PlacedModule). m.regions) (modules_numbered names items ns) ≡ flat_map (λ n. ranges_of n items) ns
+regions_of_numbered names items [] = refl
+regions_of_numbered names items (n ∷ ns) = ap (λ (rs : List (ℕ × ℕ)). ranges_of n items ++ rs) (regions_of_numbered names items ns)
+
+pub few_regions : (names : List (List ℕ)) (items : List Item) (marks : List Mark) → length (flat_map (λ (m : PlacedModule). m.regions) (modules_numbered names items (kept_numbers items marks))) ≤ length items
+few_regions names items marks =
+    let once : AreOnce (kept_numbers items marks) = once_all (map (λ (m : Mark). m.owner) (filter (is_kept_mark items) marks)) [] (λ t. omega arith) in
+    omega (arith, few_ranges items (kept_numbers items marks) once, ap length (regions_of_numbered names items (kept_numbers items marks)))
+
+-- ---- the numbers of the items
+
+-- each is a module's
+pub items_numbered : (count : ℕ) (marks : List Mark) (items : List Item) → AreRegions marks items → All (λ m. m.owner ≤ count) marks → All (λ i. (0 < i.tag) × (i.tag ≤ count)) items
+items_numbered count marks items regions within = λ k d lt.
+    let i : Item = get_or items k d in
+    let some : i.a < i.b = regions.laid.valid k d lt in
+    let holds : HoldsFor items i.tag i.a = record { item = i; there = (k, lt, get_or_default items k i d lt); its = refl; from = omega arith; below = some } in
+    let owns = ((regions.exact i.tag i.a).0 holds).1 in
+    let near = owns.nearest in
+    let most : (get_or marks near.place owns.mark).owner ≤ count = within near.place owns.mark near.within in
+    let is : (get_or marks near.place owns.mark).owner ≡ i.tag = ap (λ (m : Mark). m.owner) near.listed ∙ owns.its in
+    let positive : 0 < i.tag = pos i.tag owns.some in
+    (positive, omega (arith, most, is))
+  where
+    pos : (n : ℕ) → n ≢ 0 → 0 < n
+    pos zero some = absurd (some refl)
+    pos (suc n) some = omega arith

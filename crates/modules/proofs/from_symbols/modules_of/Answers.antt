@@ -1,0 +1,47 @@
+use Rattle.std.proofs.Common.{◌≡◌, ◌<◌, ◌≤◌, List, [], ◌∷◌, ◌++◌, length, sym, ap, subst, ◌∙◌, arith}
+use Rattle.std.specs.Prelude.{All}
+use Rattle.std.specs.List.{flat_map}
+use Rattle.std.proofs.lemmas.Result.{IfOk-weaker}
+use Rattle.order_laws.specs.declared.items.Item.{Item}
+use Rattle.modules.specs.LineMarks.{AreNamed, kept_numbers, marks_of, modules_numbered}
+use Rattle.modules.specs.Marks.{AreLaid, AreRegions}
+use Rattle.modules.specs.Placed.{PlacedModule}
+use Rattle.modules.specs.Runs.{lines_of_all}
+use Rattle.modules.specs.declared.marks.Mark.{Mark}
+use Rattle.modules.specs.declared.symbol_lines.Run.{Run}
+use Rattle.modules.proofs.LineMarkLemmas.{owners_within}
+use Rattle.modules.proofs.SymbolModuleLemmas.{found_modules}
+use Rattle.modules.proofs.TakenLemmas.{few_regions, items_numbered}
+use Rattle.modules.proofs.from_symbols.modules_of.Goals as goal
+
+pub modules_in_order-requires : goal.modules_in_order-requires
+modules_in_order-requires c =
+    let kernel = c.args.kernel.now in
+    let names = c.in_ok-numbers.numbers in
+    let marks : List Mark = c.in_ok-marks.marks.items in
+    let items : List Item = c.in_ok-items.items.items in
+    let regions : AreRegions marks items = subst (λ (ms : List Mark). AreRegions ms items) (c.in_ok-from_slice.ensures.items ∙ c.as_slice.ensures.value) c.in_ok-items.ensures in
+    let within : All (λ m. m.owner ≤ length names) marks = subst (λ (ms : List Mark). All (λ m. m.owner ≤ length names) ms) (sym c.in_ok-marks.ensures) (owners_within kernel names (lines_of_all (c.as_slice-runs.result.now ++ c.lines.inside.last ∷ []))) in
+    record {
+      laid = subst (λ (is : List Item). AreLaid is) (sym c.as_slice-3.ensures.value) regions.laid;
+      numbered = subst (λ (is : List Item). All (λ i. (0 < i.tag) × (i.tag ≤ length names)) is) (sym c.as_slice-3.ensures.value) (items_numbered (length names) marks items regions within);
+    }
+
+pub returns : goal.returns
+returns c =
+    let kernel = c.args.kernel.now in
+    let inside = c.lines.inside in
+    let runs : List Run = inside.runs.items ++ inside.last ∷ [] in
+    let names = c.in_ok-numbers.numbers in
+    let named : AreNamed names (lines_of_all runs) = subst (λ (rs : List Run). AreNamed names (lines_of_all (rs ++ inside.last ∷ []))) c.as_slice-runs.ensures.value c.in_ok-numbers.ensures in
+    let marks : List Mark = c.in_ok-marks.marks.items in
+    let are : marks ≡ marks_of kernel names (lines_of_all runs) = c.in_ok-marks.ensures ∙ ap (λ (rs : List Run). marks_of kernel names (lines_of_all (rs ++ inside.last ∷ []))) c.as_slice-runs.ensures.value in
+    let items : List Item = c.in_ok-items.items.items in
+    let regions : AreRegions marks items = subst (λ (ms : List Mark). AreRegions ms items) (c.in_ok-from_slice.ensures.items ∙ c.as_slice.ensures.value) c.in_ok-items.ensures in
+    let given : modules_numbered names c.as_slice-3.result.now (kept_numbers c.as_slice-3.result.now c.as_slice-2.result.now) ≡ modules_numbered names items (kept_numbers items marks) =
+    ap (λ (is : List Item). modules_numbered names is (kept_numbers is c.as_slice-2.result.now)) c.as_slice-3.ensures.value
+    ∙ ap (λ (ms : List Mark). modules_numbered names items (kept_numbers items ms)) c.as_slice-2.ensures.value in
+    record {
+      found = IfOk-weaker c.modules_in_order.result _ _ (λ v is bounds at. found_modules bounds kernel names runs inside.letters.items c.args.lines.now marks items v.items c.lines.invariant c.lines.view_is named are regions (is ∙ given) at) c.modules_in_order.ensures;
+      few = IfOk-weaker c.modules_in_order.result _ _ (λ v is. omega (arith, few_regions names items marks, ap (λ (ms : List PlacedModule). length (flat_map (λ (m : PlacedModule). m.regions) ms)) (is ∙ given), c.in_ok-items.items.ok.0, c.in_ok-items.items.ok.1, c.in_ok-items.items.small)) c.modules_in_order.ensures;
+    }

@@ -1,0 +1,6 @@
+use Rattle.std.proofs.Common.{[], take}
+use Rattle.modules.specs.LineMarks.{AreLeft}
+use Rattle.modules.proofs.from_symbols.regions_by_number.Given as goal
+
+abbrev pub invariant-loop-item : goal.invariant-loop-item
+invariant-loop-item l = AreLeft l.count (take l.item-index l.items) [] l.lists.items

@@ -1,0 +1,43 @@
+use Rattle.std.proofs.Common.{◌≡◌, ℕ, ◌+◌, suc, true, false, List, [], ◌∷◌, ◌++◌, length, sym, ap, subst, ◌∙◌, arith}
+use Rattle.std.specs.Borrow.{Bor}
+use Rattle.std.specs.List.{list_any, position_from}
+use Rattle.std.specs.Option.{option_copied, option_map}
+use Rattle.std.specs.Str.{bytes_eq}
+use Rattle.std.proofs.lemmas.List.{length-map}
+use Rattle.std.proofs.lemmas.Map.Text.{btree_map_updates_str}
+use Rattle.modules.specs.LineMarks.{with_owner}
+use Rattle.modules.specs.Numbered.{names_at}
+use Rattle.modules.proofs.NumberLemmas.{has_number, names_more, numbers_more, owner_known, owner_new}
+use Rattle.modules.proofs.module_numbers.ModuleNumbers.take.Goals as goal
+
+pub returns-then-contains_key : goal.returns-then-contains_key
+returns-then-contains_key c =
+    let names : List (List ℕ) = names_at c.self.inside.names.items in
+    let new = c.in-Some.name.now in
+    let known : list_any (bytes_eq new) names ≡ true = has_number names new _ c.contains_key.result (c.self.invariant new) c.contains_key.ensures ∙ c.if-contains_key.true in
+    subst (λ (ns : List (List ℕ)). ns ≡ with_owner ns (option_copied c.args.owner)) c.self.view_is (owner_known names c.args.owner c.in-Some.name c.in-Some.is known)
+
+pub invariant_of-self-2 : goal.invariant_of-self-2
+invariant_of-self-2 c =
+    let items = c.self.inside.names.items in
+    let names : List (List ℕ) = names_at items in
+    let new = c.in-Some.name.now in
+    let absent : list_any (bytes_eq new) names ≡ false = has_number names new _ c.contains_key.result (c.self.invariant new) c.contains_key.ensures ∙ c.if-contains_key.false in
+    let pushed : c.push.new.self.items ≡ c.reserve.new.self.items ++ c.in-Some.name ∷ [] = rw c.unwrap.ensures at c.push.ensures.items in
+    let joined : names_at c.push.new.self.items ≡ names ++ new ∷ [] = names_more items c.push.new.self.items c.in-Some.name (pushed ∙ ap (λ (ns : List (Bor (List ℕ))). ns ++ c.in-Some.name ∷ []) c.in_ok-reserve.ensures.items) in
+    let last : c.len.result + 1 ≡ suc (length (names_at items)) = omega (arith, c.len.ensures, c.reserve.new.self.ok.0, ap length c.in_ok-reserve.ensures.items, length-map items (λ (n : Bor (List ℕ)). n.now)) in
+    λ name.
+    btree_map_updates_str new c.self.inside.numbers c.insert.new.self _ c.in_ok-insert.ensures.updates name
+    ∙ numbers_more names new name (c.len.result + 1) _ absent last (c.self.invariant name)
+    ∙ ap (λ (ns : List (List ℕ)). option_map suc (position_from (bytes_eq name) 0 ns)) (sym joined)
+
+pub returns : goal.returns
+returns c =
+    let items = c.self.inside.names.items in
+    let names : List (List ℕ) = names_at items in
+    let new = c.in-Some.name.now in
+    let absent : list_any (bytes_eq new) names ≡ false = has_number names new _ c.contains_key.result (c.self.invariant new) c.contains_key.ensures ∙ c.if-contains_key.false in
+    let pushed : c.push.new.self.items ≡ c.reserve.new.self.items ++ c.in-Some.name ∷ [] = rw c.unwrap.ensures at c.push.ensures.items in
+    names_more items c.push.new.self.items c.in-Some.name (pushed ∙ ap (λ (ns : List (Bor (List ℕ))). ns ++ c.in-Some.name ∷ []) c.in_ok-reserve.ensures.items)
+    ∙ owner_new names c.args.owner c.in-Some.name c.in-Some.is absent
+    ∙ ap (λ (ns : List (List ℕ)). with_owner ns (option_copied c.args.owner)) c.self.view_is

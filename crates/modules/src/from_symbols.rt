@@ -1,0 +1,137 @@
+//! The modules of a listing of symbols alone, and where they lie.
+//!
+//! A sweep over the marks of the lines gives the regions, each with the number of its module. They
+//! are dealt out by number, and a module takes its own at its first kept line, so that the modules
+//! stand in the order of these:
+//!
+//! ```text
+//! lines:   a1 ext4   a2 nfs   a1 bpf   a3 ext4        a1 < a2 < a3
+//! regions: [a1 .. a2) ext4    [a2 .. a3) nfs    [a3 .. ) ext4
+//! modules: ext4, nfs                                  no line of bpf is kept
+//! ```
+
+ghost use Rattle.std.specs.Prelude.{◌≡◌, ◌≢◌, ◌<◌, ◌≤◌, ◌-◌, ◌^◌, [], ℕ, List, Option};
+ghost use Rattle.std.specs.Prelude.{All, IfOk, length};
+ghost use Rattle.std.specs.List.{flat_map};
+ghost use Rattle.modules.specs.Accepted.{accepted_with};
+ghost use Rattle.modules.specs.FromSymbols.{IsFromSymbols};
+ghost use Rattle.modules.specs.LineMarks.{AreLeft, AreNamed, HasFirstLine, is_kept_mark};
+ghost use Rattle.modules.specs.LineMarks.{kept_numbers, marks_of, modules_numbered, number_in};
+ghost use Rattle.modules.specs.Lines.{built_in_region};
+ghost use Rattle.modules.specs.Listed.{BoundNames, ListedSymbol};
+ghost use Rattle.modules.specs.MarkedModules.{StandsFor};
+ghost use Rattle.modules.specs.Marks.{AreLaid, AreRegions};
+ghost use Rattle.modules.specs.Owners.{posts};
+ghost use Rattle.order_laws.specs.declared.items.Item.{Item};
+
+use crate::line_marks::marks_of;
+use crate::marks::{Mark, region_at, regions_of_marks};
+use crate::module_numbers::ModuleNumbers;
+use crate::placing::Placed;
+use crate::regions::Region;
+use crate::symbol_lines::SymbolLines;
+use order_laws::Item;
+use std::alloc::{AllocError, Global};
+use std::mem;
+
+/// Whether the address of a mark is its owner's.
+fn is_kept(items: &[Item], mark: Mark) -> bool
+    requires { AreLaid items.now }
+    ensures { result ≡ is_kept_mark items.now mark }
+{
+    match region_at(items, mark.addr) {
+        Some(item) => item.tag == mark.owner,
+        None => false,
+    }
+}
+
+/// A list for each number below `count`, with nothing in it.
+fn empty_lists(alloc: Global, count: usize) -> Result<Vec<Vec<Region>>, AllocError>
+    ensures { IfOk result (λ v. AreLeft count [] [] v.items) }
+{
+    let mut lists = Vec::with_capacity(alloc, count)?;
+    for _ in 0..count {
+        lists.push(Vec::new(alloc))?;
+    }
+    Ok(lists)
+}
+
+/// The regions of each number below `count`, by number.
+fn regions_by_number(
+    alloc: Global,
+    items: &[Item],
+    count: usize,
+) -> Result<Vec<Vec<Region>>, AllocError>
+    requires valid { All (λ i. i.a < i.b) items.now }
+    requires within { All (λ i. i.tag < count) items.now }
+    ensures { IfOk result (λ v. AreLeft count items.now [] v.items) }
+{
+    let mut lists = empty_lists(alloc, count)?;
+    for item in items {
+        lists[item.tag as usize].push(Region::new(item.a, item.b))?;
+    }
+    Ok(lists)
+}
+
+/// The modules in the order of their first kept lines. At that line a module takes its regions, so
+/// that its later lines find none.
+fn modules_in_order<'a>(
+    alloc: Global,
+    numbers: &ModuleNumbers<'a>,
+    marks: &[Mark],
+    items: &[Item],
+) -> Result<Vec<Placed<'a>>, AllocError>
+    requires laid { AreLaid items.now }
+    requires numbered { All (λ i. (0 < i.tag) × (i.tag ≤ length numbers.now)) items.now }
+    ensures { IfOk result (λ v. v.items
+        ≡ modules_numbered numbers.now items.now (kept_numbers items.now marks.now)) }
+{
+    let mut lists = regions_by_number(alloc, items, numbers.count())?;
+    let mut modules = Vec::new(alloc);
+    for mark in marks {
+        if is_kept(items, *mark) {
+            let regions = mem::replace(&mut lists[mark.owner as usize], Vec::new(alloc));
+            if !regions.is_empty() {
+                let name = numbers.name_of(mark.owner);
+                modules.push(Placed::in_rising(alloc, name, regions)?)?;
+            }
+        }
+    }
+    Ok(modules)
+}
+
+/// The modules that the lines have, in the order of their first kept lines.
+pub(crate) fn modules_of<'a>(
+    alloc: Global,
+    kernel: &Option<Region>,
+    lines: &SymbolLines<'a>,
+) -> Result<Vec<Placed<'a>>, AllocError>
+    ensures found { IfOk result (λ v. (bounds : BoundNames)
+        → kernel.now ≡ built_in_region bounds lines.now
+        → IsFromSymbols bounds lines.now (accepted_with kernel.now v.items)) }
+    ensures few { IfOk result
+        (λ v. length (flat_map (λ m. m.regions) v.items) < 2 ^ 64 - 1) }
+{
+    let runs = lines.runs.as_slice();
+    let numbers = ModuleNumbers::of(alloc, runs, &lines.last)?;
+    let marks = marks_of(alloc, kernel, runs, &lines.last, &numbers)?;
+    let items = regions_of_marks(alloc, Vec::from_slice(alloc, marks.as_slice())?)?;
+    modules_in_order(alloc, &numbers, marks.as_slice(), items.as_slice())
+}
+
+/// The marks of a module's number say whose an address is as the lines do.
+fn marks_stand_for_lines()
+    ensures { (kernel : Option (ℕ × ℕ)) (names : List (List ℕ)) (lines : List ListedSymbol) (n : ℕ)
+        (name : List ℕ) → HasFirstLine kernel lines → n ≢ 0 → number_in names name ≡ n
+        → StandsFor (marks_of kernel names lines) (posts kernel lines) n name }
+{}
+
+/// The modules of the kept numbers, in the regions of the marks, are those of the lines.
+fn marks_give_the_modules()
+    ensures { (bounds : BoundNames) (lines : List ListedSymbol) (names : List (List ℕ))
+        (items : List Item) → let kernel = built_in_region bounds lines in
+        let marks = marks_of kernel names lines in
+        AreNamed names lines → AreRegions marks items
+        → IsFromSymbols bounds lines
+        (accepted_with kernel (modules_numbered names items (kept_numbers items marks))) }
+{}

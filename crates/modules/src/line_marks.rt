@@ -1,0 +1,109 @@
+//! The marks of a listing of symbols: one of the kernel itself, at its first address, and one of
+//! each line of a module that is outside the kernel's region.
+//!
+//! One mark stands for all lines of the kernel: nothing from below reaches over its first address,
+//! and no module has an address inside.
+//!
+//! ```text
+//! runs:   none          "ext4"   none   "nfs"
+//! lines:  _stext  ...   a1  a2   ...    a3
+//! marks:  kernel        a1  a2          a3
+//! ```
+
+ghost use Rattle.std.specs.Prelude.{◌≡◌, ◌++◌, ◌∷◌, [], IfOk, OnOk};
+ghost use Rattle.modules.specs.LineMarks.{is_free, kernel_marks, line_marks, marks_of};
+ghost use Rattle.modules.specs.LineMarks.{symbol_marks};
+ghost use Rattle.modules.specs.Runs.{lines_of_all, lines_of_run};
+
+use crate::marks::Mark;
+use crate::module_numbers::ModuleNumbers;
+use crate::regions::Region;
+use crate::symbol_lines::Run;
+use crate::symbols::Symbol;
+use std::alloc::{AllocError, Global};
+
+/// Whether a line of a module at this address may say whose an address is.
+fn is_free(kernel: &Option<Region>, addr: u64) -> bool
+    ensures { result ≡ is_free kernel.now addr }
+{
+    let inside = match kernel {
+        Some(region) => region.holds(addr),
+        None => false,
+    };
+    !inside && addr < u64::MAX
+}
+
+/// Puts the marks of the lines of a module after these.
+fn push_marks(
+    marks: &mut Vec<Mark>,
+    kernel: &Option<Region>,
+    symbols: &[Symbol],
+    owner: u64,
+) -> Result<(), AllocError>
+    ensures { OnOk result (marks.new.items
+        ≡ marks.old.items ++ symbol_marks kernel.now owner symbols.now) }
+{
+    for symbol in symbols {
+        if is_free(kernel, symbol.addr) {
+            marks.push(Mark {
+                addr: symbol.addr,
+                owner,
+            })?;
+        }
+    }
+    Ok(())
+}
+
+/// Puts the marks of a run after these. The lines of the kernel itself have none.
+fn push_run(
+    marks: &mut Vec<Mark>,
+    kernel: &Option<Region>,
+    run: &Run,
+    numbers: &ModuleNumbers,
+) -> Result<(), AllocError>
+    ensures { OnOk result (marks.new.items
+        ≡ marks.old.items ++ line_marks kernel.now numbers.now (lines_of_run run.now)) }
+{
+    if run.module.is_none() {
+        return Ok(());
+    }
+    push_marks(
+        marks,
+        kernel,
+        run.symbols.as_slice(),
+        numbers.number_of(run.module),
+    )
+}
+
+/// The mark of the kernel itself, where it has a region.
+fn kernel_marks(alloc: Global, kernel: &Option<Region>) -> Result<Vec<Mark>, AllocError>
+    ensures { IfOk result (λ v. v.items ≡ kernel_marks kernel.now) }
+{
+    let mut marks = Vec::new(alloc);
+    if let Some(region) = kernel {
+        marks.push(Mark {
+            addr: region.start(),
+            owner: 0,
+        })?;
+    }
+    Ok(marks)
+}
+
+/// The mark of the kernel itself, and then those of the lines of modules as they are listed.
+pub(crate) fn marks_of(
+    alloc: Global,
+    kernel: &Option<Region>,
+    runs: &[Run],
+    last: &Run,
+    numbers: &ModuleNumbers,
+) -> Result<Vec<Mark>, AllocError>
+    ensures { IfOk result (λ v. v.items
+        ≡ marks_of kernel.now numbers.now (lines_of_all (runs.now ++ last.now ∷ []))) }
+{
+    let mut marks = kernel_marks(alloc, kernel)?;
+    for run in runs {
+        push_run(&mut marks, kernel, run, numbers)?;
+    }
+    push_run(&mut marks, kernel, last, numbers)?;
+    Ok(marks)
+}

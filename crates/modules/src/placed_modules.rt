@@ -1,0 +1,100 @@
+//! The modules of a catalog where they lie, before their symbols are put in.
+
+ghost use Rattle.std.specs.Prelude.{◌≡◌, ◌++◌, ◌∷◌, [], false, length, IfOk, OnErr, OnOk};
+ghost use Rattle.std.specs.List.{list_any, position_from};
+ghost use Rattle.std.specs.Str.{bytes_eq};
+ghost use Rattle.modules.specs.Accepted.{accepted_with, names_of, none_yet};
+ghost use Rattle.modules.specs.Kept.{AreDistinctNames};
+
+use crate::placing::Placed;
+use crate::regions::Region;
+use std::alloc::{AllocError, Global};
+use std::collections::BTreeMap;
+use std::marker::Model;
+
+/// The region of the kernel itself, and modules in their regions, which are found by name. A
+/// contract sees them as what was accepted, with no line that was not.
+#[derive(Drop)]
+pub(crate) struct PlacedModules<'a> {
+    /// The region of the kernel itself.
+    pub(crate) built_in: Option<Region>,
+    /// The modules in their order.
+    pub(crate) modules: Vec<Placed<'a>>,
+    /// The place of each name among them.
+    places: BTreeMap<&'a [u8], usize>,
+}
+
+impl<'a> Model for PlacedModules<'a> {
+    ghost use Rattle.modules.specs.Accepted.{Accepted};
+
+    ghost Value = { Accepted };
+
+    ghost use Rattle.modules.specs.PlacedModules.{placed_modules_view, HasPlaces};
+
+    ghost view = { placed_modules_view };
+
+    ghost invariant = { HasPlaces };
+}
+
+impl<'a> PlacedModules<'a> {
+    /// No modules.
+    pub(crate) fn new(alloc: Global, built_in: Option<Region>) -> PlacedModules<'a>
+        ensures { result ≡ none_yet built_in }
+    {
+        PlacedModules {
+            built_in,
+            modules: Vec::new(alloc),
+            places: BTreeMap::new(alloc),
+        }
+    }
+
+    /// These modules, whose names are distinct.
+    pub(crate) fn of(
+        alloc: Global,
+        built_in: Option<Region>,
+        modules: Vec<Placed<'a>>,
+    ) -> Result<PlacedModules<'a>, AllocError>
+        requires { AreDistinctNames (names_of modules.items) }
+        ensures { IfOk result (λ p. p ≡ accepted_with built_in modules.entry.items) }
+    {
+        let mut placed = PlacedModules::new(alloc, built_in);
+        for module in modules {
+            placed.push(module)?;
+        }
+        Ok(placed)
+    }
+
+    /// How many modules there are.
+    pub(crate) fn len(&self) -> usize
+        ensures { result ≡ length self.now.modules }
+    {
+        self.modules.len()
+    }
+
+    /// The place of the module of this name.
+    pub(crate) fn place_of(&self, name: &[u8]) -> Option<usize>
+        ensures { result ≡ position_from (bytes_eq name.now) 0 (names_of self.now.modules) }
+    {
+        self.places.get(name).copied()
+    }
+
+    /// Whether a module has this name.
+    pub(crate) fn has(&self, name: &[u8]) -> bool
+        ensures { result ≡ list_any (bytes_eq name.now) (names_of self.now.modules) }
+    {
+        self.places.contains_key(name)
+    }
+
+    /// Puts a module, whose name none has, after the others. An error leaves these as they were.
+    pub(crate) fn push(&mut self, added: Placed<'a>) -> Result<(), AllocError>
+        requires new { list_any (bytes_eq added.name) (names_of self.old.modules) ≡ false }
+        ensures pushed { OnOk result
+            (self.new ≡ record self.old { modules = self.old.modules ++ added.entry ∷ [] }) }
+        ensures err { OnErr result (self.new ≡ self.old) }
+    {
+        self.modules.reserve(1)?;
+        self.places.insert(added.name, self.modules.len())?;
+        self.modules.push(added).unwrap();
+        Ok(())
+    }
+}
