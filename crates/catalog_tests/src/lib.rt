@@ -7,6 +7,8 @@
 #[cfg(test)]
 mod address_files;
 #[cfg(test)]
+mod annotated_logs;
+#[cfg(test)]
 mod catalogs;
 #[cfg(test)]
 mod counted_devices;
@@ -18,5 +20,7 @@ mod region_files;
 mod script_files;
 #[cfg(test)]
 mod symbol_answers;
+#[cfg(test)]
+mod symbols_alone;
 #[cfg(test)]
 mod trace_files;

@@ -28,3 +28,11 @@ pub mod RegionLineLemmas
 pub mod ScriptLineLemmas
 -- where the first line of a text ends, after its first tab
 pub mod TabLemmas
+-- what the counts of a listing say of how it looks
+pub mod LookLemmas
+-- what is kept of the bytes before a place of a log is enough
+pub mod LogContextLemmas
+-- what is inserted at a place, whatever comes behind the bytes that are there
+pub mod InsertionLemmas
+-- blocks of a log that are read and written one after the other
+pub mod AnnotationLemmas

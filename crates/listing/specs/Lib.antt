@@ -31,9 +31,21 @@ pub mod Skipping
 pub mod ModuleListing
 -- the lines of a listing of symbols, in the form of /proc/kallsyms
 pub mod SymbolListing
+-- what a listing looks like of which no line is of use
+pub mod Looks
 -- what a listing of regions says
 pub mod RegionListing
 -- what a script says
 pub mod Scripts
 -- what a text is, line by line
 pub mod Understood
+-- the words of a log, and the addresses that words are
+pub mod LogWords
+-- a log with the text of the answer behind each address that stands in it
+pub mod AnnotatedLogs
+-- what is kept of the bytes before a place of a log
+pub mod LogContexts
+-- what is inserted while a log is read
+pub mod Insertions
+-- what was read of a log, and what was written for it
+pub mod Annotation

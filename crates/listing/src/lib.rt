@@ -9,6 +9,7 @@
 
 mod address_rules;
 mod addresses;
+mod annotation;
 mod answers;
 mod batch;
 mod causes;
@@ -21,8 +22,13 @@ mod gaps;
 mod gathered;
 mod header;
 mod input;
+mod insertions;
 mod laws;
 mod lines;
+mod log_blocks;
+mod log_contexts;
+mod log_words;
+mod looks;
 mod module_listing;
 mod numbers;
 mod region_listing;
@@ -33,6 +39,7 @@ mod trace;
 
 pub use address_rules::AddressRule;
 pub use addresses::read_addresses;
+pub use annotation::{LogFault, annotate};
 pub use answers::{write_answer, write_answer_by};
 pub use causes::{Cause, Counts, each_line_is_counted_once};
 pub use counted::{BLOCK, Counted};
@@ -47,6 +54,10 @@ pub use laws::{
     script_by_its_lines, trace_by_its_lines,
 };
 pub use lines::LONGEST_LINE;
+pub use looks::{
+    KernelSymbols, are_modules_hidden, are_symbols_hidden, first_line_ends_in_cr, is_gzip,
+    kernel_symbols, looks_like_modules, looks_like_symbols,
+};
 pub use module_listing::{ModuleCounts, SkippedModule, read_modules};
 pub use numbers::{number, number_up_to};
 pub use region_listing::read_regions;

@@ -98,7 +98,7 @@ fn tab_and_end(bytes: &[u8]) -> (Option<usize>, Option<usize>)
 
 /// Cuts off the first line of the bytes. The place is that of the line's first tab, if it has one.
 #[inline(always)]
-fn cut_tabbed_line(bytes: &[u8]) -> (&[u8], Option<usize>, &[u8])
+pub(crate) fn cut_tabbed_line(bytes: &[u8]) -> (&[u8], Option<usize>, &[u8])
     requires { 0 < length bytes.now }
     ensures line { lines_of bytes.now ≡ result.0.now ∷ lines_of result.2.now }
     ensures tab { IsFirstByte (is_byte 9) result.0.now result.1 }
@@ -184,7 +184,10 @@ fn symbol_in_form<'a>(line: &'a [u8], tab: Option<usize>) -> Option<SymbolLine<'
 /// The symbol that a line is whose first tab stands at this place, or the first cause for which it
 /// is skipped.
 #[inline(always)]
-fn symbol_in<'a>(line: &'a [u8], tab: Option<usize>) -> Result<SymbolLine<'a>, SkippedSymbol>
+pub(crate) fn symbol_in<'a>(
+    line: &'a [u8],
+    tab: Option<usize>,
+) -> Result<SymbolLine<'a>, SkippedSymbol>
     requires { IsFirstByte (is_byte 9) line.now tab }
     ensures { result ≡ symbol_of line.now }
 {

@@ -1,0 +1,148 @@
+-- Blocks that are read and written one after the other.
+use Rattle.std.proofs.Common.{◌≡◌, ◌∙◌, ℕ, ◌⊎◌, inl, inr, List, [], ◌++◌, refl, sym, ap, subst, Option, Result, Ok, Err, append_assoc}
+use Rattle.std.specs.Prelude.{reverse, IsErrAnd}
+use Rattle.std.proofs.lemmas.List.{reverse-append}
+use Rattle.std.specs.Io.KnownBytes.{Appends, Consumes, IsAtEnd, Keeps}
+use Rattle.std.proofs.KnownBytes.{Appends-nil, Appends-trans, Consumes-kept, Consumes-nil, Consumes-trans, Keeps-refl}
+use Rattle.listing.specs.declared.counted.Counted.{Counted}
+use Rattle.listing.specs.Counted.{NoneFailed, Rose, device_of, failures_of}
+use Rattle.listing.specs.AnnotatedLogs.{Answering, annotated, context_behind}
+use Rattle.listing.specs.LogContexts.{annotated_from, context_over, first_context, kept_in}
+use Rattle.listing.specs.Insertions.{IsWaiting}
+use Rattle.listing.specs.Annotation.{Annotates, IsFollowing, IsUnderWay, PutsMore, PutsText, owed}
+use Rattle.listing.specs.declared.annotation.Annotator.{Annotator}
+use Rattle.listing.specs.declared.annotation.LogFault.{LogFault}
+use Rattle.listing.specs.declared.annotation.LogFault.TheVariants as fault
+use Rattle.listing.proofs.LogContextLemmas.{from_begin, from_behind, kept_behind, kept_over, waiting_behind}
+
+-- What was written, and what is still owed, are the annotated log; what is held back is nothing, or
+-- waits for more.
+pub record IsOn {R W : Type 0} (remaining : R → Option (List ℕ)) (contents : W → Option (List ℕ)) (answer : Answering) (r r' : Counted R) (w w' : Counted W) (a : Annotator) : Type 0 where
+  pub read_all : NoneFailed r r'
+  pub written_all : NoneFailed w w'
+  pub read : List ℕ
+  pub written : List ℕ
+  pub consumed : Consumes (remaining (device_of r)) (remaining (device_of r')) read
+  pub appended : Appends (contents (device_of w)) (contents (device_of w')) written
+  pub passed : List ℕ
+  pub parts : read ≡ passed ++ a.held.items
+  pub context : kept_in a.context ≡ kept_behind (reverse passed)
+  pub rest : (a.held.items ≡ []) ⊎ IsWaiting answer (kept_in a.context).context a.held.items
+  pub is_owed : (more : List ℕ) → written ++ owed answer a more ≡ annotated_from answer first_context (read ++ more)
+
+module _ {R W : Type 0} (remaining : R → Option (List ℕ)) (contents : W → Option (List ℕ)) (answer : Answering) (r : Counted R) (w : Counted W) where
+  -- what was written is a beginning of the annotated log, however much more was read
+  pub under_way : (r' r'' : Counted R) (w' : Counted W) (a : Annotator) (more : List ℕ) → IsOn remaining contents answer r r' w w' a → Consumes (remaining (device_of r')) (remaining (device_of r'')) more
+      → IsUnderWay remaining contents answer r r'' w w'
+  under_way r' r'' w' a more on took = (
+    on.read ++ more,
+    on.written,
+    Consumes-trans _ _ _ on.read more on.consumed took,
+    on.appended,
+    λ rest. (owed answer a (more ++ rest), on.is_owed (more ++ rest) ∙ from_begin answer (on.read ++ (more ++ rest)) ∙ ap (annotated answer) (sym (append_assoc on.read more rest))),
+  )
+
+  -- where nothing was read, nothing is written
+  pub begun : (a : Annotator) → kept_in a.context ≡ first_context → a.held.items ≡ [] → IsOn remaining contents answer r r w w a
+  begun a first none = record {
+    read_all = refl;
+    written_all = refl;
+    read = [];
+    written = [];
+    consumed = Consumes-nil _;
+    appended = Appends-nil _;
+    passed = [];
+    parts = sym none;
+    context = first;
+    rest = inl none;
+    is_owed = λ more. ap (λ k. annotated_from answer k (a.held.items ++ more)) first ∙ ap (λ h. annotated_from answer first_context (h ++ more)) none;
+  }
+
+  -- what waits, waits behind the bytes that were passed
+  waits_behind : (a : Annotator) (passed : List ℕ) → kept_in a.context ≡ kept_behind (reverse passed) → ((a.held.items ≡ []) ⊎ IsWaiting answer (kept_in a.context).context a.held.items)
+      → (a.held.items ≡ []) ⊎ IsWaiting answer (context_behind (reverse passed)) a.held.items
+  waits_behind a passed is (inl none) = inl none
+  waits_behind a passed is (inr waits) = inr (waiting_behind answer (reverse passed) a.held.items (subst (λ k. IsWaiting answer k.context a.held.items) is waits))
+
+  -- what was written is up to date, where the reader kept what it has
+  pub following : (r' r'' : Counted R) (w' : Counted W) (a : Annotator) → IsOn remaining contents answer r r' w w' a → Keeps (remaining (device_of r')) (remaining (device_of r''))
+      → IsFollowing remaining contents answer r r'' w w'
+  following r' r'' w' a on keeps = (
+    on.read,
+    on.written,
+    Consumes-kept _ _ _ on.read on.consumed keeps,
+    on.appended,
+    record {
+      passed = on.passed;
+      held = a.held.items;
+      parts = on.parts;
+      rest = waits_behind a on.passed on.context on.rest;
+      begins = λ more.
+          ap (λ t. on.written ++ t) (sym (ap (λ k. annotated_from answer k (a.held.items ++ more)) on.context ∙ from_behind answer (reverse on.passed) (a.held.items ++ more)))
+          ∙ on.is_owed more ∙ from_begin answer (on.read ++ more);
+    },
+  )
+
+  -- a read failed
+  pub not_read : (r' r'' : Counted R) (w' : Counted W) (a : Annotator) → IsOn remaining contents answer r r' w w' a → Rose (failures_of r') (failures_of r'') → Keeps (remaining (device_of r')) (remaining (device_of r''))
+      → Annotates remaining contents answer r r'' w w' (Err fault.Read)
+  not_read r' r'' w' a on rose keeps = (subst (λ n. Rose n (failures_of r'')) on.read_all rose, on.written_all, following r' r'' w' a on keeps)
+
+  -- no block is left to be read
+  pub too_long : (r' : Counted R) (w' : Counted W) (a : Annotator) → IsOn remaining contents answer r r' w w' a → Annotates remaining contents answer r r' w w' (Err fault.TooLong)
+  too_long r' w' a on = (on.read_all, on.written_all, following r' r' w' a on (Keeps-refl _))
+
+  -- a block more
+  pub one_more : (r' r'' : Counted R) (w' w'' : Counted W) (a a' : Annotator) (bytes : List ℕ) (u : Unit {0}) → IsOn remaining contents answer r r' w w' a → NoneFailed r' r'' → Consumes (remaining (device_of r')) (remaining (device_of r'')) bytes
+      → PutsMore contents answer a a' bytes w' w'' (Ok u) → IsOn remaining contents answer r r'' w w'' a'
+  one_more r' r'' w' w'' a a' bytes u on all took (none, text, put, decides) = record {
+    read_all = all ∙ on.read_all;
+    written_all = none ∙ on.written_all;
+    read = on.read ++ bytes;
+    written = on.written ++ text;
+    consumed = Consumes-trans _ _ _ on.read bytes on.consumed took;
+    appended = Appends-trans _ _ _ on.written text on.appended put;
+    passed = on.passed ++ decides.passed;
+    parts =
+        ap (λ l. l ++ bytes) on.parts ∙ append_assoc on.passed a.held.items bytes
+        ∙ ap (λ l. on.passed ++ l) decides.parts ∙ sym (append_assoc on.passed decides.passed a'.held.items);
+    context =
+        decides.context ∙ ap (λ k. context_over k decides.passed) on.context
+        ∙ kept_over (reverse on.passed) decides.passed
+        ∙ ap kept_behind (sym (reverse-append on.passed decides.passed));
+    rest = decides.rest;
+    is_owed = λ more. append_assoc on.written text (owed answer a' more) ∙ ap (λ t. on.written ++ t) (decides.same more) ∙ on.is_owed (bytes ++ more) ∙ ap (annotated_from answer first_context) (sym (append_assoc on.read bytes more));
+  }
+
+  -- the block could not be put out
+  pub not_put : (r' r'' : Counted R) (w' w'' : Counted W) (a a' : Annotator) (bytes : List ℕ) (e : LogFault) → IsOn remaining contents answer r r' w w' a → NoneFailed r' r'' → Consumes (remaining (device_of r')) (remaining (device_of r'')) bytes
+      → PutsMore contents answer a a' bytes w' w'' (Err e) → Annotates remaining contents answer r r'' w w'' (Err e)
+  not_put r' r'' w' w'' a a' bytes fault.OutOfMemory on all took puts =
+      subst (λ x. Annotates remaining contents answer r r'' w x (Err fault.OutOfMemory)) (sym puts) (all ∙ on.read_all, on.written_all, under_way r' r'' w' a bytes on took)
+  not_put r' r'' w' w'' a a' bytes fault.Write on all took puts = (all ∙ on.read_all, subst (λ n. Rose n (failures_of w'')) on.written_all puts)
+  not_put r' r'' w' w'' a a' bytes fault.Read on all took puts = absurd puts
+  not_put r' r'' w' w'' a a' bytes fault.TooLong on all took puts = absurd puts
+
+  -- a fault is told as it came
+  pub passed_on : (r' : Counted R) (w' : Counted W) (result : Result (Unit {0}) LogFault) (e : LogFault) → IsErrAnd result (λ f. f ≡ e) → Annotates remaining contents answer r r' w w' (Err e) → Annotates remaining contents answer r r' w w' result
+  passed_on r' w' (Ok u) e is told = absurd is
+  passed_on r' w' (Err f) e is told = subst (λ x. Annotates remaining contents answer r r' w w' (Err x)) (sym is) told
+
+  -- the log is at its end
+  pub ended : (r' r'' : Counted R) (w' w'' : Counted W) (a : Annotator) (result : Result (Unit {0}) LogFault) → IsOn remaining contents answer r r' w w' a → NoneFailed r' r'' → Consumes (remaining (device_of r')) (remaining (device_of r'')) []
+      → IsAtEnd (remaining (device_of r'')) → PutsText contents (owed answer a []) w' w'' result → Annotates remaining contents answer r r'' w w'' result
+  ended r' r'' w' w'' a (Ok u) on all took at_end (none, put) = (
+    all ∙ on.read_all,
+    none ∙ on.written_all,
+    (
+      on.read ++ [],
+      Consumes-trans _ _ _ on.read [] on.consumed took,
+      at_end,
+      subst (Appends (contents (device_of w)) (contents (device_of w''))) (on.is_owed [] ∙ from_begin answer (on.read ++ [])) (Appends-trans _ _ _ on.written (owed answer a []) on.appended put),
+    ),
+  )
+  ended r' r'' w' w'' a (Err fault.OutOfMemory) on all took at_end puts =
+      subst (λ x. Annotates remaining contents answer r r'' w x (Err fault.OutOfMemory)) (sym puts) (all ∙ on.read_all, on.written_all, under_way r' r'' w' a [] on took)
+  ended r' r'' w' w'' a (Err fault.Write) on all took at_end puts = (all ∙ on.read_all, subst (λ n. Rose n (failures_of w'')) on.written_all puts)
+  ended r' r'' w' w'' a (Err fault.Read) on all took at_end puts = absurd puts
+  ended r' r'' w' w'' a (Err fault.TooLong) on all took at_end puts = absurd puts

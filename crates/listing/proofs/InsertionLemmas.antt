@@ -1,0 +1,158 @@
+-- What is inserted at a place, whatever comes behind the bytes that are there.
+use Rattle.std.proofs.Common.{◌≡◌, ◌∙◌, ℕ, ◌+◌, ◌<◌, ◌≤◌, inl, inr, Bool, true, false, cond, List, [], ◌∷◌, ◌++◌, length, drop, take, refl, sym, ap, subst, Option, Some, None, arith, true≢false, append-nil, append_assoc, length-drop, get_or, drop-drop}
+use Rattle.std.specs.Prelude.{◌&&◌, ◌||◌, nat_eq, nat_le, option_and_then, slice_index}
+use Rattle.std.specs.List.{starts_with}
+use Rattle.std.proofs.lemmas.List.{get_or-drop}
+use Rattle.std.proofs.lemmas.List.Sums.{fold_more}
+use Rattle.facts.proofs.Numbers.{eqb-flip}
+use Rattle.listing.specs.LogWords.{address_of_word, has_prefix}
+use Rattle.listing.specs.AnnotatedLogs.{Answering, LogContext, goes_on, inserted, insertion_at, text_behind}
+use Rattle.listing.specs.LogContexts.{KeptContext, annotated_from, context_over, next_context}
+use Rattle.listing.specs.Insertions.{IsInsert, IsInserted, IsPassed, IsStep, IsWaiting, KeepsPromise, MayCome}
+
+nothing_inserted : (o : Option (List ℕ)) (context : LogContext) (rest : List ℕ) → goes_on context rest ≡ true → inserted context rest o ≡ []
+nothing_inserted None context rest e = refl
+nothing_inserted (Some text) context rest e = ap (λ b. cond (b || starts_with nat_eq rest text) [] text) e
+
+goes_on_more : (context : LogContext) (rest more : List ℕ) → goes_on context rest ≡ true → goes_on context (rest ++ more) ≡ true
+goes_on_more context [] more e = absurd (true≢false (sym e))
+goes_on_more context (b ∷ rest) more e = e
+
+-- nothing is inserted within a word or its closers
+pub nothing_within : (answer : Answering) (context : LogContext) (rest : List ℕ) (is_last : Bool) → goes_on context rest ≡ true → IsInserted answer context rest is_last []
+nothing_within answer context rest is_last e more may = nothing_inserted (text_behind answer context) context (rest ++ more) (goes_on_more context rest more e)
+
+-- the bytes that come behind do not change whether the word goes on
+stops_more : (context : LogContext) (rest more : List ℕ) (is_last : Bool) → (is_last ≡ false → 0 < length rest) → MayCome is_last more → goes_on context rest ≡ false → goes_on context (rest ++ more) ≡ false
+stops_more context [] more true there may e = ap (goes_on context) (may refl)
+stops_more context [] more false there may e = absurd (let n = there refl in omega (arith, n))
+stops_more context (b ∷ rest) more is_last there may e = e
+
+begins_more : (rest text more : List ℕ) → starts_with nat_eq rest text ≡ true → starts_with nat_eq (rest ++ more) text ≡ true
+begins_more rest [] more e = refl
+begins_more [] (t ∷ text) more e = absurd (true≢false (sym e))
+begins_more (r ∷ rest) (t ∷ text) more e = both (nat_eq t r) (starts_with nat_eq rest text) (starts_with nat_eq (rest ++ more) text) e (begins_more rest text more)
+  where
+    both : (a b c : Bool) → (a && b) ≡ true → (b ≡ true → c ≡ true) → (a && c) ≡ true
+    both true b c h f = f h
+    both false b c h f = h
+
+-- bytes that differ from a text, and do not end before it does, differ whatever comes behind
+differs_more : (rest text more : List ℕ) → starts_with nat_eq rest text ≡ false → starts_with nat_eq text rest ≡ false → starts_with nat_eq (rest ++ more) text ≡ false
+differs_more [] text more e f = absurd (true≢false f)
+differs_more (r ∷ rest) [] more e f = absurd (true≢false e)
+differs_more (r ∷ rest) (t ∷ text) more e f =
+    both (nat_eq t r) (nat_eq r t) (starts_with nat_eq rest text) (starts_with nat_eq text rest) (starts_with nat_eq (rest ++ more) text) (eqb-flip t r) e f (differs_more rest text more)
+  where
+    both : (a b x y z : Bool) → a ≡ b → (a && x) ≡ false → (b && y) ≡ false → (x ≡ false → y ≡ false → z ≡ false) → (a && z) ≡ false
+    both true true x y z s h k f = f h k
+    both true false x y z s h k f = absurd (true≢false s)
+    both false b x y z s h k f = refl
+
+inserted_some : (o : Option (List ℕ)) (context : LogContext) (rest text : List ℕ) → o ≡ Some text → inserted context rest o ≡ inserted context rest (Some text)
+inserted_some o context rest text e = ap (inserted context rest) e
+
+-- nothing is inserted where the text stands already
+pub nothing_again : (answer : Answering) (context : LogContext) (rest text : List ℕ) (is_last : Bool) → (is_last ≡ false → 0 < length rest) → text_behind answer context ≡ Some text
+    → starts_with nat_eq rest text ≡ true → IsInserted answer context rest is_last []
+nothing_again answer context rest text is_last there is e more may =
+    inserted_some _ context (rest ++ more) text is ∙ decided (goes_on context (rest ++ more)) (starts_with nat_eq (rest ++ more) text) (begins_more rest text more e)
+  where
+    decided : (a b : Bool) → b ≡ true → cond (a || b) [] text ≡ []
+    decided true b h = refl
+    decided false b h = ap (λ x. cond x [] text) h
+
+-- the text is inserted where bytes differ from it, and either no more come or they do not end before it does
+pub text_inserted : (answer : Answering) (context : LogContext) (rest text : List ℕ) (is_last : Bool) → (is_last ≡ false → 0 < length rest) → text_behind answer context ≡ Some text
+    → goes_on context rest ≡ false → starts_with nat_eq rest text ≡ false → (is_last ≡ false → starts_with nat_eq text rest ≡ false) → IsInserted answer context rest is_last text
+text_inserted answer context rest text is_last there is stops e f more may =
+    inserted_some _ context (rest ++ more) text is ∙ decided (goes_on context (rest ++ more)) (starts_with nat_eq (rest ++ more) text) (stops_more context rest more is_last there may stops) (differs is_last may f)
+  where
+    decided : (a b : Bool) → a ≡ false → b ≡ false → cond (a || b) [] text ≡ text
+    decided true b g h = absurd (true≢false g)
+    decided false b g h = ap (λ x. cond x [] text) h
+
+    differs : (l : Bool) → MayCome l more → (l ≡ false → starts_with nat_eq text rest ≡ false) → starts_with nat_eq (rest ++ more) text ≡ false
+    differs true m g = ap (λ x. starts_with nat_eq x text) (ap (λ x. rest ++ x) (m refl) ∙ append-nil rest) ∙ e
+    differs false m g = differs_more rest text more e (g refl)
+
+-- so many bytes are passed
+pub record HasPassed (answer : Answering) (first kept : KeptContext) (bytes : List ℕ) (is_last : Bool) (before out : List ℕ) (i : ℕ) : Type 0 where
+  pub keeps : KeepsPromise answer first kept bytes is_last before out i
+  pub context : kept ≡ context_over first (take i bytes)
+
+-- a byte more is passed
+pub one_more : (answer : Answering) (first kept kept' : KeptContext) (bytes : List ℕ) (is_last : Bool) (before out out' : List ℕ) (i : ℕ) (went : Bool) → i < length bytes → HasPassed answer first kept bytes is_last before out i
+    → went ≡ true → IsStep answer kept kept' (drop i bytes) is_last out out' went → HasPassed answer first kept' bytes is_last before out' (i + 1)
+one_more answer first kept kept' bytes is_last before out out' i true below has e (stepped, next) = record {
+  keeps = λ more may. ap (λ l. out' ++ annotated_from answer kept' (l ++ more)) (sym (drop-drop 1 i bytes)) ∙ stepped more may ∙ has.keeps more may;
+  context =
+      next ∙ ap (λ k. next_context k (slice_index (drop i bytes) 0)) has.context
+      ∙ ap (next_context (context_over first (take i bytes))) (get_or-drop i bytes 0 0)
+      ∙ ap (λ k. next_context (context_over first (take i bytes)) (get_or bytes k 0)) (let same : i + 0 ≡ i = omega arith in same)
+      ∙ sym (fold_more next_context first bytes i 0 below);
+}
+one_more answer first kept kept' bytes is_last before out out' i false below has e stepped = absurd (true≢false (sym e))
+
+-- the next byte waits
+pub stopped : (answer : Answering) (first kept kept' : KeptContext) (bytes : List ℕ) (is_last : Bool) (before out out' : List ℕ) (i : ℕ) (went : Bool) → i < length bytes → HasPassed answer first kept bytes is_last before out i
+    → went ≡ false → IsStep answer kept kept' (drop i bytes) is_last out out' went → IsPassed answer first kept' bytes is_last before out' i
+stopped answer first kept kept' bytes is_last before out out' i true below has e stepped = absurd (true≢false e)
+stopped answer first kept kept' bytes is_last before out out' i false below has e (not_last, same_kept, same_out, waits) = record {
+  among = omega (arith, below);
+  whole = λ last. absurd (true≢false (sym last ∙ not_last));
+  context = same_kept ∙ has.context;
+  rest = inr (subst (λ k. IsWaiting answer k.context (drop i bytes)) (sym same_kept) waits);
+  keeps = λ more may.
+      ap (λ o. o ++ annotated_from answer kept' (drop i bytes ++ more)) same_out
+      ∙ ap (λ k. out ++ annotated_from answer k (drop i bytes ++ more)) same_kept
+      ∙ has.keeps more may;
+}
+
+-- no byte is left
+pub finished : (answer : Answering) (first kept : KeptContext) (bytes : List ℕ) (is_last : Bool) (before out : List ℕ) (i : ℕ) → i ≡ length bytes → HasPassed answer first kept bytes is_last before out i
+    → IsPassed answer first kept bytes is_last before out i
+finished answer first kept bytes is_last before out i all has = record {
+  among = omega (arith, all);
+  whole = λ last. all;
+  context = has.context;
+  rest = inl all;
+  keeps = has.keeps;
+}
+
+few_digits : (a b : Bool) (o p : Option ℕ) → a ≡ false → b ≡ false → (c : Bool) → cond c (cond a o None) (cond b p None) ≡ None
+few_digits true b o p e f c = absurd (true≢false e)
+few_digits false true o p e f c = absurd (true≢false f)
+few_digits false false o p e f true = refl
+few_digits false false o p e f false = refl
+
+-- a word that is too short for an address is none
+short_word : (word : List ℕ) → length word ≤ 10 → address_of_word word ≡ None
+short_word word few =
+    let n = length-drop 2 word in
+    few_digits (nat_le 9 (length (drop 2 word))) (nat_le 16 (length word)) _ _ (grind (arith, n, few)) (grind (arith, few)) (has_prefix word)
+
+short_insertion : (answer : Answering) (context : LogContext) (rest : List ℕ) → length context.word ≤ 10 → insertion_at answer context rest ≡ []
+short_insertion answer context rest few = ap (λ o. inserted context rest (option_and_then (answer context.is_marked) o)) (short_word context.word few)
+
+-- a byte is passed behind what is inserted before it
+pub byte_passed : (answer : Answering) (kept kept' : KeptContext) (rest : List ℕ) (is_last : Bool) (out mid out' : List ℕ) (put : Bool) → 0 < length rest → put ≡ true → IsInsert answer kept.context rest is_last out mid put
+    → kept' ≡ next_context kept (slice_index rest 0) → out' ≡ mid ++ slice_index rest 0 ∷ [] → IsStep answer kept kept' rest is_last out out' true
+byte_passed answer kept kept' rest is_last out mid out' false some e is_put is_kept is_out = absurd (true≢false (sym e))
+byte_passed answer kept kept' rest is_last out mid out' true some e is_put is_kept is_out = (keeps rest some is_put is_kept is_out, is_kept)
+  where
+    keeps : (bytes : List ℕ) → 0 < length bytes → IsInsert answer kept.context bytes is_last out mid true → kept' ≡ next_context kept (slice_index bytes 0) → out' ≡ mid ++ slice_index bytes 0 ∷ []
+        → KeepsPromise answer kept kept' bytes is_last out out' 1
+    keeps [] some put k o more may = absurd (omega (arith, some))
+    keeps (b ∷ bytes) some put k o more may =
+        ap (λ x. x ++ annotated_from answer kept' (bytes ++ more)) o
+        ∙ ap (λ q. (mid ++ b ∷ []) ++ annotated_from answer q (bytes ++ more)) k
+        ∙ append_assoc mid (b ∷ []) (annotated_from answer (next_context kept b) (bytes ++ more))
+        ∙ ap (λ x. x ++ b ∷ annotated_from answer (next_context kept b) (bytes ++ more)) (put more may)
+        ∙ append_assoc out (insertion_at answer kept.context (b ∷ bytes ++ more)) (b ∷ annotated_from answer (next_context kept b) (bytes ++ more))
+
+-- behind a short word nothing is inserted
+pub none_inserted : (answer : Answering) (context : LogContext) (rest : List ℕ) (is_last : Bool) (out : List ℕ) → nat_le (length context.word) 10 ≡ true → IsInsert answer context rest is_last out out true
+none_inserted answer context rest is_last out few more may =
+    let short : length context.word ≤ 10 = grind (arith, few) in
+    sym (ap (λ t. out ++ t) (short_insertion answer context (rest ++ more) short) ∙ append-nil out)

@@ -1,0 +1,125 @@
+-- What the counts of a listing say of how it looks.
+use Rattle.std.proofs.Common.{◌≡◌, ℕ, zero, suc, ◌+◌, Bool, true, false, not, ◌&&◌, ◌||◌, cond, nat_lt, List, [], ◌∷◌, length, Ok, Err, Result, refl, sym, ap, ◌∙◌, arith}
+use Rattle.std.specs.Prelude.{count_by}
+use Rattle.std.specs.List.{cons_option, list_any}
+use Rattle.std.specs.Result.{result_ok}
+use Rattle.std.proofs.lemmas.Bool.{lt-ltb}
+use Rattle.std.proofs.lemmas.List.Sums.{sum_by-cons}
+use Rattle.modules.specs.Listed.{ListedModule, ListedSymbol}
+use Rattle.listing.specs.Looks.{are_modules_hidden, are_symbols_hidden, is_hidden_module, is_hidden_symbol, is_shown_module, is_shown_symbol}
+use Rattle.listing.specs.ModuleListing.{module_of_line, module_place, modules_in}
+use Rattle.listing.specs.Skipping.{is_skipped_for, skipped_for}
+use Rattle.listing.specs.SymbolListing.{symbol_of, symbol_place, symbols_in}
+use Rattle.listing.specs.declared.module_listing.SkippedModule.{SkippedModule}
+use Rattle.listing.specs.declared.module_listing.SkippedModule.TheVariants as module_cause
+use Rattle.listing.specs.declared.symbol_listing.SkippedSymbol.{SkippedSymbol}
+use Rattle.listing.specs.declared.symbol_listing.SkippedSymbol.TheVariants as symbol_cause
+
+some_first : (b rest : Bool) (n : ℕ) → rest ≡ nat_lt 0 n → (b || rest) ≡ nat_lt 0 (cond b 1 0 + n)
+some_first true rest n e = sym (lt-ltb 0 (1 + n) (omega arith))
+some_first false rest n e =
+    let same : n ≡ 0 + n = omega arith in
+    e ∙ ap (nat_lt 0) same
+
+-- some pass where their number is above 0
+any_counted : {X : Type 0} (p : X → Bool) (xs : List X) → list_any p xs ≡ nat_lt 0 (count_by p xs)
+any_counted p [] = refl
+any_counted p (x ∷ xs) =
+    some_first (p x) (list_any p xs) (count_by p xs) (any_counted p xs)
+    ∙ ap (nat_lt 0) (sym (sum_by-cons (λ y. cond (p y) 1 0) x xs))
+
+same_any : {X : Type 0} (p q : X → Bool) → ((x : X) → p x ≡ q x) → (xs : List X) → list_any p xs ≡ list_any q xs
+same_any p q same [] = refl
+same_any p q same (x ∷ xs) = ap (λ b. b || list_any p xs) (same x) ∙ ap (λ b. q x || b) (same_any p q same xs)
+
+some_of_three : (a b c : ℕ) → nat_lt 0 (a + b + c) ≡ (nat_lt 0 a || (nat_lt 0 b || nat_lt 0 c))
+some_of_three (suc a) b c =
+    let some : nat_lt 0 (suc a) ≡ true = lt-ltb 0 (suc a) (omega arith) in
+    lt-ltb 0 (suc a + b + c) (omega arith) ∙ sym (ap (λ t. t || (nat_lt 0 b || nat_lt 0 c)) some)
+some_of_three zero (suc b) c =
+    let some : nat_lt 0 (suc b) ≡ true = lt-ltb 0 (suc b) (omega arith) in
+    lt-ltb 0 (zero + suc b + c) (omega arith) ∙ sym (ap (λ t. t || nat_lt 0 c) some)
+some_of_three zero zero c =
+    let same : zero + zero + c ≡ c = omega arith in
+    ap (nat_lt 0) same
+
+hidden_module : (r : Result ListedModule SkippedModule) → is_hidden_module r ≡ is_skipped_for module_place module_cause.Hidden r
+hidden_module (Ok m) = refl
+hidden_module (Err module_cause.Hidden) = refl
+hidden_module (Err module_cause.Empty) = refl
+hidden_module (Err module_cause.Wraps) = refl
+hidden_module (Err module_cause.Long) = refl
+hidden_module (Err module_cause.Malformed) = refl
+
+abbrev pub skipped_modules : SkippedModule → List (List ℕ) → ℕ
+skipped_modules cause lines = skipped_for module_place module_of_line lines cause
+
+shown_first : (r : Result ListedModule SkippedModule) (ms : List ListedModule)
+    → cond (is_shown_module r) 1 0 + length ms
+    ≡ length (cons_option (result_ok r) ms) + cond (is_skipped_for module_place module_cause.Empty r) 1 0 + cond (is_skipped_for module_place module_cause.Wraps r) 1 0
+shown_first (Ok m) ms = omega arith
+shown_first (Err module_cause.Hidden) ms = omega arith
+shown_first (Err module_cause.Empty) ms = omega arith
+shown_first (Err module_cause.Wraps) ms = omega arith
+shown_first (Err module_cause.Long) ms = omega arith
+shown_first (Err module_cause.Malformed) ms = omega arith
+
+-- the lines that are shown are those of modules, the empty ones and those that wrap
+shown_counted : (lines : List (List ℕ))
+    → count_by (λ l. is_shown_module (module_of_line l)) lines
+    ≡ length (modules_in lines) + skipped_modules module_cause.Empty lines + skipped_modules module_cause.Wraps lines
+shown_counted [] = refl
+shown_counted (line ∷ lines) =
+    let shown = sum_by-cons (λ l. cond (is_shown_module (module_of_line l)) 1 0) line lines in
+    let empty = sum_by-cons (λ l. cond (is_skipped_for module_place module_cause.Empty (module_of_line l)) 1 0) line lines in
+    let wraps = sum_by-cons (λ l. cond (is_skipped_for module_place module_cause.Wraps (module_of_line l)) 1 0) line lines in
+    omega (arith, shown, empty, wraps, shown_first (module_of_line line) (modules_in lines), shown_counted lines)
+
+pub modules_hidden : (lines : List (List ℕ)) (hidden listed empty wraps : ℕ) → hidden ≡ skipped_modules module_cause.Hidden lines
+    → listed ≡ length (modules_in lines) → empty ≡ skipped_modules module_cause.Empty lines → wraps ≡ skipped_modules module_cause.Wraps lines
+    → (nat_lt 0 hidden && not (nat_lt 0 listed || (nat_lt 0 empty || nat_lt 0 wraps))) ≡ are_modules_hidden lines
+modules_hidden lines h l e w is_hidden is_listed is_empty is_wrapping =
+    let hidden : list_any (λ l. is_hidden_module (module_of_line l)) lines ≡ nat_lt 0 (skipped_modules module_cause.Hidden lines) =
+    same_any (λ l. is_hidden_module (module_of_line l)) (λ l. is_skipped_for module_place module_cause.Hidden (module_of_line l)) (λ l. hidden_module (module_of_line l)) lines
+    ∙ any_counted (λ l. is_skipped_for module_place module_cause.Hidden (module_of_line l)) lines in
+    let shown : list_any (λ l. is_shown_module (module_of_line l)) lines
+    ≡ (nat_lt 0 (length (modules_in lines)) || (nat_lt 0 (skipped_modules module_cause.Empty lines) || nat_lt 0 (skipped_modules module_cause.Wraps lines))) =
+    any_counted (λ l. is_shown_module (module_of_line l)) lines ∙ ap (nat_lt 0) (shown_counted lines)
+    ∙ some_of_three (length (modules_in lines)) (skipped_modules module_cause.Empty lines) (skipped_modules module_cause.Wraps lines) in
+    ap (λ n. nat_lt 0 n && not (nat_lt 0 l || (nat_lt 0 e || nat_lt 0 w))) is_hidden
+    ∙ ap (λ n. nat_lt 0 (skipped_modules module_cause.Hidden lines) && not (nat_lt 0 n || (nat_lt 0 e || nat_lt 0 w))) is_listed
+    ∙ ap (λ n. nat_lt 0 (skipped_modules module_cause.Hidden lines) && not (nat_lt 0 (length (modules_in lines)) || (nat_lt 0 n || nat_lt 0 w))) is_empty
+    ∙ ap (λ n. nat_lt 0 (skipped_modules module_cause.Hidden lines) && not (nat_lt 0 (length (modules_in lines)) || (nat_lt 0 (skipped_modules module_cause.Empty lines) || nat_lt 0 n))) is_wrapping
+    ∙ ap (λ b. nat_lt 0 (skipped_modules module_cause.Hidden lines) && not b) (sym shown)
+    ∙ ap (λ b. b && not (list_any (λ l. is_shown_module (module_of_line l)) lines)) (sym hidden)
+
+hidden_symbol : (r : Result ListedSymbol SkippedSymbol) → is_hidden_symbol r ≡ is_skipped_for symbol_place symbol_cause.Hidden r
+hidden_symbol (Ok s) = refl
+hidden_symbol (Err symbol_cause.Hidden) = refl
+hidden_symbol (Err symbol_cause.Long) = refl
+hidden_symbol (Err symbol_cause.Malformed) = refl
+
+first_taken : (r : Result ListedSymbol SkippedSymbol) (rest : Bool) (symbols : List ListedSymbol) → rest ≡ nat_lt 0 (length symbols)
+    → (is_shown_symbol r || rest) ≡ nat_lt 0 (length (cons_option (result_ok r) symbols))
+first_taken (Ok s) rest symbols e = sym (lt-ltb 0 (suc (length symbols)) (omega arith))
+first_taken (Err cause) rest symbols e = e
+
+some_taken : (lines : List (List ℕ)) → list_any (λ l. is_shown_symbol (symbol_of l)) lines ≡ nat_lt 0 (length (symbols_in lines))
+some_taken [] = refl
+some_taken (line ∷ lines) = first_taken (symbol_of line) (list_any (λ l. is_shown_symbol (symbol_of l)) lines) (symbols_in lines) (some_taken lines)
+
+or_false : (b : Bool) → (b || false) ≡ b
+or_false true = refl
+or_false false = refl
+
+pub symbols_hidden : (lines : List (List ℕ)) (hidden listed : ℕ) → hidden ≡ skipped_for symbol_place symbol_of lines symbol_cause.Hidden
+    → listed ≡ length (symbols_in lines) → (nat_lt 0 hidden && not (nat_lt 0 listed || false)) ≡ are_symbols_hidden lines
+symbols_hidden lines h l is_hidden is_listed =
+    let hidden : list_any (λ l. is_hidden_symbol (symbol_of l)) lines ≡ nat_lt 0 (skipped_for symbol_place symbol_of lines symbol_cause.Hidden) =
+    same_any (λ l. is_hidden_symbol (symbol_of l)) (λ l. is_skipped_for symbol_place symbol_cause.Hidden (symbol_of l)) (λ l. hidden_symbol (symbol_of l)) lines
+    ∙ any_counted (λ l. is_skipped_for symbol_place symbol_cause.Hidden (symbol_of l)) lines in
+    ap (λ n. nat_lt 0 n && not (nat_lt 0 l || false)) is_hidden
+    ∙ ap (λ b. nat_lt 0 (skipped_for symbol_place symbol_of lines symbol_cause.Hidden) && not b) (or_false (nat_lt 0 l))
+    ∙ ap (λ n. nat_lt 0 (skipped_for symbol_place symbol_of lines symbol_cause.Hidden) && not (nat_lt 0 n)) is_listed
+    ∙ ap (λ b. nat_lt 0 (skipped_for symbol_place symbol_of lines symbol_cause.Hidden) && not b) (sym (some_taken lines))
+    ∙ ap (λ b. b && not (list_any (λ l. is_shown_symbol (symbol_of l)) lines)) (sym hidden)

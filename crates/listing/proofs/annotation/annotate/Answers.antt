@@ -1,0 +1,35 @@
+use Rattle.std.proofs.Common.{ℕ, take, subst, arith}
+use Rattle.std.specs.Io.KnownBytes.{Consumes}
+use Rattle.listing.specs.Counted.{device_of}
+use Rattle.listing.specs.AnnotatedLogs.{answered_by}
+use Rattle.listing.proofs.AnnotationLemmas.{ended, not_put, not_read, one_more, passed_on, too_long}
+use Rattle.listing.proofs.annotation.annotate.Goals as goal
+
+pub returns-in_default : goal.returns-in_default
+returns-in_default g c =
+    not_read g.R.Read.remaining g.W.Write.contents (answered_by c.args.index.now c.args.rule) c.args.reader.now c.args.writer.now c.loop.reader c.read.new.self c.loop.writer c.loop.annotator c.loop.invariant
+    c.in_default.ensures.failed c.in_default.ensures.bytes
+
+pub returns-then-count-eq0 : goal.returns-then-count-eq0
+returns-then-count-eq0 g c =
+    ended g.R.Read.remaining g.W.Write.contents (answered_by c.args.index.now c.args.rule) c.args.reader.now c.args.writer.now c.loop.reader c.read.new.self c.loop.writer c.put_rest.new.writer c.loop.annotator c.put_rest.result c.loop.invariant
+    c.in-Ok.ensures.counted
+    (subst (λ (n : ℕ). Consumes (g.R.Read.remaining (device_of c.loop.reader)) (g.R.Read.remaining (device_of c.read.new.self)) (take n c.read.new.buf)) c.if-count-eq0.true c.in-Ok.ensures.bytes.0)
+    (c.in-Ok.ensures.bytes.1 c.if-count-eq0.true (omega (arith, c.loop.auto.block, c.as_mut_slice-block.ensures.len, c.in_ok-resize.ensures.len, c.read.auto.buf)))
+    c.put_rest.ensures
+
+pub returns-in_err-put_more : goal.returns-in_err-put_more
+returns-in_err-put_more g c =
+    let fault = c.in_err-put_more.field-0.0 in
+    passed_on g.R.Read.remaining g.W.Write.contents (answered_by c.args.index.now c.args.rule) c.args.reader.now c.args.writer.now c.read.new.self c.put_more.new.writer c.from_residual-in_err-put_more.result fault
+    c.from_residual-in_err-put_more.ensures.1
+    (not_put g.R.Read.remaining g.W.Write.contents (answered_by c.args.index.now c.args.rule) c.args.reader.now c.args.writer.now c.loop.reader c.read.new.self c.loop.writer c.put_more.new.writer c.loop.annotator c.put_more.new.annotator
+    _ fault c.loop.invariant c.in-Ok.ensures.counted c.in-Ok.ensures.bytes.0 c.in_err-put_more.ensures)
+
+pub loop-preserved : goal.loop-preserved
+loop-preserved g c =
+    one_more g.R.Read.remaining g.W.Write.contents (answered_by c.args.index.now c.args.rule) c.args.reader.now c.args.writer.now c.loop.reader c.read.new.self c.loop.writer c.put_more.new.writer c.loop.annotator c.put_more.new.annotator
+    _ c.in_ok-put_more.field-0 c.loop.invariant c.in-Ok.ensures.counted c.in-Ok.ensures.bytes.0 c.in_ok-put_more.ensures
+
+pub returns : goal.returns
+returns g c = too_long g.R.Read.remaining g.W.Write.contents (answered_by c.args.index.now c.args.rule) c.args.reader.now c.args.writer.now c.loop.reader c.loop.writer c.loop.annotator c.loop.invariant

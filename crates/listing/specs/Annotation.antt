@@ -1,0 +1,102 @@
+-- What was read of a log, and what was written for it.
+use Rattle.std.specs.Prelude.{◌≡◌, ℕ, ◌⊎◌, List, [], ◌++◌, reverse, Option, Result, Ok, Err}
+use Rattle.std.specs.Io.KnownBytes.{Appends, Consumes, IsAtEnd}
+use Rattle.listing.specs.declared.counted.Counted.{Counted}
+use Rattle.listing.specs.Counted.{NoneFailed, Rose, device_of, failures_of}
+use Rattle.listing.specs.AnnotatedLogs.{Answering, annotated, annotated_behind, context_behind}
+use Rattle.listing.specs.LogContexts.{annotated_from, context_over, kept_in}
+use Rattle.listing.specs.Insertions.{IsWaiting}
+use Rattle.listing.specs.declared.annotation.Annotator.{Annotator}
+use Rattle.listing.specs.declared.annotation.LogFault.{LogFault}
+use Rattle.listing.specs.declared.annotation.LogFault.TheVariants as fault
+
+-- what is still to be put out where these bytes come, and then no more
+abbrev pub owed : Answering → Annotator → List ℕ → List ℕ
+owed answer a more = annotated_from answer (kept_in a.context) (a.held.items ++ more)
+
+-- With these bytes the text is decided: what is still owed stands behind it, and what is held back
+-- is none of them, or waits for more.
+pub record Decides (answer : Answering) (a a' : Annotator) (bytes text : List ℕ) : Type 0 where
+  pub passed : List ℕ
+  pub parts : a.held.items ++ bytes ≡ passed ++ a'.held.items
+  pub context : kept_in a'.context ≡ context_over (kept_in a.context) passed
+  pub same : (more : List ℕ) → text ++ owed answer a' more ≡ owed answer a (bytes ++ more)
+  pub rest : (a'.held.items ≡ []) ⊎ IsWaiting answer (kept_in a'.context).context a'.held.items
+
+-- the text was written, or no call failed and nothing was, or a call failed
+abbrev pub PutsText : {W : Type 0} → (W → Option (List ℕ)) → List ℕ → Counted W → Counted W
+    → Result (Unit {0}) LogFault → Type 0
+PutsText contents text w w' (Ok _) =
+    NoneFailed w w' × Appends (contents (device_of w)) (contents (device_of w')) text
+PutsText contents text w w' (Err fault.OutOfMemory) = w' ≡ w
+PutsText contents text w w' (Err fault.Write) = Rose (failures_of w) (failures_of w')
+PutsText contents text w w' (Err _) = ⊥
+
+-- the same of a text that is decided by these bytes
+abbrev pub PutsMore : {W : Type 0} → (W → Option (List ℕ)) → Answering → Annotator → Annotator
+    → List ℕ → Counted W → Counted W → Result (Unit {0}) LogFault → Type 0
+PutsMore contents answer a a' bytes w w' (Ok _) =
+    NoneFailed w w' × (text : List ℕ)
+    × Appends (contents (device_of w)) (contents (device_of w')) text
+    × Decides answer a a' bytes text
+PutsMore contents answer a a' bytes w w' (Err fault.OutOfMemory) = w' ≡ w
+PutsMore contents answer a a' bytes w w' (Err fault.Write) = Rose (failures_of w) (failures_of w')
+PutsMore contents answer a a' bytes w w' (Err _) = ⊥
+
+-- the annotated log begins with what was written, whatever comes behind what was read
+abbrev pub Begins : Answering → List ℕ → List ℕ → Type 0
+Begins answer written read =
+    (more : List ℕ) → (rest : List ℕ) × (written ++ rest ≡ annotated answer (read ++ more))
+
+-- What was written is the annotated log up to a place, and the bytes that were read behind it are
+-- none, or begin what may be inserted there.
+pub record IsUpToDate (answer : Answering) (written read : List ℕ) : Type 0 where
+  pub passed : List ℕ
+  pub held : List ℕ
+  pub parts : read ≡ passed ++ held
+  pub rest : (held ≡ []) ⊎ IsWaiting answer (context_behind (reverse passed)) held
+  pub begins : (more : List ℕ)
+      → written ++ annotated_behind answer (reverse passed) (held ++ more)
+      ≡ annotated answer (read ++ more)
+
+-- The reader gave some bytes, and what was written is up to date.
+abbrev pub IsFollowing : {R W : Type 0} → (R → Option (List ℕ)) → (W → Option (List ℕ)) → Answering
+    → Counted R → Counted R → Counted W → Counted W → Type 0
+IsFollowing remaining contents answer r r' w w' =
+    (read : List ℕ) × (written : List ℕ)
+    × Consumes (remaining (device_of r)) (remaining (device_of r')) read
+    × Appends (contents (device_of w)) (contents (device_of w')) written
+    × IsUpToDate answer written read
+
+-- The reader gave some bytes, and what was written is a beginning of the annotated log.
+abbrev pub IsUnderWay : {R W : Type 0} → (R → Option (List ℕ)) → (W → Option (List ℕ)) → Answering
+    → Counted R → Counted R → Counted W → Counted W → Type 0
+IsUnderWay remaining contents answer r r' w w' =
+    (read : List ℕ) × (written : List ℕ)
+    × Consumes (remaining (device_of r)) (remaining (device_of r')) read
+    × Appends (contents (device_of w)) (contents (device_of w')) written
+    × Begins answer written read
+
+-- The reader gave a log and has no more, and the annotated log was written.
+abbrev pub IsWhole : {R W : Type 0} → (R → Option (List ℕ)) → (W → Option (List ℕ)) → Answering
+    → Counted R → Counted R → Counted W → Counted W → Type 0
+IsWhole remaining contents answer r r' w w' =
+    (log : List ℕ)
+    × Consumes (remaining (device_of r)) (remaining (device_of r')) log
+    × IsAtEnd (remaining (device_of r'))
+    × Appends (contents (device_of w)) (contents (device_of w')) (annotated answer log)
+
+-- what is returned
+abbrev pub Annotates : {R W : Type 0} → (R → Option (List ℕ)) → (W → Option (List ℕ)) → Answering
+    → Counted R → Counted R → Counted W → Counted W → Result (Unit {0}) LogFault → Type 0
+Annotates remaining contents answer r r' w w' (Ok _) =
+    NoneFailed r r' × NoneFailed w w' × IsWhole remaining contents answer r r' w w'
+Annotates remaining contents answer r r' w w' (Err fault.OutOfMemory) =
+    NoneFailed r r' × NoneFailed w w' × IsUnderWay remaining contents answer r r' w w'
+Annotates remaining contents answer r r' w w' (Err fault.TooLong) =
+    NoneFailed r r' × NoneFailed w w' × IsFollowing remaining contents answer r r' w w'
+Annotates remaining contents answer r r' w w' (Err fault.Read) =
+    Rose (failures_of r) (failures_of r') × NoneFailed w w'
+    × IsFollowing remaining contents answer r r' w w'
+Annotates remaining contents answer r r' w w' (Err fault.Write) =
+    NoneFailed r r' × Rose (failures_of w) (failures_of w')

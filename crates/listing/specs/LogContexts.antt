@@ -1,0 +1,58 @@
+-- What is kept of the bytes before a place of a log: of the word no more than tells that it is no
+-- address, and the last bytes, in which a marker may have begun.
+use Rattle.std.specs.Prelude.{ℕ, ◌==◌, ◌&&◌, ◌||◌, not, List, [], ◌∷◌, ◌++◌, length, nat_lt, take}
+use Rattle.std.specs.Prelude.{false, fold, replicate, if◌then◌else◌}
+use Rattle.listing.specs.AnnotatedLogs.{Answering, LogContext, ends_marked, insertion_at}
+use Rattle.listing.specs.LogWords.{is_closer, is_word_byte}
+use Rattle.listing.specs.declared.log_contexts.Context.{Context}
+
+-- a context, and the last three bytes, from the last one to the first
+pub record KeptContext : Type 0 where
+  pub context : LogContext
+  pub recent : List ℕ
+
+-- what is kept where a log begins, as if bytes 0 stood before it
+abbrev pub first_context : KeptContext
+first_context = record {
+  context = record { word = []; is_closed = false; is_marked = false };
+  recent = replicate 3 0;
+}
+
+abbrev pub kept_in : Context → KeptContext
+kept_in c = record {
+  context = record { word = c.word.items; is_closed = c.is_closed; is_marked = c.is_marked };
+  recent = c.recent;
+}
+
+-- a byte more, up to 19
+abbrev pub with_byte : List ℕ → ℕ → List ℕ
+with_byte word b = if nat_lt (length word) 19 then word ++ b ∷ [] else word
+
+-- the word behind a byte more
+abbrev pub next_word : LogContext → ℕ → List ℕ
+next_word context b =
+    if is_word_byte b then (if context.is_closed then b ∷ [] else with_byte context.word b)
+    else if is_closer b then context.word
+    else []
+
+-- what is kept behind a byte more
+abbrev pub next_context : KeptContext → ℕ → KeptContext
+next_context kept b = record {
+  context = record {
+    word = next_word kept.context b;
+    is_closed = is_closer b;
+    is_marked = not (b == 10) && (ends_marked (b ∷ kept.recent) || kept.context.is_marked);
+  };
+  recent = b ∷ take 2 kept.recent;
+}
+
+-- what is kept behind so many more
+abbrev pub context_over : KeptContext → List ℕ → KeptContext
+context_over kept bytes = fold next_context kept bytes
+
+-- the rest of a log, with what is inserted, where so much is kept of the bytes before it
+abbrev pub annotated_from : Answering → KeptContext → List ℕ → List ℕ
+annotated_from answer kept [] = insertion_at answer kept.context []
+annotated_from answer kept (b ∷ rest) =
+    insertion_at answer kept.context (b ∷ rest)
+    ++ b ∷ annotated_from answer (next_context kept b) rest

@@ -1,0 +1,27 @@
+-- The words of a log, and the addresses that words are.
+use Rattle.std.specs.Prelude.{ℕ, ◌==◌, ◌||◌, Bool, if◌then◌else◌, List, length, drop, codes}
+use Rattle.std.specs.Prelude.{Option, None, nat_eq, nat_le}
+use Rattle.std.specs.List.{starts_with}
+use Rattle.std.specs.Char.{is_digit}
+use Rattle.listing.specs.Numbers.{numeral}
+
+-- letters, digits and `_`: a word is a longest run of them
+abbrev pub is_word_byte : ℕ → Bool
+is_word_byte b = is_digit b 36 || b == 95
+
+-- `)`, `>` and `]`, which close the brackets that an address may stand in
+abbrev pub is_closer : ℕ → Bool
+is_closer b = b == 41 || b == 62 || b == 93
+
+-- `0x` or `0X`
+abbrev pub has_prefix : List ℕ → Bool
+has_prefix word = starts_with nat_eq word (codes "0x") || starts_with nat_eq word (codes "0X")
+
+-- so many hexadecimal digits at least, and 16 at most
+abbrev pub digits_from : ℕ → List ℕ → Option ℕ
+digits_from least digits = if nat_le least (length digits) then numeral 16 16 digits else None
+
+-- the address that a word is: 9 to 16 hexadecimal digits behind the prefix, or just 16 without it
+abbrev pub address_of_word : List ℕ → Option ℕ
+address_of_word word =
+    if has_prefix word then digits_from 9 (drop 2 word) else digits_from 16 word

@@ -1,0 +1,166 @@
+//! A log that is written again with the text of the answer behind each address.
+//!
+//! The log goes through block by block, and is never there as a whole. What is inserted at a place
+//! is told by the context before it and the bytes behind it, where the text may stand already. So
+//! at most the beginning of one such text is held back until more bytes come:
+//!
+//! ```text
+//!     read      [<ffffffff81000108>] do_one+0|x8/0x1f00        the next block tells whether
+//!     written   [<ffffffff81000108>]          |                the text stands there already
+//!     held                          ^^^^^^^^^^
+//! ```
+ghost use Rattle.std.specs.Prelude.{◌≡◌, [], IfOk};
+ghost use Rattle.listing.specs.Exact.{Wrote};
+ghost use Rattle.listing.specs.AnnotatedLogs.{answered_by};
+ghost use Rattle.listing.specs.LogContexts.{first_context, kept_in};
+ghost use Rattle.listing.specs.Insertions.{answering_of};
+ghost use Rattle.listing.specs.Annotation.{Annotates, Decides, PutsMore, PutsText, owed};
+
+use crate::insertions::LogAnswers;
+use crate::log_contexts::Context;
+use crate::{AddressRule, BLOCK, Counted, put};
+use modules::IndexedCatalog;
+use std::alloc::{AllocError, Global};
+use std::io;
+use std::io::{Read, Write};
+
+/// Why a log was not annotated to its end.
+#[derive(Clone, Copy, Debug, PartialEq, Eq)]
+pub enum LogFault {
+    /// A growth of memory was refused.
+    OutOfMemory,
+    /// The reader failed.
+    Read,
+    /// The writer failed.
+    Write,
+    /// The log has more blocks than a `u64` counts.
+    TooLong,
+}
+
+impl From<AllocError> for LogFault {
+    ghost use Rattle.listing.specs.declared.annotation.LogFault.TheVariants.{OutOfMemory};
+
+    ghost from_gives = { λ _ fault. fault ≡ OutOfMemory };
+
+    fn from(_error: AllocError) -> LogFault {
+        LogFault::OutOfMemory
+    }
+}
+
+/// What is known of the bytes that were put out, and the bytes behind them that were read already.
+#[derive(Drop)]
+struct Annotator {
+    context: Context,
+    held: Vec<u8>,
+}
+
+impl Annotator {
+    fn new(alloc: Global) -> Annotator
+        ensures context { kept_in result.context ≡ first_context }
+        ensures held { result.held.items ≡ [] }
+    {
+        Annotator {
+            context: Context::new(),
+            held: Vec::new(alloc),
+        }
+    }
+
+    /// Takes bytes in, and gives what is decided.
+    fn pass_on(&mut self, answers: &LogAnswers, bytes: &[u8]) -> Result<Vec<u8>, AllocError>
+        ensures { IfOk result
+            (λ out. Decides (answering_of answers.now) self.old self.new bytes.now out.items) }
+    {
+        self.held.extend_from_slice(bytes)?;
+        let mut out = Vec::with_capacity(answers.alloc, self.held.len())?;
+        let passed = answers.pass(&mut self.context, &self.held, false, &mut out)?;
+        self.held = Vec::from_slice(answers.alloc, &self.held[passed..])?;
+        Ok(out)
+    }
+
+    /// Gives the rest, where no more bytes come.
+    fn rest(&mut self, answers: &LogAnswers) -> Result<Vec<u8>, AllocError>
+        ensures { IfOk result (λ out. out.items ≡ owed (answering_of answers.now) self.old []) }
+    {
+        let mut out = Vec::new(answers.alloc);
+        answers.pass(&mut self.context, &self.held, true, &mut out)?;
+        answers.insert(&self.context, &[], true, &mut out)?;
+        Ok(out)
+    }
+}
+
+/// Writes the bytes, and lets the writer keep nothing back.
+fn put_now<W: Write>(writer: &mut Counted<W>, bytes: &[u8]) -> io::Result<()>
+    ensures { Wrote W.contents writer.old writer.new result bytes.now }
+{
+    put(writer, bytes)?;
+    writer.flush()
+}
+
+/// Writes a log again, with a blank and the text of the answer behind each address word and the
+/// closers that follow it, where the answer is not `-` and does not stand there already.
+///
+/// Each address is taken by the rule, but behind `RIP:` or `pc :` in its line as one that is no
+/// return address. docs/FORMATS.md says what an address word is.
+///
+/// After each block that was read all that is decided is written, and the writer flushed. The
+/// memory that is taken is that of some blocks, however long the log or its lines are. Whatever
+/// ends it, what was written is a beginning of the annotated log.
+pub fn annotate<R: Read, W: Write>(
+    alloc: Global,
+    index: &IndexedCatalog<'_>,
+    rule: AddressRule,
+    reader: &mut Counted<R>,
+    writer: &mut Counted<W>,
+) -> Result<(), LogFault>
+    ensures { Annotates R.remaining W.contents (answered_by index.now rule) reader.old reader.new
+        writer.old writer.new result }
+{
+    let answers = LogAnswers { alloc, index, rule };
+    let mut room = Vec::new(alloc);
+    room.resize(BLOCK, 0)?;
+    let block = room.as_mut_slice();
+    let mut annotator = Annotator::new(alloc);
+    for _ in 0..u64::MAX {
+        let Ok(count) = reader.read(block) else {
+            return Err(LogFault::Read);
+        };
+        if count == 0 {
+            return put_rest(&answers, &mut annotator, writer);
+        }
+        put_more(&answers, &mut annotator, &block[..count], writer)?;
+    }
+    Err(LogFault::TooLong)
+}
+
+/// Writes what is decided with these bytes.
+fn put_more<W: Write>(
+    answers: &LogAnswers,
+    annotator: &mut Annotator,
+    bytes: &[u8],
+    writer: &mut Counted<W>,
+) -> Result<(), LogFault>
+    ensures { PutsMore W.contents (answering_of answers.now) annotator.old annotator.new bytes.now
+        writer.old writer.new result }
+{
+    let out = annotator.pass_on(answers, bytes)?;
+    match put_now(writer, &out) {
+        Ok(()) => Ok(()),
+        Err(_) => Err(LogFault::Write),
+    }
+}
+
+/// Writes the rest, where no more bytes come.
+fn put_rest<W: Write>(
+    answers: &LogAnswers,
+    annotator: &mut Annotator,
+    writer: &mut Counted<W>,
+) -> Result<(), LogFault>
+    ensures { PutsText W.contents (owed (answering_of answers.now) annotator.old [])
+        writer.old writer.new result }
+{
+    let out = annotator.rest(answers)?;
+    match put_now(writer, &out) {
+        Ok(()) => Ok(()),
+        Err(_) => Err(LogFault::Write),
+    }
+}

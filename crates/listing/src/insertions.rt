@@ -1,0 +1,141 @@
+//! What is inserted into a log at one place.
+ghost use Rattle.std.specs.Prelude.{◌≡◌, ◌<◌, ◌++◌, codes, length, false, IfOk, Some};
+ghost use Rattle.std.specs.Prelude.{option_and_then, option_map};
+ghost use Rattle.modules.specs.Items.{item_of_address};
+ghost use Rattle.listing.specs.AddressRules.{place_of};
+ghost use Rattle.listing.specs.Answers.{answer_text_by};
+ghost use Rattle.listing.specs.Exact.{Wrote};
+ghost use Rattle.listing.specs.AnnotatedLogs.{goes_on, rule_behind, text_behind};
+ghost use Rattle.listing.specs.LogContexts.{kept_in};
+ghost use Rattle.listing.specs.Insertions.{IsInsertionAt, answering_of};
+
+use crate::log_contexts::Context;
+use crate::log_words::{address_of_word, is_closer, is_word_byte};
+use crate::{AddressRule, Counted, put, write_answer_by};
+use modules::IndexedCatalog;
+use order_laws::Item;
+use std::alloc::{AllocError, Global};
+use std::io;
+use std::io::Write;
+
+/// What the addresses of a log are answered by.
+#[derive(Drop)]
+pub(crate) struct LogAnswers<'i, 'c> {
+    pub(crate) alloc: Global,
+    pub(crate) index: &'i IndexedCatalog<'c>,
+    pub(crate) rule: AddressRule,
+}
+
+/// What is inserted at a place.
+#[derive(Drop)]
+pub(crate) enum Insertion {
+    Nothing,
+    Text(Vec<u8>),
+    /// The bytes that are there do not say yet.
+    Undecided,
+}
+
+impl<'i, 'c> LogAnswers<'i, 'c> {
+    /// What is inserted at a place before these bytes, of which there is one at least, or which are
+    /// all that the log still has.
+    pub(crate) fn insertion_at(
+        &self,
+        context: &Context,
+        rest: &[u8],
+        is_last: bool,
+    ) -> Result<Insertion, AllocError>
+        requires { is_last ≡ false → 0 < length rest.now }
+        ensures { IfOk result (IsInsertionAt (answering_of self.now) (kept_in context.now).context
+            rest.now is_last) }
+    {
+        if goes_on(context, rest) {
+            return Ok(Insertion::Nothing);
+        }
+        let Some(text) = self.text_behind(context)? else {
+            return Ok(Insertion::Nothing);
+        };
+        if rest.starts_with(&text) {
+            return Ok(Insertion::Nothing);
+        }
+        if !is_last && text.starts_with(rest) {
+            return Ok(Insertion::Undecided);
+        }
+        Ok(Insertion::Text(text))
+    }
+
+    /// What may be inserted behind a word: nothing where it is no address, or where there is no
+    /// answer.
+    fn text_behind(&self, context: &Context) -> Result<Option<Vec<u8>>, AllocError>
+        ensures { IfOk result (λ o. option_map (λ v. v.items) o
+            ≡ text_behind (answering_of self.now) (kept_in context.now).context) }
+    {
+        match address_of_word(&context.word) {
+            Some(addr) => self.text_of(addr, context.is_marked),
+            None => Ok(None),
+        }
+    }
+
+    /// What is inserted for an address, if anything is.
+    fn text_of(&self, addr: u64, is_marked: bool) -> Result<Option<Vec<u8>>, AllocError>
+        ensures { IfOk result
+            (λ o. option_map (λ v. v.items) o ≡ answering_of self.now is_marked addr) }
+    {
+        let rule = rule_behind(self.rule, is_marked);
+        let Some(item) = self.item_of(rule, addr) else {
+            return Ok(None);
+        };
+        let mut text = Counted::new(Vec::new(self.alloc));
+        if self.put_text(&mut text, rule, item, addr).is_err() {
+            return Err(AllocError);
+        }
+        let text = text.into_inner();
+        Ok(if text.as_slice() == b" -".as_slice() {
+            None
+        } else {
+            Some(text)
+        })
+    }
+
+    /// The region that holds the address that the rule looks up.
+    fn item_of(&self, rule: AddressRule, addr: u64) -> Option<Item>
+        ensures { result
+            ≡ option_and_then (item_of_address self.now.index.now) (place_of rule addr) }
+    {
+        self.index.find(rule.place_of(addr)?)
+    }
+
+    /// Writes a blank and the text of the answer.
+    fn put_text<W: Write>(
+        &self,
+        writer: &mut Counted<W>,
+        rule: AddressRule,
+        item: Item,
+        addr: u64,
+    ) -> io::Result<()>
+        ensures { Wrote W.contents writer.old writer.new result
+            (codes " " ++ answer_text_by self.now.index.now rule (Some item) addr) }
+    {
+        put(writer, b" ")?;
+        write_answer_by(writer, self.index.catalog(), rule, Some(item), addr)
+    }
+}
+
+/// The rule for an address, by whether a marker stands before it in its line.
+fn rule_behind(rule: AddressRule, is_marked: bool) -> AddressRule
+    ensures { result ≡ rule_behind rule is_marked }
+{
+    AddressRule {
+        callers: rule.callers && !is_marked,
+        offset: rule.offset,
+    }
+}
+
+/// Whether the bytes behind a place go on with the closers, or with the word.
+fn goes_on(context: &Context, rest: &[u8]) -> bool
+    ensures { result ≡ goes_on (kept_in context.now).context rest.now }
+{
+    match rest {
+        [] => false,
+        [byte, ..] => is_closer(*byte) || (is_word_byte(*byte) && !context.is_closed),
+    }
+}

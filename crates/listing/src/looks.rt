@@ -1,0 +1,173 @@
+//! What a listing looks like of which no line is of use: a packed one, one that is hidden from its
+//! reader, one of another kind, or one whose lines end as another system ends them.
+ghost use Rattle.std.specs.Prelude.{◌≡◌, ◌∷◌, ◌&&◌, ◌||◌, [], List, ℕ, find, length, nat_lt, not};
+ghost use Rattle.std.specs.Prelude.{option_map};
+ghost use Rattle.listing.specs.Lines.{lines_of};
+ghost use Rattle.listing.specs.Looks.{AreKernelSymbols, are_modules_hidden, are_symbols_hidden};
+ghost use Rattle.listing.specs.Looks.{first_ends_in_cr, is_gzip, is_kernel_symbol, is_module_line};
+ghost use Rattle.listing.specs.Looks.{is_of_kernel, is_symbol_line, looks_like_modules};
+ghost use Rattle.listing.specs.Looks.{looks_like_symbols};
+ghost use Rattle.listing.specs.ModuleListing.{module_counts, modules_in};
+ghost use Rattle.listing.specs.SymbolListing.{symbol_counts, symbols_in};
+
+use crate::lines::cut_line;
+use crate::module_listing::{ModuleCounts, SkippedModule, module_in};
+use crate::symbol_listing::{SkippedSymbol, SymbolCounts, cut_tabbed_line, symbol_in};
+use memchr::memchr;
+use modules::{KernelBounds, SymbolLine};
+
+/// Whether the first two bytes are those of a file that gzip made.
+pub fn is_gzip(text: &[u8]) -> bool
+    ensures { result ≡ is_gzip text.now }
+{
+    text.starts_with(b"\x1f\x8b")
+}
+
+/// Whether there is a first line and it ends in a carriage return.
+pub fn first_line_ends_in_cr(text: &[u8]) -> bool
+    ensures { result ≡ first_ends_in_cr (lines_of text.now) }
+{
+    if text.is_empty() {
+        return false;
+    }
+    let (line, _) = cut_line(text);
+    line.ends_with(b"\r")
+}
+
+/// Whether all well-formed lines of a listing of modules are hidden and there is one, where so many
+/// lines are modules and the others were skipped for these causes.
+pub fn are_modules_hidden(listed: usize, skipped: &ModuleCounts) -> bool
+    ensures { (lines : List (List ℕ)) → listed ≡ length (modules_in lines)
+        → skipped.now.by_place ≡ module_counts lines → result ≡ are_modules_hidden lines }
+{
+    let hidden = skipped.count(SkippedModule::Hidden);
+    let empty = skipped.count(SkippedModule::Empty);
+    let wraps = skipped.count(SkippedModule::Wraps);
+    hides_all(hidden, listed, empty, wraps)
+}
+
+/// Whether lines are hidden and none is shown: neither one that is listed, nor an empty one, nor
+/// one that wraps.
+fn hides_all(hidden: u64, listed: usize, empty: u64, wraps: u64) -> bool
+    ensures { result ≡ (nat_lt 0 hidden
+        && not (nat_lt 0 listed || (nat_lt 0 empty || nat_lt 0 wraps))) }
+{
+    hidden > 0 && listed == 0 && empty == 0 && wraps == 0
+}
+
+/// The same of a listing of symbols.
+pub fn are_symbols_hidden(listed: usize, skipped: &SymbolCounts) -> bool
+    ensures { (lines : List (List ℕ)) → listed ≡ length (symbols_in lines)
+        → skipped.now.by_place ≡ symbol_counts lines → result ≡ are_symbols_hidden lines }
+{
+    let hidden = skipped.count(SkippedSymbol::Hidden);
+    hides_all(hidden, listed, 0, 0)
+}
+
+/// Whether a line is well formed in a listing of modules.
+fn is_module_line(line: &[u8]) -> bool
+    ensures { result ≡ is_module_line line.now }
+{
+    match module_in(line) {
+        Ok(_) => true,
+        Err(SkippedModule::Hidden | SkippedModule::Empty | SkippedModule::Wraps) => true,
+        Err(SkippedModule::Long | SkippedModule::Malformed) => false,
+    }
+}
+
+/// Whether a line is well formed in a listing of symbols.
+fn is_symbol_line(line: &[u8]) -> bool
+    ensures { result ≡ is_symbol_line line.now }
+{
+    match symbol_in(line, memchr(b'\t', line)) {
+        Ok(_) | Err(SkippedSymbol::Hidden) => true,
+        Err(SkippedSymbol::Long | SkippedSymbol::Malformed) => false,
+    }
+}
+
+/// The first line that is well formed in a listing of either kind.
+fn first_formed_line(text: &[u8]) -> Option<&[u8]>
+    ensures { option_map (λ l. l.now) result
+        ≡ find (λ l. is_module_line l || is_symbol_line l) (lines_of text.now) }
+{
+    let mut rest = text;
+    while !rest.is_empty() {
+        let (line, after) = cut_line(rest);
+        if is_module_line(line) || is_symbol_line(line) {
+            return Some(line);
+        }
+        rest = after;
+    }
+    None
+}
+
+/// Whether the first line that is well formed in a listing of either kind is one of the listing of
+/// modules.
+pub fn looks_like_modules(text: &[u8]) -> bool
+    ensures { result ≡ looks_like_modules (lines_of text.now) }
+{
+    match first_formed_line(text) {
+        Some(line) => is_module_line(line),
+        None => false,
+    }
+}
+
+/// The same of the listing of symbols.
+pub fn looks_like_symbols(text: &[u8]) -> bool
+    ensures { result ≡ looks_like_symbols (lines_of text.now) }
+{
+    match first_formed_line(text) {
+        Some(line) => is_symbol_line(line),
+        None => false,
+    }
+}
+
+/// Which symbols of the kernel itself a listing shows.
+#[derive(Clone, Copy, Debug, PartialEq, Eq, Drop)]
+pub struct KernelSymbols {
+    /// There is one at all.
+    pub any: bool,
+    /// One has the name of the symbol at the kernel's first address.
+    pub start: bool,
+    /// One has the name of the symbol at its end.
+    pub end: bool,
+}
+
+impl KernelSymbols {
+    /// These, and this symbol too.
+    fn with(self, symbol: &SymbolLine, names: &KernelBounds) -> KernelSymbols
+        ensures any { result.any ≡ (self.any || is_of_kernel symbol.now) }
+        ensures start { result.start
+            ≡ (self.start || is_kernel_symbol names.now.start symbol.now) }
+        ensures end { result.end ≡ (self.end || is_kernel_symbol names.now.end symbol.now) }
+    {
+        if symbol.module.is_some() {
+            return self;
+        }
+        KernelSymbols {
+            any: true,
+            start: self.start || symbol.name == names.start,
+            end: self.end || symbol.name == names.end,
+        }
+    }
+}
+
+/// Which symbols of the kernel itself a listing of symbols shows, where these names bound it.
+pub fn kernel_symbols(text: &[u8], names: &KernelBounds) -> KernelSymbols
+    ensures { AreKernelSymbols names.now (symbols_in (lines_of text.now)) result }
+{
+    let mut found = KernelSymbols {
+        any: false,
+        start: false,
+        end: false,
+    };
+    let mut rest = text;
+    while !rest.is_empty() {
+        let (line, tab, after) = cut_tabbed_line(rest);
+        if let Ok(symbol) = symbol_in(line, tab) {
+            found = found.with(&symbol, names);
+        }
+        rest = after;
+    }
+    found
+}
