@@ -111,6 +111,16 @@ uint32_t latchsym_catalog_open_with_regions(const uint8_t *modules, size_t modul
                                             struct latchsym_catalog *out,
                                             struct latchsym_counts *counts, uint64_t *bad_line);
 
+/* The same, with the names of the symbols at the kernel's first address and at its end, which is
+ * excluded, in place of _stext and _end: a kernel that lists no _end has an _einittext. The listing
+ * of regions is none where regions_len is 0. */
+uint32_t latchsym_catalog_open_between(const uint8_t *modules, size_t modules_len,
+                                       const uint8_t *kallsyms, size_t kallsyms_len,
+                                       const uint8_t *regions, size_t regions_len,
+                                       const uint8_t *start, size_t start_len, const uint8_t *end,
+                                       size_t end_len, struct latchsym_catalog *out,
+                                       struct latchsym_counts *counts, uint64_t *bad_line);
+
 /* The symbol of an address, as `latchsym lookup` prints it. As many bytes of each name are copied
  * as there is room for, without a 0 byte at the end. The lengths are those of the whole names: read
  * no more of a name than its room has. Rooms of 512 bytes hold every name of a kernel. 0,

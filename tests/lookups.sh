@@ -20,9 +20,34 @@ for modules in *.modules; do
     [ ! -e "$name.regions" ] || regions=(--regions "$name.regions")
     # shellcheck disable=SC2046
     "$program" lookup --modules "$modules" --kallsyms "$name.kallsyms" "${regions[@]}" $(cat "$name.addresses") >"$work/out" 2>"$work/err" || status=$?
-    [ $status = 0 ] && [ ! -s "$work/err" ] || fail "$name: status $status, $(cat "$work/err")"
+    notes=/dev/null
+    [ ! -e "$name.notes" ] || notes=$name.notes
+    [ $status = 0 ] && cmp -s "$work/err" "$notes" || fail "$name: status $status, $(cat "$work/err")"
     cmp -s "$work/out" "$name.expected" || fail "$name: other lines than $name.expected"
 done
+
+# noted LINES ARGUMENT..: the lookup succeeds, and these lines are on standard error
+noted() {
+    local lines=$1 status=0
+    shift
+    "$program" lookup "$@" >"$work/out" 2>"$work/err" || status=$?
+    [ $status = 0 ] && printf "$lines" | cmp -s - "$work/err" || fail "lookup $*: status $status, $(cat "$work/err")"
+}
+symbols=(--modules empty.modules --kallsyms basic.kallsyms)
+noted '' "${symbols[@]}" 0
+noted '' --modules empty.modules --kallsyms empty.kallsyms 0
+noted '' --modules no_end.modules --kallsyms no_end.kallsyms --kernel _stext _etext 0
+noted 'latchsym: note: basic.kallsyms: has no symbol _text\n' "${symbols[@]}" --kernel _text _end 0
+noted 'latchsym: note: basic.kallsyms: has no symbol _text\n' "${symbols[@]}" --kernel _text _etext 0
+noted 'latchsym: note: basic.kallsyms: has no symbol _etext\n' "${symbols[@]}" --kernel _stext _etext 0
+noted 'latchsym: note: basic.modules: no symbol lies in a listed module; are both listings of one boot?\n' --modules basic.modules --kallsyms empty.kallsyms 0
+noted 'latchsym: note: packed.modules: is compressed by gzip; unpack it first\nlatchsym: note: crlf.kallsyms: lines end in CR LF\n' --modules packed.modules --kallsyms crlf.kallsyms 0
+# a status and an output that cannot be told of are no fault
+if [ -e /dev/full ]; then
+    status=0
+    "$program" lookup --modules hidden.modules --kallsyms hidden.kallsyms $(cat hidden.addresses) >"$work/out" 2>/dev/full || status=$?
+    [ $status = 0 ] && cmp -s "$work/out" hidden.expected || fail "notes on a full device: status $status"
+fi
 
 # adds_up MODULES KALLSYMS: the counts of each listing add up to the number of its lines
 adds_up() {
@@ -76,8 +101,8 @@ printf 'm 1000000 0 - Live 0x1000\n' >"$work/wide"
 wide=(--modules "$work/wide" --kallsyms empty.kallsyms)
 awk 'BEGIN { for (i = 0; i < 250000; i++) print 4096 + i }' >"$work/numbers"
 # shellcheck disable=SC2046
-(ulimit -s unlimited && "$program" lookup "${wide[@]}" $(cat "$work/numbers")) >"$work/given" || fail "250000 addresses of the command line: status $?"
-"$program" lookup "${wide[@]}" --addresses "$work/numbers" | cmp -s - "$work/given" || fail "250000 addresses of a file"
+(ulimit -s unlimited && "$program" lookup "${wide[@]}" $(cat "$work/numbers")) >"$work/given" 2>"$work/err" || fail "250000 addresses of the command line: status $?"
+"$program" lookup "${wide[@]}" --addresses "$work/numbers" 2>"$work/err" | cmp -s - "$work/given" || fail "250000 addresses of a file"
 [ "$(grep -c ' ? \[m\]$' "$work/given")" = 250000 ] && [ "$(wc -l <"$work/given")" = 250002 ] || fail "250000 addresses of the command line"
 
 # the names that bound the kernel itself, in a listing of symbols without the usual ones
@@ -88,7 +113,7 @@ writes basic --modules basic.modules --kallsyms "$work/first.kallsyms" --address
 writes basic "${basic[@]}" --kernel _stext _end --addresses basic.addresses
 for names in "_stext _end" "_etext _stext" "_stext _etex" "_stext _etext_"; do
     # shellcheck disable=SC2086
-    "$program" lookup --modules basic.modules --kallsyms "$work/etext.kallsyms" --kernel $names 0xffffffff81000108 \
+    "$program" lookup --modules basic.modules --kallsyms "$work/etext.kallsyms" --kernel $names 0xffffffff81000108 2>"$work/err" \
         | head -n 1 | cmp -s - <(echo '0xffffffff81000108 -') || fail "a kernel between $names"
 done
 
@@ -108,13 +133,13 @@ lines '0xffffffffc0001040 ext4_a+0x30/0x30 [ext4]\n0x1000 -\n' --offset 4096 --c
 # a line of 4096 bytes is read, and one byte more makes it long
 printf 'm 1 0 - Live 0x1000 %04076d\n' 0 >"$work/whole"
 printf 'm 1 0 - Live 0x1000 %04077d\n' 0 >"$work/long"
-"$program" lookup --modules "$work/whole" --kallsyms empty.kallsyms 0x1000 | head -n 2 | cmp -s - <(printf '0x1000 ? [m]\nmodules 1 hidden 0 empty 0 wraps 0 overlap 0 double 0 long 0 malformed 0\n') || fail "a line of 4096 bytes"
+"$program" lookup --modules "$work/whole" --kallsyms empty.kallsyms 0x1000 2>"$work/err" | head -n 2 | cmp -s - <(printf '0x1000 ? [m]\nmodules 1 hidden 0 empty 0 wraps 0 overlap 0 double 0 long 0 malformed 0\n') || fail "a line of 4096 bytes"
 "$program" lookup --modules "$work/long" --kallsyms empty.kallsyms 0x1000 | head -n 2 | cmp -s - <(printf '0x1000 -\nmodules 0 hidden 0 empty 0 wraps 0 overlap 0 double 0 long 1 malformed 0\n') || fail "a line of 4097 bytes"
 
 # a table has 65536 nodes at most
 awk 'BEGIN { for (i = 1; i <= 70000; i++) printf "m%d 4096 0 - Live 0x%x\n", i, i * 4096 }' >"$work/many"
 head -n 65536 "$work/many" >"$work/most"
-"$program" lookup --modules "$work/most" --kallsyms empty.kallsyms 0x10000fff | head -n 2 | cmp -s - <(printf '0x10000fff ? [m65536]\nmodules 65536 hidden 0 empty 0 wraps 0 overlap 0 double 0 long 0 malformed 0\n') || fail "65536 modules"
+"$program" lookup --modules "$work/most" --kallsyms empty.kallsyms 0x10000fff 2>"$work/err" | head -n 2 | cmp -s - <(printf '0x10000fff ? [m65536]\nmodules 65536 hidden 0 empty 0 wraps 0 overlap 0 double 0 long 0 malformed 0\n') || fail "65536 modules"
 
 # 400000 symbols of the kernel and 600000 of a module, a listed symbol in no order of addresses: of
 # each the first, some within, and the last

@@ -16,11 +16,13 @@ fail() {
 basic=(--modules ../listings/basic.modules --kallsyms ../listings/basic.kallsyms)
 regions=(--modules ../listings/regions.modules --kallsyms ../listings/regions.kallsyms --regions ../listings/regions.regions)
 
-# run ARGUMENT..: the output in out and err; the run has to succeed
+# run ARGUMENT..: the output in out and err; the run has to succeed, and standard error to have the
+# lines of $notes
+notes=
 run() {
     local status=0
     "$program" run "$@" >"$work/out" 2>"$work/err" || status=$?
-    [ $status = 0 ] && [ ! -s "$work/err" ] || fail "run $*: status $status, $(cat "$work/err")"
+    [ $status = 0 ] && [ "$(cat "$work/err")" = "$notes" ] || fail "run $*: status $status, $(cat "$work/err")"
 }
 
 for _ in 1 2 3 4 5 6 7 8 9 10; do
@@ -50,6 +52,7 @@ awk 'BEGIN {
         for (r = 1; r <= 4; r++) printf "look %d 0x%x\n", r, (1 + (r + w + i) % 4) * 4096 + 8
     }
 }' >"$work/four.script"
+notes="latchsym: note: $work/four: no symbol lies in a listed module; are both listings of one boot?"
 ends "checked 800 wrong 0 seq 800 gen 400" --modules "$work/four" --kallsyms /dev/null --readers 4 "$work/four.script"
 
 # all writers load and unload the same modules, so some of their changes are refused
@@ -59,7 +62,9 @@ awk 'BEGIN {
         if (i % 3 == 0) printf "%s %d m%d\n", int(i / 48) % 2 ? "unload" : "load", 1 + i % 8, 1 + int(i / 16) % 8
         else printf "look %d 0x%x\n", 1 + i % 64, (1 + i % 9) * 4096
 }' >"$work/eight.script"
+notes="latchsym: note: $work/eight: no symbol lies in a listed module; are both listings of one boot?"
 run --modules "$work/eight" --kallsyms /dev/null --readers 64 "$work/eight.script"
+notes=
 tail -n 1 "$work/out" | grep -q '^checked 66666 wrong 0 seq ' || fail "eight writers beside 64 readers: $(tail -n 1 "$work/out")"
 # each change is refused or makes one generation, thousands are accepted, and no reader's generations
 # fall
@@ -84,10 +89,17 @@ printf 'refused 1 12 -\nchecked 0 wrong 0 seq 4 gen 2\n' | cmp -s - "$work/out" 
 
 # between other names there is no kernel where no symbol has one of them
 sed 's/_end$/_einittext/' ../listings/basic.kallsyms >"$work/einittext"
+notes="latchsym: note: $work/einittext: has no symbol _end; try --kernel _stext _einittext"
 run --modules ../listings/basic.modules --kallsyms "$work/einittext" --readers 1 "$work/kernel.script"
+notes=
 printf 'refused 1 11 -\nrefused 1 11 -\nrefused 1 11 -\nchecked 0 wrong 0 seq 0 gen 0\n' | cmp -s - "$work/out" || fail "load 1 - without _end: other lines"
 run --modules ../listings/basic.modules --kallsyms "$work/einittext" --kernel _stext _einittext --readers 1 "$work/kernel.script"
 printf 'refused 1 12 -\nchecked 0 wrong 0 seq 4 gen 2\n' | cmp -s - "$work/out" || fail "--kernel of run: other lines"
+
+# what is noted of listings, in their order
+notes=$(sed 's,note: ,&../listings/,' ../listings/hidden.notes)
+ends "checked 0 wrong 0 seq 0 gen 0" --modules ../listings/hidden.modules --kallsyms ../listings/hidden.kallsyms --readers 1 /dev/null
+notes=
 
 for readers in 1 64 0x40; do
     ends "checked 0 wrong 0 seq 0 gen 0" "${basic[@]}" --readers $readers /dev/null

@@ -27,6 +27,7 @@ text = [ctypes.c_char_p, c_size_t]
 names = [POINTER(Symbol)] + [ctypes.c_char_p, c_size_t] * 2
 lib.latchsym_catalog_open.argtypes = text * 2 + [POINTER(Handle), POINTER(Counts)]
 lib.latchsym_catalog_open_with_regions.argtypes = text * 3 + [POINTER(Handle), POINTER(Counts), POINTER(c_uint64)]
+lib.latchsym_catalog_open_between.argtypes = text * 5 + [POINTER(Handle), POINTER(Counts), POINTER(c_uint64)]
 lib.latchsym_catalog_find.argtypes = [POINTER(Handle), c_uint64] + names
 lib.latchsym_catalog_share.argtypes = [POINTER(Handle), POINTER(Handle)]
 lib.latchsym_catalog_close.argtypes = [POINTER(Handle)]
@@ -63,6 +64,9 @@ def compare(folder, name):
         got = lib.latchsym_catalog_open_with_regions(modules, len(modules), kallsyms, len(kallsyms), regions,
                                                      len(regions), catalog, counts, bad)
     assert got == 0 and catalog.kind == 1, (name, got)
+    same, same_counts = between((modules, kallsyms, regions), b"_stext", b"_end")
+    assert bytes(same_counts) == bytes(counts)
+    lib.latchsym_catalog_close(same)
     assert lib.latchsym_catalog_share(catalog, other) == 0
     lib.latchsym_catalog_close(catalog)
     lib.latchsym_catalog_close(catalog)
@@ -93,6 +97,32 @@ def short_rooms_and_a_table(catalog):
     assert line(addr, 0, symbol, short, module) == "0xffffffffc0000018 ext4_a+0x8/0x30 [ext4]"
     assert (found.a, found.b, found.tag, found.generation) == (item.a, item.b, 1, 1)
 
+def between(texts, start, end):
+    """A handle of the catalog of the listings between the symbols of these names, and the counts."""
+    words = [word for text in texts + (start, end) for word in (text or b"", len(text or b""))]
+    catalog, counts = Handle(), Counts()
+    assert lib.latchsym_catalog_open_between(*words, catalog, counts, c_uint64()) == 0 and catalog.kind == 1
+    return catalog, counts
+
+def answer(catalog, addr):
+    symbol, name, module = Symbol(), ctypes.create_string_buffer(64), ctypes.create_string_buffer(64)
+    return line(addr, lib.latchsym_catalog_find(catalog, addr, symbol, name, 64, module, 64), symbol, name, module)
+
+def other_bounds(texts):
+    """A kernel that lists no `_end` is found between other names, and between these alone."""
+    modules, kallsyms, regions = texts
+    renamed = (modules, kallsyms.replace(b" _end\n", b" _einittext\n"), regions)
+    usual, found = between(texts, b"_stext", b"_end"), between(renamed, b"_stext", b"_einittext")
+    addr = 0xffffffff81000108
+    assert answer(usual[0], addr) == answer(found[0], addr) == f"0x{addr:x} do_one+0x8/0x1f00"
+    assert bytes(usual[1]) == bytes(found[1])
+    for start, end in ((b"_stext", b"_end"), (b"_einittext", b"_stext"), (b"_stext", b""), (b"", b"_einittext")):
+        catalog, counts = between(renamed, start, end)
+        assert answer(catalog, addr) == f"0x{addr:x} -" and counts.symbols < found[1].symbols
+        lib.latchsym_catalog_close(catalog)
+    for catalog in (usual[0], found[0]):
+        lib.latchsym_catalog_close(catalog)
+
 def a_bad_line():
     bad, handle = c_uint64(), Handle()
     got = lib.latchsym_catalog_open_with_regions(b"", 0, b"", 0, b"latchregions 1\nx\n", 17, handle, Counts(), bad)
@@ -104,6 +134,7 @@ for path in sorted(folder.glob("*.modules")):
     print(f"names: {path.stem}: {count} addresses as latchsym lookup answers")
     if path.stem == "basic":
         short_rooms_and_a_table(catalog)
+        other_bounds(texts)
     lib.latchsym_catalog_close(catalog)
 a_bad_line()
 print("names: ok")

@@ -16,7 +16,9 @@ use Rattle.latchsym.specs.declared.fault.Fault.{Fault}
 use Rattle.latchsym.specs.declared.fault.Fault.TheVariants.{Refused, BadLine, Read, Write}
 use Rattle.latchsym.specs.declared.lookup.ListingTexts.{ListingTexts}
 use Rattle.latchsym.specs.declared.lookup.Listings.{Listings}
+use Rattle.latchsym.specs.declared.listing_notes.ListingNotes.{ListingNotes}
 use Rattle.latchsym.specs.declared.lookup.LookupOptions.{LookupOptions}
+use Rattle.latchsym.specs.ListingNotes.{notes_of}
 use Rattle.latchsym.specs.LookupInputs.{Inputs, Texts, all_addresses, catalog_in, counts_in, inputs_after, inputs_of, inputs_with, region_lines_of_inputs, region_lines, texts_in, texts_of}
 use Rattle.latchsym.specs.Lookups.{AnswersLookup, AnswersWith, AreListingsOf, FitsTable, GivesAddresses, GivesLines, HasTooManyOfOne, HasTooManyRegions, IsWritten}
 use Rattle.latchsym.specs.Readings.{AnswersInputs, Failures, HoldsOf, NoReaderFailed, OnlyFailed, failures_in, last_failures}
@@ -144,8 +146,8 @@ module _ {W A : Type 0} (contents : W → Option (List ℕ)) (options : LookupOp
       all_known : (P : Inputs → Type 0) → P inputs → IfSome known (HoldsOf P)
       all_known P p = where_read (HoldsOf P) (with_inputs P file listed p)
 
-      pub answered : (same : failures_in new ≡ failures_in old) (result : Result (Unit {0}) Fault) → AnswersWith contents inputs w w' result → AnswersLookup contents known counts_of_last w w' result
-      answered same (Ok u) h = (none_failed same, h.0, all_known (IsWritten contents w w') h.1)
+      pub answered : (same : failures_in new ≡ failures_in old) (result : Result ListingNotes Fault) → AnswersWith contents inputs w w' result → AnswersLookup contents known counts_of_last w w' result
+      answered same (Ok notes) h = (none_failed same, h.0, all_known (λ i. IsWritten contents w w' i × (notes ≡ notes_of i)) (h.1, h.2))
       answered same (Err (Refused refusal.OutOfMemory)) h = (none_failed same, h)
       answered same (Err (Refused refusal.BadCapacity)) h = (none_failed same, h.0, all_known HasTooManyRegions h.1)
       answered same (Err (Refused refusal.TooManyRegions)) h = (none_failed same, h.0, all_known HasTooManyOfOne h.1)

@@ -16,3 +16,5 @@ mod AskedLemmas
 mod AssignmentLemmas
 -- from the lines of a script to its text
 mod RunLemmas
+-- where a note on a listing does not apply
+pub mod ListingNoteLemmas

@@ -13,9 +13,12 @@ use Rattle.latchsym.specs.declared.fault.Fault.{Fault}
 use Rattle.latchsym.specs.declared.fault.Fault.TheVariants.{Refused, Write}
 use Rattle.latchsym.specs.declared.lookup.ListingTexts.{ListingTexts}
 use Rattle.latchsym.specs.LookupInputs.{Inputs, catalog_in, inputs_after, region_lines, region_lines_of_inputs, texts_in}
+use Rattle.latchsym.specs.declared.listing_notes.ListingNotes.{ListingNotes}
+use Rattle.latchsym.specs.Faults.{with_notes}
+use Rattle.latchsym.specs.ListingNotes.{notes_of}
 use Rattle.latchsym.specs.Readings.{HoldsOf}
 use Rattle.latchsym.specs.RunInputs.{RunInputs, run_inputs_after, run_inputs_of, run_inputs_with, run_options}
-use Rattle.latchsym.specs.Runs.{AnswersLines, AnswersRun, FitsRun, IsRun, IsServed, MayRun, TellsServed}
+use Rattle.latchsym.specs.Runs.{AnswersLines, AnswersRun, FitsRun, IsRun, IsRunOf, IsServed, MayRun, TellsServed}
 use Rattle.latchsym.specs.Assignments.{IsAssigned}
 use Rattle.latchsym.specs.declared.assignments.Assignments.{Assignments}
 use Rattle.shared_lookup.specs.Servings.{EachHasOutcome, EachIsAnswered, EachIsFoundIn, IsWrongCount, MayServe}
@@ -46,15 +49,16 @@ module _ {W : Type 0} (contents : W → Option (List ℕ)) (i : Inputs) (readers
   pub too_many_of_one : are_few (region_lines_of_inputs i) ≡ false → AnswersRun contents readers known [] w w (Err (Refused refusal.TooManyRegions))
   too_many_of_one many = (tt, refl, holds _ many)
 
-  pub script_answered : (c : CatalogEntries) → are_few (region_lines_of_inputs i) ≡ true → c ≡ catalog_in i
-      → (r : Result ℕ Fault) → AnswersLines contents c readers lines w w' r → AnswersRun contents readers known [] w w' r
-  script_answered c few is (Ok status) h =
+  pub script_answered : (c : CatalogEntries) (notes : ListingNotes) → are_few (region_lines_of_inputs i) ≡ true → c ≡ catalog_in i
+      → notes ≡ notes_of i
+      → (r : Result ℕ Fault) → AnswersLines contents c readers lines w w' r → AnswersRun contents readers known [] w w' (with_notes notes r)
+  script_answered c notes few is noted (Ok status) h =
       let fits : FitsRun readers (record { listings = i; lines = lines }) = (few, subst (λ c. MayRun c readers) is h.1) in
-      (tt, h.0, holds _ (fits, subst (λ c. IsRun contents c readers lines w w' status) is h.2))
-  script_answered c few is (Err (Refused refusal.OutOfMemory)) h = (tt, h)
-  script_answered c few is (Err (Refused refusal.BadCapacity)) h = (tt, h.0, holds _ (few, subst (λ c. MayRun c readers → ⊥) is h.1))
-  script_answered c few is (Err Write) h = (tt, h.0, holds _ (few, subst (λ c. MayRun c readers) is h.1))
-  script_answered c few is (Err _) h = absurd h
+      (tt, h.0, holds (λ j. IsRunOf contents readers w w' j (Ok (record { status = status; notes = notes }))) (fits, subst (λ c. IsRun contents c readers lines w w' status) is h.2, noted))
+  script_answered c notes few is noted (Err (Refused refusal.OutOfMemory)) h = (tt, h)
+  script_answered c notes few is noted (Err (Refused refusal.BadCapacity)) h = (tt, h.0, holds _ (few, subst (λ c. MayRun c readers → ⊥) is h.1))
+  script_answered c notes few is noted (Err Write) h = (tt, h.0, holds _ (few, subst (λ c. MayRun c readers) is h.1))
+  script_answered c notes few is noted (Err _) h = absurd h
 
 -- the inputs that the texts of listings are, with these region lines
 abbrev pub listings_with : BoundNames → ListingTexts → Option (List ListedRegion) → Inputs

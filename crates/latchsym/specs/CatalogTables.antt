@@ -9,7 +9,7 @@ use Rattle.listing.specs.declared.address_rules.AddressRule.{AddressRule}
 use Rattle.modules.specs.Catalogs.{regions_of}
 use Rattle.modules.specs.Entries.{CatalogEntries}
 use Rattle.modules.specs.Items.{items_of}
-use Rattle.latchsym.specs.declared.table.Answer.{Answer}
+use Rattle.latchsym.specs.declared.table.AddressAnswer.{AddressAnswer}
 
 -- a table may have a node for each region
 abbrev pub HasFewRegions : CatalogEntries → Type 0
@@ -20,12 +20,12 @@ abbrev pub HasManyRegions : CatalogEntries → Type 0
 HasManyRegions c = most_nodes < length (regions_of c)
 
 -- an address, and the item among these that holds the one looked up for it
-abbrev pub answer_in : List Item → AddressRule → ℕ → Answer
+abbrev pub answer_in : List Item → AddressRule → ℕ → AddressAnswer
 answer_in items rule addr = record {
   addr = addr;
   item = option_and_then (λ place. look half_open place items) (place_of rule addr);
 }
 
 -- among the items of all regions
-abbrev pub answer_at : CatalogEntries → AddressRule → ℕ → Answer
+abbrev pub answer_at : CatalogEntries → AddressRule → ℕ → AddressAnswer
 answer_at c rule addr = answer_in (items_of c) rule addr

@@ -1,6 +1,6 @@
 -- Why a run of the program failed, and the line that says so.
 use Rattle.std.specs.Prelude.{◌≡◌, ℕ, List, [], ◌++◌, ◌≤◌, ◌⊎◌, Option, Some, None, Result, Ok, Err}
-use Rattle.std.specs.Prelude.{codes, decimal, option_and_then, unwrap_or}
+use Rattle.std.specs.Prelude.{Bool, true, false, codes, decimal, option_and_then, unwrap_or}
 use Rattle.std.specs.Io.KnownBytes.{Appends}
 use Rattle.clap.specs.Words.{Text}
 use Rattle.listing.specs.declared.counted.Counted.{Counted}
@@ -10,10 +10,14 @@ use Rattle.listing.specs.declared.faults.LineFault.TheVariants as line
 use Rattle.order_laws.specs.Refusals.{refusal_number}
 use Rattle.order_laws.specs.declared.refusals.Refusal.TheVariants as refusal
 use Rattle.latchsym.specs.Jobs.{file_at}
+use Rattle.latchsym.specs.ListingNotes.{is_some_noted, no_notes}
+use Rattle.latchsym.specs.NoteTexts.{notes_text}
 use Rattle.latchsym.specs.Texts.{refused_text}
 use Rattle.latchsym.specs.declared.command_line.Job.{Job}
 use Rattle.latchsym.specs.declared.fault.Fault.{Fault}
+use Rattle.latchsym.specs.declared.fault.Finished.{Finished}
 use Rattle.latchsym.specs.declared.fault.Fault.TheVariants.{Refused, BadLine, Read, Write}
+use Rattle.latchsym.specs.declared.listing_notes.ListingNotes.{ListingNotes}
 
 -- the number that stands for a fault
 abbrev pub fault_number : Fault → ℕ
@@ -68,15 +72,34 @@ pub record IsReported {D : Type 0} (contents : D → Option (List ℕ)) (old new
       ⊎ Rose (failures_of old) (failures_of new)
   pub never_falls : failures_of old ≤ failures_of new
 
+-- the end of a job of this status with these notes
+abbrev pub with_notes : ListingNotes → Result ℕ Fault → Result Finished Fault
+with_notes notes (Ok status) = Ok (record { status = status; notes = notes })
+with_notes notes (Err fault) = Err fault
+
 -- success of an engine that has no status of its own is status 0
-abbrev pub with_status : Result (Unit {0}) Fault → Result ℕ Fault
-with_status (Ok _) = Ok 0
+abbrev pub with_status : Result ListingNotes Fault → Result Finished Fault
+with_status (Ok notes) = with_notes notes (Ok 0)
 with_status (Err fault) = Err fault
 
--- The program's status after a job with this outcome, and what it has said of it: nothing of a
--- status that the job itself came to.
+-- a job without listings has no notes
+abbrev pub without_notes : Result (Unit {0}) Fault → Result ListingNotes Fault
+without_notes (Ok _) = Ok no_notes
+without_notes (Err fault) = Err fault
+
+-- where something is noted the writer has taken these lines, or a call of it failed, and else it
+-- was not called
+abbrev pub IsNoted : {D : Type 0} → (D → Option (List ℕ)) → Counted D → Counted D → Bool
+    → List ℕ → Type 0
+IsNoted contents old new true lines = IsReported contents old new lines
+IsNoted contents old new false lines = new ≡ old
+
+-- The program's status after a job with this outcome, and what it has said of it: of a status that
+-- the job itself came to, what is noted of its listings.
 abbrev pub IsConcluded : {D : Type 0} → (D → Option (List ℕ)) → Job → Counted D → Counted D
-    → Result ℕ Fault → ℕ → Type 0
-IsConcluded contents job old new (Ok own) status = (status ≡ own) × (new ≡ old)
+    → Result Finished Fault → ℕ → Type 0
+IsConcluded contents job old new (Ok own) status =
+    (status ≡ own.status)
+    × IsNoted contents old new (is_some_noted own.notes) (notes_text job own.notes)
 IsConcluded contents job old new (Err fault) status =
     (status ≡ 1) × IsReported contents old new (fault_text (file_of job fault) fault)

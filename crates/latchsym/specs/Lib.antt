@@ -7,10 +7,6 @@ pub mod Jobs
 pub mod Texts
 -- text that is gathered in a block of memory, and written when the block is full
 pub mod Blocks
--- why a run of the program failed, and the line that says so
-pub mod Faults
--- what is said of a command line that gives no job
-pub mod Misuses
 -- what is written for a trace that is read
 pub mod Traces
 -- the table of a catalog's regions, and the answer that it has for an address
@@ -23,6 +19,14 @@ pub mod LookupTexts
 pub mod Readings
 -- what a lookup of addresses reads, and what that says
 pub mod LookupInputs
+-- what is noted of a listing of which nothing is of use
+pub mod ListingNotes
+-- the lines that say what is noted of listings
+pub mod NoteTexts
+-- why a run of the program failed, and what is said at its end
+pub mod Faults
+-- what is said of a command line that gives no job
+pub mod Misuses
 -- what is written for the listings and the addresses that are asked for
 pub mod Lookups
 -- what the lines of a script have each writer and each reader do

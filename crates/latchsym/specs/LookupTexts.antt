@@ -11,10 +11,10 @@ use Rattle.modules.specs.declared.catalog.BuildCounts.{BuildCounts}
 use Rattle.modules.specs.Entries.{CatalogEntries}
 use Rattle.listing.specs.Answers.{answer_text_by}
 use Rattle.listing.specs.declared.address_rules.AddressRule.{AddressRule}
-use Rattle.latchsym.specs.declared.table.Answer.{Answer}
+use Rattle.latchsym.specs.declared.table.AddressAnswer.{AddressAnswer}
 
 -- an address, and the text of its answer
-unfoldable pub answer_line : CatalogEntries → AddressRule → Answer → List ℕ
+unfoldable pub answer_line : CatalogEntries → AddressRule → AddressAnswer → List ℕ
 answer_line c rule a =
     hexadecimal a.addr ++ codes " " ++ answer_text_by c rule a.item a.addr ++ codes "\n"
 

@@ -14,12 +14,14 @@ use Rattle.modules.specs.declared.catalog.BuildCounts.{BuildCounts}
 use Rattle.modules.specs.Listed.{ListedRegion}
 use Rattle.modules.specs.Placed.{are_few}
 use Rattle.latchsym.specs.CatalogTables.{HasFewRegions, HasManyRegions, answer_at}
+use Rattle.latchsym.specs.ListingNotes.{notes_of}
 use Rattle.latchsym.specs.LookupInputs.{Inputs, all_addresses, catalog_in, counts_in}
 use Rattle.latchsym.specs.LookupInputs.{region_lines_of_inputs, region_lines}
 use Rattle.latchsym.specs.LookupTexts.{answer_line, modules_line, regions_line, symbols_line}
 use Rattle.latchsym.specs.Readings.{AnswersInputs, Failures, failures_in}
 use Rattle.latchsym.specs.declared.fault.Fault.{Fault}
 use Rattle.latchsym.specs.declared.fault.Fault.TheVariants.{Refused, BadLine, Read, Write}
+use Rattle.latchsym.specs.declared.listing_notes.ListingNotes.{ListingNotes}
 use Rattle.latchsym.specs.declared.lookup.Listings.{Listings}
 use Rattle.latchsym.specs.declared.lookup.LookupReaders.{LookupReaders}
 
@@ -60,6 +62,7 @@ pub record AreListingsOf (i : Inputs) (l : Listings) : Type 0 where
   pub skipped_modules : l.skipped_modules.by_place ≡ module_counts (lines_of i.modules)
   pub skipped_symbols : l.skipped_symbols.by_place ≡ symbol_counts (lines_of i.kallsyms)
   pub has_regions : l.has_regions ≡ is_some i.regions
+  pub notes : l.notes ≡ notes_of i
 
 -- the lines of counts of these listings
 abbrev pub counts_text : Listings → List ℕ
@@ -77,8 +80,9 @@ IsWritten contents w w' i =
 -- What is returned for these inputs, from one state of the writer to another. Every fault but a
 -- failed write leaves the writer as it was, and a call of it failed then alone.
 abbrev pub AnswersWith : {W : Type 0} → (W → Option (List ℕ)) → Inputs
-    → Counted W → Counted W → Result (Unit {0}) Fault → Type 0
-AnswersWith contents i w w' (Ok _) = NoneFailed w w' × IsWritten contents w w' i
+    → Counted W → Counted W → Result ListingNotes Fault → Type 0
+AnswersWith contents i w w' (Ok notes) =
+    NoneFailed w w' × IsWritten contents w w' i × (notes ≡ notes_of i)
 AnswersWith contents i w w' (Err (Refused refusal.OutOfMemory)) = w' ≡ w
 AnswersWith contents i w w' (Err (Refused refusal.BadCapacity)) = (w' ≡ w) × HasTooManyRegions i
 AnswersWith contents i w w' (Err (Refused refusal.TooManyRegions)) = (w' ≡ w) × HasTooManyOfOne i
@@ -105,8 +109,8 @@ GivesAddresses given known before after (Err _) = ⊥
 
 -- what is said of the inputs where this is returned
 abbrev pub IsLookupOf : {W : Type 0} → (W → Option (List ℕ)) → Counted W → Counted W
-    → Inputs → Result (Unit {0}) Fault → Type 0
-IsLookupOf contents w w' i (Ok _) = IsWritten contents w w' i
+    → Inputs → Result ListingNotes Fault → Type 0
+IsLookupOf contents w w' i (Ok notes) = IsWritten contents w w' i × (notes ≡ notes_of i)
 IsLookupOf contents w w' i (Err (Refused refusal.BadCapacity)) = HasTooManyRegions i
 IsLookupOf contents w w' i (Err (Refused refusal.TooManyRegions)) = HasTooManyOfOne i
 IsLookupOf contents w w' i (Err Write) = FitsTable i
@@ -114,7 +118,7 @@ IsLookupOf contents w w' i (Err _) = Unit {0}
 
 -- what the engine returns that also read the inputs, where these are known
 abbrev pub AnswersLookup : {W : Type 0} → (W → Option (List ℕ)) → Option (Result Inputs (ℕ × ℕ))
-    → Failures → Counted W → Counted W → Result (Unit {0}) Fault → Type 0
+    → Failures → Counted W → Counted W → Result ListingNotes Fault → Type 0
 AnswersLookup contents known counts w w' result =
     AnswersInputs (IsLookupOf contents w w') known counts w w' result
 

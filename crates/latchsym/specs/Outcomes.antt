@@ -1,9 +1,9 @@
 -- What comes of a job: that of its engine over the job's own files.
-use Rattle.std.specs.Prelude.{◌≡◌, ◌⊎◌, ℕ, List, Option, Result, Ok, Err}
+use Rattle.std.specs.Prelude.{◌≡◌, ◌⊎◌, ℕ, List, Option, Result, Err}
 use Rattle.clap.specs.Words.{Text}
 use Rattle.listing.specs.declared.counted.Counted.{Counted}
 use Rattle.order_laws.specs.declared.refusals.Refusal.TheVariants as refusal
-use Rattle.latchsym.specs.Faults.{with_status}
+use Rattle.latchsym.specs.Faults.{with_status, without_notes}
 use Rattle.latchsym.specs.Files.{AreLookupFiles, AreRunFiles, Held, IsOpened}
 use Rattle.latchsym.specs.LookupInputs.{known_inputs}
 use Rattle.latchsym.specs.Lookups.{AnswersLookup, failures_between}
@@ -15,30 +15,32 @@ use Rattle.latchsym.specs.declared.command_line.Job.TheVariants.{Trace, Lookup, 
 use Rattle.latchsym.specs.declared.command_line.LookupJob.{LookupJob}
 use Rattle.latchsym.specs.declared.command_line.RunJob.{RunJob}
 use Rattle.latchsym.specs.declared.fault.Fault.{Fault}
+use Rattle.latchsym.specs.declared.fault.Finished.{Finished}
 use Rattle.latchsym.specs.declared.fault.Fault.TheVariants.{Refused}
+use Rattle.latchsym.specs.declared.listing_notes.ListingNotes.{ListingNotes}
 use Rattle.latchsym.specs.declared.lookup.LookupReaders.{LookupReaders}
 use Rattle.latchsym.specs.declared.runs.RunReaders.{RunReaders}
 
 -- what the trace engine returned for the file of this name, whose success is status 0
 pub record IsTraced {F W : Type 0} (remaining : F → Option (List ℕ))
     (contents : W → Option (List ℕ)) (held : Held) (file : Text) (w w' : Counted W)
-    (outcome : Result ℕ Fault) : Type 0 where
+    (outcome : Result Finished Fault) : Type 0 where
   pub before : Counted F
   pub after : Counted F
   pub opened : IsOpened remaining held file before
   pub result : Result (Unit {0}) Fault
   pub answered : AnswersTrace remaining contents before after w w' result
-  pub status : outcome ≡ with_status result
+  pub status : outcome ≡ with_status (without_notes result)
 
 -- what the engine of lookups returned for the job's own files, options and addresses, whose success
 -- is status 0
 pub record IsLookedUp {F W : Type 0} (remaining : F → Option (List ℕ))
     (contents : W → Option (List ℕ)) (held : Held) (standard : Option (List ℕ)) (job : LookupJob)
-    (w w' : Counted W) (outcome : Result ℕ Fault) : Type 0 where
+    (w w' : Counted W) (outcome : Result Finished Fault) : Type 0 where
   pub before : LookupReaders F F F F
   pub after : LookupReaders F F F F
   pub opened : AreLookupFiles remaining held standard job before
-  pub result : Result (Unit {0}) Fault
+  pub result : Result ListingNotes Fault
   pub answered : AnswersLookup contents
       (known_inputs remaining remaining remaining remaining before job.options job.addresses.items)
       (failures_between before after) w w' result
@@ -47,7 +49,7 @@ pub record IsLookedUp {F W : Type 0} (remaining : F → Option (List ℕ))
 -- what the engine of scripts returned for the job's own files, bounds and number of readers
 pub record IsScriptRun {F W : Type 0} (remaining : F → Option (List ℕ))
     (contents : W → Option (List ℕ)) (held : Held) (standard : Option (List ℕ)) (job : RunJob)
-    (w w' : Counted W) (outcome : Result ℕ Fault) : Type 0 where
+    (w w' : Counted W) (outcome : Result Finished Fault) : Type 0 where
   pub before : RunReaders F F F F
   pub after : RunReaders F F F F
   pub opened : AreRunFiles remaining held standard job before
@@ -56,12 +58,12 @@ pub record IsScriptRun {F W : Type 0} (remaining : F → Option (List ℕ))
       (run_failures_between before after) w w' outcome
 
 -- memory ran out before the engine began
-abbrev pub IsNotOpened : {W : Type 0} → Counted W → Counted W → Result ℕ Fault → Type 0
+abbrev pub IsNotOpened : {W : Type 0} → Counted W → Counted W → Result Finished Fault → Type 0
 IsNotOpened w w' outcome = (w' ≡ w) × (outcome ≡ Err (Refused refusal.OutOfMemory))
 
 -- the status or the fault of a job, over what the files hold that it names
 abbrev pub IsOutcome : {F W : Type 0} → (F → Option (List ℕ)) → (W → Option (List ℕ)) → Held
-    → Option (List ℕ) → Job → Counted W → Counted W → Result ℕ Fault → Type 0
+    → Option (List ℕ) → Job → Counted W → Counted W → Result Finished Fault → Type 0
 IsOutcome remaining contents held standard (Trace file) w w' outcome =
     IsTraced remaining contents held file.now w w' outcome ⊎ IsNotOpened w w' outcome
 IsOutcome remaining contents held standard (Lookup job) w w' outcome =

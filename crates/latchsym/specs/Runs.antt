@@ -15,6 +15,7 @@ use Rattle.shared_lookup.specs.Servings.{EachHasOutcome, EachIsAnswered, EachIsF
 use Rattle.shared_lookup.specs.declared.served.Served.{Served}
 use Rattle.latchsym.specs.Assignments.{IsAssigned}
 use Rattle.latchsym.specs.CatalogTables.{HasFewRegions}
+use Rattle.latchsym.specs.ListingNotes.{notes_of}
 use Rattle.latchsym.specs.LookupInputs.{catalog_in, region_lines_of_inputs}
 use Rattle.latchsym.specs.Lookups.{HasTooManyOfOne}
 use Rattle.latchsym.specs.Readings.{AnswersInputs, Failures, failures_in}
@@ -22,6 +23,7 @@ use Rattle.latchsym.specs.RunInputs.{RunInputs}
 use Rattle.latchsym.specs.RunTexts.{run_text}
 use Rattle.latchsym.specs.declared.assignments.Assignments.{Assignments}
 use Rattle.latchsym.specs.declared.fault.Fault.{Fault}
+use Rattle.latchsym.specs.declared.fault.Finished.{Finished}
 use Rattle.latchsym.specs.declared.fault.Fault.TheVariants.{Refused, Write}
 use Rattle.latchsym.specs.declared.runs.RunReaders.{RunReaders}
 
@@ -90,9 +92,11 @@ FitsNoRun readers i =
 
 -- what is said of the inputs where this is returned
 abbrev pub IsRunOf : {W : Type 0} → (W → Option (List ℕ)) → ℕ → Counted W → Counted W
-    → RunInputs → Result ℕ Fault → Type 0
-IsRunOf contents readers w w' i (Ok status) =
-    FitsRun readers i × IsRun contents (catalog_in i.listings) readers i.lines w w' status
+    → RunInputs → Result Finished Fault → Type 0
+IsRunOf contents readers w w' i (Ok finished) =
+    FitsRun readers i
+    × IsRun contents (catalog_in i.listings) readers i.lines w w' finished.status
+    × (finished.notes ≡ notes_of i.listings)
 IsRunOf contents readers w w' i (Err (Refused refusal.BadCapacity)) = FitsNoRun readers i
 IsRunOf contents readers w w' i (Err (Refused refusal.TooManyRegions)) = HasTooManyOfOne i.listings
 IsRunOf contents readers w w' i (Err Write) = FitsRun readers i
@@ -100,7 +104,8 @@ IsRunOf contents readers w w' i (Err _) = Unit {0}
 
 -- what the engine returns that also read the inputs, where these are known
 abbrev pub AnswersRun : {W : Type 0} → (W → Option (List ℕ)) → ℕ
-    → Option (Result RunInputs (ℕ × ℕ)) → Failures → Counted W → Counted W → Result ℕ Fault → Type 0
+    → Option (Result RunInputs (ℕ × ℕ)) → Failures → Counted W → Counted W
+    → Result Finished Fault → Type 0
 AnswersRun contents readers known counts w w' result =
     AnswersInputs (IsRunOf contents readers w w') known counts w w' result
 

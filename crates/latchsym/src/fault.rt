@@ -1,11 +1,17 @@
 //! Why a run of the program fails, and the line that says so.
 ghost use Rattle.std.specs.Prelude.{◌≡◌, []};
 ghost use Rattle.listing.specs.Exact.{Wrote};
-ghost use Rattle.latchsym.specs.Faults.{IsConcluded, IsLineFault, IsReported, bad_line_text};
+ghost use Rattle.latchsym.specs.Faults.{IsConcluded, IsLineFault, IsNoted, IsReported};
+ghost use Rattle.latchsym.specs.Faults.{bad_line_text};
+ghost use Rattle.latchsym.specs.ListingNotes.{is_some_noted};
+ghost use Rattle.latchsym.specs.NoteTexts.{notes_text};
 ghost use Rattle.latchsym.specs.Faults.{fault_text, file_of, line_of, message_text, fault_number};
-ghost use Rattle.latchsym.specs.Faults.{fault_place, unread_text, with_status};
+ghost use Rattle.latchsym.specs.Faults.{fault_place, unread_text, with_notes, with_status};
+ghost use Rattle.latchsym.specs.Faults.{without_notes};
 
 use crate::command_line::Job;
+use crate::listing_notes::ListingNotes;
+use crate::note_texts::put_job_notes;
 use crate::texts::{put_decimal, put_refused};
 use listing::{Counted, LineFault, put};
 use order_laws::Refusal;
@@ -108,25 +114,79 @@ impl From<AllocError> for Fault {
     }
 }
 
-/// The status of a job whose engine has none of its own: 0 where it succeeded.
-pub fn with_status(done: Result<(), Fault>) -> Result<u8, Fault>
+/// What a job came to that did not fail.
+#[derive(Clone, Copy, Debug, PartialEq, Eq, Drop)]
+pub struct Finished {
+    /// The program's status.
+    pub status: u8,
+    /// What is noted of the job's listings.
+    pub notes: ListingNotes,
+}
+
+/// The end of a job whose engine has no status of its own: 0 where it succeeded.
+pub fn with_status(done: Result<ListingNotes, Fault>) -> Result<Finished, Fault>
     ensures { result ≡ with_status done }
 {
     match done {
-        Ok(()) => Ok(SUCCEEDED),
+        Ok(notes) => with_notes(Ok(SUCCEEDED), notes),
         Err(fault) => Err(fault),
     }
 }
 
-/// Ends a job: returns the program's status, which is the job's own where it came to one. Where it
-/// failed, writes the line that says why.
-pub fn conclude<W: Write>(outcome: Result<u8, Fault>, job: &Job<'_>, writer: &mut Counted<W>) -> u8
+/// The end of a job of this status with these notes.
+pub fn with_notes(status: Result<u8, Fault>, notes: ListingNotes) -> Result<Finished, Fault>
+    ensures { result ≡ with_notes notes status }
+{
+    match status {
+        Ok(status) => Ok(Finished { status, notes }),
+        Err(fault) => Err(fault),
+    }
+}
+
+/// The notes of a job without listings.
+pub fn without_notes(done: Result<(), Fault>) -> Result<ListingNotes, Fault>
+    ensures { result ≡ without_notes done }
+{
+    match done {
+        Ok(()) => Ok(ListingNotes::none()),
+        Err(fault) => Err(fault),
+    }
+}
+
+/// Ends a job: returns the program's status, which is the job's own where it came to one. Writes
+/// what is noted of its listings, or, where it failed, the line that says why.
+pub fn conclude<W: Write>(
+    outcome: Result<Finished, Fault>,
+    job: &Job<'_>,
+    writer: &mut Counted<W>,
+) -> u8
     ensures { IsConcluded W.contents job.now writer.old writer.new outcome result }
 {
     match outcome {
-        Ok(status) => status,
+        Ok(finished) => {
+            note(&finished.notes, job, writer);
+            finished.status
+        }
         Err(fault) => report(&fault, job, writer),
     }
+}
+
+/// Writes what is noted of the listings of a job, if something is.
+fn note<W: Write>(notes: &ListingNotes, job: &Job<'_>, writer: &mut Counted<W>)
+    ensures { IsNoted W.contents writer.old writer.new (is_some_noted notes.now)
+        (notes_text job.now notes.now) }
+{
+    if notes.any() {
+        report_notes(notes, job, writer);
+    }
+}
+
+/// Writes the lines of what is noted. Where the writer fails, the status is all that there is to
+/// tell.
+fn report_notes<W: Write>(notes: &ListingNotes, job: &Job<'_>, writer: &mut Counted<W>)
+    ensures { IsReported W.contents writer.old writer.new (notes_text job.now notes.now) }
+{
+    let _ = put_job_notes(writer, job, notes);
 }
 
 /// Writes the line that says why the job failed, and returns the program's status. Where the writer

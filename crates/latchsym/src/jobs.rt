@@ -7,7 +7,7 @@ ghost use Rattle.latchsym.specs.Outcomes.{IsLookedUp, IsNotOpened, IsOutcome};
 ghost use Rattle.latchsym.specs.Outcomes.{IsScriptRun, IsTraced};
 
 use crate::command_line::{Job, LookupJob, RunJob};
-use crate::fault::{Fault, with_status};
+use crate::fault::{Fault, Finished, with_status, without_notes};
 use crate::lookup::{LookupReaders, lookup_engine};
 use crate::runs::{RunReaders, run_engine};
 use crate::trace::trace_engine;
@@ -41,14 +41,15 @@ pub trait FileSource {
 }
 
 /// Does the job over the files that it names: opens them, and has its engine answer with the job's
-/// own options, addresses and number of readers. Returns the program's status, or why it failed.
+/// own options, addresses and number of readers. Returns the program's status and what is noted of
+/// the listings, or why it failed.
 pub fn do_job<T: Threads + Wait + Sync, F: FileSource, W: Write>(
     threads: &T,
     alloc: Global,
     files: &F,
     job: &Job<'_>,
     writer: &mut Counted<W>,
-) -> Result<u8, Fault>
+) -> Result<Finished, Fault>
     ensures { IsOutcome F.File.remaining W.contents (F.held files.now) (F.standard files.now)
         job.now writer.old writer.new result }
 {
@@ -65,12 +66,12 @@ fn do_trace<F: FileSource, W: Write>(
     files: &F,
     name: &str,
     writer: &mut Counted<W>,
-) -> Result<u8, Fault>
+) -> Result<Finished, Fault>
     ensures { IsTraced F.File.remaining W.contents (F.held files.now) name.now
         writer.old writer.new result ⊎ IsNotOpened writer.old writer.new result }
 {
     let mut reader = files.open(name)?;
-    with_status(trace_engine(alloc, &mut reader, writer))
+    with_status(without_notes(trace_engine(alloc, &mut reader, writer)))
 }
 
 /// Looks up the addresses of a job.
@@ -79,7 +80,7 @@ fn do_lookup<F: FileSource, W: Write>(
     files: &F,
     job: &LookupJob<'_>,
     writer: &mut Counted<W>,
-) -> Result<u8, Fault>
+) -> Result<Finished, Fault>
     ensures { IsLookedUp F.File.remaining W.contents (F.held files.now) (F.standard files.now)
         job.now writer.old writer.new result ⊎ IsNotOpened writer.old writer.new result }
 {
@@ -94,7 +95,7 @@ fn do_run<T: Threads + Wait + Sync, F: FileSource, W: Write>(
     files: &F,
     job: &RunJob<'_>,
     writer: &mut Counted<W>,
-) -> Result<u8, Fault>
+) -> Result<Finished, Fault>
     ensures { IsScriptRun F.File.remaining W.contents (F.held files.now) (F.standard files.now)
         job.now writer.old writer.new result ⊎ IsNotOpened writer.old writer.new result }
 {

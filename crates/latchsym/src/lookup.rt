@@ -14,11 +14,12 @@ ghost use Rattle.latchsym.specs.Lookups.{regions_line_of};
 ghost use Rattle.latchsym.specs.Readings.{IsReadAs, failures_in, last_failures};
 
 use crate::fault::Fault;
+use crate::listing_notes::{ListingNotes, SymbolFacts, note_of_kallsyms, note_of_modules};
 use crate::lookup_texts::{put_answers, put_module_counts, put_region_counts, put_symbol_counts};
-use crate::table::{Answer, answers_of};
+use crate::table::{AddressAnswer, answers_of};
 use listing::{
-    AddressRule, Counted, ModuleCounts, ReadFault, SymbolCounts, read_addresses, read_kallsyms,
-    read_modules, read_regions, read_whole,
+    AddressRule, Counted, ModuleCounts, ReadFault, SymbolCounts, are_modules_hidden,
+    are_symbols_hidden, read_addresses, read_kallsyms, read_modules, read_regions, read_whole,
 };
 use modules::{BuildCounts, Catalog, KernelBounds, RegionLine};
 use order_laws::Refusal;
@@ -88,12 +89,15 @@ pub struct Listings<'a> {
     pub skipped_symbols: SymbolCounts,
     /// Whether there is a listing of regions.
     pub has_regions: bool,
+    /// What is noted of them.
+    pub notes: ListingNotes,
 }
 
 /// Looks addresses up in the listings of modules and of symbols, and writes a line for each address
-/// and a line of counts for each listing. A listing of regions may say where modules lie, and a
-/// file of addresses which are looked up after the given ones. The options name the symbols between
-/// which the kernel's own region lies, and say how the addresses are taken.
+/// and a line of counts for each listing. Returns what is noted of the listings. A listing of
+/// regions may say where modules lie, and a file of addresses which are looked up after the given
+/// ones. The options name the symbols between which the kernel's own region lies, and say how the
+/// addresses are taken.
 ///
 /// All is read, and all answers are there, before the first byte is written; so every fault but a
 /// failed write leaves the writer as it was. docs/FORMATS.md has the files and the lines.
@@ -103,7 +107,7 @@ pub fn lookup_engine<M: Read, K: Read, R: Read, A: Read, W: Write>(
     options: &LookupOptions<'_>,
     addresses: &[u64],
     writer: &mut Counted<W>,
-) -> Result<(), Fault>
+) -> Result<ListingNotes, Fault>
     ensures { AnswersLookup W.contents
         (known_inputs M.remaining K.remaining R.remaining A.remaining
         readers.old options.now addresses.now)
@@ -162,7 +166,7 @@ fn answer_from<A: Read, W: Write>(
     texts: &ListingTexts,
     file: &mut Option<Counted<A>>,
     writer: &mut Counted<W>,
-) -> Result<(), Fault>
+) -> Result<ListingNotes, Fault>
     ensures { AnswersLookup W.contents
         (inputs_of options.now given.now (known_text A.remaining file.old) (texts_in texts.now))
         (last_failures (failures_in file.old) (failures_in file.new)) writer.old writer.new result }
@@ -220,7 +224,7 @@ fn answer_with<W: Write>(
     alloc: Global,
     inputs: &LookupInputs<'_>,
     writer: &mut Counted<W>,
-) -> Result<(), Fault>
+) -> Result<ListingNotes, Fault>
     requires { All (λ r. region_fits r ≡ true) (region_lines_of_inputs (inputs_in inputs.now)) }
     ensures { AnswersWith W.contents (inputs_in inputs.now) writer.old writer.new result }
 {
@@ -233,7 +237,10 @@ fn answer_with<W: Write>(
         rule,
         &inputs.addresses,
     )?;
-    put_lookup(writer, &listings, rule, &answers).map_err(|_| Fault::Write)
+    match put_lookup(writer, &listings, rule, &answers) {
+        Ok(()) => Ok(listings.notes),
+        Err(_) => Err(Fault::Write),
+    }
 }
 
 /// Reads the lines of the first two listings, and builds the catalog of all three. Refused where
@@ -250,6 +257,8 @@ pub(crate) fn listings_in<'a>(
 {
     let (module_lines, skipped_modules) = read_modules(alloc, inputs.modules)?;
     let (symbol_lines, skipped_symbols) = read_kallsyms(alloc, inputs.kallsyms)?;
+    let modules_hidden = are_modules_hidden(module_lines.len(), &skipped_modules);
+    let hidden = are_symbols_hidden(symbol_lines.len(), &skipped_symbols);
     let regions = region_lines_of(inputs);
     let (catalog, built) = Catalog::build_between(
         alloc,
@@ -258,12 +267,22 @@ pub(crate) fn listings_in<'a>(
         regions,
         symbol_lines,
     )?;
+    let facts = SymbolFacts {
+        hidden,
+        kept: built.symbols,
+        has_kernel: catalog.module(0).is_some(),
+    };
+    let notes = ListingNotes {
+        modules: note_of_modules(inputs.modules, modules_hidden, &catalog),
+        kallsyms: note_of_kallsyms(inputs.kallsyms, &inputs.options.kernel, facts),
+    };
     Ok(Listings {
         catalog,
         built,
         skipped_modules,
         skipped_symbols,
         has_regions: inputs.regions.is_some(),
+        notes,
     })
 }
 
@@ -282,7 +301,7 @@ fn put_lookup<W: Write>(
     writer: &mut Counted<W>,
     listings: &Listings,
     rule: AddressRule,
-    answers: &[Answer],
+    answers: &[AddressAnswer],
 ) -> io::Result<()>
     ensures { Wrote W.contents writer.old writer.new result
         (flat_map (answer_line listings.now.catalog rule) answers.now ++ counts_text listings.now) }

@@ -4,7 +4,7 @@ ghost use Rattle.listing.specs.Exact.{Wrote};
 ghost use Rattle.latchsym.specs.LookupTexts.{answer_line, causes_text, count_text, modules_line};
 ghost use Rattle.latchsym.specs.LookupTexts.{regions_line, symbols_line};
 
-use crate::table::Answer;
+use crate::table::AddressAnswer;
 use crate::texts::put_decimal;
 use listing::{
     AddressRule, Cause, Counted, Counts, ModuleCounts, SkippedModule, SkippedSymbol, SymbolCounts,
@@ -19,7 +19,7 @@ pub fn put_answers<W: Write>(
     writer: &mut Counted<W>,
     catalog: &Catalog,
     rule: AddressRule,
-    answers: &[Answer],
+    answers: &[AddressAnswer],
 ) -> io::Result<()>
     ensures { Wrote W.contents writer.old writer.new result
         (flat_map (answer_line catalog.now rule) answers.now) }
@@ -36,7 +36,7 @@ fn put_answer<W: Write>(
     writer: &mut Counted<W>,
     catalog: &Catalog,
     rule: AddressRule,
-    answer: &Answer,
+    answer: &AddressAnswer,
 ) -> io::Result<()>
     ensures { Wrote W.contents writer.old writer.new result (answer_line catalog.now rule answer.now) }
 {

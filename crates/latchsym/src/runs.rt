@@ -15,7 +15,7 @@ ghost use Rattle.latchsym.specs.Runs.{AnswersLines, AnswersRun, TellsServed, run
 ghost use Rattle.latchsym.specs.Runs.{status_of};
 
 use crate::assignments::{Assignments, assign};
-use crate::fault::{FAILED, Fault, SUCCEEDED};
+use crate::fault::{FAILED, Fault, Finished, SUCCEEDED, with_notes};
 use crate::lookup::{
     KALLSYMS_PLACE, ListingTexts, LookupInputs, LookupOptions, MODULES_PLACE, listings_in, read_at,
     read_if_given, region_lines_in,
@@ -48,8 +48,9 @@ const SCRIPT_PLACE: u64 = 3;
 
 /// Does what a script for so many readers says, over a table that is empty at first, and writes a
 /// line for each refused change and each lookup and the line of the totals. The kernel's own region
-/// lies between the symbols of these names. Returns the program's status, 1 where an answer was not
-/// that of its generation or a change is not in the log as it was accepted.
+/// lies between the symbols of these names. Returns what is noted of the listings, and the program's
+/// status, 1 where an answer was not that of its generation or a change is not in the log as it was
+/// accepted.
 ///
 /// All is read, done and checked before the first byte is written, so every fault but a failed
 /// write leaves the writer as it was. Refused when out of memory, even if a reader's thread was not
@@ -61,7 +62,7 @@ pub fn run_engine<T: Threads + Wait + Sync, M: Read, K: Read, R: Read, S: Read, 
     kernel: &KernelBounds<'_>,
     count: u32,
     writer: &mut Counted<W>,
-) -> Result<u8, Fault>
+) -> Result<Finished, Fault>
     ensures { AnswersRun W.contents count
         (known_run_inputs M.remaining K.remaining R.remaining S.remaining
         readers.old kernel.now count)
@@ -88,7 +89,7 @@ fn run_from<T: Threads + Wait + Sync, S: Read, W: Write>(
     kernel: &KernelBounds<'_>,
     readers: u32,
     writer: &mut Counted<W>,
-) -> Result<u8, Fault>
+) -> Result<Finished, Fault>
     ensures { AnswersRun W.contents readers
         (run_inputs_of kernel.now readers (S.remaining (device_of script.old)) (texts_in texts.now))
         (last_failures (failures_of script.old) (failures_of script.new))
@@ -121,7 +122,7 @@ fn run_with<T: Threads + Wait + Sync, W: Write>(
     script: &[u8],
     readers: u32,
     writer: &mut Counted<W>,
-) -> Result<u8, Fault>
+) -> Result<Finished, Fault>
     requires { All (λ r. region_fits r ≡ true) (region_lines_of_inputs (inputs_in inputs.now)) }
     ensures { AnswersRun W.contents readers
         (Some (run_inputs_with (inputs_in inputs.now) (script_of readers script.now))) []
@@ -132,7 +133,8 @@ fn run_with<T: Threads + Wait + Sync, W: Write>(
         Err(fault) => return Err(Fault::of_lines(SCRIPT_PLACE, fault)),
     };
     let listings = listings_in(alloc, inputs)?;
-    run_lines(rt, alloc, &listings.catalog, &lines, readers, writer)
+    let status = run_lines(rt, alloc, &listings.catalog, &lines, readers, writer);
+    with_notes(status, listings.notes)
 }
 
 /// Does what these lines of a script for so many readers say, writes the lines of what came back,

@@ -14,7 +14,7 @@ use word_layout::Layout;
 
 /// An address, and the item that holds the one that is looked up for it.
 #[derive(Clone, Copy, Debug, Drop)]
-pub struct Answer {
+pub struct AddressAnswer {
     pub addr: u64,
     pub item: Option<Item>,
 }
@@ -30,7 +30,7 @@ pub fn answers_of(
     modules: u64,
     rule: AddressRule,
     addresses: &[u64],
-) -> Result<Vec<Answer>, Refusal>
+) -> Result<Vec<AddressAnswer>, Refusal>
     requires { modules ≡ length catalog.now.modules }
     ensures answers { IfOk result (λ v. v.items ≡ map (answer_at catalog.now rule) addresses.now) }
     ensures fits { IfOk result (λ _. HasFewRegions catalog.now) }
@@ -96,7 +96,11 @@ fn load(world: &mut World<HalfOpen>, catalog: &Catalog, number: u64) -> Result<(
 
 /// Looks one address up, as the rule takes it. No step of the writer comes between, so the first
 /// attempt returns.
-fn look_up(world: &mut World<HalfOpen>, rule: AddressRule, addr: u64) -> Result<Answer, Refusal>
+fn look_up(
+    world: &mut World<HalfOpen>,
+    rule: AddressRule,
+    addr: u64,
+) -> Result<AddressAnswer, Refusal>
     ensures found { (items : List Item) → HasTable items world.old
         → IfOk result (λ a. a ≡ answer_in items rule addr) }
     ensures holds { (items : List Item) → HasTable items world.old
@@ -105,10 +109,10 @@ fn look_up(world: &mut World<HalfOpen>, rule: AddressRule, addr: u64) -> Result<
         → IfErr result (λ e. e ≡ Refusal.OutOfMemory) }
 {
     let Some(place) = rule.place_of(addr) else {
-        return Ok(Answer { addr, item: None });
+        return Ok(AddressAnswer { addr, item: None });
     };
     let found = world.find_now(0, place)?;
-    Ok(Answer {
+    Ok(AddressAnswer {
         addr,
         item: found.answer,
     })

@@ -7,6 +7,7 @@ mod devices_that_fail;
 mod failing_runs;
 mod fault_texts;
 mod jobs;
+mod listing_notes;
 mod listings;
 mod option_words;
 mod rows;
@@ -15,7 +16,8 @@ mod stops;
 mod words;
 mod wrong_answers;
 
-use crate::fault::Fault;
+use crate::fault::{Fault, Finished};
+use crate::listing_notes::ListingNotes;
 use crate::lookup::LookupOptions;
 use crate::trace::trace_engine;
 use listing::{AddressRule, Counted};
@@ -28,6 +30,22 @@ fn traced(alloc: Global, trace: &[u8]) -> (Result<(), Fault>, Vec<u8>) {
     let mut writer = Counted::new(Vec::new(alloc));
     let answer = trace_engine(alloc, &mut reader, &mut writer);
     (answer, writer.into_inner())
+}
+
+/// Why a lookup failed, if it did, whatever is noted of its listings.
+fn unnoted(answer: Result<ListingNotes, Fault>) -> Result<(), Fault> {
+    match answer {
+        Ok(_) => Ok(()),
+        Err(fault) => Err(fault),
+    }
+}
+
+/// The status of a job, or why it failed, whatever is noted of its listings.
+fn status_of(outcome: Result<Finished, Fault>) -> Result<u8, Fault> {
+    match outcome {
+        Ok(finished) => Ok(finished.status),
+        Err(fault) => Err(fault),
+    }
 }
 
 /// The kernel between its usual bounds, and addresses that are taken as they are.

@@ -11,8 +11,7 @@ use Rattle.listing.specs.ModuleListing.{module_counts, module_place, modules_in}
 use Rattle.listing.specs.SymbolListing.{symbol_counts, symbol_place, symbols_in}
 use Rattle.modules.specs.Catalogs.{catalog_of, counts_of}
 use Rattle.modules.specs.Entries.{CatalogEntries}
-use Rattle.modules.specs.Lines.{usual_bounds}
-use Rattle.modules.specs.Listed.{ListedRegion}
+use Rattle.modules.specs.Listed.{BoundNames, ListedRegion}
 use Rattle.modules.specs.Placed.{are_few}
 use Rattle.modules.specs.declared.catalog.BuildCounts.{BuildCounts}
 use Rattle.latchsym_ffi.specs.declared.opening.CatalogCounts.{CatalogCounts}
@@ -21,8 +20,10 @@ use Rattle.latchsym_ffi.specs.declared.opening.CatalogFault.TheVariants.{BadLine
 use Rattle.latchsym_ffi.specs.declared.opening.CatalogTexts.{CatalogTexts}
 use Rattle.listing.specs.RegionListing.{regions_of_text as listed_regions}
 
--- the bytes of the listings, of which that of regions may be missing
+-- the bytes of the listings, of which that of regions may be missing, and the names of the symbols
+-- that bound the kernel's own region
 pub record ListingTexts : Type 0 where
+  pub kernel : BoundNames
   pub modules : List ℕ
   pub kallsyms : List ℕ
   pub regions : Option (List ℕ)
@@ -30,6 +31,7 @@ pub record ListingTexts : Type 0 where
 abbrev pub shown_texts : CatalogTexts → ListingTexts
 shown_texts t =
     record {
+      kernel = t.kernel;
       modules = t.modules.now;
       kallsyms = t.kallsyms.now;
       regions = option_copied t.regions;
@@ -63,12 +65,12 @@ counts_in m s b = record {
 -- the catalog of the listings and of region lines
 abbrev pub catalog_in : ListingTexts → List ListedRegion → CatalogEntries
 catalog_in t lines =
-    catalog_of usual_bounds (modules_in (lines_of t.modules)) lines
+    catalog_of t.kernel (modules_in (lines_of t.modules)) lines
     (symbols_in (lines_of t.kallsyms))
 
 abbrev pub build_counts_in : ListingTexts → List ListedRegion → BuildCounts
 build_counts_in t lines =
-    counts_of usual_bounds (modules_in (lines_of t.modules)) lines
+    counts_of t.kernel (modules_in (lines_of t.modules)) lines
     (symbols_in (lines_of t.kallsyms))
 
 -- the catalog and the counts are those of the texts with these region lines

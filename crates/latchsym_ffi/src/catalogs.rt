@@ -2,8 +2,9 @@
 
 ghost use Rattle.std.specs.Prelude.{◌≡◌, ◌≢◌, IfOk};
 ghost use Rattle.modules.specs.Entries.{CatalogEntries};
-ghost use Rattle.latchsym_ffi.specs.Catalogs.{OpensCatalog, RefusesCatalog, three_texts};
-ghost use Rattle.latchsym_ffi.specs.Catalogs.{two_texts};
+ghost use Rattle.std.specs.Option.{option_copied};
+ghost use Rattle.latchsym_ffi.specs.Catalogs.{bounded_texts, OpensCatalog, RefusesCatalog};
+ghost use Rattle.latchsym_ffi.specs.Catalogs.{text_if_any, three_texts, two_texts};
 ghost use Rattle.latchsym_ffi.specs.Finding.{answer_of, copied, known_at, known_code, owner_named};
 ghost use Rattle.latchsym_ffi.specs.Finding.{symbol_named};
 ghost use Rattle.latchsym_ffi.specs.Handles.{HoldsCatalog, Stays};
@@ -15,6 +16,7 @@ use crate::contents::{CATALOG, CLOSED, Content};
 use crate::finding::{CatalogAnswer, find};
 use crate::handles::Handle;
 use crate::opening::{CatalogCounts, CatalogFault, CatalogTexts, open_catalog};
+use modules::KernelBounds;
 use order_laws::Refusal;
 use std::alloc::{AllocError, Global};
 
@@ -79,6 +81,7 @@ pub extern "C" fn latchsym_catalog_open(
     ensures why { out.old.kind ≡ 0 → result ≢ 0 → result ≡ 7 }
 {
     let texts = CatalogTexts {
+        kernel: KernelBounds::usual(),
         modules,
         kallsyms,
         regions: None,
@@ -108,9 +111,50 @@ pub extern "C" fn latchsym_catalog_open_with_regions(
     ensures told { result ≢ 15 → bad_line.new ≡ bad_line.old }
 {
     let texts = CatalogTexts {
+        kernel: KernelBounds::usual(),
         modules,
         kallsyms,
         regions: Some(regions),
+    };
+    open_in(alloc, &texts, out, counts, bad_line)
+}
+
+/// The listing of regions, which is none where it has no byte.
+fn if_any(text: &'static [u8]) -> Option<&'static [u8]>
+    ensures { option_copied result ≡ text_if_any text.now }
+{
+    if text.is_empty() { None } else { Some(text) }
+}
+
+/// The same, with the names of the symbols at the kernel's first address and at its end, and with a
+/// listing of regions where that has a byte.
+#[unsafe(no_mangle)]
+pub extern "C" fn latchsym_catalog_open_between(
+    alloc: Global,
+    modules: &'static [u8],
+    kallsyms: &'static [u8],
+    regions: &'static [u8],
+    start: &'static [u8],
+    end: &'static [u8],
+    out: &mut Handle,
+    counts: &mut CatalogCounts,
+    bad_line: &mut u64,
+) -> u32
+    ensures opened { result ≡ 0 → OpensCatalog
+        (bounded_texts (record { start = start.now; end = end.now })
+        modules.now kallsyms.now regions.now) out.old out.new counts.new }
+    ensures refused { result ≢ 0 → (out.new ≡ out.old) × (counts.new ≡ counts.old) }
+    ensures not_so { out.old.kind ≢ 0 → result ≡ 101 }
+    ensures why { out.old.kind ≡ 0 → result ≢ 0 → RefusesCatalog
+        (bounded_texts (record { start = start.now; end = end.now })
+        modules.now kallsyms.now regions.now) bad_line.new result }
+    ensures told { result ≢ 15 → bad_line.new ≡ bad_line.old }
+{
+    let texts = CatalogTexts {
+        kernel: KernelBounds { start, end },
+        modules,
+        kallsyms,
+        regions: if_any(regions),
     };
     open_in(alloc, &texts, out, counts, bad_line)
 }

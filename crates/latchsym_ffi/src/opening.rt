@@ -42,9 +42,11 @@ pub struct CatalogCounts {
     pub regions_stray: u64,
 }
 
-/// The bytes of the listings, that of regions only where it is given.
+/// The bytes of the listings, that of regions only where it is given, and the names of the symbols
+/// that bound the kernel's own region.
 #[derive(Drop)]
 pub struct CatalogTexts {
+    pub kernel: KernelBounds<'static>,
     pub modules: &'static [u8],
     pub kallsyms: &'static [u8],
     pub regions: Option<&'static [u8]>,
@@ -149,7 +151,7 @@ fn catalog_between(
     let (symbol_lines, skipped_symbols) = read_kallsyms(alloc, texts.kallsyms)?;
     let (catalog, built) = Catalog::build_between(
         alloc,
-        &KernelBounds::usual(),
+        &texts.kernel,
         &module_lines,
         regions,
         symbol_lines,

@@ -1,6 +1,7 @@
 //! Runs of a script in which one of the files fails, at each of its reads in turn.
 use crate::fault::Fault;
 use crate::runs::{RunReaders, run_engine};
+use crate::tests::status_of;
 use listing::{Counted, FailAt};
 use modules::KernelBounds;
 use std::alloc::{AllocError, Global};
@@ -67,7 +68,7 @@ fn failing_run<T: Threads + Wait + Sync>(
         1,
         &mut writer,
     );
-    (answer, writer.into_inner())
+    (status_of(answer), writer.into_inner())
 }
 
 /// Each file takes two reads, and a third that meets its end.

@@ -1,9 +1,11 @@
 //! Jobs over files in memory, from the names of their files to the program's status.
 use crate::command_line::{Job, JobFault, LookupJob, RunJob};
-use crate::fault::{Fault, conclude};
+use crate::fault::{Fault, conclude, with_notes};
 use crate::jobs::{FileSource, do_job};
+use crate::listing_notes::ListingNotes;
 use crate::lookup::LookupOptions;
 use crate::misuse::refuse;
+use crate::tests::status_of;
 use listing::{AddressRule, Counted, FailAt};
 use modules::KernelBounds;
 use order_laws::Refusal;
@@ -157,7 +159,7 @@ fn done<T: Threads + Wait + Sync>(
 ) -> (Result<u8, Fault>, Vec<u8>) {
     let mut writer = Counted::new(Vec::new(alloc));
     let outcome = do_job(rt, alloc, files, job, &mut writer);
-    (outcome, writer.into_inner())
+    (status_of(outcome), writer.into_inner())
 }
 
 #[test]
@@ -250,7 +252,8 @@ fn each_file_that_fails_is_told(rt: HostRuntime) -> Result<(), Fail> {
 /// The status of a job, and what is said of its fault.
 fn concluded(alloc: Global, job: &Job<'_>, outcome: Result<u8, Fault>) -> (u8, Vec<u8>) {
     let mut errors = Counted::new(Vec::new(alloc));
-    let status = conclude(outcome, job, &mut errors);
+    let ended = with_notes(outcome, ListingNotes::none());
+    let status = conclude(ended, job, &mut errors);
     (status, errors.into_inner())
 }
 

@@ -1,6 +1,7 @@
 //! Scripts that writers and readers carry out on threads.
 use crate::fault::Fault;
 use crate::runs::{RunReaders, run_engine};
+use crate::tests::status_of;
 use listing::{Counted, FailAt};
 use modules::KernelBounds;
 use order_laws::Refusal;
@@ -63,7 +64,7 @@ fn answered<
         count,
         &mut writer,
     );
-    (answer, writer.into_inner())
+    (status_of(answer), writer.into_inner())
 }
 
 #[test]
@@ -187,6 +188,6 @@ fn each_failing_call_is_told(rt: HostRuntime) {
             1,
             &mut writer,
         );
-        assert_eq!(rt; answer, Err(Fault::Write));
+        assert_eq!(rt; status_of(answer), Err(Fault::Write));
     }
 }

@@ -1,4 +1,5 @@
-use Rattle.std.proofs.Common.{inl}
+use Rattle.std.proofs.Common.{ap, inl, ◌∙◌}
+use Rattle.latchsym.specs.Faults.{with_status}
 use Rattle.latchsym.proofs.jobs.do_trace.Goals as goal
 
 pub returns : goal.returns
@@ -8,5 +9,5 @@ returns g c = inl (record {
   opened = c.in_ok-reader.ensures.opened;
   result = c.trace_engine.result;
   answered = c.trace_engine.ensures;
-  status = c.with_status.ensures;
+  status = c.with_status.ensures ∙ ap with_status c.without_notes.ensures;
 })

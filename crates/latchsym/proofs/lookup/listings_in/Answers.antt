@@ -1,12 +1,17 @@
 use Rattle.std.proofs.Common.{◌≡◌, ◌∙◌, ap, sym, refl, Option, Some, None, option_map}
-use Rattle.std.specs.Prelude.{is_some}
+use Rattle.std.specs.Prelude.{find, is_some}
 use Rattle.std.specs.Global.{Vec}
 use Rattle.listing.specs.Lines.{lines_of}
 use Rattle.listing.specs.ModuleListing.{modules_in}
 use Rattle.modules.specs.Catalogs.{catalog_of, counts_of}
+use Rattle.modules.specs.Entries.{CatalogEntries}
 use Rattle.modules.specs.Listed.{ListedRegion}
+use Rattle.modules.specs.declared.catalog.BuildCounts.{BuildCounts}
 use Rattle.modules.specs.Placed.{are_few}
+use Rattle.latchsym.specs.ListingNotes.{all_notes, is_of_kallsyms, is_of_modules}
 use Rattle.latchsym.specs.LookupInputs.{catalog_in, counts_in, inputs_in, region_lines_of_inputs}
+use Rattle.latchsym.specs.declared.listing_notes.ListingNote.{ListingNote}
+use Rattle.latchsym.specs.declared.listing_notes.ListingNotes.{ListingNotes}
 use Rattle.latchsym.proofs.lookup.listings_in.Goals as goal
 
 still_some : (o : Option (Vec ListedRegion)) → is_some o ≡ is_some (option_map (λ lines. lines.items) o)
@@ -23,15 +28,24 @@ returns-clause-said c =
     let all_modules = modules_in (lines_of i.modules.now) in
     let all_lines = region_lines_of_inputs (inputs_in i) in
     let is_modules = c.deref.ensures.value ∙ c.in_ok-module_lines.ensures.modules in
+    let is_catalog : c.in_ok-catalog.catalog ≡ catalog_in (inputs_in i) =
+    c.in_ok-catalog.ensures.built ∙ ap (λ m. catalog_of names m lines symbols) is_modules
+    ∙ ap (λ r. catalog_of names all_modules r symbols) c.region_lines_of-regions.ensures
+    ∙ ap (λ s. catalog_of names all_modules all_lines s) c.in_ok-symbol_lines.ensures.symbols in
+    let is_built : c.in_ok-catalog.built ≡ counts_in (inputs_in i) =
+    c.in_ok-catalog.ensures.counted ∙ ap (λ m. counts_of names m lines symbols) is_modules
+    ∙ ap (λ r. counts_of names all_modules r symbols) c.region_lines_of-regions.ensures
+    ∙ ap (λ s. counts_of names all_modules all_lines s) c.in_ok-symbol_lines.ensures.symbols in
+    let of_modules : CatalogEntries → Option ListingNote = λ k. find (is_of_modules i.modules.now k) all_notes in
+    let of_kallsyms : BuildCounts → Option ListingNote = λ b. find (is_of_kallsyms names i.kallsyms.now b.symbols) all_notes in
+    let with_modules : Option ListingNote → ListingNotes = λ n. record { modules = n; kallsyms = c.note_of_kallsyms.result } in
+    let with_kallsyms : Option ListingNote → ListingNotes = λ n. record { modules = of_modules (catalog_in (inputs_in i)); kallsyms = n } in
     record {
       few = ap are_few (sym c.region_lines_of-regions.ensures) ∙ c.in_ok-catalog.ensures.few;
-      catalog = c.in_ok-catalog.ensures.built ∙ ap (λ m. catalog_of names m lines symbols) is_modules
-          ∙ ap (λ r. catalog_of names all_modules r symbols) c.region_lines_of-regions.ensures
-          ∙ ap (λ s. catalog_of names all_modules all_lines s) c.in_ok-symbol_lines.ensures.symbols;
-      built = c.in_ok-catalog.ensures.counted ∙ ap (λ m. counts_of names m lines symbols) is_modules
-          ∙ ap (λ r. counts_of names all_modules r symbols) c.region_lines_of-regions.ensures
-          ∙ ap (λ s. counts_of names all_modules all_lines s) c.in_ok-symbol_lines.ensures.symbols;
+      catalog = is_catalog;
+      built = is_built;
       skipped_modules = c.in_ok-module_lines.ensures.counts;
       skipped_symbols = c.in_ok-symbol_lines.ensures.counts;
-      has_regions = c.is_some.ensures ∙ still_some i.regions;
+      has_regions = c.is_some-2.ensures ∙ still_some i.regions;
+      notes = ap with_modules (c.note_of_modules.ensures ∙ ap of_modules is_catalog) ∙ ap with_kallsyms (c.note_of_kallsyms.ensures ∙ ap of_kallsyms is_built);
     }

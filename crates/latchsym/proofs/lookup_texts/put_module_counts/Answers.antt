@@ -1,5 +1,5 @@
 use Rattle.std.proofs.Common.{◌∙◌, ap, drop, take}
-use Rattle.listing.specs.ModuleListing.{module_causes, module_place}
+use Rattle.listing.specs.ModuleListing.{module_place}
 use Rattle.listing.specs.declared.module_listing.SkippedModule.TheVariants.{Long}
 use Rattle.listing.proofs.WriteLemmas.{same_text, then}
 use Rattle.latchsym.specs.LookupTexts.{module_causes_text, modules_line}

@@ -1,5 +1,5 @@
 use Rattle.std.proofs.Common.{◌∙◌, ap, drop, take}
-use Rattle.listing.specs.SymbolListing.{symbol_causes, symbol_place}
+use Rattle.listing.specs.SymbolListing.{symbol_place}
 use Rattle.listing.specs.declared.symbol_listing.SkippedSymbol.TheVariants.{Long}
 use Rattle.listing.proofs.WriteLemmas.{same_text, then}
 use Rattle.latchsym.specs.LookupTexts.{symbol_causes_text, symbols_line}

@@ -1,6 +1,8 @@
-use Rattle.std.proofs.Common.{subst}
+use Rattle.std.proofs.Common.{[], Some, subst, sym}
+use Rattle.listing.specs.Scripts.{script_of}
 use Rattle.latchsym.specs.LookupInputs.{inputs_in}
-use Rattle.latchsym.specs.Runs.{AnswersLines}
+use Rattle.latchsym.specs.RunInputs.{run_inputs_with}
+use Rattle.latchsym.specs.Runs.{AnswersLines, AnswersRun}
 use Rattle.latchsym.proofs.RunLemmas.{script_answered}
 use Rattle.latchsym.proofs.runs.run_with.Goals as goal
 
@@ -10,8 +12,9 @@ returns g c =
     let said = c.in_ok-listings.ensures.said in
     let lines = c.in-Ok.lines.items in
     let listings = c.in_ok-listings.listings in
-    script_answered contents (inputs_in c.args.inputs.now) c.args.readers c.args.script.now lines
-    c.in-Ok.ensures.lines c.args.writer.now c.run_lines.new.writer listings.catalog said.few said.catalog
-    c.run_lines.result
+    subst (AnswersRun contents c.args.readers (Some (run_inputs_with (inputs_in c.args.inputs.now) (script_of c.args.readers c.args.script.now))) [] c.args.writer.now c.run_lines-status.new.writer) (sym c.with_notes.ensures)
+    (script_answered contents (inputs_in c.args.inputs.now) c.args.readers c.args.script.now lines
+    c.in-Ok.ensures.lines c.args.writer.now c.run_lines-status.new.writer listings.catalog listings.notes said.few said.catalog
+    said.notes c.run_lines-status.result
     (subst (λ xs. AnswersLines contents listings.catalog c.args.readers xs c.args.writer.now
-    c.run_lines.new.writer c.run_lines.result) c.deref.ensures.value c.run_lines.ensures)
+    c.run_lines-status.new.writer c.run_lines-status.result) c.deref.ensures.value c.run_lines-status.ensures))

@@ -3,7 +3,7 @@ use Rattle.order_laws.specs.declared.items.Item.{Item}
 use Rattle.order_laws.specs.Orders.{half_open}
 use Rattle.order_laws.specs.Tables.{look}
 use Rattle.std.specs.Prelude.{Option, option_and_then}
-use Rattle.latchsym.specs.declared.table.Answer.{Answer}
+use Rattle.latchsym.specs.declared.table.AddressAnswer.{AddressAnswer}
 use Rattle.latchsym.proofs.WorldOpeningLemmas.{only_for_memory, right_item, still_holds}
 use Rattle.latchsym.proofs.table.look_up.Goals as goal
 
@@ -16,7 +16,7 @@ pub returns-clause-found : goal.returns-clause-found
 returns-clause-found c = λ items h.
     let same = right_item items c.args.world.now c.find_now.new.self h 0 c.in-Some.place c.in_ok-found.found c.in_ok-found.ensures.found in
     let found = same ∙ ap (option_and_then (λ place. look half_open place items)) c.in-Some.ensures in
-    ap (λ (o : Option Item). let a : Answer = record { addr = c.args.addr; item = o } in a) found
+    ap (λ (o : Option Item). let a : AddressAnswer = record { addr = c.args.addr; item = o } in a) found
 
 pub returns-clause-holds : goal.returns-clause-holds
 returns-clause-holds c = λ items h. still_holds items c.args.world.now c.find_now.new.self h 0 c.in-Some.place c.in_ok-found.found c.find_now.ensures.layout c.in_ok-found.ensures.finds

@@ -3,7 +3,6 @@ use Rattle.listing.specs.Lines.{lines_of}
 use Rattle.listing.specs.ModuleListing.{module_counts, modules_in}
 use Rattle.listing.specs.SymbolListing.{symbol_counts}
 use Rattle.modules.specs.Catalogs.{catalog_of, counts_of}
-use Rattle.modules.specs.Lines.{usual_bounds}
 use Rattle.latchsym_ffi.specs.Opening.{counts_in, shown_texts}
 use Rattle.latchsym_ffi.proofs.opening.catalog_between.Goals as goal
 
@@ -16,12 +15,13 @@ returns-clause-opened c =
     let symbol_skips = c.in_ok-symbol_lines.skipped_symbols.by_place in
     let built = c.in_ok-catalog.built in
     let is_modules = c.deref.ensures.value ∙ c.in_ok-module_lines.ensures.modules in
-    let lines = c.deref.result.now in
-    let is_built = c.in_ok-catalog.ensures.counted ∙ ap (λ n. counts_of n lines regions symbols) c.usual.ensures ∙ ap (λ m. counts_of usual_bounds m regions symbols) is_modules
-    ∙ ap (λ s. counts_of usual_bounds all_modules regions s) c.in_ok-symbol_lines.ensures.symbols in
+    let is_built = c.in_ok-catalog.ensures.counted
+    ∙ ap (λ m. counts_of texts.kernel m regions symbols) is_modules
+    ∙ ap (λ s. counts_of texts.kernel all_modules regions s) c.in_ok-symbol_lines.ensures.symbols in
     record {
-      catalog = c.in_ok-indexed.ensures ∙ c.in_ok-catalog.ensures.built ∙ ap (λ n. catalog_of n lines regions symbols) c.usual.ensures ∙ ap (λ m. catalog_of usual_bounds m regions symbols) is_modules
-          ∙ ap (λ s. catalog_of usual_bounds all_modules regions s) c.in_ok-symbol_lines.ensures.symbols;
+      catalog = c.in_ok-indexed.ensures ∙ c.in_ok-catalog.ensures.built
+          ∙ ap (λ m. catalog_of texts.kernel m regions symbols) is_modules
+          ∙ ap (λ s. catalog_of texts.kernel all_modules regions s) c.in_ok-symbol_lines.ensures.symbols;
       counts = c.counts_of-counts.ensures ∙ ap (λ m. counts_in m symbol_skips built) c.in_ok-module_lines.ensures.counts
           ∙ ap (λ s. counts_in (module_counts (lines_of texts.modules)) s built) c.in_ok-symbol_lines.ensures.counts
           ∙ ap (counts_in (module_counts (lines_of texts.modules)) (symbol_counts (lines_of texts.kallsyms))) is_built;

@@ -1,0 +1,5 @@
+use Rattle.listing.proofs.WriteLemmas.{same_text, then}
+use Rattle.latchsym.proofs.note_texts.put_missing.Goals as goal
+
+pub returns : goal.returns
+returns g c = then c.in_ok-put-2.was (then c.in_ok-put.was c.put.ensures c.put-2.ensures) (same_text c.remedy.ensures c.put-3.ensures)

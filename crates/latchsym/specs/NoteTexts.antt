@@ -1,0 +1,54 @@
+-- The lines that say what is noted of listings.
+use Rattle.std.specs.Prelude.{ℕ, List, [], ◌++◌, codes, if◌then◌else◌, Option}
+use Rattle.std.specs.Option.{option_map_or}
+use Rattle.std.specs.Str.{bytes_eq}
+use Rattle.clap.specs.Words.{Text}
+use Rattle.modules.specs.Listed.{BoundNames}
+use Rattle.latchsym.specs.declared.command_line.Job.{Job}
+use Rattle.latchsym.specs.declared.command_line.Job.TheVariants.{Trace, Lookup, Run}
+use Rattle.latchsym.specs.declared.listing_notes.ListingNote.{ListingNote}
+use Rattle.latchsym.specs.declared.listing_notes.ListingNote.TheVariants.{Gzip, AllHidden}
+use Rattle.latchsym.specs.declared.listing_notes.ListingNote.TheVariants.{LooksLikeSymbols}
+use Rattle.latchsym.specs.declared.listing_notes.ListingNote.TheVariants.{LooksLikeModules}
+use Rattle.latchsym.specs.declared.listing_notes.ListingNote.TheVariants.{LinesEndInCrLf, NoStart}
+use Rattle.latchsym.specs.declared.listing_notes.ListingNote.TheVariants.{NoEnd, OtherBoot}
+use Rattle.latchsym.specs.declared.listing_notes.ListingNotes.{ListingNotes}
+
+-- what to try where a name is missing: many kernels list no `_end`
+abbrev pub remedy_text : List ℕ → List ℕ
+remedy_text name =
+    if bytes_eq name (codes "_end") then codes "; try --kernel _stext _einittext" else []
+
+abbrev pub missing_text : List ℕ → List ℕ
+missing_text name = codes "has no symbol " ++ name ++ remedy_text name
+
+-- what a note says, where these names bound the kernel
+abbrev pub message_of : BoundNames → ListingNote → List ℕ
+message_of names Gzip = codes "is compressed by gzip; unpack it first"
+message_of names AllHidden = codes "every address is 0; read it as root (kernel.kptr_restrict)"
+message_of names LooksLikeSymbols = codes "looks like a listing of symbols"
+message_of names LooksLikeModules = codes "looks like a listing of modules"
+message_of names LinesEndInCrLf = codes "lines end in CR LF"
+message_of names NoStart = missing_text names.start
+message_of names NoEnd = missing_text names.end
+message_of names OtherBoot =
+    codes "no symbol lies in a listed module; are both listings of one boot?"
+
+-- the line of a note on the listing in this file
+abbrev pub note_line : BoundNames → Text → ListingNote → List ℕ
+note_line names file note =
+    codes "latchsym: note: " ++ file ++ codes ": " ++ message_of names note ++ codes "\n"
+
+-- the line of what may be noted of a file
+abbrev pub line_if_noted : BoundNames → Text → Option ListingNote → List ℕ
+line_if_noted names file note = option_map_or (note_line names file) note []
+
+abbrev pub lines_for : BoundNames → Text → Text → ListingNotes → List ℕ
+lines_for names modules kallsyms notes =
+    line_if_noted names modules notes.modules ++ line_if_noted names kallsyms notes.kallsyms
+
+-- the lines of a job, by the names of its files
+abbrev pub notes_text : Job → ListingNotes → List ℕ
+notes_text (Trace file) notes = []
+notes_text (Lookup job) notes = lines_for job.options.kernel job.modules.now job.kallsyms.now notes
+notes_text (Run job) notes = lines_for job.kernel job.modules.now job.kallsyms.now notes

@@ -1,0 +1,123 @@
+//! The lines that say what is noted of listings, byte for byte, with no memory taken.
+ghost use Rattle.std.specs.Prelude.{◌≡◌};
+ghost use Rattle.listing.specs.Exact.{Wrote};
+ghost use Rattle.latchsym.specs.NoteTexts.{line_if_noted, lines_for, message_of, missing_text};
+ghost use Rattle.latchsym.specs.NoteTexts.{note_line, notes_text, remedy_text};
+
+use crate::command_line::Job;
+use crate::listing_notes::{ListingNote, ListingNotes};
+use listing::{Counted, put};
+use modules::KernelBounds;
+use std::io;
+use std::io::Write;
+
+/// Writes the lines of what is noted of the listings of a job, by the names of its files.
+pub fn put_job_notes<W: Write>(
+    writer: &mut Counted<W>,
+    job: &Job<'_>,
+    notes: &ListingNotes,
+) -> io::Result<()>
+    ensures { Wrote W.contents writer.old writer.new result (notes_text job.now notes.now) }
+{
+    match job {
+        Job::Trace { .. } => Ok(()),
+        Job::Lookup(job) => {
+            let names = &job.options.kernel;
+            put_listing_notes(writer, names, job.modules, job.kallsyms, notes)
+        }
+        Job::Run(job) => put_listing_notes(writer, &job.kernel, job.modules, job.kallsyms, notes),
+    }
+}
+
+/// Writes what is noted of the listings in these files, where these names bound the kernel.
+fn put_listing_notes<W: Write>(
+    writer: &mut Counted<W>,
+    names: &KernelBounds,
+    modules: &str,
+    kallsyms: &str,
+    notes: &ListingNotes,
+) -> io::Result<()>
+    ensures { Wrote W.contents writer.old writer.new result
+        (lines_for names.now modules.now kallsyms.now notes.now) }
+{
+    put_if_noted(writer, names, modules.as_bytes(), notes.modules)?;
+    put_if_noted(writer, names, kallsyms.as_bytes(), notes.kallsyms)
+}
+
+/// Writes what is noted of the listing in this file, if something is.
+fn put_if_noted<W: Write>(
+    writer: &mut Counted<W>,
+    names: &KernelBounds,
+    file: &[u8],
+    note: Option<ListingNote>,
+) -> io::Result<()>
+    ensures { Wrote W.contents writer.old writer.new result
+        (line_if_noted names.now file.now note) }
+{
+    match note {
+        Some(note) => put_note(writer, names, file, note),
+        None => Ok(()),
+    }
+}
+
+/// Writes `latchsym: note: FILE: TEXT` and a line's end.
+fn put_note<W: Write>(
+    writer: &mut Counted<W>,
+    names: &KernelBounds,
+    file: &[u8],
+    note: ListingNote,
+) -> io::Result<()>
+    ensures { Wrote W.contents writer.old writer.new result (note_line names.now file.now note) }
+{
+    put(writer, b"latchsym: note: ")?;
+    put(writer, file)?;
+    put(writer, b": ")?;
+    put_message(writer, names, note)?;
+    put(writer, b"\n")
+}
+
+/// Writes what a note says.
+fn put_message<W: Write>(
+    writer: &mut Counted<W>,
+    names: &KernelBounds,
+    note: ListingNote,
+) -> io::Result<()>
+    ensures { Wrote W.contents writer.old writer.new result (message_of names.now note) }
+{
+    match note {
+        ListingNote::Gzip => put(writer, b"is compressed by gzip; unpack it first"),
+        ListingNote::AllHidden => put(
+            writer,
+            b"every address is 0; read it as root (kernel.kptr_restrict)",
+        ),
+        ListingNote::LooksLikeSymbols => put(writer, b"looks like a listing of symbols"),
+        ListingNote::LooksLikeModules => put(writer, b"looks like a listing of modules"),
+        ListingNote::LinesEndInCrLf => put(writer, b"lines end in CR LF"),
+        ListingNote::NoStart => put_missing(writer, names.start),
+        ListingNote::NoEnd => put_missing(writer, names.end),
+        ListingNote::OtherBoot => put(
+            writer,
+            b"no symbol lies in a listed module; are both listings of one boot?",
+        ),
+    }
+}
+
+/// Writes that a symbol of this name is missing, and what to try.
+fn put_missing<W: Write>(writer: &mut Counted<W>, name: &[u8]) -> io::Result<()>
+    ensures { Wrote W.contents writer.old writer.new result (missing_text name.now) }
+{
+    put(writer, b"has no symbol ")?;
+    put(writer, name)?;
+    put(writer, remedy(name))
+}
+
+/// What to try where a symbol of this name is missing.
+fn remedy(name: &[u8]) -> &'static [u8]
+    ensures { result.now ≡ remedy_text name.now }
+{
+    if name == b"_end".as_slice() {
+        b"; try --kernel _stext _einittext"
+    } else {
+        b""
+    }
+}
