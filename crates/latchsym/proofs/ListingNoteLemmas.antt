@@ -1,15 +1,20 @@
 -- Where a note on a listing does not apply.
-use Rattle.std.proofs.Common.{◌≡◌, ◌<◌, ℕ, zero, suc, ◌+◌, Bool, true, false, not, ◌&&◌, ◌||◌, cond, nat_lt, List, [], ◌∷◌, length, take, Option, Some, None, refl, sym, ap, ◌∙◌, arith}
-use Rattle.std.specs.Prelude.{find, is_none, is_some, nat_eq, slice_get}
+use Rattle.std.proofs.Common.{◌≡◌, ◌<◌, ℕ, zero, suc, ◌+◌, Bool, true, false, not, ◌&&◌, ◌||◌, cond, nat_lt, List, [], ◌∷◌, length, map, take, Option, Some, None, refl, sym, ap, ◌∙◌, arith}
+use Rattle.std.specs.Borrow.{Bor}
+use Rattle.std.specs.Prelude.{find, is_none, is_some, nat_eq, slice_get, unwrap_or}
 use Rattle.std.specs.List.{list_any}
-use Rattle.std.specs.Option.{option_and_then, option_map}
+use Rattle.std.specs.Option.{option_and_then, option_copied, option_map}
 use Rattle.std.specs.Str.{bytes_eq}
 use Rattle.std.proofs.lemmas.Bool.{lt-ltb, ne_eqb, or_parts}
 use Rattle.std.proofs.lemmas.List.{take_all}
 use Rattle.listing.specs.Looks.{is_kernel_symbol, is_of_kernel}
 use Rattle.modules.specs.Entries.{CatalogEntries, ModuleEntry}
-use Rattle.modules.specs.Lines.{built_in_region, first_address}
-use Rattle.modules.specs.Listed.{BoundNames, ListedSymbol}
+use Rattle.modules.specs.Accepted.{accepted_of, none_yet}
+use Rattle.modules.specs.Catalogs.{built_in_of, catalog_of}
+use Rattle.modules.specs.Lines.{bounds_for, built_in_region, first_address, usual_bounds_of}
+use Rattle.modules.specs.Listed.{BoundNames, ListedModule, ListedRegion, ListedSymbol}
+use Rattle.modules.specs.Placed.{placed_line}
+use Rattle.modules.proofs.SoundnessLemmas.{built_in_kept}
 use Rattle.latchsym.specs.declared.listing_notes.ListingNote.TheVariants.{NoEnd, NoStart}
 use Rattle.latchsym.specs.ListingNotes.{has_symbols, lacks_symbol, lacks_symbols}
 
@@ -49,6 +54,28 @@ nothing_lacked names symbols some =
     let named = kernel_named names symbols some in
     sym (ap (λ b. cond b (Some NoStart) (cond (lacks_symbol names.end symbols) (Some NoEnd) None)) named.0
     ∙ ap (λ b. cond b (Some NoEnd) None) named.1)
+
+-- what is there is there as a copy
+pub copied_some : {T : Type 0} (o : Option (Bor T)) → is_some o ≡ is_some (option_copied o)
+copied_some None = refl
+copied_some (Some t) = refl
+
+-- the names that are given, or else those of the listing
+pub bounds_are : (o : Option (Bor BoundNames)) (usual names : Bor BoundNames) (symbols : List ListedSymbol) → names ≡ unwrap_or o usual → usual.now ≡ usual_bounds_of symbols
+    → names.now ≡ bounds_for (option_copied o) symbols
+bounds_are None usual names symbols is own = ap (λ n. n.now) is ∙ own
+bounds_are (Some n) usual names symbols is own = ap (λ n. n.now) is
+
+-- the kernel itself is in a catalog where it has a region
+has_its_region : (region : Option (ℕ × ℕ)) (symbols : List ListedSymbol) → is_some (built_in_of region symbols) ≡ is_some region
+has_its_region None symbols = refl
+has_its_region (Some r) symbols = refl
+
+pub kernel_of_listings : (names : BoundNames) (modules : List ListedModule) (regions : List ListedRegion) (symbols : List ListedSymbol)
+    → is_some (catalog_of names modules regions symbols).built_in ≡ is_some (built_in_region names symbols)
+kernel_of_listings names modules regions symbols =
+    let region = built_in_region names symbols in
+    has_its_region (accepted_of region regions modules).built_in symbols ∙ ap (λ o. is_some o) (built_in_kept (none_yet region) (map (placed_line regions) modules))
 
 -- ---- the symbols of modules
 

@@ -12,6 +12,8 @@ use Rattle.latchsym.specs.ListingNotes.{all_notes, is_of_kallsyms, is_of_modules
 use Rattle.latchsym.specs.LookupInputs.{catalog_in, counts_in, inputs_in, region_lines_of_inputs}
 use Rattle.latchsym.specs.declared.listing_notes.ListingNote.{ListingNote}
 use Rattle.latchsym.specs.declared.listing_notes.ListingNotes.{ListingNotes}
+use Rattle.modules.specs.Lines.{built_in_region}
+use Rattle.latchsym.proofs.ListingNoteLemmas.{copied_some, kernel_of_listings}
 use Rattle.latchsym.proofs.lookup.listings_in.Goals as goal
 
 still_some : (o : Option (Vec ListedRegion)) → is_some o ≡ is_some (option_map (λ lines. lines.items) o)
@@ -49,3 +51,10 @@ returns-clause-said c =
       has_regions = c.is_some-2.ensures ∙ still_some i.regions;
       notes = ap with_modules (c.note_of_modules.ensures ∙ ap of_modules is_catalog) ∙ ap with_kallsyms (c.note_of_kallsyms.ensures ∙ ap of_kallsyms is_built);
     }
+
+pub note_of_kallsyms-requires-clause-kernel : goal.note_of_kallsyms-requires-clause-kernel
+note_of_kallsyms-requires-clause-kernel c =
+    let names = c.args.inputs.now.options.now.kernel in
+    c.is_some.ensures ∙ copied_some c.module.result ∙ ap is_some (c.module.ensures ∙ ap (λ k. k.built_in) c.in_ok-catalog.ensures.built)
+    ∙ kernel_of_listings names c.deref.result.now c.region_lines_of-regions.result.now c.in_ok-symbol_lines.symbol_lines
+    ∙ ap (λ s. is_some (built_in_region names s)) c.in_ok-symbol_lines.ensures.symbols
