@@ -51,17 +51,38 @@ static void read_addresses(const char *folder) {
     free(text);
 }
 
-/* What one of ours found: the offset and the lengths, so that no call can be left out. */
-static double find_ours(struct latchsym_catalog *catalog, size_t name_room, size_t module_room) {
+/* What ours find, with copies of the names: the offset and the length, so that no call can be left
+ * out. */
+static double copy_ours(struct latchsym_catalog *catalog) {
     double start = now();
     uint64_t total = 0;
     for (size_t i = 0; i < count; i++) {
-        struct latchsym_symbol found;
-        if (!latchsym_catalog_find(catalog, addresses[i], &found, name, name_room, module,
-                                   module_room))
+        struct latchsym_answer found;
+        if (!latchsym_catalog_name(catalog, addresses[i], &found, name, NAME, module, MODULE))
             total += found.offset + found.name_len;
     }
     sum += total;
+    return now() - start;
+}
+
+/* The same, with the places of the names. */
+static double find_ours(struct latchsym_catalog *catalog) {
+    double start = now();
+    struct latchsym_symbol found = LATCHSYM_SYMBOL_INIT;
+    uint64_t total = 0;
+    for (size_t i = 0; i < count; i++)
+        if (!latchsym_catalog_find(catalog, addresses[i], &found))
+            total += found.offset + found.name.len;
+    sum += total;
+    return now() - start;
+}
+
+/* The same of all addresses in one call, without names. */
+static double find_many_ours(struct latchsym_catalog *catalog) {
+    static struct latchsym_told told[MOST_ADDRESSES];
+    double start = now();
+    if (latchsym_catalog_find_many(catalog, addresses, count, told, count)) exit(1);
+    for (size_t i = 0; i < count; i++) sum += told[i].answer.offset;
     return now() - start;
 }
 
@@ -96,37 +117,43 @@ static double median(double *all, int rounds) {
 }
 
 int main(int argc, char **argv) {
-    static double opened[MOST_ROUNDS], copies[MOST_ROUNDS], plain[MOST_ROUNDS];
+    static double opened[MOST_ROUNDS], copies[MOST_ROUNDS], plain[MOST_ROUNDS], many[MOST_ROUNDS];
     int rounds = argc > 2 ? atoi(argv[2]) : 0;
     if (rounds < 1 || rounds > MOST_ROUNDS) return 2;
     read_addresses(argv[1]);
     for (int round = 0; round < rounds; round++) {
         size_t modules_len, kallsyms_len;
         struct latchsym_catalog catalog = {0};
+        struct latchsym_listings listings = LATCHSYM_LISTINGS_INIT;
         struct latchsym_counts counts;
+        uint64_t bad_line;
         double start = now();
         uint8_t *modules = read_file(argv[1], "modules.txt", &modules_len);
         uint8_t *kallsyms = read_file(argv[1], "kallsyms.txt", &kallsyms_len);
-        if (latchsym_catalog_open(modules, modules_len, kallsyms, kallsyms_len, &catalog, &counts))
-            return 1;
+        listings.modules = (struct latchsym_place){modules, modules_len};
+        listings.kallsyms = (struct latchsym_place){kallsyms, kallsyms_len};
+        listings.has_modules = 1;
+        if (latchsym_catalog_open(&listings, &catalog, &counts, &bad_line)) return 1;
         double ours = now() - start;
         start = now();
         void *cache = bcc_symcache_new(-1, 0);
         struct bcc_symbol first;
         bcc_symcache_resolve_no_demangle(cache, addresses[0], &first); /* it reads at its first */
         opened[round] = ours / (now() - start);
-        double mine = find_ours(&catalog, NAME, MODULE);
+        double mine = copy_ours(&catalog);
         copies[round] = mine / find_theirs(cache, 1);
-        mine = find_ours(&catalog, 0, 0);
-        double theirs = find_theirs(cache, 0);
+        mine = find_ours(&catalog);
+        double theirs = find_theirs(cache, 0), all = find_many_ours(&catalog);
         plain[round] = mine / theirs;
-        fprintf(stderr, "round %d: %.0f ns and %.0f ns a find without names\n", round,
-                1e9 * mine / count, 1e9 * theirs / count);
+        many[round] = all / theirs;
+        fprintf(stderr,
+                "round %d: %.0f ns, in one call %.0f ns, and %.0f ns a find without copies\n", round, 1e9 * mine / count, 1e9 * all / count, 1e9 * theirs / count);
         bcc_free_symcache(cache, -1);
         latchsym_catalog_close(&catalog);
         free(modules);
         free(kallsyms);
     }
-    printf("open %.2f, find with names %.2f, find without names %.2f times libbcc's time\n",
-           median(opened, rounds), median(copies, rounds), median(plain, rounds));
+    printf("open %.2f, find with copies %.2f, without %.2f, in one call %.2f times libbcc's time\n",
+           median(opened, rounds), median(copies, rounds), median(plain, rounds),
+           median(many, rounds));
 }

@@ -49,29 +49,37 @@ static_assert(sizeof(struct latchsym_writer) == sizeof(struct latchsym_handle), 
 static_assert(sizeof(struct latchsym_reader) == sizeof(struct latchsym_handle), "one handle");
 #endif
 
-/* What calls return. Numbers from 1 to 14 of a call that opens, begins or enlarges are refusals. */
+/* The version of this header: 10000 of each major, 100 of each minor and 1 of each patch number.
+ * What a program of one major version was compiled with, each later minor version gives it too. */
+#define LATCHSYM_VERSION 10000
+
+/* What calls return. A number means one thing, whatever call returns it. Those below 20 are
+ * refusals, and are the numbers that the program prints. */
 enum {
-    LATCHSYM_DONE = 0,      /* done; of a search: found */
-    LATCHSYM_NO_SYMBOL = 1, /* of a search for a name: in a region, but no symbol at or below */
-    LATCHSYM_NOTHING = 2,   /* of a search: nothing is there */
-    LATCHSYM_RETRY = 3,     /* of a search by a reader: the writer flipped meanwhile, try again */
-    LATCHSYM_AT_END = 0,    /* of a step: no update is pending, or it is at its end */
-    LATCHSYM_FLIP = 1,      /* of a step: a flip of the sequence; the second shows the update */
-    LATCHSYM_STORE = 2,     /* of a step: another word was stored */
-    LATCHSYM_BAD_ITEM = 1,  /* refusals: the item is empty */
-    LATCHSYM_OVERLAP = 2,   /* the item overlaps one of the table */
+    LATCHSYM_DONE = 0,         /* done; of a search: found; of a step: no update is pending */
+    LATCHSYM_BAD_ITEM = 1,     /* the item is empty */
+    LATCHSYM_OVERLAP = 2,      /* the item overlaps one of the table */
     LATCHSYM_NO_SUCH_ITEM = 3, /* no item begins there */
-    LATCHSYM_FULL = 4,      /* the table has as many items as nodes */
+    LATCHSYM_FULL = 4,         /* the table has as many items as nodes */
     LATCHSYM_UPDATE_IN_HAND = 5, /* an update has begun and is not at its end */
     LATCHSYM_SEQUENCE_SPENT = 6, /* after 2^63 - 1 updates */
     LATCHSYM_OUT_OF_MEMORY = 7,
-    LATCHSYM_BAD_CAPACITY = 10, /* nodes not 1 to 65536 or fewer than before; readers not 1 to 64 */
+    LATCHSYM_BAD_CAPACITY = 10, /* nodes or readers are not in their range */
     LATCHSYM_TOO_MANY_REGIONS = 14, /* more than 7 region lines have one name */
     LATCHSYM_BAD_LINE = 15,         /* a line of the listing of regions is not one */
-    LATCHSYM_BAD_HANDLE = 101 /* closed where open is wanted, the other way round, or of others */
+    LATCHSYM_NO_SYMBOL = 21, /* of a search for a name: in a region, but no symbol at or below */
+    LATCHSYM_NOTHING = 22,   /* of a search: nothing is there */
+    LATCHSYM_RETRY = 23,     /* of a search by a reader: the writer flipped meanwhile, try again */
+    LATCHSYM_FLIP = 31,      /* of a step: a flip of the sequence; the second shows the update */
+    LATCHSYM_STORE = 32,     /* of a step: another word was stored */
+    LATCHSYM_BAD_HANDLE = 101, /* closed where open is wanted, the other way round, or of others */
+    LATCHSYM_BAD_LENGTH = 102, /* not as much room as there are addresses */
+    LATCHSYM_BAD_LISTINGS = 103 /* of a struct of listings: not as this version has it */
 };
 
-/* How many lines of each listing went where, as `latchsym lookup` prints them. */
+/* How many lines of each listing went where, as `latchsym lookup` prints them. Without a listing of
+ * modules: how many modules and regions of these the symbols have, and 0 of what is said of lines
+ * of modules and of regions. */
 struct latchsym_counts {
     uint64_t modules, modules_hidden, modules_empty, modules_wraps, modules_overlap, modules_double,
         modules_long, modules_malformed;
@@ -79,13 +87,30 @@ struct latchsym_counts {
     uint64_t regions, regions_stray;
 };
 
-/* What is known of an address: the module's number (0 is the kernel itself), how far the address
- * lies above the symbol and how far the symbol reaches, both in bytes, and the lengths of the two
- * names in bytes. */
+/* Where bytes lie, and how many they are. The pointer is never null, also before a call writes it:
+ * a struct with places begins as its LATCHSYM_.._INIT says, and once more so where the bytes of a
+ * place in it are gone. */
+struct latchsym_place { const uint8_t *at; size_t len; };
+#define LATCHSYM_PLACE_INIT { (const uint8_t *)"", 0 }
+
+/* What is known of an address: the module's number (0 is the kernel itself, named `-`), how far the
+ * address lies above the symbol and how far the symbol reaches, both in bytes, and the two names.
+ * These are where they lie in the caller's listings, without a 0 byte at the end. */
 struct latchsym_symbol {
     uint64_t module_number, offset, size;
-    size_t name_len, module_len; /* of the whole names: more than the room, where that is shorter */
+    struct latchsym_place name, module;
 };
+#define LATCHSYM_SYMBOL_INIT { 0, 0, 0, LATCHSYM_PLACE_INIT, LATCHSYM_PLACE_INIT }
+
+/* The same with the lengths of the names alone: those of the whole names, which may be more than
+ * there was room for. */
+struct latchsym_answer {
+    uint64_t module_number, offset, size;
+    size_t name_len, module_len;
+};
+
+/* What is told of one of several addresses, and the number that a search for it alone returns. */
+struct latchsym_told { struct latchsym_answer answer; uint32_t code; };
 
 /* Addresses from a up to b, which is excluded, and a number of the caller's. */
 struct latchsym_item { uint64_t a, b, tag; };
@@ -94,42 +119,118 @@ struct latchsym_item { uint64_t a, b, tag; };
  * shown. */
 struct latchsym_found { uint64_t a, b, tag, generation; };
 
+/* ---- numbers ---- */
+
+/* Where the text of a number lies, with a 0 at its end, which the length counts. It stays there. A
+ * number that no call returns has a text that says so. Handler. */
+void latchsym_place_of_text(uint32_t number, struct latchsym_place *out);
+
+/* The text of a number, as a string of C. Handler. */
+static inline const char *latchsym_text(uint32_t number) {
+    struct latchsym_place place = LATCHSYM_PLACE_INIT;
+    latchsym_place_of_text(number, &place);
+    return (const char *)place.at;
+}
+
+/* The version of the library that runs, where LATCHSYM_VERSION is that of the header. Handler. */
+uint32_t latchsym_version(void);
+
 /* ---- the catalog ---- */
 
-/* Opens the catalog of listings in the forms of /proc/modules and /proc/kallsyms, in a closed
- * handle. 0, LATCHSYM_OUT_OF_MEMORY or LATCHSYM_BAD_HANDLE. Counts are written at 0 alone. */
-uint32_t latchsym_catalog_open(const uint8_t *modules, size_t modules_len, const uint8_t *kallsyms,
-                               size_t kallsyms_len, struct latchsym_catalog *out,
-                               struct latchsym_counts *counts);
+/* The listings that a catalog is opened of. It begins as LATCHSYM_LISTINGS_INIT says, which gives
+ * none, and a later version of the library may have further fields at its end. */
+struct latchsym_listings {
+    size_t size;                    /* of this struct */
+    struct latchsym_place kallsyms; /* in the form of /proc/kallsyms */
+    struct latchsym_place modules;  /* in the form of /proc/modules, where has_modules is not 0 */
+    struct latchsym_place regions;  /* where modules lie (docs/FORMATS.md), if it has a byte */
+    struct latchsym_place start;    /* the names of the symbols at the kernel's first address and */
+    struct latchsym_place end;      /* at its end, which is excluded, if one of them has a byte */
+    uint32_t has_modules;           /* 0: modules and where they lie come from the symbols alone */
+};
+#define LATCHSYM_LISTINGS_INIT                                                                     \
+    { sizeof(struct latchsym_listings), LATCHSYM_PLACE_INIT, LATCHSYM_PLACE_INIT,                  \
+      LATCHSYM_PLACE_INIT, LATCHSYM_PLACE_INIT, LATCHSYM_PLACE_INIT, 0 }
 
-/* The same with a listing of regions (docs/FORMATS.md). Also LATCHSYM_TOO_MANY_REGIONS, and
- * LATCHSYM_BAD_LINE with the number of the first line that is not one, which is written then
- * alone. */
-uint32_t latchsym_catalog_open_with_regions(const uint8_t *modules, size_t modules_len,
-                                            const uint8_t *kallsyms, size_t kallsyms_len,
-                                            const uint8_t *regions, size_t regions_len,
-                                            struct latchsym_catalog *out,
-                                            struct latchsym_counts *counts, uint64_t *bad_line);
+/* Opens the catalog of listings in a closed handle.
+ *
+ * Without a listing of modules these are the owners that the symbols name, [bpf] and the like among
+ * them, and an address is a module's where the symbol below it is and lies less than 1 MiB below.
+ * So each address goes to the symbol that is nearest; a listing of modules says less well where
+ * they lie, since from Linux 6.4 on it gives the start of one memory and the size of all.
+ *
+ * The kernel itself lies from `start` up to `end`. Where neither is given these are _stext, and
+ * _end or, where no symbol has that name, _einittext or else _etext.
+ *
+ * 0, LATCHSYM_OUT_OF_MEMORY, LATCHSYM_BAD_HANDLE, or LATCHSYM_BAD_LISTINGS where the size is not
+ * that of this version, or there are bytes of modules or of regions and has_modules is 0. Of a
+ * listing of regions also LATCHSYM_TOO_MANY_REGIONS, and LATCHSYM_BAD_LINE with the number of the
+ * first line that is not one, which is written then alone. Counts are written at 0 alone. */
+uint32_t latchsym_catalog_open(const struct latchsym_listings *, struct latchsym_catalog *out,
+                               struct latchsym_counts *counts, uint64_t *bad_line);
 
-/* The same, with the names of the symbols at the kernel's first address and at its end, which is
- * excluded, in place of _stext and _end: a kernel that lists no _end has an _einittext. The listing
- * of regions is none where regions_len is 0. */
-uint32_t latchsym_catalog_open_between(const uint8_t *modules, size_t modules_len,
-                                       const uint8_t *kallsyms, size_t kallsyms_len,
-                                       const uint8_t *regions, size_t regions_len,
-                                       const uint8_t *start, size_t start_len, const uint8_t *end,
-                                       size_t end_len, struct latchsym_catalog *out,
-                                       struct latchsym_counts *counts, uint64_t *bad_line);
-
-/* The symbol of an address, as `latchsym lookup` prints it. As many bytes of each name are copied
- * as there is room for, without a 0 byte at the end. The lengths are those of the whole names: read
- * no more of a name than its room has. Rooms of 512 bytes hold every name of a kernel. 0,
- * LATCHSYM_NO_SYMBOL (the module alone is told), LATCHSYM_NOTHING (all numbers are 0) or
- * LATCHSYM_BAD_HANDLE (nothing is written). The time is logarithmic in regions and symbols.
- * Handler. */
+/* The symbol of an address, as `latchsym lookup` prints it; nothing is copied. 0,
+ * LATCHSYM_NO_SYMBOL (the module alone is told), LATCHSYM_NOTHING (all numbers are 0, and no name
+ * has a byte) or LATCHSYM_BAD_HANDLE (nothing is written). The time is logarithmic in regions and
+ * symbols. Handler. */
 uint32_t latchsym_catalog_find(struct latchsym_catalog *, uint64_t addr,
-                               struct latchsym_symbol *out, uint8_t *name, size_t name_room,
+                               struct latchsym_symbol *out);
+
+/* The same of a return address, as `latchsym lookup --callers` prints it. The call before it may be
+ * the last instruction of its function: so the symbol is that of the address one byte lower, and
+ * the offset is that of the return address, which may equal the size. Handler. */
+uint32_t latchsym_catalog_find_caller(struct latchsym_catalog *, uint64_t addr,
+                                      struct latchsym_symbol *out);
+
+/* The same of many addresses in one call, in any order: out[i] is told of addresses[i]. 0,
+ * LATCHSYM_BAD_HANDLE or, where there are not as many rooms as addresses, LATCHSYM_BAD_LENGTH; each
+ * but 0 writes nothing. For the names call latchsym_catalog_find once more for those that are
+ * shown: the addresses of one symbol are those with one `addresses[i] - out[i].answer.offset`.
+ * Handler. */
+uint32_t latchsym_catalog_find_many(struct latchsym_catalog *, const uint64_t *addresses,
+                                    size_t addresses_len, struct latchsym_told *out,
+                                    size_t out_len);
+
+/* The symbol of an address, with copies of the names: as many bytes of each as there is room for,
+ * without a 0 byte at the end. Read no more of a name than its room has. Rooms of 512 bytes hold
+ * every name of a kernel. The numbers are those of latchsym_catalog_find. Handler. */
+uint32_t latchsym_catalog_name(struct latchsym_catalog *, uint64_t addr,
+                               struct latchsym_answer *out, uint8_t *name, size_t name_room,
                                uint8_t *module, size_t module_room);
+
+/* How many modules the catalog has. They have the numbers from 1 on, in the order of their lines,
+ * or of their first symbols where no listing of modules was given; the kernel itself is number 0,
+ * where it has a region. 0 or LATCHSYM_BAD_HANDLE. Handler. */
+uint32_t latchsym_catalog_modules(struct latchsym_catalog *, uint64_t *count);
+
+/* A module: its name (`-` is the kernel's), and how many regions and symbols it has. */
+struct latchsym_module { struct latchsym_place name; size_t regions, symbols; };
+#define LATCHSYM_MODULE_INIT { LATCHSYM_PLACE_INIT, 0, 0 }
+
+/* Addresses from a up to b, which is excluded; is_init is 1 where only the start of the module
+ * needs them, and else 0. */
+struct latchsym_region { uint64_t a, b; uint32_t is_init; };
+
+/* A symbol of a module. */
+struct latchsym_entry { uint64_t addr; struct latchsym_place name; };
+#define LATCHSYM_ENTRY_INIT { 0, LATCHSYM_PLACE_INIT }
+
+/* The module of a number; the region of it at a place from 0 on, in the order of the listing that
+ * has them; and the symbol of it at a place, in the order listed. 0, LATCHSYM_NOTHING where there
+ * is none (nothing is written), or LATCHSYM_BAD_HANDLE. Handler. */
+uint32_t latchsym_catalog_module(struct latchsym_catalog *, uint64_t number,
+                                 struct latchsym_module *out);
+uint32_t latchsym_catalog_region(struct latchsym_catalog *, uint64_t number, size_t place,
+                                 struct latchsym_region *out);
+uint32_t latchsym_catalog_symbol(struct latchsym_catalog *, uint64_t number, size_t place,
+                                 struct latchsym_entry *out);
+
+/* From a name to addresses: the place of the first symbol of a module, from a place on, that has
+ * this name. Ask again from the place behind it for the next of the name. The symbols are gone
+ * through one by one. 0, LATCHSYM_NOTHING (nothing is written) or LATCHSYM_BAD_HANDLE. Handler. */
+uint32_t latchsym_catalog_place_of_name(struct latchsym_catalog *, uint64_t number,
+                                        const uint8_t *name, size_t name_len, size_t from,
+                                        size_t *place);
 
 /* Opens another handle of the same catalog, for another thread. 0, LATCHSYM_OUT_OF_MEMORY or
  * LATCHSYM_BAD_HANDLE. */
@@ -146,6 +247,12 @@ void latchsym_catalog_close(struct latchsym_catalog *);
 uint32_t latchsym_table_open(uint32_t nodes, struct latchsym_writer *,
                              struct latchsym_reader *readers, size_t count);
 
+/* Opens one more reader of the writer's table in a closed handle, also amid an update: it finds
+ * what the others find. 0, LATCHSYM_BAD_CAPACITY where the table has 65536 readers already,
+ * LATCHSYM_OUT_OF_MEMORY or LATCHSYM_BAD_HANDLE. A reader that is closed still counts for this and
+ * for latchsym_table_enlarge. */
+uint32_t latchsym_writer_add_reader(struct latchsym_writer *, struct latchsym_reader *out);
+
 /* Begin an update: put an item in, take the item out that begins at a, or do several of
  * both at once. Readers see it from its second flip on, whole. 0, one of the refusals 1 to 7, or
  * LATCHSYM_BAD_HANDLE. */
@@ -155,18 +262,18 @@ uint32_t latchsym_writer_begin_batch(struct latchsym_writer *, const uint64_t *e
                                      size_t erase_len, const struct latchsym_item *insert,
                                      size_t insert_len);
 
-/* One step of the pending update: LATCHSYM_AT_END, LATCHSYM_FLIP, LATCHSYM_STORE or
- * LATCHSYM_BAD_HANDLE. Handler, where no other call on the writer runs. */
+/* One step of the pending update: LATCHSYM_FLIP or LATCHSYM_STORE; 0 where no update is pending, or
+ * it is at its end; or LATCHSYM_BAD_HANDLE. Handler, where no other call on the writer runs. */
 uint32_t latchsym_writer_step(struct latchsym_writer *);
 
 /* The steps that are left, and the generation after them. 0 or LATCHSYM_BAD_HANDLE. */
 uint32_t latchsym_writer_finish(struct latchsym_writer *, uint64_t *generation);
 
 /* Goes on with so many nodes, no fewer than before and at most 65536, in new words: the items and
- * the generation stay. Takes a handle for each reader that the table was opened with, all open;
- * they go on in the new words. 0, LATCHSYM_UPDATE_IN_HAND, LATCHSYM_BAD_CAPACITY,
- * LATCHSYM_OUT_OF_MEMORY, or LATCHSYM_BAD_HANDLE where one of the handles is closed, or they are
- * not as many as the readers are.
+ * the generation stay. Takes a handle for each reader that the table was opened with or that was
+ * added to it, all open; they go on in the new words. 0, LATCHSYM_UPDATE_IN_HAND,
+ * LATCHSYM_BAD_CAPACITY, LATCHSYM_OUT_OF_MEMORY, or LATCHSYM_BAD_HANDLE where one of the handles is
+ * closed, or they are not as many as the readers are.
  *
  * It is not checked whether a reader is one of this table. One of another table goes over to this
  * one, and one of this table that is not given keeps the table as it was. */
@@ -189,7 +296,7 @@ uint32_t latchsym_reader_try_find(struct latchsym_reader *, uint64_t addr,
  * Handler. */
 uint32_t latchsym_reader_find_name(struct latchsym_reader *, struct latchsym_catalog *,
                                    uint64_t addr, struct latchsym_found *item,
-                                   struct latchsym_symbol *out, uint8_t *name, size_t name_room,
+                                   struct latchsym_answer *out, uint8_t *name, size_t name_room,
                                    uint8_t *module, size_t module_room);
 
 /* Closes a reader. */

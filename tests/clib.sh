@@ -1,9 +1,10 @@
 #!/usr/bin/env bash
-# Builds the library for C, and runs the programs of tests/c and examples/c with it: the table on
-# threads and beside signals, each request for memory refused, and the listings of examples/ as
+# Builds the library for C, and runs the programs of tests/c and examples/c with it: the text of each
+# number, what is found of addresses, the table on threads and beside signals, readers that are
+# added, each request for memory refused, code that is sampled while it comes and goes, and the listings of examples/ as
 # `latchsym lookup` answers; under valgrind and sanitizers where these are there, and names of 700
-# bytes in rooms of 512 under gcc's own for addresses. Looks at the object code that a call for
-# signal handlers takes no memory. Needs gcc.
+# bytes under gcc's own for addresses. Looks at the object code that a call for signal handlers
+# takes no memory. Needs gcc.
 set -euo pipefail
 . "$(dirname "$0")/program.sh"
 . "$top/tests/library.sh"
@@ -14,11 +15,15 @@ compile() {
     gcc -std=gnu11 -Wall -Wextra -Werror -O2 -I"$top/include" "$top/tests/c/$1.c" "$library" -lpthread -o "$work/$1" "${@:2}"
 }
 
-for name in table refused; do
+for name in numbers find table adding refused; do
     compile $name
     "$work/$name"
 done
 compile table -g
+compile adding -g
+if compile find -g -fsanitize=address,undefined 2>/dev/null; then
+    "$work/find"
+fi
 if command -v valgrind >/dev/null; then
     valgrind -q --error-exitcode=1 --leak-check=full "$work/refused"
 fi
@@ -26,12 +31,21 @@ for sanitizer in address thread; do
     if compile table -g -fsanitize=$sanitizer 2>/dev/null; then
         "$work/table" 0
     fi
+    if compile adding -g -fsanitize=$sanitizer 2>/dev/null; then
+        "$work/adding"
+    fi
 done
 
 echo '#include <latchsym.h>
 int main() { latchsym_catalog c = {}; latchsym_catalog_close(&c); }' >"$work/guards.cc"
-g++ -Wall -Wextra -Werror -I"$top/include" "$work/guards.cc" "$library" -o "$work/guards"
+g++ -Wall -Wextra -Wpedantic -Werror -I"$top/include" "$work/guards.cc" "$library" -o "$work/guards"
 "$work/guards"
+echo '#include <latchsym.h>
+int main(void) { struct latchsym_listings none = LATCHSYM_LISTINGS_INIT; return none.size != sizeof none || !latchsym_text(0); }' >"$work/guards.c"
+for standard in c99 c11 c17; do
+    gcc -std=$standard -Wall -Wextra -Wpedantic -Werror -I"$top/include" "$work/guards.c" "$library" -o "$work/guards"
+    "$work/guards"
+done
 
 # watched SOURCE PROGRAM: compiled with the static library, under the sanitizer for addresses
 watched() {
@@ -46,23 +60,30 @@ for name in basic causes empty; do
     grep '^0x' $name.expected | cmp "$work/lines" -
 done
 
-# names of 700 bytes, of which a room holds 512: those of a module, and the sample's symbol
+# code that comes and goes, on threads that signals sample: as it is, and under two sanitizers
+profiler() {
+    gcc -std=gnu11 -Wall -Wextra -Werror -O2 -g -I"$top/include" "$top/examples/c/profiler.c" "$library" -lpthread -o "$work/profiler" "$@"
+}
+profiler
+"$work/profiler"
+for sanitizer in address thread; do
+    if profiler -fsanitize=$sanitizer 2>/dev/null; then
+        "$work/profiler"
+    fi
+done
+
+# names of 700 bytes: those of a module and of a symbol
 long=$(printf '%0700d' 0)
-room=$(printf '%0512d' 0)
 echo "m$long 4096 1 - Live 0xffffffffc0000000" >"$work/modules"
 printf 'ffffffffc0000010 t %s\t[%s]\n' "s$long" "m$long" >"$work/kallsyms"
 "$work/lookup" "$work/modules" "$work/kallsyms" 0xffffffffc0000018 >"$work/lines"
-echo "0xffffffffc0000018 s${room%0}+0x8/0xff0 [m${room%0}]" | cmp "$work/lines" -
-{
-    printf '#include <latchsym.h>\n#include <stdio.h>\n#include <string.h>\n'
-    printf 'static const uint8_t modules[] = "%s", kallsyms[] = "%s";\n' "$(cat "$work/modules")\n" "$(cat "$work/kallsyms")\n"
-    printf 'enum { modules_len = sizeof modules - 1, kallsyms_len = sizeof kallsyms - 1 };\nint main(void) {\n'
-    sed -n '/^## An example/,/^The listings/s/^    //p' "$top/docs/C_LIBRARY.md"
-    printf '}\n'
-} >"$work/sample.c"
+echo "0xffffffffc0000018 s$long+0x8/0xff0 [m$long]" | cmp "$work/lines" -
+# the program that the page begins with, over this listing in place of the kernel's
+sed -n '/^    #include <latchsym.h>/,/^    }$/s/^    //p' "$top/docs/C_LIBRARY.md" |
+    sed "s|/proc/kallsyms|$work/kallsyms|" >"$work/sample.c"
 watched "$work/sample.c" "$work/sample"
-"$work/sample" >"$work/lines"
-echo "s${room%0}+0x8" | cmp "$work/lines" -
+echo 0xffffffffc0000018 nothing | "$work/sample" >"$work/lines"
+echo "s$long+0x8" | cmp "$work/lines" -
 
 if command -v python3 >/dev/null; then
     python3 "$top/tests/c/names.py" "$shared" "$top/examples/listings"
@@ -77,7 +98,7 @@ objdump -dr --no-show-raw-insn "$top/crates/latchsym_ffi/out/liblatchsym_ffi.a" 
         edges[from] = edges[from] "\n" to
     }
     END {
-        count = split("latchsym_catalog_find latchsym_writer_step latchsym_reader_try_find latchsym_reader_find_name", list, " ")
+        count = split("latchsym_catalog_find latchsym_catalog_find_caller latchsym_catalog_find_many latchsym_catalog_name latchsym_catalog_modules latchsym_catalog_module latchsym_catalog_region latchsym_catalog_symbol latchsym_catalog_place_of_name latchsym_writer_step latchsym_reader_try_find latchsym_reader_find_name latchsym_place_of_text latchsym_version", list, " ")
         for (i = 1; i <= count; i++) { if (!(list[i] in known)) { print "clib: no " list[i]; exit 1 } seen[list[i]] = 1 }
         for (i = 1; i <= count; i++) {
             parts = split(edges[list[i]], next_ones, "\n")
@@ -87,6 +108,6 @@ objdump -dr --no-show-raw-insn "$top/crates/latchsym_ffi/out/liblatchsym_ffi.a" 
             if (name ~ /alloc|free|realloc|mmap|sbrk/) { print "clib: a call for signal handlers reaches " name; bad = 1 }
             if (!(name in known) && name !~ /^(mem(move|cpy|set|cmp)|bcmp|\..*)$/) { print "clib: a call for signal handlers reaches " name; bad = 1 }
         }
-        if (!bad) print "clib: calls for signal handlers reach " count - 4 " other names, none that takes memory"
+        if (!bad) print "clib: calls for signal handlers reach " count - 14 " other names, none that takes memory"
         exit bad
     }'

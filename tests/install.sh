@@ -1,6 +1,7 @@
 #!/usr/bin/env bash
-# Installs the program and the library for C by install.sh, installs them again while both are in
-# use, behind a DESTDIR, and where a folder cannot be made; and takes them away again. Needs gcc.
+# Installs the program, the library for C, the man page and the completions by install.sh, installs
+# them again while program and library are in use, behind a DESTDIR, and where a folder cannot be
+# made; and takes them away again. Needs gcc.
 set -euo pipefail
 . "$(dirname "$0")/program.sh"
 
@@ -12,6 +13,8 @@ fail() {
 # installed FOLDER: what lies under it
 installed() { (cd "$1" && find . ! -type d | LC_ALL=C sort | tr '\n' ' '); }
 whole='./bin/latchsym ./include/latchsym.h ./lib/liblatchsym.a ./lib/liblatchsym.so ./lib/pkgconfig/latchsym.pc '
+whole+='./share/bash-completion/completions/latchsym ./share/fish/vendor_completions.d/latchsym.fish '
+whole+='./share/man/man1/latchsym.1 ./share/zsh/site-functions/_latchsym '
 
 # run ARGUMENT..: install.sh with these arguments; what it writes is in out and err
 run() {
@@ -31,6 +34,10 @@ prefix=$work/prefix
 run "$prefix"
 [ $status = 0 ] || fail "$(cat "$work/err")"
 [ "$(installed "$prefix")" = "$whole" ] || fail "installed: $(installed "$prefix")"
+cmp "$top/docs/latchsym.1" "$prefix/share/man/man1/latchsym.1"
+cmp "$top/completions/latchsym.bash" "$prefix/share/bash-completion/completions/latchsym"
+cmp "$top/completions/latchsym.fish" "$prefix/share/fish/vendor_completions.d/latchsym.fish"
+cmp "$top/completions/_latchsym" "$prefix/share/zsh/site-functions/_latchsym"
 
 # both wait for a file while all is installed once more
 read -ra flags <<<"-I$prefix/include -L$prefix/lib -Wl,-rpath,$prefix/lib -llatchsym"

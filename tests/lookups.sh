@@ -141,6 +141,34 @@ awk 'BEGIN { for (i = 1; i <= 70000; i++) printf "m%d 4096 0 - Live 0x%x\n", i, 
 head -n 65536 "$work/many" >"$work/most"
 "$program" lookup --modules "$work/most" --kallsyms empty.kallsyms 0x10000fff 2>"$work/err" | head -n 2 | cmp -s - <(printf '0x10000fff ? [m65536]\nmodules 65536 hidden 0 empty 0 wraps 0 overlap 0 double 0 long 0 malformed 0\n') || fail "65536 modules"
 
+# the symbols alone say where modules lie: two take turns, one has no line in /proc/modules
+alone=(--modules-from-symbols --kallsyms alone.kallsyms)
+writes alone "${alone[@]}" --addresses alone.addresses
+writes alone "${alone[@]}" --kernel _stext _einittext --addresses alone.addresses
+"$program" lookup "${alone[@]}" --callers --offset 0x10 0xffffffffc0001010 | head -n 1 |
+    cmp -s - <(echo '0xffffffffc0001010 ext4_a+0x1000/0x1000 [ext4]') || fail "return addresses by the symbols alone"
+# they are as many as a table has nodes, the kernel among them, and one more
+awk 'BEGIN { print "1000 T _stext\n2000 T _end"; for (i = 1; i <= 65536; i++) printf "%x t run\t[m%d]\n", 65536 + i * 4096, i }' >"$work/owners"
+head -n 65537 "$work/owners" >"$work/few"
+"$program" lookup --modules-from-symbols --kallsyms "$work/few" 0x1000f000 2>"$work/err" | cmp -s - <(printf '0x1000f000 run+0x0/0x100000 [m65535]\nmodules 65535 regions 65535\nsymbols 65536 hidden 0 stray 1 long 0 malformed 0\n') || fail "65536 regions by the symbols alone"
+# one module may have them all
+{
+    printf '1000 T _stext\n2000 T _end\n'
+    for ((i = 1; i <= 60000; i++)); do printf '%x t run\t[m]\n' $((i * 1048577)); done
+} >"$work/parts"
+"$program" lookup --modules-from-symbols --kallsyms "$work/parts" 0x100000 0x100001 0x200000 0x200001 2>"$work/err" | cmp -s - <(printf '0x100000 -\n0x100001 run+0x0/0x100000 [m]\n0x200000 run+0xfffff/0x100000 [m]\n0x200001 -\nmodules 1 regions 60000\nsymbols 60001 hidden 0 stray 1 long 0 malformed 0\n') || fail "60000 regions of one module"
+if [ -r /proc/kallsyms ] && ! head -n 1 /proc/kallsyms | grep -q '^0* '; then
+    "$program" lookup --modules-from-symbols --kallsyms /proc/kallsyms "0x$(grep -m 1 ' _stext$' /proc/kallsyms | cut -d' ' -f1)" >"$work/out" 2>"$work/err" && [ ! -s "$work/err" ] ||
+        fail "the symbols of this machine alone: $(cat "$work/err")"
+    head -n 1 "$work/out" | grep -q '+0x0/' || fail "the symbols of this machine alone: $(head -n 1 "$work/out")"
+fi
+noted 'latchsym: note: basic.modules: looks like a listing of modules\n' --modules-from-symbols --kallsyms basic.modules 1
+noted 'latchsym: note: hidden.kallsyms: every address is 0; read it as root (kernel.kptr_restrict)\n' --modules-from-symbols --kallsyms hidden.kallsyms 1
+printf '1000 T _stext\n1100 T run\n' >"$work/endless"
+noted "latchsym: note: $work/endless: has no symbol _etext\n" --modules-from-symbols --kallsyms "$work/endless" 1
+noted "latchsym: note: $work/endless: has no symbol _end; try --kernel _stext _einittext\n" --modules-from-symbols --kallsyms "$work/endless" --kernel _stext _end 1
+noted '' --modules-from-symbols --kallsyms no_end.kallsyms 1
+
 # 400000 symbols of the kernel and 600000 of a module, a listed symbol in no order of addresses: of
 # each the first, some within, and the last
 echo 'm 9600000 0 - Live 0xffffffffc0000000' >"$work/million.modules"
@@ -216,7 +244,16 @@ refused 2 "bad address 18446744073709551616" --modules no_such --kallsyms no_suc
 refused 2 "no address is given" --modules no_such --kallsyms no_such
 refused 2 "no address is given" "${basic[@]}" --kernel _stext _etext
 refused 2 "" --modules basic.modules 1
-refused 2 "" --kallsyms basic.kallsyms 1
+refused 2 "a lookup needs --modules FILE or --modules-from-symbols" --kallsyms basic.kallsyms 1
+refused 2 "--modules-from-symbols stands in place of --modules and --regions" "${alone[@]}" --modules basic.modules 1
+refused 2 "--modules-from-symbols stands in place of --modules and --regions" "${alone[@]}" --regions regions.regions 1
+refused 2 "--kernel takes two names of symbols, and its END is 0x10" "${alone[@]}" --kernel _stext 0x10
+refused 2 "no address is given" "${alone[@]}"
+refused 2 "bad address 16x" "${alone[@]}" 16x
+refused 1 "refused 10" --modules-from-symbols --kallsyms "$work/owners" 1
+refused 1 "no_such: cannot be read" --modules-from-symbols --kallsyms no_such --addresses no_other
+refused 1 "no_such: cannot be read" "${alone[@]}" --addresses no_such 1
+refused 1 "-: line 3 is not understood" "${alone[@]}" --addresses - <"$work/bad.addresses"
 refused 2 "" --modules basic.modules --kallsyms basic.kallsyms --modules basic.modules 1
 refused 2 "" --modules basic.modules --kallsyms basic.kallsyms --symbols x 1
 if [ -e /dev/full ]; then

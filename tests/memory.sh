@@ -51,3 +51,5 @@ awk -v lines="$lines" 'BEGIN {
 }' >"$work/input"
 : >"$work/none"
 limited "a listing" lookup --modules "$work/none" --kallsyms "$work/input" 0xffffffff80001008
+echo '[<ffffffff80001008>]' >"$work/log"
+limited "the symbols of a log" annotate --kallsyms "$work/input" "$work/log"

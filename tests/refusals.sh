@@ -87,6 +87,10 @@ try lookup --modules basic.modules --kallsyms basic.kallsyms 0xffffffffc0000018 
 try lookup --modules regions.modules --kallsyms regions.kallsyms --regions regions.regions 0xffffffffc0600104
 try lookup --modules regions.modules --kallsyms regions.kallsyms --regions empty.modules 0
 try lookup --modules basic.modules --kallsyms basic.kallsyms 0xffffffffc0000018 --addresses basic.addresses --kernel _stext _end
+try annotate --kallsyms basic.kallsyms ../logs/x86_oops.log
+try annotate --modules regions.modules --kallsyms regions.kallsyms --regions regions.regions ../logs/x86_oops.log
+try check --kallsyms basic.kallsyms
+try check --modules regions.modules --kallsyms regions.kallsyms --regions regions.regions
 run_script
 cd "$top/examples/traces"
 try --help

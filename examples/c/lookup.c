@@ -1,10 +1,10 @@
-/* Looks addresses up in listings: lookup MODULES KALLSYMS ADDRESS..
+/* Looks addresses up in listings: lookup MODULES KALLSYMS ADDRESS.., where `-` in place of MODULES takes modules from
+ * KALLSYMS alone.
  * cc lookup.c $(pkg-config --cflags --libs latchsym) -o lookup */
 #include <latchsym.h>
 #include <stdio.h>
 #include <stdlib.h>
-
-enum { ROOM = 512 }; /* the kernel's KSYM_NAME_LEN */
+#include <string.h>
 
 static uint8_t *read_file(const char *path, size_t *len) {
     FILE *file = fopen(path, "rb");
@@ -26,25 +26,21 @@ static uint8_t *read_file(const char *path, size_t *len) {
     return NULL;
 }
 
-/* As many bytes of a name as its room has: the length is that of the whole name. */
-static void print_name(const uint8_t *room, size_t len) {
-    fwrite(room, 1, len < ROOM ? len : ROOM, stdout);
-}
+static void print_name(struct latchsym_place name) { fwrite(name.at, 1, name.len, stdout); }
 
 static void print_symbol(struct latchsym_catalog *catalog, uint64_t addr) {
-    struct latchsym_symbol found;
-    uint8_t name[ROOM], module[ROOM];
-    uint32_t answer = latchsym_catalog_find(catalog, addr, &found, name, ROOM, module, ROOM);
+    struct latchsym_symbol found = LATCHSYM_SYMBOL_INIT;
+    uint32_t answer = latchsym_catalog_find(catalog, addr, &found);
     printf("0x%llx ", (unsigned long long)addr);
     if (answer == LATCHSYM_DONE) {
-        print_name(name, found.name_len);
+        print_name(found.name);
         printf("+0x%llx/0x%llx", (unsigned long long)found.offset, (unsigned long long)found.size);
     } else {
         printf(answer == LATCHSYM_NO_SYMBOL && found.module_number ? "?" : "-");
     }
     if (found.module_number) {
         printf(" [");
-        print_name(module, found.module_len);
+        print_name(found.module);
         printf("]");
     }
     printf("\n");
@@ -52,18 +48,23 @@ static void print_symbol(struct latchsym_catalog *catalog, uint64_t addr) {
 
 int main(int argc, char **argv) {
     struct latchsym_catalog catalog = {0};
+    struct latchsym_listings listings = LATCHSYM_LISTINGS_INIT;
     struct latchsym_counts counts;
-    size_t modules_len, kallsyms_len;
+    uint64_t bad_line;
+    uint8_t *modules = NULL, *kallsyms;
     uint32_t refused = LATCHSYM_OUT_OF_MEMORY;
     if (argc < 3) {
         fprintf(stderr, "usage: lookup MODULES KALLSYMS ADDRESS..\n");
         return 2;
     }
-    uint8_t *modules = read_file(argv[1], &modules_len);
-    uint8_t *kallsyms = modules ? read_file(argv[2], &kallsyms_len) : NULL;
+    listings.has_modules = strcmp(argv[1], "-") != 0;
+    if (listings.has_modules && !(modules = read_file(argv[1], &listings.modules.len))) return 1;
+    kallsyms = read_file(argv[2], &listings.kallsyms.len);
     if (kallsyms) {
-        refused = latchsym_catalog_open(modules, modules_len, kallsyms, kallsyms_len, &catalog, &counts);
-        if (refused) fprintf(stderr, "lookup: refused %u\n", refused);
+        if (modules) listings.modules.at = modules;
+        listings.kallsyms.at = kallsyms;
+        refused = latchsym_catalog_open(&listings, &catalog, &counts, &bad_line);
+        if (refused) fprintf(stderr, "lookup: %s\n", latchsym_text(refused));
     }
     for (int i = 3; !refused && i < argc; i++) print_symbol(&catalog, strtoull(argv[i], NULL, 0));
     latchsym_catalog_close(&catalog); /* and only now the bytes that it points into */

@@ -12,7 +12,17 @@ COUNTS = ("modules modules_hidden modules_empty modules_wraps modules_overlap mo
 class Counts(ctypes.Structure):
     _fields_ = [(name, c_uint64) for name in COUNTS]
 
+class Place(ctypes.Structure):
+    _fields_ = [("at", c_void_p), ("len", c_size_t)]
+
 class Symbol(ctypes.Structure):
+    _fields_ = [("module_number", c_uint64), ("offset", c_uint64), ("size", c_uint64), ("name", Place), ("module", Place)]
+
+class Listings(ctypes.Structure):
+    _fields_ = [("size", c_size_t)] + [(name, Place) for name in ("kallsyms", "modules", "regions", "start", "end")] + [
+        ("has_modules", c_uint32)]
+
+class Answer(ctypes.Structure):
     _fields_ = [("module_number", c_uint64), ("offset", c_uint64), ("size", c_uint64),
                 ("name_len", c_size_t), ("module_len", c_size_t)]
 
@@ -22,13 +32,16 @@ class Item(ctypes.Structure):
 class Found(ctypes.Structure):
     _fields_ = Item._fields_ + [("generation", c_uint64)]
 
+NO_SYMBOL, NOTHING = 21, 22
+
 lib = ctypes.CDLL(sys.argv[1])
-text = [ctypes.c_char_p, c_size_t]
-names = [POINTER(Symbol)] + [ctypes.c_char_p, c_size_t] * 2
-lib.latchsym_catalog_open.argtypes = text * 2 + [POINTER(Handle), POINTER(Counts)]
-lib.latchsym_catalog_open_with_regions.argtypes = text * 3 + [POINTER(Handle), POINTER(Counts), POINTER(c_uint64)]
-lib.latchsym_catalog_open_between.argtypes = text * 5 + [POINTER(Handle), POINTER(Counts), POINTER(c_uint64)]
-lib.latchsym_catalog_find.argtypes = [POINTER(Handle), c_uint64] + names
+lib.latchsym_place_of_text.argtypes = [c_uint32, POINTER(Place)]
+lib.latchsym_place_of_text.restype = None
+names = [POINTER(Answer)] + [ctypes.c_char_p, c_size_t] * 2
+lib.latchsym_catalog_open.argtypes = [POINTER(Listings), POINTER(Handle), POINTER(Counts), POINTER(c_uint64)]
+lib.latchsym_catalog_name.argtypes = [POINTER(Handle), c_uint64] + names
+lib.latchsym_catalog_find.argtypes = [POINTER(Handle), c_uint64, POINTER(Symbol)]
+lib.latchsym_catalog_find_caller.argtypes = [POINTER(Handle), c_uint64, POINTER(Symbol)]
 lib.latchsym_catalog_share.argtypes = [POINTER(Handle), POINTER(Handle)]
 lib.latchsym_catalog_close.argtypes = [POINTER(Handle)]
 lib.latchsym_catalog_close.restype = None
@@ -37,11 +50,20 @@ lib.latchsym_writer_begin_insert.argtypes = [POINTER(Handle), POINTER(Item)]
 lib.latchsym_writer_finish.argtypes = [POINTER(Handle), POINTER(c_uint64)]
 lib.latchsym_reader_find_name.argtypes = [POINTER(Handle), POINTER(Handle), c_uint64, POINTER(Found)] + names
 
+NONE = ctypes.create_string_buffer(1)
+
+def found(call, catalog, addr):
+    """The line of what a call finds, with the names where they lie."""
+    place = Place(ctypes.addressof(NONE), 0)
+    symbol = Symbol(0, 0, 0, place, place)
+    answer = call(catalog, addr, symbol)
+    return line(addr, answer, symbol, *(ctypes.create_string_buffer(ctypes.string_at(p.at, p.len)) for p in (symbol.name, symbol.module)))
+
 def line(addr, answer, symbol, name, module):
-    if answer == 2 or (answer == 1 and symbol.module_number == 0):
+    if answer == NOTHING or (answer == NO_SYMBOL and symbol.module_number == 0):
         return f"0x{addr:x} -"
-    text = "?" if answer == 1 else f"{name.raw[:symbol.name_len].decode()}+0x{symbol.offset:x}/0x{symbol.size:x}"
-    owner = f" [{module.raw[:symbol.module_len].decode()}]" if symbol.module_number else ""
+    text = "?" if answer == NO_SYMBOL else f"{name.value.decode()}+0x{symbol.offset:x}/0x{symbol.size:x}"
+    owner = f" [{module.value.decode()}]" if symbol.module_number else ""
     return f"0x{addr:x} {text}{owner}"
 
 def counts_lines(counts, has_regions):
@@ -57,84 +79,125 @@ def compare(folder, name):
     read = lambda part: (folder / f"{name}.{part}").read_bytes()
     modules, kallsyms = read("modules"), read("kallsyms")
     regions = read("regions") if (folder / f"{name}.regions").exists() else None
-    catalog, other, counts, bad = Handle(), Handle(), Counts(), c_uint64()
-    if regions is None:
-        got = lib.latchsym_catalog_open(modules, len(modules), kallsyms, len(kallsyms), catalog, counts)
-    else:
-        got = lib.latchsym_catalog_open_with_regions(modules, len(modules), kallsyms, len(kallsyms), regions,
-                                                     len(regions), catalog, counts, bad)
-    assert got == 0 and catalog.kind == 1, (name, got)
-    same, same_counts = between((modules, kallsyms, regions), b"_stext", b"_end")
-    assert bytes(same_counts) == bytes(counts)
-    lib.latchsym_catalog_close(same)
+    other = Handle()
+    catalog, counts = opened((modules, kallsyms, regions), b"_stext", b"_end")
     assert lib.latchsym_catalog_share(catalog, other) == 0
     lib.latchsym_catalog_close(catalog)
     lib.latchsym_catalog_close(catalog)
-    symbol = Symbol()
-    first, second = ctypes.create_string_buffer(4096), ctypes.create_string_buffer(4096)
+    symbol = Answer()
     lines = []
     for word in read("addresses").split():
         addr = int(word, 0)
-        got = lib.latchsym_catalog_find(other, addr, symbol, first, 4096, second, 4096)
+        first, second = ctypes.create_string_buffer(4096), ctypes.create_string_buffer(4096)
+        got = lib.latchsym_catalog_name(other, addr, symbol, first, 4096, second, 4096)
         lines.append(line(addr, got, symbol, first, second))
+        assert found(lib.latchsym_catalog_find, other, addr) == lines[-1]
     expected = read("expected").decode().splitlines()
     assert lines + counts_lines(counts, regions is not None) == expected, name
-    assert lib.latchsym_catalog_find(catalog, 1, symbol, first, 4096, second, 4096) == 101
+    assert lib.latchsym_catalog_name(catalog, 1, symbol, first, 4096, second, 4096) == 101
     return other, (modules, kallsyms, regions), len(lines)
 
 def short_rooms_and_a_table(catalog):
     """A name in a room that is too short for it, and the name of an address through a table."""
-    addr, symbol, found, generation = 0xffffffffc0000018, Symbol(), Found(), c_uint64()
+    addr, symbol, found, generation = 0xffffffffc0000018, Answer(), Found(), c_uint64()
     short = ctypes.create_string_buffer(b"????????", 8)
-    assert lib.latchsym_catalog_find(catalog, addr, symbol, short, 3, short, 0) == 0
+    assert lib.latchsym_catalog_name(catalog, addr, symbol, short, 3, short, 0) == 0
     assert short.raw == b"ext?????" and symbol.name_len == 6, short.raw
-    writer, reader, module = Handle(), Handle(), ctypes.create_string_buffer(16)
+    writer, reader, short, module = Handle(), Handle(), ctypes.create_string_buffer(9), ctypes.create_string_buffer(16)
     assert lib.latchsym_table_open(4, writer, reader, 1) == 0
-    assert lib.latchsym_reader_find_name(reader, catalog, addr, found, symbol, short, 8, module, 16) == 2
+    assert lib.latchsym_reader_find_name(reader, catalog, addr, found, symbol, short, 8, module, 16) == NOTHING
     item = Item(0xffffffffc0000000, 0xffffffffc0001000, 1)
     assert lib.latchsym_writer_begin_insert(writer, item) == 0 and lib.latchsym_writer_finish(writer, generation) == 0
     assert lib.latchsym_reader_find_name(reader, catalog, addr, found, symbol, short, 8, module, 16) == 0
     assert line(addr, 0, symbol, short, module) == "0xffffffffc0000018 ext4_a+0x8/0x30 [ext4]"
     assert (found.a, found.b, found.tag, found.generation) == (item.a, item.b, 1, 1)
 
-def between(texts, start, end):
-    """A handle of the catalog of the listings between the symbols of these names, and the counts."""
-    words = [word for text in texts + (start, end) for word in (text or b"", len(text or b""))]
-    catalog, counts = Handle(), Counts()
-    assert lib.latchsym_catalog_open_between(*words, catalog, counts, c_uint64()) == 0 and catalog.kind == 1
+def place(text):
+    return Place(ctypes.cast(ctypes.c_char_p(text), c_void_p), len(text))
+
+def opening(texts, start=b"", end=b""):
+    """What is returned for the listings, of which that of modules may be None, and what is written."""
+    modules, kallsyms, regions = texts
+    words = [place(text or b"") for text in (kallsyms, modules, regions, start, end)]
+    catalog, counts, bad = Handle(), Counts(), c_uint64(77)
+    listings = Listings(ctypes.sizeof(Listings), *words, modules is not None)
+    return lib.latchsym_catalog_open(listings, catalog, counts, bad), catalog, counts, bad.value
+
+def opened(texts, start=b"", end=b""):
+    """A handle of the catalog of the listings, and the counts. The texts stay while it is open."""
+    got, catalog, counts, bad = opening(texts, start, end)
+    assert got == 0 and catalog.kind == 1 and bad == 77, got
     return catalog, counts
 
 def answer(catalog, addr):
-    symbol, name, module = Symbol(), ctypes.create_string_buffer(64), ctypes.create_string_buffer(64)
-    return line(addr, lib.latchsym_catalog_find(catalog, addr, symbol, name, 64, module, 64), symbol, name, module)
+    return found(lib.latchsym_catalog_find, catalog, addr)
 
 def other_bounds(texts):
-    """A kernel that lists no `_end` is found between other names, and between these alone."""
+    """A kernel is found between the names that are given, and else between those that it lists."""
     modules, kallsyms, regions = texts
-    renamed = (modules, kallsyms.replace(b" _end\n", b" _einittext\n"), regions)
-    usual, found = between(texts, b"_stext", b"_end"), between(renamed, b"_stext", b"_einittext")
+    renamed = {end: (modules, kallsyms.replace(b" _end\n", b" " + end + b"\n"), regions)
+               for end in (b"_end", b"_einittext", b"_etext", b"_other")}
+    usual, counts = opened(texts, b"_stext", b"_end")
     addr = 0xffffffff81000108
-    assert answer(usual[0], addr) == answer(found[0], addr) == f"0x{addr:x} do_one+0x8/0x1f00"
-    assert bytes(usual[1]) == bytes(found[1])
-    for start, end in ((b"_stext", b"_end"), (b"_einittext", b"_stext"), (b"_stext", b""), (b"", b"_einittext")):
-        catalog, counts = between(renamed, start, end)
-        assert answer(catalog, addr) == f"0x{addr:x} -" and counts.symbols < found[1].symbols
+    right = f"0x{addr:x} do_one+0x8/0x1f00"
+    assert answer(usual, addr) == right
+    for end, listed in renamed.items():
+        for start, given in ((b"_stext", end), (b"", b"")):
+            catalog, found = opened(listed, start, given)
+            known = given == end or end != b"_other"
+            assert answer(catalog, addr) == (right if known else f"0x{addr:x} -"), (end, given)
+            assert (bytes(found) == bytes(counts)) == known
+            lib.latchsym_catalog_close(catalog)
+    for start, end in ((b"_etext", b"_stext"), (b"_stext", b""), (b"", b"_etext"), (b"_stext", b"_end")):
+        catalog, found = opened(renamed[b"_etext"], start, end)
+        assert answer(catalog, addr) == f"0x{addr:x} -" and found.symbols < counts.symbols
         lib.latchsym_catalog_close(catalog)
-    for catalog in (usual[0], found[0]):
-        lib.latchsym_catalog_close(catalog)
+    lib.latchsym_catalog_close(usual)
+
+def from_symbols():
+    """Without a listing of modules they are the owners of the symbols, wherever these lie."""
+    kallsyms = (b"ffffffff81000000 T _stext\nffffffff81000100 T do_one\nffffffff81002000 T _etext\n"
+                b"ffffffffc0000010 t ext4_a\t[ext4]\nffffffffc0000040 t nfs_a\t[nfs]\n"
+                b"ffffffffc0000080 t ext4_b\t[ext4]\nffffffffc0200000 t prog\t[bpf]\nffffffff81000200 t odd\t[odd]\n")
+    catalog, counts = opened((None, kallsyms, None))
+    assert (counts.modules, counts.regions, counts.symbols, counts.symbols_stray) == (3, 4, 6, 2)
+    lines = {0xffffffff81000fff: "do_one+0xeff/0x1f00", 0xffffffffc000000f: "-", 0xffffffffc000003f: "ext4_a+0x2f/0x30 [ext4]",
+             0xffffffffc0000040: "nfs_a+0x0/0x40 [nfs]", 0xffffffffc0000081: "ext4_b+0x1/0x100000 [ext4]",
+             0xffffffffc010007f: "ext4_b+0xfffff/0x100000 [ext4]", 0xffffffffc0100080: "-",
+             0xffffffffc02000ff: "prog+0xff/0x100000 [bpf]"}
+    for addr, text in lines.items():
+        assert answer(catalog, addr) == f"0x{addr:x} {text}", answer(catalog, addr)
+    lib.latchsym_catalog_close(catalog)
+
+def callers(catalog):
+    """A return address is told of the call before it, and 0 of none."""
+    call = lambda addr: found(lib.latchsym_catalog_find_caller, catalog, addr)
+    assert call(0xffffffffc0000018) == "0xffffffffc0000018 ext4_a+0x8/0x30 [ext4]"
+    assert call(0xffffffffc0000040) == "0xffffffffc0000040 ext4_a+0x30/0x30 [ext4]"
+    assert call(0) == "0x0 -"
 
 def a_bad_line():
-    bad, handle = c_uint64(), Handle()
-    got = lib.latchsym_catalog_open_with_regions(b"", 0, b"", 0, b"latchregions 1\nx\n", 17, handle, Counts(), bad)
-    assert got == 15 and bad.value == 2 and handle.kind == 0
+    got, catalog, _, bad = opening((b"", b"", b"latchregions 1\nx\n"))
+    assert got == 15 and bad == 2 and catalog.kind == 0
+    assert opening((None, b"", b"latchregions 1\n"))[::3] == (103, 77)
 
+def numbers():
+    """The version, and the text of a number."""
+    place = Place(ctypes.addressof(NONE), 0)
+    lib.latchsym_place_of_text(NOTHING, place)
+    assert ctypes.string_at(place.at, place.len) == b"nothing is there\0"
+    assert lib.latchsym_version() == 10000
+
+numbers()
 folder = pathlib.Path(sys.argv[2])
 for path in sorted(folder.glob("*.modules")):
     catalog, texts, count = compare(folder, path.stem)
     print(f"names: {path.stem}: {count} addresses as latchsym lookup answers")
     if path.stem == "basic":
         short_rooms_and_a_table(catalog)
+        callers(catalog)
         other_bounds(texts)
     lib.latchsym_catalog_close(catalog)
 a_bad_line()
+from_symbols()
 print("names: ok")

@@ -41,20 +41,28 @@ static const char regions[] = "latchregions 1\next4 core 0xffffffffc0000000 8192
 
 static struct latchsym_catalog catalog, other;
 static struct latchsym_writer writer;
-static struct latchsym_reader readers[3];
+static struct latchsym_reader readers[3], added;
 static const struct latchsym_item items[] = {{0x1000, 0x2000, 1}, {0x2000, 0x3000, 1}};
 static const uint64_t starts[] = {0x1000};
 
+static int with_modules;
+
 static uint32_t open_catalog(void) {
+    struct latchsym_listings listings = LATCHSYM_LISTINGS_INIT;
     struct latchsym_counts counts;
     uint64_t bad_line;
-    return latchsym_catalog_open_with_regions((const uint8_t *)modules, strlen(modules), (const uint8_t *)kallsyms,
-                                              strlen(kallsyms), (const uint8_t *)regions, strlen(regions), &catalog,
-                                              &counts, &bad_line);
+    listings.kallsyms = (struct latchsym_place){(const uint8_t *)kallsyms, strlen(kallsyms)};
+    if (with_modules) {
+        listings.modules = (struct latchsym_place){(const uint8_t *)modules, strlen(modules)};
+        listings.regions = (struct latchsym_place){(const uint8_t *)regions, strlen(regions)};
+        listings.has_modules = 1;
+    }
+    return latchsym_catalog_open(&listings, &catalog, &counts, &bad_line);
 }
 static uint32_t share(void) { return latchsym_catalog_share(&catalog, &other); }
 static uint32_t open_table(void) { return latchsym_table_open(4, &writer, readers, 3); }
 static uint32_t enlarge(void) { return latchsym_table_enlarge(8, &writer, readers, 3); }
+static uint32_t add(void) { return latchsym_writer_add_reader(&writer, &added); }
 static uint32_t insert(void) { return latchsym_writer_begin_insert(&writer, &items[0]); }
 static uint32_t batch(void) { return latchsym_writer_begin_batch(&writer, starts, 1, items, 2); }
 
@@ -63,10 +71,12 @@ static void handles(unsigned char *to) {
     memcpy(to, &catalog, sizeof catalog), to += sizeof catalog;
     memcpy(to, &other, sizeof other), to += sizeof other;
     memcpy(to, &writer, sizeof writer), to += sizeof writer;
-    memcpy(to, readers, sizeof readers);
+    memcpy(to, readers, sizeof readers), to += sizeof readers;
+    memcpy(to, &added, sizeof added);
 }
 
 static void close_catalog(void) { latchsym_catalog_close(&catalog); }
+static void close_added(void) { latchsym_reader_close(&added); }
 static void close_other(void) { latchsym_catalog_close(&other); }
 static void close_table(void) {
     latchsym_writer_close(&writer);
@@ -92,7 +102,7 @@ static void batch_back(void) {
 }
 
 static void each_request(const char *name, uint32_t (*call)(void), void (*undo)(void)) {
-    unsigned char before[6 * sizeof writer], after[6 * sizeof writer];
+    unsigned char before[7 * sizeof writer], after[7 * sizeof writer];
     long refused = 0;
     for (long request = 1;; request++) {
         long had = blocks;
@@ -119,7 +129,11 @@ int main(void) {
     struct latchsym_found found;
     setvbuf(stdout, NULL, _IONBF, 0);
     long had = blocks;
-    each_request("catalog_open_with_regions", open_catalog, close_catalog);
+    each_request("catalog_open from the symbols", open_catalog, close_catalog);
+    latchsym_catalog_close(&catalog);
+    CHECK(blocks == had);
+    with_modules = 1;
+    each_request("catalog_open", open_catalog, close_catalog);
     each_request("catalog_share", share, close_other);
     latchsym_catalog_close(&catalog);
     latchsym_catalog_close(&other);
@@ -132,6 +146,9 @@ int main(void) {
     CHECK(!latchsym_reader_try_find(&readers[2], 0x2800, &found) && found.a == 0x2000);
     each_request("table_enlarge", enlarge, leave);
     CHECK(!latchsym_reader_try_find(&readers[2], 0x2800, &found) && found.a == 0x2000);
+    each_request("add_reader", add, close_added);
+    CHECK(!latchsym_reader_try_find(&added, 0x2800, &found) && found.a == 0x2000);
+    close_added();
     for (int i = 0; i < 3; i++) latchsym_reader_close(&readers[i]);
     latchsym_writer_close(&writer);
     CHECK(blocks == had);

@@ -48,7 +48,7 @@ static void closed_handles(void) {
 /* An open handle of another kind, past a cast: refused, and nothing is written. */
 static void handles_of_other_kinds(void) {
     struct latchsym_found found = {1, 2, 3, 4};
-    struct latchsym_symbol symbol = {1, 2, 3, 4, 5};
+    struct latchsym_answer symbol = {1, 2, 3, 4, 5};
     struct latchsym_handle both[2] = {writer.handle, readers[0].handle};
     struct latchsym_writer *no_writer = (struct latchsym_writer *)&readers[0];
     struct latchsym_reader *no_reader = (struct latchsym_reader *)&writer;
@@ -64,7 +64,7 @@ static void handles_of_other_kinds(void) {
     CHECK(latchsym_writer_find(no_writer, 1, &found) == LATCHSYM_BAD_HANDLE && found.a == 1);
     CHECK(latchsym_reader_try_find(no_reader, 1, &found) == LATCHSYM_BAD_HANDLE && found.a == 1);
     CHECK(latchsym_table_enlarge(8, no_writer, no_reader, 1) == LATCHSYM_BAD_HANDLE);
-    CHECK(latchsym_catalog_find(no_catalog, 1, &symbol, name, 1, module, 1) == LATCHSYM_BAD_HANDLE);
+    CHECK(latchsym_catalog_name(no_catalog, 1, &symbol, name, 1, module, 1) == LATCHSYM_BAD_HANDLE);
     CHECK(latchsym_reader_find_name(&readers[0], no_catalog, 1, &found, &symbol, name, 1, module, 1) == LATCHSYM_BAD_HANDLE);
     CHECK(found.a == 1 && symbol.offset == 2 && name[0] == 7 && module[0] == 8);
     CHECK(latchsym_catalog_share(no_catalog, &closed) == LATCHSYM_BAD_HANDLE && !closed.handle.at);
@@ -79,7 +79,7 @@ static void an_update_by_its_steps(void) {
     CHECK(latchsym_writer_begin_erase(&writer, 1) == LATCHSYM_NO_SUCH_ITEM);
     CHECK(latchsym_writer_begin_insert(&writer, &first) == LATCHSYM_DONE);
     CHECK(latchsym_writer_begin_insert(&writer, &over) == LATCHSYM_UPDATE_IN_HAND);
-    for (uint32_t did; (did = latchsym_writer_step(&writer)) != LATCHSYM_AT_END;) {
+    for (uint32_t did; (did = latchsym_writer_step(&writer)) != LATCHSYM_DONE;) {
         flips += did == LATCHSYM_FLIP;
         CHECK(is_right(latchsym_reader_try_find(&readers[0], 0x1fff, &found), &found));
         CHECK(found.generation == (flips == 2));
@@ -140,7 +140,7 @@ static int beside_signals(int k, int between, long count) {
         in_call = 1;
         CHECK(!(k % 2 ? latchsym_writer_begin_insert(&writer, &first) : latchsym_writer_begin_erase(&writer, first.a)));
         in_call = 0;
-        while (did != LATCHSYM_AT_END) {
+        while (did != LATCHSYM_DONE) {
             if (between) sigprocmask(SIG_UNBLOCK, &alarm, NULL), sigprocmask(SIG_BLOCK, &alarm, NULL);
             in_call = 1;
             did = latchsym_writer_step(&writer);

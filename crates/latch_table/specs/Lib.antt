@@ -4,5 +4,6 @@ pub mod Rule
 pub mod Writers
 pub mod Readers
 pub mod Enlarging
+pub mod Adding
 pub mod Lookups
 pub mod Walks

@@ -52,6 +52,7 @@
 //! consistent.
 #![tactic(auto)]
 
+pub mod adding;
 pub mod enlarging;
 pub mod knowledge;
 pub mod meeting;
@@ -60,6 +61,7 @@ pub mod readers;
 mod rule;
 pub mod writers;
 
+pub use adding::MOST_READERS_IN_ALL;
 pub use meeting::meet;
 pub use opening::{MOST_READERS, open};
 pub use readers::{Reader, Try};

@@ -6,7 +6,7 @@ ghost use Rattle.word_layout.specs.Layouts.{capacity_of};
 ghost use Rattle.word_layout.specs.Words.{words_for};
 ghost use Rattle.latch_core.specs.Latches.{opening_latch};
 ghost use Rattle.latch_table.specs.declared.knowledge.Origin.TheVariants.{Start};
-ghost use Rattle.latch_table.specs.Rule.{Opens, capacity_in};
+ghost use Rattle.latch_table.specs.Rule.{Opens};
 ghost use Rattle.latch_table.specs.Seats.{first_knowledge, writer_of, writer_knowledge};
 ghost use Rattle.latch_table.specs.Writers.{new_writer, MayOpenWith, RefusesOpening};
 ghost use Rattle.latch_table.specs.Readers.{new_reader};
@@ -40,14 +40,12 @@ pub(crate) fn build<O: TreeOrder>(
     readers: u32,
 ) -> Result<BuiltTable<O>, AllocError>
     requires sized { length words.now ≡ words_for (capacity_of l) }
-    requires capacity { capacity_in from.now ≡ capacity_of l }
     requires writer { first_knowledge from.now
         ≡ writer_knowledge (writer_of (first_knowledge from.now)) }
     requires same { (writer_of (first_knowledge from.now)).capacity ≡ capacity_of l }
     requires rule { Opens O.order from.now words.now }
     ensures seat { IfOk result (λ b. (b.seat.table_id ≡ (arc_value b.table).shared.table_id)
         × (b.seat.table_id.words ≡ words_for (capacity_of l))
-        × (capacity_in (arc_value b.table).shared.key ≡ capacity_of l)
         × (b.seat.me ≡ (first_knowledge from.now, []))) }
     ensures readers { IfOk result (λ b. (vec_len b.readers ≡ readers)
         × All (λ x. x ≡ new_reader b.seat.table_id (first_knowledge from.now)) b.readers.items) }

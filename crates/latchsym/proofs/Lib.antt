@@ -16,5 +16,13 @@ mod AskedLemmas
 mod AssignmentLemmas
 -- from the lines of a script to its text
 mod RunLemmas
+-- from the text of a listing of symbols alone to the readers that it was read from
+mod SymbolInputLemmas
 -- where a note on a listing does not apply
 pub mod ListingNoteLemmas
+-- from what was read of listings to the catalog that they say
+mod OpenedCatalogLemmas
+-- from what came of a log to what the engine returns
+mod AnnotationLemmas
+-- from listings that are checked to what is written of them
+mod CheckLemmas

@@ -9,8 +9,9 @@ use Rattle.std.proofs.lemmas.Bool.{lt-ltb, ne_eqb, or_parts}
 use Rattle.std.proofs.lemmas.List.{take_all}
 use Rattle.listing.specs.Looks.{is_kernel_symbol, is_of_kernel}
 use Rattle.modules.specs.Entries.{CatalogEntries, ModuleEntry}
-use Rattle.modules.specs.Accepted.{accepted_of, none_yet}
-use Rattle.modules.specs.Catalogs.{built_in_of, catalog_of}
+use Rattle.modules.specs.Accepted.{Accepted, accepted_of, none_yet}
+use Rattle.modules.specs.Catalogs.{built_in_of, catalog_of, catalog_with}
+use Rattle.modules.specs.FromSymbols.{IsFromSymbols}
 use Rattle.modules.specs.Lines.{bounds_for, built_in_region, first_address, usual_bounds_of}
 use Rattle.modules.specs.Listed.{BoundNames, ListedModule, ListedRegion, ListedSymbol}
 use Rattle.modules.specs.Placed.{placed_line}
@@ -60,6 +61,11 @@ pub copied_some : {T : Type 0} (o : Option (Bor T)) → is_some o ≡ is_some (o
 copied_some None = refl
 copied_some (Some t) = refl
 
+-- what is given, or else another
+pub given_or : {T : Type 0} (o : Option (Bor T)) (other t : Bor T) → t ≡ unwrap_or o other → t.now ≡ unwrap_or (option_copied o) other.now
+given_or None other t is = ap (λ x. x.now) is
+given_or (Some n) other t is = ap (λ x. x.now) is
+
 -- the names that are given, or else those of the listing
 pub bounds_are : (o : Option (Bor BoundNames)) (usual names : Bor BoundNames) (symbols : List ListedSymbol) → names ≡ unwrap_or o usual → usual.now ≡ usual_bounds_of symbols
     → names.now ≡ bounds_for (option_copied o) symbols
@@ -76,6 +82,10 @@ pub kernel_of_listings : (names : BoundNames) (modules : List ListedModule) (reg
 kernel_of_listings names modules regions symbols =
     let region = built_in_region names symbols in
     has_its_region (accepted_of region regions modules).built_in symbols ∙ ap (λ o. is_some o) (built_in_kept (none_yet region) (map (placed_line regions) modules))
+
+pub kernel_of_symbols : (names : BoundNames) (symbols : List ListedSymbol) (a : Accepted) → IsFromSymbols names symbols a
+    → is_some (catalog_with a symbols).built_in ≡ is_some (built_in_region names symbols)
+kernel_of_symbols names symbols a said = has_its_region a.built_in symbols ∙ ap (λ o. is_some o) said.kernel
 
 -- ---- the symbols of modules
 

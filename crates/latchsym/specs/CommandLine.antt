@@ -13,6 +13,10 @@ use Rattle.clap.specs.declared.builder.command.Command.TheViews.{out-Command}
 abbrev pub word_rule : Text → Rule
 word_rule id = record (new_rule id) { value_names = 1; required = true }
 
+-- a word that may be given, and has a name in the help
+abbrev pub optional_word_rule : Text → Rule
+optional_word_rule id = record (new_rule id) { value_names = 1 }
+
 -- an option that has to be given, with one value
 abbrev pub option_rule : Text → Rule
 option_rule id = record (new_rule id) { long = Some id; value_names = 1; required = true }
@@ -40,23 +44,26 @@ words_rule id = record (new_rule id) {
 abbrev pub trace_app : App
 trace_app = with_rule (new_app (codes "trace")) (word_rule (codes "file"))
 
--- --modules FILE --kallsyms FILE [--regions FILE] [--kernel START END]
-abbrev pub with_listings : App → App
-with_listings app =
+-- the option of the modules, and --kallsyms FILE [--regions FILE] [--kernel START END]
+abbrev pub with_listings : App → Rule → App
+with_listings app modules =
     with_rule
-    (with_rule
-    (with_rule (with_rule app (option_rule (codes "modules"))) (option_rule (codes "kallsyms")))
+    (with_rule (with_rule (with_rule app modules) (option_rule (codes "kallsyms")))
     (optional_rule (codes "regions")))
     (pair_rule (codes "kernel"))
 
--- lookup --modules FILE --kallsyms FILE [--regions FILE] [--kernel START END] [--addresses FILE]
--- [--callers] [--offset N] [ADDR]..
+-- lookup [--modules FILE] --kallsyms FILE [--regions FILE] [--kernel START END]
+-- [--modules-from-symbols] [--addresses FILE] [--callers] [--offset N] [ADDR]..
 abbrev pub lookup_app : App
 lookup_app =
     with_rule
     (with_rule
     (with_rule
-    (with_rule (with_listings (new_app (codes "lookup"))) (optional_rule (codes "addresses")))
+    (with_rule
+    (with_rule
+    (with_listings (new_app (codes "lookup")) (optional_rule (codes "modules")))
+    (flag_rule (codes "modules-from-symbols")))
+    (optional_rule (codes "addresses")))
     (flag_rule (codes "callers")))
     (optional_rule (codes "offset")))
     (words_rule (codes "address"))
@@ -65,8 +72,32 @@ lookup_app =
 abbrev pub run_app : App
 run_app =
     with_rule
-    (with_rule (with_listings (new_app (codes "run"))) (option_rule (codes "readers")))
+    (with_rule
+    (with_listings (new_app (codes "run")) (option_rule (codes "modules")))
+    (option_rule (codes "readers")))
     (word_rule (codes "script"))
+
+-- annotate [--kallsyms FILE] [--modules FILE] [--regions FILE] [--kernel START END] [--callers]
+-- [--offset N] [LOG]
+abbrev pub annotate_app : App
+annotate_app =
+    with_rule
+    (with_rule
+    (with_rule
+    (with_rule
+    (with_rule
+    (with_rule
+    (with_rule (new_app (codes "annotate")) (optional_rule (codes "kallsyms")))
+    (optional_rule (codes "modules")))
+    (optional_rule (codes "regions")))
+    (pair_rule (codes "kernel")))
+    (flag_rule (codes "callers")))
+    (optional_rule (codes "offset")))
+    (optional_word_rule (codes "log"))
+
+-- check [--modules FILE] --kallsyms FILE [--regions FILE] [--kernel START END]
+abbrev pub check_app : App
+check_app = with_listings (new_app (codes "check")) (optional_rule (codes "modules"))
 
 -- a subcommand has to be given, but for `--version`
 abbrev pub top_app : App
@@ -77,8 +108,12 @@ top_app =
 abbrev pub latchsym_app : App
 latchsym_app =
     with_subcommand
+    (with_subcommand
+    (with_subcommand
     (with_subcommand (with_subcommand top_app trace_app.top) lookup_app.top)
-    run_app.top
+    run_app.top)
+    annotate_app.top)
+    check_app.top
 
 -- the command reads words as `app` does
 abbrev pub IsCommand : App → Command → Type 0

@@ -16,7 +16,7 @@ use Rattle.latchsym.specs.Texts.{refused_text}
 use Rattle.latchsym.specs.declared.command_line.Job.{Job}
 use Rattle.latchsym.specs.declared.fault.Fault.{Fault}
 use Rattle.latchsym.specs.declared.fault.Finished.{Finished}
-use Rattle.latchsym.specs.declared.fault.Fault.TheVariants.{Refused, BadLine, Read, Write}
+use Rattle.latchsym.specs.declared.fault.Fault.TheVariants.{Refused, BadLine, Read, TooLong, Write}
 use Rattle.latchsym.specs.declared.listing_notes.ListingNotes.{ListingNotes}
 
 -- the number that stands for a fault
@@ -24,18 +24,21 @@ abbrev pub fault_number : Fault → ℕ
 fault_number (Refused refusal) = refusal_number refusal
 fault_number (BadLine place line) = 15
 fault_number (Read place) = 16
+fault_number (TooLong place) = 17
 fault_number Write = 16
 
 abbrev pub fault_place : Fault → Option ℕ
 fault_place (Refused refusal) = None
 fault_place (BadLine place line) = Some place
 fault_place (Read place) = Some place
+fault_place (TooLong place) = Some place
 fault_place Write = None
 
 abbrev pub line_of : Fault → Option ℕ
 line_of (Refused refusal) = None
 line_of (BadLine place line) = Some line
 line_of (Read place) = None
+line_of (TooLong place) = None
 line_of Write = None
 
 abbrev pub bad_line_text : Text → ℕ → List ℕ
@@ -49,6 +52,7 @@ abbrev pub message_text : Text → Fault → List ℕ
 message_text file (Refused refusal) = refused_text (refusal_number refusal)
 message_text file (BadLine place line) = bad_line_text file line
 message_text file (Read place) = unread_text file
+message_text file (TooLong place) = file ++ codes ": is too long\n"
 message_text file Write = codes "cannot write\n"
 
 -- the line on the standard error

@@ -5,10 +5,16 @@ use Rattle.std.specs.Str.{bytes_eq}
 use Rattle.clap.specs.Words.{Text}
 use Rattle.listing.specs.declared.counted.Counted.{Counted}
 use Rattle.listing.specs.Counted.{device_of}
+use Rattle.latchsym.specs.declared.annotations.AnnotateReaders.{AnnotateReaders}
+use Rattle.latchsym.specs.declared.command_line.AnnotateJob.{AnnotateJob}
+use Rattle.latchsym.specs.declared.command_line.ListingFiles.{ListingFiles}
 use Rattle.latchsym.specs.declared.command_line.LookupJob.{LookupJob}
 use Rattle.latchsym.specs.declared.command_line.RunJob.{RunJob}
+use Rattle.latchsym.specs.declared.command_line.SymbolLookupJob.{SymbolLookupJob}
 use Rattle.latchsym.specs.declared.lookup.LookupReaders.{LookupReaders}
+use Rattle.latchsym.specs.declared.opened_catalogs.ListingReaders.{ListingReaders}
 use Rattle.latchsym.specs.declared.runs.RunReaders.{RunReaders}
+use Rattle.latchsym.specs.declared.symbol_lookup.SymbolLookupReaders.{SymbolLookupReaders}
 
 -- what the file of each name holds, where that is known
 abbrev pub Held : Type 0
@@ -25,7 +31,7 @@ IsOpenedIfGiven remaining held None None = Unit {0}
 IsOpenedIfGiven remaining held (Some name) (Some reader) = IsOpened remaining held name.now reader
 IsOpenedIfGiven remaining held _ _ = ⊥
 
--- what the names hold of files of addresses and of scripts, of which `-` is the standard input
+-- what the names hold of files of addresses, of scripts and of logs, of which `-` is the standard input
 abbrev pub or_standard : Option (List ℕ) → Held → Held
 or_standard standard held name = if bytes_eq name (codes "-") then standard else held name
 
@@ -36,6 +42,27 @@ pub record AreLookupFiles {F : Type 0} (remaining : F → Option (List ℕ)) (he
   pub kallsyms : IsOpened remaining held job.kallsyms.now r.kallsyms
   pub regions : IsOpenedIfGiven remaining held job.regions r.regions
   pub addresses : IsOpenedIfGiven remaining (or_standard standard held) job.address_file r.addresses
+
+-- the readers of a lookup by symbols alone are those of the job's own files
+pub record AreSymbolLookupFiles {F : Type 0} (remaining : F → Option (List ℕ)) (held : Held)
+    (standard : Option (List ℕ)) (job : SymbolLookupJob) (r : SymbolLookupReaders F F)
+    : Type 0 where
+  pub kallsyms : IsOpened remaining held job.kallsyms.now r.kallsyms
+  pub addresses : IsOpenedIfGiven remaining (or_standard standard held) job.address_file r.addresses
+
+-- the readers of listings are those of these files
+pub record AreListingFiles {F : Type 0} (remaining : F → Option (List ℕ)) (held : Held)
+    (files : ListingFiles) (r : ListingReaders F F F) : Type 0 where
+  pub modules : IsOpenedIfGiven remaining held files.modules r.modules
+  pub kallsyms : IsOpened remaining held files.kallsyms.now r.kallsyms
+  pub regions : IsOpenedIfGiven remaining held files.regions r.regions
+
+-- the readers of an annotation are those of the job's own files
+pub record AreAnnotateFiles {F : Type 0} (remaining : F → Option (List ℕ)) (held : Held)
+    (standard : Option (List ℕ)) (job : AnnotateJob) (r : AnnotateReaders F F F F)
+    : Type 0 where
+  pub listings : AreListingFiles remaining held job.listings r.listings
+  pub log : IsOpened remaining (or_standard standard held) job.log.now r.log
 
 -- the readers of a run are those of the job's own files
 pub record AreRunFiles {F : Type 0} (remaining : F → Option (List ℕ)) (held : Held)

@@ -29,6 +29,14 @@ pub mod Faults
 pub mod Misuses
 -- what is written for the listings and the addresses that are asked for
 pub mod Lookups
+-- what a lookup writes whose modules come from a listing of symbols alone
+pub mod SymbolLookups
+-- the catalog that listings say, and what is noted of them
+pub mod OpenedCatalogs
+-- what is written for a log, and told of its listings
+pub mod Annotations
+-- what is written of listings that are checked
+pub mod Checks
 -- what the lines of a script have each writer and each reader do
 pub mod Assignments
 -- the lines that a run of a script writes

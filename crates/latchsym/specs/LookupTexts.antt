@@ -8,6 +8,7 @@ use Rattle.listing.specs.declared.module_listing.SkippedModule.TheVariants as mo
 use Rattle.listing.specs.declared.symbol_listing.SkippedSymbol.{SkippedSymbol}
 use Rattle.listing.specs.declared.symbol_listing.SkippedSymbol.TheVariants as symbol_cause
 use Rattle.modules.specs.declared.catalog.BuildCounts.{BuildCounts}
+use Rattle.modules.specs.declared.catalog.KeptCounts.{KeptCounts}
 use Rattle.modules.specs.Entries.{CatalogEntries}
 use Rattle.listing.specs.Answers.{answer_text_by}
 use Rattle.listing.specs.declared.address_rules.AddressRule.{AddressRule}
@@ -53,11 +54,18 @@ regions_line built =
     ++ count_text (codes " stray ") built.stray_regions
     ++ codes "\n"
 
--- how many lines of the listing of symbols went where
-unfoldable pub symbols_line : List ℕ → BuildCounts → List ℕ
-symbols_line skipped built =
-    count_text (codes "symbols ") built.symbols
+-- how many modules a listing of symbols alone has, and how many regions these have
+unfoldable pub found_modules_line : KeptCounts → List ℕ
+found_modules_line kept =
+    count_text (codes "modules ") kept.modules
+    ++ count_text (codes " regions ") kept.regions
+    ++ codes "\n"
+
+-- how many lines of the listing of symbols went where, of which so many are kept or stray
+unfoldable pub symbols_line : List ℕ → ℕ → ℕ → List ℕ
+symbols_line skipped kept stray =
+    count_text (codes "symbols ") kept
     ++ symbol_causes_text skipped (take (symbol_place symbol_cause.Long) symbol_causes)
-    ++ count_text (codes " stray ") built.stray
+    ++ count_text (codes " stray ") stray
     ++ symbol_causes_text skipped (drop (symbol_place symbol_cause.Long) symbol_causes)
     ++ codes "\n"

@@ -8,6 +8,7 @@ use Rattle.listing.specs.declared.counted.Counted.{Counted}
 use Rattle.listing.specs.Counted.{NoneFailed, Rose, device_of, failures_of}
 use Rattle.order_laws.specs.declared.refusals.Refusal.TheVariants as refusal
 use Rattle.listing.specs.Lines.{lines_of}
+use Rattle.listing.specs.Looks.{are_modules_hidden, are_symbols_hidden}
 use Rattle.listing.specs.ModuleListing.{module_counts}
 use Rattle.listing.specs.SymbolListing.{symbol_counts}
 use Rattle.modules.specs.declared.catalog.BuildCounts.{BuildCounts}
@@ -33,7 +34,7 @@ regions_line_of given built = if given then regions_line built else []
 abbrev pub count_lines : Inputs → List ℕ
 count_lines i =
     modules_line (module_counts (lines_of i.modules)) (counts_in i)
-    ++ symbols_line (symbol_counts (lines_of i.kallsyms)) (counts_in i)
+    ++ symbols_line (symbol_counts (lines_of i.kallsyms)) (counts_in i).symbols (counts_in i).stray
     ++ regions_line_of (is_some i.regions) (counts_in i)
 
 -- a line for each address, and then the counts
@@ -62,13 +63,15 @@ pub record AreListingsOf (i : Inputs) (l : Listings) : Type 0 where
   pub skipped_modules : l.skipped_modules.by_place ≡ module_counts (lines_of i.modules)
   pub skipped_symbols : l.skipped_symbols.by_place ≡ symbol_counts (lines_of i.kallsyms)
   pub has_regions : l.has_regions ≡ is_some i.regions
+  pub modules_hidden : l.modules_hidden ≡ are_modules_hidden (lines_of i.modules)
+  pub symbols_hidden : l.symbols_hidden ≡ are_symbols_hidden (lines_of i.kallsyms)
   pub notes : l.notes ≡ notes_of i
 
 -- the lines of counts of these listings
 abbrev pub counts_text : Listings → List ℕ
 counts_text l =
     modules_line l.skipped_modules.by_place l.built
-    ++ symbols_line l.skipped_symbols.by_place l.built
+    ++ symbols_line l.skipped_symbols.by_place l.built.symbols l.built.stray
     ++ regions_line_of l.has_regions l.built
 
 -- the writer has taken the lines of these inputs

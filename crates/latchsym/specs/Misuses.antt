@@ -11,6 +11,8 @@ use Rattle.latchsym.specs.declared.command_line.JobFault.TheVariants.{OutOfMemor
 use Rattle.latchsym.specs.declared.command_line.JobFault.TheVariants.{BadAddress, NoAddress}
 use Rattle.latchsym.specs.declared.command_line.JobFault.TheVariants.{BadEnd, BadOffset}
 use Rattle.latchsym.specs.declared.command_line.JobFault.TheVariants.{BadReaders, NoJob}
+use Rattle.latchsym.specs.declared.command_line.JobFault.TheVariants.{NoModules, ModulesTwice}
+use Rattle.latchsym.specs.declared.command_line.JobFault.TheVariants.{RegionsAlone}
 use Rattle.latchsym.specs.declared.fault.Fault.TheVariants.{Refused}
 
 -- what is wrong with the command line, and with which word
@@ -42,6 +44,14 @@ IsNoJob contents old new (BadAddress word) status =
     IsMisused contents old new (codes "bad address ") word.now status
 IsNoJob contents old new NoAddress status =
     IsMisused contents old new (codes "no address is given") [] status
+IsNoJob contents old new NoModules status =
+    IsMisused contents old new (codes "a lookup needs --modules FILE or --modules-from-symbols") []
+    status
+IsNoJob contents old new ModulesTwice status =
+    IsMisused contents old new
+    (codes "--modules-from-symbols stands in place of --modules and --regions") [] status
+IsNoJob contents old new RegionsAlone status =
+    IsMisused contents old new (codes "--regions needs --modules") [] status
 IsNoJob contents old new (BadOffset word) status =
     IsMisused contents old new (codes "bad offset ") word.now status
 IsNoJob contents old new (BadEnd word) status =

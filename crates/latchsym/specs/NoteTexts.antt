@@ -1,11 +1,17 @@
 -- The lines that say what is noted of listings.
-use Rattle.std.specs.Prelude.{ℕ, List, [], ◌++◌, codes, if◌then◌else◌, Option}
+use Rattle.std.specs.Prelude.{ℕ, Bool, List, [], ◌++◌, codes, flat_map, if◌then◌else◌, Option}
+use Rattle.std.specs.Prelude.{Some, None, unwrap_or}
+use Rattle.std.specs.Borrow.{Bor}
 use Rattle.std.specs.Option.{option_map_or}
 use Rattle.std.specs.Str.{bytes_eq}
 use Rattle.clap.specs.Words.{Text}
+use Rattle.modules.specs.Lines.{usual_bounds}
 use Rattle.modules.specs.Listed.{BoundNames}
+use Rattle.latchsym.specs.ListingNotes.{all_notes}
 use Rattle.latchsym.specs.declared.command_line.Job.{Job}
-use Rattle.latchsym.specs.declared.command_line.Job.TheVariants.{Trace, Lookup, Run}
+use Rattle.latchsym.specs.declared.command_line.Job.TheVariants.{Trace, Lookup, SymbolLookup}
+use Rattle.latchsym.specs.declared.command_line.Job.TheVariants.{Annotate, Check, Run}
+use Rattle.latchsym.specs.declared.command_line.ListingFiles.{ListingFiles}
 use Rattle.latchsym.specs.declared.listing_notes.ListingNote.{ListingNote}
 use Rattle.latchsym.specs.declared.listing_notes.ListingNote.TheVariants.{Gzip, AllHidden}
 use Rattle.latchsym.specs.declared.listing_notes.ListingNote.TheVariants.{LooksLikeSymbols}
@@ -47,8 +53,35 @@ abbrev pub lines_for : BoundNames → Text → Text → ListingNotes → List �
 lines_for names modules kallsyms notes =
     line_if_noted names modules notes.modules ++ line_if_noted names kallsyms notes.kallsyms
 
+-- the line of a note, where it applies
+abbrev pub line_where : Bool → List ℕ → List ℕ
+line_where applies line = if applies then line else []
+
+-- the lines of all notes that apply to the listing in this file
+abbrev pub applying_lines : BoundNames → Text → (ListingNote → Bool) → List ℕ
+applying_lines names file applies =
+    flat_map (λ note. line_where (applies note) (note_line names file note)) all_notes
+
+-- the names of the bounds that a listing of symbols alone may miss: those that are given, or else
+-- the last of the usual ones
+abbrev pub noted_bounds : Option BoundNames → BoundNames
+noted_bounds kernel = unwrap_or kernel (record { start = codes "_stext"; end = codes "_etext" })
+
+-- the lines for files of listings, where these names are given for the kernel's bounds
+abbrev pub lines_by : Option BoundNames → Option (Bor Text) → Text → ListingNotes → List ℕ
+lines_by kernel (Some modules) kallsyms notes =
+    lines_for (unwrap_or kernel usual_bounds) modules.now kallsyms notes
+lines_by kernel None kallsyms notes = line_if_noted (noted_bounds kernel) kallsyms notes.kallsyms
+
+abbrev pub note_lines : Option BoundNames → ListingFiles → ListingNotes → List ℕ
+note_lines kernel files notes = lines_by kernel files.modules files.kallsyms.now notes
+
 -- the lines of a job, by the names of its files
 abbrev pub notes_text : Job → ListingNotes → List ℕ
 notes_text (Trace file) notes = []
 notes_text (Lookup job) notes = lines_for job.options.kernel job.modules.now job.kallsyms.now notes
+notes_text (SymbolLookup job) notes =
+    line_if_noted (noted_bounds job.options.kernel) job.kallsyms.now notes.kallsyms
 notes_text (Run job) notes = lines_for job.kernel job.modules.now job.kallsyms.now notes
+notes_text (Annotate job) notes = note_lines job.options.kernel job.listings notes
+notes_text (Check job) notes = []

@@ -3,22 +3,37 @@ use Rattle.std.specs.Prelude.{◌≡◌, ◌⊎◌, ℕ, List, Option, Result, E
 use Rattle.clap.specs.Words.{Text}
 use Rattle.listing.specs.declared.counted.Counted.{Counted}
 use Rattle.order_laws.specs.declared.refusals.Refusal.TheVariants as refusal
-use Rattle.latchsym.specs.Faults.{with_status, without_notes}
-use Rattle.latchsym.specs.Files.{AreLookupFiles, AreRunFiles, Held, IsOpened}
+use Rattle.latchsym.specs.Annotations.{AnnotatesLog}
+use Rattle.latchsym.specs.Checks.{ChecksListings}
+use Rattle.latchsym.specs.Faults.{with_notes, with_status, without_notes}
+use Rattle.latchsym.specs.Files.{AreAnnotateFiles, AreListingFiles}
+use Rattle.latchsym.specs.Files.{AreLookupFiles, AreRunFiles, AreSymbolLookupFiles, Held}
+use Rattle.latchsym.specs.Files.{IsOpened}
+use Rattle.latchsym.specs.ListingNotes.{no_notes}
 use Rattle.latchsym.specs.LookupInputs.{known_inputs}
 use Rattle.latchsym.specs.Lookups.{AnswersLookup, failures_between}
+use Rattle.latchsym.specs.OpenedCatalogs.{known_given, listing_failures}
 use Rattle.latchsym.specs.RunInputs.{known_run_inputs}
 use Rattle.latchsym.specs.Runs.{AnswersRun, run_failures_between}
+use Rattle.latchsym.specs.SymbolLookups.{AnswersSymbolLookup, failures_of_symbols}
+use Rattle.latchsym.specs.SymbolLookups.{known_symbol_inputs}
 use Rattle.latchsym.specs.Traces.{AnswersTrace}
+use Rattle.latchsym.specs.declared.annotations.AnnotateReaders.{AnnotateReaders}
+use Rattle.latchsym.specs.declared.command_line.AnnotateJob.{AnnotateJob}
+use Rattle.latchsym.specs.declared.command_line.CheckJob.{CheckJob}
 use Rattle.latchsym.specs.declared.command_line.Job.{Job}
-use Rattle.latchsym.specs.declared.command_line.Job.TheVariants.{Trace, Lookup, Run}
+use Rattle.latchsym.specs.declared.command_line.Job.TheVariants.{Trace, Lookup, SymbolLookup}
+use Rattle.latchsym.specs.declared.command_line.Job.TheVariants.{Annotate, Check, Run}
 use Rattle.latchsym.specs.declared.command_line.LookupJob.{LookupJob}
 use Rattle.latchsym.specs.declared.command_line.RunJob.{RunJob}
+use Rattle.latchsym.specs.declared.command_line.SymbolLookupJob.{SymbolLookupJob}
 use Rattle.latchsym.specs.declared.fault.Fault.{Fault}
 use Rattle.latchsym.specs.declared.fault.Finished.{Finished}
 use Rattle.latchsym.specs.declared.fault.Fault.TheVariants.{Refused}
 use Rattle.latchsym.specs.declared.listing_notes.ListingNotes.{ListingNotes}
 use Rattle.latchsym.specs.declared.lookup.LookupReaders.{LookupReaders}
+use Rattle.latchsym.specs.declared.opened_catalogs.ListingReaders.{ListingReaders}
+use Rattle.latchsym.specs.declared.symbol_lookup.SymbolLookupReaders.{SymbolLookupReaders}
 use Rattle.latchsym.specs.declared.runs.RunReaders.{RunReaders}
 
 -- what the trace engine returned for the file of this name, whose success is status 0
@@ -46,6 +61,19 @@ pub record IsLookedUp {F W : Type 0} (remaining : F → Option (List ℕ))
       (failures_between before after) w w' result
   pub status : outcome ≡ with_status result
 
+-- the same of the engine of lookups by symbols alone
+pub record IsLookedUpBySymbols {F W : Type 0} (remaining : F → Option (List ℕ))
+    (contents : W → Option (List ℕ)) (held : Held) (standard : Option (List ℕ))
+    (job : SymbolLookupJob) (w w' : Counted W) (outcome : Result Finished Fault) : Type 0 where
+  pub before : SymbolLookupReaders F F
+  pub after : SymbolLookupReaders F F
+  pub opened : AreSymbolLookupFiles remaining held standard job before
+  pub result : Result ListingNotes Fault
+  pub answered : AnswersSymbolLookup contents
+      (known_symbol_inputs remaining remaining before job.options job.addresses.items)
+      (failures_of_symbols before after) w w' result
+  pub status : outcome ≡ with_status result
+
 -- what the engine of scripts returned for the job's own files, bounds and number of readers
 pub record IsScriptRun {F W : Type 0} (remaining : F → Option (List ℕ))
     (contents : W → Option (List ℕ)) (held : Held) (standard : Option (List ℕ)) (job : RunJob)
@@ -61,12 +89,56 @@ pub record IsScriptRun {F W : Type 0} (remaining : F → Option (List ℕ))
 abbrev pub IsNotOpened : {W : Type 0} → Counted W → Counted W → Result Finished Fault → Type 0
 IsNotOpened w w' outcome = (w' ≡ w) × (outcome ≡ Err (Refused refusal.OutOfMemory))
 
--- the status or the fault of a job, over what the files hold that it names
-abbrev pub IsOutcome : {F W : Type 0} → (F → Option (List ℕ)) → (W → Option (List ℕ)) → Held
-    → Option (List ℕ) → Job → Counted W → Counted W → Result Finished Fault → Type 0
-IsOutcome remaining contents held standard (Trace file) w w' outcome =
-    IsTraced remaining contents held file.now w w' outcome ⊎ IsNotOpened w w' outcome
-IsOutcome remaining contents held standard (Lookup job) w w' outcome =
-    IsLookedUp remaining contents held standard job w w' outcome ⊎ IsNotOpened w w' outcome
-IsOutcome remaining contents held standard (Run job) w w' outcome =
-    IsScriptRun remaining contents held standard job w w' outcome ⊎ IsNotOpened w w' outcome
+-- what the engine of annotations returned for the job's own files and options, whose success is
+-- status 0; nothing is left to be noted
+pub record IsAnnotated {F W E : Type 0} (remaining : F → Option (List ℕ))
+    (contents : W → Option (List ℕ)) (errors : E → Option (List ℕ)) (held : Held)
+    (standard : Option (List ℕ)) (job : AnnotateJob) (w w' : Counted W) (e e' : Counted E)
+    (outcome : Result Finished Fault) : Type 0 where
+  pub before : AnnotateReaders F F F F
+  pub after : AnnotateReaders F F F F
+  pub opened : AreAnnotateFiles remaining held standard job before
+  pub result : Result (Unit {0}) Fault
+  pub answered : AnnotatesLog remaining contents errors job.options job.listings
+      (known_given remaining remaining remaining before.listings)
+      (listing_failures before.listings after.listings) before.log after.log w w' e e' result
+  pub status : outcome ≡ with_status (without_notes result)
+
+-- what the engine of checks returned for the job's own files and bounds, and nothing is left to be
+-- noted
+pub record IsListingsChecked {F W : Type 0} (remaining : F → Option (List ℕ))
+    (contents : W → Option (List ℕ)) (held : Held) (job : CheckJob) (w w' : Counted W)
+    (outcome : Result Finished Fault) : Type 0 where
+  pub before : ListingReaders F F F
+  pub after : ListingReaders F F F
+  pub opened : AreListingFiles remaining held job.listings before
+  pub result : Result ℕ Fault
+  pub answered : ChecksListings contents job.kernel job.listings
+      (known_given remaining remaining remaining before)
+      (listing_failures before after) w w' result
+  pub status : outcome ≡ with_notes no_notes result
+
+-- The status or the fault of a job, over what the files hold that it names. Only an annotation says
+-- something while it is done.
+abbrev pub IsOutcome : {F W E : Type 0} → (F → Option (List ℕ)) → (W → Option (List ℕ))
+    → (E → Option (List ℕ)) → Held → Option (List ℕ) → Job → Counted W → Counted W → Counted E
+    → Counted E → Result Finished Fault → Type 0
+IsOutcome remaining contents errors held standard (Trace file) w w' e e' outcome =
+    (IsTraced remaining contents held file.now w w' outcome ⊎ IsNotOpened w w' outcome)
+    × (e' ≡ e)
+IsOutcome remaining contents errors held standard (Lookup job) w w' e e' outcome =
+    (IsLookedUp remaining contents held standard job w w' outcome ⊎ IsNotOpened w w' outcome)
+    × (e' ≡ e)
+IsOutcome remaining contents errors held standard (SymbolLookup job) w w' e e' outcome =
+    (IsLookedUpBySymbols remaining contents held standard job w w' outcome
+    ⊎ IsNotOpened w w' outcome)
+    × (e' ≡ e)
+IsOutcome remaining contents errors held standard (Run job) w w' e e' outcome =
+    (IsScriptRun remaining contents held standard job w w' outcome ⊎ IsNotOpened w w' outcome)
+    × (e' ≡ e)
+IsOutcome remaining contents errors held standard (Annotate job) w w' e e' outcome =
+    IsAnnotated remaining contents errors held standard job w w' e e' outcome
+    ⊎ (IsNotOpened w w' outcome × (e' ≡ e))
+IsOutcome remaining contents errors held standard (Check job) w w' e e' outcome =
+    (IsListingsChecked remaining contents held job w w' outcome ⊎ IsNotOpened w w' outcome)
+    × (e' ≡ e)

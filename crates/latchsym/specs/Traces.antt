@@ -111,3 +111,4 @@ AnswersTrace remaining contents r r' w w' (Err (Read place)) =
 AnswersTrace remaining contents r r' w w' (Err Write) =
     NoneFailed r r' × Rose (failures_of w) (failures_of w')
     × IfSome (remaining (device_of r)) (IsTraceWith HeaderMayOpen)
+AnswersTrace remaining contents r r' w w' (Err _) = ⊥

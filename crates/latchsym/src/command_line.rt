@@ -1,16 +1,20 @@
 //! The command line: what it may say, and the job that it asks for.
-ghost use Rattle.std.specs.Prelude.{◌≡◌, ◌∷◌, [], Some, IfOk, codes, map, option_map};
+ghost use Rattle.std.specs.Prelude.{◌≡◌, ◌∷◌, [], Some, IfOk, codes, map, option_map, unwrap_or};
 ghost use Rattle.clap.specs.Words.{found_of, first_of, rows_of, subcommand_rows_of};
-ghost use Rattle.clap.specs.Words.{with_subcommand, App};
-ghost use Rattle.latchsym.specs.CommandLine.{lookup_app, run_app, trace_app, latchsym_app};
+ghost use Rattle.clap.specs.Words.{new_app, with_subcommand, App, Rule};
+ghost use Rattle.latchsym.specs.CommandLine.{annotate_app, check_app, lookup_app, run_app, trace_app};
+ghost use Rattle.latchsym.specs.CommandLine.{latchsym_app, optional_word_rule};
 ghost use Rattle.latchsym.specs.CommandLine.{option_rule, optional_rule, pair_rule, with_listings};
 ghost use Rattle.latchsym.specs.CommandLine.{flag_rule, word_rule, words_rule, IsCommand, IsPlainArg};
-ghost use Rattle.latchsym.specs.Jobs.{asked_lookup, asked_run, asked_trace, is_like_address};
-ghost use Rattle.latchsym.specs.Jobs.{readers_of, values_in, AnswersAsked, AnswersMatches};
-ghost use Rattle.latchsym.specs.Jobs.{AnswersWords, GivesBounds, GivesOffset};
-ghost use Rattle.latchsym.specs.Jobs.{AreNumbers, IsFaultOf};
+ghost use Rattle.latchsym.specs.Jobs.{address_words, asked_annotate, asked_check, asked_lookup};
+ghost use Rattle.latchsym.specs.Jobs.{asked_run, asked_trace, has_flag, is_like_address};
+ghost use Rattle.latchsym.specs.Jobs.{listed_lookup, readers_of};
+ghost use Rattle.latchsym.specs.Jobs.{symbol_lookup_in, values_in, AnswersAsked, AnswersMatches};
+ghost use Rattle.latchsym.specs.Jobs.{AnswersWords, GivesAnyBounds, GivesAsked, GivesBounds};
+ghost use Rattle.latchsym.specs.Jobs.{AreNumbers, GivesOffset, IsFaultOf};
 
 use crate::lookup::LookupOptions;
+use crate::symbol_lookup::SymbolLookupOptions;
 use clap::error::ErrorKind;
 use clap::{Arg, ArgAction, ArgMatches, Command, Error};
 use latch_table::MOST_READERS;
@@ -27,9 +31,19 @@ pub enum Job<'a> {
     /// `latchsym lookup --modules FILE --kallsyms FILE [--regions FILE] [--kernel START END]
     /// [--addresses FILE] [--callers] [--offset N] [ADDR]..`: look addresses up.
     Lookup(LookupJob<'a>),
+    /// `latchsym lookup --modules-from-symbols --kallsyms FILE [--kernel START END]
+    /// [--addresses FILE] [--callers] [--offset N] [ADDR]..`: look addresses up where the modules
+    /// come from the symbols.
+    SymbolLookup(SymbolLookupJob<'a>),
     /// `latchsym run --modules FILE --kallsyms FILE [--regions FILE] [--kernel START END] --readers N
     /// SCRIPT`: do what a script says, each writer and each reader on a thread.
     Run(RunJob<'a>),
+    /// `latchsym annotate [--kallsyms FILE] [--modules FILE [--regions FILE]] [--kernel START END]
+    /// [--callers] [--offset N] [LOG]`: write a log again, with a symbol behind each address.
+    Annotate(AnnotateJob<'a>),
+    /// `latchsym check [--modules FILE [--regions FILE]] --kallsyms FILE [--kernel START END]`: write
+    /// all that is noted of listings, and their counts.
+    Check(CheckJob<'a>),
 }
 
 /// Which addresses are looked up, and in which listings.
@@ -49,6 +63,30 @@ pub struct LookupJob<'a> {
     pub addresses: Vec<u64>,
 }
 
+/// Which addresses are looked up, and in which listing of symbols, which says where modules lie.
+#[derive(Debug, Drop)]
+pub struct SymbolLookupJob<'a> {
+    /// The file of the listing of symbols.
+    pub kallsyms: &'a str,
+    /// The file of further addresses, where there is one; `-` is the standard input.
+    pub address_file: Option<&'a str>,
+    /// How the kernel's own region is found, and how the addresses are taken.
+    pub options: SymbolLookupOptions<'a>,
+    /// The addresses of the command line, in the order of their words.
+    pub addresses: Vec<u64>,
+}
+
+/// Which addresses a command line asks for, and how they are taken.
+#[derive(Debug, Drop)]
+pub struct AskedAddresses<'a> {
+    /// The file of further addresses, where there is one; `-` is the standard input.
+    pub file: Option<&'a str>,
+    /// How the addresses are taken that are looked up.
+    pub rule: AddressRule,
+    /// The addresses of the command line, in the order of their words.
+    pub listed: Vec<u64>,
+}
+
 /// Which script is run, by how many readers, and over which listings.
 #[derive(Debug, Drop)]
 pub struct RunJob<'a> {
@@ -66,12 +104,43 @@ pub struct RunJob<'a> {
     pub script: &'a str,
 }
 
+/// The files of listings.
+#[derive(Debug, Drop)]
+pub struct ListingFiles<'a> {
+    /// That of the listing of modules; where there is none, the symbols say where modules lie.
+    pub modules: Option<&'a str>,
+    /// That of the listing of symbols.
+    pub kallsyms: &'a str,
+    /// That of the listing of regions, where there is one beside that of modules.
+    pub regions: Option<&'a str>,
+}
+
+/// Which log is annotated, and by which listings.
+#[derive(Debug, Drop)]
+pub struct AnnotateJob<'a> {
+    /// The files of the listings.
+    pub listings: ListingFiles<'a>,
+    /// How the kernel's own region is found, and how the addresses of the log are taken.
+    pub options: SymbolLookupOptions<'a>,
+    /// The file of the log; `-` is the standard input.
+    pub log: &'a str,
+}
+
+/// Which listings are checked.
+#[derive(Debug, Drop)]
+pub struct CheckJob<'a> {
+    /// The files of the listings.
+    pub listings: ListingFiles<'a>,
+    /// The names of the symbols that bound the kernel's own region, where they are given.
+    pub kernel: Option<KernelBounds<'a>>,
+}
+
 impl<'a> Job<'a> {
     ghost use Rattle.latchsym.specs.Jobs.{file_at};
 
     /// The file at this place among those that the job reads, in the order in which it reads them.
     /// The listing of regions has place 2 and the file of addresses 3, where they are given; the
-    /// script has place 3.
+    /// script and the log have place 3.
     pub fn file(&self, place: u64) -> Option<&'a str>
         ensures { option_map (λ f. f.now) result ≡ file_at self.now place }
     {
@@ -81,11 +150,25 @@ impl<'a> Job<'a> {
             Job::Lookup(job) if place == 1 => Some(job.kallsyms),
             Job::Lookup(job) if place == 2 => job.regions,
             Job::Lookup(job) if place == 3 => job.address_file,
+            Job::SymbolLookup(job) if place == 1 => Some(job.kallsyms),
+            Job::SymbolLookup(job) if place == 3 => job.address_file,
             Job::Run(job) if place == 0 => Some(job.modules),
             Job::Run(job) if place == 1 => Some(job.kallsyms),
             Job::Run(job) if place == 2 => job.regions,
             Job::Run(job) if place == 3 => Some(job.script),
-            Job::Trace { .. } | Job::Lookup(_) | Job::Run(_) => None,
+            Job::Annotate(job) if place == 0 => job.listings.modules,
+            Job::Annotate(job) if place == 1 => Some(job.listings.kallsyms),
+            Job::Annotate(job) if place == 2 => job.listings.regions,
+            Job::Annotate(job) if place == 3 => Some(job.log),
+            Job::Check(job) if place == 0 => job.listings.modules,
+            Job::Check(job) if place == 1 => Some(job.listings.kallsyms),
+            Job::Check(job) if place == 2 => job.listings.regions,
+            Job::Trace { .. }
+            | Job::Lookup(_)
+            | Job::SymbolLookup(_)
+            | Job::Run(_)
+            | Job::Annotate(_)
+            | Job::Check(_) => None,
         }
     }
 }
@@ -102,6 +185,12 @@ pub enum JobFault<'a> {
     BadAddress(&'a str),
     /// A lookup without an address.
     NoAddress,
+    /// A lookup that does not say where its modules come from.
+    NoModules,
+    /// A lookup whose modules come both from the symbols and from a file.
+    ModulesTwice,
+    /// Regions of modules, and no listing of these.
+    RegionsAlone,
     /// A value of `--offset` that is no NUMBER.
     BadOffset(&'a str),
     /// An END of `--kernel` that begins with `0x`, as an address does.
@@ -156,7 +245,9 @@ fn latchsym_command<'a>(alloc: Global) -> Result<Command<'a>, AllocError>
         .subcommand_required(true);
     let command = with_subcommand(command, trace_command(alloc))?;
     let command = with_subcommand(command, lookup_command(alloc))?;
-    with_subcommand(command, run_command(alloc))
+    let command = with_subcommand(command, run_command(alloc))?;
+    let command = with_subcommand(command, annotate_command(alloc))?;
+    with_subcommand(command, check_command(alloc))
 }
 
 /// The command with one subcommand more, where memory did not run out for it.
@@ -171,44 +262,71 @@ fn with_subcommand<'a>(
     command.subcommand(subcommand?)
 }
 
+/// A subcommand of this name, which the help describes so.
+fn described<'a>(alloc: Global, name: &'a str, about: &'a str) -> Command<'a>
+    ensures { IsCommand (new_app name.entry.now) result }
+{
+    Command::new(alloc, name).about(about)
+}
+
 fn trace_command<'a>(alloc: Global) -> Result<Command<'a>, AllocError>
     ensures { IfOk result (IsCommand trace_app) }
 {
-    Command::new(alloc, "trace")
-        .about("Run a trace, and write what its lookups found")
-        .arg(required_word(alloc, "file", "FILE").help("The trace"))
+    described(
+        alloc,
+        "trace",
+        "Run a trace, and write what its lookups found",
+    )
+    .arg(required_word(alloc, "file", "FILE").help("The trace"))
 }
 
-/// The command with the options for the listings, which both `lookup` and `run` have.
-fn with_listings<'a>(alloc: Global, command: Command<'a>) -> Result<Command<'a>, AllocError>
-    ensures { (app : App) → IsCommand app command.entry
-        → IfOk result (IsCommand (with_listings app)) }
+/// Options that several commands have, as the help tells them.
+const MODULES_HELP: &str = "The modules, in the form of /proc/modules";
+
+const REGIONS_HELP: &str = "The regions of the modules, where they have more than one";
+
+const CALLERS_HELP: &str =
+    "Return addresses: look up the call before each, and tell its own offset";
+
+const OFFSET_HELP: &str =
+    "Look each address up N bytes lower, as of a kernel moved up by N at boot";
+
+/// The command with the options for the listings, which both `lookup` and `run` have. That for the
+/// modules is given, since a lookup can do without it.
+fn with_listings<'a>(
+    alloc: Global,
+    command: Command<'a>,
+    modules: Arg<'a>,
+) -> Result<Command<'a>, AllocError>
+    ensures { (app : App) (rule : Rule) → IsCommand app command.entry
+        → IsPlainArg rule modules.entry → IfOk result (IsCommand (with_listings app rule)) }
 {
-    let modules_help = "The modules, in the form of /proc/modules";
     let kallsyms_help = "The symbols, in the form of /proc/kallsyms";
-    let regions_help = "The regions of the modules, where they have more than one";
     let kernel_help = "The symbols that bound the kernel itself, in place of _stext and _end";
     command
-        .arg(required_option(alloc, "modules", "FILE").help(modules_help))?
+        .arg(modules)?
         .arg(required_option(alloc, "kallsyms", "FILE").help(kallsyms_help))?
-        .arg(optional_option(alloc, "regions", "FILE").help(regions_help))?
+        .arg(optional_option(alloc, "regions", "FILE").help(REGIONS_HELP))?
         .arg(optional_pair(alloc, "kernel", &["START", "END"]).help(kernel_help))
 }
 
 fn lookup_command<'a>(alloc: Global) -> Result<Command<'a>, AllocError>
     ensures { IfOk result (IsCommand lookup_app) }
 {
+    let symbols_help = "Find the modules by their symbols, in place of --modules and --regions";
     let file_help = "Further addresses, a number a line; - is the standard input";
-    let callers_help = "Return addresses: look up the call before each, and tell its own offset";
-    let offset_help = "Look each address up N bytes lower, as of a kernel moved up by N at boot";
     let address_help = "The addresses, decimal, or hexadecimal behind 0x";
-    let command = Command::new(alloc, "lookup").about(
+    let command = described(
+        alloc,
+        "lookup",
         "Say which module and which symbol hold an address",
     );
-    with_listings(alloc, command)?
+    let modules = optional_option(alloc, "modules", "FILE").help(MODULES_HELP);
+    with_listings(alloc, command, modules)?
+        .arg(flag(alloc, "modules-from-symbols").help(symbols_help))?
         .arg(optional_option(alloc, "addresses", "FILE").help(file_help))?
-        .arg(flag(alloc, "callers").help(callers_help))?
-        .arg(optional_option(alloc, "offset", "N").help(offset_help))?
+        .arg(flag(alloc, "callers").help(CALLERS_HELP))?
+        .arg(optional_option(alloc, "offset", "N").help(OFFSET_HELP))?
         .arg(any_words(alloc, "address", "ADDR").help(address_help))
 }
 
@@ -217,18 +335,71 @@ fn run_command<'a>(alloc: Global) -> Result<Command<'a>, AllocError>
 {
     let readers_help = "How many readers there are, 1 to 64";
     let script_help = "What each writer and reader does; - is the standard input";
-    let command = Command::new(alloc, "run").about(
+    let command = described(
+        alloc,
+        "run",
         "Load and look up beside each other, as a script says",
     );
-    with_listings(alloc, command)?
+    let modules = required_option(alloc, "modules", "FILE").help(MODULES_HELP);
+    with_listings(alloc, command, modules)?
         .arg(required_option(alloc, "readers", "N").help(readers_help))?
         .arg(required_word(alloc, "script", "SCRIPT").help(script_help))
+}
+
+/// The listing of modules where the symbols stand in for one that is not given.
+const GIVEN_MODULES_HELP: &str =
+    "The modules, in the form of /proc/modules; else the symbols say where they lie";
+
+/// The bounds of the kernel where the listing's own stand in for those that are not given.
+const GIVEN_BOUNDS_HELP: &str =
+    "The symbols that bound the kernel itself, in place of the usual ones";
+
+fn annotate_command<'a>(alloc: Global) -> Result<Command<'a>, AllocError>
+    ensures { IfOk result (IsCommand annotate_app) }
+{
+    let kallsyms_help = "The symbols, in place of those of /proc/kallsyms";
+    let log_help = "The log; - is the standard input, and so is none";
+    let command = described(
+        alloc,
+        "annotate",
+        "Write a log again, with the symbol behind each address",
+    );
+    command
+        .arg(optional_option(alloc, "kallsyms", "FILE").help(kallsyms_help))?
+        .arg(optional_option(alloc, "modules", "FILE").help(GIVEN_MODULES_HELP))?
+        .arg(optional_option(alloc, "regions", "FILE").help(REGIONS_HELP))?
+        .arg(optional_pair(alloc, "kernel", &["START", "END"]).help(GIVEN_BOUNDS_HELP))?
+        .arg(flag(alloc, "callers").help(CALLERS_HELP))?
+        .arg(optional_option(alloc, "offset", "N").help(OFFSET_HELP))?
+        .arg(optional_word(alloc, "log", "LOG").help(log_help))
+}
+
+fn check_command<'a>(alloc: Global) -> Result<Command<'a>, AllocError>
+    ensures { IfOk result (IsCommand check_app) }
+{
+    let kallsyms_help = "The symbols, in the form of /proc/kallsyms";
+    let command = described(
+        alloc,
+        "check",
+        "Say what is wrong with listings, and how many of their lines are of use",
+    );
+    command
+        .arg(optional_option(alloc, "modules", "FILE").help(GIVEN_MODULES_HELP))?
+        .arg(required_option(alloc, "kallsyms", "FILE").help(kallsyms_help))?
+        .arg(optional_option(alloc, "regions", "FILE").help(REGIONS_HELP))?
+        .arg(optional_pair(alloc, "kernel", &["START", "END"]).help(GIVEN_BOUNDS_HELP))
 }
 
 fn required_word<'a>(alloc: Global, id: &'a str, value: &'a str) -> Arg<'a>
     ensures { IsPlainArg (word_rule id.entry.now) result }
 {
     Arg::new(alloc, id).value_name(value).required(true)
+}
+
+fn optional_word<'a>(alloc: Global, id: &'a str, value: &'a str) -> Arg<'a>
+    ensures { IsPlainArg (optional_word_rule id.entry.now) result }
+{
+    Arg::new(alloc, id).value_name(value)
 }
 
 fn required_option<'a>(alloc: Global, id: &'a str, value: &'a str) -> Arg<'a>
@@ -284,6 +455,8 @@ fn job_of_subcommand<'a>(
         "trace" => trace_job(found),
         "lookup" => lookup_job(alloc, found),
         "run" => run_job(found),
+        "annotate" => annotate_job(found),
+        "check" => check_job(found),
         _ => Err(JobFault::NoJob),
     }
 }
@@ -298,36 +471,87 @@ fn trace_job<'a>(found: &ArgMatches<'a>) -> Result<Job<'a>, JobFault<'a>>
     }
 }
 
+/// The lookup in the listings that are named, where they say in one way where modules lie.
 fn lookup_job<'a>(alloc: Global, found: &ArgMatches<'a>) -> Result<Job<'a>, JobFault<'a>>
     ensures { AnswersAsked (asked_lookup (rows_of (found_of found.now))) result }
 {
-    let Some(modules) = value_of(found, "modules") else {
-        return Err(JobFault::NoJob);
-    };
+    let from_symbols = is_given(found, "modules-from-symbols");
+    let has_regions = value_of(found, "regions").is_some();
+    match value_of(found, "modules") {
+        Some(_) if from_symbols => Err(JobFault::ModulesTwice),
+        Some(modules) => listed_lookup_job(alloc, found, modules),
+        None if from_symbols && has_regions => Err(JobFault::ModulesTwice),
+        None if from_symbols => symbol_lookup_job(alloc, found),
+        None => Err(JobFault::NoModules),
+    }
+}
+
+/// The lookup in a listing of modules and one of symbols.
+fn listed_lookup_job<'a>(
+    alloc: Global,
+    found: &ArgMatches<'a>,
+    modules: &'a str,
+) -> Result<Job<'a>, JobFault<'a>>
+    ensures { AnswersAsked (listed_lookup modules.entry.now (rows_of (found_of found.now))) result }
+{
     let Some(kallsyms) = value_of(found, "kallsyms") else {
         return Err(JobFault::NoJob);
     };
     let kernel = bounds_in(values_of(found, "kernel"))?;
-    let regions = value_of(found, "regions");
-    let address_file = value_of(found, "addresses");
-    let callers = value_of(found, "callers") == Some("true");
-    let offset = offset_in(value_of(found, "offset"))?;
-    let words = values_of(found, "address");
-    if words.is_empty() && address_file.is_none() {
-        return Err(JobFault::NoAddress);
-    }
-    let addresses = addresses_in(alloc, words)?;
+    let asked = asked_addresses(alloc, found)?;
     Ok(Job::Lookup(LookupJob {
         modules,
         kallsyms,
-        regions,
-        address_file,
+        regions: value_of(found, "regions"),
+        address_file: asked.file,
         options: LookupOptions {
             kernel,
-            rule: AddressRule { callers, offset },
+            rule: asked.rule,
         },
-        addresses,
+        addresses: asked.listed,
     }))
+}
+
+/// The lookup in a listing of symbols alone.
+fn symbol_lookup_job<'a>(alloc: Global, found: &ArgMatches<'a>) -> Result<Job<'a>, JobFault<'a>>
+    ensures { AnswersAsked (symbol_lookup_in (rows_of (found_of found.now))) result }
+{
+    let Some(kallsyms) = value_of(found, "kallsyms") else {
+        return Err(JobFault::NoJob);
+    };
+    let kernel = given_bounds(values_of(found, "kernel"))?;
+    let asked = asked_addresses(alloc, found)?;
+    Ok(Job::SymbolLookup(SymbolLookupJob {
+        kallsyms,
+        address_file: asked.file,
+        options: SymbolLookupOptions {
+            kernel,
+            rule: asked.rule,
+        },
+        addresses: asked.listed,
+    }))
+}
+
+/// The addresses of a lookup, of which there has to be one or a file of them.
+fn asked_addresses<'a>(
+    alloc: Global,
+    found: &ArgMatches<'a>,
+) -> Result<AskedAddresses<'a>, JobFault<'a>>
+    ensures { GivesAsked (address_words (rows_of (found_of found.now))) result }
+{
+    let file = value_of(found, "addresses");
+    let callers = is_given(found, "callers");
+    let offset = offset_in(value_of(found, "offset"))?;
+    let words = values_of(found, "address");
+    if words.is_empty() && file.is_none() {
+        return Err(JobFault::NoAddress);
+    }
+    let listed = addresses_in(alloc, words)?;
+    Ok(AskedAddresses {
+        file,
+        rule: AddressRule { callers, offset },
+        listed,
+    })
 }
 
 fn run_job<'a>(found: &ArgMatches<'a>) -> Result<Job<'a>, JobFault<'a>>
@@ -355,6 +579,63 @@ fn run_job<'a>(found: &ArgMatches<'a>) -> Result<Job<'a>, JobFault<'a>>
     }))
 }
 
+/// The listing of symbols that the kernel itself gives.
+const KALLSYMS: &str = "/proc/kallsyms";
+
+/// The word for the standard input.
+const STANDARD_INPUT: &str = "-";
+
+/// The log that is annotated, by the listings that are named.
+fn annotate_job<'a>(found: &ArgMatches<'a>) -> Result<Job<'a>, JobFault<'a>>
+    ensures { AnswersAsked (asked_annotate (rows_of (found_of found.now))) result }
+{
+    let modules = value_of(found, "modules");
+    let regions = value_of(found, "regions");
+    if modules.is_none() && regions.is_some() {
+        return Err(JobFault::RegionsAlone);
+    }
+    let kernel = given_bounds(values_of(found, "kernel"))?;
+    let offset = offset_in(value_of(found, "offset"))?;
+    Ok(Job::Annotate(AnnotateJob {
+        listings: ListingFiles {
+            modules,
+            kallsyms: value_or(found, "kallsyms", KALLSYMS),
+            regions,
+        },
+        options: SymbolLookupOptions {
+            kernel,
+            rule: AddressRule {
+                callers: is_given(found, "callers"),
+                offset,
+            },
+        },
+        log: value_or(found, "log", STANDARD_INPUT),
+    }))
+}
+
+/// The listings that are checked.
+fn check_job<'a>(found: &ArgMatches<'a>) -> Result<Job<'a>, JobFault<'a>>
+    ensures { AnswersAsked (asked_check (rows_of (found_of found.now))) result }
+{
+    let listed = value_of(found, "modules");
+    let regions = value_of(found, "regions");
+    if listed.is_none() && regions.is_some() {
+        return Err(JobFault::RegionsAlone);
+    }
+    let Some(kallsyms) = value_of(found, "kallsyms") else {
+        return Err(JobFault::NoJob);
+    };
+    let kernel = given_bounds(values_of(found, "kernel"))?;
+    Ok(Job::Check(CheckJob {
+        listings: ListingFiles {
+            modules: listed,
+            kallsyms,
+            regions,
+        },
+        kernel,
+    }))
+}
+
 /// The number of readers that a word is.
 fn readers_in(word: &str) -> Option<u32>
     ensures { result ≡ readers_of word.now }
@@ -373,6 +654,16 @@ fn bounds_in<'a>(names: &[&'a str]) -> Result<KernelBounds<'a>, JobFault<'a>>
         [start, end] => bounds_between(start, end),
         _ => Err(JobFault::NoJob),
     }
+}
+
+/// The names that are given for these bounds, where two are.
+fn given_bounds<'a>(names: &[&'a str]) -> Result<Option<KernelBounds<'a>>, JobFault<'a>>
+    ensures { GivesAnyBounds (map (λ n. n.now) names.now) result }
+{
+    if names.is_empty() {
+        return Ok(None);
+    }
+    Ok(Some(bounds_in(names)?))
 }
 
 fn bounds_between<'a>(start: &'a str, end: &'a str) -> Result<KernelBounds<'a>, JobFault<'a>>
@@ -423,6 +714,20 @@ fn value_of<'a>(found: &ArgMatches<'a>, id: &str) -> Option<&'a str>
     ensures { option_map (λ s. s.now) result ≡ first_of id.now (rows_of (found_of found.now)) }
 {
     found.get_str(id)
+}
+
+/// The value of an argument that takes one, or else the usual one.
+fn value_or<'a>(found: &ArgMatches<'a>, id: &str, usual: &'a str) -> &'a str
+    ensures { result.now ≡ unwrap_or (first_of id.now (rows_of (found_of found.now))) usual.entry.now }
+{
+    value_of(found, id).unwrap_or(usual)
+}
+
+/// Whether a flag is given.
+fn is_given(found: &ArgMatches<'_>, id: &str) -> bool
+    ensures { result ≡ has_flag id.now (rows_of (found_of found.now)) }
+{
+    value_of(found, id) == Some("true")
 }
 
 /// The values of an argument that takes any number of them.

@@ -1,19 +1,21 @@
 //! Why a run of the program fails, and the line that says so.
-ghost use Rattle.std.specs.Prelude.{◌≡◌, []};
+ghost use Rattle.std.specs.Prelude.{◌≡◌, ◌++◌, []};
+ghost use Rattle.std.specs.Option.{option_copied};
 ghost use Rattle.listing.specs.Exact.{Wrote};
 ghost use Rattle.latchsym.specs.Faults.{IsConcluded, IsLineFault, IsNoted, IsReported};
 ghost use Rattle.latchsym.specs.Faults.{bad_line_text};
 ghost use Rattle.latchsym.specs.ListingNotes.{is_some_noted};
-ghost use Rattle.latchsym.specs.NoteTexts.{notes_text};
+ghost use Rattle.latchsym.specs.NoteTexts.{note_lines, notes_text};
 ghost use Rattle.latchsym.specs.Faults.{fault_text, file_of, line_of, message_text, fault_number};
-ghost use Rattle.latchsym.specs.Faults.{fault_place, unread_text, with_notes, with_status};
+ghost use Rattle.latchsym.specs.Faults.{fault_place, with_notes, with_status};
 ghost use Rattle.latchsym.specs.Faults.{without_notes};
 
-use crate::command_line::Job;
+use crate::command_line::{Job, ListingFiles};
 use crate::listing_notes::ListingNotes;
-use crate::note_texts::put_job_notes;
+use crate::note_texts::{put_job_notes, put_notes_of};
 use crate::texts::{put_decimal, put_refused};
 use listing::{Counted, LineFault, put};
+use modules::KernelBounds;
 use order_laws::Refusal;
 use std::alloc::AllocError;
 use std::io;
@@ -41,6 +43,9 @@ pub enum Fault {
     /// A file cannot be read.
     #[error("cannot be read")]
     Read { place: u64 },
+    /// A file has more blocks than a `u64` counts.
+    #[error("is too long")]
+    TooLong { place: u64 },
     /// The output cannot be written. Some of it may have gone out.
     #[error("cannot write")]
     Write,
@@ -60,7 +65,8 @@ impl Fault {
     }
 
     /// The number that stands for the fault: that of the refusal, 15 for a bad line, 16 where a
-    /// reader or the writer failed. The program writes texts; who runs an engine has the number.
+    /// reader or the writer failed, 17 for a file that is too long. The program writes texts; who
+    /// runs an engine has the number.
     pub fn number(&self) -> u32
         ensures { result ≡ fault_number self.now }
     {
@@ -68,6 +74,7 @@ impl Fault {
             Fault::Refused(refusal) => refusal.number(),
             Fault::BadLine { .. } => 15,
             Fault::Read { .. } | Fault::Write => 16,
+            Fault::TooLong { .. } => 17,
         }
     }
 
@@ -76,7 +83,9 @@ impl Fault {
         ensures { result ≡ fault_place self.now }
     {
         match self {
-            Fault::BadLine { place, .. } | Fault::Read { place } => Some(*place),
+            Fault::BadLine { place, .. } | Fault::Read { place } | Fault::TooLong { place } => {
+                Some(*place)
+            }
             Fault::Refused(_) | Fault::Write => None,
         }
     }
@@ -88,7 +97,7 @@ impl Fault {
     {
         match self {
             Fault::BadLine { line, .. } => Some(*line),
-            Fault::Refused(_) | Fault::Read { .. } | Fault::Write => None,
+            Fault::Refused(_) | Fault::Read { .. } | Fault::TooLong { .. } | Fault::Write => None,
         }
     }
 }
@@ -189,6 +198,35 @@ fn report_notes<W: Write>(notes: &ListingNotes, job: &Job<'_>, writer: &mut Coun
     let _ = put_job_notes(writer, job, notes);
 }
 
+/// Writes what is noted of the listings in these files, if something is, where these names are given
+/// for the kernel's bounds.
+pub fn note_listings<W: Write>(
+    notes: &ListingNotes,
+    kernel: Option<&KernelBounds>,
+    files: &ListingFiles<'_>,
+    writer: &mut Counted<W>,
+)
+    ensures { IsNoted W.contents writer.old writer.new (is_some_noted notes.now)
+        (note_lines (option_copied kernel.entry) files.now notes.now) }
+{
+    if notes.any() {
+        report_listing_notes(notes, kernel, files, writer);
+    }
+}
+
+/// The same where something is noted. Where the writer fails, there is nobody to tell.
+fn report_listing_notes<W: Write>(
+    notes: &ListingNotes,
+    kernel: Option<&KernelBounds>,
+    files: &ListingFiles<'_>,
+    writer: &mut Counted<W>,
+)
+    ensures { IsReported W.contents writer.old writer.new
+        (note_lines (option_copied kernel.entry) files.now notes.now) }
+{
+    let _ = put_notes_of(writer, kernel, files, notes);
+}
+
 /// Writes the line that says why the job failed, and returns the program's status. Where the writer
 /// fails too, the status is all that there is to tell.
 pub fn report<W: Write>(fault: &Fault, job: &Job<'_>, writer: &mut Counted<W>) -> u8
@@ -233,7 +271,8 @@ fn put_message<W: Write>(fault: &Fault, file: &[u8], writer: &mut Counted<W>) ->
     match fault {
         Fault::Refused(refusal) => put_refused(writer, *refusal),
         Fault::BadLine { line, .. } => put_bad_line(writer, file, *line),
-        Fault::Read { .. } => put_unread(writer, file),
+        Fault::Read { .. } => put_of_file(writer, file, b": cannot be read\n"),
+        Fault::TooLong { .. } => put_of_file(writer, file, b": is too long\n"),
         Fault::Write => put(writer, b"cannot write\n"),
     }
 }
@@ -247,9 +286,10 @@ fn put_bad_line<W: Write>(writer: &mut Counted<W>, file: &[u8], line: u64) -> io
     put(writer, b" is not understood\n")
 }
 
-fn put_unread<W: Write>(writer: &mut Counted<W>, file: &[u8]) -> io::Result<()>
-    ensures { Wrote W.contents writer.old writer.new result (unread_text file.now) }
+/// Writes what is said of a file.
+fn put_of_file<W: Write>(writer: &mut Counted<W>, file: &[u8], message: &[u8]) -> io::Result<()>
+    ensures { Wrote W.contents writer.old writer.new result (file.now ++ message.now) }
 {
     put(writer, file)?;
-    put(writer, b": cannot be read\n")
+    put(writer, message)
 }

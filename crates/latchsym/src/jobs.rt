@@ -1,15 +1,25 @@
 //! A job from the names of its files to its status.
 ghost use Rattle.std.specs.Prelude.{◌≡◌, ◌⊎◌, IfOk, IfErr, List, ℕ, Option};
 ghost use Rattle.listing.specs.Counted.{device_of};
-ghost use Rattle.latchsym.specs.Files.{AreLookupFiles, AreRunFiles, IsOpened};
-ghost use Rattle.latchsym.specs.Files.{IsOpenedIfGiven, or_standard};
-ghost use Rattle.latchsym.specs.Outcomes.{IsLookedUp, IsNotOpened, IsOutcome};
+ghost use Rattle.latchsym.specs.Files.{AreAnnotateFiles, AreListingFiles, AreLookupFiles};
+ghost use Rattle.latchsym.specs.Files.{AreRunFiles, AreSymbolLookupFiles};
+ghost use Rattle.latchsym.specs.Files.{IsOpened, IsOpenedIfGiven, or_standard};
+ghost use Rattle.latchsym.specs.Outcomes.{IsAnnotated, IsLookedUp, IsLookedUpBySymbols};
+ghost use Rattle.latchsym.specs.Outcomes.{IsListingsChecked, IsNotOpened};
+ghost use Rattle.latchsym.specs.Outcomes.{IsOutcome};
 ghost use Rattle.latchsym.specs.Outcomes.{IsScriptRun, IsTraced};
 
-use crate::command_line::{Job, LookupJob, RunJob};
-use crate::fault::{Fault, Finished, with_status, without_notes};
+use crate::annotations::{AnnotateReaders, annotate_engine};
+use crate::checks::check_engine;
+use crate::command_line::{
+    AnnotateJob, CheckJob, Job, ListingFiles, LookupJob, RunJob, SymbolLookupJob,
+};
+use crate::fault::{Fault, Finished, with_notes, with_status, without_notes};
+use crate::listing_notes::ListingNotes;
 use crate::lookup::{LookupReaders, lookup_engine};
+use crate::opened_catalogs::ListingReaders;
 use crate::runs::{RunReaders, run_engine};
+use crate::symbol_lookup::{SymbolLookupReaders, symbol_lookup_engine};
 use crate::trace::trace_engine;
 use listing::Counted;
 use order_laws::Refusal;
@@ -42,21 +52,26 @@ pub trait FileSource {
 
 /// Does the job over the files that it names: opens them, and has its engine answer with the job's
 /// own options, addresses and number of readers. Returns the program's status and what is noted of
-/// the listings, or why it failed.
-pub fn do_job<T: Threads + Wait + Sync, F: FileSource, W: Write>(
+/// the listings, or why it failed. What is noted of the listings of a log is told to `errors` before
+/// the log is begun.
+pub fn do_job<T: Threads + Wait + Sync, F: FileSource, W: Write, E: Write>(
     threads: &T,
     alloc: Global,
     files: &F,
     job: &Job<'_>,
     writer: &mut Counted<W>,
+    errors: &mut Counted<E>,
 ) -> Result<Finished, Fault>
-    ensures { IsOutcome F.File.remaining W.contents (F.held files.now) (F.standard files.now)
-        job.now writer.old writer.new result }
+    ensures { IsOutcome F.File.remaining W.contents E.contents (F.held files.now)
+        (F.standard files.now) job.now writer.old writer.new errors.old errors.new result }
 {
     match job {
         Job::Trace { file } => do_trace(alloc, files, file, writer),
         Job::Lookup(lookup) => do_lookup(alloc, files, lookup, writer),
+        Job::SymbolLookup(lookup) => do_symbol_lookup(alloc, files, lookup, writer),
         Job::Run(script) => do_run(threads, alloc, files, script, writer),
+        Job::Annotate(log) => do_annotate(alloc, files, log, writer, errors),
+        Job::Check(check) => do_check(alloc, files, check, writer),
     }
 }
 
@@ -88,6 +103,21 @@ fn do_lookup<F: FileSource, W: Write>(
     with_status(lookup_engine(alloc, &mut readers, &job.options, &job.addresses, writer))
 }
 
+/// Looks up the addresses of a job by the symbols alone.
+fn do_symbol_lookup<F: FileSource, W: Write>(
+    alloc: Global,
+    files: &F,
+    job: &SymbolLookupJob<'_>,
+    writer: &mut Counted<W>,
+) -> Result<Finished, Fault>
+    ensures { IsLookedUpBySymbols F.File.remaining W.contents (F.held files.now)
+        (F.standard files.now) job.now writer.old writer.new result
+        ⊎ IsNotOpened writer.old writer.new result }
+{
+    let mut readers = open_symbol_lookup(files, job)?;
+    with_status(symbol_lookup_engine(alloc, &mut readers, &job.options, &job.addresses, writer))
+}
+
 /// Runs the script of a job.
 fn do_run<T: Threads + Wait + Sync, F: FileSource, W: Write>(
     threads: &T,
@@ -104,6 +134,47 @@ fn do_run<T: Threads + Wait + Sync, F: FileSource, W: Write>(
     run_engine(threads, alloc, &mut readers, kernel, job.readers, writer)
 }
 
+/// Annotates the log of a job.
+fn do_annotate<F: FileSource, W: Write, E: Write>(
+    alloc: Global,
+    files: &F,
+    job: &AnnotateJob<'_>,
+    writer: &mut Counted<W>,
+    errors: &mut Counted<E>,
+) -> Result<Finished, Fault>
+    ensures { IsAnnotated F.File.remaining W.contents E.contents (F.held files.now)
+        (F.standard files.now) job.now writer.old writer.new errors.old errors.new result
+        ⊎ (IsNotOpened writer.old writer.new result × (errors.new ≡ errors.old)) }
+{
+    let mut readers = open_annotation(files, job)?;
+    let done = annotate_engine(
+        alloc,
+        &mut readers,
+        &job.options,
+        &job.listings,
+        errors,
+        writer,
+    );
+    with_status(without_notes(done))
+}
+
+/// Checks the listings of a job. What is noted of them is written, so that nothing is left to be
+/// told.
+fn do_check<F: FileSource, W: Write>(
+    alloc: Global,
+    files: &F,
+    job: &CheckJob<'_>,
+    writer: &mut Counted<W>,
+) -> Result<Finished, Fault>
+    ensures { IsListingsChecked F.File.remaining W.contents (F.held files.now) job.now
+        writer.old writer.new result ⊎ IsNotOpened writer.old writer.new result }
+{
+    let mut readers = open_listings(files, &job.listings)?;
+    let kernel = job.kernel.as_ref();
+    let status = check_engine(alloc, &mut readers, kernel, &job.listings, writer);
+    with_notes(status, ListingNotes::none())
+}
+
 /// Opens the files of a lookup.
 fn open_lookup<F: FileSource>(
     files: &F,
@@ -118,6 +189,23 @@ fn open_lookup<F: FileSource>(
         kallsyms: files.open(job.kallsyms)?,
         regions: open_if_given(files, job.regions)?,
         addresses: open_addresses(files, job.address_file)?,
+    })
+}
+
+/// Opens the files of a lookup by symbols alone.
+fn open_symbol_lookup<F: FileSource>(
+    files: &F,
+    job: &SymbolLookupJob<'_>,
+) -> Result<SymbolLookupReaders<F::File, F::File>, Refusal>
+    ensures opened { IfOk result
+        (AreSymbolLookupFiles F.File.remaining (F.held files.now) (F.standard files.now) job.now) }
+    ensures refusal { IfErr result (λ e. e ≡ Refusal.OutOfMemory) }
+{
+    let kallsyms = files.open(job.kallsyms)?;
+    let addresses = open_addresses(files, job.address_file)?;
+    Ok(SymbolLookupReaders {
+        kallsyms,
+        addresses,
     })
 }
 
@@ -138,6 +226,37 @@ fn open_run<F: FileSource>(
     })
 }
 
+/// Opens the files of an annotation.
+fn open_annotation<F: FileSource>(
+    files: &F,
+    job: &AnnotateJob<'_>,
+) -> Result<AnnotateReaders<F::File, F::File, F::File, F::File>, Refusal>
+    ensures opened { IfOk result
+        (AreAnnotateFiles F.File.remaining (F.held files.now) (F.standard files.now) job.now) }
+    ensures refusal { IfErr result (λ e. e ≡ Refusal.OutOfMemory) }
+{
+    Ok(AnnotateReaders {
+        listings: open_listings(files, &job.listings)?,
+        log: open_or_standard(files, job.log)?,
+    })
+}
+
+/// Opens the files of listings.
+fn open_listings<F: FileSource>(
+    files: &F,
+    listings: &ListingFiles<'_>,
+) -> Result<ListingReaders<F::File, F::File, F::File>, Refusal>
+    ensures opened { IfOk result
+        (AreListingFiles F.File.remaining (F.held files.now) listings.now) }
+    ensures refusal { IfErr result (λ e. e ≡ Refusal.OutOfMemory) }
+{
+    Ok(ListingReaders {
+        modules: open_if_given(files, listings.modules)?,
+        kallsyms: files.open(listings.kallsyms)?,
+        regions: open_if_given(files, listings.regions)?,
+    })
+}
+
 /// Opens a file, where one is named.
 fn open_if_given<F: FileSource>(
     files: &F,
@@ -152,7 +271,7 @@ fn open_if_given<F: FileSource>(
     }
 }
 
-/// Opens a file of addresses or a script; `-` is the standard input.
+/// Opens a file of addresses, a script or a log; `-` is the standard input.
 fn open_or_standard<F: FileSource>(files: &F, name: &str) -> Result<Counted<F::File>, Refusal>
     ensures opened { IfOk result (IsOpened F.File.remaining
         (or_standard (F.standard files.now) (F.held files.now)) name.now) }

@@ -47,6 +47,27 @@ pub struct ListingNotes {
     pub kallsyms: Option<ListingNote>,
 }
 
+/// All notes, in the order in which the first that applies to a listing is sought.
+const ALL: [ListingNote; 8] = [
+    ListingNote::Gzip,
+    ListingNote::AllHidden,
+    ListingNote::LooksLikeSymbols,
+    ListingNote::LooksLikeModules,
+    ListingNote::LinesEndInCrLf,
+    ListingNote::NoStart,
+    ListingNote::NoEnd,
+    ListingNote::OtherBoot,
+];
+
+impl ListingNote {
+    /// All notes, in that order.
+    pub(crate) fn all() -> &'static [ListingNote]
+        ensures { result.now ≡ all_notes }
+    {
+        &ALL
+    }
+}
+
 impl ListingNotes {
     /// The notes of a job without listings.
     pub fn none() -> ListingNotes
@@ -169,4 +190,66 @@ fn missing_bound(text: &[u8], names: &KernelBounds, has_kernel: bool) -> Option<
     } else {
         None
     }
+}
+
+/// Whether a note applies to a listing of modules with this text, whose well-formed lines are all
+/// hidden or not.
+pub(crate) fn applies_to_modules(
+    note: ListingNote,
+    text: &[u8],
+    hidden: bool,
+    catalog: &Catalog,
+) -> bool
+    requires { hidden ≡ are_modules_hidden (lines_of text.now) }
+    ensures { result ≡ is_of_modules text.now catalog.now note }
+{
+    let none = catalog.len() == 0;
+    match note {
+        ListingNote::Gzip => is_gzip(text),
+        ListingNote::AllHidden => hidden,
+        ListingNote::LooksLikeSymbols => none && looks_like_symbols(text),
+        ListingNote::LinesEndInCrLf => none && first_line_ends_in_cr(text),
+        ListingNote::OtherBoot => lacks_symbols(catalog),
+        ListingNote::LooksLikeModules | ListingNote::NoStart | ListingNote::NoEnd => false,
+    }
+}
+
+/// Whether a note applies to a listing of symbols with this text, of which so many lines are kept,
+/// where these names bound the kernel.
+pub(crate) fn applies_to_kallsyms(
+    note: ListingNote,
+    text: &[u8],
+    names: &KernelBounds,
+    hidden: bool,
+    kept: u64,
+) -> bool
+    requires { hidden ≡ are_symbols_hidden (lines_of text.now) }
+    ensures { result ≡ is_of_kallsyms names.now text.now kept note }
+{
+    let none = kept == 0;
+    match note {
+        ListingNote::Gzip => is_gzip(text),
+        ListingNote::AllHidden => hidden,
+        ListingNote::LooksLikeModules => none && looks_like_modules(text),
+        ListingNote::LinesEndInCrLf => none && first_line_ends_in_cr(text),
+        ListingNote::NoStart => lacks_start(text, names),
+        ListingNote::NoEnd => lacks_end(text, names),
+        ListingNote::LooksLikeSymbols | ListingNote::OtherBoot => false,
+    }
+}
+
+/// Whether symbols of the kernel itself are listed, and none at its first address.
+fn lacks_start(text: &[u8], names: &KernelBounds) -> bool
+    ensures { result ≡ lacks_symbol names.now.start (symbols_in (lines_of text.now)) }
+{
+    let shown = kernel_symbols(text, names);
+    shown.any && !shown.start
+}
+
+/// The same of its end.
+fn lacks_end(text: &[u8], names: &KernelBounds) -> bool
+    ensures { result ≡ lacks_symbol names.now.end (symbols_in (lines_of text.now)) }
+{
+    let shown = kernel_symbols(text, names);
+    shown.any && !shown.end
 }

@@ -45,7 +45,7 @@ pub const MODULES_PLACE: u64 = 0;
 
 pub const KALLSYMS_PLACE: u64 = 1;
 
-const REGIONS_PLACE: u64 = 2;
+pub const REGIONS_PLACE: u64 = 2;
 
 const ADDRESSES_PLACE: u64 = 3;
 
@@ -68,8 +68,8 @@ pub struct LookupOptions<'a> {
 
 /// What a lookup is asked over.
 #[derive(Drop)]
-pub struct LookupInputs<'a> {
-    pub options: &'a LookupOptions<'a>,
+pub struct LookupInputs<'o, 'a> {
+    pub options: &'o LookupOptions<'o>,
     /// The text of the listing of modules.
     pub modules: &'a [u8],
     /// The text of the listing of symbols.
@@ -89,6 +89,10 @@ pub struct Listings<'a> {
     pub skipped_symbols: SymbolCounts,
     /// Whether there is a listing of regions.
     pub has_regions: bool,
+    /// All well-formed lines of the listing of modules are hidden, and there is one.
+    pub modules_hidden: bool,
+    /// The same of the listing of symbols.
+    pub symbols_hidden: bool,
     /// What is noted of them.
     pub notes: ListingNotes,
 }
@@ -115,7 +119,7 @@ pub fn lookup_engine<M: Read, K: Read, R: Read, A: Read, W: Write>(
 {
     let modules = read_at(alloc, &mut readers.modules, MODULES_PLACE)?;
     let kallsyms = read_at(alloc, &mut readers.kallsyms, KALLSYMS_PLACE)?;
-    let regions = read_if_given(alloc, &mut readers.regions)?;
+    let regions = read_if_given(alloc, &mut readers.regions, REGIONS_PLACE)?;
     let texts = ListingTexts {
         modules,
         kallsyms,
@@ -125,17 +129,18 @@ pub fn lookup_engine<M: Read, K: Read, R: Read, A: Read, W: Write>(
     answer_from(alloc, options, addresses, &texts, file, writer)
 }
 
-/// Reads the listing of regions, where there is one.
+/// Reads the file at a place of the order in which they are read, where there is one.
 pub(crate) fn read_if_given<R: Read>(
     alloc: Global,
     reader: &mut Option<Counted<R>>,
+    place: u64,
 ) -> Result<Option<Vec<u8>>, Fault>
     ensures bytes { IfOk result (λ text. IfSome (known_text R.remaining reader.old)
         (λ left. option_map (λ t. t.items) text ≡ left)) }
-    ensures read { IsReadAs 2 (failures_in reader.old) (failures_in reader.new) result }
+    ensures read { IsReadAs place (failures_in reader.old) (failures_in reader.new) result }
 {
     match reader {
-        Some(reader) => Ok(Some(read_at(alloc, reader, REGIONS_PLACE)?)),
+        Some(reader) => Ok(Some(read_at(alloc, reader, place)?)),
         None => Ok(None),
     }
 }
@@ -201,7 +206,7 @@ pub(crate) fn region_lines_in(
 }
 
 /// The addresses that are given, and after them those of the file, where there is one.
-fn all_addresses<A: Read>(
+pub(crate) fn all_addresses<A: Read>(
     alloc: Global,
     given: &[u64],
     file: &mut Option<Counted<A>>,
@@ -222,7 +227,7 @@ fn all_addresses<A: Read>(
 /// Looks the addresses up, and writes what is found.
 fn answer_with<W: Write>(
     alloc: Global,
-    inputs: &LookupInputs<'_>,
+    inputs: &LookupInputs<'_, '_>,
     writer: &mut Counted<W>,
 ) -> Result<ListingNotes, Fault>
     requires { All (λ r. region_fits r ≡ true) (region_lines_of_inputs (inputs_in inputs.now)) }
@@ -248,7 +253,7 @@ fn answer_with<W: Write>(
 #[tactic(auto, unfolding(crate::specs::LookupInputs::catalog_in, crate::specs::LookupInputs::counts_in))]
 pub(crate) fn listings_in<'a>(
     alloc: Global,
-    inputs: &LookupInputs<'a>,
+    inputs: &LookupInputs<'_, 'a>,
 ) -> Result<Listings<'a>, Refusal>
     requires { All (λ r. region_fits r ≡ true) (region_lines_of_inputs (inputs_in inputs.now)) }
     ensures said { IfOk result (AreListingsOf (inputs_in inputs.now)) }
@@ -258,7 +263,7 @@ pub(crate) fn listings_in<'a>(
     let (module_lines, skipped_modules) = read_modules(alloc, inputs.modules)?;
     let (symbol_lines, skipped_symbols) = read_kallsyms(alloc, inputs.kallsyms)?;
     let modules_hidden = are_modules_hidden(module_lines.len(), &skipped_modules);
-    let hidden = are_symbols_hidden(symbol_lines.len(), &skipped_symbols);
+    let symbols_hidden = are_symbols_hidden(symbol_lines.len(), &skipped_symbols);
     let regions = region_lines_of(inputs);
     let (catalog, built) = Catalog::build_between(
         alloc,
@@ -268,7 +273,7 @@ pub(crate) fn listings_in<'a>(
         symbol_lines,
     )?;
     let facts = SymbolFacts {
-        hidden,
+        hidden: symbols_hidden,
         kept: built.symbols,
         has_kernel: catalog.module(0).is_some(),
     };
@@ -282,12 +287,14 @@ pub(crate) fn listings_in<'a>(
         skipped_modules,
         skipped_symbols,
         has_regions: inputs.regions.is_some(),
+        modules_hidden,
+        symbols_hidden,
         notes,
     })
 }
 
 /// The region lines, of which there are none where there is no listing of them.
-fn region_lines_of<'i, 'a>(inputs: &'i LookupInputs<'a>) -> &'i [RegionLine<'a>]
+fn region_lines_of<'i, 'a>(inputs: &'i LookupInputs<'_, 'a>) -> &'i [RegionLine<'a>]
     ensures { result.now ≡ region_lines_of_inputs (inputs_in inputs.now) }
 {
     match &inputs.regions {
@@ -312,11 +319,16 @@ fn put_lookup<W: Write>(
 }
 
 /// Writes the counts of the listings.
-fn put_counts<W: Write>(writer: &mut Counted<W>, listings: &Listings) -> io::Result<()>
+pub(crate) fn put_counts<W: Write>(writer: &mut Counted<W>, listings: &Listings) -> io::Result<()>
     ensures { Wrote W.contents writer.old writer.new result (counts_text listings.now) }
 {
     put_module_counts(writer, &listings.skipped_modules, &listings.built)?;
-    put_symbol_counts(writer, &listings.skipped_symbols, &listings.built)?;
+    put_symbol_counts(
+        writer,
+        &listings.skipped_symbols,
+        listings.built.symbols,
+        listings.built.stray,
+    )?;
     put_counts_of_regions(writer, listings)
 }
 

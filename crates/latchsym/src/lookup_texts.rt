@@ -1,8 +1,9 @@
 //! The lines that a lookup of addresses writes, byte for byte, with no memory taken.
 ghost use Rattle.std.specs.Prelude.{◌++◌, codes, decimal, flat_map};
 ghost use Rattle.listing.specs.Exact.{Wrote};
-ghost use Rattle.latchsym.specs.LookupTexts.{answer_line, causes_text, count_text, modules_line};
-ghost use Rattle.latchsym.specs.LookupTexts.{regions_line, symbols_line};
+ghost use Rattle.latchsym.specs.LookupTexts.{answer_line, causes_text, count_text};
+ghost use Rattle.latchsym.specs.LookupTexts.{found_modules_line, modules_line, regions_line};
+ghost use Rattle.latchsym.specs.LookupTexts.{symbols_line};
 
 use crate::table::AddressAnswer;
 use crate::texts::put_decimal;
@@ -10,7 +11,7 @@ use listing::{
     AddressRule, Cause, Counted, Counts, ModuleCounts, SkippedModule, SkippedSymbol, SymbolCounts,
     put, put_hexadecimal, write_answer_by,
 };
-use modules::{BuildCounts, Catalog};
+use modules::{BuildCounts, Catalog, KeptCounts};
 use std::io;
 use std::io::Write;
 
@@ -81,19 +82,30 @@ pub fn put_module_counts<W: Write>(
     put(writer, b"\n")
 }
 
+/// Writes how many modules a listing of symbols alone has, and how many regions these have.
+pub fn put_found_modules<W: Write>(writer: &mut Counted<W>, kept: &KeptCounts) -> io::Result<()>
+    ensures { Wrote W.contents writer.old writer.new result (found_modules_line kept.now) }
+{
+    put_count(writer, b"modules ", kept.modules)?;
+    put_count(writer, b" regions ", kept.regions)?;
+    put(writer, b"\n")
+}
+
 /// Writes the counts of the listing of symbols: the kept ones, and the others by the cause for
 /// which they were skipped.
 pub fn put_symbol_counts<W: Write>(
     writer: &mut Counted<W>,
     skipped: &SymbolCounts,
-    built: &BuildCounts,
+    kept: u64,
+    stray: u64,
 ) -> io::Result<()>
-    ensures { Wrote W.contents writer.old writer.new result (symbols_line skipped.now.by_place built.now) }
+    ensures { Wrote W.contents writer.old writer.new result
+        (symbols_line skipped.now.by_place kept stray) }
 {
     let (of_content, of_form) = SkippedSymbol::all().split_at(SkippedSymbol::Long.place());
-    put_count(writer, b"symbols ", built.symbols)?;
+    put_count(writer, b"symbols ", kept)?;
     put_causes(writer, of_content, skipped)?;
-    put_count(writer, b" stray ", built.stray)?;
+    put_count(writer, b" stray ", stray)?;
     put_causes(writer, of_form, skipped)?;
     put(writer, b"\n")
 }

@@ -3,11 +3,18 @@
 //! `latchsym trace FILE` runs a trace in the step machine and writes what its lookups found.
 //! `latchsym lookup --modules FILE --kallsyms FILE [--regions FILE] [--kernel START END]
 //! [--addresses FILE] [--callers] [--offset N] [ADDR]..` says which module and which symbol hold an
-//! address. `latchsym run --modules FILE --kallsyms FILE [--regions FILE] [--kernel START END]
-//! --readers N SCRIPT` does what a script says, each writer and each reader on a thread of its own.
+//! address; with `--modules-from-symbols` in place of `--modules` and `--regions` the symbols alone
+//! say where each module lies. `latchsym run --modules FILE --kallsyms FILE [--regions FILE]
+//! [--kernel START END] --readers N SCRIPT` does what a script says, each writer and each reader on
+//! a thread of its own. `latchsym annotate [--kallsyms FILE] [--modules FILE [--regions FILE]]
+//! [--kernel START END] [--callers] [--offset N] [LOG]` writes a log again, with the symbol behind
+//! each address. `latchsym check [--modules FILE [--regions FILE]] --kallsyms FILE
+//! [--kernel START END]` says what is wrong with listings, and how many of their lines are of use.
 #![tactic(auto)]
 
+mod annotations;
 mod assignments;
+mod checks;
 mod command_line;
 mod fault;
 mod input;
@@ -17,8 +24,10 @@ mod lookup;
 mod lookup_texts;
 mod misuse;
 mod note_texts;
+mod opened_catalogs;
 mod run_texts;
 mod runs;
+mod symbol_lookup;
 mod table;
 #[cfg(test)]
 mod tests;
@@ -60,9 +69,9 @@ fn words_of(rt: &HostRuntime) -> Result<Vec<String>, ErrorKind> {
 }
 
 /// Does the job, and returns the program's status. The host that may start threads and wait for
-/// them is taken beside the one that reads and writes, since a script alone needs it. The engine of
-/// traces writes blocks, so nothing gathers its output; for the others there is a buffer before
-/// anything is read.
+/// them is taken beside the one that reads and writes, since a script alone needs it. The engines of
+/// traces and of logs write blocks, so nothing gathers their output; for the others there is a buffer
+/// before anything is read.
 fn run<T: Threads + Wait + Sync>(
     rt: &HostRuntime,
     threads: &T,
@@ -71,15 +80,15 @@ fn run<T: Threads + Wait + Sync>(
 ) -> u8 {
     let files = FileSystem { rt };
     let outcome = match job {
-        Job::Trace { .. } => {
+        Job::Trace { .. } | Job::Annotate(_) => {
             let mut writer = Counted::new(rt.stdout());
-            do_job(threads, rt.alloc(), &files, job, &mut writer)
+            do_job(threads, rt.alloc(), &files, job, &mut writer, errors)
         }
-        Job::Lookup(_) | Job::Run(_) => {
+        Job::Lookup(_) | Job::SymbolLookup(_) | Job::Run(_) | Job::Check(_) => {
             match BufWriter::with_capacity(rt.alloc(), BLOCK, rt.stdout()) {
                 Ok(buffer) => {
                     let mut writer = Counted::new(buffer);
-                    do_job(threads, rt.alloc(), &files, job, &mut writer)
+                    do_job(threads, rt.alloc(), &files, job, &mut writer, errors)
                 }
                 Err(_) => Err(Fault::Refused(Refusal::OutOfMemory)),
             }

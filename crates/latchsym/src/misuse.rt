@@ -27,6 +27,17 @@ pub fn refuse<P: Print + Eprint, E: Write>(
         JobFault::CommandLine(error) => explain(rt, &error, errors),
         JobFault::BadAddress(word) => misused(b"bad address ", word, errors),
         JobFault::NoAddress => misused(b"no address is given", "", errors),
+        JobFault::NoModules => misused(
+            b"a lookup needs --modules FILE or --modules-from-symbols",
+            "",
+            errors,
+        ),
+        JobFault::ModulesTwice => misused(
+            b"--modules-from-symbols stands in place of --modules and --regions",
+            "",
+            errors,
+        ),
+        JobFault::RegionsAlone => misused(b"--regions needs --modules", "", errors),
         JobFault::BadOffset(word) => misused(b"bad offset ", word, errors),
         JobFault::BadEnd(word) => misused(
             b"--kernel takes two names of symbols, and its END is ",

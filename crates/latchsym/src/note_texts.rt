@@ -1,10 +1,12 @@
 //! The lines that say what is noted of listings, byte for byte, with no memory taken.
 ghost use Rattle.std.specs.Prelude.{◌≡◌};
+ghost use Rattle.std.specs.Option.{option_copied};
 ghost use Rattle.listing.specs.Exact.{Wrote};
-ghost use Rattle.latchsym.specs.NoteTexts.{line_if_noted, lines_for, message_of, missing_text};
-ghost use Rattle.latchsym.specs.NoteTexts.{note_line, notes_text, remedy_text};
+ghost use Rattle.latchsym.specs.NoteTexts.{line_if_noted, line_where, lines_for, message_of};
+ghost use Rattle.latchsym.specs.NoteTexts.{missing_text, note_line, note_lines, noted_bounds};
+ghost use Rattle.latchsym.specs.NoteTexts.{notes_text, remedy_text};
 
-use crate::command_line::Job;
+use crate::command_line::{Job, ListingFiles};
 use crate::listing_notes::{ListingNote, ListingNotes};
 use listing::{Counted, put};
 use modules::KernelBounds;
@@ -20,12 +22,39 @@ pub fn put_job_notes<W: Write>(
     ensures { Wrote W.contents writer.old writer.new result (notes_text job.now notes.now) }
 {
     match job {
-        Job::Trace { .. } => Ok(()),
+        Job::Trace { .. } | Job::Check(_) => Ok(()),
         Job::Lookup(job) => {
             let names = &job.options.kernel;
             put_listing_notes(writer, names, job.modules, job.kallsyms, notes)
         }
+        Job::SymbolLookup(job) => {
+            put_symbol_note(writer, job.options.kernel.as_ref(), job.kallsyms, notes)
+        }
         Job::Run(job) => put_listing_notes(writer, &job.kernel, job.modules, job.kallsyms, notes),
+        Job::Annotate(job) => {
+            put_notes_of(writer, job.options.kernel.as_ref(), &job.listings, notes)
+        }
+    }
+}
+
+/// Writes what is noted of the listings in these files, where these names are given for the kernel's
+/// bounds.
+pub fn put_notes_of<W: Write>(
+    writer: &mut Counted<W>,
+    kernel: Option<&KernelBounds>,
+    files: &ListingFiles<'_>,
+    notes: &ListingNotes,
+) -> io::Result<()>
+    ensures { Wrote W.contents writer.old writer.new result
+        (note_lines (option_copied kernel.entry) files.now notes.now) }
+{
+    let usual = KernelBounds::usual();
+    match files.modules {
+        Some(modules) => {
+            let names = kernel.unwrap_or(&usual);
+            put_listing_notes(writer, names, modules, files.kallsyms, notes)
+        }
+        None => put_symbol_note(writer, kernel, files.kallsyms, notes),
     }
 }
 
@@ -44,6 +73,27 @@ fn put_listing_notes<W: Write>(
     put_if_noted(writer, names, kallsyms.as_bytes(), notes.kallsyms)
 }
 
+/// Writes what is noted of the listing of symbols in this file, where these names are given for the
+/// kernel's bounds.
+fn put_symbol_note<W: Write>(
+    writer: &mut Counted<W>,
+    kernel: Option<&KernelBounds>,
+    kallsyms: &str,
+    notes: &ListingNotes,
+) -> io::Result<()>
+    ensures { Wrote W.contents writer.old writer.new result
+        (line_if_noted (noted_bounds (option_copied kernel.entry)) kallsyms.now
+        notes.now.kallsyms) }
+{
+    // a usual bound is missed where the listing has none of the names that it may have
+    let missed = KernelBounds {
+        start: b"_stext",
+        end: b"_etext",
+    };
+    let names = kernel.unwrap_or(&missed);
+    put_if_noted(writer, names, kallsyms.as_bytes(), notes.kallsyms)
+}
+
 /// Writes what is noted of the listing in this file, if something is.
 fn put_if_noted<W: Write>(
     writer: &mut Counted<W>,
@@ -57,6 +107,24 @@ fn put_if_noted<W: Write>(
     match note {
         Some(note) => put_note(writer, names, file, note),
         None => Ok(()),
+    }
+}
+
+/// Writes the line of a note on the listing in this file, where it applies.
+pub(crate) fn put_note_where<W: Write>(
+    writer: &mut Counted<W>,
+    names: &KernelBounds,
+    file: &[u8],
+    note: ListingNote,
+    applies: bool,
+) -> io::Result<()>
+    ensures { Wrote W.contents writer.old writer.new result
+        (line_where applies (note_line names.now file.now note)) }
+{
+    if applies {
+        put_note(writer, names, file, note)
+    } else {
+        Ok(())
     }
 }
 

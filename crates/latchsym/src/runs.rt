@@ -17,8 +17,8 @@ ghost use Rattle.latchsym.specs.Runs.{status_of};
 use crate::assignments::{Assignments, assign};
 use crate::fault::{FAILED, Fault, Finished, SUCCEEDED, with_notes};
 use crate::lookup::{
-    KALLSYMS_PLACE, ListingTexts, LookupInputs, LookupOptions, MODULES_PLACE, listings_in, read_at,
-    read_if_given, region_lines_in,
+    KALLSYMS_PLACE, ListingTexts, LookupInputs, LookupOptions, MODULES_PLACE, REGIONS_PLACE,
+    listings_in, read_at, read_if_given, region_lines_in,
 };
 use crate::run_texts::put_run;
 use listing::{AddressRule, Counted, ModuleName, ScriptLine, read_script};
@@ -70,7 +70,7 @@ pub fn run_engine<T: Threads + Wait + Sync, M: Read, K: Read, R: Read, S: Read, 
 {
     let modules = read_at(alloc, &mut readers.modules, MODULES_PLACE)?;
     let kallsyms = read_at(alloc, &mut readers.kallsyms, KALLSYMS_PLACE)?;
-    let regions = read_if_given(alloc, &mut readers.regions)?;
+    let regions = read_if_given(alloc, &mut readers.regions, REGIONS_PLACE)?;
     let texts = ListingTexts {
         modules,
         kallsyms,
@@ -118,7 +118,7 @@ fn run_from<T: Threads + Wait + Sync, S: Read, W: Write>(
 fn run_with<T: Threads + Wait + Sync, W: Write>(
     rt: &T,
     alloc: Global,
-    inputs: &LookupInputs<'_>,
+    inputs: &LookupInputs<'_, '_>,
     script: &[u8],
     readers: u32,
     writer: &mut Counted<W>,

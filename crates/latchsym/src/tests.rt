@@ -1,8 +1,10 @@
 //! The engine over readers and writers in memory.
 mod address_files;
 mod address_rules;
+mod annotations;
 mod at_size;
 mod bad_input;
+mod checks;
 mod devices_that_fail;
 mod failing_runs;
 mod fault_texts;
@@ -13,6 +15,7 @@ mod option_words;
 mod rows;
 mod scripts;
 mod stops;
+mod symbol_lookups;
 mod words;
 mod wrong_answers;
 

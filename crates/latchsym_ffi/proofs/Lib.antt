@@ -1,5 +1,9 @@
 -- the machine values of a box that is out of its place, and of the pointer to content
 pub mod LooseValues
 pub mod PointerValues
+-- a loop that seeks in a list
+mod FindLemmas
+-- loops over two lists
+mod MapLemmas
 -- handles may go to other threads
 mod Sent

@@ -1,11 +1,15 @@
 -- What is known of an address, and what is told of it.
 use Rattle.std.specs.Prelude.{◌≡◌, ℕ, List, [], ◌++◌, length, take, drop, Option, Some, None}
-use Rattle.std.specs.Option.{option_map, option_map_or}
+use Rattle.std.specs.Option.{option_and_then, option_map, option_map_or}
+use Rattle.listing.specs.AddressRules.{lower_by}
+use Rattle.listing.specs.Answers.{farther}
 use Rattle.order_laws.specs.declared.items.Item.{Item}
 use Rattle.modules.specs.Catalogs.{module_of}
 use Rattle.modules.specs.Entries.{CatalogEntries}
 use Rattle.modules.specs.Found.{Found, symbol_at}
 use Rattle.modules.specs.Items.{item_of_address}
+use Rattle.latchsym_ffi.specs.Answers.{answer_number}
+use Rattle.latchsym_ffi.specs.declared.answers.Answer.TheVariants.{Done, NoSymbol, Nothing}
 use Rattle.latchsym_ffi.specs.declared.finding.CatalogAnswer.{CatalogAnswer}
 use Rattle.latchsym_ffi.specs.declared.finding.Seen.{Seen}
 use Rattle.latchsym_ffi.specs.declared.finding.Description.{Description}
@@ -18,6 +22,14 @@ Known = Option (Item × Option Found)
 abbrev pub known_at : CatalogEntries → ℕ → Known
 known_at c addr = option_map (λ i. (i, symbol_at c i addr)) (item_of_address c addr)
 
+-- the same of a return address: the address one byte lower is looked up, and the offset is that of
+-- the return address
+abbrev pub known_call : CatalogEntries → ℕ → Known
+known_call c addr =
+    option_and_then
+    (λ place. option_map (λ k. (k.0, option_map (farther 1) k.1)) (known_at c place))
+    (lower_by 1 addr)
+
 -- the same in an item that a table has for the address
 abbrev pub known_in : CatalogEntries → ℕ → Option Item → Known
 known_in c addr x = option_map (λ i. (i, symbol_at c i addr)) x
@@ -27,9 +39,9 @@ shown_seen s = (s.item, s.found)
 
 -- the number that is returned
 abbrev pub known_code : Known → ℕ
-known_code None = 2
-known_code (Some (i, None)) = 1
-known_code (Some (i, Some f)) = 0
+known_code None = answer_number Nothing
+known_code (Some (i, None)) = answer_number NoSymbol
+known_code (Some (i, Some f)) = answer_number Done
 
 -- the name of the module of a number
 abbrev pub module_name : CatalogEntries → ℕ → List ℕ

@@ -1,4 +1,6 @@
 -- The definitions of this crate, in the order in which to read them.
+-- the numbers that calls return, and the texts of these
+pub mod Answers
 -- the numbers of the kinds of content
 pub mod Kinds
 -- what a handle owns
@@ -7,8 +9,16 @@ pub mod Owning
 pub mod Handles
 -- what the bytes of the listings say
 pub mod Opening
+-- the struct of C that has the listings
+pub mod Listings
 -- what is known of an address, and what is told of it
 pub mod Finding
+-- the names where they lie in the listings
+pub mod Named
+-- what is told of one of several addresses
+pub mod Batches
+-- the modules, the regions and the symbols of a catalog
+pub mod ByNumber
 -- what the calls on catalogs return
 pub mod Catalogs
 -- the numbers that calls on a writer return
@@ -19,3 +29,5 @@ pub mod Lookups
 pub mod Tables
 -- what the enlarging of a table gives
 pub mod Enlarging
+-- what the adding of a reader gives
+pub mod Adding

@@ -4,6 +4,8 @@ use Rattle.order_laws.specs.declared.items.Item.{Item}
 use Rattle.latch_table.specs.declared.readers.Try.{Try}
 use Rattle.latch_table.specs.declared.readers.Try.TheVariants.{Answered, Retry}
 use Rattle.modules.specs.Entries.{CatalogEntries}
+use Rattle.latchsym_ffi.specs.Answers.{answer_number}
+use Rattle.latchsym_ffi.specs.declared.answers.Answer.TheVariants as answer
 use Rattle.latchsym_ffi.specs.declared.finding.CatalogAnswer.{CatalogAnswer}
 use Rattle.latchsym_ffi.specs.declared.lookups.TableAnswer.{TableAnswer}
 use Rattle.latchsym_ffi.specs.Finding.{answer_of, copied, known_code, known_in, owner_named}
@@ -16,13 +18,13 @@ answer_from (Some i) g = record { a = i.a; b = i.b; tag = i.tag; generation = g 
 
 -- the number of what was found
 abbrev pub found_code : Option Item → ℕ
-found_code None = 2
-found_code (Some i) = 0
+found_code None = answer_number answer.Nothing
+found_code (Some i) = answer_number answer.Done
 
 -- the number of an attempt
 abbrev pub try_code : Try → ℕ
 try_code (Answered x g) = found_code x
-try_code Retry = 3
+try_code Retry = answer_number answer.Retry
 
 -- what an attempt tells; nothing where another is to be made
 abbrev pub Shows : Try → TableAnswer → TableAnswer → Type 0
@@ -32,7 +34,7 @@ Shows Retry old new = new ≡ old
 -- the number of an attempt with a name: that of what is known, or that another is to be made
 abbrev pub name_code : CatalogEntries → ℕ → Try → ℕ
 name_code c addr (Answered x g) = known_code (known_in c addr x)
-name_code c addr Retry = 3
+name_code c addr Retry = answer_number answer.Retry
 
 -- what an attempt with a name tells of the symbol
 abbrev pub Names : CatalogEntries → ℕ → Try → CatalogAnswer → CatalogAnswer → Type 0

@@ -9,22 +9,26 @@ use Rattle.listing.specs.declared.symbol_listing.SkippedSymbol.TheVariants as sy
 use Rattle.listing.specs.Lines.{lines_of}
 use Rattle.listing.specs.ModuleListing.{module_counts, module_place, modules_in}
 use Rattle.listing.specs.SymbolListing.{symbol_counts, symbol_place, symbols_in}
-use Rattle.modules.specs.Catalogs.{catalog_of, counts_of}
+use Rattle.modules.specs.Accepted.{Accepted}
+use Rattle.modules.specs.Catalogs.{catalog_of, catalog_with, counts_of, kept_counts}
 use Rattle.modules.specs.Entries.{CatalogEntries}
-use Rattle.modules.specs.Listed.{BoundNames, ListedRegion}
+use Rattle.modules.specs.FromSymbols.{IsFromSymbols}
+use Rattle.modules.specs.Lines.{bounds_for}
+use Rattle.modules.specs.Listed.{BoundNames, ListedRegion, ListedSymbol}
 use Rattle.modules.specs.Placed.{are_few}
 use Rattle.modules.specs.declared.catalog.BuildCounts.{BuildCounts}
+use Rattle.modules.specs.declared.catalog.KeptCounts.{KeptCounts}
 use Rattle.latchsym_ffi.specs.declared.opening.CatalogCounts.{CatalogCounts}
 use Rattle.latchsym_ffi.specs.declared.opening.CatalogFault.{CatalogFault}
 use Rattle.latchsym_ffi.specs.declared.opening.CatalogFault.TheVariants.{BadLine, Refused}
 use Rattle.latchsym_ffi.specs.declared.opening.CatalogTexts.{CatalogTexts}
 use Rattle.listing.specs.RegionListing.{regions_of_text as listed_regions}
 
--- the bytes of the listings, of which that of regions may be missing, and the names of the symbols
--- that bound the kernel's own region
+-- the bytes of the listings, of which only that of symbols must be there, and the names of the
+-- symbols that bound the kernel's own region, where they are given
 pub record ListingTexts : Type 0 where
-  pub kernel : BoundNames
-  pub modules : List ℕ
+  pub kernel : Option BoundNames
+  pub modules : Option (List ℕ)
   pub kallsyms : List ℕ
   pub regions : Option (List ℕ)
 
@@ -32,10 +36,17 @@ abbrev pub shown_texts : CatalogTexts → ListingTexts
 shown_texts t =
     record {
       kernel = t.kernel;
-      modules = t.modules.now;
+      modules = option_copied t.modules;
       kallsyms = t.kallsyms.now;
       regions = option_copied t.regions;
     }
+
+abbrev pub symbols_of_text : ListingTexts → List ListedSymbol
+symbols_of_text t = symbols_in (lines_of t.kallsyms)
+
+-- the names that are given, or else those that the listing of symbols has
+abbrev pub bounds_of_texts : ListingTexts → BoundNames
+bounds_of_texts t = bounds_for t.kernel (symbols_of_text t)
 
 -- the region lines of a listing that may be there, or the number of its first bad line
 abbrev pub region_lines_of_text : Option (List ℕ) → Result (List ListedRegion) ℕ
@@ -62,32 +73,64 @@ counts_in m s b = record {
   regions_stray = b.stray_regions;
 }
 
--- the catalog of the listings and of region lines
-abbrev pub catalog_in : ListingTexts → List ListedRegion → CatalogEntries
-catalog_in t lines =
-    catalog_of t.kernel (modules_in (lines_of t.modules)) lines
-    (symbols_in (lines_of t.kallsyms))
+-- the counts of the skipped lines of a listing of symbols alone, and those of the build
+abbrev pub counts_alone : List ℕ → KeptCounts → CatalogCounts
+counts_alone s k = record {
+  modules = k.modules;
+  modules_hidden = 0;
+  modules_empty = 0;
+  modules_wraps = 0;
+  modules_overlap = 0;
+  modules_double = 0;
+  modules_long = 0;
+  modules_malformed = 0;
+  symbols = k.symbols;
+  symbols_hidden = slice_index s (symbol_place symbol_cause.Hidden);
+  symbols_stray = k.stray;
+  symbols_long = slice_index s (symbol_place symbol_cause.Long);
+  symbols_malformed = slice_index s (symbol_place symbol_cause.Malformed);
+  regions = k.regions;
+  regions_stray = 0;
+}
 
-abbrev pub build_counts_in : ListingTexts → List ListedRegion → BuildCounts
-build_counts_in t lines =
-    counts_of t.kernel (modules_in (lines_of t.modules)) lines
-    (symbols_in (lines_of t.kallsyms))
-
--- the catalog and the counts are those of the texts with these region lines
-pub record IsOpenedCatalog (t : ListingTexts) (lines : List ListedRegion) (c : CatalogEntries)
-    (n : CatalogCounts)
+-- the catalog and the counts are those of the texts, with this listing of modules and these region
+-- lines
+pub record IsOpenedCatalog (t : ListingTexts) (modules : List ℕ) (lines : List ListedRegion)
+    (c : CatalogEntries) (n : CatalogCounts)
     : Type 0 where
-  pub catalog : c ≡ catalog_in t lines
+  pub catalog :
+      c
+      ≡ catalog_of (bounds_of_texts t) (modules_in (lines_of modules)) lines (symbols_of_text t)
   pub counts :
-      n ≡ counts_in (module_counts (lines_of t.modules)) (symbol_counts (lines_of t.kallsyms))
-      (build_counts_in t lines)
+      n ≡ counts_in (module_counts (lines_of modules)) (symbol_counts (lines_of t.kallsyms))
+      (counts_of (bounds_of_texts t) (modules_in (lines_of modules)) lines (symbols_of_text t))
 
 -- the same with the region lines that the texts have, of which no more than seven have one name
-pub record AreRead (t : ListingTexts) (c : CatalogEntries) (n : CatalogCounts) : Type 0 where
+pub record AreReadWith (t : ListingTexts) (modules : List ℕ) (c : CatalogEntries)
+    (n : CatalogCounts)
+    : Type 0 where
   pub lines : List ListedRegion
   pub read : region_lines_of_text t.regions ≡ Ok lines
   pub few : are_few lines ≡ true
-  pub opened : IsOpenedCatalog t lines c n
+  pub opened : IsOpenedCatalog t modules lines c n
+
+-- the catalog and the counts are those of the listing of symbols alone
+pub record AreReadAlone (t : ListingTexts) (c : CatalogEntries) (n : CatalogCounts) : Type 0 where
+  pub accepted : Accepted
+  pub from_symbols : IsFromSymbols (bounds_of_texts t) (symbols_of_text t) accepted
+  pub catalog : c ≡ catalog_with accepted (symbols_of_text t)
+  pub counts :
+      n ≡ counts_alone (symbol_counts (lines_of t.kallsyms))
+      (kept_counts accepted (symbols_of_text t))
+
+-- with a listing of modules, and without
+abbrev pub AreReadFrom : Option (List ℕ) → ListingTexts → CatalogEntries → CatalogCounts → Type 0
+AreReadFrom None t c n = AreReadAlone t c n
+AreReadFrom (Some modules) t c n = AreReadWith t modules c n
+
+-- the catalog and the counts are those of the texts
+abbrev pub AreRead : ListingTexts → CatalogEntries → CatalogCounts → Type 0
+AreRead t c n = AreReadFrom t.modules t c n
 
 -- the region lines, or why they are not there
 abbrev pub GivesRegions : Option (List ℕ) → Result (Vec ListedRegion) CatalogFault → Type 0

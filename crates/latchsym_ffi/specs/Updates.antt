@@ -8,6 +8,8 @@ use Rattle.latch_core.specs.declared.updates.Update.{Update}
 use Rattle.latch_table.specs.declared.writers.Did.{Did}
 use Rattle.latch_table.specs.declared.writers.Did.TheVariants.{Flip, Store}
 use Rattle.latch_table.specs.Writers.{Refuses, WriterState}
+use Rattle.latchsym_ffi.specs.Answers.{answer_number}
+use Rattle.latchsym_ffi.specs.declared.answers.Answer.TheVariants as answer
 use Rattle.latchsym_ffi.specs.declared.updates.TableItem.{TableItem}
 
 abbrev pub item_from : TableItem → Item
@@ -15,9 +17,9 @@ item_from i = record { a = i.a; b = i.b; tag = i.tag }
 
 -- the number of a step
 abbrev pub did_code : Option Did → ℕ
-did_code None = 0
-did_code (Some Flip) = 1
-did_code (Some Store) = 2
+did_code None = answer_number answer.Done
+did_code (Some Flip) = answer_number answer.Flip
+did_code (Some Store) = answer_number answer.Store
 
 -- the writer refuses an update by the refusal of this number
 abbrev pub RefusesAs : WriterState → Update → ℕ → Type 0

@@ -1,10 +1,190 @@
-//! The numbers that calls return, but those of refusals.
+//! The numbers that calls return, each of which means one thing whatever call returns it.
 
-/// The call did what it was asked for, or a symbol or an item was found.
+ghost use Rattle.std.specs.Prelude.{◌≡◌, ◌++◌, [], ◌∷◌, Some, find};
+ghost use Rattle.latchsym_ffi.specs.declared.answers.Answer.{Answer as Told};
+ghost use Rattle.latchsym_ffi.specs.Answers.{answer_number, answer_text, answer_with};
+ghost use Rattle.latchsym_ffi.specs.Answers.{has_number, refusal_text, text_with};
+
+use order_laws::Refusal;
+
+/// The call did what it was asked for: of a search, something was found; of a step, no update is
+/// pending any more.
 pub(crate) const DONE: u32 = 0;
 
 /// A listing has a line that is not in its grammar.
 pub(crate) const BAD_LINE: u32 = 15;
 
+/// The address lies in a region, and no symbol of it is at or below the address.
+pub(crate) const NO_SYMBOL: u32 = 21;
+
+/// Nothing is there.
+pub(crate) const NOTHING: u32 = 22;
+
+/// The writer flipped meanwhile: another attempt is to be made.
+pub(crate) const RETRY: u32 = 23;
+
+/// A step was a flip of the sequence.
+pub(crate) const FLIP: u32 = 31;
+
+/// A step was a store of another word.
+pub(crate) const STORE: u32 = 32;
+
 /// The handle holds nothing, or something else than is wanted.
 pub(crate) const BAD_HANDLE: u32 = 101;
+
+/// There is not as much room as there are addresses.
+pub(crate) const BAD_LENGTH: u32 = 102;
+
+/// The struct of the listings is not one of this version, or has one that it says is not there.
+pub(crate) const BAD_LISTINGS: u32 = 103;
+
+/// What a call returns.
+#[derive(Clone, Copy, Drop)]
+pub enum Answer {
+    Done,
+    Refused(Refusal),
+    BadLine,
+    NoSymbol,
+    Nothing,
+    Retry,
+    Flip,
+    Store,
+    BadHandle,
+    BadLength,
+    BadListings,
+}
+
+/// All that a call of the crates below and of this one returns, by rising number.
+const ALL: [Answer; 25] = [
+    Answer::Done,
+    Answer::Refused(Refusal::BadItem),
+    Answer::Refused(Refusal::Overlap),
+    Answer::Refused(Refusal::NoSuchItem),
+    Answer::Refused(Refusal::Full),
+    Answer::Refused(Refusal::UpdateInHand),
+    Answer::Refused(Refusal::SequenceSpent),
+    Answer::Refused(Refusal::OutOfMemory),
+    Answer::Refused(Refusal::ReaderBusy),
+    Answer::Refused(Refusal::ReaderIdle),
+    Answer::Refused(Refusal::BadCapacity),
+    Answer::Refused(Refusal::UnknownModule),
+    Answer::Refused(Refusal::AlreadyLoaded),
+    Answer::Refused(Refusal::NotLoaded),
+    Answer::Refused(Refusal::TooManyRegions),
+    Answer::BadLine,
+    Answer::Refused(Refusal::NoInit),
+    Answer::NoSymbol,
+    Answer::Nothing,
+    Answer::Retry,
+    Answer::Flip,
+    Answer::Store,
+    Answer::BadHandle,
+    Answer::BadLength,
+    Answer::BadListings,
+];
+
+/// The first of these answers that has a number.
+fn first_with(answers: &[Answer], number: u32) -> Option<Answer>
+    ensures { result ≡ find (has_number number) answers.now }
+{
+    for answer in answers {
+        if answer.has_number(number) {
+            return Some(*answer);
+        }
+    }
+    None
+}
+
+impl Answer {
+    /// Its number.
+    fn number(self) -> u32
+        ensures { result ≡ answer_number self }
+    {
+        match self {
+            Answer::Done => DONE,
+            Answer::Refused(refusal) => refusal.number(),
+            Answer::BadLine => BAD_LINE,
+            Answer::NoSymbol => NO_SYMBOL,
+            Answer::Nothing => NOTHING,
+            Answer::Retry => RETRY,
+            Answer::Flip => FLIP,
+            Answer::Store => STORE,
+            Answer::BadHandle => BAD_HANDLE,
+            Answer::BadLength => BAD_LENGTH,
+            Answer::BadListings => BAD_LISTINGS,
+        }
+    }
+
+    /// Whether it has a number.
+    #[tactic(auto, unfolding(crate::specs::Answers::has_number))]
+    fn has_number(&self, number: u32) -> bool
+        ensures { result ≡ has_number number self.now }
+    {
+        self.number() == number
+    }
+
+    /// The answer of a number.
+    fn with_number(number: u32) -> Option<Answer>
+        ensures { result ≡ answer_with number }
+    {
+        first_with(&ALL, number)
+    }
+
+    /// Its text, with a 0 at the end.
+    fn text(self) -> &'static [u8]
+        ensures { result.now ≡ answer_text self ++ 0 ∷ [] }
+    {
+        match self {
+            Answer::Done => b"done\0",
+            Answer::Refused(refusal) => text_of_refusal(refusal),
+            Answer::BadLine => b"a line of the listing of regions is not one\0",
+            Answer::NoSymbol => b"no symbol of the region is at or below the address\0",
+            Answer::Nothing => b"nothing is there\0",
+            Answer::Retry => b"the writer flipped meanwhile: try again\0",
+            Answer::Flip => b"a flip of the sequence\0",
+            Answer::Store => b"a store of a word\0",
+            Answer::BadHandle => b"the handle does not hold what is wanted\0",
+            Answer::BadLength => b"the room is not for as many answers as there are addresses\0",
+            Answer::BadListings => b"the listings are not as this version has them\0",
+        }
+    }
+}
+
+/// The text of a refusal, with a 0 at the end.
+fn text_of_refusal(refusal: Refusal) -> &'static [u8]
+    ensures { result.now ≡ refusal_text refusal ++ 0 ∷ [] }
+{
+    match refusal {
+        Refusal::BadItem => b"the item is empty\0",
+        Refusal::Overlap => b"the item overlaps one of the table\0",
+        Refusal::NoSuchItem => b"no item of the table begins there\0",
+        Refusal::Full => b"the table has as many items as nodes\0",
+        Refusal::UpdateInHand => b"an update is pending\0",
+        Refusal::SequenceSpent => b"the sequence is spent\0",
+        Refusal::OutOfMemory => b"out of memory\0",
+        Refusal::ReaderBusy => b"the reader has a pending lookup\0",
+        Refusal::ReaderIdle => b"the reader has no pending lookup\0",
+        Refusal::BadCapacity => b"the number of nodes or of readers is out of its range\0",
+        Refusal::UnknownModule => b"the catalog has no such module\0",
+        Refusal::AlreadyLoaded => b"the module is in the table\0",
+        Refusal::NotLoaded => b"the module is not in the table\0",
+        Refusal::TooManyRegions => b"more than 7 region lines have one name\0",
+        Refusal::NoInit => b"the table has no init region of the module\0",
+    }
+}
+
+/// The text of a number, with a 0 at the end.
+pub(crate) fn text_of(number: u32) -> &'static [u8]
+    ensures { result.now ≡ text_with number ++ 0 ∷ [] }
+{
+    match Answer::with_number(number) {
+        Some(answer) => answer.text(),
+        None => b"no number of this library\0",
+    }
+}
+
+/// A number means one thing: it is that of no second answer.
+#[tactic(auto, unfolding(crate::specs::Answers::has_number))]
+fn numbers_mean_one_thing()
+    ensures { (a : Told) → answer_with (answer_number a) ≡ Some a }
+{}

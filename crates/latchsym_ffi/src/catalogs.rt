@@ -1,22 +1,24 @@
 //! What C calls, of catalogs.
 
-ghost use Rattle.std.specs.Prelude.{◌≡◌, ◌≢◌, IfOk};
+ghost use Rattle.std.specs.Prelude.{◌≡◌, ◌≢◌, true, false, IfOk, length, map};
 ghost use Rattle.modules.specs.Entries.{CatalogEntries};
-ghost use Rattle.std.specs.Option.{option_copied};
-ghost use Rattle.latchsym_ffi.specs.Catalogs.{bounded_texts, OpensCatalog, RefusesCatalog};
-ghost use Rattle.latchsym_ffi.specs.Catalogs.{text_if_any, three_texts, two_texts};
+ghost use Rattle.latchsym_ffi.specs.Batches.{told_at};
+ghost use Rattle.latchsym_ffi.specs.Catalogs.{OpensCatalog, RefusesCatalog};
 ghost use Rattle.latchsym_ffi.specs.Finding.{answer_of, copied, known_at, known_code, owner_named};
-ghost use Rattle.latchsym_ffi.specs.Finding.{symbol_named};
+ghost use Rattle.latchsym_ffi.specs.Finding.{known_call, symbol_named};
 ghost use Rattle.latchsym_ffi.specs.Handles.{HoldsCatalog, Stays};
 ghost use Rattle.latchsym_ffi.specs.Kinds.{catalog_kind};
+ghost use Rattle.latchsym_ffi.specs.Listings.{is_understood, texts_in};
+ghost use Rattle.latchsym_ffi.specs.Named.{IsNamed};
 ghost use Rattle.latchsym_ffi.specs.Opening.{RefusesTexts, shown_texts};
 
-use crate::answers::{BAD_HANDLE, BAD_LINE, DONE};
+use crate::answers::{BAD_HANDLE, BAD_LENGTH, BAD_LINE, BAD_LISTINGS, DONE};
+use crate::batches::{CatalogTold, tell_all};
 use crate::contents::{CATALOG, CLOSED, Content};
-use crate::finding::{CatalogAnswer, find};
+use crate::finding::{CatalogAnswer, CatalogSymbol, find, find_caller, find_copied};
 use crate::handles::Handle;
+use crate::listings::CatalogListings;
 use crate::opening::{CatalogCounts, CatalogFault, CatalogTexts, open_catalog};
-use modules::KernelBounds;
 use order_laws::Refusal;
 use std::alloc::{AllocError, Global};
 
@@ -44,16 +46,12 @@ fn open_in(
     counts: &mut CatalogCounts,
     bad_line: &mut u64,
 ) -> u32
+    requires { out.old.kind ≡ 0 }
     ensures opened { result ≡ 0 → OpensCatalog (shown_texts texts.now) out.old out.new counts.new }
     ensures refused { result ≢ 0 → (out.new ≡ out.old) × (counts.new ≡ counts.old) }
-    ensures not_so { out.old.kind ≢ 0 → result ≡ 101 }
-    ensures why { out.old.kind ≡ 0 → result ≢ 0
-        → RefusesCatalog (shown_texts texts.now) bad_line.new result }
+    ensures why { result ≢ 0 → RefusesCatalog (shown_texts texts.now) bad_line.new result }
     ensures told { result ≢ 15 → bad_line.new ≡ bad_line.old }
 {
-    if out.kind != CLOSED {
-        return BAD_HANDLE;
-    }
     match open_catalog(alloc, texts) {
         Ok((content, counted)) => {
             out.put(content);
@@ -64,104 +62,126 @@ fn open_in(
     }
 }
 
-/// Opens the catalog of the listings of modules and of symbols, and tells how many lines went
-/// where.
+/// Opens the catalog of the listings that are given, and tells how many lines went where.
 #[unsafe(no_mangle)]
 pub extern "C" fn latchsym_catalog_open(
     alloc: Global,
-    modules: &'static [u8],
-    kallsyms: &'static [u8],
-    out: &mut Handle,
-    counts: &mut CatalogCounts,
-) -> u32
-    ensures opened { result ≡ 0
-        → OpensCatalog (two_texts modules.now kallsyms.now) out.old out.new counts.new }
-    ensures refused { result ≢ 0 → (out.new ≡ out.old) × (counts.new ≡ counts.old) }
-    ensures not_so { out.old.kind ≢ 0 → result ≡ 101 }
-    ensures why { out.old.kind ≡ 0 → result ≢ 0 → result ≡ 7 }
-{
-    let texts = CatalogTexts {
-        kernel: KernelBounds::usual(),
-        modules,
-        kallsyms,
-        regions: None,
-    };
-    let mut bad_line = 0;
-    open_in(alloc, &texts, out, counts, &mut bad_line)
-}
-
-/// The same with a listing of regions.
-#[unsafe(no_mangle)]
-pub extern "C" fn latchsym_catalog_open_with_regions(
-    alloc: Global,
-    modules: &'static [u8],
-    kallsyms: &'static [u8],
-    regions: &'static [u8],
+    listings: &CatalogListings,
     out: &mut Handle,
     counts: &mut CatalogCounts,
     bad_line: &mut u64,
 ) -> u32
-    ensures opened { result ≡ 0
-        → OpensCatalog
-        (three_texts modules.now kallsyms.now regions.now) out.old out.new counts.new }
+    ensures opened { result ≡ 0 → (is_understood listings.now ≡ true)
+        × OpensCatalog (texts_in listings.now) out.old out.new counts.new }
     ensures refused { result ≢ 0 → (out.new ≡ out.old) × (counts.new ≡ counts.old) }
     ensures not_so { out.old.kind ≢ 0 → result ≡ 101 }
-    ensures why { out.old.kind ≡ 0 → result ≢ 0
-        → RefusesCatalog (three_texts modules.now kallsyms.now regions.now) bad_line.new result }
+    ensures other { out.old.kind ≡ 0 → is_understood listings.now ≡ false → result ≡ 103 }
+    ensures why { out.old.kind ≡ 0 → is_understood listings.now ≡ true → result ≢ 0
+        → RefusesCatalog (texts_in listings.now) bad_line.new result }
     ensures told { result ≢ 15 → bad_line.new ≡ bad_line.old }
 {
-    let texts = CatalogTexts {
-        kernel: KernelBounds::usual(),
-        modules,
-        kallsyms,
-        regions: Some(regions),
-    };
-    open_in(alloc, &texts, out, counts, bad_line)
+    if out.kind != CLOSED {
+        return BAD_HANDLE;
+    }
+    if !listings.is_understood() {
+        return BAD_LISTINGS;
+    }
+    open_in(alloc, &listings.texts(), out, counts, bad_line)
 }
 
-/// The listing of regions, which is none where it has no byte.
-fn if_any(text: &'static [u8]) -> Option<&'static [u8]>
-    ensures { option_copied result ≡ text_if_any text.now }
-{
-    if text.is_empty() { None } else { Some(text) }
-}
-
-/// The same, with the names of the symbols at the kernel's first address and at its end, and with a
-/// listing of regions where that has a byte.
+/// Tells of an address, with the names where they lie in the listings.
 #[unsafe(no_mangle)]
-pub extern "C" fn latchsym_catalog_open_between(
-    alloc: Global,
-    modules: &'static [u8],
-    kallsyms: &'static [u8],
-    regions: &'static [u8],
-    start: &'static [u8],
-    end: &'static [u8],
-    out: &mut Handle,
-    counts: &mut CatalogCounts,
-    bad_line: &mut u64,
+pub extern "C" fn latchsym_catalog_find(
+    catalog: &mut Handle,
+    addr: u64,
+    out: &mut CatalogSymbol,
 ) -> u32
-    ensures opened { result ≡ 0 → OpensCatalog
-        (bounded_texts (record { start = start.now; end = end.now })
-        modules.now kallsyms.now regions.now) out.old out.new counts.new }
-    ensures refused { result ≢ 0 → (out.new ≡ out.old) × (counts.new ≡ counts.old) }
-    ensures not_so { out.old.kind ≢ 0 → result ≡ 101 }
-    ensures why { out.old.kind ≡ 0 → result ≢ 0 → RefusesCatalog
-        (bounded_texts (record { start = start.now; end = end.now })
-        modules.now kallsyms.now regions.now) bad_line.new result }
-    ensures told { result ≢ 15 → bad_line.new ≡ bad_line.old }
+    ensures stays { Stays catalog.old catalog.new }
+    ensures code { (c : CatalogEntries) → HoldsCatalog c catalog.old
+        → result ≡ known_code (known_at c addr) }
+    ensures symbol { (c : CatalogEntries) → HoldsCatalog c catalog.old
+        → IsNamed c (known_at c addr) out.new }
+    ensures other { catalog.old.kind ≢ catalog_kind → (result ≡ 101) × (catalog.new ≡ catalog.old)
+        × (out.new ≡ out.old) }
 {
-    let texts = CatalogTexts {
-        kernel: KernelBounds { start, end },
-        modules,
-        kallsyms,
-        regions: if_any(regions),
+    if catalog.kind != CATALOG {
+        return BAD_HANDLE;
+    }
+    let content = catalog.take();
+    let result = match &*content {
+        Content::Catalog(shared) => find(shared.indexed(), addr, out),
+        _ => BAD_HANDLE,
     };
-    open_in(alloc, &texts, out, counts, bad_line)
+    catalog.put(content);
+    result
+}
+
+/// Tells of a return address: of the call before it, with the offset of the address itself.
+#[unsafe(no_mangle)]
+pub extern "C" fn latchsym_catalog_find_caller(
+    catalog: &mut Handle,
+    addr: u64,
+    out: &mut CatalogSymbol,
+) -> u32
+    ensures stays { Stays catalog.old catalog.new }
+    ensures code { (c : CatalogEntries) → HoldsCatalog c catalog.old
+        → result ≡ known_code (known_call c addr) }
+    ensures symbol { (c : CatalogEntries) → HoldsCatalog c catalog.old
+        → IsNamed c (known_call c addr) out.new }
+    ensures other { catalog.old.kind ≢ catalog_kind → (result ≡ 101) × (catalog.new ≡ catalog.old)
+        × (out.new ≡ out.old) }
+{
+    if catalog.kind != CATALOG {
+        return BAD_HANDLE;
+    }
+    let content = catalog.take();
+    let result = match &*content {
+        Content::Catalog(shared) => find_caller(shared.indexed(), addr, out),
+        _ => BAD_HANDLE,
+    };
+    catalog.put(content);
+    result
+}
+
+/// Tells of several addresses, each in the room of its place.
+#[unsafe(no_mangle)]
+pub extern "C" fn latchsym_catalog_find_many(
+    catalog: &mut Handle,
+    addrs: &[u64],
+    out: &mut [CatalogTold],
+) -> u32
+    ensures stays { Stays catalog.old catalog.new }
+    ensures told { (c : CatalogEntries) → HoldsCatalog c catalog.old → result ≡ 0
+        → out.new ≡ map (told_at c) addrs.now }
+    ensures done { (c : CatalogEntries) → HoldsCatalog c catalog.old
+        → length out.old ≡ length addrs.now → result ≡ 0 }
+    ensures room { (c : CatalogEntries) → HoldsCatalog c catalog.old
+        → length out.old ≢ length addrs.now → result ≡ 102 }
+    ensures refused { result ≢ 0 → out.new ≡ out.old }
+    ensures other { catalog.old.kind ≢ catalog_kind
+        → (result ≡ 101) × (catalog.new ≡ catalog.old) }
+{
+    if catalog.kind != CATALOG {
+        return BAD_HANDLE;
+    }
+    if out.len() != addrs.len() {
+        return BAD_LENGTH;
+    }
+    let content = catalog.take();
+    let result = match &*content {
+        Content::Catalog(shared) => {
+            tell_all(shared.indexed(), addrs, out);
+            DONE
+        }
+        _ => BAD_HANDLE,
+    };
+    catalog.put(content);
+    result
 }
 
 /// Tells of an address, and copies as much of the names as there is room for.
 #[unsafe(no_mangle)]
-pub extern "C" fn latchsym_catalog_find(
+pub extern "C" fn latchsym_catalog_name(
     catalog: &mut Handle,
     addr: u64,
     out: &mut CatalogAnswer,
@@ -185,7 +205,7 @@ pub extern "C" fn latchsym_catalog_find(
     }
     let content = catalog.take();
     let result = match &*content {
-        Content::Catalog(shared) => find(shared.indexed(), addr, out, name, owner),
+        Content::Catalog(shared) => find_copied(shared.indexed(), addr, out, name, owner),
         _ => BAD_HANDLE,
     };
     catalog.put(content);

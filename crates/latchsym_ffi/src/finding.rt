@@ -1,11 +1,14 @@
 //! What is known of an address.
 
-ghost use Rattle.std.specs.Prelude.{◌≡◌, ◌≤◌, ◌<◌, IfSome};
+ghost use Rattle.std.specs.Prelude.{◌≡◌, ◌≤◌, ◌<◌, ◌+◌, ◌^◌, IfSome};
 ghost use Rattle.std.specs.Option.{option_map};
+ghost use Rattle.listing.specs.Answers.{farther};
 ghost use Rattle.latchsym_ffi.specs.Finding.{Describes, answer_of, copied, known_at, known_code};
 ghost use Rattle.latchsym_ffi.specs.Finding.{known_in, module_name, owner_named, shown_seen};
-ghost use Rattle.latchsym_ffi.specs.Finding.{symbol_named};
+ghost use Rattle.latchsym_ffi.specs.Finding.{known_call, symbol_named};
+ghost use Rattle.latchsym_ffi.specs.Named.{IsNamed};
 
+use crate::answers::{DONE, NO_SYMBOL, NOTHING};
 use modules::{Catalog, FoundSymbol, IndexedCatalog, symbol_of};
 use order_laws::Item;
 
@@ -25,27 +28,34 @@ pub struct CatalogAnswer {
     pub module_len: usize,
 }
 
-/// A symbol was found.
-pub(crate) const FOUND: u32 = 0;
-
-/// The address lies in a region, and no symbol of it is at or below the address.
-pub(crate) const NO_SYMBOL: u32 = 1;
-
-/// The address lies in no region.
-pub(crate) const NOTHING: u32 = 2;
+/// What is told of an address, with the names where they lie in the listings.
+#[repr(C)]
+#[derive(Clone, Copy, Drop)]
+pub struct CatalogSymbol {
+    /// The number of the module: 0 is the kernel itself.
+    pub module_number: u64,
+    /// How many bytes the address lies above the symbol.
+    pub offset: u64,
+    /// How many bytes the symbol reaches.
+    pub size: u64,
+    /// The symbol's name.
+    pub name: &'static [u8],
+    /// The module's name.
+    pub module: &'static [u8],
+}
 
 /// The region that an address lies in, and the symbol that it belongs to, if there is one.
 #[derive(Drop)]
-struct Seen<'c> {
+pub(crate) struct Seen<'c> {
     item: Item,
     found: Option<FoundSymbol<'c, 'static>>,
 }
 
 /// What is told of an address, with the names.
 #[derive(Drop)]
-struct Description {
-    code: u32,
-    answer: CatalogAnswer,
+pub(crate) struct Description {
+    pub(crate) code: u32,
+    pub(crate) answer: CatalogAnswer,
     symbol: &'static [u8],
     owner: &'static [u8],
 }
@@ -69,7 +79,7 @@ fn name_of<'a>(catalog: &Catalog<'a>, number: u64) -> &'a [u8]
 }
 
 /// The region that the address lies in, and the symbol, the offset and the size where there is one.
-fn seek<'c>(catalog: &'c IndexedCatalog<'static>, addr: u64) -> Option<Seen<'c>>
+pub(crate) fn seek<'c>(catalog: &'c IndexedCatalog<'static>, addr: u64) -> Option<Seen<'c>>
     ensures { option_map shown_seen result ≡ known_at catalog.now addr }
 {
     let item = catalog.find(addr)?;
@@ -79,8 +89,33 @@ fn seek<'c>(catalog: &'c IndexedCatalog<'static>, addr: u64) -> Option<Seen<'c>>
     })
 }
 
+/// The symbol as it is told of the address after the one that was looked up.
+fn farther<'c>(found: FoundSymbol<'c, 'static>) -> FoundSymbol<'c, 'static>
+    requires { found.offset + 1 < 2 ^ 64 }
+    ensures { result ≡ farther 1 found.entry }
+{
+    FoundSymbol {
+        symbol: found.symbol,
+        offset: found.offset + 1,
+        size: found.size,
+    }
+}
+
+/// The same of a return address. The call before it may be the last instruction of its symbol, so
+/// the address one byte lower is looked up, and the offset is that of the return address.
+pub(crate) fn seek_call<'c>(catalog: &'c IndexedCatalog<'static>, addr: u64) -> Option<Seen<'c>>
+    ensures { option_map shown_seen result ≡ known_call catalog.now addr }
+{
+    let Seen { item, found } = seek(catalog, addr.checked_sub(1)?)?;
+    let found = match found {
+        Some(found) => Some(farther(found)),
+        None => None,
+    };
+    Some(Seen { item, found })
+}
+
 /// What is told of what was seen.
-fn description_of(catalog: &Catalog<'static>, seen: Option<Seen<'_>>) -> Description
+pub(crate) fn description_of(catalog: &Catalog<'static>, seen: Option<Seen<'_>>) -> Description
     ensures { Describes catalog.now (option_map shown_seen seen.entry) result }
 {
     let Some(Seen { item, found }) = seen else {
@@ -101,7 +136,7 @@ fn description_of(catalog: &Catalog<'static>, seen: Option<Seen<'_>>) -> Descrip
     let (code, symbol, offset, size) = match found {
         Some(found) => {
             let symbol = found.symbol;
-            (FOUND, symbol.name, found.offset, found.size)
+            (DONE, symbol.name, found.offset, found.size)
         }
         None => (NO_SYMBOL, b"".as_slice(), 0, 0),
     };
@@ -119,9 +154,50 @@ fn description_of(catalog: &Catalog<'static>, seen: Option<Seen<'_>>) -> Descrip
     }
 }
 
-/// Tells of an address: FOUND with a symbol, NO_SYMBOL where no symbol of its region is at or below
-/// it, and NOTHING, with all numbers 0, where it lies in no region.
-pub(crate) fn find(
+/// Tells of what was seen, with the names where they lie in the listings: DONE with a symbol,
+/// NO_SYMBOL where no symbol of its region is at or below the address, and NOTHING, with all
+/// numbers 0, where it lies in no region.
+pub(crate) fn name_places(
+    catalog: &Catalog<'static>,
+    seen: Option<Seen<'_>>,
+    out: &mut CatalogSymbol,
+) -> u32
+    ensures code { result ≡ known_code (option_map shown_seen seen.entry) }
+    ensures symbol { IsNamed catalog.now (option_map shown_seen seen.entry) out.new }
+{
+    let told = description_of(catalog, seen);
+    *out = CatalogSymbol {
+        module_number: told.answer.module_number,
+        offset: told.answer.offset,
+        size: told.answer.size,
+        name: told.symbol,
+        module: told.owner,
+    };
+    told.code
+}
+
+/// The same of an address.
+pub(crate) fn find(catalog: &IndexedCatalog<'static>, addr: u64, out: &mut CatalogSymbol) -> u32
+    ensures code { result ≡ known_code (known_at catalog.now addr) }
+    ensures symbol { IsNamed catalog.now (known_at catalog.now addr) out.new }
+{
+    name_places(catalog.catalog(), seek(catalog, addr), out)
+}
+
+/// The same of a return address.
+pub(crate) fn find_caller(
+    catalog: &IndexedCatalog<'static>,
+    addr: u64,
+    out: &mut CatalogSymbol,
+) -> u32
+    ensures code { result ≡ known_code (known_call catalog.now addr) }
+    ensures symbol { IsNamed catalog.now (known_call catalog.now addr) out.new }
+{
+    name_places(catalog.catalog(), seek_call(catalog, addr), out)
+}
+
+/// Tells of an address, with as much of the names as there is room for.
+pub(crate) fn find_copied(
     catalog: &IndexedCatalog<'static>,
     addr: u64,
     out: &mut CatalogAnswer,

@@ -12,22 +12,27 @@
 //!               content: a catalog, a writer or a reader
 //! ```
 //!
-//! The answers are numbers: 0 is success, 1 and 2 say what a search or a step found, 7 to 15 are
-//! the numbers of refusals that the program prints, and 101 tells of a handle that does not hold
-//! what is wanted. include/latchsym.h documents each call.
+//! The answers are numbers, of which each means one thing (`Answer`): 0 is success, those below 20
+//! are the refusals that the program prints, and 101 tells of a handle that does not hold what is
+//! wanted. include/latchsym.h documents each call.
 #![tactic(auto)]
 
+mod adding;
 mod answers;
+mod batches;
+mod by_number;
 mod catalogs;
 mod contents;
 mod enlarging;
 mod finding;
 mod handles;
+mod listings;
 mod lookups;
 mod loose;
 mod open_catalogs;
 mod opening;
 mod opening_tables;
 mod pointers;
+mod texts;
 mod threads;
 mod updates;

@@ -15,15 +15,12 @@ ghost use Rattle.latchsym_ffi.specs.Finding.{owner_named, symbol_named};
 ghost use Rattle.latchsym_ffi.specs.Lookups.{Copies, Names, Shows, answer_from, found_code};
 ghost use Rattle.latchsym_ffi.specs.Lookups.{name_code, try_code};
 
-use crate::answers::{BAD_HANDLE, DONE};
+use crate::answers::{BAD_HANDLE, DONE, NOTHING, RETRY};
 use crate::contents::{CATALOG, Content, READER, WRITER};
-use crate::finding::{CatalogAnswer, NOTHING, find_in};
+use crate::finding::{CatalogAnswer, find_in};
 use crate::handles::Handle;
 use latch_table::{Try, Writer};
 use order_laws::{HalfOpen, Item};
-
-/// The writer flipped meanwhile: another attempt is to be made.
-const RETRY: u32 = 3;
 
 /// What a lookup found, and the generation that this is of.
 #[repr(C)]

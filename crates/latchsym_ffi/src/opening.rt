@@ -4,11 +4,12 @@ ghost use Rattle.std.specs.Prelude.{◌≡◌, true, All, IfOk, IfErr};
 ghost use Rattle.std.specs.Option.{option_copied};
 ghost use Rattle.modules.specs.Catalogs.{IsBuildRefusal};
 ghost use Rattle.modules.specs.Entries.{CatalogEntries};
-ghost use Rattle.modules.specs.Lines.{region_fits};
+ghost use Rattle.modules.specs.Lines.{bounds_for, region_fits};
 ghost use Rattle.modules.specs.Placed.{are_few};
 ghost use Rattle.latchsym_ffi.specs.declared.contents.Content.TheVariants as content;
-ghost use Rattle.latchsym_ffi.specs.Opening.{AreRead, GivesRegions, IsOpenedCatalog, RefusesTexts};
-ghost use Rattle.latchsym_ffi.specs.Opening.{counts_in, shown_texts};
+ghost use Rattle.latchsym_ffi.specs.Opening.{AreRead, AreReadAlone, GivesRegions};
+ghost use Rattle.latchsym_ffi.specs.Opening.{IsOpenedCatalog, RefusesTexts};
+ghost use Rattle.latchsym_ffi.specs.Opening.{counts_alone, counts_in, shown_texts};
 
 use crate::contents::Content;
 use crate::open_catalogs::OpenCatalog;
@@ -16,7 +17,9 @@ use listing::{
     LineFault, ModuleCounts, SkippedModule, SkippedSymbol, SymbolCounts, read_kallsyms,
     read_modules, read_regions,
 };
-use modules::{BuildCounts, Catalog, IndexedCatalog, KernelBounds, RegionLine};
+use modules::{
+    BuildCounts, Catalog, IndexedCatalog, KeptCounts, KernelBounds, RegionLine, SymbolLines,
+};
 use order_laws::Refusal;
 use std::alloc::{AllocError, AllocFailed, Global};
 
@@ -42,12 +45,13 @@ pub struct CatalogCounts {
     pub regions_stray: u64,
 }
 
-/// The bytes of the listings, that of regions only where it is given, and the names of the symbols
-/// that bound the kernel's own region.
+/// The bytes of the listings, those of modules and of regions only where they are given, and the
+/// names of the symbols that bound the kernel's own region, or none where the listing of symbols
+/// says which these are.
 #[derive(Drop)]
 pub struct CatalogTexts {
-    pub kernel: KernelBounds<'static>,
-    pub modules: &'static [u8],
+    pub kernel: Option<KernelBounds<'static>>,
+    pub modules: Option<&'static [u8]>,
     pub kallsyms: &'static [u8],
     pub regions: Option<&'static [u8]>,
 }
@@ -134,24 +138,65 @@ fn counts_of(modules: &ModuleCounts, symbols: &SymbolCounts, built: &BuildCounts
     }
 }
 
+/// The counts of a listing of symbols alone.
+fn counts_alone(symbols: &SymbolCounts, kept: &KeptCounts) -> CatalogCounts
+    ensures { result ≡ counts_alone symbols.now.by_place kept.now }
+{
+    CatalogCounts {
+        modules: kept.modules,
+        modules_hidden: 0,
+        modules_empty: 0,
+        modules_wraps: 0,
+        modules_overlap: 0,
+        modules_double: 0,
+        modules_long: 0,
+        modules_malformed: 0,
+        symbols: kept.symbols,
+        symbols_hidden: symbols.count(SkippedSymbol::Hidden),
+        symbols_stray: kept.stray,
+        symbols_long: symbols.count(SkippedSymbol::Long),
+        symbols_malformed: symbols.count(SkippedSymbol::Malformed),
+        regions: kept.regions,
+        regions_stray: 0,
+    }
+}
+
+/// The names that are given, or else those that the listing of symbols has.
+fn bounds_for(
+    names: &Option<KernelBounds<'static>>,
+    symbols: &SymbolLines<'static>,
+) -> KernelBounds<'static>
+    ensures { result ≡ bounds_for names.now symbols.now }
+{
+    match names {
+        Some(names) => KernelBounds {
+            start: names.start,
+            end: names.end,
+        },
+        None => symbols.usual_bounds(),
+    }
+}
+
 /// Reads the listings of modules and of symbols, and builds the catalog of them and of these region
 /// lines.
 fn catalog_between(
     alloc: Global,
     texts: &CatalogTexts,
+    modules: &'static [u8],
     regions: &[RegionLine<'static>],
 ) -> Result<(IndexedCatalog<'static>, CatalogCounts), Refusal>
     requires { All (λ r. region_fits r ≡ true) regions.now }
     ensures opened { IfOk result
-        (λ r. IsOpenedCatalog (shown_texts texts.now) regions.now r.0 r.1) }
+        (λ r. IsOpenedCatalog (shown_texts texts.now) modules.now regions.now r.0 r.1) }
     ensures few { IfOk result (λ _. are_few regions.now ≡ true) }
     ensures refusal { IfErr result (IsBuildRefusal regions.now) }
 {
-    let (module_lines, skipped_modules) = read_modules(alloc, texts.modules)?;
+    let (module_lines, skipped_modules) = read_modules(alloc, modules)?;
     let (symbol_lines, skipped_symbols) = read_kallsyms(alloc, texts.kallsyms)?;
+    let names = bounds_for(&texts.kernel, &symbol_lines);
     let (catalog, built) = Catalog::build_between(
         alloc,
-        &texts.kernel,
+        &names,
         &module_lines,
         regions,
         symbol_lines,
@@ -161,7 +206,22 @@ fn catalog_between(
     Ok((indexed, counts))
 }
 
-/// Reads the listings, and builds the catalog of them.
+/// Reads the listing of symbols, and builds the catalog of it alone.
+fn catalog_alone(
+    alloc: Global,
+    texts: &CatalogTexts,
+) -> Result<(IndexedCatalog<'static>, CatalogCounts), AllocError>
+    ensures { IfOk result (λ r. AreReadAlone (shown_texts texts.now) r.0 r.1) }
+{
+    let (symbol_lines, skipped_symbols) = read_kallsyms(alloc, texts.kallsyms)?;
+    let (catalog, kept) = Catalog::from_symbols(alloc, texts.kernel.as_ref(), symbol_lines)?;
+    let counts = counts_alone(&skipped_symbols, &kept);
+    let indexed = IndexedCatalog::new(alloc, catalog)?;
+    Ok((indexed, counts))
+}
+
+/// Reads the listings, and builds the catalog of them, or of that of symbols alone where that of
+/// modules is not given.
 fn catalog_of(
     alloc: Global,
     texts: &CatalogTexts,
@@ -169,8 +229,11 @@ fn catalog_of(
     ensures opened { IfOk result (λ r. AreRead (shown_texts texts.now) r.0 r.1) }
     ensures fault { IfErr result (RefusesTexts (shown_texts texts.now)) }
 {
+    let Some(modules) = texts.modules else {
+        return Ok(catalog_alone(alloc, texts)?);
+    };
     let regions = region_lines(alloc, texts.regions)?;
-    Ok(catalog_between(alloc, texts, &regions)?)
+    Ok(catalog_between(alloc, texts, modules, &regions)?)
 }
 
 /// The same, as a handle holds it.

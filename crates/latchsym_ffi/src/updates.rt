@@ -9,7 +9,7 @@ ghost use Rattle.latchsym_ffi.specs.Updates.{RefusesAs, did_code, item_from};
 ghost use Rattle.latchsym_ffi.specs.Handles.{HoldsWriter, WriterGoes};
 ghost use Rattle.latchsym_ffi.specs.Kinds.{writer_kind};
 
-use crate::answers::{BAD_HANDLE, DONE};
+use crate::answers::{BAD_HANDLE, DONE, FLIP, STORE};
 use crate::contents::{Content, WRITER};
 use crate::handles::Handle;
 use latch_core::{Entries, Update};
@@ -158,14 +158,14 @@ fn step(writer: &mut Writer<HalfOpen>) -> u32
     ensures { (d : Option Did) × (result ≡ did_code d) × Steps writer.old writer.new d }
 {
     match writer.step() {
-        None => 0,
-        Some(Did::Flip) => 1,
-        Some(Did::Store) => 2,
+        None => DONE,
+        Some(Did::Flip) => FLIP,
+        Some(Did::Store) => STORE,
     }
 }
 
-/// Makes one step of the pending update: 0 where it is at its end, 1 for a flip of the sequence, 2
-/// for a store of another word.
+/// Makes one step of the pending update, and tells whether it was a flip of the sequence, a store
+/// of another word, or none since the update is at its end.
 #[unsafe(no_mangle)]
 pub extern "C" fn latchsym_writer_step(writer: &mut Handle) -> u32
     ensures step { WriterGoes

@@ -4,7 +4,6 @@ ghost use Rattle.std.specs.Prelude.{◌≡◌, []};
 ghost use Rattle.std.specs.Arc.{arc_value};
 ghost use Rattle.word_layout.specs.Layouts.{capacity_of};
 ghost use Rattle.word_layout.specs.Words.{words_for};
-ghost use Rattle.latch_table.specs.Rule.{capacity_in};
 ghost use Rattle.latch_table.specs.Seats.{reader_knowledge, reader_of};
 ghost use Rattle.latch_table.specs.Readers.{Tried, reader_at};
 
@@ -32,7 +31,6 @@ impl<O: TreeOrder> Model for Reader<O> {
     ghost use Rattle.std.specs.Arc.{arc_value};
     ghost use Rattle.word_layout.specs.Layouts.{capacity_of};
     ghost use Rattle.word_layout.specs.Words.{words_for};
-    ghost use Rattle.latch_table.specs.Rule.{capacity_in};
     ghost use Rattle.latch_table.specs.Seats.{reader_knowledge, reader_of};
     ghost use Rattle.latch_table.specs.Readers.{ReaderState, reader_at};
 
@@ -42,7 +40,6 @@ impl<O: TreeOrder> Model for Reader<O> {
 
     ghost invariant = { λ r. (r.seat.table_id ≡ (arc_value r.table).shared.table_id)
         × (r.seat.table_id.words ≡ words_for (capacity_of r.layout))
-        × (capacity_in (arc_value r.table).shared.key ≡ capacity_of r.layout)
         × (r.seat.me ≡ (reader_knowledge (reader_of r.seat.me.0), []))
         × ((reader_of r.seat.me.0).capacity ≡ capacity_of r.layout) };
 }
@@ -56,7 +53,6 @@ impl<O: TreeOrder> Reader<O> {
     ) -> Reader<O>
         requires place { seat.table_id ≡ (arc_value table).shared.table_id }
         requires sized { seat.table_id.words ≡ words_for (capacity_of layout) }
-        requires key { capacity_in (arc_value table).shared.key ≡ capacity_of layout }
         requires reads { seat.me ≡ (reader_knowledge (reader_of seat.me.0), []) }
         requires capacity { (reader_of seat.me.0).capacity ≡ capacity_of layout }
         ensures { result ≡ reader_at seat.table_id seat.me.0 }
@@ -73,7 +69,6 @@ impl<O: TreeOrder> Reader<O> {
         ensures is { self ≡ reader_at result.1.table_id result.1.me.0 }
         ensures place { result.1.table_id ≡ (arc_value result.0).shared.table_id }
         ensures sized { result.1.table_id.words ≡ words_for (capacity_of result.2) }
-        ensures key { capacity_in (arc_value result.0).shared.key ≡ capacity_of result.2 }
         ensures reads { result.1.me ≡ (reader_knowledge (reader_of result.1.me.0), []) }
         ensures capacity { (reader_of result.1.me.0).capacity ≡ capacity_of result.2 }
     {

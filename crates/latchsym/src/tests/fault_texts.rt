@@ -30,6 +30,7 @@ fn a_fault_displays_what_is_written_of_it(rt: HostRuntime) -> Result<(), AllocEr
             line: 18446744073709551615,
         },
         Fault::Read { place: 3 },
+        Fault::TooLong { place: 3 },
         Fault::Write,
     ] {
         let text = format!(in rt.alloc(); "{}{fault}\n", prefix_of(&fault))?;

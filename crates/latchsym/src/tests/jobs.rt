@@ -1,10 +1,11 @@
 //! Jobs over files in memory, from the names of their files to the program's status.
-use crate::command_line::{Job, JobFault, LookupJob, RunJob};
+use crate::command_line::{AnnotateJob, CheckJob, Job, JobFault, ListingFiles, LookupJob, RunJob};
 use crate::fault::{Fault, conclude, with_notes};
 use crate::jobs::{FileSource, do_job};
 use crate::listing_notes::ListingNotes;
 use crate::lookup::LookupOptions;
 use crate::misuse::refuse;
+use crate::symbol_lookup::SymbolLookupOptions;
 use crate::tests::status_of;
 use listing::{AddressRule, Counted, FailAt};
 use modules::KernelBounds;
@@ -17,7 +18,7 @@ use std::test::Fail;
 use std::thread::Threads;
 
 /// The names of the files, and what each holds. Only the region line says where the module lies.
-const FILES: [(&str, &[u8]); 6] = [
+const FILES: [(&str, &[u8]); 7] = [
     (
         "its trace",
         b"latchtrace 1 halfopen 1\nstart 1 0x7\nread 1 9\n",
@@ -30,6 +31,7 @@ const FILES: [(&str, &[u8]); 6] = [
     ("its regions", b"latchregions 1\na core 0x3000 4096\n"),
     ("its addresses", b"0x3018\n"),
     ("its script", b"load 1 a\nload 1 a\nlook 2 0x3018\n"),
+    ("its log", b"at 0x000007008, 0x000003018\n"),
 ];
 
 /// What the standard input holds.
@@ -150,6 +152,48 @@ fn run_job(script: &str, readers: u32) -> Job<'_> {
     })
 }
 
+/// An annotation of the log in this file, by modules that are listed or by the symbols alone.
+fn annotate_job<'a>(log: &'a str, modules: Option<&'a str>) -> Job<'a> {
+    Job::Annotate(AnnotateJob {
+        listings: ListingFiles {
+            modules,
+            kallsyms: "its kallsyms",
+            regions: if modules.is_some() {
+                Some("its regions")
+            } else {
+                None
+            },
+        },
+        options: SymbolLookupOptions {
+            kernel: Some(KernelBounds {
+                start: b"here",
+                end: b"there",
+            }),
+            rule: AddressRule::AS_GIVEN,
+        },
+        log,
+    })
+}
+
+/// A check of listings, where modules are listed or not.
+fn check_job(modules: Option<&'static str>) -> Job<'static> {
+    Job::Check(CheckJob {
+        listings: ListingFiles {
+            modules,
+            kallsyms: "its kallsyms",
+            regions: if modules.is_some() {
+                Some("its regions")
+            } else {
+                None
+            },
+        },
+        kernel: Some(KernelBounds {
+            start: b"here",
+            end: b"there",
+        }),
+    })
+}
+
 /// What a job returns over these files, and what it writes.
 fn done<T: Threads + Wait + Sync>(
     rt: &T,
@@ -158,7 +202,8 @@ fn done<T: Threads + Wait + Sync>(
     job: &Job<'_>,
 ) -> (Result<u8, Fault>, Vec<u8>) {
     let mut writer = Counted::new(Vec::new(alloc));
-    let outcome = do_job(rt, alloc, files, job, &mut writer);
+    let mut errors = Counted::new(Vec::new(alloc));
+    let outcome = do_job(rt, alloc, files, job, &mut writer, &mut errors);
     (status_of(outcome), writer.into_inner())
 }
 
@@ -181,6 +226,49 @@ fn a_lookup_has_its_own_files_bounds_and_addresses(rt: HostRuntime) -> Result<()
         assert_eq!(rt; written.as_slice(), lines);
     }
     Ok(())
+}
+
+#[test]
+fn an_annotation_has_its_own_files_and_bounds(rt: HostRuntime) {
+    for (log, modules, text) in [
+        (
+            "its log",
+            Some("its modules"),
+            b"at 0x000007008 here+0x8/0x1000, 0x000003018 a_run+0x8/0xff0 [a]\n".as_slice(),
+        ),
+        (
+            "its log",
+            None,
+            b"at 0x000007008 here+0x8/0x1000, 0x000003018 a_run+0x8/0x3ff0 [a]\n",
+        ),
+        ("-", None, INPUT),
+    ] {
+        let job = annotate_job(log, modules);
+        let (outcome, written) = done(&rt, rt.alloc(), &WHOLE, &job);
+        assert_eq!(rt; outcome, Ok(0));
+        assert_eq!(rt; written.as_slice(), text);
+    }
+}
+
+/// Nothing is left to be told of listings that are checked.
+#[test]
+fn a_check_has_its_own_files_and_bounds(rt: HostRuntime) {
+    for (modules, counts) in [
+        (
+            Some("its modules"),
+            b"modules 1 hidden 0 empty 0 wraps 0 overlap 0 double 0 long 0 malformed 0\n\
+            symbols 2 hidden 0 stray 1 long 0 malformed 0\nregions 1 stray 0\n"
+                .as_slice(),
+        ),
+        (
+            None,
+            b"modules 1 regions 1\nsymbols 2 hidden 0 stray 1 long 0 malformed 0\n",
+        ),
+    ] {
+        let (outcome, written) = done(&rt, rt.alloc(), &WHOLE, &check_job(modules));
+        assert_eq!(rt; outcome, Ok(0));
+        assert_eq!(rt; written.as_slice(), counts);
+    }
 }
 
 #[test]
@@ -241,6 +329,11 @@ fn each_file_that_fails_is_told(rt: HostRuntime) -> Result<(), Fail> {
     assert_eq!(rt; first_untold(&rt, alloc, &job, &names), None);
     let job = lookup_job(alloc, "-")?;
     assert_eq!(rt; first_untold(&rt, alloc, &job, &["-"]), None);
+    let names = ["its modules", "its kallsyms", "its regions"];
+    let job = annotate_job("its log", Some("its modules"));
+    assert_eq!(rt; first_untold(&rt, alloc, &job, &names), None);
+    let job = check_job(Some("its modules"));
+    assert_eq!(rt; first_untold(&rt, alloc, &job, &names), None);
     let names = ["its modules", "its kallsyms", "its regions", "its script"];
     assert_eq!(rt;
         first_untold(&rt, alloc, &run_job("its script", 2), &names),

@@ -1,5 +1,5 @@
 //! Options that `lookup` and `run` have, and what is said of those that are at fault.
-use crate::command_line::{JobFault, job_of};
+use crate::command_line::{AnnotateJob, Job, JobFault, SymbolLookupJob, job_of};
 use crate::misuse::refuse;
 use crate::tests::words::{lookup_in, run_of};
 use clap::error::ErrorKind;
@@ -9,6 +9,9 @@ use std::test::Fail;
 
 /// The words of a lookup in two listings.
 const LOOKUP: [&str; 4] = ["latchsym", "lookup", "--modules=m", "--kallsyms=k"];
+
+/// The words of a lookup in a listing of symbols, which do not say where its modules come from.
+const ALONE: [&str; 3] = ["latchsym", "lookup", "--kallsyms=k"];
 
 /// The words of a run.
 const RUN: [&str; 6] = [
@@ -48,6 +51,79 @@ fn a_lookup_says_how_addresses_are_taken(rt: HostRuntime) -> Result<(), Fail> {
         assert!(rt; job.options.rule.callers == callers);
         assert!(rt; job.options.rule.offset == offset);
     }
+    Ok(())
+}
+
+/// The lookup by symbols alone that these words ask for.
+fn symbol_lookup_in<'a>(alloc: Global, words: &'a [&'a str]) -> Option<SymbolLookupJob<'a>> {
+    match job_of(alloc, words) {
+        Ok(job) => match job {
+            Job::SymbolLookup(lookup) => Some(lookup),
+            _other => None,
+        },
+        Err(_fault) => None,
+    }
+}
+
+#[test]
+fn a_lookup_may_take_the_modules_from_the_symbols(rt: HostRuntime) -> Result<(), Fail> {
+    let alloc = rt.alloc();
+    let options = ["--modules-from-symbols", "1", "--addresses=a"];
+    let words = with_options(alloc, &ALONE, &options)?;
+    let job = symbol_lookup_in(alloc, &words).ok_or("no lookup")?;
+    assert!(rt; job.options.kernel.is_none());
+    assert!(rt; job.options.rule.offset == 0);
+    assert_eq!(rt; job.addresses.as_slice(), [1].as_slice());
+    let job = Job::SymbolLookup(job);
+    assert!(rt; job.file(0) == None);
+    assert!(rt; job.file(1) == Some("k"));
+    assert!(rt; job.file(2) == None);
+    assert!(rt; job.file(3) == Some("a"));
+    Ok(())
+}
+
+#[test]
+fn a_lookup_by_symbols_alone_has_the_other_options(rt: HostRuntime) -> Result<(), Fail> {
+    let options = [
+        "--modules-from-symbols",
+        "--kernel",
+        "s",
+        "e",
+        "--callers",
+        "7",
+    ];
+    let words = with_options(rt.alloc(), &ALONE, &options)?;
+    let job = symbol_lookup_in(rt.alloc(), &words).ok_or("no lookup")?;
+    assert!(rt; job.options.rule.callers);
+    match &job.options.kernel {
+        Some(names) => assert_eq!(rt; names.end, b"e".as_slice()),
+        None => assert!(rt; false, "no bounds"),
+    }
+    Ok(())
+}
+
+#[test]
+fn a_lookup_says_once_where_its_modules_come_from(rt: HostRuntime) -> Result<(), Fail> {
+    let alloc = rt.alloc();
+    let words = with_options(alloc, &ALONE, &["1"])?;
+    assert!(rt; matches!(job_of(alloc, &words), Err(JobFault::NoModules)));
+    for twice in ["--modules=m", "--regions=r"] {
+        let words = with_options(alloc, &ALONE, &["--modules-from-symbols", twice, "1"])?;
+        assert!(rt; matches!(job_of(alloc, &words), Err(JobFault::ModulesTwice)));
+    }
+    let (status, said) = said_of(&rt, alloc, &ALONE, &["1"])?;
+    assert!(rt; status == 2);
+    assert_eq!(rt;
+        said.as_slice(),
+        b"latchsym: a lookup needs --modules FILE or --modules-from-symbols\n".as_slice()
+    );
+    let twice = ["--modules-from-symbols", "--modules=m", "1"];
+    let (status, said) = said_of(&rt, alloc, &ALONE, &twice)?;
+    assert!(rt; status == 2);
+    assert_eq!(rt;
+        said.as_slice(),
+        b"latchsym: --modules-from-symbols stands in place of --modules and --regions\n".as_slice()
+    );
     Ok(())
 }
 
@@ -116,4 +192,116 @@ fn the_version_is_told(rt: HostRuntime) {
         }
         _ => assert!(rt; false, "no version"),
     }
+}
+
+/// The words of an annotation.
+const ANNOTATE: [&str; 2] = ["latchsym", "annotate"];
+
+/// The annotation that these words ask for.
+fn annotation_in<'a>(alloc: Global, words: &'a [&'a str]) -> Option<AnnotateJob<'a>> {
+    match job_of(alloc, words) {
+        Ok(job) => match job {
+            Job::Annotate(annotation) => Some(annotation),
+            _other => None,
+        },
+        Err(_fault) => None,
+    }
+}
+
+#[test]
+fn an_annotation_needs_no_option(rt: HostRuntime) -> Result<(), Fail> {
+    let job = annotation_in(rt.alloc(), &ANNOTATE).ok_or("no annotation")?;
+    assert!(rt; job.options.kernel.is_none());
+    assert!(rt; !job.options.rule.callers);
+    assert_eq!(rt; job.options.rule.offset, 0);
+    let job = Job::Annotate(job);
+    assert!(rt; job.file(0) == None);
+    assert!(rt; job.file(1) == Some("/proc/kallsyms"));
+    assert!(rt; job.file(2) == None);
+    assert!(rt; job.file(3) == Some("-"));
+    assert!(rt; job.file(4) == None);
+    Ok(())
+}
+
+#[test]
+fn an_annotation_has_options(rt: HostRuntime) -> Result<(), Fail> {
+    let alloc = rt.alloc();
+    let words = with_options(
+        alloc,
+        &ANNOTATE,
+        &[
+            "--callers",
+            "l",
+            "--modules=m",
+            "--regions=r",
+            "--kallsyms=k",
+            "--offset=0x10",
+            "--kernel",
+            "s",
+            "e",
+        ],
+    )?;
+    let job = annotation_in(alloc, &words).ok_or("no annotation")?;
+    assert!(rt; job.options.rule.callers);
+    assert_eq!(rt; job.options.rule.offset, 16);
+    match &job.options.kernel {
+        Some(names) => assert_eq!(rt; names.start, b"s".as_slice()),
+        None => assert!(rt; false, "no bounds"),
+    }
+    let job = Job::Annotate(job);
+    assert!(rt; job.file(0) == Some("m"));
+    assert!(rt; job.file(1) == Some("k"));
+    assert!(rt; job.file(2) == Some("r"));
+    assert!(rt; job.file(3) == Some("l"));
+    Ok(())
+}
+
+#[test]
+fn regions_of_an_annotation_need_modules(rt: HostRuntime) -> Result<(), Fail> {
+    let alloc = rt.alloc();
+    let words = with_options(alloc, &ANNOTATE, &["--regions=r"])?;
+    assert!(rt; matches!(job_of(alloc, &words), Err(JobFault::RegionsAlone)));
+    let words = with_options(alloc, &ANNOTATE, &["--offset=x"])?;
+    assert!(rt; matches!(job_of(alloc, &words), Err(JobFault::BadOffset("x"))));
+    let words = with_options(alloc, &ANNOTATE, &["--kernel", "s", "0x1"])?;
+    assert!(rt; matches!(job_of(alloc, &words), Err(JobFault::BadEnd("0x1"))));
+    Ok(())
+}
+
+/// The words of a check.
+const CHECK: [&str; 3] = ["latchsym", "check", "--kallsyms=k"];
+
+#[test]
+fn a_check_has_its_listings_and_bounds(rt: HostRuntime) -> Result<(), Fail> {
+    let alloc = rt.alloc();
+    let job = job_of(alloc, &CHECK).ok().ok_or("no check")?;
+    assert!(rt; job.file(0) == None && job.file(1) == Some("k") && job.file(2) == None);
+    assert!(rt; matches!(&job, Job::Check(check) if check.kernel.is_none()));
+    let options = ["--modules=m", "--regions=r", "--kernel", "s", "e"];
+    let words = with_options(alloc, &CHECK, &options)?;
+    let job = job_of(alloc, &words).ok().ok_or("no check")?;
+    assert!(rt; job.file(0) == Some("m") && job.file(1) == Some("k") && job.file(2) == Some("r"));
+    assert!(rt; job.file(3) == None);
+    match &job {
+        Job::Check(check) => match &check.kernel {
+            Some(names) => assert!(rt;
+                names.start == b"s".as_slice() && names.end == b"e".as_slice()
+            ),
+            None => assert!(rt; false, "no bounds"),
+        },
+        _other => assert!(rt; false, "no check"),
+    }
+    Ok(())
+}
+
+#[test]
+fn regions_of_a_check_need_modules(rt: HostRuntime) -> Result<(), Fail> {
+    let alloc = rt.alloc();
+    let words = with_options(alloc, &CHECK, &["--regions=r"])?;
+    assert!(rt; matches!(job_of(alloc, &words), Err(JobFault::RegionsAlone)));
+    let words = with_options(alloc, &CHECK, &["--kernel", "s", "0x1"])?;
+    assert!(rt; matches!(job_of(alloc, &words), Err(JobFault::BadEnd("0x1"))));
+    let lacking = job_of(alloc, &["latchsym", "check", "--modules=m"]);
+    assert!(rt; matches!(lacking, Err(JobFault::CommandLine(_))));
+    Ok(())
 }

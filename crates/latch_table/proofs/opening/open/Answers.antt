@@ -11,5 +11,5 @@ pub invariant_of-writer : goal.invariant_of-writer
 invariant_of-writer g c = (
   search rules,
   search rules,
-  tied_opening g.O.TreeOrder.order c.args.l c.args.start c.in_ok-core.ensures.may.0 c.in_ok-built.built.seat.table_id c.args.readers c.in_ok-built.built.seat.me c.in_ok-core.core c.in_ok-built.ensures.seat.3 c.in_ok-core.ensures.opened c.in_ok-core.ensures.pictures,
+  tied_opening g.O.TreeOrder.order c.args.l c.args.start c.in_ok-core.ensures.may.0 c.in_ok-built.built.seat.table_id c.args.readers c.in_ok-built.built.seat.me c.in_ok-core.core c.in_ok-built.ensures.seat.2 c.in_ok-core.ensures.opened c.in_ok-core.ensures.pictures,
 )

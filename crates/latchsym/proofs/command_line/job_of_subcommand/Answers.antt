@@ -10,3 +10,11 @@ returns-in-lookup c =
 pub returns-in-run : goal.returns-in-run
 returns-in-run c =
     subst (λ name. AnswersMatches (Some (name, rows_of (found_of c.args.found.now))) c.run_job.result) (sym c.in-run.is) c.run_job.ensures
+
+pub returns-in-annotate : goal.returns-in-annotate
+returns-in-annotate c =
+    subst (λ name. AnswersMatches (Some (name, rows_of (found_of c.args.found.now))) c.annotate_job.result) (sym c.in-annotate.is) c.annotate_job.ensures
+
+pub returns-in-check : goal.returns-in-check
+returns-in-check c =
+    subst (λ name. AnswersMatches (Some (name, rows_of (found_of c.args.found.now))) c.check_job.result) (sym c.in-check.is) c.check_job.ensures

@@ -1,6 +1,6 @@
 use Rattle.std.proofs.Common.{rules}
 use Rattle.clap.specs.Words.{with_subcommand}
-use Rattle.latchsym.specs.CommandLine.{IsCommand, lookup_app, run_app, top_app, trace_app}
+use Rattle.latchsym.specs.CommandLine.{IsCommand, annotate_app, check_app, lookup_app, run_app, top_app, trace_app}
 use Rattle.latchsym.proofs.command_line.latchsym_command.Goals as goal
 
 pub returns : goal.returns
@@ -8,6 +8,10 @@ returns c =
     let top : IsCommand top_app c.subcommand_required-command.result = search rules in
     let app1 = with_subcommand top_app trace_app.top in
     let app2 = with_subcommand app1 lookup_app.top in
+    let app3 = with_subcommand app2 run_app.top in
     let one = c.in_ok-command.ensures top_app trace_app top c.trace_command.ensures in
     let two = c.in_ok-command-2.ensures app1 lookup_app one c.lookup_command.ensures in
-    c.with_subcommand-3.ensures app2 run_app two c.run_command.ensures
+    let three = c.in_ok-command-3.ensures app2 run_app two c.run_command.ensures in
+    let app4 = with_subcommand app3 annotate_app.top in
+    let four = c.in_ok-command-4.ensures app3 annotate_app three c.annotate_command.ensures in
+    c.with_subcommand-5.ensures app4 check_app four c.check_command.ensures

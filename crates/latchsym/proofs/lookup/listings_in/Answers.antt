@@ -1,4 +1,4 @@
-use Rattle.std.proofs.Common.{◌≡◌, ◌∙◌, ap, sym, refl, Option, Some, None, option_map}
+use Rattle.std.proofs.Common.{◌≡◌, ◌∙◌, length, ap, sym, refl, Option, Some, None, option_map}
 use Rattle.std.specs.Prelude.{find, is_some}
 use Rattle.std.specs.Global.{Vec}
 use Rattle.listing.specs.Lines.{lines_of}
@@ -49,6 +49,8 @@ returns-clause-said c =
       skipped_modules = c.in_ok-module_lines.ensures.counts;
       skipped_symbols = c.in_ok-symbol_lines.ensures.counts;
       has_regions = c.is_some-2.ensures ∙ still_some i.regions;
+      modules_hidden = c.are_modules_hidden-modules_hidden.ensures (lines_of i.modules.now) (c.len.ensures ∙ sym c.deref.ensures.len ∙ ap length is_modules) c.in_ok-module_lines.ensures.counts;
+      symbols_hidden = c.are_symbols_hidden-symbols_hidden.ensures (lines_of i.kallsyms.now) (c.len-2.ensures ∙ ap length c.in_ok-symbol_lines.ensures.symbols) c.in_ok-symbol_lines.ensures.counts;
       notes = ap with_modules (c.note_of_modules.ensures ∙ ap of_modules is_catalog) ∙ ap with_kallsyms (c.note_of_kallsyms.ensures ∙ ap of_kallsyms is_built);
     }
 

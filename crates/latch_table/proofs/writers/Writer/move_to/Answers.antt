@@ -23,7 +23,7 @@ invariant_of-self-2 g c =
     let built = c.in_ok-table.field-0 in
     let words = c.in_ok-words.ensures.all ∙ ap (λ n. wider_words n (capacity_of l) (writer_of w.seat.me.0).picture) c.layout-layout.ensures.capacity in
     let tied = tied_there g.O.TreeOrder.order w.seat.table_id w.readers w.seat.me w.core c.self.invariant.2 l (sym c.why_not_widened.ensures ∙ c.in_default.is) built.seat.table_id c.widen.new.self c.in_ok-widen.ensures.widened
-    c.in_ok-widen.ensures.pictures c.of.result.value.me c.of-2.result.value.items (ap (λ s. s.me) c.of.ensures ∙ c.copied.ensures.view) (ap (λ v. v.items) c.of-2.ensures ∙ words) built.seat.me c.in_ok-table.ensures.seat.3 in
+    c.in_ok-widen.ensures.pictures c.of.result.value.me c.of-2.result.value.items (ap (λ s. s.me) c.of.ensures ∙ c.copied.ensures.view) (ap (λ v. v.items) c.of-2.ensures ∙ words) built.seat.me c.in_ok-table.ensures.seat.2 in
     (c.in_ok-table.ensures.seat.0, c.in_ok-table.ensures.seat.1 ∙ ap (λ (v : WriterView). words_for v.capacity) (sym c.in_ok-widen.ensures.widened), tied)
 
 pub returns-clause-enlarged : goal.returns-clause-enlarged
@@ -33,6 +33,6 @@ returns-clause-enlarged g c =
     let built = c.in_ok-table.field-0 in
     let words = c.in_ok-words.ensures.all ∙ ap (λ n. wider_words n (capacity_of l) (writer_of w.seat.me.0).picture) c.layout-layout.ensures.capacity in
     let large = enlarges g.O.TreeOrder.order w.seat.table_id w.readers w.seat.me w.core c.self.invariant.2 l (sym c.why_not_widened.ensures ∙ c.in_default.is) built.seat.table_id c.widen.new.self c.in_ok-widen.ensures.widened
-    c.in_ok-widen.ensures.pictures c.of.result.value.me c.of-2.result.value.items (ap (λ s. s.me) c.of.ensures ∙ c.copied.ensures.view) (ap (λ v. v.items) c.of-2.ensures ∙ words) built.seat.me c.in_ok-table.ensures.seat.3
+    c.in_ok-widen.ensures.pictures c.of.result.value.me c.of-2.result.value.items (ap (λ s. s.me) c.of.ensures ∙ c.copied.ensures.view) (ap (λ v. v.items) c.of-2.ensures ∙ words) built.seat.me c.in_ok-table.ensures.seat.2
     built.readers.items (search rules) c.in_ok-table.ensures.readers.1 in
     subst (λ (before : WriterState). Enlarges before l (writer_state built.seat.table_id w.readers built.seat.me.0 c.widen.new.self) built.readers.items) c.self.view_is large

@@ -1,0 +1,48 @@
+# Completion of latchsym(1) for bash.
+
+_latchsym() {
+    local word=${COMP_WORDS[COMP_CWORD]} before=${COMP_WORDS[COMP_CWORD - 1]} options
+    # `--modules=FILE` comes as three words
+    if [ "$word" = = ]; then
+        word=
+    elif [ "$before" = = ]; then
+        before=${COMP_WORDS[COMP_CWORD - 2]}
+    fi
+    COMPREPLY=()
+
+    if [ "$COMP_CWORD" = 1 ]; then
+        mapfile -t COMPREPLY < <(compgen -W 'trace lookup run annotate check help -h --help -V --version' -- "$word")
+        return
+    fi
+    case ${COMP_WORDS[1]} in
+        trace) options='-h --help' ;;
+        lookup) options='--modules --kallsyms --regions --kernel --modules-from-symbols --addresses --callers --offset -h --help' ;;
+        run) options='--modules --kallsyms --regions --kernel --readers -h --help' ;;
+        annotate) options='--kallsyms --modules --regions --kernel --callers --offset -h --help' ;;
+        check) options='--modules --kallsyms --regions --kernel -h --help' ;;
+        help)
+            mapfile -t COMPREPLY < <(compgen -W 'trace lookup run annotate check help' -- "$word")
+            return
+            ;;
+        *) return ;;
+    esac
+    case $before in
+        --modules | --kallsyms | --regions | --addresses)
+            compopt -o default
+            return
+            ;;
+        --kernel)
+            mapfile -t COMPREPLY < <(compgen -W '_stext' -- "$word")
+            return
+            ;;
+        --offset | --readers) return ;;
+    esac
+    if [ "${COMP_WORDS[COMP_CWORD - 2]}" = --kernel ]; then
+        mapfile -t COMPREPLY < <(compgen -W '_end _einittext _etext' -- "$word")
+    elif [[ $word = -* || ${COMP_WORDS[1]} = lookup || ${COMP_WORDS[1]} = check ]]; then
+        mapfile -t COMPREPLY < <(compgen -W "$options" -- "$word")
+    else
+        compopt -o default
+    fi
+}
+complete -F _latchsym latchsym

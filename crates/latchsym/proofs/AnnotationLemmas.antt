@@ -1,0 +1,79 @@
+-- From what came of a log by the catalog of listings to what the engine returns.
+use Rattle.std.proofs.Common.{◌≡◌, ℕ, List, [], Option, Some, None, Result, Ok, Err, refl, sym, subst, inl, inr, ⊎_elim}
+use Rattle.std.specs.Prelude.{IfSome, IsErrAnd, is_some, true}
+use Rattle.listing.specs.declared.counted.Counted.{Counted}
+use Rattle.listing.specs.AnnotatedLogs.{answered_by}
+use Rattle.order_laws.specs.declared.refusals.Refusal.TheVariants as refusal
+use Rattle.latchsym.specs.Annotations.{AnnotatesBy, AnnotatesLog, IsTold}
+use Rattle.latchsym.specs.OpenedCatalogs.{AreReadAs, Given, HasBadRegion, HasCrowdedRegions, IsCatalogOf, OpensCatalog}
+use Rattle.latchsym.specs.Readings.{Failures, NoReaderFailed}
+use Rattle.latchsym.specs.declared.command_line.ListingFiles.{ListingFiles}
+use Rattle.latchsym.specs.declared.fault.Fault.{Fault}
+use Rattle.latchsym.specs.declared.fault.Fault.TheVariants.{Refused, BadLine, Read, TooLong, Write}
+use Rattle.latchsym.specs.declared.opened_catalogs.GivenTexts.{GivenTexts}
+use Rattle.latchsym.specs.declared.symbol_lookup.SymbolLookupOptions.{SymbolLookupOptions}
+
+module _ {L W E : Type 0} (remaining : L → Option (List ℕ)) (contents : W → Option (List ℕ)) (errors : E → Option (List ℕ)) (o : SymbolLookupOptions) (files : ListingFiles) where
+  -- a fault on the way
+  pub ended : (known : Option Given) (counts : Failures) (l l' : Counted L) (w w' : Counted W) (e e' : Counted E) (result : Result (Unit {0}) Fault) (fault : Fault) → IsErrAnd result (λ f. f ≡ fault)
+      → AnnotatesLog remaining contents errors o files known counts l l' w w' e e' (Err fault) → AnnotatesLog remaining contents errors o files known counts l l' w w' e e' result
+  ended known counts l l' w w' e e' (Ok done) fault is h = absurd is
+  ended known counts l l' w w' e e' (Err f) fault is h = subst (λ x. AnnotatesLog remaining contents errors o files known counts l l' w w' e e' (Err x)) (sym is) h
+
+  -- the catalog could not be opened
+  pub not_opened : (g : Given) (l : Counted L) (w : Counted W) (e : Counted E) (f : Fault) → OpensCatalog o.kernel g (Err f)
+      → AnnotatesLog remaining contents errors o files (Some g) [] l l w w e e (Err f)
+  not_opened g l w e (Refused refusal.OutOfMemory) h = (tt, inl (refl, refl, refl))
+  not_opened g l w e (Refused refusal.TooManyRegions) h = (tt, (refl, refl, refl), h)
+  not_opened g l w e (BadLine place n) h = (tt, (refl, refl, refl), h.1, (h.0, h.2))
+  not_opened g l w e _ h = absurd h
+
+  -- the listings could not be read
+  pub not_read : (known : Option Given) (counts : Failures) (l : Counted L) (w : Counted W) (e : Counted E) (f : Fault) → AreReadAs {A = GivenTexts} counts (Err f)
+      → AnnotatesLog remaining contents errors o files known counts l l w w e e (Err f)
+  not_read known counts l w e (Refused refusal.OutOfMemory) h = (h, inl (refl, refl, refl))
+  not_read known counts l w e (Read place) h = inl (h, (refl, refl, refl))
+  not_read known counts l w e _ h = absurd h
+
+  module _ (l l' : Counted L) (w w' : Counted W) (e e' : Counted E) where
+    abbrev Told : Option Given → Result (Unit {0}) Fault → Type 0
+    Told known r = IsTold errors o.kernel files known e e' (λ c. AnnotatesBy remaining contents (answered_by c o.rule) l l' w w' r)
+
+    -- the notes were told, and this came of the log
+    pub log_annotated : (known : Option Given) (result : Result (Unit {0}) Fault) → Told known result
+        → AnnotatesLog remaining contents errors o files known [] l l' w w' e e' result
+    log_annotated known (Ok done) t = (tt, t)
+    log_annotated known (Err (Refused refusal.OutOfMemory)) t = (tt, inr t)
+    log_annotated known (Err (Read place)) t = inr (tt, t)
+    log_annotated known (Err (TooLong place)) t = (tt, t)
+    log_annotated known (Err Write) t = (tt, t)
+    log_annotated known (Err _) t = absurd t.holds
+
+    -- the same where the texts come from readers that did not fail
+    module _ (g : Given) (known : Option Given) (is : IfSome known (λ k. g ≡ k)) (counts : Failures) (none : NoReaderFailed counts) where
+      said_of : (P : Given → Type 0) → P g → IfSome known P
+      said_of P p = moved known is
+        where
+          moved : (k : Option Given) → IfSome k (λ x. g ≡ x) → IfSome k P
+          moved None h = tt
+          moved (Some x) h = subst P h p
+
+      told_of : (r : Result (Unit {0}) Fault) → Told (Some g) r → Told known r
+      told_of r t = record {
+        catalog = t.catalog;
+        notes = t.notes;
+        said = said_of (λ x. IsCatalogOf o.kernel x t.catalog t.notes) t.said;
+        told = t.told;
+        holds = t.holds;
+      }
+
+      pub readers_known : (result : Result (Unit {0}) Fault) → AnnotatesLog remaining contents errors o files (Some g) [] l l' w w' e e' result
+          → AnnotatesLog remaining contents errors o files known counts l l' w w' e e' result
+      readers_known (Ok done) h = (none, told_of (Ok done) h.1)
+      readers_known (Err (Refused refusal.OutOfMemory)) h = (none, ⊎_elim inl (λ t. inr (told_of (Err (Refused refusal.OutOfMemory)) t)) h.1)
+      readers_known (Err (Refused refusal.TooManyRegions)) h = (none, h.1, said_of (λ x. (is_some x.modules ≡ true) × HasCrowdedRegions x.regions) h.2)
+      readers_known (Err (BadLine place n)) h = (none, h.1, h.2, said_of (λ x. (is_some x.modules ≡ true) × HasBadRegion n x.regions) h.3)
+      readers_known (Err (Read place)) h = inr (⊎_elim (λ f. absurd f.0) (λ t. (none, told_of (Err (Read place)) t.1)) h)
+      readers_known (Err (TooLong place)) h = (none, told_of (Err (TooLong place)) h.1)
+      readers_known (Err Write) h = (none, told_of (Err Write) h.1)
+      readers_known (Err _) h = absurd h

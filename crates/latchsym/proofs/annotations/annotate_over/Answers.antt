@@ -1,0 +1,40 @@
+use Rattle.std.proofs.Common.{[], Err, Some, inl, refl, subst, sym}
+use Rattle.latchsym.specs.Faults.{IsNoted}
+use Rattle.latchsym.specs.ListingNotes.{is_some_noted}
+use Rattle.latchsym.specs.NoteTexts.{note_lines}
+use Rattle.latchsym.specs.OpenedCatalogs.{IsCatalogOf, OpensCatalog, given_in}
+use Rattle.latchsym.specs.declared.fault.Fault.TheVariants.{Refused}
+use Rattle.order_laws.specs.declared.refusals.Refusal.TheVariants as refusal
+use Rattle.latchsym.proofs.AnnotationLemmas.{ended, log_annotated, not_opened}
+use Rattle.latchsym.proofs.annotations.annotate_over.Goals as goal
+
+pub returns-in_err-opened : goal.returns-in_err-opened
+returns-in_err-opened g c =
+    let a = c.args in
+    let given = given_in a.texts.now in
+    let fault = c.in_err-opened.field-0.0 in
+    ended g.L.Read.remaining g.W.Write.contents g.E.Write.contents a.options.now a.files.now (Some given) [] a.log.now a.log.now a.writer.now a.writer.now a.errors.now a.errors.now
+    c.from_residual.result fault c.from_residual.ensures.1
+    (not_opened g.L.Read.remaining g.W.Write.contents g.E.Write.contents a.options.now a.files.now given a.log.now a.writer.now a.errors.now fault
+    (subst (λ k. OpensCatalog k given (Err fault)) c.as_ref.ensures.value c.in_err-opened.ensures))
+
+pub returns-in_err-index : goal.returns-in_err-index
+returns-in_err-index g c =
+    let a = c.args in
+    ended g.L.Read.remaining g.W.Write.contents g.E.Write.contents a.options.now a.files.now (Some (given_in a.texts.now)) [] a.log.now a.log.now a.writer.now a.writer.now a.errors.now a.errors.now
+    c.from_residual-in_err-index.result (Refused refusal.OutOfMemory) c.from_residual-in_err-index.ensures.1 (tt, inl (refl, refl, refl))
+
+pub returns : goal.returns
+returns g c =
+    let a = c.args in
+    let given = given_in a.texts.now in
+    let opened = c.in_ok-opened.opened in
+    log_annotated g.L.Read.remaining g.W.Write.contents g.E.Write.contents a.options.now a.files.now a.log.now c.annotate_by.new.log a.writer.now c.annotate_by.new.writer a.errors.now c.note_listings.new.writer
+    (Some given) c.annotate_by.result (record {
+      catalog = c.in_ok-index.index;
+      notes = opened.notes;
+      said = subst (λ x. IsCatalogOf a.options.now.kernel given x opened.notes) (sym c.in_ok-index.ensures)
+          (subst (λ k. IsCatalogOf k given opened.catalog opened.notes) c.as_ref.ensures.value c.in_ok-opened.ensures);
+      told = subst (λ k. IsNoted g.E.Write.contents a.errors.now c.note_listings.new.writer (is_some_noted opened.notes) (note_lines k a.files.now opened.notes)) c.as_ref-2.ensures.value c.note_listings.ensures;
+      holds = c.annotate_by.ensures;
+    })

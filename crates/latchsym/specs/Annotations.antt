@@ -1,0 +1,84 @@
+-- What is written for a log, and told of the listings that say what its addresses are.
+use Rattle.std.specs.Prelude.{◌≡◌, ◌⊎◌, ℕ, List, Option, Result, Ok, Err, IfSome, is_some, true}
+use Rattle.listing.specs.declared.annotation.LogFault.TheVariants as log_fault
+use Rattle.listing.specs.declared.counted.Counted.{Counted}
+use Rattle.listing.specs.AnnotatedLogs.{Answering, answered_by}
+use Rattle.listing.specs.Annotation.{Annotates}
+use Rattle.modules.specs.Entries.{CatalogEntries}
+use Rattle.modules.specs.Listed.{BoundNames}
+use Rattle.order_laws.specs.declared.refusals.Refusal.TheVariants as refusal
+use Rattle.latchsym.specs.Faults.{IsNoted}
+use Rattle.latchsym.specs.ListingNotes.{is_some_noted}
+use Rattle.latchsym.specs.NoteTexts.{note_lines}
+use Rattle.latchsym.specs.OpenedCatalogs.{Given, HasBadRegion, HasCrowdedRegions, IsCatalogOf}
+use Rattle.latchsym.specs.Readings.{Failures, NoReaderFailed, OnlyFailed}
+use Rattle.latchsym.specs.declared.command_line.ListingFiles.{ListingFiles}
+use Rattle.latchsym.specs.declared.fault.Fault.{Fault}
+use Rattle.latchsym.specs.declared.fault.Fault.TheVariants.{Refused, BadLine, Read, TooLong, Write}
+use Rattle.latchsym.specs.declared.listing_notes.ListingNotes.{ListingNotes}
+use Rattle.latchsym.specs.declared.symbol_lookup.SymbolLookupOptions.{SymbolLookupOptions}
+
+-- how a fault of the log is told: the log is the file at place 3
+abbrev pub AnnotatesBy : {L W : Type 0} → (L → Option (List ℕ)) → (W → Option (List ℕ))
+    → Answering → Counted L → Counted L → Counted W → Counted W → Result (Unit {0}) Fault → Type 0
+AnnotatesBy remaining contents answer l l' w w' (Ok done) =
+    Annotates remaining contents answer l l' w w' (Ok done)
+AnnotatesBy remaining contents answer l l' w w' (Err (Refused refusal.OutOfMemory)) =
+    Annotates remaining contents answer l l' w w' (Err log_fault.OutOfMemory)
+AnnotatesBy remaining contents answer l l' w w' (Err (Read place)) =
+    (place ≡ 3) × Annotates remaining contents answer l l' w w' (Err log_fault.Read)
+AnnotatesBy remaining contents answer l l' w w' (Err (TooLong place)) =
+    (place ≡ 3) × Annotates remaining contents answer l l' w w' (Err log_fault.TooLong)
+AnnotatesBy remaining contents answer l l' w w' (Err Write) =
+    Annotates remaining contents answer l l' w w' (Err log_fault.Write)
+AnnotatesBy remaining contents answer l l' w w' (Err _) = ⊥
+
+-- There is a catalog of the listings, where these are known; what is noted of them was told; and
+-- this holds of the catalog.
+pub record IsTold {E : Type 0} (contents : E → Option (List ℕ)) (kernel : Option BoundNames)
+    (files : ListingFiles) (known : Option Given) (e e' : Counted E) (P : CatalogEntries → Type 0)
+    : Type 0 where
+  pub catalog : CatalogEntries
+  pub notes : ListingNotes
+  pub said : IfSome known (λ g. IsCatalogOf kernel g catalog notes)
+  pub told : IsNoted contents e e' (is_some_noted notes) (note_lines kernel files notes)
+  pub holds : P catalog
+
+-- neither the log nor the writers were touched
+abbrev pub IsUntouched : {L W E : Type 0} → Counted L → Counted L → Counted W → Counted W
+    → Counted E → Counted E → Type 0
+IsUntouched l l' w w' e e' = (l' ≡ l) × (w' ≡ w) × (e' ≡ e)
+
+-- What is returned after listings were read, whose texts may be known: before anything else was
+-- touched, or after the notes were told, where `Told` says what came of the log. A call of a
+-- listing's reader failed where the answer says so, and else none.
+abbrev pub AnnotatesAfter : Option Given → Failures → Type 0 → (Result (Unit {0}) Fault → Type 0)
+    → Result (Unit {0}) Fault → Type 0
+AnnotatesAfter known counts Untouched Told (Ok done) = NoReaderFailed counts × Told (Ok done)
+AnnotatesAfter known counts Untouched Told (Err (Refused refusal.OutOfMemory)) =
+    NoReaderFailed counts × (Untouched ⊎ Told (Err (Refused refusal.OutOfMemory)))
+AnnotatesAfter known counts Untouched Told (Err (Refused refusal.TooManyRegions)) =
+    NoReaderFailed counts × Untouched
+    × IfSome known (λ g. (is_some g.modules ≡ true) × HasCrowdedRegions g.regions)
+AnnotatesAfter known counts Untouched Told (Err (BadLine place n)) =
+    NoReaderFailed counts × Untouched × (place ≡ 2)
+    × IfSome known (λ g. (is_some g.modules ≡ true) × HasBadRegion n g.regions)
+AnnotatesAfter known counts Untouched Told (Err (Read place)) =
+    (OnlyFailed place counts × Untouched) ⊎ (NoReaderFailed counts × Told (Err (Read place)))
+AnnotatesAfter known counts Untouched Told (Err (TooLong place)) =
+    NoReaderFailed counts × Told (Err (TooLong place))
+AnnotatesAfter known counts Untouched Told (Err Write) =
+    NoReaderFailed counts × Told (Err Write)
+AnnotatesAfter known counts Untouched Told (Err _) = ⊥
+
+-- What the engine returns. Once it told what is noted of the listings, the log is annotated by the
+-- answers of their catalog.
+abbrev pub AnnotatesLog : {L W E : Type 0} → (L → Option (List ℕ)) → (W → Option (List ℕ))
+    → (E → Option (List ℕ)) → SymbolLookupOptions → ListingFiles → Option Given → Failures
+    → Counted L → Counted L → Counted W → Counted W → Counted E → Counted E
+    → Result (Unit {0}) Fault → Type 0
+AnnotatesLog remaining contents errors o files known counts l l' w w' e e' result =
+    AnnotatesAfter known counts (IsUntouched l l' w w' e e')
+    (λ r. IsTold errors o.kernel files known e e'
+    (λ c. AnnotatesBy remaining contents (answered_by c o.rule) l l' w w' r))
+    result

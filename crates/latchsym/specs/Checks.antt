@@ -1,0 +1,153 @@
+-- What is written of listings that are checked.
+use Rattle.std.specs.Prelude.{◌≡◌, ℕ, nat_eq, if◌then◌else◌, List, [], ◌++◌, Option, Some, None}
+use Rattle.std.specs.Prelude.{Result, Ok, Err, IfSome, unwrap_or, true}
+use Rattle.std.specs.Option.{option_map}
+use Rattle.std.specs.Io.KnownBytes.{Appends}
+use Rattle.clap.specs.Words.{Text}
+use Rattle.listing.specs.declared.counted.Counted.{Counted}
+use Rattle.listing.specs.Counted.{NoneFailed, Rose, device_of, failures_of}
+use Rattle.listing.specs.Lines.{lines_of}
+use Rattle.listing.specs.SymbolListing.{symbol_counts}
+use Rattle.modules.specs.Accepted.{Accepted}
+use Rattle.modules.specs.Catalogs.{kept_counts}
+use Rattle.modules.specs.Lines.{bounds_for}
+use Rattle.modules.specs.Listed.{BoundNames, ListedRegion}
+use Rattle.modules.specs.Placed.{are_few}
+use Rattle.order_laws.specs.declared.refusals.Refusal.TheVariants as refusal
+use Rattle.latchsym.specs.ListingNotes.{is_of_kallsyms, is_of_modules}
+use Rattle.latchsym.specs.LookupInputs.{Inputs, catalog_in, counts_in, region_lines}
+use Rattle.latchsym.specs.Lookups.{count_lines, counts_text}
+use Rattle.latchsym.specs.NoteTexts.{applying_lines}
+use Rattle.latchsym.specs.OpenedCatalogs.{Given, HasBadRegion, HasCrowdedRegions, inputs_by}
+use Rattle.latchsym.specs.Readings.{Failures, NoReaderFailed, OnlyFailed}
+use Rattle.latchsym.specs.SymbolLookups.{SaysOfModules, counts_text_of, found_counts_text, listed}
+use Rattle.latchsym.specs.declared.command_line.ListingFiles.{ListingFiles}
+use Rattle.latchsym.specs.declared.fault.Fault.{Fault}
+use Rattle.latchsym.specs.declared.fault.Fault.TheVariants.{Refused, BadLine, Read, Write}
+use Rattle.latchsym.specs.declared.lookup.Listings.{Listings}
+use Rattle.latchsym.specs.declared.symbol_lookup.SymbolListing.{SymbolListing}
+
+-- the name of the file of modules, which is empty where there is none
+abbrev pub modules_name : ListingFiles → Text
+modules_name files = unwrap_or (option_map (λ f. f.now) files.modules) []
+
+-- The notes that apply to listings of modules and of symbols in these files, those of the modules
+-- first, and then the counts of a lookup over the same listings.
+abbrev pub modules_report : ListingFiles → Inputs → List ℕ
+modules_report files i =
+    applying_lines i.options.kernel (modules_name files) (is_of_modules i.modules (catalog_in i))
+    ++ applying_lines i.options.kernel files.kallsyms.now
+    (is_of_kallsyms i.options.kernel i.kallsyms (counts_in i).symbols)
+    ++ count_lines i
+
+-- the same of listings that were read
+abbrev pub listings_report : ListingFiles → Inputs → Listings → List ℕ
+listings_report files i l =
+    applying_lines i.options.kernel (modules_name files) (is_of_modules i.modules l.catalog)
+    ++ applying_lines i.options.kernel files.kallsyms.now
+    (is_of_kallsyms i.options.kernel i.kallsyms l.built.symbols)
+    ++ counts_text l
+
+-- the same of a listing of symbols alone, which says this of the modules
+abbrev pub symbols_report : Option BoundNames → Text → List ℕ → Accepted → List ℕ
+symbols_report kernel file text a =
+    let names = bounds_for kernel (listed text) in
+    let kept = kept_counts a (listed text) in
+    applying_lines names file (is_of_kallsyms names text kept.symbols)
+    ++ counts_text_of kept (symbol_counts (lines_of text))
+
+-- the same of a listing of symbols that was read, where these names bound the kernel
+abbrev pub symbol_listing_report : BoundNames → Text → List ℕ → SymbolListing → List ℕ
+symbol_listing_report names file text l =
+    applying_lines names file (is_of_kallsyms names text l.kept.symbols) ++ found_counts_text l
+
+-- what is to be written where modules are listed, and how many symbols are kept
+abbrev pub IsModulesReport : Option BoundNames → ListingFiles → List ℕ → List ℕ
+    → Option (List ℕ) → List ℕ → ℕ → Type 0
+IsModulesReport kernel files modules kallsyms regions text kept =
+    (lines : Option (List ListedRegion)) × (region_lines regions ≡ Ok lines)
+    × (are_few (unwrap_or lines []) ≡ true)
+    × (text ≡ modules_report files (inputs_by kernel modules kallsyms lines))
+    × (kept ≡ (counts_in (inputs_by kernel modules kallsyms lines)).symbols)
+
+-- the same where they are not
+abbrev pub IsSymbolsReport : Option BoundNames → Text → List ℕ → List ℕ → ℕ → Type 0
+IsSymbolsReport kernel file kallsyms text kept =
+    (a : Accepted) × SaysOfModules kernel kallsyms a
+    × (text ≡ symbols_report kernel file kallsyms a)
+    × (kept ≡ (kept_counts a (listed kallsyms)).symbols)
+
+-- the same of the listings that are given
+abbrev pub IsReportBy : Option BoundNames → ListingFiles → Given → Option (List ℕ) → List ℕ → ℕ
+    → Type 0
+IsReportBy kernel files g None text kept =
+    IsSymbolsReport kernel files.kallsyms.now g.kallsyms text kept
+IsReportBy kernel files g (Some modules) text kept =
+    IsModulesReport kernel files modules g.kallsyms g.regions text kept
+
+abbrev pub IsReport : Option BoundNames → ListingFiles → Given → List ℕ → ℕ → Type 0
+IsReport kernel files g text kept = IsReportBy kernel files g g.modules text kept
+
+-- the listing of regions, where there is one beside that of modules
+abbrev pub regions_beside : Option (List ℕ) → Option (List ℕ) → Option (List ℕ)
+regions_beside None regions = None
+regions_beside (Some modules) regions = regions
+
+-- the program's status, by how many symbols are kept
+abbrev pub status_of_kept : ℕ → ℕ
+status_of_kept kept = if nat_eq kept 0 then 1 else 0
+
+-- the writer has taken a text of which this holds, and the status is that of its kept symbols
+abbrev pub IsChecked : {W : Type 0} → (W → Option (List ℕ)) → Counted W → Counted W
+    → (List ℕ → ℕ → Type 0) → ℕ → Type 0
+IsChecked contents w w' Is status =
+    (text : List ℕ) × (kept : ℕ) × Is text kept
+    × Appends (contents (device_of w)) (contents (device_of w')) text
+    × (status ≡ status_of_kept kept)
+
+-- there is something to be written
+abbrev pub HasReport : (List ℕ → ℕ → Type 0) → Type 0
+HasReport Is = (text : List ℕ) × (kept : ℕ) × Is text kept
+
+-- What is returned for texts that were read, from one state of the writer to another. Every fault
+-- but a failed write leaves the writer as it was, and a call of it failed then alone.
+abbrev pub ChecksTexts : {W : Type 0} → (W → Option (List ℕ)) → (List ℕ → ℕ → Type 0)
+    → Option (List ℕ) → Counted W → Counted W → Result ℕ Fault → Type 0
+ChecksTexts contents Is regions w w' (Ok status) =
+    NoneFailed w w' × IsChecked contents w w' Is status
+ChecksTexts contents Is regions w w' (Err (Refused refusal.OutOfMemory)) = w' ≡ w
+ChecksTexts contents Is regions w w' (Err (Refused refusal.TooManyRegions)) =
+    (w' ≡ w) × HasCrowdedRegions regions
+ChecksTexts contents Is regions w w' (Err (BadLine place n)) =
+    (w' ≡ w) × (place ≡ 2) × HasBadRegion n regions
+ChecksTexts contents Is regions w w' (Err Write) =
+    Rose (failures_of w) (failures_of w') × HasReport Is
+ChecksTexts contents Is regions w w' (Err _) = ⊥
+
+-- the same of the listings that are given
+abbrev pub ChecksGiven : {W : Type 0} → (W → Option (List ℕ)) → Option BoundNames → ListingFiles
+    → Given → Counted W → Counted W → Result ℕ Fault → Type 0
+ChecksGiven contents kernel files g w w' result =
+    ChecksTexts contents (IsReport kernel files g) (regions_beside g.modules g.regions) w w' result
+
+-- What the engine returns that also read the listings, where these are known. A call of a reader or
+-- of the writer failed where the answer says so, and else none.
+abbrev pub ChecksListings : {W : Type 0} → (W → Option (List ℕ)) → Option BoundNames
+    → ListingFiles → Option Given → Failures → Counted W → Counted W → Result ℕ Fault → Type 0
+ChecksListings contents kernel files known counts w w' (Ok status) =
+    NoReaderFailed counts × NoneFailed w w'
+    × IfSome known (λ g. IsChecked contents w w' (IsReport kernel files g) status)
+ChecksListings contents kernel files known counts w w' (Err (Refused refusal.OutOfMemory)) =
+    NoReaderFailed counts × (w' ≡ w)
+ChecksListings contents kernel files known counts w w' (Err (Refused refusal.TooManyRegions)) =
+    NoReaderFailed counts × (w' ≡ w)
+    × IfSome known (λ g. HasCrowdedRegions (regions_beside g.modules g.regions))
+ChecksListings contents kernel files known counts w w' (Err (BadLine place n)) =
+    NoReaderFailed counts × (w' ≡ w) × (place ≡ 2)
+    × IfSome known (λ g. HasBadRegion n (regions_beside g.modules g.regions))
+ChecksListings contents kernel files known counts w w' (Err (Read place)) =
+    (w' ≡ w) × OnlyFailed place counts
+ChecksListings contents kernel files known counts w w' (Err Write) =
+    NoReaderFailed counts × Rose (failures_of w) (failures_of w')
+    × IfSome known (λ g. HasReport (IsReport kernel files g))
+ChecksListings contents kernel files known counts w w' (Err _) = ⊥

@@ -1,0 +1,106 @@
+//! From the bytes of the listings and of a log to the log with the text of the answer behind each
+//! address.
+//!
+//! The listings are read whole, and what is noted of them is told, before the log is begun: it may
+//! have no end. The log itself goes through block by block.
+ghost use Rattle.std.specs.Prelude.{◌≡◌, [], Some};
+ghost use Rattle.listing.specs.AnnotatedLogs.{answered_by};
+ghost use Rattle.latchsym.specs.Annotations.{AnnotatesBy, AnnotatesLog};
+ghost use Rattle.latchsym.specs.OpenedCatalogs.{given_in, known_given, listing_failures};
+
+use crate::command_line::ListingFiles;
+use crate::fault::{Fault, note_listings};
+use crate::opened_catalogs::{GivenTexts, ListingReaders, open_catalog, read_given};
+use crate::symbol_lookup::SymbolLookupOptions;
+use listing::{AddressRule, Counted, LogFault, annotate};
+use modules::IndexedCatalog;
+use order_laws::Refusal;
+use std::alloc::Global;
+use std::io::{Read, Write};
+
+/// The readers of the files of an annotation, in the order in which they are read.
+#[derive(Drop)]
+pub struct AnnotateReaders<M, K, R, L> {
+    /// The listings.
+    pub listings: ListingReaders<M, K, R>,
+    /// The log.
+    pub log: Counted<L>,
+}
+
+/// The place of the log among the files that are read.
+const LOG_PLACE: u64 = 3;
+
+/// Writes a log again, with the text of the answer behind each address in it that the listings
+/// have. The options say between which symbols the kernel itself lies, and how the addresses are
+/// taken.
+///
+/// What is noted of the listings in these files is told to `errors` before the log is begun. Every
+/// fault that comes before that leaves the log, the writer and `errors` as they were. Of the log all that is decided is written, and the writer flushed, after each block that was read; so
+/// whatever ends it, what was written is a beginning of the annotated log. docs/FORMATS.md has the
+/// listings, and says what is inserted.
+pub fn annotate_engine<M: Read, K: Read, R: Read, L: Read, E: Write, W: Write>(
+    alloc: Global,
+    readers: &mut AnnotateReaders<M, K, R, L>,
+    options: &SymbolLookupOptions<'_>,
+    files: &ListingFiles<'_>,
+    errors: &mut Counted<E>,
+    writer: &mut Counted<W>,
+) -> Result<(), Fault>
+    ensures { AnnotatesLog L.remaining W.contents E.contents options.now files.now
+        (known_given M.remaining K.remaining R.remaining readers.old.listings)
+        (listing_failures readers.old.listings readers.new.listings)
+        readers.old.log readers.new.log writer.old writer.new errors.old errors.new result }
+{
+    let texts = read_given(alloc, &mut readers.listings)?;
+    annotate_over(
+        alloc,
+        &texts,
+        options,
+        files,
+        errors,
+        &mut readers.log,
+        writer,
+    )
+}
+
+/// Writes the log again by the catalog that these texts say, and tells before it what is noted of
+/// them.
+fn annotate_over<L: Read, E: Write, W: Write>(
+    alloc: Global,
+    texts: &GivenTexts,
+    options: &SymbolLookupOptions<'_>,
+    files: &ListingFiles<'_>,
+    errors: &mut Counted<E>,
+    log: &mut Counted<L>,
+    writer: &mut Counted<W>,
+) -> Result<(), Fault>
+    ensures { AnnotatesLog L.remaining W.contents E.contents options.now files.now
+        (Some (given_in texts.now)) [] log.old log.new writer.old writer.new
+        errors.old errors.new result }
+{
+    let opened = open_catalog(alloc, options.kernel.as_ref(), texts)?;
+    let notes = opened.notes;
+    let index = IndexedCatalog::new(alloc, opened.catalog)?;
+    note_listings(&notes, options.kernel.as_ref(), files, errors);
+    annotate_by(alloc, &index, options.rule, log, writer)
+}
+
+/// Writes the log again by this catalog.
+fn annotate_by<L: Read, W: Write>(
+    alloc: Global,
+    index: &IndexedCatalog<'_>,
+    rule: AddressRule,
+    log: &mut Counted<L>,
+    writer: &mut Counted<W>,
+) -> Result<(), Fault>
+    ensures { AnnotatesBy L.remaining W.contents (answered_by index.now rule) log.old log.new
+        writer.old writer.new result }
+{
+    match annotate(alloc, index, rule, log, writer) {
+        Ok(()) => Ok(()),
+        Err(LogFault::OutOfMemory) => Err(Fault::Refused(Refusal::OutOfMemory)),
+        Err(LogFault::Read) => Err(Fault::Read { place: LOG_PLACE }),
+        Err(LogFault::Write) => Err(Fault::Write),
+        Err(LogFault::TooLong) => Err(Fault::TooLong { place: LOG_PLACE }),
+    }
+}

@@ -1,0 +1,269 @@
+//! All that is noted of listings, and how many of their lines went where.
+//!
+//! A lookup tells of each listing the first note that applies; a check tells them all, and where
+//! they are its answer it writes them.
+ghost use Rattle.std.specs.Prelude.{◌≡◌, None};
+ghost use Rattle.std.specs.Option.{option_copied, option_map};
+ghost use Rattle.listing.specs.Exact.{Wrote};
+ghost use Rattle.listing.specs.Lines.{lines_of};
+ghost use Rattle.listing.specs.Looks.{are_modules_hidden, are_symbols_hidden};
+ghost use Rattle.latchsym.specs.Checks.{ChecksGiven, ChecksListings, ChecksTexts, IsModulesReport};
+ghost use Rattle.latchsym.specs.Checks.{IsSymbolsReport, listings_report, modules_name};
+ghost use Rattle.latchsym.specs.Checks.{status_of_kept, symbol_listing_report};
+ghost use Rattle.latchsym.specs.ListingNotes.{is_of_kallsyms, is_of_modules};
+ghost use Rattle.latchsym.specs.LookupInputs.{inputs_in};
+ghost use Rattle.latchsym.specs.NoteTexts.{applying_lines};
+ghost use Rattle.latchsym.specs.OpenedCatalogs.{given_in, known_given, listing_failures};
+
+use crate::command_line::ListingFiles;
+use crate::fault::{FAILED, Fault, SUCCEEDED};
+use crate::listing_notes::{ListingNote, applies_to_kallsyms, applies_to_modules};
+use crate::lookup::{
+    Listings, LookupInputs, LookupOptions, listings_in, put_counts, region_lines_in,
+};
+use crate::note_texts::put_note_where;
+use crate::opened_catalogs::{GivenTexts, ListingReaders, bounds_or_usual, read_given};
+use crate::symbol_lookup::{SymbolListing, put_found_counts, symbol_listing_in};
+use listing::{AddressRule, Counted};
+use modules::{Catalog, KernelBounds};
+use std::alloc::Global;
+use std::io;
+use std::io::{Read, Write};
+
+/// Writes a line for each note that applies to the listings in these files, and then the counts
+/// that a lookup over the same listings has. Returns the program's status: 1 where no symbol is
+/// kept.
+///
+/// All is read, and the catalog is there, before the first byte is written; so every fault but a
+/// failed write leaves the writer as it was. No table is loaded, so any number of regions will do.
+pub fn check_engine<M: Read, K: Read, R: Read, W: Write>(
+    alloc: Global,
+    readers: &mut ListingReaders<M, K, R>,
+    kernel: Option<&KernelBounds>,
+    files: &ListingFiles<'_>,
+    writer: &mut Counted<W>,
+) -> Result<u8, Fault>
+    ensures { ChecksListings W.contents (option_copied kernel.entry) files.now
+        (known_given M.remaining K.remaining R.remaining readers.old)
+        (listing_failures readers.old readers.new) writer.old writer.new result }
+{
+    let texts = read_given(alloc, readers)?;
+    check_given(alloc, &texts, kernel, files, writer)
+}
+
+/// Checks the listings that these texts are.
+fn check_given<W: Write>(
+    alloc: Global,
+    texts: &GivenTexts,
+    kernel: Option<&KernelBounds>,
+    files: &ListingFiles<'_>,
+    writer: &mut Counted<W>,
+) -> Result<u8, Fault>
+    ensures { ChecksGiven W.contents (option_copied kernel.entry) files.now (given_in texts.now)
+        writer.old writer.new result }
+{
+    match &texts.modules {
+        Some(modules) => check_modules(alloc, texts, modules, kernel, files, writer),
+        None => check_symbols(alloc, &texts.kallsyms, kernel, files.kallsyms, writer),
+    }
+}
+
+/// The same where modules are listed.
+fn check_modules<W: Write>(
+    alloc: Global,
+    texts: &GivenTexts,
+    modules: &[u8],
+    kernel: Option<&KernelBounds>,
+    files: &ListingFiles<'_>,
+    writer: &mut Counted<W>,
+) -> Result<u8, Fault>
+    ensures { ChecksTexts W.contents
+        (IsModulesReport (option_copied kernel.entry) files.now modules.now texts.now.kallsyms.items
+        (option_map (λ text. text.items) texts.now.regions))
+        (option_map (λ text. text.items) texts.now.regions) writer.old writer.new result }
+{
+    let options = LookupOptions {
+        kernel: bounds_or_usual(kernel),
+        rule: AddressRule::AS_GIVEN,
+    };
+    let inputs = LookupInputs {
+        options: &options,
+        modules,
+        kallsyms: &texts.kallsyms,
+        regions: region_lines_in(alloc, &texts.regions)?,
+        addresses: Vec::new(alloc),
+    };
+    let listings = listings_in(alloc, &inputs)?;
+    match put_listings(writer, files, &inputs, &listings) {
+        Ok(()) => Ok(status_of_kept(listings.built.symbols)),
+        Err(_) => Err(Fault::Write),
+    }
+}
+
+/// The same of a listing of symbols alone.
+fn check_symbols<W: Write>(
+    alloc: Global,
+    kallsyms: &[u8],
+    kernel: Option<&KernelBounds>,
+    file: &str,
+    writer: &mut Counted<W>,
+) -> Result<u8, Fault>
+    ensures { ChecksTexts W.contents
+        (IsSymbolsReport (option_copied kernel.entry) file.now kallsyms.now) None
+        writer.old writer.new result }
+{
+    let listing = symbol_listing_in(alloc, kernel, kallsyms)?;
+    let names = kernel.unwrap_or(&listing.usual);
+    match put_symbol_listing(writer, names, file, kallsyms, &listing) {
+        Ok(()) => Ok(status_of_kept(listing.kept.symbols)),
+        Err(_) => Err(Fault::Write),
+    }
+}
+
+/// The program's status, by how many symbols are kept.
+fn status_of_kept(kept: u64) -> u8
+    ensures { result ≡ status_of_kept kept }
+{
+    if kept == 0 { FAILED } else { SUCCEEDED }
+}
+
+/// Writes what applies to listings of modules and of symbols, and their counts, and lets the writer
+/// keep nothing back.
+fn put_listings<W: Write>(
+    writer: &mut Counted<W>,
+    files: &ListingFiles<'_>,
+    inputs: &LookupInputs<'_, '_>,
+    listings: &Listings,
+) -> io::Result<()>
+    requires modules { listings.now.modules_hidden
+        ≡ are_modules_hidden (lines_of inputs.now.modules.now) }
+    requires symbols { listings.now.symbols_hidden
+        ≡ are_symbols_hidden (lines_of inputs.now.kallsyms.now) }
+    ensures { Wrote W.contents writer.old writer.new result
+        (listings_report files.now (inputs_in inputs.now) listings.now) }
+{
+    put_listings_report(writer, files, inputs, listings)?;
+    writer.flush()
+}
+
+fn put_listings_report<W: Write>(
+    writer: &mut Counted<W>,
+    files: &ListingFiles<'_>,
+    inputs: &LookupInputs<'_, '_>,
+    listings: &Listings,
+) -> io::Result<()>
+    requires modules { listings.now.modules_hidden
+        ≡ are_modules_hidden (lines_of inputs.now.modules.now) }
+    requires symbols { listings.now.symbols_hidden
+        ≡ are_symbols_hidden (lines_of inputs.now.kallsyms.now) }
+    ensures { Wrote W.contents writer.old writer.new result
+        (listings_report files.now (inputs_in inputs.now) listings.now) }
+{
+    let names = &inputs.options.kernel;
+    let modules = modules_name(files).as_bytes();
+    put_module_notes(
+        writer,
+        names,
+        modules,
+        inputs.modules,
+        listings.modules_hidden,
+        &listings.catalog,
+    )?;
+    put_symbol_notes(
+        writer,
+        names,
+        files.kallsyms.as_bytes(),
+        inputs.kallsyms,
+        listings.symbols_hidden,
+        listings.built.symbols,
+    )?;
+    put_counts(writer, listings)
+}
+
+/// The name of the file of modules, which is empty where there is none.
+fn modules_name<'a>(files: &ListingFiles<'a>) -> &'a str
+    ensures { result.now ≡ modules_name files.now }
+{
+    files.modules.unwrap_or("")
+}
+
+/// The same of a listing of symbols alone, where these names bound the kernel.
+fn put_symbol_listing<W: Write>(
+    writer: &mut Counted<W>,
+    names: &KernelBounds,
+    file: &str,
+    kallsyms: &[u8],
+    listing: &SymbolListing,
+) -> io::Result<()>
+    requires { listing.now.hidden ≡ are_symbols_hidden (lines_of kallsyms.now) }
+    ensures { Wrote W.contents writer.old writer.new result
+        (symbol_listing_report names.now file.now kallsyms.now listing.now) }
+{
+    put_symbols_report(writer, names, file, kallsyms, listing)?;
+    writer.flush()
+}
+
+fn put_symbols_report<W: Write>(
+    writer: &mut Counted<W>,
+    names: &KernelBounds,
+    file: &str,
+    kallsyms: &[u8],
+    listing: &SymbolListing,
+) -> io::Result<()>
+    requires { listing.now.hidden ≡ are_symbols_hidden (lines_of kallsyms.now) }
+    ensures { Wrote W.contents writer.old writer.new result
+        (symbol_listing_report names.now file.now kallsyms.now listing.now) }
+{
+    put_symbol_notes(
+        writer,
+        names,
+        file.as_bytes(),
+        kallsyms,
+        listing.hidden,
+        listing.kept.symbols,
+    )?;
+    put_found_counts(writer, listing)
+}
+
+/// Writes the line of each note that applies to a listing of modules with this text, whose
+/// well-formed lines are all hidden or not.
+fn put_module_notes<W: Write>(
+    writer: &mut Counted<W>,
+    names: &KernelBounds,
+    file: &[u8],
+    text: &[u8],
+    hidden: bool,
+    catalog: &Catalog,
+) -> io::Result<()>
+    requires { hidden ≡ are_modules_hidden (lines_of text.now) }
+    ensures { Wrote W.contents writer.old writer.new result
+        (applying_lines names.now file.now (is_of_modules text.now catalog.now)) }
+{
+    let notes = ListingNote::all();
+    for note in notes {
+        let applies = applies_to_modules(*note, text, hidden, catalog);
+        put_note_where(writer, names, file, *note, applies)?;
+    }
+    Ok(())
+}
+
+/// The same of a listing of symbols, of which so many lines are kept.
+fn put_symbol_notes<W: Write>(
+    writer: &mut Counted<W>,
+    names: &KernelBounds,
+    file: &[u8],
+    text: &[u8],
+    hidden: bool,
+    kept: u64,
+) -> io::Result<()>
+    requires { hidden ≡ are_symbols_hidden (lines_of text.now) }
+    ensures { Wrote W.contents writer.old writer.new result
+        (applying_lines names.now file.now (is_of_kallsyms names.now text.now kept)) }
+{
+    let notes = ListingNote::all();
+    for note in notes {
+        let applies = applies_to_kallsyms(*note, text, names, hidden, kept);
+        put_note_where(writer, names, file, *note, applies)?;
+    }
+    Ok(())
+}

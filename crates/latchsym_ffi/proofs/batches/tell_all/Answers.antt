@@ -1,0 +1,12 @@
+use Rattle.std.proofs.Common.{◌≡◌, slice_set, get_or, ◌∙◌, ap}
+use Rattle.latchsym_ffi.specs.Finding.{known_at}
+use Rattle.latchsym_ffi.specs.Batches.{told_at, told_of}
+use Rattle.latchsym_ffi.proofs.MapLemmas.{map_more}
+use Rattle.latchsym_ffi.proofs.batches.tell_all.Goals as goal
+
+pub loop-place-preserved : goal.loop-place-preserved
+loop-place-preserved c =
+    let n = c.loop-place.place in
+    let told = c.told.ensures ∙ ap (told_of c.catalog.result.now) c.seek.ensures ∙ ap (λ k. told_of k (known_at c.args.catalog.now (get_or c.args.addrs.now n 0))) c.catalog.ensures in
+    (λ i. slice_set (c.loop-place.invariant i) n (told i))
+    ∙ map_more (told_at c.args.catalog.now) c.args.addrs.now c.args.out.now n 0 c.loop-place-test.true c.requires

@@ -1,0 +1,77 @@
+-- The numbers that calls return, and the texts of these.
+use Rattle.std.specs.Prelude.{ℕ, Bool, nat_eq, List, [], ◌∷◌, find, codes, Option}
+use Rattle.std.specs.Option.{option_map_or}
+use Rattle.order_laws.specs.declared.refusals.Refusal.{Refusal}
+use Rattle.order_laws.specs.declared.refusals.Refusal.TheVariants as refusal
+use Rattle.order_laws.specs.Refusals.{refusal_number}
+use Rattle.latchsym_ffi.specs.declared.answers.Answer.{Answer}
+use Rattle.latchsym_ffi.specs.declared.answers.Answer.TheVariants.{Done, Refused, BadLine}
+use Rattle.latchsym_ffi.specs.declared.answers.Answer.TheVariants.{NoSymbol, Nothing, Retry}
+use Rattle.latchsym_ffi.specs.declared.answers.Answer.TheVariants.{Flip, Store, BadHandle}
+use Rattle.latchsym_ffi.specs.declared.answers.Answer.TheVariants.{BadLength, BadListings}
+
+-- the number that is returned for an answer
+abbrev pub answer_number : Answer → ℕ
+answer_number Done = 0
+answer_number (Refused r) = refusal_number r
+answer_number BadLine = 15
+answer_number NoSymbol = 21
+answer_number Nothing = 22
+answer_number Retry = 23
+answer_number Flip = 31
+answer_number Store = 32
+answer_number BadHandle = 101
+answer_number BadLength = 102
+answer_number BadListings = 103
+
+-- all answers, by rising number
+abbrev pub all_answers : List Answer
+all_answers =
+    Done ∷ Refused refusal.BadItem ∷ Refused refusal.Overlap ∷ Refused refusal.NoSuchItem
+    ∷ Refused refusal.Full ∷ Refused refusal.UpdateInHand ∷ Refused refusal.SequenceSpent
+    ∷ Refused refusal.OutOfMemory ∷ Refused refusal.ReaderBusy ∷ Refused refusal.ReaderIdle
+    ∷ Refused refusal.BadCapacity ∷ Refused refusal.UnknownModule ∷ Refused refusal.AlreadyLoaded
+    ∷ Refused refusal.NotLoaded ∷ Refused refusal.TooManyRegions ∷ BadLine ∷ Refused refusal.NoInit
+    ∷ NoSymbol ∷ Nothing ∷ Retry ∷ Flip ∷ Store ∷ BadHandle ∷ BadLength ∷ BadListings ∷ []
+
+unfoldable pub has_number : ℕ → Answer → Bool
+has_number number a = nat_eq (answer_number a) number
+
+-- the answer of a number, if it is that of one
+abbrev pub answer_with : ℕ → Option Answer
+answer_with number = find (has_number number) all_answers
+
+abbrev pub refusal_text : Refusal → List ℕ
+refusal_text refusal.BadItem = codes "the item is empty"
+refusal_text refusal.Overlap = codes "the item overlaps one of the table"
+refusal_text refusal.NoSuchItem = codes "no item of the table begins there"
+refusal_text refusal.Full = codes "the table has as many items as nodes"
+refusal_text refusal.UpdateInHand = codes "an update is pending"
+refusal_text refusal.SequenceSpent = codes "the sequence is spent"
+refusal_text refusal.OutOfMemory = codes "out of memory"
+refusal_text refusal.ReaderBusy = codes "the reader has a pending lookup"
+refusal_text refusal.ReaderIdle = codes "the reader has no pending lookup"
+refusal_text refusal.BadCapacity = codes "the number of nodes or of readers is out of its range"
+refusal_text refusal.UnknownModule = codes "the catalog has no such module"
+refusal_text refusal.AlreadyLoaded = codes "the module is in the table"
+refusal_text refusal.NotLoaded = codes "the module is not in the table"
+refusal_text refusal.TooManyRegions = codes "more than 7 region lines have one name"
+refusal_text refusal.NoInit = codes "the table has no init region of the module"
+
+abbrev pub answer_text : Answer → List ℕ
+answer_text Done = codes "done"
+answer_text (Refused r) = refusal_text r
+answer_text BadLine = codes "a line of the listing of regions is not one"
+answer_text NoSymbol = codes "no symbol of the region is at or below the address"
+answer_text Nothing = codes "nothing is there"
+answer_text Retry = codes "the writer flipped meanwhile: try again"
+answer_text Flip = codes "a flip of the sequence"
+answer_text Store = codes "a store of a word"
+answer_text BadHandle = codes "the handle does not hold what is wanted"
+answer_text BadLength = codes "the room is not for as many answers as there are addresses"
+answer_text BadListings = codes "the listings are not as this version has them"
+
+-- what a number means
+abbrev pub text_with : ℕ → List ℕ
+text_with number =
+    option_map_or answer_text (answer_with number) (codes "no number of this library")

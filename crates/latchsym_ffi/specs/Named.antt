@@ -1,0 +1,13 @@
+-- What is told of an address, with the names where they lie in the listings.
+use Rattle.std.specs.Prelude.{◌≡◌}
+use Rattle.modules.specs.Entries.{CatalogEntries}
+use Rattle.latchsym_ffi.specs.declared.finding.CatalogSymbol.{CatalogSymbol}
+use Rattle.latchsym_ffi.specs.Finding.{Known, answer_of, owner_named, symbol_named}
+
+-- the numbers are those that are told of what is known, and the bytes at the places are the names
+pub record IsNamed (c : CatalogEntries) (k : Known) (s : CatalogSymbol) : Type 0 where
+  pub number : s.module_number ≡ (answer_of c k).module_number
+  pub offset : s.offset ≡ (answer_of c k).offset
+  pub size : s.size ≡ (answer_of c k).size
+  pub name : s.name.now ≡ symbol_named k
+  pub owner : s.«module».now ≡ owner_named c k

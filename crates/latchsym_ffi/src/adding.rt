@@ -1,0 +1,73 @@
+//! One more reader of a table: in a handle, or nothing of it.
+
+ghost use Rattle.std.specs.Prelude.{◌≡◌, ◌≢◌, IfOk, IfErr, OnErr};
+ghost use Rattle.order_laws.specs.declared.refusals.Refusal.{Refusal as Why};
+ghost use Rattle.order_laws.specs.Refusals.{refusal_number};
+ghost use Rattle.latch_table.specs.Adding.{RefusesReader};
+ghost use Rattle.latch_table.specs.Writers.{WriterState};
+ghost use Rattle.latchsym_ffi.specs.Adding.{AddsHandle, IsAdded};
+ghost use Rattle.latchsym_ffi.specs.Handles.{HoldsWriter, WriterGoes};
+ghost use Rattle.latchsym_ffi.specs.Kinds.{writer_kind};
+
+use crate::answers::{BAD_HANDLE, DONE};
+use crate::contents::{CLOSED, Content, WRITER};
+use crate::handles::Handle;
+use latch_table::Writer;
+use order_laws::{HalfOpen, Refusal};
+use std::alloc::Global;
+
+/// One more reader of the writer's table, in a box.
+fn add(alloc: Global, writer: &mut Writer<HalfOpen>) -> Result<Box<Content, Global>, Refusal>
+    ensures added { IfOk result (λ b. IsAdded writer.old writer.new b.value) }
+    ensures refusal { IfErr result (RefusesReader writer.old) }
+    ensures unchanged { OnErr result (writer.new ≡ writer.old) }
+{
+    let reader = writer.add_reader()?;
+    match Box::new(alloc, Content::Reader(reader)) {
+        Ok(content) => Ok(content),
+        Err(failed) => {
+            match failed.value {
+                Content::Reader(reader) => writer.take_back(reader),
+                Content::Catalog(_catalog) => (),
+                Content::Writer(_writer) => (),
+            }
+            Err(Refusal::OutOfMemory)
+        }
+    }
+}
+
+/// Opens a handle with one more reader of the writer's table, also amid an update.
+#[unsafe(no_mangle)]
+pub extern "C" fn latchsym_writer_add_reader(
+    alloc: Global,
+    writer: &mut Handle,
+    out: &mut Handle,
+) -> u32
+    ensures added { result ≡ 0 → (writer.old.kind ≡ writer_kind) × (out.old.kind ≡ 0)
+        × WriterGoes (AddsHandle out.new) writer.old writer.new }
+    ensures unchanged { (w : WriterState) → HoldsWriter w writer.old → result ≢ 0
+        → HoldsWriter w writer.new }
+    ensures refused { result ≢ 0 → out.new ≡ out.old }
+    ensures why { (w : WriterState) → HoldsWriter w writer.old → out.old.kind ≡ 0 → result ≢ 0
+        → (e : Why) × (result ≡ refusal_number e) × RefusesReader w e }
+    ensures not_so { out.old.kind ≢ 0 → (result ≡ 101) × (writer.new ≡ writer.old) }
+    ensures other { writer.old.kind ≢ writer_kind
+        → (result ≡ 101) × (writer.new ≡ writer.old) }
+{
+    if writer.kind != WRITER || out.kind != CLOSED {
+        return BAD_HANDLE;
+    }
+    let mut content = writer.take();
+    let added = match &mut *content {
+        Content::Writer(inner) => add(alloc, inner),
+        _ => Err(Refusal::OutOfMemory),
+    };
+    writer.put(content);
+    match added {
+        Ok(reader) => {
+            out.put(reader);
+            DONE
+        }
+        Err(refusal) => refusal.number(),
+    }
+}

@@ -1,0 +1,39 @@
+//! What is known of several addresses, in one call.
+
+ghost use Rattle.std.specs.Prelude.{◌≡◌, length, map};
+ghost use Rattle.std.specs.Option.{option_map};
+ghost use Rattle.latchsym_ffi.specs.Batches.{told_at, told_of};
+ghost use Rattle.latchsym_ffi.specs.Finding.{shown_seen};
+
+use crate::finding::{CatalogAnswer, Seen, description_of, seek};
+use modules::{Catalog, IndexedCatalog};
+
+/// What is told of one of several addresses: what a search for it alone tells, and the number that
+/// this returns.
+#[repr(C)]
+#[derive(Clone, Copy, Drop)]
+pub struct CatalogTold {
+    pub answer: CatalogAnswer,
+    pub code: u32,
+}
+
+/// What is told of what was seen.
+fn told(catalog: &Catalog<'static>, seen: Option<Seen<'_>>) -> CatalogTold
+    ensures { result ≡ told_of catalog.now (option_map shown_seen seen.entry) }
+{
+    let description = description_of(catalog, seen);
+    CatalogTold {
+        answer: description.answer,
+        code: description.code,
+    }
+}
+
+/// Tells of each address, in the room of its place.
+pub(crate) fn tell_all(catalog: &IndexedCatalog<'static>, addrs: &[u64], out: &mut [CatalogTold])
+    requires { length out.old ≡ length addrs.now }
+    ensures { out.new ≡ map (told_at catalog.now) addrs.now }
+{
+    for place in 0..addrs.len() {
+        out[place] = told(catalog.catalog(), seek(catalog, addrs[place]));
+    }
+}

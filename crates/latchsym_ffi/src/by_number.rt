@@ -1,0 +1,270 @@
+//! What C calls, to go through the modules, the regions and the symbols of a catalog, and from names
+//! to addresses.
+
+ghost use Rattle.std.specs.Prelude.{◌≡◌, ◌≢◌, ◌<◌, IfSome, length, position};
+ghost use Rattle.std.specs.Str.{bytes_eq};
+ghost use Rattle.modules.specs.Catalogs.{module_of};
+ghost use Rattle.modules.specs.Entries.{CatalogEntries};
+ghost use Rattle.latchsym_ffi.specs.ByNumber.{TellsModule, TellsPlace, TellsRegion, TellsSymbol};
+ghost use Rattle.latchsym_ffi.specs.ByNumber.{named_from, part_at, place_named, region_at};
+ghost use Rattle.latchsym_ffi.specs.ByNumber.{symbol_at_place};
+ghost use Rattle.latchsym_ffi.specs.Handles.{HoldsCatalog, Stays};
+ghost use Rattle.latchsym_ffi.specs.Kinds.{catalog_kind};
+
+use crate::answers::{BAD_HANDLE, DONE, NOTHING};
+use crate::contents::{CATALOG, Content};
+use crate::handles::Handle;
+use modules::{Catalog, Part, Symbol};
+
+/// A module: its name, and how many regions and symbols it has.
+#[repr(C)]
+#[derive(Clone, Copy, Drop)]
+pub struct CatalogModule {
+    pub name: &'static [u8],
+    pub regions: usize,
+    pub symbols: usize,
+}
+
+/// A region of a module: its first address and its end, which is excluded, and whether only the
+/// start of the module needs it.
+#[repr(C)]
+#[derive(Clone, Copy, Drop)]
+pub struct CatalogRegion {
+    pub a: u64,
+    pub b: u64,
+    pub is_init: u32,
+}
+
+/// A symbol of a module.
+#[repr(C)]
+#[derive(Clone, Copy, Drop)]
+pub struct CatalogEntry {
+    pub addr: u64,
+    pub name: &'static [u8],
+}
+
+/// Tells of the module of a number.
+fn tell_module(catalog: &Catalog<'static>, number: u64, out: &mut CatalogModule) -> u32
+    ensures { TellsModule (module_of catalog.now number) result out.old out.new }
+{
+    let Some(module) = catalog.module(number) else {
+        return NOTHING;
+    };
+    *out = CatalogModule {
+        name: module.name(),
+        regions: module.regions().len(),
+        symbols: module.symbols().len(),
+    };
+    DONE
+}
+
+/// Tells of the region at a place among those of a module.
+fn tell_region(
+    catalog: &Catalog<'static>,
+    number: u64,
+    place: usize,
+    out: &mut CatalogRegion,
+) -> u32
+    ensures { TellsRegion (region_at catalog.now number place) (part_at catalog.now number place)
+        result out.old out.new }
+{
+    let Some(module) = catalog.module(number) else {
+        return NOTHING;
+    };
+    let Some(region) = module.regions().get(place) else {
+        return NOTHING;
+    };
+    let Some(part) = module.parts().get(place) else {
+        return NOTHING;
+    };
+    *out = CatalogRegion {
+        a: region.start(),
+        b: region.end(),
+        is_init: match part {
+            Part::Core => 0,
+            Part::Init => 1,
+        },
+    };
+    DONE
+}
+
+/// Tells of the symbol at a place among those of a module.
+fn tell_symbol(catalog: &Catalog<'static>, number: u64, place: usize, out: &mut CatalogEntry) -> u32
+    ensures { TellsSymbol (symbol_at_place catalog.now number place) result out.old out.new }
+{
+    let Some(module) = catalog.module(number) else {
+        return NOTHING;
+    };
+    let Some(symbol) = module.symbols().get(place) else {
+        return NOTHING;
+    };
+    *out = CatalogEntry {
+        addr: symbol.addr,
+        name: symbol.name,
+    };
+    DONE
+}
+
+/// The place of the first symbol that has this name.
+fn position_named(symbols: &[Symbol<'static>], name: &[u8]) -> Option<usize>
+    ensures place { result ≡ position (λ s. bytes_eq s.name name.now) symbols.now }
+    ensures within { IfSome result (λ n. n < length symbols.now) }
+{
+    symbols.iter().position(|symbol| symbol.name == name)
+}
+
+/// The place of the first symbol from a place on that has this name.
+fn named_from(symbols: &[Symbol<'static>], name: &[u8], from: usize) -> Option<usize>
+    ensures { result ≡ named_from symbols.now name.now from }
+{
+    let rest = symbols.get(from..)?;
+    let place = position_named(rest, name)?;
+    Some(from + place)
+}
+
+/// Tells of the place of the first symbol of a module from a place on that has this name.
+fn tell_named(
+    catalog: &Catalog<'static>,
+    number: u64,
+    name: &[u8],
+    from: usize,
+    out: &mut usize,
+) -> u32
+    ensures { TellsPlace (place_named catalog.now number name.now from) result out.old out.new }
+{
+    let Some(module) = catalog.module(number) else {
+        return NOTHING;
+    };
+    match named_from(module.symbols(), name, from) {
+        Some(place) => {
+            *out = place;
+            DONE
+        }
+        None => NOTHING,
+    }
+}
+
+/// How many modules a catalog has, the kernel itself not counted: they have the numbers from 1 on.
+#[unsafe(no_mangle)]
+pub extern "C" fn latchsym_catalog_modules(catalog: &mut Handle, out: &mut u64) -> u32
+    ensures stays { Stays catalog.old catalog.new }
+    ensures told { (c : CatalogEntries) → HoldsCatalog c catalog.old
+        → (result ≡ 0) × (out.new ≡ length c.modules) }
+    ensures other { catalog.old.kind ≢ catalog_kind → (result ≡ 101) × (catalog.new ≡ catalog.old)
+        × (out.new ≡ out.old) }
+{
+    if catalog.kind != CATALOG {
+        return BAD_HANDLE;
+    }
+    let content = catalog.take();
+    if let Content::Catalog(shared) = &*content {
+        *out = shared.indexed().catalog().len();
+    }
+    catalog.put(content);
+    DONE
+}
+
+/// Tells of the module of a number: 0 is the kernel itself.
+#[unsafe(no_mangle)]
+pub extern "C" fn latchsym_catalog_module(
+    catalog: &mut Handle,
+    number: u64,
+    out: &mut CatalogModule,
+) -> u32
+    ensures stays { Stays catalog.old catalog.new }
+    ensures told { (c : CatalogEntries) → HoldsCatalog c catalog.old
+        → TellsModule (module_of c number) result out.old out.new }
+    ensures other { catalog.old.kind ≢ catalog_kind → (result ≡ 101) × (catalog.new ≡ catalog.old)
+        × (out.new ≡ out.old) }
+{
+    if catalog.kind != CATALOG {
+        return BAD_HANDLE;
+    }
+    let content = catalog.take();
+    let result = match &*content {
+        Content::Catalog(shared) => tell_module(shared.indexed().catalog(), number, out),
+        _ => BAD_HANDLE,
+    };
+    catalog.put(content);
+    result
+}
+
+/// Tells of a region of a module.
+#[unsafe(no_mangle)]
+pub extern "C" fn latchsym_catalog_region(
+    catalog: &mut Handle,
+    number: u64,
+    place: usize,
+    out: &mut CatalogRegion,
+) -> u32
+    ensures stays { Stays catalog.old catalog.new }
+    ensures told { (c : CatalogEntries) → HoldsCatalog c catalog.old
+        → TellsRegion (region_at c number place) (part_at c number place)
+        result out.old out.new }
+    ensures other { catalog.old.kind ≢ catalog_kind → (result ≡ 101) × (catalog.new ≡ catalog.old)
+        × (out.new ≡ out.old) }
+{
+    if catalog.kind != CATALOG {
+        return BAD_HANDLE;
+    }
+    let content = catalog.take();
+    let result = match &*content {
+        Content::Catalog(shared) => tell_region(shared.indexed().catalog(), number, place, out),
+        _ => BAD_HANDLE,
+    };
+    catalog.put(content);
+    result
+}
+
+/// Tells of a symbol of a module.
+#[unsafe(no_mangle)]
+pub extern "C" fn latchsym_catalog_symbol(
+    catalog: &mut Handle,
+    number: u64,
+    place: usize,
+    out: &mut CatalogEntry,
+) -> u32
+    ensures stays { Stays catalog.old catalog.new }
+    ensures told { (c : CatalogEntries) → HoldsCatalog c catalog.old
+        → TellsSymbol (symbol_at_place c number place) result out.old out.new }
+    ensures other { catalog.old.kind ≢ catalog_kind → (result ≡ 101) × (catalog.new ≡ catalog.old)
+        × (out.new ≡ out.old) }
+{
+    if catalog.kind != CATALOG {
+        return BAD_HANDLE;
+    }
+    let content = catalog.take();
+    let result = match &*content {
+        Content::Catalog(shared) => tell_symbol(shared.indexed().catalog(), number, place, out),
+        _ => BAD_HANDLE,
+    };
+    catalog.put(content);
+    result
+}
+
+/// Tells where the next symbol of a module is that has a name.
+#[unsafe(no_mangle)]
+pub extern "C" fn latchsym_catalog_place_of_name(
+    catalog: &mut Handle,
+    number: u64,
+    name: &[u8],
+    from: usize,
+    out: &mut usize,
+) -> u32
+    ensures stays { Stays catalog.old catalog.new }
+    ensures told { (c : CatalogEntries) → HoldsCatalog c catalog.old
+        → TellsPlace (place_named c number name.now from) result out.old out.new }
+    ensures other { catalog.old.kind ≢ catalog_kind → (result ≡ 101) × (catalog.new ≡ catalog.old)
+        × (out.new ≡ out.old) }
+{
+    if catalog.kind != CATALOG {
+        return BAD_HANDLE;
+    }
+    let content = catalog.take();
+    let result = match &*content {
+        Content::Catalog(shared) => tell_named(shared.indexed().catalog(), number, name, from, out),
+        _ => BAD_HANDLE,
+    };
+    catalog.put(content);
+    result
+}

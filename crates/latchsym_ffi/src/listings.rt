@@ -1,0 +1,73 @@
+//! The struct of C that has the listings.
+
+ghost use Rattle.std.specs.Prelude.{◌≡◌};
+ghost use Rattle.std.specs.Option.{option_copied};
+ghost use Rattle.latchsym_ffi.specs.Listings.{bounds_if_any, is_understood, text_if_any, texts_in};
+ghost use Rattle.latchsym_ffi.specs.Opening.{shown_texts};
+
+use crate::opening::CatalogTexts;
+use modules::KernelBounds;
+
+/// How many bytes the struct has, which it says itself first: a later version may have more.
+const SIZE: usize = 96;
+
+/// The bytes of the listings, as C hands them in. Those that are not given have no byte, and one of
+/// modules is there only where `has_modules` is not 0.
+#[repr(C)]
+#[derive(Clone, Copy, Drop)]
+pub struct CatalogListings {
+    pub size: usize,
+    pub kallsyms: &'static [u8],
+    pub modules: &'static [u8],
+    pub regions: &'static [u8],
+    /// The name of the symbol at the kernel's first address.
+    pub start: &'static [u8],
+    /// The name of the symbol at its end.
+    pub end: &'static [u8],
+    pub has_modules: u32,
+}
+
+/// A text, which is none where it has no byte.
+fn if_any(text: &'static [u8]) -> Option<&'static [u8]>
+    ensures { option_copied result ≡ text_if_any text.now }
+{
+    if text.is_empty() { None } else { Some(text) }
+}
+
+/// The names of both bounds of the kernel, which are none where neither has a byte.
+fn bounds_if_any(start: &'static [u8], end: &'static [u8]) -> Option<KernelBounds<'static>>
+    ensures { result ≡ bounds_if_any start.now end.now }
+{
+    if start.is_empty() && end.is_empty() {
+        None
+    } else {
+        Some(KernelBounds { start, end })
+    }
+}
+
+impl CatalogListings {
+    /// Whether the struct is one of this version, and has no byte of a listing that it says is not
+    /// there.
+    pub(crate) fn is_understood(&self) -> bool
+        ensures { result ≡ is_understood self.now }
+    {
+        self.size == SIZE
+            && (self.has_modules != 0 || self.modules.is_empty() && self.regions.is_empty())
+    }
+
+    /// The texts that it has.
+    pub(crate) fn texts(&self) -> CatalogTexts
+        ensures { shown_texts result ≡ texts_in self.now }
+    {
+        CatalogTexts {
+            kernel: bounds_if_any(self.start, self.end),
+            modules: if self.has_modules == 0 {
+                None
+            } else {
+                Some(self.modules)
+            },
+            kallsyms: self.kallsyms,
+            regions: if_any(self.regions),
+        }
+    }
+}

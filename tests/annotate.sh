@@ -1,0 +1,128 @@
+#!/usr/bin/env bash
+# Annotates the logs of examples/logs/, and compares what is written with the logs beside them; looks
+# that what is decided is written while a log goes on, and what is noted before it is begun; and
+# tries what may be wrong with the command line and the files.
+set -euo pipefail
+. "$(dirname "$0")/program.sh"
+build latchsym
+cd "$top/examples/logs"
+failed=0
+
+fail() {
+    echo "annotate: $1"
+    failed=1
+}
+
+# writes WANTED ARGUMENT..: these arguments write what the file has, and nothing on standard error
+writes() {
+    local wanted=$1 status=0
+    shift
+    "$program" annotate "$@" >"$work/out" 2>"$work/err" || status=$?
+    [ $status = 0 ] && [ ! -s "$work/err" ] || fail "$*: status $status, $(cat "$work/err")"
+    cmp -s "$work/out" "$wanted" || fail "$*: another log than $wanted"
+}
+
+# the listings of a log stand beside it, or are the basic ones
+for log in *.log; do
+    name=${log%.log}
+    listings=../listings/basic
+    [ ! -e "$name.kallsyms" ] || listings=$name
+    options=(--modules "$listings.modules" --kallsyms "$listings.kallsyms")
+    writes "$name.expected" "${options[@]}" "$log"
+    writes "$name.callers" "${options[@]}" --callers "$log"
+    writes "$name.expected" "${options[@]}" <"$log"
+    writes "$name.expected" "${options[@]}" - <"$log"
+done
+
+# by the symbols alone; between other bounds; of a kernel that was moved
+cat >"$work/kallsyms" <<'END'
+ffffffff81000000 T _stext
+ffffffff81000100 T do_one
+ffffffff81002000 T _einittext
+ffffffffc0000010 t ext4_a	[ext4]
+ffffffffc0002000 t xfs_a	[xfs]
+END
+printf 'RIP: 0010:0xffffffff81000108\r\n[<ffffffffc0000018>] (ffffffffc0002004)' >"$work/log"
+printf 'RIP: 0010:0xffffffff81000108 do_one+0x8/0x1f00\r\n[<ffffffffc0000018>] ext4_a+0x8/0x1ff0 [ext4] (ffffffffc0002004) xfs_a+0x4/0x100000 [xfs]' >"$work/wanted"
+writes "$work/wanted" --kallsyms "$work/kallsyms" "$work/log"
+sed 's/ do_one+0x8\/0x1f00//' "$work/wanted" >"$work/moved"
+writes "$work/moved" --kallsyms "$work/kallsyms" --kernel _stext do_one "$work/log"
+sed 's/0xffffffff81000108/0xffffffff91000108/; s/ffffffffc0/ffffffffd0/g' "$work/log" >"$work/high"
+sed 's/0xffffffff81000108/0xffffffff91000108/; s/ffffffffc0/ffffffffd0/g' "$work/wanted" >"$work/moved"
+writes "$work/moved" --offset 0x10000000 --kallsyms "$work/kallsyms" "$work/high"
+: >"$work/none"
+writes "$work/none" --kallsyms "$work/kallsyms" "$work/none"
+
+# a line that does not end takes no more memory than a short one
+head -c 50000000 /dev/zero | tr '\0' a >"$work/long"
+(ulimit -v 32768 && exec "$program" annotate --kallsyms "$work/kallsyms" "$work/long") 2>"$work/err" | cmp -s - "$work/long" || fail "a line of 50000000 bytes: $(cat "$work/err")"
+
+# waits FILE WANTED: until the file has what is wanted
+waits() {
+    local turn
+    for turn in $(seq 1 300); do
+        cmp -s "$1" "$2" && return
+        sleep 0.1
+    done
+    fail "a log that goes on: $(cat "$1")"
+}
+# a log that goes on: what is noted is told before it is begun, and each line comes as it is read
+mkfifo "$work/pipe"
+echo "latchsym: note: $work/other: has no symbol _stext" >"$work/note"
+sed 's/_stext/_text/' "$work/kallsyms" >"$work/other"
+"$program" annotate --kallsyms "$work/other" "$work/pipe" >"$work/out" 2>"$work/err" &
+reader=$!
+exec 3>"$work/pipe"
+waits "$work/err" "$work/note"
+[ ! -s "$work/out" ] || fail "a log that was not begun was written"
+for line in 1 2 3; do
+    echo "[<ffffffffc0000018>]$line" >&3
+    echo "[<ffffffffc0000018>] ext4_a+0x8/0x1ff0 [ext4]$line" >>"$work/lines"
+    waits "$work/out" "$work/lines"
+done
+exec 3>&-
+wait $reader || fail "a log that went on: status $?"
+
+# a reader that has gone ends the program
+yes 'at ffffffffc0000018' | timeout 60 "$program" annotate --kallsyms "$work/kallsyms" 2>"$work/err" | head -n 1 >"$work/out" || true
+echo 'at ffffffffc0000018 ext4_a+0x8/0x1ff0 [ext4]' | cmp -s - "$work/out" || fail "the first line of a log without an end"
+
+# refused STATUS LINE ARGUMENT..: nothing on standard output, this line on standard error (any,
+# where it is empty), and this status
+refused() {
+    local want=$1 line=$2 status=0
+    shift 2
+    "$program" annotate "$@" >"$work/out" 2>"$work/err" </dev/null || status=$?
+    [ $status = "$want" ] && [ ! -s "$work/out" ] && [ -s "$work/err" ] || fail "$*: status $status in place of $want"
+    [ -z "$line" ] || [ "$(cat "$work/err")" = "latchsym: $line" ] || fail "$*: $(cat "$work/err")"
+}
+symbols=(--kallsyms "$work/kallsyms")
+both=("${symbols[@]}" --modules ../listings/basic.modules)
+refused 1 "no_such: cannot be read" "${symbols[@]}" no_such
+refused 1 ".: cannot be read" "${symbols[@]}" .
+refused 1 "no_such: cannot be read" --kallsyms no_such x86_oops.log
+refused 1 "no_such: cannot be read" --kallsyms . --modules no_such no_log
+refused 1 "no_such: cannot be read" "${both[@]}" --regions no_such no_log
+printf 'latchregions 1\nm core 0 1\n' >"$work/regions"
+refused 1 "$work/regions: line 2 is not understood" "${both[@]}" --regions "$work/regions" no_log
+{ printf 'latchregions 1\n'; printf 'm core %d 1\n' 1 2 3 4 5 6 7 8; } >"$work/regions"
+refused 1 "refused 14" "${both[@]}" --regions "$work/regions" no_log
+refused 2 "--regions needs --modules" "${symbols[@]}" --regions "$work/regions"
+refused 2 "bad offset 1x" "${symbols[@]}" --offset 1x
+refused 2 "--kernel takes two names of symbols, and its END is 0x10" "${symbols[@]}" --kernel _stext 0x10
+refused 2 "" "${symbols[@]}" x86_oops.log kasan.log
+refused 2 "" "${symbols[@]}" --kernel _stext
+refused 2 "" "${symbols[@]}" "${symbols[@]}"
+refused 2 "" "${symbols[@]}" --addresses x86_oops.log
+if [ -e /dev/full ]; then
+    status=0
+    "$program" annotate "${symbols[@]}" x86_oops.log >/dev/full 2>"$work/err" || status=$?
+    [ $status = 1 ] && [ "$(cat "$work/err")" = "latchsym: cannot write" ] || fail "a full device is not reported"
+    # notes that cannot be told of are no fault
+    "$program" annotate --kallsyms "$work/other" "$work/log" >"$work/out" 2>/dev/full || fail "notes on a full device: status $?"
+fi
+if [ -r /proc/kallsyms ]; then
+    "$program" annotate "$work/none" >"$work/out" 2>"$work/err" && [ ! -s "$work/out" ] || fail "the symbols of this machine: $(cat "$work/err")"
+fi
+[ $failed = 1 ] || echo "annotate: $(ls ./*.log | wc -l) logs, and one that goes on"
+exit $failed

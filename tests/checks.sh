@@ -1,0 +1,78 @@
+#!/usr/bin/env bash
+# Checks the listings of examples/listings/: each note that a lookup tells of them is written, and
+# then the counts of the lookup; tries the statuses, more regions than a table has, and the faults.
+set -euo pipefail
+. "$(dirname "$0")/program.sh"
+build latchsym
+cd "$top/examples/listings"
+failed=0
+
+fail() {
+    echo "checks: $1"
+    failed=1
+}
+
+# checked STATUS ARGUMENT..: the check ends so, and says nothing on standard error
+checked() {
+    local want=$1 status=0
+    shift
+    "$program" check "$@" >"$work/out" 2>"$work/err" || status=$?
+    [ $status = "$want" ] && [ ! -s "$work/err" ] || fail "check $*: status $status, $(cat "$work/err")"
+}
+
+# writes LINES: these lines were written
+writes() {
+    printf "$1" | cmp -s - "$work/out" || fail "other lines: $(cat "$work/out")"
+}
+
+for modules in *.modules; do
+    name=${modules%.modules}
+    regions=()
+    [ ! -e "$name.regions" ] || regions=(--regions "$name.regions")
+    kept=$(sed -n 's/^symbols \([0-9]*\) .*/\1/p' "$name.expected")
+    status=0
+    [ "$kept" != 0 ] || status=1
+    checked $status --modules "$modules" --kallsyms "$name.kallsyms" "${regions[@]}"
+    grep -v '^0x' "$name.expected" | cmp -s - <(grep -v '^latchsym: note: ' "$work/out") || fail "$name: other counts"
+    # what a lookup tells of a listing is among what is written of it
+    if [ -e "$name.notes" ] && grep -Fxvf "$work/out" "$name.notes"; then
+        fail "$name: a note is missing"
+    fi
+done
+
+checked 0 --kallsyms basic.kallsyms
+writes 'modules 1 regions 1\nsymbols 5 hidden 0 stray 1 long 0 malformed 0\n'
+checked 1 --modules empty.modules --kallsyms empty.kallsyms
+writes 'modules 0 hidden 0 empty 0 wraps 0 overlap 0 double 0 long 0 malformed 0\nsymbols 0 hidden 0 stray 0 long 0 malformed 0\n'
+
+# both notes on one listing; a bound that is named and missed
+printf '\037\213\r\n' >"$work/both"
+checked 1 --kallsyms "$work/both"
+writes "latchsym: note: $work/both: is compressed by gzip; unpack it first\nlatchsym: note: $work/both: lines end in CR LF\nmodules 0 regions 0\nsymbols 0 hidden 0 stray 0 long 0 malformed 1\n"
+checked 0 --kallsyms basic.kallsyms --kernel _stext nowhere
+head -n 1 "$work/out" | cmp -s - <(echo 'latchsym: note: basic.kallsyms: has no symbol nowhere') || fail "a bound that is missed"
+
+# more regions than a table has nodes
+awk 'BEGIN { for (i = 1; i <= 70000; i++) printf "%x t f%d\t[m%d]\n", i * 4096, i, i }' >"$work/many"
+checked 0 --kallsyms "$work/many"
+writes 'modules 70000 regions 70000\nsymbols 70000 hidden 0 stray 0 long 0 malformed 0\n'
+
+# faulty STATUS LINE ARGUMENT..: the check fails so, with nothing on standard output
+faulty() {
+    local want=$1 line=$2 status=0
+    shift 2
+    "$program" check "$@" >"$work/out" 2>"$work/err" || status=$?
+    [ $status = "$want" ] && [ ! -s "$work/out" ] && [ "$(cat "$work/err")" = "$line" ] || fail "check $*: status $status, $(cat "$work/err")"
+}
+faulty 1 'latchsym: nowhere: cannot be read' --kallsyms nowhere
+faulty 1 'latchsym: nowhere: cannot be read' --modules nowhere --kallsyms basic.kallsyms
+faulty 1 "latchsym: basic.modules: line 1 is not understood" --modules basic.modules --kallsyms basic.kallsyms --regions basic.modules
+faulty 2 'latchsym: --regions needs --modules' --kallsyms basic.kallsyms --regions regions.regions
+faulty 2 'latchsym: --kernel takes two names of symbols, and its END is 0x1' --kallsyms basic.kallsyms --kernel _stext 0x1
+if [ -e /dev/full ]; then
+    status=0
+    "$program" check --kallsyms basic.kallsyms >/dev/full 2>"$work/err" || status=$?
+    [ $status = 1 ] && [ "$(cat "$work/err")" = 'latchsym: cannot write' ] || fail "a full device: status $status"
+fi
+[ $failed = 1 ] || echo "checks: $(ls ./*.modules | wc -l) listings"
+exit $failed
