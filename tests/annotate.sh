@@ -53,7 +53,29 @@ writes "$work/moved" --offset 0x10000000 --kallsyms "$work/kallsyms" "$work/high
 : >"$work/none"
 writes "$work/none" --kallsyms "$work/kallsyms" "$work/none"
 
-# a line that does not end takes no more memory than a short one
+# words and lines of any length, and bytes of any value
+{
+    head -c 100000 /dev/zero | tr '\0' f
+    printf ' ffffffffc0000018 '
+    head -c 10000000 /dev/zero | tr '\0' ' '
+    printf "(0xffffffffc0000018)$(printf '\\%03o' $(seq 0 255))ffffffffc0000018\n"
+} >"$work/log"
+sed 's/ \(ffffffffc0000018\) / \1 ext4_a+0x8\/0x1ff0 [ext4] /; s/18)/& ext4_a+0x8\/0x1ff0 [ext4]/; s/18$/& ext4_a+0x8\/0x1ff0 [ext4]/' \
+    <"$work/log" >"$work/wanted"
+writes "$work/wanted" --kallsyms "$work/kallsyms" "$work/log"
+
+# a log of 1 GB takes no more memory than a short one, and neither does a line that does not end
+for line in $(seq 1 20000); do
+    echo "[$line.5] pid $line: from [<ffffffffc0000018>] by 0xffffffff81000108, at ffffffff82000000"
+done >"$work/log"
+sed 's/18>]/& ext4_a+0x8\/0x1ff0 [ext4]/; s/81000108/& do_one+0x8\/0x1f00/' "$work/log" >"$work/wanted"
+# many FILE: the file as often as it takes for a log of 1 GB
+many() {
+    local turn
+    for turn in $(seq 1 $((1000000000 / $(stat -c %s "$work/log") + 1))); do cat "$1"; done
+}
+many "$work/log" | (ulimit -v 32768 && exec "$program" annotate --kallsyms "$work/kallsyms") 2>"$work/err" |
+    cmp -s - <(many "$work/wanted") || fail "a log of 1 GB: $(cat "$work/err")"
 head -c 50000000 /dev/zero | tr '\0' a >"$work/long"
 (ulimit -v 32768 && exec "$program" annotate --kallsyms "$work/kallsyms" "$work/long") 2>"$work/err" | cmp -s - "$work/long" || fail "a line of 50000000 bytes: $(cat "$work/err")"
 
@@ -119,7 +141,7 @@ if [ -e /dev/full ]; then
     "$program" annotate "${symbols[@]}" x86_oops.log >/dev/full 2>"$work/err" || status=$?
     [ $status = 1 ] && [ "$(cat "$work/err")" = "latchsym: cannot write" ] || fail "a full device is not reported"
     # notes that cannot be told of are no fault
-    "$program" annotate --kallsyms "$work/other" "$work/log" >"$work/out" 2>/dev/full || fail "notes on a full device: status $?"
+    "$program" annotate --kallsyms "$work/other" x86_oops.log >"$work/out" 2>/dev/full || fail "notes on a full device: status $?"
 fi
 if [ -r /proc/kallsyms ]; then
     "$program" annotate "$work/none" >"$work/out" 2>"$work/err" && [ ! -s "$work/out" ] || fail "the symbols of this machine: $(cat "$work/err")"

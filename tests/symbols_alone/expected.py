@@ -98,7 +98,8 @@ class Plain:
         """Where the regions of modules begin."""
         return [e for e in self.edges if self.owner(e) is not None and self.owner(e) != self.owner(e - 1)]
 
-    def answer(self, address):
+    def answer(self, address, told=None):
+        """The text of the address's answer, or of TOLD, which is looked up by ADDRESS."""
         owner = self.owner(address)
         if owner is None and address not in self.kernel:
             return b"-"
@@ -107,7 +108,8 @@ class Plain:
         nearest = max(s.address for s in symbols if s.address <= address)
         name = next(s.name for s in symbols if s.address == nearest)
         end = min((s.address for s in symbols if s.address > nearest), default=region.stop)
-        text = b"%s+0x%x/0x%x" % (name, address - nearest, end - nearest)
+        offset = (address if told is None else told) - nearest
+        text = b"%s+0x%x/0x%x" % (name, offset, end - nearest)
         return text if owner is None else text + b" [%s]" % owner
 
     def output(self, addresses):
@@ -225,4 +227,5 @@ def main():
     print(told)
 
 
-main()
+if __name__ == "__main__":
+    main()
