@@ -1,0 +1,102 @@
+# SPDX-License-Identifier: MIT OR Apache-2.0
+"""Makes the wheel of this folder, as PEP 517 asks of a build backend.
+
+The package is Python files alone, so a wheel is a zip of them. Nothing has to be fetched for that,
+and `pip install` works without a network. The same files give the same bytes.
+"""
+
+import base64
+import hashlib
+import io
+import pathlib
+import re
+import tarfile
+import zipfile
+
+HERE = pathlib.Path(__file__).parent
+EPOCH = (1980, 1, 1, 0, 0, 0)  # the first time that a zip can tell
+
+
+def _project():
+    """The plain values of pyproject.toml that the metadata repeat, without tomllib of Python 3.11."""
+    text = (HERE / "pyproject.toml").read_text(encoding="utf-8")
+    values = dict(re.findall(r'^([a-z-]+) = "([^"]*)"$', text, re.MULTILINE))
+    values["classifiers"] = re.findall(r'^    "([^"]+ :: [^"]+)",$', text, re.MULTILINE)
+    values["keywords"] = ",".join(re.findall(r'"([^"]+)"', re.search(r"^keywords = (.*)$", text, re.MULTILINE)[1]))
+    return values
+
+
+def _metadata(project):
+    lines = [
+        "Metadata-Version: 2.1",
+        f"Name: {project['name']}",
+        f"Version: {project['version']}",
+        f"Summary: {project['description']}",
+        "Author: the latchsym authors",
+        "License: MIT OR Apache-2.0",
+        f"Keywords: {project['keywords']}",
+        *(f"Classifier: {it}" for it in project["classifiers"]),
+        f"Requires-Python: {project['requires-python']}",
+        "Description-Content-Type: text/markdown",
+        "",
+        (HERE / "README.md").read_text(encoding="utf-8"),
+    ]
+    return "\n".join(lines)
+
+
+def _info(project):
+    """The files of the .dist-info folder, by name, but for the record."""
+    return {
+        "METADATA": _metadata(project).encode(),
+        "WHEEL": b"Wheel-Version: 1.0\nGenerator: latchsym\nRoot-Is-Purelib: true\nTag: py3-none-any\n",
+    }
+
+
+def _record(path, content):
+    digest = base64.urlsafe_b64encode(hashlib.sha256(content).digest()).rstrip(b"=").decode()
+    return f"{path},sha256={digest},{len(content)}\n"
+
+
+def prepare_metadata_for_build_wheel(metadata_directory, config_settings=None):
+    project = _project()
+    name = f"latchsym-{project['version']}.dist-info"
+    folder = pathlib.Path(metadata_directory, name)
+    folder.mkdir()
+    for file, content in _info(project).items():
+        (folder / file).write_bytes(content)
+    return name
+
+
+def build_wheel(wheel_directory, config_settings=None, metadata_directory=None):
+    project = _project()
+    info = f"latchsym-{project['version']}.dist-info"
+    source = HERE / "src"
+    paths = sorted(it for it in (source / "latchsym").iterdir() if it.suffix == ".py" or it.name == "py.typed")
+    files = {it.relative_to(source).as_posix(): it.read_bytes() for it in paths}
+    files.update((f"{info}/{file}", content) for file, content in _info(project).items())
+    record = "".join(_record(path, content) for path, content in files.items())
+    files[f"{info}/RECORD"] = f"{record}{info}/RECORD,,\n".encode()
+    name = f"latchsym-{project['version']}-py3-none-any.whl"
+    with zipfile.ZipFile(pathlib.Path(wheel_directory, name), "w", zipfile.ZIP_DEFLATED) as wheel:
+        for path, content in files.items():
+            entry = zipfile.ZipInfo(path, EPOCH)
+            entry.external_attr = 0o644 << 16
+            entry.compress_type = zipfile.ZIP_DEFLATED
+            wheel.writestr(entry, content)
+    return name
+
+
+def build_sdist(sdist_directory, config_settings=None):
+    project = _project()
+    base = f"latchsym-{project['version']}"
+    files = {it.name: it.read_bytes() for it in HERE.iterdir() if it.is_file()}
+    for folder in ("src/latchsym", "tests"):
+        paths = [it for it in (HERE / folder).iterdir() if it.is_file()]
+        files.update((f"{folder}/{it.name}", it.read_bytes()) for it in paths)
+    files["PKG-INFO"] = _metadata(project).encode()
+    with tarfile.open(pathlib.Path(sdist_directory, f"{base}.tar.gz"), "w:gz", format=tarfile.PAX_FORMAT) as sdist:
+        for path, content in sorted(files.items()):
+            entry = tarfile.TarInfo(f"{base}/{path}")
+            entry.size = len(content)
+            sdist.addfile(entry, io.BytesIO(content))
+    return f"{base}.tar.gz"

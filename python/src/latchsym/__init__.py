@@ -1,0 +1,71 @@
+# SPDX-License-Identifier: MIT OR Apache-2.0
+"""Kernel symbols of addresses, and a latched table of address ranges.
+
+`Catalog` says which symbol and which module of a Linux kernel hold an address, from listings in the
+form of /proc/kallsyms and /proc/modules. `Table` is a table of address ranges whose readers never
+wait for its writer. Both are those of the library for C, `liblatchsym.so.1`, which is looked for
+where the environment's LATCHSYM_LIBRARY says and else where the system looks for libraries.
+"""
+
+from ._catalog import Answer, Answers, Catalog, Counts, Entry, Module, Region, Symbol
+from ._errors import (
+    BadCapacity,
+    BadItem,
+    BadLength,
+    BadListing,
+    Closed,
+    Error,
+    Full,
+    NoSuchItem,
+    OutOfMemory,
+    Overlap,
+    Retry,
+    SequenceSpent,
+    UpdateInHand,
+)
+from ._library import lib as _lib
+from ._table import Found, Item, Reader, Step, Table, Writer
+
+__version__ = "1.0.0"
+
+
+def library_version() -> int:
+    """The version of the library that runs: 10000 of each major, 100 of each minor number.
+
+    >>> import latchsym
+    >>> latchsym.library_version() >= 10000
+    True
+    """
+    return int(_lib.latchsym_version())
+
+
+__all__ = [
+    "Answer",
+    "Answers",
+    "BadCapacity",
+    "BadItem",
+    "BadLength",
+    "BadListing",
+    "Catalog",
+    "Closed",
+    "Counts",
+    "Entry",
+    "Error",
+    "Found",
+    "Full",
+    "Item",
+    "Module",
+    "NoSuchItem",
+    "OutOfMemory",
+    "Overlap",
+    "Reader",
+    "Region",
+    "Retry",
+    "SequenceSpent",
+    "Step",
+    "Symbol",
+    "Table",
+    "UpdateInHand",
+    "Writer",
+    "library_version",
+]

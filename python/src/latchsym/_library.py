@@ -1,0 +1,220 @@
+# SPDX-License-Identifier: MIT OR Apache-2.0
+"""The shared library as include/latchsym.h has it: its types, its numbers and its calls."""
+
+from __future__ import annotations
+
+import ctypes
+import ctypes.util
+import os
+from ctypes import POINTER, c_char, c_size_t, c_uint8, c_uint32, c_uint64, c_void_p
+from typing import Iterator
+
+from . import _errors
+
+MAJOR = 1  # of the header that this file repeats
+
+DONE, NO_SYMBOL, NOTHING, RETRY = 0, 21, 22, 23
+BAD_CAPACITY, BAD_LINE, FLIP, STORE, BAD_HANDLE = 10, 15, 31, 32, 101
+
+
+class Handle(ctypes.Structure):
+    """All bytes 0 are a closed handle. An open one is never copied or moved."""
+
+    _fields_ = [("kind", c_uint32), ("at", c_void_p)]
+
+
+COUNTS = (
+    "modules modules_hidden modules_empty modules_wraps modules_overlap modules_double modules_long "
+    "modules_malformed symbols symbols_hidden symbols_stray symbols_long symbols_malformed regions "
+    "regions_stray"
+).split()
+
+
+class Counts(ctypes.Structure):
+    _fields_ = [(name, c_uint64) for name in COUNTS]
+
+
+class Place(ctypes.Structure):
+    _fields_ = [("at", c_void_p), ("len", c_size_t)]
+
+    def text(self) -> str:
+        return decoded(ctypes.string_at(self.at, self.len))
+
+
+class Symbol(ctypes.Structure):
+    _fields_ = [
+        ("module_number", c_uint64),
+        ("offset", c_uint64),
+        ("size", c_uint64),
+        ("name", Place),
+        ("module", Place),
+    ]
+
+
+class Answer(ctypes.Structure):
+    _fields_ = [
+        ("module_number", c_uint64),
+        ("offset", c_uint64),
+        ("size", c_uint64),
+        ("name_len", c_size_t),
+        ("module_len", c_size_t),
+    ]
+
+
+class Told(ctypes.Structure):
+    _fields_ = [("answer", Answer), ("code", c_uint32)]
+
+
+class Item(ctypes.Structure):
+    _fields_ = [("a", c_uint64), ("b", c_uint64), ("tag", c_uint64)]
+
+
+class Found(ctypes.Structure):
+    _fields_ = [("a", c_uint64), ("b", c_uint64), ("tag", c_uint64), ("generation", c_uint64)]
+
+
+class Listings(ctypes.Structure):
+    _fields_ = [
+        ("size", c_size_t),
+        ("kallsyms", Place),
+        ("modules", Place),
+        ("regions", Place),
+        ("start", Place),
+        ("end", Place),
+        ("has_modules", c_uint32),
+    ]
+
+
+class Module(ctypes.Structure):
+    _fields_ = [("name", Place), ("regions", c_size_t), ("symbols", c_size_t)]
+
+
+class Region(ctypes.Structure):
+    _fields_ = [("a", c_uint64), ("b", c_uint64), ("is_init", c_uint32)]
+
+
+class Entry(ctypes.Structure):
+    _fields_ = [("addr", c_uint64), ("name", Place)]
+
+
+_HANDLE = POINTER(Handle)
+_ROOMS = [POINTER(Answer), POINTER(c_char), c_size_t, POINTER(c_char), c_size_t]
+
+# Each call of the header with what it takes, and whether it returns a number.
+CALLS = {
+    "latchsym_place_of_text": ([c_uint32, POINTER(Place)], False),
+    "latchsym_version": ([], True),
+    "latchsym_catalog_open": ([POINTER(Listings), _HANDLE, POINTER(Counts), POINTER(c_uint64)], True),
+    "latchsym_catalog_find": ([_HANDLE, c_uint64, POINTER(Symbol)], True),
+    "latchsym_catalog_find_caller": ([_HANDLE, c_uint64, POINTER(Symbol)], True),
+    "latchsym_catalog_find_many": ([_HANDLE, c_void_p, c_size_t, POINTER(Told), c_size_t], True),
+    "latchsym_catalog_name": ([_HANDLE, c_uint64, *_ROOMS], True),
+    "latchsym_catalog_modules": ([_HANDLE, POINTER(c_uint64)], True),
+    "latchsym_catalog_module": ([_HANDLE, c_uint64, POINTER(Module)], True),
+    "latchsym_catalog_region": ([_HANDLE, c_uint64, c_size_t, POINTER(Region)], True),
+    "latchsym_catalog_symbol": ([_HANDLE, c_uint64, c_size_t, POINTER(Entry)], True),
+    "latchsym_catalog_place_of_name": (
+        [_HANDLE, c_uint64, POINTER(c_char), c_size_t, c_size_t, POINTER(c_size_t)],
+        True,
+    ),
+    "latchsym_catalog_share": ([_HANDLE, _HANDLE], True),
+    "latchsym_catalog_close": ([_HANDLE], False),
+    "latchsym_table_open": ([c_uint32, _HANDLE, _HANDLE, c_size_t], True),
+    "latchsym_writer_add_reader": ([_HANDLE, _HANDLE], True),
+    "latchsym_writer_begin_insert": ([_HANDLE, POINTER(Item)], True),
+    "latchsym_writer_begin_erase": ([_HANDLE, c_uint64], True),
+    "latchsym_writer_begin_batch": (
+        [_HANDLE, POINTER(c_uint64), c_size_t, POINTER(Item), c_size_t],
+        True,
+    ),
+    "latchsym_writer_step": ([_HANDLE], True),
+    "latchsym_writer_finish": ([_HANDLE, POINTER(c_uint64)], True),
+    "latchsym_table_enlarge": ([c_uint32, _HANDLE, _HANDLE, c_size_t], True),
+    "latchsym_writer_find": ([_HANDLE, c_uint64, POINTER(Found)], True),
+    "latchsym_writer_close": ([_HANDLE], False),
+    "latchsym_reader_try_find": ([_HANDLE, c_uint64, POINTER(Found)], True),
+    "latchsym_reader_find_name": ([_HANDLE, _HANDLE, c_uint64, POINTER(Found), *_ROOMS], True),
+    "latchsym_reader_close": ([_HANDLE], False),
+}
+
+
+def _paths() -> Iterator[str]:
+    """The names under which the library is looked for, first to last."""
+    chosen = os.environ.get("LATCHSYM_LIBRARY")
+    if chosen:
+        yield chosen
+        return
+    yield f"liblatchsym.so.{MAJOR}"
+    yield "liblatchsym.so"
+    known = ctypes.util.find_library("latchsym")
+    if known:
+        yield known
+
+
+def _load() -> ctypes.CDLL:
+    faults = []
+    for path in _paths():
+        try:
+            library = ctypes.CDLL(path)
+        except OSError as error:
+            faults.append(str(error))
+            continue
+        for name, (takes, returns) in CALLS.items():
+            call = getattr(library, name)
+            call.argtypes = takes
+            call.restype = c_uint32 if returns else None
+        version = library.latchsym_version()
+        if version // 10000 == MAJOR:
+            return library
+        faults.append(f"{path}: of version {version}, not {MAJOR}")
+    raise ImportError(
+        "liblatchsym is not found (LATCHSYM_LIBRARY names its file): " + "; ".join(faults)
+    )
+
+
+lib = _load()
+
+_EMPTY = ctypes.create_string_buffer(1)
+EMPTY_AT = ctypes.addressof(_EMPTY)
+"""Where no bytes lie: a pointer that is not null."""
+
+
+def no_place() -> Place:
+    return Place(EMPTY_AT, 0)
+
+
+def no_symbol() -> Symbol:
+    return Symbol(0, 0, 0, no_place(), no_place())
+
+
+def decoded(name: bytes) -> str:
+    """A name as text, from which `encoded` gives the same bytes again."""
+    return name.decode("utf-8", "surrogateescape")
+
+
+def encoded(name: str | bytes) -> bytes:
+    return name if isinstance(name, bytes) else name.encode("utf-8", "surrogateescape")
+
+
+def word(number: int, bits: int = 64) -> int:
+    """The number, where it has so few bits: ctypes would cut it short without a word."""
+    if number >> bits:
+        raise OverflowError(f"{number} is not a number of {bits} bits without a sign")
+    return number
+
+
+def text_of(number: int) -> str:
+    """The library's text of a number that a call returned."""
+    place = no_place()
+    lib.latchsym_place_of_text(number, place)
+    return ctypes.string_at(place.at).decode()
+
+
+def error_of(number: int) -> _errors.Error:
+    return _errors.CLASSES.get(number, _errors.Error)(number, text_of(number))
+
+
+def check(number: int) -> None:
+    """Raises the exception of a number that is not 0."""
+    if number:
+        raise error_of(number)

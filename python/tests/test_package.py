@@ -1,0 +1,50 @@
+# SPDX-License-Identifier: MIT OR Apache-2.0
+import doctest
+import os
+import pathlib
+import re
+import subprocess
+import sys
+import unittest
+
+import latchsym
+from latchsym import _catalog, _library, _table
+
+TOP = pathlib.Path(__file__).parents[2]
+
+
+def load_tests(loader, tests, pattern):
+    for module in (latchsym, _catalog, _table):
+        tests.addTests(doctest.DocTestSuite(module))
+    readme = pathlib.Path(__file__).parents[1] / "README.md"
+    tests.addTests(doctest.DocFileSuite(str(readme), module_relative=False))
+    return tests
+
+
+class Package(unittest.TestCase):
+    @unittest.skipUnless((TOP / "include").is_dir(), "the repository's header is not here")
+    def test_calls_are_those_of_the_header(self):
+        header = (TOP / "include" / "latchsym.h").read_text()
+        calls = set(re.findall(r"^(?:uint32_t|void) (latchsym_\w+)\(", header, re.MULTILINE))
+        self.assertEqual(set(_library.CALLS), calls)
+        names = re.search(r"struct latchsym_counts \{(.*?)\};", header, re.DOTALL)[1]
+        self.assertEqual(_library.COUNTS, re.findall(r"\b(?:modules|symbols|regions)\w*", names))
+        self.assertEqual(latchsym.Counts._fields, tuple(_library.COUNTS))
+
+    def test_exceptions_have_the_texts_of_the_library(self):
+        for number in (1, 7, 10, 23, 101, 103):
+            self.assertTrue(_library.text_of(number))
+            self.assertEqual(str(_library.error_of(number)), _library.text_of(number))
+        self.assertIs(type(_library.error_of(9999)), latchsym.Error)
+
+    def test_a_library_that_is_missing(self):
+        words = [sys.executable, "-c", "import latchsym"]
+        path = os.pathsep.join(sys.path)
+        environment = {**os.environ, "PYTHONPATH": path, "LATCHSYM_LIBRARY": "/none/liblatchsym.so"}
+        run = subprocess.run(words, env=environment, stderr=subprocess.PIPE, text=True)
+        self.assertEqual(run.returncode, 1)
+        self.assertIn("LATCHSYM_LIBRARY", run.stderr)
+
+    def test_every_public_name_is_documented(self):
+        for name in latchsym.__all__:
+            self.assertTrue(getattr(latchsym, name).__doc__, name)
