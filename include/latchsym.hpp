@@ -1,0 +1,433 @@
+// SPDX-License-Identifier: MIT OR Apache-2.0
+/* latchsym for C++17: the calls of latchsym.h with handles that close themselves, names as
+ * std::string_view, and refusals as exceptions. It is this header alone; link as for latchsym.h.
+ *
+ *     latchsym::listings listings;
+ *     listings.kallsyms = text; // which stays where it is, unchanged, while the catalog is open
+ *     latchsym::catalog catalog(listings);
+ *     if (auto found = catalog.find(0xffffffffc0000018)) std::cout << found->name << '\n';
+ *
+ * An object is for one thread at a time, also for what only looks: no member that calls the library
+ * is const. It may go to another thread between two calls. One that was moved from may be assigned
+ * or destroyed, and nothing else. In a signal handler use the calls of latchsym.h that are marked
+ * "handler", with the handle that get() gives: members may throw, and some take memory. */
+#ifndef LATCHSYM_HPP
+#define LATCHSYM_HPP
+#include <latchsym.h>
+
+#include <cstddef>
+#include <cstdint>
+#include <memory>
+#include <optional>
+#include <stdexcept>
+#include <string>
+#include <string_view>
+#include <type_traits>
+#include <utility>
+#include <vector>
+
+namespace latchsym {
+
+/* What the library refused, with its text. */
+class error : public std::runtime_error {
+public:
+    explicit error(std::uint32_t number) : error(number, latchsym_text(number)) {}
+    /* One of the numbers of latchsym.h. */
+    std::uint32_t number() const noexcept { return number_; }
+
+protected:
+    error(std::uint32_t number, const std::string &text)
+        : std::runtime_error(text), number_(number) {}
+
+private:
+    std::uint32_t number_;
+};
+
+/* A line of the listing of regions is not one: the first such has this number. */
+class bad_line : public error {
+public:
+    explicit bad_line(std::uint64_t line)
+        : error(LATCHSYM_BAD_LINE,
+                std::string(latchsym_text(LATCHSYM_BAD_LINE)) + ": line " + std::to_string(line)),
+          line_(line) {}
+    std::uint64_t line() const noexcept { return line_; }
+
+private:
+    std::uint64_t line_;
+};
+
+namespace detail {
+
+inline void check(std::uint32_t number) {
+    if (number != LATCHSYM_DONE) throw error(number);
+}
+
+/* Whether something was written; each number but 0 and that of nothing is thrown. */
+inline bool is_there(std::uint32_t number) {
+    if (number != LATCHSYM_NOTHING) check(number);
+    return number == LATCHSYM_DONE;
+}
+
+/* (the data of what is empty may be null, and no place is) */
+inline latchsym_place place(std::string_view text) noexcept {
+    return {reinterpret_cast<const std::uint8_t *>(text.empty() ? "" : text.data()), text.size()};
+}
+
+inline std::string_view text(const latchsym_place &place) noexcept {
+    return {reinterpret_cast<const char *>(place.at), place.len};
+}
+
+template <class Value>
+Value *data(Value *values, Value &none) noexcept {
+    return values ? values : &none;
+}
+
+struct closes {
+    void operator()(latchsym_catalog *handle) const noexcept {
+        latchsym_catalog_close(handle);
+        delete handle;
+    }
+    void operator()(latchsym_writer *handle) const noexcept {
+        latchsym_writer_close(handle);
+        delete handle;
+    }
+};
+
+/* An open handle is never moved, so it lies apart from the object that owns it. */
+template <class Handle>
+using owned = std::unique_ptr<Handle, closes>;
+
+template <class Handle>
+owned<Handle> closed() {
+    return owned<Handle>(new Handle{});
+}
+
+} // namespace detail
+
+/* The version of the library that runs, where LATCHSYM_VERSION is that of the header. */
+inline std::uint32_t version() noexcept { return latchsym_version(); }
+
+/* ---- the catalog ---- */
+
+/* The listings that a catalog is opened of, as latchsym.h says of each. Without modules these, and
+ * where they lie, come from the symbols alone. */
+struct listings {
+    std::string_view kallsyms;
+    std::optional<std::string_view> modules;
+    std::string_view regions, start, end;
+};
+
+/* What is known of an address. The names lie in the caller's listings, and may be read for as long
+ * as these stay. */
+struct symbol {
+    std::string_view name;   /* empty where the module has no symbol at or below the address */
+    std::string_view module; /* `-` is the kernel itself */
+    std::uint64_t offset, size, module_number;
+    bool has_name;
+};
+
+using told = latchsym_told;
+using region = latchsym_region;
+using counts = latchsym_counts;
+
+struct module {
+    std::string_view name;
+    std::size_t regions, symbols;
+};
+
+struct entry {
+    std::uint64_t addr;
+    std::string_view name;
+};
+
+class catalog {
+public:
+    /* Opens the catalog of listings. Their bytes stay while it, or one that shares it, is open. */
+    explicit catalog(const listings &from) : handle_(detail::closed<latchsym_catalog>()) {
+        latchsym_listings given = LATCHSYM_LISTINGS_INIT;
+        given.kallsyms = detail::place(from.kallsyms);
+        given.modules = detail::place(from.modules.value_or(std::string_view()));
+        given.has_modules = from.modules.has_value();
+        given.regions = detail::place(from.regions);
+        given.start = detail::place(from.start);
+        given.end = detail::place(from.end);
+        std::uint64_t line = 0;
+        const std::uint32_t number = latchsym_catalog_open(&given, get(), &counts_, &line);
+        if (number == LATCHSYM_BAD_LINE) throw bad_line(line);
+        detail::check(number);
+    }
+
+    /* The same catalog for another thread. */
+    catalog share() {
+        catalog other(counts_);
+        detail::check(latchsym_catalog_share(get(), other.get()));
+        return other;
+    }
+
+    /* How many lines of each listing went where. */
+    const latchsym::counts &counts() const noexcept { return counts_; }
+
+    latchsym_catalog *get() noexcept { return handle_.get(); }
+
+    /* The symbol of an address, or none where nothing is. */
+    std::optional<symbol> find(std::uint64_t addr) { return found(latchsym_catalog_find, addr); }
+
+    /* The same of a return address: that of the call before it. */
+    std::optional<symbol> find_caller(std::uint64_t addr) {
+        return found(latchsym_catalog_find_caller, addr);
+    }
+
+    /* What is told of so many addresses, in numbers alone, into as many rooms. */
+    void find_many(const std::uint64_t *addresses, std::size_t count, told *out) {
+        std::uint64_t no_address = 0;
+        told no_room{};
+        const std::uint64_t *from = count ? addresses : &no_address;
+        detail::check(
+            latchsym_catalog_find_many(get(), from, count, count ? out : &no_room, count));
+    }
+
+    /* The same of a container whose numbers lie in one row, as std::vector and std::array. */
+    template <class Addresses>
+    std::vector<told> find_many(const Addresses &addresses) {
+        using number = std::remove_cv_t<std::remove_pointer_t<decltype(std::data(addresses))>>;
+        static_assert(std::is_same_v<number, std::uint64_t>, "addresses are std::uint64_t");
+        std::vector<told> out(std::size(addresses));
+        find_many(std::data(addresses), out.size(), out.data());
+        return out;
+    }
+
+    /* How many modules there are. They have the numbers from 1 on; the kernel itself is 0. */
+    std::uint64_t modules() {
+        std::uint64_t count = 0;
+        detail::check(latchsym_catalog_modules(get(), &count));
+        return count;
+    }
+
+    std::optional<latchsym::module> module(std::uint64_t number) {
+        latchsym_module out = LATCHSYM_MODULE_INIT;
+        if (!detail::is_there(latchsym_catalog_module(get(), number, &out))) return std::nullopt;
+        return latchsym::module{detail::text(out.name), out.regions, out.symbols};
+    }
+
+    std::optional<latchsym::region> region(std::uint64_t number, std::size_t place) {
+        latchsym::region out{};
+        if (!detail::is_there(latchsym_catalog_region(get(), number, place, &out)))
+            return std::nullopt;
+        return out;
+    }
+
+    std::optional<entry> symbol_at(std::uint64_t number, std::size_t place) {
+        latchsym_entry out = LATCHSYM_ENTRY_INIT;
+        if (!detail::is_there(latchsym_catalog_symbol(get(), number, place, &out)))
+            return std::nullopt;
+        return entry{out.addr, detail::text(out.name)};
+    }
+
+    /* The place of the first symbol of a module, from a place on, that has this name. */
+    std::optional<std::size_t> place_of_name(std::uint64_t number, std::string_view name,
+                                             std::size_t from = 0) {
+        const latchsym_place bytes = detail::place(name);
+        std::size_t out = 0;
+        const auto got =
+            latchsym_catalog_place_of_name(get(), number, bytes.at, bytes.len, from, &out);
+        if (!detail::is_there(got)) return std::nullopt;
+        return out;
+    }
+
+private:
+    explicit catalog(const latchsym::counts &counts)
+        : handle_(detail::closed<latchsym_catalog>()), counts_(counts) {}
+
+    template <class Call>
+    std::optional<symbol> found(Call call, std::uint64_t addr) {
+        latchsym_symbol out = LATCHSYM_SYMBOL_INIT;
+        const std::uint32_t number = call(get(), addr, &out);
+        if (number == LATCHSYM_NOTHING) return std::nullopt;
+        const bool has_name = number != LATCHSYM_NO_SYMBOL;
+        if (has_name) detail::check(number);
+        return symbol{detail::text(out.name),
+                      detail::text(out.module),
+                      out.offset,
+                      out.size,
+                      out.module_number,
+                      has_name};
+    }
+
+    detail::owned<latchsym_catalog> handle_;
+    latchsym::counts counts_{};
+};
+
+/* ---- the table ---- */
+
+using item = latchsym_item;
+
+/* What lies at an address, if something does, and how many updates were shown. */
+struct found {
+    std::optional<latchsym::item> item;
+    std::uint64_t generation;
+};
+
+/* What a step of an update did: nothing where none is pending. */
+enum class step : std::uint32_t {
+    end = LATCHSYM_DONE,
+    flip = LATCHSYM_FLIP,
+    store = LATCHSYM_STORE
+};
+
+namespace detail {
+
+inline found found_of(std::uint32_t number, const latchsym_found &out) {
+    if (!is_there(number)) return {std::nullopt, out.generation};
+    return {item{out.a, out.b, out.tag}, out.generation};
+}
+
+} // namespace detail
+
+/* One of the readers of a table, which is there as long as its `readers` are. */
+class reader {
+public:
+    explicit reader(latchsym_reader *handle) noexcept : handle_(handle) {}
+
+    latchsym_reader *get() noexcept { return handle_; }
+
+    /* One attempt: none where the writer flipped meanwhile. */
+    std::optional<found> try_find(std::uint64_t addr) {
+        latchsym_found out{};
+        const std::uint32_t number = latchsym_reader_try_find(get(), addr, &out);
+        if (number == LATCHSYM_RETRY) return std::nullopt;
+        return detail::found_of(number, out);
+    }
+
+    /* Attempts until one answers. Beside a writer that rests, also amid an update, that is the
+     * first. */
+    found find(std::uint64_t addr) {
+        for (;;) {
+            if (auto out = try_find(addr)) return *out;
+        }
+    }
+
+    /* Closes this reader, which is then of no further use. */
+    void close() noexcept { latchsym_reader_close(get()); }
+
+private:
+    latchsym_reader *handle_;
+};
+
+/* The readers of a table. Their handles lie in one row, where enlarging the table finds them. */
+class readers {
+public:
+    readers(readers &&) noexcept = default;
+    readers &operator=(readers &&other) noexcept {
+        std::swap(handles_, other.handles_);
+        std::swap(room_, other.room_);
+        std::swap(count_, other.count_);
+        return *this;
+    }
+    ~readers() {
+        for (std::size_t i = 0; handles_ && i < room_; i++)
+            latchsym_reader_close(&handles_[i]);
+    }
+
+    std::size_t size() const noexcept { return count_; }
+    reader operator[](std::size_t place) noexcept { return reader(&handles_[place]); }
+
+private:
+    friend class writer;
+    friend struct table;
+    explicit readers(std::size_t room)
+        : handles_(new latchsym_reader[room ? room : 1]{}), room_(room), count_(0) {}
+
+    std::unique_ptr<latchsym_reader[]> handles_;
+    std::size_t room_, count_;
+};
+
+class writer {
+public:
+    latchsym_writer *get() noexcept { return handle_.get(); }
+
+    /* Whole updates: each returns the generation that shows it. */
+    std::uint64_t insert(const item &item) {
+        begin_insert(item);
+        return finish();
+    }
+    std::uint64_t erase(std::uint64_t a) {
+        begin_erase(a);
+        return finish();
+    }
+    std::uint64_t batch(const std::vector<std::uint64_t> &erase, const std::vector<item> &insert) {
+        begin_batch(erase, insert);
+        return finish();
+    }
+
+    /* The same, with the steps left to step() and finish(). Readers see an update from its second
+     * flip on, whole. */
+    void begin_insert(const item &item) {
+        detail::check(latchsym_writer_begin_insert(get(), &item));
+    }
+    void begin_erase(std::uint64_t a) { detail::check(latchsym_writer_begin_erase(get(), a)); }
+    void begin_batch(const std::vector<std::uint64_t> &erase, const std::vector<item> &insert) {
+        const std::uint64_t no_start = 0;
+        const item no_item{};
+        detail::check(
+            latchsym_writer_begin_batch(get(), detail::data(erase.data(), no_start), erase.size(),
+                                        detail::data(insert.data(), no_item), insert.size()));
+    }
+
+    latchsym::step step() {
+        const std::uint32_t number = latchsym_writer_step(get());
+        if (number == LATCHSYM_BAD_HANDLE) throw error(number);
+        return static_cast<latchsym::step>(number);
+    }
+
+    /* Takes the steps that are left, and returns the generation after them. */
+    std::uint64_t finish() {
+        std::uint64_t generation = 0;
+        detail::check(latchsym_writer_finish(get(), &generation));
+        return generation;
+    }
+
+    /* What readers find now, also amid an update. */
+    found find(std::uint64_t addr) {
+        latchsym_found out{};
+        const std::uint32_t number = latchsym_writer_find(get(), addr, &out);
+        return detail::found_of(number, out);
+    }
+
+    /* One more reader of this table among its readers, where there is room; also amid an update. */
+    reader add_reader(readers &readers) {
+        if (readers.count_ == readers.room_) throw error(LATCHSYM_BAD_CAPACITY);
+        latchsym_reader *handle = &readers.handles_[readers.count_];
+        detail::check(latchsym_writer_add_reader(get(), handle));
+        readers.count_++;
+        return reader(handle);
+    }
+
+    /* Goes on with so many nodes, with all readers of this table: no other thread uses one
+     * meanwhile, and none is closed. Items and generation stay. */
+    void enlarge(std::uint32_t nodes, readers &readers) {
+        detail::check(latchsym_table_enlarge(nodes, get(), readers.handles_.get(), readers.count_));
+    }
+
+private:
+    friend struct table;
+    writer() : handle_(detail::closed<latchsym_writer>()) {}
+
+    detail::owned<latchsym_writer> handle_;
+};
+
+/* The two ends of a table of 1 to 65536 nodes, which may go apart: `auto [writer, readers] =
+ * latchsym::table(64, 2)`. There is room for `most_readers`, which add_reader adds one by one. */
+struct table {
+    latchsym::writer writer;
+    latchsym::readers readers;
+
+    explicit table(std::uint32_t nodes, std::size_t count = 1, std::size_t most_readers = 64)
+        : readers(most_readers < count && count <= 64 ? count : most_readers) {
+        if (readers.room_ < count) throw error(LATCHSYM_BAD_CAPACITY);
+        detail::check(latchsym_table_open(nodes, writer.get(), readers.handles_.get(), count));
+        readers.count_ = count;
+    }
+};
+
+} // namespace latchsym
+#endif

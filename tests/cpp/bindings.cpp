@@ -1,0 +1,141 @@
+// SPDX-License-Identifier: MIT OR Apache-2.0
+/* The header for C++: what is found, what is refused, handles that move, close and are shared, and
+ * readers on threads. */
+#include <latchsym.hpp>
+
+#include <array>
+#include <atomic>
+#include <cstdio>
+#include <cstdlib>
+#include <string>
+#include <thread>
+#include <vector>
+
+#define CHECK(x) do { if (!(x)) { std::printf("bindings: line %d: %s\n", __LINE__, #x); std::exit(1); } } while (0)
+
+static const std::string symbols = "ffffffff81000000 T _stext\nffffffff81000100 T do_one\nffffffff81002000 T _end\n"
+                                   "ffffffffc0000010 t ext4_a\t[ext4]\nffffffffc0000040 t ext4_b\t[ext4]\n";
+static const std::uint64_t ext4_a = 0xffffffffc0000018;
+
+static latchsym::listings listed() {
+    latchsym::listings out;
+    out.kallsyms = symbols;
+    out.modules = "ext4 8192 1 - Live 0xffffffffc0000000\n";
+    return out;
+}
+
+/* refused CALL: the number of what it throws */
+template <class Call>
+static std::uint32_t refused(Call call) {
+    try {
+        call();
+    } catch (const latchsym::error &error) {
+        CHECK(*error.what());
+        return error.number();
+    }
+    return LATCHSYM_DONE;
+}
+
+static void finds() {
+    latchsym::catalog catalog(listed());
+    const auto found = catalog.find(ext4_a);
+    CHECK(found && found->has_name && found->name == "ext4_a" && found->module == "ext4");
+    CHECK(found->offset == 8 && found->size == 0x30 && found->module_number == 1);
+    CHECK(!catalog.find(0x1000));
+    CHECK(!catalog.find(0xffffffffc0000001)->has_name);
+    CHECK(catalog.find_caller(0xffffffffc0000040)->offset == 0x30);
+    CHECK(catalog.counts().symbols == 4 && latchsym::version() == LATCHSYM_VERSION);
+
+    const auto told = catalog.find_many(std::array<std::uint64_t, 3>{ext4_a, 0x1000, 0xffffffff81000108});
+    CHECK(told.size() == 3 && told[0].answer.offset == 8 && told[1].code == LATCHSYM_NOTHING);
+    CHECK(told[2].answer.offset == 8 && catalog.find_many(std::vector<std::uint64_t>()).empty());
+
+    CHECK(catalog.modules() == 1 && catalog.module(0)->name == "-" && !catalog.module(2));
+    CHECK(catalog.region(1, 0)->b == 0xffffffffc0002000 && !catalog.region(1, 1));
+    const auto place = catalog.place_of_name(1, "ext4_b");
+    CHECK(place && catalog.symbol_at(1, *place)->addr == 0xffffffffc0000040);
+    CHECK(!catalog.place_of_name(1, "ext4_b", *place + 1) && !catalog.place_of_name(1, ""));
+}
+
+static void refuses_listings() {
+    latchsym::listings bad = listed();
+    bad.regions = "latchregions 1\nx\n";
+    try {
+        latchsym::catalog catalog(bad);
+        CHECK(false);
+    } catch (const latchsym::bad_line &error) {
+        CHECK(error.line() == 2 && error.number() == LATCHSYM_BAD_LINE);
+    }
+    bad.modules.reset();
+    CHECK(refused([&] { latchsym::catalog catalog(bad); }) == LATCHSYM_BAD_LISTINGS);
+}
+
+static void moves_and_shares() {
+    latchsym::catalog first(listed());
+    latchsym::catalog second = std::move(first);
+    first = second.share();
+    second = std::move(first);
+    CHECK(second.find(ext4_a)->name == "ext4_a");
+    std::thread([shared = second.share()]() mutable { CHECK(shared.find(ext4_a)->offset == 8); }).join();
+    static_assert(!std::is_copy_constructible_v<latchsym::catalog>, "a handle is never copied");
+    static_assert(std::is_nothrow_move_constructible_v<latchsym::catalog>, "a move takes the place of the handle");
+    static_assert(std::is_nothrow_move_assignable_v<latchsym::readers>, "readers move as catalogs do");
+    latchsym_catalog_close(second.get());
+    CHECK(refused([&] { second.find(1); }) == LATCHSYM_BAD_HANDLE);
+}
+
+static void updates() {
+    auto [writer, readers] = latchsym::table(4, 2, 3);
+    const latchsym::item item{0x1000, 0x2000, 7};
+    CHECK(writer.step() == latchsym::step::end && writer.insert(item) == 1);
+    CHECK(readers[0].find(0x1fff).item->tag == 7 && !readers[1].find(0x2000).item);
+    CHECK(refused([&, &writer = writer] { writer.insert({0x1fff, 0x3000, 1}); }) == LATCHSYM_OVERLAP);
+    CHECK(refused([&, &writer = writer] { writer.erase(1); }) == LATCHSYM_NO_SUCH_ITEM);
+    CHECK(writer.batch({0x1000}, {{0x1000, 0x1800, 1}, {0x1800, 0x2000, 2}}) == 2 && writer.batch({}, {}) == 3);
+    writer.begin_erase(0x1000);
+    CHECK(writer.step() != latchsym::step::end && writer.find(0x1000).item->tag == 1);
+    latchsym::reader added = writer.add_reader(readers);
+    CHECK(added.find(0x1000).item->tag == 1 && readers.size() == 3);
+    CHECK(refused([&, &writer = writer, &readers = readers] { writer.add_reader(readers); }) == LATCHSYM_BAD_CAPACITY);
+    CHECK(writer.finish() == 4);
+    writer.enlarge(64, readers);
+    latchsym::readers moved = std::move(readers);
+    CHECK(!added.find(0x1000).item && moved[2].find(0x1800).item->tag == 2);
+    moved[0].close();
+    CHECK(refused([&, &writer = writer] { writer.enlarge(65, moved); }) == LATCHSYM_BAD_HANDLE);
+    for (std::uint32_t nodes : {0u, 65537u}) CHECK(refused([&] { latchsym::table table(nodes); }) == LATCHSYM_BAD_CAPACITY);
+    CHECK(refused([] { latchsym::table table(4, 65); }) == LATCHSYM_BAD_CAPACITY);
+    CHECK(refused([] { latchsym::table table(4, 0, 0); }) == LATCHSYM_BAD_CAPACITY);
+}
+
+static void reads_on_threads() {
+    latchsym::table table(4, 3);
+    std::atomic<bool> is_over{false};
+    std::atomic<long> wrong{0};
+    std::vector<std::thread> threads;
+    for (std::size_t i = 0; i < table.readers.size(); i++) {
+        threads.emplace_back([&, reader = table.readers[i]]() mutable {
+            for (std::uint64_t last = 0; !is_over;) {
+                const auto found = reader.find(0x1000);
+                wrong += found.item.has_value() != (found.generation % 2 == 1) || found.generation < last;
+                last = found.generation;
+            }
+        });
+    }
+    for (int i = 0; i < 2000; i++) {
+        table.writer.insert({0x1000, 0x2000, 7});
+        table.writer.erase(0x1000);
+    }
+    is_over = true;
+    for (auto &thread : threads) thread.join();
+    CHECK(wrong == 0);
+}
+
+int main() {
+    finds();
+    refuses_listings();
+    moves_and_shares();
+    updates();
+    reads_on_threads();
+    std::puts("bindings: C++: ok");
+}
