@@ -1,0 +1,184 @@
+// SPDX-License-Identifier: MIT OR Apache-2.0
+//! include/latchsym.h.
+
+use std::ffi::c_void;
+
+pub const DONE: u32 = 0;
+pub const OUT_OF_MEMORY: u32 = 7;
+pub const BAD_CAPACITY: u32 = 10;
+pub const BAD_LINE: u32 = 15;
+pub const NO_SYMBOL: u32 = 21;
+pub const NOTHING: u32 = 22;
+pub const RETRY: u32 = 23;
+pub const FLIP: u32 = 31;
+pub const STORE: u32 = 32;
+
+/// All bytes 0 are a closed handle.
+#[repr(C)]
+pub struct Handle {
+    kind: u32,
+    at: *mut c_void,
+}
+
+impl Handle {
+    pub const CLOSED: Handle = Handle { kind: 0, at: std::ptr::null_mut() };
+}
+
+#[repr(C)]
+#[derive(Clone, Copy)]
+pub struct Place {
+    pub at: *const u8,
+    pub len: usize,
+}
+
+impl Place {
+    /// (the pointer of a slice is never null, also where it is empty)
+    pub fn of(bytes: &[u8]) -> Place {
+        Place { at: bytes.as_ptr(), len: bytes.len() }
+    }
+}
+
+#[repr(C)]
+pub struct Symbol {
+    pub module_number: u64,
+    pub offset: u64,
+    pub size: u64,
+    pub name: Place,
+    pub module: Place,
+}
+
+#[repr(C)]
+pub struct Listings {
+    pub size: usize,
+    pub kallsyms: Place,
+    pub modules: Place,
+    pub regions: Place,
+    pub start: Place,
+    pub end: Place,
+    pub has_modules: u32,
+}
+
+#[repr(C)]
+pub struct Module {
+    pub name: Place,
+    pub regions: usize,
+    pub symbols: usize,
+}
+
+#[repr(C)]
+#[derive(Default)]
+pub struct Region {
+    pub a: u64,
+    pub b: u64,
+    pub is_init: u32,
+}
+
+#[repr(C)]
+pub struct Entry {
+    pub addr: u64,
+    pub name: Place,
+}
+
+#[repr(C)]
+#[derive(Default)]
+pub struct Found {
+    pub a: u64,
+    pub b: u64,
+    pub tag: u64,
+    pub generation: u64,
+}
+
+#[repr(C)]
+#[derive(Default)]
+pub struct NameAnswer {
+    pub module_number: u64,
+    pub offset: u64,
+    pub size: u64,
+    pub name_len: usize,
+    pub module_len: usize,
+}
+
+use crate::{Answer, Counts, Item};
+
+extern "C" {
+    pub fn latchsym_place_of_text(number: u32, out: *mut Place);
+    pub fn latchsym_version() -> u32;
+    pub fn latchsym_catalog_open(
+        listings: *const Listings,
+        out: *mut Handle,
+        counts: *mut Counts,
+        bad_line: *mut u64,
+    ) -> u32;
+    pub fn latchsym_catalog_find(catalog: *mut Handle, addr: u64, out: *mut Symbol) -> u32;
+    pub fn latchsym_catalog_find_caller(catalog: *mut Handle, addr: u64, out: *mut Symbol) -> u32;
+    pub fn latchsym_catalog_find_many(
+        catalog: *mut Handle,
+        addresses: *const u64,
+        addresses_len: usize,
+        out: *mut Answer,
+        out_len: usize,
+    ) -> u32;
+    pub fn latchsym_catalog_modules(catalog: *mut Handle, count: *mut u64) -> u32;
+    pub fn latchsym_catalog_module(catalog: *mut Handle, number: u64, out: *mut Module) -> u32;
+    pub fn latchsym_catalog_region(
+        catalog: *mut Handle,
+        number: u64,
+        place: usize,
+        out: *mut Region,
+    ) -> u32;
+    pub fn latchsym_catalog_symbol(
+        catalog: *mut Handle,
+        number: u64,
+        place: usize,
+        out: *mut Entry,
+    ) -> u32;
+    pub fn latchsym_catalog_place_of_name(
+        catalog: *mut Handle,
+        number: u64,
+        name: *const u8,
+        name_len: usize,
+        from: usize,
+        place: *mut usize,
+    ) -> u32;
+    pub fn latchsym_catalog_share(catalog: *mut Handle, out: *mut Handle) -> u32;
+    pub fn latchsym_catalog_close(catalog: *mut Handle);
+    pub fn latchsym_table_open(
+        nodes: u32,
+        writer: *mut Handle,
+        readers: *mut Handle,
+        count: usize,
+    ) -> u32;
+    pub fn latchsym_writer_add_reader(writer: *mut Handle, out: *mut Handle) -> u32;
+    pub fn latchsym_writer_begin_insert(writer: *mut Handle, item: *const Item) -> u32;
+    pub fn latchsym_writer_begin_erase(writer: *mut Handle, a: u64) -> u32;
+    pub fn latchsym_writer_begin_batch(
+        writer: *mut Handle,
+        erase: *const u64,
+        erase_len: usize,
+        insert: *const Item,
+        insert_len: usize,
+    ) -> u32;
+    pub fn latchsym_writer_step(writer: *mut Handle) -> u32;
+    pub fn latchsym_writer_finish(writer: *mut Handle, generation: *mut u64) -> u32;
+    pub fn latchsym_table_enlarge(
+        nodes: u32,
+        writer: *mut Handle,
+        readers: *mut Handle,
+        count: usize,
+    ) -> u32;
+    pub fn latchsym_writer_find(writer: *mut Handle, addr: u64, out: *mut Found) -> u32;
+    pub fn latchsym_writer_close(writer: *mut Handle);
+    pub fn latchsym_reader_try_find(reader: *mut Handle, addr: u64, out: *mut Found) -> u32;
+    pub fn latchsym_reader_find_name(
+        reader: *mut Handle,
+        catalog: *mut Handle,
+        addr: u64,
+        item: *mut Found,
+        out: *mut NameAnswer,
+        name: *mut u8,
+        name_room: usize,
+        module: *mut u8,
+        module_room: usize,
+    ) -> u32;
+    pub fn latchsym_reader_close(reader: *mut Handle);
+}

@@ -1,0 +1,212 @@
+// SPDX-License-Identifier: MIT OR Apache-2.0
+//! What is found, what is refused, and catalogs and readers on threads.
+
+use latchsym::{
+    table, table_with_room, Catalog, Error, Found, Item, Listings, Readers, Step, Writer,
+};
+use std::sync::atomic::{AtomicBool, Ordering};
+use std::thread;
+
+const SYMBOLS: &[u8] =
+    b"ffffffff81000000 T _stext\nffffffff81000100 T do_one\nffffffff81002000 T _end\n\
+    ffffffffc0000010 t ext4_a\t[ext4]\nffffffffc0000040 t ext4_b\t[ext4]\n";
+const MODULES: &[u8] = b"ext4 8192 1 - Live 0xffffffffc0000000\n";
+const EXT4_A: u64 = 0xffff_ffff_c000_0018;
+const DO_ONE: u64 = 0xffff_ffff_8100_0108;
+const ITEM: Item = Item { a: 0x1000, b: 0x2000, tag: 7 };
+
+fn listings() -> Listings<'static> {
+    Listings { modules: Some(MODULES), ..Listings::new(SYMBOLS) }
+}
+
+fn opened() -> Catalog<'static> {
+    listings().open().expect("listings that are right")
+}
+
+fn shown(catalog: &Catalog<'_>, addr: u64) -> String {
+    catalog.find(addr).unwrap().map_or("none".into(), |found| found.to_string())
+}
+
+#[test]
+fn an_address_has_a_symbol() {
+    let catalog = opened();
+    let found = catalog.find(EXT4_A).unwrap().unwrap();
+    assert_eq!((found.name, found.module), (Some(&b"ext4_a"[..]), &b"ext4"[..]));
+    assert_eq!((found.offset, found.size, found.module_number), (8, 0x30, 1));
+    assert_eq!(shown(&catalog, EXT4_A), "ext4_a+0x8/0x30 [ext4]");
+    assert_eq!(shown(&catalog, DO_ONE), "do_one+0x8/0x1f00");
+    assert_eq!(shown(&catalog, 0xffff_ffff_c000_0001), "? [ext4]");
+    assert_eq!(shown(&catalog, 0x1000), "none");
+    let caller = catalog.find_caller(0xffff_ffff_c000_0040).unwrap().unwrap();
+    assert_eq!(caller.to_string(), "ext4_a+0x30/0x30 [ext4]");
+    assert_eq!((catalog.counts().modules, catalog.counts().symbols), (1, 4));
+    assert!(latchsym::version() / 10000 == 1);
+}
+
+#[test]
+fn names_outlive_the_catalog() {
+    let text = SYMBOLS.to_vec();
+    let name = Listings::new(&text).open().unwrap().find(EXT4_A).unwrap().unwrap().name;
+    assert_eq!(name, Some(&b"ext4_a"[..]));
+}
+
+#[test]
+fn many_addresses_are_told_as_each_alone() {
+    let catalog = opened();
+    let addresses = [EXT4_A, 0x1000, DO_ONE, 0xffff_ffff_c000_0001];
+    let answers = catalog.find_many(&addresses).unwrap();
+    for (addr, answer) in addresses.iter().zip(&answers) {
+        assert_eq!(catalog.find_many(&[*addr]).unwrap(), [*answer]);
+        let alone = catalog.find(*addr).unwrap();
+        assert_eq!(alone.is_some(), answer.is_in_a_region());
+        assert_eq!(
+            alone.and_then(|it| it.name).map(<[u8]>::len),
+            answer.has_symbol().then_some(answer.name_len)
+        );
+    }
+    assert!(catalog.find_many(&[]).unwrap().is_empty());
+    let mut rooms = [Default::default(); 9];
+    catalog.find_many_into(&addresses, &mut rooms).unwrap();
+    assert_eq!(rooms[..4], answers);
+}
+
+#[test]
+#[should_panic(expected = "not as many rooms")]
+fn rooms_are_as_many_as_addresses() {
+    let _ = opened().find_many_into(&[1, 2], &mut [Default::default()]);
+}
+
+#[test]
+fn modules_have_regions_and_symbols() {
+    let catalog = opened();
+    let names: Vec<_> = catalog.modules().unwrap().map(|it| (it.number, it.name)).collect();
+    assert_eq!(names, [(0, &b"-"[..]), (1, &b"ext4"[..])]);
+    let regions: Vec<_> = catalog.regions(1).collect();
+    assert_eq!(
+        (regions.len(), regions[0].a, regions[0].is_init),
+        (1, 0xffff_ffff_c000_0000, false)
+    );
+    assert_eq!(catalog.symbols(1).count(), 2);
+    assert_eq!(catalog.symbols(9).count(), 0);
+    assert_eq!(catalog.addresses_of(1, b"ext4_b").collect::<Vec<_>>(), [0xffff_ffff_c000_0040]);
+    assert_eq!(catalog.addresses_of(0, b"ext4_b").count(), 0);
+    assert!(catalog.module(2).is_none());
+}
+
+#[test]
+fn listings_are_refused() {
+    let bad = Listings { regions: b"latchregions 1\nx\n", ..listings() };
+    let error = bad.open().unwrap_err();
+    assert_eq!(error, Error::BadLine(2));
+    assert!(error.to_string().ends_with(": line 2"), "{error}");
+    assert_eq!(Listings { modules: None, ..bad }.open().unwrap_err(), Error::BadListings);
+}
+
+#[test]
+fn a_shared_catalog_goes_to_a_thread() {
+    let first = opened();
+    let second = first.share().unwrap();
+    drop(first);
+    let text = thread::spawn(move || shown(&second, EXT4_A)).join().unwrap();
+    assert_eq!(text, "ext4_a+0x8/0x30 [ext4]");
+}
+
+#[test]
+fn an_update_is_seen_whole() {
+    let (mut writer, mut readers) = table(4, 1).unwrap();
+    assert_eq!(writer.step(), Ok(Step::End));
+    writer.begin_insert(ITEM).unwrap();
+    assert_eq!(writer.begin_erase(ITEM.a), Err(Error::UpdateInHand));
+    let mut reader = readers.get(0).unwrap();
+    let mut flips = 0;
+    loop {
+        match writer.step().unwrap() {
+            Step::End => break,
+            step => flips += i32::from(step == Step::Flip),
+        }
+        let found = reader.try_find(0x1fff).unwrap().unwrap();
+        assert_eq!(found.item, (flips == 2).then_some(ITEM));
+    }
+    assert_eq!((flips, writer.finish()), (2, Ok(1)));
+}
+
+#[test]
+fn refusals_change_nothing() {
+    let (mut writer, _readers) = table(2, 1).unwrap();
+    writer.insert(ITEM).unwrap();
+    assert_eq!(writer.insert(Item { a: 5, b: 5, tag: 0 }), Err(Error::BadItem));
+    assert_eq!(writer.insert(Item { a: 0x1fff, ..ITEM }), Err(Error::Overlap));
+    assert_eq!(writer.erase(1), Err(Error::NoSuchItem));
+    let three = [1, 2, 3].map(|a| Item { a, b: a + 1, tag: a });
+    assert_eq!(writer.batch(&[], &three), Err(Error::Full));
+    assert_eq!(writer.find(0x1000), Ok(Found { item: Some(ITEM), generation: 1 }));
+    assert_eq!(writer.batch(&[0x1000], &three[..1]), Ok(2));
+    assert!(!Error::Full.to_string().is_empty());
+    for (nodes, readers) in [(0, 1), (65537, 1), (4, 0), (4, 65)] {
+        assert_eq!(table(nodes, readers).err(), Some(Error::BadCapacity));
+    }
+}
+
+#[test]
+fn readers_are_added_and_the_table_enlarged() {
+    let (mut writer, mut readers) = table_with_room(1, 2, 3).unwrap();
+    writer.begin_insert(ITEM).unwrap();
+    writer.add_reader(&mut readers).unwrap();
+    assert_eq!(writer.add_reader(&mut readers), Err(Error::BadCapacity));
+    assert_eq!(writer.enlarge(4, &mut readers), Err(Error::UpdateInHand));
+    writer.finish().unwrap();
+    writer.enlarge(4, &mut readers).unwrap();
+    writer.insert(Item { a: 1, b: 2, tag: 3 }).unwrap();
+    assert_eq!(readers.len(), 3);
+    for mut reader in readers.iter_mut() {
+        assert_eq!(reader.find(1).unwrap().generation, 2);
+    }
+    drop(writer);
+    assert_eq!(readers.get(2).unwrap().find(0x1000).unwrap().item, Some(ITEM));
+    assert!(readers.get(3).is_none());
+}
+
+#[test]
+fn an_item_has_a_name() {
+    let catalog = opened();
+    let (mut writer, mut readers) = table(4, 1).unwrap();
+    let mut reader = readers.get(0).unwrap();
+    let (mut name, mut module) = ([0; 512], [0; 3]);
+    let (found, answer) =
+        reader.try_find_name(&catalog, EXT4_A, &mut name, &mut module).unwrap().unwrap();
+    assert!(found.item.is_none() && !answer.is_in_a_region());
+    let region = catalog.regions(1).next().unwrap();
+    writer.insert(Item { a: region.a, b: region.b, tag: 1 }).unwrap();
+    let (found, answer) =
+        reader.try_find_name(&catalog, EXT4_A, &mut name, &mut module).unwrap().unwrap();
+    assert_eq!((found.item.unwrap().tag, &name[..answer.name_len]), (1, &b"ext4_a"[..]));
+    assert_eq!((&module, answer.module_len, answer.offset), (b"ext", 4, 8));
+}
+
+#[test]
+fn readers_look_up_on_threads() {
+    fn is_send<T: Send>() {}
+    is_send::<Writer>();
+    is_send::<Readers>();
+    let (mut writer, mut readers) = table(4, 3).unwrap();
+    let is_over = AtomicBool::new(false);
+    thread::scope(|scope| {
+        for mut reader in readers.iter_mut() {
+            let is_over = &is_over;
+            scope.spawn(move || {
+                let mut last = 0;
+                while !is_over.load(Ordering::Relaxed) {
+                    let Found { item, generation } = reader.find(0x1000).unwrap();
+                    assert_eq!(item, (generation % 2 == 1).then_some(ITEM));
+                    assert!(last <= generation);
+                    last = generation;
+                }
+            });
+        }
+        for _ in 0..2000 {
+            writer.insert(ITEM).unwrap();
+            writer.erase(ITEM.a).unwrap();
+        }
+        is_over.store(true, Ordering::Relaxed);
+    });
+}
