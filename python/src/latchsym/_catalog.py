@@ -211,6 +211,8 @@ class Catalog:
         # lines of a method on its own thread, where no call runs: hence a lock that lets it in.
         self._lock = threading.RLock()
         self._closing = weakref.finalize(self, _close, handle, listings)
+        self._found = it.no_symbol()
+        self._owners: dict[int, str] = {}
         self.counts = counts
 
     @classmethod
@@ -240,6 +242,7 @@ class Catalog:
         with self._lock:
             self._closing()
             self._listings = ()
+            self._found = it.no_symbol()  # whose places led into the listings
 
     def __enter__(self) -> Catalog:
         return self
@@ -265,15 +268,20 @@ class Catalog:
         return self._find(lib.latchsym_catalog_find_caller, addr)
 
     def _find(self, call: Callable[..., int], addr: int) -> Symbol | None:
-        found = it.no_symbol()
+        word(addr)
         with self._lock:
-            number = call(self._handle, word(addr), found)
+            found = self._found
+            number = call(self._handle, addr, found)
             if number == it.NOTHING:
                 return None
             if number != it.NO_SYMBOL:
                 check(number)
-            name = found.name.text() if number == it.DONE else None
-            return Symbol(name, found.offset, found.size, found.module.text(), found.module_number)
+            name = it.text_at(found.name_at, found.name_len) if number == it.DONE else None
+            owner = found.module_number
+            module = self._owners.get(owner)
+            if module is None:
+                module = self._owners[owner] = it.text_at(found.module_at, found.module_len)
+            return Symbol(name, found.offset, found.size, module, owner)
 
     def find_many(self, addresses: Any, out: Answers | None = None) -> Answers:
         """What is told of many addresses, in numbers alone.

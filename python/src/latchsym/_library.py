@@ -38,16 +38,19 @@ class Place(ctypes.Structure):
     _fields_ = [("at", c_void_p), ("len", c_size_t)]
 
     def text(self) -> str:
-        return decoded(ctypes.string_at(self.at, self.len))
+        return text_at(self.at, self.len)
 
 
 class Symbol(ctypes.Structure):
+    # (the fields of its two places as its own, which are sooner read)
     _fields_ = [
         ("module_number", c_uint64),
         ("offset", c_uint64),
         ("size", c_uint64),
-        ("name", Place),
-        ("module", Place),
+        ("name_at", c_void_p),
+        ("name_len", c_size_t),
+        ("module_at", c_void_p),
+        ("module_len", c_size_t),
     ]
 
 
@@ -184,12 +187,16 @@ def no_place() -> Place:
 
 
 def no_symbol() -> Symbol:
-    return Symbol(0, 0, 0, no_place(), no_place())
+    return Symbol(0, 0, 0, EMPTY_AT, 0, EMPTY_AT, 0)
 
 
 def decoded(name: bytes) -> str:
     """A name as text, from which `encoded` gives the same bytes again."""
     return name.decode("utf-8", "surrogateescape")
+
+
+def text_at(at: int, length: int) -> str:
+    return decoded(ctypes.string_at(at, length))
 
 
 def encoded(name: str | bytes) -> bytes:
