@@ -1,3 +1,4 @@
+/* SPDX-License-Identifier: MIT OR Apache-2.0 */
 /* latchsym: a catalog of the kernel's symbols, and a latched table of address ranges that readers
  * search while one writer changes it.
  *

@@ -1,3 +1,4 @@
+/* SPDX-License-Identifier: MIT OR Apache-2.0 */
 /* Looks addresses up in listings: lookup MODULES KALLSYMS ADDRESS.., where `-` in place of MODULES takes modules from
  * KALLSYMS alone.
  * cc lookup.c $(pkg-config --cflags --libs latchsym) -o lookup */

@@ -1,3 +1,4 @@
+/* SPDX-License-Identifier: MIT OR Apache-2.0 */
 /* A profiler of code that comes and goes. Three threads run code whose ranges the main thread loads into a table and
  * takes out again, while SIGPROF samples them. The handler finds the range that the thread was in, by a reader of the
  * thread's own, and counts the sample for what the range's tag points to. That is freed once no handler can find it

@@ -1,0 +1,30 @@
+#!/usr/bin/env bash
+# Compares the versions that files have with VERSION: those of the header, the pages, the packages,
+# the list of changes, and of the program.
+set -euo pipefail
+. "$(dirname "$0")/program.sh"
+build latchsym
+version=$(cat "$top/VERSION")
+IFS=. read -r major minor patch <<<"$version"
+failed=0
+
+# has FILE LINE: the file has a line of this version
+has() {
+    grep -qxF -- "$2" "$top/$1" || { echo "versions: $1 has no line: $2"; failed=1; }
+}
+
+has include/latchsym.h "#define LATCHSYM_VERSION $((major * 10000 + minor * 100 + patch))"
+has CHANGELOG.md "## $version"
+has python/pyproject.toml "version = \"$version\""
+has python/src/latchsym/__init__.py "__version__ = \"$version\""
+has python/src/latchsym/_library.py "MAJOR = $major  # of the header that this file repeats"
+has bindings/rust/Cargo.toml "version = \"$version\""
+has bindings/rust/Cargo.lock "version = \"$version\""
+has packaging/liblatchsym.map "LATCHSYM_$major {"
+for page in 1 3; do
+    grep -q "^\.TH LATCHSYM $page [0-9-]* \"latchsym $version\" " "$top/docs/latchsym.$page" ||
+        { echo "versions: docs/latchsym.$page is of another version"; failed=1; }
+done
+[ "$("$program" --version)" = "latchsym $version" ] || { echo "versions: the program is $("$program" --version)"; failed=1; }
+[ $failed = 1 ] || echo "versions: all are $version"
+exit $failed
