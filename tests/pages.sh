@@ -1,9 +1,9 @@
 #!/usr/bin/env bash
 # Compares the man page and the completions with what the program says of itself by `--help`: each
-# has all options of each command, and none that the program lacks. Formats the page without a
-# warning and runs its examples; completes words in bash, and in fish where that is installed; and
-# has zsh read its completion where it is. Needs man and groff (Debian has them in man-db and
-# groff-base).
+# has all options of each command, and none that the program lacks; and the library's page with its
+# header. Formats the pages without a warning and runs the examples of the program's; completes words
+# in bash, and in fish where that is installed; and has zsh read its completion where it is. Needs
+# man and groff (Debian has them in man-db and groff-base).
 set -euo pipefail
 . "$(dirname "$0")/program.sh"
 for tool in man groff; do
@@ -91,6 +91,18 @@ for command in $helped; do
     grep -q "latchsym $command " "$work/commands" || fail "no example of $command"
 done
 
+# the page of the library: the calls of the header, word for word, and its numbers
+header=$top/include/latchsym.h
+warnings=$({ groff -man -ww -Tutf8 -z "$top/docs/latchsym.3"; } 2>&1)
+[ -z "$warnings" ] || fail "$warnings"
+groff -man -Tutf8 -P-cbou -rLL=400n "$top/docs/latchsym.3" >"$work/page"
+tail -n 1 "$work/page" | grep -q "^$("$program" --version) " || fail "the page of the library is of another version"
+calls() { tr -s ' \n' ' ' | grep -oE '(const char \*|uint32_t |void )latchsym_[a-z_]+\([^)]*\)' | sort; }
+same "the calls of the library's page" "$(calls <"$header")" "$(section SYNOPSIS | calls)"
+same "the numbers of the library's page" \
+    "$(sed -nE 's/^ +(LATCHSYM_[A-Z_]+) = ([0-9]+).*/\2 \1/p' "$header" | grep -v '^0 ' | sort)" \
+    "$(section ERRORS | sed -nE 's/^ +([0-9]+ LATCHSYM_[A-Z_]+)$/\1/p' | sort)"
+
 # bash: what is offered for the last word, and `files` where it is files
 # shellcheck disable=SC2016
 complete='
@@ -158,5 +170,5 @@ if command -v fish >/dev/null; then
     done
     shells+=" fish"
 fi
-[ $failed = 1 ] || echo "pages: the man page with $examples examples, and the completions ($shells)"
+[ $failed = 1 ] || echo "pages: the man pages, one with $examples examples, and the completions ($shells)"
 exit $failed
