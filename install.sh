@@ -1,15 +1,19 @@
 #!/usr/bin/env bash
-# Builds and installs, as its `--help` says.
+# SPDX-License-Identifier: MIT OR Apache-2.0
+# Installs, as its `--help` says. It is the same in the repository, where it builds first, and in a
+# release, which has all files where they are to be under PREFIX.
 set -euo pipefail
 
-usage='usage: install.sh [--uninstall] PREFIX
+usage='usage: install.sh [--static] [--uninstall] PREFIX
 
-Builds the program and the library for C, and puts them under PREFIX: bin/latchsym,
-lib/liblatchsym.a, lib/liblatchsym.so, lib/pkgconfig/latchsym.pc and include/latchsym.h;
-and the man page and the completions for bash, zsh and fish, each in its folder of share/.
+Puts the program latchsym and the library for C and C++ under PREFIX: bin/latchsym, the headers in
+include, liblatchsym.a and liblatchsym.so in lib with latchsym.pc for pkg-config; and the man pages
+and the completions for bash, zsh and fish, each in its folder of share. In the repository it
+builds them, which takes the Rattle kit and gcc; a release has them.
 All are copied before the first is renamed to its name, so a program that runs goes on
 with the files that it has, and a copy that fails leaves them as they are.
 
+--static      links the program without shared libraries, as that of a release is
 --uninstall   takes these files away again, and leaves the folders
 --help        this text
 
@@ -21,6 +25,7 @@ fault() {
 }
 
 uninstall=
+static=
 prefix=
 for word in "$@"; do
     case $word in
@@ -29,54 +34,90 @@ for word in "$@"; do
             exit
             ;;
         --uninstall) uninstall=1 ;;
+        --static) static=1 ;;
         -*) fault "there is no option $word" ;;
         *)
             [ -z "$prefix" ] || fault 'more than one PREFIX is given'
-            prefix=$(realpath -ms "$word")
+            prefix=$(realpath -ms -- "$word")
             ;;
     esac
 done
 [ -n "$prefix" ] || fault 'no PREFIX is given'
-to=${DESTDIR:-}$prefix
-page=share/man/man1/latchsym.1
-bash=share/bash-completion/completions/latchsym
-zsh=share/zsh/site-functions/_latchsym
-fish=share/fish/vendor_completions.d/latchsym.fish
-files=(bin/latchsym lib/liblatchsym.a lib/liblatchsym.so lib/pkgconfig/latchsym.pc include/latchsym.h
-    "$page" "$bash" "$zsh" "$fish")
+to=${DESTDIR:-}${prefix%/}
+here=$(cd "$(dirname "${BASH_SOURCE[0]}")" && pwd)
+version=$(cat "$here/VERSION")
+
+files=(bin/latchsym include/latchsym.h include/latchsym.hpp
+    lib/liblatchsym.a "lib/liblatchsym.so.$version" lib/pkgconfig/latchsym.pc
+    share/bash-completion/completions/latchsym share/fish/vendor_completions.d/latchsym.fish
+    share/man/man1/latchsym.1 share/man/man3/latchsym.3 share/zsh/site-functions/_latchsym)
+# each link, and the file beside it that it leads to
+declare -A links=(
+    [lib/liblatchsym.so.${version%%.*}]=liblatchsym.so.$version
+    [lib/liblatchsym.so]=liblatchsym.so.${version%%.*}
+)
+all=("${files[@]}" "${!links[@]}")
 
 if [ -n "$uninstall" ]; then
-    rm -f "${files[@]/#/"$to/"}"
+    rm -f "${all[@]/#/"$to/"}"
     exit
 fi
 
-. "$(dirname "$0")/tests/program.sh"
-. "$top/tests/library.sh"
-build latchsym
-build_library
+# source_of FILE: where the file is that goes to FILE under PREFIX, in the repository
+source_of() {
+    case $1 in
+        bin/*) echo "$program" ;;
+        lib/*.a) echo "$library" ;;
+        lib/*.so.*) echo "$shared" ;;
+        */bash-completion/*) echo "$top/completions/latchsym.bash" ;;
+        share/man/*) echo "$top/docs/${1##*/}" ;;
+        share/*) echo "$top/completions/${1##*/}" ;;
+        *) echo "$top/$1" ;;
+    esac
+}
+
+if [ -e "$here/bin/latchsym" ]; then
+    source_of() { echo "$here/$1"; }
+    work=$(mktemp -d)
+else
+    . "$here/tests/program.sh"
+    . "$top/tests/library.sh"
+    if [ -n "$static" ]; then build_static latchsym; else build latchsym; fi
+    build_library
+fi
+
+# (quotes, for a prefix with blanks)
 cat >"$work/latchsym.pc" <<END
 prefix=$prefix
+includedir=\${prefix}/include
+libdir=\${prefix}/lib
+
 Name: latchsym
 Description: A catalog of kernel symbols and a latched table of address ranges
-Version: 1.0.0
-Cflags: -I\${prefix}/include
-Libs: -L\${prefix}/lib -Wl,-rpath,\${prefix}/lib -llatchsym
+Version: $version
+Cflags: -I"\${includedir}"
+Libs: -L"\${libdir}" -Wl,-rpath,"\${libdir}" -llatchsym
 END
 
 new=.latchsym.new
-copies=("${files[@]/#/"$to/"}")
+copies=("${all[@]/#/"$to/"}")
 copies=("${copies[@]/%/$new}")
 trap 'rm -rf "$work" "${copies[@]}"' EXIT
-install -D -m 755 "$program" "$to/bin/latchsym$new"
-install -D -m 644 "$library" "$to/lib/liblatchsym.a$new"
-install -D -m 755 "$shared" "$to/lib/liblatchsym.so$new"
-install -D -m 644 "$work/latchsym.pc" "$to/lib/pkgconfig/latchsym.pc$new"
-install -D -m 644 "$top/include/latchsym.h" "$to/include/latchsym.h$new"
-install -D -m 644 "$top/docs/latchsym.1" "$to/$page$new"
-install -D -m 644 "$top/completions/latchsym.bash" "$to/$bash$new"
-install -D -m 644 "$top/completions/_latchsym" "$to/$zsh$new"
-install -D -m 644 "$top/completions/latchsym.fish" "$to/$fish$new"
 for file in "${files[@]}"; do
+    case $file in
+        *.pc) source=$work/latchsym.pc ;;
+        *) source=$(source_of "$file") ;;
+    esac
+    case $file in
+        bin/* | *.so.*) mode=755 ;;
+        *) mode=644 ;;
+    esac
+    install -D -m $mode "$source" "$to/$file$new"
+done
+for link in "${!links[@]}"; do
+    ln -sfn "${links[$link]}" "$to/$link$new"
+done
+for file in "${all[@]}"; do
     mv -fT "$to/$file$new" "$to/$file"
     echo "$to/$file"
 done

@@ -1,7 +1,8 @@
 #!/usr/bin/env bash
-# Installs the program, the library for C, the man page and the completions by install.sh, installs
-# them again while program and library are in use, behind a DESTDIR, and where a folder cannot be
-# made; and takes them away again. Needs gcc.
+# Installs the program, the library for C, the man pages and the completions by install.sh, installs
+# them again while program and library are in use, behind a DESTDIR, below a prefix with blanks, with
+# a program without shared libraries, and where a folder cannot be made; and takes them away again.
+# Looks at what the shared library shows and asks for. Needs gcc and binutils.
 set -euo pipefail
 . "$(dirname "$0")/program.sh"
 
@@ -12,9 +13,11 @@ fail() {
 
 # installed FOLDER: what lies under it
 installed() { (cd "$1" && find . ! -type d | LC_ALL=C sort | tr '\n' ' '); }
-whole='./bin/latchsym ./include/latchsym.h ./lib/liblatchsym.a ./lib/liblatchsym.so ./lib/pkgconfig/latchsym.pc '
+version=$(cat "$top/VERSION")
+whole='./bin/latchsym ./include/latchsym.h ./include/latchsym.hpp ./lib/liblatchsym.a ./lib/liblatchsym.so '
+whole+="./lib/liblatchsym.so.${version%%.*} ./lib/liblatchsym.so.$version ./lib/pkgconfig/latchsym.pc "
 whole+='./share/bash-completion/completions/latchsym ./share/fish/vendor_completions.d/latchsym.fish '
-whole+='./share/man/man1/latchsym.1 ./share/zsh/site-functions/_latchsym '
+whole+='./share/man/man1/latchsym.1 ./share/man/man3/latchsym.3 ./share/zsh/site-functions/_latchsym '
 
 # run ARGUMENT..: install.sh with these arguments; what it writes is in out and err
 run() {
@@ -35,9 +38,18 @@ run "$prefix"
 [ $status = 0 ] || fail "$(cat "$work/err")"
 [ "$(installed "$prefix")" = "$whole" ] || fail "installed: $(installed "$prefix")"
 cmp "$top/docs/latchsym.1" "$prefix/share/man/man1/latchsym.1"
+cmp "$top/docs/latchsym.3" "$prefix/share/man/man3/latchsym.3"
 cmp "$top/completions/latchsym.bash" "$prefix/share/bash-completion/completions/latchsym"
 cmp "$top/completions/latchsym.fish" "$prefix/share/fish/vendor_completions.d/latchsym.fish"
 cmp "$top/completions/_latchsym" "$prefix/share/zsh/site-functions/_latchsym"
+
+# the shared library: its name, that it is bound when it is loaded, and the calls of the header alone
+so=$prefix/lib/liblatchsym.so.$version
+readelf -dW "$so" | grep -q "SONAME.*\[liblatchsym\.so\.${version%%.*}\]" || fail "the library's name is $(readelf -dW "$so" | grep SONAME)"
+readelf -dW "$so" | grep -q BIND_NOW || fail 'the library is bound late'
+nm -D --defined-only "$so" | sed -nE 's/.* T ([^@]*).*/\1/p' | sort >"$work/shown"
+grep -oE '^(uint32_t|void) latchsym_[a-z_]+' "$top/include/latchsym.h" | cut -d' ' -f2 | sort | diff - "$work/shown" ||
+    fail 'the library shows other names than the header'
 
 # both wait for a file while all is installed once more
 read -ra flags <<<"-I$prefix/include -L$prefix/lib -Wl,-rpath,$prefix/lib -llatchsym"
@@ -61,6 +73,24 @@ wait $waits || fail "a program that uses the library died"
 wait $looks_up || fail "the program died"
 cmp "$work/lines" basic.expected
 
+# a prefix with blanks, with a program without shared libraries
+prefix="$work/a prefix"
+run --static "$prefix"
+[ $status = 0 ] && [ "$(installed "$prefix")" = "$whole" ] || fail "a prefix with blanks: $(cat "$work/err")"
+! readelf -lW "$prefix/bin/latchsym" | grep -q INTERP || fail 'the program wants an interpreter'
+! readelf -dW "$prefix/bin/latchsym" | grep -q NEEDED || fail 'the program wants shared libraries'
+"$prefix/bin/latchsym" lookup --modules basic.modules --kallsyms basic.kallsyms --addresses basic.addresses |
+    cmp - basic.expected
+if command -v pkg-config >/dev/null; then
+    export PKG_CONFIG_PATH=$prefix/lib/pkgconfig
+    [ "$(pkg-config --modversion latchsym)" = "$version" ] || fail "latchsym.pc is of another version"
+    eval "gcc -std=gnu11 $top/tests/c/waits.c $(pkg-config --cflags --libs latchsym) -o $work/waits"
+    "$work/waits" /dev/null || fail "a program of $(pkg-config --libs latchsym)"
+fi
+run --uninstall "$prefix"
+[ $status = 0 ] && [ -z "$(installed "$prefix")" ] || fail "uninstalled: $(installed "$prefix")"
+prefix=$work/prefix
+
 DESTDIR=$work/stage run /opt/latchsym
 [ $status = 0 ] && [ "$(installed "$work/stage/opt/latchsym")" = "$whole" ] || fail "DESTDIR: $(cat "$work/err")"
 [ "$(head -n 1 "$work/stage/opt/latchsym/lib/pkgconfig/latchsym.pc")" = 'prefix=/opt/latchsym' ] || fail 'DESTDIR: another prefix'
@@ -74,4 +104,4 @@ run "$work/narrow"
 echo kept >"$prefix/lib/other"
 run --uninstall "$prefix"
 [ $status = 0 ] && [ "$(installed "$prefix")" = './lib/other ' ] || fail "uninstalled: $(installed "$prefix")"
-echo "install: by rename beside running programs, behind a DESTDIR, and away again"
+echo "install: by rename beside running programs, behind a DESTDIR, below blanks, and away again"

@@ -24,8 +24,19 @@ build_over_ci() {
         --toolchain "$1/toolchain" --backend llvm --jobs "$2" -o out/liblatchsym_ffi.a
 }
 
+# build_static CRATE: makes `program` the crate's program linked without any shared library
+build_static() {
+    local kit
+    kit=$(dirname "$(rt doc)")
+    build "$1"
+    [ -e "$program.o" ] || { echo "$program.o is missing: remove $program, and build again" >&2; exit 1; }
+    gcc -static-pie -o "$work/static" "$program.o" "$kit/c/libos_c.a" "$kit/c/liblibc_c.a" \
+        -Wl,-z,now -Wl,-z,relro -Wl,-z,noexecstack -s
+    program=$work/static
+}
+
 # build_library: makes `library` the static library, with the kit's three functions over malloc in
-# it, and `shared` the shared one; builds where the crate's is missing or older than a source, and
+# it, and `shared` the shared one, which shows the calls of the header alone; builds where the crate's is missing or older than a source, and
 # ends the script where it cannot be built
 build_library() {
     local crate=$top/crates/latchsym_ffi kit jobs
@@ -38,8 +49,16 @@ build_library() {
             { cat "$work/build" >&2; exit 1; }
     fi
     mkdir "$work/objects"
-    (cd "$work/objects" && ar x "$crate/out/liblatchsym_ffi.a" && ar x "$kit/c/liblibc_c.a" && ar rcs "$work/liblatchsym.a" ./*)
+    (
+        cd "$work/objects"
+        ar x "$crate/out/liblatchsym_ffi.a"
+        ar x "$kit/c/liblibc_c.a"
+        LC_ALL=C
+        ar rcsD "$work/liblatchsym.a" ./*
+    )
     library=$work/liblatchsym.a
     shared=$work/liblatchsym.so
-    gcc -shared -o "$shared" -Wl,--whole-archive "$library" -Wl,--no-whole-archive
+    gcc -shared -o "$shared" -Wl,-soname,liblatchsym.so.1 -Wl,-z,now -Wl,-z,relro -Wl,-z,noexecstack \
+        -Wl,--version-script="$top/packaging/liblatchsym.map" \
+        -Wl,--whole-archive "$library" -Wl,--no-whole-archive
 }
