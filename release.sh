@@ -1,0 +1,50 @@
+#!/usr/bin/env bash
+# SPDX-License-Identifier: MIT OR Apache-2.0
+# Makes a release, as its `--help` says.
+set -euo pipefail
+
+usage='usage: release.sh FOLDER
+
+Makes latchsym-VERSION-x86_64.tar.xz in FOLDER, with its SHA-256 beside it: the program, linked
+without shared libraries, the library for C, headers, man pages, completions, the packages for
+Python and Rust, examples, licences and install.sh, which installs from it without the kit.
+It builds with the Rattle kit and gcc. The same sources, kit, gcc and glibc give the same bytes; the
+time of all files is that of SOURCE_DATE_EPOCH, and else of the last commit.'
+
+case ${1:---help} in
+    --help)
+        printf '%s\n' "$usage"
+        exit
+        ;;
+    -*)
+        printf 'release.sh: there is no option %s\n\n%s\n' "$1" "$usage" >&2
+        exit 2
+        ;;
+esac
+top=$(cd "$(dirname "$0")" && pwd)
+version=$(cat "$top/VERSION")
+name=latchsym-$version-x86_64
+mkdir -p "$1"
+out=$(cd "$1" && pwd)
+epoch=${SOURCE_DATE_EPOCH:-$(git -C "$top" log -1 --format=%ct)}
+work=$(mktemp -d)
+trap 'rm -rf "$work"' EXIT
+tree=$work/$name
+
+DESTDIR=$tree "$top/install.sh" --static / >"$work/installed"
+rm -r "$tree/lib/pkgconfig" # which install.sh writes for each prefix
+cp "$top"/{VERSION,LICENSE-MIT,LICENSE-APACHE,CHANGELOG.md,README.md,install.sh} "$tree"
+mkdir "$tree/docs"
+cp "$top"/docs/{C_LIBRARY,FORMATS}.md "$tree/docs"
+cp -r "$top"/{python,bindings,examples} "$tree"
+find "$tree" \( -name __pycache__ -o -name target \) -prune -exec rm -r {} +
+find "$tree" -type d -exec chmod 755 {} +
+find "$tree" -type f -perm /111 -exec chmod 755 {} +
+find "$tree" -type f ! -perm /111 -exec chmod 644 {} +
+
+LC_ALL=C tar -C "$work" --sort=name --format=gnu --mtime="@$epoch" --owner=0 --group=0 --numeric-owner \
+    -cf - "$name" | xz -9 --threads=1 >"$work/$name.tar.xz"
+mv "$work/$name.tar.xz" "$out"
+cd "$out"
+sha256sum "$name.tar.xz" >"$name.tar.xz.sha256"
+cat "$name.tar.xz.sha256"

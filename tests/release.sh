@@ -1,0 +1,66 @@
+#!/usr/bin/env bash
+# Makes a release twice, of which both have the same bytes, and tries it without the kit: its
+# program in a root that has nothing else; and in one with bash, coreutils and libc alone its
+# install.sh, with a program in C over the installed shared library. Each root takes a root user, or
+# one's own by unshare. Needs gcc, xz and python3.
+set -euo pipefail
+. "$(dirname "$0")/program.sh"
+
+fail() {
+    echo "release: $1"
+    exit 1
+}
+
+# in_root FOLDER COMMAND..: runs the command where the folder is the root, with no other network
+in_root() { unshare --map-root-user --net --root="$1" "${@:2}"; }
+
+export SOURCE_DATE_EPOCH=1767225600
+for folder in first second; do
+    "$top/release.sh" "$work/$folder" >"$work/out" 2>&1 || fail "$(cat "$work/out")"
+done
+version=$(cat "$top/VERSION")
+name=latchsym-$version-x86_64
+cmp "$work/first/$name.tar.xz" "$work/second/$name.tar.xz" || fail 'two releases differ'
+(cd "$work/first" && sha256sum --quiet -c "$name.tar.xz.sha256")
+tar -C "$work" -xf "$work/first/$name.tar.xz"
+cp "$top"/examples/listings/basic.{modules,kallsyms,addresses} "$work/$name"
+for file in LICENSE-MIT LICENSE-APACHE CHANGELOG.md include/latchsym.h include/latchsym.hpp lib/liblatchsym.a \
+    share/man/man1/latchsym.1 share/man/man3/latchsym.3 python/pyproject.toml bindings/rust/Cargo.toml \
+    examples/fleet/README.md; do
+    [ -s "$work/$name/$file" ] || fail "it has no $file"
+done
+size=$(stat -c %s "$work/first/$name.tar.xz")
+
+if ! in_root / true 2>/dev/null; then
+    echo "release: $size bytes, made twice alike; not tried, since there is no other root to be had here"
+    exit
+fi
+lookup=(lookup --modules /basic.modules --kallsyms /basic.kallsyms --addresses /basic.addresses)
+
+mkdir "$work/empty"
+cp "$work/$name/bin/latchsym" "$work/$name"/basic.* "$work/empty"
+in_root "$work/empty" /latchsym "${lookup[@]}" | cmp - "$top/examples/listings/basic.expected" ||
+    fail 'the program in an empty root'
+
+root=$work/root
+mkdir -p "$root"/{bin,tmp} "$root/usr"
+tools=(bash cat cp dirname install ln mktemp mv realpath rm)
+for tool in "${tools[@]}"; do
+    path=$(command -v "$tool")
+    cp -L "$path" "$root/bin"
+    ldd "$path" | grep -oE '/[^ ]+' >>"$work/libraries"
+done
+sort -u "$work/libraries" | while read -r library; do
+    install -D "$library" "$root$library"
+done
+ln -s bash "$root/bin/sh"
+mv "$work/$name" "$root/release"
+gcc -I"$root/release/include" "$top/tests/c/waits.c" -L"$root/release/lib" -Wl,-rpath,/usr/lib -llatchsym -o "$root/waits"
+mv "$root"/release/basic.* "$root"
+in_root "$root" /bin/bash -c 'PATH=/bin; bash /release/install.sh /usr' >"$work/out" 2>&1 || fail "$(cat "$work/out")"
+in_root "$root" /usr/bin/latchsym "${lookup[@]}" | cmp - "$top/examples/listings/basic.expected" ||
+    fail 'the installed program'
+in_root "$root" /waits /basic.modules || fail 'a program over the installed library'
+in_root "$root" /bin/bash -c 'PATH=/bin; bash /release/install.sh --uninstall /usr' || fail 'taken away again'
+[ -z "$(find "$root/usr" ! -type d)" ] || fail "left behind: $(find "$root/usr" ! -type d)"
+echo "release: $size bytes, made twice alike; its program runs in an empty root, and it installs without the kit"
