@@ -137,5 +137,4 @@ int main() {
     moves_and_shares();
     updates();
     reads_on_threads();
-    std::puts("bindings: C++: ok");
 }
