@@ -1,8 +1,8 @@
 #!/usr/bin/env bash
 # Tests what stands on the library for C: the package for Python, with its examples, installed by
 # pip without a network; the header for C++, under the sanitizers too; the crate for Rust; their
-# example programs, over a listing of examples/ as `latchsym lookup` answers; and the example for
-# many machines on a cluster of two workers. What is not there is installed from Debian's packages,
+# example programs, over a listing of examples/ as `latchsym lookup` answers; what README.md has in
+# each language; and the example for many machines on a cluster of two workers. What is not there is installed from Debian's packages,
 # by root, or else passed over with a line that says so. Needs g++ and python3.
 set -euo pipefail
 . "$(dirname "$0")/program.sh"
@@ -32,6 +32,16 @@ same() {
         diff - <(grep '^0x' "$top/examples/listings/alone.expected")
 }
 
+# sample LANGUAGE: what README.md has in the language, over a listing of examples/ in place of the kernel's
+sample() {
+    awk -v head="In $1 (" '
+        index($0, head) == 1 { is_here = 1 }
+        is_here && /^    / { print substr($0, 5); has_begun = 1 }
+        has_begun && /^[^ ]/ { exit }' "$top/README.md" | sed "s|/proc/kallsyms|$top/examples/listings/alone.kallsyms|"
+}
+addr=0xffffffff81000108
+named=do_one+0x8/0x1f00
+
 (cd "$top/python" && PYTHONPATH=src python3 -W error -m unittest --quiet) 2>"$work/out" || { cat "$work/out"; exit 1; }
 # shellcheck disable=SC2016
 if has 'python3 -m venv "$work/venv"' python3-venv; then
@@ -39,6 +49,8 @@ if has 'python3 -m venv "$work/venv"' python3-venv; then
     "$work/venv/bin/python" -m pip --quiet --disable-pip-version-check --no-cache-dir install --no-index "$work/python"
     (cd "$work" && venv/bin/python -c 'import latchsym; latchsym.Table(4).close()')
 fi
+{ echo "addresses = [$addr]"; sample Python; echo 'assert answers[0].offset == 8'; } >"$work/sample.py"
+[ "$(PYTHONPATH=$top/python/src python3 "$work/sample.py")" = $named ]
 echo "bindings: Python: ok"
 
 for options in -O2 "-g -fsanitize=address,undefined" "-g -fsanitize=thread"; do
@@ -53,12 +65,38 @@ for options in -O2 "-g -fsanitize=address,undefined" "-g -fsanitize=thread"; do
 done
 g++ -std=c++17 -Wall -Wextra -Wpedantic -Werror -I"$top/include" "$top/examples/cpp/lookup.cpp" "$library" -o "$work/lookup"
 same "$work/lookup"
-echo "bindings: C++: ok"
+{
+    printf '#include <%s>\n' fstream iostream iterator latchsym.hpp
+    echo "int main() { const std::uint64_t addr = $addr;"
+    sample C++17
+    echo '}'
+} >"$work/sample.cpp"
+g++ -std=c++17 -Wall -Wextra -Wpedantic -Werror -I"$top/include" "$work/sample.cpp" "$library" -o "$work/sample"
+[ "$("$work/sample")" = do_one ]
+{
+    printf '#include <%s>\n' latchsym.h stdio.h
+    echo 'int main(void) { static uint8_t bytes[1 << 16];'
+    echo "    const size_t len = fread(bytes, 1, sizeof bytes, stdin); const uint64_t addr = $addr;"
+    sample C
+    printf '%s\n' 'latchsym_catalog_close(&catalog);' '}'
+} >"$work/sample.c"
+gcc -Wall -Wextra -Werror -I"$top/include" "$work/sample.c" "$library" -o "$work/sample"
+[ "$("$work/sample" <"$top/examples/listings/alone.kallsyms")" = do_one+0x8 ]
+echo "bindings: C and C++: ok"
 
 if has 'command -v cargo' cargo; then
     export CARGO_TARGET_DIR=$work/target
-    (cd "$top/bindings/rust" && cargo test --quiet --offline --locked) >"$work/out" 2>&1 || { cat "$work/out"; exit 1; }
+    (cd "$top/bindings/rust" && cargo build --quiet --offline --locked && cargo test --quiet --offline --locked) \
+        >"$work/out" 2>&1 || { cat "$work/out"; exit 1; }
     same "$work/target/debug/examples/lookup"
+    {
+        echo "fn main() -> Result<(), Box<dyn std::error::Error>> { let addr = ${addr}_u64;"
+        sample Rust
+        echo '    Ok(()) }'
+    } >"$work/sample.rs"
+    rustc --edition 2021 -L "$work/target/debug/deps" --extern "latchsym=$work/target/debug/liblatchsym.rlib" \
+        -o "$work/sample" "$work/sample.rs"
+    [ "$("$work/sample")" = $named ]
     echo "bindings: Rust: ok"
 fi
 

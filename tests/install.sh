@@ -48,6 +48,8 @@ so=$prefix/lib/liblatchsym.so.$version
 readelf -dW "$so" | grep -q "SONAME.*\[liblatchsym\.so\.${version%%.*}\]" || fail "the library's name is $(readelf -dW "$so" | grep SONAME)"
 readelf -dW "$so" | grep -q BIND_NOW || fail 'the library is bound late'
 nm -D --defined-only "$so" | sed -nE 's/.* T ([^@]*).*/\1/p' | sort >"$work/shown"
+nm -g --defined-only "$prefix/lib/liblatchsym.a" | sed -n 's/.* T //p' | sort | diff - "$work/shown" ||
+    fail 'the two libraries show other names'
 grep -oE '^(uint32_t|void) latchsym_[a-z_]+' "$top/include/latchsym.h" | cut -d' ' -f2 | sort | diff - "$work/shown" ||
     fail 'the library shows other names than the header'
 

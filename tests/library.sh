@@ -36,7 +36,7 @@ build_static() {
 }
 
 # build_library: makes `library` the static library, with the kit's three functions over malloc in
-# it, and `shared` the shared one, which shows the calls of the header alone; builds where the crate's is missing or older than a source, and
+# it, and `shared` the shared one, of which each shows the calls of the header alone; builds where the crate's is missing or older than a source, and
 # ends the script where it cannot be built
 build_library() {
     local crate=$top/crates/latchsym_ffi kit jobs
@@ -53,8 +53,11 @@ build_library() {
         cd "$work/objects"
         ar x "$crate/out/liblatchsym_ffi.a"
         ar x "$kit/c/liblibc_c.a"
+        # one object, so that the names of the kit's functions are its own
         LC_ALL=C
-        ar rcsD "$work/liblatchsym.a" ./*
+        ld -r -o latchsym.o ./*.o
+        objcopy --wildcard --keep-global-symbol='latchsym_*' latchsym.o
+        ar rcsD "$work/liblatchsym.a" latchsym.o
     )
     library=$work/liblatchsym.a
     shared=$work/liblatchsym.so
