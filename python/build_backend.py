@@ -6,6 +6,7 @@ and `pip install` works without a network. The same files give the same bytes.
 """
 
 import base64
+import gzip
 import hashlib
 import io
 import pathlib
@@ -94,9 +95,12 @@ def build_sdist(sdist_directory, config_settings=None):
         paths = [it for it in (HERE / folder).iterdir() if it.is_file()]
         files.update((f"{folder}/{it.name}", it.read_bytes()) for it in paths)
     files["PKG-INFO"] = _metadata(project).encode()
-    with tarfile.open(pathlib.Path(sdist_directory, f"{base}.tar.gz"), "w:gz", format=tarfile.PAX_FORMAT) as sdist:
+    packed = io.BytesIO()
+    with tarfile.open(fileobj=packed, mode="w", format=tarfile.PAX_FORMAT) as sdist:
         for path, content in sorted(files.items()):
             entry = tarfile.TarInfo(f"{base}/{path}")
             entry.size = len(content)
             sdist.addfile(entry, io.BytesIO(content))
-    return f"{base}.tar.gz"
+    name = f"{base}.tar.gz"
+    pathlib.Path(sdist_directory, name).write_bytes(gzip.compress(packed.getvalue(), mtime=0))
+    return name

@@ -183,8 +183,8 @@ class Reader(_Part):
             if max(answer.name_len, answer.module_len) <= room:
                 break
             room = max(answer.name_len, answer.module_len)
-        text = it.decoded(name[: answer.name_len]) if number == it.DONE else None
-        owner = it.decoded(module[: answer.module_len])
+        text = it.decoded(name.raw[: answer.name_len]) if number == it.DONE else None
+        owner = it.decoded(module.raw[: answer.module_len])
         symbol = Symbol(text, answer.offset, answer.size, owner, answer.module_number)
         return _found(it.DONE, found), symbol
 
