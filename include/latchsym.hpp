@@ -267,6 +267,12 @@ struct found {
     std::uint64_t generation;
 };
 
+/* The same, and what is told of the symbol in the item. */
+struct named {
+    latchsym::found found;
+    latchsym::told told;
+};
+
 /* What a step of an update did: nothing where none is pending. */
 enum class step : std::uint32_t {
     end = LATCHSYM_DONE,
@@ -304,6 +310,26 @@ public:
         for (;;) {
             if (auto out = try_find(addr)) return *out;
         }
+    }
+
+    /* One attempt, and the symbol in the item that was found, whose tag is taken as the number of a
+     * module of the catalog. As many bytes of its names are copied as there is room for; the answer
+     * has the lengths of the whole names. */
+    std::optional<named> try_find_name(catalog &catalog, std::uint64_t addr, char *name,
+                                       std::size_t name_room, char *module,
+                                       std::size_t module_room) {
+        latchsym_found out{};
+        latchsym_answer answer{};
+        std::uint8_t none[2] = {};
+        const std::uint32_t number = latchsym_reader_find_name(
+            get(), catalog.get(), addr, &out, &answer,
+            name_room ? reinterpret_cast<std::uint8_t *>(name) : none, name_room,
+            module_room ? reinterpret_cast<std::uint8_t *>(module) : none + 1, module_room);
+        if (number == LATCHSYM_RETRY) return std::nullopt;
+        if (number == LATCHSYM_NO_SYMBOL) {
+            return named{detail::found_of(LATCHSYM_DONE, out), {answer, number}};
+        }
+        return named{detail::found_of(number, out), {answer, number}};
     }
 
     /* Closes this reader, which is then of no further use. */
@@ -346,8 +372,8 @@ public:
     latchsym_writer *get() noexcept { return handle_.get(); }
 
     /* Whole updates: each returns the generation that shows it. */
-    std::uint64_t insert(const item &item) {
-        begin_insert(item);
+    std::uint64_t insert(const item &added) {
+        begin_insert(added);
         return finish();
     }
     std::uint64_t erase(std::uint64_t a) {
@@ -361,8 +387,8 @@ public:
 
     /* The same, with the steps left to step() and finish(). Readers see an update from its second
      * flip on, whole. */
-    void begin_insert(const item &item) {
-        detail::check(latchsym_writer_begin_insert(get(), &item));
+    void begin_insert(const item &added) {
+        detail::check(latchsym_writer_begin_insert(get(), &added));
     }
     void begin_erase(std::uint64_t a) { detail::check(latchsym_writer_begin_erase(get(), a)); }
     void begin_batch(const std::vector<std::uint64_t> &erase, const std::vector<item> &insert) {

@@ -32,6 +32,17 @@ same() {
         diff - <(grep '^0x' "$top/examples/listings/alone.expected")
 }
 
+# Each package has each call. (C++ has texts by latchsym_text, and names where they lie.)
+grep -oE '^(uint32_t|void) latchsym_[a-z_]+' "$top/include/latchsym.h" | cut -d' ' -f2 | while read -r call; do
+    files=("$top/bindings/rust/src/sys.rs" "$top/python/src/latchsym/_library.py" "$top/include/latchsym.hpp")
+    case $call in
+        latchsym_place_of_text | latchsym_catalog_name) unset 'files[2]' ;;
+    esac
+    for file in "${files[@]}"; do
+        grep -qE "\b$call\b" "$file" || { echo "bindings: $file has no $call"; exit 1; }
+    done
+done
+
 # sample LANGUAGE: what README.md has in the language, over a listing of examples/ in place of the kernel's
 sample() {
     awk -v head="In $1 (" '
@@ -55,7 +66,7 @@ echo "bindings: Python: ok"
 
 for options in -O2 "-g -fsanitize=address,undefined" "-g -fsanitize=thread"; do
     # shellcheck disable=SC2086
-    if g++ -std=c++17 -Wall -Wextra -Wpedantic -Werror $options -I"$top/include" "$top/tests/cpp/bindings.cpp" \
+    if g++ -std=c++17 -Wall -Wextra -Wpedantic -Wshadow -Werror $options -I"$top/include" "$top/tests/cpp/bindings.cpp" \
         "$library" -lpthread -o "$work/bindings" 2>"$work/err"; then
         "$work/bindings"
     elif [ "$options" = -O2 ]; then

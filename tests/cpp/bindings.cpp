@@ -108,6 +108,23 @@ static void updates() {
     CHECK(refused([] { latchsym::table table(4, 0, 0); }) == LATCHSYM_BAD_CAPACITY);
 }
 
+static void names_items() {
+    latchsym::catalog catalog(listed());
+    latchsym::table table(4);
+    latchsym::reader reader = table.readers[0];
+    char name[512], module[3];
+    auto named = reader.try_find_name(catalog, ext4_a, name, sizeof name, module, sizeof module);
+    CHECK(named && !named->found.item && named->told.code == LATCHSYM_NOTHING);
+    const auto region = catalog.region(1, 0);
+    table.writer.insert({region->a, region->b, 1});
+    named = reader.try_find_name(catalog, ext4_a, name, sizeof name, module, sizeof module);
+    CHECK(named->found.item->tag == 1 && named->told.code == LATCHSYM_DONE && named->told.answer.offset == 8);
+    CHECK(std::string(name, named->told.answer.name_len) == "ext4_a" && named->told.answer.module_len == 4);
+    CHECK(std::string(module, sizeof module) == "ext");
+    named = reader.try_find_name(catalog, region->a, nullptr, 0, nullptr, 0);
+    CHECK(named->found.item && named->told.code == LATCHSYM_NO_SYMBOL);
+}
+
 static void reads_on_threads() {
     latchsym::table table(4, 3);
     std::atomic<bool> is_over{false};
@@ -136,5 +153,6 @@ int main() {
     refuses_listings();
     moves_and_shares();
     updates();
+    names_items();
     reads_on_threads();
 }

@@ -118,6 +118,15 @@ extern "C" {
         out: *mut Answer,
         out_len: usize,
     ) -> u32;
+    pub fn latchsym_catalog_name(
+        catalog: *mut Handle,
+        addr: u64,
+        out: *mut NameAnswer,
+        name: *mut u8,
+        name_room: usize,
+        module: *mut u8,
+        module_room: usize,
+    ) -> u32;
     pub fn latchsym_catalog_modules(catalog: *mut Handle, count: *mut u64) -> u32;
     pub fn latchsym_catalog_module(catalog: *mut Handle, number: u64, out: *mut Module) -> u32;
     pub fn latchsym_catalog_region(
