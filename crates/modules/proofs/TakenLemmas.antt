@@ -150,11 +150,15 @@ left_by true rs left is some = absurd (some is)
 left_by false rs left is some = (refl, is)
 
 module _ (names : List (List ℕ)) (items : List Item) (taken : List ℕ) (m : Mark) (left : List (ℕ × ℕ)) (is : left ≡ cond (list_any (nat_eq m.owner) taken) [] (ranges_of m.owner items)) where
-  -- a module that was taken has no regions left
-  pub taken_before : All (λ i. i.a < i.b) items → is_kept_mark items m ≡ true → left ≡ [] → modules_numbered names items taken ≡ modules_numbered names items (with_number taken m.owner)
-  taken_before valid kept none =
-      let there : list_any (nat_eq m.owner) taken ≡ true = taken_by (list_any (nat_eq m.owner) taken) (ranges_of m.owner items) left is (kept_ranges items m valid kept) none in
-      ap (λ (b : Bool). modules_numbered names items (cond b taken (taken ++ m.owner ∷ []))) (sym there)
+  -- where no regions are left its module was taken, or the mark is not kept
+  pub taken_before : All (λ i. i.a < i.b) items → left ≡ [] → cond (is_kept_mark items m) (with_number taken m.owner) taken ≡ taken
+  taken_before valid none =
+      elim (is_kept_mark items m) as (λ b. is_kept_mark items m ≡ b → cond b (with_number taken m.owner) taken ≡ taken) [
+        | true ↦ λ kept.
+            let there : list_any (nat_eq m.owner) taken ≡ true = taken_by (list_any (nat_eq m.owner) taken) (ranges_of m.owner items) left is (kept_ranges items m valid kept) none in
+            ap (λ (b : Bool). cond b taken (taken ++ m.owner ∷ [])) there
+        | false ↦ λ _. refl
+      ] refl
 
   pub own_ranges : left ≢ [] → left ≡ ranges_of m.owner items
   own_ranges some = (left_by (list_any (nat_eq m.owner) taken) (ranges_of m.owner items) left is some).1

@@ -74,7 +74,7 @@ fn regions_by_number(
 }
 
 /// The modules in the order of their first kept lines. At that line a module takes its regions, so
-/// that its later lines find none.
+/// that its later lines find none, and nothing is asked of them.
 fn modules_in_order<'a>(
     alloc: Global,
     numbers: &ModuleNumbers<'a>,
@@ -83,18 +83,18 @@ fn modules_in_order<'a>(
 ) -> Result<Vec<Placed<'a>>, AllocError>
     requires laid { AreLaid items.now }
     requires numbered { All (λ i. (0 < i.tag) × (i.tag ≤ length numbers.now)) items.now }
+    requires owned { All (λ m. m.owner ≤ length numbers.now) marks.now }
     ensures { IfOk result (λ v. v.items
         ≡ modules_numbered numbers.now items.now (kept_numbers items.now marks.now)) }
 {
     let mut lists = regions_by_number(alloc, items, numbers.count())?;
     let mut modules = Vec::new(alloc);
     for mark in marks {
-        if is_kept(items, *mark) {
-            let regions = mem::replace(&mut lists[mark.owner as usize], Vec::new(alloc));
-            if !regions.is_empty() {
-                let name = numbers.name_of(mark.owner);
-                modules.push(Placed::in_rising(alloc, name, regions)?)?;
-            }
+        let owner = mark.owner as usize;
+        if !lists[owner].is_empty() && is_kept(items, *mark) {
+            let regions = mem::replace(&mut lists[owner], Vec::new(alloc));
+            let name = numbers.name_of(mark.owner);
+            modules.push(Placed::in_rising(alloc, name, regions)?)?;
         }
     }
     Ok(modules)

@@ -10,31 +10,20 @@ use Rattle.modules.specs.declared.lines.Part.TheVariants.{Core}
 use Rattle.modules.specs.declared.marks.Mark.{Mark}
 use Rattle.modules.proofs.TakenLemmas.{kept_number, left_rising, left_taken, kept_numbers_more, own_ranges, taken_before, taken_now}
 use Rattle.modules.proofs.from_symbols.modules_in_order.Goals as goal
-use Rattle.modules.proofs.from_symbols.modules_in_order.Goals.{then-is_kept+then-not-is_empty+in_ok-in_rising+in_ok-push, then-is_kept+else-not-is_empty, else-is_kept}
-
-pub index_mut-requires : goal.index_mut-requires
-index_mut-requires c =
-    let m : Mark = get_or c.args.marks.now c.loop-mark.mark-index (record { addr = 0; owner = 0 }) in
-    let its = kept_number (length c.args.numbers.now) c.args.items.now m c.requires.numbered (sym c.is_kept.ensures ∙ c.if-is_kept.true) in
-    omega (arith, its.1, c.loop-mark.invariant.left.0, c.loop-mark.lists.ok.0)
+use Rattle.modules.proofs.from_symbols.modules_in_order.Goals.{then-not-is_empty+then-is_kept+in_ok-in_rising+in_ok-push, else-not-is_empty, else-not-is_empty-via-then-not-is_empty+else-is_kept, else-not-is_empty-via-else-not-is_empty}
 
 pub name_of-name-requires-clause-some : goal.name_of-name-requires-clause-some
 name_of-name-requires-clause-some c =
     let m : Mark = get_or c.args.marks.now c.loop-mark.mark-index (record { addr = 0; owner = 0 }) in
     (kept_number (length c.args.numbers.now) c.args.items.now m c.requires.numbered (sym c.is_kept.ensures ∙ c.if-is_kept.true)).0
 
-pub name_of-name-requires-clause-within : goal.name_of-name-requires-clause-within
-name_of-name-requires-clause-within c =
-    let m : Mark = get_or c.args.marks.now c.loop-mark.mark-index (record { addr = 0; owner = 0 }) in
-    (kept_number (length c.args.numbers.now) c.args.items.now m c.requires.numbered (sym c.is_kept.ensures ∙ c.if-is_kept.true)).1
-
 pub in_rising-requires : goal.in_rising-requires
 in_rising-requires c =
     let items = c.args.items.now in
     let m : Mark = get_or c.args.marks.now c.loop-mark.mark-index (record { addr = 0; owner = 0 }) in
-    let its = kept_number (length c.args.numbers.now) items m c.requires.numbered (sym c.is_kept.ensures ∙ c.if-is_kept.true) in
+    let within = c.requires.owned c.loop-mark.mark-index (record { addr = 0; owner = 0 }) c.loop-mark-test.true in
     let taken : List ℕ = kept_numbers items (take c.loop-mark.mark-index c.args.marks.now) in
-    left_rising m.owner items taken c.replace-regions.result.items c.requires.laid (ap (λ (v : Vec (ℕ × ℕ)). v.items) (c.replace-regions.ensures.value ∙ c.index_mut.ensures.value) ∙ c.loop-mark.invariant.left.1 m.owner c.index_mut.result.now (omega (arith, its.1)))
+    left_rising m.owner items taken c.replace-regions.result.items c.requires.laid (ap (λ (v : Vec (ℕ × ℕ)). v.items) (c.replace-regions.ensures.value ∙ c.index_mut.ensures.value) ∙ c.loop-mark.invariant.left.1 m.owner c.index_mut.result.now (omega (arith, within)))
 
 pub loop-mark-preserved : goal.loop-mark-preserved
 loop-mark-preserved c =
@@ -43,43 +32,40 @@ loop-mark-preserved c =
     let marks = c.args.marks.now in
     let k = c.loop-mark.mark-index in
     let m : Mark = get_or marks k (record { addr = 0; owner = 0 }) in
+    let within = c.requires.owned k (record { addr = 0; owner = 0 }) c.loop-mark-test.true in
     let i = c.loop-mark.invariant in
     let taken : List ℕ = kept_numbers items (take k marks) in
     let next : kept_numbers items (take (k + 1) marks) ≡ cond (is_kept_mark items m) (with_number taken m.owner) taken = kept_numbers_more items marks k (record { addr = 0; owner = 0 }) c.loop-mark-test.true in
-    elim c.if-is_kept.branch [
-      | then-is_kept+then-not-is_empty+in_ok-in_rising+in_ok-push w ↦
-          let kept : is_kept_mark items m ≡ true = sym c.is_kept.ensures ∙ w.if-is_kept.true in
-          let its = kept_number (length numbers) items m c.requires.numbered kept in
-          let own = w.replace-regions.result in
-          let left : own.items ≡ cond (list_any (nat_eq m.owner) taken) [] (ranges_of m.owner items) = ap (λ (v : Vec (ℕ × ℕ)). v.items) (w.replace-regions.ensures.value ∙ w.index_mut.ensures.value) ∙ i.left.1 m.owner w.index_mut.result.now (omega (arith, its.1)) in
+    let own = c.index.result.now in
+    let left : own.items ≡ cond (list_any (nat_eq m.owner) taken) [] (ranges_of m.owner items) = ap (λ (v : Vec (ℕ × ℕ)). v.items) c.index.ensures ∙ i.left.1 m.owner own (omega (arith, within)) in
+    elim c.if-not-is_empty.branch [
+      | then-not-is_empty+then-is_kept+in_ok-in_rising+in_ok-push w ↦
+          let kept : is_kept_mark items m ≡ true = sym w.is_kept.ensures ∙ w.if-is_kept.true in
           let numbered : kept_numbers items (take (k + 1) marks) ≡ with_number taken m.owner = next ∙ ap (λ b. cond b (with_number taken m.owner) taken) kept in
-          let some : own.items ≢ [] = λ none. eqb-false own.len 0 (sym w.is_empty.ensures ∙ w.if-not-is_empty.true) (own.ok.0 ∙ ap length none) in
+          let some : own.items ≢ [] = λ none. eqb-false own.len 0 (sym c.is_empty.ensures ∙ w.if-not-is_empty.true) (own.ok.0 ∙ ap length none) in
           let empty : w.replace-regions.new.dest.items ≡ [] = ap (λ (v : Vec (ℕ × ℕ)). v.items) w.replace-regions.ensures.after ∙ w.new.ensures.items in
+          let again : w.index_mut.result.now.items ≡ own.items = ap (λ (v : Vec (ℕ × ℕ)). v.items) w.index_mut.ensures.value ∙ i.left.1 m.owner w.index_mut.result.now (omega (arith, within)) ∙ sym left in
+          let regions : w.replace-regions.result.items ≡ ranges_of m.owner items = ap (λ (v : Vec (ℕ × ℕ)). v.items) w.replace-regions.ensures.value ∙ again ∙ own_ranges numbers items taken m own.items left some in
           let is : w.in_ok-in_rising.field-0 ≡ numbered_module m.owner (name_of numbers m.owner) items =
           w.in_ok-in_rising.ensures
-          ∙ ap (λ (n : List ℕ). record { name = n; regions = own.items; parts = map (λ _. Core) own.items }) w.name_of-name.ensures
-          ∙ ap (λ (rs : List (ℕ × ℕ)). record { name = name_of numbers m.owner; regions = rs; parts = map (λ _. Core) rs }) (own_ranges numbers items taken m own.items left some) in
+          ∙ ap (λ (n : List ℕ). record { name = n; regions = w.replace-regions.result.items; parts = map (λ _. Core) w.replace-regions.result.items }) w.name_of-name.ensures
+          ∙ ap (λ (rs : List (ℕ × ℕ)). record { name = name_of numbers m.owner; regions = rs; parts = map (λ _. Core) rs }) regions in
           rw (w.lists-is, w.modules-is, numbered) (record {
             modules = w.in_ok-push.ensures.items
                 ∙ ap (λ (ms : List PlacedModule). ms ++ w.in_ok-in_rising.field-0 ∷ []) i.modules
                 ∙ ap (λ (p : PlacedModule). modules_numbered numbers items taken ++ p ∷ []) is
                 ∙ taken_now numbers items taken m own.items left some;
-            left = left_taken (length numbers + 1) m.owner items taken c.loop-mark.lists.items w.replace-regions.new.dest (omega (arith, its.1)) empty i.left;
+            left = left_taken (length numbers + 1) m.owner items taken c.loop-mark.lists.items w.replace-regions.new.dest (omega (arith, within)) empty i.left;
           })
-      | then-is_kept+else-not-is_empty w ↦
-          let kept : is_kept_mark items m ≡ true = sym c.is_kept.ensures ∙ w.if-is_kept.true in
-          let its = kept_number (length numbers) items m c.requires.numbered kept in
-          let own = w.replace-regions.result in
-          let left : own.items ≡ cond (list_any (nat_eq m.owner) taken) [] (ranges_of m.owner items) = ap (λ (v : Vec (ℕ × ℕ)). v.items) (w.replace-regions.ensures.value ∙ w.index_mut.ensures.value) ∙ i.left.1 m.owner w.index_mut.result.now (omega (arith, its.1)) in
-          let numbered : kept_numbers items (take (k + 1) marks) ≡ with_number taken m.owner = next ∙ ap (λ b. cond b (with_number taken m.owner) taken) kept in
-          let none : own.items ≡ [] = nil_from_length own.items (sym own.ok.0 ∙ eqb-true own.len 0 (sym w.is_empty.ensures ∙ w.if-not-is_empty.false)) in
-          let empty : w.replace-regions.new.dest.items ≡ [] = ap (λ (v : Vec (ℕ × ℕ)). v.items) w.replace-regions.ensures.after ∙ w.new.ensures.items in
-          rw (w.lists-is, w.modules-is, numbered) (record {
-            modules = i.modules ∙ taken_before numbers items taken m own.items left c.requires.laid.valid kept none;
-            left = left_taken (length numbers + 1) m.owner items taken c.loop-mark.lists.items w.replace-regions.new.dest (omega (arith, its.1)) empty i.left;
-          })
-      | else-is_kept w ↦
-          let stray : is_kept_mark items m ≡ false = sym c.is_kept.ensures ∙ w.if-is_kept.false in
-          let same : kept_numbers items (take (k + 1) marks) ≡ taken = next ∙ ap (λ b. cond b (with_number taken m.owner) taken) stray in
-          rw (w.lists-is, w.modules-is, same) (record { modules = i.modules; left = i.left })
+      | else-not-is_empty w ↦
+          elim w.else-not-is_empty.branch [
+            | else-not-is_empty-via-then-not-is_empty+else-is_kept v ↦
+                let stray : is_kept_mark items m ≡ false = sym v.is_kept.ensures ∙ v.if-is_kept.false in
+                let same : kept_numbers items (take (k + 1) marks) ≡ taken = next ∙ ap (λ b. cond b (with_number taken m.owner) taken) stray in
+                rw (w.lists-is, w.modules-is, same) (record { modules = i.modules; left = i.left })
+            | else-not-is_empty-via-else-not-is_empty v ↦
+                let none : own.items ≡ [] = nil_from_length own.items (sym own.ok.0 ∙ eqb-true own.len 0 (sym c.is_empty.ensures ∙ v.if-not-is_empty.false)) in
+                let same = taken_before numbers items taken m own.items left c.requires.laid.valid none in
+                rw (w.lists-is, w.modules-is, next, same) (record { modules = i.modules; left = i.left })
+          ]
     ]

@@ -25,6 +25,7 @@ modules_in_order-requires c =
     record {
       laid = subst (λ (is : List Item). AreLaid is) (sym c.as_slice-3.ensures.value) regions.laid;
       numbered = subst (λ (is : List Item). All (λ i. (0 < i.tag) × (i.tag ≤ length names)) is) (sym c.as_slice-3.ensures.value) (items_numbered (length names) marks items regions within);
+      owned = subst (λ (ms : List Mark). All (λ m. m.owner ≤ length names) ms) (sym c.as_slice-2.ensures.value) within;
     }
 
 pub returns : goal.returns
