@@ -5,8 +5,8 @@
  * FOLDER has modules.txt, kallsyms.txt and addr.100000. libbcc reads /proc/kallsyms, so that has to
  * be the folder's (library.sh binds it in a mount namespace of its own). Each round opens the
  * listings with both and looks all addresses up with both, by turns: with the names copied into the
- * caller's room by both, and with no room for names, where libbcc hands out pointers. Prints the
- * medians of the rounds. */
+ * caller's room by both, and without copies; and then 1,000,000 addresses near these, unsorted and
+ * sorted, in one call of ours and in a loop of theirs. Prints the medians of the rounds' ratios. */
 #define _GNU_SOURCE
 #include <bcc/bcc_syms.h>
 #include <latchsym.h>
@@ -15,10 +15,11 @@
 #include <string.h>
 #include <time.h>
 
-enum { MOST_ADDRESSES = 100000, MOST_ROUNDS = 101, NAME = 4096, MODULE = 256 };
+enum { MOST_ADDRESSES = 100000, MANY = 1000000, MOST_ROUNDS = 101, NAME = 4096, MODULE = 256 };
 
 static uint64_t addresses[MOST_ADDRESSES];
 static size_t count;
+static uint64_t unsorted[MANY], sorted[MANY];
 static uint8_t name[NAME], module[MODULE];
 static volatile uint64_t sum;
 
@@ -77,13 +78,14 @@ static double find_ours(struct latchsym_catalog *catalog) {
     return now() - start;
 }
 
-/* The same of all addresses in one call, without names. */
-static double find_many_ours(struct latchsym_catalog *catalog) {
-    static struct latchsym_told told[MOST_ADDRESSES];
+/* Many addresses in one call, without names. */
+static double find_many_ours(struct latchsym_catalog *catalog, const uint64_t *many) {
+    static struct latchsym_told told[MANY];
     double start = now();
-    if (latchsym_catalog_find_many(catalog, addresses, count, told, count)) exit(1);
-    for (size_t i = 0; i < count; i++) sum += told[i].answer.offset;
-    return now() - start;
+    if (latchsym_catalog_find_many(catalog, many, MANY, told, MANY)) exit(1);
+    double time = now() - start;
+    for (size_t i = 0; i < MANY; i++) sum += told[i].answer.offset;
+    return time;
 }
 
 static size_t copied(uint8_t *room, size_t most, const char *text) {
@@ -106,6 +108,33 @@ static double find_theirs(void *cache, int with_names) {
     return now() - start;
 }
 
+static double find_many_theirs(void *cache, const uint64_t *many) {
+    double start = now();
+    uint64_t total = 0;
+    for (size_t i = 0; i < MANY; i++) {
+        struct bcc_symbol found;
+        if (!bcc_symcache_resolve_no_demangle(cache, many[i], &found)) total += found.offset;
+    }
+    sum += total;
+    return now() - start;
+}
+
+static int by_address(const void *x, const void *y) {
+    uint64_t a = *(const uint64_t *)x, b = *(const uint64_t *)y;
+    return (a > b) - (a < b);
+}
+
+/* Each lies at most 32 KiB from one of the file. */
+static void make_many(void) {
+    uint64_t state = 7;
+    for (size_t i = 0; i < MANY; i++) {
+        state = state * 6364136223846793005 + 1442695040888963407;
+        unsorted[i] = addresses[i % count] + (state >> 48) - 32768;
+    }
+    memcpy(sorted, unsorted, sizeof sorted);
+    qsort(sorted, MANY, sizeof *sorted, by_address);
+}
+
 static int by_size(const void *x, const void *y) {
     double a = *(const double *)x, b = *(const double *)y;
     return (a > b) - (a < b);
@@ -117,10 +146,13 @@ static double median(double *all, int rounds) {
 }
 
 int main(int argc, char **argv) {
-    static double opened[MOST_ROUNDS], copies[MOST_ROUNDS], plain[MOST_ROUNDS], many[MOST_ROUNDS];
+    static double opened[MOST_ROUNDS], copies[MOST_ROUNDS], plain[MOST_ROUNDS];
+    static double many[MOST_ROUNDS], rising[MOST_ROUNDS];
     int rounds = argc > 2 ? atoi(argv[2]) : 0;
     if (rounds < 1 || rounds > MOST_ROUNDS) return 2;
     read_addresses(argv[1]);
+    if (!count) return 2;
+    make_many();
     for (int round = 0; round < rounds; round++) {
         size_t modules_len, kallsyms_len;
         struct latchsym_catalog catalog = {0};
@@ -143,17 +175,20 @@ int main(int argc, char **argv) {
         double mine = copy_ours(&catalog);
         copies[round] = mine / find_theirs(cache, 1);
         mine = find_ours(&catalog);
-        double theirs = find_theirs(cache, 0), all = find_many_ours(&catalog);
+        double theirs = find_theirs(cache, 0);
         plain[round] = mine / theirs;
-        many[round] = all / theirs;
-        fprintf(stderr,
-                "round %d: %.0f ns, in one call %.0f ns, and %.0f ns a find without copies\n", round, 1e9 * mine / count, 1e9 * all / count, 1e9 * theirs / count);
+        double all = find_many_ours(&catalog, unsorted), in_order = find_many_ours(&catalog, sorted);
+        many[round] = all / find_many_theirs(cache, unsorted);
+        rising[round] = in_order / find_many_theirs(cache, sorted);
+        fprintf(stderr, "round %d: %.0f ns a find, beside %.0f; of many %.0f ns each, sorted %.0f\n", round,
+                1e9 * mine / count, 1e9 * theirs / count, 1e9 * all / MANY, 1e9 * in_order / MANY);
         bcc_free_symcache(cache, -1);
         latchsym_catalog_close(&catalog);
         free(modules);
         free(kallsyms);
     }
-    printf("open %.2f, find with copies %.2f, without %.2f, in one call %.2f times libbcc's time\n",
+    printf("open %.2f, find with copies %.2f, without %.2f, many in one call %.2f, sorted %.2f "
+           "times libbcc's time\n",
            median(opened, rounds), median(copies, rounds), median(plain, rounds),
-           median(many, rounds));
+           median(many, rounds), median(rising, rounds));
 }

@@ -14,8 +14,8 @@
  *   join of a thread, or a sequentially consistent atomic.
  * - The bytes of the listings lie where they are, unchanged, until the last handle of their catalog
  *   is closed.
- * - A pointer is never null, also where the length beside it is 0; what it points to is alive and
- *   aligned, and initialised where it is read.
+ * - A pointer is not null but where a length of 0 stands beside it, and where a handle is closed.
+ *   What it points to is alive and aligned, and initialised where it is read.
  * - malloc, realloc and free are those of one allocator, and align as C says.
  * - Calls that are not marked "handler" are not made in the forked child of a process with threads.
  *
@@ -88,9 +88,9 @@ struct latchsym_counts {
     uint64_t regions, regions_stray;
 };
 
-/* Where bytes lie, and how many they are. The pointer is never null, also before a call writes it:
- * a struct with places begins as its LATCHSYM_.._INIT says, and once more so where the bytes of a
- * place in it are gone. */
+/* Where bytes lie, and how many they are. One that is handed in may be null where it has no byte.
+ * One that a call writes is never null, also before that: a struct with such places begins as its
+ * LATCHSYM_.._INIT says, and once more so where the bytes of a place in it are gone. */
 struct latchsym_place { const uint8_t *at; size_t len; };
 #define LATCHSYM_PLACE_INIT { (const uint8_t *)"", 0 }
 
@@ -112,6 +112,7 @@ struct latchsym_answer {
 
 /* What is told of one of several addresses, and the number that a search for it alone returns. */
 struct latchsym_told { struct latchsym_answer answer; uint32_t code; };
+#define LATCHSYM_TOLD_INIT { { 0, 0, 0, 0, 0 }, 0 }
 
 /* Addresses from a up to b, which is excluded, and a number of the caller's. */
 struct latchsym_item { uint64_t a, b, tag; };
@@ -119,6 +120,10 @@ struct latchsym_item { uint64_t a, b, tag; };
 /* The item that was found (0, 0, 0 where none was), and the generation: how many updates were
  * shown. */
 struct latchsym_found { uint64_t a, b, tag, generation; };
+
+/* Calls that take a pointer with a length, or close a handle, are functions of the header's own:
+ * they let pointers be null where no byte of them is asked for, and call the library's, whose names
+ * end in _nonnull and whose pointers are not. A caller in another language calls those. */
 
 /* ---- numbers ---- */
 
@@ -167,8 +172,24 @@ struct latchsym_listings {
  * that of this version, or there are bytes of modules or of regions and has_modules is 0. Of a
  * listing of regions also LATCHSYM_TOO_MANY_REGIONS, and LATCHSYM_BAD_LINE with the number of the
  * first line that is not one, which is written then alone. Counts are written at 0 alone. */
-uint32_t latchsym_catalog_open(const struct latchsym_listings *, struct latchsym_catalog *out,
-                               struct latchsym_counts *counts, uint64_t *bad_line);
+uint32_t latchsym_catalog_open_nonnull(const struct latchsym_listings *,
+                                       struct latchsym_catalog *out,
+                                       struct latchsym_counts *counts, uint64_t *bad_line);
+static inline struct latchsym_place latchsym_place_nonnull(struct latchsym_place place) {
+    const struct latchsym_place none = LATCHSYM_PLACE_INIT;
+    return place.len ? place : none;
+}
+static inline uint32_t latchsym_catalog_open(const struct latchsym_listings *listings,
+                                             struct latchsym_catalog *out,
+                                             struct latchsym_counts *counts, uint64_t *bad_line) {
+    struct latchsym_listings given = *listings;
+    given.kallsyms = latchsym_place_nonnull(given.kallsyms);
+    given.modules = latchsym_place_nonnull(given.modules);
+    given.regions = latchsym_place_nonnull(given.regions);
+    given.start = latchsym_place_nonnull(given.start);
+    given.end = latchsym_place_nonnull(given.end);
+    return latchsym_catalog_open_nonnull(&given, out, counts, bad_line);
+}
 
 /* The symbol of an address, as `latchsym lookup` prints it; nothing is copied. 0,
  * LATCHSYM_NO_SYMBOL (the module alone is told), LATCHSYM_NOTHING (all numbers are 0, and no name
@@ -188,16 +209,32 @@ uint32_t latchsym_catalog_find_caller(struct latchsym_catalog *, uint64_t addr,
  * but 0 writes nothing. For the names call latchsym_catalog_find once more for those that are
  * shown: the addresses of one symbol are those with one `addresses[i] - out[i].answer.offset`.
  * Handler. */
-uint32_t latchsym_catalog_find_many(struct latchsym_catalog *, const uint64_t *addresses,
-                                    size_t addresses_len, struct latchsym_told *out,
-                                    size_t out_len);
+uint32_t latchsym_catalog_find_many_nonnull(struct latchsym_catalog *, const uint64_t *addresses,
+                                            size_t addresses_len, struct latchsym_told *out,
+                                            size_t out_len);
+static inline uint32_t latchsym_catalog_find_many(struct latchsym_catalog *catalog,
+                                                  const uint64_t *addresses, size_t addresses_len,
+                                                  struct latchsym_told *out, size_t out_len) {
+    const uint64_t no_address = 0;
+    struct latchsym_told no_room = LATCHSYM_TOLD_INIT;
+    return latchsym_catalog_find_many_nonnull(catalog, addresses_len ? addresses : &no_address,
+                                              addresses_len, out_len ? out : &no_room, out_len);
+}
 
 /* The symbol of an address, with copies of the names: as many bytes of each as there is room for,
  * without a 0 byte at the end. Read no more of a name than its room has. Rooms of 512 bytes hold
  * every name of a kernel. The numbers are those of latchsym_catalog_find. Handler. */
-uint32_t latchsym_catalog_name(struct latchsym_catalog *, uint64_t addr,
-                               struct latchsym_answer *out, uint8_t *name, size_t name_room,
-                               uint8_t *module, size_t module_room);
+uint32_t latchsym_catalog_name_nonnull(struct latchsym_catalog *, uint64_t addr,
+                                       struct latchsym_answer *out, uint8_t *name,
+                                       size_t name_room, uint8_t *module, size_t module_room);
+static inline uint32_t latchsym_catalog_name(struct latchsym_catalog *catalog, uint64_t addr,
+                                             struct latchsym_answer *out, uint8_t *name,
+                                             size_t name_room, uint8_t *module,
+                                             size_t module_room) {
+    uint8_t none = 0;
+    return latchsym_catalog_name_nonnull(catalog, addr, out, name_room ? name : &none, name_room,
+                                         module_room ? module : &none, module_room);
+}
 
 /* How many modules the catalog has. They have the numbers from 1 on, in the order of their lines,
  * or of their first symbols where no listing of modules was given; the kernel itself is number 0,
@@ -229,24 +266,41 @@ uint32_t latchsym_catalog_symbol(struct latchsym_catalog *, uint64_t number, siz
 /* From a name to addresses: the place of the first symbol of a module, from a place on, that has
  * this name. Ask again from the place behind it for the next of the name. The symbols are gone
  * through one by one. 0, LATCHSYM_NOTHING (nothing is written) or LATCHSYM_BAD_HANDLE. Handler. */
-uint32_t latchsym_catalog_place_of_name(struct latchsym_catalog *, uint64_t number,
-                                        const uint8_t *name, size_t name_len, size_t from,
-                                        size_t *place);
+uint32_t latchsym_catalog_place_of_name_nonnull(struct latchsym_catalog *, uint64_t number,
+                                                const uint8_t *name, size_t name_len, size_t from,
+                                                size_t *place);
+static inline uint32_t latchsym_catalog_place_of_name(struct latchsym_catalog *catalog,
+                                                      uint64_t number, const uint8_t *name,
+                                                      size_t name_len, size_t from,
+                                                      size_t *place) {
+    const uint8_t none = 0;
+    return latchsym_catalog_place_of_name_nonnull(catalog, number, name_len ? name : &none,
+                                                  name_len, from, place);
+}
 
 /* Opens another handle of the same catalog, for another thread. 0, LATCHSYM_OUT_OF_MEMORY or
  * LATCHSYM_BAD_HANDLE. */
 uint32_t latchsym_catalog_share(struct latchsym_catalog *, struct latchsym_catalog *out);
 
-/* Closes a handle; the catalog is freed with its last one. */
-void latchsym_catalog_close(struct latchsym_catalog *);
+/* Closes a handle; the catalog is freed with its last one. A null pointer closes nothing, here and
+ * where the other handles are closed. */
+void latchsym_catalog_close_nonnull(struct latchsym_catalog *);
+static inline void latchsym_catalog_close(struct latchsym_catalog *catalog) {
+    if (catalog) latchsym_catalog_close_nonnull(catalog);
+}
 
 /* ---- the table ---- */
 
 /* Opens an empty table of 1 to 65536 nodes: its writer, and a reader in each of 1 to 64 closed
  * handles; all of them or none. 0, LATCHSYM_BAD_HANDLE where a handle is open, else
  * LATCHSYM_BAD_CAPACITY where nodes or readers are not so many, or LATCHSYM_OUT_OF_MEMORY. */
-uint32_t latchsym_table_open(uint32_t nodes, struct latchsym_writer *,
-                             struct latchsym_reader *readers, size_t count);
+uint32_t latchsym_table_open_nonnull(uint32_t nodes, struct latchsym_writer *,
+                                     struct latchsym_reader *readers, size_t count);
+static inline uint32_t latchsym_table_open(uint32_t nodes, struct latchsym_writer *writer,
+                                           struct latchsym_reader *readers, size_t count) {
+    struct latchsym_reader none = { { 0, NULL } };
+    return latchsym_table_open_nonnull(nodes, writer, count ? readers : &none, count);
+}
 
 /* Opens one more reader of the writer's table in a closed handle, also amid an update: it finds
  * what the others find. 0, LATCHSYM_BAD_CAPACITY where the table has 65536 readers already,
@@ -259,9 +313,18 @@ uint32_t latchsym_writer_add_reader(struct latchsym_writer *, struct latchsym_re
  * LATCHSYM_BAD_HANDLE. */
 uint32_t latchsym_writer_begin_insert(struct latchsym_writer *, const struct latchsym_item *);
 uint32_t latchsym_writer_begin_erase(struct latchsym_writer *, uint64_t a);
-uint32_t latchsym_writer_begin_batch(struct latchsym_writer *, const uint64_t *erase,
-                                     size_t erase_len, const struct latchsym_item *insert,
-                                     size_t insert_len);
+uint32_t latchsym_writer_begin_batch_nonnull(struct latchsym_writer *, const uint64_t *erase,
+                                             size_t erase_len, const struct latchsym_item *insert,
+                                             size_t insert_len);
+static inline uint32_t latchsym_writer_begin_batch(struct latchsym_writer *writer,
+                                                   const uint64_t *erase, size_t erase_len,
+                                                   const struct latchsym_item *insert,
+                                                   size_t insert_len) {
+    const uint64_t no_start = 0;
+    const struct latchsym_item no_item = { 0, 0, 0 };
+    return latchsym_writer_begin_batch_nonnull(writer, erase_len ? erase : &no_start, erase_len,
+                                               insert_len ? insert : &no_item, insert_len);
+}
 
 /* One step of the pending update: LATCHSYM_FLIP or LATCHSYM_STORE; 0 where no update is pending, or
  * it is at its end; or LATCHSYM_BAD_HANDLE. Handler, where no other call on the writer runs. */
@@ -278,14 +341,22 @@ uint32_t latchsym_writer_finish(struct latchsym_writer *, uint64_t *generation);
  *
  * It is not checked whether a reader is one of this table. One of another table goes over to this
  * one, and one of this table that is not given keeps the table as it was. */
-uint32_t latchsym_table_enlarge(uint32_t nodes, struct latchsym_writer *,
-                                struct latchsym_reader *readers, size_t count);
+uint32_t latchsym_table_enlarge_nonnull(uint32_t nodes, struct latchsym_writer *,
+                                        struct latchsym_reader *readers, size_t count);
+static inline uint32_t latchsym_table_enlarge(uint32_t nodes, struct latchsym_writer *writer,
+                                              struct latchsym_reader *readers, size_t count) {
+    struct latchsym_reader none = { { 0, NULL } };
+    return latchsym_table_enlarge_nonnull(nodes, writer, count ? readers : &none, count);
+}
 
 /* What readers find now, also amid an update. 0, LATCHSYM_NOTHING or LATCHSYM_BAD_HANDLE. */
 uint32_t latchsym_writer_find(struct latchsym_writer *, uint64_t addr, struct latchsym_found *out);
 
 /* Closes the writer. Readers that are open keep the table as it is. */
-void latchsym_writer_close(struct latchsym_writer *);
+void latchsym_writer_close_nonnull(struct latchsym_writer *);
+static inline void latchsym_writer_close(struct latchsym_writer *writer) {
+    if (writer) latchsym_writer_close_nonnull(writer);
+}
 
 /* One attempt to find the item of an address. 0, LATCHSYM_NOTHING, LATCHSYM_RETRY (nothing is
  * written) or LATCHSYM_BAD_HANDLE. It is never LATCHSYM_RETRY beside a writer at rest. Handler. */
@@ -295,13 +366,27 @@ uint32_t latchsym_reader_try_find(struct latchsym_reader *, uint64_t addr,
 /* The same, and the symbol in the item that was found, whose tag is taken as the number of a
  * module of the catalog. Also LATCHSYM_NO_SYMBOL. Where a handle is closed no attempt is made.
  * Handler. */
-uint32_t latchsym_reader_find_name(struct latchsym_reader *, struct latchsym_catalog *,
-                                   uint64_t addr, struct latchsym_found *item,
-                                   struct latchsym_answer *out, uint8_t *name, size_t name_room,
-                                   uint8_t *module, size_t module_room);
+uint32_t latchsym_reader_find_name_nonnull(struct latchsym_reader *, struct latchsym_catalog *,
+                                           uint64_t addr, struct latchsym_found *item,
+                                           struct latchsym_answer *out, uint8_t *name,
+                                           size_t name_room, uint8_t *module, size_t module_room);
+static inline uint32_t latchsym_reader_find_name(struct latchsym_reader *reader,
+                                                 struct latchsym_catalog *catalog, uint64_t addr,
+                                                 struct latchsym_found *item,
+                                                 struct latchsym_answer *out, uint8_t *name,
+                                                 size_t name_room, uint8_t *module,
+                                                 size_t module_room) {
+    uint8_t none = 0;
+    return latchsym_reader_find_name_nonnull(reader, catalog, addr, item, out,
+                                             name_room ? name : &none, name_room,
+                                             module_room ? module : &none, module_room);
+}
 
 /* Closes a reader. */
-void latchsym_reader_close(struct latchsym_reader *);
+void latchsym_reader_close_nonnull(struct latchsym_reader *);
+static inline void latchsym_reader_close(struct latchsym_reader *reader) {
+    if (reader) latchsym_reader_close_nonnull(reader);
+}
 
 #ifdef __cplusplus
 }

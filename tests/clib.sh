@@ -1,10 +1,10 @@
 #!/usr/bin/env bash
 # Builds the library for C, and runs the programs of tests/c and examples/c with it: the text of each
-# number, what is found of addresses, the table on threads and beside signals, readers that are
-# added, each request for memory refused, code that is sampled while it comes and goes, and the listings of examples/ as
-# `latchsym lookup` answers; under valgrind and sanitizers where these are there, and names of 700
-# bytes under gcc's own for addresses. Looks at the object code that a call for signal handlers
-# takes no memory. Needs gcc.
+# number, null pointers, what is found of addresses, the table on threads and beside signals,
+# readers that are added, each request for memory refused, code that is sampled while it comes and
+# goes, and the listings of examples/ as `latchsym lookup` answers; under valgrind and sanitizers
+# where these are there, and names of 700 bytes under gcc's own for addresses. Looks at the object
+# code that a call for signal handlers takes no memory. Needs gcc.
 set -euo pipefail
 . "$(dirname "$0")/program.sh"
 . "$top/tests/library.sh"
@@ -15,17 +15,21 @@ compile() {
     gcc -std=gnu11 -Wall -Wextra -Werror -O2 -I"$top/include" "$top/tests/c/$1.c" "$library" -lpthread -o "$work/$1" "${@:2}"
 }
 
-for name in numbers find table adding refused; do
+for name in numbers nulls find table adding refused; do
     compile $name
     "$work/$name"
 done
 compile table -g
 compile adding -g
-if compile find -g -fsanitize=address,undefined 2>/dev/null; then
-    "$work/find"
-fi
+for name in nulls find; do
+    if compile $name -g -fsanitize=address,undefined 2>/dev/null; then
+        "$work/$name"
+    fi
+done
 if command -v valgrind >/dev/null; then
-    valgrind -q --error-exitcode=1 --leak-check=full "$work/refused"
+    for name in nulls refused; do
+        valgrind -q --error-exitcode=1 --leak-check=full "$work/$name"
+    done
 fi
 for sanitizer in address thread; do
     if compile table -g -fsanitize=$sanitizer 2>/dev/null; then
@@ -98,7 +102,7 @@ objdump -dr --no-show-raw-insn "$top/crates/latchsym_ffi/out/liblatchsym_ffi.a" 
         edges[from] = edges[from] "\n" to
     }
     END {
-        count = split("latchsym_catalog_find latchsym_catalog_find_caller latchsym_catalog_find_many latchsym_catalog_name latchsym_catalog_modules latchsym_catalog_module latchsym_catalog_region latchsym_catalog_symbol latchsym_catalog_place_of_name latchsym_writer_step latchsym_reader_try_find latchsym_reader_find_name latchsym_place_of_text latchsym_version", list, " ")
+        count = split("latchsym_catalog_find latchsym_catalog_find_caller latchsym_catalog_find_many_nonnull latchsym_catalog_name_nonnull latchsym_catalog_modules latchsym_catalog_module latchsym_catalog_region latchsym_catalog_symbol latchsym_catalog_place_of_name_nonnull latchsym_writer_step latchsym_reader_try_find latchsym_reader_find_name_nonnull latchsym_place_of_text latchsym_version", list, " ")
         for (i = 1; i <= count; i++) { if (!(list[i] in known)) { print "clib: no " list[i]; exit 1 } seen[list[i]] = 1 }
         for (i = 1; i <= count; i++) {
             parts = split(edges[list[i]], next_ones, "\n")

@@ -242,7 +242,10 @@ static void all_ways(void) {
     all_in_one_call(ADDRESSES);
     all_in_one_call(64);
     qsort(addresses, ADDRESSES, sizeof *addresses, compare);
+    for (size_t step = 1; step < 40; step += 3) all_in_one_call(step);
     all_in_one_call(ADDRESSES);
+    for (int i = 0; i < ADDRESSES; i++) addresses[i] = addresses[i / 100 * 7919 % (ADDRESSES / 100) * 100 + i % 100];
+    all_in_one_call(ADDRESSES); /* runs that rise, each anywhere; some addresses stand there often */
 }
 
 /* From the symbols alone: a module reaches from its first symbol up to that of the next, or 1 MiB beyond its last, and

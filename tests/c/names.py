@@ -38,17 +38,17 @@ lib = ctypes.CDLL(sys.argv[1])
 lib.latchsym_place_of_text.argtypes = [c_uint32, POINTER(Place)]
 lib.latchsym_place_of_text.restype = None
 names = [POINTER(Answer)] + [ctypes.c_char_p, c_size_t] * 2
-lib.latchsym_catalog_open.argtypes = [POINTER(Listings), POINTER(Handle), POINTER(Counts), POINTER(c_uint64)]
-lib.latchsym_catalog_name.argtypes = [POINTER(Handle), c_uint64] + names
+lib.latchsym_catalog_open_nonnull.argtypes = [POINTER(Listings), POINTER(Handle), POINTER(Counts), POINTER(c_uint64)]
+lib.latchsym_catalog_name_nonnull.argtypes = [POINTER(Handle), c_uint64] + names
 lib.latchsym_catalog_find.argtypes = [POINTER(Handle), c_uint64, POINTER(Symbol)]
 lib.latchsym_catalog_find_caller.argtypes = [POINTER(Handle), c_uint64, POINTER(Symbol)]
 lib.latchsym_catalog_share.argtypes = [POINTER(Handle), POINTER(Handle)]
-lib.latchsym_catalog_close.argtypes = [POINTER(Handle)]
-lib.latchsym_catalog_close.restype = None
-lib.latchsym_table_open.argtypes = [c_uint32, POINTER(Handle), POINTER(Handle), c_size_t]
+lib.latchsym_catalog_close_nonnull.argtypes = [POINTER(Handle)]
+lib.latchsym_catalog_close_nonnull.restype = None
+lib.latchsym_table_open_nonnull.argtypes = [c_uint32, POINTER(Handle), POINTER(Handle), c_size_t]
 lib.latchsym_writer_begin_insert.argtypes = [POINTER(Handle), POINTER(Item)]
 lib.latchsym_writer_finish.argtypes = [POINTER(Handle), POINTER(c_uint64)]
-lib.latchsym_reader_find_name.argtypes = [POINTER(Handle), POINTER(Handle), c_uint64, POINTER(Found)] + names
+lib.latchsym_reader_find_name_nonnull.argtypes = [POINTER(Handle), POINTER(Handle), c_uint64, POINTER(Found)] + names
 
 NONE = ctypes.create_string_buffer(1)
 
@@ -82,33 +82,33 @@ def compare(folder, name):
     other = Handle()
     catalog, counts = opened((modules, kallsyms, regions), b"_stext", b"_end")
     assert lib.latchsym_catalog_share(catalog, other) == 0
-    lib.latchsym_catalog_close(catalog)
-    lib.latchsym_catalog_close(catalog)
+    lib.latchsym_catalog_close_nonnull(catalog)
+    lib.latchsym_catalog_close_nonnull(catalog)
     symbol = Answer()
     lines = []
     for word in read("addresses").split():
         addr = int(word, 0)
         first, second = ctypes.create_string_buffer(4096), ctypes.create_string_buffer(4096)
-        got = lib.latchsym_catalog_name(other, addr, symbol, first, 4096, second, 4096)
+        got = lib.latchsym_catalog_name_nonnull(other, addr, symbol, first, 4096, second, 4096)
         lines.append(line(addr, got, symbol, first, second))
         assert found(lib.latchsym_catalog_find, other, addr) == lines[-1]
     expected = read("expected").decode().splitlines()
     assert lines + counts_lines(counts, regions is not None) == expected, name
-    assert lib.latchsym_catalog_name(catalog, 1, symbol, first, 4096, second, 4096) == 101
+    assert lib.latchsym_catalog_name_nonnull(catalog, 1, symbol, first, 4096, second, 4096) == 101
     return other, (modules, kallsyms, regions), len(lines)
 
 def short_rooms_and_a_table(catalog):
     """A name in a room that is too short for it, and the name of an address through a table."""
     addr, symbol, found, generation = 0xffffffffc0000018, Answer(), Found(), c_uint64()
     short = ctypes.create_string_buffer(b"????????", 8)
-    assert lib.latchsym_catalog_name(catalog, addr, symbol, short, 3, short, 0) == 0
+    assert lib.latchsym_catalog_name_nonnull(catalog, addr, symbol, short, 3, short, 0) == 0
     assert short.raw == b"ext?????" and symbol.name_len == 6, short.raw
     writer, reader, short, module = Handle(), Handle(), ctypes.create_string_buffer(9), ctypes.create_string_buffer(16)
-    assert lib.latchsym_table_open(4, writer, reader, 1) == 0
-    assert lib.latchsym_reader_find_name(reader, catalog, addr, found, symbol, short, 8, module, 16) == NOTHING
+    assert lib.latchsym_table_open_nonnull(4, writer, reader, 1) == 0
+    assert lib.latchsym_reader_find_name_nonnull(reader, catalog, addr, found, symbol, short, 8, module, 16) == NOTHING
     item = Item(0xffffffffc0000000, 0xffffffffc0001000, 1)
     assert lib.latchsym_writer_begin_insert(writer, item) == 0 and lib.latchsym_writer_finish(writer, generation) == 0
-    assert lib.latchsym_reader_find_name(reader, catalog, addr, found, symbol, short, 8, module, 16) == 0
+    assert lib.latchsym_reader_find_name_nonnull(reader, catalog, addr, found, symbol, short, 8, module, 16) == 0
     assert line(addr, 0, symbol, short, module) == "0xffffffffc0000018 ext4_a+0x8/0x30 [ext4]"
     assert (found.a, found.b, found.tag, found.generation) == (item.a, item.b, 1, 1)
 
@@ -121,7 +121,7 @@ def opening(texts, start=b"", end=b""):
     words = [place(text or b"") for text in (kallsyms, modules, regions, start, end)]
     catalog, counts, bad = Handle(), Counts(), c_uint64(77)
     listings = Listings(ctypes.sizeof(Listings), *words, modules is not None)
-    return lib.latchsym_catalog_open(listings, catalog, counts, bad), catalog, counts, bad.value
+    return lib.latchsym_catalog_open_nonnull(listings, catalog, counts, bad), catalog, counts, bad.value
 
 def opened(texts, start=b"", end=b""):
     """A handle of the catalog of the listings, and the counts. The texts stay while it is open."""
@@ -147,12 +147,12 @@ def other_bounds(texts):
             known = given == end or end != b"_other"
             assert answer(catalog, addr) == (right if known else f"0x{addr:x} -"), (end, given)
             assert (bytes(found) == bytes(counts)) == known
-            lib.latchsym_catalog_close(catalog)
+            lib.latchsym_catalog_close_nonnull(catalog)
     for start, end in ((b"_etext", b"_stext"), (b"_stext", b""), (b"", b"_etext"), (b"_stext", b"_end")):
         catalog, found = opened(renamed[b"_etext"], start, end)
         assert answer(catalog, addr) == f"0x{addr:x} -" and found.symbols < counts.symbols
-        lib.latchsym_catalog_close(catalog)
-    lib.latchsym_catalog_close(usual)
+        lib.latchsym_catalog_close_nonnull(catalog)
+    lib.latchsym_catalog_close_nonnull(usual)
 
 def from_symbols():
     """Without a listing of modules they are the owners of the symbols, wherever these lie."""
@@ -167,7 +167,7 @@ def from_symbols():
              0xffffffffc02000ff: "prog+0xff/0x100000 [bpf]"}
     for addr, text in lines.items():
         assert answer(catalog, addr) == f"0x{addr:x} {text}", answer(catalog, addr)
-    lib.latchsym_catalog_close(catalog)
+    lib.latchsym_catalog_close_nonnull(catalog)
 
 def callers(catalog):
     """A return address is told of the call before it, and 0 of none."""
@@ -197,7 +197,7 @@ for path in sorted(folder.glob("*.modules")):
         short_rooms_and_a_table(catalog)
         callers(catalog)
         other_bounds(texts)
-    lib.latchsym_catalog_close(catalog)
+    lib.latchsym_catalog_close_nonnull(catalog)
 a_bad_line()
 from_symbols()
 print("names: ok")

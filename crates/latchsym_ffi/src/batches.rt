@@ -5,8 +5,8 @@ ghost use Rattle.std.specs.Option.{option_map};
 ghost use Rattle.latchsym_ffi.specs.Batches.{told_at, told_of};
 ghost use Rattle.latchsym_ffi.specs.Finding.{shown_seen};
 
-use crate::finding::{CatalogAnswer, Seen, description_of, seek};
-use modules::{Catalog, IndexedCatalog};
+use crate::finding::{CatalogAnswer, Seen, description_of, seek_next};
+use modules::{Catalog, Finder, IndexedCatalog};
 
 /// What is told of one of several addresses: what a search for it alone tells, and the number that
 /// this returns.
@@ -33,7 +33,9 @@ pub(crate) fn tell_all(catalog: &IndexedCatalog<'static>, addrs: &[u64], out: &m
     requires { length out.old ≡ length addrs.now }
     ensures { out.new ≡ map (told_at catalog.now) addrs.now }
 {
+    let mut finder = Finder::new(catalog);
     for place in 0..addrs.len() {
-        out[place] = told(catalog.catalog(), seek(catalog, addrs[place]));
+        finder.expect(&addrs[place..]);
+        out[place] = told(catalog.catalog(), seek_next(&mut finder, addrs[place]));
     }
 }

@@ -244,7 +244,7 @@ pub extern "C" fn latchsym_catalog_symbol(
 
 /// Tells where the next symbol of a module is that has a name.
 #[unsafe(no_mangle)]
-pub extern "C" fn latchsym_catalog_place_of_name(
+pub extern "C" fn latchsym_catalog_place_of_name_nonnull(
     catalog: &mut Handle,
     number: u64,
     name: &[u8],

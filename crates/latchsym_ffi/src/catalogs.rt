@@ -64,7 +64,7 @@ fn open_in(
 
 /// Opens the catalog of the listings that are given, and tells how many lines went where.
 #[unsafe(no_mangle)]
-pub extern "C" fn latchsym_catalog_open(
+pub extern "C" fn latchsym_catalog_open_nonnull(
     alloc: Global,
     listings: &CatalogListings,
     out: &mut Handle,
@@ -145,7 +145,7 @@ pub extern "C" fn latchsym_catalog_find_caller(
 
 /// Tells of several addresses, each in the room of its place.
 #[unsafe(no_mangle)]
-pub extern "C" fn latchsym_catalog_find_many(
+pub extern "C" fn latchsym_catalog_find_many_nonnull(
     catalog: &mut Handle,
     addrs: &[u64],
     out: &mut [CatalogTold],
@@ -181,7 +181,7 @@ pub extern "C" fn latchsym_catalog_find_many(
 
 /// Tells of an address, and copies as much of the names as there is room for.
 #[unsafe(no_mangle)]
-pub extern "C" fn latchsym_catalog_name(
+pub extern "C" fn latchsym_catalog_name_nonnull(
     catalog: &mut Handle,
     addr: u64,
     out: &mut CatalogAnswer,
@@ -255,7 +255,7 @@ pub extern "C" fn latchsym_catalog_share(
 
 /// Closes a handle. The catalog goes with its last handle.
 #[unsafe(no_mangle)]
-pub extern "C" fn latchsym_catalog_close(catalog: &mut Handle)
+pub extern "C" fn latchsym_catalog_close_nonnull(catalog: &mut Handle)
     ensures { catalog.new.kind ≡ 0 }
 {
     catalog.close();

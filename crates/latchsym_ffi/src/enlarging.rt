@@ -96,7 +96,7 @@ fn enlarge(alloc: Global, nodes: u32, writer: &mut Writer<HalfOpen>, readers: &m
 /// Goes on with so many nodes, no fewer than before, in other words. The handles, one for each
 /// reader of the table, are then readers of these words.
 #[unsafe(no_mangle)]
-pub extern "C" fn latchsym_table_enlarge(
+pub extern "C" fn latchsym_table_enlarge_nonnull(
     alloc: Global,
     nodes: u32,
     writer: &mut Handle,

@@ -9,7 +9,7 @@ ghost use Rattle.latchsym_ffi.specs.Finding.{known_call, symbol_named};
 ghost use Rattle.latchsym_ffi.specs.Named.{IsNamed};
 
 use crate::answers::{DONE, NO_SYMBOL, NOTHING};
-use modules::{Catalog, FoundSymbol, IndexedCatalog, symbol_of};
+use modules::{Catalog, Finder, FoundSymbol, IndexedCatalog, symbol_of};
 use order_laws::Item;
 
 /// What is told of an address.
@@ -87,6 +87,15 @@ pub(crate) fn seek<'c>(catalog: &'c IndexedCatalog<'static>, addr: u64) -> Optio
         item,
         found: symbol_of(catalog.catalog(), item, addr),
     })
+}
+
+/// The same of one of several addresses.
+pub(crate) fn seek_next<'c>(finder: &mut Finder<'c, 'static>, addr: u64) -> Option<Seen<'c>>
+    ensures seen { option_map shown_seen result ≡ known_at finder.old addr }
+    ensures stays { finder.new ≡ finder.old }
+{
+    let (item, found) = finder.find(addr)?;
+    Some(Seen { item, found })
 }
 
 /// The symbol as it is told of the address after the one that was looked up.

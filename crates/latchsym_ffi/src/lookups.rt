@@ -163,7 +163,7 @@ fn name_in(
 
 /// One attempt to find the item that an address lies in, and the symbol of the catalog in it.
 #[unsafe(no_mangle)]
-pub extern "C" fn latchsym_reader_find_name(
+pub extern "C" fn latchsym_reader_find_name_nonnull(
     reader: &mut Handle,
     catalog: &mut Handle,
     addr: u64,
@@ -196,7 +196,7 @@ pub extern "C" fn latchsym_reader_find_name(
 
 /// Closes a reader.
 #[unsafe(no_mangle)]
-pub extern "C" fn latchsym_reader_close(reader: &mut Handle)
+pub extern "C" fn latchsym_reader_close_nonnull(reader: &mut Handle)
     ensures { reader.new.kind ≡ 0 }
 {
     reader.close();

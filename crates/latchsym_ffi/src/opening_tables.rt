@@ -85,7 +85,7 @@ fn are_closed(writer: &Handle, readers: &[Handle]) -> bool
 /// Opens an empty table of so many nodes, 1 to 65536: its writer, and a reader in each of 1 to 64
 /// handles.
 #[unsafe(no_mangle)]
-pub extern "C" fn latchsym_table_open(
+pub extern "C" fn latchsym_table_open_nonnull(
     alloc: Global,
     nodes: u32,
     writer: &mut Handle,

@@ -129,7 +129,7 @@ fn batch_of(alloc: Global, erase: &[u64], insert: &[TableItem]) -> Result<Update
 
 /// Begins to take out the items of these first addresses and to put in these items, in one update.
 #[unsafe(no_mangle)]
-pub extern "C" fn latchsym_writer_begin_batch(
+pub extern "C" fn latchsym_writer_begin_batch_nonnull(
     alloc: Global,
     writer: &mut Handle,
     erase: &[u64],
@@ -207,7 +207,7 @@ pub extern "C" fn latchsym_writer_finish(writer: &mut Handle, generation: &mut u
 
 /// Closes a writer. Readers that are open go on with the table as it is.
 #[unsafe(no_mangle)]
-pub extern "C" fn latchsym_writer_close(writer: &mut Handle)
+pub extern "C" fn latchsym_writer_close_nonnull(writer: &mut Handle)
     ensures { writer.new.kind ≡ 0 }
 {
     writer.close();

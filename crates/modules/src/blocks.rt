@@ -28,6 +28,14 @@ pub(crate) trait Addressed {
         ensures { result ≡ addr_of self.now };
 }
 
+impl Addressed for u64 {
+    ghost addr_of = { λ a. a };
+
+    fn addr(&self) -> u64 {
+        *self
+    }
+}
+
 /// How many symbols a block has.
 pub(crate) const BLOCK: usize = 16;
 
@@ -36,6 +44,16 @@ pub(crate) const BLOCK: usize = 16;
 pub(crate) struct Block {
     pub(crate) from: usize,
     pub(crate) to: usize,
+}
+
+impl Block {
+    /// The block of the one symbol at a place.
+    pub(crate) fn of_one(place: usize) -> Block {
+        Block {
+            from: place,
+            to: place.saturating_add(1),
+        }
+    }
 }
 
 /// The first address of each block.
@@ -53,6 +71,11 @@ impl Blocks {
             .map(|it| it.addr())
             .collect(alloc)?;
         Ok(Blocks { addresses })
+    }
+
+    /// The first address of each.
+    pub(crate) fn addresses(&self) -> &[u64] {
+        self.addresses.as_slice()
     }
 
     /// The block that an address lies in, if it lies in one.

@@ -3,6 +3,7 @@
 ghost use Rattle.std.specs.Prelude.{◌≡◌, ◌≤◌, ◌<◌};
 ghost use Rattle.modules.specs.Found.{found_in, symbol_at, symbols_from};
 
+use crate::blocks::Block;
 use crate::{Catalog, Module, Symbol};
 use order_laws::Item;
 use std::marker::Model;
@@ -37,7 +38,22 @@ pub fn symbol_in<'c, 'a>(
     requires below { addr < end }
     ensures { result ≡ found_in (symbols_from owner.now.symbols start end) end addr }
 {
-    let (below, above) = owner.around(addr);
+    symbol_around(owner, owner.block_of(addr), start, end, addr)
+}
+
+/// The same, sought in a block first.
+fn symbol_around<'c, 'a>(
+    owner: &'c Module<'a>,
+    block: Block,
+    start: u64,
+    end: u64,
+    addr: u64,
+) -> Option<FoundSymbol<'c, 'a>>
+    requires from { start ≤ addr }
+    requires below { addr < end }
+    ensures { result ≡ found_in (symbols_from owner.now.symbols start end) end addr }
+{
+    let (below, above) = owner.around_in(block, addr);
     let symbol = below?;
     if symbol.addr < start {
         return None;
@@ -66,4 +82,19 @@ pub fn symbol_of<'c, 'a>(
     ensures { result ≡ symbol_at catalog.now item addr }
 {
     symbol_in(catalog.module(item.tag)?, item.a, item.b, addr)
+}
+
+/// The same, sought first where the symbol is guessed to stand by rising address.
+pub(crate) fn symbol_near<'c, 'a>(
+    catalog: &'c Catalog<'a>,
+    item: Item,
+    place: usize,
+    addr: u64,
+) -> Option<FoundSymbol<'c, 'a>>
+    requires from { item.a ≤ addr }
+    requires below { addr < item.b }
+    ensures { result ≡ symbol_at catalog.now item addr }
+{
+    let owner = catalog.module(item.tag)?;
+    symbol_around(owner, Block::of_one(place), item.a, item.b, addr)
 }

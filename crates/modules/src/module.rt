@@ -11,7 +11,8 @@ ghost use Rattle.modules.specs.Parts.{is_core, is_init};
 ghost use Rattle.modules.specs.Placed.{IsPlaced};
 ghost use Rattle.modules.specs.Starts.{first_start, start_at, start_where, starts_of};
 
-use crate::blocks::Blocks;
+use crate::blocks::{Block, Blocks};
+use crate::guesses::{Lane, place_from};
 use crate::lines::Part;
 use crate::loads::{erasing, is_erasing};
 use crate::placing::Placed;
@@ -226,11 +227,48 @@ impl<'a> Module<'a> {
         ensures below { option_copied result.0 ≡ symbol_below self.now.symbols addr }
         ensures above { result.1 ≡ address_above self.now.symbols addr }
     {
+        self.around_in(self.block_of(addr), addr)
+    }
+
+    /// The block that the address lies in.
+    pub(crate) fn block_of(&self, addr: u64) -> Block {
+        self.blocks.block_of(addr)
+    }
+
+    /// The same as `around`, sought in a block first.
+    pub(crate) fn around_in(&self, block: Block, addr: u64) -> (Option<&Symbol<'a>>, Option<u64>)
+        ensures below { option_copied result.0 ≡ symbol_below self.now.symbols addr }
+        ensures above { result.1 ≡ address_above self.now.symbols addr }
+    {
         let symbols = self.symbols.as_slice();
-        let block = self.blocks.block_of(addr);
         match &self.by_address {
             None => around_as_listed(symbols, block, addr),
             Some(index) => around_in_index(symbols, index.as_slice(), block, addr),
+        }
+    }
+
+    /// What is to be gone through for an address in the region at this place.
+    pub(crate) fn lane(&self, region: usize, addr: u64) -> Lane<'_, 'a> {
+        let index = match &self.by_address {
+            Some(index) => index.as_slice(),
+            None => &[],
+        };
+        Lane::of(
+            region,
+            addr,
+            self.blocks.addresses(),
+            index,
+            self.symbols.as_slice(),
+        )
+    }
+
+    /// Where, by rising address, the last symbol that is not above the address may stand, sought
+    /// from a place on.
+    pub(crate) fn place_from(&self, place: usize, addr: u64) -> usize {
+        let blocks = self.blocks.addresses();
+        match &self.by_address {
+            Some(index) => place_from(index.as_slice(), blocks, place, addr),
+            None => place_from(self.symbols.as_slice(), blocks, place, addr),
         }
     }
 }

@@ -7,7 +7,9 @@
 //!      | region |      | region  |   | region |
 //!                        ^ addr        the last that begins at or below it, if it ends above it
 //! ```
-ghost use Rattle.std.specs.Prelude.{◌≡◌, ◌≤◌, ◌<◌, ◌++◌, length, map, IfOk, IfSome};
+ghost use Rattle.std.specs.Prelude.{◌≡◌, ◌≤◌, ◌<◌, ◌++◌, true, length, map, slice_index_or};
+ghost use Rattle.std.specs.Prelude.{IfOk, IfSome};
+ghost use Rattle.order_laws.specs.declared.items.Item.{Item};
 ghost use Rattle.std.specs.List.Sorted.{IsNonDecreasingBy};
 ghost use Rattle.modules.specs.Items.{items_at, items_below, items_of};
 ghost use Rattle.modules.specs.Loads.{item_of};
@@ -15,6 +17,7 @@ ghost use Rattle.modules.specs.RegionIndexes.{IsItemSplit};
 ghost use Rattle.modules.specs.Items.{item_of_address};
 
 use crate::catalog::Catalog;
+use crate::module::Module;
 use crate::regions::Region;
 use order_laws::Item;
 use std::alloc::{AllocError, Global};
@@ -76,16 +79,21 @@ fn items_of(alloc: Global, catalog: &Catalog) -> Result<Vec<Item>, AllocError>
     Ok(items)
 }
 
-/// How many items begin at or below the address.
-///
-/// The kernel itself mostly lies below all modules, and most addresses are its own: one comparison
-/// tells them.
-fn split_at(items: &[Item], addr: u64) -> usize
+/// Whether the item at a place, if there is one, begins above the address.
+fn begins_above(items: &[Item], place: usize, addr: u64) -> bool
+    ensures { (d : Item) → result ≡ true → place < length items.now
+        → addr < (slice_index_or items.now place d).a }
+{
+    items.get(place).is_none_or(|item| addr < item.a)
+}
+
+/// How many items begin at or below the address. The item at a place is tried first.
+fn split_at(items: &[Item], near: usize, addr: u64) -> usize
     requires { IsNonDecreasingBy (λ i. i.a) items.now }
     ensures { IsItemSplit items.now addr result }
 {
-    if items.len() > 1 && addr < items[1].a {
-        return if items[0].a <= addr { 1 } else { 0 };
+    if near < items.len() && items[near].a <= addr && begins_above(items, near + 1, addr) {
+        return near + 1;
     }
     items.partition_point(|item| item.a <= addr)
 }
@@ -109,15 +117,36 @@ impl<'a> IndexedCatalog<'a> {
     }
 
     /// The region that an address lies in, with the number of its module as the tag.
+    ///
+    /// The kernel itself mostly lies below all modules, and most addresses are its own: so the
+    /// first region is tried before the others.
     pub fn find(&self, addr: u64) -> Option<Item>
         ensures is { result ≡ item_of_address self.now addr }
         ensures holds { IfSome result (λ i. (i.a ≤ addr) × (addr < i.b)) }
     {
-        let split = split_at(&self.items, addr);
+        self.find_near(0, addr)
+    }
+
+    /// The same, tried first at a place by rising address.
+    pub(crate) fn find_near(&self, near: usize, addr: u64) -> Option<Item>
+        ensures is { result ≡ item_of_address self.now addr }
+        ensures holds { IfSome result (λ i. (i.a ≤ addr) × (addr < i.b)) }
+    {
+        let split = split_at(&self.items, near, addr);
         if split == 0 {
             return None;
         }
         let item = self.items[split - 1];
         if addr < item.b { Some(item) } else { None }
+    }
+
+    /// The place of the last region that begins at or below the address, or else 0; and its module,
+    /// if it has one.
+    pub(crate) fn place_near(&self, near: usize, addr: u64) -> (usize, Option<&Module<'a>>) {
+        let place = split_at(&self.items, near, addr).saturating_sub(1);
+        match self.items.get(place) {
+            Some(item) => (place, self.catalog.module(item.tag)),
+            None => (place, None),
+        }
     }
 }

@@ -7,6 +7,11 @@ use Rattle.latchsym_ffi.proofs.batches.tell_all.Goals as goal
 pub loop-place-preserved : goal.loop-place-preserved
 loop-place-preserved c =
     let n = c.loop-place.place in
-    let told = c.told.ensures ∙ ap (told_of c.catalog.result.now) c.seek.ensures ∙ ap (λ k. told_of k (known_at c.args.catalog.now (get_or c.args.addrs.now n 0))) c.catalog.ensures in
-    (λ i. slice_set (c.loop-place.invariant i) n (told i))
-    ∙ map_more (told_at c.args.catalog.now) c.args.addrs.now c.args.out.now n 0 c.loop-place-test.true c.requires
+    let addr = get_or c.args.addrs.now n 0 in
+    let is = c.expect.ensures ∙ c.loop-place.invariant.0 in
+    let seen = c.seek_next.ensures.seen ∙ ap (λ k. known_at k addr) is in
+    let told = c.told.ensures ∙ ap (told_of c.catalog.result.now) seen ∙ ap (λ k. told_of k (known_at c.args.catalog.now addr)) c.catalog.ensures in (
+      c.seek_next.ensures.stays ∙ is,
+      (λ i. slice_set (c.loop-place.invariant.1 i) n (told i))
+          ∙ map_more (told_at c.args.catalog.now) c.args.addrs.now c.args.out.now n 0 c.loop-place-test.true c.requires,
+    )

@@ -1,7 +1,7 @@
 use Rattle.std.proofs.Common.{◌≡◌, ◌∙◌, rules, subst, sym}
 use Rattle.latchsym_ffi.specs.Enlarging.{RefusesNodes}
-use Rattle.latchsym_ffi.proofs.enlarging.latchsym_table_enlarge.Goals as goal
-use Rattle.latchsym_ffi.proofs.enlarging.latchsym_table_enlarge.Goals.{in-Writer, in_default}
+use Rattle.latchsym_ffi.proofs.enlarging.latchsym_table_enlarge_nonnull.Goals as goal
+use Rattle.latchsym_ffi.proofs.enlarging.latchsym_table_enlarge_nonnull.Goals.{in-Writer, in_default}
 
 pub returns-clause-why : goal.returns-clause-why
 returns-clause-why c w held refused =

@@ -2,7 +2,7 @@ use Rattle.std.proofs.Common.{◌∙◌, Some, ap, sym}
 use Rattle.latch_table.specs.Writers.{new_writer}
 use Rattle.latchsym_ffi.specs.declared.contents.Content.TheVariants.{Writer}
 use Rattle.latchsym_ffi.specs.Tables.{first_reader}
-use Rattle.latchsym_ffi.proofs.opening_tables.latchsym_table_open.Goals as goal
+use Rattle.latchsym_ffi.proofs.opening_tables.latchsym_table_open_nonnull.Goals as goal
 
 pub returns-in-Ok-open_boxes-clause-opened : goal.returns-in-Ok-open_boxes-clause-opened
 returns-in-Ok-open_boxes-clause-opened c zero =

@@ -2,7 +2,7 @@ use Rattle.std.proofs.Common.{List, sym, subst}
 use Rattle.modules.specs.Entries.{SymbolEntry}
 use Rattle.modules.specs.Index.{IsIndex}
 use Rattle.modules.specs.declared.symbols.IndexEntry.{IndexEntry}
-use Rattle.modules.proofs.module.Module.around.Goals as goal
+use Rattle.modules.proofs.module.Module.around_in.Goals as goal
 
 pub around_in_index-requires : goal.around_in_index-requires
 around_in_index-requires c =

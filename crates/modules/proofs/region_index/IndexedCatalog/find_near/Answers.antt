@@ -3,7 +3,7 @@ use Rattle.order_laws.specs.declared.items.Item.{Item}
 use Rattle.modules.specs.RegionIndexes.{IsItemSplit}
 use Rattle.modules.specs.Items.{item_of_address}
 use Rattle.modules.proofs.RegionIndexLemmas.{last_begins_below, last_ends_below, last_found, nothing_below}
-use Rattle.modules.proofs.region_index.IndexedCatalog.find.Goals as goal
+use Rattle.modules.proofs.region_index.IndexedCatalog.find_near.Goals as goal
 
 pub returns-then-split-eq0-clause-is : goal.returns-then-split-eq0-clause-is
 returns-then-split-eq0-clause-is c =

@@ -6,7 +6,7 @@ use Rattle.latch_table.specs.Readers.{ReaderState}
 use Rattle.latchsym_ffi.specs.declared.contents.Content.{Content}
 use Rattle.latchsym_ffi.specs.declared.contents.Content.TheVariants.{Catalog, Reader, Writer}
 use Rattle.latchsym_ffi.specs.Kinds.{kind_in, reader_kind}
-use Rattle.latchsym_ffi.proofs.lookups.latchsym_reader_find_name.Goals as goal
+use Rattle.latchsym_ffi.proofs.lookups.latchsym_reader_find_name_nonnull.Goals as goal
 
 reader_of : (held : Option Content) → kind_in held ≡ reader_kind → (r : ReaderState) × (held ≡ Some (Reader r))
 reader_of None e = absurd (cc)
