@@ -33,7 +33,7 @@ same() {
 }
 
 # Each package has each call. (C++ has texts by latchsym_text, and names where they lie.)
-grep -oE '^(uint32_t|void) latchsym_[a-z_]+' "$top/include/latchsym.h" | cut -d' ' -f2 | while read -r call; do
+grep -oE '^(uint32_t|void) latchsym_[a-z_]+' "$top/include/latchsym.h" | cut -d' ' -f2 | sed 's/_nonnull$//' | while read -r call; do
     files=("$top/bindings/rust/src/sys.rs" "$top/python/src/latchsym/_library.py" "$top/include/latchsym.hpp")
     case $call in
         latchsym_place_of_text | latchsym_catalog_name) unset 'files[2]' ;;

@@ -97,7 +97,11 @@ warnings=$({ groff -man -ww -Tutf8 -z "$top/docs/latchsym.3"; } 2>&1)
 [ -z "$warnings" ] || fail "$warnings"
 groff -man -Tutf8 -P-cbou -rLL=400n "$top/docs/latchsym.3" >"$work/page"
 tail -n 1 "$work/page" | grep -q "^$("$program" --version) " || fail "the page of the library is of another version"
-calls() { tr -s ' \n' ' ' | grep -oE '(const char \*|uint32_t |void )latchsym_[a-z_]+\([^)]*\)' | sort; }
+# (of a call that the header lets take null pointers, the library's own has the arguments)
+calls() {
+    tr -s ' \n' ' ' | sed -E 's/static inline (uint32_t|void) //g; s/_nonnull\(/(/g' |
+        grep -oE '(const char \*|uint32_t |void )latchsym_[a-z_]+\([^)]*\)' | sort
+}
 same "the calls of the library's page" "$(calls <"$header")" "$(section SYNOPSIS | calls)"
 same "the numbers of the library's page" \
     "$(sed -nE 's/^ +(LATCHSYM_[A-Z_]+) = ([0-9]+).*/\2 \1/p' "$header" | grep -v '^0 ' | sort)" \

@@ -25,8 +25,9 @@ class Package(unittest.TestCase):
     @unittest.skipUnless((TOP / "include").is_dir(), "the repository's header is not here")
     def test_calls_are_those_of_the_header(self):
         header = (TOP / "include" / "latchsym.h").read_text()
-        calls = set(re.findall(r"^(?:uint32_t|void) (latchsym_\w+)\(", header, re.MULTILINE))
-        self.assertEqual(set(_library.CALLS), calls)
+        calls = re.findall(r"^(?:uint32_t|void) (latchsym_\w+?)(_nonnull)?\(", header, re.MULTILINE)
+        self.assertEqual(set(_library.CALLS), {name for name, _ in calls})
+        self.assertEqual(_library.NONNULL, {name for name, nonnull in calls if nonnull})
         names = re.search(r"struct latchsym_counts \{(.*?)\};", header, re.DOTALL)[1]
         self.assertEqual(_library.COUNTS, re.findall(r"\b(?:modules|symbols|regions)\w*", names))
         self.assertEqual(latchsym.Counts._fields, tuple(_library.COUNTS))

@@ -103,6 +103,7 @@ use crate::{Answer, Counts, Item};
 extern "C" {
     pub fn latchsym_place_of_text(number: u32, out: *mut Place);
     pub fn latchsym_version() -> u32;
+    #[link_name = "latchsym_catalog_open_nonnull"]
     pub fn latchsym_catalog_open(
         listings: *const Listings,
         out: *mut Handle,
@@ -111,6 +112,7 @@ extern "C" {
     ) -> u32;
     pub fn latchsym_catalog_find(catalog: *mut Handle, addr: u64, out: *mut Symbol) -> u32;
     pub fn latchsym_catalog_find_caller(catalog: *mut Handle, addr: u64, out: *mut Symbol) -> u32;
+    #[link_name = "latchsym_catalog_find_many_nonnull"]
     pub fn latchsym_catalog_find_many(
         catalog: *mut Handle,
         addresses: *const u64,
@@ -118,6 +120,7 @@ extern "C" {
         out: *mut Answer,
         out_len: usize,
     ) -> u32;
+    #[link_name = "latchsym_catalog_name_nonnull"]
     pub fn latchsym_catalog_name(
         catalog: *mut Handle,
         addr: u64,
@@ -141,6 +144,7 @@ extern "C" {
         place: usize,
         out: *mut Entry,
     ) -> u32;
+    #[link_name = "latchsym_catalog_place_of_name_nonnull"]
     pub fn latchsym_catalog_place_of_name(
         catalog: *mut Handle,
         number: u64,
@@ -150,7 +154,9 @@ extern "C" {
         place: *mut usize,
     ) -> u32;
     pub fn latchsym_catalog_share(catalog: *mut Handle, out: *mut Handle) -> u32;
+    #[link_name = "latchsym_catalog_close_nonnull"]
     pub fn latchsym_catalog_close(catalog: *mut Handle);
+    #[link_name = "latchsym_table_open_nonnull"]
     pub fn latchsym_table_open(
         nodes: u32,
         writer: *mut Handle,
@@ -160,6 +166,7 @@ extern "C" {
     pub fn latchsym_writer_add_reader(writer: *mut Handle, out: *mut Handle) -> u32;
     pub fn latchsym_writer_begin_insert(writer: *mut Handle, item: *const Item) -> u32;
     pub fn latchsym_writer_begin_erase(writer: *mut Handle, a: u64) -> u32;
+    #[link_name = "latchsym_writer_begin_batch_nonnull"]
     pub fn latchsym_writer_begin_batch(
         writer: *mut Handle,
         erase: *const u64,
@@ -169,6 +176,7 @@ extern "C" {
     ) -> u32;
     pub fn latchsym_writer_step(writer: *mut Handle) -> u32;
     pub fn latchsym_writer_finish(writer: *mut Handle, generation: *mut u64) -> u32;
+    #[link_name = "latchsym_table_enlarge_nonnull"]
     pub fn latchsym_table_enlarge(
         nodes: u32,
         writer: *mut Handle,
@@ -176,8 +184,10 @@ extern "C" {
         count: usize,
     ) -> u32;
     pub fn latchsym_writer_find(writer: *mut Handle, addr: u64, out: *mut Found) -> u32;
+    #[link_name = "latchsym_writer_close_nonnull"]
     pub fn latchsym_writer_close(writer: *mut Handle);
     pub fn latchsym_reader_try_find(reader: *mut Handle, addr: u64, out: *mut Found) -> u32;
+    #[link_name = "latchsym_reader_find_name_nonnull"]
     pub fn latchsym_reader_find_name(
         reader: *mut Handle,
         catalog: *mut Handle,
@@ -189,5 +199,6 @@ extern "C" {
         module: *mut u8,
         module_room: usize,
     ) -> u32;
+    #[link_name = "latchsym_reader_close_nonnull"]
     pub fn latchsym_reader_close(reader: *mut Handle);
 }

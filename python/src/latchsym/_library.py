@@ -140,6 +140,22 @@ CALLS = {
     "latchsym_reader_close": ([_HANDLE], False),
 }
 
+# Those of them that the header lets take null pointers: the library's own have names that end in
+# _nonnull, and no call here hands them one.
+NONNULL = {
+    "latchsym_catalog_close",
+    "latchsym_catalog_find_many",
+    "latchsym_catalog_name",
+    "latchsym_catalog_open",
+    "latchsym_catalog_place_of_name",
+    "latchsym_reader_close",
+    "latchsym_reader_find_name",
+    "latchsym_table_enlarge",
+    "latchsym_table_open",
+    "latchsym_writer_begin_batch",
+    "latchsym_writer_close",
+}
+
 
 def _paths() -> Iterator[str]:
     """The names under which the library is looked for, first to last."""
@@ -163,9 +179,10 @@ def _load() -> ctypes.CDLL:
             faults.append(str(error))
             continue
         for name, (takes, returns) in CALLS.items():
-            call = getattr(library, name)
+            call = getattr(library, f"{name}_nonnull" if name in NONNULL else name)
             call.argtypes = takes
             call.restype = c_uint32 if returns else None
+            setattr(library, name, call)
         version = library.latchsym_version()
         if version // 10000 == MAJOR:
             return library
