@@ -19,6 +19,11 @@ for name in numbers nulls find table adding refused; do
     compile $name
     "$work/$name"
 done
+if command -v valgrind >/dev/null; then
+    for name in nulls refused; do
+        valgrind -q --error-exitcode=1 --leak-check=full "$work/$name"
+    done
+fi
 compile table -g
 compile adding -g
 for name in nulls find; do
@@ -26,11 +31,6 @@ for name in nulls find; do
         "$work/$name"
     fi
 done
-if command -v valgrind >/dev/null; then
-    for name in nulls refused; do
-        valgrind -q --error-exitcode=1 --leak-check=full "$work/$name"
-    done
-fi
 for sanitizer in address thread; do
     if compile table -g -fsanitize=$sanitizer 2>/dev/null; then
         "$work/table" 0
