@@ -11,16 +11,14 @@ Python and Rust, examples, licences and install.sh, which installs from it witho
 It builds with the Rattle kit and gcc. The same sources, kit, gcc and glibc give the same bytes; the
 time of all files is that of SOURCE_DATE_EPOCH, and else of the last commit.'
 
-case ${1:---help} in
-    --help)
-        printf '%s\n' "$usage"
-        exit
-        ;;
-    -*)
-        printf 'release.sh: there is no option %s\n\n%s\n' "$1" "$usage" >&2
-        exit 2
-        ;;
-esac
+if [ "$*" = --help ]; then
+    printf '%s\n' "$usage"
+    exit
+fi
+if [ $# != 1 ] || [ -z "${1##-*}" ]; then
+    printf 'release.sh: one FOLDER is wanted\n\n%s\n' "$usage" >&2
+    exit 2
+fi
 top=$(cd "$(dirname "$0")" && pwd)
 version=$(cat "$top/VERSION")
 name=latchsym-$version-x86_64
