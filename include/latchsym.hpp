@@ -68,18 +68,12 @@ inline bool is_there(std::uint32_t number) {
     return number == LATCHSYM_DONE;
 }
 
-/* (the data of what is empty may be null, and no place is) */
 inline latchsym_place place(std::string_view text) noexcept {
-    return {reinterpret_cast<const std::uint8_t *>(text.empty() ? "" : text.data()), text.size()};
+    return {reinterpret_cast<const std::uint8_t *>(text.data()), text.size()};
 }
 
 inline std::string_view text(const latchsym_place &place) noexcept {
     return {reinterpret_cast<const char *>(place.at), place.len};
-}
-
-template <class Value>
-Value *data(Value *values, Value &none) noexcept {
-    return values ? values : &none;
 }
 
 struct closes {
@@ -179,11 +173,7 @@ public:
 
     /* What is told of so many addresses, in numbers alone, into as many rooms. */
     void find_many(const std::uint64_t *addresses, std::size_t count, told *out) {
-        std::uint64_t no_address = 0;
-        told no_room{};
-        const std::uint64_t *from = count ? addresses : &no_address;
-        detail::check(
-            latchsym_catalog_find_many(get(), from, count, count ? out : &no_room, count));
+        detail::check(latchsym_catalog_find_many(get(), addresses, count, out, count));
     }
 
     /* The same of a container whose numbers lie in one row, as std::vector and std::array. */
@@ -320,11 +310,9 @@ public:
                                        std::size_t module_room) {
         latchsym_found out{};
         latchsym_answer answer{};
-        std::uint8_t none[2] = {};
         const std::uint32_t number = latchsym_reader_find_name(
-            get(), catalog.get(), addr, &out, &answer,
-            name_room ? reinterpret_cast<std::uint8_t *>(name) : none, name_room,
-            module_room ? reinterpret_cast<std::uint8_t *>(module) : none + 1, module_room);
+            get(), catalog.get(), addr, &out, &answer, reinterpret_cast<std::uint8_t *>(name),
+            name_room, reinterpret_cast<std::uint8_t *>(module), module_room);
         if (number == LATCHSYM_RETRY) return std::nullopt;
         if (number == LATCHSYM_NO_SYMBOL) {
             return named{detail::found_of(LATCHSYM_DONE, out), {answer, number}};
@@ -392,11 +380,8 @@ public:
     }
     void begin_erase(std::uint64_t a) { detail::check(latchsym_writer_begin_erase(get(), a)); }
     void begin_batch(const std::vector<std::uint64_t> &erase, const std::vector<item> &insert) {
-        const std::uint64_t no_start = 0;
-        const item no_item{};
-        detail::check(
-            latchsym_writer_begin_batch(get(), detail::data(erase.data(), no_start), erase.size(),
-                                        detail::data(insert.data(), no_item), insert.size()));
+        detail::check(latchsym_writer_begin_batch(get(), erase.data(), erase.size(), insert.data(),
+                                                  insert.size()));
     }
 
     latchsym::step step() {
