@@ -21,16 +21,16 @@ for name in numbers nulls find table adding refused; do
 done
 compile table -g
 compile adding -g
-for name in nulls find; do
-    if compile $name -g -fsanitize=address,undefined 2>/dev/null; then
-        "$work/$name"
-    fi
-done
 if command -v valgrind >/dev/null; then
     for name in nulls refused; do
         valgrind -q --error-exitcode=1 --leak-check=full "$work/$name"
     done
 fi
+for name in nulls find; do
+    if compile $name -g -fsanitize=address,undefined 2>/dev/null; then
+        "$work/$name"
+    fi
+done
 for sanitizer in address thread; do
     if compile table -g -fsanitize=$sanitizer 2>/dev/null; then
         "$work/table" 0
