@@ -42,6 +42,7 @@ pub fn symbol_in<'c, 'a>(
 }
 
 /// The same, sought in a block first.
+#[inline(always)]
 fn symbol_around<'c, 'a>(
     owner: &'c Module<'a>,
     block: Block,

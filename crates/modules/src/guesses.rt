@@ -59,11 +59,22 @@ pub(crate) struct Lane<'c, 'a> {
 
 /// The place a step farther on, where what stands there is not above the address, or else the same
 /// place.
+///
+/// What is not gained is shifted away: of a choice a compiler makes a branch, and a processor
+/// guesses at every second step wrongly which way it goes.
 fn stepped<T: Addressed>(listed: &[T], place: usize, step: usize, addr: u64) -> usize {
-    let next = place.wrapping_add(step);
+    let farther = place.wrapping_add(step);
+    let next = if farther < listed.len() {
+        farther
+    } else {
+        place
+    };
     match listed.get(next) {
-        Some(it) if it.addr() <= addr => next,
-        _ => place,
+        Some(it) => {
+            let shift = if addr < it.addr() { 32 } else { 0 };
+            place.wrapping_add(next.wrapping_sub(place).wrapping_shr(shift))
+        }
+        None => place,
     }
 }
 
@@ -109,21 +120,38 @@ impl<'c, 'a> Lane<'c, 'a> {
         };
     }
 
-    /// The guess, whose symbol is looked at, so that it is near when it is asked for.
+    /// Goes on from the place of an address that lies not far below.
+    fn go_on(&mut self, from: usize) {
+        self.place = if self.index.is_empty() {
+            place_from(self.symbols, self.blocks, from, self.addr)
+        } else {
+            place_from(self.index, self.blocks, from, self.addr)
+        };
+    }
+
+    /// The guess that it came to.
     fn guess(&self) -> Guess {
-        let listed = match self.index.get(self.place) {
-            Some(entry) => entry.place,
-            None => self.place,
-        };
-        let place = match self.symbols.get(listed) {
-            Some(symbol) if symbol.addr <= self.addr => self.place,
-            _ => 0,
-        };
         Guess {
             region: self.region,
-            place,
+            place: if is_near(self.index, self.symbols, self.place, self.addr) {
+                self.place
+            } else {
+                0
+            },
         }
     }
+}
+
+/// Whether the symbol at a place by rising address is not above the address. To look at it brings
+/// it near before it is asked for.
+fn is_near(index: &[IndexEntry], symbols: &[Symbol], place: usize, addr: u64) -> bool {
+    let listed = match index.get(place) {
+        Some(entry) => entry.place,
+        None => place,
+    };
+    symbols
+        .get(listed)
+        .is_some_and(|symbol| symbol.addr <= addr)
 }
 
 /// Begins each of the searches.
@@ -168,25 +196,26 @@ fn seek_symbols(lanes: &mut [Lane]) {
     }
 }
 
-/// The guesses of searches that take their steps by turns.
-fn take_turns(guesses: &mut [Guess], catalog: &IndexedCatalog, addrs: &[u64]) {
-    let mut lanes = [Lane::of(0, 0, &[], &[], &[]); TURNS];
-    begin(&mut lanes, catalog, addrs);
-    seek_blocks(&mut lanes);
-    enter_blocks(&mut lanes);
-    seek_symbols(&mut lanes);
-    for (guess, lane) in guesses.iter_mut().zip(&lanes) {
-        *guess = lane.guess();
-    }
+/// Searches that take their steps by turns.
+fn take_turns<'c, 'a>(lanes: &mut [Lane<'c, 'a>], catalog: &'c IndexedCatalog<'a>, addrs: &[u64]) {
+    begin(lanes, catalog, addrs);
+    seek_blocks(lanes);
+    enter_blocks(lanes);
+    seek_symbols(lanes);
 }
 
-/// Where steps that double lead to from a place on, and the first step that is too long; none where
-/// the last of them is not.
+/// Whether something stands at a place that is not above the address.
+fn is_below<T: Addressed>(listed: &[T], place: usize, addr: u64) -> bool {
+    listed.get(place).is_some_and(|it| it.addr() <= addr)
+}
+
+/// Where steps that double lead to from a place on, and how many they are; none where they are too
+/// many.
 fn doubled<T: Addressed>(listed: &[T], from: usize, addr: u64) -> Option<(usize, u32)> {
     let mut place = from;
     for round in 0..DOUBLINGS {
-        let next = stepped(listed, place, 1usize.wrapping_shl(round), addr);
-        if next == place {
+        let next = place.wrapping_add(1usize.wrapping_shl(round));
+        if !is_below(listed, next, addr) {
             return Some((place, round));
         }
         place = next;
@@ -198,18 +227,16 @@ fn doubled<T: Addressed>(listed: &[T], from: usize, addr: u64) -> Option<(usize,
 fn halved<T: Addressed>(listed: &[T], from: usize, rounds: u32, addr: u64) -> usize {
     let mut place = from;
     for round in 0..rounds {
-        place = stepped(listed, place, step_of(rounds, round), addr);
+        let next = place.wrapping_add(step_of(rounds, round));
+        if is_below(listed, next, addr) {
+            place = next;
+        }
     }
     place
 }
 
 /// Where the last that is not above the address may stand, sought from a place on.
-pub(crate) fn place_from<T: Addressed>(
-    listed: &[T],
-    blocks: &[u64],
-    from: usize,
-    addr: u64,
-) -> usize {
+fn place_from<T: Addressed>(listed: &[T], blocks: &[u64], from: usize, addr: u64) -> usize {
     match doubled(listed, from, addr) {
         Some((place, rounds)) => halved(listed, place, rounds, addr),
         None => {
@@ -219,23 +246,25 @@ pub(crate) fn place_from<T: Addressed>(
     }
 }
 
-/// The guess for an address that lies soon after another.
-fn guess_from(catalog: &IndexedCatalog, last: Guess, addr: u64) -> Guess {
-    let (region, module) = catalog.place_near(last.region, addr);
-    let from = if region == last.region { last.place } else { 0 };
-    let place = match module {
-        Some(module) => module.place_from(from, addr),
-        None => 0,
-    };
-    Guess { region, place }
-}
-
-/// The guesses for addresses that rise, of which the first lies soon after another.
-fn go_on(guesses: &mut [Guess], catalog: &IndexedCatalog, last: Guess, addrs: &[u64]) {
+/// Searches of which each goes on from the place that the last one came to.
+fn go_on<'c, 'a>(
+    lanes: &mut [Lane<'c, 'a>],
+    catalog: &'c IndexedCatalog<'a>,
+    last: Guess,
+    addrs: &[u64],
+) {
     let mut last = last;
-    for (guess, addr) in guesses.iter_mut().zip(addrs) {
-        last = guess_from(catalog, last, *addr);
-        *guess = last;
+    for (lane, addr) in lanes.iter_mut().zip(addrs) {
+        let (region, module) = catalog.place_near(last.region, *addr);
+        if let Some(module) = module {
+            let from = if region == last.region { last.place } else { 0 };
+            *lane = module.lane(region, *addr);
+            lane.go_on(from);
+            last = Guess {
+                region,
+                place: lane.place,
+            };
+        }
     }
 }
 
@@ -262,11 +291,14 @@ impl Guesses {
         }
         self.taken = 0;
         let addrs = &addrs[..addrs.len().min(TURNS)];
+        let mut lanes = [Lane::of(0, 0, &[], &[], &[]); TURNS];
         if addrs.is_sorted_by(|x, y| x <= y) {
-            let last = self.all[TURNS - 1];
-            go_on(&mut self.all, catalog, last, addrs);
+            go_on(&mut lanes, catalog, self.all[TURNS - 1], addrs);
         } else {
-            take_turns(&mut self.all, catalog, addrs);
+            take_turns(&mut lanes, catalog, addrs);
+        }
+        for (guess, lane) in self.all.iter_mut().zip(&lanes) {
+            *guess = lane.guess();
         }
     }
 

@@ -12,7 +12,7 @@ ghost use Rattle.modules.specs.Placed.{IsPlaced};
 ghost use Rattle.modules.specs.Starts.{first_start, start_at, start_where, starts_of};
 
 use crate::blocks::{Block, Blocks};
-use crate::guesses::{Lane, place_from};
+use crate::guesses::Lane;
 use crate::lines::Part;
 use crate::loads::{erasing, is_erasing};
 use crate::placing::Placed;
@@ -260,15 +260,5 @@ impl<'a> Module<'a> {
             index,
             self.symbols.as_slice(),
         )
-    }
-
-    /// Where, by rising address, the last symbol that is not above the address may stand, sought
-    /// from a place on.
-    pub(crate) fn place_from(&self, place: usize, addr: u64) -> usize {
-        let blocks = self.blocks.addresses();
-        match &self.by_address {
-            Some(index) => place_from(index.as_slice(), blocks, place, addr),
-            None => place_from(self.symbols.as_slice(), blocks, place, addr),
-        }
     }
 }

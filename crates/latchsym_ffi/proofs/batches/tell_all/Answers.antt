@@ -1,4 +1,4 @@
-use Rattle.std.proofs.Common.{◌≡◌, slice_set, get_or, ◌∙◌, ap}
+use Rattle.std.proofs.Common.{slice_set, get_or, ◌∙◌, ap}
 use Rattle.latchsym_ffi.specs.Finding.{known_at}
 use Rattle.latchsym_ffi.specs.Batches.{told_at, told_of}
 use Rattle.latchsym_ffi.proofs.MapLemmas.{map_more}

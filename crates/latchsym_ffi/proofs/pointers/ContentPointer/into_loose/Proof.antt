@@ -1,4 +1,4 @@
-use mathlib.Core.Path.{◌≡◌, refl, sym, subst}
+use mathlib.Core.Path.{refl, sym, subst}
 use mathlib.Core.List.{List, [], ◌∷◌, ◌++◌}
 use Rattle.std.specs.Prelude.{IsSome}
 use seplogic.Ra.Ura.{Ura}

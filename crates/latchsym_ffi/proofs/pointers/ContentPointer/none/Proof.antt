@@ -1,10 +1,8 @@
 use mathlib.Core.Path.{refl, sym, subst}
 use mathlib.Core.List.{List, [], ◌∷◌, ◌++◌}
-use mathlib.Core.Bool.{false}
 use lib.Dec.{lit<}
-use Rattle.std.specs.Prelude.{None}
 use seplogic.Ra.Ura.{Ura}
-use mir.Val.{Val, vnull, vbool}
+use mir.Val.{Val, vnull}
 use base.Logic.{SProp, ent, emp}
 use base.Fml.{ftrue, fsep}
 use prog.Memory.{Memory}
