@@ -7,10 +7,12 @@
 //!     ^^^^        ^^^^^^^^^^^^^^^^ ^^
 //!     marker      word             closers
 //! ```
-ghost use Rattle.std.specs.Prelude.{◌≡◌, ◌∷◌, length, nat_le};
+ghost use Rattle.std.specs.Prelude.{◌≡◌, ◌∷◌, ◌≤◌, ◌<◌, ◌-◌, ◌&&◌, ◌||◌, ◌==◌, not, false, length};
+ghost use Rattle.std.specs.Prelude.{nat_le, slice_index_or, take};
 ghost use Rattle.listing.specs.AnnotatedLogs.{ends_marked};
-ghost use Rattle.listing.specs.LogContexts.{first_context, kept_in, next_context, next_word};
-ghost use Rattle.listing.specs.LogWords.{is_closer};
+ghost use Rattle.listing.specs.LogContexts.{ArePlain, IsMarkedBy, context_over, first_context};
+ghost use Rattle.listing.specs.LogContexts.{kept_in, next_context, next_length, next_word};
+ghost use Rattle.listing.specs.LogWords.{is_closer, is_word_byte};
 
 use crate::log_words::{is_closer, is_word_byte};
 use arrayvec::ArrayVec;
@@ -56,17 +58,75 @@ impl Context {
         self.word.len() <= SHORT_WORD
     }
 
-    /// Goes on behind a byte.
-    #[inline]
-    pub(crate) fn pass(&mut self, byte: u8)
-        ensures { kept_in self.new ≡ next_context (kept_in self.old) byte }
+    /// Goes on behind some of the bytes, one at least, and returns how many they are: behind the
+    /// first of them stands no word but such as are too short for an address.
+    pub(crate) fn pass_some(&mut self, bytes: &[u8]) -> usize
+        requires { 0 < length bytes.now }
+        ensures some { 0 < result }
+        ensures plain { ArePlain (kept_in self.old) bytes.now result }
+        ensures context { kept_in self.new
+            ≡ context_over (kept_in self.old) (take result bytes.now) }
     {
-        self.pass_word(byte);
-        self.is_marked = byte != b'\n' && (self.is_marked || self.ends_marked(byte));
-        self.recent = [byte, self.recent[0], self.recent[1]];
+        let count = self.plain_bytes(bytes).max(1);
+        self.pass_all(&bytes[..count]);
+        count
     }
 
-    /// The same of the word alone.
+    /// How many of the bytes have a word before them that is too short for an address, up to the
+    /// first that has another one.
+    fn plain_bytes(&self, bytes: &[u8]) -> usize
+        ensures { ArePlain (kept_in self.now) bytes.now result }
+    {
+        let mut length = self.word.len();
+        for i in 0..bytes.len() {
+            if length > SHORT_WORD {
+                return i;
+            }
+            length = next_length(length, bytes[i]);
+        }
+        bytes.len()
+    }
+
+    /// Goes on behind all of the bytes.
+    fn pass_all(&mut self, bytes: &[u8])
+        ensures { kept_in self.new ≡ context_over (kept_in self.old) bytes.now }
+    {
+        self.pass_words(bytes);
+        self.pass_marks(bytes);
+    }
+
+    /// The same of the word alone. What stands before the last byte that ends a word is of no
+    /// matter.
+    fn pass_words(&mut self, bytes: &[u8])
+        ensures word { self.new.word.items
+            ≡ (context_over (kept_in self.old) bytes.now).context.word }
+        ensures closed { self.new.is_closed
+            ≡ (context_over (kept_in self.old) bytes.now).context.is_closed }
+        ensures marked { self.new.is_marked ≡ self.old.is_marked }
+        ensures recent { self.new.recent ≡ self.old.recent }
+    {
+        let start = behind_last_end(bytes);
+        if start > 0 {
+            self.word.clear();
+            self.is_closed = false;
+        }
+        for i in start..bytes.len() {
+            self.pass_word(bytes[i]);
+        }
+    }
+
+    /// The same of the marker and the last bytes.
+    fn pass_marks(&mut self, bytes: &[u8])
+        ensures marks { IsMarkedBy self.old self.new bytes.now }
+        ensures word { self.new.word.items ≡ self.old.word.items }
+        ensures closed { self.new.is_closed ≡ self.old.is_closed }
+    {
+        for byte in bytes {
+            self.pass_mark(*byte);
+        }
+    }
+
+    /// The word behind a byte more.
     #[inline]
     fn pass_word(&mut self, byte: u8)
         ensures word { self.new.word.items ≡ next_word (kept_in self.old).context byte }
@@ -87,6 +147,19 @@ impl Context {
         self.is_closed = is_closer(byte);
     }
 
+    /// Whether the line has a marker, and the last bytes, behind a byte more.
+    #[inline]
+    fn pass_mark(&mut self, byte: u8)
+        ensures marked { self.new.is_marked
+            ≡ (not (byte == 10) && (ends_marked (byte ∷ self.old.recent) || self.old.is_marked)) }
+        ensures recent { self.new.recent ≡ byte ∷ take 2 self.old.recent }
+        ensures word { self.new.word.items ≡ self.old.word.items }
+        ensures closed { self.new.is_closed ≡ self.old.is_closed }
+    {
+        self.is_marked = byte != b'\n' && (self.is_marked || self.ends_marked(byte));
+        self.recent = [byte, self.recent[0], self.recent[1]];
+    }
+
     /// Whether a marker ends in this byte.
     #[inline]
     fn ends_marked(&self, byte: u8) -> bool
@@ -94,4 +167,31 @@ impl Context {
     {
         byte == b':' && matches!(self.recent, [b'P', b'I', b'R'] | [b' ', b'c', b'p'])
     }
+}
+
+/// How long a word is at most behind a byte more.
+#[inline]
+fn next_length(length: usize, byte: u8) -> usize
+    requires { length ≤ 10 }
+    ensures { result ≡ next_length length byte }
+{
+    let is_word = is_word_byte(byte);
+    if is_word || is_closer(byte) {
+        length + usize::from(is_word)
+    } else {
+        0
+    }
+}
+
+/// The place behind the last of the bytes that ends a word and is no closer, or 0.
+fn behind_last_end(bytes: &[u8]) -> usize
+    ensures within { result ≤ length bytes.now }
+    ensures word { 0 < result → is_word_byte (slice_index_or bytes.now (result - 1) 0) ≡ false }
+    ensures closer { 0 < result → is_closer (slice_index_or bytes.now (result - 1) 0) ≡ false }
+{
+    let mut start = bytes.len();
+    while start > 0 && (is_word_byte(bytes[start - 1]) || is_closer(bytes[start - 1])) {
+        start -= 1;
+    }
+    start
 }

@@ -3,7 +3,7 @@ ghost use Rattle.std.specs.Prelude.{◌≡◌};
 ghost use Rattle.listing.specs.LogWords.{address_of_word, digits_from, has_prefix};
 ghost use Rattle.listing.specs.LogWords.{is_closer, is_word_byte};
 
-use crate::numbers::hexadecimal;
+use crate::numbers::{digit_of, hexadecimal};
 
 /// The fewest hexadecimal digits of an address behind `0x`. Fewer are mostly a size or an offset.
 const DIGITS_BEHIND_PREFIX: usize = 9;
@@ -16,10 +16,7 @@ const DIGITS_ALONE: usize = 16;
 pub(crate) fn is_word_byte(byte: u8) -> bool
     ensures { result ≡ is_word_byte byte }
 {
-    match byte {
-        b'0'..=b'9' | b'A'..=b'Z' | b'a'..=b'z' | b'_' => true,
-        _ => false,
-    }
+    digit_of(byte) < 36 || byte == b'_'
 }
 
 /// Whether the byte is `)`, `>` or `]`.
