@@ -1,11 +1,11 @@
 -- Bytes of a log that are passed together.
 use Rattle.std.proofs.Common.{◌≡◌, ◌∙◌, ℕ, zero, suc, ◌+◌, ◌-◌, ◌<◌, ◌≤◌, inl, inr, Bool, true, false, true≢false, cond, List, [], ◌∷◌, ◌++◌, length, get_or, take, drop, refl, sym, ap, subst, ⊎_elim, arith, append-nil, append_assoc, length-append, length-take, length-drop, drop-drop}
 use Rattle.std.specs.Prelude.{◌&&◌, ◌||◌, not, ◌==◌, nat_lt}
-use Rattle.std.proofs.lemmas.Bool.{cases_lt}
+use Rattle.std.proofs.lemmas.Bool.{and_parts, cases_lt, eqb-true}
 use Rattle.std.specs.Global.{Vec}
 use Rattle.std.proofs.lemmas.List.{drop-append-le, drop-take, length-take-le, take-append-drop, take_rest, take-take}
 use Rattle.std.proofs.lemmas.List.Sums.{fold-append, fold_more}
-use Rattle.listing.specs.LogWords.{is_closer, is_word_byte}
+use Rattle.listing.specs.LogWords.{is_closer, is_word_byte, kind_of}
 use Rattle.listing.specs.AnnotatedLogs.{Answering, LogContext, ends_marked, insertion_at}
 use Rattle.listing.specs.Insertions.{IsInserted, IsInsertionAt, IsPassed, IsWaiting, KeepsPromise}
 use Rattle.listing.specs.LogContexts.{ArePlain, IsMarkedBy, KeptContext, annotated_from, context_over, kept_in, next_context, next_length, next_word, with_byte}
@@ -13,6 +13,22 @@ use Rattle.listing.specs.declared.insertions.Insertion.{Insertion}
 use Rattle.listing.specs.declared.insertions.Insertion.TheVariants.{Nothing, Text, Undecided}
 use Rattle.listing.specs.declared.log_contexts.Context.{Context}
 use Rattle.listing.proofs.InsertionLemmas.{short_insertion}
+
+-- ---- a table of what bytes are
+
+-- the table holds what the bytes from n on are
+abbrev pub holds_kinds : ℕ → List ℕ → Bool
+holds_kinds n [] = true
+holds_kinds n (kind ∷ kinds) = kind == kind_of n && holds_kinds (n + 1) kinds
+
+pub kind_at : (table : List ℕ) (n k : ℕ) → holds_kinds n table ≡ true → k < length table → get_or table k 0 ≡ kind_of (n + k)
+kind_at [] n k holds below = absurd (omega arith)
+kind_at (kind ∷ kinds) n zero holds below =
+    let same : n ≡ n + 0 = omega arith in
+    eqb-true kind (kind_of n) (and_parts _ _ holds).0 ∙ ap kind_of same
+kind_at (kind ∷ kinds) n (suc k) holds below =
+    let same : n + 1 + k ≡ n + suc k = omega arith in
+    kind_at kinds (n + 1) k (and_parts _ _ holds).1 (omega arith) ∙ ap kind_of same
 
 -- ---- how long a word is
 
@@ -51,19 +67,24 @@ plain_more kept bytes i short plain k some below =
 
 -- ---- markers
 
-pub marks_more : (c c' c'' : Context) (bytes : List ℕ) (i : ℕ) → i < length bytes → IsMarkedBy c c' (take i bytes)
-    → c''.is_marked ≡ (not (get_or bytes i 0 == 10) && (ends_marked (get_or bytes i 0 ∷ c'.recent) || c'.is_marked))
-    → c''.recent ≡ get_or bytes i 0 ∷ take 2 c'.recent → IsMarkedBy c c'' (take (i + 1) bytes)
-marks_more c c' c'' bytes i below before marked recent kept same_mark same_recent =
+pub marks_more : (m m' m'' : Bool) (r r' r'' bytes : List ℕ) (i : ℕ) → i < length bytes → IsMarkedBy m r m' r' (take i bytes)
+    → m'' ≡ (not (get_or bytes i 0 == 10) && (ends_marked (get_or bytes i 0 ∷ r') || m'))
+    → r'' ≡ get_or bytes i 0 ∷ take 2 r' → IsMarkedBy m r m'' r'' (take (i + 1) bytes)
+marks_more m m' m'' r r' r'' bytes i below before marked recent kept same_mark same_recent =
     let b : ℕ = get_or bytes i 0 in
     let was = before kept same_mark same_recent in
     let next = fold_more next_context kept bytes i 0 below in (
       marked
-          ∙ ap (λ (r : List ℕ). not (b == 10) && (ends_marked (b ∷ r) || c'.is_marked)) was.1
-          ∙ ap (λ (m : Bool). not (b == 10) && (ends_marked (b ∷ (context_over kept (take i bytes)).recent) || m)) was.0
+          ∙ ap (λ (x : List ℕ). not (b == 10) && (ends_marked (b ∷ x) || m')) was.1
+          ∙ ap (λ (x : Bool). not (b == 10) && (ends_marked (b ∷ (context_over kept (take i bytes)).recent) || x)) was.0
           ∙ sym (ap (λ (k : KeptContext). k.context.is_marked) next),
-      recent ∙ ap (λ (r : List ℕ). b ∷ take 2 r) was.1 ∙ sym (ap (λ (k : KeptContext). k.recent) next),
+      recent ∙ ap (λ (x : List ℕ). b ∷ take 2 x) was.1 ∙ sym (ap (λ (k : KeptContext). k.recent) next),
     )
+
+pub two_of : (r : List ℕ) → length r ≡ 3 → get_or r 0 0 ∷ get_or r 1 0 ∷ [] ≡ take 2 r
+two_of [] e = absurd (omega (arith, e))
+two_of (x ∷ []) e = absurd (omega (arith, e))
+two_of (x ∷ y ∷ r) e = refl
 
 -- ---- words
 

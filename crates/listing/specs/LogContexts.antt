@@ -1,6 +1,6 @@
 -- What is kept of the bytes before a place of a log: of the word no more than tells that it is no
 -- address, and the last bytes, in which a marker may have begun.
-use Rattle.std.specs.Prelude.{ℕ, ◌≡◌, ◌<◌, ◌≤◌, ◌+◌, ◌==◌, ◌&&◌, ◌||◌, not, List, [], ◌∷◌, ◌++◌}
+use Rattle.std.specs.Prelude.{ℕ, Bool, ◌≡◌, ◌<◌, ◌≤◌, ◌+◌, ◌==◌, ◌&&◌, ◌||◌, not, List, [], ◌∷◌, ◌++◌}
 use Rattle.std.specs.Prelude.{false, fold, length, nat_lt, replicate, take, if◌then◌else◌}
 use Rattle.listing.specs.AnnotatedLogs.{Answering, LogContext, ends_marked, insertion_at}
 use Rattle.listing.specs.LogWords.{is_closer, is_word_byte}
@@ -61,12 +61,12 @@ ArePlain kept bytes n =
 abbrev pub next_length : ℕ → ℕ → ℕ
 next_length n b = if is_word_byte b then n + 1 else if is_closer b then n else 0
 
--- the marker and the last bytes are those behind these bytes, whatever the word is
-abbrev pub IsMarkedBy : Context → Context → List ℕ → Type 0
-IsMarkedBy c c' bytes =
-    (kept : KeptContext) → kept.context.is_marked ≡ c.is_marked → kept.recent ≡ c.recent
-    → (c'.is_marked ≡ (context_over kept bytes).context.is_marked)
-    × (c'.recent ≡ (context_over kept bytes).recent)
+-- a marker and the last bytes become those behind these bytes, whatever the word is
+abbrev pub IsMarkedBy : Bool → List ℕ → Bool → List ℕ → List ℕ → Type 0
+IsMarkedBy marked recent marked' recent' bytes =
+    (kept : KeptContext) → kept.context.is_marked ≡ marked → kept.recent ≡ recent
+    → (marked' ≡ (context_over kept bytes).context.is_marked)
+    × (recent' ≡ (context_over kept bytes).recent)
 
 -- the rest of a log, with what is inserted, where so much is kept of the bytes before it
 abbrev pub annotated_from : Answering → KeptContext → List ℕ → List ℕ

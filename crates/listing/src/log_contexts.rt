@@ -14,7 +14,7 @@ ghost use Rattle.listing.specs.LogContexts.{ArePlain, IsMarkedBy, context_over, 
 ghost use Rattle.listing.specs.LogContexts.{kept_in, next_context, next_length, next_word};
 ghost use Rattle.listing.specs.LogWords.{is_closer, is_word_byte};
 
-use crate::log_words::{is_closer, is_word_byte};
+use crate::log_words::{is_closer, is_word_byte, kind_of};
 use arrayvec::ArrayVec;
 
 /// One byte more than the longest address word has: a longer word is none, however it goes on.
@@ -115,15 +115,21 @@ impl Context {
         }
     }
 
-    /// The same of the marker and the last bytes.
+    /// The same of the marker and the last bytes, which are kept apart while the bytes go by.
     fn pass_marks(&mut self, bytes: &[u8])
-        ensures marks { IsMarkedBy self.old self.new bytes.now }
+        ensures marks { IsMarkedBy self.old.is_marked self.old.recent self.new.is_marked
+            self.new.recent bytes.now }
         ensures word { self.new.word.items ≡ self.old.word.items }
         ensures closed { self.new.is_closed ≡ self.old.is_closed }
     {
+        let mut is_marked = self.is_marked;
+        let mut recent = self.recent;
         for byte in bytes {
-            self.pass_mark(*byte);
+            is_marked = is_marked_behind(is_marked, recent, *byte);
+            recent = [*byte, recent[0], recent[1]];
         }
+        self.is_marked = is_marked;
+        self.recent = recent;
     }
 
     /// The word behind a byte more.
@@ -146,27 +152,22 @@ impl Context {
         }
         self.is_closed = is_closer(byte);
     }
+}
 
-    /// Whether the line has a marker, and the last bytes, behind a byte more.
-    #[inline]
-    fn pass_mark(&mut self, byte: u8)
-        ensures marked { self.new.is_marked
-            ≡ (not (byte == 10) && (ends_marked (byte ∷ self.old.recent) || self.old.is_marked)) }
-        ensures recent { self.new.recent ≡ byte ∷ take 2 self.old.recent }
-        ensures word { self.new.word.items ≡ self.old.word.items }
-        ensures closed { self.new.is_closed ≡ self.old.is_closed }
-    {
-        self.is_marked = byte != b'\n' && (self.is_marked || self.ends_marked(byte));
-        self.recent = [byte, self.recent[0], self.recent[1]];
-    }
+/// Whether the line has a marker behind a byte more.
+#[inline]
+fn is_marked_behind(is_marked: bool, recent: [u8; 3], byte: u8) -> bool
+    ensures { result ≡ (not (byte == 10) && (ends_marked (byte ∷ recent) || is_marked)) }
+{
+    byte != b'\n' && (is_marked || ends_marked(recent, byte))
+}
 
-    /// Whether a marker ends in this byte.
-    #[inline]
-    fn ends_marked(&self, byte: u8) -> bool
-        ensures { result ≡ ends_marked (byte ∷ self.now.recent) }
-    {
-        byte == b':' && matches!(self.recent, [b'P', b'I', b'R'] | [b' ', b'c', b'p'])
-    }
+/// Whether a marker ends in this byte.
+#[inline]
+fn ends_marked(recent: [u8; 3], byte: u8) -> bool
+    ensures { result ≡ ends_marked (byte ∷ recent) }
+{
+    byte == b':' && matches!(recent, [b'P', b'I', b'R'] | [b' ', b'c', b'p'])
 }
 
 /// How long a word is at most behind a byte more.
@@ -175,11 +176,11 @@ fn next_length(length: usize, byte: u8) -> usize
     requires { length ≤ 10 }
     ensures { result ≡ next_length length byte }
 {
-    let is_word = is_word_byte(byte);
-    if is_word || is_closer(byte) {
-        length + usize::from(is_word)
-    } else {
+    let kind = kind_of(byte);
+    if kind == 0 {
         0
+    } else {
+        length + usize::from(kind) - 1
     }
 }
 
