@@ -1,14 +1,11 @@
 -- What is inserted at a place, whatever comes behind the bytes that are there.
-use Rattle.std.proofs.Common.{◌≡◌, ◌∙◌, ℕ, ◌+◌, ◌<◌, ◌≤◌, inl, inr, Bool, true, false, cond, List, [], ◌∷◌, ◌++◌, length, drop, take, refl, sym, ap, subst, Option, Some, None, arith, true≢false, append-nil, append_assoc, length-drop, get_or, drop-drop}
-use Rattle.std.specs.Prelude.{◌&&◌, ◌||◌, nat_eq, nat_le, option_and_then, slice_index}
+use Rattle.std.proofs.Common.{◌≡◌, ◌∙◌, ℕ, ◌<◌, ◌≤◌, Bool, true, false, cond, List, [], ◌∷◌, ◌++◌, length, drop, refl, sym, ap, Option, Some, None, arith, true≢false, append-nil, length-drop}
+use Rattle.std.specs.Prelude.{◌&&◌, ◌||◌, nat_eq, nat_le, option_and_then}
 use Rattle.std.specs.List.{starts_with}
-use Rattle.std.proofs.lemmas.List.{get_or-drop}
-use Rattle.std.proofs.lemmas.List.Sums.{fold_more}
 use Rattle.facts.proofs.Numbers.{eqb-flip}
 use Rattle.listing.specs.LogWords.{address_of_word, has_prefix}
 use Rattle.listing.specs.AnnotatedLogs.{Answering, LogContext, goes_on, inserted, insertion_at, text_behind}
-use Rattle.listing.specs.LogContexts.{KeptContext, annotated_from, context_over, next_context}
-use Rattle.listing.specs.Insertions.{IsInsert, IsInserted, IsPassed, IsStep, IsWaiting, KeepsPromise, MayCome}
+use Rattle.listing.specs.Insertions.{IsInsert, IsInserted, MayCome}
 
 nothing_inserted : (o : Option (List ℕ)) (context : LogContext) (rest : List ℕ) → goes_on context rest ≡ true → inserted context rest o ≡ []
 nothing_inserted None context rest e = refl
@@ -76,50 +73,6 @@ text_inserted answer context rest text is_last there is stops e f more may =
     differs true m g = ap (λ x. starts_with nat_eq x text) (ap (λ x. rest ++ x) (m refl) ∙ append-nil rest) ∙ e
     differs false m g = differs_more rest text more e (g refl)
 
--- so many bytes are passed
-pub record HasPassed (answer : Answering) (first kept : KeptContext) (bytes : List ℕ) (is_last : Bool) (before out : List ℕ) (i : ℕ) : Type 0 where
-  pub keeps : KeepsPromise answer first kept bytes is_last before out i
-  pub context : kept ≡ context_over first (take i bytes)
-
--- a byte more is passed
-pub one_more : (answer : Answering) (first kept kept' : KeptContext) (bytes : List ℕ) (is_last : Bool) (before out out' : List ℕ) (i : ℕ) (went : Bool) → i < length bytes → HasPassed answer first kept bytes is_last before out i
-    → went ≡ true → IsStep answer kept kept' (drop i bytes) is_last out out' went → HasPassed answer first kept' bytes is_last before out' (i + 1)
-one_more answer first kept kept' bytes is_last before out out' i true below has e (stepped, next) = record {
-  keeps = λ more may. ap (λ l. out' ++ annotated_from answer kept' (l ++ more)) (sym (drop-drop 1 i bytes)) ∙ stepped more may ∙ has.keeps more may;
-  context =
-      next ∙ ap (λ k. next_context k (slice_index (drop i bytes) 0)) has.context
-      ∙ ap (next_context (context_over first (take i bytes))) (get_or-drop i bytes 0 0)
-      ∙ ap (λ k. next_context (context_over first (take i bytes)) (get_or bytes k 0)) (let same : i + 0 ≡ i = omega arith in same)
-      ∙ sym (fold_more next_context first bytes i 0 below);
-}
-one_more answer first kept kept' bytes is_last before out out' i false below has e stepped = absurd (true≢false (sym e))
-
--- the next byte waits
-pub stopped : (answer : Answering) (first kept kept' : KeptContext) (bytes : List ℕ) (is_last : Bool) (before out out' : List ℕ) (i : ℕ) (went : Bool) → i < length bytes → HasPassed answer first kept bytes is_last before out i
-    → went ≡ false → IsStep answer kept kept' (drop i bytes) is_last out out' went → IsPassed answer first kept' bytes is_last before out' i
-stopped answer first kept kept' bytes is_last before out out' i true below has e stepped = absurd (true≢false e)
-stopped answer first kept kept' bytes is_last before out out' i false below has e (not_last, same_kept, same_out, waits) = record {
-  among = omega (arith, below);
-  whole = λ last. absurd (true≢false (sym last ∙ not_last));
-  context = same_kept ∙ has.context;
-  rest = inr (subst (λ k. IsWaiting answer k.context (drop i bytes)) (sym same_kept) waits);
-  keeps = λ more may.
-      ap (λ o. o ++ annotated_from answer kept' (drop i bytes ++ more)) same_out
-      ∙ ap (λ k. out ++ annotated_from answer k (drop i bytes ++ more)) same_kept
-      ∙ has.keeps more may;
-}
-
--- no byte is left
-pub finished : (answer : Answering) (first kept : KeptContext) (bytes : List ℕ) (is_last : Bool) (before out : List ℕ) (i : ℕ) → i ≡ length bytes → HasPassed answer first kept bytes is_last before out i
-    → IsPassed answer first kept bytes is_last before out i
-finished answer first kept bytes is_last before out i all has = record {
-  among = omega (arith, all);
-  whole = λ last. all;
-  context = has.context;
-  rest = inl all;
-  keeps = has.keeps;
-}
-
 few_digits : (a b : Bool) (o p : Option ℕ) → a ≡ false → b ≡ false → (c : Bool) → cond c (cond a o None) (cond b p None) ≡ None
 few_digits true b o p e f c = absurd (true≢false e)
 few_digits false true o p e f c = absurd (true≢false f)
@@ -132,24 +85,8 @@ short_word word few =
     let n = length-drop 2 word in
     few_digits (nat_le 9 (length (drop 2 word))) (nat_le 16 (length word)) _ _ (grind (arith, n, few)) (grind (arith, few)) (has_prefix word)
 
-short_insertion : (answer : Answering) (context : LogContext) (rest : List ℕ) → length context.word ≤ 10 → insertion_at answer context rest ≡ []
+pub short_insertion : (answer : Answering) (context : LogContext) (rest : List ℕ) → length context.word ≤ 10 → insertion_at answer context rest ≡ []
 short_insertion answer context rest few = ap (λ o. inserted context rest (option_and_then (answer context.is_marked) o)) (short_word context.word few)
-
--- a byte is passed behind what is inserted before it
-pub byte_passed : (answer : Answering) (kept kept' : KeptContext) (rest : List ℕ) (is_last : Bool) (out mid out' : List ℕ) (put : Bool) → 0 < length rest → put ≡ true → IsInsert answer kept.context rest is_last out mid put
-    → kept' ≡ next_context kept (slice_index rest 0) → out' ≡ mid ++ slice_index rest 0 ∷ [] → IsStep answer kept kept' rest is_last out out' true
-byte_passed answer kept kept' rest is_last out mid out' false some e is_put is_kept is_out = absurd (true≢false (sym e))
-byte_passed answer kept kept' rest is_last out mid out' true some e is_put is_kept is_out = (keeps rest some is_put is_kept is_out, is_kept)
-  where
-    keeps : (bytes : List ℕ) → 0 < length bytes → IsInsert answer kept.context bytes is_last out mid true → kept' ≡ next_context kept (slice_index bytes 0) → out' ≡ mid ++ slice_index bytes 0 ∷ []
-        → KeepsPromise answer kept kept' bytes is_last out out' 1
-    keeps [] some put k o more may = absurd (omega (arith, some))
-    keeps (b ∷ bytes) some put k o more may =
-        ap (λ x. x ++ annotated_from answer kept' (bytes ++ more)) o
-        ∙ ap (λ q. (mid ++ b ∷ []) ++ annotated_from answer q (bytes ++ more)) k
-        ∙ append_assoc mid (b ∷ []) (annotated_from answer (next_context kept b) (bytes ++ more))
-        ∙ ap (λ x. x ++ b ∷ annotated_from answer (next_context kept b) (bytes ++ more)) (put more may)
-        ∙ append_assoc out (insertion_at answer kept.context (b ∷ bytes ++ more)) (b ∷ annotated_from answer (next_context kept b) (bytes ++ more))
 
 -- behind a short word nothing is inserted
 pub none_inserted : (answer : Answering) (context : LogContext) (rest : List ℕ) (is_last : Bool) (out : List ℕ) → nat_le (length context.word) 10 ≡ true → IsInsert answer context rest is_last out out true

@@ -36,3 +36,5 @@ pub mod LogContextLemmas
 pub mod InsertionLemmas
 -- blocks of a log that are read and written one after the other
 pub mod AnnotationLemmas
+-- bytes of a log that are passed together
+pub mod LogPassLemmas

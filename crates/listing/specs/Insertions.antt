@@ -1,10 +1,10 @@
 -- What is inserted while a log is read: bytes of it are there, and others may come behind them.
 use Rattle.std.specs.Prelude.{◌≡◌, ℕ, ◌≤◌, ◌⊎◌, Bool, true, false, List, [], ◌++◌, drop, length}
-use Rattle.std.specs.Prelude.{take, slice_index, nat_eq, Some}
+use Rattle.std.specs.Prelude.{take, nat_eq, Some}
 use Rattle.std.specs.List.{starts_with}
 use Rattle.listing.specs.AnnotatedLogs.{Answering, LogContext, answered_by, insertion_at}
 use Rattle.listing.specs.AnnotatedLogs.{text_behind}
-use Rattle.listing.specs.LogContexts.{KeptContext, annotated_from, context_over, next_context}
+use Rattle.listing.specs.LogContexts.{KeptContext, annotated_from, context_over}
 use Rattle.listing.specs.declared.insertions.Insertion.{Insertion}
 use Rattle.listing.specs.declared.insertions.Insertion.TheVariants.{Nothing, Text, Undecided}
 use Rattle.listing.specs.declared.insertions.LogAnswers.{LogAnswers}
@@ -52,15 +52,6 @@ KeepsPromise answer kept kept' bytes is_last out out' n =
     (more : List ℕ) → MayCome is_last more
     → out' ++ annotated_from answer kept' (drop n bytes ++ more)
     ≡ out ++ annotated_from answer kept (bytes ++ more)
-
--- one byte was passed, or none
-abbrev pub IsStep : Answering → KeptContext → KeptContext → List ℕ → Bool → List ℕ → List ℕ → Bool
-    → Type 0
-IsStep answer kept kept' rest is_last out out' true =
-    KeepsPromise answer kept kept' rest is_last out out' 1
-    × (kept' ≡ next_context kept (slice_index rest 0))
-IsStep answer kept kept' rest is_last out out' false =
-    (is_last ≡ false) × (kept' ≡ kept) × (out' ≡ out) × IsWaiting answer kept.context rest
 
 -- So many bytes were passed: all of them, or those before some that wait for more.
 pub record IsPassed (answer : Answering) (kept kept' : KeptContext) (bytes : List ℕ)

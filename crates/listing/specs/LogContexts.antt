@@ -1,7 +1,7 @@
 -- What is kept of the bytes before a place of a log: of the word no more than tells that it is no
 -- address, and the last bytes, in which a marker may have begun.
-use Rattle.std.specs.Prelude.{ℕ, ◌==◌, ◌&&◌, ◌||◌, not, List, [], ◌∷◌, ◌++◌, length, nat_lt, take}
-use Rattle.std.specs.Prelude.{false, fold, replicate, if◌then◌else◌}
+use Rattle.std.specs.Prelude.{ℕ, Bool, ◌≡◌, ◌<◌, ◌≤◌, ◌+◌, ◌==◌, ◌&&◌, ◌||◌, not, List, [], ◌∷◌, ◌++◌}
+use Rattle.std.specs.Prelude.{false, fold, length, nat_lt, replicate, take, if◌then◌else◌}
 use Rattle.listing.specs.AnnotatedLogs.{Answering, LogContext, ends_marked, insertion_at}
 use Rattle.listing.specs.LogWords.{is_closer, is_word_byte}
 use Rattle.listing.specs.declared.log_contexts.Context.{Context}
@@ -49,6 +49,24 @@ next_context kept b = record {
 -- what is kept behind so many more
 abbrev pub context_over : KeptContext → List ℕ → KeptContext
 context_over kept bytes = fold next_context kept bytes
+
+-- The word behind so many of the bytes is too short for an address, unless they are none or all of
+-- these.
+abbrev pub ArePlain : KeptContext → List ℕ → ℕ → Type 0
+ArePlain kept bytes n =
+    (n ≤ length bytes)
+    × ((k : ℕ) → 0 < k → k < n → length (context_over kept (take k bytes)).context.word ≤ 10)
+
+-- how long a word is at most behind a byte more
+abbrev pub next_length : ℕ → ℕ → ℕ
+next_length n b = if is_word_byte b then n + 1 else if is_closer b then n else 0
+
+-- a marker and the last bytes become those behind these bytes, whatever the word is
+abbrev pub IsMarkedBy : Bool → List ℕ → Bool → List ℕ → List ℕ → Type 0
+IsMarkedBy marked recent marked' recent' bytes =
+    (kept : KeptContext) → kept.context.is_marked ≡ marked → kept.recent ≡ recent
+    → (marked' ≡ (context_over kept bytes).context.is_marked)
+    × (recent' ≡ (context_over kept bytes).recent)
 
 -- the rest of a log, with what is inserted, where so much is kept of the bytes before it
 abbrev pub annotated_from : Answering → KeptContext → List ℕ → List ℕ

@@ -13,6 +13,10 @@ is_word_byte b = is_digit b 36 || b == 95
 abbrev pub is_closer : ℕ → Bool
 is_closer b = b == 41 || b == 62 || b == 93
 
+-- what a byte is: 2 in a word, 1 a closer, and 0 any other
+abbrev pub kind_of : ℕ → ℕ
+kind_of b = if is_word_byte b then 2 else if is_closer b then 1 else 0
+
 -- `0x` or `0X`
 abbrev pub has_prefix : List ℕ → Bool
 has_prefix word = starts_with nat_eq word (codes "0x") || starts_with nat_eq word (codes "0X")

@@ -1,7 +1,16 @@
-//! The bytes of a log, passed one by one, with what is inserted before each of them.
+//! The bytes of a log, passed on with what is inserted before each of them.
+//!
+//! Nearly all of them stand behind words that are too short for an address, where nothing is
+//! inserted. Such bytes are passed together, and put out together with those around them:
+//!
+//! ```text
+//! bytes:      at [<ffffffff81000108>] of 3 pages, flags
+//! passed:     |-------------||||||||||-----------------|
+//! put out:    |-----------------------| text
+//! ```
 ghost use Rattle.std.specs.Prelude.{◌≡◌, ◌<◌, false, length, IfOk};
 ghost use Rattle.listing.specs.LogContexts.{kept_in};
-ghost use Rattle.listing.specs.Insertions.{IsInsert, IsPassed, IsStep, answering_of};
+ghost use Rattle.listing.specs.Insertions.{IsInsert, IsInsertionAt, IsPassed, answering_of};
 
 use crate::insertions::{Insertion, LogAnswers};
 use crate::log_contexts::Context;
@@ -9,7 +18,7 @@ use std::alloc::AllocError;
 
 impl<'i, 'c> LogAnswers<'i, 'c> {
     /// Puts the bytes, with what is inserted before each of them, as far as that is decided, and
-    /// returns how many they are.
+    /// returns how many they are. Up to `put` they are put already.
     pub(crate) fn pass(
         &self,
         context: &mut Context,
@@ -20,38 +29,48 @@ impl<'i, 'c> LogAnswers<'i, 'c> {
         ensures { IfOk result (IsPassed (answering_of self.now) (kept_in context.old)
             (kept_in context.new) bytes.now is_last out.old.items out.new.items) }
     {
-        for i in 0..bytes.len() {
-            if !self.step(context, &bytes[i..], is_last, out)? {
-                return Ok(i);
+        let mut put = 0;
+        let mut at = 0;
+        while at < bytes.len() {
+            let rest = &bytes[at..];
+            match self.insertion_behind(context, rest, is_last)? {
+                Insertion::Nothing => {}
+                Insertion::Text(text) => {
+                    out.extend_from_slice(&bytes[put..at])?;
+                    out.extend_from_slice(&text)?;
+                    put = at;
+                }
+                Insertion::Undecided => {
+                    out.extend_from_slice(&bytes[put..at])?;
+                    return Ok(at);
+                }
             }
+            at += context.pass_some(rest);
         }
-        Ok(bytes.len())
+        out.extend_from_slice(&bytes[put..at])?;
+        Ok(at)
     }
 
-    /// Puts what is inserted before the first of the bytes, and then that byte, if the former is
-    /// decided.
+    /// What is inserted before the bytes. Behind a word that is too short for an address it is
+    /// nothing.
     #[inline]
-    fn step(
+    fn insertion_behind(
         &self,
-        context: &mut Context,
+        context: &Context,
         rest: &[u8],
         is_last: bool,
-        out: &mut Vec<u8>,
-    ) -> Result<bool, AllocError>
-        requires { 0 < length rest.now }
-        ensures { IfOk result (IsStep (answering_of self.now) (kept_in context.old)
-            (kept_in context.new) rest.now is_last out.old.items out.new.items) }
+    ) -> Result<Insertion, AllocError>
+        requires { is_last ≡ false → 0 < length rest.now }
+        ensures { IfOk result (IsInsertionAt (answering_of self.now) (kept_in context.now).context
+            rest.now is_last) }
     {
-        if !self.insert(context, rest, is_last, out)? {
-            return Ok(false);
+        if context.has_short_word() {
+            return Ok(Insertion::Nothing);
         }
-        out.push(rest[0])?;
-        context.pass(rest[0]);
-        Ok(true)
+        self.insertion_at(context, rest, is_last)
     }
 
-    /// Puts what is inserted before the bytes, if that is decided. Behind a word that is too short
-    /// for an address it is nothing.
+    /// Puts what is inserted before the bytes, if that is decided.
     #[inline]
     pub(crate) fn insert(
         &self,

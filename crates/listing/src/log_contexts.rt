@@ -7,12 +7,14 @@
 //!     ^^^^        ^^^^^^^^^^^^^^^^ ^^
 //!     marker      word             closers
 //! ```
-ghost use Rattle.std.specs.Prelude.{◌≡◌, ◌∷◌, length, nat_le};
+ghost use Rattle.std.specs.Prelude.{◌≡◌, ◌∷◌, ◌≤◌, ◌<◌, ◌-◌, ◌&&◌, ◌||◌, ◌==◌, not, false, length};
+ghost use Rattle.std.specs.Prelude.{nat_le, slice_index_or, take};
 ghost use Rattle.listing.specs.AnnotatedLogs.{ends_marked};
-ghost use Rattle.listing.specs.LogContexts.{first_context, kept_in, next_context, next_word};
-ghost use Rattle.listing.specs.LogWords.{is_closer};
+ghost use Rattle.listing.specs.LogContexts.{ArePlain, IsMarkedBy, context_over, first_context};
+ghost use Rattle.listing.specs.LogContexts.{kept_in, next_context, next_length, next_word};
+ghost use Rattle.listing.specs.LogWords.{is_closer, is_word_byte};
 
-use crate::log_words::{is_closer, is_word_byte};
+use crate::log_words::{is_closer, is_word_byte, kind_of};
 use arrayvec::ArrayVec;
 
 /// One byte more than the longest address word has: a longer word is none, however it goes on.
@@ -56,17 +58,81 @@ impl Context {
         self.word.len() <= SHORT_WORD
     }
 
-    /// Goes on behind a byte.
-    #[inline]
-    pub(crate) fn pass(&mut self, byte: u8)
-        ensures { kept_in self.new ≡ next_context (kept_in self.old) byte }
+    /// Goes on behind some of the bytes, one at least, and returns how many they are: behind the
+    /// first of them stands no word but such as are too short for an address.
+    pub(crate) fn pass_some(&mut self, bytes: &[u8]) -> usize
+        requires { 0 < length bytes.now }
+        ensures some { 0 < result }
+        ensures plain { ArePlain (kept_in self.old) bytes.now result }
+        ensures context { kept_in self.new
+            ≡ context_over (kept_in self.old) (take result bytes.now) }
     {
-        self.pass_word(byte);
-        self.is_marked = byte != b'\n' && (self.is_marked || self.ends_marked(byte));
-        self.recent = [byte, self.recent[0], self.recent[1]];
+        let count = self.plain_bytes(bytes).max(1);
+        self.pass_all(&bytes[..count]);
+        count
     }
 
-    /// The same of the word alone.
+    /// How many of the bytes have a word before them that is too short for an address, up to the
+    /// first that has another one.
+    fn plain_bytes(&self, bytes: &[u8]) -> usize
+        ensures { ArePlain (kept_in self.now) bytes.now result }
+    {
+        let mut length = self.word.len();
+        for i in 0..bytes.len() {
+            if length > SHORT_WORD {
+                return i;
+            }
+            length = next_length(length, bytes[i]);
+        }
+        bytes.len()
+    }
+
+    /// Goes on behind all of the bytes.
+    fn pass_all(&mut self, bytes: &[u8])
+        ensures { kept_in self.new ≡ context_over (kept_in self.old) bytes.now }
+    {
+        self.pass_words(bytes);
+        self.pass_marks(bytes);
+    }
+
+    /// The same of the word alone. What stands before the last byte that ends a word is of no
+    /// matter.
+    fn pass_words(&mut self, bytes: &[u8])
+        ensures word { self.new.word.items
+            ≡ (context_over (kept_in self.old) bytes.now).context.word }
+        ensures closed { self.new.is_closed
+            ≡ (context_over (kept_in self.old) bytes.now).context.is_closed }
+        ensures marked { self.new.is_marked ≡ self.old.is_marked }
+        ensures recent { self.new.recent ≡ self.old.recent }
+    {
+        let start = behind_last_end(bytes);
+        if start > 0 {
+            self.word.clear();
+            self.is_closed = false;
+        }
+        for i in start..bytes.len() {
+            self.pass_word(bytes[i]);
+        }
+    }
+
+    /// The same of the marker and the last bytes, which are kept apart while the bytes go by.
+    fn pass_marks(&mut self, bytes: &[u8])
+        ensures marks { IsMarkedBy self.old.is_marked self.old.recent self.new.is_marked
+            self.new.recent bytes.now }
+        ensures word { self.new.word.items ≡ self.old.word.items }
+        ensures closed { self.new.is_closed ≡ self.old.is_closed }
+    {
+        let mut is_marked = self.is_marked;
+        let mut recent = self.recent;
+        for byte in bytes {
+            is_marked = is_marked_behind(is_marked, recent, *byte);
+            recent = [*byte, recent[0], recent[1]];
+        }
+        self.is_marked = is_marked;
+        self.recent = recent;
+    }
+
+    /// The word behind a byte more.
     #[inline]
     fn pass_word(&mut self, byte: u8)
         ensures word { self.new.word.items ≡ next_word (kept_in self.old).context byte }
@@ -86,12 +152,47 @@ impl Context {
         }
         self.is_closed = is_closer(byte);
     }
+}
 
-    /// Whether a marker ends in this byte.
-    #[inline]
-    fn ends_marked(&self, byte: u8) -> bool
-        ensures { result ≡ ends_marked (byte ∷ self.now.recent) }
-    {
-        byte == b':' && matches!(self.recent, [b'P', b'I', b'R'] | [b' ', b'c', b'p'])
+/// Whether the line has a marker behind a byte more.
+#[inline]
+fn is_marked_behind(is_marked: bool, recent: [u8; 3], byte: u8) -> bool
+    ensures { result ≡ (not (byte == 10) && (ends_marked (byte ∷ recent) || is_marked)) }
+{
+    byte != b'\n' && (is_marked || ends_marked(recent, byte))
+}
+
+/// Whether a marker ends in this byte.
+#[inline]
+fn ends_marked(recent: [u8; 3], byte: u8) -> bool
+    ensures { result ≡ ends_marked (byte ∷ recent) }
+{
+    byte == b':' && matches!(recent, [b'P', b'I', b'R'] | [b' ', b'c', b'p'])
+}
+
+/// How long a word is at most behind a byte more.
+#[inline]
+fn next_length(length: usize, byte: u8) -> usize
+    requires { length ≤ 10 }
+    ensures { result ≡ next_length length byte }
+{
+    let kind = kind_of(byte);
+    if kind == 0 {
+        0
+    } else {
+        length + usize::from(kind) - 1
     }
+}
+
+/// The place behind the last of the bytes that ends a word and is no closer, or 0.
+fn behind_last_end(bytes: &[u8]) -> usize
+    ensures within { result ≤ length bytes.now }
+    ensures word { 0 < result → is_word_byte (slice_index_or bytes.now (result - 1) 0) ≡ false }
+    ensures closer { 0 < result → is_closer (slice_index_or bytes.now (result - 1) 0) ≡ false }
+{
+    let mut start = bytes.len();
+    while start > 0 && (is_word_byte(bytes[start - 1]) || is_closer(bytes[start - 1])) {
+        start -= 1;
+    }
+    start
 }

@@ -142,7 +142,7 @@ static DIGITS: [u8; 256] = [
 /// A table costs less than comparisons, since the digits and letters of an address come in no order
 /// that a processor could guess.
 #[inline]
-fn digit_of(byte: u8) -> u64
+pub(crate) fn digit_of(byte: u8) -> u64
     ensures value { result ≡ digit_value byte }
     ensures small { result < 256 }
 {

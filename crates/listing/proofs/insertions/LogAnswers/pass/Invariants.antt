@@ -1,7 +1,11 @@
+use Rattle.std.proofs.Common.{◌-◌, length}
 use Rattle.listing.specs.LogContexts.{kept_in}
 use Rattle.listing.specs.Insertions.{answering_of}
-use Rattle.listing.proofs.InsertionLemmas.{HasPassed}
+use Rattle.listing.proofs.LogPassLemmas.{HasPut}
 use Rattle.listing.proofs.insertions.LogAnswers.pass.Given as goal
 
-abbrev pub invariant-loop-i : goal.invariant-loop-i
-invariant-loop-i l = HasPassed (answering_of l.fn.self) (kept_in l.fn.context) (kept_in l.context) l.bytes l.is_last l.fn.out.items l.out.items l.i
+abbrev pub invariant-loop-at : goal.invariant-loop-at
+invariant-loop-at l = HasPut (answering_of l.fn.self) (kept_in l.fn.context) (kept_in l.context) l.bytes l.is_last l.fn.out.items l.out.items l.put l.at
+
+abbrev pub decreases-loop-at : goal.decreases-loop-at
+decreases-loop-at l = length l.bytes - l.at

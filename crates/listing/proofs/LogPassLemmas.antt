@@ -1,0 +1,258 @@
+-- Bytes of a log that are passed together.
+use Rattle.std.proofs.Common.{◌≡◌, ◌∙◌, ℕ, zero, suc, ◌+◌, ◌-◌, ◌<◌, ◌≤◌, inl, inr, Bool, true, false, true≢false, cond, List, [], ◌∷◌, ◌++◌, length, get_or, take, drop, refl, sym, ap, subst, ⊎_elim, arith, append-nil, append_assoc, length-append, length-take, length-drop, drop-drop}
+use Rattle.std.specs.Prelude.{◌&&◌, ◌||◌, not, ◌==◌, nat_lt}
+use Rattle.std.proofs.lemmas.Bool.{and_parts, cases_lt, eqb-true}
+use Rattle.std.specs.Global.{Vec}
+use Rattle.std.proofs.lemmas.List.{drop-append-le, drop-take, length-take-le, take-append-drop, take_rest, take-take}
+use Rattle.std.proofs.lemmas.List.Sums.{fold-append, fold_more}
+use Rattle.listing.specs.LogWords.{is_closer, is_word_byte, kind_of}
+use Rattle.listing.specs.AnnotatedLogs.{Answering, LogContext, ends_marked, insertion_at}
+use Rattle.listing.specs.Insertions.{IsInserted, IsInsertionAt, IsPassed, IsWaiting, KeepsPromise}
+use Rattle.listing.specs.LogContexts.{ArePlain, IsMarkedBy, KeptContext, annotated_from, context_over, kept_in, next_context, next_length, next_word, with_byte}
+use Rattle.listing.specs.declared.insertions.Insertion.{Insertion}
+use Rattle.listing.specs.declared.insertions.Insertion.TheVariants.{Nothing, Text, Undecided}
+use Rattle.listing.specs.declared.log_contexts.Context.{Context}
+use Rattle.listing.proofs.InsertionLemmas.{short_insertion}
+
+-- ---- a table of what bytes are
+
+-- the table holds what the bytes from n on are
+abbrev pub holds_kinds : ℕ → List ℕ → Bool
+holds_kinds n [] = true
+holds_kinds n (kind ∷ kinds) = kind == kind_of n && holds_kinds (n + 1) kinds
+
+pub kind_at : (table : List ℕ) (n k : ℕ) → holds_kinds n table ≡ true → k < length table → get_or table k 0 ≡ kind_of (n + k)
+kind_at [] n k holds below = absurd (omega arith)
+kind_at (kind ∷ kinds) n zero holds below =
+    let same : n ≡ n + 0 = omega arith in
+    eqb-true kind (kind_of n) (and_parts _ _ holds).0 ∙ ap kind_of same
+kind_at (kind ∷ kinds) n (suc k) holds below =
+    let same : n + 1 + k ≡ n + suc k = omega arith in
+    kind_at kinds (n + 1) k (and_parts _ _ holds).1 (omega arith) ∙ ap kind_of same
+
+-- ---- how long a word is
+
+grown : (word : List ℕ) (b m : ℕ) → length word ≤ m → length (with_byte word b) ≤ m + 1
+grown word b m short =
+    elim (nat_lt (length word) 19) as (λ t. length (cond t (word ++ b ∷ []) word) ≤ m + 1) [
+      | true ↦ let n = length-append word (b ∷ []) in omega (arith, n, short)
+      | false ↦ omega (arith, short)
+    ]
+
+by_kind : (is_word is_close closed : Bool) (word more : List ℕ) (b m : ℕ) → length word ≤ m → length more ≤ m + 1
+    → length (cond is_word (cond closed (b ∷ []) more) (cond is_close word [])) ≤ cond is_word (m + 1) (cond is_close m 0)
+by_kind true is_close true word more b m short longer = omega arith
+by_kind true is_close false word more b m short longer = longer
+by_kind false true closed word more b m short longer = short
+by_kind false false closed word more b m short longer = omega arith
+
+next_word_length : (context : LogContext) (b m : ℕ) → length context.word ≤ m → length (next_word context b) ≤ next_length m b
+next_word_length context b m short = by_kind (is_word_byte b) (is_closer b) context.is_closed context.word (with_byte context.word b) b m short (grown context.word b m short)
+
+pub longer_by : (kept : KeptContext) (bytes : List ℕ) (i m : ℕ) → i < length bytes → length (context_over kept (take i bytes)).context.word ≤ m
+    → length (context_over kept (take (i + 1) bytes)).context.word ≤ next_length m (get_or bytes i 0)
+longer_by kept bytes i m below short =
+    subst (λ (k : KeptContext). length k.context.word ≤ next_length m (get_or bytes i 0)) (sym (fold_more next_context kept bytes i 0 below))
+    (next_word_length (context_over kept (take i bytes)).context (get_or bytes i 0) m short)
+
+-- one place more has a short word before it
+pub plain_more : (kept : KeptContext) (bytes : List ℕ) (i : ℕ) → length (context_over kept (take i bytes)).context.word ≤ 10
+    → ((k : ℕ) → 0 < k → k < i → length (context_over kept (take k bytes)).context.word ≤ 10)
+    → (k : ℕ) → 0 < k → k < i + 1 → length (context_over kept (take k bytes)).context.word ≤ 10
+plain_more kept bytes i short plain k some below =
+    ⊎_elim
+    (λ less. plain k some less)
+    (λ ge. let same : i ≡ k = omega arith in subst (λ j. length (context_over kept (take j bytes)).context.word ≤ 10) same short)
+    (cases_lt k i)
+
+-- ---- markers
+
+pub marks_more : (m m' m'' : Bool) (r r' r'' bytes : List ℕ) (i : ℕ) → i < length bytes → IsMarkedBy m r m' r' (take i bytes)
+    → m'' ≡ (not (get_or bytes i 0 == 10) && (ends_marked (get_or bytes i 0 ∷ r') || m'))
+    → r'' ≡ get_or bytes i 0 ∷ take 2 r' → IsMarkedBy m r m'' r'' (take (i + 1) bytes)
+marks_more m m' m'' r r' r'' bytes i below before marked recent kept same_mark same_recent =
+    let b : ℕ = get_or bytes i 0 in
+    let was = before kept same_mark same_recent in
+    let next = fold_more next_context kept bytes i 0 below in (
+      marked
+          ∙ ap (λ (x : List ℕ). not (b == 10) && (ends_marked (b ∷ x) || m')) was.1
+          ∙ ap (λ (x : Bool). not (b == 10) && (ends_marked (b ∷ (context_over kept (take i bytes)).recent) || x)) was.0
+          ∙ sym (ap (λ (k : KeptContext). k.context.is_marked) next),
+      recent ∙ ap (λ (x : List ℕ). b ∷ take 2 x) was.1 ∙ sym (ap (λ (k : KeptContext). k.recent) next),
+    )
+
+pub two_of : (r : List ℕ) → length r ≡ 3 → get_or r 0 0 ∷ get_or r 1 0 ∷ [] ≡ take 2 r
+two_of [] e = absurd (omega (arith, e))
+two_of (x ∷ []) e = absurd (omega (arith, e))
+two_of (x ∷ y ∷ r) e = refl
+
+-- ---- words
+
+ended : (is_word is_close closed : Bool) (word more : List ℕ) (b : ℕ) → is_word ≡ false → is_close ≡ false → cond is_word (cond closed (b ∷ []) more) (cond is_close word []) ≡ []
+ended is_word is_close closed word more b e f = rw (e, f) refl
+
+-- a byte that ends a word leaves nothing of it
+pub none_behind : (kept : KeptContext) (bytes : List ℕ) (s : ℕ) → 0 < s → s ≤ length bytes → is_word_byte (get_or bytes (s - 1) 0) ≡ false → is_closer (get_or bytes (s - 1) 0) ≡ false
+    → ([] ≡ (context_over kept (take s bytes)).context.word) × (false ≡ (context_over kept (take s bytes)).context.is_closed)
+none_behind kept bytes s some within no_word no_closer =
+    let b : ℕ = get_or bytes (s - 1) 0 in
+    let before : KeptContext = context_over kept (take (s - 1) bytes) in
+    let same : s - 1 + 1 ≡ s = omega arith in
+    let next = fold_more next_context kept bytes (s - 1) 0 (omega arith) in
+    let is : next_context before b ≡ context_over kept (take s bytes) = sym next ∙ ap (λ j. context_over kept (take j bytes)) same in (
+      sym (ended (is_word_byte b) (is_closer b) before.context.is_closed before.context.word (with_byte before.context.word b) b no_word no_closer) ∙ ap (λ (k : KeptContext). k.context.word) is,
+      sym no_closer ∙ ap (λ (k : KeptContext). k.context.is_closed) is,
+    )
+
+pub words_more : (kept : KeptContext) (bytes : List ℕ) (i : ℕ) (c c' : Context) → i < length bytes
+    → c.word.items ≡ (context_over kept (take i bytes)).context.word → c.is_closed ≡ (context_over kept (take i bytes)).context.is_closed
+    → c'.word.items ≡ next_word (kept_in c).context (get_or bytes i 0) → c'.is_closed ≡ is_closer (get_or bytes i 0)
+    → (c'.word.items ≡ (context_over kept (take (i + 1) bytes)).context.word) × (c'.is_closed ≡ (context_over kept (take (i + 1) bytes)).context.is_closed)
+words_more kept bytes i c c' below word closed word' closed' =
+    let b : ℕ = get_or bytes i 0 in
+    let before : KeptContext = context_over kept (take i bytes) in
+    let next = fold_more next_context kept bytes i 0 below in (
+      word'
+          ∙ ap (λ (w : List ℕ). cond (is_word_byte b) (cond c.is_closed (b ∷ []) (with_byte w b)) (cond (is_closer b) w [])) word
+          ∙ ap (λ (t : Bool). cond (is_word_byte b) (cond t (b ∷ []) (with_byte before.context.word b)) (cond (is_closer b) before.context.word [])) closed
+          ∙ sym (ap (λ (k : KeptContext). k.context.word) next),
+      closed' ∙ sym (ap (λ (k : KeptContext). k.context.is_closed) next),
+    )
+
+-- ---- all of it
+
+pub all_of : (c : Context) (k : KeptContext) → c.word.items ≡ k.context.word → c.is_closed ≡ k.context.is_closed → c.is_marked ≡ k.context.is_marked → c.recent ≡ k.recent → kept_in c ≡ k
+all_of c k word closed marked recent =
+    ap (λ (w : List ℕ). of w c.is_closed c.is_marked c.recent) word
+    ∙ ap (λ (x : Bool). of k.context.word x c.is_marked c.recent) closed
+    ∙ ap (λ (x : Bool). of k.context.word k.context.is_closed x c.recent) marked
+    ∙ ap (of k.context.word k.context.is_closed k.context.is_marked) recent
+  where
+    of : List ℕ → Bool → Bool → List ℕ → KeptContext
+    of word closed marked recent = record {
+      context = record { word = word; is_closed = closed; is_marked = marked };
+      recent = recent;
+    }
+
+-- ---- what is put out for bytes that are passed together
+
+-- bytes behind short words are put as they are
+plain_put : (answer : Answering) (kept : KeptContext) (seg rest : List ℕ) → ((k : ℕ) → k < length seg → length (context_over kept (take k seg)).context.word ≤ 10)
+    → annotated_from answer kept (seg ++ rest) ≡ seg ++ annotated_from answer (context_over kept seg) rest
+plain_put answer kept [] rest short = refl
+plain_put answer kept (b ∷ seg) rest short =
+    ap (λ (t : List ℕ). t ++ b ∷ annotated_from answer (next_context kept b) (seg ++ rest)) (short_insertion answer kept.context (b ∷ seg ++ rest) (short 0 (omega arith)))
+    ∙ ap (λ (t : List ℕ). b ∷ t) (plain_put answer (next_context kept b) seg rest (λ k below. short (suc k) (omega (arith, below))))
+
+-- so many bytes are put behind what is inserted before the first of them
+some_put : (answer : Answering) (kept : KeptContext) (bytes : List ℕ) (n : ℕ) (text more : List ℕ) → 0 < n → ArePlain kept bytes n → insertion_at answer kept.context (bytes ++ more) ≡ text
+    → annotated_from answer kept (bytes ++ more) ≡ text ++ (take n bytes ++ annotated_from answer (context_over kept (take n bytes)) (drop n bytes ++ more))
+some_put answer kept bytes zero text more some plain is = absurd (omega (arith, some))
+some_put answer kept [] (suc n) text more some plain is = absurd (let few = plain.0 in omega (arith, few))
+some_put answer kept (b ∷ bytes) (suc n) text more some plain is =
+    ap (λ (t : List ℕ). t ++ b ∷ annotated_from answer (next_context kept b) (bytes ++ more)) is
+    ∙ ap (λ (t : List ℕ). text ++ b ∷ t) (
+    ap (λ (l : List ℕ). annotated_from answer (next_context kept b) (l ++ more)) (sym (take-append-drop n bytes))
+    ∙ ap (annotated_from answer (next_context kept b)) (append_assoc (take n bytes) (drop n bytes) more)
+    ∙ plain_put answer (next_context kept b) (take n bytes) (drop n bytes ++ more) (λ k below.
+    let within = length-take n bytes in
+    let less : k < n = omega (arith, below, within) in
+    subst (λ (l : List ℕ). length (context_over (next_context kept b) l).context.word ≤ 10) (sym (take-take k n bytes (omega (arith, less)))) (plain.1 (suc k) (omega arith) (omega (arith, less)))))
+
+-- So many bytes are passed. Those from a place on are not put out yet.
+pub record HasPut (answer : Answering) (first kept : KeptContext) (bytes : List ℕ) (is_last : Bool) (before out : List ℕ) (put at : ℕ) : Type 0 where
+  pub put_below : put ≤ at
+  pub among : at ≤ length bytes
+  pub keeps : KeepsPromise answer first kept bytes is_last before (out ++ drop put (take at bytes)) at
+  pub context : kept ≡ context_over first (take at bytes)
+
+take_parts : (at n : ℕ) (bytes : List ℕ) → take (at + n) bytes ≡ take at bytes ++ take n (drop at bytes)
+take_parts at n bytes =
+    sym (take-append-drop at (take (at + n) bytes))
+    ∙ ap (λ (l : List ℕ). l ++ drop at (take (at + n) bytes)) (take-take at (at + n) bytes (omega arith))
+    ∙ ap (λ (l : List ℕ). take at bytes ++ l) (drop-take at n bytes)
+
+pub put_none : (answer : Answering) (first : KeptContext) (bytes : List ℕ) (is_last : Bool) (before : List ℕ) → HasPut answer first first bytes is_last before before 0 0
+put_none answer first bytes is_last before = record {
+  put_below = omega arith;
+  among = omega arith;
+  keeps = λ more may. ap (λ (o : List ℕ). o ++ annotated_from answer first (bytes ++ more)) (append-nil before);
+  context = refl;
+}
+
+pub put_more : (answer : Answering) (first kept kept' : KeptContext) (bytes : List ℕ) (is_last : Bool) (before out out' : List ℕ) (put put' at n : ℕ) (text : List ℕ)
+    → HasPut answer first kept bytes is_last before out put at → 0 < n → ArePlain kept (drop at bytes) n → kept' ≡ context_over kept (take n (drop at bytes)) → IsInserted answer kept.context (drop at bytes) is_last text
+    → put' ≤ at → out' ++ drop put' (take at bytes) ≡ (out ++ drop put (take at bytes)) ++ text
+    → HasPut answer first kept' bytes is_last before out' put' (at + n)
+put_more answer first kept kept' bytes is_last before out out' put put' at n text has some plain is inserted below outs = record {
+  put_below = omega (arith, below);
+  among = (let left = length-drop at bytes in let few = plain.0 in let all = has.among in omega (arith, left, few, all));
+  keeps = λ more may.
+      let rest : List ℕ = drop at bytes in
+      let seg : List ℕ = take n rest in
+      let virtual : List ℕ = out ++ drop put (take at bytes) in
+      let fits : put' ≤ length (take at bytes) = (let n = length-take-le at bytes has.among in omega (arith, n, below)) in
+      let grew : out' ++ drop put' (take (at + n) bytes) ≡ (virtual ++ text) ++ seg =
+      ap (λ (l : List ℕ). out' ++ drop put' l) (take_parts at n bytes)
+      ∙ ap (λ (l : List ℕ). out' ++ l) (drop-append-le put' (take at bytes) seg fits)
+      ∙ sym (append_assoc out' (drop put' (take at bytes)) seg)
+      ∙ ap (λ (l : List ℕ). l ++ seg) outs in
+      let owed : List ℕ = annotated_from answer (context_over kept seg) (drop n rest ++ more) in
+      ap (λ (o : List ℕ). o ++ annotated_from answer kept' (drop (at + n) bytes ++ more)) grew
+      ∙ ap (λ (l : List ℕ). ((virtual ++ text) ++ seg) ++ annotated_from answer kept' (l ++ more)) (sym (drop-drop n at bytes))
+      ∙ ap (λ (k : KeptContext). ((virtual ++ text) ++ seg) ++ annotated_from answer k (drop n rest ++ more)) is
+      ∙ append_assoc (virtual ++ text) seg owed
+      ∙ append_assoc virtual text (seg ++ owed)
+      ∙ ap (λ (l : List ℕ). virtual ++ l) (sym (some_put answer kept rest n text more some plain (inserted more may)))
+      ∙ has.keeps more may;
+  context =
+      is
+      ∙ ap (λ (k : KeptContext). context_over k (take n (drop at bytes))) has.context
+      ∙ sym (fold-append next_context first (take at bytes) (take n (drop at bytes)))
+      ∙ ap (context_over first) (sym (take_parts at n bytes));
+}
+
+-- what is held back is put too, where all bytes are passed
+pub put_all : (answer : Answering) (first kept : KeptContext) (bytes : List ℕ) (is_last : Bool) (before out out' : List ℕ) (put at : ℕ) → HasPut answer first kept bytes is_last before out put at → at ≡ length bytes
+    → out' ≡ out ++ drop put (take at bytes) → IsPassed answer first kept bytes is_last before out' at
+put_all answer first kept bytes is_last before out out' put at has all is = record {
+  among = has.among;
+  whole = λ last. all;
+  context = has.context;
+  rest = inl all;
+  keeps = λ more may. ap (λ (o : List ℕ). o ++ annotated_from answer kept (drop at bytes ++ more)) is ∙ has.keeps more may;
+}
+
+-- and where the next one waits
+pub put_waiting : (answer : Answering) (first kept : KeptContext) (bytes : List ℕ) (is_last : Bool) (before out out' : List ℕ) (put at : ℕ) → HasPut answer first kept bytes is_last before out put at
+    → (is_last ≡ false) × IsWaiting answer kept.context (drop at bytes)
+    → out' ≡ out ++ drop put (take at bytes) → IsPassed answer first kept bytes is_last before out' at
+put_waiting answer first kept bytes is_last before out out' put at has (not_last, waits) is = record {
+  among = has.among;
+  whole = λ last. absurd (true≢false (sym last ∙ not_last));
+  context = has.context;
+  rest = inr waits;
+  keeps = λ more may. ap (λ (o : List ℕ). o ++ annotated_from answer kept (drop at bytes ++ more)) is ∙ has.keeps more may;
+}
+
+-- ---- what is read off what is inserted
+
+pub undecided : (answer : Answering) (context : LogContext) (bytes : List ℕ) (at : ℕ) (is_last : Bool) (i : Insertion) → i ≡ Undecided → IsInsertionAt answer context (take (length bytes - at) (drop at bytes)) is_last i
+    → (is_last ≡ false) × IsWaiting answer context (drop at bytes)
+undecided answer context bytes at is_last i is h =
+    subst (λ (l : List ℕ). IsInsertionAt answer context l is_last Undecided) (take_rest bytes at) (subst (λ (j : Insertion). IsInsertionAt answer context (take (length bytes - at) (drop at bytes)) is_last j) is h)
+
+pub nothing : (answer : Answering) (context : LogContext) (bytes : List ℕ) (at : ℕ) (is_last : Bool) (i : Insertion) → i ≡ Nothing → IsInsertionAt answer context (take (length bytes - at) (drop at bytes)) is_last i
+    → IsInserted answer context (drop at bytes) is_last []
+nothing answer context bytes at is_last i is h =
+    subst (λ (l : List ℕ). IsInsertionAt answer context l is_last Nothing) (take_rest bytes at) (subst (λ (j : Insertion). IsInsertionAt answer context (take (length bytes - at) (drop at bytes)) is_last j) is h)
+
+pub a_text : (answer : Answering) (context : LogContext) (bytes : List ℕ) (at : ℕ) (is_last : Bool) (i : Insertion) (text : Vec ℕ) → i ≡ Text text → IsInsertionAt answer context (take (length bytes - at) (drop at bytes)) is_last i
+    → IsInserted answer context (drop at bytes) is_last text.items
+a_text answer context bytes at is_last i text is h =
+    subst (λ (l : List ℕ). IsInsertionAt answer context l is_last (Text text)) (take_rest bytes at) (subst (λ (j : Insertion). IsInsertionAt answer context (take (length bytes - at) (drop at bytes)) is_last j) is h)
+
+pub held_back : (bytes : List ℕ) (put at : ℕ) → put ≤ at → take (at - put) (drop put bytes) ≡ drop put (take at bytes)
+held_back bytes put at below =
+    let same : put + (at - put) ≡ at = omega (arith, below) in
+    sym (drop-take put (at - put) bytes) ∙ ap (λ (n : ℕ). drop put (take n bytes)) same
