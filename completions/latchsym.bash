@@ -11,7 +11,7 @@ _latchsym() {
     COMPREPLY=()
 
     if [ "$COMP_CWORD" = 1 ]; then
-        mapfile -t COMPREPLY < <(compgen -W 'trace lookup run annotate check help -h --help -V --version' -- "$word")
+        mapfile -t COMPREPLY < <(compgen -W 'trace lookup run annotate check address help -h --help -V --version' -- "$word")
         return
     fi
     case ${COMP_WORDS[1]} in
@@ -20,8 +20,9 @@ _latchsym() {
         run) options='--modules --kallsyms --regions --kernel --readers -h --help' ;;
         annotate) options='--kallsyms --modules --regions --kernel --callers --offset -h --help' ;;
         check) options='--modules --kallsyms --regions --kernel -h --help' ;;
+        address) options='--kallsyms --modules --regions --kernel -h --help' ;;
         help)
-            mapfile -t COMPREPLY < <(compgen -W 'trace lookup run annotate check help' -- "$word")
+            mapfile -t COMPREPLY < <(compgen -W 'trace lookup run annotate check address help' -- "$word")
             return
             ;;
         *) return ;;
@@ -39,7 +40,7 @@ _latchsym() {
     esac
     if [ "${COMP_WORDS[COMP_CWORD - 2]}" = --kernel ]; then
         mapfile -t COMPREPLY < <(compgen -W '_end _einittext _etext' -- "$word")
-    elif [[ $word = -* || ${COMP_WORDS[1]} = lookup || ${COMP_WORDS[1]} = check ]]; then
+    elif [[ $word = -* || ${COMP_WORDS[1]} = lookup || ${COMP_WORDS[1]} = check || ${COMP_WORDS[1]} = address ]]; then
         mapfile -t COMPREPLY < <(compgen -W "$options" -- "$word")
     else
         compopt -o default

@@ -16,7 +16,7 @@ abbrev pub texts : List (Bor Text) → List Text
 texts words = map (λ w. w.now) words
 
 module _ (words : List (Bor Text)) (i : ℕ) (d : Bor Text) (lt : i < length words) where
-  text_more : texts (take (i + 1) words) ≡ texts (take i words) ++ (get_or words i d).now ∷ []
+  pub text_more : texts (take (i + 1) words) ≡ texts (take i words) ++ (get_or words i d).now ∷ []
   text_more = ap texts (take_more words i d lt) ∙ map-append (λ (w : Bor Text). w.now) (take i words) (get_or words i d ∷ [])
 
   found_more : (o : Option ℕ) → number_of (get_or words i d).now ≡ o → find is_no_number (texts (take i words)) ≡ None

@@ -40,6 +40,10 @@ words_rule id = record (new_rule id) {
   value_names = 1;
 }
 
+-- the same, where there has to be one
+abbrev pub some_words_rule : Text → Rule
+some_words_rule id = record (words_rule id) { required = true }
+
 -- trace FILE
 abbrev pub trace_app : App
 trace_app = with_rule (new_app (codes "trace")) (word_rule (codes "file"))
@@ -99,6 +103,19 @@ annotate_app =
 abbrev pub check_app : App
 check_app = with_listings (new_app (codes "check")) (optional_rule (codes "modules"))
 
+-- address [--kallsyms FILE] [--modules FILE] [--regions FILE] [--kernel START END] NAME..
+abbrev pub address_app : App
+address_app =
+    with_rule
+    (with_rule
+    (with_rule
+    (with_rule
+    (with_rule (new_app (codes "address")) (optional_rule (codes "kallsyms")))
+    (optional_rule (codes "modules")))
+    (optional_rule (codes "regions")))
+    (pair_rule (codes "kernel")))
+    (some_words_rule (codes "name"))
+
 -- a subcommand has to be given, but for `--version`
 abbrev pub top_app : App
 top_app =
@@ -110,10 +127,12 @@ latchsym_app =
     with_subcommand
     (with_subcommand
     (with_subcommand
+    (with_subcommand
     (with_subcommand (with_subcommand top_app trace_app.top) lookup_app.top)
     run_app.top)
     annotate_app.top)
-    check_app.top
+    check_app.top)
+    address_app.top
 
 -- the command reads words as `app` does
 abbrev pub IsCommand : App → Command → Type 0

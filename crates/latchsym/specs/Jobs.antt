@@ -1,5 +1,5 @@
 -- The job that the words of a command line ask for.
-use Rattle.std.specs.Prelude.{◌≡◌, ◌≢◌, ◌&&◌, not, ℕ, Bool, true, false, nat_eq, List, [], ◌∷◌, length}
+use Rattle.std.specs.Prelude.{◌≡◌, ◌≢◌, ◌&&◌, not, ℕ, Bool, true, false, nat_eq, List, [], ◌∷◌, length, map}
 use Rattle.std.specs.Prelude.{Option, Some, None, Result, Ok, Err, codes, find, is_none, is_some}
 use Rattle.std.specs.Prelude.{option_and_then, slice_get, unwrap_or, if◌then◌else◌}
 use Rattle.std.specs.Global.{Vec}
@@ -14,6 +14,7 @@ use Rattle.listing.specs.Numbers.{between, number_of}
 use Rattle.modules.specs.Lines.{usual_bounds}
 use Rattle.modules.specs.Listed.{BoundNames}
 use Rattle.latchsym.specs.CommandLine.{latchsym_app}
+use Rattle.latchsym.specs.declared.address_command.AddressJob.{AddressJob}
 use Rattle.latchsym.specs.declared.command_line.AnnotateJob.{AnnotateJob}
 use Rattle.latchsym.specs.declared.command_line.AskedAddresses.{AskedAddresses}
 use Rattle.latchsym.specs.declared.command_line.CheckJob.{CheckJob}
@@ -22,7 +23,7 @@ use Rattle.latchsym.specs.declared.command_line.LookupJob.{LookupJob}
 use Rattle.latchsym.specs.declared.command_line.RunJob.{RunJob}
 use Rattle.latchsym.specs.declared.command_line.SymbolLookupJob.{SymbolLookupJob}
 use Rattle.latchsym.specs.declared.command_line.Job.TheVariants.{Trace, Lookup, SymbolLookup}
-use Rattle.latchsym.specs.declared.command_line.Job.TheVariants.{Annotate, Check, Run}
+use Rattle.latchsym.specs.declared.command_line.Job.TheVariants.{Address, Annotate, Check, Run}
 use Rattle.latchsym.specs.declared.command_line.JobFault.{JobFault}
 use Rattle.latchsym.specs.declared.command_line.JobFault.TheVariants.{OutOfMemory, CommandLine}
 use Rattle.latchsym.specs.declared.command_line.JobFault.TheVariants.{BadAddress, NoAddress}
@@ -46,6 +47,9 @@ files_of (Annotate job) =
     option_map (λ f. f.now) job.listings.modules ∷ Some job.listings.kallsyms.now
     ∷ option_map (λ f. f.now) job.listings.regions ∷ Some job.log.now ∷ []
 files_of (Check job) =
+    option_map (λ f. f.now) job.listings.modules ∷ Some job.listings.kallsyms.now
+    ∷ option_map (λ f. f.now) job.listings.regions ∷ []
+files_of (Address job) =
     option_map (λ f. f.now) job.listings.modules ∷ Some job.listings.kallsyms.now
     ∷ option_map (λ f. f.now) job.listings.regions ∷ []
 
@@ -107,8 +111,17 @@ pub record CheckWords : Type 0 where
   pub regions : Option Text
   pub kernel : Option BoundNames
 
+-- to say where the symbols of these names are, by listings of symbols, and of modules and regions
+-- where these are named, where the given symbols bound the kernel, or else the usual ones
+pub record NameWords : Type 0 where
+  pub modules : Option Text
+  pub kallsyms : Text
+  pub regions : Option Text
+  pub kernel : Option BoundNames
+  pub names : List Text
+
 -- what a subcommand asks for: to run the trace in a file, a lookup, to run a script, to annotate a
--- log, or to check listings; a lookup may fail to say where modules lie, or say it in two ways, and regions may be named
+-- log, to check listings, or to say where symbols are; a lookup may fail to say where modules lie, or say it in two ways, and regions may be named
 -- without modules
 pub data Asked : Type 0 where
   ForTrace : Text → Asked
@@ -119,6 +132,7 @@ pub data Asked : Type 0 where
   ForRun : RunWords → Asked
   ForAnnotate : AnnotateWords → Asked
   ForCheck : CheckWords → Asked
+  ForAddress : NameWords → Asked
   WithRegionsAlone : Asked
   ForNothing : Asked
 
@@ -258,6 +272,22 @@ asked_check rows =
     else check_in rows (first_of (codes "kallsyms") rows)
     (given_bounds (values_in (codes "kernel") rows))
 
+-- the names that these values ask for, where the names of the bounds are two
+abbrev pub address_in : List Row → Option (Option BoundNames) → Asked
+address_in rows (Some kernel) = ForAddress (record {
+  modules = first_of (codes "modules") rows;
+  kallsyms = unwrap_or (first_of (codes "kallsyms") rows) (codes "/proc/kallsyms");
+  regions = first_of (codes "regions") rows;
+  kernel = kernel;
+  names = values_in (codes "name") rows;
+})
+address_in rows None = ForNothing
+
+abbrev pub asked_address : List Row → Asked
+asked_address rows =
+    if are_regions_alone rows then WithRegionsAlone
+    else address_in rows (given_bounds (values_in (codes "kernel") rows))
+
 -- what a subcommand of this name, with these values, asks for
 abbrev pub asked_by : Option (Text × List Row) → Asked
 asked_by None = ForNothing
@@ -267,6 +297,7 @@ asked_by (Some (name, rows)) =
     else if bytes_eq name (codes "run") then asked_run rows
     else if bytes_eq name (codes "annotate") then asked_annotate rows
     else if bytes_eq name (codes "check") then asked_check rows
+    else if bytes_eq name (codes "address") then asked_address rows
     else ForNothing
 
 -- the word is no number
@@ -397,6 +428,20 @@ pub record IsCheckFor (asked : Asked) (job : CheckJob) : Type 0 where
   pub asked_for : asked ≡ ForCheck (check_words_of job)
   pub named : are_named job.kernel ≡ true
 
+-- what is asked for by this job
+abbrev pub name_words_of : AddressJob → NameWords
+name_words_of job = record {
+  modules = option_map (λ f. f.now) job.listings.modules;
+  kallsyms = job.listings.kallsyms.now;
+  regions = option_map (λ f. f.now) job.listings.regions;
+  kernel = job.kernel;
+  names = map (λ n. n.now) job.names.items;
+}
+
+pub record IsAddressFor (asked : Asked) (job : AddressJob) : Type 0 where
+  pub asked_for : asked ≡ ForAddress (name_words_of job)
+  pub named : are_named job.kernel ≡ true
+
 -- the job is what is asked for
 abbrev pub IsAskedBy : Asked → Job → Type 0
 IsAskedBy asked (Trace file) = asked ≡ ForTrace file.now
@@ -405,6 +450,7 @@ IsAskedBy asked (SymbolLookup job) = IsSymbolLookupFor asked job
 IsAskedBy asked (Run job) = IsRunFor asked job
 IsAskedBy asked (Annotate job) = IsAnnotateFor asked job
 IsAskedBy asked (Check job) = IsCheckFor asked job
+IsAskedBy asked (Address job) = IsAddressFor asked job
 
 -- the addresses that are asked for
 abbrev pub addresses_asked : Asked → Option AddressWords
@@ -445,6 +491,7 @@ bounds_asked (ForSymbolLookup l) = l.kernel
 bounds_asked (ForRun r) = Some r.kernel
 bounds_asked (ForAnnotate a) = a.kernel
 bounds_asked (ForCheck c) = c.kernel
+bounds_asked (ForAddress n) = n.kernel
 bounds_asked _ = None
 
 -- the name of the kernel's end is this word, which looks like an address

@@ -37,6 +37,16 @@ pub mod OpenedCatalogs
 pub mod Annotations
 -- what is written of listings that are checked
 pub mod Checks
+-- words of a command line that begin as options do, and are none
+pub mod Operands
+-- what the names of a command line ask for
+pub mod AskedNames
+-- the symbols of a listing that a catalog keeps, with where they end
+pub mod KeptSymbols
+-- the lines that are written for names
+pub mod AddressTexts
+-- what is returned where names are asked for, and what is written of them
+pub mod Addresses
 -- what the lines of a script have each writer and each reader do
 pub mod Assignments
 -- the lines that a run of a script writes

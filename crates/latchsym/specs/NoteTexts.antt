@@ -10,7 +10,7 @@ use Rattle.modules.specs.Listed.{BoundNames}
 use Rattle.latchsym.specs.ListingNotes.{all_notes}
 use Rattle.latchsym.specs.declared.command_line.Job.{Job}
 use Rattle.latchsym.specs.declared.command_line.Job.TheVariants.{Trace, Lookup, SymbolLookup}
-use Rattle.latchsym.specs.declared.command_line.Job.TheVariants.{Annotate, Check, Run}
+use Rattle.latchsym.specs.declared.command_line.Job.TheVariants.{Address, Annotate, Check, Run}
 use Rattle.latchsym.specs.declared.command_line.ListingFiles.{ListingFiles}
 use Rattle.latchsym.specs.declared.listing_notes.ListingNote.{ListingNote}
 use Rattle.latchsym.specs.declared.listing_notes.ListingNote.TheVariants.{Gzip, AllHidden}
@@ -85,3 +85,4 @@ notes_text (SymbolLookup job) notes =
 notes_text (Run job) notes = lines_for job.kernel job.modules.now job.kallsyms.now notes
 notes_text (Annotate job) notes = note_lines job.options.kernel job.listings notes
 notes_text (Check job) notes = []
+notes_text (Address job) notes = note_lines job.kernel job.listings notes

@@ -1,8 +1,9 @@
 -- What comes of a job: that of its engine over the job's own files.
-use Rattle.std.specs.Prelude.{◌≡◌, ◌⊎◌, ℕ, List, Option, Result, Err}
+use Rattle.std.specs.Prelude.{◌≡◌, ◌⊎◌, ℕ, List, map, Option, Result, Err}
 use Rattle.clap.specs.Words.{Text}
 use Rattle.listing.specs.declared.counted.Counted.{Counted}
 use Rattle.order_laws.specs.declared.refusals.Refusal.TheVariants as refusal
+use Rattle.latchsym.specs.Addresses.{AnswersNames}
 use Rattle.latchsym.specs.Annotations.{AnnotatesLog}
 use Rattle.latchsym.specs.Checks.{ChecksListings}
 use Rattle.latchsym.specs.Faults.{with_notes, with_status, without_notes}
@@ -18,12 +19,13 @@ use Rattle.latchsym.specs.Runs.{AnswersRun, run_failures_between}
 use Rattle.latchsym.specs.SymbolLookups.{AnswersSymbolLookup, failures_of_symbols}
 use Rattle.latchsym.specs.SymbolLookups.{known_symbol_inputs}
 use Rattle.latchsym.specs.Traces.{AnswersTrace}
+use Rattle.latchsym.specs.declared.address_command.AddressJob.{AddressJob}
 use Rattle.latchsym.specs.declared.annotations.AnnotateReaders.{AnnotateReaders}
 use Rattle.latchsym.specs.declared.command_line.AnnotateJob.{AnnotateJob}
 use Rattle.latchsym.specs.declared.command_line.CheckJob.{CheckJob}
 use Rattle.latchsym.specs.declared.command_line.Job.{Job}
 use Rattle.latchsym.specs.declared.command_line.Job.TheVariants.{Trace, Lookup, SymbolLookup}
-use Rattle.latchsym.specs.declared.command_line.Job.TheVariants.{Annotate, Check, Run}
+use Rattle.latchsym.specs.declared.command_line.Job.TheVariants.{Address, Annotate, Check, Run}
 use Rattle.latchsym.specs.declared.command_line.LookupJob.{LookupJob}
 use Rattle.latchsym.specs.declared.command_line.RunJob.{RunJob}
 use Rattle.latchsym.specs.declared.command_line.SymbolLookupJob.{SymbolLookupJob}
@@ -118,6 +120,19 @@ pub record IsListingsChecked {F W : Type 0} (remaining : F → Option (List ℕ)
       (listing_failures before after) w w' result
   pub status : outcome ≡ with_notes no_notes result
 
+-- what the engine of names returned for the job's own files, bounds and names
+pub record AreNamesFound {F W : Type 0} (remaining : F → Option (List ℕ))
+    (contents : W → Option (List ℕ)) (held : Held) (job : AddressJob) (w w' : Counted W)
+    (outcome : Result Finished Fault) : Type 0 where
+  pub before : ListingReaders F F F
+  pub after : ListingReaders F F F
+  pub opened : AreListingFiles remaining held job.listings before
+  pub result : Result ListingNotes Fault
+  pub answered : AnswersNames contents job.kernel (map (λ n. n.now) job.names.items)
+      (known_given remaining remaining remaining before)
+      (listing_failures before after) w w' result
+  pub status : outcome ≡ with_status result
+
 -- The status or the fault of a job, over what the files hold that it names. Only an annotation says
 -- something while it is done.
 abbrev pub IsOutcome : {F W E : Type 0} → (F → Option (List ℕ)) → (W → Option (List ℕ))
@@ -141,4 +156,7 @@ IsOutcome remaining contents errors held standard (Annotate job) w w' e e' outco
     ⊎ (IsNotOpened w w' outcome × (e' ≡ e))
 IsOutcome remaining contents errors held standard (Check job) w w' e e' outcome =
     (IsListingsChecked remaining contents held job w w' outcome ⊎ IsNotOpened w w' outcome)
+    × (e' ≡ e)
+IsOutcome remaining contents errors held standard (Address job) w w' e e' outcome =
+    (AreNamesFound remaining contents held job w w' outcome ⊎ IsNotOpened w w' outcome)
     × (e' ≡ e)

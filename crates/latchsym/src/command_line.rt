@@ -13,6 +13,7 @@ ghost use Rattle.latchsym.specs.Jobs.{symbol_lookup_in, values_in, AnswersAsked,
 ghost use Rattle.latchsym.specs.Jobs.{AnswersWords, GivesAnyBounds, GivesAsked, GivesBounds};
 ghost use Rattle.latchsym.specs.Jobs.{AreNumbers, GivesOffset, IsFaultOf};
 
+use crate::address_command::{AddressJob, address_command, address_job};
 use crate::lookup::LookupOptions;
 use crate::symbol_lookup::SymbolLookupOptions;
 use clap::error::ErrorKind;
@@ -44,6 +45,9 @@ pub enum Job<'a> {
     /// `latchsym check [--modules FILE [--regions FILE]] --kallsyms FILE [--kernel START END]`: write
     /// all that is noted of listings, and their counts.
     Check(CheckJob<'a>),
+    /// `latchsym address [--kallsyms FILE] [--modules FILE [--regions FILE]] [--kernel START END]
+    /// NAME..`: write where the symbols of these names are.
+    Address(AddressJob<'a>),
 }
 
 /// Which addresses are looked up, and in which listings.
@@ -163,12 +167,16 @@ impl<'a> Job<'a> {
             Job::Check(job) if place == 0 => job.listings.modules,
             Job::Check(job) if place == 1 => Some(job.listings.kallsyms),
             Job::Check(job) if place == 2 => job.listings.regions,
+            Job::Address(job) if place == 0 => job.listings.modules,
+            Job::Address(job) if place == 1 => Some(job.listings.kallsyms),
+            Job::Address(job) if place == 2 => job.listings.regions,
             Job::Trace { .. }
             | Job::Lookup(_)
             | Job::SymbolLookup(_)
             | Job::Run(_)
             | Job::Annotate(_)
-            | Job::Check(_) => None,
+            | Job::Check(_)
+            | Job::Address(_) => None,
         }
     }
 }
@@ -247,7 +255,8 @@ fn latchsym_command<'a>(alloc: Global) -> Result<Command<'a>, AllocError>
     let command = with_subcommand(command, lookup_command(alloc))?;
     let command = with_subcommand(command, run_command(alloc))?;
     let command = with_subcommand(command, annotate_command(alloc))?;
-    with_subcommand(command, check_command(alloc))
+    let command = with_subcommand(command, check_command(alloc))?;
+    with_subcommand(command, address_command(alloc))
 }
 
 /// The command with one subcommand more, where memory did not run out for it.
@@ -263,7 +272,7 @@ fn with_subcommand<'a>(
 }
 
 /// A subcommand of this name, which the help describes so.
-fn described<'a>(alloc: Global, name: &'a str, about: &'a str) -> Command<'a>
+pub(crate) fn described<'a>(alloc: Global, name: &'a str, about: &'a str) -> Command<'a>
     ensures { IsCommand (new_app name.entry.now) result }
 {
     Command::new(alloc, name).about(about)
@@ -283,7 +292,7 @@ fn trace_command<'a>(alloc: Global) -> Result<Command<'a>, AllocError>
 /// Options that several commands have, as the help tells them.
 const MODULES_HELP: &str = "The modules, in the form of /proc/modules";
 
-const REGIONS_HELP: &str = "The regions of the modules, where they have more than one";
+pub(crate) const REGIONS_HELP: &str = "The regions of the modules, where they have more than one";
 
 const CALLERS_HELP: &str =
     "Return addresses: look up the call before each, and tell its own offset";
@@ -347,11 +356,11 @@ fn run_command<'a>(alloc: Global) -> Result<Command<'a>, AllocError>
 }
 
 /// The listing of modules where the symbols stand in for one that is not given.
-const GIVEN_MODULES_HELP: &str =
+pub(crate) const GIVEN_MODULES_HELP: &str =
     "The modules, in the form of /proc/modules; else the symbols say where they lie";
 
 /// The bounds of the kernel where the listing's own stand in for those that are not given.
-const GIVEN_BOUNDS_HELP: &str =
+pub(crate) const GIVEN_BOUNDS_HELP: &str =
     "The symbols that bound the kernel itself, in place of the usual ones";
 
 fn annotate_command<'a>(alloc: Global) -> Result<Command<'a>, AllocError>
@@ -411,7 +420,7 @@ fn required_option<'a>(alloc: Global, id: &'a str, value: &'a str) -> Arg<'a>
         .required(true)
 }
 
-fn optional_option<'a>(alloc: Global, id: &'a str, value: &'a str) -> Arg<'a>
+pub(crate) fn optional_option<'a>(alloc: Global, id: &'a str, value: &'a str) -> Arg<'a>
     ensures { IsPlainArg (optional_rule id.entry.now) result }
 {
     Arg::new(alloc, id).long(id).value_name(value)
@@ -423,7 +432,7 @@ fn flag<'a>(alloc: Global, id: &'a str) -> Arg<'a>
     Arg::new(alloc, id).long(id).action(ArgAction::SetTrue)
 }
 
-fn optional_pair<'a>(alloc: Global, id: &'a str, values: &'a [&'a str; 2]) -> Arg<'a>
+pub(crate) fn optional_pair<'a>(alloc: Global, id: &'a str, values: &'a [&'a str; 2]) -> Arg<'a>
     ensures { IsPlainArg (pair_rule id.entry.now) result }
 {
     Arg::new(alloc, id).long(id).value_names(values)
@@ -457,6 +466,7 @@ fn job_of_subcommand<'a>(
         "run" => run_job(found),
         "annotate" => annotate_job(found),
         "check" => check_job(found),
+        "address" => address_job(alloc, found),
         _ => Err(JobFault::NoJob),
     }
 }
@@ -580,7 +590,7 @@ fn run_job<'a>(found: &ArgMatches<'a>) -> Result<Job<'a>, JobFault<'a>>
 }
 
 /// The listing of symbols that the kernel itself gives.
-const KALLSYMS: &str = "/proc/kallsyms";
+pub(crate) const KALLSYMS: &str = "/proc/kallsyms";
 
 /// The word for the standard input.
 const STANDARD_INPUT: &str = "-";
@@ -657,7 +667,7 @@ fn bounds_in<'a>(names: &[&'a str]) -> Result<KernelBounds<'a>, JobFault<'a>>
 }
 
 /// The names that are given for these bounds, where two are.
-fn given_bounds<'a>(names: &[&'a str]) -> Result<Option<KernelBounds<'a>>, JobFault<'a>>
+pub(crate) fn given_bounds<'a>(names: &[&'a str]) -> Result<Option<KernelBounds<'a>>, JobFault<'a>>
     ensures { GivesAnyBounds (map (λ n. n.now) names.now) result }
 {
     if names.is_empty() {
@@ -710,14 +720,14 @@ fn addresses_in<'a>(alloc: Global, words: &[&'a str]) -> Result<Vec<u64>, JobFau
 }
 
 /// The value of an argument that takes one.
-fn value_of<'a>(found: &ArgMatches<'a>, id: &str) -> Option<&'a str>
+pub(crate) fn value_of<'a>(found: &ArgMatches<'a>, id: &str) -> Option<&'a str>
     ensures { option_map (λ s. s.now) result ≡ first_of id.now (rows_of (found_of found.now)) }
 {
     found.get_str(id)
 }
 
 /// The value of an argument that takes one, or else the usual one.
-fn value_or<'a>(found: &ArgMatches<'a>, id: &str, usual: &'a str) -> &'a str
+pub(crate) fn value_or<'a>(found: &ArgMatches<'a>, id: &str, usual: &'a str) -> &'a str
     ensures { result.now ≡ unwrap_or (first_of id.now (rows_of (found_of found.now))) usual.entry.now }
 {
     value_of(found, id).unwrap_or(usual)
@@ -731,7 +741,7 @@ fn is_given(found: &ArgMatches<'_>, id: &str) -> bool
 }
 
 /// The values of an argument that takes any number of them.
-fn values_of<'m, 'a>(found: &'m ArgMatches<'a>, id: &str) -> &'m [&'a str]
+pub(crate) fn values_of<'m, 'a>(found: &'m ArgMatches<'a>, id: &str) -> &'m [&'a str]
     ensures { map (λ w. w.now) result.now ≡ values_in id.now (rows_of (found_of found.now)) }
 {
     found.get_raw(id).unwrap_or_default()

@@ -5,10 +5,12 @@ ghost use Rattle.latchsym.specs.Files.{AreAnnotateFiles, AreListingFiles, AreLoo
 ghost use Rattle.latchsym.specs.Files.{AreRunFiles, AreSymbolLookupFiles};
 ghost use Rattle.latchsym.specs.Files.{IsOpened, IsOpenedIfGiven, or_standard};
 ghost use Rattle.latchsym.specs.Outcomes.{IsAnnotated, IsLookedUp, IsLookedUpBySymbols};
-ghost use Rattle.latchsym.specs.Outcomes.{IsListingsChecked, IsNotOpened};
+ghost use Rattle.latchsym.specs.Outcomes.{AreNamesFound, IsListingsChecked, IsNotOpened};
 ghost use Rattle.latchsym.specs.Outcomes.{IsOutcome};
 ghost use Rattle.latchsym.specs.Outcomes.{IsScriptRun, IsTraced};
 
+use crate::address_command::AddressJob;
+use crate::addresses::address_engine;
 use crate::annotations::{AnnotateReaders, annotate_engine};
 use crate::checks::check_engine;
 use crate::command_line::{
@@ -72,6 +74,7 @@ pub fn do_job<T: Threads + Wait + Sync, F: FileSource, W: Write, E: Write>(
         Job::Run(script) => do_run(threads, alloc, files, script, writer),
         Job::Annotate(log) => do_annotate(alloc, files, log, writer, errors),
         Job::Check(check) => do_check(alloc, files, check, writer),
+        Job::Address(names) => do_address(alloc, files, names, writer),
     }
 }
 
@@ -173,6 +176,21 @@ fn do_check<F: FileSource, W: Write>(
     let kernel = job.kernel.as_ref();
     let status = check_engine(alloc, &mut readers, kernel, &job.listings, writer);
     with_notes(status, ListingNotes::none())
+}
+
+/// Says where the symbols of a job's names are.
+fn do_address<F: FileSource, W: Write>(
+    alloc: Global,
+    files: &F,
+    job: &AddressJob<'_>,
+    writer: &mut Counted<W>,
+) -> Result<Finished, Fault>
+    ensures { AreNamesFound F.File.remaining W.contents (F.held files.now) job.now
+        writer.old writer.new result ⊎ IsNotOpened writer.old writer.new result }
+{
+    let mut readers = open_listings(files, &job.listings)?;
+    let kernel = job.kernel.as_ref();
+    with_status(address_engine(alloc, &mut readers, kernel, &job.names, writer))
 }
 
 /// Opens the files of a lookup.

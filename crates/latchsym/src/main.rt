@@ -10,21 +10,30 @@
 //! [--kernel START END] [--callers] [--offset N] [LOG]` writes a log again, with the symbol behind
 //! each address. `latchsym check [--modules FILE [--regions FILE]] --kallsyms FILE
 //! [--kernel START END]` says what is wrong with listings, and how many of their lines are of use.
+//! `latchsym address [--kallsyms FILE] [--modules FILE [--regions FILE]] [--kernel START END] NAME..`
+//! says where the symbols of these names are.
 #![tactic(auto)]
 
+mod address_command;
+mod address_texts;
+mod addresses;
 mod annotations;
+mod asked_names;
 mod assignments;
 mod checks;
 mod command_line;
 mod fault;
 mod input;
 mod jobs;
+mod kept_symbols;
+mod listed_symbols;
 mod listing_notes;
 mod lookup;
 mod lookup_texts;
 mod misuse;
 mod note_texts;
 mod opened_catalogs;
+mod operands;
 mod run_texts;
 mod runs;
 mod symbol_lookup;
@@ -40,6 +49,7 @@ use input::FileSystem;
 use jobs::do_job;
 use listing::{BLOCK, Counted};
 use misuse::{misused, refuse};
+use operands::with_operands;
 use order_laws::Refusal;
 use std::env;
 use std::io::{BufWriter, ErrorKind, Stderr};
@@ -50,10 +60,7 @@ use std::thread::Threads;
 fn main(rt: HostRuntime) -> ExitCode {
     let mut errors = Counted::new(rt.stderr());
     let status = match words_of(&rt) {
-        Ok(words) => match job_of(rt.alloc(), words.as_slice()) {
-            Ok(job) => run(&rt, &rt, &job, &mut errors),
-            Err(fault) => refuse(&rt, fault, &mut errors),
-        },
+        Ok(words) => answer(&rt, &rt, words.as_slice(), &mut errors),
         Err(ErrorKind::OutOfMemory) => refuse(&rt, JobFault::OutOfMemory, &mut errors),
         Err(_) => misused(b"a word of the command line is no text", "", &mut errors),
     };
@@ -66,6 +73,22 @@ fn words_of(rt: &HostRuntime) -> Result<Vec<String>, ErrorKind> {
     words
         .collect(rt.alloc())
         .map_err(|_| ErrorKind::OutOfMemory)
+}
+
+/// Does what the words ask for, and returns the program's status.
+fn answer<T: Threads + Wait + Sync>(
+    rt: &HostRuntime,
+    threads: &T,
+    words: &[String],
+    errors: &mut Counted<Stderr>,
+) -> u8 {
+    let Ok(words) = with_operands(rt.alloc(), words) else {
+        return refuse(rt, JobFault::OutOfMemory, errors);
+    };
+    match job_of(rt.alloc(), words.as_slice()) {
+        Ok(job) => run(rt, threads, &job, errors),
+        Err(fault) => refuse(rt, fault, errors),
+    }
 }
 
 /// Does the job, and returns the program's status. The host that may start threads and wait for
@@ -84,7 +107,7 @@ fn run<T: Threads + Wait + Sync>(
             let mut writer = Counted::new(rt.stdout());
             do_job(threads, rt.alloc(), &files, job, &mut writer, errors)
         }
-        Job::Lookup(_) | Job::SymbolLookup(_) | Job::Run(_) | Job::Check(_) => {
+        Job::Lookup(_) | Job::SymbolLookup(_) | Job::Run(_) | Job::Check(_) | Job::Address(_) => {
             match BufWriter::with_capacity(rt.alloc(), BLOCK, rt.stdout()) {
                 Ok(buffer) => {
                     let mut writer = Counted::new(buffer);

@@ -34,6 +34,7 @@ pub fn put_job_notes<W: Write>(
         Job::Annotate(job) => {
             put_notes_of(writer, job.options.kernel.as_ref(), &job.listings, notes)
         }
+        Job::Address(job) => put_notes_of(writer, job.kernel.as_ref(), &job.listings, notes),
     }
 }
 

@@ -1,6 +1,7 @@
 //! The engine over readers and writers in memory.
 mod address_files;
 mod address_rules;
+mod addresses;
 mod annotations;
 mod at_size;
 mod bad_input;
@@ -11,6 +12,7 @@ mod fault_texts;
 mod jobs;
 mod listing_notes;
 mod listings;
+mod operands;
 mod option_words;
 mod rows;
 mod scripts;

@@ -1,4 +1,5 @@
 //! Jobs over files in memory, from the names of their files to the program's status.
+use crate::address_command::AddressJob;
 use crate::command_line::{AnnotateJob, CheckJob, Job, JobFault, ListingFiles, LookupJob, RunJob};
 use crate::fault::{Fault, conclude, with_notes};
 use crate::jobs::{FileSource, do_job};
@@ -269,6 +270,43 @@ fn a_check_has_its_own_files_and_bounds(rt: HostRuntime) {
         assert_eq!(rt; outcome, Ok(0));
         assert_eq!(rt; written.as_slice(), counts);
     }
+}
+
+/// A search for names, where modules are listed or not.
+fn address_job(alloc: Global, modules: Option<&'static str>) -> Result<Job<'static>, Fail> {
+    Ok(Job::Address(AddressJob {
+        listings: ListingFiles {
+            modules,
+            kallsyms: "its kallsyms",
+            regions: if modules.is_some() {
+                Some("its regions")
+            } else {
+                None
+            },
+        },
+        kernel: Some(KernelBounds {
+            start: b"here",
+            end: b"there",
+        }),
+        names: Vec::from_slice(alloc, &["here", "a:a_run+0x8"])?,
+    }))
+}
+
+#[test]
+fn names_are_sought_in_the_files_of_their_job(rt: HostRuntime) -> Result<(), Fail> {
+    for (modules, lines) in [
+        (
+            Some("its modules"),
+            b"here 0x7000 0x1000\na:a_run+0x8 0x3018 0xff0 [a]\n".as_slice(),
+        ),
+        (None, b"here 0x7000 0x1000\na:a_run+0x8 0x3018 0x3ff0 [a]\n"),
+    ] {
+        let job = address_job(rt.alloc(), modules)?;
+        let (outcome, written) = done(&rt, rt.alloc(), &WHOLE, &job);
+        assert_eq!(rt; outcome, Ok(0));
+        assert_eq!(rt; written.as_slice(), lines);
+    }
+    Ok(())
 }
 
 #[test]

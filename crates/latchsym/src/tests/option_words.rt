@@ -305,3 +305,34 @@ fn regions_of_a_check_need_modules(rt: HostRuntime) -> Result<(), Fail> {
     assert!(rt; matches!(lacking, Err(JobFault::CommandLine(_))));
     Ok(())
 }
+
+/// The words of a search for names.
+const ADDRESS: [&str; 4] = ["latchsym", "address", "run", "a:run+0x8"];
+
+#[test]
+fn names_have_their_listings_and_bounds(rt: HostRuntime) -> Result<(), Fail> {
+    let alloc = rt.alloc();
+    let job = job_of(alloc, &ADDRESS).ok().ok_or("no names")?;
+    assert!(rt; job.file(0) == None && job.file(1) == Some("/proc/kallsyms"));
+    assert!(rt;
+        matches!(&job, Job::Address(job) if job.names.as_slice() == ["run", "a:run+0x8"].as_slice())
+    );
+    let options = [
+        "--modules=m",
+        "--regions=r",
+        "--kallsyms=k",
+        "--kernel",
+        "s",
+        "e",
+    ];
+    let words = with_options(alloc, &ADDRESS, &options)?;
+    let job = job_of(alloc, &words).ok().ok_or("no names")?;
+    assert!(rt; job.file(0) == Some("m") && job.file(1) == Some("k") && job.file(2) == Some("r"));
+    assert!(rt; job.file(3) == None);
+    assert!(rt; matches!(&job, Job::Address(job) if job.kernel.is_some()));
+    let words = with_options(alloc, &ADDRESS, &["--regions=r"])?;
+    assert!(rt; matches!(job_of(alloc, &words), Err(JobFault::RegionsAlone)));
+    let lacking = job_of(alloc, &["latchsym", "address"]);
+    assert!(rt; matches!(lacking, Err(JobFault::CommandLine(_))));
+    Ok(())
+}

@@ -18,3 +18,7 @@ returns-in-annotate c =
 pub returns-in-check : goal.returns-in-check
 returns-in-check c =
     subst (λ name. AnswersMatches (Some (name, rows_of (found_of c.args.found.now))) c.check_job.result) (sym c.in-check.is) c.check_job.ensures
+
+pub returns-in-address : goal.returns-in-address
+returns-in-address c =
+    subst (λ name. AnswersMatches (Some (name, rows_of (found_of c.args.found.now))) c.address_job.result) (sym c.in-address.is) c.address_job.ensures

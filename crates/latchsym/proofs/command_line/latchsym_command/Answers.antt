@@ -1,6 +1,6 @@
 use Rattle.std.proofs.Common.{rules}
 use Rattle.clap.specs.Words.{with_subcommand}
-use Rattle.latchsym.specs.CommandLine.{IsCommand, annotate_app, check_app, lookup_app, run_app, top_app, trace_app}
+use Rattle.latchsym.specs.CommandLine.{IsCommand, address_app, annotate_app, check_app, lookup_app, run_app, top_app, trace_app}
 use Rattle.latchsym.proofs.command_line.latchsym_command.Goals as goal
 
 pub returns : goal.returns
@@ -14,4 +14,6 @@ returns c =
     let three = c.in_ok-command-3.ensures app2 run_app two c.run_command.ensures in
     let app4 = with_subcommand app3 annotate_app.top in
     let four = c.in_ok-command-4.ensures app3 annotate_app three c.annotate_command.ensures in
-    c.with_subcommand-5.ensures app4 check_app four c.check_command.ensures
+    let app5 = with_subcommand app4 check_app.top in
+    let five = c.in_ok-command-5.ensures app4 check_app four c.check_command.ensures in
+    c.with_subcommand-6.ensures app5 address_app five c.address_command.ensures

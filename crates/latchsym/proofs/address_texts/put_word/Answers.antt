@@ -1,0 +1,28 @@
+use Rattle.std.proofs.Common.{◌≡◌, ◌∙◌, [], List, ℕ, Some, None, ap, option_map}
+use Rattle.std.specs.Prelude.{unwrap_or}
+use Rattle.std.specs.Global.{Vec}
+use Rattle.listing.proofs.WriteLemmas.{same_text}
+use Rattle.latchsym.specs.AddressTexts.{symbols_text}
+use Rattle.latchsym.specs.AskedNames.{AskedSymbols, asked_of}
+use Rattle.latchsym.specs.KeptSymbols.{Kept, found_by}
+use Rattle.latchsym.proofs.address_texts.put_word.Goals as goal
+
+pub returns-in-Some : goal.returns-in-Some
+returns-in-Some g c =
+    let word = c.args.word.now in
+    let m = c.args.sought.now in
+    let v = c.in-Some.symbols.now in
+    let asked = c.asked_name-asked.ensures in
+    let name = ap (λ (a : AskedSymbols). a.symbol) (c.asked.view_is ∙ asked) in
+    let has : Some v.items ≡ found_by m (asked_of word).symbol = ap (option_map (λ (x : Vec Kept). x.items)) c.in-Some.ensures.value ∙ ap (found_by m) name in
+    same_text
+    (ap (λ a. symbols_text word a c.deref.result.now) asked ∙ ap (symbols_text word (asked_of word)) (c.deref.ensures.value ∙ ap (λ o. unwrap_or o []) has))
+    c.put_symbols.ensures
+
+pub returns-in-None : goal.returns-in-None
+returns-in-None g c =
+    let word = c.args.word.now in
+    let m = c.args.sought.now in
+    let name = ap (λ (a : AskedSymbols). a.symbol) (c.asked.view_is ∙ c.asked_name-asked.ensures) in
+    let has : None ≡ found_by m (asked_of word).symbol = ap (option_map (λ (x : Vec Kept). x.items)) c.in-None.ensures.value ∙ ap (found_by m) name in
+    same_text (ap (λ o. symbols_text word (asked_of word) (unwrap_or o [])) has) c.put_no_address.ensures

@@ -1,0 +1,53 @@
+use Rattle.std.proofs.Common.{[], map, subst, sym}
+use Rattle.std.specs.Prelude.{unwrap_or}
+use Rattle.std.specs.Option.{option_copied}
+use Rattle.latchsym.specs.AddressTexts.{address_text, words_text}
+use Rattle.latchsym.specs.KeptSymbols.{IsSought, found_by, kept_symbols}
+use Rattle.latchsym.specs.OpenedCatalogs.{IsCatalogOf, given_in}
+use Rattle.latchsym.specs.SymbolLookups.{listed}
+use Rattle.latchsym.proofs.NameAnswerLemmas.{ended, not_opened, was_not_written, was_written}
+use Rattle.latchsym.proofs.SoughtLemmas.{text_by_map}
+use Rattle.latchsym.proofs.addresses.answer_names.Goals as goal
+
+pub returns-in_err-opened : goal.returns-in_err-opened
+returns-in_err-opened g c =
+    let a = c.args in
+    let contents = g.W.Write.contents in
+    let kernel = option_copied a.kernel in
+    let words = map (λ w. w.now) a.words.now in
+    let given = given_in a.texts.now in
+    let fault = c.in_err-opened.field-0.0 in
+    ended contents kernel words given a.writer.now a.writer.now c.from_residual.result fault c.from_residual.ensures.1
+    (not_opened contents kernel words given a.writer.now fault c.in_err-opened.ensures)
+
+pub returns-in-Ok : goal.returns-in-Ok
+returns-in-Ok g c =
+    let a = c.args in
+    let kernel = option_copied a.kernel in
+    let words = map (λ w. w.now) a.words.now in
+    let given = given_in a.texts.now in
+    let index = c.in_ok-index.index in
+    let notes = c.in_ok-opened.opened.notes in
+    let m = c.in_ok-sought.sought in
+    let kept = kept_symbols index (listed given.kallsyms) in
+    let says = subst (λ x. IsCatalogOf kernel given x notes) (sym c.in_ok-index.ensures) c.in_ok-opened.ensures in
+    let has = subst (λ text. IsSought words (kept_symbols index (listed text)) m) c.deref.ensures.value c.in_ok-sought.ensures in
+    was_written g.W.Write.contents kernel words given a.writer.now c.put_all.new.writer index notes says
+    (words_text (λ name. unwrap_or (found_by m name) []) words) (text_by_map words kept m has)
+    c.put_all.result c.put_all.ensures c.in-Ok.field-0 c.in-Ok.is
+
+pub returns : goal.returns
+returns g c =
+    let a = c.args in
+    let kernel = option_copied a.kernel in
+    let words = map (λ w. w.now) a.words.now in
+    let given = given_in a.texts.now in
+    let index = c.in_ok-index.index in
+    let notes = c.in_ok-opened.opened.notes in
+    let m = c.in_ok-sought.sought in
+    let kept = kept_symbols index (listed given.kallsyms) in
+    let says = subst (λ x. IsCatalogOf kernel given x notes) (sym c.in_ok-index.ensures) c.in_ok-opened.ensures in
+    let has = subst (λ text. IsSought words (kept_symbols index (listed text)) m) c.deref.ensures.value c.in_ok-sought.ensures in
+    was_not_written g.W.Write.contents kernel words given a.writer.now c.put_all.new.writer index notes says
+    (words_text (λ name. unwrap_or (found_by m name) []) words) (text_by_map words kept m has)
+    c.put_all.result c.put_all.ensures c.in-Err.field-0 c.in-Err.is

@@ -1,0 +1,26 @@
+use Rattle.std.proofs.Common.{inl, map, subst}
+use Rattle.std.specs.Option.{option_copied}
+use Rattle.latchsym.specs.Addresses.{AnswersNames}
+use Rattle.latchsym.specs.OpenedCatalogs.{known_given, listing_failures}
+use Rattle.latchsym.proofs.jobs.do_address.Goals as goal
+
+pub returns : goal.returns
+returns g c =
+    let contents = g.W.Write.contents in
+    let remaining = g.F.File.Read.remaining in
+    let before = c.in_ok-readers.readers in
+    let after = c.address_engine.new.readers in
+    let known = known_given remaining remaining remaining before in
+    let counts = listing_failures before after in
+    let job = c.args.job.now in
+    inl (record {
+      before = before;
+      after = after;
+      opened = c.in_ok-readers.ensures.opened;
+      result = c.address_engine.result;
+      answered =
+          subst (λ kernel. AnswersNames contents kernel (map (λ n. n.now) job.names.items) known counts c.args.writer.now c.address_engine.new.writer c.address_engine.result) c.as_ref-kernel.ensures.value
+          (subst (λ names. AnswersNames contents (option_copied c.as_ref-kernel.result) (map (λ n. n.now) names) known counts c.args.writer.now c.address_engine.new.writer c.address_engine.result) c.deref.ensures.value
+          c.address_engine.ensures);
+      status = c.with_status.ensures;
+    })

@@ -1,0 +1,73 @@
+//! From the bytes of listings and from names to the lines that say where the symbols are.
+ghost use Rattle.std.specs.Prelude.{◌≡◌, [], map, unwrap_or, Some};
+ghost use Rattle.std.specs.Option.{option_copied};
+ghost use Rattle.listing.specs.Exact.{Wrote};
+ghost use Rattle.latchsym.specs.Addresses.{AnswersGiven, AnswersNames};
+ghost use Rattle.latchsym.specs.AddressTexts.{words_text};
+ghost use Rattle.latchsym.specs.KeptSymbols.{found_by};
+ghost use Rattle.latchsym.specs.OpenedCatalogs.{given_in, known_given, listing_failures};
+
+use crate::address_texts::put_words;
+use crate::fault::Fault;
+use crate::kept_symbols::{SoughtSymbols, symbols_sought};
+use crate::listing_notes::ListingNotes;
+use crate::opened_catalogs::{GivenTexts, ListingReaders, open_catalog, read_given};
+use listing::Counted;
+use modules::{IndexedCatalog, KernelBounds};
+use std::alloc::Global;
+use std::io;
+use std::io::{Read, Write};
+
+/// Writes where the kept symbols of each name are, in the order listed, and returns what is noted of
+/// the listings. A name may have the module in front of it, and an offset behind.
+///
+/// All is read, and the catalog is there, before the first byte is written; so every fault but a
+/// failed write leaves the writer as it was. docs/FORMATS.md has the names and the lines.
+pub fn address_engine<M: Read, K: Read, R: Read, W: Write>(
+    alloc: Global,
+    readers: &mut ListingReaders<M, K, R>,
+    kernel: Option<&KernelBounds>,
+    words: &[&str],
+    writer: &mut Counted<W>,
+) -> Result<ListingNotes, Fault>
+    ensures { AnswersNames W.contents (option_copied kernel.entry) (map (λ w. w.now) words.now)
+        (known_given M.remaining K.remaining R.remaining readers.old)
+        (listing_failures readers.old readers.new) writer.old writer.new result }
+{
+    let texts = read_given(alloc, readers)?;
+    answer_names(alloc, &texts, kernel, words, writer)
+}
+
+/// Writes where they are in the listings that these texts are.
+fn answer_names<W: Write>(
+    alloc: Global,
+    texts: &GivenTexts,
+    kernel: Option<&KernelBounds>,
+    words: &[&str],
+    writer: &mut Counted<W>,
+) -> Result<ListingNotes, Fault>
+    ensures { AnswersGiven W.contents (option_copied kernel.entry) (map (λ w. w.now) words.now)
+        (given_in texts.now) writer.old writer.new result }
+{
+    let opened = open_catalog(alloc, kernel, texts)?;
+    let notes = opened.notes;
+    let index = IndexedCatalog::new(alloc, opened.catalog)?;
+    let sought = symbols_sought(alloc, &index, &texts.kallsyms, words)?;
+    match put_all(writer, &sought, words) {
+        Ok(()) => Ok(notes),
+        Err(_) => Err(Fault::Write),
+    }
+}
+
+/// Writes the lines of all words, and lets the writer keep nothing back.
+fn put_all<W: Write>(
+    writer: &mut Counted<W>,
+    sought: &SoughtSymbols<'_, '_>,
+    words: &[&str],
+) -> io::Result<()>
+    ensures { Wrote W.contents writer.old writer.new result
+        (words_text (λ name. unwrap_or (found_by sought.now name) []) (map (λ w. w.now) words.now)) }
+{
+    put_words(writer, sought, words)?;
+    writer.flush()
+}
