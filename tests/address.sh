@@ -24,6 +24,16 @@ writes() {
     printf -- "$lines" | cmp -s - "$work/out" || fail "address $*: $(cat "$work/out")"
 }
 
+# the names of NAME.names, a line each, give NAME.found, where the modules come from a listing or not
+for names in *.names; do
+    name=${names%.names}
+    modules=()
+    [ ! -e "$name.modules" ] || modules=(--modules "$name.modules")
+    mapfile -t words <"$names"
+    "$program" address "${modules[@]}" --kallsyms "$name.kallsyms" -- "${words[@]}" >"$work/out" || fail "$names: status $?"
+    cmp "$work/out" "$name.found" || fail "$names: other lines"
+done
+
 both=(--modules basic.modules --kallsyms basic.kallsyms)
 writes 'do_one 0xffffffff81000100 0x1f00\n' "${both[@]}" do_one
 writes 'ext4_a+0x8 0xffffffffc0000018 0x30 [ext4]\next4:ext4_a 0xffffffffc0000010 0x30 [ext4]\n' "${both[@]}" ext4_a+0x8 ext4:ext4_a

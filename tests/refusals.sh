@@ -91,6 +91,7 @@ try annotate --kallsyms basic.kallsyms ../logs/x86_oops.log
 try annotate --modules regions.modules --kallsyms regions.kallsyms --regions regions.regions ../logs/x86_oops.log
 try check --kallsyms basic.kallsyms
 try check --modules regions.modules --kallsyms regions.kallsyms --regions regions.regions
+try address --modules basic.modules --kallsyms basic.kallsyms ext4_a+0x8 nothing -:do_one
 run_script
 cd "$top/examples/traces"
 try --help

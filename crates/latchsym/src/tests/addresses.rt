@@ -44,11 +44,12 @@ fn found(alloc: Global, words: &[&str]) -> (Result<ListingNotes, Fault>, Vec<u8>
 fn symbols_of_a_name_come_in_the_order_listed(rt: HostRuntime) {
     let (answer, written) = found(rt.alloc(), &["run", "none", "run_too", "run"]);
     assert_eq!(rt; answer, Ok(ListingNotes::none()));
-    let lines = b"run 0x1100 0x80\nrun 0x4010 0xff0 [b]\nrun 0x3010 0x10 [a]\nrun 0x1200 0xe00\n";
-    assert!(rt; written.starts_with(lines) && written.ends_with(lines));
     assert_eq!(rt;
-        written[lines.len()..written.len() - lines.len()],
-        b"none -\nrun_too 0x1100 0x80\n"[..]
+        written.as_slice(),
+        b"run 0x1100 0x80\nrun 0x4010 0xff0 [b]\nrun 0x3010 0x10 [a]\nrun 0x1200 0xe00\n\
+        none -\nrun_too 0x1100 0x80\n\
+        run 0x1100 0x80\nrun 0x4010 0xff0 [b]\nrun 0x3010 0x10 [a]\nrun 0x1200 0xe00\n"
+            .as_slice()
     );
 }
 
