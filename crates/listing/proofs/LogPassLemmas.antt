@@ -81,10 +81,12 @@ marks_more m m' m'' r r' r'' bytes i below before marked recent kept same_mark s
       recent ∙ ap (λ (x : List ℕ). b ∷ take 2 x) was.1 ∙ sym (ap (λ (k : KeptContext). k.recent) next),
     )
 
-pub two_of : (r : List ℕ) → length r ≡ 3 → get_or r 0 0 ∷ get_or r 1 0 ∷ [] ≡ take 2 r
-two_of [] e = absurd (omega (arith, e))
-two_of (x ∷ []) e = absurd (omega (arith, e))
-two_of (x ∷ y ∷ r) e = refl
+pub three_of : (r : List ℕ) → length r ≡ 3 → get_or r 0 0 ∷ get_or r 1 0 ∷ get_or r 2 0 ∷ [] ≡ r
+three_of [] e = absurd (omega (arith, e))
+three_of (x ∷ []) e = absurd (omega (arith, e))
+three_of (x ∷ y ∷ []) e = absurd (omega (arith, e))
+three_of (x ∷ y ∷ z ∷ []) e = refl
+three_of (x ∷ y ∷ z ∷ w ∷ r) e = absurd (omega (arith, e))
 
 -- ---- words
 

@@ -7,8 +7,8 @@
 //!     ^^^^        ^^^^^^^^^^^^^^^^ ^^
 //!     marker      word             closers
 //! ```
-ghost use Rattle.std.specs.Prelude.{◌≡◌, ◌∷◌, ◌≤◌, ◌<◌, ◌-◌, ◌&&◌, ◌||◌, ◌==◌, not, false, length};
-ghost use Rattle.std.specs.Prelude.{nat_le, slice_index_or, take};
+ghost use Rattle.std.specs.Prelude.{◌≡◌, ◌≤◌, ◌<◌, ◌-◌, ◌&&◌, ◌||◌, ◌==◌, not, false, [], ◌∷◌};
+ghost use Rattle.std.specs.Prelude.{length, nat_le, slice_index_or, take};
 ghost use Rattle.listing.specs.AnnotatedLogs.{ends_marked};
 ghost use Rattle.listing.specs.LogContexts.{ArePlain, IsMarkedBy, context_over, first_context};
 ghost use Rattle.listing.specs.LogContexts.{kept_in, next_context, next_length, next_word};
@@ -123,13 +123,17 @@ impl Context {
         ensures closed { self.new.is_closed ≡ self.old.is_closed }
     {
         let mut is_marked = self.is_marked;
-        let mut recent = self.recent;
+        let mut last = self.recent[0];
+        let mut second = self.recent[1];
+        let mut third = self.recent[2];
         for byte in bytes {
-            is_marked = is_marked_behind(is_marked, recent, *byte);
-            recent = [*byte, recent[0], recent[1]];
+            is_marked = is_marked_behind(is_marked, third, second, last, *byte);
+            third = second;
+            second = last;
+            last = *byte;
         }
         self.is_marked = is_marked;
-        self.recent = recent;
+        self.recent = [last, second, third];
     }
 
     /// The word behind a byte more.
@@ -154,20 +158,23 @@ impl Context {
     }
 }
 
-/// Whether the line has a marker behind a byte more.
+/// Whether the line has a marker behind a byte more, and three before it.
 #[inline]
-fn is_marked_behind(is_marked: bool, recent: [u8; 3], byte: u8) -> bool
-    ensures { result ≡ (not (byte == 10) && (ends_marked (byte ∷ recent) || is_marked)) }
+fn is_marked_behind(is_marked: bool, third: u8, second: u8, last: u8, byte: u8) -> bool
+    ensures { result
+        ≡ (not (byte == 10) && (ends_marked (byte ∷ last ∷ second ∷ third ∷ []) || is_marked)) }
 {
-    byte != b'\n' && (is_marked || ends_marked(recent, byte))
+    byte != b'\n' && (is_marked || is_marker(third, second, last, byte))
 }
 
-/// Whether a marker ends in this byte.
+/// Whether these four bytes are `RIP:` or `pc :`.
 #[inline]
-fn ends_marked(recent: [u8; 3], byte: u8) -> bool
-    ensures { result ≡ ends_marked (byte ∷ recent) }
+fn is_marker(third: u8, second: u8, last: u8, byte: u8) -> bool
+    ensures { result ≡ ends_marked (byte ∷ last ∷ second ∷ third ∷ []) }
 {
-    byte == b':' && matches!(recent, [b'P', b'I', b'R'] | [b' ', b'c', b'p'])
+    byte == b':'
+        && ((third == b'R' && second == b'I' && last == b'P')
+            || (third == b'p' && second == b'c' && last == b' '))
 }
 
 /// How long a word is at most behind a byte more.
