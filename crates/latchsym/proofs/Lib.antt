@@ -26,3 +26,5 @@ mod OpenedCatalogLemmas
 mod AnnotationLemmas
 -- from listings that are checked to what is written of them
 mod CheckLemmas
+-- the text that bytes are, from one byte that is no part of it to the next
+mod JsonLemmas

@@ -13,6 +13,8 @@ pub mod Traces
 pub mod CatalogTables
 -- a world that holds the regions of modules
 pub mod LoadedWorlds
+-- values of JSON (RFC 8259)
+pub mod Json
 -- the lines that a lookup of addresses writes
 pub mod LookupTexts
 -- what an engine returns that reads files one after the other

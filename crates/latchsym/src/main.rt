@@ -19,6 +19,7 @@ mod command_line;
 mod fault;
 mod input;
 mod jobs;
+mod json;
 mod listing_notes;
 mod lookup;
 mod lookup_texts;
