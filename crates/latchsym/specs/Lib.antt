@@ -17,6 +17,10 @@ pub mod LoadedWorlds
 pub mod Json
 -- the lines that a lookup of addresses writes
 pub mod LookupTexts
+-- the same lines as JSON
+pub mod JsonTexts
+-- in which form answers are written
+pub mod AnswerForms
 -- what an engine returns that reads files one after the other
 pub mod Readings
 -- what a lookup of addresses reads, and what that says
