@@ -16,7 +16,7 @@ _latchsym() {
     fi
     case ${COMP_WORDS[1]} in
         trace) options='-h --help' ;;
-        lookup) options='--modules --kallsyms --regions --kernel --modules-from-symbols --addresses --callers --offset -h --help' ;;
+        lookup) options='--modules --kallsyms --regions --kernel --modules-from-symbols --addresses --callers --offset --json --no-counts -h --help' ;;
         run) options='--modules --kallsyms --regions --kernel --readers -h --help' ;;
         annotate) options='--kallsyms --modules --regions --kernel --callers --offset -h --help' ;;
         check) options='--modules --kallsyms --regions --kernel -h --help' ;;

@@ -127,6 +127,9 @@ lines() {
 lines '0xffffffffc0000040 ext4_a+0x30/0x30 [ext4]\n0x0 -\n0xffffffff81002000 do_one+0x1f00/0x1f00\n' --callers 0xffffffffc0000040 0 0xffffffff81002000
 lines '0xffffffffc0001058 ext4_c+0x18/0xfc0 [ext4]\n0xfff -\n' --offset 0x1000 0xffffffffc0001058 0xfff
 lines '0xffffffffc0001040 ext4_a+0x30/0x30 [ext4]\n0x1000 -\n' --offset 4096 --callers 0xffffffffc0001040 4096
+"$program" lookup "${basic[@]}" --no-counts --addresses basic.addresses | cmp -s - <(head -n -2 basic.expected) || fail "--no-counts"
+"$program" lookup "${basic[@]}" --no-counts --addresses /dev/null >"$work/out" && [ ! -s "$work/out" ] || fail "--no-counts without an address"
+"$program" lookup "${basic[@]}" --json --no-counts 0xffffffff81000108 0 | cmp -s - <(printf '{"address":"0xffffffff81000108","symbol":"do_one","offset":8,"size":7936}\n{"address":"0x0"}\n') || fail "--json"
 "$program" --version | cmp -s - <(echo 'latchsym 1.0.0') || fail "--version"
 "$program" --help | grep -q 'hold an address' || fail "--help says not what the program is for"
 

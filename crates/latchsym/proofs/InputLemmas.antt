@@ -13,6 +13,7 @@ use Rattle.modules.specs.Catalogs.{entry_for}
 use Rattle.modules.specs.Lines.{built_in_region}
 use Rattle.modules.specs.Listed.{ListedRegion}
 use Rattle.latchsym.specs.declared.fault.Fault.{Fault}
+use Rattle.latchsym.specs.declared.forms.AnswerForm.{AnswerForm}
 use Rattle.latchsym.specs.declared.fault.Fault.TheVariants.{Refused, BadLine, Read, Write}
 use Rattle.latchsym.specs.declared.lookup.ListingTexts.{ListingTexts}
 use Rattle.latchsym.specs.declared.lookup.Listings.{Listings}
@@ -83,7 +84,7 @@ module _ {I V W : Type 0} (Says : I → Result V Fault → Type 0) (inner known 
   answered_behind result h = still_answered Says inner known all (last_failures before after) counts none only w w' result h
 
 -- the texts of the listings are there, and a reader of the file of addresses
-module _ {W A : Type 0} (contents : W → Option (List ℕ)) (options : LookupOptions) (given : List ℕ) (t : ListingTexts) (file : Option (Option (List ℕ))) (old new : Option (Counted A)) (w : Counted W) where
+module _ {W A : Type 0} (contents : W → Option (List ℕ)) (form : AnswerForm) (options : LookupOptions) (given : List ℕ) (t : ListingTexts) (file : Option (Option (List ℕ))) (old new : Option (Counted A)) (w : Counted W) where
   abbrev counts_of_last : Failures
   counts_of_last = last_failures (failures_in old) (failures_in new)
 
@@ -102,7 +103,7 @@ module _ {W A : Type 0} (contents : W → Option (List ℕ)) (options : LookupOp
   bad_region : (place n : ℕ) → place ≡ 2 → region_lines text ≡ Err n → IfSome known (λ i. i ≡ Err (place, n))
   bad_region place n is bad = subst (Behind (λ i. i ≡ Err (place, n))) (sym bad) (ap (λ p. Err (p, n)) (sym is))
 
-  pub no_lines : (f : Fault) → failures_in new ≡ failures_in old → GivesLines text (Err f) → AnswersLookup contents known counts_of_last w w (Err f)
+  pub no_lines : (f : Fault) → failures_in new ≡ failures_in old → GivesLines text (Err f) → AnswersLookup contents form known counts_of_last w w (Err f)
   no_lines (Refused refusal.OutOfMemory) same g = (none_failed same, refl)
   no_lines (BadLine place n) same g = (none_failed same, refl, inl g.0, bad_region place n g.0 g.1)
   no_lines _ same g = absurd g
@@ -121,7 +122,7 @@ module _ {W A : Type 0} (contents : W → Option (List ℕ)) (options : LookupOp
     bad_address place n None is bad = tt
     bad_address place n (Some x) is bad = ap (inputs_with options (texts_in t) lines) bad ∙ ap (λ p. Err (p, n)) (sym is)
 
-    pub no_addresses : (f : Fault) → GivesAddresses given file (failures_in old) (failures_in new) (Err f) → AnswersLookup contents known counts_of_last w w (Err f)
+    pub no_addresses : (f : Fault) → GivesAddresses given file (failures_in old) (failures_in new) (Err f) → AnswersLookup contents form known counts_of_last w w (Err f)
     no_addresses (Refused refusal.OutOfMemory) g = (none_failed g, refl)
     no_addresses (BadLine place n) g = (none_failed g.0, refl, inr g.1, where_read (λ i. i ≡ Err (place, n)) (bad_address place n file g.1 g.2))
     no_addresses (Read place) g = (refl, subst (λ p. OnlyFailed p counts_of_last) (sym g.0) (refl, (refl, (refl, (g.1, tt)))))
@@ -146,8 +147,8 @@ module _ {W A : Type 0} (contents : W → Option (List ℕ)) (options : LookupOp
       all_known : (P : Inputs → Type 0) → P inputs → IfSome known (HoldsOf P)
       all_known P p = where_read (HoldsOf P) (with_inputs P file listed p)
 
-      pub answered : (same : failures_in new ≡ failures_in old) (result : Result ListingNotes Fault) → AnswersWith contents inputs w w' result → AnswersLookup contents known counts_of_last w w' result
-      answered same (Ok notes) h = (none_failed same, h.0, all_known (λ i. IsWritten contents w w' i × (notes ≡ notes_of i)) (h.1, h.2))
+      pub answered : (same : failures_in new ≡ failures_in old) (result : Result ListingNotes Fault) → AnswersWith contents form inputs w w' result → AnswersLookup contents form known counts_of_last w w' result
+      answered same (Ok notes) h = (none_failed same, h.0, all_known (λ i. IsWritten contents form w w' i × (notes ≡ notes_of i)) (h.1, h.2))
       answered same (Err (Refused refusal.OutOfMemory)) h = (none_failed same, h)
       answered same (Err (Refused refusal.BadCapacity)) h = (none_failed same, h.0, all_known HasTooManyRegions h.1)
       answered same (Err (Refused refusal.TooManyRegions)) h = (none_failed same, h.0, all_known HasTooManyOfOne h.1)

@@ -34,3 +34,5 @@ mod NameAnswerLemmas
 mod AskedNameLemmas
 -- the place of a word among words and among their texts
 mod OperandLemmas
+-- the text that bytes are, from one byte that is no part of it to the next
+mod JsonLemmas

@@ -15,11 +15,12 @@ use Rattle.modules.specs.declared.catalog.KeptCounts.{KeptCounts}
 use Rattle.order_laws.specs.declared.refusals.Refusal.TheVariants as refusal
 use Rattle.latchsym.specs.CatalogTables.{HasFewRegions, HasManyRegions, answer_at}
 use Rattle.latchsym.specs.LookupInputs.{all_addresses}
-use Rattle.latchsym.specs.LookupTexts.{answer_line}
+use Rattle.latchsym.specs.AnswerForms.{line_by}
 use Rattle.latchsym.specs.Lookups.{GivesAddresses}
 use Rattle.latchsym.specs.Readings.{Failures, HoldsOf, NoReaderFailed, OnlyFailed, failures_in, last_failures}
-use Rattle.latchsym.specs.SymbolLookups.{AnswersBySymbols, AnswersSymbolLookup, HoldsOfCatalog, IsSymbolListing, IsWrittenBySymbols, SymbolInputs, counts_text_of, found_counts_text, listed, symbol_inputs_of, symbol_inputs_with, symbol_lookup_text, symbol_note}
+use Rattle.latchsym.specs.SymbolLookups.{AnswersBySymbols, AnswersSymbolLookup, HoldsOfCatalog, IsSymbolListing, IsWrittenBySymbols, SymbolInputs, found_counts_by, listed, symbol_inputs_of, symbol_inputs_with, symbol_lookup_text, symbol_note}
 use Rattle.latchsym.specs.declared.fault.Fault.{Fault}
+use Rattle.latchsym.specs.declared.forms.AnswerForm.{AnswerForm}
 use Rattle.latchsym.specs.declared.fault.Fault.TheVariants.{Refused, BadLine, Read, Write}
 use Rattle.latchsym.specs.declared.listing_notes.ListingNotes.{ListingNotes}
 use Rattle.latchsym.specs.declared.symbol_lookup.SymbolListing.{SymbolListing}
@@ -38,16 +39,17 @@ pub holds_of_catalog : (P : CatalogEntries → Type 0) (i : SymbolInputs) (l : S
 holds_of_catalog P i l is p = (is.modules, is.said, subst P is.catalog p)
 
 -- the lines that were written are those of the inputs
-pub text_is : (i : SymbolInputs) (l : SymbolListing) (is : IsSymbolListing i.kernel i.kallsyms l) (answers : List AddressAnswer) → answers ≡ map (answer_at l.catalog i.rule) i.addresses
-    → flat_map (answer_line l.catalog i.rule) answers ++ found_counts_text l ≡ symbol_lookup_text i is.modules
-text_is i l is answers are =
+pub text_is : (form : AnswerForm) (i : SymbolInputs) (l : SymbolListing) (is : IsSymbolListing i.kernel i.kallsyms l) (answers : List AddressAnswer) → answers ≡ map (answer_at l.catalog i.rule) i.addresses
+    → flat_map (line_by form l.catalog i.rule) answers ++ found_counts_by form l.kept l.skipped.by_place ≡ symbol_lookup_text form i is.modules
+text_is form i l is answers are =
     let c = catalog_with is.modules (listed i.kallsyms) in
-    let lines : CatalogEntries → List ℕ = λ k. flat_map (answer_line k i.rule) (map (answer_at k i.rule) i.addresses) in
+    let lines : CatalogEntries → List ℕ = λ k. flat_map (line_by form k i.rule) (map (answer_at k i.rule) i.addresses) in
     let kept : KeptCounts = kept_counts is.modules (listed i.kallsyms) in
-    ap (λ xs. flat_map (answer_line l.catalog i.rule) xs ++ found_counts_text l) are
-    ∙ ap (λ k. lines k ++ found_counts_text l) is.catalog
-    ∙ ap (λ k. lines c ++ counts_text_of k l.skipped.by_place) is.kept
-    ∙ ap (λ s. lines c ++ counts_text_of kept s) is.skipped
+    let found = found_counts_by form l.kept l.skipped.by_place in
+    ap (λ xs. flat_map (line_by form l.catalog i.rule) xs ++ found) are
+    ∙ ap (λ k. lines k ++ found) is.catalog
+    ∙ ap (λ k. lines c ++ found_counts_by form k l.skipped.by_place) is.kept
+    ∙ ap (λ s. lines c ++ found_counts_by form kept s) is.skipped
 
 -- ---- from the text to the readers
 
@@ -58,7 +60,7 @@ where_text_known P said text None is p = tt
 where_text_known P said text (Some x) is p = subst (λ s. IfSome (said s) P) is p
 
 -- the text of the listing is there, and a reader of the file of addresses
-module _ {W A : Type 0} (contents : W → Option (List ℕ)) (options : SymbolLookupOptions) (given text : List ℕ) (file : Option (Option (List ℕ))) (old new : Option (Counted A)) (w : Counted W) where
+module _ {W A : Type 0} (contents : W → Option (List ℕ)) (form : AnswerForm) (options : SymbolLookupOptions) (given text : List ℕ) (file : Option (Option (List ℕ))) (old new : Option (Counted A)) (w : Counted W) where
   abbrev counts_of_last : Failures
   counts_of_last = last_failures (failures_in old) (failures_in new)
 
@@ -73,7 +75,7 @@ module _ {W A : Type 0} (contents : W → Option (List ℕ)) (options : SymbolLo
   bad_address place n None is bad = tt
   bad_address place n (Some x) is bad = ap (symbol_inputs_with options text) bad ∙ ap (λ p. Err (p, n)) (sym is)
 
-  pub no_addresses : (f : Fault) → GivesAddresses given file (failures_in old) (failures_in new) (Err f) → AnswersSymbolLookup contents known counts_of_last w w (Err f)
+  pub no_addresses : (f : Fault) → GivesAddresses given file (failures_in old) (failures_in new) (Err f) → AnswersSymbolLookup contents form known counts_of_last w w (Err f)
   no_addresses (Refused refusal.OutOfMemory) g = (none_failed g, refl)
   no_addresses (BadLine place n) g = (none_failed g.0, refl, inr g.1, bad_address place n file g.1 g.2)
   no_addresses (Read place) g = (refl, subst (λ p. OnlyFailed p counts_of_last) (sym g.0) (refl, (refl, (refl, (g.1, tt)))))
@@ -89,9 +91,9 @@ module _ {W A : Type 0} (contents : W → Option (List ℕ)) (options : SymbolLo
     with_inputs P None h p = tt
     with_inputs P (Some x) h p = subst (HoldsOf P) (sym (ap (symbol_inputs_with options text) h)) p
 
-    pub answered_by_symbols : failures_in new ≡ failures_in old → (result : Result ListingNotes Fault) → AnswersBySymbols contents inputs w w' result
-        → AnswersSymbolLookup contents known counts_of_last w w' result
-    answered_by_symbols same (Ok notes) h = (none_failed same, h.0, with_inputs (λ i. IsWrittenBySymbols contents w w' i notes) file all h.1)
+    pub answered_by_symbols : failures_in new ≡ failures_in old → (result : Result ListingNotes Fault) → AnswersBySymbols contents form inputs w w' result
+        → AnswersSymbolLookup contents form known counts_of_last w w' result
+    answered_by_symbols same (Ok notes) h = (none_failed same, h.0, with_inputs (λ i. IsWrittenBySymbols contents form w w' i notes) file all h.1)
     answered_by_symbols same (Err (Refused refusal.OutOfMemory)) h = (none_failed same, h)
     answered_by_symbols same (Err (Refused refusal.BadCapacity)) h = (none_failed same, h.0, with_inputs (HoldsOfCatalog HasManyRegions) file all h.1)
     answered_by_symbols same (Err Write) h = (none_failed same, h.0, with_inputs (HoldsOfCatalog HasFewRegions) file all h.1)

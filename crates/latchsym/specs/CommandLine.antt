@@ -57,10 +57,13 @@ with_listings app modules =
     (pair_rule (codes "kernel"))
 
 -- lookup [--modules FILE] --kallsyms FILE [--regions FILE] [--kernel START END]
--- [--modules-from-symbols] [--addresses FILE] [--callers] [--offset N] [ADDR]..
+-- [--modules-from-symbols] [--addresses FILE] [--callers] [--offset N] [--json] [--no-counts]
+-- [ADDR]..
 abbrev pub lookup_app : App
 lookup_app =
     with_rule
+    (with_rule
+    (with_rule
     (with_rule
     (with_rule
     (with_rule
@@ -70,6 +73,8 @@ lookup_app =
     (optional_rule (codes "addresses")))
     (flag_rule (codes "callers")))
     (optional_rule (codes "offset")))
+    (flag_rule (codes "json")))
+    (flag_rule (codes "no-counts")))
     (words_rule (codes "address"))
 
 -- run --modules FILE --kallsyms FILE [--regions FILE] [--kernel START END] --readers N SCRIPT

@@ -25,6 +25,7 @@ use Rattle.latchsym.specs.declared.command_line.SymbolLookupJob.{SymbolLookupJob
 use Rattle.latchsym.specs.declared.command_line.Job.TheVariants.{Trace, Lookup, SymbolLookup}
 use Rattle.latchsym.specs.declared.command_line.Job.TheVariants.{Address, Annotate, Check, Run}
 use Rattle.latchsym.specs.declared.command_line.JobFault.{JobFault}
+use Rattle.latchsym.specs.declared.forms.AnswerForm.{AnswerForm}
 use Rattle.latchsym.specs.declared.command_line.JobFault.TheVariants.{OutOfMemory, CommandLine}
 use Rattle.latchsym.specs.declared.command_line.JobFault.TheVariants.{BadAddress, NoAddress}
 use Rattle.latchsym.specs.declared.command_line.JobFault.TheVariants.{BadEnd, BadOffset}
@@ -58,12 +59,13 @@ abbrev pub file_at : Job → ℕ → Option Text
 file_at job place = option_and_then (λ f. f) (slice_get (files_of job) place)
 
 -- the addresses that these words are, and after them those of a file; as return addresses or not,
--- and lower by the number that a word is
+-- and lower by the number that a word is; and in which form the answers are written
 pub record AddressWords : Type 0 where
   pub file : Option Text
   pub callers : Bool
   pub offset : Option Text
   pub words : List Text
+  pub form : AnswerForm
 
 -- to look these addresses up in the listings of modules and of symbols in two files, and of regions
 -- in a third, where these symbols bound the kernel
@@ -159,6 +161,13 @@ values_in id rows = unwrap_or (all_of id rows) []
 abbrev pub has_flag : Text → List Row → Bool
 has_flag id rows = option_map_or (λ text. bytes_eq text (codes "true")) (first_of id rows) false
 
+-- the form that these values ask for
+abbrev pub form_in : List Row → AnswerForm
+form_in rows = record {
+  json = has_flag (codes "json") rows;
+  counts = not (has_flag (codes "no-counts") rows);
+}
+
 -- the addresses that these values ask for
 abbrev pub address_words : List Row → AddressWords
 address_words rows = record {
@@ -166,6 +175,7 @@ address_words rows = record {
   callers = has_flag (codes "callers") rows;
   offset = first_of (codes "offset") rows;
   words = values_in (codes "address") rows;
+  form = form_in rows;
 }
 
 -- the lookup in listings of modules and of symbols that these values ask for, where those that have
@@ -325,6 +335,7 @@ pub record AreAsked (a : AddressWords) (x : AskedAddresses) : Type 0 where
   pub some : lacks_addresses a ≡ false
   pub none_bad : find is_no_number a.words ≡ None
   pub listed : x.listed.items ≡ filter_map number_of a.words
+  pub form : x.form ≡ a.form
 
 -- the addresses of a job
 abbrev pub addresses_of_lookup : LookupJob → AskedAddresses
@@ -332,6 +343,7 @@ addresses_of_lookup job = record {
   file = job.address_file;
   rule = job.options.rule;
   listed = job.addresses;
+  form = job.form;
 }
 
 abbrev pub addresses_of_symbol_lookup : SymbolLookupJob → AskedAddresses
@@ -339,6 +351,7 @@ addresses_of_symbol_lookup job = record {
   file = job.address_file;
   rule = job.options.rule;
   listed = job.addresses;
+  form = job.form;
 }
 
 -- what a lookup asks for with these addresses

@@ -13,8 +13,14 @@ pub mod Traces
 pub mod CatalogTables
 -- a world that holds the regions of modules
 pub mod LoadedWorlds
+-- values of JSON (RFC 8259)
+pub mod Json
 -- the lines that a lookup of addresses writes
 pub mod LookupTexts
+-- the same lines as JSON
+pub mod JsonTexts
+-- in which form answers are written
+pub mod AnswerForms
 -- what an engine returns that reads files one after the other
 pub mod Readings
 -- what a lookup of addresses reads, and what that says

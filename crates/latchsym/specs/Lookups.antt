@@ -18,10 +18,13 @@ use Rattle.latchsym.specs.CatalogTables.{HasFewRegions, HasManyRegions, answer_a
 use Rattle.latchsym.specs.ListingNotes.{notes_of}
 use Rattle.latchsym.specs.LookupInputs.{Inputs, all_addresses, catalog_in, counts_in}
 use Rattle.latchsym.specs.LookupInputs.{region_lines_of_inputs, region_lines}
-use Rattle.latchsym.specs.LookupTexts.{answer_line, modules_line, regions_line, symbols_line}
+use Rattle.latchsym.specs.AnswerForms.{counts_by, line_by}
+use Rattle.latchsym.specs.JsonTexts.{json_counts}
+use Rattle.latchsym.specs.LookupTexts.{modules_line, regions_line, symbols_line}
 use Rattle.latchsym.specs.Readings.{AnswersInputs, Failures, failures_in}
 use Rattle.latchsym.specs.declared.fault.Fault.{Fault}
 use Rattle.latchsym.specs.declared.fault.Fault.TheVariants.{Refused, BadLine, Read, Write}
+use Rattle.latchsym.specs.declared.forms.AnswerForm.{AnswerForm}
 use Rattle.latchsym.specs.declared.listing_notes.ListingNotes.{ListingNotes}
 use Rattle.latchsym.specs.declared.lookup.Listings.{Listings}
 use Rattle.latchsym.specs.declared.lookup.LookupReaders.{LookupReaders}
@@ -37,12 +40,19 @@ count_lines i =
     ++ symbols_line (symbol_counts (lines_of i.kallsyms)) (counts_in i).symbols (counts_in i).stray
     ++ regions_line_of (is_some i.regions) (counts_in i)
 
--- a line for each address, and then the counts
-abbrev pub lookup_text : Inputs → List ℕ
-lookup_text i =
+-- the same counts as JSON
+abbrev pub json_count_line : Inputs → List ℕ
+json_count_line i =
+    json_counts (module_counts (lines_of i.modules)) (symbol_counts (lines_of i.kallsyms))
+    (is_some i.regions) (counts_in i)
+
+-- a line for each address, and then the counts, in this form
+abbrev pub lookup_text : AnswerForm → Inputs → List ℕ
+lookup_text form i =
     let c = catalog_in i in
     let rule = i.options.rule in
-    flat_map (answer_line c rule) (map (answer_at c rule) i.addresses) ++ count_lines i
+    flat_map (line_by form c rule) (map (answer_at c rule) i.addresses)
+    ++ counts_by form (count_lines i) (json_count_line i)
 
 -- no module has too many region lines, and a table of all regions has so many nodes at most
 abbrev pub FitsTable : Inputs → Type 0
@@ -74,23 +84,27 @@ counts_text l =
     ++ symbols_line l.skipped_symbols.by_place l.built.symbols l.built.stray
     ++ regions_line_of l.has_regions l.built
 
+abbrev pub json_counts_text : Listings → List ℕ
+json_counts_text l =
+    json_counts l.skipped_modules.by_place l.skipped_symbols.by_place l.has_regions l.built
+
 -- the writer has taken the lines of these inputs
-abbrev pub IsWritten : {W : Type 0} → (W → Option (List ℕ)) → Counted W → Counted W
+abbrev pub IsWritten : {W : Type 0} → (W → Option (List ℕ)) → AnswerForm → Counted W → Counted W
     → Inputs → Type 0
-IsWritten contents w w' i =
-    FitsTable i × Appends (contents (device_of w)) (contents (device_of w')) (lookup_text i)
+IsWritten contents form w w' i =
+    FitsTable i × Appends (contents (device_of w)) (contents (device_of w')) (lookup_text form i)
 
 -- What is returned for these inputs, from one state of the writer to another. Every fault but a
 -- failed write leaves the writer as it was, and a call of it failed then alone.
-abbrev pub AnswersWith : {W : Type 0} → (W → Option (List ℕ)) → Inputs
+abbrev pub AnswersWith : {W : Type 0} → (W → Option (List ℕ)) → AnswerForm → Inputs
     → Counted W → Counted W → Result ListingNotes Fault → Type 0
-AnswersWith contents i w w' (Ok notes) =
-    NoneFailed w w' × IsWritten contents w w' i × (notes ≡ notes_of i)
-AnswersWith contents i w w' (Err (Refused refusal.OutOfMemory)) = w' ≡ w
-AnswersWith contents i w w' (Err (Refused refusal.BadCapacity)) = (w' ≡ w) × HasTooManyRegions i
-AnswersWith contents i w w' (Err (Refused refusal.TooManyRegions)) = (w' ≡ w) × HasTooManyOfOne i
-AnswersWith contents i w w' (Err Write) = Rose (failures_of w) (failures_of w') × FitsTable i
-AnswersWith contents i w w' (Err _) = ⊥
+AnswersWith contents form i w w' (Ok notes) =
+    NoneFailed w w' × IsWritten contents form w w' i × (notes ≡ notes_of i)
+AnswersWith contents form i w w' (Err (Refused refusal.OutOfMemory)) = w' ≡ w
+AnswersWith contents form i w w' (Err (Refused refusal.BadCapacity)) = (w' ≡ w) × HasTooManyRegions i
+AnswersWith contents form i w w' (Err (Refused refusal.TooManyRegions)) = (w' ≡ w) × HasTooManyOfOne i
+AnswersWith contents form i w w' (Err Write) = Rose (failures_of w) (failures_of w') × FitsTable i
+AnswersWith contents form i w w' (Err _) = ⊥
 
 -- the region lines, or why they are not there
 abbrev pub GivesLines : Option (List ℕ) → Result (Option (Vec ListedRegion)) Fault → Type 0
@@ -111,19 +125,20 @@ GivesAddresses given known before after (Err (Read place)) = (place ≡ 3) × Ro
 GivesAddresses given known before after (Err _) = ⊥
 
 -- what is said of the inputs where this is returned
-abbrev pub IsLookupOf : {W : Type 0} → (W → Option (List ℕ)) → Counted W → Counted W
+abbrev pub IsLookupOf : {W : Type 0} → (W → Option (List ℕ)) → AnswerForm → Counted W → Counted W
     → Inputs → Result ListingNotes Fault → Type 0
-IsLookupOf contents w w' i (Ok notes) = IsWritten contents w w' i × (notes ≡ notes_of i)
-IsLookupOf contents w w' i (Err (Refused refusal.BadCapacity)) = HasTooManyRegions i
-IsLookupOf contents w w' i (Err (Refused refusal.TooManyRegions)) = HasTooManyOfOne i
-IsLookupOf contents w w' i (Err Write) = FitsTable i
-IsLookupOf contents w w' i (Err _) = Unit {0}
+IsLookupOf contents form w w' i (Ok notes) =
+    IsWritten contents form w w' i × (notes ≡ notes_of i)
+IsLookupOf contents form w w' i (Err (Refused refusal.BadCapacity)) = HasTooManyRegions i
+IsLookupOf contents form w w' i (Err (Refused refusal.TooManyRegions)) = HasTooManyOfOne i
+IsLookupOf contents form w w' i (Err Write) = FitsTable i
+IsLookupOf contents form w w' i (Err _) = Unit {0}
 
 -- what the engine returns that also read the inputs, where these are known
-abbrev pub AnswersLookup : {W : Type 0} → (W → Option (List ℕ)) → Option (Result Inputs (ℕ × ℕ))
-    → Failures → Counted W → Counted W → Result ListingNotes Fault → Type 0
-AnswersLookup contents known counts w w' result =
-    AnswersInputs (IsLookupOf contents w w') known counts w w' result
+abbrev pub AnswersLookup : {W : Type 0} → (W → Option (List ℕ)) → AnswerForm
+    → Option (Result Inputs (ℕ × ℕ)) → Failures → Counted W → Counted W → Result ListingNotes Fault → Type 0
+AnswersLookup contents form known counts w w' result =
+    AnswersInputs (IsLookupOf contents form w w') known counts w w' result
 
 abbrev pub failures_between : {M K R A : Type 0} → LookupReaders M K R A → LookupReaders M K R A
     → Failures

@@ -58,7 +58,7 @@ pub record IsLookedUp {F W : Type 0} (remaining : F → Option (List ℕ))
   pub after : LookupReaders F F F F
   pub opened : AreLookupFiles remaining held standard job before
   pub result : Result ListingNotes Fault
-  pub answered : AnswersLookup contents
+  pub answered : AnswersLookup contents job.form
       (known_inputs remaining remaining remaining remaining before job.options job.addresses.items)
       (failures_between before after) w w' result
   pub status : outcome ≡ with_status result
@@ -71,7 +71,7 @@ pub record IsLookedUpBySymbols {F W : Type 0} (remaining : F → Option (List �
   pub after : SymbolLookupReaders F F
   pub opened : AreSymbolLookupFiles remaining held standard job before
   pub result : Result ListingNotes Fault
-  pub answered : AnswersSymbolLookup contents
+  pub answered : AnswersSymbolLookup contents job.form
       (known_symbol_inputs remaining remaining before job.options job.addresses.items)
       (failures_of_symbols before after) w w' result
   pub status : outcome ≡ with_status result

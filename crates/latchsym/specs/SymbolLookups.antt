@@ -20,10 +20,13 @@ use Rattle.order_laws.specs.declared.refusals.Refusal.TheVariants as refusal
 use Rattle.latchsym.specs.CatalogTables.{HasFewRegions, HasManyRegions, answer_at}
 use Rattle.latchsym.specs.ListingNotes.{all_notes, is_of_kallsyms}
 use Rattle.latchsym.specs.LookupInputs.{all_addresses, known_text}
-use Rattle.latchsym.specs.LookupTexts.{answer_line, found_modules_line, symbols_line}
+use Rattle.latchsym.specs.AnswerForms.{counts_by, line_by}
+use Rattle.latchsym.specs.JsonTexts.{json_found_counts}
+use Rattle.latchsym.specs.LookupTexts.{found_modules_line, symbols_line}
 use Rattle.latchsym.specs.Readings.{AnswersInputs, Failures, failures_in}
 use Rattle.latchsym.specs.declared.fault.Fault.{Fault}
 use Rattle.latchsym.specs.declared.fault.Fault.TheVariants.{Refused, Write}
+use Rattle.latchsym.specs.declared.forms.AnswerForm.{AnswerForm}
 use Rattle.latchsym.specs.declared.listing_notes.ListingNote.{ListingNote}
 use Rattle.latchsym.specs.declared.listing_notes.ListingNotes.{ListingNotes}
 use Rattle.latchsym.specs.declared.symbol_lookup.SymbolListing.{SymbolListing}
@@ -108,13 +111,18 @@ counts_text_of kept skipped =
 abbrev pub found_counts_text : SymbolListing → List ℕ
 found_counts_text l = counts_text_of l.kept l.skipped.by_place
 
+-- the counts in this form
+abbrev pub found_counts_by : AnswerForm → KeptCounts → List ℕ → List ℕ
+found_counts_by form kept skipped =
+    counts_by form (counts_text_of kept skipped) (json_found_counts kept skipped)
+
 -- a line for each address, and then the counts, where the listing says this of the modules
-abbrev pub symbol_lookup_text : SymbolInputs → Accepted → List ℕ
-symbol_lookup_text i a =
+abbrev pub symbol_lookup_text : AnswerForm → SymbolInputs → Accepted → List ℕ
+symbol_lookup_text form i a =
     let symbols = listed i.kallsyms in
     let c = catalog_with a symbols in
-    flat_map (answer_line c i.rule) (map (answer_at c i.rule) i.addresses)
-    ++ counts_text_of (kept_counts a symbols) (symbol_counts (lines_of i.kallsyms))
+    flat_map (line_by form c i.rule) (map (answer_at c i.rule) i.addresses)
+    ++ found_counts_by form (kept_counts a symbols) (symbol_counts (lines_of i.kallsyms))
 
 -- this holds of the catalog that the listing says
 abbrev pub HoldsOfCatalog : (CatalogEntries → Type 0) → SymbolInputs → Type 0
@@ -127,44 +135,45 @@ abbrev pub notes_with : Option ListingNote → ListingNotes
 notes_with note = record { modules = None; kallsyms = note }
 
 -- the writer has taken the lines of these inputs, whose table has few regions, and this is noted
-abbrev pub IsWrittenBySymbols : {W : Type 0} → (W → Option (List ℕ)) → Counted W → Counted W
-    → SymbolInputs → ListingNotes → Type 0
-IsWrittenBySymbols contents w w' i notes =
+abbrev pub IsWrittenBySymbols : {W : Type 0} → (W → Option (List ℕ)) → AnswerForm → Counted W
+    → Counted W → SymbolInputs → ListingNotes → Type 0
+IsWrittenBySymbols contents form w w' i notes =
     (a : Accepted) × SaysOfModules i.kernel i.kallsyms a
     × HasFewRegions (catalog_with a (listed i.kallsyms))
-    × Appends (contents (device_of w)) (contents (device_of w')) (symbol_lookup_text i a)
+    × Appends (contents (device_of w)) (contents (device_of w')) (symbol_lookup_text form i a)
     × (notes
     ≡ notes_with (symbol_note i.kernel i.kallsyms (kept_counts a (listed i.kallsyms)).symbols))
 
 -- What is returned for these inputs, from one state of the writer to another. Every fault but a
 -- failed write leaves the writer as it was, and a call of it failed then alone.
-abbrev pub AnswersBySymbols : {W : Type 0} → (W → Option (List ℕ)) → SymbolInputs
+abbrev pub AnswersBySymbols : {W : Type 0} → (W → Option (List ℕ)) → AnswerForm → SymbolInputs
     → Counted W → Counted W → Result ListingNotes Fault → Type 0
-AnswersBySymbols contents i w w' (Ok notes) =
-    NoneFailed w w' × IsWrittenBySymbols contents w w' i notes
-AnswersBySymbols contents i w w' (Err (Refused refusal.OutOfMemory)) = w' ≡ w
-AnswersBySymbols contents i w w' (Err (Refused refusal.BadCapacity)) =
+AnswersBySymbols contents form i w w' (Ok notes) =
+    NoneFailed w w' × IsWrittenBySymbols contents form w w' i notes
+AnswersBySymbols contents form i w w' (Err (Refused refusal.OutOfMemory)) = w' ≡ w
+AnswersBySymbols contents form i w w' (Err (Refused refusal.BadCapacity)) =
     (w' ≡ w) × HoldsOfCatalog HasManyRegions i
-AnswersBySymbols contents i w w' (Err Write) =
+AnswersBySymbols contents form i w w' (Err Write) =
     Rose (failures_of w) (failures_of w') × HoldsOfCatalog HasFewRegions i
-AnswersBySymbols contents i w w' (Err _) = ⊥
+AnswersBySymbols contents form i w w' (Err _) = ⊥
 
 -- what is said of the inputs where this is returned
-abbrev pub IsSymbolLookupOf : {W : Type 0} → (W → Option (List ℕ)) → Counted W → Counted W
-    → SymbolInputs → Result ListingNotes Fault → Type 0
-IsSymbolLookupOf contents w w' i (Ok notes) = IsWrittenBySymbols contents w w' i notes
-IsSymbolLookupOf contents w w' i (Err (Refused refusal.BadCapacity)) =
+abbrev pub IsSymbolLookupOf : {W : Type 0} → (W → Option (List ℕ)) → AnswerForm → Counted W
+    → Counted W → SymbolInputs → Result ListingNotes Fault → Type 0
+IsSymbolLookupOf contents form w w' i (Ok notes) =
+    IsWrittenBySymbols contents form w w' i notes
+IsSymbolLookupOf contents form w w' i (Err (Refused refusal.BadCapacity)) =
     HoldsOfCatalog HasManyRegions i
-IsSymbolLookupOf contents w w' i (Err (Refused refusal.TooManyRegions)) = ⊥
-IsSymbolLookupOf contents w w' i (Err Write) = HoldsOfCatalog HasFewRegions i
-IsSymbolLookupOf contents w w' i (Err _) = Unit {0}
+IsSymbolLookupOf contents form w w' i (Err (Refused refusal.TooManyRegions)) = ⊥
+IsSymbolLookupOf contents form w w' i (Err Write) = HoldsOfCatalog HasFewRegions i
+IsSymbolLookupOf contents form w w' i (Err _) = Unit {0}
 
 -- what the engine returns that also read the inputs, where these are known
-abbrev pub AnswersSymbolLookup : {W : Type 0} → (W → Option (List ℕ))
+abbrev pub AnswersSymbolLookup : {W : Type 0} → (W → Option (List ℕ)) → AnswerForm
     → Option (Result SymbolInputs (ℕ × ℕ)) → Failures → Counted W → Counted W
     → Result ListingNotes Fault → Type 0
-AnswersSymbolLookup contents known counts w w' result =
-    AnswersInputs (IsSymbolLookupOf contents w w') known counts w w' result
+AnswersSymbolLookup contents form known counts w w' result =
+    AnswersInputs (IsSymbolLookupOf contents form w w') known counts w w' result
 
 -- The counts of failed calls. The files have the places that they have in every lookup, so those of
 -- the listings of modules and of regions stay empty.

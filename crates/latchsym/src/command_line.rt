@@ -7,13 +7,15 @@ ghost use Rattle.latchsym.specs.CommandLine.{latchsym_app, optional_word_rule};
 ghost use Rattle.latchsym.specs.CommandLine.{option_rule, optional_rule, pair_rule, with_listings};
 ghost use Rattle.latchsym.specs.CommandLine.{flag_rule, word_rule, words_rule, IsCommand, IsPlainArg};
 ghost use Rattle.latchsym.specs.Jobs.{address_words, asked_annotate, asked_check, asked_lookup};
-ghost use Rattle.latchsym.specs.Jobs.{asked_run, asked_trace, has_flag, is_like_address};
+ghost use Rattle.latchsym.specs.Jobs.{asked_run, asked_trace, form_in, has_flag};
+ghost use Rattle.latchsym.specs.Jobs.{is_like_address};
 ghost use Rattle.latchsym.specs.Jobs.{listed_lookup, readers_of};
 ghost use Rattle.latchsym.specs.Jobs.{symbol_lookup_in, values_in, AnswersAsked, AnswersMatches};
 ghost use Rattle.latchsym.specs.Jobs.{AnswersWords, GivesAnyBounds, GivesAsked, GivesBounds};
 ghost use Rattle.latchsym.specs.Jobs.{AreNumbers, GivesOffset, IsFaultOf};
 
 use crate::address_command::{AddressJob, address_command, address_job};
+use crate::forms::AnswerForm;
 use crate::lookup::LookupOptions;
 use crate::symbol_lookup::SymbolLookupOptions;
 use clap::error::ErrorKind;
@@ -30,11 +32,12 @@ pub enum Job<'a> {
     /// `latchsym trace FILE`: run the trace in this file.
     Trace { file: &'a str },
     /// `latchsym lookup --modules FILE --kallsyms FILE [--regions FILE] [--kernel START END]
-    /// [--addresses FILE] [--callers] [--offset N] [ADDR]..`: look addresses up.
+    /// [--addresses FILE] [--callers] [--offset N] [--json] [--no-counts] [ADDR]..`: look addresses
+    /// up.
     Lookup(LookupJob<'a>),
     /// `latchsym lookup --modules-from-symbols --kallsyms FILE [--kernel START END]
-    /// [--addresses FILE] [--callers] [--offset N] [ADDR]..`: look addresses up where the modules
-    /// come from the symbols.
+    /// [--addresses FILE] [--callers] [--offset N] [--json] [--no-counts] [ADDR]..`: look addresses
+    /// up where the modules come from the symbols.
     SymbolLookup(SymbolLookupJob<'a>),
     /// `latchsym run --modules FILE --kallsyms FILE [--regions FILE] [--kernel START END] --readers N
     /// SCRIPT`: do what a script says, each writer and each reader on a thread.
@@ -65,6 +68,8 @@ pub struct LookupJob<'a> {
     pub options: LookupOptions<'a>,
     /// The addresses of the command line, in the order of their words.
     pub addresses: Vec<u64>,
+    /// How the answers are written.
+    pub form: AnswerForm,
 }
 
 /// Which addresses are looked up, and in which listing of symbols, which says where modules lie.
@@ -78,9 +83,11 @@ pub struct SymbolLookupJob<'a> {
     pub options: SymbolLookupOptions<'a>,
     /// The addresses of the command line, in the order of their words.
     pub addresses: Vec<u64>,
+    /// How the answers are written.
+    pub form: AnswerForm,
 }
 
-/// Which addresses a command line asks for, and how they are taken.
+/// Which addresses a command line asks for, how they are taken, and how the answers are written.
 #[derive(Debug, Drop)]
 pub struct AskedAddresses<'a> {
     /// The file of further addresses, where there is one; `-` is the standard input.
@@ -89,6 +96,8 @@ pub struct AskedAddresses<'a> {
     pub rule: AddressRule,
     /// The addresses of the command line, in the order of their words.
     pub listed: Vec<u64>,
+    /// How the answers are written.
+    pub form: AnswerForm,
 }
 
 /// Which script is run, by how many readers, and over which listings.
@@ -324,6 +333,8 @@ fn lookup_command<'a>(alloc: Global) -> Result<Command<'a>, AllocError>
 {
     let symbols_help = "Find the modules by their symbols, in place of --modules and --regions";
     let file_help = "Further addresses, a number a line; - is the standard input";
+    let json_help = "Write each answer as an object of JSON, a line each, and the counts so too";
+    let counts_help = "Leave the counts out";
     let address_help = "The addresses, decimal, or hexadecimal behind 0x";
     let command = described(
         alloc,
@@ -336,6 +347,8 @@ fn lookup_command<'a>(alloc: Global) -> Result<Command<'a>, AllocError>
         .arg(optional_option(alloc, "addresses", "FILE").help(file_help))?
         .arg(flag(alloc, "callers").help(CALLERS_HELP))?
         .arg(optional_option(alloc, "offset", "N").help(OFFSET_HELP))?
+        .arg(flag(alloc, "json").help(json_help))?
+        .arg(flag(alloc, "no-counts").help(counts_help))?
         .arg(any_words(alloc, "address", "ADDR").help(address_help))
 }
 
@@ -519,6 +532,7 @@ fn listed_lookup_job<'a>(
             rule: asked.rule,
         },
         addresses: asked.listed,
+        form: asked.form,
     }))
 }
 
@@ -539,7 +553,18 @@ fn symbol_lookup_job<'a>(alloc: Global, found: &ArgMatches<'a>) -> Result<Job<'a
             rule: asked.rule,
         },
         addresses: asked.listed,
+        form: asked.form,
     }))
+}
+
+/// The form in which the answers of a lookup are written.
+fn form_in(found: &ArgMatches<'_>) -> AnswerForm
+    ensures { result ≡ form_in (rows_of (found_of found.now)) }
+{
+    AnswerForm {
+        json: is_given(found, "json"),
+        counts: !is_given(found, "no-counts"),
+    }
 }
 
 /// The addresses of a lookup, of which there has to be one or a file of them.
@@ -551,6 +576,7 @@ fn asked_addresses<'a>(
 {
     let file = value_of(found, "addresses");
     let callers = is_given(found, "callers");
+    let form = form_in(found);
     let offset = offset_in(value_of(found, "offset"))?;
     let words = values_of(found, "address");
     if words.is_empty() && file.is_none() {
@@ -561,6 +587,7 @@ fn asked_addresses<'a>(
         file,
         rule: AddressRule { callers, offset },
         listed,
+        form,
     })
 }
 

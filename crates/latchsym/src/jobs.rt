@@ -103,7 +103,16 @@ fn do_lookup<F: FileSource, W: Write>(
         job.now writer.old writer.new result ⊎ IsNotOpened writer.old writer.new result }
 {
     let mut readers = open_lookup(files, job)?;
-    with_status(lookup_engine(alloc, &mut readers, &job.options, &job.addresses, writer))
+    let form = job.form;
+    let done = lookup_engine(
+        alloc,
+        &mut readers,
+        &job.options,
+        &job.addresses,
+        form,
+        writer,
+    );
+    with_status(done)
 }
 
 /// Looks up the addresses of a job by the symbols alone.
@@ -118,7 +127,16 @@ fn do_symbol_lookup<F: FileSource, W: Write>(
         ⊎ IsNotOpened writer.old writer.new result }
 {
     let mut readers = open_symbol_lookup(files, job)?;
-    with_status(symbol_lookup_engine(alloc, &mut readers, &job.options, &job.addresses, writer))
+    let options = &job.options;
+    let done = symbol_lookup_engine(
+        alloc,
+        &mut readers,
+        options,
+        &job.addresses,
+        job.form,
+        writer,
+    );
+    with_status(done)
 }
 
 /// Runs the script of a job.

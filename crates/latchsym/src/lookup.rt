@@ -7,13 +7,15 @@ ghost use Rattle.modules.specs.Catalogs.{IsBuildRefusal};
 ghost use Rattle.modules.specs.Lines.{region_fits};
 ghost use Rattle.latchsym.specs.LookupInputs.{inputs_in, inputs_of, known_inputs, known_text};
 ghost use Rattle.latchsym.specs.LookupInputs.{region_lines_of_inputs, texts_in};
-ghost use Rattle.latchsym.specs.LookupTexts.{answer_line};
+ghost use Rattle.latchsym.specs.AnswerForms.{counts_by, line_by};
 ghost use Rattle.latchsym.specs.Lookups.{AnswersLookup, AnswersWith, AreListingsOf, GivesAddresses};
 ghost use Rattle.latchsym.specs.Lookups.{GivesLines, counts_text, failures_between};
-ghost use Rattle.latchsym.specs.Lookups.{regions_line_of};
+ghost use Rattle.latchsym.specs.Lookups.{json_counts_text, regions_line_of};
 ghost use Rattle.latchsym.specs.Readings.{IsReadAs, failures_in, last_failures};
 
 use crate::fault::Fault;
+use crate::forms::AnswerForm;
+use crate::json_texts::put_json_counts;
 use crate::listing_notes::{ListingNotes, SymbolFacts, note_of_kallsyms, note_of_modules};
 use crate::lookup_texts::{put_answers, put_module_counts, put_region_counts, put_symbol_counts};
 use crate::table::{AddressAnswer, answers_of};
@@ -98,7 +100,7 @@ pub struct Listings<'a> {
 }
 
 /// Looks addresses up in the listings of modules and of symbols, and writes a line for each address
-/// and a line of counts for each listing. Returns what is noted of the listings. A listing of
+/// and the counts of each listing, in this form. Returns what is noted of the listings. A listing of
 /// regions may say where modules lie, and a file of addresses which are looked up after the given
 /// ones. The options name the symbols between which the kernel's own region lies, and say how the
 /// addresses are taken.
@@ -110,9 +112,10 @@ pub fn lookup_engine<M: Read, K: Read, R: Read, A: Read, W: Write>(
     readers: &mut LookupReaders<M, K, R, A>,
     options: &LookupOptions<'_>,
     addresses: &[u64],
+    form: AnswerForm,
     writer: &mut Counted<W>,
 ) -> Result<ListingNotes, Fault>
-    ensures { AnswersLookup W.contents
+    ensures { AnswersLookup W.contents form
         (known_inputs M.remaining K.remaining R.remaining A.remaining
         readers.old options.now addresses.now)
         (failures_between readers.old readers.new) writer.old writer.new result }
@@ -126,7 +129,7 @@ pub fn lookup_engine<M: Read, K: Read, R: Read, A: Read, W: Write>(
         regions,
     };
     let file = &mut readers.addresses;
-    answer_from(alloc, options, addresses, &texts, file, writer)
+    answer_from(alloc, options, addresses, &texts, file, form, writer)
 }
 
 /// Reads the file at a place of the order in which they are read, where there is one.
@@ -170,9 +173,10 @@ fn answer_from<A: Read, W: Write>(
     given: &[u64],
     texts: &ListingTexts,
     file: &mut Option<Counted<A>>,
+    form: AnswerForm,
     writer: &mut Counted<W>,
 ) -> Result<ListingNotes, Fault>
-    ensures { AnswersLookup W.contents
+    ensures { AnswersLookup W.contents form
         (inputs_of options.now given.now (known_text A.remaining file.old) (texts_in texts.now))
         (last_failures (failures_in file.old) (failures_in file.new)) writer.old writer.new result }
 {
@@ -185,7 +189,7 @@ fn answer_from<A: Read, W: Write>(
         regions,
         addresses,
     };
-    answer_with(alloc, &inputs, writer)
+    answer_with(alloc, &inputs, form, writer)
 }
 
 /// The lines of the listing of regions, where there is one.
@@ -228,10 +232,11 @@ pub(crate) fn all_addresses<A: Read>(
 fn answer_with<W: Write>(
     alloc: Global,
     inputs: &LookupInputs<'_, '_>,
+    form: AnswerForm,
     writer: &mut Counted<W>,
 ) -> Result<ListingNotes, Fault>
     requires { All (λ r. region_fits r ≡ true) (region_lines_of_inputs (inputs_in inputs.now)) }
-    ensures { AnswersWith W.contents (inputs_in inputs.now) writer.old writer.new result }
+    ensures { AnswersWith W.contents form (inputs_in inputs.now) writer.old writer.new result }
 {
     let listings = listings_in(alloc, inputs)?;
     let rule = inputs.options.rule;
@@ -242,7 +247,7 @@ fn answer_with<W: Write>(
         rule,
         &inputs.addresses,
     )?;
-    match put_lookup(writer, &listings, rule, &answers) {
+    match put_lookup(writer, &listings, rule, form, &answers) {
         Ok(()) => Ok(listings.notes),
         Err(_) => Err(Fault::Write),
     }
@@ -308,14 +313,37 @@ fn put_lookup<W: Write>(
     writer: &mut Counted<W>,
     listings: &Listings,
     rule: AddressRule,
+    form: AnswerForm,
     answers: &[AddressAnswer],
 ) -> io::Result<()>
     ensures { Wrote W.contents writer.old writer.new result
-        (flat_map (answer_line listings.now.catalog rule) answers.now ++ counts_text listings.now) }
+        (flat_map (line_by form listings.now.catalog rule) answers.now
+        ++ counts_by form (counts_text listings.now) (json_counts_text listings.now)) }
 {
-    put_answers(writer, &listings.catalog, rule, answers)?;
-    put_counts(writer, listings)?;
+    put_answers(writer, &listings.catalog, rule, form, answers)?;
+    put_counts_by(writer, listings, form)?;
     writer.flush()
+}
+
+/// Writes the counts of the listings, where the form has them.
+#[tactic(auto, unfolding(crate::specs::AnswerForms::counts_by))]
+fn put_counts_by<W: Write>(
+    writer: &mut Counted<W>,
+    listings: &Listings,
+    form: AnswerForm,
+) -> io::Result<()>
+    ensures { Wrote W.contents writer.old writer.new result
+        (counts_by form (counts_text listings.now) (json_counts_text listings.now)) }
+{
+    if form.counts {
+        if form.json {
+            put_json_counts(writer, listings)
+        } else {
+            put_counts(writer, listings)
+        }
+    } else {
+        Ok(())
+    }
 }
 
 /// Writes the counts of the listings.

@@ -1,10 +1,13 @@
 //! The lines that a lookup of addresses writes, byte for byte, with no memory taken.
 ghost use Rattle.std.specs.Prelude.{◌++◌, codes, decimal, flat_map};
 ghost use Rattle.listing.specs.Exact.{Wrote};
+ghost use Rattle.latchsym.specs.AnswerForms.{line_by};
 ghost use Rattle.latchsym.specs.LookupTexts.{answer_line, causes_text, count_text};
 ghost use Rattle.latchsym.specs.LookupTexts.{found_modules_line, modules_line, regions_line};
 ghost use Rattle.latchsym.specs.LookupTexts.{symbols_line};
 
+use crate::forms::AnswerForm;
+use crate::json_texts::put_json_answer;
 use crate::table::AddressAnswer;
 use crate::texts::put_decimal;
 use listing::{
@@ -15,20 +18,41 @@ use modules::{BuildCounts, Catalog, KeptCounts};
 use std::io;
 use std::io::Write;
 
-/// Writes the line of each answer, in order, for addresses that are taken by this rule.
+/// Writes the line of each answer, in order and in this form, for addresses that are taken by this
+/// rule.
 pub fn put_answers<W: Write>(
     writer: &mut Counted<W>,
     catalog: &Catalog,
     rule: AddressRule,
+    form: AnswerForm,
     answers: &[AddressAnswer],
 ) -> io::Result<()>
     ensures { Wrote W.contents writer.old writer.new result
-        (flat_map (answer_line catalog.now rule) answers.now) }
+        (flat_map (line_by form catalog.now rule) answers.now) }
 {
     for answer in answers {
-        put_answer(writer, catalog, rule, answer)?;
+        put_line(writer, catalog, rule, form, answer)?;
     }
     Ok(())
+}
+
+/// Writes the line of an answer.
+#[tactic(auto, unfolding(crate::specs::AnswerForms::line_by))]
+fn put_line<W: Write>(
+    writer: &mut Counted<W>,
+    catalog: &Catalog,
+    rule: AddressRule,
+    form: AnswerForm,
+    answer: &AddressAnswer,
+) -> io::Result<()>
+    ensures { Wrote W.contents writer.old writer.new result
+        (line_by form catalog.now rule answer.now) }
+{
+    if form.json {
+        put_json_answer(writer, catalog, rule, answer)
+    } else {
+        put_answer(writer, catalog, rule, answer)
+    }
 }
 
 /// Writes `ADDR TEXT` and a line's end.

@@ -2,8 +2,8 @@
 //!
 //! `latchsym trace FILE` runs a trace in the step machine and writes what its lookups found.
 //! `latchsym lookup --modules FILE --kallsyms FILE [--regions FILE] [--kernel START END]
-//! [--addresses FILE] [--callers] [--offset N] [ADDR]..` says which module and which symbol hold an
-//! address; with `--modules-from-symbols` in place of `--modules` and `--regions` the symbols alone
+//! [--addresses FILE] [--callers] [--offset N] [--json] [--no-counts] [ADDR]..` says which module and
+//! which symbol hold an address; with `--modules-from-symbols` in place of `--modules` and `--regions` the symbols alone
 //! say where each module lies. `latchsym run --modules FILE --kallsyms FILE [--regions FILE]
 //! [--kernel START END] --readers N SCRIPT` does what a script says, each writer and each reader on
 //! a thread of its own. `latchsym annotate [--kallsyms FILE] [--modules FILE [--regions FILE]]
@@ -23,8 +23,11 @@ mod assignments;
 mod checks;
 mod command_line;
 mod fault;
+mod forms;
 mod input;
 mod jobs;
+mod json;
+mod json_texts;
 mod kept_symbols;
 mod listed_symbols;
 mod listing_notes;

@@ -4,14 +4,17 @@ ghost use Rattle.std.specs.Option.{option_copied};
 ghost use Rattle.listing.specs.Counted.{device_of, failures_of};
 ghost use Rattle.listing.specs.Exact.{Wrote};
 ghost use Rattle.latchsym.specs.LookupInputs.{known_text};
-ghost use Rattle.latchsym.specs.LookupTexts.{answer_line};
+ghost use Rattle.latchsym.specs.AnswerForms.{line_by};
 ghost use Rattle.latchsym.specs.Readings.{failures_in, last_failures};
 ghost use Rattle.latchsym.specs.SymbolLookups.{AnswersBySymbols, AnswersSymbolLookup};
 ghost use Rattle.latchsym.specs.SymbolLookups.{IsSymbolListing, failures_of_symbols};
-ghost use Rattle.latchsym.specs.SymbolLookups.{found_counts_text, known_symbol_inputs};
+ghost use Rattle.latchsym.specs.SymbolLookups.{found_counts_by, found_counts_text};
+ghost use Rattle.latchsym.specs.SymbolLookups.{known_symbol_inputs};
 ghost use Rattle.latchsym.specs.SymbolLookups.{symbol_inputs_in, symbol_inputs_of};
 
 use crate::fault::Fault;
+use crate::forms::AnswerForm;
+use crate::json_texts::put_json_found_counts;
 use crate::listing_notes::{ListingNote, ListingNotes, SymbolFacts, note_of_kallsyms};
 use crate::lookup::{KALLSYMS_PLACE, all_addresses, read_at};
 use crate::lookup_texts::{put_answers, put_found_modules, put_symbol_counts};
@@ -90,15 +93,16 @@ pub fn symbol_lookup_engine<K: Read, A: Read, W: Write>(
     readers: &mut SymbolLookupReaders<K, A>,
     options: &SymbolLookupOptions<'_>,
     addresses: &[u64],
+    form: AnswerForm,
     writer: &mut Counted<W>,
 ) -> Result<ListingNotes, Fault>
-    ensures { AnswersSymbolLookup W.contents
+    ensures { AnswersSymbolLookup W.contents form
         (known_symbol_inputs K.remaining A.remaining readers.old options.now addresses.now)
         (failures_of_symbols readers.old readers.new) writer.old writer.new result }
 {
     let kallsyms = read_at(alloc, &mut readers.kallsyms, KALLSYMS_PLACE)?;
     let file = &mut readers.addresses;
-    answer_from_symbols(alloc, options, addresses, &kallsyms, file, writer)
+    answer_from_symbols(alloc, options, addresses, &kallsyms, file, form, writer)
 }
 
 /// Gives the answers for the text of the listing, and for the addresses that are given and those of
@@ -109,9 +113,10 @@ fn answer_from_symbols<A: Read, W: Write>(
     given: &[u64],
     kallsyms: &[u8],
     file: &mut Option<Counted<A>>,
+    form: AnswerForm,
     writer: &mut Counted<W>,
 ) -> Result<ListingNotes, Fault>
-    ensures { AnswersSymbolLookup W.contents
+    ensures { AnswersSymbolLookup W.contents form
         (symbol_inputs_of options.now given.now (known_text A.remaining file.old) kallsyms.now)
         (last_failures (failures_in file.old) (failures_in file.new)) writer.old writer.new result }
 {
@@ -121,16 +126,17 @@ fn answer_from_symbols<A: Read, W: Write>(
         kallsyms,
         addresses,
     };
-    answer_by_symbols(alloc, &inputs, writer)
+    answer_by_symbols(alloc, &inputs, form, writer)
 }
 
 /// Looks the addresses up, and writes what is found.
 fn answer_by_symbols<W: Write>(
     alloc: Global,
     inputs: &SymbolLookupInputs<'_>,
+    form: AnswerForm,
     writer: &mut Counted<W>,
 ) -> Result<ListingNotes, Fault>
-    ensures { AnswersBySymbols W.contents (symbol_inputs_in inputs.now)
+    ensures { AnswersBySymbols W.contents form (symbol_inputs_in inputs.now)
         writer.old writer.new result }
 {
     let rule = inputs.options.rule;
@@ -142,7 +148,7 @@ fn answer_by_symbols<W: Write>(
         rule,
         &inputs.addresses,
     )?;
-    match put_symbol_lookup(writer, &listing, rule, &answers) {
+    match put_symbol_lookup(writer, &listing, rule, form, &answers) {
         Ok(()) => Ok(listing.notes()),
         Err(_) => Err(Fault::Write),
     }
@@ -183,15 +189,37 @@ fn put_symbol_lookup<W: Write>(
     writer: &mut Counted<W>,
     listing: &SymbolListing,
     rule: AddressRule,
+    form: AnswerForm,
     answers: &[AddressAnswer],
 ) -> io::Result<()>
     ensures { Wrote W.contents writer.old writer.new result
-        (flat_map (answer_line listing.now.catalog rule) answers.now
-        ++ found_counts_text listing.now) }
+        (flat_map (line_by form listing.now.catalog rule) answers.now
+        ++ found_counts_by form listing.now.kept listing.now.skipped.by_place) }
 {
-    put_answers(writer, &listing.catalog, rule, answers)?;
-    put_found_counts(writer, listing)?;
+    put_answers(writer, &listing.catalog, rule, form, answers)?;
+    put_found_counts_by(writer, listing, form)?;
     writer.flush()
+}
+
+/// Writes the counts of the listing, where the form has them.
+#[tactic(auto, unfolding(crate::specs::AnswerForms::counts_by))]
+fn put_found_counts_by<W: Write>(
+    writer: &mut Counted<W>,
+    listing: &SymbolListing,
+    form: AnswerForm,
+) -> io::Result<()>
+    ensures { Wrote W.contents writer.old writer.new result
+        (found_counts_by form listing.now.kept listing.now.skipped.by_place) }
+{
+    if form.counts {
+        if form.json {
+            put_json_found_counts(writer, listing)
+        } else {
+            put_found_counts(writer, listing)
+        }
+    } else {
+        Ok(())
+    }
 }
 
 /// Writes how many modules and regions were found, and the counts of the listing.

@@ -9,6 +9,7 @@ mod checks;
 mod devices_that_fail;
 mod failing_runs;
 mod fault_texts;
+mod forms;
 mod jobs;
 mod listing_notes;
 mod listings;
@@ -22,6 +23,7 @@ mod words;
 mod wrong_answers;
 
 use crate::fault::{Fault, Finished};
+use crate::forms::AnswerForm;
 use crate::listing_notes::ListingNotes;
 use crate::lookup::LookupOptions;
 use crate::trace::trace_engine;
@@ -52,6 +54,12 @@ fn status_of(outcome: Result<Finished, Fault>) -> Result<u8, Fault> {
         Err(fault) => Err(fault),
     }
 }
+
+/// Answers as lines of text, and the counts.
+const AS_TEXT: AnswerForm = AnswerForm {
+    json: false,
+    counts: true,
+};
 
 /// The kernel between its usual bounds, and addresses that are taken as they are.
 fn usual_options() -> LookupOptions<'static> {

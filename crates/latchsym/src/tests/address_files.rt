@@ -1,7 +1,7 @@
 //! Addresses from a file, and names of the symbols that bound the kernel itself.
 use crate::fault::Fault;
 use crate::lookup::{LookupOptions, LookupReaders, lookup_engine};
-use crate::tests::{unnoted, usual_options};
+use crate::tests::{AS_TEXT, unnoted, usual_options};
 use listing::{AddressRule, Counted, FailAt};
 use modules::KernelBounds;
 use std::alloc::Global;
@@ -51,7 +51,7 @@ fn looked_up<A: Read + Drop>(
         addresses: Some(Counted::new(file)),
     };
     let mut writer = Counted::new(Vec::new(alloc));
-    let answer = lookup_engine(alloc, &mut readers, options, given, &mut writer);
+    let answer = lookup_engine(alloc, &mut readers, options, given, AS_TEXT, &mut writer);
     (unnoted(answer), writer.into_inner())
 }
 

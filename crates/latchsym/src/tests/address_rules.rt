@@ -1,6 +1,6 @@
 //! Return addresses, and addresses of a kernel that was moved.
 use crate::lookup::{LookupOptions, LookupReaders, lookup_engine};
-use crate::tests::unnoted;
+use crate::tests::{AS_TEXT, unnoted};
 use listing::{AddressRule, Counted};
 use modules::KernelBounds;
 use std::alloc::Global;
@@ -30,7 +30,14 @@ fn writes(alloc: Global, rule: AddressRule, addresses: &[u64], lines: &[u8]) -> 
         rule,
     };
     let mut writer = Counted::new(Vec::new(alloc));
-    let answer = lookup_engine(alloc, &mut readers, &options, addresses, &mut writer);
+    let answer = lookup_engine(
+        alloc,
+        &mut readers,
+        &options,
+        addresses,
+        AS_TEXT,
+        &mut writer,
+    );
     let written = writer.into_inner();
     unnoted(answer) == Ok(()) && written.strip_suffix(COUNTS) == Some(lines)
 }

@@ -7,7 +7,7 @@ use crate::listing_notes::ListingNotes;
 use crate::lookup::LookupOptions;
 use crate::misuse::refuse;
 use crate::symbol_lookup::SymbolLookupOptions;
-use crate::tests::status_of;
+use crate::tests::{AS_TEXT, status_of};
 use listing::{AddressRule, Counted, FailAt};
 use modules::KernelBounds;
 use order_laws::Refusal;
@@ -138,6 +138,7 @@ fn lookup_job(alloc: Global, address_file: &str) -> Result<Job<'_>, AllocError> 
             rule: AddressRule::AS_GIVEN,
         },
         addresses: Vec::from_slice(alloc, &[0x7008])?,
+        form: AS_TEXT,
     }))
 }
 

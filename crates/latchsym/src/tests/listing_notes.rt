@@ -3,7 +3,7 @@ use crate::command_line::{Job, LookupJob, RunJob};
 use crate::fault::{Finished, conclude};
 use crate::listing_notes::{ListingNote, ListingNotes};
 use crate::lookup::{LookupOptions, LookupReaders, lookup_engine};
-use crate::tests::usual_options;
+use crate::tests::{AS_TEXT, usual_options};
 use listing::{AddressRule, Counted};
 use modules::KernelBounds;
 use std::alloc::Global;
@@ -26,7 +26,15 @@ fn noted_by(
         addresses: None::<Counted<&[u8]>>,
     };
     let mut writer = Counted::new(Vec::new(alloc));
-    lookup_engine(alloc, &mut readers, options, &[0x3018], &mut writer).ok()
+    lookup_engine(
+        alloc,
+        &mut readers,
+        options,
+        &[0x3018],
+        AS_TEXT,
+        &mut writer,
+    )
+    .ok()
 }
 
 fn noted(alloc: Global, modules: &[u8], kallsyms: &[u8]) -> Option<ListingNotes> {
@@ -173,6 +181,7 @@ fn lookup_to<'a>(alloc: Global, end: &'a [u8]) -> Job<'a> {
             rule: AddressRule::AS_GIVEN,
         },
         addresses: Vec::new(alloc),
+        form: AS_TEXT,
     })
 }
 

@@ -1,7 +1,7 @@
 //! Addresses that are looked up in listings.
 use crate::fault::Fault;
 use crate::lookup::{LookupReaders, lookup_engine};
-use crate::tests::{unnoted, usual_options};
+use crate::tests::{AS_TEXT, unnoted, usual_options};
 use listing::{Counted, FailAt};
 use order_laws::Refusal;
 use std::alloc::{AllocError, Global};
@@ -55,6 +55,7 @@ fn answered<M: Read + Drop, K: Read + Drop, R: Read + Drop, A: Read + Drop>(
         &mut readers,
         &usual_options(),
         addresses,
+        AS_TEXT,
         &mut writer,
     );
     (unnoted(answer), writer.into_inner())
@@ -170,7 +171,14 @@ fn each_failed_write_of_a_lookup_is_reported(rt: HostRuntime) {
         let mut writer = Counted::new(FailAt::new(Vec::new(alloc), turn));
         let mut readers = readers_of(MODULES, SYMBOLS);
         let options = usual_options();
-        let answer = unnoted(lookup_engine(alloc, &mut readers, &options, &ADDRESSES, &mut writer));
+        let answer = unnoted(lookup_engine(
+            alloc,
+            &mut readers,
+            &options,
+            &ADDRESSES,
+            AS_TEXT,
+            &mut writer,
+        ));
         let memory = writer.into_inner().into_memory();
         assert!(rt; LINES.starts_with(&memory));
         if answer == Ok(()) {

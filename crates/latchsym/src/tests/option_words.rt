@@ -54,6 +54,22 @@ fn a_lookup_says_how_addresses_are_taken(rt: HostRuntime) -> Result<(), Fail> {
     Ok(())
 }
 
+#[test]
+fn a_lookup_says_how_answers_are_written(rt: HostRuntime) -> Result<(), Fail> {
+    for (options, json, counts) in [
+        (["1"].as_slice(), false, true),
+        (&["--json", "1"], true, true),
+        (&["1", "--no-counts"], false, false),
+        (&["--no-counts", "1", "--json"], true, false),
+    ] {
+        let words = with_options(rt.alloc(), &LOOKUP, options)?;
+        let job = lookup_in(rt.alloc(), &words).ok_or("no lookup")?;
+        assert!(rt; job.form.json == json);
+        assert!(rt; job.form.counts == counts);
+    }
+    Ok(())
+}
+
 /// The lookup by symbols alone that these words ask for.
 fn symbol_lookup_in<'a>(alloc: Global, words: &'a [&'a str]) -> Option<SymbolLookupJob<'a>> {
     match job_of(alloc, words) {

@@ -2,6 +2,7 @@
 use crate::fault::Fault;
 use crate::listing_notes::{ListingNote, ListingNotes};
 use crate::symbol_lookup::{SymbolLookupOptions, SymbolLookupReaders, symbol_lookup_engine};
+use crate::tests::AS_TEXT;
 use listing::{AddressRule, Counted, FailAt};
 use modules::KernelBounds;
 use std::alloc::Global;
@@ -31,7 +32,14 @@ fn looked_up(
         addresses: None::<Counted<&[u8]>>,
     };
     let mut writer = Counted::new(Vec::new(alloc));
-    let answer = symbol_lookup_engine(alloc, &mut readers, options, addresses, &mut writer);
+    let answer = symbol_lookup_engine(
+        alloc,
+        &mut readers,
+        options,
+        addresses,
+        AS_TEXT,
+        &mut writer,
+    );
     (answer, writer.into_inner())
 }
 
@@ -178,7 +186,7 @@ fn end_of(
         addresses: Some(Counted::new(FailAt::new(file, addresses_at))),
     };
     let mut writer = Counted::new(FailAt::new(Vec::new(alloc), writer_at));
-    let answer = symbol_lookup_engine(alloc, &mut readers, &USUAL, &[], &mut writer);
+    let answer = symbol_lookup_engine(alloc, &mut readers, &USUAL, &[], AS_TEXT, &mut writer);
     (answer, writer.into_inner().into_memory().len())
 }
 
@@ -201,7 +209,7 @@ fn a_bad_line_of_addresses_is_told(rt: HostRuntime) {
         addresses: Some(Counted::new(bad)),
     };
     let mut writer = Counted::new(Vec::new(rt.alloc()));
-    let answer = symbol_lookup_engine(rt.alloc(), &mut readers, &USUAL, &[1], &mut writer);
+    let answer = symbol_lookup_engine(rt.alloc(), &mut readers, &USUAL, &[1], AS_TEXT, &mut writer);
     assert!(rt; answer == Err(Fault::BadLine { place: 3, line: 2 }));
     assert!(rt; writer.into_inner().is_empty());
 }

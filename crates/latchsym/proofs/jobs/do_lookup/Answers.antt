@@ -8,16 +8,16 @@ returns g c =
     let contents = g.W.Write.contents in
     let remaining = g.F.File.Read.remaining in
     let before = c.in_ok-readers.readers in
-    let after = c.lookup_engine.new.readers in
+    let after = c.lookup_engine-done.new.readers in
     let options = c.args.job.now.options in
     inl (record {
       before = before;
       after = after;
       opened = c.in_ok-readers.ensures.opened;
-      result = c.lookup_engine.result;
+      result = c.lookup_engine-done.result;
       answered = subst
-          (λ xs. AnswersLookup contents (known_inputs remaining remaining remaining remaining before options xs)
-          (failures_between before after) c.args.writer.now c.lookup_engine.new.writer c.lookup_engine.result)
-          c.deref.ensures.value c.lookup_engine.ensures;
+          (λ xs. AnswersLookup contents c.args.job.now.form (known_inputs remaining remaining remaining remaining before options xs)
+          (failures_between before after) c.args.writer.now c.lookup_engine-done.new.writer c.lookup_engine-done.result)
+          c.deref.ensures.value c.lookup_engine-done.ensures;
       status = c.with_status.ensures;
     })

@@ -7,16 +7,16 @@ returns g c =
     let contents = g.W.Write.contents in
     let remaining = g.F.File.Read.remaining in
     let before = c.in_ok-readers.readers in
-    let after = c.symbol_lookup_engine.new.readers in
+    let after = c.symbol_lookup_engine-done.new.readers in
     let options = c.args.job.now.options in
     inl (record {
       before = before;
       after = after;
       opened = c.in_ok-readers.ensures.opened;
-      result = c.symbol_lookup_engine.result;
+      result = c.symbol_lookup_engine-done.result;
       answered = subst
-          (λ xs. AnswersSymbolLookup contents (known_symbol_inputs remaining remaining before options xs)
-          (failures_of_symbols before after) c.args.writer.now c.symbol_lookup_engine.new.writer c.symbol_lookup_engine.result)
-          c.deref.ensures.value c.symbol_lookup_engine.ensures;
+          (λ xs. AnswersSymbolLookup contents c.args.job.now.form (known_symbol_inputs remaining remaining before options xs)
+          (failures_of_symbols before after) c.args.writer.now c.symbol_lookup_engine-done.new.writer c.symbol_lookup_engine-done.result)
+          c.deref.ensures.value c.symbol_lookup_engine-done.ensures;
       status = c.with_status.ensures;
     })

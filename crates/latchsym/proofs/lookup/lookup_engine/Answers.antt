@@ -13,7 +13,7 @@ returns g c =
     let given = c.args.addresses.now in
     let file = known_text g.A.Read.remaining readers.addresses in
     let texts : ListingTexts = record { modules = c.in_ok-modules.modules; kallsyms = c.in_ok-kallsyms.kallsyms; regions = c.in_ok-regions.regions } in
-    answered_behind (IsLookupOf g.W.Write.contents c.args.writer.now c.answer_from.new.writer) (inputs_of options given file (texts_in texts))
+    answered_behind (IsLookupOf g.W.Write.contents c.args.form c.args.writer.now c.answer_from.new.writer) (inputs_of options given file (texts_in texts))
     (known_inputs g.M.Read.remaining g.K.Read.remaining g.R.Read.remaining g.A.Read.remaining readers options given)
     (λ P p. where_known P (inputs_of options given file) texts (g.M.Read.remaining (device_of readers.modules)) (g.K.Read.remaining (device_of readers.kallsyms)) (known_text g.R.Read.remaining readers.regions)
     c.in_ok-modules.ensures.bytes c.in_ok-kallsyms.ensures.bytes c.in_ok-regions.ensures.bytes p)

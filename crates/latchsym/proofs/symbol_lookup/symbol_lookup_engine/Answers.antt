@@ -17,7 +17,7 @@ returns g c =
     let text = c.deref.result.now in
     let known = g.K.Read.remaining (device_of readers.kallsyms) in
     let read = subst (λ t. IfSome known (λ left. t ≡ left)) (sym c.deref.ensures.value) c.in_ok-kallsyms.ensures.bytes in
-    answered_behind (IsSymbolLookupOf g.W.Write.contents c.args.writer.now c.answer_from_symbols.new.writer) (symbol_inputs_of options given file text)
+    answered_behind (IsSymbolLookupOf g.W.Write.contents c.args.form c.args.writer.now c.answer_from_symbols.new.writer) (symbol_inputs_of options given file text)
     (known_symbol_inputs g.K.Read.remaining g.A.Read.remaining readers options given)
     (λ P p. where_text_known P (symbol_inputs_of options given file) text known read p)
     (0, 0) (failures_of readers.kallsyms, failures_of c.read_at.new.reader) (0, 0) refl c.in_ok-kallsyms.ensures.read refl
