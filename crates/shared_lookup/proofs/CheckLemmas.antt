@@ -1,6 +1,8 @@
 -- The count of wrong answers, by its test.
-use Rattle.std.proofs.Common.{◌≡◌, ℕ, suc, Bool, true, false, List, [], ◌∷◌, length, take, subst, sym, Option, Some, None, refl, ap, inl, inr, ⊎_elim, arith}
+use Rattle.std.proofs.Common.{◌≡◌, ℕ, suc, Bool, true, false, List, [], ◌∷◌, length, take, subst, sym, Option, Some, None, refl, ap, inl, inr, ⊎_elim, arith, cond}
+use Rattle.std.specs.Borrow.{Bor}
 use Rattle.std.specs.Global.{Vec}
+use Rattle.std.proofs.lemmas.List.Sums.{sum_by-cons}
 use Rattle.std.specs.Prelude.{All, count_by, nat_lt, not, ◌||◌, IfOk, Ok, Err, Result}
 use Rattle.std.proofs.lemmas.Bool.Decides.{nat_tests}
 use Rattle.order_laws.specs.declared.items.Item.{Item}
@@ -11,7 +13,7 @@ use Rattle.latch_core.specs.Histories.{replay}
 use Rattle.std.specs.Result.{result_unwrap_or}
 use Rattle.order_laws.specs.declared.refusals.Refusal.{Refusal}
 use Rattle.shared_lookup.specs.declared.served.Answer.{Answer}
-use Rattle.shared_lookup.specs.Checks.{is_same_item, is_wrong_answer}
+use Rattle.shared_lookup.specs.Checks.{answers_at, is_same_item, is_wrong_answer}
 use Rattle.shared_lookup.specs.Counts.{Counts}
 use Rattle.shared_lookup.specs.Servings.{EachIsFoundIn, IsFoundIn, IsWrongAnswer, entries}
 use Rattle.shared_lookup.proofs.CountLemmas.{counts_append, counts_of}
@@ -74,3 +76,8 @@ pub counted_or_none : (log : List Update) (answers : List (Vec Answer)) (tested 
     → Counts (IsWrongAnswer log) (entries answers) (result_unwrap_or tested 0)
 counted_or_none log answers (Ok n) is all = subst (λ m. Counts (IsWrongAnswer log) (entries answers) m) (sym is) (wrong_counted log (entries answers))
 counted_or_none log answers (Err e) is all = none_wrong log answers all
+
+-- a count of answers that are referred to
+pub count_referred : (p : Answer → Bool) (all : List (Bor Answer)) → count_by p (answers_at all) ≡ count_by (λ a. p a.now) all
+count_referred p [] = refl
+count_referred p (a ∷ all) = omega (arith, count_referred p all, sum_by-cons (λ x. cond (p x) 1 0) a.now (answers_at all), sum_by-cons (λ (x : Bor Answer). cond (p x.now) 1 0) a all)

@@ -1,6 +1,8 @@
 -- How the answers are checked.
 use Rattle.std.specs.Prelude.{◌≡◌, ℕ, ◌+◌, ◌<◌, Bool, ◌&&◌, ◌||◌, not, nat_eq, nat_lt, List, []}
-use Rattle.std.specs.Prelude.{length, take, count_by, min, slice_index_or, Option, None}
+use Rattle.std.specs.Prelude.{length, map, take, count_by, min, slice_index_or, Option, None}
+use Rattle.std.specs.Borrow.{Bor}
+use Rattle.std.specs.List.Sorted.{IsNonDecreasingBy}
 use Rattle.std.specs.Option.{option_eq}
 use Rattle.order_laws.specs.declared.items.Item.{Item}
 use Rattle.order_laws.specs.Orders.{half_open}
@@ -22,6 +24,14 @@ is_wrong_answer log a =
     || not (is_same_item a.item
     (look half_open a.key (replay half_open [] (take a.generation log))))
 
+-- the answers that are referred to
+abbrev pub answers_at : List (Bor Answer) → List Answer
+answers_at all = map (λ a. a.now) all
+
+-- they are referred to by rising generation
+abbrev pub AreReferredInOrder : List (Bor Answer) → Type 0
+AreReferredInOrder all = IsNonDecreasingBy (λ a. a.now.generation) all
+
 -- the table of a ledger with these updates as its log
 abbrev pub with_log : List Update → LedgerState → LedgerState
 with_log log l = record l { log = log }
@@ -35,6 +45,10 @@ AreTallied from outcomes times =
 
 abbrev pub no_answer : Answer
 no_answer = record { reader = 0; place = 0; key = 0; generation = 0; item = None }
+
+-- a reference to it
+abbrev pub no_reference : Bor Answer
+no_reference = record { ref_ptr = (0, 0); now = no_answer }
 
 -- the same after these outcomes more
 abbrev pub IsTalliedBy : ℕ → List ChangeOutcome → List ℕ → List ℕ → Type 0

@@ -1,15 +1,15 @@
 //! The answers of the readers, checked by one replay of the log.
 //!
-//! The answers are put in the order of their generations, and a second table goes through the log
-//! once: before each answer it is brought to the answer's generation, and the key is looked up
-//! there.
+//! The answers are referred to in the order of their generations, and a second table goes through
+//! the log once: before each answer it is brought to the answer's generation, and the key is looked
+//! up there. No answer is copied: it takes eight times the memory of a reference.
 
-ghost use Rattle.std.specs.Prelude.{◌≡◌, ◌≤◌, [], take, length, count_by, IfOk, IfErr, OnOk};
+ghost use Rattle.std.specs.Prelude.{◌≡◌, ◌≤◌, ◌++◌, [], take, length, count_by, IfOk, IfErr, OnOk};
 ghost use Rattle.std.specs.List.Sorted.{IsPermutation};
 ghost use Rattle.order_laws.specs.declared.refusals.Refusal.TheVariants.{OutOfMemory};
-ghost use Rattle.shared_lookup.specs.Checks.{is_wrong_answer, with_log};
+ghost use Rattle.shared_lookup.specs.Checks.{AreReferredInOrder, answers_at, is_wrong_answer, with_log};
 ghost use Rattle.shared_lookup.specs.Ledgers.{AreAccepted};
-ghost use Rattle.shared_lookup.specs.Servings.{AreInOrder, entries};
+ghost use Rattle.shared_lookup.specs.Servings.{entries};
 
 use crate::gates::Open;
 use crate::resting::RestingWriter;
@@ -18,21 +18,35 @@ use latch_core::Update;
 use order_laws::Refusal;
 use std::alloc::{AllocError, Global};
 
-/// The answers of all lists, one list after another.
-fn flattened(alloc: Global, answers: &[Vec<Answer>]) -> Result<Vec<Answer>, AllocError>
-    ensures { IfOk result (λ all. all.items ≡ entries answers.now) }
+/// Adds a reference to each answer of a list.
+fn refer_to<'a>(all: &mut Vec<&'a Answer>, list: &'a [Answer]) -> Result<(), AllocError>
+    ensures { OnOk result (answers_at all.new.items ≡ answers_at all.old.items ++ list.now) }
 {
-    let mut all = Vec::new(alloc);
+    for answer in list {
+        all.push(answer)?;
+    }
+    Ok(())
+}
+
+/// References to the answers of all lists, one list after another.
+fn flattened(alloc: Global, answers: &[Vec<Answer>]) -> Result<Vec<&Answer>, AllocError>
+    ensures { IfOk result (λ all. answers_at all.items ≡ entries answers.now) }
+{
+    let count = answers
+        .iter()
+        .fold(0usize, |count, list| count.saturating_add(list.len()));
+    let mut all = Vec::with_capacity(alloc, count)?;
     for list in answers {
-        all.extend_from_slice(list.as_slice())?;
+        refer_to(&mut all, list.as_slice())?;
     }
     Ok(all)
 }
 
-/// The answers of all lists, by rising generation.
-fn by_generation(alloc: Global, answers: &[Vec<Answer>]) -> Result<Vec<Answer>, AllocError>
-    ensures permutation { IfOk result (λ all. IsPermutation (entries answers.now) all.items) }
-    ensures ordered { IfOk result (λ all. AreInOrder all.items) }
+/// References to the answers of all lists, by rising generation.
+fn by_generation(alloc: Global, answers: &[Vec<Answer>]) -> Result<Vec<&Answer>, AllocError>
+    ensures permutation { IfOk result (λ all.
+        IsPermutation (entries answers.now) (answers_at all.items)) }
+    ensures ordered { IfOk result (λ all. AreReferredInOrder all.items) }
 {
     let mut all = flattened(alloc, answers)?;
     all.sort_unstable_by_key(|answer| answer.generation);
@@ -86,15 +100,17 @@ fn is_wrong(
 }
 
 /// How many answers are wrong, of answers in order, by a table that has made no update.
+#[tactic(auto, using(crate::proofs::CheckLemmas::count_referred))]
 fn wrong_in_order(
     table: &mut RestingWriter,
     log: &[Update],
-    answers: &[Answer],
+    answers: &[&Answer],
 ) -> Result<u64, Refusal>
     requires blank { table.old.log ≡ [] }
     requires accepted { AreAccepted (with_log log.now table.old) }
-    requires ordered { AreInOrder answers.now }
-    ensures count { IfOk result (λ n. n ≡ count_by (is_wrong_answer log.now) answers.now) }
+    requires ordered { AreReferredInOrder answers.now }
+    ensures count { IfOk result (λ n.
+        n ≡ count_by (is_wrong_answer log.now) (answers_at answers.now)) }
     ensures refusal { IfErr result (λ e. e ≡ OutOfMemory) }
 {
     let mut done = 0;

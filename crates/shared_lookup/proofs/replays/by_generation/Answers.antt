@@ -1,11 +1,18 @@
 use Rattle.std.proofs.Common.{rules, subst}
+use Rattle.std.specs.Borrow.{Bor}
 use Rattle.std.specs.List.Sorted.{IsPermutation}
-use Rattle.std.proofs.lemmas.List.Sorted.{IsNonDecreasingBy-from_sort_by_key}
+use Rattle.std.proofs.lemmas.List.Sorted.{IsNonDecreasingBy-from_sort_by_key, IsPermutation-map}
+use Rattle.shared_lookup.specs.Checks.{answers_at}
 use Rattle.shared_lookup.specs.declared.served.Answer.{Answer}
 use Rattle.shared_lookup.proofs.replays.by_generation.Goals as goal
 
 pub returns-clause-permutation : goal.returns-clause-permutation
-returns-clause-permutation c = subst (λ xs. IsPermutation xs c.sort_unstable_by_key.new.self.items) c.in_ok-all.ensures c.sort_unstable_by_key.ensures.permutation
+returns-clause-permutation c =
+    let sorted = c.sort_unstable_by_key.new.self.items in
+    subst (λ xs. IsPermutation xs (answers_at sorted)) c.in_ok-all.ensures
+    (IsPermutation-map (λ (a : Bor Answer). a.now) c.in_ok-all.all.items sorted c.sort_unstable_by_key.ensures.permutation)
 
 pub returns-clause-ordered : goal.returns-clause-ordered
-returns-clause-ordered c = IsNonDecreasingBy-from_sort_by_key (λ (a : Answer). a.generation) c.sort_unstable_by_key.new.self.items c.sort_unstable_by_key.ensures.sorted (λ a r q k. search rules)
+returns-clause-ordered c =
+    IsNonDecreasingBy-from_sort_by_key (λ (a : Bor Answer). a.now.generation) c.sort_unstable_by_key.new.self.items
+    c.sort_unstable_by_key.ensures.sorted (λ a r q k. search rules)

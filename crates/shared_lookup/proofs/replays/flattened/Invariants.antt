@@ -1,6 +1,7 @@
 use Rattle.std.proofs.Common.{◌≡◌, take}
+use Rattle.shared_lookup.specs.Checks.{answers_at}
 use Rattle.shared_lookup.specs.Servings.{entries}
 use Rattle.shared_lookup.proofs.replays.flattened.Given as goal
 
 abbrev pub invariant-loop-list : goal.invariant-loop-list
-invariant-loop-list l = l.all.items ≡ entries (take l.list-index l.answers)
+invariant-loop-list l = answers_at l.all.items ≡ entries (take l.list-index l.answers)

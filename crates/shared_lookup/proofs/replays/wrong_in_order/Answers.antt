@@ -1,7 +1,9 @@
 use Rattle.std.proofs.Common.{◌∙◌, sym, ap, arith, take}
+use Rattle.std.specs.Borrow.{Bor}
 use Rattle.std.proofs.lemmas.List.Sums.{count_by_more_no, count_by_more_yes}
-use Rattle.shared_lookup.specs.Checks.{is_wrong_answer, no_answer, with_log}
+use Rattle.shared_lookup.specs.Checks.{is_wrong_answer, no_reference, with_log}
 use Rattle.shared_lookup.specs.Ledgers.{LedgerState}
+use Rattle.shared_lookup.specs.declared.served.Answer.{Answer}
 use Rattle.shared_lookup.proofs.replays.wrong_in_order.Goals.{then-here, else-here}
 use Rattle.shared_lookup.proofs.replays.wrong_in_order.Goals as goal
 
@@ -11,17 +13,17 @@ loop-answer-preserved c =
     let answers = c.args.answers.now in
     let i = c.loop-answer.answer-index in
     let e = c.in_ok-here.ensures in
-    let f = is_wrong_answer log in
+    let f = λ (a : Bor Answer). is_wrong_answer log a.now in
     let more = c.loop-answer.invariant.count in
     record {
       within = e.done.0;
       table = e.done.2 ∙ ap (λ (t : LedgerState). with_log (take c.in_ok-here.now log) t) c.loop-answer.invariant.table;
-      further = λ k l h. let rises = c.requires.ordered i k no_answer (omega (arith, l)) h in let now = e.done.1 in omega (arith, rises, now);
+      further = λ k l h. let rises = c.requires.ordered i k no_reference (omega (arith, l)) h in let now = e.done.1 in omega (arith, rises, now);
       count =
           elim c.if-here.branch [
-            | then-here w ↦ let n = count_by_more_yes f answers i no_answer c.loop-answer-test.true (sym e.wrong ∙ w.if-here.true) in
+            | then-here w ↦ let n = count_by_more_yes f answers i no_reference c.loop-answer-test.true (sym e.wrong ∙ w.if-here.true) in
                 let is = w.wrong-is in omega (arith, n, is, more)
-            | else-here w ↦ let n = count_by_more_no f answers i no_answer c.loop-answer-test.true (sym e.wrong ∙ w.if-here.false) in
+            | else-here w ↦ let n = count_by_more_no f answers i no_reference c.loop-answer-test.true (sym e.wrong ∙ w.if-here.false) in
                 let is = w.wrong-is in omega (arith, n, is, more)
           ];
     }
