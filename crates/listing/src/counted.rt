@@ -76,6 +76,7 @@ impl<W: Write> Write for Counted<W> {
 
     ghost contents = { λ c. W.contents (device_of c) };
 
+    #[inline(always)]
     fn write(&mut self, buf: &[u8]) -> io::Result<usize>
         ensures bound { WritesAtMost result buf.now }
         ensures bytes { WriteAppends (W.contents (device_of self.old))

@@ -11,7 +11,26 @@ use std::io::{ErrorKind, Write};
 ///
 /// The first failed call of the device ends it with an error, so an error means that the count
 /// rose. A call that was interrupted failed like any other and is not made again.
+///
+/// Mostly a buffer takes all at once: what comes else stands apart, so that this is inlined.
+#[inline(always)]
 pub fn put<W: Write>(writer: &mut Counted<W>, bytes: &[u8]) -> io::Result<()>
+    ensures { Wrote W.contents writer.old writer.new result bytes.now }
+{
+    if bytes.is_empty() {
+        return Ok(());
+    }
+    match writer.write(bytes)? {
+        taken if taken == bytes.len() => Ok(()),
+        0 => Err(io::Error::from(ErrorKind::WriteZero)),
+        taken => put_by_parts(writer, &bytes[taken..]),
+    }
+}
+
+/// Writes all the bytes, by as many calls of the device as it takes.
+#[cold]
+#[inline(never)]
+fn put_by_parts<W: Write>(writer: &mut Counted<W>, bytes: &[u8]) -> io::Result<()>
     ensures { Wrote W.contents writer.old writer.new result bytes.now }
 {
     let mut rest = bytes;

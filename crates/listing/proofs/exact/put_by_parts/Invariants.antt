@@ -1,7 +1,7 @@
 use Rattle.std.proofs.Common.{ℕ, ◌++◌, ◌≡◌, List, length}
 use Rattle.std.specs.Io.KnownBytes.{Appends}
 use Rattle.listing.specs.Counted.{device_of, failures_of}
-use Rattle.listing.proofs.exact.put.Given as goal
+use Rattle.listing.proofs.exact.put_by_parts.Given as goal
 
 -- what is written so far, and then the rest, are the bytes, and no call failed
 abbrev pub invariant-loop-rest : goal.invariant-loop-rest
