@@ -133,28 +133,31 @@ fn run_with<T: Threads + Wait + Sync, W: Write>(
         Err(fault) => return Err(Fault::of_lines(SCRIPT_PLACE, fault)),
     };
     let listings = listings_in(alloc, inputs)?;
-    let status = run_lines(rt, alloc, &listings.catalog, &lines, readers, writer);
+    let status = run_lines(rt, alloc, &listings.catalog, lines, readers, writer);
     with_notes(status, listings.notes)
 }
 
 /// Does what these lines of a script for so many readers say, writes the lines of what came back,
-/// and returns the program's status, 1 where something is wrong.
+/// and returns the program's status, 1 where something is wrong. The lines themselves go once each
+/// writer and each reader has its list, so that they are not held beside what comes back.
 fn run_lines<T: Threads + Wait + Sync, W: Write>(
     rt: &T,
     alloc: Global,
     catalog: &Catalog<'_>,
-    lines: &[ScriptLine<'_>],
+    lines: Vec<ScriptLine<'_>>,
     readers: u32,
     writer: &mut Counted<W>,
 ) -> Result<u8, Fault>
-    requires { All (λ l. has_actor readers l ≡ true) lines.now }
-    ensures { AnswersLines W.contents catalog.now readers lines.now writer.old writer.new result }
+    requires { All (λ l. has_actor readers l ≡ true) lines.items }
+    ensures { AnswersLines W.contents catalog.now readers lines.entry.items writer.old writer.new result }
 {
+    let assigned = assign(alloc, catalog, &lines, readers);
+    drop(lines);
     let Assignments {
         changes,
         names,
         keys,
-    } = assign(alloc, catalog, lines, readers)?;
+    } = assigned?;
     let served = serve(rt, alloc, &Open, catalog, changes, keys)?;
     tell(writer, catalog, &names, &served)
 }

@@ -1,4 +1,5 @@
 use Rattle.std.proofs.Common.{subst}
+use Rattle.latchsym.specs.Assignments.{IsAssigned}
 use Rattle.latchsym.specs.Runs.{TellsServed}
 use Rattle.latchsym.proofs.RunLemmas.{served_answered}
 use Rattle.latchsym.proofs.runs.run_lines.Goals as goal
@@ -10,8 +11,9 @@ returns g c =
     let a = c.in_ok-changes.field-0 in
     let s = c.in_ok-served.served in
     let served = c.in_ok-served.ensures in
-    served_answered contents catalog c.args.readers c.args.lines.now a c.in_ok-changes.ensures s
+    let assigned = subst (λ ls. IsAssigned catalog c.args.readers ls a) c.deref.ensures.value c.in_ok-changes.ensures in
+    served_answered contents catalog c.args.readers c.args.lines.items a assigned s
     served.may served.outcomes served.answers served.found served.wrong c.args.writer.now c.tell.new.writer
     c.tell.result
     (subst (λ n. TellsServed contents catalog n s c.args.writer.now c.tell.new.writer c.tell.result)
-    c.deref.ensures.value c.tell.ensures)
+    c.deref-2.ensures.value c.tell.ensures)

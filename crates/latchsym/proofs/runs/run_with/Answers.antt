@@ -2,7 +2,7 @@ use Rattle.std.proofs.Common.{[], Some, subst, sym}
 use Rattle.listing.specs.Scripts.{script_of}
 use Rattle.latchsym.specs.LookupInputs.{inputs_in}
 use Rattle.latchsym.specs.RunInputs.{run_inputs_with}
-use Rattle.latchsym.specs.Runs.{AnswersLines, AnswersRun}
+use Rattle.latchsym.specs.Runs.{AnswersRun}
 use Rattle.latchsym.proofs.RunLemmas.{script_answered}
 use Rattle.latchsym.proofs.runs.run_with.Goals as goal
 
@@ -16,5 +16,4 @@ returns g c =
     (script_answered contents (inputs_in c.args.inputs.now) c.args.readers c.args.script.now lines
     c.in-Ok.ensures.lines c.args.writer.now c.run_lines-status.new.writer listings.catalog listings.notes said.few said.catalog
     said.notes c.run_lines-status.result
-    (subst (λ xs. AnswersLines contents listings.catalog c.args.readers xs c.args.writer.now
-    c.run_lines-status.new.writer c.run_lines-status.result) c.deref.ensures.value c.run_lines-status.ensures))
+    c.run_lines-status.ensures)
