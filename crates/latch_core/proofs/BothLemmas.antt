@@ -16,7 +16,7 @@ use Rattle.word_layout.specs.Stores.{words_after_all, IsItemWord, AreLinkStores}
 use Rattle.word_layout.proofs.WordLemmas.{one_item, item_place}
 use Rattle.word_layout.proofs.StoreLemmas.{length_after, untouched}
 use Rattle.word_layout.proofs.HoldsLemmas.{tree_untouched}
-use Rattle.rb_trees.specs.Trees.{CanBeRedBlack}
+use Rattle.rb_trees.specs.Trees.{IsBalanced}
 use Rattle.rb_words.specs.Pictures.{Picture, IsPictured}
 use Rattle.rb_words.specs.Plans.{Inserts, Erases, item_stores}
 use Rattle.rb_words.specs.Mirrors.{mirror_stores, second_picture}
@@ -143,7 +143,7 @@ module _ {K : Type 0} (o : Order K) (n : ℕ) (zero new : Picture) (r : ℕ) (u 
   leading : (m : List ℕ) → length m ≡ words_for n → stable_copy_of (at m 0) ≡ 0
       → Holds m n 0 zero.table zero.tree → Holds m n 1 zero.table zero.tree
       → ((node : ℕ) → (Contains (listed zero.tree) node → ⊥) → IsUnreached m n node)
-      → CanBeRedBlack zero.tree × CanBeRedBlack new.tree
+      → IsBalanced zero.tree × IsBalanced new.tree
       → Leading n zero.table (after o zero.table u) m (stores_of_placed placed) planned.plan.links
       (mirror_stores planned.plan.links) new.tree new.tree
   leading m sized even holds0 holds1 unreached red =
@@ -185,7 +185,7 @@ pub planned_begun : {K : Type 0} (o : Order K) (w : WriterView) (zero new : Pict
     → AreInStep w.capacity zero (second_picture zero) free w.stores_left
     → PlansUpdate o w.capacity (with_room zero r) new u free free' placed w.sequence stores
     → length stores ≤ 2 * (16 * size_of u) + 2
-    → CanBeRedBlack zero.tree × CanBeRedBlack new.tree
+    → IsBalanced zero.tree × IsBalanced new.tree
     → HasBegun o w u (record w { table = new.table; zero_tree = new.tree; one_tree = new.tree; stores_left = stores })
 planned_begun o w zero new r u free free' placed stores idle et e0 e1 step planned few red =
     let n = w.capacity in

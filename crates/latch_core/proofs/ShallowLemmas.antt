@@ -11,7 +11,8 @@ use Rattle.word_layout.specs.Words.{words_per_node, at, Nodes, none, root_word, 
 use Rattle.word_layout.specs.Stores.{words_after, words_after_all}
 use Rattle.word_layout.proofs.StoreLemmas.{after_append}
 use Rattle.word_layout.proofs.HoldsLemmas.{tree_untouched, tree_agree}
-use Rattle.rb_trees.specs.Trees.{tip, CanBeRedBlack}
+use Rattle.rb_trees.specs.Trees.{IsBalanced}
+use Rattle.rb_trees.proofs.DepthLemmas.{balanced_none}
 use Rattle.latch_core.specs.Sequences.{stable_copy_of}
 use Rattle.latch_core.specs.Latches.{opening_latch}
 use Rattle.latch_core.specs.Plans.{flip_to, update_stores}
@@ -36,7 +37,7 @@ stays_end n m [] a b = b
 stays_end n m (x ∷ xs) a b = (a.0, stays_end n (words_after m x) xs a.1 b)
 
 -- stores that keep away from what is in use in the stable copy
-module _ (n : ℕ) (m : List ℕ) (c : ℕ) (table : List Item) (t : Nodes) (now : stable_copy_of (at m 0) ≡ c) (holds : Holds m n c table t) (good : CanBeRedBlack t) where
+module _ (n : ℕ) (m : List ℕ) (c : ℕ) (table : List Item) (t : Nodes) (now : stable_copy_of (at m 0) ≡ c) (holds : Holds m n c table t) (good : IsBalanced t) where
   abbrev Away : List Store → Type 0
   Away ss = AllByRecursion (λ (s : Store). InUse m n c s.word → ⊥) ss × AllByRecursion (λ (s : Store). s.word ≢ 0) ss
 
@@ -84,22 +85,18 @@ module _ (n : ℕ) (old new : List Item) (m : List ℕ) (items ls0 ls1 : List St
       stays_append n m (items ++ f1 ∷ ls0) (f2 ∷ ls1) (each_append n m items (f1 ∷ ls0) a (s1, b))
       (subst (λ w. StaysShallow n w (f2 ∷ ls1)) (sym (words_front n old new m items ls0 ls1 t0 t1 is)) (s3, d))
 
--- no nodes are a red-black tree
-pub none_is_red_black : CanBeRedBlack none
-none_is_red_black = (tip, record { black = refl; calm = tt; even = tt }, refl)
-
 -- before any step both copies are empty
 pub opening_shallow : (n start : ℕ) → stable_copy_of start ≡ 0 → (left : List Store) → left ≡ [] → StaysShallow n (opening_latch n start).words left
 opening_shallow n start even left e =
     let m = (opening_latch n start).words in
     let root : at m (root_word (stable_copy_of start)) ≡ 0 = ap (λ c. at m (root_word c)) even ∙ get_or-replicate (words_per_node * n + 2) 0 0 0 (omega arith) in
-    let now : IsShallow n m = ([], none, record { leads = root; listed_items = refl }, none_is_red_black) in
+    let now : IsShallow n m = ([], none, record { leads = root; listed_items = refl }, balanced_none) in
     subst (StaysShallow n m) (sym e) now
 
 -- whichever table and tree the stable copy holds, the tree is red-black
-pub shallow_tree : (n : ℕ) (m : List ℕ) (table : List Item) (t : Nodes) → Holds m n (stable_copy_of (at m 0)) table t → IsShallow n m → CanBeRedBlack t
+pub shallow_tree : (n : ℕ) (m : List ℕ) (table : List Item) (t : Nodes) → Holds m n (stable_copy_of (at m 0)) table t → IsShallow n m → IsBalanced t
 shallow_tree n m table t holds low =
-    subst CanBeRedBlack (leads_once m n (stable_copy_of (at m 0)) (at m (root_word (stable_copy_of (at m 0)))) low.1 t low.2.leads holds.leads) low.3
+    subst IsBalanced (leads_once m n (stable_copy_of (at m 0)) (at m (root_word (stable_copy_of (at m 0)))) low.1 t low.2.leads holds.leads) low.3
 
 pub stays_now : (n : ℕ) (m : List ℕ) (ss : List Store) → StaysShallow n m ss → IsShallow n m
 stays_now n m [] h = h

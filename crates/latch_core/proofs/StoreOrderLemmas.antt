@@ -12,7 +12,7 @@ use Rattle.word_layout.specs.Stores.{IsItemWord, words_after, words_after_all, A
 use Rattle.word_layout.proofs.WordLemmas.{IsCopyWord, in_copy, one_item, link_no_item, link_no_other, link_place, item_place, item_not_zero, item_not_root, item_not_left, item_not_right, copy_not_zero, unused_item}
 use Rattle.word_layout.proofs.StoreLemmas.{Agree, length_after, after_append, untouched, agree_after}
 use Rattle.word_layout.proofs.HoldsLemmas.{holds_untouched, tree_agree}
-use Rattle.rb_trees.specs.Trees.{CanBeRedBlack}
+use Rattle.rb_trees.specs.Trees.{IsBalanced}
 use Rattle.latch_core.specs.Sequences.{stable_copy_of}
 use Rattle.latch_core.specs.Latches.{PendingUpdate, BothHold, IsHidden, IsFirstFlip, IsSecondFlip, flips_after}
 use Rattle.latch_core.specs.Plans.{IsPlan, flip_to, update_stores}
@@ -130,8 +130,8 @@ pub record Leading (n : ℕ) (old new : List Item) (m : List ℕ) (item_stores l
   pub links_one : AreLinkStores n 1 links1
   pub leads_zero : Holds (words_after_all (words_after_all m item_stores) links0) n 0 new zero
   pub leads_one : Holds (words_after_all (words_after_all m item_stores) links1) n 1 new one
-  pub old_trees : (t0 : Nodes) × (t1 : Nodes) × Holds m n 0 old t0 × Holds m n 1 old t1 × CanBeRedBlack t0 × CanBeRedBlack t1
-  pub new_trees : CanBeRedBlack zero × CanBeRedBlack one
+  pub old_trees : (t0 : Nodes) × (t1 : Nodes) × Holds m n 0 old t0 × Holds m n 1 old t1 × IsBalanced t0 × IsBalanced t1
+  pub new_trees : IsBalanced zero × IsBalanced one
 
 -- stores of free nodes and of links keep away from word 0 and from what is in use
 pub items_not_zero : (m : List ℕ) (n : ℕ) (ss : List Store) → AreFreeStores m n ss → AllByRecursion (λ (s : Store). s.word ≢ 0) ss

@@ -11,8 +11,8 @@ use Rattle.latch_core.specs.Sequences.{generation_of, stable_copy_of}
 use Rattle.latch_core.specs.Attempts.{Outcome, Answer, Reading, Load, Ends, WalkEnd, AtItem, AtEmptyLink, Stuck, outcome, last_load, after_item, visit, walk, attempt, rest_after, Stand, IsAttempt}
 use Rattle.word_layout.proofs.HoldsLemmas.{size, size_items, size_listed}
 use Rattle.word_layout.specs.Words.{listed}
-use Rattle.rb_trees.specs.Trees.{CanBeRedBlack, depth}
-use Rattle.rb_trees.proofs.DepthLemmas.{shallow}
+use Rattle.rb_trees.specs.Trees.{IsBalanced, depth}
+use Rattle.rb_trees.proofs.DepthLemmas.{balanced_depth}
 use Rattle.order_laws.proofs.TableLemmas.{parted, look_less, look_greater, look_equal}
 use Rattle.latch_core.specs.Whole.{outcome_in, loads_in}
 use Rattle.latch_core.proofs.ReadingLemmas.{AllLoads, Within, ends_as, loads_so_far, loads_below, within_length, within_below}
@@ -178,7 +178,7 @@ module _ {K : Type 0} (o : Order K) (law : IsLawful o) (m : List ℕ) (n : ℕ) 
       omega (arith, loads_below m (attempt o n k) v w go st e, walk_depth o m n k (at m 0) t n (at m (root_word (stable_copy_of (at m 0)))) holds.leads small)
 
 -- a copy that holds a table in a red-black tree
-pub few_deep_any : (m : List ℕ) (n : ℕ) (table : List Item) (t : Nodes) → Holds m n (stable_copy_of (at m 0)) table t → CanBeRedBlack t → 2 ^ depth t ≤ (length table + 1) * (length table + 1)
+pub few_deep_any : (m : List ℕ) (n : ℕ) (table : List Item) (t : Nodes) → Holds m n (stable_copy_of (at m 0)) table t → IsBalanced t → 2 ^ depth t ≤ (length table + 1) * (length table + 1)
 few_deep_any m n table t holds good =
     let same : length (listed t) ≡ length table = omega (arith, size_listed t, size_items m t, ap length holds.listed_items) in
-    subst (λ q. 2 ^ depth t ≤ (q + 1) * (q + 1)) same (shallow t good)
+    subst (λ q. 2 ^ depth t ≤ (q + 1) * (q + 1)) same (balanced_depth t good)

@@ -20,7 +20,8 @@ use Rattle.latch_core.specs.Plans.{IsPlan, update_stores}
 use Rattle.latch_core.specs.WriterViews.{WriterView}
 use Rattle.latch_core.specs.Writers.{IsMemoryAtRest, StaysShallow, RepresentsLatch, next_store, why_refused, sequence_after, writer_after_step, opening_writer}
 use Rattle.latch_core.proofs.StoreOrderLemmas.{Leading, update_plan, update_zero, update_one, update_sequence}
-use Rattle.latch_core.proofs.ShallowLemmas.{update_shallow, opening_shallow, none_is_red_black}
+use Rattle.latch_core.proofs.ShallowLemmas.{update_shallow, opening_shallow}
+use Rattle.rb_trees.proofs.DepthLemmas.{balanced_none}
 use Rattle.latch_core.proofs.PlanLemmas.{plan_step, plan_left}
 use Rattle.latch_core.specs.Writers.{has_pending}
 
@@ -135,8 +136,8 @@ opening_pictures l start even =
         even = even;
         zero = record { leads = first; listed_items = refl };
         one = record { leads = second; listed_items = refl };
-        zero_balanced = none_is_red_black;
-        one_balanced = none_is_red_black;
+        zero_balanced = balanced_none;
+        one_balanced = balanced_none;
       };
       table = refl;
       sequence = refl;

@@ -11,7 +11,7 @@ use Rattle.word_layout.specs.Layouts.{capacity_of, limit_of}
 use Rattle.word_layout.specs.Words.{at, words_for, Nodes, none, listed, Holds}
 use Rattle.word_layout.specs.Stores.{words_after, words_after_all}
 use Rattle.order_laws.specs.declared.items.Item.{Item}
-use Rattle.rb_trees.specs.Trees.{CanBeRedBlack}
+use Rattle.rb_trees.specs.Trees.{IsBalanced}
 use Rattle.rb_words.specs.Pictures.{Picture}
 use Rattle.latch_core.specs.declared.updates.Update.{Update}
 use Rattle.latch_core.specs.Sequences.{stable_copy_of}
@@ -45,14 +45,14 @@ pub record IsMemoryAtRest (w : WriterView) (m : List ℕ) : Type 0 where
   pub even : stable_copy_of (at m 0) ≡ 0
   pub zero : Holds m w.capacity 0 w.table w.zero_tree
   pub one : Holds m w.capacity 1 w.table w.one_tree
-  pub zero_balanced : CanBeRedBlack w.zero_tree
-  pub one_balanced : CanBeRedBlack w.one_tree
+  pub zero_balanced : IsBalanced w.zero_tree
+  pub one_balanced : IsBalanced w.one_tree
 
 -- the stable copy holds a table in a red-black tree
 abbrev pub IsShallow : ℕ → List ℕ → Type 0
 IsShallow n m =
     (table : List Item) × (tree : Nodes)
-    × Holds m n (stable_copy_of (at m 0)) table tree × CanBeRedBlack tree
+    × Holds m n (stable_copy_of (at m 0)) table tree × IsBalanced tree
 
 -- now, and after each of these stores
 abbrev pub StaysShallow : ℕ → List ℕ → List Store → Type 0

@@ -9,7 +9,7 @@ ghost use Rattle.word_layout.specs.declared.stores.Store.{Store};
 ghost use Rattle.word_layout.specs.Words.{at, Nodes, Holds};
 ghost use Rattle.word_layout.specs.Stores.{words_after};
 ghost use Rattle.latch_core.specs.declared.updates.Update.{Update};
-ghost use Rattle.rb_trees.specs.Trees.{CanBeRedBlack, depth};
+ghost use Rattle.rb_trees.specs.Trees.{IsBalanced, depth};
 ghost use Rattle.latch_core.specs.Sequences.{generation_of, stable_copy_of};
 ghost use Rattle.latch_core.specs.Updates.{refusal_for};
 ghost use Rattle.latch_core.specs.Attempts.{Reading, Load, Outcome, Answer, attempt, rest_after};
@@ -50,7 +50,7 @@ pub fn attempt_is_short<O: TreeOrder>()
 /// items and one.
 pub fn attempt_is_shallow<O: TreeOrder>()
     ensures deep { (m : List ℕ) (n : ℕ) (table : List Item) (tree : Nodes)
-        → Holds m n (stable_copy_of (at m 0)) table tree → CanBeRedBlack tree
+        → Holds m n (stable_copy_of (at m 0)) table tree → IsBalanced tree
         → 2 ^ depth tree ≤ (length table + 1) * (length table + 1) }
     ensures whole { (m : List ℕ) (n : ℕ) (k : O.Key) (table : List Item) (tree : Nodes)
         → (values : List ℕ)

@@ -14,7 +14,8 @@ use Rattle.rb_trees.specs.declared.Side.TheVariants.{Left, Right}
 use Rattle.rb_cursor.specs.declared.cursors.Cursor.TheInside.{Inside}
 use Rattle.rb_trees.specs.Paths.{Above}
 use Rattle.rb_cursor.specs.Zippers.{Zipper}
-use Rattle.rb_trees.specs.Paths.{sided, joined, plugged}
+use Rattle.rb_trees.specs.Sides.{sided}
+use Rattle.rb_trees.specs.Paths.{joined, plugged}
 use Rattle.rb_cursor.specs.Closing.{closed_zipper, closed_to}
 use Rattle.rb_cursor.specs.Opening.{IsNearest}
 use Rattle.rb_cursor.specs.Keyed.{Keyed, nil, keyed, Level, link_of, plain, plain_level}

@@ -1,159 +1,234 @@
 -- The way up of an erase, as the calls of a cursor show it.
-use Rattle.std.proofs.Common.{◌≡◌, ℕ, suc, ◌+◌, ◌≤◌, ◌<◌, Bool, false, List, [], ◌++◌}
-use Rattle.std.proofs.Common.{sym, ◌∙◌, ap, subst, arith, length, length-append, append-nil}
-use Rattle.facts.proofs.Lists.{regrouped}
+use Rattle.std.proofs.Common.{◌≡◌, ℕ, suc, ◌+◌, ◌≤◌, ◌<◌, Bool, true, false, List, [], ◌∷◌, ◌++◌, refl, sym, ◌∙◌, ap, subst, arith, length, length-append, append_assoc, append-nil}
 use Rattle.word_layout.specs.declared.stores.Store.{Store}
-use Rattle.rb_trees.specs.Trees.{shape}
-use Rattle.rb_trees.specs.Turns.{link}
-use Rattle.rb_trees.specs.Erased.{Remainder}
-use Rattle.rb_trees.specs.Paths.{joined, path_to, plugged_to}
-use Rattle.rb_trees.specs.InsertClimb.{relink_on}
-use Rattle.rb_trees.specs.EraseClimb.{rest_with, filled_on, fill_links_on, erase_step}
-use Rattle.rb_trees.specs.EraseClimb.{erase_climbed, erase_climb_links}
-use Rattle.rb_trees.proofs.InsertClimbLemmas.{link_sided}
-use Rattle.rb_trees.proofs.EraseClimbLemmas.{climbed_on, climb_on, path_on, erase_settled, erase_settled_links}
-use Rattle.rb_trees.proofs.EraseClimbLemmas.{erase_ended, erase_ended_links, plugged_ended}
-use Rattle.rb_trees.proofs.EraseClimbLemmas.{filled_whole, fill_nothing}
+use Rattle.rb_trees.specs.declared.Record.{Record}
+use Rattle.rb_trees.specs.Trees.{ColouredTree, shape}
+use Rattle.rb_trees.specs.Sides.{sided}
+use Rattle.rb_trees.specs.Turns.{link, relink, moved}
+use Rattle.rb_trees.specs.Erased.{filled, fill_links}
+use Rattle.rb_trees.specs.Paths.{Above, plugged}
+use Rattle.rb_trees.specs.Replaced.{Lost}
+use Rattle.rb_trees.proofs.SideLemmas.{link_sided}
+use Rattle.rb_trees.proofs.TurnLemmas.{moved_one, not_moved, relink_moved}
+use Rattle.rb_trees.proofs.FillLemmas.{Filling, filling, filled_sided, fill_links_sided}
+use Rattle.rb_trees.proofs.GrowLemmas.{at_side, kept_up, kept_still, lost_kept, kept_lost, lost_filled}
 use Rattle.rb_cursor.specs.declared.nodes.Nearest.{Nearest}
-use Rattle.rb_cursor.specs.Zippers.{Zipper, altered}
+use Rattle.rb_cursor.specs.Zippers.{Zipper, holding}
 use Rattle.rb_cursor.specs.Opening.{IsNearest}
-use Rattle.rb_cursor.specs.Rising.{risen, filled_at}
-use Rattle.rb_cursor.proofs.StepLemmas.{above_of, risen_there, shorter}
+use Rattle.rb_cursor.specs.Closing.{risen, closed_to}
+use Rattle.rb_cursor.specs.Changes.{most_on_climb, Climbs}
+use Rattle.rb_cursor.proofs.StepLemmas.{zipper, above_of, risen_there, closed_past}
 
--- what is left of the way makes the same of the tree in hand as the whole way of the first one
-pub record EraseClimbs (copy d : ℕ) (start : Zipper) (begun : Remainder) (from : ℕ) (first : List Store)
-    (here : Zipper) (short : Bool) (before : ℕ) (now : List Store) : Type 0 where
-  pub rest : erase_climbed d here.path (rest_with here.tree short) ≡ erase_climbed d start.path begun
-  pub items : now ++ erase_climb_links copy d here.path before (rest_with here.tree short)
-      ≡ first ++ erase_climb_links copy d start.path from begun
-  pub path : path_to d here.path ≡ path_to d start.path
-  pub room : here.room ≡ start.room
-  pub few : length here.path < 64
+-- a part of a path above which some nodes stand has a first node, where there are more
+pub record HasFirst (part base : List Above) (a : Above) (rest : List Above) : Type 0 where
+  pub later : List Above
+  pub is : part ≡ a ∷ later
+  pub rest_is : rest ≡ later ++ base
 
--- the way up has ended: all above stays as it is
-pub record EraseEnds (copy d : ℕ) (start : Zipper) (begun : Remainder) (from : ℕ) (first : List Store)
-    (here : Zipper) (short : Bool) (now : List Store) : Type 0 where
-  pub rest : rest_with (plugged_to d here.path here.tree) short ≡ erase_climbed d start.path begun
-  pub items : now ≡ first ++ erase_climb_links copy d start.path from begun
-  pub path : path_to d here.path ≡ path_to d start.path
-  pub room : here.room ≡ start.room
+has_first : (part base : List Above) (a : Above) (rest : List Above) → part ++ base ≡ a ∷ rest → length base ≤ length rest → HasFirst part base a rest
+has_first [] base a rest e le = absurd (omega (arith, ap length e, le))
+has_first (b ∷ part) base a rest e le =
+    let first : b ≡ a = cc in
+    let others : part ++ base ≡ rest = cc in
+    record { later = part; is = ap (λ z. z ∷ part) first; rest_is = sym others }
 
--- one step up
-module _ {copy d : ℕ} {start : Zipper} {begun : Remainder} {from : ℕ} {first : List Store}
-    {here : Zipper} {short : Bool} {before : ℕ} {now : List Store}
-    (is : EraseClimbs copy d start begun from first here short before now)
-    (more : d < length here.path) {up : Nearest} (near : IsNearest here.path up)
-    {after : ℕ} (linked : after ≡ link (shape here.tree)) where
-  abbrev there : Zipper
-  there =
-      record { tree = joined (above_of up near) up.red here.tree; path = near.rest; room = here.room }
+has_none : (part base : List Above) → length (part ++ base) ≤ length base → part ≡ []
+has_none [] base le = refl
+has_none (a ∷ part) base le = absurd (omega (arith, le, length-append part base))
 
-  abbrev relinked : List Store
-  relinked = relink_on up.side copy up.node before after
+-- the tree in hand below a part of the path, with the stores so far
+pub record IsLostHere (copy : ℕ) (gone : List ℕ) (whole : ColouredTree) (rs : List Record) (base : List Above) (here : Zipper) (before : ℕ) (short : Bool) (ss : List Store) : Type 0 where
+  pub part : List Above
+  pub was : ColouredTree
+  pub path : here.path ≡ part ++ base
+  pub from : before ≡ link (shape was)
+  pub lost : Lost copy gone whole rs part was here.tree ss short
 
-  abbrev fills : List Store
-  fills = fill_links_on up.side copy short there.tree
+-- whatever it stood for at the start
+module _ (copy depth from0 : ℕ) (short0 : Bool) (start : Zipper) where
+  abbrev pub FromStart : Zipper → ℕ → Bool → List Store → Type 0
+  FromStart here before short links =
+      (part base : List Above) (whole was : ColouredTree) (rs : List Record) (gone : List ℕ) (ss : List Store) → start.path ≡ part ++ base → depth ≡ length base →
+      from0 ≡ link (shape was) → Lost copy gone whole rs part was start.tree ss short0 → IsLostHere copy gone whole rs base here before short (ss ++ links)
 
-  abbrev rest_there : Remainder
-  rest_there = filled_on up.side short there.tree
+  -- what the loop knows of the tree in hand
+  pub record EraseRises (first : List Store) (here : Zipper) (before after : ℕ) (short : Bool) (now : List Store) : Type 0 where
+    pub links : List Store
+    pub stores : now ≡ first ++ links
+    pub linked : after ≡ link (shape here.tree)
+    pub few : length links + moved before after ≤ most_on_climb short0
+    pub low : short ≡ true → length links + moved before after ≤ 1
+    pub was_short : short ≡ true → short0 ≡ true
+    pub rises : FromStart here before short links
 
-  on : EraseClimbs copy d start begun from first (altered (filled_at up.side short) there) rest_there.short
-      (up.node + 1) ((now ++ relinked) ++ fills)
-  on =
-      let a = above_of up near in
-      let r = rest_with here.tree short in
-      let u = erase_step a r in
-      let below : d ≤ length near.rest = omega (arith, more, shorter here up near) in
-      let next : up.node + 1 ≡ suc up.node = omega arith in
-      record {
-        rest =
-            sym (climbed_on d a near.rest r below) ∙ ap (λ p. erase_climbed d p r) (sym near.was) ∙ is.rest;
-        items =
-            ap (λ n. ((now ++ relinked) ++ fills) ++ erase_climb_links copy d near.rest n u) next
-            ∙ sym (regrouped now relinked fills (erase_climb_links copy d near.rest (suc up.node) u))
-            ∙ ap (λ n. now ++ ((relink_on up.side copy up.node before n ++ fills)
-            ++ erase_climb_links copy d near.rest (suc up.node) u)) linked
-            ∙ ap (λ n. now ++ ((relink_on up.side copy n before (link (shape here.tree)) ++ fills)
-            ++ erase_climb_links copy d near.rest (suc n) u)) near.node
-            ∙ ap (λ ss. now ++ ss) (sym (climb_on copy d a near.rest before r below))
-            ∙ ap (λ p. now ++ erase_climb_links copy d p before r) (sym near.was)
-            ∙ is.items;
-        path = sym (path_on d a near.rest below) ∙ ap (path_to d) (sym near.was) ∙ is.path;
-        room = is.room;
-        few = omega (arith, is.few, shorter here up near);
-      }
+  -- and where it has ended
+  abbrev pub EraseEnds : List Store → Zipper → Bool → List Store → Type 0
+  EraseEnds first new short now = (links : List Store) × (now ≡ first ++ links) × Climbs copy depth from0 short0 start new short links
 
-  -- the stores of the step fit
-  pub erase_fits : (cap : ℕ) → length first + length (erase_climb_links copy d start.path from begun) ≤ cap
-      → (length now + length relinked) + length fills ≤ cap
-  erase_fits cap room =
-      let rest = erase_climb_links copy d near.rest (up.node + 1) (erase_step (above_of up near) (rest_with here.tree short)) in
-      let l = length-append ((now ++ relinked) ++ fills) rest in
-      let m = length-append (now ++ relinked) fills in
-      let n = length-append now relinked in
-      let k = length-append first (erase_climb_links copy d start.path from begun) in
-      omega (arith, ap length on.items, l, m, n, k, room)
+module _ {copy depth from0 : ℕ} {short0 : Bool} {start : Zipper} where
+  pub erase_begins : {after : ℕ} → after ≡ link (shape start.tree) → (first : List Store) → EraseRises copy depth from0 short0 start first start from0 after short0 first
+  erase_begins {after = after} e first = record {
+    links = [];
+    stores = sym (append-nil first);
+    linked = e;
+    few = omega (arith, most_one short0);
+    low = λ _. omega (arith, moved_one from0 after);
+    was_short = λ s. s;
+    rises = λ part base whole was rs gone ss path deep from lost. record {
+      part = part;
+      was = was;
+      path = path;
+      from = from;
+      lost = subst (λ qs. Lost copy gone whole rs part was start.tree qs short0) (sym (append-nil ss)) lost;
+    };
+  }
+    where
+      most_one : (b : Bool) → moved from0 after ≤ most_on_climb b
+      most_one true = omega (arith, moved_one from0 after)
+      most_one false = omega (arith, moved_one from0 after)
 
-  pub erase_there : {z : Zipper} → z ≡ risen here → z ≡ there
-  erase_there rises = rises ∙ risen_there here up near
+  -- one step up
+  module _ {first : List Store} {here : Zipper} {before after : ℕ} {short : Bool} {now : List Store} (is : EraseRises copy depth from0 short0 start first here before after short now)
+      {up : Nearest} (near : IsNearest here.path up) (more : depth < length here.path) where
+    abbrev relinked : List Store
+    relinked = relink up.side copy up.node before after
 
-  -- filled there
-  pub erase_filled : {z : Zipper} → z ≡ altered (filled_at up.side short) there → {v : Bool} → v ≡ rest_there.short
-      → {now1 now2 : List Store} → now1 ≡ now ++ relinked → now2 ≡ now1 ++ fills
-      → EraseClimbs copy d start begun from first z v (up.node + 1) now2
-  erase_filled {z = z} zs {v = v} shorts relinks stores =
-      let all = (now ++ relinked) ++ fills in
-      let y = altered (filled_at up.side short) there in
-      subst (λ ss. EraseClimbs copy d start begun from first z v (up.node + 1) ss)
-      (sym (stores ∙ ap (λ ss. ss ++ fills) relinks))
-      (subst (λ b. EraseClimbs copy d start begun from first z b (up.node + 1) all) (sym shorts)
-      (subst (λ x. EraseClimbs copy d start begun from first x rest_there.short (up.node + 1) all) (sym zs) on))
+    abbrev pub there : ColouredTree
+    there = sided up.side up.red here.tree near.row near.other
 
-  -- where nothing is short, nothing above changes
-  pub erase_stays : short ≡ false → {z : Zipper} → z ≡ there → {now1 : List Store} → now1 ≡ now ++ relinked
-      → EraseEnds copy d start begun from first z short now1
-  erase_stays full {z = z} zs {now1 = now1} relinks =
-      let u = there.tree in
-      let next : up.node + 1 ≡ suc up.node = omega arith in
-      let after_all : up.node + 1 ≡ link (shape u) =
-      next ∙ ap suc near.node ∙ sym (link_sided up.side up.red here.tree near.row near.other) in
-      let same : rest_there ≡ rest_with u false =
-      ap (λ v. filled_on up.side v u) full ∙ filled_whole up.side u in
-      let none : fills ≡ [] = ap (λ v. fill_links_on up.side copy v u) full ∙ fill_nothing up.side copy u in
-      let climbs = on in
-      let ends : EraseEnds copy d start begun from first there short now1 = record {
-        rest =
-            ap (rest_with (plugged_to d near.rest u)) full
-            ∙ sym (erase_settled d near.rest u)
-            ∙ ap (erase_climbed d near.rest) (sym same)
-            ∙ climbs.rest;
-        items =
-            sym (append-nil now1)
-            ∙ ap (λ ss. now1 ++ ss) (sym (erase_settled_links copy d near.rest u))
-            ∙ ap (λ n. now1 ++ erase_climb_links copy d near.rest n (rest_with u false)) (sym after_all)
-            ∙ ap (λ r. now1 ++ erase_climb_links copy d near.rest (up.node + 1) r) (sym same)
-            ∙ ap (λ ss. ss ++ erase_climb_links copy d near.rest (up.node + 1) rest_there)
-            (relinks ∙ sym (append-nil (now ++ relinked)) ∙ ap (λ ss. (now ++ relinked) ++ ss) (sym none))
-            ∙ climbs.items;
-        path = climbs.path;
-        room = climbs.room;
-      } in
-      subst (λ y. EraseEnds copy d start begun from first y short now1) (sym zs) ends
+    pub there_is : {z : Zipper} → z ≡ risen here → z ≡ zipper (sided up.side up.red here.tree near.row near.other) near.rest here.room
+    there_is rises = rises ∙ risen_there here up near
 
--- at the depth the way has ended, too
-pub erase_arrived : {copy d : ℕ} {start : Zipper} {begun : Remainder} {from : ℕ} {first : List Store}
-    {here : Zipper} {short : Bool} {before : ℕ} {now : List Store}
-    → EraseClimbs copy d start begun from first here short before now → length here.path ≤ d
-    → EraseEnds copy d start begun from first here short now
-erase_arrived {copy = copy} {d = d} {here = here} {short = short} {before = before} {now = now} is there = record {
-  rest =
-      ap (λ t. rest_with t short) (plugged_ended d here.path here.tree there)
-      ∙ sym (erase_ended d here.path (rest_with here.tree short) there)
-      ∙ is.rest;
-  items =
-      sym (append-nil now)
-      ∙ ap (λ ss. now ++ ss) (sym (erase_ended_links copy d here.path before (rest_with here.tree short) there))
-      ∙ is.items;
-  path = is.path;
-  room = is.room;
-}
+    pub relink_fits : length (relink up.side copy up.node before after) ≡ moved before after
+    relink_fits = relink_moved up.side copy up.node before after
+
+    stored : {now1 : List Store} → now1 ≡ now ++ relinked → now1 ≡ first ++ (is.links ++ relinked)
+    stored e = e ∙ ap (λ ss. ss ++ relinked) is.stores ∙ append_assoc first is.links relinked
+
+    longer : length (is.links ++ relinked) ≡ length is.links + moved before after
+    longer = length-append is.links relinked ∙ ap (λ n. length is.links + n) relink_fits
+
+    -- the node above is the first of the part
+    module _ {gone : List ℕ} {whole : ColouredTree} {rs : List Record} {base : List Above} (ss : List Store) (deep : depth ≡ length base)
+        (l : IsLostHere copy gone whole rs base here before short (ss ++ is.links)) where
+      part_first : HasFirst l.part base (above_of up near) near.rest
+      part_first =
+          has_first l.part base (above_of up near) near.rest (sym l.path ∙ near.was) (omega (arith, more, deep, ap length near.was))
+
+      lost_first : Lost copy gone whole rs (at_side up.side up.red near.row near.other ∷ part_first.later) l.was here.tree (ss ++ is.links) short
+      lost_first = subst (λ p. Lost copy gone whole rs p l.was here.tree (ss ++ is.links) short) part_first.is l.lost
+
+      relinked_is : relinked ≡ relink up.side copy near.row.node (link (shape l.was)) (link (shape here.tree))
+      relinked_is =
+          ap (λ n. relink up.side copy n before after) near.node ∙ ap (λ b. relink up.side copy near.row.node b after) l.from
+          ∙ ap (λ a. relink up.side copy near.row.node (link (shape l.was)) a) is.linked
+
+      stores_are : (ts : List Store) → (((ss ++ is.links) ++ relink up.side copy near.row.node (link (shape l.was)) (link (shape here.tree))) ++ ts) ≡ ss ++ ((is.links ++ relinked) ++ ts)
+      stores_are ts =
+          ap (λ qs. ((ss ++ is.links) ++ qs) ++ ts) (sym relinked_is) ∙ ap (λ qs. qs ++ ts) (append_assoc ss is.links relinked) ∙ append_assoc ss (is.links ++ relinked) ts
+
+    fills : Filling near.row 8 (filled up.side there) (fill_links up.side copy there)
+    fills = subst (λ r. Filling near.row 8 r (fill_links up.side copy there)) (sym (filled_sided up.side up.red here.tree near.row near.other))
+        (subst (Filling near.row 8 _) (sym (fill_links_sided up.side copy up.red here.tree near.row near.other)) (filling copy up.side up.red here.tree near.row near.other))
+
+    -- where it is short, the node above is filled
+    pub fill_fits : short ≡ true → {z : Zipper} → z ≡ risen here → length is.links + moved before after + length (fill_links up.side copy z.tree) ≤ 9
+    fill_fits full rises = omega (arith, is.low full, ap (λ y. length (fill_links up.side copy y.tree)) (there_is rises), fills.few)
+
+    pub erase_filled : short ≡ true → {z : Zipper} → z ≡ risen here → {y : Zipper} → y ≡ holding (filled up.side z.tree).tree z → {left_short : Bool} → left_short ≡ (filled up.side z.tree).short
+        → {now1 now2 : List Store} → now1 ≡ now ++ relink up.side copy up.node before after → now2 ≡ now1 ++ fill_links up.side copy z.tree → {link_now : ℕ} → link_now ≡ link (shape y.tree)
+        → EraseRises copy depth from0 short0 start first y (up.node + 1) link_now left_short now2
+    erase_filled full {z = z} rises {y = y} holds {left_short = left_short} shorts {now1 = now1} {now2 = now2} e f {link_now = link_now} ls =
+        let z_is = there_is rises in
+        let r = filled up.side there in
+        let ts = fill_links up.side copy there in
+        let y_is : y ≡ zipper r.tree near.rest here.room = holds ∙ ap (λ q. holding (filled up.side q.tree).tree q) z_is in
+        let short_is : left_short ≡ r.short = shorts ∙ ap (λ q. (filled up.side q.tree).short) z_is in
+        let node : up.node + 1 ≡ suc near.row.node = omega (arith, near.node) in
+        let size : length ((is.links ++ relinked) ++ ts) ≡ length is.links + moved before after + length ts = length-append (is.links ++ relinked) ts ∙ ap (λ n. n + length ts) longer in
+        let ten : most_on_climb short0 ≡ 10 = ap most_on_climb (is.was_short full) in
+        record {
+          links = (is.links ++ relinked) ++ ts;
+          stores = f ∙ ap (λ q. now1 ++ fill_links up.side copy q.tree) z_is ∙ ap (λ qs. qs ++ ts) (stored e) ∙ append_assoc first (is.links ++ relinked) ts;
+          linked = ls;
+          few = omega (arith, size, is.low full, fills.few, moved_one (up.node + 1) link_now, ten);
+          low = λ s.
+              let n = fills.none (sym short_is ∙ s) in
+              let none : moved (up.node + 1) link_now ≡ 0 = not_moved (up.node + 1) link_now (node ∙ sym n.1 ∙ ap (λ q. link (shape q.tree)) (sym y_is) ∙ sym ls) in
+              omega (arith, size, is.low full, n.0, none);
+          was_short = λ _. is.was_short full;
+          rises = λ part base whole was rs gone ss path deep from lost.
+              let l = is.rises part base whole was rs gone ss path deep from lost in
+              let p = part_first ss deep l in
+              let g = subst (Lost copy gone whole rs (at_side up.side up.red near.row near.other ∷ p.later) l.was here.tree (ss ++ is.links)) full (lost_first ss deep l) in
+              record {
+                part = p.later;
+                was = sided up.side up.red l.was near.row near.other;
+                path = ap (λ q. q.path) y_is ∙ p.rest_is;
+                from = node ∙ sym (link_sided up.side up.red l.was near.row near.other);
+                lost = subst (λ q. Lost copy gone whole rs p.later (sided up.side up.red l.was near.row near.other) q.tree (ss ++ ((is.links ++ relinked) ++ ts)) left_short) (sym y_is)
+                    (subst (λ b. Lost copy gone whole rs p.later (sided up.side up.red l.was near.row near.other) r.tree (ss ++ ((is.links ++ relinked) ++ ts)) b) (sym short_is)
+                    (subst (λ qs. Lost copy gone whole rs p.later (sided up.side up.red l.was near.row near.other) r.tree qs r.short) (stores_are ss deep l ts)
+                    (lost_filled up.side up.red near.row near.other p.later g)));
+              };
+        }
+
+    -- where it is not, nothing changes above
+    pub erase_stays : short ≡ false → {z : Zipper} → z ≡ risen here → {now1 : List Store} → now1 ≡ now ++ relink up.side copy up.node before after → {new : Zipper} → new ≡ closed_to depth z.tree z.path z.room
+        → EraseEnds copy depth from0 short0 start first new short now1
+    erase_stays whole_now {z = z} rises {now1 = now1} e {new = new} closes =
+        let z_is = there_is rises in (
+          is.links ++ relinked,
+          stored e,
+          record {
+            few = omega (arith, longer, is.few);
+            climbs = λ part base whole was rs gone ss path deep from lost.
+                let l = is.rises part base whole was rs gone ss path deep from lost in
+                let p = part_first ss deep l in
+                let k = kept_up (above_of up near) p.later (lost_kept (subst (Lost copy gone whole rs (at_side up.side up.red near.row near.other ∷ p.later) l.was here.tree (ss ++ is.links)) whole_now (lost_first ss deep l))) in
+                let still = kept_still p.later k (link_sided up.side up.red l.was near.row near.other ∙ sym (link_sided up.side up.red here.tree near.row near.other)) in
+                let whole_is : plugged p.later (sided up.side up.red l.was near.row near.other) ≡ whole = (still.0).replaced.old in
+                let new_is : new ≡ zipper (plugged p.later there) base here.room =
+                closes ∙ ap (λ q. closed_to depth q.tree q.path q.room) z_is ∙ ap (λ q. closed_to depth there q here.room) p.rest_is
+                ∙ ap (λ d. closed_to d there (p.later ++ base) here.room) deep ∙ closed_past p.later base there here.room in
+                let stores : (ss ++ is.links) ++ relink up.side copy near.row.node (link (shape l.was)) (link (shape here.tree)) ≡ ss ++ (is.links ++ relinked) =
+                ap (λ qs. (ss ++ is.links) ++ qs) (sym (relinked_is ss deep l)) ∙ append_assoc ss is.links relinked in
+                let none : moved (link (shape whole)) (link (shape new.tree)) ≡ 0 =
+                not_moved (link (shape whole)) (link (shape new.tree)) (ap (λ t. link (shape t)) (sym whole_is) ∙ still.1 ∙ ap (λ q. link (shape q.tree)) (sym new_is)) in (
+                  subst (λ q. Lost copy gone whole rs [] whole q.tree (ss ++ (is.links ++ relinked)) short) (sym new_is)
+                      (subst (λ b. Lost copy gone whole rs [] whole (plugged p.later there) (ss ++ (is.links ++ relinked)) b) (sym whole_now)
+                      (subst (λ qs. Lost copy gone whole rs [] whole (plugged p.later there) qs false) stores
+                      (subst (λ t. Lost copy gone whole rs [] t (plugged p.later there) ((ss ++ is.links) ++ relink up.side copy near.row.node (link (shape l.was)) (link (shape here.tree))) false) whole_is (kept_lost still.0)))),
+                  ap (λ q. q.path) new_is,
+                  omega (arith, longer, is.few, none),
+                  λ s. absurd (let f : true ≡ false = sym s ∙ whole_now in cc),
+                );
+          },
+        )
+
+  -- at the depth the way has ended, too
+  pub erase_arrived : {first : List Store} {here : Zipper} {before after : ℕ} {short : Bool} {now : List Store} → EraseRises copy depth from0 short0 start first here before after short now → length here.path ≤ depth
+      → {new : Zipper} → new ≡ closed_to depth here.tree here.path here.room → EraseEnds copy depth from0 short0 start first new short now
+  erase_arrived {here = here} {before = before} {after = after} {short = short} is there {new = new} closes = (
+    is.links,
+    is.stores,
+    record {
+      few = omega (arith, is.few);
+      climbs = λ part base whole was rs gone ss path deep from lost.
+          let l = is.rises part base whole was rs gone ss path deep from lost in
+          let none : l.part ≡ [] = has_none l.part base (omega (arith, ap length l.path, there, deep)) in
+          let here_is : here.path ≡ base = l.path ∙ ap (λ p. p ++ base) none in
+          let new_is : new ≡ zipper here.tree base here.room =
+          closes ∙ ap (λ p. closed_to depth here.tree p here.room) here_is ∙ ap (λ d. closed_to d here.tree base here.room) deep ∙ closed_past [] base here.tree here.room in
+          let at : Lost copy gone whole rs [] l.was here.tree (ss ++ is.links) short = subst (λ p. Lost copy gone whole rs p l.was here.tree (ss ++ is.links) short) none l.lost in
+          let whole_is : l.was ≡ whole = at.replaced.old in
+          let same : moved (link (shape whole)) (link (shape new.tree)) ≡ moved before after =
+          ap (λ q. moved (link (shape whole)) (link (shape q.tree))) new_is ∙ ap (λ n. moved (link (shape whole)) n) (sym is.linked)
+          ∙ ap (λ t. moved (link (shape t)) after) (sym whole_is) ∙ ap (λ b. moved b after) (sym l.from) in (
+            subst (λ q. Lost copy gone whole rs [] whole q.tree (ss ++ is.links) short) (sym new_is) (subst (λ t. Lost copy gone whole rs [] t here.tree (ss ++ is.links) short) whole_is at),
+            ap (λ q. q.path) new_is,
+            omega (arith, is.few, same),
+            λ s. omega (arith, is.low s),
+          );
+    },
+  )

@@ -12,7 +12,7 @@ use Rattle.rb_trees.specs.declared.Side.{Side}
 use Rattle.rb_cursor.specs.declared.cursors.Cursor.TheInside.{Inside}
 use Rattle.rb_trees.specs.Paths.{Above}
 use Rattle.rb_cursor.specs.Zippers.{Zipper}
-use Rattle.rb_trees.specs.Paths.{sided}
+use Rattle.rb_trees.specs.Sides.{sided}
 use Rattle.rb_cursor.specs.Sides.{child_at}
 use Rattle.rb_cursor.specs.Opening.{weight, OpensSide}
 use Rattle.rb_cursor.specs.Keyed.{Keyed, nil, keyed, Level, link_of, link_to, plain, plain_level}

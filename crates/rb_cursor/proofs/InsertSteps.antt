@@ -1,194 +1,241 @@
 -- The way up of an insert, as the calls of a cursor show it.
-use Rattle.std.proofs.Common.{◌≡◌, ℕ, suc, ◌+◌, ◌≤◌, Bool, true, false, List, [], ◌∷◌, ◌++◌}
-use Rattle.std.proofs.Common.{sym, ◌∙◌, ap, subst, arith, length, length-append, append-nil}
+use Rattle.std.proofs.Common.{◌≡◌, ℕ, suc, ◌+◌, ◌≤◌, Bool, true, false, List, [], ◌∷◌, ◌++◌, refl, sym, ◌∙◌, ap, subst, arith, length, length-append, append_assoc}
 use Rattle.word_layout.specs.declared.stores.Store.{Store}
-use Rattle.order_laws.specs.declared.items.Item.{Item}
-use Rattle.facts.proofs.Lists.{regrouped}
+use Rattle.order_laws.specs.Orders.{Order, IsLawful}
+use Rattle.order_laws.specs.Tables.{IsTable}
 use Rattle.rb_trees.specs.declared.Record.{Record}
-use Rattle.rb_trees.specs.declared.Clash.TheVariants.{Nowhere}
-use Rattle.rb_trees.specs.Trees.{ColouredTree, tip, branch, is_red, shape, HasNoClash, depth}
-use Rattle.rb_trees.specs.Turns.{link, set_left, set_right}
-use Rattle.rb_trees.specs.Inserted.{clash, inserted_into, insert_links}
-use Rattle.rb_trees.specs.Paths.{Above, joined, plugged, way_by}
-use Rattle.rb_trees.specs.InsertClimb.{relink_on, mended_on, mend_links_on, insert_step}
-use Rattle.rb_trees.specs.InsertClimb.{insert_climbed, insert_climb_links, HasNoClashAbove, is_above_red}
+use Rattle.rb_trees.specs.declared.Side.TheVariants.{Left, Right}
+use Rattle.rb_trees.specs.Trees.{ColouredTree, tip, branch, is_red, blackened, shape, rows, HasNoClash, IsRedBlack, depth}
+use Rattle.rb_trees.specs.Sides.{sided, set_link}
+use Rattle.rb_trees.specs.Turns.{link, relink, relink_root, moved}
+use Rattle.rb_trees.specs.Inserted.{mended, mend_links, clash}
+use Rattle.rb_trees.specs.Linked.{Lead}
+use Rattle.rb_trees.specs.Found.{items_of_records}
+use Rattle.rb_trees.specs.Paths.{Above, plugged, way_by}
+use Rattle.rb_trees.specs.Replaced.{Replaced, Nothing, Sound}
 use Rattle.rb_trees.proofs.PathLemmas.{plugged_by, short_by}
-use Rattle.rb_trees.proofs.InsertClimbLemmas.{insert_climbed_by, insert_climb_by, calm_path}
-use Rattle.rb_trees.proofs.InsertClimbLemmas.{IsStill, still_above, still_climbed, still_climb, still_black}
-use Rattle.rb_trees.proofs.InsertClimbLemmas.{mended_kept, mend_nothing, mended_clear}
-use Rattle.rb_trees.proofs.InsertClimbLemmas.{link_sided}
+use Rattle.rb_trees.proofs.PlaceRows.{rows_grown}
+use Rattle.rb_trees.proofs.SideLemmas.{red_sided, link_sided}
+use Rattle.rb_trees.proofs.TurnLemmas.{rows_blackened, moved_one, not_moved, relink_moved, root_moved}
+use Rattle.rb_trees.proofs.ColourLemmas.{calm_of_near}
+use Rattle.rb_trees.proofs.RelinkLemmas.{shape_blackened}
+use Rattle.rb_trees.proofs.MendLemmas.{Mending, mending, mended_sided, mend_links_sided}
+use Rattle.rb_trees.proofs.ReplaceLemmas.{replaced_lead}
+use Rattle.rb_trees.proofs.GrowLemmas.{Grown, at_side, grown_leaf, grown_red, mended_calm, grown_black, grown_kept, kept_still, grown_good, kept_good}
 use Rattle.rb_cursor.specs.declared.nodes.Nearest.{Nearest}
 use Rattle.rb_cursor.specs.Zippers.{Zipper, altered}
 use Rattle.rb_cursor.specs.Opening.{IsNearest}
-use Rattle.rb_cursor.specs.Rising.{risen}
-use Rattle.rb_cursor.proofs.StepLemmas.{above_of, risen_there, shorter}
+use Rattle.rb_cursor.specs.Closing.{risen}
+use Rattle.rb_cursor.specs.Changes.{PutsIn}
+use Rattle.rb_cursor.proofs.StepLemmas.{zipper, above_of, risen_there}
 
--- what is left of the way makes the same of the tree in hand as the whole way of the first one
-pub record InsertClimbs (copy : ℕ) (start : Zipper) (first : List Store)
-    (here : Zipper) (before : ℕ) (now : List Store) : Type 0 where
-  pub tree : insert_climbed here.path here.tree ≡ insert_climbed start.path start.tree
-  pub items : now ++ insert_climb_links copy here.path before here.tree
-      ≡ first ++ insert_climb_links copy start.path 0 start.tree
-  pub room : here.room ≡ start.room
-  pub calm : HasNoClashAbove here.path
-  pub few : length here.path ≤ 64
+-- the tree with the new leaf
+abbrev pub leaf : Record → ColouredTree
+leaf x = branch true tip x tip
 
--- what the loop knows of the tree in hand
-pub record InsertKnows (here : Zipper) (after : ℕ) (red clashes : Bool) : Type 0 where
-  pub linked : after ≡ link (shape here.tree)
-  pub red_is : red ≡ is_red here.tree
-  pub clear : clashes ≡ false → clash here.tree ≡ Nowhere
+module _ (copy : ℕ) (x : Record) (start : List Above) (first : List Store) where
+  -- what the loop knows of the tree in hand
+  pub record InsertRises (here : Zipper) (before after : ℕ) (red clashes : Bool) (now : List Store) : Type 0 where
+    pub was : ColouredTree
+    pub links : List Store
+    pub grown : Grown copy x.node (plugged start tip) (rows (plugged start (branch true tip x tip))) here.path was here.tree links
+    pub stores : now ≡ first ++ links
+    pub from : before ≡ link (shape was)
+    pub linked : after ≡ link (shape here.tree)
+    pub red_is : red ≡ is_red here.tree
+    pub clear : clashes ≡ false → (h : ℕ) → Sound was h → HasNoClash here.tree
+    pub few : length links + moved before after ≤ 9
+    pub low : red ≡ true → length links + moved before after ≤ 3
 
--- the way up has ended: all above stays as it is
-pub record InsertEnds (copy : ℕ) (start : Zipper) (first : List Store)
-    (here : Zipper) (now : List Store) : Type 0 where
-  pub tree : plugged here.path here.tree ≡ insert_climbed start.path start.tree
-  pub items : now ≡ first ++ insert_climb_links copy start.path 0 start.tree
-  pub room : here.room ≡ start.room
+  -- what it knows where it has ended: of the whole tree, to which the jump goes
+  pub record InsertEnds (u : ColouredTree) (now : List Store) : Type 0 where
+    pub was : ColouredTree
+    pub links : List Store
+    pub replaced : Replaced copy (λ i. i ≡ x.node) Nothing (plugged start tip) (rows (plugged start (branch true tip x tip))) [] was u links
+    pub good : IsRedBlack (plugged start tip) → IsRedBlack (blackened u)
+    pub stores : now ≡ first ++ links
+    pub few : length links + moved (link (shape was)) (link (shape u)) ≤ 9
 
--- one step up
-module _ {copy : ℕ} {start : Zipper} {first : List Store}
-    {here : Zipper} {before : ℕ} {now : List Store}
-    (is : InsertClimbs copy start first here before now)
-    {up : Nearest} (near : IsNearest here.path up)
-    {after : ℕ} {red clashes : Bool} (knows : InsertKnows here after red clashes) where
-  abbrev there : Zipper
-  there =
-      record { tree = joined (above_of up near) up.red here.tree; path = near.rest; room = here.room }
+module _ {copy : ℕ} {x : Record} {start : List Above} {first : List Store} where
+  pub insert_begins : (room : ℕ) {here : Zipper} → here ≡ zipper (branch true tip x tip) start room → {now : List Store}
+      → now ≡ first ++ (set_link Left copy x.node 0 ∷ set_link Right copy x.node 0 ∷ []) → InsertRises copy x start first here 0 (x.node + 1) true false now
+  insert_begins room is {now = now} e = subst (λ z. InsertRises copy x start first z 0 (x.node + 1) true false now) (sym is) (record {
+    was = tip;
+    links = set_link Left copy x.node 0 ∷ set_link Right copy x.node 0 ∷ [];
+    grown = grown_leaf copy x start;
+    stores = e;
+    from = refl;
+    linked = omega arith;
+    red_is = refl;
+    clear = λ e h s. (refl, refl, tt, tt);
+    few = omega (arith, moved_one 0 (x.node + 1));
+    low = λ e. omega (arith, moved_one 0 (x.node + 1));
+  })
 
-  abbrev relinked : List Store
-  relinked = relink_on up.side copy up.node before after
+  -- one step up
+  module _ {here : Zipper} {before after : ℕ} {red clashes : Bool} {now : List Store} (is : InsertRises copy x start first here before after red clashes now)
+      {up : Nearest} (near : IsNearest here.path up) where
+    abbrev pub relinked : List Store
+    relinked = relink up.side copy up.node before after
 
-  abbrev mends : List Store
-  mends = mend_links_on up.side copy there.tree
+    abbrev pub there : ColouredTree → ColouredTree
+    there t = sided up.side up.red t near.row near.other
 
-  on : InsertClimbs copy start first (altered (mended_on up.side) there) (up.node + 1)
-      ((now ++ relinked) ++ mends)
-  on =
-      let u = insert_step (above_of up near) here.tree in
-      let next : up.node + 1 ≡ suc up.node = omega arith in
-      record {
-        tree = ap (λ p. insert_climbed p here.tree) (sym near.was) ∙ is.tree;
-        items =
-            ap (λ n. ((now ++ relinked) ++ mends) ++ insert_climb_links copy near.rest n u) next
-            ∙ sym (regrouped now relinked mends (insert_climb_links copy near.rest (suc up.node) u))
-            ∙ ap (λ n. now ++ ((relink_on up.side copy up.node before n ++ mends)
-            ++ insert_climb_links copy near.rest (suc up.node) u)) knows.linked
-            ∙ ap (λ n. now ++ ((relink_on up.side copy n before (link (shape here.tree)) ++ mends)
-            ++ insert_climb_links copy near.rest (suc n) u)) near.node
-            ∙ ap (λ p. now ++ insert_climb_links copy p before here.tree) (sym near.was)
-            ∙ is.items;
-        room = is.room;
-        calm = (subst HasNoClashAbove near.was is.calm).1;
-        few = omega (arith, is.few, shorter here up near);
-      }
+    pub grown_here : Grown copy x.node (plugged start tip) (rows (plugged start (branch true tip x tip))) (above_of up near ∷ near.rest) is.was here.tree is.links
+    grown_here = subst (λ p. Grown copy x.node (plugged start tip) (rows (plugged start (branch true tip x tip))) p is.was here.tree is.links) near.was is.grown
 
-  -- the stores of the step fit
-  pub insert_fits : (cap : ℕ)
-      → length first + length (insert_climb_links copy start.path 0 start.tree) ≤ cap
-      → (length now + length relinked) + length mends ≤ cap
-  insert_fits cap room =
-      let rest = insert_climb_links copy near.rest (up.node + 1) (insert_step (above_of up near) here.tree) in
-      let l = length-append ((now ++ relinked) ++ mends) rest in
-      let m = length-append (now ++ relinked) mends in
-      let n = length-append now relinked in
-      let k = length-append first (insert_climb_links copy start.path 0 start.tree) in
-      omega (arith, ap length on.items, l, m, n, k, room)
+    pub relinked_is : relinked ≡ relink up.side copy near.row.node (link (shape is.was)) (link (shape here.tree))
+    relinked_is =
+        ap (λ n. relink up.side copy n before after) near.node ∙ ap (λ b. relink up.side copy near.row.node b after) is.from
+        ∙ ap (λ a. relink up.side copy near.row.node (link (shape is.was)) a) is.linked
 
-  pub insert_there : {z : Zipper} → z ≡ risen here → z ≡ there
-  insert_there rises = rises ∙ risen_there here up near
+    pub relink_fits : length relinked ≡ moved before after
+    relink_fits = relink_moved up.side copy up.node before after
 
-  -- mended there
-  pub insert_mended : {z : Zipper} → z ≡ altered (mended_on up.side) there → {now1 now2 : List Store}
-      → now1 ≡ now ++ relinked → now2 ≡ now1 ++ mends
-      → InsertClimbs copy start first z (up.node + 1) now2
-  insert_mended {z = z} zs relinks stores =
-      subst (λ ss. InsertClimbs copy start first z (up.node + 1) ss)
-      (sym (stores ∙ ap (λ ss. ss ++ mends) relinks))
-      (subst (λ y. InsertClimbs copy start first y (up.node + 1) ((now ++ relinked) ++ mends)) (sym zs) on)
+    stored : {now1 : List Store} → now1 ≡ now ++ relinked → now1 ≡ first ++ (is.links ++ relink up.side copy near.row.node (link (shape is.was)) (link (shape here.tree)))
+    stored e =
+        e ∙ ap (λ ss. ss ++ relinked) is.stores ∙ append_assoc first is.links relinked ∙ ap (λ ss. first ++ (is.links ++ ss)) relinked_is
 
-  -- a mended black node has no two red nodes in line
-  pub insert_clear : up.red ≡ false → {z : Zipper} → z ≡ altered (mended_on up.side) there
-      → clash z.tree ≡ Nowhere
-  insert_clear black zs =
-      ap (λ y. clash y.tree) zs
-      ∙ ap (λ r. clash (mended_on up.side (joined (above_of up near) r here.tree))) black
-      ∙ mended_clear up.side here.tree near.row near.other
+    longer : length (is.links ++ relink up.side copy near.row.node (link (shape is.was)) (link (shape here.tree))) ≡ length is.links + moved before after
+    longer = ap (λ ss. length (is.links ++ ss)) (sym relinked_is) ∙ length-append is.links relinked ∙ ap (λ n. length is.links + n) relink_fits
 
-  -- left as it is there, where there is nothing to mend
-  passed : mended_on up.side there.tree ≡ there.tree → mends ≡ [] → {now1 : List Store}
-      → now1 ≡ now ++ relinked → InsertClimbs copy start first there (up.node + 1) now1
-  passed same none {now1 = now1} relinks =
-      insert_mended (ap (λ t. record there { tree = t }) (sym same)) relinks
-      (sym (ap (λ ss. now1 ++ ss) none ∙ append-nil now1))
+    pub there_is : {z : Zipper} → z ≡ risen here → z ≡ zipper (there here.tree) near.rest here.room
+    there_is rises = rises ∙ risen_there here up near
 
-  -- from a black node, or a red one without a red child below a black one, nothing above changes
-  pub insert_settled : IsStill here.path here.tree → {z : Zipper} → z ≡ there → {now1 : List Store}
-      → now1 ≡ now ++ relinked → InsertEnds copy start first z now1
-  insert_settled still zs {now1 = now1} relinks =
-      let a = above_of up near in
-      let on_path : IsStill (a ∷ near.rest) here.tree = subst (λ p. IsStill p here.tree) near.was still in
-      let next : up.node + 1 ≡ suc up.node = omega arith in
-      let after_all : up.node + 1 ≡ link (shape there.tree) =
-      next ∙ ap suc near.node ∙ sym (link_sided up.side up.red here.tree near.row near.other) in
-      let above = still_above a near.rest here.tree on_path in
-      let climbs = passed (mended_kept up.side up.red here.tree near.row near.other still.inside)
-      (mend_nothing up.side copy up.red here.tree near.row near.other still.inside) relinks in
-      let ends : InsertEnds copy start first there now1 = record {
-        tree = sym (still_climbed near.rest there.tree above) ∙ climbs.tree;
-        items =
-            sym (append-nil now1)
-            ∙ ap (λ ss. now1 ++ ss) (sym (still_climb copy near.rest there.tree above))
-            ∙ ap (λ n. now1 ++ insert_climb_links copy near.rest n there.tree) (sym after_all)
-            ∙ climbs.items;
-        room = climbs.room;
-      } in
-      subst (λ y. InsertEnds copy start first y now1) (sym zs) ends
+    -- at a red node
+    pub insert_at_red : up.red ≡ true → red ≡ true → {z : Zipper} → z ≡ risen here → {now1 : List Store} → now1 ≡ now ++ relinked
+        → InsertRises copy x start first z (up.node + 1) (up.node + 1) red true now1
+    insert_at_red r reds {z = z} rises {now1 = now1} e =
+        let ss = is.links ++ relink up.side copy near.row.node (link (shape is.was)) (link (shape here.tree)) in
+        let g = grown_red up.side near.row near.other near.rest
+        (subst (λ v. Grown copy x.node (plugged start tip) (rows (plugged start (branch true tip x tip))) (at_side up.side v near.row near.other ∷ near.rest) is.was here.tree is.links) r grown_here) in
+        let node : up.node + 1 ≡ suc near.row.node = omega (arith, near.node) in
+        let none : moved (up.node + 1) (up.node + 1) ≡ 0 = not_moved (up.node + 1) (up.node + 1) refl in
+        subst (λ y. InsertRises copy x start first y (up.node + 1) (up.node + 1) red true now1) (sym (there_is rises ∙ ap (λ v. zipper (sided up.side v here.tree near.row near.other) near.rest here.room) r)) (record {
+          was = sided up.side true is.was near.row near.other;
+          links = ss;
+          grown = g;
+          stores = stored e;
+          from = node ∙ sym (link_sided up.side true is.was near.row near.other);
+          linked = node ∙ sym (link_sided up.side true here.tree near.row near.other);
+          red_is = reds ∙ sym (red_sided up.side true here.tree near.row near.other);
+          clear = λ f. absurd (cc);
+          few = omega (arith, longer, none, is.few);
+          low = λ f. omega (arith, longer, none, is.low reds);
+        })
 
-  pub insert_still_black : red ≡ false → IsStill here.path here.tree
-  insert_still_black black = still_black here.path here.tree is.calm (sym knows.red_is ∙ black)
+    -- at a black node, which is mended
+    module _ (black : up.red ≡ false) (reds : red ≡ true) {z : Zipper} (rises : z ≡ risen here) where
+      abbrev bare : ColouredTree
+      bare = sided up.side false here.tree near.row near.other
 
-  pub insert_still_below_black : up.red ≡ false → clashes ≡ false → IsStill here.path here.tree
-  insert_still_below_black black clear = record {
-    calm = is.calm;
-    inside = knows.clear clear;
-    between = λ e. ap is_above_red near.was ∙ black;
-  }
+      bare_is : z ≡ zipper (sided up.side false here.tree near.row near.other) near.rest here.room
+      bare_is = there_is rises ∙ ap (λ v. zipper (sided up.side v here.tree near.row near.other) near.rest here.room) black
 
--- at the top the way has ended, too
-pub insert_topmost : {copy : ℕ} {start : Zipper} {first : List Store}
-    {here : Zipper} {before : ℕ} {now : List Store} → InsertClimbs copy start first here before now
-    → here.path ≡ [] → InsertEnds copy start first here now
-insert_topmost {copy = copy} {here = here} {before = before} {now = now} is top = record {
-  tree = ap (λ p. plugged p here.tree) top ∙ ap (λ p. insert_climbed p here.tree) (sym top) ∙ is.tree;
-  items =
-      sym (append-nil now) ∙ ap (λ p. now ++ insert_climb_links copy p before here.tree) (sym top) ∙ is.items;
-  room = is.room;
-}
+      mends : Mending near.row (mended up.side (sided up.side false here.tree near.row near.other)) (mend_links up.side copy (sided up.side false here.tree near.row near.other))
+      mends = subst (λ u. Mending near.row u (mend_links up.side copy bare)) (sym (mended_sided up.side here.tree near.row near.other))
+          (subst (Mending near.row _) (sym (mend_links_sided up.side copy here.tree near.row near.other)) (mending copy up.side near.row near.other (clash up.side here.tree) here.tree))
 
--- from the leaf that is planted at the end of the way down, the way up is the whole insert
-module _ (less : Item → Item → Bool) (added : Record) (t : ColouredTree) {start path : List Above}
-    (goes : path ≡ way_by less added.item t start) (top : start ≡ []) where
-  way_there : path ≡ way_by less added.item t []
-  way_there = goes ∙ ap (way_by less added.item t) top
+      pub mend_fits : length is.links + moved before after + length (mend_links up.side copy z.tree) ≤ 8
+      mend_fits = omega (arith, is.low reds, ap (λ y. length (mend_links up.side copy y.tree)) bare_is, mends.few)
 
-  pub insert_calm : HasNoClash t → HasNoClashAbove path
-  insert_calm calm =
-      subst HasNoClashAbove (sym way_there)
-      (calm_path (way_by less added.item t []) tip (subst HasNoClash (sym (plugged_by less added.item t [])) calm))
+      pub insert_at_black : {y : Zipper} → y ≡ altered (mended up.side) z → {now1 now2 : List Store} → now1 ≡ now ++ relinked → now2 ≡ now1 ++ mend_links up.side copy z.tree
+          → {link_now : ℕ} → link_now ≡ link (shape y.tree) → {red_now : Bool} → red_now ≡ is_red y.tree
+          → InsertRises copy x start first y (up.node + 1) link_now red_now false now2
+      insert_at_black {y = y} alters {now1 = now1} {now2 = now2} e f {link_now = link_now} ls {red_now = red_now} rs =
+          let ss = is.links ++ relink up.side copy near.row.node (link (shape is.was)) (link (shape here.tree)) in
+          let ms = mend_links up.side copy bare in
+          let u = mended up.side bare in
+          let was = sided up.side false is.was near.row near.other in
+          let g = subst (λ v. Grown copy x.node (plugged start tip) (rows (plugged start (branch true tip x tip))) (at_side up.side v near.row near.other ∷ near.rest) is.was here.tree is.links) black grown_here in
+          let y_is : y ≡ zipper u near.rest here.room = alters ∙ ap (altered (mended up.side)) bare_is in
+          let tree_is : y.tree ≡ u = ap (λ q. q.tree) y_is in
+          let node : up.node + 1 ≡ suc near.row.node = omega (arith, near.node) in
+          let length_is : length (ss ++ ms) ≡ length is.links + moved before after + length ms = length-append ss ms ∙ ap (λ n. n + length ms) longer in
+          let one = moved_one (up.node + 1) link_now in
+          record {
+            was = was;
+            links = ss ++ ms;
+            grown = subst (λ q. Grown copy x.node (plugged start tip) (rows (plugged start (branch true tip x tip))) q.path was q.tree (ss ++ ms)) (sym y_is) (grown_black up.side near.row near.other near.rest g);
+            stores = f ∙ ap (λ qs. qs ++ mend_links up.side copy z.tree) (stored e) ∙ append_assoc first ss (mend_links up.side copy z.tree)
+                ∙ ap (λ q. first ++ (ss ++ mend_links up.side copy q.tree)) bare_is;
+            from = node ∙ sym (link_sided up.side false is.was near.row near.other);
+            linked = ls;
+            red_is = rs;
+            clear = λ _ h s. subst HasNoClash (sym tree_is) (mended_calm up.side near.row near.other near.rest g h s).calm;
+            few = omega (arith, length_is, mends.few, is.low reds, one);
+            low = λ r.
+                let s = mends.still (ap is_red (sym tree_is) ∙ sym rs ∙ r) in
+                let none : moved (up.node + 1) link_now ≡ 0 = not_moved (up.node + 1) link_now (node ∙ sym s.1 ∙ ap (λ q. link (shape q)) (sym tree_is) ∙ sym ls) in
+                omega (arith, length_is, s.0, is.low reds, none);
+          }
+
+    -- nothing changes above
+    pub insert_settled : ((h : ℕ) → Sound is.was h → HasNoClash here.tree) → (up.red ≡ true → is_red here.tree ≡ false) → {z : Zipper} → z ≡ risen here → {now1 : List Store} → now1 ≡ now ++ relinked
+        → InsertEnds copy x start first (plugged z.path z.tree) now1
+    insert_settled calm black rises {now1 = now1} e =
+        let a = above_of up near in
+        let k = kept_still near.rest (grown_kept a near.rest grown_here calm black)
+        (link_sided up.side up.red is.was near.row near.other ∙ sym (link_sided up.side up.red here.tree near.row near.other)) in
+        subst (λ y. InsertEnds copy x start first (plugged y.path y.tree) now1) (sym (there_is rises)) (record {
+          was = plugged near.rest (there is.was);
+          links = is.links ++ relink up.side copy near.row.node (link (shape is.was)) (link (shape here.tree));
+          replaced = (k.0).replaced;
+          good = kept_good k.0;
+          stores = stored e;
+          few = omega (arith, longer, is.few, not_moved (link (shape (plugged near.rest (there is.was)))) (link (shape (plugged near.rest (there here.tree)))) k.1);
+        })
+
+    pub insert_settled_black : red ≡ false → {z : Zipper} → z ≡ risen here → {now1 : List Store} → now1 ≡ now ++ relinked → InsertEnds copy x start first (plugged z.path z.tree) now1
+    insert_settled_black black rises e =
+        let b : is_red here.tree ≡ false = sym is.red_is ∙ black in
+        insert_settled (λ h s. calm_of_near here.tree b (is.grown.near h s).0) (λ _. b) rises e
+
+    pub insert_settled_below : up.red ≡ false → clashes ≡ false → {z : Zipper} → z ≡ risen here → {now1 : List Store} → now1 ≡ now ++ relinked → InsertEnds copy x start first (plugged z.path z.tree) now1
+    insert_settled_below black clear rises e = insert_settled (is.clear clear) (λ r. absurd (let f : true ≡ false = sym r ∙ black in cc)) rises e
+
+  -- at the top the way has ended, too
+  pub insert_topmost : {here : Zipper} {before after : ℕ} {red clashes : Bool} {now : List Store} → InsertRises copy x start first here before after red clashes now
+      → here.path ≡ [] → InsertEnds copy x start first (plugged here.path here.tree) now
+  insert_topmost {here = here} {before = before} {after = after} {now = now} is top =
+      let g = subst (λ p. Grown copy x.node (plugged start tip) (rows (plugged start (branch true tip x tip))) p is.was here.tree is.links) top is.grown in
+      subst (λ p. InsertEnds copy x start first (plugged p here.tree) now) (sym top) (record {
+        was = is.was;
+        links = is.links;
+        replaced = g.replaced;
+        good = grown_good g;
+        stores = is.stores;
+        few = omega (arith, is.few, ap (λ b. moved b after) is.from, ap (moved (link (shape is.was))) is.linked);
+      })
+
+  -- with the top black, and the root's link
+  module _ {u : ColouredTree} {now : List Store} (ends : InsertEnds copy x start first u now) where
+    pub ends_rows : rows (blackened u) ≡ rows (plugged start (branch true tip x tip))
+    ends_rows = rows_blackened u ∙ ends.replaced.in_order
+
+    pub ends_lead : Lead (λ i. i ≡ x.node) copy (shape (plugged start tip)) (shape (blackened u)) (ends.links ++ relink_root copy (link (shape (plugged start tip))) (link (shape (blackened u))))
+    ends_lead = replaced_lead ends.replaced (blackened u) (shape_blackened u)
+
+    pub ends_few : length ends.links + length (relink_root copy (link (shape (plugged start tip))) (link (shape (blackened u)))) ≤ 9
+    ends_few =
+        omega (
+          arith,
+          ends.few,
+          root_moved copy (link (shape (plugged start tip))) (link (shape (blackened u))),
+          ap (λ t. moved (link (shape t)) (link (shape u))) ends.replaced.old,
+          ap (λ t. moved (link (shape (plugged start tip))) (link t)) (shape_blackened u),
+        )
+
+-- from the place of an item
+module _ {K : Type 0} (o : Order K) (added : Record) (t : ColouredTree) {from path : List Above} (goes : path ≡ way_by o.less added.item t from) (top : from ≡ []) where
+  way_there : path ≡ way_by o.less added.item t []
+  way_there = goes ∙ ap (way_by o.less added.item t) top
+
+  pub insert_whole : plugged path tip ≡ t
+  insert_whole = ap (λ p. plugged p tip) way_there ∙ plugged_by o.less added.item t []
 
   pub insert_few : length path ≤ depth (shape t)
-  insert_few = omega (arith, ap length way_there, short_by less added.item t [])
+  insert_few = omega (arith, ap length way_there, short_by o.less added.item t [])
 
-  pub insert_tree : insert_climbed path (branch true tip added tip) ≡ inserted_into less added t
-  insert_tree =
-      ap (λ p. insert_climbed p (branch true tip added tip)) way_there ∙ insert_climbed_by less added t []
-
-  pub insert_stores : (copy : ℕ) → insert_links copy less added t
-      ≡ set_left copy added.node 0 ∷ set_right copy added.node 0
-      ∷ insert_climb_links copy path 0 (branch true tip added tip)
-  insert_stores copy =
-      sym (append-nil (insert_links copy less added t))
-      ∙ sym (insert_climb_by copy less added t [])
-      ∙ ap (λ p. set_left copy added.node 0 ∷ set_right copy added.node 0
-      ∷ insert_climb_links copy p 0 (branch true tip added tip)) (sym way_there)
+  pub insert_puts : IsLawful o → IsTable o (items_of_records (rows t)) → {rs : List Record} → rs ≡ rows (plugged path (branch true tip added tip)) → PutsIn o added (rows t) rs
+  insert_puts law is e = e ∙ ap (λ p. rows (plugged p (branch true tip added tip))) way_there ∙ rows_grown o law added t is

@@ -9,6 +9,4 @@ pub mod SeekLemmas
 pub mod StepLemmas
 pub mod InsertSteps
 pub mod EraseSteps
-pub mod FirstSteps
-pub mod NextSteps
-pub mod PlaceSteps
+pub mod TakeSteps

@@ -11,7 +11,8 @@ use Rattle.rb_cursor.specs.declared.nodes.Step.{Step}
 use Rattle.rb_trees.specs.declared.Side.{Side}
 use Rattle.rb_trees.specs.declared.Side.TheVariants.{Left, Right}
 use Rattle.rb_cursor.specs.declared.cursors.Cursor.TheInside.{Inside}
-use Rattle.rb_trees.specs.Paths.{Above, past_left, past_right, way_by, place_at, place_from, way_at, way_from, plugged, sided}
+use Rattle.rb_trees.specs.Paths.{Above, past_left, past_right, way_by, place_at, place_from, way_at, way_from, plugged}
+use Rattle.rb_trees.specs.Sides.{sided}
 use Rattle.rb_cursor.specs.Zippers.{Zipper}
 use Rattle.rb_cursor.specs.Opening.{weight}
 use Rattle.rb_cursor.specs.Keyed.{record_of}

@@ -5,9 +5,10 @@ use Rattle.rb_trees.specs.declared.Record.{Record}
 use Rattle.rb_trees.specs.declared.Side.{Side}
 use Rattle.rb_trees.specs.declared.Side.TheVariants.{Left, Right}
 use Rattle.rb_trees.specs.Trees.{ColouredTree, tip}
-use Rattle.rb_trees.specs.Paths.{sided}
+use Rattle.rb_trees.specs.Sides.{opposite, sided}
 use Rattle.rb_cursor.specs.declared.nodes.Node.{Node}
-use Rattle.rb_cursor.specs.Sides.{opposite, child_at, with_link, turned}
+use Rattle.rb_trees.specs.Turns.{turned}
+use Rattle.rb_cursor.specs.Sides.{child_at, with_link}
 use Rattle.rb_cursor.specs.Opening.{weight}
 use Rattle.rb_cursor.specs.Keyed.{Keyed, nil, keyed, link_of, plain, size, at_key, uses}
 use Rattle.rb_cursor.specs.Keyed.{sided_node, record_of, IsLinked}

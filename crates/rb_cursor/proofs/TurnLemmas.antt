@@ -15,7 +15,9 @@ use Rattle.rb_cursor.specs.Zippers.{Zipper}
 use Rattle.rb_cursor.specs.Keyed.{Keyed, nil, Level, link_of}
 use Rattle.rb_cursor.specs.Keyed.{size, path_size, at_key, uses, path_uses, list_uses}
 use Rattle.rb_cursor.specs.Keyed.{sided_node, plain, plain_path, IsLinked, IsPath, IsChain}
-use Rattle.rb_cursor.specs.Sides.{opposite, child_at, with_link, turned}
+use Rattle.rb_trees.specs.Sides.{opposite}
+use Rattle.rb_trees.specs.Turns.{turned}
+use Rattle.rb_cursor.specs.Sides.{child_at, with_link}
 use Rattle.rb_cursor.specs.Writes.{with_node_link, with_step_link, step_at, LastLeadsOn}
 use Rattle.rb_cursor.specs.Writes.{with_last_link}
 use Rattle.rb_cursor.specs.Places.{IsPlace, AreSteps}

@@ -1,7 +1,7 @@
 -- The definitions of this crate, in the order in which to read them.
 -- what a cursor shows
 pub mod Zippers
--- the two sides of a node
+-- the two sides of a node in a slab
 pub mod Sides
 -- going up
 pub mod Closing
@@ -21,5 +21,5 @@ pub mod Links
 pub mod Readings
 -- a list of stores that has room for more, and more stores in it
 pub mod Stores
--- a step up on whichever side, and what is stored and mended there
-pub mod Rising
+-- what an insert and an erase make of the records, and of the list of stores
+pub mod Changes

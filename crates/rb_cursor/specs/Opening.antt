@@ -5,7 +5,8 @@ use Rattle.rb_trees.specs.Trees.{ColouredTree, tip, branch}
 use Rattle.rb_trees.specs.declared.Side.{Side}
 use Rattle.rb_cursor.specs.declared.nodes.Top.{Top}
 use Rattle.rb_cursor.specs.declared.nodes.Nearest.{Nearest}
-use Rattle.rb_trees.specs.Paths.{Above, sided}
+use Rattle.rb_trees.specs.Sides.{sided}
+use Rattle.rb_trees.specs.Paths.{Above}
 use Rattle.rb_cursor.specs.Zippers.{Zipper}
 
 -- how many nodes a tree has

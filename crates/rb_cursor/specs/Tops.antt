@@ -22,14 +22,6 @@ abbrev pub is_fork : ColouredTree → Bool
 is_fork tip = false
 is_fork (branch red l x r) = true
 
-abbrev pub left_subtree : ColouredTree → ColouredTree
-left_subtree tip = tip
-left_subtree (branch red l x r) = l
-
-abbrev pub right_subtree : ColouredTree → ColouredTree
-right_subtree tip = tip
-right_subtree (branch red l x r) = r
-
 abbrev pub row_of : ColouredTree → Option Record
 row_of tip = None
 row_of (branch red l x r) = Some x

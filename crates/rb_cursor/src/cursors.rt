@@ -18,11 +18,9 @@
 ghost use Rattle.std.specs.Prelude.{◌≡◌, ◌+◌, ◌<◌, ◌≤◌, ◌==◌, [], length, slice_set};
 ghost use Rattle.std.specs.Prelude.{OnOk, OnErr, true, if◌then◌else◌};
 ghost use Rattle.rb_trees.specs.Trees.{tip, is_red, coloured, blackened, shape};
-ghost use Rattle.rb_trees.specs.Inserted.{clash};
-ghost use Rattle.rb_trees.specs.Turns.{link, turned_right, turned_left};
-ghost use Rattle.rb_cursor.specs.Sides.{turned};
+ghost use Rattle.rb_trees.specs.Turns.{link, turned};
 ghost use Rattle.rb_cursor.specs.Opening.{Opened, HasNearest};
-ghost use Rattle.rb_cursor.specs.Closing.{closed_zipper, closed_to, all_closed};
+ghost use Rattle.rb_cursor.specs.Closing.{closed_zipper, closed_to, all_closed, risen};
 ghost use Rattle.rb_cursor.specs.Tops.{HasTop, row_of, with_row, reddened};
 ghost use Rattle.rb_cursor.specs.Tops.{planted, HasOneSubtree, top_taken};
 ghost use Rattle.rb_cursor.specs.Zippers.{altered};
@@ -31,7 +29,7 @@ ghost use Rattle.rb_cursor.specs.Writes.{with_last_link, LastLeadsOn};
 use crate::nodes::{Nearest, Node, Step, Top, opposite};
 use crate::readings::Reading;
 use order_laws::Item;
-use rb_trees::{Clash, Record, Side};
+use rb_trees::{Record, Side};
 use slab::Slab;
 use std::alloc::{AllocError, Global};
 use std::marker::Model;
@@ -189,6 +187,17 @@ impl Cursor {
         self.tree = link;
     }
 
+    /// Goes up to the nearest node above, which keeps its colour.
+    #[inline(always)]
+    pub(crate) fn rise(&mut self)
+        ensures { self.new ≡ risen self.old }
+    {
+        let depth = self.depth();
+        if depth > 0 {
+            self.close_to(depth - 1);
+        }
+    }
+
     /// Goes up until only `depth` nodes are above, and leaves the colours as they are.
     #[inline(always)]
     pub fn close_to(&mut self, depth: usize)
@@ -271,14 +280,6 @@ impl Cursor {
         self.tree().is_red()
     }
 
-    /// Where the tree in hand has two red nodes in line at its top.
-    #[inline(always)]
-    pub fn clash(&self) -> Clash
-        ensures { result ≡ clash self.now.tree }
-    {
-        self.tree().clash()
-    }
-
     /// Makes the node in hand black.
     #[inline(always)]
     pub fn blacken(&mut self)
@@ -358,28 +359,10 @@ impl Cursor {
         lead(&mut self.nodes, &self.steps, self.depth, subtree);
     }
 
-    /// Puts the left child of the node in hand in its place, and the node on the right of it. The
-    /// child gets the first colour, the node the second.
-    #[inline]
-    pub fn turn_right(&mut self, child_red: bool, node_red: bool)
-        ensures { self.new ≡ altered (turned_right child_red node_red) self.old }
-    {
-        self.turn(Side::Right, child_red, node_red);
-    }
-
-    /// Puts the right child of the node in hand in its place, and the node on the left of it. The
-    /// child gets the first colour, the node the second.
-    #[inline]
-    pub fn turn_left(&mut self, child_red: bool, node_red: bool)
-        ensures { self.new ≡ altered (turned_left child_red node_red) self.old }
-    {
-        self.turn(Side::Left, child_red, node_red);
-    }
-
-    // Puts the child on the other side of the node in hand in its place, and the node on this side
-    // of it.
+    /// Puts the child on the other side of the node in hand in its place, and the node on this side
+    /// of it. The child gets the first colour, the node the second.
     #[inline(always)]
-    fn turn(&mut self, side: Side, child_red: bool, node_red: bool)
+    pub fn turn(&mut self, side: Side, child_red: bool, node_red: bool)
         ensures { self.new ≡ altered (turned side child_red node_red) self.old }
     {
         let link = self.tree;

@@ -17,24 +17,24 @@
 //!
 //! (A star marks a red node.) Of 50 the next node is 60, red, so nothing is short: 70 stores its
 //! left link, which the jump up to 50 follows; 60 stores both of its new links; and the root's link
-//! is left to the caller.
+//! is stored last.
 
-ghost use Rattle.std.specs.Prelude.{◌≡◌, ◌+◌, ◌<◌, ◌≤◌, [], true, Some, None, IsSome};
-ghost use Rattle.std.specs.Prelude.{length, vec_capacity};
-ghost use Rattle.rb_trees.specs.Trees.{shape, depth};
-ghost use Rattle.rb_trees.specs.Paths.{first_place, path_to};
-ghost use Rattle.rb_trees.specs.Erased.{without_first, first_links};
-ghost use Rattle.rb_trees.specs.Erased.{erased_from, erase_links, found};
-ghost use Rattle.rb_trees.specs.EraseClimb.{top_erased, top_erase_links};
-ghost use Rattle.rb_cursor.specs.Rising.{at_root, left_with, erase_rest, erase_stores};
-ghost use Rattle.rb_cursor.specs.Stores.{Fits, Adds};
-ghost use Rattle.rb_cursor.specs.Tops.{is_fork, row_of};
+ghost use Rattle.std.specs.Prelude.{◌≡◌, ◌+◌, ◌<◌, ◌≤◌, [], true, None, IsSome, IfSome, List};
+ghost use Rattle.std.specs.Prelude.{length, vec_len, vec_capacity};
+ghost use Rattle.rb_trees.specs.Trees.{shape, depth, rows, IsRedBlack};
+ghost use Rattle.rb_trees.specs.Erased.{found};
+ghost use Rattle.rb_trees.specs.Replaced.{Nothing};
+ghost use Rattle.rb_cursor.specs.Changes.{TakesOut, AddsLinks, TakesTop, TakesFirst, Climbs};
+ghost use Rattle.rb_cursor.specs.Changes.{most_on_climb};
+ghost use Rattle.rb_cursor.specs.Tops.{is_fork};
+ghost use Rattle.rb_cursor.specs.Stores.{Adds};
 ghost use Rattle.word_layout.specs.Copies.{copy_number};
+ghost use Rattle.word_layout.specs.declared.stores.Store.{Store};
 
 use crate::cursors::Cursor;
-use crate::fills::{fill_right_if, lower};
+use crate::fills::{fill, lower};
 use crate::probes::Probe;
-use crate::rises::{fill, relink, rise};
+use crate::relinks::{relink, relink_root};
 use rb_trees::{Record, Side};
 use word_layout::places::{left_of, right_of};
 use word_layout::{Store, TreeCopy};
@@ -48,18 +48,23 @@ pub fn erase<P: Probe>(
     sought: &P,
 ) -> Option<Record>
     requires whole { cursor.old.path ≡ [] }
+    requires good { IsRedBlack cursor.old.tree }
     requires steps { depth (shape cursor.old.tree) ≤ 64 }
-    requires list { Fits out.old
-        (erase_links (copy_number copy) (P.seen sought.now) cursor.old.tree) }
+    requires list { vec_len out.old + 13 ≤ vec_capacity out.old }
     ensures row { found (P.seen sought.now) cursor.old.tree ≡ result }
     ensures unchanged { result ≡ None →
         (cursor.new ≡ cursor.old) × (out.new.items ≡ out.old.items) }
-    ensures cursor { IsSome result → cursor.new
-        ≡ at_root (erased_from (P.seen sought.now) cursor.old.tree).tree (cursor.old.room + 1) }
-    ensures items { IsSome result →
-        Adds out.old (erase_links (copy_number copy) (P.seen sought.now) cursor.old.tree) out.new }
+    ensures rows { IfSome result (λ row.
+        TakesOut row (rows cursor.old.tree) (rows cursor.new.tree)) }
+    ensures balanced { IsRedBlack cursor.new.tree }
+    ensures links { IsSome result → AddsLinks Nothing (copy_number copy) cursor.old.tree
+        cursor.new.tree out.old out.new }
+    ensures path { cursor.new.path ≡ [] }
+    ensures room { IsSome result → cursor.new.room ≡ cursor.old.room + 1 }
+    ensures few { vec_len out.new ≤ vec_len out.old + 13 }
     ensures capacity { vec_capacity out.new ≡ vec_capacity out.old }
 {
+    let root = cursor.link();
     cursor.seek(sought);
     let Some(row) = cursor.row() else {
         cursor.close_all();
@@ -67,6 +72,7 @@ pub fn erase<P: Probe>(
     };
     let short = take_node(out, copy, cursor);
     climb(out, copy, cursor, 0, row.node as u64 + 1, short);
+    relink_root(out, copy, root, cursor.link());
     Some(row)
 }
 
@@ -75,10 +81,11 @@ pub fn erase<P: Probe>(
 fn take_node(out: &mut Vec<Store>, copy: TreeCopy, cursor: &mut Cursor) -> bool
     requires fork { is_fork cursor.old.tree ≡ true }
     requires steps { depth (shape cursor.old.tree) + length cursor.old.path ≤ 64 }
-    requires list { Fits out.old (top_erase_links (copy_number copy) cursor.old.tree) }
-    ensures short { result ≡ (top_erased cursor.old.tree).short }
-    ensures cursor { cursor.new ≡ left_with (top_erased cursor.old.tree) cursor.old }
-    ensures items { Adds out.old (top_erase_links (copy_number copy) cursor.old.tree) out.new }
+    requires list { vec_len out.old + 13 ≤ vec_capacity out.old }
+    ensures takes { (links : List Store) × Adds out.old links out.new
+        × TakesTop (copy_number copy) cursor.old.tree cursor.new.tree result links }
+    ensures path { cursor.new.path ≡ cursor.old.path }
+    ensures room { cursor.new.room ≡ cursor.old.room + 1 }
     ensures capacity { vec_capacity out.new ≡ vec_capacity out.old }
 {
     let Some(fork) = cursor.tree().open() else {
@@ -105,7 +112,10 @@ fn take_node(out: &mut Vec<Store>, copy: TreeCopy, cursor: &mut Cursor) -> bool
         word: right_of(copy, next.row.node),
         value: right,
     });
-    fill_right_if(out, copy, cursor, next.short)
+    if next.short {
+        return fill(out, copy, cursor, Side::Right);
+    }
+    false
 }
 
 // The first record of a tree that it lost, and whether what is left is short.
@@ -119,11 +129,11 @@ struct TakenFirst {
 fn take_first(out: &mut Vec<Store>, copy: TreeCopy, cursor: &mut Cursor) -> TakenFirst
     requires fork { is_fork cursor.old.tree ≡ true }
     requires steps { depth (shape cursor.old.tree) + length cursor.old.path ≤ 64 }
-    requires list { Fits out.old (first_links (copy_number copy) cursor.old.tree) }
-    ensures row { row_of (first_place cursor.old.tree) ≡ Some result.row }
-    ensures short { result.short ≡ (without_first cursor.old.tree).short }
-    ensures cursor { cursor.new ≡ left_with (without_first cursor.old.tree) cursor.old }
-    ensures items { Adds out.old (first_links (copy_number copy) cursor.old.tree) out.new }
+    requires list { vec_len out.old + 10 ≤ vec_capacity out.old }
+    ensures takes { (links : List Store) × Adds out.old links out.new
+        × TakesFirst (copy_number copy) cursor.old.tree cursor.new.tree result.row result.short links }
+    ensures path { cursor.new.path ≡ cursor.old.path }
+    ensures room { cursor.new.room ≡ cursor.old.room + 1 }
     ensures capacity { vec_capacity out.new ≡ vec_capacity out.old }
 {
     let depth = cursor.depth();
@@ -150,13 +160,10 @@ fn climb(
     short: bool,
 ) -> bool
     requires steps { length cursor.old.path < 64 }
-    requires list { Fits out.old (erase_stores (copy_number copy) depth before short cursor.old) }
-    ensures short { result ≡ (erase_rest depth short cursor.old).short }
-    ensures tree { cursor.new.tree ≡ (erase_rest depth short cursor.old).tree }
-    ensures path { cursor.new.path ≡ path_to depth cursor.old.path }
+    requires list { vec_len out.old + most_on_climb short ≤ vec_capacity out.old }
+    ensures climbs { (links : List Store) × Adds out.old links out.new
+        × Climbs (copy_number copy) depth before short cursor.old cursor.new result links }
     ensures room { cursor.new.room ≡ cursor.old.room }
-    ensures items { Adds out.old
-        (erase_stores (copy_number copy) depth before short cursor.old) out.new }
     ensures capacity { vec_capacity out.new ≡ vec_capacity out.old }
 {
     let mut before = before;
@@ -167,7 +174,7 @@ fn climb(
             unreachable!()
         };
         relink(out, copy, above.side, above.node, before, after);
-        rise(cursor);
+        cursor.rise();
         if !short {
             break;
         }

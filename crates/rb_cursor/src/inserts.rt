@@ -17,24 +17,25 @@
 //! and 5 in line are mended; at 50, which is black, 20 is as good as it was, and the way ends
 //! there. Were 50 red, its parent would mend 50 and 20.
 
-ghost use Rattle.std.specs.Prelude.{◌≡◌, ◌+◌, ◌-◌, ◌<◌, ◌≤◌, [], true, false, length, vec_capacity};
-ghost use Rattle.rb_trees.specs.Trees.{tip, branch, HasNoClash, shape, depth};
-ghost use Rattle.rb_trees.specs.Found.{meets_on_the_way};
-ghost use Rattle.rb_trees.specs.Inserted.{inserted_into, insert_links};
-ghost use Rattle.rb_trees.specs.InsertClimb.{HasNoClashAbove, insert_climb_links};
-ghost use Rattle.rb_cursor.specs.Rising.{at_root, insert_topped, grown, grown_links};
-ghost use Rattle.rb_cursor.specs.Stores.{Fits, Adds};
+ghost use Rattle.std.specs.Prelude.{◌≡◌, ◌+◌, ◌<◌, ◌≤◌, [], true, false, length};
+ghost use Rattle.std.specs.Prelude.{vec_capacity, vec_len, insert};
+ghost use Rattle.order_laws.specs.Tables.{IsTable, place_for};
+ghost use Rattle.rb_trees.specs.Trees.{tip, branch, shape, depth, rows, IsRedBlack};
+ghost use Rattle.rb_trees.specs.Found.{items_of_records, meets_on_the_way};
+ghost use Rattle.rb_trees.specs.Paths.{plugged};
+ghost use Rattle.rb_trees.specs.Turns.{link};
+ghost use Rattle.rb_cursor.specs.Changes.{PutsIn, AddsLinks};
 ghost use Rattle.word_layout.specs.Copies.{copy_number};
 
 use crate::cursors::Cursor;
-use crate::rises::{mend, relink, rise};
+use crate::mends::mend;
+use crate::relinks::{relink, relink_root};
 use order_laws::TreeOrder;
 use rb_trees::Record;
 use word_layout::places::{left_of, right_of};
 use word_layout::{Store, TreeCopy};
 
-/// Puts a record after those that are not greater, in a tree that is in order. The top may be red
-/// with a red child then.
+/// Puts a record at its place, after those that are not greater.
 pub fn insert<O: TreeOrder>(
     out: &mut Vec<Store>,
     copy: TreeCopy,
@@ -42,19 +43,23 @@ pub fn insert<O: TreeOrder>(
     added: Record,
 )
     requires whole { cursor.old.path ≡ [] }
-    requires calm { HasNoClash cursor.old.tree }
+    requires good { IsRedBlack cursor.old.tree }
+    requires table { IsTable O.order (items_of_records (rows cursor.old.tree)) }
     requires steps { depth (shape cursor.old.tree) ≤ 64 }
     requires room { 0 < cursor.old.room }
-    requires list { Fits out.old
-        (insert_links (copy_number copy) O.order.less added cursor.old.tree) }
-    ensures cursor { cursor.new
-        ≡ at_root (inserted_into O.order.less added cursor.old.tree) (cursor.old.room - 1) }
-    ensures items { Adds out.old
-        (insert_links (copy_number copy) O.order.less added cursor.old.tree) out.new }
+    requires list { vec_len out.old + 9 ≤ vec_capacity out.old }
+    ensures rows { PutsIn O.order added (rows cursor.old.tree) (rows cursor.new.tree) }
+    ensures balanced { IsRedBlack cursor.new.tree }
+    ensures links { AddsLinks (λ i. i ≡ added.node) (copy_number copy) cursor.old.tree
+        cursor.new.tree out.old out.new }
+    ensures path { cursor.new.path ≡ [] }
+    ensures room { cursor.new.room + 1 ≡ cursor.old.room }
+    ensures few { vec_len out.new ≤ vec_len out.old + 9 }
     ensures capacity { vec_capacity out.new ≡ vec_capacity out.old }
 {
+    let root = cursor.link();
     cursor.seek_leaf::<O>(&added.item);
-    grow(out, copy, cursor, added);
+    grow(out, copy, cursor, added, root);
 }
 
 /// As [`insert`] puts it, unless its item meets one of the tree: then nothing changes. Returns
@@ -67,39 +72,50 @@ pub fn insert_apart<O: TreeOrder>(
     added: Record,
 ) -> bool
     requires whole { cursor.old.path ≡ [] }
-    requires calm { HasNoClash cursor.old.tree }
+    requires good { IsRedBlack cursor.old.tree }
+    requires table { IsTable O.order (items_of_records (rows cursor.old.tree)) }
     requires steps { depth (shape cursor.old.tree) ≤ 64 }
     requires room { 0 < cursor.old.room }
-    requires list { Fits out.old
-        (insert_links (copy_number copy) O.order.less added cursor.old.tree) }
+    requires list { vec_len out.old + 9 ≤ vec_capacity out.old }
     ensures met { result ≡ meets_on_the_way O.order added.item [] cursor.old.tree }
     ensures unchanged { result ≡ true →
         (cursor.new ≡ cursor.old) × (out.new.items ≡ out.old.items) }
-    ensures cursor { result ≡ false →
-        cursor.new ≡ at_root (inserted_into O.order.less added cursor.old.tree)
-        (cursor.old.room - 1) }
-    ensures items { result ≡ false →
-        Adds out.old (insert_links (copy_number copy) O.order.less added cursor.old.tree) out.new }
+    ensures rows { result ≡ false →
+        PutsIn O.order added (rows cursor.old.tree) (rows cursor.new.tree) }
+    ensures balanced { IsRedBlack cursor.new.tree }
+    ensures links { result ≡ false → AddsLinks (λ i. i ≡ added.node) (copy_number copy)
+        cursor.old.tree cursor.new.tree out.old out.new }
+    ensures path { cursor.new.path ≡ [] }
+    ensures room { result ≡ false → cursor.new.room + 1 ≡ cursor.old.room }
+    ensures few { vec_len out.new ≤ vec_len out.old + 9 }
     ensures capacity { vec_capacity out.new ≡ vec_capacity out.old }
 {
+    let root = cursor.link();
     if cursor.seek_apart::<O>(&added.item) {
         cursor.close_all();
         return true;
     }
-    grow(out, copy, cursor, added);
+    grow(out, copy, cursor, added, root);
     false
 }
 
-// Plants a record where no node is in hand, and goes all the way up.
+// Plants a record where no node is in hand, and goes all the way up to the root, to which the link
+// was `root`.
 #[inline(always)]
-fn grow(out: &mut Vec<Store>, copy: TreeCopy, cursor: &mut Cursor, added: Record)
+fn grow(out: &mut Vec<Store>, copy: TreeCopy, cursor: &mut Cursor, added: Record, root: u64)
     requires leaf { cursor.old.tree ≡ tip }
-    requires calm { HasNoClashAbove cursor.old.path }
+    requires good { IsRedBlack (plugged cursor.old.path tip) }
+    requires root { root ≡ link (shape (plugged cursor.old.path tip)) }
     requires steps { length cursor.old.path ≤ 64 }
     requires room { 0 < cursor.old.room }
-    requires list { Fits out.old (grown_links (copy_number copy) added cursor.old.path) }
-    ensures cursor { cursor.new ≡ at_root (grown added cursor.old.path) (cursor.old.room - 1) }
-    ensures items { Adds out.old (grown_links (copy_number copy) added cursor.old.path) out.new }
+    requires list { vec_len out.old + 9 ≤ vec_capacity out.old }
+    ensures rows { rows cursor.new.tree ≡ rows (plugged cursor.old.path (branch true tip added tip)) }
+    ensures balanced { IsRedBlack cursor.new.tree }
+    ensures links { AddsLinks (λ i. i ≡ added.node) (copy_number copy)
+        (plugged cursor.old.path tip) cursor.new.tree out.old out.new }
+    ensures path { cursor.new.path ≡ [] }
+    ensures room { cursor.new.room + 1 ≡ cursor.old.room }
+    ensures few { vec_len out.new ≤ vec_len out.old + 9 }
     ensures capacity { vec_capacity out.new ≡ vec_capacity out.old }
 {
     cursor.plant(added);
@@ -111,22 +127,6 @@ fn grow(out: &mut Vec<Store>, copy: TreeCopy, cursor: &mut Cursor, added: Record
         word: right_of(copy, added.node),
         value: 0,
     });
-    climb(out, copy, cursor, &added);
-}
-
-// Goes all the way up from the new leaf.
-#[inline(always)]
-fn climb(out: &mut Vec<Store>, copy: TreeCopy, cursor: &mut Cursor, added: &Record)
-    requires leaf { cursor.old.tree ≡ branch true tip added.now tip }
-    requires calm { HasNoClashAbove cursor.old.path }
-    requires steps { length cursor.old.path ≤ 64 }
-    requires list { Fits out.old
-        (insert_climb_links (copy_number copy) cursor.old.path 0 cursor.old.tree) }
-    ensures cursor { cursor.new ≡ insert_topped cursor.old }
-    ensures items { Adds out.old
-        (insert_climb_links (copy_number copy) cursor.old.path 0 cursor.old.tree) out.new }
-    ensures capacity { vec_capacity out.new ≡ vec_capacity out.old }
-{
     // of the tree in hand: the links to it, whether it is red, and whether a child of it may be,
     // too
     let mut before = 0;
@@ -135,7 +135,7 @@ fn climb(out: &mut Vec<Store>, copy: TreeCopy, cursor: &mut Cursor, added: &Reco
     let mut clashes = false;
     while let Some(above) = cursor.above() {
         relink(out, copy, above.side, above.node, before, after);
-        rise(cursor);
+        cursor.rise();
         if !red {
             break;
         }
@@ -153,4 +153,6 @@ fn climb(out: &mut Vec<Store>, copy: TreeCopy, cursor: &mut Cursor, added: &Reco
         }
     }
     cursor.close_all();
+    cursor.blacken();
+    relink_root(out, copy, root, cursor.link());
 }

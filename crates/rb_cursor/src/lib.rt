@@ -4,17 +4,16 @@
 
 pub mod cursors;
 pub mod erases;
-pub mod fills;
+mod fills;
 pub mod inserts;
-pub mod mends;
+mod mends;
 pub mod nodes;
 pub mod probes;
 pub mod readings;
-pub mod relinks;
-mod rises;
+mod relinks;
 pub mod searches;
 pub mod seeks;
-pub mod turns;
+mod turns;
 
 pub use cursors::Cursor;
 pub use nodes::{Nearest, Node, Top};

@@ -1,7 +1,8 @@
 //! Nodes as the slab has them, and what a cursor tells of one.
 
 ghost use Rattle.std.specs.Prelude.{◌≡◌};
-ghost use Rattle.rb_cursor.specs.Sides.{side_by, opposite, child_at, with_link};
+ghost use Rattle.rb_trees.specs.Sides.{opposite};
+ghost use Rattle.rb_cursor.specs.Sides.{side_by, child_at, with_link};
 
 use order_laws::Item;
 use rb_trees::Side;

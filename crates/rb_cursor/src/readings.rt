@@ -4,9 +4,10 @@ ghost use Rattle.std.specs.Prelude.{◌≡◌, not};
 ghost use Rattle.rb_trees.specs.Trees.{is_red, shape};
 ghost use Rattle.rb_trees.specs.Turns.{link};
 ghost use Rattle.rb_trees.specs.Inserted.{clash};
+ghost use Rattle.rb_trees.specs.Sides.{on};
 
-use crate::nodes::Node;
-use rb_trees::Clash;
+use crate::nodes::{Node, opposite};
+use rb_trees::{Clash, Side};
 use slab::Slab;
 use std::marker::Model;
 
@@ -125,10 +126,10 @@ impl<'a> Reading<'a> {
         }
     }
 
-    /// Where two red nodes stand in line at the top.
+    /// Where two red nodes stand in line at the top, seen from the side where the tree stands.
     #[inline(always)]
-    pub fn clash(&self) -> Clash
-        ensures { result ≡ clash self.now }
+    pub fn clash(&self, side: Side) -> Clash
+        ensures { result ≡ clash side self.now }
     {
         let Some(fork) = self.open() else {
             return Clash::Nowhere;
@@ -136,12 +137,25 @@ impl<'a> Reading<'a> {
         if !fork.node.red {
             return Clash::Nowhere;
         }
-        if fork.left.is_red() {
-            return Clash::Left;
+        if fork.child(side).is_red() {
+            return Clash::Outer;
         }
-        if fork.right.is_red() {
-            return Clash::Right;
+        if fork.child(opposite(side)).is_red() {
+            return Clash::Inner;
         }
         Clash::Nowhere
+    }
+}
+
+impl<'a> Fork<'a> {
+    /// The subtree on a side.
+    #[inline(always)]
+    pub(crate) fn child(&self, side: Side) -> &Reading<'a>
+        ensures { result.now ≡ on side self.now.left self.now.right }
+    {
+        match side {
+            Side::Left => &self.left,
+            Side::Right => &self.right,
+        }
     }
 }

@@ -14,10 +14,11 @@ use Rattle.word_layout.proofs.StoreLemmas.{at_stored, at_other, untouched, after
 use Rattle.rb_trees.specs.declared.Record.{Record}
 use Rattle.rb_trees.specs.Trees.{ColouredTree, tip, branch, shape, rows}
 use Rattle.rb_trees.specs.Turns.{link, relink_root}
-use Rattle.rb_trees.specs.Linked.{Inner, Among}
+use Rattle.rb_trees.specs.Linked.{Inner, Among, LeadLinks}
 use Rattle.rb_trees.specs.Found.{items_of_records}
 use Rattle.word_layout.proofs.OwnedLinkLemmas.{IsLinkOf, root_no_link, owns_no_root, owns_links, owns_values}
-use Rattle.rb_trees.proofs.RelinkLemmas.{Relinks, link_fits}
+use Rattle.rb_trees.specs.Replaced.{Relinks}
+use Rattle.rb_trees.proofs.RelinkLemmas.{link_fits}
 
 pub leads_link : (m : List ℕ) (n c w : ℕ) (t : Nodes) → Leads m n c w t → w ≡ link t
 leads_link m n c w none h = h
@@ -45,15 +46,15 @@ module _ (n c : ℕ) (small : c ≤ 1) (P : ℕ → Type 0) (below : (i : ℕ) �
   root_fits : link u ≤ n
   root_fits = link_fits n u (λ i a. below i (q.within i a))
 
-  pub root_links : AreLinkStores n c (ss ++ relink_root c (link t) (link u))
+  root_links : AreLinkStores n c (ss ++ relink_root c (link t) (link u))
   root_links = all_append (λ (s : Store). IsLinkWord n c s.word) ss (relink_root c (link t) (link u)) (owns_links n c P below ss q.owns)
       (elim (link t == link u) as (λ b. AreLinkStores n c (cond b [] (record { word = root_word c; value = link u } ∷ []))) [ true ↦ tt | false ↦ (inl refl, tt) ])
 
-  pub root_values : AllByRecursion (λ (s : Store). s.value ≤ n) (ss ++ relink_root c (link t) (link u))
+  root_values : AllByRecursion (λ (s : Store). s.value ≤ n) (ss ++ relink_root c (link t) (link u))
   root_values = all_append (λ (s : Store). s.value ≤ n) ss (relink_root c (link t) (link u)) (owns_values n c P ss q.owns)
       (elim (link t == link u) as (λ b. AllByRecursion (λ (s : Store). s.value ≤ n) (cond b [] (record { word = root_word c; value = link u } ∷ []))) [ true ↦ tt | false ↦ (root_fits, tt) ])
 
-  pub root_leads : (m : List ℕ) → length m ≡ words_for n → Leads m n c (at m (root_word c)) t → Leads (words_after_all m (ss ++ relink_root c (link t) (link u))) n c (at (words_after_all m (ss ++ relink_root c (link t) (link u))) (root_word c)) u
+  root_leads : (m : List ℕ) → length m ≡ words_for n → Leads m n c (at m (root_word c)) t → Leads (words_after_all m (ss ++ relink_root c (link t) (link u))) n c (at (words_after_all m (ss ++ relink_root c (link t) (link u))) (root_word c)) u
   root_leads m sized h =
       let m1 = words_after_all m ss in
       let low : (i : ℕ) → Among u i → i < n = λ i a. below i (q.within i a) in
@@ -67,6 +68,9 @@ module _ (n c : ℕ) (small : c ≤ 1) (P : ℕ → Type 0) (below : (i : ℕ) �
         | true ↦ λ e. subst (λ w. Leads m1 n c w u) (sym (root1 ∙ eqb-true (link t) (link u) e)) (inner_leads m1 n c u low in1)
         | false ↦ λ e. subst (λ w. Leads m2 n c w u) (sym (at_stored m1 (root_word c) (link u) (omega (arith, len1)))) (inner_leads m2 n c u low in2)
       ] refl)
+
+  pub lead_links : LeadLinks n c t u (ss ++ relink_root c (link t) (link u))
+  lead_links = record { words = root_links; values = root_values; leads = root_leads }
 
 -- nodes as a list
 pub listed_rows : (t : ColouredTree) → listed (shape t) ≡ map (λ r. r.node) (rows t)

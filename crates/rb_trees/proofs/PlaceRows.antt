@@ -1,20 +1,19 @@
--- An insert puts the record at its place, and what stands in order after an erase.
-use Rattle.std.proofs.Common.{◌≡◌, suc, true, false, cond, Bool, List, [], ◌∷◌, ◌++◌, refl, sym, ◌∙◌, ap, subst, append_assoc, append-nil}
-use Rattle.std.specs.Prelude.{not, insert}
+-- What an insert puts at its place, and what an erase takes out.
+use Rattle.std.proofs.Common.{◌≡◌, ℕ, suc, true, false, cond, Bool, List, [], ◌∷◌, ◌++◌, Some, refl, sym, ◌∙◌, ap, subst}
+use Rattle.std.specs.Prelude.{◌==◌, insert, remove, slice_get}
 use Rattle.std.specs.List.{AllByRecursion}
+use Rattle.std.proofs.lemmas.Bool.{eq-eqb}
 use Rattle.std.proofs.lemmas.List.{map-append}
 use Rattle.order_laws.specs.declared.items.Item.{Item}
 use Rattle.order_laws.specs.Orders.{Order, Precedes, IsLawful}
-use Rattle.order_laws.specs.Tables.{IsTable, place_for}
+use Rattle.order_laws.specs.Tables.{IsTable, place_for, place_of}
 use Rattle.order_laws.proofs.TableLemmas.{Parted, parted}
+use Rattle.order_laws.proofs.FirstWordLemmas.{Lacks, differs_before}
 use Rattle.facts.proofs.Each.{all_weaker}
 use Rattle.rb_trees.specs.declared.Record.{Record}
-use Rattle.rb_trees.specs.Trees.{ColouredTree, tip, branch, blackened, rows}
-use Rattle.rb_trees.specs.Turns.{turned_right, turned_left}
-use Rattle.rb_trees.specs.Inserted.{mended_left, mended_right, inserted_into}
-use Rattle.rb_trees.specs.Erased.{Remainder, whole, lowered, filled_left_of_black, filled_left, filled_right_of_black, filled_right, filled_left_if_short, filled_right_if_short, first_record, without_first, without_top}
+use Rattle.rb_trees.specs.Trees.{ColouredTree, tip, branch, rows}
+use Rattle.rb_trees.specs.Paths.{Above, plugged, past_left, past_right, way_by}
 use Rattle.rb_trees.specs.Found.{items_of_records}
-use Rattle.rb_trees.proofs.RowLemmas.{rows_blackened, rows_turned_right, rows_turned_left, rows_mended_left, rows_mended_right}
 
 pub items_append : (xs ys : List Record) → items_of_records (xs ++ ys) ≡ items_of_records xs ++ items_of_records ys
 items_append xs ys = map-append (λ r. r.item) xs ys
@@ -48,87 +47,50 @@ not_before o law i y z p e =
       | false ↦ λ f. refl
     ] refl
 
-pub rows_inserted : {K : Type 0} (o : Order K) → IsLawful o → (x : Record) (t : ColouredTree) → IsTable o (items_of_records (rows t)) → rows (inserted_into o.less x t) ≡ insert (rows t) (place_for o x.item (items_of_records (rows t))) x
-rows_inserted o law x tip t = refl
-rows_inserted o law x (branch red l y r) t =
+-- the tree with the new leaf, before anything is mended
+abbrev with_leaf : (Item → Item → Bool) → Record → ColouredTree → ColouredTree
+with_leaf less x tip = branch true tip x tip
+with_leaf less x (branch red l y r) = cond (less x.item y.item) (branch red (with_leaf less x l) y r) (branch red l y (with_leaf less x r))
+
+plugged_leaf : (less : Item → Item → Bool) (x : Record) (t : ColouredTree) (path : List Above)
+    → plugged (way_by less x.item t path) (branch true tip x tip) ≡ plugged path (with_leaf less x t)
+plugged_leaf less x tip path = refl
+plugged_leaf less x (branch red l y r) path =
+    elim (less x.item y.item) as (λ v.
+    plugged (cond v (way_by less x.item l (past_left red y r ∷ path)) (way_by less x.item r (past_right red l y ∷ path))) (branch true tip x tip)
+    ≡ plugged path (cond v (branch red (with_leaf less x l) y r) (branch red l y (with_leaf less x r)))) [
+      | true ↦ plugged_leaf less x l (past_left red y r ∷ path)
+      | false ↦ plugged_leaf less x r (past_right red l y ∷ path)
+    ]
+
+rows_leaf : {K : Type 0} (o : Order K) → IsLawful o → (x : Record) (t : ColouredTree) → IsTable o (items_of_records (rows t)) → rows (with_leaf o.less x t) ≡ insert (rows t) (place_for o x.item (items_of_records (rows t))) x
+rows_leaf o law x tip t = refl
+rows_leaf o law x (branch red l y r) t =
     let p = parts o (rows l) y (rows r) t in
-    elim (o.less x.item y.item) as (λ b. o.less x.item y.item ≡ b → rows (cond b (mended_left (branch red (inserted_into o.less x l) y r)) (mended_right (branch red l y (inserted_into o.less x r)))) ≡ insert (rows l ++ y ∷ rows r) (place_for o x.item (items_of_records (rows l ++ y ∷ rows r))) x) [
-      | true ↦ λ e.
-          rows_mended_left red (inserted_into o.less x l) y r
-          ∙ ap (λ xs. xs ++ y ∷ rows r) (rows_inserted o law x l p.left)
-          ∙ sym (insert_front o x (rows l) y (rows r) e)
+    elim (o.less x.item y.item) as (λ b. o.less x.item y.item ≡ b → rows (cond b (branch red (with_leaf o.less x l) y r) (branch red l y (with_leaf o.less x r))) ≡ insert (rows l ++ y ∷ rows r) (place_for o x.item (items_of_records (rows l ++ y ∷ rows r))) x) [
+      | true ↦ λ e. ap (λ xs. xs ++ y ∷ rows r) (rows_leaf o law x l p.left) ∙ sym (insert_front o x (rows l) y (rows r) e)
       | false ↦ λ e.
-          rows_mended_right red l y (inserted_into o.less x r)
-          ∙ ap (λ xs. rows l ++ y ∷ xs) (rows_inserted o law x r p.right)
+          ap (λ xs. rows l ++ y ∷ xs) (rows_leaf o law x r p.right)
           ∙ sym (insert_back o x (rows l) y (rows r) (all_weaker (λ z. Precedes o z y.item) (λ z. o.less x.item z ≡ false) (λ z q. not_before o law x.item y.item z q e) (items_of_records (rows l)) p.before) e)
     ] refl
 
--- the rows of what an erase makes
-rows_lowered : (red : Bool) (t : ColouredTree) → rows (lowered red t).tree ≡ rows t
-rows_lowered true t = refl
-rows_lowered false tip = refl
-rows_lowered false (branch k l x r) = refl
+pub rows_grown : {K : Type 0} (o : Order K) → IsLawful o → (x : Record) (t : ColouredTree) → IsTable o (items_of_records (rows t))
+    → rows (plugged (way_by o.less x.item t []) (branch true tip x tip)) ≡ insert (rows t) (place_for o x.item (items_of_records (rows t))) x
+rows_grown o law x t is = ap rows (plugged_leaf o.less x t []) ∙ rows_leaf o law x t is
 
-rows_left_of_black : (t : ColouredTree) → rows (filled_left_of_black t).tree ≡ rows t
-rows_left_of_black tip = refl
-rows_left_of_black (branch red l y tip) = refl
-rows_left_of_black (branch red l y (branch k a x b)) =
-    let turned : Remainder = whole (turned_left red false (branch red l y (turned_right false false (branch k a x b)))) in
-    let plain : Remainder = record { tree = branch false l y (branch true a x b); short = not red } in
-    let whole_rows = rows l ++ y ∷ (rows a ++ x ∷ rows b) in
-    elim (Rattle.rb_trees.specs.Trees.is_red b) as (λ v. rows (cond v (whole (turned_left red false (branch red l y (branch k a x (blackened b))))) (cond (Rattle.rb_trees.specs.Trees.is_red a) turned plain)).tree ≡ whole_rows) [
-      | true ↦ rows_turned_left red false (branch red l y (branch k a x (blackened b))) ∙ ap (λ zs. rows l ++ y ∷ (rows a ++ x ∷ zs)) (rows_blackened b)
-      | false ↦
-          elim (Rattle.rb_trees.specs.Trees.is_red a) as (λ v. rows (cond v turned plain).tree ≡ whole_rows) [
-            | true ↦ rows_turned_left red false (branch red l y (turned_right false false (branch k a x b))) ∙ ap (λ zs. rows l ++ y ∷ zs) (rows_turned_right false false (branch k a x b))
-            | false ↦ refl
-          ]
-    ]
+-- the record of a first word in a table
+module _ (a : ℕ) where
+  remove_here : (xs : List Record) (y : Record) (ys : List Record) → Lacks a (items_of_records xs) → (y.item.a == a) ≡ true → remove (xs ++ y ∷ ys) (place_of a (items_of_records (xs ++ y ∷ ys))) ≡ xs ++ ys
+  remove_here [] y ys h e = rw e refl
+  remove_here (z ∷ xs) y ys h e = let f : (z.item.a == a) ≡ false = h.0 in rw f (ap (λ zs. z ∷ zs) (remove_here xs y ys h.1 e))
 
-rows_right_of_black : (t : ColouredTree) → rows (filled_right_of_black t).tree ≡ rows t
-rows_right_of_black tip = refl
-rows_right_of_black (branch red tip y r) = refl
-rows_right_of_black (branch red (branch k a x b) y r) =
-    let turned : Remainder = whole (turned_right red false (branch red (turned_left false false (branch k a x b)) y r)) in
-    let plain : Remainder = record { tree = branch false (branch true a x b) y r; short = not red } in
-    let whole_rows = (rows a ++ x ∷ rows b) ++ y ∷ rows r in
-    elim (Rattle.rb_trees.specs.Trees.is_red a) as (λ v. rows (cond v (whole (turned_right red false (branch red (branch k (blackened a) x b) y r))) (cond (Rattle.rb_trees.specs.Trees.is_red b) turned plain)).tree ≡ whole_rows) [
-      | true ↦ rows_turned_right red false (branch red (branch k (blackened a) x b) y r) ∙ ap (λ zs. (zs ++ x ∷ rows b) ++ y ∷ rows r) (rows_blackened a)
-      | false ↦
-          elim (Rattle.rb_trees.specs.Trees.is_red b) as (λ v. rows (cond v turned plain).tree ≡ whole_rows) [
-            | true ↦ rows_turned_right red false (branch red (turned_left false false (branch k a x b)) y r) ∙ ap (λ zs. zs ++ y ∷ rows r) (rows_turned_left false false (branch k a x b))
-            | false ↦ refl
-          ]
-    ]
+  get_here : (xs : List Record) (y : Record) (ys : List Record) → Lacks a (items_of_records xs) → (y.item.a == a) ≡ true → slice_get (xs ++ y ∷ ys) (place_of a (items_of_records (xs ++ y ∷ ys))) ≡ Some y
+  get_here [] y ys h e = rw e refl
+  get_here (z ∷ xs) y ys h e = let f : (z.item.a == a) ≡ false = h.0 in rw f (get_here xs y ys h.1 e)
 
-rows_left : (t : ColouredTree) → rows (filled_left t).tree ≡ rows t
-rows_left tip = refl
-rows_left (branch red l y tip) = refl
-rows_left (branch red l y (branch false a x b)) = rows_left_of_black (branch red l y (branch false a x b))
-rows_left (branch red l y (branch true a x b)) = ap (λ zs. zs ++ x ∷ rows b) (rows_left_of_black (branch true l y a)) ∙ append_assoc (rows l) (y ∷ rows a) (x ∷ rows b)
-
-rows_right : (t : ColouredTree) → rows (filled_right t).tree ≡ rows t
-rows_right tip = refl
-rows_right (branch red tip y r) = refl
-rows_right (branch red (branch false a x b) y r) = rows_right_of_black (branch red (branch false a x b) y r)
-rows_right (branch red (branch true a x b) y r) = ap (λ zs. rows a ++ x ∷ zs) (rows_right_of_black (branch true b y r)) ∙ sym (append_assoc (rows a) (x ∷ rows b) (y ∷ rows r))
-
-pub rows_left_if : (short : Bool) (t : ColouredTree) → rows (filled_left_if_short short t).tree ≡ rows t
-rows_left_if true t = rows_left t
-rows_left_if false t = refl
-
-pub rows_right_if : (short : Bool) (t : ColouredTree) → rows (filled_right_if_short short t).tree ≡ rows t
-rows_right_if true t = rows_right t
-rows_right_if false t = refl
-
-rows_first : (red : Bool) (l : ColouredTree) (x : Record) (r : ColouredTree) → rows (branch red l x r) ≡ first_record x l ∷ rows (without_first (branch red l x r)).tree
-rows_first red tip x r = ap (λ zs. x ∷ zs) (sym (rows_lowered red r))
-rows_first red (branch k a y b) x r =
-    let s = without_first (branch k a y b) in
-    ap (λ zs. zs ++ x ∷ rows r) (rows_first k a y b) ∙ ap (λ zs. first_record y a ∷ zs) (sym (rows_left_if s.short (branch red s.tree x r)))
-
-pub rows_top : (red : Bool) (l : ColouredTree) (r : ColouredTree) → rows (without_top red l r).tree ≡ rows l ++ rows r
-rows_top red l tip = rows_lowered red l ∙ sym (append-nil (rows l))
-rows_top red l (branch k a y b) =
-    let s = without_first (branch k a y b) in
-    rows_right_if s.short (branch red l (first_record y a) s.tree) ∙ ap (λ zs. rows l ++ zs) (sym (rows_first k a y b))
+  pub taken_out : {K : Type 0} (o : Order K) → IsLawful o → (xs : List Record) (x : Record) (ys : List Record) → IsTable o (items_of_records (xs ++ x ∷ ys)) → x.item.a ≡ a
+      → (remove (xs ++ x ∷ ys) (place_of a (items_of_records (xs ++ x ∷ ys))) ≡ xs ++ ys) × (slice_get (xs ++ x ∷ ys) (place_of a (items_of_records (xs ++ x ∷ ys))) ≡ Some x)
+  taken_out o law xs x ys t e =
+      let lacks : Lacks a (items_of_records xs) = subst (λ b. Lacks b (items_of_records xs)) e
+      (all_weaker (λ z. Precedes o z x.item) (λ (z : Item). (z.a == x.item.a) ≡ false) (differs_before o law x.item) (items_of_records xs) (parts o xs x ys t).before) in
+      (remove_here xs x ys lacks (eq-eqb x.item.a a e), get_here xs x ys lacks (eq-eqb x.item.a a e))

@@ -1,9 +1,9 @@
 -- A search for a first word comes to the record of that first word, by first words or by the order
 -- of the item.
-use Rattle.std.proofs.Common.{◌≡◌, ◌≢◌, ℕ, suc, ◌<◌, ◌≤◌, true, false, cond, Bool, List, []}
+use Rattle.std.proofs.Common.{◌≡◌, ◌≢◌, ℕ, ◌<◌, ◌≤◌, true, false, cond, Bool, List, []}
 use Rattle.std.proofs.Common.{◌∷◌, ◌++◌, Option, Some, None, refl, sym, ◌∙◌, ap, subst, ⊎_elim}
 use Rattle.std.proofs.Common.{arith}
-use Rattle.std.specs.Prelude.{◌==◌, ◌||◌, not, nat_lt, is_some, remove, slice_get, Contains}
+use Rattle.std.specs.Prelude.{◌==◌, ◌||◌, not, nat_lt, is_some, Contains}
 use Rattle.std.specs.List.{AllByRecursion}
 use Rattle.std.proofs.lemmas.Bool.{eq-eqb, eqb-true, ne_eqb, ltb-true, ltb-false}
 use Rattle.std.proofs.lemmas.List.Elements.{Contains-append_cases, Contains-append_left}
@@ -13,7 +13,7 @@ use Rattle.std.specs.declared.cmp.Ordering.TheVariants.{Less, Equal, Greater}
 use Rattle.std.proofs.Math.Bool.{or-true}
 use Rattle.order_laws.specs.declared.items.Item.{Item}
 use Rattle.order_laws.specs.Orders.{Order, Precedes, IsLawful, IsInLine}
-use Rattle.order_laws.specs.Tables.{IsTable, place_of, has}
+use Rattle.order_laws.specs.Tables.{IsTable, has}
 use Rattle.order_laws.proofs.TableLemmas.{parted}
 use Rattle.facts.proofs.Each.{all_at, all_weaker}
 use Rattle.facts.proofs.Members.{Contains-cons_cases, Contains-rest}
@@ -21,63 +21,9 @@ use Rattle.order_laws.proofs.WithoutLemmas.{has_either}
 use Rattle.order_laws.proofs.FirstWordLemmas.{Lacks, has_front, has_back, across, all_before, differs, differs_before}
 use Rattle.rb_trees.specs.declared.Record.{Record}
 use Rattle.rb_trees.specs.Trees.{ColouredTree, tip, branch, rows}
-use Rattle.rb_trees.specs.Erased.{first_word_at, item_lies, erased_at, erased_from, record_found_at, found}
+use Rattle.rb_trees.specs.Erased.{first_word_at, item_lies, record_found_at, found}
 use Rattle.rb_trees.specs.Found.{items_of_records, first_item_of, item_with_word}
-use Rattle.rb_trees.specs.Sought.{FindsFirstWord}
-use Rattle.rb_trees.proofs.PlaceRows.{items_append, parts, rows_left_if, rows_right_if, rows_top}
-
-module _ (a : ℕ) where
-  remove_front : (xs : List Record) (y : Record) (ys : List Record) → has a (items_of_records xs) ≡ true →
-      remove (xs ++ y ∷ ys) (place_of a (items_of_records (xs ++ y ∷ ys)))
-      ≡ remove xs (place_of a (items_of_records xs)) ++ y ∷ ys
-  remove_front [] y ys h = absurd (cc)
-  remove_front (z ∷ xs) y ys h =
-      elim (z.item.a == a) as (λ b. (b || has a (items_of_records xs)) ≡ true →
-      remove (z ∷ (xs ++ y ∷ ys)) (cond b 0 (suc (place_of a (items_of_records (xs ++ y ∷ ys)))))
-      ≡ remove (z ∷ xs) (cond b 0 (suc (place_of a (items_of_records xs)))) ++ y ∷ ys) [
-        | true ↦ λ e. refl
-        | false ↦ λ e. ap (λ zs. z ∷ zs) (remove_front xs y ys e)
-      ] h
-
-  remove_here : (xs : List Record) (y : Record) (ys : List Record) → Lacks a (items_of_records xs) →
-      (y.item.a == a) ≡ true → remove (xs ++ y ∷ ys) (place_of a (items_of_records (xs ++ y ∷ ys))) ≡ xs
-      ++ ys
-  remove_here [] y ys h e = rw e refl
-  remove_here (z ∷ xs) y ys h e = let f : (z.item.a == a) ≡ false = h.0 in
-      rw f (ap (λ zs. z ∷ zs) (remove_here xs y ys h.1 e))
-
-  remove_back : (xs : List Record) (y : Record) (ys : List Record) → Lacks a (items_of_records xs) →
-      (y.item.a == a) ≡ false → remove (xs ++ y ∷ ys) (place_of a (items_of_records (xs ++ y ∷ ys))) ≡ xs
-      ++ y ∷ remove ys (place_of a (items_of_records ys))
-  remove_back [] y ys h e = rw e refl
-  remove_back (z ∷ xs) y ys h e = let f : (z.item.a == a) ≡ false = h.0 in
-      rw f (ap (λ zs. z ∷ zs) (remove_back xs y ys h.1 e))
-
-  get_front : (xs : List Record) (y : Record) (ys : List Record) → has a (items_of_records xs) ≡ true →
-      slice_get (xs ++ y ∷ ys) (place_of a (items_of_records (xs ++ y ∷ ys)))
-      ≡ slice_get xs (place_of a (items_of_records xs))
-  get_front [] y ys h = absurd (cc)
-  get_front (z ∷ xs) y ys h =
-      elim (z.item.a == a) as (λ b. (b || has a (items_of_records xs)) ≡ true →
-      slice_get (z ∷ (xs ++ y ∷ ys)) (cond b 0 (suc (place_of a (items_of_records (xs ++ y ∷ ys)))))
-      ≡ slice_get (z ∷ xs) (cond b 0 (suc (place_of a (items_of_records xs))))) [
-        | true ↦ λ e. refl
-        | false ↦ λ e. get_front xs y ys e
-      ] h
-
-  get_here : (xs : List Record) (y : Record) (ys : List Record) → Lacks a (items_of_records xs) →
-      (y.item.a == a) ≡ true → slice_get (xs ++ y ∷ ys) (place_of a (items_of_records (xs ++ y ∷ ys)))
-      ≡ Some y
-  get_here [] y ys h e = rw e refl
-  get_here (z ∷ xs) y ys h e = let f : (z.item.a == a) ≡ false = h.0 in
-      rw f (get_here xs y ys h.1 e)
-
-  get_back : (xs : List Record) (y : Record) (ys : List Record) → Lacks a (items_of_records xs) →
-      (y.item.a == a) ≡ false → slice_get (xs ++ y ∷ ys) (place_of a (items_of_records (xs ++ y ∷ ys)))
-      ≡ slice_get ys (place_of a (items_of_records ys))
-  get_back [] y ys h e = rw e refl
-  get_back (z ∷ xs) y ys h e = let f : (z.item.a == a) ≡ false = h.0 in
-      rw f (get_back xs y ys h.1 e)
+use Rattle.rb_trees.proofs.PlaceRows.{items_append, parts}
 
 -- what a comparison says of both sides, and of the side that it leads to
 pub data Lies (a : ℕ) (P : ColouredTree → Type 0) (l : ColouredTree) (y : Record) (r : ColouredTree) :
@@ -93,54 +39,6 @@ Guides a seen P = (red : Bool) (l : ColouredTree) (y : Record) (r : ColouredTree
 
 -- where it leads
 module _ (a : ℕ) (seen : Record → Ordering) (P : ColouredTree → Type 0) (guide : Guides a seen P) where
-  pub rows_erased : (t : ColouredTree) → P t → has a (items_of_records (rows t)) ≡ true →
-      rows (erased_from seen t).tree ≡ remove (rows t) (place_of a (items_of_records (rows t)))
-  rows_erased tip p h = absurd (cc)
-  rows_erased (branch red l y r) p h =
-      let s = erased_from seen l in
-      let u = erased_from seen r in
-      let there : has a (items_of_records (rows l) ++ y.item ∷ items_of_records (rows r)) ≡ true =
-      ap (has a) (sym (items_append (rows l) (y ∷ rows r))) ∙ h in
-      elim (guide red l y r p) as (λ v _. rows (erased_at v red l y r s u).tree
-      ≡ remove (rows l ++ y ∷ rows r) (place_of a (items_of_records (rows l ++ y ∷ rows r)))) [
-        | to_left e lack q ↦
-            let in_l : has a (items_of_records (rows l)) ≡ true =
-            sym (has_front a (items_of_records (rows l)) (y.item ∷ items_of_records (rows r)) (e, lack))
-            ∙ there in
-            rows_left_if s.short (branch red s.tree y r)
-            ∙ ap (λ xs. xs ++ y ∷ rows r) (rows_erased l q in_l)
-            ∙ sym (remove_front a (rows l) y (rows r) in_l)
-        | right_here e lack ↦ rows_top red l r ∙ sym (remove_here a (rows l) y (rows r) lack e)
-        | to_right e lack q ↦
-            let in_r : has a (items_of_records (rows r)) ≡ true =
-            (let k = has_back a (items_of_records (rows l)) (y.item ∷ items_of_records (rows r)) lack in
-            sym (k ∙ (rw e refl)) ∙ there) in
-            rows_right_if u.short (branch red l y u.tree)
-            ∙ ap (λ xs. rows l ++ y ∷ xs) (rows_erased r q in_r)
-            ∙ sym (remove_back a (rows l) y (rows r) lack e)
-      ]
-
-  pub found_at_place : (t : ColouredTree) → P t → has a (items_of_records (rows t)) ≡ true →
-      found seen t ≡ slice_get (rows t) (place_of a (items_of_records (rows t)))
-  found_at_place tip p h = absurd (cc)
-  found_at_place (branch red l y r) p h =
-      let there : has a (items_of_records (rows l) ++ y.item ∷ items_of_records (rows r)) ≡ true =
-      ap (has a) (sym (items_append (rows l) (y ∷ rows r))) ∙ h in
-      elim (guide red l y r p) as (λ v _. record_found_at v y (found seen l) (found seen r)
-      ≡ slice_get (rows l ++ y ∷ rows r) (place_of a (items_of_records (rows l ++ y ∷ rows r)))) [
-        | to_left e lack q ↦
-            let in_l : has a (items_of_records (rows l)) ≡ true =
-            sym (has_front a (items_of_records (rows l)) (y.item ∷ items_of_records (rows r)) (e, lack))
-            ∙ there in
-            found_at_place l q in_l ∙ sym (get_front a (rows l) y (rows r) in_l)
-        | right_here e lack ↦ sym (get_here a (rows l) y (rows r) lack e)
-        | to_right e lack q ↦
-            let in_r : has a (items_of_records (rows r)) ≡ true =
-            (let k = has_back a (items_of_records (rows l)) (y.item ∷ items_of_records (rows r)) lack in
-            sym (k ∙ (rw e refl)) ∙ there) in
-            found_at_place r q in_r ∙ sym (get_back a (rows l) y (rows r) lack e)
-      ]
-
   pub found_has : (t : ColouredTree) → P t → is_some (found seen t) ≡ has a (items_of_records (rows t))
   found_has tip p = refl
   found_has (branch red l y r) p =
@@ -158,14 +56,29 @@ module _ (a : ℕ) (seen : Record → Ordering) (P : ColouredTree → Type 0) (g
             ∙ (rw e refl))
       ]
 
-sought : (a : ℕ) (seen : Record → Ordering) (P : ColouredTree → Type 0) → Guides a seen P →
-    (t : ColouredTree) → P t → has a (items_of_records (rows t)) ≡ true → FindsFirstWord a seen t
-sought a seen P guide t p there =
-    record {
-      erases = rows_erased a seen P guide t p there;
-      finds =
-          found_at_place a seen P guide t p there;
-    }
+-- a record that is found is where the comparison leads
+found_lies : (seen : Record → Ordering) (t : ColouredTree) (x : Record) → found seen t ≡ Some x → seen x ≡ Equal
+found_lies seen tip x e = absurd (cc)
+found_lies seen (branch red l y r) x e =
+    (elim (seen y) as (λ v. seen y ≡ v → record_found_at v y (found seen l) (found seen r) ≡ Some x → seen x ≡ Equal) [
+      | Less ↦ λ s f. found_lies seen l x f
+      | Equal ↦ λ s f. let same : y ≡ x = cc in subst (λ z. seen z ≡ Equal) same s
+      | Greater ↦ λ s f. found_lies seen r x f
+    ]) refl e
+
+pub word_found : (a : ℕ) (t : ColouredTree) (x : Record) → found (first_word_at a) t ≡ Some x → x.item.a ≡ a
+word_found a t x e =
+    (elim (a == x.item.a) as (λ b. (a == x.item.a) ≡ b → cond b Equal (cond (nat_lt a x.item.a) Less Greater) ≡ Equal → x.item.a ≡ a) [
+      | true ↦ λ f g. sym (eqb-true a x.item.a f)
+      | false ↦ λ f. elim (nat_lt a x.item.a) as (λ v. cond v Less Greater ≡ Equal → x.item.a ≡ a) [ true ↦ λ g. absurd (cc) | false ↦ λ g. absurd (cc) ]
+    ]) refl (found_lies (first_word_at a) t x e)
+
+pub item_found : (less : Item → Item → Bool) (i : Item) (t : ColouredTree) (x : Record) → found (item_lies less i) t ≡ Some x → x.item.a ≡ i.a
+item_found less i t x e =
+    (elim (x.item.a == i.a) as (λ b. (x.item.a == i.a) ≡ b → cond b Equal (cond (less i x.item) Less Greater) ≡ Equal → x.item.a ≡ i.a) [
+      | true ↦ λ f g. eqb-true x.item.a i.a f
+      | false ↦ λ f. elim (less i x.item) as (λ v. cond v Less Greater ≡ Equal → x.item.a ≡ i.a) [ true ↦ λ g. absurd (cc) | false ↦ λ g. absurd (cc) ]
+    ]) refl (found_lies (item_lies less i) t x e)
 
 -- first words lead, where they rise along the order
 module _ {K : Type 0} (o : Order K) (line : IsInLine o) (a : ℕ) where
@@ -204,10 +117,6 @@ module _ {K : Type 0} (o : Order K) (line : IsInLine o) (a : ℕ) where
                   absurd (omega (arith, w, g, le)))) is p.before) p.right
             ] refl
       ] refl
-
-  pub sought_by_word : (t : ColouredTree) → IsTable o (items_of_records (rows t)) →
-      has a (items_of_records (rows t)) ≡ true → FindsFirstWord a (first_word_at a) t
-  sought_by_word t is there = sought a (first_word_at a) InOrder words_lead t is there
 
   pub found_by_word : (t : ColouredTree) → IsTable o (items_of_records (rows t)) →
       is_some (found (first_word_at a) t) ≡ has a (items_of_records (rows t))
@@ -270,11 +179,9 @@ module _ {K : Type 0} (o : Order K) (law : IsLawful o) (i : Item) where
       (Contains-append_cases (items_of_records (rows l)) (y.item ∷ items_of_records (rows r)) i
       (subst (λ zs. Contains zs i) split h.1))
 
-  pub sought_by_item : (t : ColouredTree) → IsTable o (items_of_records (rows t)) →
-      Contains (items_of_records (rows t)) i → has i.a (items_of_records (rows t)) ≡ true →
-      FindsFirstWord i.a (item_lies o.less i) t
-  sought_by_item t is there has_a =
-      sought i.a (item_lies o.less i) HasItem item_leads t (is, there) has_a
+  found_by_item : (t : ColouredTree) → IsTable o (items_of_records (rows t)) → Contains (items_of_records (rows t)) i →
+      is_some (found (item_lies o.less i) t) ≡ has i.a (items_of_records (rows t))
+  found_by_item t is there = found_has i.a (item_lies o.less i) HasItem item_leads t (is, there)
 
 -- a search through all items finds one of the first word, if there is one
 either_is_some : (p q : Option Item) → is_some (first_item_of p q) ≡ (is_some p || is_some q)
@@ -344,11 +251,8 @@ pub any_is : (a : ℕ) (t : ColouredTree) (x : Item) → item_with_word a t ≡ 
 any_is a t x e = subst (IsWith a (items_of_records (rows t))) e (any_is_with a t)
 
 -- so that the item it finds leads to itself
-pub sought_by_any : {K : Type 0} (o : Order K) → IsLawful o → (a : ℕ) (t : ColouredTree) (x : Item) →
-    IsTable o (items_of_records (rows t)) → item_with_word a t ≡ Some x → FindsFirstWord a (item_lies o.less x) t
-sought_by_any o law a t x is e =
+pub found_by_any : {K : Type 0} (o : Order K) → IsLawful o → (a : ℕ) (t : ColouredTree) (x : Item) →
+    IsTable o (items_of_records (rows t)) → item_with_word a t ≡ Some x → is_some (found (item_lies o.less x) t) ≡ true
+found_by_any o law a t x is e =
     let w = any_is a t x e in
-    let there : has a (items_of_records (rows t)) ≡ true = sym (any_has a t) ∙ ap is_some e in
-    subst (λ b. FindsFirstWord b (item_lies o.less x) t) w.1
-    (sought_by_item o law x t is w.0
-    (subst (λ b. has b (items_of_records (rows t)) ≡ true) (sym w.1) there))
+    found_by_item o law x t is w.0 ∙ ap (λ b. has b (items_of_records (rows t))) w.1 ∙ sym (any_has a t) ∙ ap is_some e

@@ -1,5 +1,5 @@
 -- A place in a tree: the subtree in hand, and the path of the nodes above it, nearest first.
-use Rattle.std.specs.Prelude.{ℕ, Bool, List, [], ◌∷◌, length, nat_lt, if◌then◌else◌}
+use Rattle.std.specs.Prelude.{Bool, List, [], ◌∷◌, if◌then◌else◌}
 use Rattle.std.specs.declared.cmp.Ordering.{Ordering}
 use Rattle.std.specs.declared.cmp.Ordering.TheVariants.{Less, Equal, Greater}
 use Rattle.order_laws.specs.declared.items.Item.{Item}
@@ -7,6 +7,7 @@ use Rattle.rb_trees.specs.declared.Record.{Record}
 use Rattle.rb_trees.specs.declared.Side.{Side}
 use Rattle.rb_trees.specs.declared.Side.TheVariants.{Left, Right}
 use Rattle.rb_trees.specs.Trees.{ColouredTree, tip, branch}
+use Rattle.rb_trees.specs.Sides.{sided}
 
 -- a node above: on which side of it the way goes on, its colour, its record, its other subtree
 pub record Above : Type 0 where
@@ -14,11 +15,6 @@ pub record Above : Type 0 where
   pub red : Bool
   pub row : Record
   pub other : ColouredTree
-
--- a node of this colour with a tree on this side and another on the other side
-abbrev pub sided : Side → Bool → ColouredTree → Record → ColouredTree → ColouredTree
-sided Left red t x other = branch red t x other
-sided Right red t x other = branch red other x t
 
 -- the node above in this colour, with the tree where the way went on
 abbrev pub joined : Above → Bool → ColouredTree → ColouredTree
@@ -28,17 +24,6 @@ joined a red t = sided a.side red t a.row a.other
 abbrev pub plugged : List Above → ColouredTree → ColouredTree
 plugged [] t = t
 plugged (a ∷ path) t = plugged path (joined a a.red t)
-
--- up until only so many nodes are above
-abbrev pub plugged_to : ℕ → List Above → ColouredTree → ColouredTree
-plugged_to d [] t = t
-plugged_to d (a ∷ path) t =
-    if nat_lt (length path) d then t else plugged_to d path (joined a a.red t)
-
--- the path from there on
-abbrev pub path_to : ℕ → List Above → List Above
-path_to d [] = []
-path_to d (a ∷ path) = if nat_lt (length path) d then a ∷ path else path_to d path
 
 -- a node that is passed on the left, or on the right
 abbrev pub past_left : Bool → Record → ColouredTree → Above

@@ -1,5 +1,5 @@
 -- Trees of red and black nodes, each with its record.
-use Rattle.std.specs.Prelude.{◌≡◌, ℕ, suc, Bool, true, false, List, [], ◌∷◌, ◌++◌, max}
+use Rattle.std.specs.Prelude.{◌≡◌, ℕ, zero, suc, Bool, true, false, List, [], ◌∷◌, ◌++◌, max}
 use Rattle.word_layout.specs.Words.{Nodes, none, fork}
 use Rattle.rb_trees.specs.declared.Record.{Record}
 
@@ -30,17 +30,12 @@ abbrev pub rows : ColouredTree → List Record
 rows tip = []
 rows (branch red l x r) = rows l ++ x ∷ rows r
 
--- how many black nodes there are on the way down along the left
-abbrev pub black_height : ColouredTree → ℕ
-black_height tip = 0
-black_height (branch true l x r) = black_height l
-black_height (branch false l x r) = suc (black_height l)
-
--- all ways down have equally many black nodes
-abbrev pub HasEqualBlackHeights : ColouredTree → Type 0
-HasEqualBlackHeights tip = Unit {0}
-HasEqualBlackHeights (branch red l x r) =
-    (black_height l ≡ black_height r) × HasEqualBlackHeights l × HasEqualBlackHeights r
+-- every way down has so many black nodes
+abbrev pub HasBlackHeight : ColouredTree → ℕ → Type 0
+HasBlackHeight tip h = h ≡ 0
+HasBlackHeight (branch true l x r) h = HasBlackHeight l h × HasBlackHeight r h
+HasBlackHeight (branch false l x r) zero = ⊥
+HasBlackHeight (branch false l x r) (suc h) = HasBlackHeight l h × HasBlackHeight r h
 
 -- no red node has a red child
 abbrev pub HasNoClash : ColouredTree → Type 0
@@ -52,11 +47,11 @@ HasNoClash (branch false l x r) = HasNoClash l × HasNoClash r
 pub record IsRedBlack (t : ColouredTree) : Type 0 where
   pub black : is_red t ≡ false
   pub calm : HasNoClash t
-  pub even : HasEqualBlackHeights t
+  pub even : (h : ℕ) × HasBlackHeight t h
 
--- a tree of nodes that can be coloured so
-abbrev pub CanBeRedBlack : Nodes → Type 0
-CanBeRedBlack tree = (t : ColouredTree) × IsRedBlack t × (shape t ≡ tree)
+-- a tree of nodes that can be coloured so; above rb_words nothing looks inside
+abbrev pub IsBalanced : Nodes → Type 0
+IsBalanced tree = (t : ColouredTree) × IsRedBlack t × (shape t ≡ tree)
 
 -- the most nodes on a way down
 abbrev pub depth : Nodes → ℕ

@@ -12,15 +12,15 @@ pub struct Record {
     pub item: Item,
 }
 
-/// Whether the top of a tree and a child of it are red: on the left, else on the right.
+/// Whether the top of a subtree and a child of it are red, seen from the side of the subtree.
 #[derive(Clone, Copy, Debug, PartialEq, Eq, Drop)]
 pub enum Clash {
     /// No.
     Nowhere,
-    /// With the left child.
-    Left,
-    /// With the right child.
-    Right,
+    /// With the child on the same side.
+    Outer,
+    /// With the child on the other side alone.
+    Inner,
 }
 
 /// A side of a node: of its two subtrees the one that a way down goes into.

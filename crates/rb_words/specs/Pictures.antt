@@ -8,7 +8,7 @@ use Rattle.order_laws.specs.Orders.{Order}
 use Rattle.order_laws.specs.Tables.{IsTable}
 use Rattle.word_layout.specs.Words.{Nodes, none, listed, Holds, words_for}
 use Rattle.word_layout.specs.NodesCode.{nodes_code}
-use Rattle.rb_trees.specs.Trees.{CanBeRedBlack}
+use Rattle.rb_trees.specs.Trees.{IsBalanced}
 use Rattle.rb_words.specs.Rows.{AreDistinct}
 
 -- how many nodes there are, which copy it is, what it holds and in which tree; and how many items
@@ -49,7 +49,7 @@ pub record IsPicture {K : Type 0} (o : Order K) (p : Picture) : Type 0 where
   pub distinct : AreDistinct (listed p.tree)
   pub as_many : length (listed p.tree) ≡ length p.table
   pub fits : length p.table ≤ p.capacity
-  pub balanced : CanBeRedBlack p.tree
+  pub balanced : IsBalanced p.tree
 
 -- a memory whose copy holds what is pictured
 pub record IsPictured (m : List ℕ) (p : Picture) : Type 0 where

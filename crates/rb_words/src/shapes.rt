@@ -15,19 +15,17 @@ ghost use Rattle.word_layout.specs.Words.{listed};
 ghost use Rattle.rb_words.specs.Pictures.{IsPicture, empty_picture};
 ghost use Rattle.rb_words.specs.Wider.{IsPicturedWider};
 ghost use Rattle.rb_words.specs.Plans.{item_stores, Inserts, LeadsWithItem, Erases, LeadsByLinks};
-ghost use Rattle.rb_words.specs.TreePictures.{zipper_with, links_with, zipper_without};
-ghost use Rattle.rb_words.specs.TreePictures.{links_without, IsLongerBy, TakesOut};
-ghost use Rattle.rb_cursor.specs.Stores.{Fits, Adds};
-ghost use Rattle.rb_trees.specs.Trees.{HasNoClash, shape, depth, rows};
-ghost use Rattle.rb_trees.specs.Erased.{found};
-ghost use Rattle.rb_trees.specs.Found.{items_of_records, meets_on_the_way};
+ghost use Rattle.rb_words.specs.TreePictures.{LosesWord};
+ghost use Rattle.rb_cursor.specs.Changes.{AddsLinks};
+ghost use Rattle.rb_trees.specs.Trees.{shape, depth, rows, IsRedBlack};
+ghost use Rattle.rb_trees.specs.Replaced.{Nothing};
+ghost use Rattle.rb_trees.specs.Found.{items_of_records};
 
 use order_laws::{Item, Refusal, TreeOrder};
 use rb_cursor::Cursor;
 use rb_cursor::erases::erase;
 use rb_cursor::inserts::{insert, insert_apart};
-use rb_cursor::probes::{ItemProbe, Probe, WordProbe};
-use rb_cursor::relinks::relink_root;
+use rb_cursor::probes::{ItemProbe, WordProbe};
 use rb_cursor::searches::{find_any, has, meets, meets_any, reaches};
 use rb_trees::Record;
 use std::alloc::Global;
@@ -249,7 +247,7 @@ impl<O: TreeOrder> Shape<O> {
         ensures few { vec_len out.new + 3 ≤ vec_len out.old + STORES }
         ensures capacity { vec_capacity out.new ≡ vec_capacity out.old }
     {
-        with_record::<O>(out, self.copy, &mut self.cursor, Record { node, item });
+        insert::<O>(out, self.copy, &mut self.cursor, Record { node, item });
         self.count += 1;
     }
 
@@ -316,7 +314,7 @@ impl<O: TreeOrder> Shape<O> {
             self.plan_links(out, node, item);
             return false;
         }
-        if with_record_apart::<O>(out, self.copy, &mut self.cursor, Record { node, item }) {
+        if insert_apart::<O>(out, self.copy, &mut self.cursor, Record { node, item }) {
             return true;
         }
         self.count += 1;
@@ -367,63 +365,6 @@ impl<O: TreeOrder> Shape<O> {
     }
 }
 
-// Puts a record into the tree, and appends the stores of links.
-fn with_record<O: TreeOrder>(
-    out: &mut Vec<Store>,
-    copy: TreeCopy,
-    cursor: &mut Cursor,
-    added: Record,
-)
-    requires whole { cursor.old.path ≡ [] }
-    requires calm { HasNoClash cursor.old.tree }
-    requires steps { depth (shape cursor.old.tree) ≤ 64 }
-    requires room { 0 < cursor.old.room }
-    requires list { Fits out.old (links_with (copy_number copy) O.order added cursor.old.tree) }
-    ensures cursor { cursor.new ≡ zipper_with O.order added cursor.old }
-    ensures items { Adds out.old
-        (links_with (copy_number copy) O.order added cursor.old.tree) out.new }
-    ensures len { IsLongerBy out.old
-        (links_with (copy_number copy) O.order added cursor.old.tree) out.new }
-    ensures capacity { vec_capacity out.new ≡ vec_capacity out.old }
-{
-    let before = cursor.link();
-    insert::<O>(out, copy, cursor, added);
-    cursor.blacken();
-    relink_root(out, copy, before, cursor.link());
-}
-
-// Puts a record into the tree, and appends the stores of links, unless its item meets one of the
-// tree. Returns whether it does.
-fn with_record_apart<O: TreeOrder>(
-    out: &mut Vec<Store>,
-    copy: TreeCopy,
-    cursor: &mut Cursor,
-    added: Record,
-) -> bool
-    requires whole { cursor.old.path ≡ [] }
-    requires calm { HasNoClash cursor.old.tree }
-    requires steps { depth (shape cursor.old.tree) ≤ 64 }
-    requires room { 0 < cursor.old.room }
-    requires list { Fits out.old (links_with (copy_number copy) O.order added cursor.old.tree) }
-    ensures met { result ≡ meets_on_the_way O.order added.item [] cursor.old.tree }
-    ensures unchanged { result ≡ true →
-        (cursor.new ≡ cursor.old) × (out.new.items ≡ out.old.items) }
-    ensures cursor { result ≡ false → cursor.new ≡ zipper_with O.order added cursor.old }
-    ensures items { result ≡ false →
-        Adds out.old (links_with (copy_number copy) O.order added cursor.old.tree) out.new }
-    ensures len { result ≡ false →
-        IsLongerBy out.old (links_with (copy_number copy) O.order added cursor.old.tree) out.new }
-    ensures capacity { vec_capacity out.new ≡ vec_capacity out.old }
-{
-    let before = cursor.link();
-    if insert_apart::<O>(out, copy, cursor, added) {
-        return true;
-    }
-    cursor.blacken();
-    relink_root(out, copy, before, cursor.link());
-    false
-}
-
 // Takes the record of a first word out of the tree, if there is one, and appends the stores of
 // links. Returns its node. An order that is in no line has the item looked for among all first,
 // since first words say nothing there of where it stands.
@@ -434,54 +375,30 @@ fn without_word<O: TreeOrder>(
     a: u64,
 ) -> Option<u32>
     requires whole { cursor.old.path ≡ [] }
+    requires good { IsRedBlack cursor.old.tree }
     requires steps { depth (shape cursor.old.tree) ≤ 64 }
     requires list { vec_len out.old + STORES ≤ vec_capacity out.old }
     requires table { IsTable O.order (items_of_records (rows cursor.old.tree)) }
     ensures found { is_some result ≡ has a (items_of_records (rows cursor.old.tree)) }
     ensures unchanged { result ≡ None →
         (cursor.new ≡ cursor.old) × (out.new.items ≡ out.old.items) }
-    ensures gone { IfSome result (λ node.
-        TakesOut (copy_number copy) a cursor.old.tree cursor.new.tree node out.old out.new) }
+    ensures gone { IfSome result (LosesWord a cursor.old.tree cursor.new.tree) }
+    ensures balanced { IsRedBlack cursor.new.tree }
+    ensures links { IsSome result → AddsLinks Nothing (copy_number copy) cursor.old.tree
+        cursor.new.tree out.old out.new }
     ensures path { cursor.new.path ≡ [] }
     ensures room { IsSome result → cursor.new.room ≡ cursor.old.room + 1 }
     ensures few { vec_len out.new ≤ vec_len out.old + STORES }
     ensures capacity { vec_capacity out.new ≡ vec_capacity out.old }
 {
     if O::in_line() {
-        let row = without_sought(out, copy, cursor, &WordProbe(a))?;
+        let row = erase(out, copy, cursor, &WordProbe(a))?;
         return Some(row.node);
     }
     let item = find_any(&cursor.tree(), a)?;
     let order = PhantomData;
-    let row = without_sought(out, copy, cursor, &ItemProbe::<O> { item, order })?;
+    let row = erase(out, copy, cursor, &ItemProbe::<O> { item, order })?;
     Some(row.node)
-}
-
-// Takes the record that is sought out of the tree, if it is there, and appends the stores of links.
-// Returns it.
-fn without_sought<P: Probe>(
-    out: &mut Vec<Store>,
-    copy: TreeCopy,
-    cursor: &mut Cursor,
-    sought: &P,
-) -> Option<Record>
-    requires whole { cursor.old.path ≡ [] }
-    requires steps { depth (shape cursor.old.tree) ≤ 64 }
-    requires list { Fits out.old
-        (links_without (copy_number copy) (P.seen sought.now) cursor.old.tree) }
-    ensures row { found (P.seen sought.now) cursor.old.tree ≡ result }
-    ensures unchanged { result ≡ None →
-        (cursor.new ≡ cursor.old) × (out.new.items ≡ out.old.items) }
-    ensures cursor { IsSome result → cursor.new ≡ zipper_without (P.seen sought.now) cursor.old }
-    ensures items { IsSome result →
-        Adds out.old (links_without (copy_number copy) (P.seen sought.now) cursor.old.tree)
-        out.new }
-    ensures capacity { vec_capacity out.new ≡ vec_capacity out.old }
-{
-    let before = cursor.link();
-    let row = erase(out, copy, cursor, sought)?;
-    relink_root(out, copy, before, cursor.link());
-    Some(row)
 }
 
 /// The stores of an item's words in a node, which serve both copies.

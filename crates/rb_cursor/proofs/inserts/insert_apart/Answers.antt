@@ -1,42 +1,28 @@
--- The way up from the place of the item is the whole insert: the facts of InsertSteps there.
-use Rattle.std.proofs.Common.{◌-◌, ◌++◌, refl, sym, ◌∙◌, ap, arith, length}
+-- The way up from the place of the item: the facts of InsertSteps there.
+use Rattle.std.proofs.Common.{◌≡◌, refl, sym, ◌∙◌, ap, subst, arith}
 use Rattle.word_layout.specs.Copies.{copy_number}
-use Rattle.rb_trees.specs.Inserted.{inserted_into}
-use Rattle.rb_cursor.specs.Rising.{at_root}
-use Rattle.rb_cursor.proofs.InsertSteps.{insert_calm, insert_few, insert_tree, insert_stores}
+use Rattle.rb_trees.specs.Trees.{shape, IsRedBlack}
+use Rattle.rb_trees.specs.Turns.{link}
+use Rattle.rb_cursor.specs.Changes.{AddsLinks}
+use Rattle.rb_cursor.proofs.InsertSteps.{insert_whole, insert_few, insert_puts}
 use Rattle.rb_cursor.proofs.StepLemmas.{all_back}
 use Rattle.rb_cursor.proofs.inserts.insert_apart.Goals as goal
 
-pub grow-requires-clause-calm : goal.grow-requires-clause-calm
-grow-requires-clause-calm g c =
-    insert_calm g.O.TreeOrder.order.less c.args.added c.args.cursor.now.tree
-    (c.seek_apart.ensures.path c.if-seek_apart.false) c.requires.whole c.requires.calm
+pub grow-requires-clause-good : goal.grow-requires-clause-good
+grow-requires-clause-good g c = subst IsRedBlack (sym (insert_whole g.O.TreeOrder.order c.args.added c.args.cursor.now.tree (c.seek_apart.ensures.path c.if-seek_apart.false) c.requires.whole)) c.requires.good
+
+pub grow-requires-clause-root : goal.grow-requires-clause-root
+grow-requires-clause-root g c = c.link-root.ensures ∙ ap (λ t. link (shape t)) (sym (insert_whole g.O.TreeOrder.order c.args.added c.args.cursor.now.tree (c.seek_apart.ensures.path c.if-seek_apart.false) c.requires.whole))
 
 pub grow-requires-clause-steps : goal.grow-requires-clause-steps
 grow-requires-clause-steps g c =
-    let few = insert_few g.O.TreeOrder.order.less c.args.added c.args.cursor.now.tree
-    (c.seek_apart.ensures.path c.if-seek_apart.false) c.requires.whole in
-    omega (arith, few, c.requires.steps)
+    omega (arith, insert_few g.O.TreeOrder.order c.args.added c.args.cursor.now.tree (c.seek_apart.ensures.path c.if-seek_apart.false) c.requires.whole, c.requires.steps)
 
-pub grow-requires-clause-list : goal.grow-requires-clause-list
-grow-requires-clause-list g c =
-    let stores = ap length (insert_stores g.O.TreeOrder.order.less c.args.added c.args.cursor.now.tree
-    (c.seek_apart.ensures.path c.if-seek_apart.false) c.requires.whole (copy_number c.args.copy)) in
-    omega (arith, stores, c.requires.list)
+pub returns-clause-rows : goal.returns-clause-rows
+returns-clause-rows g c = λ _. insert_puts g.O.TreeOrder.order c.args.added c.args.cursor.now.tree (c.seek_apart.ensures.path c.if-seek_apart.false) c.requires.whole g.met.O.TreeOrder.lawful c.requires.table c.grow.ensures.rows
 
-pub returns-clause-cursor : goal.returns-clause-cursor
-returns-clause-cursor g c = λ _.
-    let less = g.O.TreeOrder.order.less in
-    let t = c.args.cursor.now.tree in
-    c.grow.ensures.cursor
-    ∙ ap (λ u. at_root u (c.seek_apart.new.self.room - 1)) (insert_tree less c.args.added t (c.seek_apart.ensures.path c.if-seek_apart.false) c.requires.whole)
-    ∙ ap (λ n. at_root (inserted_into less c.args.added t) (n - 1)) c.seek_apart.ensures.room
-
-pub returns-clause-items : goal.returns-clause-items
-returns-clause-items g c = λ _.
-    c.grow.ensures.items
-    ∙ ap (λ ss. c.args.out.now.items ++ ss) (sym (insert_stores g.O.TreeOrder.order.less c.args.added
-    c.args.cursor.now.tree (c.seek_apart.ensures.path c.if-seek_apart.false) c.requires.whole (copy_number c.args.copy)))
+pub returns-clause-links : goal.returns-clause-links
+returns-clause-links g c = λ _. subst (λ t. AddsLinks (λ i. i ≡ c.args.added.node) (copy_number c.args.copy) t c.grow.new.cursor.tree c.args.out.now c.grow.new.out) (insert_whole g.O.TreeOrder.order c.args.added c.args.cursor.now.tree (c.seek_apart.ensures.path c.if-seek_apart.false) c.requires.whole) c.grow.ensures.links
 
 pub returns-then-seek_apart-clause-unchanged : goal.returns-then-seek_apart-clause-unchanged
 returns-then-seek_apart-clause-unchanged g c = λ _. (

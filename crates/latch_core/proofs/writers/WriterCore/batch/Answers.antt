@@ -2,7 +2,7 @@ use Rattle.std.proofs.Common.{◌≡◌, ◌≤◌, ◌+◌, ◌*◌, ◌++◌, 
 use Rattle.order_laws.specs.Tables.{without_all}
 use Rattle.std.proofs.lemmas.List.{length-map}
 use Rattle.word_layout.specs.Layouts.{capacity_of, limit_of}
-use Rattle.rb_trees.specs.Trees.{CanBeRedBlack}
+use Rattle.rb_trees.specs.Trees.{IsBalanced}
 use Rattle.rb_words.specs.Pictures.{Picture}
 use Rattle.rb_words.specs.Mirrors.{mirror_stores, mirror_store}
 use Rattle.latch_core.specs.declared.updates.Update.TheVariants.{Batch}
@@ -108,7 +108,7 @@ returns-clause-begun g c =
     let counted = update_length s.sequence (stores_of_placed i.0) all (mirror_stores all) in
     let copied = length-map all mirror_store in
     let few : length all_stores ≤ 2 * (16 * size_of (Batch erase insert)) + 2 = omega (arith, whole, counted, copied, of_items, of_links, c.deref.ensures.len, c.plan_inserts.ensures.few, c.plan_erases.ensures.few, none_left, empty) in
-    let red = subst (λ (p : Picture). CanBeRedBlack p.tree) c.reserve_all.ensures.kept c.stays_sound.ensures.balanced in
+    let red = subst (λ (p : Picture). IsBalanced p.tree) c.reserve_all.ensures.kept c.stays_sound.ensures.balanced in
     subst (λ v. HasBegun o v (Batch erase insert) (record { capacity = n; limit = limit_of s.layout; sequence = s.sequence; table = z2.table; zero_tree = z2.tree; one_tree = z2.tree; stores_left = all_stores })) c.self.view_is
     (planned_begun o w s.shape z2 c.reserve_all.new.shape.room (Batch erase insert) s.free.items c.plan_inserts.new.free.items i.0 all_stores idle refl refl refl c.self.invariant.0
     (planned g c) few (red, c.stays_sound-2.ensures.balanced))

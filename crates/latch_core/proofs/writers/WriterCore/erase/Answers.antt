@@ -1,7 +1,7 @@
 use Rattle.std.proofs.Common.{◌≡◌, ◌++◌, ◌∷◌, [], refl, sym, ◌∙◌, ap, subst, arith}
 use Rattle.std.specs.Prelude.{IfSome, is_some}
 use Rattle.word_layout.specs.Layouts.{capacity_of, limit_of}
-use Rattle.rb_trees.specs.Trees.{CanBeRedBlack}
+use Rattle.rb_trees.specs.Trees.{IsBalanced}
 use Rattle.rb_words.specs.Pictures.{Picture}
 use Rattle.rb_words.specs.Plans.{Erases}
 use Rattle.rb_words.specs.Mirrors.{second_picture}
@@ -44,7 +44,7 @@ returns-clause-begun g c =
     let stores = c.erase.new.self.stores_left in
     let w : WriterView = record { capacity = n; limit = limit_of s.layout; sequence = s.sequence; table = s.shape.table; zero_tree = s.shape.tree; one_tree = s.shape.tree; stores_left = s.plan.stores_left } in
     let idle : w.stores_left ≡ [] = ap (λ (v : WriterView). v.stores_left) c.self.view_is ∙ (c.is_ready.ensures c.if-not-is_ready.false).0 in
-    let red = subst (λ (p : Picture). CanBeRedBlack p.tree) c.reserve_with.ensures.kept c.stays_sound.ensures.balanced in
+    let red = subst (λ (p : Picture). IsBalanced p.tree) c.reserve_with.ensures.kept c.stays_sound.ensures.balanced in
     subst (λ v. HasBegun o v (Erase c.args.a) (record { capacity = n; limit = limit_of s.layout; sequence = s.sequence; table = new.table; zero_tree = new.tree; one_tree = new.tree; stores_left = stores })) c.self.view_is
     (planned_begun o w s.shape new c.reserve_with.new.shape.room (Erase c.args.a) s.free.items (s.free.items ++ c.in-Some.node ∷ []) [] stores idle refl refl refl c.self.invariant.0
     (planned g c) (c.erase.ensures.few (ap is_some c.in-Some.is)) (red, c.stays_sound-2.ensures.balanced))

@@ -2,7 +2,7 @@ use Rattle.std.proofs.Common.{◌≡◌, ◌∷◌, [], refl, ◌∙◌, ap, sub
 use Rattle.std.specs.Prelude.{Contains}
 use Rattle.word_layout.specs.Layouts.{capacity_of, limit_of}
 use Rattle.word_layout.specs.Words.{listed}
-use Rattle.rb_trees.specs.Trees.{CanBeRedBlack}
+use Rattle.rb_trees.specs.Trees.{IsBalanced}
 use Rattle.rb_words.specs.Pictures.{Picture}
 use Rattle.rb_words.specs.Mirrors.{second_picture}
 use Rattle.latch_core.specs.declared.updates.Update.TheVariants.{Insert}
@@ -47,7 +47,7 @@ returns-clause-begun g c =
     let stores = c.insert-met.new.self.stores_left in
     let w : WriterView = record { capacity = n; limit = limit_of s.layout; sequence = s.sequence; table = s.shape.table; zero_tree = s.shape.tree; one_tree = s.shape.tree; stores_left = s.plan.stores_left } in
     let idle : w.stores_left ≡ [] = ap (λ (v : WriterView). v.stores_left) c.self.view_is ∙ (c.is_ready.ensures c.if-not-is_ready.false).0 in
-    let red = subst (λ (p : Picture). CanBeRedBlack p.tree) c.reserve_with.ensures.kept c.stays_sound.ensures.balanced in
+    let red = subst (λ (p : Picture). IsBalanced p.tree) c.reserve_with.ensures.kept c.stays_sound.ensures.balanced in
     subst (λ v. HasBegun o v (Insert c.args.item) (record { capacity = n; limit = limit_of s.layout; sequence = s.sequence; table = new.table; zero_tree = new.tree; one_tree = new.tree; stores_left = stores })) c.self.view_is
     (planned_begun o w s.shape new c.reserve_with.new.shape.room (Insert c.args.item) s.free.items c.pop.new.self.items ((c.in-Some.node, c.args.item) ∷ []) stores idle refl refl refl
     c.self.invariant.0 (planned g c) (c.insert-met.ensures.few c.if-met.false) (red, c.stays_sound-2.ensures.balanced))

@@ -1,14 +1,9 @@
-use Rattle.std.proofs.Common.{◌≡◌, ◌∙◌, List, false, sym, ap, arith}
+use Rattle.std.proofs.Common.{◌≡◌, ◌∙◌, false, sym, ap, arith}
 use Rattle.order_laws.specs.Tables.{meets}
 use Rattle.order_laws.proofs.PlaceLemmas.{without_none}
 use Rattle.word_layout.specs.Layouts.{capacity_of}
 use Rattle.word_layout.specs.Copies.{copy_number}
-use Rattle.word_layout.specs.declared.stores.Store.{Store}
-use Rattle.rb_trees.specs.declared.Record.{Record}
-use Rattle.rb_cursor.specs.Zippers.{Zipper}
-use Rattle.rb_words.specs.Pictures.{Picture}
-use Rattle.rb_words.specs.TreePictures.{links_with}
-use Rattle.rb_words.proofs.PlanLemmas.{AfterInsert, shown_insert, few_with, few_steps, met_none}
+use Rattle.rb_words.proofs.PlanLemmas.{AfterInsert, shown_insert, few_steps, met_none}
 use Rattle.rb_words.proofs.shapes.Shape.plan_links_apart.Given.{Over}
 use Rattle.rb_words.proofs.shapes.Shape.plan_links_apart.Goals as goal
 
@@ -28,25 +23,15 @@ returns-then-not-in_line-clause-met g c =
     sym c.if-meets.false ∙ c.meets.ensures
     ∙ ap (meets g.O.TreeOrder.order c.args.item) (without_none c.args.self.now.table)
 
-pub with_record_apart-requires-clause-steps : goal.with_record_apart-requires-clause-steps
-with_record_apart-requires-clause-steps g c =
+pub insert_apart-requires-clause-steps : goal.insert_apart-requires-clause-steps
+insert_apart-requires-clause-steps g c =
     few_steps g.O.TreeOrder.order (capacity_of c.self.inside.layout)
     (copy_number c.self.inside.copy) c.self.inside.cursor.tree c.self.inside.cursor.room
     (omega (arith, c.self.inside.layout.most)) c.self.invariant.0
 
-pub with_record_apart-requires-clause-list : goal.with_record_apart-requires-clause-list
-with_record_apart-requires-clause-list g c =
-    let x : Record = record { node = c.args.node; item = c.args.item } in
-    omega (
-      arith,
-      c.requires.list,
-      few_with g.O.TreeOrder.order (copy_number c.self.inside.copy) c.self.inside.cursor.tree x
-          c.self.invariant.1,
-    )
-
-pub returns-then-with_record_apart-clause-met : goal.returns-then-with_record_apart-clause-met
-returns-then-with_record_apart-clause-met g c =
-    sym c.if-with_record_apart.true ∙ c.with_record_apart.ensures.met
+pub returns-then-insert_apart-clause-met : goal.returns-then-insert_apart-clause-met
+returns-then-insert_apart-clause-met g c =
+    sym c.if-insert_apart.true ∙ c.insert_apart.ensures.met
     ∙ met_none g.O.TreeOrder.order g.met.O.TreeOrder.lawful
     (c.in_line.ensures c.if-not-in_line.false) c.requires.valid c.self.inside.cursor.tree
     c.self.invariant.0.is_table c.self.view_is
@@ -55,7 +40,7 @@ returns-then-with_record_apart-clause-met g c =
 apart : (g : Over) (c : goal.After-self-1 g) →
     false ≡ meets g.O.TreeOrder.order c.args.item c.args.self.now.table
 apart g c =
-    sym c.if-with_record_apart.false ∙ c.with_record_apart.ensures.met
+    sym c.if-insert_apart.false ∙ c.insert_apart.ensures.met
     ∙ met_none g.O.TreeOrder.order g.met.O.TreeOrder.lawful
     (c.in_line.ensures c.if-not-in_line.false) c.requires.valid c.self.inside.cursor.tree
     c.self.invariant.0.is_table c.self.view_is
@@ -63,32 +48,26 @@ apart g c =
 -- what the shape shows with it
 after : (g : Over) (c : goal.After-self-1 g) →
     AfterInsert g.O.TreeOrder.order (capacity_of c.self.inside.layout)
-    (copy_number c.self.inside.copy) c.self.inside.cursor.tree
-    c.with_record_apart.new.cursor.tree c.with_record_apart.new.cursor.room
-    (record { node = c.args.node; item = c.args.item }) c.args.self.now
+    (copy_number c.self.inside.copy) c.self.inside.cursor.tree c.insert_apart.new.cursor.tree
+    c.insert_apart.new.cursor.room (record { node = c.args.node; item = c.args.item })
+    (c.insert_apart.ensures.links c.if-insert_apart.false).links c.args.self.now
 after g c =
-    let inserted = c.with_record_apart.ensures.cursor c.if-with_record_apart.false in
+    let none = c.if-insert_apart.false in
+    let added = c.insert_apart.ensures.links none in
     shown_insert g.O.TreeOrder.order g.met.O.TreeOrder.lawful (capacity_of c.self.inside.layout)
-    (copy_number c.self.inside.copy) c.self.inside.cursor.tree
-    c.with_record_apart.new.cursor.tree c.self.inside.cursor.room
-    c.with_record_apart.new.cursor.room (record { node = c.args.node; item = c.args.item })
-    (ap (λ (z : Zipper). z.tree) inserted)
-    (omega (
-      arith,
-      ap (λ (z : Zipper). z.room) inserted,
-      ap (λ (p : Picture). p.room) c.self.view_is,
-      c.requires.room,
-    ))
-    c.self.invariant.0 c.self.invariant.1 c.args.self.now c.self.view_is
+    (copy_number c.self.inside.copy) c.self.inside.cursor.tree c.insert_apart.new.cursor.tree
+    c.self.inside.cursor.room c.insert_apart.new.cursor.room (c.insert_apart.ensures.room none)
+    c.self.invariant.0 (record { node = c.args.node; item = c.args.item }) added.links
+    (c.insert_apart.ensures.rows none) c.insert_apart.ensures.balanced added.lead c.self.view_is
     (c.requires.in_range, c.requires.free, c.requires.valid, sym (apart g c))
 
 pub invariant_of-self-2 : goal.invariant_of-self-2
 invariant_of-self-2 g c =
     let shown = after g c in (
       shown.picture,
-      shown.balanced,
+      c.insert_apart.ensures.balanced,
       omega (arith, shown.count, c.self.invariant.2),
-      ap (λ (z : Zipper). z.path) (c.with_record_apart.ensures.cursor c.if-with_record_apart.false),
+      c.insert_apart.ensures.path,
     )
 
 pub returns-clause-met : goal.returns-clause-met
@@ -99,17 +78,7 @@ returns-clause-pictures g c = λ _. (after g c).inserts
 
 pub returns-clause-plan : goal.returns-clause-plan
 returns-clause-plan g c = λ _.
-    let x : Record = record { node = c.args.node; item = c.args.item } in
-    let links : List Store =
-    links_with (copy_number c.self.inside.copy) g.O.TreeOrder.order x c.self.inside.cursor.tree in
-    (links, c.with_record_apart.ensures.items c.if-with_record_apart.false, (after g c).leads)
+    let added = c.insert_apart.ensures.links c.if-insert_apart.false in (added.links, added.stores, (after g c).leads)
 
 pub returns-clause-few : goal.returns-clause-few
-returns-clause-few g c =
-    let x : Record = record { node = c.args.node; item = c.args.item } in
-    omega (
-      arith,
-      c.with_record_apart.ensures.len c.if-with_record_apart.false,
-      few_with g.O.TreeOrder.order (copy_number c.self.inside.copy) c.self.inside.cursor.tree x
-          c.self.invariant.1,
-    )
+returns-clause-few g c = omega (arith, c.insert_apart.ensures.few)
