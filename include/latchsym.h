@@ -278,6 +278,79 @@ static inline uint32_t latchsym_catalog_place_of_name(struct latchsym_catalog *c
                                                   name_len, from, place);
 }
 
+/* ---- a view of the catalog ---- */
+
+/* A catalog in plain memory of the caller's, in which any number of threads find at once, also while
+ * they fork or are interrupted. The memory and the bytes of the listings stay, and stay as they are,
+ * while a view of them is used; the catalog itself may be closed. A view may be copied. The rows are
+ * what a search reads, and may be read by the caller too. */
+
+/* A symbol of a module, and its place in the order listed. */
+struct latchsym_view_symbol { uint64_t addr; size_t place; struct latchsym_place name; };
+#define LATCHSYM_VIEW_SYMBOL_INIT { 0, 0, LATCHSYM_PLACE_INIT }
+
+/* Addresses from a up to b, which is excluded, and the number and the name of their module; all
+ * symbols of this module by rising address, those of one address by falling place; and the
+ * addresses of these alone. */
+struct latchsym_view_region {
+    uint64_t a, b, module_number;
+    struct latchsym_place module;
+    const struct latchsym_view_symbol *symbols;
+    size_t symbols_len;
+    const uint64_t *addresses;
+    size_t addresses_len;
+};
+
+/* The regions of all modules by rising address. One that latchsym_catalog_flatten has written. */
+struct latchsym_view { const struct latchsym_view_region *regions; size_t regions_len; };
+
+/* How many rows a view of the catalog has: of regions, and of symbols, each of which has an address
+ * besides. 0, LATCHSYM_OUT_OF_MEMORY where no memory could have so many, or LATCHSYM_BAD_HANDLE;
+ * each but 0 writes nothing. Handler. */
+struct latchsym_sizes { size_t regions, symbols; };
+uint32_t latchsym_catalog_sizes(struct latchsym_catalog *, struct latchsym_sizes *out);
+
+/* Writes the rows of the catalog into these rooms, and a view of them. The rooms have as many rows
+ * as latchsym_catalog_sizes tells. 0, LATCHSYM_BAD_LENGTH where they have not, or
+ * LATCHSYM_BAD_HANDLE; each but 0 writes no view. Takes no memory. */
+uint32_t latchsym_catalog_flatten_nonnull(struct latchsym_catalog *,
+                                          struct latchsym_view_region *regions,
+                                          size_t regions_len,
+                                          struct latchsym_view_symbol *symbols,
+                                          size_t symbols_len, uint64_t *addresses,
+                                          size_t addresses_len, struct latchsym_view *out);
+static inline uint32_t latchsym_catalog_flatten(struct latchsym_catalog *catalog,
+                                                struct latchsym_view_region *regions,
+                                                size_t regions_len,
+                                                struct latchsym_view_symbol *symbols,
+                                                size_t symbols_len, uint64_t *addresses,
+                                                size_t addresses_len, struct latchsym_view *out) {
+    static struct latchsym_view_symbol no_symbol = LATCHSYM_VIEW_SYMBOL_INIT;
+    static uint64_t no_address = 0;
+    static struct latchsym_view_region no_region = { 0, 0, 0, LATCHSYM_PLACE_INIT, &no_symbol, 0,
+                                                     &no_address, 0 };
+    struct latchsym_view view = { &no_region, 0 };
+    uint32_t answer;
+    size_t i;
+    for (i = 0; i < regions_len; i++) regions[i] = no_region;
+    for (i = 0; i < symbols_len; i++) symbols[i] = no_symbol;
+    answer = latchsym_catalog_flatten_nonnull(
+        catalog, regions_len ? regions : &no_region, regions_len,
+        symbols_len ? symbols : &no_symbol, symbols_len, addresses_len ? addresses : &no_address,
+        addresses_len, &view);
+    if (!answer) *out = view;
+    return answer;
+}
+
+/* The symbol of an address, as latchsym_catalog_find tells it, by any number of threads at once. 0,
+ * LATCHSYM_NO_SYMBOL or LATCHSYM_NOTHING. Handler. */
+uint32_t latchsym_view_find(const struct latchsym_view *, uint64_t addr,
+                            struct latchsym_symbol *out);
+
+/* The same of a return address, as latchsym_catalog_find_caller tells it. Handler. */
+uint32_t latchsym_view_find_caller(const struct latchsym_view *, uint64_t addr,
+                                   struct latchsym_symbol *out);
+
 /* Opens another handle of the same catalog, for another thread. 0, LATCHSYM_OUT_OF_MEMORY or
  * LATCHSYM_BAD_HANDLE. */
 uint32_t latchsym_catalog_share(struct latchsym_catalog *, struct latchsym_catalog *out);

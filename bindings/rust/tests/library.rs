@@ -71,6 +71,26 @@ fn many_addresses_are_told_as_each_alone() {
 }
 
 #[test]
+fn threads_find_in_one_view() {
+    let view = opened().view().unwrap();
+    let view = &view;
+    thread::scope(|scope| {
+        for _ in 0..4 {
+            scope.spawn(move || {
+                for _ in 0..1000 {
+                    let found = view.find(EXT4_A).unwrap();
+                    assert_eq!(found.to_string(), "ext4_a+0x8/0x30 [ext4]");
+                    assert_eq!(view.find_caller(0xffff_ffff_c000_0040).unwrap().offset, 0x30);
+                    assert_eq!(view.find(0xffff_ffff_c000_0001).unwrap().to_string(), "? [ext4]");
+                    assert!(view.find(0x1000).is_none() && view.find_caller(0).is_none());
+                }
+            });
+        }
+    });
+    assert!(Listings::new(b"").open().unwrap().view().unwrap().find(DO_ONE).is_none());
+}
+
+#[test]
 #[should_panic(expected = "not as many rooms")]
 fn rooms_are_as_many_as_addresses() {
     let _ = opened().find_many_into(&[1, 2], &mut [Default::default()]);
