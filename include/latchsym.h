@@ -73,6 +73,14 @@ enum {
     LATCHSYM_RETRY = 23,     /* of a search by a reader: the writer flipped meanwhile, try again */
     LATCHSYM_FLIP = 31,      /* of a step: a flip of the sequence; the second shows the update */
     LATCHSYM_STORE = 32,     /* of a step: another word was stored */
+    LATCHSYM_NOTE_GZIP = 41, /* of a listing, here and up to 48: it is compressed by gzip */
+    LATCHSYM_NOTE_HIDDEN = 42,        /* every address is 0: it was not read as root */
+    LATCHSYM_NOTE_LIKE_SYMBOLS = 43,  /* of modules: it looks like a listing of symbols */
+    LATCHSYM_NOTE_LIKE_MODULES = 44,  /* of symbols: it looks like a listing of modules */
+    LATCHSYM_NOTE_CR_LF = 45,         /* its lines end in CR LF */
+    LATCHSYM_NOTE_NO_START = 46,      /* of symbols: none has the name at the kernel's start */
+    LATCHSYM_NOTE_NO_END = 47,        /* of symbols: none has the name at the kernel's end */
+    LATCHSYM_NOTE_OTHER_BOOT = 48,    /* of modules: no symbol lies in one of them */
     LATCHSYM_BAD_HANDLE = 101, /* closed where open is wanted, the other way round, or of others */
     LATCHSYM_BAD_LENGTH = 102, /* not as much room as there are addresses */
     LATCHSYM_BAD_LISTINGS = 103 /* of a struct of listings: not as this version has it */
@@ -80,12 +88,15 @@ enum {
 
 /* How many lines of each listing went where, as `latchsym lookup` prints them. Without a listing of
  * modules: how many modules and regions of these the symbols have, and 0 of what is said of lines
- * of modules and of regions. */
+ * of modules and of regions. And what `latchsym lookup` notes of each listing, so that one of which
+ * nothing is of use does not look like a success: the number of a note, whose text is read behind
+ * the listing's name, or LATCHSYM_NOTHING. */
 struct latchsym_counts {
     uint64_t modules, modules_hidden, modules_empty, modules_wraps, modules_overlap, modules_double,
         modules_long, modules_malformed;
     uint64_t symbols, symbols_hidden, symbols_stray, symbols_long, symbols_malformed;
     uint64_t regions, regions_stray;
+    uint32_t modules_note, symbols_note;
 };
 
 /* Where bytes lie, and how many they are. One that is handed in may be null where it has no byte.

@@ -55,6 +55,15 @@ class Finding(unittest.TestCase):
             self.assertIsNone(catalog.find(DO_ONE))
 
 
+class Noting(unittest.TestCase):
+    def test_listings_of_no_use_are_noted(self):
+        with Catalog(b"0000000000000000 T _stext\n", MODULES) as catalog:
+            self.assertIn("read it as root", catalog.counts.symbols_note)
+            self.assertIn("one boot", catalog.counts.modules_note)
+        with Catalog(SYMBOLS, MODULES) as catalog:
+            self.assertEqual((catalog.counts.modules_note, catalog.counts.symbols_note), (None, None))
+
+
 class Viewing(unittest.TestCase):
     ADDRESSES = [EXT4_A, DO_ONE, 0x1000, 0xFFFFFFFFC0000001, 0, 0xFFFFFFFFC0000040, (1 << 64) - 1]
 

@@ -67,6 +67,24 @@ pub struct Counts {
     pub symbols_malformed: u64,
     pub regions: u64,
     pub regions_stray: u64,
+    modules_note: u32,
+    symbols_note: u32,
+}
+
+impl Counts {
+    /// What `latchsym lookup` notes of the listing of modules, where none of it is of use.
+    pub fn modules_note(&self) -> Option<&'static str> {
+        note(self.modules_note)
+    }
+
+    /// The same of the listing of symbols.
+    pub fn symbols_note(&self) -> Option<&'static str> {
+        note(self.symbols_note)
+    }
+}
+
+fn note(number: u32) -> Option<&'static str> {
+    (number != sys::NOTHING).then(|| sys::text_of(number))
 }
 
 /// What is known of an address. It is shown as `latchsym lookup` writes it.

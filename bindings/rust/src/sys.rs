@@ -1,7 +1,7 @@
 // SPDX-License-Identifier: MIT OR Apache-2.0
 //! include/latchsym.h.
 
-use std::ffi::c_void;
+use std::ffi::{c_void, CStr};
 
 pub const DONE: u32 = 0;
 pub const OUT_OF_MEMORY: u32 = 7;
@@ -140,6 +140,17 @@ pub struct NameAnswer {
 }
 
 use crate::{Answer, Counts, Item};
+
+/// The text of a number.
+pub fn text_of(number: u32) -> &'static str {
+    let mut place = Place::NONE;
+    // SAFETY: the call writes a place, of a text that ends with a 0 byte and stays.
+    let text = unsafe {
+        latchsym_place_of_text(number, &mut place);
+        CStr::from_ptr(place.at.cast())
+    };
+    text.to_str().unwrap_or_default()
+}
 
 extern "C" {
     pub fn latchsym_place_of_text(number: u32, out: *mut Place);

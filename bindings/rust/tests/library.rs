@@ -44,6 +44,16 @@ fn an_address_has_a_symbol() {
 }
 
 #[test]
+fn a_listing_of_no_use_is_noted() {
+    let opened = |kallsyms| Listings { modules: Some(MODULES), ..Listings::new(kallsyms) }.open();
+    let hidden = opened(b"0000000000000000 T _stext\n".as_slice()).unwrap();
+    assert!(hidden.counts().symbols_note().unwrap().starts_with("every address is 0"));
+    assert!(hidden.counts().modules_note().unwrap().contains("one boot"));
+    let counts = *opened(SYMBOLS).unwrap().counts();
+    assert_eq!((counts.modules_note(), counts.symbols_note()), (None, None));
+}
+
+#[test]
 fn names_outlive_the_catalog() {
     let text = SYMBOLS.to_vec();
     let name = Listings::new(&text).open().unwrap().find(EXT4_A).unwrap().unwrap().name;

@@ -94,6 +94,16 @@ class Counts(NamedTuple):
     symbols_malformed: int
     regions: int
     regions_stray: int
+    modules_note: str | None
+    """What `latchsym lookup` notes of the listing of modules, where none of it is of use."""
+    symbols_note: str | None
+    """The same of the listing of symbols."""
+
+
+def _counts(counts: it.Counts) -> Counts:
+    notes = (getattr(counts, name) for name in it.NOTES)
+    texts = (None if note == it.NOTHING else it.text_of(note) for note in notes)
+    return Counts(*(getattr(counts, name) for name in it.COUNTS), *texts)
 
 
 _TOLD = ctypes.sizeof(it.Told)
@@ -266,7 +276,7 @@ class Catalog:
         if number == it.BAD_LINE:
             raise BadListing(number, it.text_of(number), bad_line.value)
         check(number)
-        self._keep(handle, pinned, Counts(*(getattr(counts, name) for name in it.COUNTS)))
+        self._keep(handle, pinned, _counts(counts))
 
     def _keep(self, handle: it.Handle, listings: Sequence[Pinned], counts: Counts) -> None:
         self._handle = handle

@@ -30,8 +30,11 @@ COUNTS = (
 ).split()
 
 
+NOTES = ("modules_note", "symbols_note")
+
+
 class Counts(ctypes.Structure):
-    _fields_ = [(name, c_uint64) for name in COUNTS]
+    _fields_ = [(name, c_uint64) for name in COUNTS] + [(name, c_uint32) for name in NOTES]
 
 
 class Place(ctypes.Structure):
