@@ -73,6 +73,14 @@ enum {
     LATCHSYM_RETRY = 23,     /* of a search by a reader: the writer flipped meanwhile, try again */
     LATCHSYM_FLIP = 31,      /* of a step: a flip of the sequence; the second shows the update */
     LATCHSYM_STORE = 32,     /* of a step: another word was stored */
+    LATCHSYM_NOTE_GZIP = 41, /* of a listing, here and up to 48: it is compressed by gzip */
+    LATCHSYM_NOTE_HIDDEN = 42,        /* every address is 0: it was not read as root */
+    LATCHSYM_NOTE_LIKE_SYMBOLS = 43,  /* of modules: it looks like a listing of symbols */
+    LATCHSYM_NOTE_LIKE_MODULES = 44,  /* of symbols: it looks like a listing of modules */
+    LATCHSYM_NOTE_CR_LF = 45,         /* its lines end in CR LF */
+    LATCHSYM_NOTE_NO_START = 46,      /* of symbols: none has the name at the kernel's start */
+    LATCHSYM_NOTE_NO_END = 47,        /* of symbols: none has the name at the kernel's end */
+    LATCHSYM_NOTE_OTHER_BOOT = 48,    /* of modules: no symbol lies in one of them */
     LATCHSYM_BAD_HANDLE = 101, /* closed where open is wanted, the other way round, or of others */
     LATCHSYM_BAD_LENGTH = 102, /* not as much room as there are addresses */
     LATCHSYM_BAD_LISTINGS = 103 /* of a struct of listings: not as this version has it */
@@ -80,12 +88,15 @@ enum {
 
 /* How many lines of each listing went where, as `latchsym lookup` prints them. Without a listing of
  * modules: how many modules and regions of these the symbols have, and 0 of what is said of lines
- * of modules and of regions. */
+ * of modules and of regions. And what `latchsym lookup` notes of each listing, so that one of which
+ * nothing is of use does not look like a success: the number of a note, whose text is read behind
+ * the listing's name, or LATCHSYM_NOTHING. */
 struct latchsym_counts {
     uint64_t modules, modules_hidden, modules_empty, modules_wraps, modules_overlap, modules_double,
         modules_long, modules_malformed;
     uint64_t symbols, symbols_hidden, symbols_stray, symbols_long, symbols_malformed;
     uint64_t regions, regions_stray;
+    uint32_t modules_note, symbols_note;
 };
 
 /* Where bytes lie, and how many they are. One that is handed in may be null where it has no byte.
@@ -277,6 +288,79 @@ static inline uint32_t latchsym_catalog_place_of_name(struct latchsym_catalog *c
     return latchsym_catalog_place_of_name_nonnull(catalog, number, name_len ? name : &none,
                                                   name_len, from, place);
 }
+
+/* ---- a view of the catalog ---- */
+
+/* A catalog in plain memory of the caller's, in which any number of threads find at once, also while
+ * they fork or are interrupted. The memory and the bytes of the listings stay, and stay as they are,
+ * while a view of them is used; the catalog itself may be closed. A view may be copied. The rows are
+ * what a search reads, and may be read by the caller too. */
+
+/* A symbol of a module, and its place in the order listed. */
+struct latchsym_view_symbol { uint64_t addr; size_t place; struct latchsym_place name; };
+#define LATCHSYM_VIEW_SYMBOL_INIT { 0, 0, LATCHSYM_PLACE_INIT }
+
+/* Addresses from a up to b, which is excluded, and the number and the name of their module; all
+ * symbols of this module by rising address, those of one address by falling place; and the
+ * addresses of these alone. */
+struct latchsym_view_region {
+    uint64_t a, b, module_number;
+    struct latchsym_place module;
+    const struct latchsym_view_symbol *symbols;
+    size_t symbols_len;
+    const uint64_t *addresses;
+    size_t addresses_len;
+};
+
+/* The regions of all modules by rising address. One that latchsym_catalog_flatten has written. */
+struct latchsym_view { const struct latchsym_view_region *regions; size_t regions_len; };
+
+/* How many rows a view of the catalog has: of regions, and of symbols, each of which has an address
+ * besides. 0, LATCHSYM_OUT_OF_MEMORY where no memory could have so many, or LATCHSYM_BAD_HANDLE;
+ * each but 0 writes nothing. Handler. */
+struct latchsym_sizes { size_t regions, symbols; };
+uint32_t latchsym_catalog_sizes(struct latchsym_catalog *, struct latchsym_sizes *out);
+
+/* Writes the rows of the catalog into these rooms, and a view of them. The rooms have as many rows
+ * as latchsym_catalog_sizes tells. 0, LATCHSYM_BAD_LENGTH where they have not, or
+ * LATCHSYM_BAD_HANDLE; each but 0 writes no view. Takes no memory. */
+uint32_t latchsym_catalog_flatten_nonnull(struct latchsym_catalog *,
+                                          struct latchsym_view_region *regions,
+                                          size_t regions_len,
+                                          struct latchsym_view_symbol *symbols,
+                                          size_t symbols_len, uint64_t *addresses,
+                                          size_t addresses_len, struct latchsym_view *out);
+static inline uint32_t latchsym_catalog_flatten(struct latchsym_catalog *catalog,
+                                                struct latchsym_view_region *regions,
+                                                size_t regions_len,
+                                                struct latchsym_view_symbol *symbols,
+                                                size_t symbols_len, uint64_t *addresses,
+                                                size_t addresses_len, struct latchsym_view *out) {
+    static struct latchsym_view_symbol no_symbol = LATCHSYM_VIEW_SYMBOL_INIT;
+    static uint64_t no_address = 0;
+    static struct latchsym_view_region no_region = { 0, 0, 0, LATCHSYM_PLACE_INIT, &no_symbol, 0,
+                                                     &no_address, 0 };
+    struct latchsym_view view = { &no_region, 0 };
+    uint32_t answer;
+    size_t i;
+    for (i = 0; i < regions_len; i++) regions[i] = no_region;
+    for (i = 0; i < symbols_len; i++) symbols[i] = no_symbol;
+    answer = latchsym_catalog_flatten_nonnull(
+        catalog, regions_len ? regions : &no_region, regions_len,
+        symbols_len ? symbols : &no_symbol, symbols_len, addresses_len ? addresses : &no_address,
+        addresses_len, &view);
+    if (!answer) *out = view;
+    return answer;
+}
+
+/* The symbol of an address, as latchsym_catalog_find tells it, by any number of threads at once. 0,
+ * LATCHSYM_NO_SYMBOL or LATCHSYM_NOTHING. Handler. */
+uint32_t latchsym_view_find(const struct latchsym_view *, uint64_t addr,
+                            struct latchsym_symbol *out);
+
+/* The same of a return address, as latchsym_catalog_find_caller tells it. Handler. */
+uint32_t latchsym_view_find_caller(const struct latchsym_view *, uint64_t addr,
+                                   struct latchsym_symbol *out);
 
 /* Opens another handle of the same catalog, for another thread. 0, LATCHSYM_OUT_OF_MEMORY or
  * LATCHSYM_BAD_HANDLE. */

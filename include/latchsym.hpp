@@ -8,7 +8,7 @@
  *     if (auto found = catalog.find(0xffffffffc0000018)) std::cout << found->name << '\n';
  *
  * An object is for one thread at a time, also for what only looks: no member that calls the library
- * is const. It may go to another thread between two calls. One that was moved from may be assigned
+ * is const, but those of a view, in which any number of threads find at once. It may go to another thread between two calls. One that was moved from may be assigned
  * or destroyed, and nothing else. In a signal handler use the calls of latchsym.h that are marked
  * "handler", with the handle that get() gives: members may throw, and some take memory. */
 #ifndef LATCHSYM_HPP
@@ -134,6 +134,19 @@ struct entry {
     std::string_view name;
 };
 
+namespace detail {
+
+/* What a search tells by its number and in `out`; none where nothing is. */
+inline std::optional<symbol> symbol_told(std::uint32_t number, const latchsym_symbol &out) {
+    if (number == LATCHSYM_NOTHING) return std::nullopt;
+    const bool has_name = number != LATCHSYM_NO_SYMBOL;
+    if (has_name) check(number);
+    return symbol{text(out.name), text(out.module),  out.offset,
+                  out.size,       out.module_number, has_name};
+}
+
+} // namespace detail
+
 class catalog {
 public:
     /* Opens the catalog of listings. Their bytes stay while it, or one that shares it, is open. */
@@ -232,19 +245,56 @@ private:
     std::optional<symbol> found(Call call, std::uint64_t addr) {
         latchsym_symbol out = LATCHSYM_SYMBOL_INIT;
         const std::uint32_t number = call(get(), addr, &out);
-        if (number == LATCHSYM_NOTHING) return std::nullopt;
-        const bool has_name = number != LATCHSYM_NO_SYMBOL;
-        if (has_name) detail::check(number);
-        return symbol{detail::text(out.name),
-                      detail::text(out.module),
-                      out.offset,
-                      out.size,
-                      out.module_number,
-                      has_name};
+        return detail::symbol_told(number, out);
     }
 
     detail::owned<latchsym_catalog> handle_;
     latchsym::counts counts_{};
+};
+
+/* A catalog in memory of its own, in which any number of threads find at once. The bytes of the
+ * listings stay while it is there; the catalog may be closed. */
+class view {
+public:
+    explicit view(catalog &from) {
+        latchsym_sizes sizes{};
+        detail::check(latchsym_catalog_sizes(from.get(), &sizes));
+        regions_.resize(sizes.regions);
+        symbols_.resize(sizes.symbols);
+        addresses_.resize(sizes.symbols);
+        detail::check(latchsym_catalog_flatten(from.get(), regions_.data(), regions_.size(),
+                                               symbols_.data(), symbols_.size(),
+                                               addresses_.data(), addresses_.size(), &view_));
+    }
+
+    /* Its rows stay where they are when it is moved; a copy would have them twice. */
+    view(view &&) = default;
+    view &operator=(view &&) = default;
+    view(const view &) = delete;
+    view &operator=(const view &) = delete;
+
+    const latchsym_view *get() const noexcept { return &view_; }
+
+    /* The symbol of an address, or none where nothing is. */
+    std::optional<symbol> find(std::uint64_t addr) const { return found(latchsym_view_find, addr); }
+
+    /* The same of a return address: that of the call before it. */
+    std::optional<symbol> find_caller(std::uint64_t addr) const {
+        return found(latchsym_view_find_caller, addr);
+    }
+
+private:
+    template <class Call>
+    std::optional<symbol> found(Call call, std::uint64_t addr) const {
+        latchsym_symbol out = LATCHSYM_SYMBOL_INIT;
+        const std::uint32_t number = call(get(), addr, &out);
+        return detail::symbol_told(number, out);
+    }
+
+    std::vector<latchsym_view_region> regions_;
+    std::vector<latchsym_view_symbol> symbols_;
+    std::vector<std::uint64_t> addresses_;
+    latchsym_view view_{};
 };
 
 /* ---- the table ---- */

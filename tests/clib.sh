@@ -1,6 +1,6 @@
 #!/usr/bin/env bash
 # Builds the library for C, and runs the programs of tests/c and examples/c with it: the text of each
-# number, null pointers, what is found of addresses, the table on threads and beside signals,
+# number, null pointers, what is found of addresses, views on several threads, the table on threads and beside signals,
 # readers that are added, each request for memory refused, code that is sampled while it comes and
 # goes, and the listings of examples/ as `latchsym lookup` answers; under valgrind and sanitizers
 # where these are there, and names of 700 bytes under gcc's own for addresses. Looks at the object
@@ -15,18 +15,18 @@ compile() {
     gcc -std=gnu11 -Wall -Wextra -Werror -O2 -I"$top/include" "$top/tests/c/$1.c" "$library" -lpthread -o "$work/$1" "${@:2}"
 }
 
-for name in numbers nulls find table adding refused; do
+for name in numbers nulls find view table adding refused; do
     compile $name
     "$work/$name"
 done
 if command -v valgrind >/dev/null; then
-    for name in nulls refused; do
+    for name in nulls view refused; do
         valgrind -q --error-exitcode=1 --leak-check=full "$work/$name"
     done
 fi
 compile table -g
 compile adding -g
-for name in nulls find; do
+for name in nulls find view; do
     if compile $name -g -fsanitize=address,undefined 2>/dev/null; then
         "$work/$name"
     fi
@@ -39,6 +39,9 @@ for sanitizer in address thread; do
         "$work/adding"
     fi
 done
+if compile view -g -fsanitize=thread 2>/dev/null; then
+    "$work/view"
+fi
 
 echo '#include <latchsym.h>
 int main() { latchsym_catalog c = {}; latchsym_catalog_close(&c); }' >"$work/guards.cc"
@@ -102,7 +105,7 @@ objdump -dr --no-show-raw-insn "$top/crates/latchsym_ffi/out/liblatchsym_ffi.a" 
         edges[from] = edges[from] "\n" to
     }
     END {
-        count = split("latchsym_catalog_find latchsym_catalog_find_caller latchsym_catalog_find_many_nonnull latchsym_catalog_name_nonnull latchsym_catalog_modules latchsym_catalog_module latchsym_catalog_region latchsym_catalog_symbol latchsym_catalog_place_of_name_nonnull latchsym_writer_step latchsym_reader_try_find latchsym_reader_find_name_nonnull latchsym_place_of_text latchsym_version", list, " ")
+        count = split("latchsym_catalog_find latchsym_catalog_find_caller latchsym_catalog_find_many_nonnull latchsym_catalog_name_nonnull latchsym_catalog_modules latchsym_catalog_module latchsym_catalog_region latchsym_catalog_symbol latchsym_catalog_place_of_name_nonnull latchsym_catalog_sizes latchsym_view_find latchsym_view_find_caller latchsym_writer_step latchsym_reader_try_find latchsym_reader_find_name_nonnull latchsym_place_of_text latchsym_version", list, " ")
         for (i = 1; i <= count; i++) { if (!(list[i] in known)) { print "clib: no " list[i]; exit 1 } seen[list[i]] = 1 }
         for (i = 1; i <= count; i++) {
             parts = split(edges[list[i]], next_ones, "\n")
@@ -112,6 +115,6 @@ objdump -dr --no-show-raw-insn "$top/crates/latchsym_ffi/out/liblatchsym_ffi.a" 
             if (name ~ /alloc|free|realloc|mmap|sbrk/) { print "clib: a call for signal handlers reaches " name; bad = 1 }
             if (!(name in known) && name !~ /^(mem(move|cpy|set|cmp)|bcmp|\..*)$/) { print "clib: a call for signal handlers reaches " name; bad = 1 }
         }
-        if (!bad) print "clib: calls for signal handlers reach " count - 14 " other names, none that takes memory"
+        if (!bad) print "clib: calls for signal handlers reach " count - 17 " other names, none that takes memory"
         exit bad
     }'

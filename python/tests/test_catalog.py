@@ -55,6 +55,47 @@ class Finding(unittest.TestCase):
             self.assertIsNone(catalog.find(DO_ONE))
 
 
+class Noting(unittest.TestCase):
+    def test_listings_of_no_use_are_noted(self):
+        with Catalog(b"0000000000000000 T _stext\n", MODULES) as catalog:
+            self.assertIn("read it as root", catalog.counts.symbols_note)
+            self.assertIn("one boot", catalog.counts.modules_note)
+        with Catalog(SYMBOLS, MODULES) as catalog:
+            self.assertEqual((catalog.counts.modules_note, catalog.counts.symbols_note), (None, None))
+
+
+class Viewing(unittest.TestCase):
+    ADDRESSES = [EXT4_A, DO_ONE, 0x1000, 0xFFFFFFFFC0000001, 0, 0xFFFFFFFFC0000040, (1 << 64) - 1]
+
+    def test_a_view_finds_what_its_catalog_finds(self):
+        with Catalog(bytes(SYMBOLS), MODULES) as catalog:
+            wanted = [(catalog.find(addr), catalog.find_caller(addr)) for addr in self.ADDRESSES]
+            view = catalog.view()
+        gc.collect()
+        found = []
+
+        def find():
+            for _ in range(200):
+                found.append([(view.find(addr), view.find_caller(addr)) for addr in self.ADDRESSES])
+
+        threads = [threading.Thread(target=find) for _ in range(4)]
+        for thread in threads:
+            thread.start()
+        for thread in threads:
+            thread.join()
+        self.assertEqual(found, [wanted] * 800)
+        self.assertRaises(OverflowError, view.find, -1)
+
+    def test_a_view_of_nothing(self):
+        with Catalog(b"") as catalog:
+            self.assertIsNone(catalog.view().find(EXT4_A))
+
+    def test_a_closed_catalog_has_no_view(self):
+        catalog = Catalog(SYMBOLS)
+        catalog.close()
+        self.assertRaises(latchsym.Closed, catalog.view)
+
+
 class Many(unittest.TestCase):
     ADDRESSES = [EXT4_A, 0x1000, DO_ONE, 0xFFFFFFFFC0000001, EXT4_A + 2]
     TEXTS = ["ext4_a+0x8/0x30 [ext4]", "-", "do_one+0x8/0x1f00", "? [ext4]", "ext4_a+0xa/0x30 [ext4]"]

@@ -29,8 +29,9 @@ class Package(unittest.TestCase):
         self.assertEqual(set(_library.CALLS), {name for name, _ in calls})
         self.assertEqual(_library.NONNULL, {name for name, nonnull in calls if nonnull})
         names = re.search(r"struct latchsym_counts \{(.*?)\};", header, re.DOTALL)[1]
-        self.assertEqual(_library.COUNTS, re.findall(r"\b(?:modules|symbols|regions)\w*", names))
-        self.assertEqual(latchsym.Counts._fields, tuple(_library.COUNTS))
+        fields = [*_library.COUNTS, *_library.NOTES]
+        self.assertEqual(fields, re.findall(r"\b(?:modules|symbols|regions)\w*", names))
+        self.assertEqual(latchsym.Counts._fields, tuple(fields))
 
     def test_exceptions_have_the_texts_of_the_library(self):
         for number in (1, 7, 10, 23, 101, 103):

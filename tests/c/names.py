@@ -10,7 +10,7 @@ COUNTS = ("modules modules_hidden modules_empty modules_wraps modules_overlap mo
           "regions_stray").split()
 
 class Counts(ctypes.Structure):
-    _fields_ = [(name, c_uint64) for name in COUNTS]
+    _fields_ = [(name, c_uint64) for name in COUNTS] + [("modules_note", c_uint32), ("symbols_note", c_uint32)]
 
 class Place(ctypes.Structure):
     _fields_ = [("at", c_void_p), ("len", c_size_t)]
@@ -75,6 +75,23 @@ def counts_lines(counts, has_regions):
         out.append(f"regions {counts.regions} stray {counts.regions_stray}")
     return out
 
+def text_of(number):
+    text = Place()
+    lib.latchsym_place_of_text(number, text)
+    return ctypes.string_at(text.at).decode()
+
+NOTES = {text_of(number): number for number in range(41, 49)}
+BOUNDS = {"has no symbol _stext": 46, "has no symbol _end; try --kernel _stext _einittext": 47}
+
+def noted(folder, name):
+    """What the program notes of both listings, as numbers."""
+    notes = {"modules": NOTHING, "kallsyms": NOTHING}
+    path = folder / f"{name}.notes"
+    for note in path.read_text().splitlines() if path.exists() else []:
+        file, text = note.removeprefix("latchsym: note: ").split(": ", 1)
+        notes[file.split(".")[1]] = BOUNDS.get(text) or NOTES[text]
+    return notes["modules"], notes["kallsyms"]
+
 def compare(folder, name):
     read = lambda part: (folder / f"{name}.{part}").read_bytes()
     modules, kallsyms = read("modules"), read("kallsyms")
@@ -94,6 +111,7 @@ def compare(folder, name):
         assert found(lib.latchsym_catalog_find, other, addr) == lines[-1]
     expected = read("expected").decode().splitlines()
     assert lines + counts_lines(counts, regions is not None) == expected, name
+    assert (counts.modules_note, counts.symbols_note) == noted(folder, name), name
     assert lib.latchsym_catalog_name_nonnull(catalog, 1, symbol, first, 4096, second, 4096) == 101
     return other, (modules, kallsyms, regions), len(lines)
 

@@ -7,6 +7,7 @@
 #include <atomic>
 #include <cstdio>
 #include <cstdlib>
+#include <memory>
 #include <string>
 #include <thread>
 #include <vector>
@@ -55,6 +56,24 @@ static void finds() {
     const auto place = catalog.place_of_name(1, "ext4_b");
     CHECK(place && catalog.symbol_at(1, *place)->addr == 0xffffffffc0000040);
     CHECK(!catalog.place_of_name(1, "ext4_b", *place + 1) && !catalog.place_of_name(1, ""));
+}
+
+static void finds_in_a_view() {
+    auto catalog = std::make_unique<latchsym::catalog>(listed());
+    latchsym::view first(*catalog);
+    catalog.reset();
+    const latchsym::view view = std::move(first);
+    std::vector<std::thread> threads;
+    for (int i = 0; i < 4; i++)
+        threads.emplace_back([&view] {
+            for (int turn = 0; turn < 1000; turn++) {
+                CHECK(view.find(ext4_a)->name == "ext4_a" && view.find(ext4_a)->offset == 8);
+                CHECK(view.find_caller(0xffffffffc0000040)->offset == 0x30 && !view.find(0x1000));
+                CHECK(!view.find(0xffffffffc0000001)->has_name && !view.find_caller(0));
+            }
+        });
+    for (std::thread &thread : threads) thread.join();
+    static_assert(!std::is_copy_constructible_v<latchsym::view>, "its rows lie in one place");
 }
 
 static void refuses_listings() {
@@ -150,6 +169,7 @@ static void reads_on_threads() {
 
 int main() {
     finds();
+    finds_in_a_view();
     refuses_listings();
     moves_and_shares();
     updates();

@@ -1,5 +1,5 @@
 // SPDX-License-Identifier: MIT OR Apache-2.0
-use crate::{sys, Error};
+use crate::{sys, Error, View};
 use std::{cell::UnsafeCell, fmt, marker::PhantomData, mem::size_of, slice};
 
 /// The listings that a catalog is opened of.
@@ -67,6 +67,24 @@ pub struct Counts {
     pub symbols_malformed: u64,
     pub regions: u64,
     pub regions_stray: u64,
+    modules_note: u32,
+    symbols_note: u32,
+}
+
+impl Counts {
+    /// What `latchsym lookup` notes of the listing of modules, where none of it is of use.
+    pub fn modules_note(&self) -> Option<&'static str> {
+        note(self.modules_note)
+    }
+
+    /// The same of the listing of symbols.
+    pub fn symbols_note(&self) -> Option<&'static str> {
+        note(self.symbols_note)
+    }
+}
+
+fn note(number: u32) -> Option<&'static str> {
+    (number != sys::NOTHING).then(|| sys::text_of(number))
 }
 
 /// What is known of an address. It is shown as `latchsym lookup` writes it.
@@ -226,23 +244,18 @@ impl<'l> Catalog<'l> {
         &self,
         call: impl FnOnce(&mut sys::Symbol) -> u32,
     ) -> Result<Option<Symbol<'l>>, Error> {
-        let none = sys::Place::of(b"");
-        let mut out =
-            sys::Symbol { module_number: 0, offset: 0, size: 0, name: none, module: none };
+        let mut out = sys::Symbol::NONE;
         let number = call(&mut out);
-        let has_name = number != sys::NO_SYMBOL;
-        if has_name && !Error::is_there(number)? {
+        if number != sys::NO_SYMBOL && !Error::is_there(number)? {
             return Ok(None);
         }
-        Ok(Some(Symbol {
-            // SAFETY: a name lies in the listings (or is a constant), which stay for 'l.
-            name: unsafe { has_name.then(|| bytes_at(out.name)) },
-            offset: out.offset,
-            size: out.size,
-            // SAFETY: the same.
-            module: unsafe { bytes_at(out.module) },
-            module_number: out.module_number,
-        }))
+        // SAFETY: the names lie in the listings (or are constants), which stay for 'l.
+        Ok(unsafe { symbol_told(number, &out) })
+    }
+
+    /// The catalog in memory of its own, for any number of threads at once.
+    pub fn view(&self) -> Result<View<'l>, Error> {
+        View::of(self)
     }
 
     /// What is told of each address, in numbers alone.
@@ -362,6 +375,26 @@ impl fmt::Debug for Catalog<'_> {
     fn fmt(&self, out: &mut fmt::Formatter<'_>) -> fmt::Result {
         out.debug_struct("Catalog").field("counts", &self.counts).finish_non_exhaustive()
     }
+}
+
+/// What a search has told by its number; none where nothing is.
+///
+/// # Safety
+///
+/// The bytes of the names stay unchanged for 'l.
+pub(crate) unsafe fn symbol_told<'l>(number: u32, out: &sys::Symbol) -> Option<Symbol<'l>> {
+    if number != sys::DONE && number != sys::NO_SYMBOL {
+        return None;
+    }
+    Some(Symbol {
+        // SAFETY: as the caller says.
+        name: unsafe { (number == sys::DONE).then(|| bytes_at(out.name)) },
+        offset: out.offset,
+        size: out.size,
+        // SAFETY: the same.
+        module: unsafe { bytes_at(out.module) },
+        module_number: out.module_number,
+    })
 }
 
 /// The bytes at a place that a call has told.

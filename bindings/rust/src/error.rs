@@ -1,6 +1,6 @@
 // SPDX-License-Identifier: MIT OR Apache-2.0
 use crate::sys;
-use std::{ffi::CStr, fmt};
+use std::fmt;
 
 /// What the library refused. It is shown by the library's text.
 #[derive(Clone, Copy, Debug, PartialEq, Eq, Hash)]
@@ -90,13 +90,7 @@ impl Error {
 
 impl fmt::Display for Error {
     fn fmt(&self, out: &mut fmt::Formatter<'_>) -> fmt::Result {
-        let mut place = sys::Place::of(b"");
-        // SAFETY: the call writes a place, of a text that ends with a 0 byte and stays.
-        let text = unsafe {
-            sys::latchsym_place_of_text(self.number(), &mut place);
-            CStr::from_ptr(place.at.cast())
-        };
-        out.write_str(&text.to_string_lossy())?;
+        out.write_str(sys::text_of(self.number()))?;
         match self {
             Error::BadLine(line) => write!(out, ": line {line}"),
             _ => Ok(()),

@@ -15,7 +15,8 @@
 //!
 //! - A handle is never moved while it is open: each lies apart, in memory of its own.
 //! - It is given to one call at a time: [`Catalog`], [`Writer`] and [`Reader`] are `Send` and not
-//!   `Sync`. [`Catalog::share`] gives another thread its own.
+//!   `Sync`. [`Catalog::share`] gives another thread its own, and [`Catalog::view`] is for any
+//!   number of threads: [`View`] is `Sync`.
 //! - The bytes of listings stay unchanged while a catalog is open: it borrows them, and so do the
 //!   names that it tells, which may be read after it is closed.
 //!
@@ -53,6 +54,7 @@
 mod catalog;
 mod error;
 mod table;
+mod view;
 
 #[allow(dead_code)]
 mod sys;
@@ -60,6 +62,7 @@ mod sys;
 pub use catalog::{Answer, Catalog, Counts, Entry, Listings, Module, Region, Symbol};
 pub use error::Error;
 pub use table::{table, table_with_room, Found, Item, Reader, Readers, Step, Writer};
+pub use view::View;
 
 /// The version of the library: 10000 of each major, 100 of each minor and 1 of each patch number.
 pub fn version() -> u32 {

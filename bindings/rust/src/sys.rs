@@ -1,7 +1,7 @@
 // SPDX-License-Identifier: MIT OR Apache-2.0
 //! include/latchsym.h.
 
-use std::ffi::c_void;
+use std::ffi::{c_void, CStr};
 
 pub const DONE: u32 = 0;
 pub const OUT_OF_MEMORY: u32 = 7;
@@ -32,6 +32,8 @@ pub struct Place {
 }
 
 impl Place {
+    pub const NONE: Place = Place { at: b"".as_ptr(), len: 0 };
+
     /// (the pointer of a slice is never null, also where it is empty)
     pub fn of(bytes: &[u8]) -> Place {
         Place { at: bytes.as_ptr(), len: bytes.len() }
@@ -45,6 +47,11 @@ pub struct Symbol {
     pub size: u64,
     pub name: Place,
     pub module: Place,
+}
+
+impl Symbol {
+    pub const NONE: Symbol =
+        Symbol { module_number: 0, offset: 0, size: 0, name: Place::NONE, module: Place::NONE };
 }
 
 #[repr(C)]
@@ -81,6 +88,40 @@ pub struct Entry {
 
 #[repr(C)]
 #[derive(Default)]
+pub struct Sizes {
+    pub regions: usize,
+    pub symbols: usize,
+}
+
+#[repr(C)]
+#[derive(Clone, Copy)]
+pub struct ViewSymbol {
+    pub addr: u64,
+    pub place: usize,
+    pub name: Place,
+}
+
+#[repr(C)]
+#[derive(Clone, Copy)]
+pub struct ViewRegion {
+    pub a: u64,
+    pub b: u64,
+    pub module_number: u64,
+    pub module: Place,
+    pub symbols: *const ViewSymbol,
+    pub symbols_len: usize,
+    pub addresses: *const u64,
+    pub addresses_len: usize,
+}
+
+#[repr(C)]
+pub struct View {
+    pub regions: *const ViewRegion,
+    pub regions_len: usize,
+}
+
+#[repr(C)]
+#[derive(Default)]
 pub struct Found {
     pub a: u64,
     pub b: u64,
@@ -99,6 +140,17 @@ pub struct NameAnswer {
 }
 
 use crate::{Answer, Counts, Item};
+
+/// The text of a number.
+pub fn text_of(number: u32) -> &'static str {
+    let mut place = Place::NONE;
+    // SAFETY: the call writes a place, of a text that ends with a 0 byte and stays.
+    let text = unsafe {
+        latchsym_place_of_text(number, &mut place);
+        CStr::from_ptr(place.at.cast())
+    };
+    text.to_str().unwrap_or_default()
+}
 
 extern "C" {
     pub fn latchsym_place_of_text(number: u32, out: *mut Place);
@@ -153,6 +205,20 @@ extern "C" {
         from: usize,
         place: *mut usize,
     ) -> u32;
+    pub fn latchsym_catalog_sizes(catalog: *mut Handle, out: *mut Sizes) -> u32;
+    #[link_name = "latchsym_catalog_flatten_nonnull"]
+    pub fn latchsym_catalog_flatten(
+        catalog: *mut Handle,
+        regions: *mut ViewRegion,
+        regions_len: usize,
+        symbols: *mut ViewSymbol,
+        symbols_len: usize,
+        addresses: *mut u64,
+        addresses_len: usize,
+        out: *mut View,
+    ) -> u32;
+    pub fn latchsym_view_find(view: *const View, addr: u64, out: *mut Symbol) -> u32;
+    pub fn latchsym_view_find_caller(view: *const View, addr: u64, out: *mut Symbol) -> u32;
     pub fn latchsym_catalog_share(catalog: *mut Handle, out: *mut Handle) -> u32;
     #[link_name = "latchsym_catalog_close_nonnull"]
     pub fn latchsym_catalog_close(catalog: *mut Handle);

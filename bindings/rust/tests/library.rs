@@ -44,6 +44,16 @@ fn an_address_has_a_symbol() {
 }
 
 #[test]
+fn a_listing_of_no_use_is_noted() {
+    let opened = |kallsyms| Listings { modules: Some(MODULES), ..Listings::new(kallsyms) }.open();
+    let hidden = opened(b"0000000000000000 T _stext\n".as_slice()).unwrap();
+    assert!(hidden.counts().symbols_note().unwrap().starts_with("every address is 0"));
+    assert!(hidden.counts().modules_note().unwrap().contains("one boot"));
+    let counts = *opened(SYMBOLS).unwrap().counts();
+    assert_eq!((counts.modules_note(), counts.symbols_note()), (None, None));
+}
+
+#[test]
 fn names_outlive_the_catalog() {
     let text = SYMBOLS.to_vec();
     let name = Listings::new(&text).open().unwrap().find(EXT4_A).unwrap().unwrap().name;
@@ -68,6 +78,26 @@ fn many_addresses_are_told_as_each_alone() {
     let mut rooms = [Default::default(); 9];
     catalog.find_many_into(&addresses, &mut rooms).unwrap();
     assert_eq!(rooms[..4], answers);
+}
+
+#[test]
+fn threads_find_in_one_view() {
+    let view = opened().view().unwrap();
+    let view = &view;
+    thread::scope(|scope| {
+        for _ in 0..4 {
+            scope.spawn(move || {
+                for _ in 0..1000 {
+                    let found = view.find(EXT4_A).unwrap();
+                    assert_eq!(found.to_string(), "ext4_a+0x8/0x30 [ext4]");
+                    assert_eq!(view.find_caller(0xffff_ffff_c000_0040).unwrap().offset, 0x30);
+                    assert_eq!(view.find(0xffff_ffff_c000_0001).unwrap().to_string(), "? [ext4]");
+                    assert!(view.find(0x1000).is_none() && view.find_caller(0).is_none());
+                }
+            });
+        }
+    });
+    assert!(Listings::new(b"").open().unwrap().view().unwrap().find(DO_ONE).is_none());
 }
 
 #[test]

@@ -5,5 +5,9 @@ pub mod PointerValues
 mod FindLemmas
 -- loops over two lists
 mod MapLemmas
+-- what a search of a view finds
+mod ViewLemmas
+-- what a view is laid out of
+mod FlatteningLemmas
 -- handles may go to other threads
 mod Sent

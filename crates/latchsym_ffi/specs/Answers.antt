@@ -1,14 +1,27 @@
 -- The numbers that calls return, and the texts of these.
-use Rattle.std.specs.Prelude.{ℕ, Bool, nat_eq, List, [], ◌∷◌, find, codes, Option}
+use Rattle.std.specs.Prelude.{ℕ, Bool, nat_eq, List, [], ◌∷◌, find, codes, Option, Some, None}
 use Rattle.std.specs.Option.{option_map_or}
+use Rattle.listing.specs.declared.listing_notes.ListingNote.{ListingNote}
+use Rattle.listing.specs.declared.listing_notes.ListingNote.TheVariants as note
 use Rattle.order_laws.specs.declared.refusals.Refusal.{Refusal}
 use Rattle.order_laws.specs.declared.refusals.Refusal.TheVariants as refusal
 use Rattle.order_laws.specs.Refusals.{refusal_number}
 use Rattle.latchsym_ffi.specs.declared.answers.Answer.{Answer}
 use Rattle.latchsym_ffi.specs.declared.answers.Answer.TheVariants.{Done, Refused, BadLine}
 use Rattle.latchsym_ffi.specs.declared.answers.Answer.TheVariants.{NoSymbol, Nothing, Retry}
-use Rattle.latchsym_ffi.specs.declared.answers.Answer.TheVariants.{Flip, Store, BadHandle}
+use Rattle.latchsym_ffi.specs.declared.answers.Answer.TheVariants.{Flip, Store, Noted, BadHandle}
 use Rattle.latchsym_ffi.specs.declared.answers.Answer.TheVariants.{BadLength, BadListings}
+
+-- the number of a note on a listing
+abbrev pub note_number : ListingNote → ℕ
+note_number note.Gzip = 41
+note_number note.AllHidden = 42
+note_number note.LooksLikeSymbols = 43
+note_number note.LooksLikeModules = 44
+note_number note.LinesEndInCrLf = 45
+note_number note.NoStart = 46
+note_number note.NoEnd = 47
+note_number note.OtherBoot = 48
 
 -- the number that is returned for an answer
 abbrev pub answer_number : Answer → ℕ
@@ -20,6 +33,7 @@ answer_number Nothing = 22
 answer_number Retry = 23
 answer_number Flip = 31
 answer_number Store = 32
+answer_number (Noted n) = note_number n
 answer_number BadHandle = 101
 answer_number BadLength = 102
 answer_number BadListings = 103
@@ -32,7 +46,10 @@ all_answers =
     ∷ Refused refusal.OutOfMemory ∷ Refused refusal.ReaderBusy ∷ Refused refusal.ReaderIdle
     ∷ Refused refusal.BadCapacity ∷ Refused refusal.UnknownModule ∷ Refused refusal.AlreadyLoaded
     ∷ Refused refusal.NotLoaded ∷ Refused refusal.TooManyRegions ∷ BadLine ∷ Refused refusal.NoInit
-    ∷ NoSymbol ∷ Nothing ∷ Retry ∷ Flip ∷ Store ∷ BadHandle ∷ BadLength ∷ BadListings ∷ []
+    ∷ NoSymbol ∷ Nothing ∷ Retry ∷ Flip ∷ Store ∷ Noted note.Gzip ∷ Noted note.AllHidden
+    ∷ Noted note.LooksLikeSymbols ∷ Noted note.LooksLikeModules ∷ Noted note.LinesEndInCrLf
+    ∷ Noted note.NoStart ∷ Noted note.NoEnd ∷ Noted note.OtherBoot ∷ BadHandle ∷ BadLength
+    ∷ BadListings ∷ []
 
 unfoldable pub has_number : ℕ → Answer → Bool
 has_number number a = nat_eq (answer_number a) number
@@ -58,6 +75,19 @@ refusal_text refusal.NotLoaded = codes "the module is not in the table"
 refusal_text refusal.TooManyRegions = codes "more than 7 region lines have one name"
 refusal_text refusal.NoInit = codes "the table has no init region of the module"
 
+-- what is said of a listing behind its name
+abbrev pub note_text : ListingNote → List ℕ
+note_text note.Gzip = codes "is compressed by gzip; unpack it first"
+note_text note.AllHidden =
+    codes "every address is 0; read it as root (kernel.kptr_restrict)"
+note_text note.LooksLikeSymbols = codes "looks like a listing of symbols"
+note_text note.LooksLikeModules = codes "looks like a listing of modules"
+note_text note.LinesEndInCrLf = codes "lines end in CR LF"
+note_text note.NoStart = codes "has no symbol at the kernel's first address"
+note_text note.NoEnd = codes "has no symbol at the kernel's end; try the end _einittext"
+note_text note.OtherBoot =
+    codes "no symbol lies in a listed module; are both listings of one boot?"
+
 abbrev pub answer_text : Answer → List ℕ
 answer_text Done = codes "done"
 answer_text (Refused r) = refusal_text r
@@ -67,9 +97,15 @@ answer_text Nothing = codes "nothing is there"
 answer_text Retry = codes "the writer flipped meanwhile: try again"
 answer_text Flip = codes "a flip of the sequence"
 answer_text Store = codes "a store of a word"
+answer_text (Noted n) = note_text n
 answer_text BadHandle = codes "the handle does not hold what is wanted"
 answer_text BadLength = codes "the room is not for as many answers as there are addresses"
 answer_text BadListings = codes "the listings are not as this version has them"
+
+-- the number of a note where there is one, and else that of nothing
+abbrev pub number_if_noted : Option ListingNote → ℕ
+number_if_noted None = answer_number Nothing
+number_if_noted (Some n) = note_number n
 
 -- what a number means
 abbrev pub text_with : ℕ → List ℕ

@@ -19,6 +19,12 @@ pub mod Named
 pub mod Batches
 -- the modules, the regions and the symbols of a catalog
 pub mod ByNumber
+-- a catalog in rows of plain memory
+pub mod Views
+-- how many rows a view has
+pub mod Viewing
+-- what a view is laid out of, step by step
+pub mod Flattening
 -- what the calls on catalogs return
 pub mod Catalogs
 -- the numbers that calls on a writer return

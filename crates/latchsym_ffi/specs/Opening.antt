@@ -1,12 +1,15 @@
 -- What the bytes of the listings say.
 use Rattle.std.specs.Prelude.{◌≡◌, ℕ, List, [], true, false, Option, Some, None, Result, Ok, Err}
-use Rattle.std.specs.Prelude.{slice_index}
+use Rattle.std.specs.Prelude.{find, slice_index}
 use Rattle.std.specs.Global.{Vec}
 use Rattle.std.specs.Option.{option_copied}
 use Rattle.order_laws.specs.declared.refusals.Refusal.TheVariants as refusal
+use Rattle.listing.specs.declared.listing_notes.ListingNote.{ListingNote}
+use Rattle.listing.specs.declared.listing_notes.ListingNotes.{ListingNotes}
 use Rattle.listing.specs.declared.module_listing.SkippedModule.TheVariants as module_cause
 use Rattle.listing.specs.declared.symbol_listing.SkippedSymbol.TheVariants as symbol_cause
 use Rattle.listing.specs.Lines.{lines_of}
+use Rattle.listing.specs.ListingNotes.{all_notes, is_of_kallsyms, is_of_modules}
 use Rattle.listing.specs.ModuleListing.{module_counts, module_place, modules_in}
 use Rattle.listing.specs.SymbolListing.{symbol_counts, symbol_place, symbols_in}
 use Rattle.modules.specs.Accepted.{Accepted}
@@ -18,6 +21,7 @@ use Rattle.modules.specs.Listed.{BoundNames, ListedRegion, ListedSymbol}
 use Rattle.modules.specs.Placed.{are_few}
 use Rattle.modules.specs.declared.catalog.BuildCounts.{BuildCounts}
 use Rattle.modules.specs.declared.catalog.KeptCounts.{KeptCounts}
+use Rattle.latchsym_ffi.specs.Answers.{number_if_noted}
 use Rattle.latchsym_ffi.specs.declared.opening.CatalogCounts.{CatalogCounts}
 use Rattle.latchsym_ffi.specs.declared.opening.CatalogFault.{CatalogFault}
 use Rattle.latchsym_ffi.specs.declared.opening.CatalogFault.TheVariants.{BadLine, Refused}
@@ -53,9 +57,9 @@ abbrev pub region_lines_of_text : Option (List ℕ) → Result (List ListedRegio
 region_lines_of_text None = Ok []
 region_lines_of_text (Some text) = listed_regions text
 
--- the counts of the skipped lines of both listings, by cause, and those of the build
-abbrev pub counts_in : List ℕ → List ℕ → BuildCounts → CatalogCounts
-counts_in m s b = record {
+-- the counts of the skipped lines of both listings, by cause, those of the build, and what is noted
+abbrev pub counts_in : List ℕ → List ℕ → BuildCounts → ListingNotes → CatalogCounts
+counts_in m s b notes = record {
   modules = b.modules;
   modules_hidden = slice_index m (module_place module_cause.Hidden);
   modules_empty = slice_index m (module_place module_cause.Empty);
@@ -71,11 +75,14 @@ counts_in m s b = record {
   symbols_malformed = slice_index s (symbol_place symbol_cause.Malformed);
   regions = b.regions;
   regions_stray = b.stray_regions;
+  modules_note = number_if_noted notes.modules;
+  symbols_note = number_if_noted notes.kallsyms;
 }
 
--- the counts of the skipped lines of a listing of symbols alone, and those of the build
-abbrev pub counts_alone : List ℕ → KeptCounts → CatalogCounts
-counts_alone s k = record {
+-- the counts of the skipped lines of a listing of symbols alone, those of the build, and what is
+-- noted
+abbrev pub counts_alone : List ℕ → KeptCounts → Option ListingNote → CatalogCounts
+counts_alone s k note = record {
   modules = k.modules;
   modules_hidden = 0;
   modules_empty = 0;
@@ -91,6 +98,19 @@ counts_alone s k = record {
   symbols_malformed = slice_index s (symbol_place symbol_cause.Malformed);
   regions = k.regions;
   regions_stray = 0;
+  modules_note = number_if_noted None;
+  symbols_note = number_if_noted note;
+}
+
+-- the first note that applies to the listing of symbols, of which so many lines are kept
+abbrev pub symbols_note : ListingTexts → ℕ → Option ListingNote
+symbols_note t kept = find (is_of_kallsyms (bounds_of_texts t) t.kallsyms kept) all_notes
+
+-- the same, and the first that applies to this listing of modules
+abbrev pub notes_on : ListingTexts → List ℕ → CatalogEntries → ℕ → ListingNotes
+notes_on t modules c kept = record {
+  modules = find (is_of_modules modules c) all_notes;
+  kallsyms = symbols_note t kept;
 }
 
 -- the catalog and the counts are those of the texts, with this listing of modules and these region
@@ -101,9 +121,13 @@ pub record IsOpenedCatalog (t : ListingTexts) (modules : List ℕ) (lines : List
   pub catalog :
       c
       ≡ catalog_of (bounds_of_texts t) (modules_in (lines_of modules)) lines (symbols_of_text t)
+  pub built : BuildCounts
+  pub counted :
+      built
+      ≡ counts_of (bounds_of_texts t) (modules_in (lines_of modules)) lines (symbols_of_text t)
   pub counts :
-      n ≡ counts_in (module_counts (lines_of modules)) (symbol_counts (lines_of t.kallsyms))
-      (counts_of (bounds_of_texts t) (modules_in (lines_of modules)) lines (symbols_of_text t))
+      n ≡ counts_in (module_counts (lines_of modules)) (symbol_counts (lines_of t.kallsyms)) built
+      (notes_on t modules c built.symbols)
 
 -- the same with the region lines that the texts have, of which no more than seven have one name
 pub record AreReadWith (t : ListingTexts) (modules : List ℕ) (c : CatalogEntries)
@@ -120,8 +144,8 @@ pub record AreReadAlone (t : ListingTexts) (c : CatalogEntries) (n : CatalogCoun
   pub from_symbols : IsFromSymbols (bounds_of_texts t) (symbols_of_text t) accepted
   pub catalog : c ≡ catalog_with accepted (symbols_of_text t)
   pub counts :
-      n ≡ counts_alone (symbol_counts (lines_of t.kallsyms))
-      (kept_counts accepted (symbols_of_text t))
+      let kept = kept_counts accepted (symbols_of_text t) in
+      n ≡ counts_alone (symbol_counts (lines_of t.kallsyms)) kept (symbols_note t kept.symbols)
 
 -- with a listing of modules, and without
 abbrev pub AreReadFrom : Option (List ℕ) → ListingTexts → CatalogEntries → CatalogCounts → Type 0

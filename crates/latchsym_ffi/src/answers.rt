@@ -3,8 +3,10 @@
 ghost use Rattle.std.specs.Prelude.{◌≡◌, ◌++◌, [], ◌∷◌, Some, find};
 ghost use Rattle.latchsym_ffi.specs.declared.answers.Answer.{Answer as Told};
 ghost use Rattle.latchsym_ffi.specs.Answers.{answer_number, answer_text, answer_with};
-ghost use Rattle.latchsym_ffi.specs.Answers.{has_number, refusal_text, text_with};
+ghost use Rattle.latchsym_ffi.specs.Answers.{has_number, note_number, note_text, number_if_noted};
+ghost use Rattle.latchsym_ffi.specs.Answers.{refusal_text, text_with};
 
+use listing::ListingNote;
 use order_laws::Refusal;
 
 /// The call did what it was asked for: of a search, something was found; of a step, no update is
@@ -49,13 +51,14 @@ pub enum Answer {
     Retry,
     Flip,
     Store,
+    Noted(ListingNote),
     BadHandle,
     BadLength,
     BadListings,
 }
 
 /// All that a call of the crates below and of this one returns, by rising number.
-const ALL: [Answer; 25] = [
+const ALL: [Answer; 33] = [
     Answer::Done,
     Answer::Refused(Refusal::BadItem),
     Answer::Refused(Refusal::Overlap),
@@ -78,6 +81,14 @@ const ALL: [Answer; 25] = [
     Answer::Retry,
     Answer::Flip,
     Answer::Store,
+    Answer::Noted(ListingNote::Gzip),
+    Answer::Noted(ListingNote::AllHidden),
+    Answer::Noted(ListingNote::LooksLikeSymbols),
+    Answer::Noted(ListingNote::LooksLikeModules),
+    Answer::Noted(ListingNote::LinesEndInCrLf),
+    Answer::Noted(ListingNote::NoStart),
+    Answer::Noted(ListingNote::NoEnd),
+    Answer::Noted(ListingNote::OtherBoot),
     Answer::BadHandle,
     Answer::BadLength,
     Answer::BadListings,
@@ -109,6 +120,7 @@ impl Answer {
             Answer::Retry => RETRY,
             Answer::Flip => FLIP,
             Answer::Store => STORE,
+            Answer::Noted(note) => number_of_note(note),
             Answer::BadHandle => BAD_HANDLE,
             Answer::BadLength => BAD_LENGTH,
             Answer::BadListings => BAD_LISTINGS,
@@ -143,6 +155,7 @@ impl Answer {
             Answer::Retry => b"the writer flipped meanwhile: try again\0",
             Answer::Flip => b"a flip of the sequence\0",
             Answer::Store => b"a store of a word\0",
+            Answer::Noted(note) => text_of_note(note),
             Answer::BadHandle => b"the handle does not hold what is wanted\0",
             Answer::BadLength => b"the room is not for as many answers as there are addresses\0",
             Answer::BadListings => b"the listings are not as this version has them\0",
@@ -170,6 +183,52 @@ fn text_of_refusal(refusal: Refusal) -> &'static [u8]
         Refusal::NotLoaded => b"the module is not in the table\0",
         Refusal::TooManyRegions => b"more than 7 region lines have one name\0",
         Refusal::NoInit => b"the table has no init region of the module\0",
+    }
+}
+
+/// The number of a note on a listing.
+fn number_of_note(note: ListingNote) -> u32
+    ensures { result ≡ note_number note }
+{
+    match note {
+        ListingNote::Gzip => 41,
+        ListingNote::AllHidden => 42,
+        ListingNote::LooksLikeSymbols => 43,
+        ListingNote::LooksLikeModules => 44,
+        ListingNote::LinesEndInCrLf => 45,
+        ListingNote::NoStart => 46,
+        ListingNote::NoEnd => 47,
+        ListingNote::OtherBoot => 48,
+    }
+}
+
+/// The number of a note where there is one, and else that of nothing.
+pub(crate) fn number_if_noted(note: Option<ListingNote>) -> u32
+    ensures { result ≡ number_if_noted note }
+{
+    match note {
+        Some(note) => number_of_note(note),
+        None => NOTHING,
+    }
+}
+
+/// The text of a note, with a 0 at the end.
+fn text_of_note(note: ListingNote) -> &'static [u8]
+    ensures { result.now ≡ note_text note ++ 0 ∷ [] }
+{
+    match note {
+        ListingNote::Gzip => b"is compressed by gzip; unpack it first\0",
+        ListingNote::AllHidden => {
+            b"every address is 0; read it as root (kernel.kptr_restrict)\0"
+        }
+        ListingNote::LooksLikeSymbols => b"looks like a listing of symbols\0",
+        ListingNote::LooksLikeModules => b"looks like a listing of modules\0",
+        ListingNote::LinesEndInCrLf => b"lines end in CR LF\0",
+        ListingNote::NoStart => b"has no symbol at the kernel's first address\0",
+        ListingNote::NoEnd => b"has no symbol at the kernel's end; try the end _einittext\0",
+        ListingNote::OtherBoot => {
+            b"no symbol lies in a listed module; are both listings of one boot?\0"
+        }
     }
 }
 

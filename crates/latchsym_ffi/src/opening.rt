@@ -11,11 +11,13 @@ ghost use Rattle.latchsym_ffi.specs.Opening.{AreRead, AreReadAlone, GivesRegions
 ghost use Rattle.latchsym_ffi.specs.Opening.{IsOpenedCatalog, RefusesTexts};
 ghost use Rattle.latchsym_ffi.specs.Opening.{counts_alone, counts_in, shown_texts};
 
+use crate::answers::{NOTHING, number_if_noted};
 use crate::contents::Content;
 use crate::open_catalogs::OpenCatalog;
 use listing::{
-    LineFault, ModuleCounts, SkippedModule, SkippedSymbol, SymbolCounts, read_kallsyms,
-    read_modules, read_regions,
+    LineFault, ListingNote, ListingNotes, ModuleCounts, SkippedModule, SkippedSymbol, SymbolCounts,
+    SymbolFacts, are_modules_hidden, are_symbols_hidden, note_of_kallsyms, note_of_modules,
+    read_kallsyms, read_modules, read_regions,
 };
 use modules::{
     BuildCounts, Catalog, IndexedCatalog, KeptCounts, KernelBounds, RegionLine, SymbolLines,
@@ -24,7 +26,8 @@ use order_laws::Refusal;
 use std::alloc::{AllocError, AllocFailed, Global};
 
 /// How many lines of each listing went where: the accepted ones, and the others by the cause for
-/// which they were skipped, as `latchsym lookup` prints them.
+/// which they were skipped, as `latchsym lookup` prints them; and the number of what is noted of
+/// each.
 #[repr(C)]
 #[derive(Clone, Copy, Drop)]
 pub struct CatalogCounts {
@@ -43,6 +46,8 @@ pub struct CatalogCounts {
     pub symbols_malformed: u64,
     pub regions: u64,
     pub regions_stray: u64,
+    pub modules_note: u32,
+    pub symbols_note: u32,
 }
 
 /// The bytes of the listings, those of modules and of regions only where they are given, and the
@@ -116,8 +121,14 @@ fn region_lines(
 }
 
 /// The counts as C has them.
-fn counts_of(modules: &ModuleCounts, symbols: &SymbolCounts, built: &BuildCounts) -> CatalogCounts
-    ensures { result ≡ counts_in modules.now.by_place symbols.now.by_place built.now }
+fn counts_of(
+    modules: &ModuleCounts,
+    symbols: &SymbolCounts,
+    built: &BuildCounts,
+    notes: &ListingNotes,
+) -> CatalogCounts
+    ensures { result
+        ≡ counts_in modules.now.by_place symbols.now.by_place built.now notes.now }
 {
     CatalogCounts {
         modules: built.modules,
@@ -135,12 +146,18 @@ fn counts_of(modules: &ModuleCounts, symbols: &SymbolCounts, built: &BuildCounts
         symbols_malformed: symbols.count(SkippedSymbol::Malformed),
         regions: built.regions,
         regions_stray: built.stray_regions,
+        modules_note: number_if_noted(notes.modules),
+        symbols_note: number_if_noted(notes.kallsyms),
     }
 }
 
 /// The counts of a listing of symbols alone.
-fn counts_alone(symbols: &SymbolCounts, kept: &KeptCounts) -> CatalogCounts
-    ensures { result ≡ counts_alone symbols.now.by_place kept.now }
+fn counts_alone(
+    symbols: &SymbolCounts,
+    kept: &KeptCounts,
+    note: Option<ListingNote>,
+) -> CatalogCounts
+    ensures { result ≡ counts_alone symbols.now.by_place kept.now note }
 {
     CatalogCounts {
         modules: kept.modules,
@@ -158,6 +175,8 @@ fn counts_alone(symbols: &SymbolCounts, kept: &KeptCounts) -> CatalogCounts
         symbols_malformed: symbols.count(SkippedSymbol::Malformed),
         regions: kept.regions,
         regions_stray: 0,
+        modules_note: NOTHING,
+        symbols_note: number_if_noted(note),
     }
 }
 
@@ -194,6 +213,8 @@ fn catalog_between(
     let (module_lines, skipped_modules) = read_modules(alloc, modules)?;
     let (symbol_lines, skipped_symbols) = read_kallsyms(alloc, texts.kallsyms)?;
     let names = bounds_for(&texts.kernel, &symbol_lines);
+    let modules_hidden = are_modules_hidden(module_lines.len(), &skipped_modules);
+    let symbols_hidden = are_symbols_hidden(symbol_lines.len(), &skipped_symbols);
     let (catalog, built) = Catalog::build_between(
         alloc,
         &names,
@@ -201,7 +222,16 @@ fn catalog_between(
         regions,
         symbol_lines,
     )?;
-    let counts = counts_of(&skipped_modules, &skipped_symbols, &built);
+    let facts = SymbolFacts {
+        hidden: symbols_hidden,
+        kept: built.symbols,
+        has_kernel: catalog.module(0).is_some(),
+    };
+    let notes = ListingNotes {
+        modules: note_of_modules(modules, modules_hidden, &catalog),
+        kallsyms: note_of_kallsyms(texts.kallsyms, &names, facts),
+    };
+    let counts = counts_of(&skipped_modules, &skipped_symbols, &built, &notes);
     let indexed = IndexedCatalog::new(alloc, catalog)?;
     Ok((indexed, counts))
 }
@@ -214,8 +244,16 @@ fn catalog_alone(
     ensures { IfOk result (λ r. AreReadAlone (shown_texts texts.now) r.0 r.1) }
 {
     let (symbol_lines, skipped_symbols) = read_kallsyms(alloc, texts.kallsyms)?;
+    let hidden = are_symbols_hidden(symbol_lines.len(), &skipped_symbols);
+    let names = bounds_for(&texts.kernel, &symbol_lines);
     let (catalog, kept) = Catalog::from_symbols(alloc, texts.kernel.as_ref(), symbol_lines)?;
-    let counts = counts_alone(&skipped_symbols, &kept);
+    let facts = SymbolFacts {
+        hidden,
+        kept: kept.symbols,
+        has_kernel: catalog.module(0).is_some(),
+    };
+    let note = note_of_kallsyms(texts.kallsyms, &names, facts);
+    let counts = counts_alone(&skipped_symbols, &kept, note);
     let indexed = IndexedCatalog::new(alloc, catalog)?;
     Ok((indexed, counts))
 }

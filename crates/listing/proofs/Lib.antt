@@ -30,6 +30,8 @@ pub mod ScriptLineLemmas
 pub mod TabLemmas
 -- what the counts of a listing say of how it looks
 pub mod LookLemmas
+-- where a note on a listing does not apply
+pub mod ListingNoteLemmas
 -- what is kept of the bytes before a place of a log is enough
 pub mod LogContextLemmas
 -- what is inserted at a place, whatever comes behind the bytes that are there

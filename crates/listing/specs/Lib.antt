@@ -33,6 +33,8 @@ pub mod ModuleListing
 pub mod SymbolListing
 -- what a listing looks like of which no line is of use
 pub mod Looks
+-- what is noted of such a listing
+pub mod ListingNotes
 -- what a listing of regions says
 pub mod RegionListing
 -- what a script says

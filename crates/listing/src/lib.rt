@@ -25,6 +25,7 @@ mod input;
 mod insertions;
 mod laws;
 mod lines;
+mod listing_notes;
 mod log_blocks;
 mod log_contexts;
 mod log_words;
@@ -54,6 +55,10 @@ pub use laws::{
     script_by_its_lines, trace_by_its_lines,
 };
 pub use lines::LONGEST_LINE;
+pub use listing_notes::{
+    ListingNote, ListingNotes, SymbolFacts, applies_to_kallsyms, applies_to_modules,
+    note_of_kallsyms, note_of_modules,
+};
 pub use looks::{
     KernelSymbols, are_modules_hidden, are_symbols_hidden, first_line_ends_in_cr, is_gzip,
     kernel_symbols, looks_like_modules, looks_like_symbols,

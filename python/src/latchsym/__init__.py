@@ -7,7 +7,7 @@ wait for its writer. Both are those of the library for C, `liblatchsym.so.1`, wh
 where the environment's LATCHSYM_LIBRARY says and else where the system looks for libraries.
 """
 
-from ._catalog import Answer, Answers, Catalog, Counts, Entry, Module, Region, Symbol
+from ._catalog import Answer, Answers, Catalog, Counts, Entry, Module, Region, Symbol, View
 from ._errors import (
     BadCapacity,
     BadItem,
@@ -66,6 +66,7 @@ __all__ = [
     "Symbol",
     "Table",
     "UpdateInHand",
+    "View",
     "Writer",
     "library_version",
 ]

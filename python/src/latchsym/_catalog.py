@@ -7,7 +7,7 @@ import ctypes
 import os
 import threading
 import weakref
-from ctypes import byref, c_size_t, c_uint64
+from ctypes import byref, c_char, c_size_t, c_uint64
 from pathlib import Path
 from types import TracebackType
 from typing import Any, Callable, Iterator, NamedTuple, Sequence, Type, overload
@@ -94,6 +94,16 @@ class Counts(NamedTuple):
     symbols_malformed: int
     regions: int
     regions_stray: int
+    modules_note: str | None
+    """What `latchsym lookup` notes of the listing of modules, where none of it is of use."""
+    symbols_note: str | None
+    """The same of the listing of symbols."""
+
+
+def _counts(counts: it.Counts) -> Counts:
+    notes = (getattr(counts, name) for name in it.NOTES)
+    texts = (None if note == it.NOTHING else it.text_of(note) for note in notes)
+    return Counts(*(getattr(counts, name) for name in it.COUNTS), *texts)
 
 
 _TOLD = ctypes.sizeof(it.Told)
@@ -149,6 +159,70 @@ class Answers(Sequence[Answer]):
         )
 
 
+def _symbol(number: int, found: it.Symbol) -> Symbol | None:
+    """What a search has told by its number."""
+    if number == it.NOTHING:
+        return None
+    if number != it.NO_SYMBOL:
+        check(number)
+    name = it.text_at(found.name_at, found.name_len) if number == it.DONE else None
+    module = it.text_at(found.module_at, found.module_len)
+    return Symbol(name, found.offset, found.size, module, found.module_number)
+
+
+def _rows(row: ctypes.Structure, count: int) -> bytearray:
+    """So many rows that are as this one."""
+    return bytearray(bytes(row) * count or bytes(row))
+
+
+class View:
+    """A catalog in memory of its own, in which any number of threads find at once.
+
+    It holds the listings, and not the catalog, which may be closed. `Catalog.view` makes it.
+
+    >>> import latchsym
+    >>> symbols = b"ffffffffc0000010 t ext4_a\\t[ext4]\\nffffffffc0000040 t ext4_b\\t[ext4]\\n"
+    >>> with latchsym.Catalog(symbols) as catalog:
+    ...     view = catalog.view()
+    >>> print(view.find(0xffffffffc0000018))
+    ext4_a+0x8/0x30 [ext4]
+    """
+
+    def __init__(self, handle: it.Handle, listings: Sequence[Pinned]) -> None:
+        sizes = it.Sizes()
+        check(lib.latchsym_catalog_sizes(handle, sizes))
+        self._listings = listings
+        self._rows = (
+            _rows(it.no_view_region(), sizes.regions),
+            _rows(it.no_view_symbol(), sizes.symbols),
+            _rows(c_uint64(), sizes.symbols),
+        )
+        regions, symbols, addresses = (c_char.from_buffer(rows) for rows in self._rows)
+        self._view = it.View(it.EMPTY_AT, 0)
+        check(
+            lib.latchsym_catalog_flatten(
+                handle,
+                byref(regions),
+                sizes.regions,
+                byref(symbols),
+                sizes.symbols,
+                byref(addresses),
+                sizes.symbols,
+                self._view,
+            )
+        )
+
+    def find(self, addr: int) -> Symbol | None:
+        """The symbol of an address, or None where nothing is."""
+        found = it.no_symbol()
+        return _symbol(lib.latchsym_view_find(self._view, word(addr), found), found)
+
+    def find_caller(self, addr: int) -> Symbol | None:
+        """The symbol of a return address, as `Catalog.find_caller` finds it."""
+        found = it.no_symbol()
+        return _symbol(lib.latchsym_view_find_caller(self._view, word(addr), found), found)
+
+
 def _close(handle: it.Handle, listings: Sequence[Pinned]) -> None:
     """Closes a handle, and only then lets go of the listings that its catalog points into."""
     lib.latchsym_catalog_close(handle)
@@ -202,7 +276,7 @@ class Catalog:
         if number == it.BAD_LINE:
             raise BadListing(number, it.text_of(number), bad_line.value)
         check(number)
-        self._keep(handle, pinned, Counts(*(getattr(counts, name) for name in it.COUNTS)))
+        self._keep(handle, pinned, _counts(counts))
 
     def _keep(self, handle: it.Handle, listings: Sequence[Pinned], counts: Counts) -> None:
         self._handle = handle
@@ -236,6 +310,11 @@ class Catalog:
             other = type(self).__new__(type(self))
             other._keep(handle, self._listings, self.counts)
         return other
+
+    def view(self) -> View:
+        """The catalog in memory of its own, in which any number of threads find at once."""
+        with self._lock:
+            return View(self._handle, self._listings)
 
     def close(self) -> None:
         """Closes the catalog. A second close does nothing."""

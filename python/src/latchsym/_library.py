@@ -30,8 +30,11 @@ COUNTS = (
 ).split()
 
 
+NOTES = ("modules_note", "symbols_note")
+
+
 class Counts(ctypes.Structure):
-    _fields_ = [(name, c_uint64) for name in COUNTS]
+    _fields_ = [(name, c_uint64) for name in COUNTS] + [(name, c_uint32) for name in NOTES]
 
 
 class Place(ctypes.Structure):
@@ -100,6 +103,31 @@ class Entry(ctypes.Structure):
     _fields_ = [("addr", c_uint64), ("name", Place)]
 
 
+class Sizes(ctypes.Structure):
+    _fields_ = [("regions", c_size_t), ("symbols", c_size_t)]
+
+
+class ViewSymbol(ctypes.Structure):
+    _fields_ = [("addr", c_uint64), ("place", c_size_t), ("name", Place)]
+
+
+class ViewRegion(ctypes.Structure):
+    _fields_ = [
+        ("a", c_uint64),
+        ("b", c_uint64),
+        ("module_number", c_uint64),
+        ("module", Place),
+        ("symbols", c_void_p),
+        ("symbols_len", c_size_t),
+        ("addresses", c_void_p),
+        ("addresses_len", c_size_t),
+    ]
+
+
+class View(ctypes.Structure):
+    _fields_ = [("regions", c_void_p), ("regions_len", c_size_t)]
+
+
 _HANDLE = POINTER(Handle)
 _ROOMS = [POINTER(Answer), POINTER(c_char), c_size_t, POINTER(c_char), c_size_t]
 
@@ -120,6 +148,13 @@ CALLS = {
         [_HANDLE, c_uint64, POINTER(c_char), c_size_t, c_size_t, POINTER(c_size_t)],
         True,
     ),
+    "latchsym_catalog_sizes": ([_HANDLE, POINTER(Sizes)], True),
+    "latchsym_catalog_flatten": (
+        [_HANDLE, c_void_p, c_size_t, c_void_p, c_size_t, c_void_p, c_size_t, POINTER(View)],
+        True,
+    ),
+    "latchsym_view_find": ([POINTER(View), c_uint64, POINTER(Symbol)], True),
+    "latchsym_view_find_caller": ([POINTER(View), c_uint64, POINTER(Symbol)], True),
     "latchsym_catalog_share": ([_HANDLE, _HANDLE], True),
     "latchsym_catalog_close": ([_HANDLE], False),
     "latchsym_table_open": ([c_uint32, _HANDLE, _HANDLE, c_size_t], True),
@@ -145,6 +180,7 @@ CALLS = {
 NONNULL = {
     "latchsym_catalog_close",
     "latchsym_catalog_find_many",
+    "latchsym_catalog_flatten",
     "latchsym_catalog_name",
     "latchsym_catalog_open",
     "latchsym_catalog_place_of_name",
@@ -194,9 +230,9 @@ def _load() -> ctypes.CDLL:
 
 lib = _load()
 
-_EMPTY = ctypes.create_string_buffer(1)
+_EMPTY = (c_uint64 * 1)()
 EMPTY_AT = ctypes.addressof(_EMPTY)
-"""Where no bytes lie: a pointer that is not null."""
+"""Where no bytes lie: a pointer that is not null, and is aligned for numbers."""
 
 
 def no_place() -> Place:
@@ -205,6 +241,14 @@ def no_place() -> Place:
 
 def no_symbol() -> Symbol:
     return Symbol(0, 0, 0, EMPTY_AT, 0, EMPTY_AT, 0)
+
+
+def no_view_symbol() -> ViewSymbol:
+    return ViewSymbol(0, 0, no_place())
+
+
+def no_view_region() -> ViewRegion:
+    return ViewRegion(0, 0, 0, no_place(), EMPTY_AT, 0, EMPTY_AT, 0)
 
 
 def decoded(name: bytes) -> str:

@@ -1,10 +1,17 @@
-use Rattle.std.proofs.Common.{◌≡◌, ◌∙◌, ap}
+use Rattle.std.proofs.Common.{◌≡◌, ◌∙◌, Option, ap, sym}
+use Rattle.std.specs.Prelude.{find, is_some}
 use Rattle.listing.specs.Lines.{lines_of}
+use Rattle.listing.specs.ListingNotes.{all_notes, is_of_kallsyms, is_of_modules}
 use Rattle.listing.specs.ModuleListing.{module_counts, modules_in}
 use Rattle.listing.specs.SymbolListing.{symbol_counts}
+use Rattle.listing.specs.declared.listing_notes.ListingNote.{ListingNote}
+use Rattle.listing.specs.declared.listing_notes.ListingNotes.{ListingNotes}
+use Rattle.listing.proofs.ListingNoteLemmas.{copied_some, kernel_of_listings}
 use Rattle.modules.specs.Catalogs.{catalog_of, counts_of}
-use Rattle.modules.specs.Lines.{bounds_for}
-use Rattle.latchsym_ffi.specs.Opening.{bounds_of_texts, counts_in, shown_texts}
+use Rattle.modules.specs.Entries.{CatalogEntries}
+use Rattle.modules.specs.Lines.{bounds_for, built_in_region}
+use Rattle.modules.specs.Listed.{BoundNames}
+use Rattle.latchsym_ffi.specs.Opening.{bounds_of_texts, counts_in, notes_on, shown_texts}
 use Rattle.latchsym_ffi.proofs.opening.catalog_between.Goals as goal
 
 pub returns-clause-opened : goal.returns-clause-opened
@@ -23,12 +30,29 @@ returns-clause-opened c =
     ∙ ap (λ n. counts_of n c.deref.result.now regions symbols) is_bounds
     ∙ ap (λ m. counts_of bounds m regions symbols) is_modules
     ∙ ap (λ s. counts_of bounds all_modules regions s) is_symbols in
+    let indexed = c.in_ok-indexed.indexed in
+    let of_modules : CatalogEntries → Option ListingNote = λ k. find (is_of_modules c.args.modules.now k) all_notes in
+    let of_kallsyms : BoundNames → Option ListingNote = λ n. find (is_of_kallsyms n texts.kallsyms built.symbols) all_notes in
+    let with_modules : Option ListingNote → ListingNotes = λ n. record { modules = n; kallsyms = c.note_of_kallsyms.result } in
+    let with_kallsyms : Option ListingNote → ListingNotes = λ n. record { modules = of_modules indexed; kallsyms = n } in
+    let are_noted = ap with_modules (c.note_of_modules.ensures ∙ ap of_modules (sym c.in_ok-indexed.ensures))
+    ∙ ap with_kallsyms (c.note_of_kallsyms.ensures ∙ ap of_kallsyms is_bounds) in
     record {
       catalog = c.in_ok-indexed.ensures ∙ c.in_ok-catalog.ensures.built
           ∙ ap (λ n. catalog_of n c.deref.result.now regions symbols) is_bounds
           ∙ ap (λ m. catalog_of bounds m regions symbols) is_modules
           ∙ ap (λ s. catalog_of bounds all_modules regions s) is_symbols;
-      counts = c.counts_of-counts.ensures ∙ ap (λ m. counts_in m symbol_skips built) c.in_ok-module_lines.ensures.counts
-          ∙ ap (λ s. counts_in (module_counts (lines_of c.args.modules.now)) s built) c.in_ok-symbol_lines.ensures.counts
-          ∙ ap (counts_in (module_counts (lines_of c.args.modules.now)) (symbol_counts (lines_of texts.kallsyms))) is_built;
+      built = built;
+      counted = is_built;
+      counts = c.counts_of-counts.ensures
+          ∙ ap (λ m. counts_in m symbol_skips built (record { modules = c.note_of_modules.result; kallsyms = c.note_of_kallsyms.result })) c.in_ok-module_lines.ensures.counts
+          ∙ ap (λ s. counts_in (module_counts (lines_of c.args.modules.now)) s built (record { modules = c.note_of_modules.result; kallsyms = c.note_of_kallsyms.result })) c.in_ok-symbol_lines.ensures.counts
+          ∙ ap (counts_in (module_counts (lines_of c.args.modules.now)) (symbol_counts (lines_of texts.kallsyms)) built) are_noted;
     }
+
+pub note_of_kallsyms-requires-clause-kernel : goal.note_of_kallsyms-requires-clause-kernel
+note_of_kallsyms-requires-clause-kernel c =
+    let names = c.bounds_for-names.result in
+    c.is_some.ensures ∙ copied_some c.module.result ∙ ap is_some (c.module.ensures ∙ ap (λ k. k.built_in) c.in_ok-catalog.ensures.built)
+    ∙ kernel_of_listings names c.deref.result.now c.args.regions.now c.in_ok-symbol_lines.symbol_lines
+    ∙ ap (λ s. is_some (built_in_region names s)) c.in_ok-symbol_lines.ensures.symbols

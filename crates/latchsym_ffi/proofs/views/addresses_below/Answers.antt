@@ -1,0 +1,9 @@
+use Rattle.std.proofs.Common.{ℕ, nat_le, rules}
+use Rattle.std.proofs.lemmas.List.Sorted.{IsPartitionPoint-from_clause, IsPartitionedBy-leb}
+use Rattle.modules.proofs.IndexLemmas.{IsSplitBy-from_partition}
+use Rattle.latchsym_ffi.proofs.views.addresses_below.Goals as goal
+
+pub returns : goal.returns
+returns c =
+    IsSplitBy-from_partition (λ (a : ℕ). a) c.args.addresses.now c.args.addr c.partition_point.result c.partition_point.ensures.bound
+    (IsPartitionPoint-from_clause (λ (a : ℕ). nat_le a c.args.addr) c.args.addresses.now c.partition_point.result c.partition_point.ensures.partitioned (IsPartitionedBy-leb (λ (a : ℕ). a) c.args.addresses.now c.args.addr c.requires) (λ a r q k. search rules))

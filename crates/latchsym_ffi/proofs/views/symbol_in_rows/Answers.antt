@@ -1,0 +1,49 @@
+use Rattle.std.proofs.Common.{◌≡◌, ◌∙◌, ℕ, ◌-◌, ◌≤◌, Bor, None, Option, Some, ap, arith, min, refl, rules, sym}
+use Rattle.std.specs.Prelude.{unwrap_or}
+use Rattle.std.specs.Option.{option_copied, option_map}
+use Rattle.modules.specs.Around.{address_above, symbol_below}
+use Rattle.modules.specs.Entries.{SymbolEntry}
+use Rattle.modules.specs.Found.{symbol_found_at, symbols_from}
+use Rattle.modules.proofs.NearestLemmas.{found, found_is}
+use Rattle.modules.proofs.WithinLemmas.{before_within, none_within, reach_within, some_within}
+use Rattle.latchsym_ffi.specs.Views.{shown_row, symbol_of_row}
+use Rattle.latchsym_ffi.specs.declared.view_rows.ViewSymbol.{ViewSymbol}
+use Rattle.latchsym_ffi.proofs.views.symbol_in_rows.Goals as goal
+
+abbrev shown : Option (Bor ViewSymbol) → Option SymbolEntry
+shown o = option_map symbol_of_row (option_copied o)
+
+pub returns-in_err-symbol-clause-found : goal.returns-in_err-symbol-clause-found
+returns-in_err-symbol-clause-found c = λ symbols are.
+    let start = c.args.region.now.a in
+    let end = c.args.region.now.b in
+    let addr = c.args.addr in
+    let below : symbol_below symbols addr ≡ None = sym (c.around-above.ensures.below symbols are) ∙ ap shown c.in_err-symbol.was in
+    let none : c.from_residual.result ≡ None = search rules in
+    ap (option_map shown_row) none ∙ sym (ap (option_map (symbol_found_at (symbols_from symbols start end) end addr)) (none_within symbols start end addr c.requires.from c.requires.below below))
+
+pub returns-then-symbol-region-clause-found : goal.returns-then-symbol-region-clause-found
+returns-then-symbol-region-clause-found c = λ symbols are.
+    let start = c.args.region.now.a in
+    let end = c.args.region.now.b in
+    let addr = c.args.addr in
+    let s = symbol_of_row c.in_ok-symbol.symbol.now in
+    let below : symbol_below symbols addr ≡ Some s = sym (c.around-above.ensures.below symbols are) ∙ ap shown c.in_ok-symbol.was in
+    sym (ap (option_map (symbol_found_at (symbols_from symbols start end) end addr)) (before_within symbols start end addr s c.requires.from c.requires.below below c.if-symbol-region.true))
+
+pub returns-clause-found : goal.returns-clause-found
+returns-clause-found c = λ symbols are.
+    let start = c.args.region.now.a in
+    let end = c.args.region.now.b in
+    let addr = c.args.addr in
+    let own : ℕ = c.in_ok-symbol.symbol.now.addr in
+    let s = symbol_of_row c.in_ok-symbol.symbol.now in
+    let from = symbols_from symbols start end in
+    let below : symbol_below symbols addr ≡ Some s = sym (c.around-above.ensures.below symbols are) ∙ ap shown c.in_ok-symbol.was in
+    let on : start ≤ s.addr = omega (arith, c.if-symbol-region.false) in
+    let reach : c.min-end.result ≡ unwrap_or (address_above from addr) end = c.min-end.ensures ∙ ap (λ n. min n end) (c.unwrap_or.ensures ∙ ap (λ (o : Option ℕ). unwrap_or o end) (c.around-above.ensures.above symbols are)) ∙ sym (reach_within symbols start end addr c.requires.from) in
+    let is_offset : c.saturating_sub.result ≡ addr - own = search rules in
+    let is_size : c.saturating_sub-2.result ≡ c.min-end.result - own = search rules in
+    ap (λ (n : ℕ). Some (found s n c.saturating_sub-2.result)) is_offset
+    ∙ ap (λ (n : ℕ). Some (found s (addr - own) n)) is_size
+    ∙ found_is from end addr s own c.min-end.result (some_within symbols start end addr s c.requires.from c.requires.below below on) refl reach

@@ -1,0 +1,169 @@
+//! What C calls, of views: a catalog in memory of the caller's, for any number of threads at once.
+
+ghost use Rattle.std.specs.Prelude.{◌≡◌, ◌≢◌, ◌↔◌, IsTrue, length};
+ghost use Rattle.modules.specs.Entries.{CatalogEntries};
+ghost use Rattle.latchsym_ffi.specs.Finding.{known_at, known_call, known_code};
+ghost use Rattle.latchsym_ffi.specs.Handles.{HoldsCatalog, Stays};
+ghost use Rattle.latchsym_ffi.specs.Kinds.{catalog_kind};
+ghost use Rattle.latchsym_ffi.specs.Named.{IsNamed};
+ghost use Rattle.latchsym_ffi.specs.Viewing.{AreRooms, TellsSizes};
+ghost use Rattle.latchsym_ffi.specs.Views.{IsViewOf};
+
+use crate::answers::{BAD_HANDLE, BAD_LENGTH, DONE};
+use crate::contents::{CATALOG, Content};
+use crate::finding::CatalogSymbol;
+use crate::flattening::{flatten, symbols_in};
+use crate::handles::Handle;
+use crate::view_rows::{CatalogView, ViewRegion, ViewSymbol};
+use crate::views::{find, find_caller};
+use modules::Catalog;
+use order_laws::Refusal;
+
+/// How many rows a view of a catalog has: one for each region, and of each symbol one and its
+/// address.
+#[repr(C)]
+#[derive(Clone, Copy, Drop)]
+pub struct ViewSizes {
+    pub regions: usize,
+    pub symbols: usize,
+}
+
+/// Tells how many rows a view of the catalog has.
+fn tell_sizes(catalog: &Catalog<'static>, out: &mut ViewSizes) -> u32
+    ensures { TellsSizes catalog.now result out.old out.new }
+{
+    match symbols_in(catalog) {
+        Some(symbols) => {
+            *out = ViewSizes {
+                regions: catalog.regions(),
+                symbols,
+            };
+            DONE
+        }
+        None => Refusal::OutOfMemory.number(),
+    }
+}
+
+/// Whether the rooms have as many rows as a view of the catalog.
+fn are_rooms(
+    catalog: &Catalog<'static>,
+    regions: &[ViewRegion<'_>],
+    symbols: &[ViewSymbol],
+    addresses: &[u64],
+) -> bool
+    ensures { IsTrue result ↔ AreRooms catalog.now regions.now symbols.now addresses.now }
+{
+    match symbols_in(catalog) {
+        Some(count) => {
+            regions.len() == catalog.regions() && symbols.len() == count && addresses.len() == count
+        }
+        None => false,
+    }
+}
+
+/// Makes the view of the catalog in these rooms.
+fn flatten_into<'c, 's>(
+    catalog: &Catalog<'static>,
+    regions: &'c mut [ViewRegion<'s>],
+    symbols: &'s mut [ViewSymbol],
+    addresses: &'s mut [u64],
+    out: &mut CatalogView<'c, 's>,
+) -> u32
+    ensures flat { result ≡ 0 → IsViewOf catalog.now out.new.regions.now }
+    ensures unchanged { result ≢ 0 → out.new ≡ out.old }
+    ensures done { AreRooms catalog.now regions.old symbols.old addresses.old → result ≡ 0 }
+    ensures room { (AreRooms catalog.now regions.old symbols.old addresses.old → ⊥)
+        → result ≡ 102 }
+{
+    if !are_rooms(catalog, regions, symbols, addresses) {
+        return BAD_LENGTH;
+    }
+    *out = flatten(catalog, regions, symbols, addresses);
+    DONE
+}
+
+/// Tells how many rows a view of the catalog has.
+#[unsafe(no_mangle)]
+pub extern "C" fn latchsym_catalog_sizes(catalog: &mut Handle, out: &mut ViewSizes) -> u32
+    ensures stays { Stays catalog.old catalog.new }
+    ensures told { (c : CatalogEntries) → HoldsCatalog c catalog.old
+        → TellsSizes c result out.old out.new }
+    ensures other { catalog.old.kind ≢ catalog_kind → (result ≡ 101) × (catalog.new ≡ catalog.old)
+        × (out.new ≡ out.old) }
+{
+    if catalog.kind != CATALOG {
+        return BAD_HANDLE;
+    }
+    let content = catalog.take();
+    let result = match &*content {
+        Content::Catalog(shared) => tell_sizes(shared.indexed().catalog(), out),
+        _ => BAD_HANDLE,
+    };
+    catalog.put(content);
+    result
+}
+
+/// Makes a view of the catalog in rooms for its rows.
+#[unsafe(no_mangle)]
+pub extern "C" fn latchsym_catalog_flatten_nonnull<'c, 's>(
+    catalog: &mut Handle,
+    regions: &'c mut [ViewRegion<'s>],
+    symbols: &'s mut [ViewSymbol],
+    addresses: &'s mut [u64],
+    out: &mut CatalogView<'c, 's>,
+) -> u32
+    ensures stays { Stays catalog.old catalog.new }
+    ensures flat { (c : CatalogEntries) → HoldsCatalog c catalog.old → result ≡ 0
+        → IsViewOf c out.new.regions.now }
+    ensures done { (c : CatalogEntries) → HoldsCatalog c catalog.old
+        → AreRooms c regions.old symbols.old addresses.old → result ≡ 0 }
+    ensures room { (c : CatalogEntries) → HoldsCatalog c catalog.old
+        → (AreRooms c regions.old symbols.old addresses.old → ⊥) → result ≡ 102 }
+    ensures unchanged { result ≢ 0 → out.new ≡ out.old }
+    ensures other { catalog.old.kind ≢ catalog_kind
+        → (result ≡ 101) × (catalog.new ≡ catalog.old) }
+{
+    if catalog.kind != CATALOG {
+        return BAD_HANDLE;
+    }
+    let content = catalog.take();
+    let result = match &*content {
+        Content::Catalog(shared) => {
+            flatten_into(shared.indexed().catalog(), regions, symbols, addresses, out)
+        }
+        _ => BAD_HANDLE,
+    };
+    catalog.put(content);
+    result
+}
+
+/// Tells of an address, with the names where they lie in the listings. Any number of threads may
+/// call it with one view.
+#[unsafe(no_mangle)]
+pub extern "C" fn latchsym_view_find(
+    view: &CatalogView<'_, '_>,
+    addr: u64,
+    out: &mut CatalogSymbol,
+) -> u32
+    ensures code { (c : CatalogEntries) → IsViewOf c view.now.regions.now
+        → result ≡ known_code (known_at c addr) }
+    ensures symbol { (c : CatalogEntries) → IsViewOf c view.now.regions.now
+        → IsNamed c (known_at c addr) out.new }
+{
+    find(view, addr, out)
+}
+
+/// Tells of a return address: of the call before it, with the offset of the address itself.
+#[unsafe(no_mangle)]
+pub extern "C" fn latchsym_view_find_caller(
+    view: &CatalogView<'_, '_>,
+    addr: u64,
+    out: &mut CatalogSymbol,
+) -> u32
+    ensures code { (c : CatalogEntries) → IsViewOf c view.now.regions.now
+        → result ≡ known_code (known_call c addr) }
+    ensures symbol { (c : CatalogEntries) → IsViewOf c view.now.regions.now
+        → IsNamed c (known_call c addr) out.new }
+{
+    find_caller(view, addr, out)
+}

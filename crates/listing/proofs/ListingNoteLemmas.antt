@@ -1,0 +1,132 @@
+-- Where a note on a listing does not apply.
+use Rattle.std.proofs.Common.{◌≡◌, ◌<◌, ℕ, zero, suc, ◌+◌, Bool, true, false, not, ◌&&◌, ◌||◌, cond, nat_lt, List, [], ◌∷◌, length, map, take, Option, Some, None, refl, sym, ap, ◌∙◌, arith}
+use Rattle.std.specs.Borrow.{Bor}
+use Rattle.std.specs.Prelude.{find, is_none, is_some, nat_eq, slice_get, unwrap_or}
+use Rattle.std.specs.List.{list_any}
+use Rattle.std.specs.Option.{option_and_then, option_copied, option_map}
+use Rattle.std.specs.Str.{bytes_eq}
+use Rattle.std.proofs.lemmas.Bool.{lt-ltb, ne_eqb, or_parts}
+use Rattle.std.proofs.lemmas.List.{take_all}
+use Rattle.listing.specs.Looks.{is_kernel_symbol, is_of_kernel}
+use Rattle.modules.specs.Entries.{CatalogEntries, ModuleEntry}
+use Rattle.modules.specs.Accepted.{Accepted, accepted_of, none_yet}
+use Rattle.modules.specs.Catalogs.{built_in_of, catalog_of, catalog_with}
+use Rattle.modules.specs.FromSymbols.{IsFromSymbols}
+use Rattle.modules.specs.Lines.{bounds_for, built_in_region, first_address, usual_bounds_of}
+use Rattle.modules.specs.Listed.{BoundNames, ListedModule, ListedRegion, ListedSymbol}
+use Rattle.modules.specs.Placed.{placed_line}
+use Rattle.modules.proofs.SoundnessLemmas.{built_in_kept}
+use Rattle.listing.specs.declared.listing_notes.ListingNote.TheVariants.{NoEnd, NoStart}
+use Rattle.listing.specs.ListingNotes.{has_symbols, lacks_symbol, lacks_symbols}
+
+-- ---- the bounds of the kernel
+
+first_named : (name : List ℕ) (symbols : List ListedSymbol) → is_some (first_address name symbols) ≡ list_any (is_kernel_symbol name) symbols
+first_named name [] = refl
+first_named name (s ∷ symbols) =
+    elim (is_none s.owner && bytes_eq s.name name) as (λ b. is_some (option_map (λ (l : ListedSymbol). l.addr) (cond b (Some s) (find (λ (l : ListedSymbol). is_none l.owner && bytes_eq l.name name) symbols))) ≡ (b || list_any (is_kernel_symbol name) symbols))
+    [ true ↦ refl | false ↦ first_named name symbols ]
+
+both_named : (start end : Option ℕ) → is_some {T = ℕ × ℕ} (option_and_then (λ s. option_and_then (λ e. cond (nat_lt s e) (Some (s, e)) None) end) start) ≡ true
+    → (is_some start ≡ true) × (is_some end ≡ true)
+both_named None end some = absurd (cc)
+both_named (Some s) None some = absurd (cc)
+both_named (Some s) (Some e) some = (refl, refl)
+
+not_lacked : (name : List ℕ) (symbols : List ListedSymbol) → is_some (first_address name symbols) ≡ true → lacks_symbol name symbols ≡ false
+not_lacked name symbols some =
+    let named : list_any (is_kernel_symbol name) symbols ≡ true = sym (first_named name symbols) ∙ some in
+    ap (λ b. list_any is_of_kernel symbols && not b) named ∙ none (list_any is_of_kernel symbols)
+  where
+    none : (b : Bool) → (b && false) ≡ false
+    none true = refl
+    none false = refl
+
+-- a kernel that has a region lacks neither bound
+kernel_named : (names : BoundNames) (symbols : List ListedSymbol) → is_some (built_in_region names symbols) ≡ true
+    → (lacks_symbol names.start symbols ≡ false) × (lacks_symbol names.end symbols ≡ false)
+kernel_named names symbols some =
+    let both = both_named (first_address names.start symbols) (first_address names.end symbols) some in
+    (not_lacked names.start symbols both.0, not_lacked names.end symbols both.1)
+
+pub nothing_lacked : (names : BoundNames) (symbols : List ListedSymbol) → is_some (built_in_region names symbols) ≡ true
+    → None ≡ cond (lacks_symbol names.start symbols) (Some NoStart) (cond (lacks_symbol names.end symbols) (Some NoEnd) None)
+nothing_lacked names symbols some =
+    let named = kernel_named names symbols some in
+    sym (ap (λ b. cond b (Some NoStart) (cond (lacks_symbol names.end symbols) (Some NoEnd) None)) named.0
+    ∙ ap (λ b. cond b (Some NoEnd) None) named.1)
+
+-- what is there is there as a copy
+pub copied_some : {T : Type 0} (o : Option (Bor T)) → is_some o ≡ is_some (option_copied o)
+copied_some None = refl
+copied_some (Some t) = refl
+
+-- what is given, or else another
+pub given_or : {T : Type 0} (o : Option (Bor T)) (other t : Bor T) → t ≡ unwrap_or o other → t.now ≡ unwrap_or (option_copied o) other.now
+given_or None other t is = ap (λ x. x.now) is
+given_or (Some n) other t is = ap (λ x. x.now) is
+
+-- the names that are given, or else those of the listing
+pub bounds_are : (o : Option (Bor BoundNames)) (usual names : Bor BoundNames) (symbols : List ListedSymbol) → names ≡ unwrap_or o usual → usual.now ≡ usual_bounds_of symbols
+    → names.now ≡ bounds_for (option_copied o) symbols
+bounds_are None usual names symbols is own = ap (λ n. n.now) is ∙ own
+bounds_are (Some n) usual names symbols is own = ap (λ n. n.now) is
+
+-- the kernel itself is in a catalog where it has a region
+has_its_region : (region : Option (ℕ × ℕ)) (symbols : List ListedSymbol) → is_some (built_in_of region symbols) ≡ is_some region
+has_its_region None symbols = refl
+has_its_region (Some r) symbols = refl
+
+pub kernel_of_listings : (names : BoundNames) (modules : List ListedModule) (regions : List ListedRegion) (symbols : List ListedSymbol)
+    → is_some (catalog_of names modules regions symbols).built_in ≡ is_some (built_in_region names symbols)
+kernel_of_listings names modules regions symbols =
+    let region = built_in_region names symbols in
+    has_its_region (accepted_of region regions modules).built_in symbols ∙ ap (λ o. is_some o) (built_in_kept (none_yet region) (map (placed_line regions) modules))
+
+pub kernel_of_symbols : (names : BoundNames) (symbols : List ListedSymbol) (a : Accepted) → IsFromSymbols names symbols a
+    → is_some (catalog_with a symbols).built_in ≡ is_some (built_in_region names symbols)
+kernel_of_symbols names symbols a said = has_its_region a.built_in symbols ∙ ap (λ o. is_some o) said.kernel
+
+-- ---- the symbols of modules
+
+-- the modules up to a place have none, nor has the one at the place
+pub none_more : (modules : List ModuleEntry) (place : ℕ) → place < length modules
+    → has_symbols (slice_get modules place) ≡ false
+    → list_any (λ m. has_symbols (Some m)) (take place modules) ≡ false
+    → list_any (λ m. has_symbols (Some m)) (take (place + 1) modules) ≡ false
+none_more [] place low here before = absurd (omega arith)
+none_more (m ∷ modules) zero low here before = ap (λ b. b || false) here
+none_more (m ∷ modules) (suc place) low here before =
+    let parts = or_parts (has_symbols (Some m)) (list_any (λ x. has_symbols (Some x)) (take place modules)) before in
+    let shift : suc place + 1 ≡ suc (place + 1) = omega arith in
+    ap (λ n. list_any (λ x. has_symbols (Some x)) (take n (m ∷ modules))) shift
+    ∙ ap (λ b. b || list_any (λ x. has_symbols (Some x)) (take (place + 1) modules)) parts.0 ∙ none_more modules place (omega arith) here parts.1
+
+pub some_at : (modules : List ModuleEntry) (place : ℕ) → has_symbols (slice_get modules place) ≡ true
+    → list_any (λ m. has_symbols (Some m)) modules ≡ true
+some_at [] place here = absurd (cc)
+some_at (m ∷ modules) zero here = ap (λ b. b || list_any (λ x. has_symbols (Some x)) modules) here
+some_at (m ∷ modules) (suc place) here = or_true (has_symbols (Some m)) (some_at modules place here)
+  where
+    or_true : (a : Bool) {b : Bool} → b ≡ true → (a || b) ≡ true
+    or_true true e = refl
+    or_true false e = e
+
+positive : (n : ℕ) → nat_lt 0 n ≡ (not (nat_eq n 0) && true)
+positive zero = refl
+positive (suc n) = lt-ltb 0 (suc n) (omega arith) ∙ sym (ap (λ b. not b && true) (ne_eqb (suc n) 0 (λ e. absurd (omega (arith, e)))))
+
+pub one_has_some : (c : CatalogEntries) (place : ℕ) → has_symbols (slice_get c.modules place) ≡ true → false ≡ lacks_symbols c
+one_has_some c place here =
+    sym (ap (λ b. not (nat_eq (length c.modules) 0) && not b) (some_at c.modules place here) ∙ none (not (nat_eq (length c.modules) 0)))
+  where
+    none : (b : Bool) → (b && false) ≡ false
+    none true = refl
+    none false = refl
+
+pub none_has_some : (c : CatalogEntries) (count : ℕ) → count ≡ length c.modules
+    → list_any (λ m. has_symbols (Some m)) (take count c.modules) ≡ false → nat_lt 0 count ≡ lacks_symbols c
+none_has_some c count is none =
+    let all : list_any (λ m. has_symbols (Some m)) c.modules ≡ false =
+    ap (λ ms. list_any (λ m. has_symbols (Some m)) ms) (sym (take_all count c.modules (omega (arith, is)))) ∙ none in
+    ap (nat_lt 0) is ∙ positive (length c.modules) ∙ sym (ap (λ b. not (nat_eq (length c.modules) 0) && not b) all)

@@ -1,0 +1,71 @@
+-- What is noted of a listing of which nothing is of use.
+use Rattle.std.specs.Prelude.{ℕ, Bool, false, not, ◌&&◌, ◌||◌, nat_eq, nat_lt, List, [], ◌∷◌}
+use Rattle.std.specs.Prelude.{length, Option, Some, None, is_some}
+use Rattle.std.specs.List.{list_any}
+use Rattle.std.specs.Option.{option_map_or}
+use Rattle.listing.specs.Lines.{lines_of}
+use Rattle.listing.specs.Looks.{are_modules_hidden, are_symbols_hidden, first_ends_in_cr, is_gzip}
+use Rattle.listing.specs.Looks.{is_kernel_symbol, is_of_kernel, looks_like_modules}
+use Rattle.listing.specs.Looks.{looks_like_symbols}
+use Rattle.listing.specs.SymbolListing.{symbols_in}
+use Rattle.modules.specs.Entries.{CatalogEntries, ModuleEntry}
+use Rattle.modules.specs.Listed.{BoundNames, ListedSymbol}
+use Rattle.listing.specs.declared.listing_notes.ListingNote.{ListingNote}
+use Rattle.listing.specs.declared.listing_notes.ListingNote.TheVariants.{Gzip, AllHidden}
+use Rattle.listing.specs.declared.listing_notes.ListingNote.TheVariants.{LooksLikeSymbols}
+use Rattle.listing.specs.declared.listing_notes.ListingNote.TheVariants.{LooksLikeModules}
+use Rattle.listing.specs.declared.listing_notes.ListingNote.TheVariants.{LinesEndInCrLf, NoStart}
+use Rattle.listing.specs.declared.listing_notes.ListingNote.TheVariants.{NoEnd, OtherBoot}
+use Rattle.listing.specs.declared.listing_notes.ListingNotes.{ListingNotes}
+
+-- the notes, in the order in which the first that applies is sought
+abbrev pub all_notes : List ListingNote
+all_notes =
+    Gzip ∷ AllHidden ∷ LooksLikeSymbols ∷ LooksLikeModules ∷ LinesEndInCrLf ∷ NoStart ∷ NoEnd
+    ∷ OtherBoot ∷ []
+
+-- no line of the listing of modules is accepted
+abbrev pub has_no_module : CatalogEntries → Bool
+has_no_module c = nat_eq (length c.modules) 0
+
+-- the module is there, and a symbol of it lies in its region
+abbrev pub has_symbols : Option ModuleEntry → Bool
+has_symbols m = option_map_or (λ entry. nat_lt 0 (length entry.symbols)) m false
+
+-- modules are listed, and no symbol of any of them lies in its region
+abbrev pub lacks_symbols : CatalogEntries → Bool
+lacks_symbols c = not (has_no_module c) && not (list_any (λ m. has_symbols (Some m)) c.modules)
+
+-- symbols of the kernel itself are listed, and none of them has this name
+abbrev pub lacks_symbol : List ℕ → List ListedSymbol → Bool
+lacks_symbol name symbols =
+    list_any is_of_kernel symbols && not (list_any (is_kernel_symbol name) symbols)
+
+-- what is noted of a listing of modules with this text, where the catalog is this
+abbrev pub is_of_modules : List ℕ → CatalogEntries → ListingNote → Bool
+is_of_modules text c Gzip = is_gzip text
+is_of_modules text c AllHidden = are_modules_hidden (lines_of text)
+is_of_modules text c LooksLikeSymbols = has_no_module c && looks_like_symbols (lines_of text)
+is_of_modules text c LinesEndInCrLf = has_no_module c && first_ends_in_cr (lines_of text)
+is_of_modules text c OtherBoot = lacks_symbols c
+is_of_modules text c _ = false
+
+-- what is noted of a listing of symbols with this text, of which so many are kept, where these
+-- names bound the kernel
+abbrev pub is_of_kallsyms : BoundNames → List ℕ → ℕ → ListingNote → Bool
+is_of_kallsyms names text kept Gzip = is_gzip text
+is_of_kallsyms names text kept AllHidden = are_symbols_hidden (lines_of text)
+is_of_kallsyms names text kept LooksLikeModules =
+    nat_eq kept 0 && looks_like_modules (lines_of text)
+is_of_kallsyms names text kept LinesEndInCrLf = nat_eq kept 0 && first_ends_in_cr (lines_of text)
+is_of_kallsyms names text kept NoStart = lacks_symbol names.start (symbols_in (lines_of text))
+is_of_kallsyms names text kept NoEnd = lacks_symbol names.end (symbols_in (lines_of text))
+is_of_kallsyms names text kept _ = false
+
+-- something is noted
+abbrev pub is_some_noted : ListingNotes → Bool
+is_some_noted notes = is_some notes.modules || is_some notes.kallsyms
+
+-- of a job without listings
+abbrev pub no_notes : ListingNotes
+no_notes = record { modules = None; kallsyms = None }

@@ -1,0 +1,250 @@
+//! What is noted of listings of which nothing is of use, so that such a run does not look like a
+//! success.
+//!
+//! Notes are decided when the catalog is built, mostly from what was counted for it. A text is gone
+//! through again only where none of its lines is kept, or where the kernel itself has no region.
+ghost use Rattle.std.specs.Prelude.{◌≡◌, find, is_some, if◌then◌else◌, None, Some};
+ghost use Rattle.std.specs.Option.{option_copied};
+ghost use Rattle.listing.specs.Lines.{lines_of};
+ghost use Rattle.listing.specs.Looks.{are_modules_hidden, are_symbols_hidden};
+ghost use Rattle.listing.specs.SymbolListing.{symbols_in};
+ghost use Rattle.modules.specs.Lines.{built_in_region};
+ghost use Rattle.listing.specs.ListingNotes.{all_notes, has_symbols, is_of_kallsyms};
+ghost use Rattle.listing.specs.ListingNotes.{is_of_modules, is_some_noted};
+ghost use Rattle.listing.specs.ListingNotes.{lacks_symbol, lacks_symbols, no_notes};
+
+use crate::looks::{
+    first_line_ends_in_cr, is_gzip, kernel_symbols, looks_like_modules, looks_like_symbols,
+};
+use modules::{Catalog, KernelBounds, Module};
+
+/// What is noted of a listing. The notes stand in the order in which the first that applies to a
+/// listing is sought.
+#[derive(Clone, Copy, Debug, PartialEq, Eq, Drop)]
+pub enum ListingNote {
+    /// The text is that of a file which gzip made.
+    Gzip,
+    /// All well-formed lines are hidden, as they are to a reader without privileges.
+    AllHidden,
+    /// No line is accepted as a module, and the first well-formed one is a symbol.
+    LooksLikeSymbols,
+    /// No line is kept as a symbol, and the first well-formed one is a module.
+    LooksLikeModules,
+    /// No line is kept, and the first ends in a carriage return.
+    LinesEndInCrLf,
+    /// There are symbols of the kernel itself, and none at its first address.
+    NoStart,
+    /// There are symbols of the kernel itself, and none at its end.
+    NoEnd,
+    /// No symbol of a listed module lies in its region.
+    OtherBoot,
+}
+
+/// The first note that applies to each listing, where one does.
+#[derive(Clone, Copy, Debug, PartialEq, Eq, Drop)]
+pub struct ListingNotes {
+    pub modules: Option<ListingNote>,
+    pub kallsyms: Option<ListingNote>,
+}
+
+/// All notes, in the order in which the first that applies to a listing is sought.
+const ALL: [ListingNote; 8] = [
+    ListingNote::Gzip,
+    ListingNote::AllHidden,
+    ListingNote::LooksLikeSymbols,
+    ListingNote::LooksLikeModules,
+    ListingNote::LinesEndInCrLf,
+    ListingNote::NoStart,
+    ListingNote::NoEnd,
+    ListingNote::OtherBoot,
+];
+
+impl ListingNote {
+    /// All notes, in that order.
+    pub fn all() -> &'static [ListingNote]
+        ensures { result.now ≡ all_notes }
+    {
+        &ALL
+    }
+}
+
+impl ListingNotes {
+    /// The notes of a job without listings.
+    pub fn none() -> ListingNotes
+        ensures { result ≡ no_notes }
+    {
+        ListingNotes {
+            modules: None,
+            kallsyms: None,
+        }
+    }
+
+    /// Whether something is noted.
+    pub fn any(&self) -> bool
+        ensures { result ≡ is_some_noted self.now }
+    {
+        self.modules.is_some() || self.kallsyms.is_some()
+    }
+}
+
+/// Whether modules are listed and none of them has a symbol.
+fn lacks_symbols(catalog: &Catalog) -> bool
+    ensures { result ≡ lacks_symbols catalog.now }
+{
+    let count = catalog.len();
+    for place in 0..count {
+        if has_symbols(catalog.module(place + 1)) {
+            return false;
+        }
+    }
+    count > 0
+}
+
+/// Whether the module is there and has symbols.
+fn has_symbols(found: Option<&Module>) -> bool
+    ensures { result ≡ has_symbols (option_copied found.entry) }
+{
+    match found {
+        Some(module) => !module.symbols().is_empty(),
+        None => false,
+    }
+}
+
+/// The first note on a listing of modules with this text, whose well-formed lines are all hidden or
+/// not.
+pub fn note_of_modules(text: &[u8], hidden: bool, catalog: &Catalog) -> Option<ListingNote>
+    requires { hidden ≡ are_modules_hidden (lines_of text.now) }
+    ensures { result ≡ find (is_of_modules text.now catalog.now) all_notes }
+{
+    let none = catalog.len() == 0;
+    if is_gzip(text) {
+        Some(ListingNote::Gzip)
+    } else if hidden {
+        Some(ListingNote::AllHidden)
+    } else if none && looks_like_symbols(text) {
+        Some(ListingNote::LooksLikeSymbols)
+    } else if none && first_line_ends_in_cr(text) {
+        Some(ListingNote::LinesEndInCrLf)
+    } else if lacks_symbols(catalog) {
+        Some(ListingNote::OtherBoot)
+    } else {
+        None
+    }
+}
+
+/// What is known of a listing of symbols once it is read.
+#[derive(Clone, Copy, Drop)]
+pub struct SymbolFacts {
+    /// All well-formed lines are hidden, and there is one.
+    pub hidden: bool,
+    /// How many lines are kept.
+    pub kept: u64,
+    /// The kernel itself has a region.
+    pub has_kernel: bool,
+}
+
+/// The first note on a listing of symbols with this text, where these names bound the kernel.
+pub fn note_of_kallsyms(
+    text: &[u8],
+    names: &KernelBounds,
+    facts: SymbolFacts,
+) -> Option<ListingNote>
+    requires hidden { facts.hidden ≡ are_symbols_hidden (lines_of text.now) }
+    requires kernel { facts.has_kernel
+        ≡ is_some (built_in_region names.now (symbols_in (lines_of text.now))) }
+    ensures { result ≡ find (is_of_kallsyms names.now text.now facts.kept) all_notes }
+{
+    let none = facts.kept == 0;
+    if is_gzip(text) {
+        Some(ListingNote::Gzip)
+    } else if facts.hidden {
+        Some(ListingNote::AllHidden)
+    } else if none && looks_like_modules(text) {
+        Some(ListingNote::LooksLikeModules)
+    } else if none && first_line_ends_in_cr(text) {
+        Some(ListingNote::LinesEndInCrLf)
+    } else {
+        missing_bound(text, names, facts.has_kernel)
+    }
+}
+
+/// Which of the names that bound the kernel no symbol has, where symbols of the kernel itself are
+/// listed. A kernel that has a region has both.
+fn missing_bound(text: &[u8], names: &KernelBounds, has_kernel: bool) -> Option<ListingNote>
+    requires { has_kernel
+        ≡ is_some (built_in_region names.now (symbols_in (lines_of text.now))) }
+    ensures { result
+        ≡ (if lacks_symbol names.now.start (symbols_in (lines_of text.now))
+        then Some ListingNote.NoStart
+        else if lacks_symbol names.now.end (symbols_in (lines_of text.now))
+        then Some ListingNote.NoEnd else None) }
+{
+    if has_kernel {
+        return None;
+    }
+    let shown = kernel_symbols(text, names);
+    if shown.any && !shown.start {
+        Some(ListingNote::NoStart)
+    } else if shown.any && !shown.end {
+        Some(ListingNote::NoEnd)
+    } else {
+        None
+    }
+}
+
+/// Whether a note applies to a listing of modules with this text, whose well-formed lines are all
+/// hidden or not.
+pub fn applies_to_modules(note: ListingNote, text: &[u8], hidden: bool, catalog: &Catalog) -> bool
+    requires { hidden ≡ are_modules_hidden (lines_of text.now) }
+    ensures { result ≡ is_of_modules text.now catalog.now note }
+{
+    let none = catalog.len() == 0;
+    match note {
+        ListingNote::Gzip => is_gzip(text),
+        ListingNote::AllHidden => hidden,
+        ListingNote::LooksLikeSymbols => none && looks_like_symbols(text),
+        ListingNote::LinesEndInCrLf => none && first_line_ends_in_cr(text),
+        ListingNote::OtherBoot => lacks_symbols(catalog),
+        ListingNote::LooksLikeModules | ListingNote::NoStart | ListingNote::NoEnd => false,
+    }
+}
+
+/// Whether a note applies to a listing of symbols with this text, of which so many lines are kept,
+/// where these names bound the kernel.
+pub fn applies_to_kallsyms(
+    note: ListingNote,
+    text: &[u8],
+    names: &KernelBounds,
+    hidden: bool,
+    kept: u64,
+) -> bool
+    requires { hidden ≡ are_symbols_hidden (lines_of text.now) }
+    ensures { result ≡ is_of_kallsyms names.now text.now kept note }
+{
+    let none = kept == 0;
+    match note {
+        ListingNote::Gzip => is_gzip(text),
+        ListingNote::AllHidden => hidden,
+        ListingNote::LooksLikeModules => none && looks_like_modules(text),
+        ListingNote::LinesEndInCrLf => none && first_line_ends_in_cr(text),
+        ListingNote::NoStart => lacks_start(text, names),
+        ListingNote::NoEnd => lacks_end(text, names),
+        ListingNote::LooksLikeSymbols | ListingNote::OtherBoot => false,
+    }
+}
+
+/// Whether symbols of the kernel itself are listed, and none at its first address.
+fn lacks_start(text: &[u8], names: &KernelBounds) -> bool
+    ensures { result ≡ lacks_symbol names.now.start (symbols_in (lines_of text.now)) }
+{
+    let shown = kernel_symbols(text, names);
+    shown.any && !shown.start
+}
+
+/// The same of its end.
+fn lacks_end(text: &[u8], names: &KernelBounds) -> bool
+    ensures { result ≡ lacks_symbol names.now.end (symbols_in (lines_of text.now)) }
+{
+    let shown = kernel_symbols(text, names);
+    shown.any && !shown.end
+}
