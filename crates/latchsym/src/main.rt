@@ -29,7 +29,6 @@ mod jobs;
 mod json;
 mod json_texts;
 mod kept_symbols;
-mod listed_symbols;
 mod listing_notes;
 mod lookup;
 mod lookup_texts;
