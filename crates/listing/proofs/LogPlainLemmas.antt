@@ -5,7 +5,7 @@ use Rattle.std.proofs.lemmas.Bool.{cases_lt}
 use Rattle.std.proofs.lemmas.List.{drop-take, take-append-drop, take-take}
 use Rattle.std.proofs.lemmas.List.Sums.{fold-append, fold_more}
 use Rattle.listing.specs.AnnotatedLogs.{LogContext, goes_on}
-use Rattle.listing.specs.LogContexts.{ArePlain, GoOn, IsPlain, KeptContext, context_over, next_context, next_length, next_word, with_byte}
+use Rattle.listing.specs.LogContexts.{ArePlain, GoOn, KeptContext, context_over, next_context, next_length, next_word, with_byte}
 use Rattle.listing.specs.LogWords.{is_closer, is_word_byte, kind_of}
 use Rattle.listing.proofs.LogContextLemmas.{closer_alone}
 

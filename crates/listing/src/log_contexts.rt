@@ -1,11 +1,22 @@
 //! What has to be known of the bytes before a place of a log, to say what is inserted there.
 //!
-//! It is kept as the bytes come, one by one, in room that no log makes larger:
+//! It is kept as the bytes come, in room that no log makes larger:
 //!
 //! ```text
 //!     RIP: 0010:[<ffffffff81000108>]
 //!     ^^^^        ^^^^^^^^^^^^^^^^ ^^
 //!     marker      word             closers
+//! ```
+//!
+//! An address word has eleven bytes at least. So the bytes are passed in leaps of eleven: the last of
+//! them that ends a word says that none before it is long enough, and the next leap begins behind it.
+//! Where none of them ends a word, that word is passed to its end at once, with its closers:
+//!
+//! ```text
+//!     at 3 of 77 pages [<ffffffff81000108>]
+//!      |--------|                               up to the blank behind `77`
+//!                |------|                       up to the `<`
+//!                        |---------|======|     no end: up to the closers
 //! ```
 ghost use Rattle.std.specs.Prelude.{◌≡◌, ◌≤◌, ◌<◌, ◌-◌, ◌&&◌, ◌||◌, ◌==◌, not, false, [], ◌∷◌};
 ghost use Rattle.std.specs.Prelude.{length, nat_le, slice_index, slice_index_or, take, IfSome};

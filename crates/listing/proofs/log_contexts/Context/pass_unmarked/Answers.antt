@@ -1,4 +1,4 @@
-use Rattle.std.proofs.Common.{◌≡◌, ◌∙◌, ℕ, ◌-◌, ◌≤◌, List, ◌∷◌, length, get_or, take, drop, sym, ap, arith, rules}
+use Rattle.std.proofs.Common.{◌∙◌, ℕ, ◌-◌, List, ◌∷◌, length, get_or, take, drop, sym, ap, rules}
 use Rattle.std.proofs.lemmas.List.{take_all, take_rest}
 use Rattle.std.proofs.lemmas.List.Sums.{fold_more}
 use Rattle.listing.proofs.LogMarkLemmas.{recent_over, two_of, unmarked}

@@ -1,4 +1,4 @@
-use Rattle.std.proofs.Common.{◌≡◌, ◌∙◌, ℕ, ◌+◌, ◌-◌, ◌≤◌, List, length, get_or, take, drop, sym, ap, subst, arith}
+use Rattle.std.proofs.Common.{ℕ, ◌+◌, ◌-◌, ◌≤◌, List, length, drop, subst, arith}
 use Rattle.std.proofs.lemmas.List.{take_rest}
 use Rattle.listing.specs.LogContexts.{GoOn, kept_in}
 use Rattle.listing.proofs.LogPlainLemmas.{all_short, plain_on, short_before, short_behind}
