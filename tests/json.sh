@@ -1,8 +1,8 @@
 #!/usr/bin/env bash
-# Reads what `latchsym lookup --json` writes by Python's reader of JSON, and compares it with the
-# lines of text for the same addresses: for 300 random listings (RUNS and SEED set others) whose
-# names have bytes of every kind, by modules that are listed and by the symbols alone, with the
-# counts and without. Needs python3.
+# Reads what `latchsym lookup --json` and `latchsym address --json` write by Python's reader of JSON,
+# and compares it with the lines of text for the same addresses and names: for 300 random listings
+# (RUNS and SEED set others) whose names have bytes of every kind, by modules that are listed and by
+# the symbols alone, with the counts and without. Needs python3.
 set -eu
 . "$(dirname "$0")/program.sh"
 command -v python3 >/dev/null || { echo "json: python3 is not installed"; exit 1; }

@@ -1,4 +1,4 @@
--- The lines that are written for names.
+-- The lines that are written for names, as text or as objects of JSON.
 use Rattle.std.specs.Prelude.{ℕ, ◌+◌, ◌-◌, Bool, ◌&&◌, true, false, not, nat_lt, if◌then◌else◌}
 use Rattle.std.specs.Prelude.{List, [], ◌++◌, codes, flat_map, Option, Some, None}
 use Rattle.std.specs.List.{list_any}
@@ -7,6 +7,7 @@ use Rattle.listing.specs.Exact.{hexadecimal}
 use Rattle.modules.specs.Entries.{CatalogEntries}
 use Rattle.modules.specs.Listed.{ListedSymbol}
 use Rattle.latchsym.specs.AskedNames.{AskedSymbols, asked_of}
+use Rattle.latchsym.specs.JsonTexts.{address_member, named_module, offset_members, symbol_members}
 use Rattle.latchsym.specs.KeptSymbols.{Kept, kept_symbols, named}
 use Rattle.latchsym.specs.NoteTexts.{line_where}
 
@@ -35,27 +36,58 @@ address_line word a k =
     word ++ codes " " ++ hexadecimal (k.addr + a.offset) ++ codes " " ++ hexadecimal (size_of k)
     ++ owner_text k.owner ++ codes "\n"
 
+-- the module of a symbol, and nothing for the kernel itself
+abbrev pub owner_member : Option (List ℕ) → List ℕ
+owner_member None = []
+owner_member (Some name) = named_module name
+
+-- the object of an address that lies above the symbol as it is asked for
+unfoldable pub address_object : AskedSymbols → Kept → List ℕ
+address_object a k =
+    address_member (k.addr + a.offset) ++ symbol_members k.name a.offset (size_of k)
+    ++ owner_member k.owner ++ codes "}\n"
+
+-- the line of a symbol that is told, as JSON or as text
+unfoldable pub told_line : Bool → List ℕ → AskedSymbols → Kept → List ℕ
+told_line json word a k = if json then address_object a k else address_line word a k
+
 -- the lines of those of these symbols that are told
-abbrev pub address_lines : List ℕ → AskedSymbols → List Kept → List ℕ
-address_lines word a symbols = flat_map (λ k. line_where (is_told a k) (address_line word a k)) symbols
+abbrev pub told_lines : Bool → List ℕ → AskedSymbols → List Kept → List ℕ
+told_lines json word a symbols =
+    flat_map (λ k. line_where (is_told a k) (told_line json word a k)) symbols
 
 -- `NAME -`
 abbrev pub no_address : List ℕ → List ℕ
 no_address word = word ++ codes " -\n"
 
+-- the module that is asked for, and nothing where that is the kernel itself or none is named
+abbrev pub asked_member : Option (List ℕ) → List ℕ
+asked_member None = []
+asked_member (Some name) = if bytes_eq name (codes "-") then [] else named_module name
+
+-- the object of what is asked for, which has no address
+unfoldable pub asked_object : AskedSymbols → List ℕ
+asked_object a =
+    codes "{" ++ offset_members a.symbol a.offset ++ asked_member a.owner ++ codes "}\n"
+
+-- the line of a word for which no symbol is told, as JSON or as text
+unfoldable pub untold_line : Bool → List ℕ → AskedSymbols → List ℕ
+untold_line json word a = if json then asked_object a else no_address word
+
 -- what is written for a word, where the symbols of its name are these
-abbrev pub symbols_text : List ℕ → AskedSymbols → List Kept → List ℕ
-symbols_text word a symbols =
-    if list_any (is_told a) symbols then address_lines word a symbols else no_address word
+abbrev pub symbols_text : Bool → List ℕ → AskedSymbols → List Kept → List ℕ
+symbols_text json word a symbols =
+    if list_any (is_told a) symbols then told_lines json word a symbols
+    else untold_line json word a
 
 -- the same where the symbols of each name are known
-abbrev pub word_text : (List ℕ → List Kept) → List ℕ → List ℕ
-word_text found word = symbols_text word (asked_of word) (found (asked_of word).symbol)
+abbrev pub word_text : Bool → (List ℕ → List Kept) → List ℕ → List ℕ
+word_text json found word = symbols_text json word (asked_of word) (found (asked_of word).symbol)
 
 -- what is written for words
-abbrev pub words_text : (List ℕ → List Kept) → List (List ℕ) → List ℕ
-words_text found words = flat_map (word_text found) words
+abbrev pub words_text : Bool → (List ℕ → List Kept) → List (List ℕ) → List ℕ
+words_text json found words = flat_map (word_text json found) words
 
 -- what is written for words by a catalog, and the symbols of its listing in the order listed
-abbrev pub address_text : CatalogEntries → List ListedSymbol → List (List ℕ) → List ℕ
-address_text c symbols words = words_text (named (kept_symbols c symbols)) words
+abbrev pub address_text : Bool → CatalogEntries → List ListedSymbol → List (List ℕ) → List ℕ
+address_text json c symbols words = words_text json (named (kept_symbols c symbols)) words

@@ -1,5 +1,5 @@
 -- What is returned where names are asked for, and what is written of them.
-use Rattle.std.specs.Prelude.{◌≡◌, ℕ, List, Option, Result, Ok, Err, IfSome, is_some, true}
+use Rattle.std.specs.Prelude.{◌≡◌, ℕ, Bool, List, Option, Result, Ok, Err, IfSome, is_some, true}
 use Rattle.std.specs.Io.KnownBytes.{Appends}
 use Rattle.listing.specs.declared.counted.Counted.{Counted}
 use Rattle.listing.specs.Counted.{NoneFailed, Rose, device_of, failures_of}
@@ -14,13 +14,14 @@ use Rattle.latchsym.specs.declared.fault.Fault.{Fault}
 use Rattle.latchsym.specs.declared.fault.Fault.TheVariants.{Refused, BadLine, Read, Write}
 use Rattle.latchsym.specs.declared.listing_notes.ListingNotes.{ListingNotes}
 
--- the writer has taken the lines of these words, by the catalog of the listings, and this is noted
-abbrev pub IsAddressed : {W : Type 0} → (W → Option (List ℕ)) → Counted W → Counted W
+-- the writer has taken the lines of these words, as JSON or as text, by the catalog of the listings,
+-- and this is noted
+abbrev pub IsAddressed : {W : Type 0} → (W → Option (List ℕ)) → Counted W → Counted W → Bool
     → Option BoundNames → List (List ℕ) → Given → ListingNotes → Type 0
-IsAddressed contents w w' kernel words g notes =
+IsAddressed contents w w' json kernel words g notes =
     (c : CatalogEntries) × IsCatalogOf kernel g c notes
     × Appends (contents (device_of w)) (contents (device_of w'))
-    (address_text c (listed g.kallsyms) words)
+    (address_text json c (listed g.kallsyms) words)
 
 -- the listings say a catalog
 abbrev pub HasCatalog : Option BoundNames → Given → Type 0
@@ -32,36 +33,36 @@ HoldsOfRegions P g = (is_some g.modules ≡ true) × P g.regions
 
 -- What is returned for listings that were read, from one state of the writer to another. Every fault
 -- but a failed write leaves the writer as it was, and a call of it failed then alone.
-abbrev pub AnswersGiven : {W : Type 0} → (W → Option (List ℕ)) → Option BoundNames
+abbrev pub AnswersGiven : {W : Type 0} → (W → Option (List ℕ)) → Bool → Option BoundNames
     → List (List ℕ) → Given → Counted W → Counted W → Result ListingNotes Fault → Type 0
-AnswersGiven contents kernel words g w w' (Ok notes) =
-    NoneFailed w w' × IsAddressed contents w w' kernel words g notes
-AnswersGiven contents kernel words g w w' (Err (Refused refusal.OutOfMemory)) = w' ≡ w
-AnswersGiven contents kernel words g w w' (Err (Refused refusal.TooManyRegions)) =
+AnswersGiven contents json kernel words g w w' (Ok notes) =
+    NoneFailed w w' × IsAddressed contents w w' json kernel words g notes
+AnswersGiven contents json kernel words g w w' (Err (Refused refusal.OutOfMemory)) = w' ≡ w
+AnswersGiven contents json kernel words g w w' (Err (Refused refusal.TooManyRegions)) =
     (w' ≡ w) × HoldsOfRegions HasCrowdedRegions g
-AnswersGiven contents kernel words g w w' (Err (BadLine place n)) =
+AnswersGiven contents json kernel words g w w' (Err (BadLine place n)) =
     (w' ≡ w) × (place ≡ 2) × HoldsOfRegions (HasBadRegion n) g
-AnswersGiven contents kernel words g w w' (Err Write) =
+AnswersGiven contents json kernel words g w w' (Err Write) =
     Rose (failures_of w) (failures_of w') × HasCatalog kernel g
-AnswersGiven contents kernel words g w w' (Err _) = ⊥
+AnswersGiven contents json kernel words g w w' (Err _) = ⊥
 
 -- What the engine returns that also read the listings, where these are known. A call of a reader or
 -- of the writer failed where the answer says so, and else none.
-abbrev pub AnswersNames : {W : Type 0} → (W → Option (List ℕ)) → Option BoundNames
+abbrev pub AnswersNames : {W : Type 0} → (W → Option (List ℕ)) → Bool → Option BoundNames
     → List (List ℕ) → Option Given → Failures → Counted W → Counted W
     → Result ListingNotes Fault → Type 0
-AnswersNames contents kernel words known counts w w' (Ok notes) =
+AnswersNames contents json kernel words known counts w w' (Ok notes) =
     NoReaderFailed counts × NoneFailed w w'
-    × IfSome known (λ g. IsAddressed contents w w' kernel words g notes)
-AnswersNames contents kernel words known counts w w' (Err (Refused refusal.OutOfMemory)) =
+    × IfSome known (λ g. IsAddressed contents w w' json kernel words g notes)
+AnswersNames contents json kernel words known counts w w' (Err (Refused refusal.OutOfMemory)) =
     NoReaderFailed counts × (w' ≡ w)
-AnswersNames contents kernel words known counts w w' (Err (Refused refusal.TooManyRegions)) =
+AnswersNames contents json kernel words known counts w w' (Err (Refused refusal.TooManyRegions)) =
     NoReaderFailed counts × (w' ≡ w) × IfSome known (HoldsOfRegions HasCrowdedRegions)
-AnswersNames contents kernel words known counts w w' (Err (BadLine place n)) =
+AnswersNames contents json kernel words known counts w w' (Err (BadLine place n)) =
     NoReaderFailed counts × (w' ≡ w) × (place ≡ 2)
     × IfSome known (HoldsOfRegions (HasBadRegion n))
-AnswersNames contents kernel words known counts w w' (Err (Read place)) =
+AnswersNames contents json kernel words known counts w w' (Err (Read place)) =
     (w' ≡ w) × OnlyFailed place counts
-AnswersNames contents kernel words known counts w w' (Err Write) =
+AnswersNames contents json kernel words known counts w w' (Err Write) =
     NoReaderFailed counts × Rose (failures_of w) (failures_of w') × IfSome known (HasCatalog kernel)
-AnswersNames contents kernel words known counts w w' (Err _) = ⊥
+AnswersNames contents json kernel words known counts w w' (Err _) = ⊥

@@ -108,10 +108,13 @@ annotate_app =
 abbrev pub check_app : App
 check_app = with_listings (new_app (codes "check")) (optional_rule (codes "modules"))
 
--- address [--kallsyms FILE] [--modules FILE] [--regions FILE] [--kernel START END] NAME..
+-- address [--kallsyms FILE] [--modules FILE] [--regions FILE] [--kernel START END] [--json]
+-- [--no-counts] NAME..
 abbrev pub address_app : App
 address_app =
     with_rule
+    (with_rule
+    (with_rule
     (with_rule
     (with_rule
     (with_rule
@@ -119,6 +122,8 @@ address_app =
     (optional_rule (codes "modules")))
     (optional_rule (codes "regions")))
     (pair_rule (codes "kernel")))
+    (flag_rule (codes "json")))
+    (flag_rule (codes "no-counts")))
     (some_words_rule (codes "name"))
 
 -- a subcommand has to be given, but for `--version`

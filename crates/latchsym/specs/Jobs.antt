@@ -113,13 +113,15 @@ pub record CheckWords : Type 0 where
   pub regions : Option Text
   pub kernel : Option BoundNames
 
--- to say where the symbols of these names are, by listings of symbols, and of modules and regions
--- where these are named, where the given symbols bound the kernel, or else the usual ones
+-- to say, as JSON or as text, where the symbols of these names are, by listings of symbols, and of
+-- modules and regions where these are named, where the given symbols bound the kernel, or else the
+-- usual ones
 pub record NameWords : Type 0 where
   pub modules : Option Text
   pub kallsyms : Text
   pub regions : Option Text
   pub kernel : Option BoundNames
+  pub json : Bool
   pub names : List Text
 
 -- what a subcommand asks for: to run the trace in a file, a lookup, to run a script, to annotate a
@@ -289,6 +291,7 @@ address_in rows (Some kernel) = ForAddress (record {
   kallsyms = unwrap_or (first_of (codes "kallsyms") rows) (codes "/proc/kallsyms");
   regions = first_of (codes "regions") rows;
   kernel = kernel;
+  json = has_flag (codes "json") rows;
   names = values_in (codes "name") rows;
 })
 address_in rows None = ForNothing
@@ -448,6 +451,7 @@ name_words_of job = record {
   kallsyms = job.listings.kallsyms.now;
   regions = option_map (λ f. f.now) job.listings.regions;
   kernel = job.kernel;
+  json = job.json;
   names = map (λ n. n.now) job.names.items;
 }
 

@@ -1,4 +1,5 @@
--- The lines that a lookup of addresses writes as JSON, an object each.
+-- The lines that are written as JSON, an object each: those of a lookup of addresses, and the members
+-- that those of names share with them.
 use Rattle.std.specs.Prelude.{ℕ, ◌+◌, ◌&&◌, nat_eq, nat_le, nat_lt, if◌then◌else◌, Bool}
 use Rattle.std.specs.Prelude.{List, [], ◌++◌, codes, take, drop, flat_map, slice_index}
 use Rattle.std.specs.Prelude.{Option, Some, None}
@@ -21,20 +22,31 @@ use Rattle.order_laws.specs.declared.items.Item.{Item}
 use Rattle.latchsym.specs.Json.{json_number, json_string}
 use Rattle.latchsym.specs.declared.table.AddressAnswer.{AddressAnswer}
 
--- a symbol, how far an address lies above it, and how far it reaches
+-- the address, with which an object begins
+abbrev pub address_member : ℕ → List ℕ
+address_member addr = codes "{\"address\":\"" ++ hexadecimal addr ++ codes "\""
+
+-- a symbol, and how far an address lies above it
+unfoldable pub offset_members : List ℕ → ℕ → List ℕ
+offset_members name offset =
+    codes "\"symbol\":" ++ json_string name ++ codes ",\"offset\":" ++ json_number offset
+
+-- the same, and how far the symbol reaches
 unfoldable pub symbol_members : List ℕ → ℕ → ℕ → List ℕ
 symbol_members name offset size =
-    codes ",\"symbol\":" ++ json_string name ++ codes ",\"offset\":" ++ json_number offset
-    ++ codes ",\"size\":" ++ json_number size
+    codes "," ++ offset_members name offset ++ codes ",\"size\":" ++ json_number size
 
 -- the symbol, as it is told of an address `before` bytes farther on
 unfoldable pub found_symbol : ℕ → Found → List ℕ
 found_symbol before f = symbol_members f.symbol.name (f.offset + before) f.size
 
+-- a module of this name
+abbrev pub named_module : List ℕ → List ℕ
+named_module name = codes ",\"module\":" ++ json_string name
+
 -- the module, and nothing for the kernel itself
 unfoldable pub module_member : ℕ → List ℕ → List ℕ
-module_member number name =
-    if nat_eq number 0 then [] else codes ",\"module\":" ++ json_string name
+module_member number name = if nat_eq number 0 then [] else named_module name
 
 -- what is known of an address in a region of the module, told of one `before` bytes farther on
 abbrev pub members_in : ModuleEntry → Item → ℕ → ℕ → List ℕ
@@ -62,8 +74,7 @@ members_by c rule item addr =
 -- the object of an address
 unfoldable pub json_line : CatalogEntries → AddressRule → AddressAnswer → List ℕ
 json_line c rule a =
-    codes "{\"address\":\"" ++ hexadecimal a.addr ++ codes "\"" ++ members_by c rule a.item a.addr
-    ++ codes "}\n"
+    address_member a.addr ++ members_by c rule a.item a.addr ++ codes "}\n"
 
 -- what stands before a count, and the count
 abbrev pub json_count : List ℕ → ℕ → List ℕ

@@ -120,7 +120,7 @@ pub record IsListingsChecked {F W : Type 0} (remaining : F → Option (List ℕ)
       (listing_failures before after) w w' result
   pub status : outcome ≡ with_notes no_notes result
 
--- what the engine of names returned for the job's own files, bounds and names
+-- what the engine of names returned for the job's own files, bounds, names and form
 pub record AreNamesFound {F W : Type 0} (remaining : F → Option (List ℕ))
     (contents : W → Option (List ℕ)) (held : Held) (job : AddressJob) (w w' : Counted W)
     (outcome : Result Finished Fault) : Type 0 where
@@ -128,7 +128,7 @@ pub record AreNamesFound {F W : Type 0} (remaining : F → Option (List ℕ))
   pub after : ListingReaders F F F
   pub opened : AreListingFiles remaining held job.listings before
   pub result : Result ListingNotes Fault
-  pub answered : AnswersNames contents job.kernel (map (λ n. n.now) job.names.items)
+  pub answered : AnswersNames contents job.json job.kernel (map (λ n. n.now) job.names.items)
       (known_given remaining remaining remaining before)
       (listing_failures before after) w w' result
   pub status : outcome ≡ with_status result

@@ -6,7 +6,8 @@ ghost use Rattle.latchsym.specs.Jobs.{AnswersAsked, asked_address};
 
 use crate::command_line::{
     GIVEN_BOUNDS_HELP, GIVEN_MODULES_HELP, Job, JobFault, KALLSYMS, ListingFiles, REGIONS_HELP,
-    described, given_bounds, optional_option, optional_pair, value_of, value_or, values_of,
+    described, flag, given_bounds, is_given, optional_option, optional_pair, value_of, value_or,
+    values_of,
 };
 use clap::{Arg, ArgMatches, Command};
 use modules::KernelBounds;
@@ -19,6 +20,8 @@ pub struct AddressJob<'a> {
     pub listings: ListingFiles<'a>,
     /// The names of the symbols that bound the kernel's own region, where they are given.
     pub kernel: Option<KernelBounds<'a>>,
+    /// Objects of JSON are written, in place of lines of text.
+    pub json: bool,
     /// The names, in the order of their words.
     pub names: Vec<&'a str>,
 }
@@ -28,6 +31,8 @@ pub fn address_command<'a>(alloc: Global) -> Result<Command<'a>, AllocError>
     ensures { IfOk result (IsCommand address_app) }
 {
     let kallsyms_help = "The symbols, in place of those of /proc/kallsyms";
+    let json_help = "Write each address as an object of JSON, a line each";
+    let counts_help = "Taken as by lookup; there are no counts here";
     let name_help =
         "The names: SYMBOL or SYMBOL+0xOFFSET, with MODULE: in front for one module, -: for none";
     let command = described(
@@ -40,6 +45,8 @@ pub fn address_command<'a>(alloc: Global) -> Result<Command<'a>, AllocError>
         .arg(optional_option(alloc, "modules", "FILE").help(GIVEN_MODULES_HELP))?
         .arg(optional_option(alloc, "regions", "FILE").help(REGIONS_HELP))?
         .arg(optional_pair(alloc, "kernel", &["START", "END"]).help(GIVEN_BOUNDS_HELP))?
+        .arg(flag(alloc, "json").help(json_help))?
+        .arg(flag(alloc, "no-counts").help(counts_help))?
         .arg(some_words(alloc, "name", "NAME").help(name_help))
 }
 
@@ -72,6 +79,7 @@ pub fn address_job<'a>(alloc: Global, found: &ArgMatches<'a>) -> Result<Job<'a>,
             regions,
         },
         kernel,
+        json: is_given(found, "json"),
         names,
     }))
 }

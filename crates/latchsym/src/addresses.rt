@@ -18,42 +18,45 @@ use std::alloc::Global;
 use std::io;
 use std::io::{Read, Write};
 
-/// Writes where the kept symbols of each name are, in the order listed, and returns what is noted of
-/// the listings. A name may have the module in front of it, and an offset behind.
+/// Writes where the kept symbols of each name are, in the order listed, as objects of JSON or as
+/// lines of text, and returns what is noted of the listings. A name may have the module in front of
+/// it, and an offset behind.
 ///
 /// All is read, and the catalog is there, before the first byte is written; so every fault but a
 /// failed write leaves the writer as it was. docs/FORMATS.md has the names and the lines.
 pub fn address_engine<M: Read, K: Read, R: Read, W: Write>(
     alloc: Global,
     readers: &mut ListingReaders<M, K, R>,
+    json: bool,
     kernel: Option<&KernelBounds>,
     words: &[&str],
     writer: &mut Counted<W>,
 ) -> Result<ListingNotes, Fault>
-    ensures { AnswersNames W.contents (option_copied kernel.entry) (map (λ w. w.now) words.now)
+    ensures { AnswersNames W.contents json (option_copied kernel.entry) (map (λ w. w.now) words.now)
         (known_given M.remaining K.remaining R.remaining readers.old)
         (listing_failures readers.old readers.new) writer.old writer.new result }
 {
     let texts = read_given(alloc, readers)?;
-    answer_names(alloc, &texts, kernel, words, writer)
+    answer_names(alloc, &texts, json, kernel, words, writer)
 }
 
 /// Writes where they are in the listings that these texts are.
 fn answer_names<W: Write>(
     alloc: Global,
     texts: &GivenTexts,
+    json: bool,
     kernel: Option<&KernelBounds>,
     words: &[&str],
     writer: &mut Counted<W>,
 ) -> Result<ListingNotes, Fault>
-    ensures { AnswersGiven W.contents (option_copied kernel.entry) (map (λ w. w.now) words.now)
+    ensures { AnswersGiven W.contents json (option_copied kernel.entry) (map (λ w. w.now) words.now)
         (given_in texts.now) writer.old writer.new result }
 {
     let opened = open_catalog(alloc, kernel, texts)?;
     let notes = opened.notes;
     let index = IndexedCatalog::new(alloc, opened.catalog)?;
     let sought = symbols_sought(alloc, &index, &texts.kallsyms, words)?;
-    match put_all(writer, &sought, words) {
+    match put_all(writer, json, &sought, words) {
         Ok(()) => Ok(notes),
         Err(_) => Err(Fault::Write),
     }
@@ -62,12 +65,13 @@ fn answer_names<W: Write>(
 /// Writes the lines of all words, and lets the writer keep nothing back.
 fn put_all<W: Write>(
     writer: &mut Counted<W>,
+    json: bool,
     sought: &SoughtSymbols<'_, '_>,
     words: &[&str],
 ) -> io::Result<()>
-    ensures { Wrote W.contents writer.old writer.new result
-        (words_text (λ name. unwrap_or (found_by sought.now name) []) (map (λ w. w.now) words.now)) }
+    ensures { Wrote W.contents writer.old writer.new result (words_text json
+        (λ name. unwrap_or (found_by sought.now name) []) (map (λ w. w.now) words.now)) }
 {
-    put_words(writer, sought, words)?;
+    put_words(writer, json, sought, words)?;
     writer.flush()
 }

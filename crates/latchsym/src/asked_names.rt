@@ -8,8 +8,7 @@ ghost use Rattle.std.specs.Prelude.{◌≡◌, option_map};
 ghost use Rattle.std.specs.Option.{option_copied};
 ghost use Rattle.latchsym.specs.AskedNames.{asked_in, asked_of, offset_in, symbol_and_offset};
 
-use crate::listed_symbols::cut;
-use listing::number;
+use listing::{cut, number};
 use memchr::memrchr;
 use std::marker::Model;
 

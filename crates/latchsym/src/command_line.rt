@@ -49,7 +49,7 @@ pub enum Job<'a> {
     /// all that is noted of listings, and their counts.
     Check(CheckJob<'a>),
     /// `latchsym address [--kallsyms FILE] [--modules FILE [--regions FILE]] [--kernel START END]
-    /// NAME..`: write where the symbols of these names are.
+    /// [--json] [--no-counts] NAME..`: write where the symbols of these names are.
     Address(AddressJob<'a>),
 }
 
@@ -439,7 +439,7 @@ pub(crate) fn optional_option<'a>(alloc: Global, id: &'a str, value: &'a str) ->
     Arg::new(alloc, id).long(id).value_name(value)
 }
 
-fn flag<'a>(alloc: Global, id: &'a str) -> Arg<'a>
+pub(crate) fn flag<'a>(alloc: Global, id: &'a str) -> Arg<'a>
     ensures { IsPlainArg (flag_rule id.entry.now) result }
 {
     Arg::new(alloc, id).long(id).action(ArgAction::SetTrue)
@@ -761,7 +761,7 @@ pub(crate) fn value_or<'a>(found: &ArgMatches<'a>, id: &str, usual: &'a str) -> 
 }
 
 /// Whether a flag is given.
-fn is_given(found: &ArgMatches<'_>, id: &str) -> bool
+pub(crate) fn is_given(found: &ArgMatches<'_>, id: &str) -> bool
     ensures { result ≡ has_flag id.now (rows_of (found_of found.now)) }
 {
     value_of(found, id) == Some("true")

@@ -208,7 +208,8 @@ fn do_address<F: FileSource, W: Write>(
 {
     let mut readers = open_listings(files, &job.listings)?;
     let kernel = job.kernel.as_ref();
-    with_status(address_engine(alloc, &mut readers, kernel, &job.names, writer))
+    let done = address_engine(alloc, &mut readers, job.json, kernel, &job.names, writer);
+    with_status(done)
 }
 
 /// Opens the files of a lookup.

@@ -1,8 +1,10 @@
-//! The lines that a lookup of addresses writes as JSON, byte for byte, with no memory taken.
+//! The lines that are written as JSON, byte for byte, with no memory taken: those of a lookup of
+//! addresses, and the members that those of names share with them.
 ghost use Rattle.std.specs.Prelude.{◌≡◌, ◌+◌, ◌^◌, ◌≤◌, ◌<◌};
 ghost use Rattle.listing.specs.AddressRules.{before_of};
 ghost use Rattle.listing.specs.Exact.{Wrote};
-ghost use Rattle.latchsym.specs.JsonTexts.{found_members, found_object, found_symbol};
+ghost use Rattle.latchsym.specs.JsonTexts.{address_member, found_members, found_object};
+ghost use Rattle.latchsym.specs.JsonTexts.{found_symbol, named_module, offset_members};
 ghost use Rattle.latchsym.specs.JsonTexts.{held_members, json_causes};
 ghost use Rattle.latchsym.specs.JsonTexts.{json_count, json_counts, json_found_counts, json_line};
 ghost use Rattle.latchsym.specs.JsonTexts.{members_by, module_member, modules_object};
@@ -32,11 +34,18 @@ pub fn put_json_answer<W: Write>(
     ensures { Wrote W.contents writer.old writer.new result
         (json_line catalog.now rule answer.now) }
 {
-    put(writer, b"{\"address\":\"")?;
-    put_hexadecimal(writer, answer.addr)?;
-    put(writer, b"\"")?;
+    put_address_member(writer, answer.addr)?;
     put_members(writer, catalog, rule, answer.item, answer.addr)?;
     put(writer, b"}\n")
+}
+
+/// Writes the address, with which an object begins.
+pub fn put_address_member<W: Write>(writer: &mut Counted<W>, addr: u64) -> io::Result<()>
+    ensures { Wrote W.contents writer.old writer.new result (address_member addr) }
+{
+    put(writer, b"{\"address\":\"")?;
+    put_hexadecimal(writer, addr)?;
+    put(writer, b"\"")
 }
 
 /// Writes what is known of an address, where the item was found for the one that is looked up.
@@ -120,11 +129,12 @@ fn put_found_symbol<W: Write>(
     ensures { Wrote W.contents writer.old writer.new result (found_symbol before found.now) }
 {
     let symbol = found.symbol;
-    put_symbol(writer, symbol.name, found.offset + before, found.size)
+    put_symbol_members(writer, symbol.name, found.offset + before, found.size)
 }
 
 /// Writes a symbol, how far an address lies above it, and how far it reaches.
-fn put_symbol<W: Write>(
+#[tactic(auto, unfolding(crate::specs::JsonTexts::symbol_members))]
+pub fn put_symbol_members<W: Write>(
     writer: &mut Counted<W>,
     name: &[u8],
     offset: u64,
@@ -133,12 +143,25 @@ fn put_symbol<W: Write>(
     ensures { Wrote W.contents writer.old writer.new result
         (symbol_members name.now offset size) }
 {
-    put(writer, b",\"symbol\":")?;
-    put_json_string(writer, name)?;
-    put(writer, b",\"offset\":")?;
-    put_json_number(writer, offset)?;
+    put(writer, b",")?;
+    put_offset_members(writer, name, offset)?;
     put(writer, b",\"size\":")?;
     put_json_number(writer, size)
+}
+
+/// Writes a symbol, and how far an address lies above it.
+#[tactic(auto, unfolding(crate::specs::JsonTexts::offset_members))]
+pub fn put_offset_members<W: Write>(
+    writer: &mut Counted<W>,
+    name: &[u8],
+    offset: u64,
+) -> io::Result<()>
+    ensures { Wrote W.contents writer.old writer.new result (offset_members name.now offset) }
+{
+    put(writer, b"\"symbol\":")?;
+    put_json_string(writer, name)?;
+    put(writer, b",\"offset\":")?;
+    put_json_number(writer, offset)
 }
 
 /// Writes the module, or nothing for number 0.
@@ -149,6 +172,13 @@ fn put_module<W: Write>(writer: &mut Counted<W>, number: u64, name: &[u8]) -> io
     if number == 0 {
         return Ok(());
     }
+    put_named_module(writer, name)
+}
+
+/// Writes the name of a module.
+pub fn put_named_module<W: Write>(writer: &mut Counted<W>, name: &[u8]) -> io::Result<()>
+    ensures { Wrote W.contents writer.old writer.new result (named_module name.now) }
+{
     put(writer, b",\"module\":")?;
     put_json_string(writer, name)
 }

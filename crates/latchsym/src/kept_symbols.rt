@@ -2,6 +2,7 @@
 ghost use Rattle.std.specs.Prelude.{◌≡◌, ◌+◌, ◌-◌, ◌<◌, ◌≤◌, ℕ, List, IfOk, OnOk, map};
 ghost use Rattle.std.specs.Prelude.{◌++◌, []};
 ghost use Rattle.std.specs.Option.{option_copied, option_to_list};
+ghost use Rattle.memchr.specs.Find.{IsFirstByte, is_byte};
 ghost use Rattle.modules.specs.Entries.{CatalogEntries};
 ghost use Rattle.order_laws.specs.declared.items.Item.{Item};
 ghost use Rattle.latchsym.specs.AddressTexts.{size_of};
@@ -10,7 +11,7 @@ ghost use Rattle.latchsym.specs.KeptSymbols.{kept_line, kept_symbol, kept_symbol
 ghost use Rattle.latchsym.specs.SymbolLookups.{listed};
 
 use crate::asked_names::symbol_asked;
-use crate::listed_symbols::{cut_line, symbol_in};
+use listing::{cut_tabbed_line, symbol_of_line};
 use modules::{Catalog, IndexedCatalog, SymbolLine, symbol_of};
 use order_laws::Item;
 use std::alloc::{AllocError, Global};
@@ -75,8 +76,8 @@ pub fn symbols_sought<'n, 'a>(
     let mut sought = names_sought(alloc, words)?;
     let mut rest = kallsyms;
     while !rest.is_empty() {
-        let (line, after) = cut_line(rest);
-        take_line(&mut sought, index, line)?;
+        let (line, tab, after) = cut_tabbed_line(rest);
+        take_line(&mut sought, index, line, tab)?;
         rest = after;
     }
     Ok(sought)
@@ -97,17 +98,20 @@ fn names_sought<'n, 'a>(
     Ok(sought)
 }
 
-/// Puts the symbol that a line is after those of its name, if that is sought and the symbol is kept.
+/// Puts the symbol that a line is, whose first tab stands at this place, after those of its name, if
+/// that is sought and the symbol is kept.
 fn take_line<'a>(
     sought: &mut SoughtSymbols<'_, 'a>,
     index: &IndexedCatalog<'_>,
     line: &'a [u8],
+    tab: Option<usize>,
 ) -> Result<(), AllocError>
+    requires { IsFirstByte (is_byte 9) line.now tab }
     ensures { (words : List (List ℕ)) (kept : List Kept) → IsSought words kept sought.old
         → OnOk result
         (IsSought words (kept ++ option_to_list (kept_line index.now line.now)) sought.new) }
 {
-    let Some(symbol) = symbol_in(line) else {
+    let Ok(symbol) = symbol_of_line(line, tab) else {
         return Ok(());
     };
     let Some(found) = sought.get_mut(symbol.name) else {

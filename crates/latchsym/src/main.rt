@@ -10,8 +10,8 @@
 //! [--kernel START END] [--callers] [--offset N] [LOG]` writes a log again, with the symbol behind
 //! each address. `latchsym check [--modules FILE [--regions FILE]] --kallsyms FILE
 //! [--kernel START END]` says what is wrong with listings, and how many of their lines are of use.
-//! `latchsym address [--kallsyms FILE] [--modules FILE [--regions FILE]] [--kernel START END] NAME..`
-//! says where the symbols of these names are.
+//! `latchsym address [--kallsyms FILE] [--modules FILE [--regions FILE]] [--kernel START END] [--json]
+//! [--no-counts] NAME..` says where the symbols of these names are.
 #![tactic(auto)]
 
 mod address_command;
@@ -29,7 +29,6 @@ mod jobs;
 mod json;
 mod json_texts;
 mod kept_symbols;
-mod listed_symbols;
 mod listing_notes;
 mod lookup;
 mod lookup_texts;

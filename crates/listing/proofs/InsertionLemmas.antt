@@ -7,11 +7,11 @@ use Rattle.listing.specs.LogWords.{address_of_word, has_prefix}
 use Rattle.listing.specs.AnnotatedLogs.{Answering, LogContext, goes_on, inserted, insertion_at, text_behind}
 use Rattle.listing.specs.Insertions.{IsInsert, IsInserted, MayCome}
 
-nothing_inserted : (o : Option (List ℕ)) (context : LogContext) (rest : List ℕ) → goes_on context rest ≡ true → inserted context rest o ≡ []
+pub nothing_inserted : (o : Option (List ℕ)) (context : LogContext) (rest : List ℕ) → goes_on context rest ≡ true → inserted context rest o ≡ []
 nothing_inserted None context rest e = refl
 nothing_inserted (Some text) context rest e = ap (λ b. cond (b || starts_with nat_eq rest text) [] text) e
 
-goes_on_more : (context : LogContext) (rest more : List ℕ) → goes_on context rest ≡ true → goes_on context (rest ++ more) ≡ true
+pub goes_on_more : (context : LogContext) (rest more : List ℕ) → goes_on context rest ≡ true → goes_on context (rest ++ more) ≡ true
 goes_on_more context [] more e = absurd (true≢false (sym e))
 goes_on_more context (b ∷ rest) more e = e
 

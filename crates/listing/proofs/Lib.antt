@@ -38,5 +38,9 @@ pub mod LogContextLemmas
 pub mod InsertionLemmas
 -- blocks of a log that are read and written one after the other
 pub mod AnnotationLemmas
+-- how far nothing is inserted between the bytes of a log
+pub mod LogPlainLemmas
+-- the markers of a log, and its last bytes, over bytes that are passed together
+pub mod LogMarkLemmas
 -- bytes of a log that are passed together
 pub mod LogPassLemmas

@@ -69,7 +69,7 @@ capped_byte word b =
           ap (λ t. cond t (take 19 word ++ b ∷ []) (take 19 word)) full ∙ sym (take-append-le 19 word (b ∷ []) many)
     ] refl
 
-closer_alone : (b : ℕ) → is_closer b ≡ true → is_word_byte b ≡ false
+pub closer_alone : (b : ℕ) → is_closer b ≡ true → is_word_byte b ≡ false
 closer_alone b = one (b == 41) (b == 62) (b == 93) refl refl refl
   where
     at : (n : ℕ) → is_word_byte n ≡ false → (b == n) ≡ true → is_word_byte b ≡ false

@@ -1,18 +1,19 @@
 -- Bytes of a log that are passed together.
-use Rattle.std.proofs.Common.{◌≡◌, ◌∙◌, ℕ, zero, suc, ◌+◌, ◌-◌, ◌<◌, ◌≤◌, inl, inr, Bool, true, false, true≢false, cond, List, [], ◌∷◌, ◌++◌, length, get_or, take, drop, refl, sym, ap, subst, ⊎_elim, arith, append-nil, append_assoc, length-append, length-take, length-drop, drop-drop}
-use Rattle.std.specs.Prelude.{◌&&◌, ◌||◌, not, ◌==◌, nat_lt}
-use Rattle.std.proofs.lemmas.Bool.{and_parts, cases_lt, eqb-true}
+use Rattle.std.proofs.Common.{◌≡◌, ◌∙◌, ℕ, zero, suc, ◌+◌, ◌-◌, ◌<◌, ◌≤◌, inl, inr, Bool, true, false, true≢false, cond, List, [], ◌∷◌, ◌++◌, length, get_or, take, drop, refl, sym, ap, subst, arith, append-nil, append_assoc, length-take, length-drop, drop-drop}
+use Rattle.std.specs.Prelude.{◌&&◌, ◌==◌}
+use Rattle.std.proofs.lemmas.Bool.{and_parts, eqb-true}
 use Rattle.std.specs.Global.{Vec}
 use Rattle.std.proofs.lemmas.List.{drop-append-le, drop-take, length-take-le, take-append-drop, take_rest, take-take}
 use Rattle.std.proofs.lemmas.List.Sums.{fold-append, fold_more}
 use Rattle.listing.specs.LogWords.{is_closer, is_word_byte, kind_of}
-use Rattle.listing.specs.AnnotatedLogs.{Answering, LogContext, ends_marked, insertion_at}
+use Rattle.listing.specs.AnnotatedLogs.{Answering, LogContext, insertion_at, text_behind}
 use Rattle.listing.specs.Insertions.{IsInserted, IsInsertionAt, IsPassed, IsWaiting, KeepsPromise}
-use Rattle.listing.specs.LogContexts.{ArePlain, IsMarkedBy, KeptContext, annotated_from, context_over, kept_in, next_context, next_length, next_word, with_byte}
+use Rattle.listing.specs.LogContexts.{ArePlain, IsPlain, KeptContext, annotated_from, context_over, kept_in, next_context, next_word, with_byte}
 use Rattle.listing.specs.declared.insertions.Insertion.{Insertion}
 use Rattle.listing.specs.declared.insertions.Insertion.TheVariants.{Nothing, Text, Undecided}
 use Rattle.listing.specs.declared.log_contexts.Context.{Context}
-use Rattle.listing.proofs.InsertionLemmas.{short_insertion}
+use Rattle.listing.proofs.InsertionLemmas.{goes_on_more, nothing_inserted, short_insertion}
+use Rattle.listing.proofs.LogPlainLemmas.{take_parts}
 
 -- ---- a table of what bytes are
 
@@ -29,64 +30,6 @@ kind_at (kind ∷ kinds) n zero holds below =
 kind_at (kind ∷ kinds) n (suc k) holds below =
     let same : n + 1 + k ≡ n + suc k = omega arith in
     kind_at kinds (n + 1) k (and_parts _ _ holds).1 (omega arith) ∙ ap kind_of same
-
--- ---- how long a word is
-
-grown : (word : List ℕ) (b m : ℕ) → length word ≤ m → length (with_byte word b) ≤ m + 1
-grown word b m short =
-    elim (nat_lt (length word) 19) as (λ t. length (cond t (word ++ b ∷ []) word) ≤ m + 1) [
-      | true ↦ let n = length-append word (b ∷ []) in omega (arith, n, short)
-      | false ↦ omega (arith, short)
-    ]
-
-by_kind : (is_word is_close closed : Bool) (word more : List ℕ) (b m : ℕ) → length word ≤ m → length more ≤ m + 1
-    → length (cond is_word (cond closed (b ∷ []) more) (cond is_close word [])) ≤ cond is_word (m + 1) (cond is_close m 0)
-by_kind true is_close true word more b m short longer = omega arith
-by_kind true is_close false word more b m short longer = longer
-by_kind false true closed word more b m short longer = short
-by_kind false false closed word more b m short longer = omega arith
-
-next_word_length : (context : LogContext) (b m : ℕ) → length context.word ≤ m → length (next_word context b) ≤ next_length m b
-next_word_length context b m short = by_kind (is_word_byte b) (is_closer b) context.is_closed context.word (with_byte context.word b) b m short (grown context.word b m short)
-
-pub longer_by : (kept : KeptContext) (bytes : List ℕ) (i m : ℕ) → i < length bytes → length (context_over kept (take i bytes)).context.word ≤ m
-    → length (context_over kept (take (i + 1) bytes)).context.word ≤ next_length m (get_or bytes i 0)
-longer_by kept bytes i m below short =
-    subst (λ (k : KeptContext). length k.context.word ≤ next_length m (get_or bytes i 0)) (sym (fold_more next_context kept bytes i 0 below))
-    (next_word_length (context_over kept (take i bytes)).context (get_or bytes i 0) m short)
-
--- one place more has a short word before it
-pub plain_more : (kept : KeptContext) (bytes : List ℕ) (i : ℕ) → length (context_over kept (take i bytes)).context.word ≤ 10
-    → ((k : ℕ) → 0 < k → k < i → length (context_over kept (take k bytes)).context.word ≤ 10)
-    → (k : ℕ) → 0 < k → k < i + 1 → length (context_over kept (take k bytes)).context.word ≤ 10
-plain_more kept bytes i short plain k some below =
-    ⊎_elim
-    (λ less. plain k some less)
-    (λ ge. let same : i ≡ k = omega arith in subst (λ j. length (context_over kept (take j bytes)).context.word ≤ 10) same short)
-    (cases_lt k i)
-
--- ---- markers
-
-pub marks_more : (m m' m'' : Bool) (r r' r'' bytes : List ℕ) (i : ℕ) → i < length bytes → IsMarkedBy m r m' r' (take i bytes)
-    → m'' ≡ (not (get_or bytes i 0 == 10) && (ends_marked (get_or bytes i 0 ∷ r') || m'))
-    → r'' ≡ get_or bytes i 0 ∷ take 2 r' → IsMarkedBy m r m'' r'' (take (i + 1) bytes)
-marks_more m m' m'' r r' r'' bytes i below before marked recent kept same_mark same_recent =
-    let b : ℕ = get_or bytes i 0 in
-    let was = before kept same_mark same_recent in
-    let next = fold_more next_context kept bytes i 0 below in (
-      marked
-          ∙ ap (λ (x : List ℕ). not (b == 10) && (ends_marked (b ∷ x) || m')) was.1
-          ∙ ap (λ (x : Bool). not (b == 10) && (ends_marked (b ∷ (context_over kept (take i bytes)).recent) || x)) was.0
-          ∙ sym (ap (λ (k : KeptContext). k.context.is_marked) next),
-      recent ∙ ap (λ (x : List ℕ). b ∷ take 2 x) was.1 ∙ sym (ap (λ (k : KeptContext). k.recent) next),
-    )
-
-pub three_of : (r : List ℕ) → length r ≡ 3 → get_or r 0 0 ∷ get_or r 1 0 ∷ get_or r 2 0 ∷ [] ≡ r
-three_of [] e = absurd (omega (arith, e))
-three_of (x ∷ []) e = absurd (omega (arith, e))
-three_of (x ∷ y ∷ []) e = absurd (omega (arith, e))
-three_of (x ∷ y ∷ z ∷ []) e = refl
-three_of (x ∷ y ∷ z ∷ w ∷ r) e = absurd (omega (arith, e))
 
 -- ---- words
 
@@ -138,13 +81,22 @@ all_of c k word closed marked recent =
 
 -- ---- what is put out for bytes that are passed together
 
--- bytes behind short words are put as they are
-plain_put : (answer : Answering) (kept : KeptContext) (seg rest : List ℕ) → ((k : ℕ) → k < length seg → length (context_over kept (take k seg)).context.word ≤ 10)
+plain_insertion : (answer : Answering) (kept : KeptContext) (rest : List ℕ) → IsPlain kept rest → insertion_at answer kept.context rest ≡ []
+plain_insertion answer kept rest (inl few) = short_insertion answer kept.context rest few
+plain_insertion answer kept rest (inr on) = nothing_inserted (text_behind answer kept.context) kept.context rest on
+
+-- more bytes behind do not change it
+plain_more : (kept : KeptContext) (rest more : List ℕ) → IsPlain kept rest → IsPlain kept (rest ++ more)
+plain_more kept rest more (inl few) = inl few
+plain_more kept rest more (inr on) = inr (goes_on_more kept.context rest more on)
+
+-- bytes between which nothing is inserted are put as they are
+plain_put : (answer : Answering) (kept : KeptContext) (seg rest : List ℕ) → ((k : ℕ) → k < length seg → IsPlain (context_over kept (take k seg)) (drop k seg ++ rest))
     → annotated_from answer kept (seg ++ rest) ≡ seg ++ annotated_from answer (context_over kept seg) rest
-plain_put answer kept [] rest short = refl
-plain_put answer kept (b ∷ seg) rest short =
-    ap (λ (t : List ℕ). t ++ b ∷ annotated_from answer (next_context kept b) (seg ++ rest)) (short_insertion answer kept.context (b ∷ seg ++ rest) (short 0 (omega arith)))
-    ∙ ap (λ (t : List ℕ). b ∷ t) (plain_put answer (next_context kept b) seg rest (λ k below. short (suc k) (omega (arith, below))))
+plain_put answer kept [] rest plain = refl
+plain_put answer kept (b ∷ seg) rest plain =
+    ap (λ (t : List ℕ). t ++ b ∷ annotated_from answer (next_context kept b) (seg ++ rest)) (plain_insertion answer kept (b ∷ seg ++ rest) (plain 0 (omega arith)))
+    ∙ ap (λ (t : List ℕ). b ∷ t) (plain_put answer (next_context kept b) seg rest (λ k below. plain (suc k) (omega (arith, below))))
 
 -- so many bytes are put behind what is inserted before the first of them
 some_put : (answer : Answering) (kept : KeptContext) (bytes : List ℕ) (n : ℕ) (text more : List ℕ) → 0 < n → ArePlain kept bytes n → insertion_at answer kept.context (bytes ++ more) ≡ text
@@ -159,7 +111,11 @@ some_put answer kept (b ∷ bytes) (suc n) text more some plain is =
     ∙ plain_put answer (next_context kept b) (take n bytes) (drop n bytes ++ more) (λ k below.
     let within = length-take n bytes in
     let less : k < n = omega (arith, below, within) in
-    subst (λ (l : List ℕ). length (context_over (next_context kept b) l).context.word ≤ 10) (sym (take-take k n bytes (omega (arith, less)))) (plain.1 (suc k) (omega arith) (omega (arith, less)))))
+    let parts : drop k bytes ≡ drop k (take n bytes) ++ drop n bytes =
+    ap (drop k) (sym (take-append-drop n bytes)) ∙ drop-append-le k (take n bytes) (drop n bytes) (omega (arith, below)) in
+    subst (λ (l : List ℕ). IsPlain (context_over (next_context kept b) l) (drop k (take n bytes) ++ (drop n bytes ++ more))) (sym (take-take k n bytes (omega (arith, less))))
+    (subst (IsPlain (context_over (next_context kept b) (take k bytes))) (ap (λ (l : List ℕ). l ++ more) parts ∙ append_assoc (drop k (take n bytes)) (drop n bytes) more)
+    (plain_more (context_over (next_context kept b) (take k bytes)) (drop k bytes) more (plain.1 (suc k) (omega arith) (omega (arith, less)))))))
 
 -- So many bytes are passed. Those from a place on are not put out yet.
 pub record HasPut (answer : Answering) (first kept : KeptContext) (bytes : List ℕ) (is_last : Bool) (before out : List ℕ) (put at : ℕ) : Type 0 where
@@ -167,12 +123,6 @@ pub record HasPut (answer : Answering) (first kept : KeptContext) (bytes : List 
   pub among : at ≤ length bytes
   pub keeps : KeepsPromise answer first kept bytes is_last before (out ++ drop put (take at bytes)) at
   pub context : kept ≡ context_over first (take at bytes)
-
-take_parts : (at n : ℕ) (bytes : List ℕ) → take (at + n) bytes ≡ take at bytes ++ take n (drop at bytes)
-take_parts at n bytes =
-    sym (take-append-drop at (take (at + n) bytes))
-    ∙ ap (λ (l : List ℕ). l ++ drop at (take (at + n) bytes)) (take-take at (at + n) bytes (omega arith))
-    ∙ ap (λ (l : List ℕ). take at bytes ++ l) (drop-take at n bytes)
 
 pub put_none : (answer : Answering) (first : KeptContext) (bytes : List ℕ) (is_last : Bool) (before : List ℕ) → HasPut answer first first bytes is_last before before 0 0
 put_none answer first bytes is_last before = record {

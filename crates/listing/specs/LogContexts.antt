@@ -1,8 +1,9 @@
 -- What is kept of the bytes before a place of a log: of the word no more than tells that it is no
 -- address, and the last bytes, in which a marker may have begun.
-use Rattle.std.specs.Prelude.{ℕ, Bool, ◌≡◌, ◌<◌, ◌≤◌, ◌+◌, ◌==◌, ◌&&◌, ◌||◌, not, List, [], ◌∷◌, ◌++◌}
-use Rattle.std.specs.Prelude.{false, fold, length, nat_lt, replicate, take, if◌then◌else◌}
-use Rattle.listing.specs.AnnotatedLogs.{Answering, LogContext, ends_marked, insertion_at}
+use Rattle.std.specs.Prelude.{ℕ, zero, suc, Bool, ◌≡◌, ◌⊎◌, ◌<◌, ◌≤◌, ◌+◌, ◌==◌, ◌&&◌, ◌||◌, not}
+use Rattle.std.specs.Prelude.{List, [], ◌∷◌, ◌++◌, true, false, drop, fold, length, nat_lt}
+use Rattle.std.specs.Prelude.{replicate, slice_index, take, if◌then◌else◌}
+use Rattle.listing.specs.AnnotatedLogs.{Answering, LogContext, ends_marked, goes_on, insertion_at}
 use Rattle.listing.specs.LogWords.{is_closer, is_word_byte}
 use Rattle.listing.specs.declared.log_contexts.Context.{Context}
 
@@ -50,16 +51,34 @@ next_context kept b = record {
 abbrev pub context_over : KeptContext → List ℕ → KeptContext
 context_over kept bytes = fold next_context kept bytes
 
--- The word behind so many of the bytes is too short for an address, unless they are none or all of
--- these.
+-- The word is too short for an address, or it goes on with the bytes behind it: nothing is inserted.
+abbrev pub IsPlain : KeptContext → List ℕ → Type 0
+IsPlain kept rest = (length kept.context.word ≤ 10) ⊎ (goes_on kept.context rest ≡ true)
+
+-- so it is behind so many of the bytes, unless they are none or all of these
 abbrev pub ArePlain : KeptContext → List ℕ → ℕ → Type 0
 ArePlain kept bytes n =
     (n ≤ length bytes)
-    × ((k : ℕ) → 0 < k → k < n → length (context_over kept (take k bytes)).context.word ≤ 10)
+    × ((k : ℕ) → 0 < k → k < n → IsPlain (context_over kept (take k bytes)) (drop k bytes))
+
+-- so many of the bytes go on with a word or its closers, where these have begun or not
+abbrev pub GoOn : Bool → List ℕ → ℕ → Type 0
+GoOn closed bytes zero = Unit
+GoOn closed [] (suc n) = ⊥
+GoOn closed (b ∷ bytes) (suc n) =
+    ((is_closer b || (is_word_byte b && not closed)) ≡ true) × GoOn (is_closer b) bytes n
 
 -- how long a word is at most behind a byte more
 abbrev pub next_length : ℕ → ℕ → ℕ
 next_length n b = if is_word_byte b then n + 1 else if is_closer b then n else 0
+
+-- the byte may end a marker or a line: any other leaves it open whether the line has a marker
+abbrev pub is_mark : ℕ → Bool
+is_mark b = b == 58 || b == 10
+
+-- no byte of these does
+abbrev pub HasNoMark : List ℕ → Type 0
+HasNoMark bytes = (k : ℕ) → k < length bytes → is_mark (slice_index bytes k) ≡ false
 
 -- a marker and the last bytes become those behind these bytes, whatever the word is
 abbrev pub IsMarkedBy : Bool → List ℕ → Bool → List ℕ → List ℕ → Type 0

@@ -26,6 +26,9 @@ pub(crate) struct LogAnswers<'i, 'c> {
     pub(crate) rule: AddressRule,
 }
 
+/// The room that is taken for a text at once. Most texts fit in it.
+const ROOM: usize = 64;
+
 /// What is inserted at a place.
 #[derive(Drop)]
 pub(crate) enum Insertion {
@@ -84,7 +87,7 @@ impl<'i, 'c> LogAnswers<'i, 'c> {
         let Some(item) = self.item_of(rule, addr) else {
             return Ok(None);
         };
-        let mut text = Counted::new(Vec::new(self.alloc));
+        let mut text = Counted::new(Vec::with_capacity(self.alloc, ROOM)?);
         if self.put_text(&mut text, rule, item, addr).is_err() {
             return Err(AllocError);
         }

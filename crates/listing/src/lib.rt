@@ -67,5 +67,7 @@ pub use module_listing::{ModuleCounts, SkippedModule, read_modules};
 pub use numbers::{number, number_up_to};
 pub use region_listing::read_regions;
 pub use scripts::{MOST_WRITERS, ModuleName, ScriptLine, read_script};
-pub use symbol_listing::{SkippedSymbol, SymbolCounts, read_kallsyms};
+pub use symbol_listing::{
+    SkippedSymbol, SymbolCounts, cut, cut_tabbed_line, read_kallsyms, symbol_of_line,
+};
 pub use trace::{TraceFile, read_trace};

@@ -1,11 +1,12 @@
 //! The bytes of a log, passed on with what is inserted before each of them.
 //!
-//! Nearly all of them stand behind words that are too short for an address, where nothing is
-//! inserted. Such bytes are passed together, and put out together with those around them:
+//! Nearly all of them stand behind words that are too short for an address, or within longer ones,
+//! where nothing is inserted. Such bytes are passed together, and put out together with those around
+//! them:
 //!
 //! ```text
 //! bytes:      at [<ffffffff81000108>] of 3 pages, flags
-//! passed:     |-------------||||||||||-----------------|
+//! passed:     |-----------------------|----------------|
 //! put out:    |-----------------------| text
 //! ```
 ghost use Rattle.std.specs.Prelude.{◌≡◌, ◌<◌, false, length, IfOk};

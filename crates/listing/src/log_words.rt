@@ -3,7 +3,7 @@ ghost use Rattle.std.specs.Prelude.{◌≡◌};
 ghost use Rattle.listing.specs.LogWords.{address_of_word, digits_from, has_prefix};
 ghost use Rattle.listing.specs.LogWords.{is_closer, is_word_byte, kind_of};
 
-use crate::numbers::{digit_of, hexadecimal};
+use crate::numbers::hexadecimal;
 
 /// The fewest hexadecimal digits of an address behind `0x`. Fewer are mostly a size or an offset.
 const DIGITS_BEHIND_PREFIX: usize = 9;
@@ -16,7 +16,7 @@ const DIGITS_ALONE: usize = 16;
 pub(crate) fn is_word_byte(byte: u8) -> bool
     ensures { result ≡ is_word_byte byte }
 {
-    digit_of(byte) < 36 || byte == b'_'
+    kind_of(byte) == WORD_BYTE
 }
 
 /// Whether the byte is `)`, `>` or `]`.
@@ -26,6 +26,12 @@ pub(crate) fn is_closer(byte: u8) -> bool
 {
     byte == b')' || byte == b'>' || byte == b']'
 }
+
+/// What a byte of a word is.
+pub(crate) const WORD_BYTE: u8 = 2;
+
+/// What a closer is.
+pub(crate) const CLOSER: u8 = 1;
 
 /// What each byte is: 2 in a word, 1 a closer, and 0 any other.
 static KINDS: [u8; 256] = [

@@ -12,7 +12,7 @@ ghost use Rattle.listing.specs.SymbolListing.{symbol_counts, symbols_in};
 
 use crate::lines::cut_line;
 use crate::module_listing::{ModuleCounts, SkippedModule, module_in};
-use crate::symbol_listing::{SkippedSymbol, SymbolCounts, cut_tabbed_line, symbol_in};
+use crate::symbol_listing::{SkippedSymbol, SymbolCounts, cut_tabbed_line, symbol_of_line};
 use memchr::memchr;
 use modules::{KernelBounds, SymbolLine};
 
@@ -79,7 +79,7 @@ fn is_module_line(line: &[u8]) -> bool
 fn is_symbol_line(line: &[u8]) -> bool
     ensures { result ≡ is_symbol_line line.now }
 {
-    match symbol_in(line, memchr(b'\t', line)) {
+    match symbol_of_line(line, memchr(b'\t', line)) {
         Ok(_) | Err(SkippedSymbol::Hidden) => true,
         Err(SkippedSymbol::Long | SkippedSymbol::Malformed) => false,
     }
@@ -164,7 +164,7 @@ pub fn kernel_symbols(text: &[u8], names: &KernelBounds) -> KernelSymbols
     let mut rest = text;
     while !rest.is_empty() {
         let (line, tab, after) = cut_tabbed_line(rest);
-        if let Ok(symbol) = symbol_in(line, tab) {
+        if let Ok(symbol) = symbol_of_line(line, tab) {
             found = found.with(&symbol, names);
         }
         rest = after;

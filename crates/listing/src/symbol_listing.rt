@@ -98,7 +98,7 @@ fn tab_and_end(bytes: &[u8]) -> (Option<usize>, Option<usize>)
 
 /// Cuts off the first line of the bytes. The place is that of the line's first tab, if it has one.
 #[inline(always)]
-pub(crate) fn cut_tabbed_line(bytes: &[u8]) -> (&[u8], Option<usize>, &[u8])
+pub fn cut_tabbed_line(bytes: &[u8]) -> (&[u8], Option<usize>, &[u8])
     requires { 0 < length bytes.now }
     ensures line { lines_of bytes.now ≡ result.0.now ∷ lines_of result.2.now }
     ensures tab { IsFirstByte (is_byte 9) result.0.now result.1 }
@@ -113,7 +113,7 @@ pub(crate) fn cut_tabbed_line(bytes: &[u8]) -> (&[u8], Option<usize>, &[u8])
 
 /// What stands before the first such byte, and what stands after it.
 #[inline(always)]
-fn cut(text: &[u8], byte: u8) -> Option<(&[u8], &[u8])>
+pub fn cut(text: &[u8], byte: u8) -> Option<(&[u8], &[u8])>
     ensures { option_map (λ p. (p.0.now, p.1.now)) result ≡ cut_at byte text.now }
 {
     let end = memchr(byte, text)?;
@@ -184,7 +184,7 @@ fn symbol_in_form<'a>(line: &'a [u8], tab: Option<usize>) -> Option<SymbolLine<'
 /// The symbol that a line is whose first tab stands at this place, or the first cause for which it
 /// is skipped.
 #[inline(always)]
-pub(crate) fn symbol_in<'a>(
+pub fn symbol_of_line<'a>(
     line: &'a [u8],
     tab: Option<usize>,
 ) -> Result<SymbolLine<'a>, SkippedSymbol>
@@ -222,7 +222,7 @@ pub fn read_kallsyms<'a>(
     let mut rest = text;
     while !rest.is_empty() {
         let (line, tab, after) = cut_tabbed_line(rest);
-        match symbol_in(line, tab) {
+        match symbol_of_line(line, tab) {
             Ok(symbol) => symbols.push(symbol)?,
             Err(cause) => counts.add(cause),
         }

@@ -14,9 +14,10 @@ const SYMBOLS: &[u8] =
     b"1000 T _stext\n1100 T run\n1100 t run_too\n1180 t odd:name\n4010 t run\t[b]\n\
     3010 t run\t[a]\n1200 t run\n4050 t run\t[a]\n3020 t a+0x4\t[a]\n9000 T run\n2000 T _end\n";
 
-/// What is returned for these words, and what is written.
+/// What is returned for these words, and what is written, as JSON or as text.
 fn found_between(
     alloc: Global,
+    json: bool,
     kernel: Option<&KernelBounds>,
     modules: Option<&[u8]>,
     kallsyms: &[u8],
@@ -31,13 +32,13 @@ fn found_between(
         regions: None::<Counted<&[u8]>>,
     };
     let mut writer = Counted::new(Vec::new(alloc));
-    let answer = address_engine(alloc, &mut readers, kernel, words, &mut writer);
+    let answer = address_engine(alloc, &mut readers, json, kernel, words, &mut writer);
     (answer, writer.into_inner())
 }
 
 /// The same where modules are listed.
 fn found(alloc: Global, words: &[&str]) -> (Result<ListingNotes, Fault>, Vec<u8>) {
-    found_between(alloc, None, Some(MODULES), SYMBOLS, words)
+    found_between(alloc, false, None, Some(MODULES), SYMBOLS, words)
 }
 
 #[test]
@@ -102,7 +103,7 @@ fn a_name_may_have_an_offset(rt: HostRuntime) {
 #[test]
 fn modules_may_come_from_the_symbols(rt: HostRuntime) {
     let alloc = rt.alloc();
-    let (answer, written) = found_between(alloc, None, None, SYMBOLS, &["run", "b:run"]);
+    let (answer, written) = found_between(alloc, false, None, None, SYMBOLS, &["run", "b:run"]);
     assert_eq!(rt; answer, Ok(ListingNotes::none()));
     assert_eq!(rt;
         written.as_slice(),
@@ -114,12 +115,56 @@ fn modules_may_come_from_the_symbols(rt: HostRuntime) {
         start: b"_stext",
         end: b"odd:name",
     };
-    let (answer, written) = found_between(alloc, Some(&names), None, SYMBOLS, &["-:run"]);
+    let (answer, written) = found_between(alloc, false, Some(&names), None, SYMBOLS, &["-:run"]);
     assert_eq!(rt; answer, Ok(ListingNotes::none()));
     assert_eq!(rt; written.as_slice(), b"-:run 0x1100 0x80\n".as_slice());
-    let (answer, written) = found_between(alloc, None, None, b"3010 t a_run\t[a]\n1 T x\n", &["x"]);
+    let text = b"3010 t a_run\t[a]\n1 T x\n";
+    let (answer, written) = found_between(alloc, false, None, None, text, &["x"]);
     assert!(rt; matches!(answer, Ok(notes) if notes.kallsyms == Some(ListingNote::NoStart)));
     assert_eq!(rt; written.as_slice(), b"x -\n".as_slice());
+}
+
+/// A listing whose names have bytes that JSON escapes, one that is no text, and a size that is
+/// rounded where it is a number.
+const ODD_MODULES: &[u8] = b"e\"\xff 9007199254740993 0 - Live 0x3000\n";
+
+const ODD_SYMBOLS: &[u8] = b"1000 T _stext\n1080 T do\\it\n2000 T _end\n3001 t do\\it\t[e\"\xff]\n";
+
+#[test]
+fn addresses_are_objects_of_json(rt: HostRuntime) {
+    let words = ["do\\it+0x7F", "-:do\\it"];
+    let (answer, written) = found_between(
+        rt.alloc(),
+        true,
+        None,
+        Some(ODD_MODULES),
+        ODD_SYMBOLS,
+        &words,
+    );
+    assert_eq!(rt; answer, Ok(ListingNotes::none()));
+    assert_eq!(rt;
+        written.as_slice(),
+        b"{\"address\":\"0x10ff\",\"symbol\":\"do\\\\it\",\"offset\":127,\"size\":3968}\n\
+        {\"address\":\"0x3080\",\"symbol\":\"do\\\\it\",\"offset\":127,\"size\":\"9007199254740992\",\"module\":\"e\\\"\xef\xbf\xbd\"}\n\
+        {\"address\":\"0x1080\",\"symbol\":\"do\\\\it\",\"offset\":0,\"size\":3968}\n"
+            .as_slice()
+    );
+}
+
+/// What has no address is told as it is asked for.
+#[test]
+fn an_object_without_an_address_has_what_is_asked_for(rt: HostRuntime) {
+    let words = ["none", "a:run+0x10", "-:run_too+0xffffffffffffffff", ":x\""];
+    let (answer, written) = found_between(rt.alloc(), true, None, Some(MODULES), SYMBOLS, &words);
+    assert_eq!(rt; answer, Ok(ListingNotes::none()));
+    assert_eq!(rt;
+        written.as_slice(),
+        b"{\"symbol\":\"none\",\"offset\":0}\n\
+        {\"symbol\":\"run\",\"offset\":16,\"module\":\"a\"}\n\
+        {\"symbol\":\"run_too\",\"offset\":\"18446744073709551615\"}\n\
+        {\"symbol\":\"x\\\"\",\"offset\":0,\"module\":\"\"}\n"
+            .as_slice()
+    );
 }
 
 /// The reader that fails is told, and nothing is written.
@@ -132,7 +177,7 @@ fn a_failed_read_leaves_no_line(rt: HostRuntime) {
             regions: None::<Counted<&[u8]>>,
         };
         let mut writer = Counted::new(Vec::new(rt.alloc()));
-        let answer = address_engine(rt.alloc(), &mut readers, None, &["run"], &mut writer);
+        let answer = address_engine(rt.alloc(), &mut readers, false, None, &["run"], &mut writer);
         assert_eq!(rt; answer, Err(Fault::Read { place }));
         assert!(rt; writer.into_inner().is_empty());
     }
@@ -151,7 +196,8 @@ fn a_failed_write_ends_the_lines(rt: HostRuntime) {
             regions: None::<Counted<&[u8]>>,
         };
         let mut writer = Counted::new(FailAt::new(Vec::new(alloc), call));
-        let answer = address_engine(alloc, &mut readers, None, &["a:run", "none"], &mut writer);
+        let words = ["a:run", "none"];
+        let answer = address_engine(alloc, &mut readers, false, None, &words, &mut writer);
         let failed = writer.failures() > 0;
         let written = writer.into_inner().into_memory();
         assert!(rt; lines.starts_with(&written), "{call}");

@@ -273,8 +273,12 @@ fn a_check_has_its_own_files_and_bounds(rt: HostRuntime) {
     }
 }
 
-/// A search for names, where modules are listed or not.
-fn address_job(alloc: Global, modules: Option<&'static str>) -> Result<Job<'static>, Fail> {
+/// A search for names, where modules are listed or not, written as JSON or as text.
+fn address_job(
+    alloc: Global,
+    modules: Option<&'static str>,
+    json: bool,
+) -> Result<Job<'static>, Fail> {
     Ok(Job::Address(AddressJob {
         listings: ListingFiles {
             modules,
@@ -289,20 +293,32 @@ fn address_job(alloc: Global, modules: Option<&'static str>) -> Result<Job<'stat
             start: b"here",
             end: b"there",
         }),
+        json,
         names: Vec::from_slice(alloc, &["here", "a:a_run+0x8"])?,
     }))
 }
 
 #[test]
 fn names_are_sought_in_the_files_of_their_job(rt: HostRuntime) -> Result<(), Fail> {
-    for (modules, lines) in [
+    for (modules, json, lines) in [
         (
             Some("its modules"),
+            false,
             b"here 0x7000 0x1000\na:a_run+0x8 0x3018 0xff0 [a]\n".as_slice(),
         ),
-        (None, b"here 0x7000 0x1000\na:a_run+0x8 0x3018 0x3ff0 [a]\n"),
+        (
+            None,
+            false,
+            b"here 0x7000 0x1000\na:a_run+0x8 0x3018 0x3ff0 [a]\n",
+        ),
+        (
+            None,
+            true,
+            b"{\"address\":\"0x7000\",\"symbol\":\"here\",\"offset\":0,\"size\":4096}\n\
+            {\"address\":\"0x3018\",\"symbol\":\"a_run\",\"offset\":8,\"size\":16368,\"module\":\"a\"}\n",
+        ),
     ] {
-        let job = address_job(rt.alloc(), modules)?;
+        let job = address_job(rt.alloc(), modules, json)?;
         let (outcome, written) = done(&rt, rt.alloc(), &WHOLE, &job);
         assert_eq!(rt; outcome, Ok(0));
         assert_eq!(rt; written.as_slice(), lines);

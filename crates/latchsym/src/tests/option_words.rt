@@ -352,3 +352,22 @@ fn names_have_their_listings_and_bounds(rt: HostRuntime) -> Result<(), Fail> {
     assert!(rt; matches!(lacking, Err(JobFault::CommandLine(_))));
     Ok(())
 }
+
+/// Whether addresses are asked for as JSON, with these options more.
+fn is_json(alloc: Global, options: &[&'static str]) -> Result<bool, Fail> {
+    let words = with_options(alloc, &ADDRESS, options)?;
+    match job_of(alloc, &words) {
+        Ok(Job::Address(job)) => Ok(job.json),
+        _ => Err("no names".into()),
+    }
+}
+
+#[test]
+fn addresses_may_be_asked_for_as_json(rt: HostRuntime) -> Result<(), Fail> {
+    let alloc = rt.alloc();
+    assert!(rt; is_json(alloc, &["--json"])?);
+    assert!(rt; is_json(alloc, &["--no-counts", "--json"])?);
+    assert!(rt; !is_json(alloc, &["--no-counts"])?);
+    assert!(rt; !is_json(alloc, &[])?);
+    Ok(())
+}

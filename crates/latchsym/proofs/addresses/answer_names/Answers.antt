@@ -17,8 +17,8 @@ returns-in_err-opened g c =
     let words = map (λ w. w.now) a.words.now in
     let given = given_in a.texts.now in
     let fault = c.in_err-opened.field-0.0 in
-    ended contents kernel words given a.writer.now a.writer.now c.from_residual.result fault c.from_residual.ensures.1
-    (not_opened contents kernel words given a.writer.now fault c.in_err-opened.ensures)
+    ended contents a.json kernel words given a.writer.now a.writer.now c.from_residual.result fault c.from_residual.ensures.1
+    (not_opened contents a.json kernel words given a.writer.now fault c.in_err-opened.ensures)
 
 pub returns-in-Ok : goal.returns-in-Ok
 returns-in-Ok g c =
@@ -32,8 +32,8 @@ returns-in-Ok g c =
     let kept = kept_symbols index (listed given.kallsyms) in
     let says = subst (λ x. IsCatalogOf kernel given x notes) (sym c.in_ok-index.ensures) c.in_ok-opened.ensures in
     let has = subst (λ text. IsSought words (kept_symbols index (listed text)) m) c.deref.ensures.value c.in_ok-sought.ensures in
-    was_written g.W.Write.contents kernel words given a.writer.now c.put_all.new.writer index notes says
-    (words_text (λ name. unwrap_or (found_by m name) []) words) (text_by_map words kept m has)
+    was_written g.W.Write.contents a.json kernel words given a.writer.now c.put_all.new.writer index notes says
+    (words_text a.json (λ name. unwrap_or (found_by m name) []) words) (text_by_map a.json words kept m has)
     c.put_all.result c.put_all.ensures c.in-Ok.field-0 c.in-Ok.is
 
 pub returns : goal.returns
@@ -48,6 +48,6 @@ returns g c =
     let kept = kept_symbols index (listed given.kallsyms) in
     let says = subst (λ x. IsCatalogOf kernel given x notes) (sym c.in_ok-index.ensures) c.in_ok-opened.ensures in
     let has = subst (λ text. IsSought words (kept_symbols index (listed text)) m) c.deref.ensures.value c.in_ok-sought.ensures in
-    was_not_written g.W.Write.contents kernel words given a.writer.now c.put_all.new.writer index notes says
-    (words_text (λ name. unwrap_or (found_by m name) []) words) (text_by_map words kept m has)
+    was_not_written g.W.Write.contents a.json kernel words given a.writer.now c.put_all.new.writer index notes says
+    (words_text a.json (λ name. unwrap_or (found_by m name) []) words) (text_by_map a.json words kept m has)
     c.put_all.result c.put_all.ensures c.in-Err.field-0 c.in-Err.is

@@ -9,7 +9,7 @@ returns g c =
     let contents = g.W.Write.contents in
     let remaining = g.F.File.Read.remaining in
     let before = c.in_ok-readers.readers in
-    let after = c.address_engine.new.readers in
+    let after = c.address_engine-done.new.readers in
     let known = known_given remaining remaining remaining before in
     let counts = listing_failures before after in
     let job = c.args.job.now in
@@ -17,10 +17,10 @@ returns g c =
       before = before;
       after = after;
       opened = c.in_ok-readers.ensures.opened;
-      result = c.address_engine.result;
+      result = c.address_engine-done.result;
       answered =
-          subst (λ kernel. AnswersNames contents kernel (map (λ n. n.now) job.names.items) known counts c.args.writer.now c.address_engine.new.writer c.address_engine.result) c.as_ref-kernel.ensures.value
-          (subst (λ names. AnswersNames contents (option_copied c.as_ref-kernel.result) (map (λ n. n.now) names) known counts c.args.writer.now c.address_engine.new.writer c.address_engine.result) c.deref.ensures.value
-          c.address_engine.ensures);
+          subst (λ kernel. AnswersNames contents job.json kernel (map (λ n. n.now) job.names.items) known counts c.args.writer.now c.address_engine-done.new.writer c.address_engine-done.result) c.as_ref-kernel.ensures.value
+          (subst (λ names. AnswersNames contents job.json (option_copied c.as_ref-kernel.result) (map (λ n. n.now) names) known counts c.args.writer.now c.address_engine-done.new.writer c.address_engine-done.result) c.deref.ensures.value
+          c.address_engine-done.ensures);
       status = c.with_status.ensures;
     })

@@ -15,10 +15,10 @@ pub loop-rest-preserved : goal.loop-rest-preserved
 loop-rest-preserved c =
     let words = map (λ w. w.now) c.args.words.now in
     let index = c.args.index.now in
-    let line = c.cut_line.result.0.now in
+    let line = c.cut_tabbed_line-tab.result.0.now in
     let (done, joined, holds) = c.loop-rest.invariant in (
       done ++ line ∷ [],
-      moved_over (lines_of c.args.kallsyms.now) done (lines_of c.loop-rest.rest.now) (lines_of c.cut_line.result.1.now) line joined c.cut_line.ensures.line,
+      moved_over (lines_of c.args.kallsyms.now) done (lines_of c.loop-rest.rest.now) (lines_of c.cut_tabbed_line-tab.result.2.now) line joined c.cut_tabbed_line-tab.ensures.line,
       subst (λ kept. IsSought words kept c.take_line.new.sought) (sym (line_more index done line)) (c.in_ok-take_line.ensures words (kept_symbols index (symbols_in done)) holds),
     )
 

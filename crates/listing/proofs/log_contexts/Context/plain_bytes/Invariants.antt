@@ -1,9 +1,10 @@
-use Rattle.std.proofs.Common.{◌≤◌, ◌<◌, ℕ, length, take}
-use Rattle.listing.specs.LogContexts.{context_over, kept_in}
+use Rattle.std.proofs.Common.{◌-◌, length}
+use Rattle.listing.specs.LogContexts.{kept_in}
+use Rattle.listing.proofs.LogPlainLemmas.{AreShort}
 use Rattle.listing.proofs.log_contexts.Context.plain_bytes.Given as goal
 
-abbrev pub invariant-loop-i : goal.invariant-loop-i
-invariant-loop-i l = record {
-  short : length (context_over (kept_in l.self) (take l.i l.bytes)).context.word ≤ l.length;
-  plain : (k : ℕ) → 0 < k → k < l.i → length (context_over (kept_in l.self) (take k l.bytes)).context.word ≤ 10;
-}
+abbrev pub invariant-loop-length : goal.invariant-loop-length
+invariant-loop-length l = AreShort (kept_in l.self) l.bytes l.at l.length
+
+abbrev pub decreases-loop-length : goal.decreases-loop-length
+decreases-loop-length l = length l.bytes - l.at

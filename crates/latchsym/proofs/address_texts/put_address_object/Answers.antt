@@ -1,0 +1,21 @@
+use Rattle.std.proofs.Common.{◌∙◌, ◌+◌, ap}
+use Rattle.listing.proofs.WriteLemmas.{same_text, then}
+use Rattle.latchsym.specs.AddressTexts.{address_object, owner_member}
+use Rattle.latchsym.specs.AskedNames.{AskedSymbols}
+use Rattle.latchsym.specs.JsonTexts.{address_member, symbol_members}
+use Rattle.latchsym.specs.KeptSymbols.{Kept}
+use Rattle.latchsym.proofs.address_texts.put_address_object.Goals as goal
+
+pub returns : goal.returns
+unfolding address_object
+returns g c =
+    let k = c.args.symbol.now in
+    let addr = c.above.ensures ∙ ap (λ (a : AskedSymbols). k.addr + a.offset) c.asked.view_is in
+    let members =
+    ap (λ (x : Kept). symbol_members x.name c.asked.inside.offset c.size.result) c.symbol.view_is
+    ∙ ap (λ (a : AskedSymbols). symbol_members k.name a.offset c.size.result) c.asked.view_is
+    ∙ ap (symbol_members k.name c.args.asked.now.offset) c.size.ensures in
+    let at = same_text (ap address_member addr) c.put_address_member.ensures in
+    let symbol = then c.in_ok-put_address_member.was at (same_text members c.put_symbol_members.ensures) in
+    let owner = then c.in_ok-put_symbol_members.was symbol (same_text (ap (λ (x : Kept). owner_member x.owner) c.symbol.view_is) c.put_owner_member.ensures) in
+    then c.in_ok-put_owner_member.was owner c.put.ensures
