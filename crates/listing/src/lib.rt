@@ -63,4 +63,4 @@ pub use numbers::{number, number_up_to};
 pub use region_listing::read_regions;
 pub use scripts::{MOST_WRITERS, ModuleName, ScriptLine, read_script};
 pub use symbol_listing::{SkippedSymbol, SymbolCounts, read_kallsyms};
-pub use trace::{TraceFile, read_trace};
+pub use trace::{NumberedTrace, TraceFile, read_numbered_trace, read_trace};
