@@ -16,6 +16,7 @@ import zipfile
 
 HERE = pathlib.Path(__file__).parent
 EPOCH = (1980, 1, 1, 0, 0, 0)  # the first time that a zip can tell
+LICENCES = ("LICENSE-APACHE", "LICENSE-MIT")
 
 
 def _project():
@@ -35,6 +36,7 @@ def _metadata(project):
         f"Summary: {project['description']}",
         "Author: the latchsym authors",
         "License: MIT OR Apache-2.0",
+        *(f"License-File: {it}" for it in LICENCES),
         f"Keywords: {project['keywords']}",
         *(f"Classifier: {it}" for it in project["classifiers"]),
         f"Requires-Python: {project['requires-python']}",
@@ -50,6 +52,7 @@ def _info(project):
     return {
         "METADATA": _metadata(project).encode(),
         "WHEEL": b"Wheel-Version: 1.0\nGenerator: latchsym\nRoot-Is-Purelib: true\nTag: py3-none-any\n",
+        **{f"licenses/{it}": (HERE / it).read_bytes() for it in LICENCES},
     }
 
 
@@ -62,8 +65,8 @@ def prepare_metadata_for_build_wheel(metadata_directory, config_settings=None):
     project = _project()
     name = f"latchsym-{project['version']}.dist-info"
     folder = pathlib.Path(metadata_directory, name)
-    folder.mkdir()
     for file, content in _info(project).items():
+        (folder / file).parent.mkdir(parents=True, exist_ok=True)
         (folder / file).write_bytes(content)
     return name
 

@@ -59,6 +59,9 @@ if has 'python3 -m venv "$work/venv"' python3-venv; then
     cp -r "$top/python" "$work/python"
     "$work/venv/bin/python" -m pip --quiet --disable-pip-version-check --no-cache-dir install --no-index "$work/python"
     (cd "$work" && venv/bin/python -c 'import latchsym; latchsym.Table(4).close()')
+    for licence in "$top"/LICENSE-*; do
+        cmp "$licence" "$work"/venv/lib/python3*/site-packages/latchsym-*.dist-info/licenses/"${licence##*/}"
+    done
 fi
 { echo "addresses = [$addr]"; sample Python; echo 'assert answers[0].offset == 8'; } >"$work/sample.py"
 [ "$(PYTHONPATH=$top/python/src python3 "$work/sample.py")" = $named ]
@@ -99,6 +102,8 @@ if has 'command -v cargo' cargo; then
     export CARGO_TARGET_DIR=$work/target
     (cd "$top/bindings/rust" && cargo build --quiet --offline --locked && cargo test --quiet --offline --locked) \
         >"$work/out" 2>&1 || { cat "$work/out"; exit 1; }
+    (cd "$top/bindings/rust" && cargo package --quiet --offline --allow-dirty --list) >"$work/out"
+    [ "$(grep -c '^LICENSE-' "$work/out")" = 2 ] || { echo 'bindings: the crate lacks its licences'; exit 1; }
     same "$work/target/debug/examples/lookup"
     {
         echo "fn main() -> Result<(), Box<dyn std::error::Error>> { let addr = ${addr}_u64;"

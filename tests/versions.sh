@@ -1,6 +1,6 @@
 #!/usr/bin/env bash
 # Compares the versions that files have with VERSION: those of the header, the pages, the packages,
-# the list of changes, and of the program.
+# the list of changes, and of the program; and the licences of the packages with those at the top.
 set -euo pipefail
 . "$(dirname "$0")/program.sh"
 build latchsym
@@ -24,6 +24,11 @@ has packaging/liblatchsym.map "LATCHSYM_$major {"
 for page in 1 3; do
     grep -q "^\.TH LATCHSYM $page [0-9-]* \"latchsym $version\" " "$top/docs/latchsym.$page" ||
         { echo "versions: docs/latchsym.$page is of another version"; failed=1; }
+done
+for licence in LICENSE-MIT LICENSE-APACHE; do
+    for folder in python bindings/rust; do
+        cmp -s "$top/$licence" "$top/$folder/$licence" || { echo "versions: $folder has another $licence"; failed=1; }
+    done
 done
 [ "$("$program" --version)" = "latchsym $version" ] || { echo "versions: the program is $("$program" --version)"; failed=1; }
 [ $failed = 1 ] || echo "versions: all are $version"
