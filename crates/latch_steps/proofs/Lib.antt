@@ -6,9 +6,10 @@ mod LatchLemmas
 mod UndisturbedLemmas
 mod PatienceLemmas
 mod LoadLemmas
+mod NextLoadLemmas
 mod WorldLemmas
 mod EventCountLemmas
-mod RecorderLemmas
+pub mod RecorderLemmas
 mod HeldLookupLemmas
 mod Promising
 mod SettleLemmas

@@ -23,6 +23,8 @@ pub mod Expands
 pub mod Lookups
 -- a world, and one after a history of accepted updates
 pub mod Worlds
+-- what a reader loads next
+pub mod NextLoads
 -- one event, and memory that runs out
 pub mod WorldSteps
 -- an update settled, and a key found, at once

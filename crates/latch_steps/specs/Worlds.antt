@@ -53,8 +53,8 @@ pub record IsAfter {O K : Type 0} (o : Order K) (start' : ℕ) (us : List Update
   pub shows : RepresentsMoment o c moment
   pub sound : IsSound o (capacity_of (layout_in c)) start' us moment.latch
 
--- of whatever moment it shows: the sequence, the steps that are left, and that its count of events
--- is still below the greatest
+-- of whatever moment it shows: the sequence, the steps that are left, the count of events, and that
+-- this is still below the greatest
 abbrev pub HasSequence : {O K : Type 0} → Order K → World O K → ℕ → Type 0
 HasSequence {O} {K} o c sequence =
     (w : Moment K) → RepresentsMoment o c w → sequence ≡ at w.latch.words 0
@@ -62,6 +62,9 @@ HasSequence {O} {K} o c sequence =
 abbrev pub HasStepsLeft : {O K : Type 0} → Order K → World O K → ℕ → Type 0
 HasStepsLeft {O} {K} o c left =
     (w : Moment K) → RepresentsMoment o c w → left ≡ writes_left w.latch.pending
+
+abbrev pub HasEvents : {O K : Type 0} → Order K → World O K → ℕ → Type 0
+HasEvents {O} {K} o c events = (w : Moment K) → RepresentsMoment o c w → events ≡ w.events
 
 abbrev pub CountsExactly : {O K : Type 0} → Order K → World O K → Type 0
 CountsExactly {O} {K} o c = (w : Moment K) → RepresentsMoment o c w → w.events < 2 ^ 64 - 1

@@ -19,7 +19,7 @@ pub use events::Event;
 pub use laws::{
     every_plain_run_is_exact, every_run_is_quiet, every_run_is_safe, plain_commands_run_plainly,
 };
-pub use replies::{Note, Reply, Returned};
+pub use replies::{NextLoad, Note, Reply, Returned};
 pub use runs::{drive, drive_notes, run};
 pub use traces::{Notes, Trace};
 pub use worlds::World;

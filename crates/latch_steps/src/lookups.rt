@@ -5,7 +5,7 @@ ghost use Rattle.word_layout.specs.Layouts.{capacity_of};
 ghost use Rattle.latch_steps.specs.Runs.{PendingLookup};
 ghost use Rattle.latch_steps.specs.Steps.{new_lookup};
 
-use crate::replies::Returned;
+use crate::replies::{NextLoad, Returned};
 use crate::words::word_at;
 use latch_core::{ReaderCore, Taken};
 use order_laws::TreeOrder;
@@ -52,6 +52,7 @@ pub(crate) struct LookupProgress<O: TreeOrder> {
 impl<O: TreeOrder> Lookup<O> {
     ghost use Rattle.latch_steps.specs.Lookups.{IsLookupOf, LoadsFromAny};
     ghost use Rattle.latch_steps.specs.HeldLookups.{LoadsFrom};
+    ghost use Rattle.latch_steps.specs.NextLoads.{LoadsNextFrom};
 
     /// A lookup that has loaded nothing, begun by event number `first`.
     pub(crate) fn start(l: Layout, key: O::Key, first: u64) -> Self
@@ -62,6 +63,20 @@ impl<O: TreeOrder> Lookup<O> {
             first,
             loads: 0,
             attempts: 1,
+        }
+    }
+
+    /// What it loads next of these words.
+    pub(crate) fn next_load(&self, words: &[u64]) -> NextLoad<O::Key>
+        ensures { LoadsNextFrom O.order self.now words.now result }
+    {
+        let word = self.core.wanted();
+        NextLoad {
+            key: self.core.key(),
+            word,
+            value: word_at(words, word),
+            loads: self.loads.saturating_add(1),
+            attempts: self.attempts,
         }
     }
 

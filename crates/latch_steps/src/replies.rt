@@ -24,6 +24,21 @@ pub struct Returned<K> {
     pub attempts: u64,
 }
 
+/// What a pending lookup loads next. The counts stay at the greatest `u64`.
+#[derive(Clone, Copy, Debug, PartialEq, Eq, Drop)]
+pub struct NextLoad<K> {
+    /// What is looked up.
+    pub key: K,
+    /// The word that is loaded.
+    pub word: usize,
+    /// What the word holds now.
+    pub value: u64,
+    /// How many loads there are with this one.
+    pub loads: u64,
+    /// How many attempts there are with the one that it belongs to.
+    pub attempts: u64,
+}
+
 /// What a step replies.
 #[derive(Clone, Copy, Debug, PartialEq, Eq, Drop)]
 pub enum Reply<K> {

@@ -11,7 +11,7 @@ ghost use Rattle.latch_steps.specs.Runs.{Moment, accepted, opening};
 
 use crate::events::Event;
 use crate::lookups::{Loaded, Lookup, LookupProgress, LookupState};
-use crate::replies::{Note, Reply, Returned};
+use crate::replies::{NextLoad, Note, Reply, Returned};
 use crate::words::{opening_words, put, word_at};
 use latch_core::{Attempted, Update, WriterCore, attempt_in};
 use order_laws::{Item, Refusal, TreeOrder};
@@ -36,7 +36,8 @@ pub struct World<O: TreeOrder> {
 impl<O: TreeOrder> World<O> {
     ghost use Rattle.latch_steps.specs.Worlds.{RepresentsMoment, IsAtRest, layout_in, IsAfter};
     ghost use Rattle.latch_steps.specs.Worlds.{StaysAfter, HasSequence, HasStepsLeft};
-    ghost use Rattle.latch_steps.specs.Worlds.{CountsExactly};
+    ghost use Rattle.latch_steps.specs.Worlds.{CountsExactly, HasEvents};
+    ghost use Rattle.latch_steps.specs.NextLoads.{LoadsNext};
     ghost use Rattle.latch_steps.specs.WorldSteps.{Does, MayDo, IsWorldStep};
     ghost use Rattle.latch_steps.specs.Lookups.{lookup_at};
     ghost use Rattle.latch_steps.specs.HeldLookups.{ReadsFromAny};
@@ -289,7 +290,7 @@ impl<O: TreeOrder> World<O> {
     }
 
     /// Whether an update is pending.
-    pub(crate) fn is_writing(&self) -> bool
+    pub fn is_writing(&self) -> bool
         ensures { (w : Moment O.Key) → RepresentsMoment O.order self.now w
             → result ≡ is_some w.latch.pending }
     {
@@ -297,10 +298,27 @@ impl<O: TreeOrder> World<O> {
     }
 
     /// How many steps the pending update has left; 0 with none pending.
-    pub(crate) fn writes_left(&self) -> u64
+    pub fn writes_left(&self) -> u64
         ensures { HasStepsLeft O.order self.now result }
     {
         self.writer.remaining()
+    }
+
+    /// What a reader's pending lookup loads next; none without a pending lookup.
+    pub fn next_load(&self, reader: u32) -> Option<NextLoad<O::Key>>
+        ensures { LoadsNext O.order self.now reader result }
+    {
+        match self.lookups.get(&reader) {
+            Some(Some(lookup)) => Some(lookup.next_load(self.words.as_slice())),
+            _ => None,
+        }
+    }
+
+    /// How many events there were, which stays at the greatest `u64`.
+    pub fn events(&self) -> u64
+        ensures { HasEvents O.order self.now result }
+    {
+        self.events
     }
 
     /// Whether the count of events is still below the greatest.

@@ -47,6 +47,12 @@ Faults line.OutOfMemory said = Unit {0}
 Faults line.Read said = Unit {0}
 Faults (line.BadLine n) said = said ≡ Err n
 
+-- the numbers of the lines that are not passed over, where the first has the number n
+abbrev pub said_lines : ℕ → List (List ℕ) → List ℕ
+said_lines n [] = []
+said_lines n (line ∷ lines) =
+    if is_passed_over line then said_lines (n + 1) lines else n ∷ said_lines (n + 1) lines
+
 -- What a call returned is what the text says, unless memory ran out or the reader failed.
 abbrev pub Gives : {V C : Type 0} → (V → C) → Result V LineFault → Result C ℕ → Type 0
 Gives view (Ok v) said = said ≡ Ok (view v)

@@ -1,11 +1,11 @@
 -- What a trace says: the header and the commands, or the number of the first line that is not in
 -- the grammar.
-use Rattle.std.specs.Prelude.{ℕ, List, [], ◌∷◌, Option, Some, None, Result, Ok, Err}
+use Rattle.std.specs.Prelude.{ℕ, List, [], ◌∷◌, Option, Some, None, Result, Ok, Err, drop}
 use Rattle.latch_steps.specs.declared.commands.Command.{Command}
 use Rattle.listing.specs.declared.header.Header.{Header}
 use Rattle.listing.specs.declared.trace.TraceFile.{TraceFile}
 use Rattle.listing.specs.Lines.{lines_of}
-use Rattle.listing.specs.Said.{entries_from}
+use Rattle.listing.specs.Said.{entries_from, said_lines}
 use Rattle.listing.specs.Commands.{command_by}
 use Rattle.listing.specs.Header.{header_of}
 
@@ -35,3 +35,7 @@ trace_of_lines (first ∷ lines) = contents_with (header_of first) lines
 
 abbrev pub trace_of : List ℕ → Result Contents ℕ
 trace_of bytes = trace_of_lines (lines_of bytes)
+
+-- the numbers of the lines of its commands: those behind line 1 that are neither empty nor comments
+abbrev pub command_lines : List ℕ → List ℕ
+command_lines bytes = said_lines 2 (drop 1 (lines_of bytes))

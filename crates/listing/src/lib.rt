@@ -70,4 +70,4 @@ pub use scripts::{MOST_WRITERS, ModuleName, ScriptLine, read_script};
 pub use symbol_listing::{
     SkippedSymbol, SymbolCounts, cut, cut_tabbed_line, read_kallsyms, symbol_of_line,
 };
-pub use trace::{TraceFile, read_trace};
+pub use trace::{NumberedTrace, TraceFile, read_numbered_trace, read_trace};

@@ -2,7 +2,7 @@
 ghost use Rattle.std.specs.Prelude.{◌≡◌, length, IfOk};
 ghost use Rattle.listing.specs.Lines.{lines_of};
 ghost use Rattle.listing.specs.Said.{entries_from, is_passed_over, is_too_long, said_by};
-ghost use Rattle.listing.specs.Said.{GivesInGrammar};
+ghost use Rattle.listing.specs.Said.{GivesInGrammar, said_lines};
 
 use crate::LineFault;
 use crate::lines::{LONGEST_LINE, cut_line};
@@ -91,4 +91,23 @@ pub(crate) fn entries_in<'a, F: Form<'a>>(
         number += 1;
     }
     Ok(entries)
+}
+
+/// The numbers of the lines that are neither empty nor comments. The first line has the number
+/// `first`.
+pub(crate) fn said_lines_in(alloc: Global, first: u32, text: &[u8]) -> Result<Vec<u64>, AllocError>
+    ensures { IfOk result (λ numbers. numbers.items ≡ said_lines first (lines_of text.now)) }
+{
+    let mut numbers = Vec::new(alloc);
+    let mut rest = text;
+    let mut number = u64::from(first);
+    while !rest.is_empty() {
+        let (line, after) = cut_line(rest);
+        if !is_passed_over(line) {
+            numbers.push(number)?;
+        }
+        rest = after;
+        number += 1;
+    }
+    Ok(numbers)
 }

@@ -1,16 +1,16 @@
 //! Trace files: a header, and the commands of a run.
-ghost use Rattle.std.specs.Prelude.{◌≡◌, ◌≢◌, ◌≤◌, ◌<◌, Err, IfSome, IsErrOf};
+ghost use Rattle.std.specs.Prelude.{◌≡◌, ◌≢◌, ◌≤◌, ◌<◌, Err, IfOk, IfSome, IsErrOf};
 ghost use Rattle.listing.specs.Counted.{device_of, failures_of, Rose};
 ghost use Rattle.listing.specs.Said.{Gives, GivesInGrammar};
-ghost use Rattle.listing.specs.Trace.{trace_of, contents_of};
+ghost use Rattle.listing.specs.Trace.{command_lines, contents_of, trace_of};
 
 use crate::commands::CommandForm;
 use crate::header::{Header, header_in};
 use crate::lines::cut_line;
-use crate::said::entries_in;
+use crate::said::{entries_in, said_lines_in};
 use crate::{Counted, LineFault, read_whole};
 use latch_steps::Command;
-use std::alloc::Global;
+use std::alloc::{AllocError, Global};
 use std::io::Read;
 
 /// A trace: how the table is opened, and what is done to it.
@@ -20,6 +20,15 @@ pub struct TraceFile {
     pub header: Header,
     /// What the later lines say, in their order.
     pub commands: Vec<Command<u64>>,
+}
+
+/// A trace, and on which lines its commands stand.
+#[derive(Drop)]
+pub struct NumberedTrace {
+    /// What it says.
+    pub trace: TraceFile,
+    /// The number of the line of each command, in their order.
+    pub lines: Vec<u64>,
 }
 
 /// Reads a trace.
@@ -42,6 +51,38 @@ pub fn read_trace<R: Read>(alloc: Global, reader: &mut Counted<R>) -> Result<Tra
 {
     let bytes = read_whole(alloc, reader)?;
     trace_in(alloc, &bytes)
+}
+
+/// Reads a trace as [`read_trace`] does, and the numbers of the lines of its commands.
+pub fn read_numbered_trace<R: Read>(
+    alloc: Global,
+    reader: &mut Counted<R>,
+) -> Result<NumberedTrace, LineFault>
+    ensures trace { IfSome (R.remaining (device_of reader.old))
+        (λ bytes. Gives (λ numbered. contents_of numbered.trace) result (trace_of bytes)) }
+    ensures lines { IfSome (R.remaining (device_of reader.old))
+        (λ bytes. IfOk result (λ numbered. numbered.lines.items ≡ command_lines bytes)) }
+    ensures read { IsErrOf result LineFault.Read
+        → Rose (failures_of reader.old) (failures_of reader.new) }
+    ensures none_failed { result ≢ Err LineFault.Read
+        → failures_of reader.new ≡ failures_of reader.old }
+    ensures never_falls { failures_of reader.old ≤ failures_of reader.new }
+{
+    let bytes = read_whole(alloc, reader)?;
+    let trace = trace_in(alloc, &bytes)?;
+    let lines = command_lines_in(alloc, &bytes)?;
+    Ok(NumberedTrace { trace, lines })
+}
+
+/// The numbers of the lines that are commands of a trace.
+fn command_lines_in(alloc: Global, bytes: &[u8]) -> Result<Vec<u64>, AllocError>
+    ensures { IfOk result (λ numbers. numbers.items ≡ command_lines bytes.now) }
+{
+    if bytes.is_empty() {
+        return Ok(Vec::new(alloc));
+    }
+    let (_, commands) = cut_line(bytes);
+    said_lines_in(alloc, 2, commands)
 }
 
 /// The trace that bytes are.
