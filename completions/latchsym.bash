@@ -15,7 +15,7 @@ _latchsym() {
         return
     fi
     case ${COMP_WORDS[1]} in
-        trace) options='-h --help' ;;
+        trace) options='--steps -h --help' ;;
         lookup) options='--modules --kallsyms --regions --kernel --modules-from-symbols --addresses --callers --offset --json --no-counts -h --help' ;;
         run) options='--modules --kallsyms --regions --kernel --readers -h --help' ;;
         annotate) options='--kallsyms --modules --regions --kernel --callers --offset -h --help' ;;

@@ -21,6 +21,7 @@ complete -c latchsym -n '__fish_seen_subcommand_from lookup annotate' -l callers
 complete -c latchsym -n '__fish_seen_subcommand_from lookup annotate' -l offset -x -d 'Look each address up N bytes lower'
 complete -c latchsym -n '__fish_seen_subcommand_from lookup address' -l json -d 'Write each answer as an object of JSON'
 complete -c latchsym -n '__fish_seen_subcommand_from lookup address' -l no-counts -d 'Leave the counts out'
+complete -c latchsym -n '__fish_seen_subcommand_from trace' -l steps -d 'Write what each step did, an object of JSON a line'
 complete -c latchsym -n '__fish_seen_subcommand_from run' -l readers -x -d 'How many readers there are, 1 to 64'
 complete -c latchsym -n '__fish_seen_subcommand_from trace run annotate' -F
 complete -c latchsym -n '__fish_seen_subcommand_from trace lookup run annotate check address' -s h -l help -d 'Print help'

@@ -44,6 +44,7 @@ awk -v lines="$lines" 'BEGIN {
     }
 }' >"$work/input"
 limited "a trace" trace "$work/input"
+limited "the steps of a trace" trace --steps "$work/input"
 awk -v lines="$lines" 'BEGIN {
     print "ffffffff80000000 T _stext"
     for (i = 2; i < lines; i++) printf "ffffffff%08x t some_function_of_the_kernel_%d\n", 2147483648 + 16 * (i % 100000000), i

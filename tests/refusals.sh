@@ -81,6 +81,7 @@ for trace in torn_item both_ends batch_replaces_an_item wide_last_sequence; do
     "$program" trace $trace.trace >"$work/lines"
     cmp "$work/lines" $trace.expected
     try trace $trace.trace
+    try trace --steps $trace.trace
 done
 cd "$top/examples/listings"
 try lookup --modules basic.modules --kallsyms basic.kallsyms 0xffffffffc0000018 0xffffffff81000108

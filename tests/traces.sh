@@ -4,6 +4,11 @@
 # tree's shape. How many steps an update takes is left to the program, so the lookups of every_stop
 # are compared with the table before the second flip up to some stop, and with the table after it
 # from there on.
+#
+# What `--steps` writes is compared byte for byte with the file of steps beside the trace, and line by
+# line with a plain slow replay (tests/steps/replay.py), which also goes over random traces (RUNS). The
+# files of steps follow the program's trees: where these change, `tests/traces.sh --write` writes them
+# again where the replay agrees, and docs/watch/examples.py puts them into the page.
 set -eu
 . "$(dirname "$0")/program.sh"
 build latchsym
@@ -55,6 +60,22 @@ for trace in *.trace; do
     fi
 done
 
+# the steps of the same traces: as expected, and as the replay has them; a fault is the same
+for trace in *.trace; do
+    name=${trace%.trace}
+    status=0
+    "$program" trace --steps "$trace" >"$work/out" 2>"$work/err" || status=$?
+    if [ -e "$name.fault" ]; then
+        [ $status = 1 ] && [ ! -s "$work/out" ] && cmp -s "$work/err" "$name.fault" || fail "--steps $name: another fault, or none"
+        continue
+    fi
+    [ $status = 0 ] && [ ! -s "$work/err" ] || fail "--steps $name: $(cat "$work/err")"
+    python3 "$top/tests/steps/replay.py" "$trace" "$work/out" || { failed=1; continue; }
+    [ "${1:-}" != --write ] || cp "$work/out" "$name.steps"
+    cmp -s "$work/out" "$name.steps" || fail "--steps $name: other lines than $name.steps"
+done
+python3 "$top/tests/steps/random_traces.py" "$program" "${RUNS:-300}" || failed=1
+
 # what the command line may ask
 expect() {
     local want=$1 status=0
@@ -72,9 +93,11 @@ for words in $'\xff' $'trace \xff' $'trace both_ends.trace \xff' $'lookup --modu
 done
 expect 2 trace both_ends.trace both_ends.trace && [ ! -s "$work/out" ] && [ -s "$work/err" ] || fail "two files: not on standard error"
 expect 1 trace no_such.trace && [ "$(cat "$work/err")" = "latchsym: no_such.trace: cannot be read" ] || fail "no such file"
+expect 1 trace --steps no_such.trace && [ "$(cat "$work/err")" = "latchsym: no_such.trace: cannot be read" ] || fail "no such file of steps"
+expect 2 trace --steps && [ ! -s "$work/out" ] && [ -s "$work/err" ] || fail "steps of no file: not on standard error"
 expect 1 trace . && [ "$(cat "$work/err")" = "latchsym: .: cannot be read" ] || fail "a folder"
 if [ -e /dev/full ]; then
-    for words in "trace both_ends.trace" --help; do
+    for words in "trace both_ends.trace" "trace --steps both_ends.trace" --help; do
         status=0
         # shellcheck disable=SC2086
         "$program" $words >/dev/full 2>"$work/err" || status=$?

@@ -233,7 +233,8 @@ static struct input modules, symbols, other;
 static const char *try_trace(char *program) {
     make(&other, 0);
     write_file("random.trace", &other);
-    return fault_of(run((char *[]){program, "trace", "random.trace", NULL}));
+    const char *fault = fault_of(run((char *[]){program, "trace", "random.trace", NULL}));
+    return fault ? fault : fault_of(run((char *[]){program, "trace", "--steps", "random.trace", NULL}));
 }
 
 /* Random listings, with one of regions or not: the words of the command line that name them. */

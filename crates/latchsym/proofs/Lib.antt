@@ -36,3 +36,5 @@ mod AskedNameLemmas
 mod OperandLemmas
 -- the text that bytes are, from one byte that is no part of it to the next
 mod JsonLemmas
+-- what is done and written of a trace whose steps are told, one event and one command after another
+mod StepLemmas

@@ -44,9 +44,11 @@ words_rule id = record (new_rule id) {
 abbrev pub some_words_rule : Text → Rule
 some_words_rule id = record (words_rule id) { required = true }
 
--- trace FILE
+-- trace [--steps] FILE
 abbrev pub trace_app : App
-trace_app = with_rule (new_app (codes "trace")) (word_rule (codes "file"))
+trace_app =
+    with_rule (with_rule (new_app (codes "trace")) (flag_rule (codes "steps")))
+    (word_rule (codes "file"))
 
 -- the option of the modules, and --kallsyms FILE [--regions FILE] [--kernel START END]
 abbrev pub with_listings : App → Rule → App

@@ -22,7 +22,7 @@ use Rattle.latchsym.specs.declared.command_line.Job.{Job}
 use Rattle.latchsym.specs.declared.command_line.LookupJob.{LookupJob}
 use Rattle.latchsym.specs.declared.command_line.RunJob.{RunJob}
 use Rattle.latchsym.specs.declared.command_line.SymbolLookupJob.{SymbolLookupJob}
-use Rattle.latchsym.specs.declared.command_line.Job.TheVariants.{Trace, Lookup, SymbolLookup}
+use Rattle.latchsym.specs.declared.command_line.Job.TheVariants.{Trace, Steps, Lookup, SymbolLookup}
 use Rattle.latchsym.specs.declared.command_line.Job.TheVariants.{Address, Annotate, Check, Run}
 use Rattle.latchsym.specs.declared.command_line.JobFault.{JobFault}
 use Rattle.latchsym.specs.declared.forms.AnswerForm.{AnswerForm}
@@ -36,6 +36,7 @@ use Rattle.latchsym.specs.declared.command_line.JobFault.TheVariants.{RegionsAlo
 -- the files that a job reads, in order; the place of one that is not given stays empty
 abbrev pub files_of : Job → List (Option Text)
 files_of (Trace file) = Some file.now ∷ []
+files_of (Steps file) = Some file.now ∷ []
 files_of (Lookup job) =
     Some job.modules.now ∷ Some job.kallsyms.now ∷ option_map (λ f. f.now) job.regions
     ∷ option_map (λ f. f.now) job.address_file ∷ []
@@ -124,11 +125,12 @@ pub record NameWords : Type 0 where
   pub json : Bool
   pub names : List Text
 
--- what a subcommand asks for: to run the trace in a file, a lookup, to run a script, to annotate a
+-- what a subcommand asks for: to run the trace in a file, to write its steps, a lookup, to run a script, to annotate a
 -- log, to check listings, or to say where symbols are; a lookup may fail to say where modules lie, or say it in two ways, and regions may be named
 -- without modules
 pub data Asked : Type 0 where
   ForTrace : Text → Asked
+  ForSteps : Text → Asked
   ForLookup : LookupWords → Asked
   ForSymbolLookup : SymbolLookupWords → Asked
   WithoutModules : Asked
@@ -139,10 +141,6 @@ pub data Asked : Type 0 where
   ForAddress : NameWords → Asked
   WithRegionsAlone : Asked
   ForNothing : Asked
-
-abbrev pub asked_trace : Option Text → Asked
-asked_trace (Some file) = ForTrace file
-asked_trace None = ForNothing
 
 -- the names after `--kernel`, or the usual ones where it is not given
 abbrev pub bounds_in : List Text → Option BoundNames
@@ -162,6 +160,14 @@ values_in id rows = unwrap_or (all_of id rows) []
 -- a flag is given
 abbrev pub has_flag : Text → List Row → Bool
 has_flag id rows = option_map_or (λ text. bytes_eq text (codes "true")) (first_of id rows) false
+
+-- the trace that these values ask to run, or to write the steps of
+abbrev pub trace_in : Bool → Option Text → Asked
+trace_in steps (Some file) = if steps then ForSteps file else ForTrace file
+trace_in steps None = ForNothing
+
+abbrev pub asked_trace : List Row → Asked
+asked_trace rows = trace_in (has_flag (codes "steps") rows) (first_of (codes "file") rows)
 
 -- the form that these values ask for
 abbrev pub form_in : List Row → AnswerForm
@@ -305,7 +311,7 @@ asked_address rows =
 abbrev pub asked_by : Option (Text × List Row) → Asked
 asked_by None = ForNothing
 asked_by (Some (name, rows)) =
-    if bytes_eq name (codes "trace") then asked_trace (first_of (codes "file") rows)
+    if bytes_eq name (codes "trace") then asked_trace rows
     else if bytes_eq name (codes "lookup") then asked_lookup rows
     else if bytes_eq name (codes "run") then asked_run rows
     else if bytes_eq name (codes "annotate") then asked_annotate rows
@@ -462,6 +468,7 @@ pub record IsAddressFor (asked : Asked) (job : AddressJob) : Type 0 where
 -- the job is what is asked for
 abbrev pub IsAskedBy : Asked → Job → Type 0
 IsAskedBy asked (Trace file) = asked ≡ ForTrace file.now
+IsAskedBy asked (Steps file) = asked ≡ ForSteps file.now
 IsAskedBy asked (Lookup job) = IsLookupFor asked job
 IsAskedBy asked (SymbolLookup job) = IsSymbolLookupFor asked job
 IsAskedBy asked (Run job) = IsRunFor asked job

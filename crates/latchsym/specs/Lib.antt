@@ -19,6 +19,12 @@ pub mod Json
 pub mod LookupTexts
 -- the same lines as JSON
 pub mod JsonTexts
+-- the lines that the steps of a trace write
+pub mod StepTexts
+-- what is written for a trace whose steps are asked for
+pub mod StepTraces
+-- what one event and one command of it do, while it is run
+pub mod StepRuns
 -- in which form answers are written
 pub mod AnswerForms
 -- what an engine returns that reads files one after the other

@@ -9,7 +9,7 @@ use Rattle.modules.specs.Lines.{usual_bounds}
 use Rattle.modules.specs.Listed.{BoundNames}
 use Rattle.latchsym.specs.ListingNotes.{all_notes}
 use Rattle.latchsym.specs.declared.command_line.Job.{Job}
-use Rattle.latchsym.specs.declared.command_line.Job.TheVariants.{Trace, Lookup, SymbolLookup}
+use Rattle.latchsym.specs.declared.command_line.Job.TheVariants.{Trace, Steps, Lookup, SymbolLookup}
 use Rattle.latchsym.specs.declared.command_line.Job.TheVariants.{Address, Annotate, Check, Run}
 use Rattle.latchsym.specs.declared.command_line.ListingFiles.{ListingFiles}
 use Rattle.latchsym.specs.declared.listing_notes.ListingNote.{ListingNote}
@@ -79,6 +79,7 @@ note_lines kernel files notes = lines_by kernel files.modules files.kallsyms.now
 -- the lines of a job, by the names of its files
 abbrev pub notes_text : Job → ListingNotes → List ℕ
 notes_text (Trace file) notes = []
+notes_text (Steps file) notes = []
 notes_text (Lookup job) notes = lines_for job.options.kernel job.modules.now job.kallsyms.now notes
 notes_text (SymbolLookup job) notes =
     line_if_noted (noted_bounds job.options.kernel) job.kallsyms.now notes.kallsyms

@@ -18,13 +18,14 @@ use Rattle.latchsym.specs.RunInputs.{known_run_inputs}
 use Rattle.latchsym.specs.Runs.{AnswersRun, run_failures_between}
 use Rattle.latchsym.specs.SymbolLookups.{AnswersSymbolLookup, failures_of_symbols}
 use Rattle.latchsym.specs.SymbolLookups.{known_symbol_inputs}
+use Rattle.latchsym.specs.StepTraces.{AnswersSteps}
 use Rattle.latchsym.specs.Traces.{AnswersTrace}
 use Rattle.latchsym.specs.declared.address_command.AddressJob.{AddressJob}
 use Rattle.latchsym.specs.declared.annotations.AnnotateReaders.{AnnotateReaders}
 use Rattle.latchsym.specs.declared.command_line.AnnotateJob.{AnnotateJob}
 use Rattle.latchsym.specs.declared.command_line.CheckJob.{CheckJob}
 use Rattle.latchsym.specs.declared.command_line.Job.{Job}
-use Rattle.latchsym.specs.declared.command_line.Job.TheVariants.{Trace, Lookup, SymbolLookup}
+use Rattle.latchsym.specs.declared.command_line.Job.TheVariants.{Trace, Steps, Lookup, SymbolLookup}
 use Rattle.latchsym.specs.declared.command_line.Job.TheVariants.{Address, Annotate, Check, Run}
 use Rattle.latchsym.specs.declared.command_line.LookupJob.{LookupJob}
 use Rattle.latchsym.specs.declared.command_line.RunJob.{RunJob}
@@ -47,6 +48,17 @@ pub record IsTraced {F W : Type 0} (remaining : F → Option (List ℕ))
   pub opened : IsOpened remaining held file before
   pub result : Result (Unit {0}) Fault
   pub answered : AnswersTrace remaining contents before after w w' result
+  pub status : outcome ≡ with_status (without_notes result)
+
+-- what the engine of steps returned for it
+pub record AreStepsTold {F W : Type 0} (remaining : F → Option (List ℕ))
+    (contents : W → Option (List ℕ)) (held : Held) (file : Text) (w w' : Counted W)
+    (outcome : Result Finished Fault) : Type 0 where
+  pub before : Counted F
+  pub after : Counted F
+  pub opened : IsOpened remaining held file before
+  pub result : Result (Unit {0}) Fault
+  pub answered : AnswersSteps remaining contents before after w w' result
   pub status : outcome ≡ with_status (without_notes result)
 
 -- what the engine of lookups returned for the job's own files, options and addresses, whose success
@@ -140,6 +152,9 @@ abbrev pub IsOutcome : {F W E : Type 0} → (F → Option (List ℕ)) → (W →
     → Counted E → Result Finished Fault → Type 0
 IsOutcome remaining contents errors held standard (Trace file) w w' e e' outcome =
     (IsTraced remaining contents held file.now w w' outcome ⊎ IsNotOpened w w' outcome)
+    × (e' ≡ e)
+IsOutcome remaining contents errors held standard (Steps file) w w' e e' outcome =
+    (AreStepsTold remaining contents held file.now w w' outcome ⊎ IsNotOpened w w' outcome)
     × (e' ≡ e)
 IsOutcome remaining contents errors held standard (Lookup job) w w' e e' outcome =
     (IsLookedUp remaining contents held standard job w w' outcome ⊎ IsNotOpened w w' outcome)

@@ -74,41 +74,56 @@ pub record IsTraceWith (P : Header → Type 0) (read : List ℕ) : Type 0 where
   pub reads : trace_of read ≡ Ok said
   pub header : P said.header
 
--- What an engine returns that ran a trace of these contents from one state of the writer to
--- another. Every fault but a failed write leaves the writer as it was, and a call of it failed then
--- alone.
-abbrev pub AnswersIn : {W : Type 0} → Order ℕ → (W → Option (List ℕ)) → Contents
-    → Counted W → Counted W → Result (Unit {0}) Fault → Type 0
-AnswersIn o contents said w w' (Ok _) =
-    NoneFailed w w' × HeaderMayOpen said.header
-    × ((text : List ℕ) × IsRunText o said text
+-- What an engine returns that ran a trace of this header from one state of the writer to another,
+-- where `IsText` says what a run writes, and `IsRefused` what became of the writer where memory ran
+-- out. A call of it failed where the answer says so, and else none.
+abbrev pub AnswersBy : {W : Type 0} → (List ℕ → Type 0) → (Counted W → Counted W → Type 0)
+    → (W → Option (List ℕ)) → Header → Counted W → Counted W → Result (Unit {0}) Fault → Type 0
+AnswersBy IsText IsRefused contents header w w' (Ok _) =
+    NoneFailed w w' × HeaderMayOpen header
+    × ((text : List ℕ) × IsText text
     × Appends (contents (device_of w)) (contents (device_of w')) text)
-AnswersIn o contents said w w' (Err (Refused refusal.OutOfMemory)) = w' ≡ w
-AnswersIn o contents said w w' (Err (Refused refusal.BadCapacity)) =
-    (w' ≡ w) × HeaderMayNotOpen said.header
-AnswersIn o contents said w w' (Err Write) =
-    Rose (failures_of w) (failures_of w') × HeaderMayOpen said.header
-AnswersIn o contents said w w' (Err _) = ⊥
+AnswersBy IsText IsRefused contents header w w' (Err (Refused refusal.OutOfMemory)) = IsRefused w w'
+AnswersBy IsText IsRefused contents header w w' (Err (Refused refusal.BadCapacity)) =
+    (w' ≡ w) × HeaderMayNotOpen header
+AnswersBy IsText IsRefused contents header w w' (Err Write) =
+    Rose (failures_of w) (failures_of w') × HeaderMayOpen header
+AnswersBy IsText IsRefused contents header w w' (Err _) = ⊥
 
--- The same of an engine that also read the trace, where the bytes of the reader are known. A call
--- of the reader failed where the answer says so, and else none.
-abbrev pub AnswersTrace : {R W : Type 0} → (R → Option (List ℕ)) → (W → Option (List ℕ))
+-- The same of an engine that also read the trace, where the bytes of the reader are known: `IsText`
+-- takes them and those that are written. A bad line leaves the writer as it was.
+abbrev pub AnswersReadBy : {R W : Type 0} → (List ℕ → List ℕ → Type 0)
+    → (Counted W → Counted W → Type 0) → (R → Option (List ℕ)) → (W → Option (List ℕ))
     → Counted R → Counted R → Counted W → Counted W → Result (Unit {0}) Fault → Type 0
-AnswersTrace remaining contents r r' w w' (Ok _) =
+AnswersReadBy IsText IsRefused remaining contents r r' w w' (Ok _) =
     NoneFailed r r' × NoneFailed w w'
-    × IfSome (remaining (device_of r)) (λ read. (text : List ℕ) × IsTraceText read text
+    × IfSome (remaining (device_of r)) (λ read. (text : List ℕ) × IsText read text
     × Appends (contents (device_of w)) (contents (device_of w')) text)
-AnswersTrace remaining contents r r' w w' (Err (Refused refusal.OutOfMemory)) =
-    NoneFailed r r' × (w' ≡ w)
-AnswersTrace remaining contents r r' w w' (Err (Refused refusal.BadCapacity)) =
+AnswersReadBy IsText IsRefused remaining contents r r' w w' (Err (Refused refusal.OutOfMemory)) =
+    NoneFailed r r' × IsRefused w w'
+AnswersReadBy IsText IsRefused remaining contents r r' w w' (Err (Refused refusal.BadCapacity)) =
     NoneFailed r r' × (w' ≡ w) × IfSome (remaining (device_of r)) (IsTraceWith HeaderMayNotOpen)
-AnswersTrace remaining contents r r' w w' (Err (Refused _)) = ⊥
-AnswersTrace remaining contents r r' w w' (Err (BadLine place n)) =
+AnswersReadBy IsText IsRefused remaining contents r r' w w' (Err (Refused _)) = ⊥
+AnswersReadBy IsText IsRefused remaining contents r r' w w' (Err (BadLine place n)) =
     NoneFailed r r' × (w' ≡ w) × (place ≡ 0)
     × IfSome (remaining (device_of r)) (λ read. trace_of read ≡ Err n)
-AnswersTrace remaining contents r r' w w' (Err (Read place)) =
+AnswersReadBy IsText IsRefused remaining contents r r' w w' (Err (Read place)) =
     (w' ≡ w) × (place ≡ 0) × Rose (failures_of r) (failures_of r')
-AnswersTrace remaining contents r r' w w' (Err Write) =
+AnswersReadBy IsText IsRefused remaining contents r r' w w' (Err Write) =
     NoneFailed r r' × Rose (failures_of w) (failures_of w')
     × IfSome (remaining (device_of r)) (IsTraceWith HeaderMayOpen)
-AnswersTrace remaining contents r r' w w' (Err _) = ⊥
+AnswersReadBy IsText IsRefused remaining contents r r' w w' (Err _) = ⊥
+
+-- every fault but a failed write leaves the writer as it was
+abbrev pub Stays : {W : Type 0} → Counted W → Counted W → Type 0
+Stays w w' = w' ≡ w
+
+-- an engine that ran a trace of these contents, and wrote its notes at the end
+abbrev pub AnswersIn : {W : Type 0} → Order ℕ → (W → Option (List ℕ)) → Contents
+    → Counted W → Counted W → Result (Unit {0}) Fault → Type 0
+AnswersIn o contents said = AnswersBy (IsRunText o said) Stays contents said.header
+
+-- and also read it
+abbrev pub AnswersTrace : {R W : Type 0} → (R → Option (List ℕ)) → (W → Option (List ℕ))
+    → Counted R → Counted R → Counted W → Counted W → Result (Unit {0}) Fault → Type 0
+AnswersTrace remaining contents = AnswersReadBy IsTraceText Stays remaining contents

@@ -31,6 +31,8 @@ use std::convert::AsStr;
 pub enum Job<'a> {
     /// `latchsym trace FILE`: run the trace in this file.
     Trace { file: &'a str },
+    /// `latchsym trace --steps FILE`: run the trace in this file, and write what each step did.
+    Steps { file: &'a str },
     /// `latchsym lookup --modules FILE --kallsyms FILE [--regions FILE] [--kernel START END]
     /// [--addresses FILE] [--callers] [--offset N] [--json] [--no-counts] [ADDR]..`: look addresses
     /// up.
@@ -159,6 +161,7 @@ impl<'a> Job<'a> {
     {
         match self {
             Job::Trace { file } if place == 0 => Some(file),
+            Job::Steps { file } if place == 0 => Some(file),
             Job::Lookup(job) if place == 0 => Some(job.modules),
             Job::Lookup(job) if place == 1 => Some(job.kallsyms),
             Job::Lookup(job) if place == 2 => job.regions,
@@ -180,6 +183,7 @@ impl<'a> Job<'a> {
             Job::Address(job) if place == 1 => Some(job.listings.kallsyms),
             Job::Address(job) if place == 2 => job.listings.regions,
             Job::Trace { .. }
+            | Job::Steps { .. }
             | Job::Lookup(_)
             | Job::SymbolLookup(_)
             | Job::Run(_)
@@ -290,11 +294,14 @@ pub(crate) fn described<'a>(alloc: Global, name: &'a str, about: &'a str) -> Com
 fn trace_command<'a>(alloc: Global) -> Result<Command<'a>, AllocError>
     ensures { IfOk result (IsCommand trace_app) }
 {
+    let steps_help =
+        "Write what each step did, an object of JSON a line, in place of what was found";
     described(
         alloc,
         "trace",
         "Run a trace, and write what its lookups found",
     )
+    .arg(flag(alloc, "steps").help(steps_help))?
     .arg(required_word(alloc, "file", "FILE").help("The trace"))
 }
 
@@ -485,10 +492,10 @@ fn job_of_subcommand<'a>(
 }
 
 fn trace_job<'a>(found: &ArgMatches<'a>) -> Result<Job<'a>, JobFault<'a>>
-    ensures { AnswersAsked
-        (asked_trace (first_of (codes "file") (rows_of (found_of found.now)))) result }
+    ensures { AnswersAsked (asked_trace (rows_of (found_of found.now))) result }
 {
     match value_of(found, "file") {
+        Some(file) if is_given(found, "steps") => Ok(Job::Steps { file }),
         Some(file) => Ok(Job::Trace { file }),
         None => Err(JobFault::NoJob),
     }

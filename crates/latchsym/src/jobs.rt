@@ -5,7 +5,8 @@ ghost use Rattle.latchsym.specs.Files.{AreAnnotateFiles, AreListingFiles, AreLoo
 ghost use Rattle.latchsym.specs.Files.{AreRunFiles, AreSymbolLookupFiles};
 ghost use Rattle.latchsym.specs.Files.{IsOpened, IsOpenedIfGiven, or_standard};
 ghost use Rattle.latchsym.specs.Outcomes.{IsAnnotated, IsLookedUp, IsLookedUpBySymbols};
-ghost use Rattle.latchsym.specs.Outcomes.{AreNamesFound, IsListingsChecked, IsNotOpened};
+ghost use Rattle.latchsym.specs.Outcomes.{AreNamesFound, AreStepsTold, IsListingsChecked};
+ghost use Rattle.latchsym.specs.Outcomes.{IsNotOpened};
 ghost use Rattle.latchsym.specs.Outcomes.{IsOutcome};
 ghost use Rattle.latchsym.specs.Outcomes.{IsScriptRun, IsTraced};
 
@@ -21,6 +22,7 @@ use crate::listing_notes::ListingNotes;
 use crate::lookup::{LookupReaders, lookup_engine};
 use crate::opened_catalogs::ListingReaders;
 use crate::runs::{RunReaders, run_engine};
+use crate::steps::steps_engine;
 use crate::symbol_lookup::{SymbolLookupReaders, symbol_lookup_engine};
 use crate::trace::trace_engine;
 use listing::Counted;
@@ -69,6 +71,7 @@ pub fn do_job<T: Threads + Wait + Sync, F: FileSource, W: Write, E: Write>(
 {
     match job {
         Job::Trace { file } => do_trace(alloc, files, file, writer),
+        Job::Steps { file } => do_steps(alloc, files, file, writer),
         Job::Lookup(lookup) => do_lookup(alloc, files, lookup, writer),
         Job::SymbolLookup(lookup) => do_symbol_lookup(alloc, files, lookup, writer),
         Job::Run(script) => do_run(threads, alloc, files, script, writer),
@@ -90,6 +93,20 @@ fn do_trace<F: FileSource, W: Write>(
 {
     let mut reader = files.open(name)?;
     with_status(without_notes(trace_engine(alloc, &mut reader, writer)))
+}
+
+/// Runs the trace in the file of this name, and writes its steps.
+fn do_steps<F: FileSource, W: Write>(
+    alloc: Global,
+    files: &F,
+    name: &str,
+    writer: &mut Counted<W>,
+) -> Result<Finished, Fault>
+    ensures { AreStepsTold F.File.remaining W.contents (F.held files.now) name.now
+        writer.old writer.new result ⊎ IsNotOpened writer.old writer.new result }
+{
+    let mut reader = files.open(name)?;
+    with_status(without_notes(steps_engine(alloc, &mut reader, writer)))
 }
 
 /// Looks up the addresses of a job.

@@ -301,7 +301,11 @@ fn put_json_causes<W: Write, C: Cause<N>, const N: usize>(
 }
 
 /// Writes what stands before a count, and the count.
-fn put_json_count<W: Write>(writer: &mut Counted<W>, before: &[u8], count: u64) -> io::Result<()>
+pub fn put_json_count<W: Write>(
+    writer: &mut Counted<W>,
+    before: &[u8],
+    count: u64,
+) -> io::Result<()>
     ensures { Wrote W.contents writer.old writer.new result (json_count before.now count) }
 {
     put(writer, before)?;

@@ -1,6 +1,7 @@
 //! The program `latchsym`: a latched address tree, one word at a time.
 //!
-//! `latchsym trace FILE` runs a trace in the step machine and writes what its lookups found.
+//! `latchsym trace [--steps] FILE` runs a trace in the step machine and writes what its lookups found,
+//! or what each of its steps did.
 //! `latchsym lookup --modules FILE --kallsyms FILE [--regions FILE] [--kernel START END]
 //! [--addresses FILE] [--callers] [--offset N] [--json] [--no-counts] [ADDR]..` says which module and
 //! which symbol hold an address; with `--modules-from-symbols` in place of `--modules` and `--regions` the symbols alone
@@ -38,6 +39,8 @@ mod opened_catalogs;
 mod operands;
 mod run_texts;
 mod runs;
+mod step_texts;
+mod steps;
 mod symbol_lookup;
 mod table;
 #[cfg(test)]
@@ -109,7 +112,12 @@ fn run<T: Threads + Wait + Sync>(
             let mut writer = Counted::new(rt.stdout());
             do_job(threads, rt.alloc(), &files, job, &mut writer, errors)
         }
-        Job::Lookup(_) | Job::SymbolLookup(_) | Job::Run(_) | Job::Check(_) | Job::Address(_) => {
+        Job::Steps { .. }
+        | Job::Lookup(_)
+        | Job::SymbolLookup(_)
+        | Job::Run(_)
+        | Job::Check(_)
+        | Job::Address(_) => {
             match BufWriter::with_capacity(rt.alloc(), BLOCK, rt.stdout()) {
                 Ok(buffer) => {
                     let mut writer = Counted::new(buffer);

@@ -22,7 +22,7 @@ pub fn put_job_notes<W: Write>(
     ensures { Wrote W.contents writer.old writer.new result (notes_text job.now notes.now) }
 {
     match job {
-        Job::Trace { .. } | Job::Check(_) => Ok(()),
+        Job::Trace { .. } | Job::Steps { .. } | Job::Check(_) => Ok(()),
         Job::Lookup(job) => {
             let names = &job.options.kernel;
             put_listing_notes(writer, names, job.modules, job.kallsyms, notes)

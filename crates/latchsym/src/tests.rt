@@ -17,6 +17,7 @@ mod operands;
 mod option_words;
 mod rows;
 mod scripts;
+mod steps;
 mod stops;
 mod symbol_lookups;
 mod words;

@@ -54,7 +54,7 @@ fn run_in<O: TreeOrder<Key = u64>, W: Write>(
 }
 
 /// The layout of the table that a trace of this version runs on: a wide sequence from version 3 on.
-fn layout_for(version: Version, capacity: u32) -> Result<Layout, Refusal>
+pub fn layout_for(version: Version, capacity: u32) -> Result<Layout, Refusal>
     ensures capacity { IfOk result (λ l. capacity_of l ≡ capacity) }
     ensures limit { IfOk result (λ l. limit_of l ≡ greatest_of version) }
     ensures refused { IsErr result ↔ ((capacity ≡ 0) ⊎ (most_nodes < capacity)) }

@@ -1,0 +1,24 @@
+use Rattle.std.proofs.Common.{◌∙◌, refl, subst, arith}
+use Rattle.std.proofs.lemmas.List.{take_all}
+use Rattle.latchsym.specs.StepRuns.{AreCommandsTold}
+use Rattle.latchsym.proofs.StepLemmas.{commands_more, commands_none, fault_after}
+use Rattle.latchsym.proofs.steps.tell_commands.Goals as goal
+
+pub loop-place-init : goal.loop-place-init
+loop-place-init g c = record {
+  told = λ w s. commands_none g.O.TreeOrder.order g.W.Write.contents c.args.lines.now c.args.world.now c.args.writer.now w s;
+  none_failed = refl;
+}
+
+pub loop-place-preserved : goal.loop-place-preserved
+loop-place-preserved g c = record {
+  told = λ w s.
+      commands_more g.O.TreeOrder.order g.W.Write.contents c.args.lines.now c.args.world.now c.args.writer.now w c.loop-place.world c.tell_command.new.world c.loop-place.writer c.tell_command.new.writer c.args.commands.now c.loop-place.place c.line_at.result c.index-commands-place.result
+      (omega arith) c.index-commands-place.is c.line_at.ensures (c.loop-place.invariant.told w s) c.in_ok-tell_command.ensures.told;
+  none_failed = c.in_ok-tell_command.ensures.none_failed ∙ c.loop-place.invariant.none_failed;
+}
+
+pub returns-clause-told : goal.returns-clause-told
+returns-clause-told g c = λ w s.
+    subst (λ cs. AreCommandsTold g.O.TreeOrder.order g.W.Write.contents c.args.lines.now cs c.args.world.now c.loop-place.world c.args.writer.now c.loop-place.writer w)
+    (take_all c.loop-place.place c.args.commands.now (omega arith)) (c.loop-place.invariant.told w s)
