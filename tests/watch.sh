@@ -1,0 +1,45 @@
+#!/usr/bin/env bash
+# Plays docs/watch/index.html in a real browser: each example from end to end, forward and back, and
+# what is drawn after each step is compared with a plain replay of the steps (tests/steps/replay.py).
+# The examples in the page are those of examples/traces. With --pictures it also makes the pictures of
+# docs/watch/ again. Debian's chromium is installed where it is missing and this is root; where no
+# browser can be had, one line says that it is passed over.
+set -eu
+top=$(cd "$(dirname "$0")/.." && pwd)
+work=$(mktemp -d)
+trap 'rm -rf "$work"' EXIT
+
+python3 "$top/docs/watch/examples.py" --check
+
+browser=$(command -v chromium || command -v chromium-browser || true)
+if [ -z "$browser" ] && [ "$(id -u)" = 0 ]; then
+    (apt-get update && apt-get install -y --no-install-recommends chromium fonts-dejavu-core) >"$work/apt" 2>&1 || true
+    browser=$(command -v chromium || true)
+fi
+if [ -z "$browser" ]; then
+    echo "watch: passed over, since there is no chromium"
+    exit 0
+fi
+
+# browse ARG..: the browser without a window, with a profile of its own
+browse() {
+    timeout 300 "$browser" --headless=new --no-sandbox --disable-gpu --disable-dev-shm-usage --hide-scrollbars \
+        --user-data-dir="$work/profile" --force-device-scale-factor=1 --window-size=1400,1060 "$@" 2>"$work/browser"
+}
+
+sed '/^<\/body>$/d; /^<\/html>$/d' "$top/docs/watch/index.html" >"$work/page.html"
+{ echo "<script>"; cat "$top/tests/watch/drive.js"; echo "</script></body></html>"; } >>"$work/page.html"
+browse --virtual-time-budget=600000 --dump-dom "file://$work/page.html" >"$work/dom" || { cat "$work/browser"; exit 1; }
+python3 "$top/tests/watch/compare.py" "$work/dom" "$top/examples/traces"
+
+# picture NAME EXAMPLE EVENT THEME: that moment, as a file beside the page
+picture() {
+    browse --virtual-time-budget=5000 --screenshot="$work/$1.png" "file://$top/docs/watch/index.html#example=$2&event=$3&theme=$4"
+    cp "$work/$1.png" "$top/docs/watch/$1.png"
+}
+
+if [ "${1:-}" = --pictures ]; then
+    picture changing every_stop 192 light
+    picture torn torn_item 37 light
+    picture returned torn_item 44 dark
+fi
