@@ -16,7 +16,7 @@ KINDS = {
     "store": "event line kind word value sequence",
     "flip": "event line kind word value sequence",
     "start": "event line kind reader address sequence",
-    "load": "event line kind reader address word value loads tries sequence",
+    "load": "event line kind reader word value sequence",
     "retry": "event line kind reader address word value loads tries sequence",
     "return": "event line kind reader address word value loads tries tag generation sequence",
 }
@@ -256,11 +256,11 @@ class Replay:
         is_last = word == 0 and len(look["values"]) > 0
         look["values"].append(m.word(word))
         look["loads"] += 1
-        wanted = {"reader": reader, "address": hex(look["key"]), "word": word,
-                  "value": written(m.word(word)), "loads": look["loads"], "tries": look["tries"]}
+        loaded = {"reader": reader, "word": word, "value": written(m.word(word))}
+        wanted = {**loaded, "address": hex(look["key"]), "loads": look["loads"], "tries": look["tries"]}
         item = m.found(look["values"], look["key"]) if is_last else None
         if not is_last:
-            step = self.take(line, kind="load", **wanted)
+            step = self.take(line, kind="load", **loaded)
         elif item is False or look["values"][0] != look["values"][-1]:
             step = self.take(line, kind="retry", **wanted)
             look["values"], look["tries"] = [], look["tries"] + 1

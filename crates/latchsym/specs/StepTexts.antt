@@ -54,7 +54,16 @@ abbrev pub word_members : ℕ → ℕ → List ℕ
 word_members word value =
     json_count (codes ",\"word\":") word ++ json_count (codes ",\"value\":") value
 
--- a load of a reader: of which lookup, what it loads, and how many loads and attempts these are
+-- what a reader loads, if it may load something
+abbrev pub loaded_word : Option (NextLoad ℕ) → List ℕ
+loaded_word load = option_map_or (λ l. word_members l.word l.value) load []
+
+-- a load after which its attempt goes on
+unfoldable pub plain_load_members : ℕ → Option (NextLoad ℕ) → List ℕ
+plain_load_members r load = json_count (codes "\"load\",\"reader\":") r ++ loaded_word load
+
+-- the last load of an attempt: of which lookup, what it loads, and how many loads and attempts these
+-- are
 unfoldable pub load_members : ℕ → NextLoad ℕ → List ℕ
 load_members r load =
     reader_members r load.key ++ word_members load.word load.value
@@ -103,7 +112,7 @@ started_members r key _ = codes "null"
 
 -- what it loaded, and what this came to
 abbrev pub read_members : ℕ → Option (NextLoad ℕ) → Reply ℕ → List ℕ
-read_members r load Loaded = codes "\"load\"" ++ loaded_members r load
+read_members r load Loaded = plain_load_members r load
 read_members r load Retried = codes "\"retry\"" ++ loaded_members r load
 read_members r load (ReturnedReply x) =
     codes "\"return\"" ++ loaded_members r load ++ answer_members x

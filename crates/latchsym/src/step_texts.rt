@@ -9,6 +9,7 @@ ghost use Rattle.latchsym.specs.StepTexts.{load_members};
 ghost use Rattle.latchsym.specs.StepTexts.{loaded_members, opening_text, order_text, read_members};
 ghost use Rattle.latchsym.specs.StepTexts.{reader_members, refused_member, started_members};
 ghost use Rattle.latchsym.specs.StepTexts.{stored_members, update_members, version_number};
+ghost use Rattle.latchsym.specs.StepTexts.{loaded_word, plain_load_members};
 ghost use Rattle.latchsym.specs.StepTexts.{word_members, written_members};
 
 use crate::json::put_json_number;
@@ -292,10 +293,7 @@ fn put_read<W: Write>(
     ensures { Wrote W.contents writer.old writer.new result (read_members reader load reply.now) }
 {
     match reply {
-        Reply::Loaded => {
-            put(writer, b"\"load\"")?;
-            put_load(writer, reader, load)
-        }
+        Reply::Loaded => put_plain_load(writer, reader, load),
         Reply::Retried => {
             put(writer, b"\"retry\"")?;
             put_load(writer, reader, load)
@@ -311,6 +309,29 @@ fn put_read<W: Write>(
             put_refused_member(writer, *why)
         }
         _ => put(writer, NO_REPLY),
+    }
+}
+
+/// Writes a load after which its attempt goes on.
+fn put_plain_load<W: Write>(
+    writer: &mut Counted<W>,
+    reader: u32,
+    load: Option<NextLoad<u64>>,
+) -> io::Result<()>
+    ensures { Wrote W.contents writer.old writer.new result (plain_load_members reader load) }
+{
+    let reader = u64::from(reader);
+    put_json_count(writer, b"\"load\",\"reader\":", reader)?;
+    put_loaded_word(writer, load)
+}
+
+/// Writes what a reader loads, if it may load something.
+fn put_loaded_word<W: Write>(writer: &mut Counted<W>, load: Option<NextLoad<u64>>) -> io::Result<()>
+    ensures { Wrote W.contents writer.old writer.new result (loaded_word load) }
+{
+    match load {
+        Some(load) => put_word(writer, load.word, load.value),
+        None => Ok(()),
     }
 }
 

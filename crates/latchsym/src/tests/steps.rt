@@ -14,10 +14,8 @@ const STEPS: &str = "\
 {\"event\":1,\"line\":2,\"kind\":\"refusal\",\"of\":\"load\",\"reader\":1,\"refused\":9,\
 \"sequence\":0}
 {\"event\":2,\"line\":3,\"kind\":\"start\",\"reader\":1,\"address\":\"0x10\",\"sequence\":0}
-{\"event\":3,\"line\":5,\"kind\":\"load\",\"reader\":1,\"address\":\"0x10\",\"word\":0,\"value\":0,\
-\"loads\":1,\"tries\":1,\"sequence\":0}
-{\"event\":4,\"line\":5,\"kind\":\"load\",\"reader\":1,\"address\":\"0x10\",\"word\":1,\"value\":0,\
-\"loads\":2,\"tries\":1,\"sequence\":0}
+{\"event\":3,\"line\":5,\"kind\":\"load\",\"reader\":1,\"word\":0,\"value\":0,\"sequence\":0}
+{\"event\":4,\"line\":5,\"kind\":\"load\",\"reader\":1,\"word\":1,\"value\":0,\"sequence\":0}
 {\"event\":5,\"line\":5,\"kind\":\"return\",\"reader\":1,\"address\":\"0x10\",\"word\":0,\"value\":0,\
 \"loads\":3,\"tries\":1,\"tag\":null,\"generation\":0,\"sequence\":0}
 ";
