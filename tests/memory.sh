@@ -2,13 +2,18 @@
 # Runs the program on a long trace and on long listings under limits of its memory (`ulimit -v`),
 # from 8 MiB on, each twice the one before, until a limit is enough. Each run has to give what it
 # gives without a limit, or nothing on standard output, `latchsym: refused 7` on standard error and
-# status 1.
+# status 1; of the steps of a trace, which are written as they are done, a beginning may stand there.
 #
 # LINES_OF_INPUT is the number of the trace's lines and of the listing's symbols.
 set -eu
 . "$(dirname "$0")/program.sh"
 build latchsym
 lines=${LINES_OF_INPUT:-200000}
+
+# is_begun ARGUMENT..: whether nothing was written, or of steps a beginning
+is_begun() {
+    [ ! -s "$work/out" ] || [ "$2" = --steps ] && cmp -s -n "$(stat -c %s "$work/out")" "$work/out" "$work/ample"
+}
 
 # limited NAME ARGUMENT..: the program with these arguments, at each limit
 limited() {
@@ -20,7 +25,7 @@ limited() {
         (ulimit -v $limit && exec "$program" "$@") >"$work/out" 2>"$work/err" || status=$?
         if [ $status = 0 ]; then
             cmp -s "$work/out" "$work/ample" && [ ! -s "$work/err" ] && break
-        elif [ $status = 1 ] && [ ! -s "$work/out" ] && [ "$(cat "$work/err")" = "latchsym: refused 7" ]; then
+        elif [ $status = 1 ] && is_begun "$@" && [ "$(cat "$work/err")" = "latchsym: refused 7" ]; then
             refused=$((refused + 1))
             limit=$((2 * limit))
             continue

@@ -2,6 +2,7 @@
 # Refuses each request for memory of a run of the program in turn, until a run meets no refusal.
 # Each run has to give what it gives with ample memory, or nothing on standard output, `latchsym:
 # refused 7` on standard error and status 1.
+# The steps of a trace are written as they are done, so a beginning of them may stand there then.
 # A run of a script may also go on where memory was refused for a change, and say so of that change
 # (`refused 1 7 ext4`).
 #
@@ -26,6 +27,13 @@ same() { cmp -s "$work/$1.out" "$work/$2.out" && cmp -s "$work/$1.err" "$work/$2
 echo "latchsym: refused 7" >"$work/refused.err"
 echo 1 >"$work/refused.status"
 
+# midway ARGUMENT..: whether these ask for steps, and the run `once` was refused behind some of them
+midway() {
+    [ "${1-} ${2-}" = "trace --steps" ] && cmp -s "$work/once.err" "$work/refused.err" &&
+        cmp -s "$work/once.status" "$work/refused.status" &&
+        cmp -s -n "$(stat -c %s "$work/once.out")" "$work/once.out" "$work/ample.out"
+}
+
 # try ARGUMENT..: the program with these arguments, each of its requests refused in turn
 try() {
     local request=0 refused=0
@@ -34,7 +42,7 @@ try() {
         request=$((request + 1))
         rm -f "$work/mark"
         run once env REFUSED_REQUEST=$request REFUSAL_MARK="$work/mark" LD_PRELOAD="$work/refuse.so" "$program" "$@"
-        if same once refused; then
+        if same once refused || midway "$@"; then
             refused=$((refused + 1))
         elif ! same once ample; then
             echo "refusals: latchsym $*: request $request refused, and then:"
