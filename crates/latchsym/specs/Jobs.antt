@@ -125,9 +125,9 @@ pub record NameWords : Type 0 where
   pub json : Bool
   pub names : List Text
 
--- what a subcommand asks for: to run the trace in a file, to write its steps, a lookup, to run a script, to annotate a
--- log, to check listings, or to say where symbols are; a lookup may fail to say where modules lie, or say it in two ways, and regions may be named
--- without modules
+-- what a subcommand asks for: to run the trace in a file, to write its steps, a lookup, to run a
+-- script, to annotate a log, to check listings, or to say where symbols are; a lookup may fail to
+-- say where modules lie, or say it in two ways, and regions may be named without modules
 pub data Asked : Type 0 where
   ForTrace : Text → Asked
   ForSteps : Text → Asked

@@ -62,8 +62,8 @@ loaded_word load = option_map_or (λ l. word_members l.word l.value) load []
 unfoldable pub plain_load_members : ℕ → Option (NextLoad ℕ) → List ℕ
 plain_load_members r load = json_count (codes "\"load\",\"reader\":") r ++ loaded_word load
 
--- the last load of an attempt: of which lookup, what it loads, and how many loads and attempts these
--- are
+-- the last load of an attempt: of which lookup, what it loads, and how many loads and attempts
+-- these are
 unfoldable pub load_members : ℕ → NextLoad ℕ → List ℕ
 load_members r load =
     reader_members r load.key ++ word_members load.word load.value
@@ -143,7 +143,8 @@ load_by o n w _ = None
 -- the line of an event that was done at a moment
 abbrev pub step_text : Order ℕ → ℕ → ℕ → Moment ℕ → Done ℕ → List ℕ
 step_text o n line w d =
-    event_text d.after.events line (load_by o n w d.event) d.event d.reply (at d.after.latch.words 0)
+    event_text d.after.events line (load_by o n w d.event) d.event d.reply
+    (at d.after.latch.words 0)
 
 -- the lines of all events of a run from a moment
 abbrev pub steps_text : Order ℕ → ℕ → ℕ → Moment ℕ → List (Done ℕ) → List ℕ

@@ -1,7 +1,7 @@
 //! The program `latchsym`: a latched address tree, one word at a time.
 //!
-//! `latchsym trace [--steps] FILE` runs a trace in the step machine and writes what its lookups found,
-//! or what each of its steps did.
+//! `latchsym trace [--steps] FILE` runs a trace in the step machine and writes what its lookups
+//! found, or what each of its steps did.
 //! `latchsym lookup --modules FILE --kallsyms FILE [--regions FILE] [--kernel START END]
 //! [--addresses FILE] [--callers] [--offset N] [--json] [--no-counts] [ADDR]..` says which module and
 //! which symbol hold an address; with `--modules-from-symbols` in place of `--modules` and `--regions` the symbols alone
