@@ -55,7 +55,7 @@ impl<'c, 'a> Finder<'c, 'a> {
             ≡ option_map (λ i. (i, symbol_at self.old i addr)) (item_of_address self.old addr) }
     {
         let catalog = self.catalog;
-        let guess = self.guesses.next();
+        let guess = self.guesses.next(catalog, addr);
         let item = catalog.find_near(guess.region, addr)?;
         let found = symbol_near(catalog.catalog(), item, guess.place, addr);
         Some((item, found))

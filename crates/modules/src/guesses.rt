@@ -10,7 +10,7 @@
 //! ```
 //!
 //! Where the addresses rise, each is sought from the place of the one before it on, by steps that
-//! double, and then halve.
+//! double, and then halve: what lies near was brought near by the one before.
 //!
 //! Whoever uses a guess compares it with what lies there: no contract rests on it.
 
@@ -117,15 +117,6 @@ impl<'c, 'a> Lane<'c, 'a> {
             stepped(self.symbols, self.place, step, self.addr)
         } else {
             stepped(self.index, self.place, step, self.addr)
-        };
-    }
-
-    /// Goes on from the place of an address that lies not far below.
-    fn go_on(&mut self, from: usize) {
-        self.place = if self.index.is_empty() {
-            place_from(self.symbols, self.blocks, from, self.addr)
-        } else {
-            place_from(self.index, self.blocks, from, self.addr)
         };
     }
 
@@ -236,7 +227,12 @@ fn halved<T: Addressed>(listed: &[T], from: usize, rounds: u32, addr: u64) -> us
 }
 
 /// Where the last that is not above the address may stand, sought from a place on.
-fn place_from<T: Addressed>(listed: &[T], blocks: &[u64], from: usize, addr: u64) -> usize {
+pub(crate) fn place_from<T: Addressed>(
+    listed: &[T],
+    blocks: &[u64],
+    from: usize,
+    addr: u64,
+) -> usize {
     match doubled(listed, from, addr) {
         Some((place, rounds)) => halved(listed, place, rounds, addr),
         None => {
@@ -246,33 +242,25 @@ fn place_from<T: Addressed>(listed: &[T], blocks: &[u64], from: usize, addr: u64
     }
 }
 
-/// Searches of which each goes on from the place that the last one came to.
-fn go_on<'c, 'a>(
-    lanes: &mut [Lane<'c, 'a>],
-    catalog: &'c IndexedCatalog<'a>,
-    last: Guess,
-    addrs: &[u64],
-) {
-    let mut last = last;
-    for (lane, addr) in lanes.iter_mut().zip(addrs) {
-        let (region, module) = catalog.place_near(last.region, *addr);
-        if let Some(module) = module {
-            let from = if region == last.region { last.place } else { 0 };
-            *lane = module.lane(region, *addr);
-            lane.go_on(from);
-            last = Guess {
-                region,
-                place: lane.place,
-            };
-        }
-    }
+/// The guess of an address that lies not far above that of another guess.
+fn next_to(catalog: &IndexedCatalog, last: Guess, addr: u64) -> Guess {
+    let (region, module) = catalog.place_near(last.region, addr);
+    let from = if region == last.region { last.place } else { 0 };
+    let place = match module {
+        Some(module) => module.place_from(from, addr),
+        None => 0,
+    };
+    Guess { region, place }
 }
 
-/// Guesses for the next addresses, and how many of them were taken.
+/// Guesses for the next addresses, and how many of these have been asked for; and the last guess,
+/// where each is made from the one before it.
 #[derive(Drop)]
 pub(crate) struct Guesses {
     all: [Guess; TURNS],
     taken: usize,
+    rising: bool,
+    last: Guess,
 }
 
 impl Guesses {
@@ -281,6 +269,8 @@ impl Guesses {
         Guesses {
             all: [Guess::FIRST; TURNS],
             taken: TURNS,
+            rising: false,
+            last: Guess::FIRST,
         }
     }
 
@@ -291,24 +281,32 @@ impl Guesses {
         }
         self.taken = 0;
         let addrs = &addrs[..addrs.len().min(TURNS)];
-        let mut lanes = [Lane::of(0, 0, &[], &[], &[]); TURNS];
-        if addrs.is_sorted_by(|x, y| x <= y) {
-            go_on(&mut lanes, catalog, self.all[TURNS - 1], addrs);
-        } else {
-            take_turns(&mut lanes, catalog, addrs);
+        self.rising = addrs.is_sorted_by(|x, y| x <= y);
+        if !self.rising {
+            self.guess_all(catalog, addrs);
         }
+    }
+
+    /// Makes a guess for each of these addresses.
+    fn guess_all(&mut self, catalog: &IndexedCatalog, addrs: &[u64]) {
+        let mut lanes = [Lane::of(0, 0, &[], &[], &[]); TURNS];
+        take_turns(&mut lanes, catalog, addrs);
         for (guess, lane) in self.all.iter_mut().zip(&lanes) {
             *guess = lane.guess();
         }
     }
 
-    /// Takes the next.
-    pub(crate) fn next(&mut self) -> Guess {
-        let guess = match self.all.get(self.taken) {
+    /// The next, which is of this address.
+    pub(crate) fn next(&mut self, catalog: &IndexedCatalog, addr: u64) -> Guess {
+        let place = self.taken;
+        self.taken = self.taken.saturating_add(1);
+        if self.rising {
+            self.last = next_to(catalog, self.last, addr);
+            return self.last;
+        }
+        match self.all.get(place) {
             Some(guess) => *guess,
             None => Guess::FIRST,
-        };
-        self.taken = self.taken.saturating_add(1);
-        guess
+        }
     }
 }

@@ -12,7 +12,7 @@ ghost use Rattle.modules.specs.Placed.{IsPlaced};
 ghost use Rattle.modules.specs.Starts.{first_start, start_at, start_where, starts_of};
 
 use crate::blocks::{Block, Blocks};
-use crate::guesses::Lane;
+use crate::guesses::{Lane, place_from};
 use crate::lines::Part;
 use crate::loads::{erasing, is_erasing};
 use crate::placing::Placed;
@@ -244,6 +244,15 @@ impl<'a> Module<'a> {
         match &self.by_address {
             None => around_as_listed(symbols, block, addr),
             Some(index) => around_in_index(symbols, index.as_slice(), block, addr),
+        }
+    }
+
+    /// Where by rising address the symbol of an address may stand, sought from a place on.
+    pub(crate) fn place_from(&self, from: usize, addr: u64) -> usize {
+        let blocks = self.blocks.addresses();
+        match &self.by_address {
+            Some(index) => place_from(index.as_slice(), blocks, from, addr),
+            None => place_from(self.symbols.as_slice(), blocks, from, addr),
         }
     }
 
