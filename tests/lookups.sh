@@ -160,6 +160,12 @@ head -n 65537 "$work/owners" >"$work/few"
     for ((i = 1; i <= 60000; i++)); do printf '%x t run\t[m]\n' $((i * 1048577)); done
 } >"$work/parts"
 "$program" lookup --modules-from-symbols --kallsyms "$work/parts" 0x100000 0x100001 0x200000 0x200001 2>"$work/err" | cmp -s - <(printf '0x100000 -\n0x100001 run+0x0/0x100000 [m]\n0x200000 run+0xfffff/0x100000 [m]\n0x200001 -\nmodules 1 regions 60000\nsymbols 60001 hidden 0 stray 1 long 0 malformed 0\n') || fail "60000 regions of one module"
+# the size of a is the sum of memories that lie apart, and reaches into b: by the listing of modules
+# an address of b is told as a's, and by the symbols alone as b's
+printf 'a 36864 0 - Live 0x10000\nb 4096 0 - Live 0x14000\n' >"$work/sums"
+printf '10000 t a_run\t[a]\n14000 t b_run\t[b]\n18000 t a_data\t[a]\n' >"$work/sums.kallsyms"
+"$program" lookup --modules "$work/sums" --kallsyms "$work/sums.kallsyms" 0x14010 | cmp -s - <(printf '0x14010 a_run+0x4010/0x8000 [a]\nmodules 1 hidden 0 empty 0 wraps 0 overlap 1 double 0 long 0 malformed 0\nsymbols 2 hidden 0 stray 1 long 0 malformed 0\n') || fail "sums that overlap"
+"$program" lookup --modules-from-symbols --kallsyms "$work/sums.kallsyms" 0x14010 0x18010 | cmp -s - <(printf '0x14010 b_run+0x10/0x4000 [b]\n0x18010 a_data+0x10/0x100000 [a]\nmodules 2 regions 3\nsymbols 3 hidden 0 stray 0 long 0 malformed 0\n') || fail "sums that overlap, by the symbols alone"
 if [ -r /proc/kallsyms ] && ! head -n 1 /proc/kallsyms | grep -q '^0* '; then
     "$program" lookup --modules-from-symbols --kallsyms /proc/kallsyms "0x$(grep -m 1 ' _stext$' /proc/kallsyms | cut -d' ' -f1)" >"$work/out" 2>"$work/err" && [ ! -s "$work/err" ] ||
         fail "the symbols of this machine alone: $(cat "$work/err")"
