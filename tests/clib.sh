@@ -99,9 +99,9 @@ fi
 # What the calls for signal handlers may reach, by the relocations of the calls: nothing that takes
 # or gives memory.
 objdump -dr --no-show-raw-insn "$top/crates/latchsym_ffi/out/liblatchsym_ffi.a" | awk '
-    /^[0-9a-f]+ <.*>:$/ { from = $0; sub(/^[0-9a-f]+ </, "", from); sub(/>:$/, "", from); sub(/^\.text\./, "", from); known[from] = 1 }
+    /^[0-9a-f]+ <.*>:$/ { from = $0; sub(/^[0-9a-f]+ </, "", from); sub(/>:$/, "", from); sub(/^\.text\.(unlikely\.)?/, "", from); known[from] = 1 }
     /R_X86_64_(PLT32|PC32|GOTPCREL|GOTPCRELX|REX_GOTPCRELX|64)/ {
-        to = $0; sub(/.*R_X86_64_[A-Z0-9_]+[ \t]+/, "", to); sub(/[-+]0x[0-9a-f]+$/, "", to); sub(/^\.text\./, "", to)
+        to = $0; sub(/.*R_X86_64_[A-Z0-9_]+[ \t]+/, "", to); sub(/[-+]0x[0-9a-f]+$/, "", to); sub(/^\.text\.(unlikely\.)?/, "", to)
         edges[from] = edges[from] "\n" to
     }
     END {

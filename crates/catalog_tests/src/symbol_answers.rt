@@ -182,8 +182,8 @@ fn each_failed_write_is_an_error(rt: HostRuntime) -> Result<(), Fail> {
     for call in 1..12 {
         let mut writer = Counted::new(FailAt::new(Vec::new(rt.alloc()), call));
         let result = write_answer(&mut writer, &catalog, Some(EXT4), 0xffff_ffff_c000_0018);
-        assert_eq!(rt; result.is_err(), call < 11);
-        assert_eq!(rt; writer.failures(), u64::from(call < 11));
+        assert_eq!(rt; result.is_err(), call < 9);
+        assert_eq!(rt; writer.failures(), u64::from(call < 9));
     }
     Ok(())
 }

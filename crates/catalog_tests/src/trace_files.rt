@@ -2,7 +2,7 @@ use latch_core::Update;
 use latch_steps::Command;
 use listing::{
     Counted, FailAt, Header, LONGEST_LINE, LineFault, ReadFault, TraceFile, Version, number,
-    read_trace, read_whole,
+    read_numbered_trace, read_whole,
 };
 use order_laws::Item;
 use std::alloc::{AllocError, Global};
@@ -10,7 +10,8 @@ use std::process::Abort;
 use std::test::Fail;
 
 fn trace(alloc: Global, text: &[u8]) -> Result<TraceFile, LineFault> {
-    read_trace(alloc, &mut Counted::new(text))
+    let numbered = read_numbered_trace(alloc, &mut Counted::new(text))?;
+    Ok(numbered.trace)
 }
 
 /// How many commands are in the trace of a text.
@@ -173,7 +174,7 @@ fn count_with_failing_call(
     call: u64,
 ) -> (Result<usize, LineFault>, u64) {
     let mut reader = Counted::new(FailAt::new(text, call));
-    let answer = read_trace(alloc, &mut reader).map(|trace| trace.commands.len());
+    let answer = read_numbered_trace(alloc, &mut reader).map(|read| read.trace.commands.len());
     (answer, reader.failures())
 }
 

@@ -10,6 +10,7 @@ mod NextLoadLemmas
 mod WorldLemmas
 mod EventCountLemmas
 pub mod RecorderLemmas
+mod DriverLemmas
 mod HeldLookupLemmas
 mod Promising
 mod SettleLemmas

@@ -20,13 +20,12 @@ use Rattle.latch_steps.specs.declared.replies.Reply.{Reply}
 use Rattle.latch_steps.specs.declared.worlds.World.{World}
 use Rattle.latch_steps.specs.declared.traces.Recorder.{Recorder}
 use Rattle.latch_steps.specs.declared.traces.Trace.{Trace}
-use Rattle.latch_steps.specs.declared.traces.Notes.{Notes}
-use Rattle.latch_steps.specs.Traces.{IsTraceOf, AreNotesOf, kept, events_of, note_of, notes_of}
+use Rattle.latch_steps.specs.Traces.{IsTraceOf, kept, events_of, note_of, notes_of}
 use Rattle.latch_steps.specs.Runs.{Moment, Done, step_done, opening, last_of}
 use Rattle.latch_steps.specs.Steps.{machine, machine_of, read_done, Step, Run}
 use Rattle.latch_steps.specs.Worlds.{RepresentsMoment, layout_in}
 use Rattle.latch_steps.specs.WorldSteps.{Does, MayDo, IsWorldStep, is_refused_for_memory}
-use Rattle.latch_steps.specs.Recorders.{IsNew, IsWhole, AreWhole, Records, Obeys, IsWriting}
+use Rattle.latch_steps.specs.Recorders.{IsNew, IsWhole, Records, Obeys, IsWriting}
 use Rattle.latch_steps.specs.Expands.{event_of, most_of, writes_within, ends, Repeats, Expand}
 use Rattle.latch_steps.proofs.LatchLemmas.{KeepsLatch, read_keeps}
 
@@ -52,7 +51,7 @@ module _ {K : Type 0} where
 
 -- red-black trees at the moments of a run
 module _ {K : Type 0} where
-  shallow_append : (n : ℕ) (run next : List (Done K)) → AreShallow n run → AreShallow n next → AreShallow n (run ++ next)
+  pub shallow_append : (n : ℕ) (run next : List (Done K)) → AreShallow n run → AreShallow n next → AreShallow n (run ++ next)
   shallow_append n [] next a b = b
   shallow_append n (d ∷ run) next a b = (a.0, shallow_append n run next a.1 b)
 
@@ -217,14 +216,6 @@ module _ {O K : Type 0} (o : Order K) (l : Layout) (start : ℕ) (r0 r1 : Record
       record {
         steps = subst (λ a. Run (machine_of o a) (opening (capacity_of l) start) run) new.layout h.steps;
         events = whole.events ∙ h.events ∙ ap (λ xs. xs ++ events_of run) new.events;
-        notes = whole.notes ∙ h.notes ∙ ap (λ xs. xs ++ notes_of run) new.notes;
-        sequence = whole.sequence (last_of (opening (capacity_of l) start) run) h.shows;
-      }
-
-  pub notes_of_run : (keeps : Bool) (t : Notes O K) → AreWhole o r1 t → Records o keeps r0 (opening (capacity_of l) start) r1 run → AreNotesOf o l start t run
-  notes_of_run keeps t whole h =
-      record {
-        steps = subst (λ a. Run (machine_of o a) (opening (capacity_of l) start) run) new.layout h.steps;
         notes = whole.notes ∙ h.notes ∙ ap (λ xs. xs ++ notes_of run) new.notes;
         sequence = whole.sequence (last_of (opening (capacity_of l) start) run) h.shows;
       }

@@ -33,3 +33,5 @@ pub mod AtOnce
 pub mod HeldLookups
 -- what a recorder keeps of a run
 pub mod Recorders
+-- a run whose commands come one after another
+pub mod Drivers

@@ -6,7 +6,7 @@ use Rattle.word_layout.specs.Layouts.{capacity_of}
 use Rattle.latch_core.specs.Sequences.{stable_copy_of}
 use Rattle.latch_steps.specs.declared.commands.Command.{Command}
 use Rattle.latch_steps.specs.declared.traces.Trace.{Trace}
-use Rattle.latch_steps.specs.declared.traces.Notes.{Notes}
+use Rattle.latch_steps.specs.declared.replies.Note.{Note}
 use Rattle.latch_steps.specs.Runs.{Done, history, opening}
 use Rattle.latch_steps.specs.Steps.{machine, Run}
 use Rattle.latch_steps.specs.Safe.{IsSafe}
@@ -51,10 +51,10 @@ IsExactWherePlain o n start run = IsPlain (opening n start) run → AreLooksAfte
 
 -- some run that carries out these commands has these notes and this last sequence, is safe and
 -- quiet, and its lookups that the writer leaves alone return so; and it is exact where it is plain
-pub record AreNotesOfCommands {O K : Type 0} (o : Order K) (l : Layout) (start : ℕ)
-    (commands : List (Command K)) (t : Notes O K) : Type 0 where
+pub record AreNotesOfCommands {K : Type 0} (o : Order K) (l : Layout) (start : ℕ)
+    (commands : List (Command K)) (noted : List (Note K)) (last : ℕ) : Type 0 where
   pub run : List (Done K)
-  pub notes : AreNotesOf o l start t run
+  pub notes : AreNotesOf o l start noted last run
   pub expands : Expand (opening (capacity_of l) start) commands run
   pub safe : IsSafe o (capacity_of l) start run
   pub quiet : IsQuiet o start run

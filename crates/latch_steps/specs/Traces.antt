@@ -14,7 +14,6 @@ use Rattle.word_layout.specs.Layouts.{capacity_of}
 use Rattle.latch_steps.specs.Runs.{Done, last_of, opening}
 use Rattle.latch_steps.specs.Steps.{machine_of, Run}
 use Rattle.latch_steps.specs.declared.traces.Trace.{Trace}
-use Rattle.latch_steps.specs.declared.traces.Notes.{Notes}
 
 -- the events of a run, in order
 abbrev pub events_of : {K : Type 0} → List (Done K) → List (Event K)
@@ -45,8 +44,8 @@ pub record IsTraceOf {O K : Type 0} (o : Order K) (l : Layout) (start : ℕ) (t 
   pub sequence : t.sequence ≡ at (last_of (opening (capacity_of l) start) run).latch.words 0
 
 -- the notes of this run from the opening, in order, and its last sequence
-pub record AreNotesOf {O K : Type 0} (o : Order K) (l : Layout) (start : ℕ) (t : Notes O K)
-    (run : List (Done K)) : Type 0 where
+pub record AreNotesOf {K : Type 0} (o : Order K) (l : Layout) (start : ℕ) (noted : List (Note K))
+    (last : ℕ) (run : List (Done K)) : Type 0 where
   pub steps : Run (machine_of o l) (opening (capacity_of l) start) run
-  pub notes : t.notes.items ≡ notes_of run
-  pub sequence : t.sequence ≡ at (last_of (opening (capacity_of l) start) run).latch.words 0
+  pub notes : noted ≡ notes_of run
+  pub sequence : last ≡ at (last_of (opening (capacity_of l) start) run).latch.words 0

@@ -5,6 +5,7 @@
 #![tactic(auto)]
 
 pub mod commands;
+pub mod drivers;
 pub mod events;
 pub mod laws;
 mod lookups;
@@ -15,6 +16,7 @@ mod words;
 pub mod worlds;
 
 pub use commands::Command;
+pub use drivers::Driver;
 pub use events::Event;
 pub use laws::{
     every_plain_run_is_exact, every_run_is_quiet, every_run_is_safe, plain_commands_run_plainly,

@@ -6,6 +6,7 @@ ghost use Rattle.latch_steps.specs.Promises.{IsTrace, IsTraceOfCommands, IsSafeT
 ghost use Rattle.latch_steps.specs.Promises.{IsNearTrace, AreNotesOfCommands};
 
 use crate::commands::Command;
+use crate::drivers::Driver;
 use crate::events::Event;
 use crate::traces::{Notes, Recorder, Trace};
 use order_laws::{Refusal, TreeOrder};
@@ -79,15 +80,16 @@ pub fn drive_notes<O: TreeOrder>(
     start: u64,
     commands: &[Command<O::Key>],
 ) -> Result<Notes<O>, Refusal>
-    ensures notes { IfOk result (AreNotesOfCommands O.order l start commands.now) }
+    ensures notes { IfOk result (λ t. AreNotesOfCommands O.order l start commands.now
+        t.notes.items t.sequence) }
     ensures may { IfOk result (λ t. MayOpen l start) }
     ensures refusal { IfErr result (IsOpeningRefused l start) }
 {
-    let mut recorder = Recorder::<O>::open(alloc, l, start, reads_among(commands))?;
+    let mut driver = Driver::<O>::open(alloc, l, start)?;
     for command in commands {
-        recorder.obey::<false>(command)?;
+        driver.obey(command)?;
     }
-    let notes = recorder.finish_notes()?;
+    let notes = driver.finish()?;
     Ok(notes)
 }
 

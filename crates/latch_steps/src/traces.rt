@@ -245,6 +245,21 @@ impl<O: TreeOrder> Recorder<O> {
         Ok(())
     }
 
+    /// What was noted.
+    pub(crate) fn notes(&self) -> &[Note<O::Key>]
+        ensures { result.now ≡ self.now.notes.items }
+    {
+        self.notes.as_slice()
+    }
+
+    /// Keeps no note of what was noted.
+    pub(crate) fn forget_notes(&mut self)
+        ensures none { self.new.notes.items ≡ [] }
+        ensures world { self.new.world ≡ self.old.world }
+    {
+        self.notes.clear();
+    }
+
     /// What was recorded, with the sequence as it is now.
     pub(crate) fn finish(self) -> Trace<O>
         ensures { IsWhole O.order self result }

@@ -20,7 +20,7 @@ use Rattle.modules.specs.Lines.{bounds_for, usual_bounds}
 use Rattle.modules.specs.Listed.{BoundNames, ListedRegion}
 use Rattle.order_laws.specs.declared.refusals.Refusal.TheVariants as refusal
 use Rattle.latchsym.specs.Checks.{ChecksGiven, ChecksListings, ChecksTexts, HasReport, IsChecked, IsModulesReport, IsReport, IsSymbolsReport, listings_report, modules_name, modules_report, regions_beside, status_of_kept, symbol_listing_report, symbols_report}
-use Rattle.latchsym.specs.ListingNotes.{is_of_kallsyms, is_of_modules}
+use Rattle.listing.specs.ListingNotes.{is_of_kallsyms, is_of_modules}
 use Rattle.latchsym.specs.LookupInputs.{Inputs, catalog_in, counts_in, region_lines}
 use Rattle.latchsym.specs.LookupTexts.{modules_line, symbols_line}
 use Rattle.latchsym.specs.Lookups.{AreListingsOf, regions_line_of}
@@ -31,7 +31,7 @@ use Rattle.latchsym.specs.SymbolLookups.{IsSymbolListing, counts_text_of, listed
 use Rattle.latchsym.specs.declared.command_line.ListingFiles.{ListingFiles}
 use Rattle.latchsym.specs.declared.fault.Fault.{Fault}
 use Rattle.latchsym.specs.declared.fault.Fault.TheVariants.{Refused, BadLine, Read, Write}
-use Rattle.latchsym.specs.declared.listing_notes.ListingNote.{ListingNote}
+use Rattle.listing.specs.declared.listing_notes.ListingNote.{ListingNote}
 use Rattle.latchsym.specs.declared.lookup.Listings.{Listings}
 use Rattle.latchsym.specs.declared.lookup.LookupOptions.{LookupOptions}
 use Rattle.latchsym.specs.declared.symbol_lookup.SymbolListing.{SymbolListing}

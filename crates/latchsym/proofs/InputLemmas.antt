@@ -17,10 +17,9 @@ use Rattle.latchsym.specs.declared.forms.AnswerForm.{AnswerForm}
 use Rattle.latchsym.specs.declared.fault.Fault.TheVariants.{Refused, BadLine, Read, Write}
 use Rattle.latchsym.specs.declared.lookup.ListingTexts.{ListingTexts}
 use Rattle.latchsym.specs.declared.lookup.Listings.{Listings}
-use Rattle.latchsym.specs.declared.listing_notes.ListingNotes.{ListingNotes}
+use Rattle.listing.specs.declared.listing_notes.ListingNotes.{ListingNotes}
 use Rattle.latchsym.specs.declared.lookup.LookupOptions.{LookupOptions}
-use Rattle.latchsym.specs.ListingNotes.{notes_of}
-use Rattle.latchsym.specs.LookupInputs.{Inputs, Texts, all_addresses, catalog_in, counts_in, inputs_after, inputs_of, inputs_with, region_lines_of_inputs, region_lines, texts_in, texts_of}
+use Rattle.latchsym.specs.LookupInputs.{Inputs, Texts, all_addresses, catalog_in, counts_in, inputs_after, inputs_of, inputs_with, notes_of, region_lines, region_lines_of_inputs, texts_in, texts_of}
 use Rattle.latchsym.specs.Lookups.{AnswersLookup, AnswersWith, AreListingsOf, FitsTable, GivesAddresses, GivesLines, HasTooManyOfOne, HasTooManyRegions, IsWritten}
 use Rattle.latchsym.specs.Readings.{AnswersInputs, Failures, HoldsOf, NoReaderFailed, OnlyFailed, failures_in, last_failures}
 

@@ -18,8 +18,6 @@ mod AssignmentLemmas
 mod RunLemmas
 -- from the text of a listing of symbols alone to the readers that it was read from
 mod SymbolInputLemmas
--- where a note on a listing does not apply
-pub mod ListingNoteLemmas
 -- from what was read of listings to the catalog that they say
 mod OpenedCatalogLemmas
 -- from what came of a log to what the engine returns
@@ -36,5 +34,9 @@ mod AskedNameLemmas
 mod OperandLemmas
 -- the text that bytes are, from one byte that is no part of it to the next
 mod JsonLemmas
+-- digits in front of what stands in a room for a line
+mod LineRoomLemmas
 -- what is done and written of a trace whose steps are told, one event and one command after another
 mod StepLemmas
+-- the text of a trace whose commands are run one after another
+mod GatheredLemmas

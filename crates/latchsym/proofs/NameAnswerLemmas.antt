@@ -13,7 +13,7 @@ use Rattle.latchsym.specs.Readings.{Failures, NoReaderFailed}
 use Rattle.latchsym.specs.SymbolLookups.{listed}
 use Rattle.latchsym.specs.declared.fault.Fault.{Fault}
 use Rattle.latchsym.specs.declared.fault.Fault.TheVariants.{Refused, BadLine, Read, Write}
-use Rattle.latchsym.specs.declared.listing_notes.ListingNotes.{ListingNotes}
+use Rattle.listing.specs.declared.listing_notes.ListingNotes.{ListingNotes}
 use Rattle.latchsym.specs.declared.opened_catalogs.GivenTexts.{GivenTexts}
 
 module _ {W : Type 0} (contents : W → Option (List ℕ)) (json : Bool) (kernel : Option BoundNames) (words : List (List ℕ)) (g : Given) (w w' : Counted W) where

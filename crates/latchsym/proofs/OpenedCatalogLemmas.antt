@@ -8,8 +8,7 @@ use Rattle.modules.specs.Catalogs.{catalog_of}
 use Rattle.modules.specs.Lines.{usual_bounds}
 use Rattle.modules.specs.Listed.{BoundNames, ListedRegion}
 use Rattle.order_laws.specs.declared.refusals.Refusal.TheVariants as refusal
-use Rattle.latchsym.specs.ListingNotes.{notes_of}
-use Rattle.latchsym.specs.LookupInputs.{Inputs, catalog_in, counts_in, region_lines}
+use Rattle.latchsym.specs.LookupInputs.{Inputs, catalog_in, counts_in, notes_of, region_lines}
 use Rattle.latchsym.specs.Lookups.{AreListingsOf}
 use Rattle.latchsym.specs.OpenedCatalogs.{Given, IsByModules, IsCatalogBy, OpensByModules, OpensBySymbols, OpensCatalog}
 use Rattle.latchsym.specs.declared.fault.Fault.{Fault}

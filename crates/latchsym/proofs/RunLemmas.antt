@@ -12,10 +12,9 @@ use Rattle.order_laws.specs.declared.refusals.Refusal.TheVariants as refusal
 use Rattle.latchsym.specs.declared.fault.Fault.{Fault}
 use Rattle.latchsym.specs.declared.fault.Fault.TheVariants.{Refused, Write}
 use Rattle.latchsym.specs.declared.lookup.ListingTexts.{ListingTexts}
-use Rattle.latchsym.specs.LookupInputs.{Inputs, catalog_in, inputs_after, region_lines, region_lines_of_inputs, texts_in}
-use Rattle.latchsym.specs.declared.listing_notes.ListingNotes.{ListingNotes}
+use Rattle.latchsym.specs.LookupInputs.{Inputs, catalog_in, inputs_after, notes_of, region_lines, region_lines_of_inputs, texts_in}
+use Rattle.listing.specs.declared.listing_notes.ListingNotes.{ListingNotes}
 use Rattle.latchsym.specs.Faults.{with_notes}
-use Rattle.latchsym.specs.ListingNotes.{notes_of}
 use Rattle.latchsym.specs.Readings.{HoldsOf}
 use Rattle.latchsym.specs.RunInputs.{RunInputs, run_inputs_after, run_inputs_of, run_inputs_with, run_options}
 use Rattle.latchsym.specs.Runs.{AnswersLines, AnswersRun, FitsRun, IsRun, IsRunOf, IsServed, MayRun, TellsServed}

@@ -1,37 +1,34 @@
 -- What is done and written of a trace whose steps are told, one event and one command after another.
-use Rattle.std.proofs.Common.{◌≡◌, ℕ, ◌+◌, ◌<◌, Bool, true, false, List, [], ◌∷◌, ◌++◌, length, take, get_or, Option, Some, None, Ok, refl, sym, ◌∙◌, ap, subst, arith, append_assoc, append-nil, length-append, length-take-le, inl, inr, Err}
+use Rattle.std.proofs.Common.{◌≡◌, ℕ, ◌+◌, ◌<◌, Bool, true, false, true≢false, List, [], ◌∷◌, ◌++◌, length, take, get_or, Option, Some, None, Ok, refl, sym, ◌∙◌, ap, subst, arith, append_assoc, append-nil, length-append, length-take-le, inl, inr, Err}
 use Rattle.std.proofs.KnownBytes.{Appends-nil, Appends-trans}
+use Rattle.std.specs.Prelude.{Result, OnOk}
 use Rattle.std.specs.Io.KnownBytes.{Appends, Keeps}
 use Rattle.facts.proofs.Lists.{take_push}
 use Rattle.listing.specs.declared.counted.Counted.{Counted}
 use Rattle.listing.specs.Counted.{NoneFailed, Rose, device_of, failures_of}
 use Rattle.listing.specs.Trace.{Contents}
-use Rattle.listing.specs.declared.header.Header.{Header}
 use Rattle.order_laws.specs.Orders.{Order}
 use Rattle.word_layout.specs.Words.{at}
 use Rattle.word_layout.specs.declared.layouts.Layout.{Layout}
 use Rattle.word_layout.specs.Layouts.{capacity_of, limit_of}
 use Rattle.latch_steps.specs.declared.commands.Command.{Command}
+use Rattle.latch_steps.specs.declared.commands.Command.TheVariants.{Begin as BeginCommand, Write as WriteCommand, WriteFlip, WriteEnd, Start as StartCommand, Read as ReadCommand}
 use Rattle.latch_steps.specs.declared.events.Event.{Event}
+use Rattle.latch_steps.specs.declared.events.Event.TheVariants.{Begin, Write, Start, Read}
 use Rattle.latch_steps.specs.declared.replies.NextLoad.{NextLoad}
 use Rattle.latch_steps.specs.declared.replies.Reply.{Reply}
 use Rattle.latch_steps.specs.declared.worlds.World.{World}
 use Rattle.latch_steps.specs.Expands.{Expand, Repeats, ends, event_of, most_of}
 use Rattle.latch_steps.specs.Runs.{Done, Moment, last_of, opening, step_done}
 use Rattle.latch_steps.specs.Steps.{Run, machine, machine_of}
-use Rattle.latch_steps.specs.WorldSteps.{IsWorldStep, is_refused_for_memory}
+use Rattle.latch_steps.specs.WorldSteps.{Does, IsWorldStep, is_refused_for_memory}
 use Rattle.latch_steps.specs.Worlds.{HasEvents, HasSequence, RepresentsMoment, layout_in}
 use Rattle.latch_steps.proofs.RecorderLemmas.{IsUnended, does, expand_push, last_append, repeats_ended, repeats_full, run_append, unended_push}
-use Rattle.latchsym.specs.StepRuns.{AreCommandsTold, IsLoadBy, IsTellFault, Tells, TellsCommand, TellsEvent}
+use Rattle.latchsym.specs.StepRuns.{AreCommandsTold, IsLoadBy, IsTellFault, IsTold, StopsTelling, Tells, TellsCommand, TellsCommands, TellsEvent, takes_memory}
 use Rattle.latchsym.specs.StepTexts.{event_text, load_by, opening_text, step_text, steps_text}
-use Rattle.latchsym.specs.StepTraces.{AnswersStepsIn, AreTold, IsPartTold}
-use Rattle.latchsym.specs.Traces.{AnswersBy, HeaderMayOpen, greatest_of}
+use Rattle.latchsym.specs.StepTraces.{AnswersStepsIn, AreTold, IsStepsText}
+use Rattle.latchsym.specs.Traces.{HeaderMayOpen, greatest_of}
 use Rattle.latchsym.specs.declared.fault.Fault.{Fault}
-
--- a fault after calls of which none failed
-pub fault_after : {W : Type 0} (a b c : Counted W) (f : Fault) → NoneFailed a b → IsTellFault b c f → IsTellFault a c f
-fault_after a b c f none (inl h) = inl (h.0, h.1 ∙ none)
-fault_after a b c f none (inr h) = inr (h.0, subst (λ n. Rose n (failures_of c)) none h.1)
 
 -- a text that a flush keeps
 appended_kept : (x y z : Option (List ℕ)) (text : List ℕ) → Appends x y text → Keeps y z → Appends x z text
@@ -40,10 +37,32 @@ appended_kept (Some xs) None z text p q = absurd p
 appended_kept (Some xs) (Some ys) None text p q = absurd q
 appended_kept (Some xs) (Some ys) (Some zs) text p q = q ∙ p
 
--- what an engine returns at it
-pub faulted : {W : Type 0} (IsText : List ℕ → Type 0) (contents : W → Option (List ℕ)) (h : Header) (a b : Counted W) (f : Fault) → HeaderMayOpen h → IsTellFault a b f → AnswersBy IsText NoneFailed contents h a b (Err f)
-faulted IsText contents h a b f opens (inl e) = subst (λ (g : Fault). AnswersBy IsText NoneFailed contents h a b (Err g)) (sym e.0) e.1
-faulted IsText contents h a b f opens (inr e) = subst (λ (g : Fault). AnswersBy IsText NoneFailed contents h a b (Err g)) (sym e.0) (e.1, opens)
+-- what an answer says that it gives where another holds
+pub on_ok : {A E P Q : Type 0} (r : Result A E) → (P → Q) → OnOk r P → OnOk r Q
+on_ok (Ok x) f p = f p
+on_ok (Err e) f p = tt
+
+-- only a beginning and a start may be refused because memory ran out, and these load nothing
+pub steady : {O : Type 0} (o : Order ℕ) (old new : World O ℕ) (e : Event ℕ) (r : Reply ℕ) → IsWorldStep o old e r new → takes_memory e ≡ false → Does o old e r new
+steady o old new (Begin u) r steps free = absurd (true≢false free)
+steady o old new Write r steps free = steps
+steady o old new (Start q k) r steps free = absurd (true≢false free)
+steady o old new (Read q) r steps free = steps
+
+pub loads_none : {O : Type 0} (o : Order ℕ) (c : World O ℕ) (e : Event ℕ) → takes_memory e ≡ true → IsLoadBy o c e None
+loads_none o c (Begin u) takes w s = refl
+loads_none o c Write takes w s = absurd (true≢false (sym takes))
+loads_none o c (Start q k) takes w s = refl
+loads_none o c (Read q) takes w s = absurd (true≢false (sym takes))
+
+-- and their commands do them once
+once : (c : Command ℕ) (e : Event ℕ) (r : Reply ℕ) (w next : Moment ℕ) → e ≡ event_of c → takes_memory e ≡ true → Repeats c (most_of w c) (step_done e r next ∷ [])
+once (BeginCommand u) e r w next same takes = (omega arith, same, refl)
+once (StartCommand q k) e r w next same takes = (omega arith, same, refl)
+once (WriteCommand most) e r w next same takes = absurd (true≢false (sym takes ∙ ap takes_memory same))
+once WriteFlip e r w next same takes = absurd (true≢false (sym takes ∙ ap takes_memory same))
+once WriteEnd e r w next same takes = absurd (true≢false (sym takes ∙ ap takes_memory same))
+once (ReadCommand q most) e r w next same takes = absurd (true≢false (sym takes ∙ ap takes_memory same))
 
 -- the lines of two runs one after the other
 pub steps_append : (o : Order ℕ) (n line : ℕ) (w : Moment ℕ) (run next : List (Done ℕ)) → steps_text o n line w (run ++ next) ≡ steps_text o n line w run ++ steps_text o n line (last_of w run) next
@@ -51,17 +70,29 @@ steps_append o n line w [] next = refl
 steps_append o n line w (d ∷ run) next = ap (λ t. step_text o n line w d ++ t) (steps_append o n line d.after run next) ∙ sym (append_assoc (step_text o n line w d) (steps_text o n line d.after run) (steps_text o n line (last_of d.after run) next))
 
 module _ {O W : Type 0} (o : Order ℕ) (contents : W → Option (List ℕ)) (line : ℕ) where
-  pub event_told : (old new : World O ℕ) (a b : Counted W) (e : Event ℕ) (r : Reply ℕ) (load : Option (NextLoad ℕ)) (number sequence : ℕ)
-      → IsWorldStep o old e r new → is_refused_for_memory r ≡ false → layout_in new ≡ layout_in old
-      → IsLoadBy o old e load → HasEvents o new number → HasSequence o new sequence
-      → Appends (contents (device_of a)) (contents (device_of b)) (event_text number line load e r sequence)
-      → TellsEvent o contents line e old new a b r
-  event_told old new a b e r load number sequence steps stays lay loads events reads wrote w s =
-      let d = does o false old new e r steps stays w s in
+  pub line_told : (new : World O ℕ) (a b : Counted W) (e : Event ℕ) (r : Reply ℕ) (load : Option (NextLoad ℕ)) (number sequence : ℕ)
+      → HasEvents o new number → HasSequence o new sequence → Appends (contents (device_of a)) (contents (device_of b)) (event_text number line load e r sequence)
+      → IsTold o contents line load e r new a b
+  line_told new a b e r load number sequence events reads wrote next s =
+      let same : event_text number line load e r sequence ≡ event_text next.events line load e r (at next.latch.words 0) = (λ i. event_text (events next s i) line load e r (reads next s i)) in
+      subst (Appends (contents (device_of a)) (contents (device_of b))) same wrote
+
+  pub event_told : (old new : World O ℕ) (a b : Counted W) (e : Event ℕ) (r : Reply ℕ) (load : Option (NextLoad ℕ))
+      → Does o old e r new → layout_in new ≡ layout_in old → IsLoadBy o old e load → IsTold o contents line load e r new a b → TellsEvent o contents line e old new a b r
+  event_told old new a b e r load does lay loads told w s =
+      let d = does w s in
       let n = capacity_of (layout_in old) in
-      let same : event_text number line load e r sequence ≡ event_text d.0.events line (load_by o n w e) e r (at d.0.latch.words 0) = (λ i. event_text (events d.0 d.2 i) line (loads w s i) e r (reads d.0 d.2 i)) in
-      let written = subst (Appends (contents (device_of a)) (contents (device_of b))) (same ∙ sym (append-nil _)) wrote in
+      let same : event_text d.0.events line load e r (at d.0.latch.words 0) ≡ event_text d.0.events line (load_by o n w e) e r (at d.0.latch.words 0) = (λ i. event_text d.0.events line (loads w s i) e r (at d.0.latch.words 0)) in
+      let written = subst (Appends (contents (device_of a)) (contents (device_of b))) (same ∙ sym (append-nil _)) (told d.0 d.2) in
       (d.0, record { layout = lay; steps = (d.1, tt); shows = d.2; written = written })
+
+  -- an event that its command does once
+  pub command_told : (c : Command ℕ) (old new : World O ℕ) (a b : Counted W) (e : Event ℕ) (r : Reply ℕ)
+      → IsWorldStep o old e r new → is_refused_for_memory r ≡ false → layout_in new ≡ layout_in old → e ≡ event_of c → takes_memory e ≡ true
+      → IsTold o contents line None e r new a b → TellsCommand o contents line c old new a b
+  command_told c old new a b e r steps stays lay same takes told w s =
+      let d = event_told old new a b e r None (λ v t. does o false old new e r steps stays v t) lay (loads_none o old e takes) told w s in
+      (step_done e r d.0 ∷ [], d.1, once c e r w d.0 same takes)
 
   tells_none : (c : World O ℕ) (a : Counted W) (w : Moment ℕ) → RepresentsMoment o c w → Tells o contents line c c a a w []
   tells_none c a w s = record { layout = refl; steps = tt; shows = s; written = Appends-nil (contents (device_of a)) }
@@ -176,35 +207,51 @@ module _ {O W : Type 0} (o : Order ℕ) (contents : W → Option (List ℕ)) (li
         written = Appends-trans _ _ _ _ _ h.written wrote_on;
       }
 
--- from the opening to the last byte
-module _ {O W : Type 0} (o : Order ℕ) (contents : W → Option (List ℕ)) (said : Contents) (lines : List ℕ) (l : Layout) (world last : World O ℕ) (a b c d : Counted W) where
-  -- the moment that the world shows at its opening
-  pub opened_at : layout_in world ≡ l → capacity_of l ≡ said.header.capacity → RepresentsMoment o world (opening (capacity_of l) said.header.start) → RepresentsMoment o world (opening said.header.capacity said.header.start)
-  opened_at lay cap = subst (λ n. RepresentsMoment o world (opening n said.header.start)) cap
+-- memory ran out at a command of a list, or a call of the writer failed
+pub stops_at : {O W : Type 0} (o : Order ℕ) (contents : W → Option (List ℕ)) (lines : List ℕ) (cs : List (Command ℕ)) (old now : World O ℕ) (a b c : Counted W) (place : ℕ) (f : Fault)
+    → place < length cs → TellsCommands o contents lines (take place cs) old now a b → NoneFailed a b → IsTellFault b c f → StopsTelling o contents lines cs old a c f
+stops_at o contents lines cs old now a b c place f within told none (inl h) =
+    inl (h.0, subst (λ d. NoneFailed a d) (sym h.1) none, (place, within, (now, subst (λ d. TellsCommands o contents lines (take place cs) old now a d) (sym h.1) told)))
+stops_at o contents lines cs old now a b c place f within told none (inr h) = inr (h.0, subst (λ n. Rose n (failures_of c)) none h.1)
 
-  pub steps_answered : layout_in world ≡ l → capacity_of l ≡ said.header.capacity → limit_of l ≡ greatest_of said.header.version → HeaderMayOpen said.header
-      → Appends (contents (device_of a)) (contents (device_of b)) (opening_text said.header) → NoneFailed a b
-      → AreCommandsTold o contents lines said.commands world last b c (opening said.header.capacity said.header.start) → NoneFailed b c
-      → Keeps (contents (device_of c)) (contents (device_of d)) → NoneFailed c d
-      → AnswersStepsIn o contents said lines a d (Ok tt)
-  steps_answered lay cap lim opens first none_first told none_told kept none_kept =
+-- from the opening to the last byte
+module _ {O W : Type 0} (o : Order ℕ) (contents : W → Option (List ℕ)) (said : Contents) (lines : List ℕ) (l : Layout) (world : World O ℕ) (a b c : Counted W)
+    (lay : layout_in world ≡ l) (cap : capacity_of l ≡ said.header.capacity) (lim : limit_of l ≡ greatest_of said.header.version) (opens : HeaderMayOpen said.header)
+    (shows : RepresentsMoment o world (opening (capacity_of l) said.header.start))
+    (first : Appends (contents (device_of a)) (contents (device_of b)) (opening_text said.header)) (none_first : NoneFailed a b) where
+  -- the steps of commands, behind the opening
+  steps_written : (cs : List (Command ℕ)) (last : World O ℕ) → TellsCommands o contents lines cs world last b c
+      → (text : List ℕ) × IsStepsText o (record said { commands = cs }) lines text × Appends (contents (device_of a)) (contents (device_of c)) text
+  steps_written cs last tells =
       let h = said.header in
       let w = opening h.capacity h.start in
+      let told = tells w (subst (λ n. RepresentsMoment o world (opening n h.start)) cap shows) in
       let cap' : capacity_of (layout_in world) ≡ h.capacity = ap capacity_of lay ∙ cap in
       let lim' : limit_of (layout_in world) ≡ greatest_of h.version = ap limit_of lay ∙ lim in
       let run_of = subst (λ n. Run (machine o n (limit_of (layout_in world))) w told.run) cap' told.steps in (
-        none_kept ∙ none_told ∙ none_first,
-        opens,
-        (
-          opening_text h ++ told.text,
-          record {
-            run = told.run;
-            steps = subst (λ m. Run (machine o h.capacity m) w told.run) lim' run_of;
-            expands = told.expands;
-            text = told.text;
-            told = subst (λ n. AreTold o n lines 0 w said.commands told.run told.text) cap' told.told;
-            whole = refl;
-          },
-          appended_kept _ _ _ (opening_text h ++ told.text) (Appends-trans _ _ _ _ _ first told.written) kept,
-        ),
+        opening_text h ++ told.text,
+        record {
+          run = told.run;
+          steps = subst (λ m. Run (machine o h.capacity m) w told.run) lim' run_of;
+          expands = told.expands;
+          text = told.text;
+          told = subst (λ n. AreTold o n lines 0 w cs told.run told.text) cap' told.told;
+          whole = refl;
+        },
+        Appends-trans _ _ _ _ _ first told.written,
       )
+
+  pub steps_answered : (last : World O ℕ) (d : Counted W) → TellsCommands o contents lines said.commands world last b c → NoneFailed b c
+      → Keeps (contents (device_of c)) (contents (device_of d)) → NoneFailed c d → AnswersStepsIn o contents said lines a d (Ok tt)
+  steps_answered last d told none_told kept none_kept =
+      let wrote = steps_written said.commands last told in
+      (none_kept ∙ none_told ∙ none_first, opens, (wrote.0, wrote.1, appended_kept _ _ _ wrote.0 wrote.2 kept))
+
+  pub steps_stopped : (f : Fault) → StopsTelling o contents lines said.commands world b c f → AnswersStepsIn o contents said lines a c (Err f)
+  steps_stopped f (inl h) =
+      let (is, none, (place, within, (last, told))) = h in
+      let wrote = steps_written (take place said.commands) last told in
+      subst (λ (g : Fault). AnswersStepsIn o contents said lines a c (Err g)) (sym is)
+      (inr (none ∙ none_first, (wrote.0, record { opens = opens; place = place; within = within; begun = wrote.1 }, wrote.2)))
+  steps_stopped f (inr h) =
+      subst (λ (g : Fault). AnswersStepsIn o contents said lines a c (Err g)) (sym h.0) (subst (λ n. Rose n (failures_of c)) none_first h.1, opens)

@@ -22,7 +22,7 @@ use Rattle.latchsym.specs.SymbolLookups.{AnswersBySymbols, AnswersSymbolLookup, 
 use Rattle.latchsym.specs.declared.fault.Fault.{Fault}
 use Rattle.latchsym.specs.declared.forms.AnswerForm.{AnswerForm}
 use Rattle.latchsym.specs.declared.fault.Fault.TheVariants.{Refused, BadLine, Read, Write}
-use Rattle.latchsym.specs.declared.listing_notes.ListingNotes.{ListingNotes}
+use Rattle.listing.specs.declared.listing_notes.ListingNotes.{ListingNotes}
 use Rattle.latchsym.specs.declared.symbol_lookup.SymbolListing.{SymbolListing}
 use Rattle.latchsym.specs.declared.symbol_lookup.SymbolLookupOptions.{SymbolLookupOptions}
 use Rattle.latchsym.specs.declared.table.AddressAnswer.{AddressAnswer}

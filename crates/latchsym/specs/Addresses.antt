@@ -12,7 +12,7 @@ use Rattle.latchsym.specs.Readings.{Failures, NoReaderFailed, OnlyFailed}
 use Rattle.latchsym.specs.SymbolLookups.{listed}
 use Rattle.latchsym.specs.declared.fault.Fault.{Fault}
 use Rattle.latchsym.specs.declared.fault.Fault.TheVariants.{Refused, BadLine, Read, Write}
-use Rattle.latchsym.specs.declared.listing_notes.ListingNotes.{ListingNotes}
+use Rattle.listing.specs.declared.listing_notes.ListingNotes.{ListingNotes}
 
 -- the writer has taken the lines of these words, as JSON or as text, by the catalog of the listings,
 -- and this is noted

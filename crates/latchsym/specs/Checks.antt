@@ -14,7 +14,7 @@ use Rattle.modules.specs.Lines.{bounds_for}
 use Rattle.modules.specs.Listed.{BoundNames, ListedRegion}
 use Rattle.modules.specs.Placed.{are_few}
 use Rattle.order_laws.specs.declared.refusals.Refusal.TheVariants as refusal
-use Rattle.latchsym.specs.ListingNotes.{is_of_kallsyms, is_of_modules}
+use Rattle.listing.specs.ListingNotes.{is_of_kallsyms, is_of_modules}
 use Rattle.latchsym.specs.LookupInputs.{Inputs, catalog_in, counts_in, region_lines}
 use Rattle.latchsym.specs.Lookups.{count_lines, counts_text}
 use Rattle.latchsym.specs.NoteTexts.{applying_lines}

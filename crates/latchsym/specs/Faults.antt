@@ -10,14 +10,14 @@ use Rattle.listing.specs.declared.faults.LineFault.TheVariants as line
 use Rattle.order_laws.specs.Refusals.{refusal_number}
 use Rattle.order_laws.specs.declared.refusals.Refusal.TheVariants as refusal
 use Rattle.latchsym.specs.Jobs.{file_at}
-use Rattle.latchsym.specs.ListingNotes.{is_some_noted, no_notes}
+use Rattle.listing.specs.ListingNotes.{is_some_noted, no_notes}
 use Rattle.latchsym.specs.NoteTexts.{notes_text}
 use Rattle.latchsym.specs.Texts.{refused_text}
 use Rattle.latchsym.specs.declared.command_line.Job.{Job}
 use Rattle.latchsym.specs.declared.fault.Fault.{Fault}
 use Rattle.latchsym.specs.declared.fault.Finished.{Finished}
 use Rattle.latchsym.specs.declared.fault.Fault.TheVariants.{Refused, BadLine, Read, TooLong, Write}
-use Rattle.latchsym.specs.declared.listing_notes.ListingNotes.{ListingNotes}
+use Rattle.listing.specs.declared.listing_notes.ListingNotes.{ListingNotes}
 
 -- the number that stands for a fault
 abbrev pub fault_number : Fault → ℕ

@@ -5,10 +5,12 @@ pub mod CommandLine
 pub mod Jobs
 -- the lines that a trace writes
 pub mod Texts
--- text that is gathered in a block of memory, and written when the block is full
+-- text that is appended in room that is there
 pub mod Blocks
 -- what is written for a trace that is read
 pub mod Traces
+-- the text of a trace whose commands are run one after another
+pub mod GatheredTraces
 -- the table of a catalog's regions, and the answer that it has for an address
 pub mod CatalogTables
 -- a world that holds the regions of modules
@@ -21,6 +23,8 @@ pub mod LookupTexts
 pub mod JsonTexts
 -- the lines that the steps of a trace write
 pub mod StepTexts
+-- what is put into a room for such a line
+pub mod LineRooms
 -- what is written for a trace whose steps are asked for
 pub mod StepTraces
 -- what one event and one command of it do, while it is run
@@ -31,8 +35,6 @@ pub mod AnswerForms
 pub mod Readings
 -- what a lookup of addresses reads, and what that says
 pub mod LookupInputs
--- what is noted of a listing of which nothing is of use
-pub mod ListingNotes
 -- the lines that say what is noted of listings
 pub mod NoteTexts
 -- why a run of the program failed, and what is said at its end

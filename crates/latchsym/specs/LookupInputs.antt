@@ -1,11 +1,13 @@
 -- What a lookup of addresses reads, and what that says.
 use Rattle.std.specs.Prelude.{ℕ, List, [], Option, Some, None, Result, Ok, Err}
-use Rattle.std.specs.Prelude.{option_and_then, unwrap_or}
+use Rattle.std.specs.Prelude.{find, option_and_then, unwrap_or}
 use Rattle.std.specs.Option.{option_map}
 use Rattle.listing.specs.declared.counted.Counted.{Counted}
 use Rattle.listing.specs.Counted.{device_of}
 use Rattle.listing.specs.Addresses.{addresses_of}
 use Rattle.listing.specs.Lines.{lines_of}
+use Rattle.listing.specs.ListingNotes.{all_notes, is_of_kallsyms, is_of_modules}
+use Rattle.listing.specs.declared.listing_notes.ListingNotes.{ListingNotes}
 use Rattle.listing.specs.ModuleListing.{modules_in}
 use Rattle.listing.specs.Said.{entries_after}
 use Rattle.listing.specs.SymbolListing.{symbols_in}
@@ -130,3 +132,10 @@ known_inputs modules kallsyms regions addresses readers options given =
     option_and_then (inputs_of options given (known_text addresses readers.addresses))
     (texts_of (modules (device_of readers.modules)) (kallsyms (device_of readers.kallsyms))
     (known_text regions readers.regions))
+
+-- of each listing the first note that applies to it
+abbrev pub notes_of : Inputs → ListingNotes
+notes_of i = record {
+  modules = find (is_of_modules i.modules (catalog_in i)) all_notes;
+  kallsyms = find (is_of_kallsyms i.options.kernel i.kallsyms (counts_in i).symbols) all_notes;
+}

@@ -15,9 +15,8 @@ use Rattle.modules.specs.declared.catalog.BuildCounts.{BuildCounts}
 use Rattle.modules.specs.Listed.{ListedRegion}
 use Rattle.modules.specs.Placed.{are_few}
 use Rattle.latchsym.specs.CatalogTables.{HasFewRegions, HasManyRegions, answer_at}
-use Rattle.latchsym.specs.ListingNotes.{notes_of}
 use Rattle.latchsym.specs.LookupInputs.{Inputs, all_addresses, catalog_in, counts_in}
-use Rattle.latchsym.specs.LookupInputs.{region_lines_of_inputs, region_lines}
+use Rattle.latchsym.specs.LookupInputs.{notes_of, region_lines, region_lines_of_inputs}
 use Rattle.latchsym.specs.AnswerForms.{counts_by, line_by}
 use Rattle.latchsym.specs.JsonTexts.{json_counts}
 use Rattle.latchsym.specs.LookupTexts.{modules_line, regions_line, symbols_line}
@@ -25,7 +24,7 @@ use Rattle.latchsym.specs.Readings.{AnswersInputs, Failures, failures_in}
 use Rattle.latchsym.specs.declared.fault.Fault.{Fault}
 use Rattle.latchsym.specs.declared.fault.Fault.TheVariants.{Refused, BadLine, Read, Write}
 use Rattle.latchsym.specs.declared.forms.AnswerForm.{AnswerForm}
-use Rattle.latchsym.specs.declared.listing_notes.ListingNotes.{ListingNotes}
+use Rattle.listing.specs.declared.listing_notes.ListingNotes.{ListingNotes}
 use Rattle.latchsym.specs.declared.lookup.Listings.{Listings}
 use Rattle.latchsym.specs.declared.lookup.LookupReaders.{LookupReaders}
 

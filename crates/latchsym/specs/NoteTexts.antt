@@ -7,18 +7,18 @@ use Rattle.std.specs.Str.{bytes_eq}
 use Rattle.clap.specs.Words.{Text}
 use Rattle.modules.specs.Lines.{usual_bounds}
 use Rattle.modules.specs.Listed.{BoundNames}
-use Rattle.latchsym.specs.ListingNotes.{all_notes}
+use Rattle.listing.specs.ListingNotes.{all_notes}
 use Rattle.latchsym.specs.declared.command_line.Job.{Job}
 use Rattle.latchsym.specs.declared.command_line.Job.TheVariants.{Trace, Steps, Lookup, SymbolLookup}
 use Rattle.latchsym.specs.declared.command_line.Job.TheVariants.{Address, Annotate, Check, Run}
 use Rattle.latchsym.specs.declared.command_line.ListingFiles.{ListingFiles}
-use Rattle.latchsym.specs.declared.listing_notes.ListingNote.{ListingNote}
-use Rattle.latchsym.specs.declared.listing_notes.ListingNote.TheVariants.{Gzip, AllHidden}
-use Rattle.latchsym.specs.declared.listing_notes.ListingNote.TheVariants.{LooksLikeSymbols}
-use Rattle.latchsym.specs.declared.listing_notes.ListingNote.TheVariants.{LooksLikeModules}
-use Rattle.latchsym.specs.declared.listing_notes.ListingNote.TheVariants.{LinesEndInCrLf, NoStart}
-use Rattle.latchsym.specs.declared.listing_notes.ListingNote.TheVariants.{NoEnd, OtherBoot}
-use Rattle.latchsym.specs.declared.listing_notes.ListingNotes.{ListingNotes}
+use Rattle.listing.specs.declared.listing_notes.ListingNote.{ListingNote}
+use Rattle.listing.specs.declared.listing_notes.ListingNote.TheVariants.{Gzip, AllHidden}
+use Rattle.listing.specs.declared.listing_notes.ListingNote.TheVariants.{LooksLikeSymbols}
+use Rattle.listing.specs.declared.listing_notes.ListingNote.TheVariants.{LooksLikeModules}
+use Rattle.listing.specs.declared.listing_notes.ListingNote.TheVariants.{LinesEndInCrLf, NoStart}
+use Rattle.listing.specs.declared.listing_notes.ListingNote.TheVariants.{NoEnd, OtherBoot}
+use Rattle.listing.specs.declared.listing_notes.ListingNotes.{ListingNotes}
 
 -- what to try where a name is missing: many kernels list no `_end`
 abbrev pub remedy_text : List ℕ → List ℕ

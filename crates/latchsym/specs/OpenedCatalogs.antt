@@ -10,14 +10,13 @@ use Rattle.modules.specs.Lines.{usual_bounds}
 use Rattle.modules.specs.Listed.{BoundNames, ListedRegion}
 use Rattle.modules.specs.Placed.{are_few}
 use Rattle.order_laws.specs.declared.refusals.Refusal.TheVariants as refusal
-use Rattle.latchsym.specs.ListingNotes.{notes_of}
-use Rattle.latchsym.specs.LookupInputs.{Inputs, catalog_in, known_text, region_lines}
+use Rattle.latchsym.specs.LookupInputs.{Inputs, catalog_in, known_text, notes_of, region_lines}
 use Rattle.latchsym.specs.Readings.{Failures, NoReaderFailed, OnlyFailed, failures_in}
 use Rattle.latchsym.specs.RunInputs.{run_options}
 use Rattle.latchsym.specs.SymbolLookups.{SaysOfModules, listed, notes_with, symbol_note}
 use Rattle.latchsym.specs.declared.fault.Fault.{Fault}
 use Rattle.latchsym.specs.declared.fault.Fault.TheVariants.{Refused, BadLine, Read}
-use Rattle.latchsym.specs.declared.listing_notes.ListingNotes.{ListingNotes}
+use Rattle.listing.specs.declared.listing_notes.ListingNotes.{ListingNotes}
 use Rattle.latchsym.specs.declared.opened_catalogs.GivenTexts.{GivenTexts}
 use Rattle.latchsym.specs.declared.opened_catalogs.ListingReaders.{ListingReaders}
 use Rattle.latchsym.specs.declared.opened_catalogs.OpenedCatalog.{OpenedCatalog}

@@ -10,7 +10,7 @@ use Rattle.latchsym.specs.Faults.{with_notes, with_status, without_notes}
 use Rattle.latchsym.specs.Files.{AreAnnotateFiles, AreListingFiles}
 use Rattle.latchsym.specs.Files.{AreLookupFiles, AreRunFiles, AreSymbolLookupFiles, Held}
 use Rattle.latchsym.specs.Files.{IsOpened}
-use Rattle.latchsym.specs.ListingNotes.{no_notes}
+use Rattle.listing.specs.ListingNotes.{no_notes}
 use Rattle.latchsym.specs.LookupInputs.{known_inputs}
 use Rattle.latchsym.specs.Lookups.{AnswersLookup, failures_between}
 use Rattle.latchsym.specs.OpenedCatalogs.{known_given, listing_failures}
@@ -33,7 +33,7 @@ use Rattle.latchsym.specs.declared.command_line.SymbolLookupJob.{SymbolLookupJob
 use Rattle.latchsym.specs.declared.fault.Fault.{Fault}
 use Rattle.latchsym.specs.declared.fault.Finished.{Finished}
 use Rattle.latchsym.specs.declared.fault.Fault.TheVariants.{Refused}
-use Rattle.latchsym.specs.declared.listing_notes.ListingNotes.{ListingNotes}
+use Rattle.listing.specs.declared.listing_notes.ListingNotes.{ListingNotes}
 use Rattle.latchsym.specs.declared.lookup.LookupReaders.{LookupReaders}
 use Rattle.latchsym.specs.declared.opened_catalogs.ListingReaders.{ListingReaders}
 use Rattle.latchsym.specs.declared.symbol_lookup.SymbolLookupReaders.{SymbolLookupReaders}

@@ -15,8 +15,7 @@ use Rattle.shared_lookup.specs.Servings.{EachHasOutcome, EachIsAnswered, EachIsF
 use Rattle.shared_lookup.specs.declared.served.Served.{Served}
 use Rattle.latchsym.specs.Assignments.{IsAssigned}
 use Rattle.latchsym.specs.CatalogTables.{HasFewRegions}
-use Rattle.latchsym.specs.ListingNotes.{notes_of}
-use Rattle.latchsym.specs.LookupInputs.{catalog_in, region_lines_of_inputs}
+use Rattle.latchsym.specs.LookupInputs.{catalog_in, notes_of, region_lines_of_inputs}
 use Rattle.latchsym.specs.Lookups.{HasTooManyOfOne}
 use Rattle.latchsym.specs.Readings.{AnswersInputs, Failures, failures_in}
 use Rattle.latchsym.specs.RunInputs.{RunInputs}

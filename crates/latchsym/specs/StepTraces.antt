@@ -1,7 +1,9 @@
 -- What is written for a trace whose steps are asked for.
-use Rattle.std.specs.Prelude.{◌≡◌, ℕ, ◌+◌, List, [], ◌∷◌, ◌++◌, Option, Result, Ok}
+use Rattle.std.specs.Prelude.{◌≡◌, ◌⊎◌, ℕ, ◌+◌, ◌<◌, List, [], ◌∷◌, ◌++◌, length, take, Option}
+use Rattle.std.specs.Prelude.{Result, Ok, IfSome}
+use Rattle.std.specs.Io.KnownBytes.{Appends}
 use Rattle.listing.specs.declared.counted.Counted.{Counted}
-use Rattle.listing.specs.Counted.{NoneFailed}
+use Rattle.listing.specs.Counted.{NoneFailed, device_of}
 use Rattle.listing.specs.Trace.{Contents, command_lines, trace_of}
 use Rattle.order_laws.specs.Orders.{Order}
 use Rattle.word_layout.specs.Words.{at}
@@ -55,14 +57,41 @@ pub record IsStepTraceText (read written : List ℕ) : Type 0 where
   pub opens : HeaderMayOpen said.header
   pub runs : IsStepsText (order_by said.header.closed) said (command_lines read) written
 
--- An engine that ran a trace of these contents, and wrote each step as it was done, so that what
--- was written stays where memory runs out in the midst.
+-- What is written of it where memory ran out at a command: the opening, and the steps of the
+-- commands before that.
+pub record IsBegunText (o : Order ℕ) (said : Contents) (lines written : List ℕ) : Type 0 where
+  pub opens : HeaderMayOpen said.header
+  pub place : ℕ
+  pub within : place < length said.commands
+  pub begun : IsStepsText o (record said { commands = take place said.commands }) lines written
+
+-- the bytes that are read and those that are written then
+pub record IsBegunTraceText (read written : List ℕ) : Type 0 where
+  pub said : Contents
+  pub reads : trace_of read ≡ Ok said
+  pub begun : IsBegunText (order_by said.header.closed) said (command_lines read) written
+
+-- memory ran out before the first byte was written, or after a text that such a run writes
+abbrev pub StopsAfter : {W : Type 0} → (List ℕ → Type 0) → (W → Option (List ℕ))
+    → Counted W → Counted W → Type 0
+StopsAfter IsText contents w w' =
+    (w' ≡ w)
+    ⊎ (NoneFailed w w'
+    × ((text : List ℕ) × IsText text
+    × Appends (contents (device_of w)) (contents (device_of w')) text))
+
+-- an engine that ran a trace of these contents, and wrote each step as it was done
 abbrev pub AnswersStepsIn : {W : Type 0} → Order ℕ → (W → Option (List ℕ)) → Contents → List ℕ
     → Counted W → Counted W → Result (Unit {0}) Fault → Type 0
 AnswersStepsIn o contents said lines =
-    AnswersBy (IsStepsText o said lines) NoneFailed contents said.header
+    AnswersBy (IsStepsText o said lines) (StopsAfter (IsBegunText o said lines) contents)
+    contents said.header
 
 -- and also read it
 abbrev pub AnswersSteps : {R W : Type 0} → (R → Option (List ℕ)) → (W → Option (List ℕ))
     → Counted R → Counted R → Counted W → Counted W → Result (Unit {0}) Fault → Type 0
-AnswersSteps remaining contents = AnswersReadBy IsStepTraceText NoneFailed remaining contents
+AnswersSteps remaining contents r =
+    AnswersReadBy IsStepTraceText
+    (StopsAfter (λ text. IfSome (remaining (device_of r)) (λ read. IsBegunTraceText read text))
+    contents)
+    remaining contents r

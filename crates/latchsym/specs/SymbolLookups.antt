@@ -18,7 +18,7 @@ use Rattle.modules.specs.Lines.{bounds_for, usual_bounds_of}
 use Rattle.modules.specs.Listed.{BoundNames, ListedSymbol}
 use Rattle.order_laws.specs.declared.refusals.Refusal.TheVariants as refusal
 use Rattle.latchsym.specs.CatalogTables.{HasFewRegions, HasManyRegions, answer_at}
-use Rattle.latchsym.specs.ListingNotes.{all_notes, is_of_kallsyms}
+use Rattle.listing.specs.ListingNotes.{all_notes, is_of_kallsyms}
 use Rattle.latchsym.specs.LookupInputs.{all_addresses, known_text}
 use Rattle.latchsym.specs.AnswerForms.{counts_by, line_by}
 use Rattle.latchsym.specs.JsonTexts.{json_found_counts}
@@ -27,8 +27,8 @@ use Rattle.latchsym.specs.Readings.{AnswersInputs, Failures, failures_in}
 use Rattle.latchsym.specs.declared.fault.Fault.{Fault}
 use Rattle.latchsym.specs.declared.fault.Fault.TheVariants.{Refused, Write}
 use Rattle.latchsym.specs.declared.forms.AnswerForm.{AnswerForm}
-use Rattle.latchsym.specs.declared.listing_notes.ListingNote.{ListingNote}
-use Rattle.latchsym.specs.declared.listing_notes.ListingNotes.{ListingNotes}
+use Rattle.listing.specs.declared.listing_notes.ListingNote.{ListingNote}
+use Rattle.listing.specs.declared.listing_notes.ListingNotes.{ListingNotes}
 use Rattle.latchsym.specs.declared.symbol_lookup.SymbolListing.{SymbolListing}
 use Rattle.latchsym.specs.declared.symbol_lookup.SymbolLookupInputs.{SymbolLookupInputs}
 use Rattle.latchsym.specs.declared.symbol_lookup.SymbolLookupOptions.{SymbolLookupOptions}

@@ -118,10 +118,22 @@ AnswersReadBy IsText IsRefused remaining contents r r' w w' (Err _) = ⊥
 abbrev pub Stays : {W : Type 0} → Counted W → Counted W → Type 0
 Stays w w' = w' ≡ w
 
--- an engine that ran a trace of these contents, and wrote its notes at the end
-abbrev pub AnswersIn : {W : Type 0} → Order ℕ → (W → Option (List ℕ)) → Contents
+-- What an engine returns that ran a trace of which the lines say this, and wrote its notes at the
+-- end.
+abbrev pub AnswersSaid : {W : Type 0} → (W → Option (List ℕ)) → Result Contents ℕ
     → Counted W → Counted W → Result (Unit {0}) Fault → Type 0
-AnswersIn o contents said = AnswersBy (IsRunText o said) Stays contents said.header
+AnswersSaid contents said w w' (Ok _) =
+    NoneFailed w w' × ((c : Contents) × (said ≡ Ok c) × HeaderMayOpen c.header
+    × ((text : List ℕ) × IsRunText (order_by c.header.closed) c text
+    × Appends (contents (device_of w)) (contents (device_of w')) text))
+AnswersSaid contents said w w' (Err (Refused refusal.OutOfMemory)) = w' ≡ w
+AnswersSaid contents said w w' (Err (Refused refusal.BadCapacity)) =
+    (w' ≡ w) × ((c : Contents) × (said ≡ Ok c) × HeaderMayNotOpen c.header)
+AnswersSaid contents said w w' (Err (BadLine place n)) = (w' ≡ w) × (place ≡ 0) × (said ≡ Err n)
+AnswersSaid contents said w w' (Err Write) =
+    Rose (failures_of w) (failures_of w')
+    × ((c : Contents) × (said ≡ Ok c) × HeaderMayOpen c.header)
+AnswersSaid contents said w w' (Err _) = ⊥
 
 -- and also read it
 abbrev pub AnswersTrace : {R W : Type 0} → (R → Option (List ℕ)) → (W → Option (List ℕ))

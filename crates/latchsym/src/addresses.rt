@@ -10,9 +10,8 @@ ghost use Rattle.latchsym.specs.OpenedCatalogs.{given_in, known_given, listing_f
 use crate::address_texts::put_words;
 use crate::fault::Fault;
 use crate::kept_symbols::{SoughtSymbols, symbols_sought};
-use crate::listing_notes::ListingNotes;
 use crate::opened_catalogs::{GivenTexts, ListingReaders, open_catalog, read_given};
-use listing::Counted;
+use listing::{Counted, ListingNotes};
 use modules::{IndexedCatalog, KernelBounds};
 use std::alloc::Global;
 use std::io;

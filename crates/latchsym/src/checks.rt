@@ -10,22 +10,21 @@ ghost use Rattle.listing.specs.Looks.{are_modules_hidden, are_symbols_hidden};
 ghost use Rattle.latchsym.specs.Checks.{ChecksGiven, ChecksListings, ChecksTexts, IsModulesReport};
 ghost use Rattle.latchsym.specs.Checks.{IsSymbolsReport, listings_report, modules_name};
 ghost use Rattle.latchsym.specs.Checks.{status_of_kept, symbol_listing_report};
-ghost use Rattle.latchsym.specs.ListingNotes.{is_of_kallsyms, is_of_modules};
+ghost use Rattle.listing.specs.ListingNotes.{is_of_kallsyms, is_of_modules};
 ghost use Rattle.latchsym.specs.LookupInputs.{inputs_in};
 ghost use Rattle.latchsym.specs.NoteTexts.{applying_lines};
 ghost use Rattle.latchsym.specs.OpenedCatalogs.{given_in, known_given, listing_failures};
 
 use crate::command_line::ListingFiles;
 use crate::fault::{FAILED, Fault, SUCCEEDED};
-use crate::listing_notes::{ListingNote, applies_to_kallsyms, applies_to_modules};
 use crate::lookup::{
     Listings, LookupInputs, LookupOptions, listings_in, put_counts, region_lines_in,
 };
 use crate::note_texts::put_note_where;
 use crate::opened_catalogs::{GivenTexts, ListingReaders, bounds_or_usual, read_given};
 use crate::symbol_lookup::{SymbolListing, put_found_counts, symbol_listing_in};
-use listing::{AddressRule, Counted};
-use modules::{Catalog, KernelBounds};
+use listing::{AddressRule, Counted, ListingNote, applies_to_kallsyms, applies_to_modules};
+use modules::{Asked, Catalog, KernelBounds};
 use std::alloc::Global;
 use std::io;
 use std::io::{Read, Write};
@@ -93,7 +92,7 @@ fn check_modules<W: Write>(
         regions: region_lines_in(alloc, &texts.regions)?,
         addresses: Vec::new(alloc),
     };
-    let listings = listings_in(alloc, &inputs)?;
+    let listings = listings_in(alloc, &inputs, Asked::Any)?;
     match put_listings(writer, files, &inputs, &listings) {
         Ok(()) => Ok(status_of_kept(listings.built.symbols)),
         Err(_) => Err(Fault::Write),

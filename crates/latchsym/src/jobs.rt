@@ -18,14 +18,13 @@ use crate::command_line::{
     AnnotateJob, CheckJob, Job, ListingFiles, LookupJob, RunJob, SymbolLookupJob,
 };
 use crate::fault::{Fault, Finished, with_notes, with_status, without_notes};
-use crate::listing_notes::ListingNotes;
 use crate::lookup::{LookupReaders, lookup_engine};
 use crate::opened_catalogs::ListingReaders;
 use crate::runs::{RunReaders, run_engine};
 use crate::steps::steps_engine;
 use crate::symbol_lookup::{SymbolLookupReaders, symbol_lookup_engine};
 use crate::trace::trace_engine;
-use listing::Counted;
+use listing::{Counted, ListingNotes};
 use order_laws::Refusal;
 use std::alloc::Global;
 use std::io::{Read, Write};

@@ -13,7 +13,7 @@ use std::io::Write;
 const REPLACEMENT: &[u8] = b"\xef\xbf\xbd";
 
 /// The least number that a reader of JSON may round.
-const FIRST_TO_ROUND: u64 = 1 << 53;
+pub const FIRST_TO_ROUND: u64 = 1 << 53;
 
 /// Writes bytes as a string: each quote, backslash and control character escaped, and U+FFFD for
 /// each byte that is no part of UTF-8.
@@ -67,7 +67,7 @@ fn put_byte<W: Write>(writer: &mut Counted<W>, byte: u8) -> io::Result<()>
 }
 
 /// The hexadecimal digit of a number below 16, in lower case.
-fn digit(n: u8) -> u8
+pub fn digit(n: u8) -> u8
     requires { n < 16 }
     ensures { result ≡ hexadecimal_digit n }
 {

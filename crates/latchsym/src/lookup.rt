@@ -16,16 +16,16 @@ ghost use Rattle.latchsym.specs.Readings.{IsReadAs, failures_in, last_failures};
 use crate::fault::Fault;
 use crate::forms::AnswerForm;
 use crate::json_texts::put_json_counts;
-use crate::listing_notes::{ListingNotes, SymbolFacts, note_of_kallsyms, note_of_modules};
 use crate::lookup_texts::{put_answers, put_module_counts, put_region_counts, put_symbol_counts};
 use crate::table::{AddressAnswer, answers_of};
 use listing::{
-    AddressRule, Counted, ModuleCounts, ReadFault, SymbolCounts, are_modules_hidden,
-    are_symbols_hidden, read_addresses, read_kallsyms, read_modules, read_regions, read_whole,
+    AddressRule, Counted, ListingNotes, ModuleCounts, ReadFault, SymbolCounts, SymbolFacts,
+    are_modules_hidden, are_symbols_hidden, note_of_kallsyms, note_of_modules, read_addresses,
+    read_kallsyms, read_modules, read_regions, read_whole,
 };
-use modules::{BuildCounts, Catalog, KernelBounds, RegionLine};
+use modules::{Asked, BuildCounts, Catalog, KernelBounds, RegionLine};
 use order_laws::Refusal;
-use std::alloc::Global;
+use std::alloc::{AllocError, Global};
 use std::io;
 use std::io::{Read, Write};
 
@@ -238,8 +238,9 @@ fn answer_with<W: Write>(
     requires { All (λ r. region_fits r ≡ true) (region_lines_of_inputs (inputs_in inputs.now)) }
     ensures { AnswersWith W.contents form (inputs_in inputs.now) writer.old writer.new result }
 {
-    let listings = listings_in(alloc, inputs)?;
     let rule = inputs.options.rule;
+    let places = places_of(alloc, rule, &inputs.addresses)?;
+    let listings = listings_in(alloc, inputs, Asked::These(&places))?;
     let answers = answers_of(
         alloc,
         &listings.catalog,
@@ -253,12 +254,22 @@ fn answer_with<W: Write>(
     }
 }
 
-/// Reads the lines of the first two listings, and builds the catalog of all three. Refused where
-/// more than 7 region lines have one name, and when out of memory.
+/// The addresses that are looked up for these, for who builds a catalog.
+fn places_of(alloc: Global, rule: AddressRule, addresses: &[u64]) -> Result<Vec<u64>, AllocError> {
+    addresses
+        .iter()
+        .filter_map(|addr| rule.place_of(*addr))
+        .collect(alloc)
+}
+
+/// Reads the lines of the first two listings, and builds the catalog of all three, for who asks
+/// about these addresses. Refused where more than 7 region lines have one name, and when out of
+/// memory.
 #[tactic(auto, unfolding(crate::specs::LookupInputs::catalog_in, crate::specs::LookupInputs::counts_in))]
 pub(crate) fn listings_in<'a>(
     alloc: Global,
     inputs: &LookupInputs<'_, 'a>,
+    asked: Asked<'_>,
 ) -> Result<Listings<'a>, Refusal>
     requires { All (λ r. region_fits r ≡ true) (region_lines_of_inputs (inputs_in inputs.now)) }
     ensures said { IfOk result (AreListingsOf (inputs_in inputs.now)) }
@@ -270,12 +281,13 @@ pub(crate) fn listings_in<'a>(
     let modules_hidden = are_modules_hidden(module_lines.len(), &skipped_modules);
     let symbols_hidden = are_symbols_hidden(symbol_lines.len(), &skipped_symbols);
     let regions = region_lines_of(inputs);
-    let (catalog, built) = Catalog::build_between(
+    let (catalog, built) = Catalog::build_for(
         alloc,
         &inputs.options.kernel,
         &module_lines,
         regions,
         symbol_lines,
+        asked,
     )?;
     let facts = SymbolFacts {
         hidden: symbols_hidden,

@@ -30,7 +30,7 @@ mod jobs;
 mod json;
 mod json_texts;
 mod kept_symbols;
-mod listing_notes;
+mod line_rooms;
 mod lookup;
 mod lookup_texts;
 mod misuse;

@@ -7,8 +7,7 @@ ghost use Rattle.latchsym.specs.NoteTexts.{missing_text, note_line, note_lines, 
 ghost use Rattle.latchsym.specs.NoteTexts.{notes_text, remedy_text};
 
 use crate::command_line::{Job, ListingFiles};
-use crate::listing_notes::{ListingNote, ListingNotes};
-use listing::{Counted, put};
+use listing::{Counted, ListingNote, ListingNotes, put};
 use modules::KernelBounds;
 use std::io;
 use std::io::Write;

@@ -9,14 +9,13 @@ ghost use Rattle.latchsym.specs.OpenedCatalogs.{OpensCatalog, given_in, known_gi
 ghost use Rattle.latchsym.specs.OpenedCatalogs.{listing_failures};
 
 use crate::fault::Fault;
-use crate::listing_notes::ListingNotes;
 use crate::lookup::{
     KALLSYMS_PLACE, LookupInputs, LookupOptions, MODULES_PLACE, REGIONS_PLACE, listings_in,
     read_at, read_if_given, region_lines_in,
 };
 use crate::symbol_lookup::symbol_listing_in;
-use listing::{AddressRule, Counted};
-use modules::{Catalog, KernelBounds};
+use listing::{AddressRule, Counted, ListingNotes};
+use modules::{Asked, Catalog, KernelBounds};
 use std::alloc::Global;
 use std::io::Read;
 
@@ -106,7 +105,7 @@ fn open_by_modules<'a>(
         regions: region_lines_in(alloc, regions)?,
         addresses: Vec::new(alloc),
     };
-    let listings = listings_in(alloc, &inputs)?;
+    let listings = listings_in(alloc, &inputs, Asked::Any)?;
     Ok(OpenedCatalog {
         catalog: listings.catalog,
         notes: listings.notes,

@@ -22,7 +22,7 @@ use crate::lookup::{
 };
 use crate::run_texts::put_run;
 use listing::{AddressRule, Counted, ModuleName, ScriptLine, read_script};
-use modules::{Catalog, KernelBounds};
+use modules::{Asked, Catalog, KernelBounds};
 use order_laws::Refusal;
 use shared_lookup::{Open, Served, serve};
 use std::alloc::Global;
@@ -132,7 +132,7 @@ fn run_with<T: Threads + Wait + Sync, W: Write>(
         Ok(lines) => lines,
         Err(fault) => return Err(Fault::of_lines(SCRIPT_PLACE, fault)),
     };
-    let listings = listings_in(alloc, inputs)?;
+    let listings = listings_in(alloc, inputs, Asked::Any)?;
     let status = run_lines(rt, alloc, &listings.catalog, lines, readers, writer);
     with_notes(status, listings.notes)
 }

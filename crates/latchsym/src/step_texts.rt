@@ -1,22 +1,25 @@
 //! The lines that the steps of a trace write, an object of JSON each, byte for byte, with no memory
 //! taken.
-ghost use Rattle.std.specs.Prelude.{◌≡◌, ◌==◌, ◌++◌, if◌then◌else◌, flat_map, codes};
+ghost use Rattle.std.specs.Prelude.{◌≡◌, ◌+◌, ◌≤◌, ◌==◌, [], ◌++◌, if◌then◌else◌, codes, flat_map};
+ghost use Rattle.std.specs.Prelude.{length};
 ghost use Rattle.listing.specs.Exact.{Wrote};
 ghost use Rattle.latchsym.specs.Json.{json_number};
-ghost use Rattle.latchsym.specs.StepTexts.{answer_members, begun_members, done_members};
-ghost use Rattle.latchsym.specs.StepTexts.{event_text, json_item, json_list, json_tag};
-ghost use Rattle.latchsym.specs.StepTexts.{load_members};
-ghost use Rattle.latchsym.specs.StepTexts.{loaded_members, opening_text, order_text, read_members};
-ghost use Rattle.latchsym.specs.StepTexts.{reader_members, refused_member, started_members};
-ghost use Rattle.latchsym.specs.StepTexts.{stored_members, update_members, version_number};
-ghost use Rattle.latchsym.specs.StepTexts.{loaded_word, plain_load_members};
-ghost use Rattle.latchsym.specs.StepTexts.{word_members, written_members};
+ghost use Rattle.latchsym.specs.JsonTexts.{json_count};
+ghost use Rattle.latchsym.specs.LineRooms.{IsPutBefore};
+ghost use Rattle.latchsym.specs.StepTexts.{answer_members, begun_members, event_text, json_item};
+ghost use Rattle.latchsym.specs.StepTexts.{json_list, json_tag, load_members, loaded_members};
+ghost use Rattle.latchsym.specs.StepTexts.{loaded_word, opening_text, order_text};
+ghost use Rattle.latchsym.specs.StepTexts.{plain_load_members, read_members, reader_members};
+ghost use Rattle.latchsym.specs.StepTexts.{refused_member, started_members, stored_members};
+ghost use Rattle.latchsym.specs.StepTexts.{update_members, version_number, word_members};
+ghost use Rattle.latchsym.specs.StepTexts.{written_members};
 
 use crate::json::put_json_number;
 use crate::json_texts::put_json_count;
+use crate::line_rooms::{LONGEST_NUMBER, LineRoom, ROOM};
 use latch_core::Update;
 use latch_steps::{Event, NextLoad, Reply, Returned};
-use listing::{Counted, Header, Version, put, put_hexadecimal};
+use listing::{Counted, Header, Version, put};
 use order_laws::{Item, Refusal};
 use std::io;
 use std::io::Write;
@@ -66,7 +69,16 @@ fn order_text(closed: bool) -> &'static [u8]
     }
 }
 
+/// The most bytes of what an event did that has no list.
+const LONGEST_DONE: usize = 290;
+
+/// No event has such a reply.
+const NO_REPLY: &[u8] = b"null";
+
 /// Writes the line of an event that had this reply; of a load there is also what is loaded.
+///
+/// A line is put together from its end, and written by one call; but the lists of an update, which
+/// may be of any length, are written between its start and its end.
 #[tactic(auto, unfolding(crate::specs::StepTexts::event_text))]
 pub fn put_event<W: Write>(
     writer: &mut Counted<W>,
@@ -78,56 +90,100 @@ pub fn put_event<W: Write>(
     ensures { Wrote W.contents writer.old writer.new result
         (event_text place.number place.line load event.now reply.now place.sequence) }
 {
-    put_json_count(writer, b"{\"event\":", place.number)?;
-    put_json_count(writer, b",\"line\":", place.line)?;
-    put(writer, b",\"kind\":")?;
-    put_done(writer, load, event, reply)?;
-    put_json_count(writer, b",\"sequence\":", place.sequence)?;
-    put(writer, b"}\n")
-}
-
-/// Writes what was done, from its kind on.
-fn put_done<W: Write>(
-    writer: &mut Counted<W>,
-    load: Option<NextLoad<u64>>,
-    event: &Event<u64>,
-    reply: &Reply<u64>,
-) -> io::Result<()>
-    ensures { Wrote W.contents writer.old writer.new result
-        (done_members load event.now reply.now) }
-{
+    let mut line = LineRoom::new();
+    put_end(&mut line, place.sequence);
     match event {
-        Event::Begin(update) => put_begun(writer, update, reply),
-        Event::Write => put_written(writer, reply),
-        Event::Start(reader, key) => put_started(writer, *reader, *key, reply),
-        Event::Read(reader) => put_read(writer, *reader, load, reply),
+        Event::Begin(update) => put_begun(writer, place, update, reply, &mut line),
+        Event::Write => {
+            before_written(&mut line, reply);
+            put_behind_start(writer, place, &mut line)
+        }
+        Event::Start(reader, key) => {
+            before_started(&mut line, *reader, *key, reply);
+            put_behind_start(writer, place, &mut line)
+        }
+        Event::Read(reader) => {
+            before_read(&mut line, *reader, load, reply);
+            put_behind_start(writer, place, &mut line)
+        }
     }
 }
 
-/// No event has such a reply.
-const NO_REPLY: &[u8] = b"null";
+/// Puts the end of a line in an empty room.
+#[inline]
+fn put_end(line: &mut LineRoom, sequence: u64)
+    requires { line.old ≡ [] }
+    ensures { IsPutBefore [] line.new 40
+        (json_count (codes ",\"sequence\":") sequence ++ codes "}\n") }
+{
+    line.before(b"}\n");
+    line.before_count(b",\"sequence\":", sequence);
+}
 
-/// Writes what the writer began.
+/// Writes the start of a line, and behind it what stands in the room.
+fn put_behind_start<W: Write>(
+    writer: &mut Counted<W>,
+    place: EventPlace,
+    line: &mut LineRoom,
+) -> io::Result<()>
+    requires { length line.old + 70 ≤ ROOM }
+    ensures { Wrote W.contents writer.old writer.new result
+        (json_count (codes "{\"event\":") place.number ++ json_count (codes ",\"line\":") place.line
+        ++ codes ",\"kind\":" ++ line.old) }
+{
+    line.before(b",\"kind\":");
+    line.before_count(b",\"line\":", place.line);
+    line.before_count(b"{\"event\":", place.number);
+    put(writer, line.line())
+}
+
+/// Writes a line of what the writer began, whose end is in the room.
 fn put_begun<W: Write>(
     writer: &mut Counted<W>,
+    place: EventPlace,
     update: &Update,
     reply: &Reply<u64>,
+    end: &mut LineRoom,
 ) -> io::Result<()>
-    ensures { Wrote W.contents writer.old writer.new result (begun_members update.now reply.now) }
+    requires { length end.old + 110 ≤ ROOM }
+    ensures { Wrote W.contents writer.old writer.new result
+        (json_count (codes "{\"event\":") place.number ++ json_count (codes ",\"line\":") place.line
+        ++ codes ",\"kind\":" ++ begun_members update.now reply.now ++ end.old) }
 {
     match reply {
         Reply::Begun(left) => {
-            put(writer, b"\"begin\"")?;
-            put_update(writer, update)?;
-            put_json_count(writer, b",\"steps\":", *left)
+            end.before_count(b",\"steps\":", *left);
+            put_updating(writer, place, b"\"begin\"", update, end)
         }
         Reply::Refused(why) => {
-            put(writer, b"\"refusal\",\"of\":\"begin\"")?;
-            put_update(writer, update)?;
-            put_refused_member(writer, *why)
+            before_refused(end, *why);
+            put_updating(writer, place, b"\"refusal\",\"of\":\"begin\"", update, end)
         }
-        _ => put(writer, NO_REPLY),
+        _ => {
+            end.before(NO_REPLY);
+            put_behind_start(writer, place, end)
+        }
     }
+}
+
+/// Writes a line of this kind with an update in it, whose end is in the room.
+fn put_updating<W: Write>(
+    writer: &mut Counted<W>,
+    place: EventPlace,
+    kind: &[u8],
+    update: &Update,
+    end: &LineRoom,
+) -> io::Result<()>
+    requires { length kind.now ≤ 30 }
+    ensures { Wrote W.contents writer.old writer.new result
+        (json_count (codes "{\"event\":") place.number ++ json_count (codes ",\"line\":") place.line
+        ++ codes ",\"kind\":" ++ kind.now ++ update_members update.now ++ end.now) }
+{
+    let mut start = LineRoom::new();
+    start.before(kind);
+    put_behind_start(writer, place, &mut start)?;
+    put_update(writer, update)?;
+    put(writer, end.line())
 }
 
 /// Writes what an update erases, and what it inserts.
@@ -211,27 +267,30 @@ fn put_item<W: Write>(writer: &mut Counted<W>, item: Item) -> io::Result<()>
     put(writer, b"}")
 }
 
-/// Writes what the writer stored.
-fn put_written<W: Write>(writer: &mut Counted<W>, reply: &Reply<u64>) -> io::Result<()>
-    ensures { Wrote W.contents writer.old writer.new result (written_members reply.now) }
+/// Puts what the writer stored in front.
+fn before_written(line: &mut LineRoom, reply: &Reply<u64>)
+    requires { length line.old + LONGEST_DONE ≤ ROOM }
+    ensures { IsPutBefore line.old line.new LONGEST_DONE (written_members reply.now) }
 {
     match reply {
-        Reply::Wrote(store) => put_stored(writer, *store),
-        _ => put(writer, NO_REPLY),
+        Reply::Wrote(store) => before_stored(line, *store),
+        _ => line.before(NO_REPLY),
     }
 }
 
 #[tactic(auto, unfolding(crate::specs::StepTexts::stored_members))]
-fn put_stored<W: Write>(writer: &mut Counted<W>, store: Store) -> io::Result<()>
-    ensures { Wrote W.contents writer.old writer.new result (stored_members store) }
+fn before_stored(line: &mut LineRoom, store: Store)
+    requires { length line.old + 80 ≤ ROOM }
+    ensures { IsPutBefore line.old line.new 80 (stored_members store) }
 {
-    put(writer, store_kind(store))?;
-    put_word(writer, store.word, store.value)
+    before_word(line, store.word, store.value);
+    line.before(store_kind(store));
 }
 
 /// A store to word 0 is a flip.
 fn store_kind(store: Store) -> &'static [u8]
-    ensures { result.now ≡ (if store.word == 0 then codes "\"flip\"" else codes "\"store\"") }
+    ensures kind { result.now ≡ (if store.word == 0 then codes "\"flip\"" else codes "\"store\"") }
+    ensures short { length result.now ≤ 10 }
 {
     if store.word == 0 {
         b"\"flip\""
@@ -240,152 +299,141 @@ fn store_kind(store: Store) -> &'static [u8]
     }
 }
 
-/// Writes a word and what it holds.
-fn put_word<W: Write>(writer: &mut Counted<W>, word: usize, value: u64) -> io::Result<()>
-    ensures { Wrote W.contents writer.old writer.new result (word_members word value) }
+/// Puts a word and what it holds in front.
+#[inline]
+fn before_word(line: &mut LineRoom, word: usize, value: u64)
+    requires { length line.old + 70 ≤ ROOM }
+    ensures { IsPutBefore line.old line.new 70 (word_members word value) }
 {
-    put_json_count(writer, b",\"word\":", word as u64)?;
-    put_json_count(writer, b",\"value\":", value)
+    line.before_count(b",\"value\":", value);
+    line.before_count(b",\"word\":", word as u64);
 }
 
-/// Writes what a reader began.
-fn put_started<W: Write>(
-    writer: &mut Counted<W>,
-    reader: u32,
-    key: u64,
-    reply: &Reply<u64>,
-) -> io::Result<()>
-    ensures { Wrote W.contents writer.old writer.new result
-        (started_members reader key reply.now) }
+/// Puts what a reader began in front.
+fn before_started(line: &mut LineRoom, reader: u32, key: u64, reply: &Reply<u64>)
+    requires { length line.old + LONGEST_DONE ≤ ROOM }
+    ensures { IsPutBefore line.old line.new LONGEST_DONE (started_members reader key reply.now) }
 {
     match reply {
         Reply::Started => {
-            put(writer, b"\"start\"")?;
-            put_reader(writer, reader, key)
+            before_reader(line, reader, key);
+            line.before(b"\"start\"");
         }
         Reply::Refused(why) => {
-            put(writer, b"\"refusal\",\"of\":\"start\"")?;
-            put_reader(writer, reader, key)?;
-            put_refused_member(writer, *why)
+            before_refused(line, *why);
+            before_reader(line, reader, key);
+            line.before(b"\"refusal\",\"of\":\"start\"");
         }
-        _ => put(writer, NO_REPLY),
+        _ => line.before(NO_REPLY),
     }
 }
 
-/// Writes a reader, and the key of its lookup.
+/// Puts a reader, and the key of its lookup, in front.
 #[tactic(auto, unfolding(crate::specs::StepTexts::reader_members))]
-fn put_reader<W: Write>(writer: &mut Counted<W>, reader: u32, key: u64) -> io::Result<()>
-    ensures { Wrote W.contents writer.old writer.new result (reader_members reader key) }
+fn before_reader(line: &mut LineRoom, reader: u32, key: u64)
+    requires { length line.old + 70 ≤ ROOM }
+    ensures { IsPutBefore line.old line.new 70 (reader_members reader key) }
 {
-    put_json_count(writer, b",\"reader\":", u64::from(reader))?;
-    put(writer, b",\"address\":\"")?;
-    put_hexadecimal(writer, key)?;
-    put(writer, b"\"")
+    line.before(b"\"");
+    line.before_hexadecimal(key);
+    line.before(b",\"address\":\"");
+    line.before_count(b",\"reader\":", u64::from(reader));
 }
 
-/// Writes what a reader loaded, and what this came to.
-fn put_read<W: Write>(
-    writer: &mut Counted<W>,
-    reader: u32,
-    load: Option<NextLoad<u64>>,
-    reply: &Reply<u64>,
-) -> io::Result<()>
-    ensures { Wrote W.contents writer.old writer.new result (read_members reader load reply.now) }
+/// Puts what a reader loaded, and what this came to, in front.
+fn before_read(line: &mut LineRoom, reader: u32, load: Option<NextLoad<u64>>, reply: &Reply<u64>)
+    requires { length line.old + LONGEST_DONE ≤ ROOM }
+    ensures { IsPutBefore line.old line.new LONGEST_DONE (read_members reader load reply.now) }
 {
     match reply {
-        Reply::Loaded => put_plain_load(writer, reader, load),
+        Reply::Loaded => before_plain_load(line, reader, load),
         Reply::Retried => {
-            put(writer, b"\"retry\"")?;
-            put_load(writer, reader, load)
+            before_load(line, reader, load);
+            line.before(b"\"retry\"");
         }
         Reply::Returned(returned) => {
-            put(writer, b"\"return\"")?;
-            put_load(writer, reader, load)?;
-            put_answer(writer, returned)
+            before_answer(line, returned);
+            before_load(line, reader, load);
+            line.before(b"\"return\"");
         }
         Reply::Refused(why) => {
-            let before = b"\"refusal\",\"of\":\"load\",\"reader\":";
-            put_json_count(writer, before, u64::from(reader))?;
-            put_refused_member(writer, *why)
+            before_refused(line, *why);
+            line.before_count(
+                b"\"refusal\",\"of\":\"load\",\"reader\":",
+                u64::from(reader),
+            );
         }
-        _ => put(writer, NO_REPLY),
+        _ => line.before(NO_REPLY),
     }
 }
 
-/// Writes a load after which its attempt goes on.
-fn put_plain_load<W: Write>(
-    writer: &mut Counted<W>,
-    reader: u32,
-    load: Option<NextLoad<u64>>,
-) -> io::Result<()>
-    ensures { Wrote W.contents writer.old writer.new result (plain_load_members reader load) }
+/// Puts a load after which its attempt goes on in front.
+#[tactic(auto, unfolding(crate::specs::StepTexts::plain_load_members))]
+fn before_plain_load(line: &mut LineRoom, reader: u32, load: Option<NextLoad<u64>>)
+    requires { length line.old + 110 ≤ ROOM }
+    ensures { IsPutBefore line.old line.new 110 (plain_load_members reader load) }
 {
-    let reader = u64::from(reader);
-    put_json_count(writer, b"\"load\",\"reader\":", reader)?;
-    put_loaded_word(writer, load)
+    before_loaded_word(line, load);
+    line.before_count(b"\"load\",\"reader\":", u64::from(reader));
 }
 
-/// Writes what a reader loads, if it may load something.
-fn put_loaded_word<W: Write>(writer: &mut Counted<W>, load: Option<NextLoad<u64>>) -> io::Result<()>
-    ensures { Wrote W.contents writer.old writer.new result (loaded_word load) }
+/// Puts what a reader loads in front, if it may load something.
+fn before_loaded_word(line: &mut LineRoom, load: Option<NextLoad<u64>>)
+    requires { length line.old + 70 ≤ ROOM }
+    ensures { IsPutBefore line.old line.new 70 (loaded_word load) }
 {
-    match load {
-        Some(load) => put_word(writer, load.word, load.value),
-        None => Ok(()),
+    if let Some(load) = load {
+        before_word(line, load.word, load.value);
     }
 }
 
-/// Writes the load of a reader, if it has one.
-fn put_load<W: Write>(
-    writer: &mut Counted<W>,
-    reader: u32,
-    load: Option<NextLoad<u64>>,
-) -> io::Result<()>
-    ensures { Wrote W.contents writer.old writer.new result (loaded_members reader load) }
+/// Puts the load of a reader in front, if it has one.
+fn before_load(line: &mut LineRoom, reader: u32, load: Option<NextLoad<u64>>)
+    requires { length line.old + 210 ≤ ROOM }
+    ensures { IsPutBefore line.old line.new 210 (loaded_members reader load) }
 {
-    match load {
-        Some(load) => put_next_load(writer, reader, load),
-        None => Ok(()),
+    if let Some(load) = load {
+        before_next_load(line, reader, load);
     }
 }
 
 #[tactic(auto, unfolding(crate::specs::StepTexts::load_members))]
-fn put_next_load<W: Write>(
-    writer: &mut Counted<W>,
-    reader: u32,
-    load: NextLoad<u64>,
-) -> io::Result<()>
-    ensures { Wrote W.contents writer.old writer.new result (load_members reader load) }
+fn before_next_load(line: &mut LineRoom, reader: u32, load: NextLoad<u64>)
+    requires { length line.old + 210 ≤ ROOM }
+    ensures { IsPutBefore line.old line.new 210 (load_members reader load) }
 {
-    put_reader(writer, reader, load.key)?;
-    put_word(writer, load.word, load.value)?;
-    put_json_count(writer, b",\"loads\":", load.loads)?;
-    put_json_count(writer, b",\"tries\":", load.attempts)
+    line.before_count(b",\"tries\":", load.attempts);
+    line.before_count(b",\"loads\":", load.loads);
+    before_word(line, load.word, load.value);
+    before_reader(line, reader, load.key);
 }
 
-/// Writes what a lookup found, and of which generation.
+/// Puts what a lookup found, and of which generation, in front.
 #[tactic(auto, unfolding(crate::specs::StepTexts::answer_members))]
-fn put_answer<W: Write>(writer: &mut Counted<W>, returned: &Returned<u64>) -> io::Result<()>
-    ensures { Wrote W.contents writer.old writer.new result (answer_members returned.now) }
+fn before_answer(line: &mut LineRoom, returned: &Returned<u64>)
+    requires { length line.old + 70 ≤ ROOM }
+    ensures { IsPutBefore line.old line.new 70 (answer_members returned.now) }
 {
-    put(writer, b",\"tag\":")?;
-    put_tag(writer, returned.answer)?;
-    put_json_count(writer, b",\"generation\":", returned.generation)
+    line.before_count(b",\"generation\":", returned.generation);
+    before_tag(line, returned.answer);
+    line.before(b",\"tag\":");
 }
 
-fn put_tag<W: Write>(writer: &mut Counted<W>, answer: Option<Item>) -> io::Result<()>
-    ensures { Wrote W.contents writer.old writer.new result (json_tag answer) }
+fn before_tag(line: &mut LineRoom, answer: Option<Item>)
+    requires { length line.old + LONGEST_NUMBER ≤ ROOM }
+    ensures { IsPutBefore line.old line.new LONGEST_NUMBER (json_tag answer) }
 {
     match answer {
-        Some(item) => put_json_number(writer, item.tag),
-        None => put(writer, b"null"),
+        Some(item) => line.before_number(item.tag),
+        None => line.before(b"null"),
     }
 }
 
-/// Writes why something was refused.
+/// Puts why something was refused in front.
 #[tactic(auto, unfolding(crate::specs::StepTexts::refused_member))]
-fn put_refused_member<W: Write>(writer: &mut Counted<W>, why: Refusal) -> io::Result<()>
-    ensures { Wrote W.contents writer.old writer.new result (refused_member why) }
+fn before_refused(line: &mut LineRoom, why: Refusal)
+    requires { length line.old + 40 ≤ ROOM }
+    ensures { IsPutBefore line.old line.new 40 (refused_member why) }
 {
-    put_json_count(writer, b",\"refused\":", u64::from(why.number()))
+    line.before_count(b",\"refused\":", u64::from(why.number()));
 }

@@ -4,15 +4,16 @@
 //! its event as often as it says, and what each event did is written as soon as it is done: nothing
 //! of it is kept. How a command stands for events is in `Expands` of latch_steps, whose `event_of`,
 //! `most_of` and `ends` are the functions of these names here.
-ghost use Rattle.std.specs.Prelude.{◌≡◌, ◌≤◌, IfErr, IfOk, OnOk};
+ghost use Rattle.std.specs.Prelude.{◌≡◌, ◌≤◌, true, false, IfErr, IfOk, OnOk};
 ghost use Rattle.listing.specs.Counted.{NoneFailed};
 ghost use Rattle.listing.specs.Trace.{contents_of};
 ghost use Rattle.word_layout.specs.Words.{at};
 ghost use Rattle.latch_steps.specs.Expands.{event_of};
 ghost use Rattle.latch_steps.specs.Quiet.{is_flip};
 ghost use Rattle.latch_steps.specs.WorldSteps.{is_refused_for_memory};
-ghost use Rattle.latchsym.specs.StepRuns.{EndsCommand, IsLoadBy, IsMostOf, IsTellFault};
-ghost use Rattle.latchsym.specs.StepRuns.{TellsCommand, TellsCommands, TellsEvent};
+ghost use Rattle.latchsym.specs.StepRuns.{EndsCommand, IsLoadBy, IsMostOf, IsTellFault, IsTold};
+ghost use Rattle.latchsym.specs.StepRuns.{IsWriteFault, StopsTelling, TellsCommand};
+ghost use Rattle.latchsym.specs.StepRuns.{TellsCommands, TellsEvent, takes_memory};
 ghost use Rattle.latchsym.specs.StepTraces.{AnswersSteps, AnswersStepsIn};
 
 use crate::fault::Fault;
@@ -74,7 +75,8 @@ fn tell_commands<O: TreeOrder<Key = u64>, W: Write>(
     ensures told { OnOk result (TellsCommands O.order W.contents lines.now commands.now
         world.old world.new writer.old writer.new) }
     ensures none_failed { OnOk result (NoneFailed writer.old writer.new) }
-    ensures fault { IfErr result (IsTellFault writer.old writer.new) }
+    ensures fault { IfErr result (StopsTelling O.order W.contents lines.now commands.now
+        world.old writer.old writer.new) }
 {
     for (place, command) in commands.iter().enumerate() {
         tell_command(world, writer, line_at(lines, place), command)?;
@@ -102,10 +104,39 @@ fn tell_command<O: TreeOrder<Key = u64>, W: Write>(
     ensures fault { IfErr result (IsTellFault writer.old writer.new) }
 {
     let event = event_of(command)?;
-    tell_repeated(world, writer, line, command, &event)
+    match command {
+        Command::Begin(_) | Command::Start(_, _) => {
+            tell_once(world, writer, line, command, &event)
+        }
+        Command::Write(_) | Command::WriteFlip | Command::WriteEnd | Command::Read(_, _) => {
+            tell_repeated(world, writer, line, command, &event)
+        }
+    }
 }
 
-/// The same where the event is at hand.
+/// Does an event that takes memory, which its command does once, and writes what it did.
+fn tell_once<O: TreeOrder<Key = u64>, W: Write>(
+    world: &mut World<O>,
+    writer: &mut Counted<W>,
+    line: u64,
+    command: &Command<u64>,
+    event: &Event<u64>,
+) -> Result<(), Fault>
+    requires same { event.now ≡ event_of command.now }
+    requires memory { takes_memory event.now ≡ true }
+    ensures told { OnOk result (TellsCommand O.order W.contents line command.now
+        world.old world.new writer.old writer.new) }
+    ensures none_failed { OnOk result (NoneFailed writer.old writer.new) }
+    ensures fault { IfErr result (IsTellFault writer.old writer.new) }
+{
+    let reply = world.step_from(event);
+    if is_refused_for_memory(&reply) {
+        return Err(Fault::Refused(Refusal::OutOfMemory));
+    }
+    tell(world, writer, line, None, event, &reply)
+}
+
+/// Does an event that takes no memory as often as its command says, and writes what each time did.
 fn tell_repeated<O: TreeOrder<Key = u64>, W: Write>(
     world: &mut World<O>,
     writer: &mut Counted<W>,
@@ -114,10 +145,11 @@ fn tell_repeated<O: TreeOrder<Key = u64>, W: Write>(
     event: &Event<u64>,
 ) -> Result<(), Fault>
     requires same { event.now ≡ event_of command.now }
+    requires memory { takes_memory event.now ≡ false }
     ensures told { OnOk result (TellsCommand O.order W.contents line command.now
         world.old world.new writer.old writer.new) }
     ensures none_failed { OnOk result (NoneFailed writer.old writer.new) }
-    ensures fault { IfErr result (IsTellFault writer.old writer.new) }
+    ensures fault { IfErr result (IsWriteFault writer.old writer.new) }
 {
     let most = most_of(world, command);
     for _turn in 0..most {
@@ -129,30 +161,46 @@ fn tell_repeated<O: TreeOrder<Key = u64>, W: Write>(
     Ok(())
 }
 
-/// Does one event, and writes what it did.
+/// Does one event that takes no memory, and writes what it did.
 fn tell_event<O: TreeOrder<Key = u64>, W: Write>(
     world: &mut World<O>,
     writer: &mut Counted<W>,
     line: u64,
     event: &Event<u64>,
 ) -> Result<Reply<u64>, Fault>
+    requires memory { takes_memory event.now ≡ false }
     ensures told { IfOk result (TellsEvent O.order W.contents line event.now
         world.old world.new writer.old writer.new) }
     ensures none_failed { OnOk result (NoneFailed writer.old writer.new) }
-    ensures fault { IfErr result (IsTellFault writer.old writer.new) }
+    ensures fault { IfErr result (IsWriteFault writer.old writer.new) }
 {
     let load = load_by(world, event);
     let reply = world.step_from(event);
-    if is_refused_for_memory(&reply) {
-        return Err(Fault::Refused(Refusal::OutOfMemory));
-    }
+    tell(world, writer, line, load, event, &reply)?;
+    Ok(reply)
+}
+
+/// Writes what an event did that led to this world.
+fn tell<O: TreeOrder<Key = u64>, W: Write>(
+    world: &World<O>,
+    writer: &mut Counted<W>,
+    line: u64,
+    load: Option<NextLoad<u64>>,
+    event: &Event<u64>,
+    reply: &Reply<u64>,
+) -> Result<(), Fault>
+    ensures told { OnOk result (IsTold O.order W.contents line load event.now reply.now
+        world.now writer.old writer.new) }
+    ensures none_failed { OnOk result (NoneFailed writer.old writer.new) }
+    ensures fault { IfErr result (IsWriteFault writer.old writer.new) }
+{
     let place = EventPlace {
         number: world.events(),
         line,
         sequence: world.sequence(),
     };
-    put_event(writer, place, load, event, &reply).map_err(|_| Fault::Write)?;
-    Ok(reply)
+    put_event(writer, place, load, event, reply).map_err(|_| Fault::Write)?;
+    Ok(())
 }
 
 /// What an event loads, where it is a load.

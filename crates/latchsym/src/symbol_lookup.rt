@@ -15,11 +15,13 @@ ghost use Rattle.latchsym.specs.SymbolLookups.{symbol_inputs_in, symbol_inputs_o
 use crate::fault::Fault;
 use crate::forms::AnswerForm;
 use crate::json_texts::put_json_found_counts;
-use crate::listing_notes::{ListingNote, ListingNotes, SymbolFacts, note_of_kallsyms};
 use crate::lookup::{KALLSYMS_PLACE, all_addresses, read_at};
 use crate::lookup_texts::{put_answers, put_found_modules, put_symbol_counts};
 use crate::table::{AddressAnswer, answers_of};
-use listing::{AddressRule, Counted, SymbolCounts, are_symbols_hidden, read_kallsyms};
+use listing::{
+    AddressRule, Counted, ListingNote, ListingNotes, SymbolCounts, SymbolFacts, are_symbols_hidden,
+    note_of_kallsyms, read_kallsyms,
+};
 use modules::{Catalog, KeptCounts, KernelBounds};
 use std::alloc::{AllocError, Global};
 use std::io;

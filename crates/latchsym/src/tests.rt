@@ -25,10 +25,9 @@ mod wrong_answers;
 
 use crate::fault::{Fault, Finished};
 use crate::forms::AnswerForm;
-use crate::listing_notes::ListingNotes;
 use crate::lookup::LookupOptions;
 use crate::trace::trace_engine;
-use listing::{AddressRule, Counted};
+use listing::{AddressRule, Counted, ListingNotes};
 use modules::KernelBounds;
 use std::alloc::Global;
 

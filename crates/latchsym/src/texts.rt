@@ -1,14 +1,11 @@
-//! The lines that a trace writes, byte for byte, with no memory taken.
-//!
-//! Lines are gathered in a block of memory that the caller gives, which goes to the writer whenever
-//! the next line might not fit: a call of the writer costs as much as a whole line.
-ghost use Rattle.std.specs.Prelude.{◌≡◌, ◌+◌, ◌≤◌, ◌++◌, [], OnOk, decimal, flat_map, vec_len};
+//! The lines that a trace writes, byte for byte, in room that the caller has made.
+ghost use Rattle.std.specs.Prelude.{◌+◌, ◌≤◌, decimal, vec_len};
 ghost use Rattle.std.specs.Prelude.{vec_capacity};
 ghost use Rattle.listing.specs.Exact.{Wrote};
 ghost use Rattle.order_laws.specs.Refusals.{refusal_number};
 ghost use Rattle.latchsym.specs.Texts.{load_counts_text, end_text, found_text, note_text};
 ghost use Rattle.latchsym.specs.Texts.{refused_text, returned_text, tag_text};
-ghost use Rattle.latchsym.specs.Blocks.{IsGathered, IsAppended};
+ghost use Rattle.latchsym.specs.Blocks.{IsAppended};
 
 use itoa::Buffer;
 use latch_steps::{Note, Returned};
@@ -23,40 +20,8 @@ const LONGEST_DECIMAL: usize = 20;
 /// The most bytes that a line takes.
 pub const LONGEST_LINE: usize = 160;
 
-/// Gathers the line of each note, in order, and writes the block whenever it is full.
-pub fn put_notes<W: Write>(
-    writer: &mut Counted<W>,
-    block: &mut Vec<u8>,
-    notes: &[Note<u64>],
-) -> io::Result<()>
-    requires { LONGEST_LINE ≤ vec_capacity block.old }
-    ensures capacity { LONGEST_LINE ≤ vec_capacity block.new }
-    ensures gathered { IsGathered W.contents writer.old writer.new block.old.items block.new.items
-        result (flat_map note_text notes.now) }
-{
-    for note in notes {
-        make_room(writer, block)?;
-        append_note(block, note);
-    }
-    Ok(())
-}
-
-/// Writes the block where the next line might not fit in it.
-fn make_room<W: Write>(writer: &mut Counted<W>, block: &mut Vec<u8>) -> io::Result<()>
-    requires { LONGEST_LINE ≤ vec_capacity block.old }
-    ensures capacity { LONGEST_LINE ≤ vec_capacity block.new }
-    ensures room { OnOk result (vec_len block.new + LONGEST_LINE ≤ vec_capacity block.new) }
-    ensures gathered { IsGathered W.contents writer.old writer.new block.old.items block.new.items
-        result [] }
-{
-    if block.capacity() - block.len() < LONGEST_LINE {
-        put(writer, block)?;
-        block.clear();
-    }
-    Ok(())
-}
-
-fn append_note(line: &mut Vec<u8>, note: &Note<u64>)
+/// Appends the line of a note.
+pub fn append_note(line: &mut Vec<u8>, note: &Note<u64>)
     requires { vec_len line.old + LONGEST_LINE ≤ vec_capacity line.old }
     ensures { IsAppended line.old line.new LONGEST_LINE (note_text note.now) }
 {

@@ -14,12 +14,16 @@ pub mod SkippingLemmas
 pub mod ModuleLineLemmas
 -- what the digits that are left say of a numeral
 pub mod NumberLemmas
+-- eight digits that are all `f`
+pub mod UpperDigitLemmas
 -- how many words a form has
 pub mod FormLemmas
 -- what is said of the bytes of a text, where these are all that its reader had
 pub mod ReadLemmas
 -- a table of digits
 pub mod DigitLemmas
+-- entries that lines say one after another
+pub mod SaidLemmas
 -- what the entries of lines say of each of them
 pub mod UnderstoodLemmas
 -- what a line of a listing of regions is

@@ -4,6 +4,11 @@ use Rattle.listing.specs.declared.faults.LineFault.{LineFault}
 use Rattle.listing.specs.declared.faults.LineFault.TheVariants as line
 use Rattle.listing.specs.Said.{Gives, GivesInGrammar}
 
+-- what holds of the bytes that were read holds of those that the reader had
+pub of_read : (left : Option (List ℕ)) (bytes : List ℕ) (P : List ℕ → Type 0) → IfSome left (λ l. bytes ≡ l) → P bytes → IfSome left P
+of_read None bytes P read holds = tt
+of_read (Some l) bytes P read holds = subst P read holds
+
 module _ {V C : Type 0} (view : V → C) where
   gives : (r : Result V LineFault) (said : Result C ℕ) → GivesInGrammar view r said → Gives view r said
   gives (Ok v) said is = is

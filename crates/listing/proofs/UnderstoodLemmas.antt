@@ -8,6 +8,7 @@ use Rattle.latch_steps.specs.declared.commands.Command.{Command}
 use Rattle.listing.specs.Commands.{command_by}
 use Rattle.listing.specs.Header.{header_of}
 use Rattle.listing.specs.Said.{entries_after, entries_from, said_by}
+use Rattle.listing.proofs.SaidLemmas.{none_before}
 use Rattle.listing.specs.Trace.{contents_with, trace_of_lines, with_header}
 use Rattle.listing.specs.Understood.{entry_by, AreSaidBy, IsFirstBad, IsFirstBadFrom, IsTraceBy}
 
@@ -40,14 +41,10 @@ module _ {T : Type 0} (form : List ℕ → Option T) where
     with_front front good is (Ok entries) (all, e) = (all_more good all, ap (λ es. front ++ es) e ∙ is)
     with_front front good is (Err number) bad = one_later good number bad
 
-    no_front : (r : Result (List T) ℕ) → entries_after [] r ≡ r
-    no_front (Ok es) = refl
-    no_front (Err number) = refl
-
     one_more : AreEntries (n + 1) lines (entries_from form (n + 1) lines) → (said : Said T) → said_by form line ≡ said → AreEntries n (line ∷ lines) (step said)
     unfolding step entry_is
     one_more later Nothing e =
-        subst (AreEntries n (line ∷ lines)) (no_front (entries_from form (n + 1) lines))
+        subst (AreEntries n (line ∷ lines)) (none_before (entries_from form (n + 1) lines))
         (with_front [] (λ bad. cc) (ap (λ s. cons_option (entry_is s) (filter_map (entry_by form) lines)) (sym e)) (entries_from form (n + 1) lines) later)
     one_more later (One entry) e =
         with_front (entry ∷ []) (λ bad. cc) (ap (λ s. cons_option (entry_is s) (filter_map (entry_by form) lines)) (sym e)) (entries_from form (n + 1) lines) later

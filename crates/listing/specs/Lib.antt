@@ -23,6 +23,8 @@ pub mod Batch
 pub mod Commands
 -- what a trace says
 pub mod Trace
+-- the commands of a trace one after another
+pub mod CommandLines
 -- what a file of addresses says
 pub mod Addresses
 -- lines that are taken, or skipped for a cause

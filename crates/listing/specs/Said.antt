@@ -1,8 +1,9 @@
 -- What the lines of a text say, where each of them has to be understood.
-use Rattle.std.specs.Prelude.{ℕ, ◌+◌, ◌==◌, nat_lt, Bool, true, if◌then◌else◌, List, [], ◌∷◌, ◌++◌}
-use Rattle.std.specs.Prelude.{length, Option, Result, Ok, Err, ◌≡◌}
+use Rattle.std.specs.Prelude.{ℕ, ◌+◌, ◌^◌, ◌<◌, ◌≤◌, ◌==◌, nat_lt, Bool, true, if◌then◌else◌}
+use Rattle.std.specs.Prelude.{List, [], ◌∷◌, ◌++◌, length, Option, Some, None, Result, Ok, Err, ◌≡◌}
 use Rattle.std.specs.Option.{option_map_or}
-use Rattle.listing.specs.Lines.{longest_line}
+use Rattle.listing.specs.Lines.{lines_of, longest_line}
+use Rattle.listing.specs.declared.said.NextEntry.{NextEntry}
 use Rattle.listing.specs.declared.said.Said.{Said}
 use Rattle.listing.specs.declared.said.Said.TheVariants.{Nothing, One, Bad}
 use Rattle.listing.specs.declared.faults.LineFault.{LineFault}
@@ -72,3 +73,23 @@ FaultsInGrammar (line.BadLine n) said = said ≡ Err n
 abbrev pub GivesInGrammar : {V C : Type 0} → (V → C) → Result V LineFault → Result C ℕ → Type 0
 GivesInGrammar view (Ok v) said = said ≡ Ok (view v)
 GivesInGrammar view (Err fault) said = FaultsInGrammar fault said
+
+-- a number can be told of each of these lines
+abbrev pub AreNumbered : ℕ → List ℕ → Type 0
+AreNumbered number text = number + length text < 2 ^ 64
+
+-- the first entry that lines are of which the first has this number, and what those behind it are
+abbrev pub GivesNext : {T : Type 0} → (List ℕ → Option T) → ℕ → List ℕ
+    → Result (Option (NextEntry T)) LineFault → Type 0
+GivesNext form n text (Ok None) = entries_from form n (lines_of text) ≡ Ok []
+GivesNext form n text (Ok (Some next)) =
+    entries_from form n (lines_of text)
+    ≡ entries_after (next.entry ∷ []) (entries_from form next.number (lines_of next.rest.now))
+GivesNext form n text (Err fault) = FaultsInGrammar fault (entries_from form n (lines_of text))
+
+-- behind an entry there are fewer bytes, and no number is too great for them
+abbrev pub LeavesFewer : {T : Type 0} → ℕ → List ℕ → Option (NextEntry T) → Type 0
+LeavesFewer n text None = Unit {0}
+LeavesFewer n text (Some next) =
+    (length next.rest.now < length text)
+    × (next.number + length next.rest.now ≤ n + length text)

@@ -1,9 +1,10 @@
 //! Exact bytes on a counted writer, with no memory taken.
-ghost use Rattle.std.specs.Prelude.{◌≡◌, ◌<◌, drop, false};
+ghost use Rattle.std.specs.Prelude.{◌≡◌, ◌<◌, ◌≤◌, drop, false};
 ghost use Rattle.std.specs.Fmt.{digits, digit_glyph};
 ghost use Rattle.listing.specs.Exact.{Wrote, hexadecimal};
 
 use crate::Counted;
+use crate::gathered::LONGEST_HEXADECIMAL;
 use std::io;
 use std::io::{ErrorKind, Write};
 
@@ -50,21 +51,34 @@ fn put_by_parts<W: Write>(writer: &mut Counted<W>, bytes: &[u8]) -> io::Result<(
 pub fn put_hexadecimal<W: Write>(writer: &mut Counted<W>, n: u64) -> io::Result<()>
     ensures { Wrote W.contents writer.old writer.new result (hexadecimal n) }
 {
-    let mut buffer = [0u8; 16];
-    let start = write_digits(n, &mut buffer);
-    put(writer, b"0x")?;
+    let mut buffer = [0u8; LONGEST_HEXADECIMAL];
+    let start = write_hexadecimal(n, &mut buffer);
     put(writer, &buffer[start..])
 }
 
-/// Writes the hexadecimal digits of a number at the end of the buffer, and returns where they
-/// begin.
-pub(crate) fn write_digits(n: u64, buffer: &mut [u8; 16]) -> usize
+/// Writes `0x` and the hexadecimal digits of a number at the end of the buffer, and returns where
+/// they begin.
+#[tactic(auto, using(crate::proofs::HexadecimalLemmas::prefixed))]
+pub(crate) fn write_hexadecimal(n: u64, buffer: &mut [u8; LONGEST_HEXADECIMAL]) -> usize
     ensures start { result < 16 }
+    ensures written { drop result buffer.new ≡ hexadecimal n }
+{
+    let start = write_digits(n, buffer);
+    buffer[start - 1] = b'x';
+    buffer[start - 2] = b'0';
+    start - 2
+}
+
+/// Writes the hexadecimal digits of a number at the end of the buffer, and returns where they
+/// begin. Room for two more is left before them.
+fn write_digits(n: u64, buffer: &mut [u8; LONGEST_HEXADECIMAL]) -> usize
+    ensures room { 2 ≤ result }
+    ensures start { result < 18 }
     ensures written { drop result buffer.new ≡ digits 16 false n }
 {
-    let mut start = 16usize;
+    let mut start = LONGEST_HEXADECIMAL;
     let mut left = n;
-    while start > 1 && left >= 16 {
+    while start > 3 && left >= 16 {
         start -= 1;
         buffer[start] = digit(left % 16);
         left /= 16;

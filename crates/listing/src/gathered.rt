@@ -4,7 +4,7 @@
 ghost use Rattle.std.specs.Prelude.{◌≡◌, ◌+◌, ◌≤◌, ◌++◌, length, vec_len, vec_capacity};
 ghost use Rattle.listing.specs.Exact.{hexadecimal};
 
-use crate::exact::write_digits;
+use crate::exact::write_hexadecimal;
 
 /// The most bytes that an address takes: `0x` and a digit for every four bits.
 pub const LONGEST_HEXADECIMAL: usize = 18;
@@ -30,8 +30,7 @@ pub fn append_hexadecimal(text: &mut Vec<u8>, n: u64)
     ensures len { vec_len text.new ≤ vec_len text.old + LONGEST_HEXADECIMAL }
     ensures capacity { vec_capacity text.old ≤ vec_capacity text.new }
 {
-    let mut buffer = [0u8; 16];
-    let start = write_digits(n, &mut buffer);
-    append(text, b"0x");
+    let mut buffer = [0u8; LONGEST_HEXADECIMAL];
+    let start = write_hexadecimal(n, &mut buffer);
     append(text, &buffer[start..]);
 }

@@ -13,6 +13,7 @@ mod annotation;
 mod answers;
 mod batch;
 mod causes;
+mod command_lines;
 mod commands;
 mod counted;
 mod exact;
@@ -43,6 +44,7 @@ pub use addresses::read_addresses;
 pub use annotation::{LogFault, annotate};
 pub use answers::{write_answer, write_answer_by};
 pub use causes::{Cause, Counts, each_line_is_counted_once};
+pub use command_lines::{CommandLines, open_trace};
 pub use counted::{BLOCK, Counted};
 pub use exact::{put, put_hexadecimal};
 pub use fail_at::FailAt;
@@ -70,4 +72,4 @@ pub use scripts::{MOST_WRITERS, ModuleName, ScriptLine, read_script};
 pub use symbol_listing::{
     SkippedSymbol, SymbolCounts, cut, cut_tabbed_line, read_kallsyms, symbol_of_line,
 };
-pub use trace::{NumberedTrace, TraceFile, read_numbered_trace, read_trace};
+pub use trace::{NumberedTrace, TraceFile, read_numbered_trace};

@@ -96,12 +96,27 @@ pub(crate) fn sixteen_digits(text: &[u8]) -> Option<u64>
     ensures { result ≡ numeral 16 16 text.now }
 {
     let (high, low) = text.split_at(8);
-    let (high, bits_high) = eight_digits(high);
+    let (high, bits_high) = upper_digits(high);
     let (low, bits_low) = eight_digits(low);
     if bits_high.max(bits_low) >= 16 {
         return None;
     }
     Some(high * 0x1_0000_0000 + low)
+}
+
+/// What the first eight of sixteen digits write, and their bits as `eight_digits` gives them. Those
+/// of an address of the kernel are mostly `f`, which costs one comparison.
+#[inline]
+fn upper_digits(text: &[u8]) -> (u64, u64)
+    requires { length text.now ≡ 8 }
+    ensures value { result.0 ≡ digits_value 16 text.now }
+    ensures digits { nat_lt result.1 16 ≡ list_all (λ c. is_digit c 16) text.now }
+{
+    if text.starts_with(b"ffffffff") {
+        (0xffff_ffff, 0xf)
+    } else {
+        eight_digits(text)
+    }
 }
 
 /// What eight bytes write as hexadecimal digits, and the bits of all of the digits, which are 16 or

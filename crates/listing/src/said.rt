@@ -2,7 +2,7 @@
 ghost use Rattle.std.specs.Prelude.{◌≡◌, length, IfOk};
 ghost use Rattle.listing.specs.Lines.{lines_of};
 ghost use Rattle.listing.specs.Said.{entries_from, is_passed_over, is_too_long, said_by};
-ghost use Rattle.listing.specs.Said.{GivesInGrammar, said_lines};
+ghost use Rattle.listing.specs.Said.{AreNumbered, GivesInGrammar, GivesNext, LeavesFewer, said_lines};
 
 use crate::LineFault;
 use crate::lines::{LONGEST_LINE, cut_line};
@@ -67,6 +67,46 @@ fn said_by<'a, F: Form<'a>>(form: &F, line: &'a [u8]) -> Result<Said<F::Entry>, 
     }
 }
 
+/// An entry of a text, and the lines behind it, of which the first has this number.
+#[derive(Drop)]
+pub(crate) struct NextEntry<'a, T> {
+    pub(crate) entry: T,
+    pub(crate) number: u64,
+    pub(crate) rest: &'a [u8],
+}
+
+/// The first entry that the lines of a text are, if one is. The first line has the number `first`.
+pub(crate) fn next_entry_in<'a, F: Form<'a>>(
+    form: &F,
+    first: u64,
+    text: &'a [u8],
+) -> Result<Option<NextEntry<'a, F::Entry>>, LineFault>
+    requires { AreNumbered first text.now }
+    ensures next { GivesNext (F.entry_of form.now) first text.now result }
+    ensures behind { IfOk result (LeavesFewer first text.now) }
+{
+    let mut rest = text;
+    let mut number = first;
+    while !rest.is_empty() {
+        let (line, after) = cut_line(rest);
+        let said = said_by(form, line)?;
+        match said {
+            Said::Nothing => {}
+            Said::One(entry) => {
+                return Ok(Some(NextEntry {
+                    entry,
+                    number: number + 1,
+                    rest: after,
+                }));
+            }
+            Said::Bad => return Err(LineFault::BadLine(number)),
+        }
+        rest = after;
+        number += 1;
+    }
+    Ok(None)
+}
+
 /// The entries that the lines of a text are, in their order. The first line has the number `first`.
 pub(crate) fn entries_in<'a, F: Form<'a>>(
     alloc: Global,
@@ -80,15 +120,10 @@ pub(crate) fn entries_in<'a, F: Form<'a>>(
     let mut entries = Vec::new(alloc);
     let mut rest = text;
     let mut number = u64::from(first);
-    while !rest.is_empty() {
-        let (line, after) = cut_line(rest);
-        match said_by(form, line)? {
-            Said::Nothing => {}
-            Said::One(entry) => entries.push(entry)?,
-            Said::Bad => return Err(LineFault::BadLine(number)),
-        }
-        rest = after;
-        number += 1;
+    while let Some(next) = next_entry_in(form, number, rest)? {
+        entries.push(next.entry)?;
+        rest = next.rest;
+        number = next.number;
     }
     Ok(entries)
 }

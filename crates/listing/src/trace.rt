@@ -31,7 +31,7 @@ pub struct NumberedTrace {
     pub lines: Vec<u64>,
 }
 
-/// Reads a trace.
+/// Reads a trace, and the numbers of the lines of its commands.
 ///
 /// Line 1 is the header, `latchtrace VERSION ORDER CAPACITY` with START after it or not. Each
 /// later line is empty, a comment that begins with `#`, or one of `insert LO HI TAG`, `erase LO`,
@@ -40,20 +40,6 @@ pub struct NumberedTrace {
 /// blank between two words. No line, also no comment, has more than
 /// [`LONGEST_LINE`](crate::LONGEST_LINE) bytes. Bytes after the last line's end are a line too; a
 /// trace of no bytes has a bad line 1.
-pub fn read_trace<R: Read>(alloc: Global, reader: &mut Counted<R>) -> Result<TraceFile, LineFault>
-    ensures trace { IfSome (R.remaining (device_of reader.old))
-        (λ bytes. Gives contents_of result (trace_of bytes)) }
-    ensures read { IsErrOf result LineFault.Read
-        → Rose (failures_of reader.old) (failures_of reader.new) }
-    ensures none_failed { result ≢ Err LineFault.Read
-        → failures_of reader.new ≡ failures_of reader.old }
-    ensures never_falls { failures_of reader.old ≤ failures_of reader.new }
-{
-    let bytes = read_whole(alloc, reader)?;
-    trace_in(alloc, &bytes)
-}
-
-/// Reads a trace as [`read_trace`] does, and the numbers of the lines of its commands.
 pub fn read_numbered_trace<R: Read>(
     alloc: Global,
     reader: &mut Counted<R>,

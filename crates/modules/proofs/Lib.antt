@@ -10,8 +10,8 @@ pub mod NewNameLemmas
 pub mod AdmissionLemmas
 -- each module has a region of its core
 pub mod StartLemmas
--- a split of a list that is found within a block
-pub mod BlockLemmas
+-- a split of a list by the neighbours of a place
+pub mod BorderLemmas
 -- the order of the index
 pub mod IndexLemmas
 -- symbols that are listed by rising address
@@ -48,6 +48,8 @@ pub mod NumberedItemLemmas
 pub mod LoadedItemLemmas
 -- the symbol below an address and the address above it
 pub mod AroundLemmas
+-- the preferred symbol of a list is the first that no other one wins against
+pub mod PreferredLemmas
 -- what a search of the regions by rising first address finds
 pub mod RegionIndexLemmas
 -- the symbols below and above an address, by their places
@@ -86,3 +88,5 @@ pub mod TakenLemmas
 pub mod SymbolModuleLemmas
 -- the modules of symbols alone lie apart, and have distinct names
 pub mod AloneLemmas
+-- one answer for all addresses that a found symbol reaches to
+pub mod AgainLemmas

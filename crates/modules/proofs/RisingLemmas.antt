@@ -11,7 +11,7 @@ use Rattle.facts.proofs.Numbers.{le_or_past, le_unless_past, least_above}
 use Rattle.facts.proofs.Tests.{find-first, find-none}
 use Rattle.modules.specs.Around.{is_nearest, symbol_below, is_next, address_above}
 use Rattle.modules.specs.Entries.{SymbolEntry}
-use Rattle.modules.specs.Index.{IsRising, IsSplitOf, IsFirstOf, IsFirstAt}
+use Rattle.modules.specs.Index.{IsFirstBorder, IsFirstOf, IsRising, IsSplitOf}
 
 pub IsFirstOf-from_partition : (symbols : List SymbolEntry) (addr split : ℕ) → split ≤ length symbols → IsPartitionPoint (λ s. nat_lt s.addr addr ≡ true) (λ s. nat_lt s.addr addr ≡ false) symbols split → IsFirstOf symbols addr split
 IsFirstOf-from_partition symbols addr split bound point =
@@ -21,25 +21,17 @@ IsFirstOf-from_partition symbols addr split bound point =
       others = λ k d le lt. ltb-false (get_or symbols k d).addr addr (point.1 k d le lt);
     }
 
--- the first symbol is the first of its address
-pub first_is_first : (symbols : List SymbolEntry) → IsRising symbols → 0 < length symbols → IsFirstAt symbols 0 0
-first_is_first symbols rising some d = record {
-  bound = omega arith;
-  below = λ k e lt. absurd (omega arith);
-  others = λ k e le lt. subst (λ (x : SymbolEntry). x.addr ≤ (get_or symbols k e).addr) (get_or_default symbols 0 e d some) (rising 0 k e le lt);
-}
-
--- and so is one that stands above the one before it
-pub above_is_first : (symbols : List SymbolEntry) (place : ℕ) (s t : SymbolEntry) → IsRising symbols → place < length symbols → 0 < place → (get_or symbols (place - 1) s).addr < (get_or symbols place t).addr → IsFirstAt symbols place place
-above_is_first symbols place s t rising within some above d =
-    let its : get_or symbols place t ≡ get_or symbols place d = get_or_default symbols place t d within in
-    let over : (get_or symbols (place - 1) s).addr < (get_or symbols place d).addr = subst (λ (x : SymbolEntry). (get_or symbols (place - 1) s).addr < x.addr) its above in
+-- where symbols rise, the neighbours of a place tell which are below an address
+pub IsFirstOf-from_border : (symbols : List SymbolEntry) (addr place : ℕ) → IsRising symbols
+    → IsFirstBorder (λ s. s.addr) symbols addr place → IsFirstOf symbols addr place
+IsFirstOf-from_border symbols addr place rising border =
+    let bound = border.bound in
     record {
-      bound = omega arith;
-      below = λ k e lt.
-          let under : (get_or symbols k e).addr ≤ (get_or symbols (place - 1) s).addr = subst (λ (x : SymbolEntry). (get_or symbols k e).addr ≤ x.addr) (get_or_default symbols (place - 1) e s (omega arith)) (rising k (place - 1) e (omega arith) (omega arith)) in
-          omega arith;
-      others = λ k e le lt. subst (λ (x : SymbolEntry). x.addr ≤ (get_or symbols k e).addr) (get_or_default symbols place e d within) (rising place k e le lt);
+      bound = bound;
+      below = λ k d lt.
+          omega (arith, rising k (place - 1) d (omega arith) (omega arith), border.below d (omega arith));
+      others = λ k d le lt.
+          omega (arith, rising place k d le lt, border.others d (omega arith));
     }
 
 -- ---- the symbol that is not above an address

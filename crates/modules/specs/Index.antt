@@ -1,6 +1,6 @@
 -- Symbols by rising address.
-use Rattle.std.specs.Prelude.{◌≡◌, ℕ, ◌<◌, ◌≤◌, Bool, ◌&&◌, ◌||◌, nat_lt, nat_eq, List, length}
-use Rattle.std.specs.Prelude.{slice_index_or, map, IsPermutation, Option, Some, None}
+use Rattle.std.specs.Prelude.{◌≡◌, ℕ, ◌-◌, ◌<◌, ◌≤◌, Bool, ◌&&◌, ◌||◌, nat_lt, nat_eq, List, length}
+use Rattle.std.specs.Prelude.{slice_index_or, map, IsPermutation, Option, Some}
 use Rattle.std.specs.Global.{Vec}
 use Rattle.std.specs.List.{enumerate_from}
 use Rattle.std.specs.List.Sorted.{IsSortedBy, IsNonDecreasingBy}
@@ -27,11 +27,11 @@ pub record IsSplitBy {A : Type 0} (measure : A → ℕ) (xs : List A) (addr plac
   pub below : (k : ℕ) (d : A) → k < place → measure (slice_index_or xs k d) ≤ addr
   pub above : (k : ℕ) (d : A) → place ≤ k → k < length xs → addr < measure (slice_index_or xs k d)
 
--- what stands at the first place is by its measure not above the address, and what stands at the
--- second is, if anything does
-pub record IsBetween {A : Type 0} (measure : A → ℕ) (xs : List A) (addr from to : ℕ) : Type 0 where
-  pub below : (d : A) → measure (slice_index_or xs from d) ≤ addr
-  pub above : (d : A) → to < length xs → addr < measure (slice_index_or xs to d)
+-- what stands before the place is by its measure not above the address, and what stands at it is
+pub record IsBorder {A : Type 0} (measure : A → ℕ) (xs : List A) (addr place : ℕ) : Type 0 where
+  pub bound : place ≤ length xs
+  pub below : (d : A) → 0 < place → measure (slice_index_or xs (place - 1) d) ≤ addr
+  pub above : (d : A) → place < length xs → addr < measure (slice_index_or xs place d)
 
 -- the entries below the place are not above the address, and the others are
 abbrev pub IsSplit : List IndexEntry → ℕ → ℕ → Type 0
@@ -52,13 +52,18 @@ pub record IsFirstOf (symbols : List SymbolEntry) (addr place : ℕ) : Type 0 wh
   pub others : (k : ℕ) (d : SymbolEntry) → place ≤ k → k < length symbols
       → addr ≤ (slice_index_or symbols k d).addr
 
+-- what stands before the place is by its measure below the address, and what stands at it is not
+pub record IsFirstBorder {A : Type 0} (measure : A → ℕ) (xs : List A) (addr place : ℕ) : Type 0 where
+  pub bound : place ≤ length xs
+  pub below : (d : A) → 0 < place → measure (slice_index_or xs (place - 1) d) < addr
+  pub others : (d : A) → place < length xs → addr ≤ measure (slice_index_or xs place d)
+
 -- the first of the symbols that have the address of the one at a place
 abbrev pub IsFirstAt : List SymbolEntry → ℕ → ℕ → Type 0
 IsFirstAt symbols place first =
     (d : SymbolEntry) → IsFirstOf symbols (slice_index_or symbols place d).addr first
 
--- the symbols are indexed, or stand by rising address as they are listed
-pub record IsOrdered (symbols : List SymbolEntry)
-    (by_address : Option (Vec IndexEntry)) : Type 0 where
-  pub rising : by_address ≡ None → IsRising symbols
-  pub indexed : (v : Vec IndexEntry) → by_address ≡ Some v → IsIndex symbols v.items
+-- where there is an index, it is that of the symbols
+abbrev pub IsIndexed : List SymbolEntry → Option (Vec IndexEntry) → Type 0
+IsIndexed symbols by_address =
+    (v : Vec IndexEntry) → by_address ≡ Some v → IsIndex symbols v.items

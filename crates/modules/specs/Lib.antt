@@ -23,6 +23,8 @@ pub mod Names
 pub mod Catalogs
 -- the symbols around an address, in a list that is in no order
 pub mod Around
+-- the best symbols of a list
+pub mod Preferred
 -- the symbol that an address belongs to
 pub mod Found
 -- whose an address is, by a listing of symbols alone
@@ -66,3 +68,7 @@ pub mod Sound
 pub mod RegionIndexes
 -- what the catalog with this list keeps
 pub mod IndexedCatalogs
+-- for which addresses the same is found
+pub mod Again
+-- what a finder keeps
+pub mod Finders

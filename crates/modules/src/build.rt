@@ -14,6 +14,7 @@ ghost use Rattle.modules.specs.Placed.{are_few, IsPlaced};
 ghost use Rattle.modules.specs.PlacedModules.{AreSoundModules};
 
 use crate::admission::admit;
+use crate::asked::Asked;
 use crate::catalog::{BuildCounts, Catalog, KeptCounts};
 use crate::from_symbols::modules_of;
 use crate::gathering::gather;
@@ -32,6 +33,7 @@ fn built_in_module<'a>(
     alloc: Global,
     region: Option<Region>,
     symbols: Vec<Symbol<'a>>,
+    asked: Asked<'_>,
 ) -> Result<Option<Module<'a>>, AllocError>
     requires { IfSome region (λ r. r.0 < r.1) }
     ensures { IfOk result (λ m. m ≡ built_in_with region symbols.entry.items) }
@@ -39,7 +41,7 @@ fn built_in_module<'a>(
     match region {
         Some(region) => {
             let placed = Placed::kernel(alloc, region)?;
-            Ok(Some(Module::new(alloc, placed, symbols)?))
+            Ok(Some(Module::new(alloc, placed, symbols, asked)?))
         }
         None => Ok(None),
     }
@@ -50,6 +52,7 @@ fn modules_from<'a>(
     alloc: Global,
     places: Vec<Placed<'a>>,
     lists: Vec<Vec<Symbol<'a>>>,
+    asked: Asked<'_>,
 ) -> Result<Vec<Module<'a>>, AllocError>
     requires placed { All IsPlaced places.items }
     requires same { length lists.items ≡ length places.items }
@@ -59,7 +62,7 @@ fn modules_from<'a>(
     let mut rest = places.into_iter();
     for symbols in lists {
         if let Some(place) = rest.next() {
-            modules.push(Module::new(alloc, place, symbols)?)?;
+            modules.push(Module::new(alloc, place, symbols, asked)?)?;
         }
     }
     Ok(modules)
@@ -77,11 +80,12 @@ fn regions_in(modules: &[Module]) -> usize
     count
 }
 
-/// Puts each symbol where it is kept, and indexes symbols and names.
+/// Puts each symbol where it is kept, and indexes symbols, where it pays, and names.
 fn catalog_with<'a>(
     alloc: Global,
     placed: PlacedModules<'a>,
     symbols: SymbolLines<'a>,
+    asked: Asked<'_>,
 ) -> Result<(Catalog<'a>, KeptCounts), AllocError>
     requires sound { AreSoundModules placed }
     requires few { length (flat_map (λ m. m.regions) placed.modules) < 2 ^ 64 - 1 }
@@ -89,8 +93,8 @@ fn catalog_with<'a>(
     ensures counted { IfOk result (λ r. r.1 ≡ kept_counts placed.entry symbols.entry) }
 {
     let gathered = gather(alloc, &placed, symbols)?;
-    let built_in = built_in_module(alloc, placed.built_in, gathered.built_in)?;
-    let modules = modules_from(alloc, placed.modules, gathered.modules)?;
+    let built_in = built_in_module(alloc, placed.built_in, gathered.built_in, asked)?;
+    let modules = modules_from(alloc, placed.modules, gathered.modules, asked)?;
     let by_name = by_name(alloc, modules.as_slice())?;
     let regions = regions_in(modules.as_slice());
     let counts = KeptCounts {
@@ -133,6 +137,7 @@ pub(crate) fn assemble<'a>(
     modules: &[ModuleLine<'a>],
     regions: &RegionLines<'_, 'a>,
     symbols: SymbolLines<'a>,
+    asked: Asked<'_>,
 ) -> Result<(Catalog<'a>, BuildCounts), AllocError>
     requires fit { All (λ l. fits l ≡ true) modules.now }
     requires regions_fit { All (λ l. region_fits l ≡ true) regions.now }
@@ -145,7 +150,7 @@ pub(crate) fn assemble<'a>(
     let built_in = built_in_region(&symbols, names);
     let admission = admit(alloc, built_in, regions, modules)?;
     let used = used_in(&admission.accepted, regions) as u64;
-    let (catalog, kept) = catalog_with(alloc, admission.accepted, symbols)?;
+    let (catalog, kept) = catalog_with(alloc, admission.accepted, symbols, asked)?;
     let counts = BuildCounts {
         modules: kept.modules,
         double: admission.double,
@@ -182,5 +187,5 @@ pub(crate) fn assemble_symbols<'a>(
     let kernel = kernel_region(&symbols, names);
     let modules = modules_of(alloc, &kernel, &symbols)?;
     let placed = PlacedModules::of(alloc, kernel, modules)?;
-    catalog_with(alloc, placed, symbols)
+    catalog_with(alloc, placed, symbols, Asked::Any)
 }

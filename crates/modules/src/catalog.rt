@@ -13,6 +13,7 @@ ghost use Rattle.modules.specs.Loads.{drop_init_of, GivesOrLacksMemory, GivesSom
 ghost use Rattle.modules.specs.Loads.{unload_of};
 ghost use Rattle.modules.specs.Placed.{are_few};
 
+use crate::asked::Asked;
 use crate::build::{assemble, assemble_symbols};
 use crate::lines::{KernelBounds, ModuleLine, RegionLine};
 use crate::loads::{inserting, is_inserting};
@@ -113,7 +114,14 @@ impl<'a> Catalog<'a> {
         ensures refused { IfErr result (λ e. e ≡ Refusal.OutOfMemory) }
     {
         let regions = RegionLines::new(alloc, &[])?;
-        Ok(assemble(alloc, &KernelBounds::usual(), modules, &regions, symbols)?)
+        Ok(assemble(
+            alloc,
+            &KernelBounds::usual(),
+            modules,
+            &regions,
+            symbols,
+            Asked::Any,
+        )?)
     }
 
     /// Builds the catalog of three listings, in which the kernel itself lies from `_stext` up to
@@ -167,11 +175,33 @@ impl<'a> Catalog<'a> {
         ensures few { IfOk result (λ _. are_few regions.now ≡ true) }
         ensures refused { IfErr result (IsBuildRefusal regions.now) }
     {
+        Catalog::build_for(alloc, names, modules, regions, symbols, Asked::Any)
+    }
+
+    /// The same catalog, for a caller that says which addresses it asks about: a module in which few
+    /// of them lie is built in less time, and each search of it takes more.
+    pub fn build_for(
+        alloc: Global,
+        names: &KernelBounds,
+        modules: &[ModuleLine<'a>],
+        regions: &[RegionLine<'a>],
+        symbols: SymbolLines<'a>,
+        asked: Asked<'_>,
+    ) -> Result<(Catalog<'a>, BuildCounts), Refusal>
+        requires fit { All (λ l. fits l ≡ true) modules.now }
+        requires regions_fit { All (λ l. region_fits l ≡ true) regions.now }
+        ensures built { IfOk result
+            (λ r. r.0 ≡ catalog_of names.now modules.now regions.now symbols.entry) }
+        ensures counted { IfOk result
+            (λ r. r.1 ≡ counts_of names.now modules.now regions.now symbols.entry) }
+        ensures few { IfOk result (λ _. are_few regions.now ≡ true) }
+        ensures refused { IfErr result (IsBuildRefusal regions.now) }
+    {
         let regions = RegionLines::new(alloc, regions)?;
         if !regions.are_few() {
             return Err(Refusal::TooManyRegions);
         }
-        Ok(assemble(alloc, names, modules, &regions, symbols)?)
+        Ok(assemble(alloc, names, modules, &regions, symbols, asked)?)
     }
 
     /// Builds the catalog of a listing of symbols alone.

@@ -3,7 +3,6 @@
 ghost use Rattle.std.specs.Prelude.{◌≡◌, ◌≤◌, ◌<◌};
 ghost use Rattle.modules.specs.Found.{found_in, symbol_at, symbols_from};
 
-use crate::blocks::Block;
 use crate::{Catalog, Module, Symbol};
 use order_laws::Item;
 use std::marker::Model;
@@ -38,14 +37,14 @@ pub fn symbol_in<'c, 'a>(
     requires below { addr < end }
     ensures { result ≡ found_in (symbols_from owner.now.symbols start end) end addr }
 {
-    symbol_around(owner, owner.block_of(addr), start, end, addr)
+    symbol_around(owner, owner.place_of(addr), start, end, addr)
 }
 
-/// The same, sought in a block first.
+/// The same, tried first at a place by rising address.
 #[inline(always)]
 fn symbol_around<'c, 'a>(
     owner: &'c Module<'a>,
-    block: Block,
+    near: usize,
     start: u64,
     end: u64,
     addr: u64,
@@ -54,7 +53,7 @@ fn symbol_around<'c, 'a>(
     requires below { addr < end }
     ensures { result ≡ found_in (symbols_from owner.now.symbols start end) end addr }
 {
-    let (below, above) = owner.around_in(block, addr);
+    let (below, above) = owner.around_near(near, addr);
     let symbol = below?;
     if symbol.addr < start {
         return None;
@@ -85,11 +84,11 @@ pub fn symbol_of<'c, 'a>(
     symbol_in(catalog.module(item.tag)?, item.a, item.b, addr)
 }
 
-/// The same, sought first where the symbol is guessed to stand by rising address.
+/// The same, tried first where the next symbol is guessed to stand by rising address.
 pub(crate) fn symbol_near<'c, 'a>(
     catalog: &'c Catalog<'a>,
     item: Item,
-    place: usize,
+    near: usize,
     addr: u64,
 ) -> Option<FoundSymbol<'c, 'a>>
     requires from { item.a ≤ addr }
@@ -97,5 +96,5 @@ pub(crate) fn symbol_near<'c, 'a>(
     ensures { result ≡ symbol_at catalog.now item addr }
 {
     let owner = catalog.module(item.tag)?;
-    symbol_around(owner, Block::of_one(place), item.a, item.b, addr)
+    symbol_around(owner, near, item.a, item.b, addr)
 }

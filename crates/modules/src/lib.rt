@@ -3,7 +3,8 @@
 #![tactic(auto)]
 
 mod admission;
-mod blocks;
+mod asked;
+mod buckets;
 mod build;
 pub mod catalog;
 mod finder;
@@ -21,11 +22,13 @@ mod module_numbers;
 mod names;
 mod placed_modules;
 mod placing;
+mod presort;
 pub mod region_index;
 mod regions;
 pub mod symbol_lines;
 pub mod symbols;
 
+pub use asked::Asked;
 pub use catalog::{ABSENT_MODULE, BuildCounts, Catalog, Held, KeptCounts};
 pub use finder::Finder;
 pub use found_symbols::{FoundSymbol, symbol_in, symbol_of};

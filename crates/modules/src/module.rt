@@ -4,22 +4,20 @@ ghost use Rattle.std.specs.Prelude.{◌≡◌, [], position, IfOk, Ok};
 ghost use Rattle.std.specs.List.{list_any};
 ghost use Rattle.std.specs.Option.{option_copied};
 ghost use Rattle.modules.specs.Around.{symbol_below, address_above};
-ghost use Rattle.modules.specs.Index.{IsOrdered};
+ghost use Rattle.modules.specs.Index.{IsIndexed};
 ghost use Rattle.modules.specs.Building.{module_with, placed_module_of};
 ghost use Rattle.modules.specs.Loads.{GivesOrLacksMemory, is_erasing, update_of};
 ghost use Rattle.modules.specs.Parts.{is_core, is_init};
 ghost use Rattle.modules.specs.Placed.{IsPlaced};
 ghost use Rattle.modules.specs.Starts.{first_start, start_at, start_where, starts_of};
 
-use crate::blocks::{Block, Blocks};
-use crate::guesses::{Lane, place_from};
+use crate::asked::Asked;
+use crate::buckets::{Buckets, place_near};
 use crate::lines::Part;
 use crate::loads::{erasing, is_erasing};
 use crate::placing::Placed;
 use crate::regions::Region;
-use crate::symbols::{
-    IndexEntry, Symbol, around_as_listed, around_in_index, by_address, is_rising,
-};
+use crate::symbols::{IndexEntry, Symbol, around_in_index, around_in_list, by_address, is_rising};
 use latch_core::Update;
 use order_laws::Refusal;
 use std::alloc::{AllocError, Global};
@@ -38,10 +36,12 @@ pub struct Module<'a> {
     /// The part that each of them is.
     parts: Vec<Part>,
     symbols: Vec<Symbol<'a>>,
-    /// An index of the symbols, where they are not listed by rising address.
+    /// Whether the symbols are known to be listed by rising address.
+    rising: bool,
+    /// An index of the symbols, where they are not and where it pays.
     by_address: Option<Vec<IndexEntry>>,
-    /// The blocks of the index, or else of the symbols.
-    blocks: Blocks,
+    /// The buckets of the index, or else of the symbols.
+    buckets: Buckets,
 }
 
 impl<'a> Model for Module<'a> {
@@ -56,14 +56,18 @@ impl<'a> Model for Module<'a> {
     ghost invariant = { IsWholeModule };
 }
 
-/// An index of the symbols, where they are not listed by rising address.
-fn index_of(alloc: Global, symbols: &[Symbol]) -> Result<Option<Vec<IndexEntry>>, AllocError>
-    ensures { IfOk result (IsOrdered symbols.now) }
+/// An index of the symbols, where one is wanted.
+fn index_of(
+    alloc: Global,
+    symbols: &[Symbol],
+    wanted: bool,
+) -> Result<Option<Vec<IndexEntry>>, AllocError>
+    ensures { IfOk result (IsIndexed symbols.now) }
 {
-    if is_rising(symbols) {
-        Ok(None)
-    } else {
+    if wanted {
         Ok(Some(by_address(alloc, symbols)?))
+    } else {
+        Ok(None)
     }
 }
 
@@ -108,36 +112,44 @@ fn has_init(parts: &[Part]) -> bool
     parts.iter().any(|part| part.is_init())
 }
 
-/// The blocks of the index, or else of the symbols.
-fn blocks_of(
+/// The buckets of the index, or else of the symbols, where they are to be cut into buckets.
+fn buckets_of(
     alloc: Global,
     symbols: &[Symbol],
     index: &Option<Vec<IndexEntry>>,
-) -> Result<Blocks, AllocError> {
+    cut: bool,
+) -> Result<Buckets, AllocError> {
     match index {
-        Some(index) => Blocks::of(alloc, index.as_slice()),
-        None => Blocks::of(alloc, symbols),
+        _ if !cut => Ok(Buckets::none(alloc)),
+        Some(index) => Buckets::of(alloc, index.as_slice()),
+        None => Buckets::of(alloc, symbols),
     }
 }
 
 impl<'a> Module<'a> {
+    /// The module in this place with these symbols, indexed if it pays for what is asked.
     pub(crate) fn new(
         alloc: Global,
         placed: Placed<'a>,
         symbols: Vec<Symbol<'a>>,
+        asked: Asked<'_>,
     ) -> Result<Module<'a>, AllocError>
         requires { IsPlaced placed }
         ensures { IfOk result (λ m. m ≡ module_with placed.entry symbols.entry.items) }
     {
-        let by_address = index_of(alloc, symbols.as_slice())?;
-        let blocks = blocks_of(alloc, symbols.as_slice(), &by_address)?;
+        let rising = is_rising(symbols.as_slice());
+        let wanted = !rising && asked.pays_index(placed.regions.as_slice(), symbols.len());
+        let by_address = index_of(alloc, symbols.as_slice(), wanted)?;
+        let cut = (rising || wanted) && asked.pays_buckets(symbols.len());
+        let buckets = buckets_of(alloc, symbols.as_slice(), &by_address, cut)?;
         Ok(Module {
             name: placed.name,
             regions: placed.regions,
             parts: placed.parts,
             symbols,
+            rising,
             by_address,
-            blocks,
+            buckets,
         })
     }
 
@@ -227,47 +239,58 @@ impl<'a> Module<'a> {
         ensures below { option_copied result.0 ≡ symbol_below self.now.symbols addr }
         ensures above { result.1 ≡ address_above self.now.symbols addr }
     {
-        self.around_in(self.block_of(addr), addr)
+        self.around_near(self.place_of(addr), addr)
     }
 
-    /// The block that the address lies in.
-    pub(crate) fn block_of(&self, addr: u64) -> Block {
-        self.blocks.block_of(addr)
-    }
-
-    /// The same as `around`, sought in a block first.
-    pub(crate) fn around_in(&self, block: Block, addr: u64) -> (Option<&Symbol<'a>>, Option<u64>)
+    /// The same as `around`, tried first at a place by rising address.
+    pub(crate) fn around_near(&self, near: usize, addr: u64) -> (Option<&Symbol<'a>>, Option<u64>)
         ensures below { option_copied result.0 ≡ symbol_below self.now.symbols addr }
         ensures above { result.1 ≡ address_above self.now.symbols addr }
     {
         let symbols = self.symbols.as_slice();
         match &self.by_address {
-            None => around_as_listed(symbols, block, addr),
-            Some(index) => around_in_index(symbols, index.as_slice(), block, addr),
+            None => around_in_list(symbols, self.rising, near, addr),
+            Some(index) => around_in_index(symbols, index.as_slice(), near, addr),
         }
     }
 
-    /// Where by rising address the symbol of an address may stand, sought from a place on.
-    pub(crate) fn place_from(&self, from: usize, addr: u64) -> usize {
-        let blocks = self.blocks.addresses();
+    /// How many symbols by rising address may be not above the address.
+    pub(crate) fn place_of(&self, addr: u64) -> usize {
         match &self.by_address {
-            Some(index) => place_from(index.as_slice(), blocks, from, addr),
-            None => place_from(self.symbols.as_slice(), blocks, from, addr),
+            Some(index) => self.buckets.place_of(index.as_slice(), addr),
+            None => self.buckets.place_of(self.symbols.as_slice(), addr),
         }
     }
 
-    /// What is to be gone through for an address in the region at this place.
-    pub(crate) fn lane(&self, region: usize, addr: u64) -> Lane<'_, 'a> {
-        let index = match &self.by_address {
-            Some(index) => index.as_slice(),
-            None => &[],
+    /// The same, where the symbols below a place are not above the address, and the one that is
+    /// sought is one of the next `N`, or else where it is sought from anew.
+    pub(crate) fn place_from<const N: usize>(&self, from: usize, addr: u64) -> usize {
+        let place = match &self.by_address {
+            Some(index) => place_near::<IndexEntry, N>(index.as_slice(), from, addr),
+            None => place_near::<Symbol<'a>, N>(self.symbols.as_slice(), from, addr),
         };
-        Lane::of(
-            region,
-            addr,
-            self.blocks.addresses(),
-            index,
-            self.symbols.as_slice(),
-        )
+        match place {
+            Some(place) => place,
+            None => self.place_of(addr),
+        }
+    }
+
+    /// From which place on the first symbol above the address is to be sought.
+    pub(crate) fn start_of(&self, addr: u64) -> usize {
+        self.buckets.start_of(addr)
+    }
+
+    /// Whether the symbol of the entry below a place in the index is not above the address. Where
+    /// there is no index it has been looked at.
+    pub(crate) fn is_near(&self, place: usize, addr: u64) -> bool {
+        let Some(index) = &self.by_address else {
+            return true;
+        };
+        let Some(entry) = index.as_slice().get(place.wrapping_sub(1)) else {
+            return true;
+        };
+        self.symbols
+            .get(entry.place)
+            .is_some_and(|symbol| symbol.addr <= addr)
     }
 }

@@ -70,7 +70,7 @@ fn lies_in_rising(regions: &[Region], addr: u64) -> bool
 }
 
 /// Whether the address lies in one of the regions.
-fn lies_in_any(regions: &[Region], addr: u64) -> bool
+pub(crate) fn lies_in_any(regions: &[Region], addr: u64) -> bool
     ensures { result ≡ lies_in_any regions.now addr }
 {
     regions.iter().any(|region| region.holds(addr))

@@ -16,7 +16,9 @@ ghost use Rattle.modules.specs.Loads.{item_of};
 ghost use Rattle.modules.specs.RegionIndexes.{IsItemSplit};
 ghost use Rattle.modules.specs.Items.{item_of_address};
 
+use crate::buckets::{Addressed, Buckets};
 use crate::catalog::Catalog;
+use crate::guesses::Guess;
 use crate::module::Module;
 use crate::regions::Region;
 use order_laws::Item;
@@ -28,6 +30,15 @@ use std::marker::Model;
 pub struct IndexedCatalog<'a> {
     catalog: Catalog<'a>,
     items: Vec<Item>,
+    buckets: Buckets,
+}
+
+impl Addressed for Item {
+    ghost addr_of = { λ i. i.a };
+
+    fn addr(&self) -> u64 {
+        self.a
+    }
 }
 
 impl<'a> Model for IndexedCatalog<'a> {
@@ -87,7 +98,17 @@ fn begins_above(items: &[Item], place: usize, addr: u64) -> bool
     items.get(place).is_none_or(|item| addr < item.a)
 }
 
-/// How many items begin at or below the address. The item at a place is tried first.
+/// How many items begin at or below the address.
+#[cold]
+#[inline(never)]
+fn seek_split(items: &[Item], addr: u64) -> usize
+    requires { IsNonDecreasingBy (λ i. i.a) items.now }
+    ensures { IsItemSplit items.now addr result }
+{
+    items.partition_point(|item| item.a <= addr)
+}
+
+/// The same. The item at a place is tried first.
 fn split_at(items: &[Item], near: usize, addr: u64) -> usize
     requires { IsNonDecreasingBy (λ i. i.a) items.now }
     ensures { IsItemSplit items.now addr result }
@@ -95,7 +116,7 @@ fn split_at(items: &[Item], near: usize, addr: u64) -> usize
     if near < items.len() && items[near].a <= addr && begins_above(items, near + 1, addr) {
         return near + 1;
     }
-    items.partition_point(|item| item.a <= addr)
+    seek_split(items, addr)
 }
 
 impl<'a> IndexedCatalog<'a> {
@@ -106,7 +127,12 @@ impl<'a> IndexedCatalog<'a> {
         catalog.stays_sound();
         let mut items = items_of(alloc, &catalog)?;
         items.sort_unstable_by_key(|item| item.a);
-        Ok(IndexedCatalog { catalog, items })
+        let buckets = Buckets::of(alloc, &items)?;
+        Ok(IndexedCatalog {
+            catalog,
+            items,
+            buckets,
+        })
     }
 
     /// The catalog.
@@ -117,14 +143,11 @@ impl<'a> IndexedCatalog<'a> {
     }
 
     /// The region that an address lies in, with the number of its module as the tag.
-    ///
-    /// The kernel itself mostly lies below all modules, and most addresses are its own: so the
-    /// first region is tried before the others.
     pub fn find(&self, addr: u64) -> Option<Item>
         ensures is { result ≡ item_of_address self.now addr }
         ensures holds { IfSome result (λ i. (i.a ≤ addr) × (addr < i.b)) }
     {
-        self.find_near(0, addr)
+        self.find_near(self.region_of(addr), addr)
     }
 
     /// The same, tried first at a place by rising address.
@@ -140,13 +163,31 @@ impl<'a> IndexedCatalog<'a> {
         if addr < item.b { Some(item) } else { None }
     }
 
-    /// The place of the last region that begins at or below the address, or else 0; and its module,
-    /// if it has one.
-    pub(crate) fn place_near(&self, near: usize, addr: u64) -> (usize, Option<&Module<'a>>) {
-        let place = split_at(&self.items, near, addr).saturating_sub(1);
-        match self.items.get(place) {
-            Some(item) => (place, self.catalog.module(item.tag)),
-            None => (place, None),
+    /// The place of the region that an address may lie in.
+    fn region_of(&self, addr: u64) -> usize {
+        self.buckets.place_of(&self.items, addr).saturating_sub(1)
+    }
+
+    /// The same, tried first at a place.
+    pub(crate) fn region_near(&self, near: usize, addr: u64) -> usize {
+        match self.items.get(near) {
+            Some(item) if item.a <= addr && addr < item.b => near,
+            _ => self.region_of(addr),
         }
+    }
+
+    /// The module of the region at a place, if there is one.
+    pub(crate) fn module_at(&self, region: usize) -> Option<&Module<'a>> {
+        self.catalog.module(self.items.get(region)?.tag)
+    }
+
+    /// Where an address may lie.
+    pub(crate) fn guess(&self, addr: u64) -> Guess {
+        let region = self.region_near(0, addr);
+        let place = match self.module_at(region) {
+            Some(module) => module.place_of(addr),
+            None => 0,
+        };
+        Guess { region, place }
     }
 }

@@ -10,13 +10,19 @@
 //! ```
 //!
 //! So the last entry that is not above an address is that of the symbol to be found.
+//!
+//! To make an index costs as much as to go through the symbols some times. So where few addresses
+//! are asked of a module, it has no index, and its symbols are gone through for each.
 
-ghost use Rattle.std.specs.Prelude.{◌≡◌, ◌<◌, true, IfOk, length, slice_get};
+ghost use Rattle.std.specs.Prelude.{◌≡◌, ◌<◌, true, IfOk, Some, filter, length, nat_le};
+ghost use Rattle.std.specs.Prelude.{nat_lt, slice_get};
 ghost use Rattle.std.specs.Option.{option_copied};
 ghost use Rattle.modules.specs.Around.{symbol_below, address_above};
 ghost use Rattle.modules.specs.Index.{index_entries_of, IsIndex, IsRising, IsFirstOf, IsFirstAt};
+ghost use Rattle.modules.specs.Preferred.{highest_of, is_above, is_below, lowest_of, preferred};
 
-use crate::blocks::{Addressed, Block, address_at, split_at};
+use crate::buckets::{Addressed, address_at, is_first, split_at};
+use crate::presort::presort;
 use std::alloc::{AllocError, Global};
 use std::marker::Model;
 
@@ -80,6 +86,7 @@ pub(crate) fn by_address(alloc: Global, symbols: &[Symbol]) -> Result<Vec<IndexE
     ensures { IfOk result (λ v. IsIndex symbols.now v.items) }
 {
     let mut entries = listed_entries(alloc, symbols)?;
+    presort(alloc, entries.as_mut_slice())?;
     entries.sort_unstable_by(|x, y| x.addr.cmp(&y.addr).then(y.place.cmp(&x.place)));
     Ok(entries)
 }
@@ -95,14 +102,14 @@ fn symbol_at<'s, 'a>(symbols: &'s [Symbol<'a>], place: usize) -> Option<&'s Symb
 pub(crate) fn around_in_index<'s, 'a>(
     symbols: &'s [Symbol<'a>],
     index: &[IndexEntry],
-    block: Block,
+    near: usize,
     addr: u64,
 ) -> (Option<&'s Symbol<'a>>, Option<u64>)
     requires { IsIndex symbols.now index.now }
     ensures below { option_copied result.0 ≡ symbol_below symbols.now addr }
     ensures above { result.1 ≡ address_above symbols.now addr }
 {
-    let split = split_at(index, block, addr);
+    let split = split_at(index, near, addr);
     let above = address_at(index, split);
     if split == 0 {
         return (None, above);
@@ -112,6 +119,8 @@ pub(crate) fn around_in_index<'s, 'a>(
 }
 
 /// How many symbols, of those that stand by rising address, are below the address.
+#[cold]
+#[inline(never)]
 fn listed_below(symbols: &[Symbol], addr: u64) -> usize
     requires { IsRising symbols.now }
     ensures { IsFirstOf symbols.now addr result }
@@ -119,41 +128,141 @@ fn listed_below(symbols: &[Symbol], addr: u64) -> usize
     symbols.partition_point(|symbol| symbol.addr < addr)
 }
 
-/// The place of the first symbol that has the address of the one at a place. Mostly it is that one
-/// itself, and then nothing is sought.
+/// The same. A place is tried first.
+fn first_near(symbols: &[Symbol], near: usize, addr: u64) -> usize
+    requires { IsRising symbols.now }
+    ensures { IsFirstOf symbols.now addr result }
+{
+    if is_first(symbols, near, addr) {
+        near
+    } else {
+        listed_below(symbols, addr)
+    }
+}
+
+/// Over how many symbols of one address `back_from` goes: more of them are passed by halves.
+const MOST_EQUAL: usize = 8;
+
+/// Goes back from a place over symbols that are not below the address.
+fn back_from(symbols: &[Symbol], place: usize, addr: u64) -> usize {
+    let mut first = place;
+    for _ in 0..MOST_EQUAL {
+        match first.checked_sub(1) {
+            Some(before) if symbols.get(before).is_some_and(|s| addr <= s.addr) => first = before,
+            _ => return first,
+        }
+    }
+    first
+}
+
+/// The place of the first symbol that has the address of the one at a place.
 fn first_of_equal(symbols: &[Symbol], place: usize) -> usize
     requires rising { IsRising symbols.now }
     requires within { place < length symbols.now }
     ensures { IsFirstAt symbols.now place result }
 {
-    if place == 0 {
-        return 0;
-    }
     let symbol = &symbols[place];
-    let before = &symbols[place - 1];
-    if before.addr < symbol.addr {
-        return place;
-    }
-    listed_below(symbols, symbol.addr)
+    let near = back_from(symbols, place, symbol.addr);
+    first_near(symbols, near, symbol.addr)
 }
 
 /// The symbols around an address, where they stand by rising address.
-pub(crate) fn around_as_listed<'s, 'a>(
+fn around_as_listed<'s, 'a>(
     symbols: &'s [Symbol<'a>],
-    block: Block,
+    near: usize,
     addr: u64,
 ) -> (Option<&'s Symbol<'a>>, Option<u64>)
     requires { IsRising symbols.now }
     ensures below { option_copied result.0 ≡ symbol_below symbols.now addr }
     ensures above { result.1 ≡ address_above symbols.now addr }
 {
-    let split = split_at(symbols, block, addr);
+    let split = split_at(symbols, near, addr);
     let above = address_at(symbols, split);
     if split == 0 {
         return (None, above);
     }
     let first = first_of_equal(symbols, split - 1);
     (symbol_at(symbols, first), above)
+}
+
+/// The second symbol where it lies above the first, and else the first.
+fn higher<'s, 'a>(first: Option<&'s Symbol<'a>>, second: &'s Symbol<'a>) -> &'s Symbol<'a>
+    ensures { Some result.now ≡ preferred is_above (option_copied first.entry) second.now }
+{
+    match first {
+        Some(first) if second.addr <= first.addr => first,
+        _ => second,
+    }
+}
+
+/// The second symbol where it lies below the first, and else the first.
+fn lower<'s, 'a>(first: Option<&'s Symbol<'a>>, second: &'s Symbol<'a>) -> &'s Symbol<'a>
+    ensures { Some result.now ≡ preferred is_below (option_copied first.entry) second.now }
+{
+    match first {
+        Some(first) if first.addr <= second.addr => first,
+        _ => second,
+    }
+}
+
+/// The highest symbol that is not above an address, of symbols in any order.
+fn highest_up_to<'s, 'a>(symbols: &'s [Symbol<'a>], addr: u64) -> Option<&'s Symbol<'a>>
+    ensures { option_copied result ≡ highest_of (filter (λ s. nat_le s.addr addr) symbols.now) }
+{
+    let mut highest = None;
+    for symbol in symbols {
+        if symbol.addr <= addr {
+            highest = Some(higher(highest, symbol));
+        }
+    }
+    highest
+}
+
+/// The lowest symbol above an address, of symbols in any order.
+fn lowest_above<'s, 'a>(symbols: &'s [Symbol<'a>], addr: u64) -> Option<&'s Symbol<'a>>
+    ensures { option_copied result ≡ lowest_of (filter (λ s. nat_lt addr s.addr) symbols.now) }
+{
+    let mut lowest = None;
+    for symbol in symbols {
+        if addr < symbol.addr {
+            lowest = Some(lower(lowest, symbol));
+        }
+    }
+    lowest
+}
+
+/// The symbols around an address, in any order.
+#[tactic(auto, using(crate::proofs::PreferredLemmas::below_is_highest, crate::proofs::PreferredLemmas::above_is_lowest))]
+fn around_in_any_order<'s, 'a>(
+    symbols: &'s [Symbol<'a>],
+    addr: u64,
+) -> (Option<&'s Symbol<'a>>, Option<u64>)
+    ensures below { option_copied result.0 ≡ symbol_below symbols.now addr }
+    ensures above { result.1 ≡ address_above symbols.now addr }
+{
+    let above = lowest_above(symbols, addr);
+    (
+        highest_up_to(symbols, addr),
+        above.map(|symbol| symbol.addr),
+    )
+}
+
+/// The symbols around an address, which stand by rising address where that is said.
+pub(crate) fn around_in_list<'s, 'a>(
+    symbols: &'s [Symbol<'a>],
+    rising: bool,
+    near: usize,
+    addr: u64,
+) -> (Option<&'s Symbol<'a>>, Option<u64>)
+    requires { rising ≡ true → IsRising symbols.now }
+    ensures below { option_copied result.0 ≡ symbol_below symbols.now addr }
+    ensures above { result.1 ≡ address_above symbols.now addr }
+{
+    if rising {
+        around_as_listed(symbols, near, addr)
+    } else {
+        around_in_any_order(symbols, addr)
+    }
 }
 
 /// Whether the symbols stand by rising address.

@@ -75,10 +75,9 @@ fn fill_black(out: &mut Vec<Store>, copy: TreeCopy, cursor: &mut Cursor, side: S
     !red
 }
 
-/// Mends the node in hand, whose subtree on a side is one black node short. Returns whether the
-/// whole is one black node short then.
-#[inline]
-pub(crate) fn fill(out: &mut Vec<Store>, copy: TreeCopy, cursor: &mut Cursor, side: Side) -> bool
+// As `fill` does; where the side is known, the compiler leaves no choice by it.
+#[inline(always)]
+fn fill_on(out: &mut Vec<Store>, copy: TreeCopy, cursor: &mut Cursor, side: Side) -> bool
     requires steps { length cursor.old.path + 1 < 64 }
     requires list { Fits out.old (fill_links side (copy_number copy) cursor.old.tree) }
     ensures short { result ≡ (filled side cursor.old.tree).short }
@@ -101,4 +100,21 @@ pub(crate) fn fill(out: &mut Vec<Store>, copy: TreeCopy, cursor: &mut Cursor, si
     relink(out, copy, side, top.node, before, cursor.link());
     cursor.close(false);
     false
+}
+
+/// Mends the node in hand, whose subtree on a side is one black node short. Returns whether the
+/// whole is one black node short then.
+#[inline]
+pub(crate) fn fill(out: &mut Vec<Store>, copy: TreeCopy, cursor: &mut Cursor, side: Side) -> bool
+    requires steps { length cursor.old.path + 1 < 64 }
+    requires list { Fits out.old (fill_links side (copy_number copy) cursor.old.tree) }
+    ensures short { result ≡ (filled side cursor.old.tree).short }
+    ensures cursor { cursor.new ≡ holding (filled side cursor.old.tree).tree cursor.old }
+    ensures items { Adds out.old (fill_links side (copy_number copy) cursor.old.tree) out.new }
+    ensures capacity { vec_capacity out.new ≡ vec_capacity out.old }
+{
+    match side {
+        Side::Left => fill_on(out, copy, cursor, Side::Left),
+        Side::Right => fill_on(out, copy, cursor, Side::Right),
+    }
 }

@@ -33,9 +33,9 @@ fn recolour(cursor: &mut Cursor)
     cursor.close(true);
 }
 
-/// Mends the node in hand, whose child on a side may be red with a red child.
+// As `mend` does; where the side is known, the compiler leaves no choice by it.
 #[inline(always)]
-pub(crate) fn mend(out: &mut Vec<Store>, copy: TreeCopy, cursor: &mut Cursor, side: Side)
+fn mend_on(out: &mut Vec<Store>, copy: TreeCopy, cursor: &mut Cursor, side: Side)
     requires steps { length cursor.old.path < 64 }
     requires list { Fits out.old (mend_links side (copy_number copy) cursor.old.tree) }
     ensures cursor { cursor.new ≡ altered (mended side) cursor.old }
@@ -71,5 +71,20 @@ pub(crate) fn mend(out: &mut Vec<Store>, copy: TreeCopy, cursor: &mut Cursor, si
             cursor.close(false);
             turn(out, copy, cursor, other, false, true);
         }
+    }
+}
+
+/// Mends the node in hand, whose child on a side may be red with a red child.
+#[inline]
+pub(crate) fn mend(out: &mut Vec<Store>, copy: TreeCopy, cursor: &mut Cursor, side: Side)
+    requires steps { length cursor.old.path < 64 }
+    requires list { Fits out.old (mend_links side (copy_number copy) cursor.old.tree) }
+    ensures cursor { cursor.new ≡ altered (mended side) cursor.old }
+    ensures items { Adds out.old (mend_links side (copy_number copy) cursor.old.tree) out.new }
+    ensures capacity { vec_capacity out.new ≡ vec_capacity out.old }
+{
+    match side {
+        Side::Left => mend_on(out, copy, cursor, Side::Left),
+        Side::Right => mend_on(out, copy, cursor, Side::Right),
     }
 }

@@ -5,8 +5,7 @@
 -- The short subtree is near, the node y, the other child x. Where x is black with a red child on
 -- the outer side, y is turned to the side of near; a red child on the inner side takes the place of
 -- x first. Where x and its children are black, x becomes red, and the whole is short unless y was
--- red. A red x is turned up first; then y has a black child there. (A star marks a red node; the
--- top keeps the colour of y.)
+-- red. (A star marks a red node; the top keeps the colour of y.)
 --
 --       y              x               y                z               y             y
 --      / \            / \             / \             /   \            / \           / \
@@ -15,6 +14,15 @@
 --       a   b*   near  a               z*  b     near  c d   b          a   b         a   b
 --                                     / \
 --                                    c   d
+--
+-- A red x is turned up first; then y is red, and has a black child there, so that one of the cases
+-- above fills it.
+--
+--       y             x
+--      / \           / \
+--   near  x*  ->   y*   b
+--        / \      / \
+--       a   b  near  a
 use Rattle.std.specs.Prelude.{ℕ, suc, Bool, true, false, not, List, [], ◌++◌}
 use Rattle.std.specs.Prelude.{Option, Some, None, if◌then◌else◌, ◌==◌, nat_lt}
 use Rattle.std.specs.declared.cmp.Ordering.{Ordering}

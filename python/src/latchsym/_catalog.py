@@ -159,15 +159,18 @@ class Answers(Sequence[Answer]):
         )
 
 
-def _symbol(number: int, found: it.Symbol) -> Symbol | None:
-    """What a search has told by its number."""
+def _symbol(number: int, found: it.Symbol, modules: dict[int, str]) -> Symbol | None:
+    """What a search has told by its number. `modules` keeps the names by their modules' numbers."""
     if number == it.NOTHING:
         return None
     if number != it.NO_SYMBOL:
         check(number)
     name = it.text_at(found.name_at, found.name_len) if number == it.DONE else None
-    module = it.text_at(found.module_at, found.module_len)
-    return Symbol(name, found.offset, found.size, module, found.module_number)
+    owner = found.module_number
+    module = modules.get(owner)
+    if module is None:
+        module = modules[owner] = it.text_at(found.module_at, found.module_len)
+    return Symbol(name, found.offset, found.size, module, owner)
 
 
 def _rows(row: ctypes.Structure, count: int) -> bytearray:
@@ -198,6 +201,7 @@ class View:
             _rows(c_uint64(), sizes.symbols),
         )
         regions, symbols, addresses = (c_char.from_buffer(rows) for rows in self._rows)
+        self._modules: dict[int, str] = {}
         self._view = it.View(it.EMPTY_AT, 0)
         check(
             lib.latchsym_catalog_flatten(
@@ -215,12 +219,14 @@ class View:
     def find(self, addr: int) -> Symbol | None:
         """The symbol of an address, or None where nothing is."""
         found = it.no_symbol()
-        return _symbol(lib.latchsym_view_find(self._view, word(addr), found), found)
+        number = lib.latchsym_view_find(self._view, word(addr), found)
+        return _symbol(number, found, self._modules)
 
     def find_caller(self, addr: int) -> Symbol | None:
         """The symbol of a return address, as `Catalog.find_caller` finds it."""
         found = it.no_symbol()
-        return _symbol(lib.latchsym_view_find_caller(self._view, word(addr), found), found)
+        number = lib.latchsym_view_find_caller(self._view, word(addr), found)
+        return _symbol(number, found, self._modules)
 
 
 def _close(handle: it.Handle, listings: Sequence[Pinned]) -> None:
@@ -286,7 +292,7 @@ class Catalog:
         self._lock = threading.RLock()
         self._closing = weakref.finalize(self, _close, handle, listings)
         self._found = it.no_symbol()
-        self._owners: dict[int, str] = {}
+        self._modules: dict[int, str] = {}
         self.counts = counts
 
     @classmethod
@@ -349,18 +355,8 @@ class Catalog:
     def _find(self, call: Callable[..., int], addr: int) -> Symbol | None:
         word(addr)
         with self._lock:
-            found = self._found
-            number = call(self._handle, addr, found)
-            if number == it.NOTHING:
-                return None
-            if number != it.NO_SYMBOL:
-                check(number)
-            name = it.text_at(found.name_at, found.name_len) if number == it.DONE else None
-            owner = found.module_number
-            module = self._owners.get(owner)
-            if module is None:
-                module = self._owners[owner] = it.text_at(found.module_at, found.module_len)
-            return Symbol(name, found.offset, found.size, module, owner)
+            number = call(self._handle, addr, self._found)
+            return _symbol(number, self._found, self._modules)
 
     def find_many(self, addresses: Any, out: Answers | None = None) -> Answers:
         """What is told of many addresses, in numbers alone.

@@ -1,9 +1,8 @@
 //! Names that are looked for in listings in memory, by readers and writers that fail.
 use crate::addresses::address_engine;
 use crate::fault::Fault;
-use crate::listing_notes::{ListingNote, ListingNotes};
 use crate::opened_catalogs::ListingReaders;
-use listing::{Counted, FailAt};
+use listing::{Counted, FailAt, ListingNote, ListingNotes};
 use modules::KernelBounds;
 use std::alloc::Global;
 

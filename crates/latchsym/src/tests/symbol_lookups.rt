@@ -1,9 +1,8 @@
 //! Lookups whose modules come from the listing of symbols alone.
 use crate::fault::Fault;
-use crate::listing_notes::{ListingNote, ListingNotes};
 use crate::symbol_lookup::{SymbolLookupOptions, SymbolLookupReaders, symbol_lookup_engine};
 use crate::tests::AS_TEXT;
-use listing::{AddressRule, Counted, FailAt};
+use listing::{AddressRule, Counted, FailAt, ListingNote, ListingNotes};
 use modules::KernelBounds;
 use std::alloc::Global;
 use std::test::Fail;

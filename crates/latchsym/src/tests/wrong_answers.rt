@@ -5,6 +5,7 @@ use crate::lookup::{LookupInputs, listings_in};
 use crate::runs::tell;
 use crate::tests::usual_options;
 use listing::Counted;
+use modules::Asked;
 use order_laws::Refusal;
 use shared_lookup::{Answer, Served};
 use std::alloc::{AllocError, Global};
@@ -47,7 +48,7 @@ fn told(alloc: Global, served: &Served) -> Result<(Result<u8, Fault>, Vec<u8>), 
         regions: None,
         addresses: Vec::new(alloc),
     };
-    let listings = listings_in(alloc, &inputs)?;
+    let listings = listings_in(alloc, &inputs, Asked::Any)?;
     let mut writer = Counted::new(Vec::new(alloc));
     let answer = tell(&mut writer, &listings.catalog, &[], served);
     Ok((answer, writer.into_inner()))

@@ -1,6 +1,6 @@
 use Rattle.std.proofs.Common.{[], Err, Some, inl, refl, subst, sym}
 use Rattle.latchsym.specs.Faults.{IsNoted}
-use Rattle.latchsym.specs.ListingNotes.{is_some_noted}
+use Rattle.listing.specs.ListingNotes.{is_some_noted}
 use Rattle.latchsym.specs.NoteTexts.{note_lines}
 use Rattle.latchsym.specs.OpenedCatalogs.{IsCatalogOf, OpensCatalog, given_in}
 use Rattle.latchsym.specs.declared.fault.Fault.TheVariants.{Refused}

@@ -1,4 +1,4 @@
-use Rattle.latchsym.specs.ListingNotes.{is_of_modules}
+use Rattle.listing.specs.ListingNotes.{is_of_modules}
 use Rattle.latchsym.proofs.CheckLemmas.{note_more}
 use Rattle.latchsym.proofs.checks.put_module_notes.Goals as goal
 

@@ -1,4 +1,4 @@
-use Rattle.latchsym.specs.ListingNotes.{is_of_kallsyms}
+use Rattle.listing.specs.ListingNotes.{is_of_kallsyms}
 use Rattle.latchsym.proofs.CheckLemmas.{note_more}
 use Rattle.latchsym.proofs.checks.put_symbol_notes.Goals as goal
 

@@ -8,12 +8,12 @@ use Rattle.modules.specs.Entries.{CatalogEntries}
 use Rattle.modules.specs.Listed.{ListedRegion}
 use Rattle.modules.specs.declared.catalog.BuildCounts.{BuildCounts}
 use Rattle.modules.specs.Placed.{are_few}
-use Rattle.latchsym.specs.ListingNotes.{all_notes, is_of_kallsyms, is_of_modules}
+use Rattle.listing.specs.ListingNotes.{all_notes, is_of_kallsyms, is_of_modules}
 use Rattle.latchsym.specs.LookupInputs.{catalog_in, counts_in, inputs_in, region_lines_of_inputs}
-use Rattle.latchsym.specs.declared.listing_notes.ListingNote.{ListingNote}
-use Rattle.latchsym.specs.declared.listing_notes.ListingNotes.{ListingNotes}
+use Rattle.listing.specs.declared.listing_notes.ListingNote.{ListingNote}
+use Rattle.listing.specs.declared.listing_notes.ListingNotes.{ListingNotes}
 use Rattle.modules.specs.Lines.{built_in_region}
-use Rattle.latchsym.proofs.ListingNoteLemmas.{copied_some, kernel_of_listings}
+use Rattle.listing.proofs.ListingNoteLemmas.{copied_some, kernel_of_listings}
 use Rattle.latchsym.proofs.lookup.listings_in.Goals as goal
 
 still_some : (o : Option (Vec ListedRegion)) → is_some o ≡ is_some (option_map (λ lines. lines.items) o)

@@ -1,7 +1,5 @@
-use Rattle.std.proofs.Common.{ℕ, take}
+use Rattle.std.proofs.Common.{take}
 use Rattle.listing.specs.Counted.{NoneFailed}
-use Rattle.latch_steps.specs.Runs.{Moment}
-use Rattle.latch_steps.specs.Worlds.{RepresentsMoment}
 use Rattle.latchsym.specs.StepRuns.{TellsCommands}
 use Rattle.latchsym.proofs.steps.tell_commands.Given as goal
 

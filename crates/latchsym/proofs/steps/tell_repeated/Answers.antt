@@ -1,4 +1,4 @@
-use Rattle.std.proofs.Common.{◌∙◌, refl, sym, subst, arith}
+use Rattle.std.proofs.Common.{◌∙◌, refl, subst, arith}
 use Rattle.latch_steps.specs.Expands.{Repeats}
 use Rattle.latchsym.proofs.StepLemmas.{telling_none, telling_all, telling_more, telling_last}
 use Rattle.latchsym.proofs.steps.tell_repeated.Goals as goal

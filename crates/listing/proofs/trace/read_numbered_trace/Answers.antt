@@ -1,12 +1,8 @@
-use Rattle.std.proofs.Common.{◌≡◌, ◌∙◌, ℕ, List, Option, Ok, None, Some, IfSome, subst, sym, ap}
+use Rattle.std.proofs.Common.{◌≡◌, ◌∙◌, Ok, sym, ap}
 use Rattle.listing.specs.Counted.{device_of}
 use Rattle.listing.specs.Trace.{command_lines, contents_of, trace_of}
+use Rattle.listing.proofs.ReadLemmas.{of_read}
 use Rattle.listing.proofs.trace.read_numbered_trace.Goals as goal
-
--- what holds of the bytes that were read holds of those that the reader had
-of_read : (left : Option (List ℕ)) (bytes : List ℕ) (P : List ℕ → Type 0) → IfSome left (λ l. bytes ≡ l) → P bytes → IfSome left P
-of_read None bytes P read holds = tt
-of_read (Some l) bytes P read holds = subst P read holds
 
 pub returns-clause-trace : goal.returns-clause-trace
 returns-clause-trace g c =

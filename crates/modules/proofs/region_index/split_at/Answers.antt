@@ -1,15 +1,8 @@
-use Rattle.std.proofs.Common.{◌≡◌, ℕ, ◌<◌, ◌≤◌, ◌+◌, ◌-◌, length, get_or, subst, arith, nat_le, rules}
+use Rattle.std.proofs.Common.{◌≡◌, ℕ, ◌<◌, ◌≤◌, ◌+◌, ◌-◌, length, get_or, subst, arith}
 use Rattle.std.proofs.lemmas.List.{get_or_default}
-use Rattle.std.proofs.lemmas.List.Sorted.{IsPartitionPoint-from_clause, IsPartitionedBy-leb}
 use Rattle.order_laws.specs.declared.items.Item.{Item}
-use Rattle.modules.proofs.IndexLemmas.{IsSplitBy-from_partition}
 use Rattle.modules.proofs.RegionIndexLemmas.{IsSplit-between}
 use Rattle.modules.proofs.region_index.split_at.Goals as goal
-
-pub returns : goal.returns
-returns c =
-    IsSplitBy-from_partition (λ (i : Item). i.a) c.args.items.now c.args.addr c.partition_point.result c.partition_point.ensures.bound
-    (IsPartitionPoint-from_clause (λ (i : Item). nat_le i.a c.args.addr) c.args.items.now c.partition_point.result c.partition_point.ensures.partitioned (IsPartitionedBy-leb (λ (i : Item). i.a) c.args.items.now c.args.addr c.requires) (λ a r q k. search rules))
 
 pub returns-then-begins_above : goal.returns-then-begins_above
 returns-then-begins_above c =

@@ -1,8 +1,0 @@
-use Rattle.std.proofs.Common.{◌≡◌, Some, false, take}
-use Rattle.std.specs.List.{list_any}
-use Rattle.latchsym.specs.ListingNotes.{has_symbols}
-use Rattle.latchsym.proofs.listing_notes.lacks_symbols.Given as goal
-
--- the modules gone through have no symbols
-abbrev pub invariant-loop-place : goal.invariant-loop-place
-invariant-loop-place l = list_any (λ m. has_symbols (Some m)) (take l.place l.catalog.modules) ≡ false

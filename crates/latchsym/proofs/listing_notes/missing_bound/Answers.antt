@@ -1,8 +1,0 @@
-use Rattle.std.proofs.Common.{sym, ◌∙◌}
-use Rattle.listing.specs.Lines.{lines_of}
-use Rattle.listing.specs.SymbolListing.{symbols_in}
-use Rattle.latchsym.proofs.ListingNoteLemmas.{nothing_lacked}
-use Rattle.latchsym.proofs.listing_notes.missing_bound.Goals as goal
-
-pub returns-then-has_kernel : goal.returns-then-has_kernel
-returns-then-has_kernel c = nothing_lacked c.args.names.now (symbols_in (lines_of c.args.text.now)) (sym c.requires ∙ c.if-has_kernel.true)

@@ -1,0 +1,85 @@
+-- One answer for all addresses that a found symbol reaches to.
+use Rattle.std.proofs.Common.{◌≡◌, ℕ, ◌+◌, ◌-◌, ◌<◌, ◌≤◌, ◌⊎◌, inl, inr, ⊎_elim, ◌&&◌, ◌||◌, nat_lt, nat_le, List, get_or, Option, None, Some, refl, sym, ap, subst, ◌∙◌, arith}
+use Rattle.std.specs.Prelude.{All, MatchOption}
+use Rattle.std.specs.List.{list_all}
+use Rattle.std.specs.Option.{option_and_then, option_map}
+use Rattle.std.proofs.lemmas.Bool.{le-leb, le-ltb, lt-leb, lt-ltb}
+use Rattle.facts.proofs.Tests.{find-agree, list_all-agree}
+use Rattle.order_laws.specs.declared.items.Item.{Item}
+use Rattle.order_laws.specs.Orders.{half_open}
+use Rattle.order_laws.specs.Tables.{IsLook}
+use Rattle.order_laws.proofs.TableLemmas.{look_is}
+use Rattle.modules.proofs.ApartItemLemmas.{some_found}
+use Rattle.modules.proofs.FindLemmas.{found_by_place}
+use Rattle.modules.proofs.NearestLemmas.{found}
+use Rattle.modules.specs.Around.{is_nearest, symbol_below}
+use Rattle.modules.specs.Catalogs.{IsSoundCatalog, module_of}
+use Rattle.modules.specs.Entries.{CatalogEntries, ModuleEntry, SymbolEntry}
+use Rattle.modules.specs.Found.{Found, IsFound, ReachesUpTo, found_in, symbol_at, symbol_found_at, symbols_from}
+use Rattle.modules.specs.Items.{items_of, item_of_address}
+
+le_same : (low x y a : ℕ) → low ≤ x → low ≤ y → (a ≤ low) ⊎ (x < a) → (a ≤ low) ⊎ (y < a) → nat_le a x ≡ nat_le a y
+le_same low x y a to_x to_y (inl le) other = le-leb a x (omega arith) ∙ sym (le-leb a y (omega arith))
+le_same low x y a to_x to_y (inr over) (inl le) = absurd (omega arith)
+le_same low x y a to_x to_y (inr over) (inr past) = lt-leb a x over ∙ sym (lt-leb a y past)
+
+lt_same : (low x y a : ℕ) → low ≤ x → low ≤ y → (a ≤ low) ⊎ (x < a) → (a ≤ low) ⊎ (y < a) → nat_lt x a ≡ nat_lt y a
+lt_same low x y a to_x to_y (inl le) other = le-ltb x a (omega arith) ∙ sym (le-ltb y a (omega arith))
+lt_same low x y a to_x to_y (inr over) (inl le) = absurd (omega arith)
+lt_same low x y a to_x to_y (inr over) (inr past) = lt-ltb x a over ∙ sym (lt-ltb y a past)
+
+-- two addresses with no symbol between them and one below have one nearest symbol
+same_nearest : (symbols : List SymbolEntry) (low x y : ℕ) → low ≤ x → low ≤ y
+    → All (λ t. (t.addr ≤ low) ⊎ (x < t.addr)) symbols → All (λ t. (t.addr ≤ low) ⊎ (y < t.addr)) symbols
+    → symbol_below symbols x ≡ symbol_below symbols y
+same_nearest symbols low x y to_x to_y beside_x beside_y =
+    find-agree (is_nearest symbols x) (is_nearest symbols y) symbols (λ k d lt.
+    let t = get_or symbols k d in
+    ap (λ b. b && list_all (λ (u : SymbolEntry). nat_le u.addr t.addr || nat_lt x u.addr) symbols) (le_same low x y t.addr to_x to_y (beside_x k d lt) (beside_y k d lt))
+    ∙ ap (λ b. nat_le t.addr y && b) (list_all-agree (λ (u : SymbolEntry). nat_le u.addr t.addr || nat_lt x u.addr) (λ (u : SymbolEntry). nat_le u.addr t.addr || nat_lt y u.addr) symbols (λ i e l.
+    ap (λ b. nat_le (get_or symbols i e).addr t.addr || b) (lt_same low x y (get_or symbols i e).addr to_x to_y (beside_x i e l) (beside_y i e l)))))
+
+-- no symbol lies above the found one and not above an address that it reaches to
+reaches_over : (symbols : List SymbolEntry) (end : ℕ) (s : SymbolEntry) (size x : ℕ) → x < s.addr + size
+    → ReachesUpTo symbols end s size → All (λ t. (t.addr ≤ s.addr) ⊎ (x < t.addr)) symbols
+reaches_over symbols end s size x below (inl last) = λ k d lt. inl (last.0 k d lt)
+reaches_over symbols end s size x below (inr next) = λ k d lt.
+    let past : s.addr < next.0.addr = next.2 in
+    let reach : size ≡ next.0.addr - s.addr = next.4 in
+    ⊎_elim (λ le. inl le) (λ ge. inr (omega arith)) (next.3 k d lt)
+
+module _ (symbols : List SymbolEntry) (end addr x : ℕ) (f : Found) (from : f.symbol.addr ≤ x) (below : x < f.symbol.addr + f.size) where
+  is_found : found_in symbols end addr ≡ Some f → IsFound symbols end addr f
+  is_found is = subst (λ o. MatchOption o (All (λ (s : SymbolEntry). addr < s.addr) symbols) (IsFound symbols end addr)) is (found_by_place symbols end addr)
+
+  by_symbol : (o : Option SymbolEntry) → symbol_below symbols addr ≡ o → option_map (symbol_found_at symbols end addr) o ≡ Some f
+      → symbol_below symbols x ≡ symbol_below symbols addr → found_in symbols end x ≡ Some (found f.symbol (x - f.symbol.addr) f.size)
+  by_symbol None at is same = absurd (cc)
+  by_symbol (Some s) at is same =
+      let e : symbol_found_at symbols end addr s ≡ f = cc in
+      ap (option_map (symbol_found_at symbols end x)) (same ∙ at)
+      ∙ ap (λ (g : Found). Some (found g.symbol (x - g.symbol.addr) g.size)) e
+
+  -- the same symbol is found for each address that it reaches to
+  pub found_again : found_in symbols end addr ≡ Some f → found_in symbols end x ≡ Some (found f.symbol (x - f.symbol.addr) f.size)
+  found_again is =
+      let f_is = is_found is in
+      by_symbol (symbol_below symbols addr) refl is
+      (same_nearest symbols f.symbol.addr x addr from f_is.below (reaches_over symbols end f.symbol f.size x below f_is.reaches) f_is.nearest)
+
+module _ (c : CatalogEntries) (item : Item) (addr x : ℕ) where
+  module _ (f : Found) (from : f.symbol.addr ≤ x) (below : x < f.symbol.addr + f.size) where
+    in_module : (o : Option ModuleEntry)
+        → option_and_then (λ (m : ModuleEntry). found_in (symbols_from m.symbols item.a item.b) item.b addr) o ≡ Some f
+        → option_and_then (λ (m : ModuleEntry). found_in (symbols_from m.symbols item.a item.b) item.b x) o ≡ Some (found f.symbol (x - f.symbol.addr) f.size)
+    in_module None is = absurd (cc)
+    in_module (Some m) is = found_again (symbols_from m.symbols item.a item.b) item.b addr x f from below is
+
+    pub symbol_again : symbol_at c item addr ≡ Some f → symbol_at c item x ≡ Some (found f.symbol (x - f.symbol.addr) f.size)
+    symbol_again is = in_module (module_of c item.tag) is
+
+  -- another address of the item lies in it alone
+  pub item_again : IsSoundCatalog c → item_of_address c addr ≡ Some item → item.a ≤ x → x < item.b → item_of_address c x ≡ Some item
+  item_again sound is from below =
+      let there = subst (IsLook half_open addr (items_of c)) is (look_is half_open addr (items_of c)) in
+      sym (some_found c sound x item (item_of_address c x) there.0 from below (look_is half_open x (items_of c)))

@@ -1,0 +1,135 @@
+-- The preferred symbol of a list is the first that no other one wins against.
+use Rattle.std.proofs.Common.{◌≡◌, ℕ, ◌<◌, ◌≤◌, Bool, true, false, ◌&&◌, ◌||◌, not, nat_lt, nat_le, cond, List, [], ◌∷◌, get_or, Some, None, refl, sym, ap, ◌∙◌, ⊎_elim, arith}
+use Rattle.std.specs.Prelude.{find, filter, fold}
+use Rattle.std.specs.Cmp.{first_so, second_so}
+use Rattle.std.specs.List.{list_all, list_any}
+use Rattle.std.specs.Option.{option_map}
+use Rattle.std.proofs.lemmas.Bool.{cases_lt, lt-ltb, le-ltb, lt-leb, le-leb, ltb-true, ltb-false}
+use Rattle.facts.proofs.Tests.{find-agree, find-filter, list_all-agree, list_all-filter}
+use Rattle.modules.specs.Around.{address_above, is_nearest, is_next, symbol_below}
+use Rattle.modules.specs.Entries.{SymbolEntry}
+use Rattle.modules.specs.Preferred.{preferred, is_above, is_below, highest_of, lowest_of}
+
+-- no symbol of the list wins against it
+abbrev pub is_unbeaten : (SymbolEntry → SymbolEntry → Bool) → List SymbolEntry → SymbolEntry → Bool
+is_unbeaten wins symbols s = list_all (λ t. not (wins t s)) symbols
+
+-- the better one of two symbols is beaten by fewer
+record IsOrder (wins : SymbolEntry → SymbolEntry → Bool) : Type 0 where
+  pub irreflexive : (s : SymbolEntry) → wins s s ≡ false
+  pub over : (t x a : SymbolEntry) → wins x a ≡ false → wins t a ≡ true → wins t x ≡ true
+  pub between : (t x u : SymbolEntry) → wins t x ≡ true → wins t u ≡ false → wins x u ≡ false
+
+none_wins : (wins : SymbolEntry → SymbolEntry → Bool) (x : SymbolEntry) (xs : List SymbolEntry) → is_unbeaten wins xs x ≡ not (list_any (λ t. wins t x) xs)
+none_wins wins x [] = refl
+none_wins wins x (t ∷ ts) = elim (wins t x) as (λ b. (not b && is_unbeaten wins ts x) ≡ not (b || list_any (λ u. wins u x) ts)) [ true ↦ refl | false ↦ none_wins wins x ts ]
+
+not_true : (b : Bool) → not b ≡ true → b ≡ false
+not_true true h = absurd (cc)
+not_true false h = refl
+
+between_any : (wins : SymbolEntry → SymbolEntry → Bool) → IsOrder wins → (x u : SymbolEntry) (xs : List SymbolEntry) → list_any (λ t. wins t x) xs ≡ true → is_unbeaten wins xs u ≡ true → wins x u ≡ false
+between_any wins order x u [] some best = absurd (cc)
+between_any wins order x u (t ∷ ts) some best =
+    let here : wins t u ≡ false = not_true (wins t u) (first_so (not (wins t u)) (is_unbeaten wins ts u) best) in
+    let rest : is_unbeaten wins ts u ≡ true = second_so (not (wins t u)) (is_unbeaten wins ts u) best in
+    elim (wins t x) as (λ b. wins t x ≡ b → (b || list_any (λ s. wins s x) ts) ≡ true → wins x u ≡ false) [
+      | true ↦ λ yes _. order.between t x u yes here
+      | false ↦ λ _ more. between_any wins order x u ts more rest
+    ] refl some
+
+over_any : (wins : SymbolEntry → SymbolEntry → Bool) → IsOrder wins → (x a : SymbolEntry) (xs : List SymbolEntry) → wins x a ≡ false → list_any (λ t. wins t a) xs ≡ true → list_any (λ t. wins t x) xs ≡ true
+over_any wins order x a [] lost some = absurd (cc)
+over_any wins order x a (t ∷ ts) lost some =
+    elim (wins t a) as (λ b. wins t a ≡ b → (b || list_any (λ s. wins s a) ts) ≡ true → (wins t x || list_any (λ s. wins s x) ts) ≡ true) [
+      | true ↦ λ yes _. let is : wins t x ≡ true = order.over t x a lost yes in rw is refl
+      | false ↦ λ _ more. let is : list_any (λ s. wins s x) ts ≡ true = over_any wins order x a ts lost more in elim (wins t x) as (λ b. (b || list_any (λ s. wins s x) ts) ≡ true) [ true ↦ refl | false ↦ is ]
+    ] refl some
+
+-- where the first symbol is beaten, it tells nothing apart
+beaten_first : (wins : SymbolEntry → SymbolEntry → Bool) → IsOrder wins → (x : SymbolEntry) (xs : List SymbolEntry) → list_any (λ t. wins t x) xs ≡ true → find (λ u. not (wins x u) && is_unbeaten wins xs u) xs ≡ find (is_unbeaten wins xs) xs
+beaten_first wins order x xs some =
+    find-agree (λ u. not (wins x u) && is_unbeaten wins xs u) (is_unbeaten wins xs) xs (λ k d lt.
+    let u = get_or xs k d in
+    elim (is_unbeaten wins xs u) as (λ b. is_unbeaten wins xs u ≡ b → (not (wins x u) && b) ≡ b) [
+      | true ↦ λ best. let no : wins x u ≡ false = between_any wins order x u xs some best in rw no refl
+      | false ↦ λ _. elim (wins x u) as (λ b. (not b && false) ≡ false) [ true ↦ refl | false ↦ refl ]
+    ] refl)
+
+first_unbeaten : (wins : SymbolEntry → SymbolEntry → Bool) → IsOrder wins → (x : SymbolEntry) (xs : List SymbolEntry) → find (is_unbeaten wins (x ∷ xs)) (x ∷ xs) ≡ cond (list_any (λ t. wins t x) xs) (find (is_unbeaten wins xs) xs) (Some x)
+first_unbeaten wins order x xs =
+    let self : wins x x ≡ false = order.irreflexive x in
+    let none : is_unbeaten wins xs x ≡ not (list_any (λ t. wins t x) xs) = none_wins wins x xs in
+    elim (list_any (λ t. wins t x) xs) as (λ b. list_any (λ t. wins t x) xs ≡ b → cond (not (wins x x) && is_unbeaten wins xs x) (Some x) (find (λ u. not (wins x u) && is_unbeaten wins xs u) xs) ≡ cond b (find (is_unbeaten wins xs) xs) (Some x)) [
+      | true ↦ λ some. let no : is_unbeaten wins xs x ≡ false = none ∙ ap not some in rw (self, no) (beaten_first wins order x xs some)
+      | false ↦ λ all. let yes : is_unbeaten wins xs x ≡ true = none ∙ ap not all in rw (self, yes) refl
+    ] refl
+
+folded : (wins : SymbolEntry → SymbolEntry → Bool) → IsOrder wins → (a : SymbolEntry) (xs : List SymbolEntry) → fold (preferred wins) (Some a) xs ≡ cond (list_any (λ t. wins t a) xs) (find (is_unbeaten wins xs) xs) (Some a)
+folded wins order a [] = refl
+folded wins order a (x ∷ xs) =
+    elim (wins x a) as (λ b. wins x a ≡ b → fold (preferred wins) (cond b (Some x) (Some a)) xs ≡ cond (b || list_any (λ t. wins t a) xs) (find (is_unbeaten wins (x ∷ xs)) (x ∷ xs)) (Some a)) [
+      | true ↦ λ _. folded wins order x xs ∙ sym (first_unbeaten wins order x xs)
+      | false ↦ λ no. folded wins order a xs ∙ (elim (list_any (λ t. wins t a) xs) as (λ b. list_any (λ t. wins t a) xs ≡ b → cond b (find (is_unbeaten wins xs) xs) (Some a) ≡ cond b (find (is_unbeaten wins (x ∷ xs)) (x ∷ xs)) (Some a)) [
+        | true ↦ λ some. sym (first_unbeaten wins order x xs ∙ ap (λ b. cond b (find (is_unbeaten wins xs) xs) (Some x)) (over_any wins order x a xs no some))
+        | false ↦ λ _. refl
+      ] refl)
+    ] refl
+
+preferred_is_unbeaten : (wins : SymbolEntry → SymbolEntry → Bool) → IsOrder wins → (xs : List SymbolEntry) → fold (preferred wins) None xs ≡ find (is_unbeaten wins xs) xs
+preferred_is_unbeaten wins order [] = refl
+preferred_is_unbeaten wins order (x ∷ xs) = folded wins order x xs ∙ sym (first_unbeaten wins order x xs)
+
+-- ---- the two orders
+
+above_order : IsOrder is_above
+above_order = record {
+  irreflexive = λ s. le-ltb s.addr s.addr (omega arith);
+  over = λ t x a no yes. let p : x.addr ≤ a.addr = ltb-false a.addr x.addr no in let q : a.addr < t.addr = ltb-true a.addr t.addr yes in lt-ltb x.addr t.addr (omega arith);
+  between = λ t x u yes no. let p : x.addr < t.addr = ltb-true x.addr t.addr yes in let q : t.addr ≤ u.addr = ltb-false u.addr t.addr no in le-ltb u.addr x.addr (omega arith);
+}
+
+below_order : IsOrder is_below
+below_order = record {
+  irreflexive = λ s. le-ltb s.addr s.addr (omega arith);
+  over = λ t x a no yes. let p : a.addr ≤ x.addr = ltb-false x.addr a.addr no in let q : t.addr < a.addr = ltb-true t.addr a.addr yes in lt-ltb t.addr x.addr (omega arith);
+  between = λ t x u yes no. let p : t.addr < x.addr = ltb-true t.addr x.addr yes in let q : u.addr ≤ t.addr = ltb-false t.addr u.addr no in le-ltb x.addr u.addr (omega arith);
+}
+
+not_lt : (a b : ℕ) → not (nat_lt a b) ≡ nat_le b a
+not_lt a b = ⊎_elim (λ lt. let yes : nat_lt a b ≡ true = lt-ltb a b lt in let no : nat_le b a ≡ false = lt-leb b a lt in rw (yes, no) refl) (λ le. let no : nat_lt a b ≡ false = le-ltb a b le in let yes : nat_le b a ≡ true = le-leb b a le in rw (yes, no) refl) (cases_lt a b)
+
+not_le : (a b : ℕ) → not (nat_le a b) ≡ nat_lt b a
+not_le a b = ⊎_elim (λ lt. let yes : nat_lt b a ≡ true = lt-ltb b a lt in let no : nat_le a b ≡ false = lt-leb a b lt in rw (yes, no) refl) (λ le. let no : nat_lt b a ≡ false = le-ltb b a le in let yes : nat_le a b ≡ true = le-leb a b le in rw (yes, no) refl) (cases_lt b a)
+
+or_turned : (a b : Bool) → (a || b) ≡ (b || a)
+or_turned true true = refl
+or_turned true false = refl
+or_turned false true = refl
+or_turned false false = refl
+
+nearest_test : (t s q : ℕ) → (not (nat_le t q) || not (nat_lt s t)) ≡ (nat_le t s || nat_lt q t)
+nearest_test t s q = ap (λ b. b || not (nat_lt s t)) (not_le t q) ∙ ap (λ b. nat_lt q t || b) (not_lt s t) ∙ or_turned (nat_lt q t) (nat_le t s)
+
+next_test : (t s q : ℕ) → (not (nat_lt q t) || not (nat_lt t s)) ≡ (nat_le t q || nat_le s t)
+next_test t s q = ap (λ b. b || not (nat_lt t s)) (not_lt q t) ∙ ap (λ b. nat_le t q || b) (not_lt t s)
+
+-- ---- the symbols around an address
+
+pub below_is_highest : (symbols : List SymbolEntry) (addr : ℕ) → symbol_below symbols addr ≡ highest_of (filter (λ s. nat_le s.addr addr) symbols)
+below_is_highest symbols addr =
+    let under : SymbolEntry → Bool = λ s. nat_le s.addr addr in
+    sym (preferred_is_unbeaten is_above above_order (filter under symbols)
+    ∙ find-filter (is_unbeaten is_above (filter under symbols)) under symbols
+    ∙ find-agree (λ s. under s && is_unbeaten is_above (filter under symbols) s) (is_nearest symbols addr) symbols (λ k d lt.
+    let s = get_or symbols k d in
+    ap (λ b. nat_le s.addr addr && b) (list_all-filter (λ t. not (is_above t s)) under symbols ∙ list_all-agree (λ (t : SymbolEntry). not (under t) || not (is_above t s)) (λ (t : SymbolEntry). nat_le t.addr s.addr || nat_lt addr t.addr) symbols (λ j e l. nearest_test (get_or symbols j e).addr s.addr addr))))
+
+pub above_is_lowest : (symbols : List SymbolEntry) (addr : ℕ) → address_above symbols addr ≡ option_map (λ s. s.addr) (lowest_of (filter (λ s. nat_lt addr s.addr) symbols))
+above_is_lowest symbols addr =
+    let over : SymbolEntry → Bool = λ s. nat_lt addr s.addr in
+    ap (option_map (λ (s : SymbolEntry). s.addr)) (sym (preferred_is_unbeaten is_below below_order (filter over symbols)
+    ∙ find-filter (is_unbeaten is_below (filter over symbols)) over symbols
+    ∙ find-agree (λ s. over s && is_unbeaten is_below (filter over symbols) s) (is_next symbols addr) symbols (λ k d lt.
+    let s = get_or symbols k d in
+    ap (λ b. nat_lt addr s.addr && b) (list_all-filter (λ t. not (is_below t s)) over symbols ∙ list_all-agree (λ (t : SymbolEntry). not (over t) || not (is_below t s)) (λ (t : SymbolEntry). nat_le t.addr addr || nat_le s.addr t.addr) symbols (λ j e l. next_test (get_or symbols j e).addr s.addr addr)))))

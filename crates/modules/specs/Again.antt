@@ -1,0 +1,13 @@
+-- For which addresses the same is found as was found last.
+use Rattle.std.specs.Prelude.{◌≡◌, ℕ, ◌-◌, ◌<◌, ◌≤◌, Some}
+use Rattle.modules.specs.Entries.{CatalogEntries}
+use Rattle.modules.specs.Found.{symbol_at}
+use Rattle.modules.specs.Items.{item_of_address}
+use Rattle.modules.specs.declared.finder.LastFound.{LastFound}
+
+-- each address of this stretch lies in the item and belongs to the symbol
+pub record IsSameWithin (c : CatalogEntries) (l : LastFound) : Type 0 where
+  pub above : (x : ℕ) → l.from ≤ x → l.symbol.now.addr ≤ x
+  pub items : (x : ℕ) → l.from ≤ x → x < l.to → item_of_address c x ≡ Some l.item
+  pub symbols : (x : ℕ) → l.from ≤ x → x < l.to
+      → symbol_at c l.item x ≡ Some (record { symbol = l.symbol.now; offset = x - l.symbol.now.addr; size = l.size })

@@ -1,0 +1,7 @@
+-- What a finder keeps.
+use Rattle.std.specs.Prelude.{IfSome}
+use Rattle.modules.specs.Again.{IsSameWithin}
+use Rattle.modules.specs.declared.finder.Finder.TheInside.{Inside}
+
+pub record IsWholeFinder (f : Inside) : Type 0 where
+  pub last : IfSome f.last (IsSameWithin f.catalog.now)
