@@ -9,8 +9,8 @@
 //! address 3:    step . step . step .
 //! ```
 //!
-//! Where the addresses rise, each is sought from the place of the one before it on, symbol by
-//! symbol: what lies near was brought near by the one before.
+//! Where the addresses rise, each is sought among the few symbols from the place of the one before
+//! it on: what lies near was brought near by the one before.
 //!
 //! Whoever uses a guess compares it with what lies there: no contract rests on it.
 
