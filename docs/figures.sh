@@ -9,12 +9,13 @@
 #
 # and has the definitions that the clauses of these functions rest on, file by file, each before its
 # use. `but` leaves out what stands behind these words alone, `beyond` what the tables of these names
-# have; `by file` leaves out what each file is about. A block below a line `<!-- quoted: FILE FUNCTION -->` has clauses of that function. A number
-# stands between `<!-- NAME -->` and `<!-- -->`.
+# have; `by file` makes it a list, without what each file is about. A block below a line
+# `<!-- quoted: FILE FUNCTION -->` has clauses of that function. A number stands between `<!-- NAME -->`
+# and `<!-- -->`.
 set -euo pipefail
 cd "$(dirname "$0")/.."
 python3 - "$@" <<'PYTHON'
-import glob, re, sys
+import glob, itertools, re, sys, textwrap
 
 CHECK = sys.argv[1:] == ["--check"]
 WORD = re.compile(r"[^\s(){}\[\],;:.`λ→×⊎≡≢≤<>=+*/∷|&]+")
@@ -155,16 +156,27 @@ def in_order(found):
 TABLES = {}
 
 
+def listed(found):
+    """The files of these definitions as a list, each with how many it has; a crate is named once for its files in a row."""
+    runs = itertools.groupby(in_order(found), lambda it: it[0].split("/")[1])
+    files = lambda run: ", ".join(f"{path.rsplit('/', 1)[1][:-5]} {len(here)}" for path, here in run)
+    text = "; ".join(f"`{crate}` {files(run)}" for crate, run in runs)
+    whole = f"{len(found)} definitions in {sum(it.lines for it in found)} lines: {text}."
+    return textwrap.fill(whole, 100, break_long_words=False, break_on_hyphens=False)
+
+
 def table(name, is_brief, words):
-    """The table of a reading path."""
+    """The table of a reading path, or its list."""
     functions, but, beyond = parts_of(words)
     found = TABLES[name] = rested_on(functions, but)
     found = found.difference(*(TABLES[it] for it in beyond))
+    if is_brief:
+        return listed(found)
     rows = [("Read", "About", "Definitions", "Lines"), ("---",) * 4]
     for path, here in in_order(found):
         rows.append((f"`{path[7:]}`", says(path), len(here), sum(it.lines for it in here)))
     rows.append(("together", "", len(found), sum(it.lines for it in found)))
-    return "\n".join("| " + " | ".join(str(it) for at, it in enumerate(row) if at != 1 or not is_brief) + " |" for row in rows)
+    return "\n".join("| " + " | ".join(map(str, row)) + " |" for row in rows)
 
 
 NUMBERS = {
@@ -175,7 +187,7 @@ NUMBERS = {
 
 def renewed(text):
     """The text of a page with its tables and numbers made anew."""
-    of_table = r"(<!-- read (\w+)( by file)?: ([^>]*) -->\n\n)(?:\|.*\n)*"
+    of_table = r"(<!-- read (\w+)( by file)?: ([^>]*) -->\n\n)(?:.+\n)*"
     text = re.sub(of_table, lambda it: f"{it[1]}{table(it[2], it[3], it[4].split())}\n", text)
     return re.sub(r"(<!-- ([a-z ]+) -->)[^<]*(<!-- -->)", lambda it: f"{it[1]}{NUMBERS[it[2]]}{it[3]}", text)
 
