@@ -1,30 +1,11 @@
 //! Logs with the texts of answers behind their addresses.
 
+use crate::portions::Portions;
 use listing::{AddressRule, BLOCK, Counted, FailAt, LogFault, annotate};
 use modules::{Catalog, IndexedCatalog, ModuleLine, SymbolLine, SymbolLines};
 use std::alloc::Global;
-use std::io;
-use std::io::Read;
 use std::process::Abort;
 use std::test::Fail;
-
-/// A reader that gives at most so many bytes at once.
-#[derive(Drop)]
-struct Portions<'a> {
-    rest: &'a [u8],
-    most: usize,
-}
-
-impl<'a> Read for Portions<'a> {
-    ghost use Rattle.std.specs.Prelude.{None};
-
-    ghost remaining = { λ _. None };
-
-    fn read(&mut self, buf: &mut [u8]) -> io::Result<usize> {
-        let most = buf.len().min(self.most);
-        self.rest.read(&mut buf[..most])
-    }
-}
 
 const LOW: ModuleLine<'static> = ModuleLine {
     name: b"low",

@@ -15,11 +15,21 @@ mod counted_devices;
 #[cfg(test)]
 mod kernel_listings;
 #[cfg(test)]
+mod listing_blocks;
+#[cfg(test)]
+mod portions;
+#[cfg(test)]
 mod region_files;
 #[cfg(test)]
 mod script_files;
 #[cfg(test)]
+mod sieved_lines;
+#[cfg(test)]
+mod sifted_catalogs;
+#[cfg(test)]
 mod symbol_answers;
+#[cfg(test)]
+mod symbol_lists;
 #[cfg(test)]
 mod symbols_alone;
 #[cfg(test)]

@@ -1,36 +1,14 @@
 //! Catalogs of listings of symbols alone, against a plain slow program.
 
-use modules::{Catalog, KeptCounts, KernelBounds, Module, SymbolLine, SymbolLines};
+use crate::symbol_lists::{EXT4, Line, NFS, Random, address_of, listed, random_lines};
+use modules::{Catalog, KeptCounts, KernelBounds, Module, SymbolLines};
 use std::alloc::{AllocError, Global};
 use std::test::Fail;
-
-/// An address, its name, and the name of its module.
-type Line = (u64, &'static [u8], Option<&'static [u8]>);
 
 /// The first address of the kernel itself, and its end.
 type Kernel = Option<(u64, u64)>;
 
 const REACH: u64 = 1048576;
-
-/// A generator of numbers that look random: a linear congruence, of which the high bits are taken.
-#[derive(Drop)]
-struct Random {
-    state: u64,
-}
-
-impl Random {
-    fn below(&mut self, most: u64) -> u64 {
-        self.state = self
-            .state
-            .wrapping_mul(6364136223846793005)
-            .wrapping_add(1442695040888963407);
-        if most == 0 {
-            0
-        } else {
-            (self.state >> 33) % most
-        }
-    }
-}
 
 fn is_inside(kernel: Kernel, addr: u64) -> bool {
     match kernel {
@@ -76,14 +54,6 @@ fn owner_of(kernel: Kernel, lines: &[Line], addr: u64) -> Option<&'static [u8]> 
 
 fn is_kept(kernel: Kernel, lines: &[Line], line: &Line) -> bool {
     is_post(kernel, line) && (line.2.is_none() || owner_of(kernel, lines, line.0) == line.2)
-}
-
-/// The address of the first line without a module that has this name.
-fn address_of(lines: &[Line], name: &[u8]) -> Option<u64> {
-    let line = lines
-        .iter()
-        .find(|line| line.2.is_none() && line.1 == name)?;
-    Some(line.0)
 }
 
 /// The kernel's region by its usual bounds.
@@ -207,66 +177,16 @@ fn is_plain(
     )
 }
 
-fn listed(alloc: Global, lines: &[Line]) -> Result<SymbolLines<'static>, AllocError> {
-    let mut symbols = SymbolLines::new(alloc);
-    for (addr, name, module) in lines {
-        symbols.push(SymbolLine {
-            addr: *addr,
-            letter: b't',
-            name: *name,
-            module: *module,
-        })?;
-    }
-    Ok(symbols)
-}
-
-const MODULES: [Option<&[u8]>; 7] = [
-    None,
-    None,
-    Some(b"ext4"),
-    Some(b"nfs"),
-    Some(b"bpf"),
-    Some(b"-"),
-    Some(b"__builtin__ftrace"),
-];
-
-const NAMES: [&[u8]; 6] = [b"a", b"b", b"_stext", b"_end", b"_einittext", b"_etext"];
-
 const STEPS: [u64; 7] = [0, 0, 1, 16, REACH - 1, REACH, REACH + 1];
 
 const BASES: [u64; 4] = [1, 1 << 40, u64::MAX - 4 * REACH, u64::MAX - REACH - 3];
-
-fn pick<T: Copy + Default + Drop>(random: &mut Random, items: &[T]) -> T {
-    match items.get(random.below(items.len() as u64) as usize) {
-        Some(item) => *item,
-        None => T::default(),
-    }
-}
-
-/// Up to twenty lines at addresses that rise and fall by steps of note.
-fn random_lines(alloc: Global, random: &mut Random) -> Result<Vec<Line>, AllocError> {
-    let mut addr = pick(random, &BASES);
-    let mut lines = Vec::new(alloc);
-    for _ in 0..random.below(21) {
-        let step = pick(random, &STEPS);
-        addr = if random.below(4) == 0 {
-            addr.saturating_sub(step)
-        } else {
-            addr.saturating_add(step)
-        };
-        let name = pick(random, &NAMES);
-        let module = pick(random, &MODULES);
-        lines.push((addr, name, module))?;
-    }
-    Ok(lines)
-}
 
 #[test]
 fn random_listings(rt: HostRuntime) -> Result<(), Fail> {
     let alloc = rt.alloc();
     for seed in 0..300 {
         let mut random = Random { state: seed };
-        let lines = random_lines(alloc, &mut random)?;
+        let lines = random_lines(alloc, &mut random, &BASES, &STEPS)?;
         let symbols = listed(alloc, lines.as_slice())?;
         let (catalog, counts) = Catalog::from_symbols(alloc, None, symbols)?;
         assert!(rt;
@@ -291,10 +211,6 @@ fn regions_of(
     }
     Ok(pairs)
 }
-
-const EXT4: Option<&[u8]> = Some(b"ext4");
-
-const NFS: Option<&[u8]> = Some(b"nfs");
 
 #[test]
 fn a_region_goes_on_up_to_the_reach_of_its_last_line(rt: HostRuntime) -> Result<(), Fail> {
@@ -442,8 +358,8 @@ fn regions_of_two_modules_lie_between_one_another(rt: HostRuntime) -> Result<(),
     Ok(())
 }
 
-/// Owners that no listing of modules has.
-const OWNERS: [Line; 3] = [
+/// Lines of owners that no listing of modules has.
+const NO_MODULES: [Line; 3] = [
     (0x9000, b"ftrace_trampoline", Some(b"__builtin__ftrace")),
     (0x7000, b"bpf_prog_6deef7357e7b4530", Some(b"bpf")),
     (0x9010, b"kprobe_insn", Some(b"__builtin__kprobes")),
@@ -452,7 +368,7 @@ const OWNERS: [Line; 3] = [
 #[test]
 fn owners_that_are_no_modules_of_a_listing(rt: HostRuntime) -> Result<(), Fail> {
     let alloc = rt.alloc();
-    let (catalog, counts) = Catalog::from_symbols(alloc, None, listed(alloc, &OWNERS)?)?;
+    let (catalog, counts) = Catalog::from_symbols(alloc, None, listed(alloc, &NO_MODULES)?)?;
     assert_eq!(rt; catalog.number_of(b"__builtin__ftrace"), Some(1));
     assert_eq!(rt; catalog.number_of(b"bpf"), Some(2));
     assert_eq!(rt; catalog.number_of(b"__builtin__kprobes"), Some(3));

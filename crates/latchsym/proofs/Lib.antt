@@ -6,8 +6,16 @@ mod LoadLemmas
 mod WorldOpeningLemmas
 -- one module more in a world that holds those of lesser numbers
 mod CatalogLoadLemmas
--- from the texts that were read to the readers that they were read from
+-- the same answer, where more is known of what was read
 mod InputLemmas
+-- from the blocks of a listing of symbols to what is kept of it
+mod SiftedSymbolLemmas
+-- the catalog of kept lines answers for the asked addresses as that of all lines does
+mod SiftedAnswerLemmas
+-- from what is kept of a listing of symbols to what its lookup writes
+mod SiftedLookupLemmas
+-- from the files that a lookup reads to what it returns
+mod LookupReadingLemmas
 -- words that are numbers, one after the other
 mod AddressLemmas
 -- the lookup that a command line asks for

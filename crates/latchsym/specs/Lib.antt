@@ -43,6 +43,10 @@ pub mod Faults
 pub mod Misuses
 -- what is written for the listings and the addresses that are asked for
 pub mod Lookups
+-- what is kept of a listing of symbols that is read block by block
+pub mod SiftedSymbols
+-- what a lookup is asked over that keeps only what it needs of that listing
+pub mod SiftedLookups
 -- what a lookup writes whose modules come from a listing of symbols alone
 pub mod SymbolLookups
 -- the catalog that listings say, and what is noted of them

@@ -1,6 +1,7 @@
 -- What a lookup of addresses reads, and what that says.
 use Rattle.std.specs.Prelude.{ℕ, List, [], Option, Some, None, Result, Ok, Err}
 use Rattle.std.specs.Prelude.{find, option_and_then, unwrap_or}
+use Rattle.std.specs.Global.{Vec}
 use Rattle.std.specs.Option.{option_map}
 use Rattle.listing.specs.declared.counted.Counted.{Counted}
 use Rattle.listing.specs.Counted.{device_of}
@@ -97,7 +98,11 @@ inputs_in i = record {
   addresses = i.addresses.items;
 }
 
--- the region lines, of which there are none where there is no listing of them
+-- the region lines that the program has, of which there are none where there is no listing of them
+abbrev pub lines_or_none : Option (Vec ListedRegion) → List ListedRegion
+lines_or_none lines = unwrap_or (option_map (λ v. v.items) lines) []
+
+-- the same of the inputs
 abbrev pub region_lines_of_inputs : Inputs → List ListedRegion
 region_lines_of_inputs i = unwrap_or i.regions []
 

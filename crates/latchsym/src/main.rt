@@ -39,6 +39,7 @@ mod opened_catalogs;
 mod operands;
 mod run_texts;
 mod runs;
+mod sifted_symbols;
 mod step_texts;
 mod steps;
 mod symbol_lookup;

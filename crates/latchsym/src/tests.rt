@@ -13,6 +13,7 @@ mod forms;
 mod jobs;
 mod listing_notes;
 mod listings;
+mod long_listings;
 mod operands;
 mod option_words;
 mod rows;

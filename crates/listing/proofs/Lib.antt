@@ -10,6 +10,10 @@ pub mod WordRunLemmas
 pub mod SymbolAddressLemmas
 -- lines that are taken, or skipped for a cause, one after the other
 pub mod SkippingLemmas
+-- blocks of a text that are read one after the other
+pub mod LineBlockLemmas
+-- the lines of texts one after the other
+pub mod LineJoinLemmas
 -- what is read of a listing of modules
 pub mod ModuleLineLemmas
 -- what the digits that are left say of a numeral
@@ -36,6 +40,8 @@ pub mod TabLemmas
 pub mod LookLemmas
 -- where a note on a listing does not apply
 pub mod ListingNoteLemmas
+-- what is known of a listing after one more block
+pub mod ListingFactLemmas
 -- what is kept of the bytes before a place of a log is enough
 pub mod LogContextLemmas
 -- what is inserted at a place, whatever comes behind the bytes that are there

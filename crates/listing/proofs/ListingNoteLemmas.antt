@@ -21,7 +21,7 @@ use Rattle.listing.specs.ListingNotes.{has_symbols, lacks_symbol, lacks_symbols}
 
 -- ---- the bounds of the kernel
 
-first_named : (name : List ℕ) (symbols : List ListedSymbol) → is_some (first_address name symbols) ≡ list_any (is_kernel_symbol name) symbols
+pub first_named : (name : List ℕ) (symbols : List ListedSymbol) → is_some (first_address name symbols) ≡ list_any (is_kernel_symbol name) symbols
 first_named name [] = refl
 first_named name (s ∷ symbols) =
     elim (is_none s.owner && bytes_eq s.name name) as (λ b. is_some (option_map (λ (l : ListedSymbol). l.addr) (cond b (Some s) (find (λ (l : ListedSymbol). is_none l.owner && bytes_eq l.name name) symbols))) ≡ (b || list_any (is_kernel_symbol name) symbols))

@@ -27,6 +27,8 @@ pub mod Trace
 pub mod CommandLines
 -- what a file of addresses says
 pub mod Addresses
+-- a text that is read block by block, each of whole lines
+pub mod LineBlocks
 -- lines that are taken, or skipped for a cause
 pub mod Skipping
 -- the lines of a listing of modules, in the form of /proc/modules
@@ -37,6 +39,8 @@ pub mod SymbolListing
 pub mod Looks
 -- what is noted of such a listing
 pub mod ListingNotes
+-- what is known of a listing of symbols that is read block by block
+pub mod ListingFacts
 -- what a listing of regions says
 pub mod RegionListing
 -- what a script says

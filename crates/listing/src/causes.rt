@@ -58,6 +58,16 @@ impl<C: Cause<N>, const N: usize> Counts<C, N> {
         }
     }
 
+    /// The counts at the places of their causes.
+    pub(crate) fn of(by_place: [u64; N]) -> Self
+        ensures { result.by_place ≡ by_place.entry }
+    {
+        Counts {
+            by_place,
+            of: PhantomData,
+        }
+    }
+
     /// How many lines were skipped for this cause.
     pub fn count(&self, cause: C) -> u64
         ensures { result ≡ slice_index self.now.by_place (C.place_of cause) }

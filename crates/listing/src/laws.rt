@@ -1,7 +1,9 @@
 //! What follows from the grammars, as contracts of functions that do nothing.
-ghost use Rattle.std.specs.Prelude.{◌≡◌, ℕ, ◌+◌, List, length, sum, MatchResult};
+ghost use Rattle.std.specs.Prelude.{◌≡◌, ℕ, ◌+◌, ◌++◌, List, length, sum, MatchResult};
+ghost use Rattle.listing.specs.LineBlocks.{HasWholeLines};
 ghost use Rattle.listing.specs.Lines.{lines_of};
 ghost use Rattle.listing.specs.ModuleListing.{module_counts, modules_in};
+ghost use Rattle.listing.specs.Skipping.{sums_of};
 ghost use Rattle.listing.specs.SymbolListing.{symbol_counts, symbols_in};
 ghost use Rattle.listing.specs.Addresses.{addresses_of};
 ghost use Rattle.listing.specs.Numbers.{number_of};
@@ -57,3 +59,16 @@ pub fn each_listed_line_is_counted_once()
     each_line_is_counted_once::<ModuleLine<'static>, SkippedModule, 5>();
     each_line_is_counted_once::<SymbolLine<'static>, SkippedSymbol, 3>();
 }
+
+/// Where each line of a text has its end, the lines of what follows it follow its own. So do the
+/// symbols, and the counts of skipped lines are the sums.
+pub fn listing_by_its_blocks()
+    ensures lines { (text more : List ℕ) → HasWholeLines text
+        → lines_of (text ++ more) ≡ lines_of text ++ lines_of more }
+    ensures symbols { (text more : List ℕ) → HasWholeLines text
+        → symbols_in (lines_of (text ++ more))
+        ≡ symbols_in (lines_of text) ++ symbols_in (lines_of more) }
+    ensures counts { (text more : List ℕ) → HasWholeLines text
+        → symbol_counts (lines_of (text ++ more))
+        ≡ sums_of (symbol_counts (lines_of text)) (symbol_counts (lines_of more)) }
+{}

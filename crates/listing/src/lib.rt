@@ -25,7 +25,9 @@ mod header;
 mod input;
 mod insertions;
 mod laws;
+mod line_blocks;
 mod lines;
+mod listing_facts;
 mod listing_notes;
 mod log_blocks;
 mod log_contexts;
@@ -53,13 +55,15 @@ pub use gathered::{LONGEST_HEXADECIMAL, append, append_hexadecimal};
 pub use header::{Header, Version};
 pub use input::read_whole;
 pub use laws::{
-    addresses_by_their_lines, each_listed_line_is_counted_once, regions_by_their_lines,
-    script_by_its_lines, trace_by_its_lines,
+    addresses_by_their_lines, each_listed_line_is_counted_once, listing_by_its_blocks,
+    regions_by_their_lines, script_by_its_lines, trace_by_its_lines,
 };
+pub use line_blocks::LineBlocks;
 pub use lines::LONGEST_LINE;
+pub use listing_facts::ListingFacts;
 pub use listing_notes::{
-    ListingNote, ListingNotes, SymbolFacts, applies_to_kallsyms, applies_to_modules,
-    note_of_kallsyms, note_of_modules,
+    ListingNote, ListingNotes, ModuleFacts, SymbolFacts, applies_to_kallsyms, applies_to_modules,
+    note_of_kallsyms, note_of_modules, note_of_modules_by,
 };
 pub use looks::{
     KernelSymbols, are_modules_hidden, are_symbols_hidden, first_line_ends_in_cr, is_gzip,

@@ -8,9 +8,10 @@ ghost use Rattle.std.specs.Option.{option_copied};
 ghost use Rattle.listing.specs.Lines.{lines_of};
 ghost use Rattle.listing.specs.Looks.{are_modules_hidden, are_symbols_hidden};
 ghost use Rattle.listing.specs.SymbolListing.{symbols_in};
+ghost use Rattle.modules.specs.Entries.{CatalogEntries};
 ghost use Rattle.modules.specs.Lines.{built_in_region};
-ghost use Rattle.listing.specs.ListingNotes.{all_notes, has_symbols, is_of_kallsyms};
-ghost use Rattle.listing.specs.ListingNotes.{is_of_modules, is_some_noted};
+ghost use Rattle.listing.specs.ListingNotes.{all_notes, has_no_module, has_symbols};
+ghost use Rattle.listing.specs.ListingNotes.{is_of_kallsyms, is_of_modules, is_some_noted};
 ghost use Rattle.listing.specs.ListingNotes.{lacks_symbol, lacks_symbols, no_notes};
 
 use crate::looks::{
@@ -116,16 +117,41 @@ pub fn note_of_modules(text: &[u8], hidden: bool, catalog: &Catalog) -> Option<L
     requires { hidden ≡ are_modules_hidden (lines_of text.now) }
     ensures { result ≡ find (is_of_modules text.now catalog.now) all_notes }
 {
-    let none = catalog.len() == 0;
+    let facts = ModuleFacts {
+        hidden,
+        none: catalog.len() == 0,
+        lacks_symbols: lacks_symbols(catalog),
+    };
+    note_of_modules_by(text, facts)
+}
+
+/// What is known of the modules that listings have.
+#[derive(Clone, Copy, Drop)]
+pub struct ModuleFacts {
+    /// All well-formed lines of their listing are hidden, and there is one.
+    pub hidden: bool,
+    /// None is accepted.
+    pub none: bool,
+    /// Some are accepted, and no symbol of any of them lies in its region.
+    pub lacks_symbols: bool,
+}
+
+/// The first note on a listing of modules with this text, of whose modules this is known.
+pub fn note_of_modules_by(text: &[u8], modules: ModuleFacts) -> Option<ListingNote>
+    requires { modules.hidden ≡ are_modules_hidden (lines_of text.now) }
+    ensures { (c : CatalogEntries) → modules.none ≡ has_no_module c
+        → modules.lacks_symbols ≡ lacks_symbols c
+        → result ≡ find (is_of_modules text.now c) all_notes }
+{
     if is_gzip(text) {
         Some(ListingNote::Gzip)
-    } else if hidden {
+    } else if modules.hidden {
         Some(ListingNote::AllHidden)
-    } else if none && looks_like_symbols(text) {
+    } else if modules.none && looks_like_symbols(text) {
         Some(ListingNote::LooksLikeSymbols)
-    } else if none && first_line_ends_in_cr(text) {
+    } else if modules.none && first_line_ends_in_cr(text) {
         Some(ListingNote::LinesEndInCrLf)
-    } else if lacks_symbols(catalog) {
+    } else if modules.lacks_symbols {
         Some(ListingNote::OtherBoot)
     } else {
         None

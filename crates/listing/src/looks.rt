@@ -2,6 +2,7 @@
 //! reader, one of another kind, or one whose lines end as another system ends them.
 ghost use Rattle.std.specs.Prelude.{◌≡◌, ◌∷◌, ◌&&◌, ◌||◌, [], List, ℕ, find, length, nat_lt, not};
 ghost use Rattle.std.specs.Prelude.{option_map};
+ghost use Rattle.std.specs.List.{list_any};
 ghost use Rattle.listing.specs.Lines.{lines_of};
 ghost use Rattle.listing.specs.Looks.{AreKernelSymbols, are_modules_hidden, are_symbols_hidden};
 ghost use Rattle.listing.specs.Looks.{first_ends_in_cr, is_gzip, is_kernel_symbol, is_module_line};
@@ -9,12 +10,13 @@ ghost use Rattle.listing.specs.Looks.{is_of_kernel, is_symbol_line, looks_like_m
 ghost use Rattle.listing.specs.Looks.{looks_like_symbols};
 ghost use Rattle.listing.specs.ModuleListing.{module_counts, modules_in};
 ghost use Rattle.listing.specs.SymbolListing.{symbol_counts, symbols_in};
+ghost use Rattle.modules.specs.Listed.{BoundNames};
 
 use crate::lines::cut_line;
 use crate::module_listing::{ModuleCounts, SkippedModule, module_in};
 use crate::symbol_listing::{SkippedSymbol, SymbolCounts, cut_tabbed_line, symbol_of_line};
 use memchr::memchr;
-use modules::{KernelBounds, SymbolLine};
+use modules::{KernelBounds, SymbolLine, SymbolLines};
 
 /// Whether the first two bytes are those of a file that gzip made.
 pub fn is_gzip(text: &[u8]) -> bool
@@ -65,7 +67,7 @@ pub fn are_symbols_hidden(listed: usize, skipped: &SymbolCounts) -> bool
 }
 
 /// Whether a line is well formed in a listing of modules.
-fn is_module_line(line: &[u8]) -> bool
+pub(crate) fn is_module_line(line: &[u8]) -> bool
     ensures { result ≡ is_module_line line.now }
 {
     match module_in(line) {
@@ -86,7 +88,7 @@ fn is_symbol_line(line: &[u8]) -> bool
 }
 
 /// The first line that is well formed in a listing of either kind.
-fn first_formed_line(text: &[u8]) -> Option<&[u8]>
+pub(crate) fn first_formed_line(text: &[u8]) -> Option<&[u8]>
     ensures { option_map (λ l. l.now) result
         ≡ find (λ l. is_module_line l || is_symbol_line l) (lines_of text.now) }
 {
@@ -134,6 +136,32 @@ pub struct KernelSymbols {
 }
 
 impl KernelSymbols {
+    /// None of them.
+    pub(crate) fn none() -> KernelSymbols
+        ensures { (names : BoundNames) → AreKernelSymbols names [] result }
+    {
+        KernelSymbols {
+            any: false,
+            start: false,
+            end: false,
+        }
+    }
+
+    /// These, and those that these lines show too. What was seen is not sought again.
+    pub(crate) fn and(self, lines: &SymbolLines, names: &KernelBounds) -> KernelSymbols
+        ensures any { result.any ≡ (self.any || list_any is_of_kernel lines.now) }
+        ensures start { result.start
+            ≡ (self.start || list_any (is_kernel_symbol names.now.start) lines.now) }
+        ensures end { result.end
+            ≡ (self.end || list_any (is_kernel_symbol names.now.end) lines.now) }
+    {
+        KernelSymbols {
+            any: self.any || lines.has_kernel_line(),
+            start: self.start || lists_kernel_symbol(lines, names.start),
+            end: self.end || lists_kernel_symbol(lines, names.end),
+        }
+    }
+
     /// These, and this symbol too.
     fn with(self, symbol: &SymbolLine, names: &KernelBounds) -> KernelSymbols
         ensures any { result.any ≡ (self.any || is_of_kernel symbol.now) }
@@ -150,6 +178,13 @@ impl KernelSymbols {
             end: self.end || symbol.name == names.end,
         }
     }
+}
+
+/// Whether one of the lines is a symbol of the kernel itself that has this name.
+fn lists_kernel_symbol(lines: &SymbolLines, name: &[u8]) -> bool
+    ensures { result ≡ list_any (is_kernel_symbol name.now) lines.now }
+{
+    lines.has_kernel_symbol(name)
 }
 
 /// Which symbols of the kernel itself a listing of symbols shows, where these names bound it.

@@ -7,14 +7,14 @@ use Rattle.std.proofs.lemmas.Bool.{cases_lt}
 use Rattle.std.proofs.lemmas.Grind.{flat_map-append}
 use Rattle.std.proofs.lemmas.List.{append-nil, get_or-map, get_or_append_left, get_or_push, length-map, same_lists, take_more}
 use Rattle.std.proofs.lemmas.Option.{slice_get_cases}
-use Rattle.modules.specs.Accepted.{Accepted, accepted_of}
+use Rattle.modules.specs.Accepted.{Accepted}
+use Rattle.modules.specs.Admissions.{module_counts}
 use Rattle.modules.specs.Building.{AreModules, EachMade, module_with, built_in_with}
-use Rattle.modules.specs.Catalogs.{built_in_of, catalog_with, counts_of, entry_for, kept_counts}
+use Rattle.modules.specs.Catalogs.{built_in_of, catalog_with, entry_for, kept_counts}
 use Rattle.modules.specs.Entries.{CatalogEntries, ModuleEntry, SymbolEntry}
 use Rattle.modules.specs.Gathering.{Gathers}
 use Rattle.modules.specs.Kept.{is_kept, is_used}
-use Rattle.modules.specs.Lines.{built_in_region}
-use Rattle.modules.specs.Listed.{BoundNames, ListedModule, ListedRegion, ListedSymbol}
+use Rattle.modules.specs.Listed.{ListedRegion, ListedSymbol}
 use Rattle.modules.specs.Placed.{PlacedModule}
 use Rattle.modules.specs.declared.catalog.BuildCounts.{BuildCounts}
 use Rattle.modules.specs.declared.catalog.KeptCounts.{KeptCounts}
@@ -73,17 +73,28 @@ kept_from a g symbols made len regions gathers others all counted =
     ∙ ap (λ k. kept (length a.modules) (length (flat_map (λ m. m.regions) a.modules)) k g.stray) gathers.kept
     ∙ ap (λ k. kept (length a.modules) (length (flat_map (λ m. m.regions) a.modules)) (count_by (is_kept a) symbols) k) gathers.stray
 
-abbrev pub counts : Accepted → ℕ → ℕ → KeptCounts → BuildCounts
-counts a regions stray_regions k = record { modules = k.modules; double = a.double; overlap = a.overlap; regions = regions; stray_regions = stray_regions; symbols = k.symbols; stray = k.stray }
+abbrev module_counts_with : Accepted → ℕ → ℕ → ℕ → BuildCounts
+module_counts_with a modules used strays = record { modules = modules; double = a.double; overlap = a.overlap; regions = used; stray_regions = strays; symbols = 0; stray = 0 }
 
--- with what the accepted lines and those of regions were counted, they are the counts of the lines
-pub counts_from : (a : Accepted) (names : BoundNames) (modules : List ListedModule) (regions : List ListedRegion) (symbols : List ListedSymbol) (used strays : ℕ) (k : KeptCounts) → a ≡ accepted_of (built_in_region names symbols) regions modules → k ≡ kept_counts a symbols → used ≡ count_by (is_used a regions) regions → strays ≡ count_by (λ r. not (is_used a regions r)) regions
-    → counts a used strays k ≡ counts_of names modules regions symbols
-counts_from a names modules regions symbols used strays k is all used_is strays_are =
-    ap (λ n. counts a n strays k) used_is
-    ∙ ap (λ n. counts a (count_by (is_used a regions) regions) n k) strays_are
-    ∙ ap (λ (n : KeptCounts). counts a (count_by (is_used a regions) regions) (count_by (λ r. not (is_used a regions r)) regions) n) all
-    ∙ ap (λ (b : Accepted). counts b (count_by (is_used b regions) regions) (count_by (λ r. not (is_used b regions r)) regions) (kept_counts b symbols)) is
+-- what was counted of the lines of modules and of regions
+pub module_counts_from : (a : Accepted) (regions : List ListedRegion) (modules used strays : ℕ) → modules ≡ length a.modules → used ≡ count_by (is_used a regions) regions → strays ≡ count_by (λ r. not (is_used a regions r)) regions
+    → module_counts_with a modules used strays ≡ module_counts a regions
+module_counts_from a regions modules used strays all used_is strays_are =
+    ap (λ n. module_counts_with a n used strays) all
+    ∙ ap (λ n. module_counts_with a (length a.modules) n strays) used_is
+    ∙ ap (λ n. module_counts_with a (length a.modules) (count_by (is_used a regions) regions) n) strays_are
+
+abbrev pub with_symbols : BuildCounts → ℕ → ℕ → BuildCounts
+with_symbols n symbols stray = record n { symbols = symbols; stray = stray }
+
+-- with what was counted of those of symbols, they are the counts of the lines
+pub counts_from : (a b : Accepted) (regions : List ListedRegion) (symbols : List ListedSymbol) (lines : BuildCounts) (kept stray : ℕ) → a ≡ b → lines ≡ module_counts a regions → kept ≡ count_by (is_kept a) symbols → stray ≡ count_by (λ s. not (is_kept a s)) symbols
+    → with_symbols lines kept stray ≡ with_symbols (module_counts b regions) (count_by (is_kept b) symbols) (count_by (λ s. not (is_kept b s)) symbols)
+counts_from a b regions symbols lines kept stray is lines_are kept_is stray_is =
+    ap (λ (n : BuildCounts). with_symbols n kept stray) lines_are
+    ∙ ap (λ n. with_symbols (module_counts a regions) n stray) kept_is
+    ∙ ap (λ n. with_symbols (module_counts a regions) (count_by (is_kept a) symbols) n) stray_is
+    ∙ ap (λ (x : Accepted). with_symbols (module_counts x regions) (count_by (is_kept x) symbols) (count_by (λ s. not (is_kept x s)) symbols)) is
 
 -- ---- what is left of a list
 

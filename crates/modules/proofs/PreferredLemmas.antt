@@ -15,7 +15,7 @@ abbrev pub is_unbeaten : (SymbolEntry → SymbolEntry → Bool) → List SymbolE
 is_unbeaten wins symbols s = list_all (λ t. not (wins t s)) symbols
 
 -- the better one of two symbols is beaten by fewer
-record IsOrder (wins : SymbolEntry → SymbolEntry → Bool) : Type 0 where
+pub record IsOrder (wins : SymbolEntry → SymbolEntry → Bool) : Type 0 where
   pub irreflexive : (s : SymbolEntry) → wins s s ≡ false
   pub over : (t x a : SymbolEntry) → wins x a ≡ false → wins t a ≡ true → wins t x ≡ true
   pub between : (t x u : SymbolEntry) → wins t x ≡ true → wins t u ≡ false → wins x u ≡ false
@@ -82,14 +82,14 @@ preferred_is_unbeaten wins order (x ∷ xs) = folded wins order x xs ∙ sym (fi
 
 -- ---- the two orders
 
-above_order : IsOrder is_above
+pub above_order : IsOrder is_above
 above_order = record {
   irreflexive = λ s. le-ltb s.addr s.addr (omega arith);
   over = λ t x a no yes. let p : x.addr ≤ a.addr = ltb-false a.addr x.addr no in let q : a.addr < t.addr = ltb-true a.addr t.addr yes in lt-ltb x.addr t.addr (omega arith);
   between = λ t x u yes no. let p : x.addr < t.addr = ltb-true x.addr t.addr yes in let q : t.addr ≤ u.addr = ltb-false u.addr t.addr no in le-ltb u.addr x.addr (omega arith);
 }
 
-below_order : IsOrder is_below
+pub below_order : IsOrder is_below
 below_order = record {
   irreflexive = λ s. le-ltb s.addr s.addr (omega arith);
   over = λ t x a no yes. let p : a.addr ≤ x.addr = ltb-false x.addr a.addr no in let q : t.addr < a.addr = ltb-true t.addr a.addr yes in lt-ltb t.addr x.addr (omega arith);

@@ -1,11 +1,13 @@
 -- Lines that have the name of their module by their run, and their letter beside it.
-use Rattle.std.proofs.Common.{◌≡◌, ℕ, zero, suc, ◌<◌, ◌+◌, Bool, true, false, ◌&&◌, cond, List, [], ◌∷◌, ◌++◌, length, map, take, drop, get_or, Some, None, Option, refl, sym, ap, ◌∙◌, arith, append_assoc}
+use Rattle.std.proofs.Common.{◌≡◌, ℕ, zero, suc, ◌<◌, ◌+◌, Bool, true, false, not, ◌&&◌, ◌||◌, ◌==◌, cond, List, [], ◌∷◌, ◌++◌, length, map, take, drop, get_or, Some, None, Option, refl, sym, ap, ◌∙◌, arith, append_assoc}
 use Rattle.std.specs.Prelude.{filter, find, count_by, is_none, is_some}
 use Rattle.std.specs.Borrow.{Bor}
-use Rattle.std.specs.List.{zip}
+use Rattle.std.specs.List.{list_any, zip}
 use Rattle.std.specs.Option.{option_copied, option_map}
 use Rattle.std.specs.Str.{bytes_eq}
 use Rattle.std.proofs.lemmas.List.{map-append, append-nil}
+use Rattle.std.proofs.lemmas.Bool.{ne_eqb}
+use Rattle.std.proofs.lemmas.List.Folds.{list_any-append}
 use Rattle.std.proofs.lemmas.List.Sums.{sum_by-cons}
 use Rattle.std.proofs.lemmas.Grind.{flat_map-append}
 use Rattle.modules.specs.Entries.{SymbolEntry}
@@ -126,3 +128,43 @@ first_in_last runs last name none = ap (first_address name) (lines_of_all-last r
 pub first_in_front : (runs : List Run) (last : Run) (name : List ℕ) (o : Option ℕ) → (o ≡ None → ⊥) → o ≡ first_address name (lines_of_all runs) → o ≡ first_address name (lines_of_all (runs ++ last ∷ []))
 first_in_front runs last name None some is = absurd (some refl)
 first_in_front runs last name (Some addr) some is = sym (ap (first_address name) (lines_of_all-last runs last) ∙ first_address-front name (lines_of_all runs) (lines_of_run last) addr (sym is))
+
+-- ---- lines of the kernel itself
+
+abbrev pub is_in_kernel : ListedSymbol → Bool
+is_in_kernel l = is_none l.owner
+
+kernel_in_lines : (owner : Option (List ℕ)) (ss : List SymbolEntry) → list_any is_in_kernel (map (unlettered owner) ss) ≡ (is_none owner && not (length ss == 0))
+kernel_in_lines None [] = refl
+kernel_in_lines (Some name) [] = refl
+kernel_in_lines None (s ∷ ss) = sym (ap not (ne_eqb (length (s ∷ ss)) 0 (λ none. absurd (omega (arith, none)))))
+kernel_in_lines (Some name) (s ∷ ss) = kernel_in_lines (Some name) ss
+
+pub kernel_in_run : (owner : Option (Bor (List ℕ))) (ss : List SymbolEntry) (b : Bool) → is_some owner ≡ not b → list_any is_in_kernel (map (unlettered (option_copied owner)) ss) ≡ (b && not (length ss == 0))
+kernel_in_run None ss true is = kernel_in_lines None ss
+kernel_in_run None ss false is = let differs : false ≡ true = is in absurd (cc)
+kernel_in_run (Some name) ss true is = let differs : true ≡ false = is in absurd (cc)
+kernel_in_run (Some name) ss false is = kernel_in_lines (Some name.now) ss
+
+kernel_in_runs : (runs : List Run) → list_any (λ r. list_any is_in_kernel (lines_of_run r)) runs ≡ list_any is_in_kernel (lines_of_all runs)
+kernel_in_runs [] = refl
+kernel_in_runs (r ∷ runs) =
+    ap (λ b. list_any is_in_kernel (lines_of_run r) || b) (kernel_in_runs runs)
+    ∙ sym (list_any-append is_in_kernel (lines_of_run r) (lines_of_all runs))
+
+-- a letter changes no owner
+kernel-lettered : (xs : List ListedSymbol) (ls : List ℕ) → length xs ≡ length ls → list_any is_in_kernel (map with_letter (zip xs ls)) ≡ list_any is_in_kernel xs
+kernel-lettered [] [] same = refl
+kernel-lettered [] (k ∷ ls) same = absurd (omega arith)
+kernel-lettered (x ∷ xs) [] same = absurd (omega arith)
+kernel-lettered (x ∷ xs) (k ∷ ls) same = ap (λ b. is_none x.owner || b) (kernel-lettered xs ls (omega arith))
+
+pub kernel_in_all : (runs : List Run) (last : Run) (letters : List ℕ) (lines : List ListedSymbol) → length (lines_of_all (runs ++ last ∷ [])) ≡ length letters
+    → map with_letter (zip (lines_of_all (runs ++ last ∷ [])) letters) ≡ lines
+    → (list_any (λ r. list_any is_in_kernel (lines_of_run r)) runs || list_any is_in_kernel (lines_of_run last)) ≡ list_any is_in_kernel lines
+kernel_in_all runs last letters lines same is =
+    ap (λ b. b || list_any is_in_kernel (lines_of_run last)) (kernel_in_runs runs)
+    ∙ sym (list_any-append is_in_kernel (lines_of_all runs) (lines_of_run last))
+    ∙ sym (ap (list_any is_in_kernel) (lines_of_all-last runs last))
+    ∙ sym (kernel-lettered (lines_of_all (runs ++ last ∷ [])) letters same)
+    ∙ ap (list_any is_in_kernel) is

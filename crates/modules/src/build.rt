@@ -1,24 +1,28 @@
 //! How a catalog is built, step by step.
 
-ghost use Rattle.std.specs.Prelude.{◌≡◌, ◌+◌, ◌-◌, ◌^◌, ◌<◌, ◌≤◌, true, All, length, IfOk};
-ghost use Rattle.std.specs.Prelude.{IfSome, count_by};
+ghost use Rattle.std.specs.Prelude.{◌≡◌, ◌+◌, ◌-◌, ◌^◌, ◌<◌, ◌≤◌, true, All, List, length, map};
+ghost use Rattle.std.specs.Prelude.{IfOk, IfSome, count_by};
 ghost use Rattle.std.specs.List.{flat_map};
 ghost use Rattle.std.specs.Option.{option_copied};
-ghost use Rattle.modules.specs.Accepted.{Accepted};
+ghost use Rattle.modules.specs.Accepted.{Accepted, accepted_of};
+ghost use Rattle.modules.specs.Admissions.{admission_view, module_counts};
 ghost use Rattle.modules.specs.Building.{AreModules, built_in_with};
 ghost use Rattle.modules.specs.Catalogs.{catalog_of, catalog_with, counts_of, kept_counts};
 ghost use Rattle.modules.specs.FromSymbols.{IsFromSymbols};
 ghost use Rattle.modules.specs.Kept.{is_used};
 ghost use Rattle.modules.specs.Lines.{bounds_for, built_in_region, fits, region_fits};
+ghost use Rattle.modules.specs.Listed.{ListedSymbol};
 ghost use Rattle.modules.specs.Placed.{are_few, IsPlaced};
 ghost use Rattle.modules.specs.PlacedModules.{AreSoundModules};
+ghost use Rattle.modules.specs.Sifted.{bare_line};
 
-use crate::admission::admit;
+use crate::admission::{Admission, admit};
 use crate::asked::Asked;
 use crate::catalog::{BuildCounts, Catalog, KeptCounts};
 use crate::from_symbols::modules_of;
-use crate::gathering::gather;
+use crate::gathering::{gather, kept_addresses};
 use crate::lines::{KernelBounds, ModuleLine, RegionLine};
+use crate::listed_addresses::ListedAddresses;
 use crate::module::Module;
 use crate::names::by_name;
 use crate::placed_modules::PlacedModules;
@@ -130,6 +134,48 @@ fn used_in(accepted: &PlacedModules, regions: &RegionLines) -> usize
         .count()
 }
 
+/// How many lines of modules and of regions went where. No lines of symbols are counted yet.
+fn module_counts(admission: &Admission, regions: &RegionLines) -> BuildCounts
+    ensures { result ≡ module_counts (admission_view admission.now) regions.now }
+{
+    let used = used_in(&admission.accepted, regions) as u64;
+    BuildCounts {
+        modules: admission.accepted.len() as u64,
+        double: admission.double,
+        overlap: admission.overlap,
+        regions: used,
+        stray_regions: regions.listed.len() as u64 - used,
+        symbols: 0,
+        stray: 0,
+    }
+}
+
+/// Accepts module lines, where the kernel itself lies between two of the symbols, and counts them
+/// and those of regions.
+fn accept_lines<'a>(
+    alloc: Global,
+    names: &KernelBounds,
+    modules: &[ModuleLine<'a>],
+    regions: &RegionLines<'_, 'a>,
+    symbols: &SymbolLines,
+) -> Result<(Admission<'a>, BuildCounts), AllocError>
+    requires fit { All (λ l. fits l ≡ true) modules.now }
+    requires regions_fit { All (λ l. region_fits l ≡ true) regions.now }
+    requires few { are_few regions.now ≡ true }
+    ensures accepted { IfOk result (λ r. admission_view r.0
+        ≡ accepted_of (built_in_region names.now symbols.now) regions.now modules.now) }
+    ensures counted { IfOk result
+        (λ r. r.1 ≡ module_counts (admission_view r.0) regions.now) }
+    ensures sound { IfOk result (λ r. AreSoundModules r.0.accepted) }
+    ensures few { IfOk result
+        (λ r. length (flat_map (λ m. m.regions) r.0.accepted.modules) < 2 ^ 64 - 1) }
+{
+    let built_in = built_in_region(symbols, names);
+    let admission = admit(alloc, built_in, regions, modules)?;
+    let counts = module_counts(&admission, regions);
+    Ok((admission, counts))
+}
+
 /// Accepts module lines, and makes the catalog of these modules.
 pub(crate) fn assemble<'a>(
     alloc: Global,
@@ -147,18 +193,43 @@ pub(crate) fn assemble<'a>(
     ensures counted { IfOk result
         (λ r. r.1 ≡ counts_of names.now modules.now regions.now symbols.entry) }
 {
-    let built_in = built_in_region(&symbols, names);
-    let admission = admit(alloc, built_in, regions, modules)?;
-    let used = used_in(&admission.accepted, regions) as u64;
+    let (admission, lines) = accept_lines(alloc, names, modules, regions, &symbols)?;
     let (catalog, kept) = catalog_with(alloc, admission.accepted, symbols, asked)?;
     let counts = BuildCounts {
-        modules: kept.modules,
-        double: admission.double,
-        overlap: admission.overlap,
-        regions: used,
-        stray_regions: regions.listed.len() as u64 - used,
         symbols: kept.symbols,
         stray: kept.stray,
+        ..lines
+    };
+    Ok((catalog, counts))
+}
+
+/// The same with some of the symbols alone, where the addresses are those of all lines.
+pub(crate) fn assemble_sifted<'a>(
+    alloc: Global,
+    names: &KernelBounds,
+    modules: &[ModuleLine<'a>],
+    regions: &RegionLines<'_, 'a>,
+    kept: SymbolLines<'a>,
+    addresses: &ListedAddresses,
+    asked: Asked<'_>,
+) -> Result<(Catalog<'a>, BuildCounts), AllocError>
+    requires fit { All (λ l. fits l ≡ true) modules.now }
+    requires regions_fit { All (λ l. region_fits l ≡ true) regions.now }
+    requires few { are_few regions.now ≡ true }
+    ensures built { IfOk result
+        (λ r. r.0 ≡ catalog_of names.now modules.now regions.now kept.entry) }
+    ensures counted { IfOk result (λ r. (all : List ListedSymbol)
+        → map bare_line all ≡ addresses.now
+        → built_in_region names.now kept.entry ≡ built_in_region names.now all
+        → r.1 ≡ counts_of names.now modules.now regions.now all) }
+{
+    let (admission, lines) = accept_lines(alloc, names, modules, regions, &kept)?;
+    let symbols = kept_addresses(&admission.accepted, addresses);
+    let (catalog, _) = catalog_with(alloc, admission.accepted, kept, asked)?;
+    let counts = BuildCounts {
+        symbols,
+        stray: addresses.len() as u64 - symbols,
+        ..lines
     };
     Ok((catalog, counts))
 }

@@ -1,9 +1,12 @@
 //! The modules that may be loaded, and what a load or an unload changes.
 
-ghost use Rattle.std.specs.Prelude.{◌≡◌, ◌↔◌, IsTrue, [], true, All, length, IfOk, IfErr};
+ghost use Rattle.std.specs.Prelude.{◌≡◌, ◌↔◌, IsTrue, [], true, All, List, length, map, IfOk};
+ghost use Rattle.std.specs.Prelude.{IfErr};
 ghost use Rattle.std.specs.Option.{option_copied};
 ghost use Rattle.modules.specs.Accepted.{Accepted};
-ghost use Rattle.modules.specs.Lines.{bounds_for, fits, region_fits, usual_bounds};
+ghost use Rattle.modules.specs.Lines.{bounds_for, built_in_region, fits, region_fits};
+ghost use Rattle.modules.specs.Lines.{usual_bounds};
+ghost use Rattle.modules.specs.Listed.{ListedSymbol};
 ghost use Rattle.modules.specs.Catalogs.{catalog_of, catalog_with, counts_of, IsBuildRefusal};
 ghost use Rattle.modules.specs.Catalogs.{kept_counts, module_of};
 ghost use Rattle.modules.specs.Catalogs.{module_number_of, number_for, regions_of, IsNoneAbsent};
@@ -12,10 +15,12 @@ ghost use Rattle.modules.specs.FromSymbols.{IsFromSymbols};
 ghost use Rattle.modules.specs.Loads.{drop_init_of, GivesOrLacksMemory, GivesSome, load_of};
 ghost use Rattle.modules.specs.Loads.{unload_of};
 ghost use Rattle.modules.specs.Placed.{are_few};
+ghost use Rattle.modules.specs.Sifted.{bare_line};
 
 use crate::asked::Asked;
-use crate::build::{assemble, assemble_symbols};
+use crate::build::{assemble, assemble_sifted, assemble_symbols};
 use crate::lines::{KernelBounds, ModuleLine, RegionLine};
+use crate::listed_addresses::ListedAddresses;
 use crate::loads::{inserting, is_inserting};
 use crate::module::Module;
 use crate::names::place_of;
@@ -202,6 +207,38 @@ impl<'a> Catalog<'a> {
             return Err(Refusal::TooManyRegions);
         }
         Ok(assemble(alloc, names, modules, &regions, symbols, asked)?)
+    }
+
+    /// Builds the catalog of some of the lines of symbols, for a caller that has forgotten the
+    /// others but for their addresses.
+    ///
+    /// It has the symbols of the lines in `kept` alone. The counts are those of all lines, where
+    /// `addresses` has the addresses of these, and where the kernel's region is the same by both.
+    pub fn build_sifted(
+        alloc: Global,
+        names: &KernelBounds,
+        modules: &[ModuleLine<'a>],
+        regions: &[RegionLine<'a>],
+        kept: SymbolLines<'a>,
+        addresses: &ListedAddresses,
+        asked: Asked<'_>,
+    ) -> Result<(Catalog<'a>, BuildCounts), Refusal>
+        requires fit { All (λ l. fits l ≡ true) modules.now }
+        requires regions_fit { All (λ l. region_fits l ≡ true) regions.now }
+        ensures built { IfOk result
+            (λ r. r.0 ≡ catalog_of names.now modules.now regions.now kept.entry) }
+        ensures counted { IfOk result (λ r. (all : List ListedSymbol)
+            → map bare_line all ≡ addresses.now
+            → built_in_region names.now kept.entry ≡ built_in_region names.now all
+            → r.1 ≡ counts_of names.now modules.now regions.now all) }
+        ensures few { IfOk result (λ _. are_few regions.now ≡ true) }
+        ensures refused { IfErr result (IsBuildRefusal regions.now) }
+    {
+        let regions = RegionLines::new(alloc, regions)?;
+        if !regions.are_few() {
+            return Err(Refusal::TooManyRegions);
+        }
+        Ok(assemble_sifted(alloc, names, modules, &regions, kept, addresses, asked)?)
     }
 
     /// Builds the catalog of a listing of symbols alone.

@@ -9,8 +9,9 @@
 //! letters:        T t D           t b         T
 //! ```
 
-ghost use Rattle.std.specs.Prelude.{◌≡◌, ◌++◌, ◌∷◌, [], length, find, is_some, IfOk, OnOk};
+ghost use Rattle.std.specs.Prelude.{◌≡◌, ◌++◌, ◌∷◌, [], length, find, is_none, is_some, IfOk, OnOk};
 ghost use Rattle.std.specs.Prelude.{OnErr};
+ghost use Rattle.std.specs.List.{list_any};
 ghost use Rattle.modules.specs.Lines.{first_address, built_in_region, usual_bounds_of, usual_end};
 ghost use Rattle.std.specs.Option.{option_copied, option_map};
 ghost use Rattle.std.specs.Str.{bytes_eq};
@@ -40,7 +41,7 @@ pub struct SymbolLines<'a> {
     /// The last run. It has no lines only where there are none at all.
     pub(crate) last: Run<'a>,
     /// The letter of each line.
-    letters: Vec<u8>,
+    pub(crate) letters: Vec<u8>,
 }
 
 impl<'a> Model for SymbolLines<'a> {
@@ -78,6 +79,13 @@ impl<'a> Run<'a> {
             return None;
         }
         first_named(self.symbols.as_slice(), name)
+    }
+
+    /// Whether it has a line, and is of the kernel itself.
+    fn is_in_kernel(&self) -> bool
+        ensures { result ≡ list_any (λ l. is_none l.owner) (lines_of_run self.now) }
+    {
+        self.module.is_none() && !self.symbols.is_empty()
     }
 }
 
@@ -138,6 +146,20 @@ impl<'a> SymbolLines<'a> {
         self.letters.len()
     }
 
+    /// Whether a line has no module.
+    pub fn has_kernel_line(&self) -> bool
+        ensures { result ≡ list_any (λ l. is_none l.owner) self.now }
+    {
+        is_some_in_kernel(self.runs.as_slice()) || self.last.is_in_kernel()
+    }
+
+    /// Whether a line without a module has this name.
+    pub fn has_kernel_symbol(&self, name: &[u8]) -> bool
+        ensures { result ≡ is_some (first_address name.now self.now) }
+    {
+        lists_kernel_symbol(self, name)
+    }
+
     /// Puts a line after these. An error leaves these as they were.
     #[inline(always)]
     pub fn push(&mut self, line: SymbolLine<'a>) -> Result<(), AllocError>
@@ -193,6 +215,14 @@ fn lists_kernel_symbol(lines: &SymbolLines, name: &[u8]) -> bool
     ensures { result ≡ is_some (first_address name.now lines.now) }
 {
     first_address(lines, name).is_some()
+}
+
+/// Whether one of the runs has a line and is of the kernel itself.
+fn is_some_in_kernel(runs: &[Run]) -> bool
+    ensures { result
+        ≡ list_any (λ r. list_any (λ l. is_none l.owner) (lines_of_run r)) runs.now }
+{
+    runs.iter().any(|run| run.is_in_kernel())
 }
 
 /// The name of the symbol at which the kernel itself ends. Many kernels list no `_end`.
