@@ -1,5 +1,9 @@
-//! The lines that a run of a script writes, byte for byte, with no memory taken.
-ghost use Rattle.std.specs.Prelude.{◌++◌, ◌≡◌, codes, decimal, flat_map, min, sum_by, vec_len};
+//! The lines that a run of a script writes, byte for byte.
+//!
+//! Many answers are gathered in memory before they are put on the writer at once. Memory that runs
+//! out for that fails no run: then the answers go to the writer piece by piece.
+ghost use Rattle.std.specs.Prelude.{◌++◌, ◌≡◌, IfOk, codes, decimal, flat_map, min};
+ghost use Rattle.std.specs.Prelude.{sum_by, vec_len};
 ghost use Rattle.std.specs.List.{zip};
 ghost use Rattle.listing.specs.Exact.{Wrote};
 ghost use Rattle.latchsym.specs.LookupTexts.{count_text};
@@ -9,17 +13,22 @@ ghost use Rattle.latchsym.specs.RunTexts.{writer_text};
 
 use crate::lookup_texts::put_count;
 use crate::texts::put_decimal;
-use listing::{Counted, ModuleName, put, put_hexadecimal, write_answer};
+use listing::{BLOCK, Counted, ModuleName, put, put_hexadecimal, write_answer};
 use modules::Catalog;
 use order_laws::Refusal;
 use shared_lookup::{Answer, Served};
+use std::alloc::Global;
 use std::io;
 use std::io::Write;
+
+/// How many answers are gathered at once. Mostly their lines fit in a block.
+const GATHERED: usize = 1024;
 
 /// Writes what came back from the writers, whose changes are of modules of these names, and from
 /// the readers; and lets the writer keep nothing back.
 pub fn put_run<W: Write>(
     writer: &mut Counted<W>,
+    alloc: Global,
     catalog: &Catalog<'_>,
     names: &[Vec<ModuleName<'_>>],
     served: &Served,
@@ -28,7 +37,7 @@ pub fn put_run<W: Write>(
         (run_text catalog.now names.now served.now) }
 {
     put_refusals(writer, names, &served.changes)?;
-    put_found(writer, catalog, &served.answers)?;
+    put_found(writer, alloc, catalog, &served.answers)?;
     let checked = checked_in(&served.answers);
     put_totals(writer, checked, served.wrong, served.log.len() as u64)?;
     writer.flush()
@@ -88,6 +97,7 @@ fn put_change<W: Write>(
 /// Writes the answers of each reader.
 fn put_found<W: Write>(
     writer: &mut Counted<W>,
+    alloc: Global,
     catalog: &Catalog<'_>,
     answers: &[Vec<Answer>],
 ) -> io::Result<()>
@@ -95,13 +105,58 @@ fn put_found<W: Write>(
         (flat_map (answers_text catalog.now) answers.now) }
 {
     for list in answers {
-        put_list(writer, catalog, list)?;
+        put_list(writer, alloc, catalog, list)?;
     }
     Ok(())
 }
 
 /// Writes the answers of a reader.
 fn put_list<W: Write>(
+    writer: &mut Counted<W>,
+    alloc: Global,
+    catalog: &Catalog<'_>,
+    answers: &[Answer],
+) -> io::Result<()>
+    ensures { Wrote W.contents writer.old writer.new result
+        (flat_map (answered_text catalog.now) answers.now) }
+{
+    let mut rest = answers;
+    while !rest.is_empty() {
+        let (next, after) = rest.split_at(rest.len().min(GATHERED));
+        put_gathered(writer, alloc, catalog, next)?;
+        rest = after;
+    }
+    Ok(())
+}
+
+/// Writes answers at once, or piece by piece where there is no memory to gather them.
+fn put_gathered<W: Write>(
+    writer: &mut Counted<W>,
+    alloc: Global,
+    catalog: &Catalog<'_>,
+    answers: &[Answer],
+) -> io::Result<()>
+    ensures { Wrote W.contents writer.old writer.new result
+        (flat_map (answered_text catalog.now) answers.now) }
+{
+    match gathered(alloc, catalog, answers) {
+        Ok(text) => put(writer, &text),
+        Err(_) => put_pieces(writer, catalog, answers),
+    }
+}
+
+/// The text of answers. An error means that memory ran out.
+fn gathered(alloc: Global, catalog: &Catalog<'_>, answers: &[Answer]) -> io::Result<Vec<u8>>
+    ensures { IfOk result (λ text.
+        text.items ≡ flat_map (answered_text catalog.now) answers.now) }
+{
+    let mut text = Counted::new(Vec::with_capacity(alloc, BLOCK)?);
+    put_pieces(&mut text, catalog, answers)?;
+    Ok(text.into_inner())
+}
+
+/// Writes the pieces of answers.
+fn put_pieces<W: Write>(
     writer: &mut Counted<W>,
     catalog: &Catalog<'_>,
     answers: &[Answer],

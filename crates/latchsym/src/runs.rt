@@ -152,14 +152,23 @@ fn run_lines<T: Threads + Wait + Sync, W: Write>(
     ensures { AnswersLines W.contents catalog.now readers lines.entry.items writer.old writer.new result }
 {
     let assigned = assign(alloc, catalog, &lines, readers);
-    drop(lines);
+    give_back(lines);
     let Assignments {
         changes,
         names,
         keys,
     } = assigned?;
     let served = serve(rt, alloc, &Open, catalog, changes, keys)?;
-    tell(writer, catalog, &names, &served)
+    tell(writer, alloc, catalog, &names, &served)
+}
+
+/// Lets lines go, but shortens their memory first. Where a block is freed whole, the C library's
+/// allocator keeps later ones of its size in its heap, and there the readers' lists are copied, and
+/// their old places kept, as they grow.
+fn give_back(lines: Vec<ScriptLine<'_>>) {
+    let mut lines = lines;
+    lines.truncate(1);
+    lines.shrink_to_fit();
 }
 
 /// Writes the lines of what came back, from writers whose changes are of modules of these names and
@@ -167,6 +176,7 @@ fn run_lines<T: Threads + Wait + Sync, W: Write>(
 /// memory where some list of addresses ended early.
 pub(crate) fn tell<W: Write>(
     writer: &mut Counted<W>,
+    alloc: Global,
     catalog: &Catalog<'_>,
     names: &[Vec<ModuleName<'_>>],
     served: &Served,
@@ -177,7 +187,7 @@ pub(crate) fn tell<W: Write>(
     if has_ended(&served.ended) {
         return Err(Fault::Refused(Refusal::OutOfMemory));
     }
-    match put_run(writer, catalog, names, served) {
+    match put_run(writer, alloc, catalog, names, served) {
         Ok(()) => Ok(status_of(served.wrong)),
         Err(_) => Err(Fault::Write),
     }

@@ -50,7 +50,7 @@ fn told(alloc: Global, served: &Served) -> Result<(Result<u8, Fault>, Vec<u8>), 
     };
     let listings = listings_in(alloc, &inputs, Asked::Any)?;
     let mut writer = Counted::new(Vec::new(alloc));
-    let answer = tell(&mut writer, &listings.catalog, &[], served);
+    let answer = tell(&mut writer, alloc, &listings.catalog, &[], served);
     Ok((answer, writer.into_inner()))
 }
 
