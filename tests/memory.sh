@@ -56,6 +56,10 @@ awk -v lines="$lines" 'BEGIN {
     print "ffffffffffff0000 T _end"
 }' >"$work/input"
 : >"$work/none"
-limited "a listing" lookup --modules "$work/none" --kallsyms "$work/input" 0xffffffff80001008
+# (for one address the least limit is enough)
+awk -v lines="$lines" 'BEGIN {
+    for (i = 2; i < lines; i += 4) printf "0xffffffff%08x\n", 2147483656 + 16 * (i % 100000000)
+}' >"$work/asked"
+limited "a listing" lookup --modules "$work/none" --kallsyms "$work/input" --addresses "$work/asked"
 echo '[<ffffffff80001008>]' >"$work/log"
 limited "the symbols of a log" annotate --kallsyms "$work/input" "$work/log"
