@@ -5,13 +5,13 @@ use Rattle.listing.specs.declared.counted.Counted.{Counted}
 use Rattle.listing.specs.AnnotatedLogs.{answered_by}
 use Rattle.order_laws.specs.declared.refusals.Refusal.TheVariants as refusal
 use Rattle.latchsym.specs.Annotations.{AnnotatesBy, AnnotatesLog, IsTold}
-use Rattle.latchsym.specs.OpenedCatalogs.{AreReadAs, Given, HasBadRegion, HasCrowdedRegions, IsCatalogOf, OpensCatalog}
-use Rattle.latchsym.specs.Readings.{Failures, NoReaderFailed}
+use Rattle.engines.specs.OpenedCatalogs.{AreReadAs, Given, HasBadRegion, HasCrowdedRegions, IsCatalogOf, OpensCatalog}
+use Rattle.engines.specs.Readings.{Failures, NoReaderFailed}
 use Rattle.latchsym.specs.declared.command_line.ListingFiles.{ListingFiles}
-use Rattle.latchsym.specs.declared.fault.Fault.{Fault}
-use Rattle.latchsym.specs.declared.fault.Fault.TheVariants.{Refused, BadLine, Read, TooLong, Write}
-use Rattle.latchsym.specs.declared.opened_catalogs.GivenTexts.{GivenTexts}
-use Rattle.latchsym.specs.declared.symbol_lookup.SymbolLookupOptions.{SymbolLookupOptions}
+use Rattle.engines.specs.declared.fault.Fault.{Fault}
+use Rattle.engines.specs.declared.fault.Fault.TheVariants.{Refused, BadLine, Read, TooLong, Write}
+use Rattle.engines.specs.declared.opened_catalogs.GivenTexts.{GivenTexts}
+use Rattle.engines.specs.declared.symbol_lookup.SymbolLookupOptions.{SymbolLookupOptions}
 
 module _ {L W E : Type 0} (remaining : L → Option (List ℕ)) (contents : W → Option (List ℕ)) (errors : E → Option (List ℕ)) (o : SymbolLookupOptions) (files : ListingFiles) where
   -- a fault on the way

@@ -21,20 +21,20 @@ use Rattle.modules.specs.Listed.{BoundNames, ListedRegion}
 use Rattle.order_laws.specs.declared.refusals.Refusal.TheVariants as refusal
 use Rattle.latchsym.specs.Checks.{ChecksGiven, ChecksListings, ChecksTexts, HasReport, IsChecked, IsModulesReport, IsReport, IsSymbolsReport, listings_report, modules_name, modules_report, regions_beside, status_of_kept, symbol_listing_report, symbols_report}
 use Rattle.listing.specs.ListingNotes.{is_of_kallsyms, is_of_modules}
-use Rattle.latchsym.specs.LookupInputs.{Inputs, catalog_in, counts_in, region_lines}
-use Rattle.latchsym.specs.LookupTexts.{modules_line, symbols_line}
-use Rattle.latchsym.specs.Lookups.{AreListingsOf, regions_line_of}
+use Rattle.engines.specs.LookupInputs.{Inputs, catalog_in, counts_in, region_lines}
+use Rattle.engines.specs.LookupTexts.{modules_line, symbols_line}
+use Rattle.engines.specs.Lookups.{AreListingsOf, regions_line_of}
 use Rattle.latchsym.specs.NoteTexts.{applying_lines, line_where, note_line}
-use Rattle.latchsym.specs.OpenedCatalogs.{Given, HasBadRegion, HasCrowdedRegions}
-use Rattle.latchsym.specs.Readings.{Failures, NoReaderFailed}
-use Rattle.latchsym.specs.SymbolLookups.{IsSymbolListing, counts_text_of, listed}
+use Rattle.engines.specs.OpenedCatalogs.{Given, HasBadRegion, HasCrowdedRegions}
+use Rattle.engines.specs.Readings.{Failures, NoReaderFailed}
+use Rattle.engines.specs.SymbolLookups.{IsSymbolListing, counts_text_of, listed}
 use Rattle.latchsym.specs.declared.command_line.ListingFiles.{ListingFiles}
-use Rattle.latchsym.specs.declared.fault.Fault.{Fault}
-use Rattle.latchsym.specs.declared.fault.Fault.TheVariants.{Refused, BadLine, Read, Write}
+use Rattle.engines.specs.declared.fault.Fault.{Fault}
+use Rattle.engines.specs.declared.fault.Fault.TheVariants.{Refused, BadLine, Read, Write}
 use Rattle.listing.specs.declared.listing_notes.ListingNote.{ListingNote}
-use Rattle.latchsym.specs.declared.lookup.Listings.{Listings}
-use Rattle.latchsym.specs.declared.lookup.LookupOptions.{LookupOptions}
-use Rattle.latchsym.specs.declared.symbol_lookup.SymbolListing.{SymbolListing}
+use Rattle.engines.specs.declared.lookup.Listings.{Listings}
+use Rattle.engines.specs.declared.lookup.LookupOptions.{LookupOptions}
+use Rattle.engines.specs.declared.symbol_lookup.SymbolListing.{SymbolListing}
 
 -- the text of one element more was written
 written_more : {D X : Type 0} (contents : D → Option (List ℕ)) (f : X → List ℕ) (xs : List X) (n : ℕ) (old mid new : D) (x : X) → n < length xs

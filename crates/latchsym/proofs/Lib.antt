@@ -1,33 +1,9 @@
 -- what a parse by the program's command gives
 mod ParseLemmas
--- what updates that insert items leave in a table
-mod LoadLemmas
--- a world for the table of a catalog, from its opening on
-mod WorldOpeningLemmas
--- one module more in a world that holds those of lesser numbers
-mod CatalogLoadLemmas
--- the same answer, where more is known of what was read
-mod InputLemmas
--- from the blocks of a listing of symbols to what is kept of it
-mod SiftedSymbolLemmas
--- the catalog of kept lines answers for the asked addresses as that of all lines does
-mod SiftedAnswerLemmas
--- from what is kept of a listing of symbols to what its lookup writes
-mod SiftedLookupLemmas
--- from the files that a lookup reads to what it returns
-mod LookupReadingLemmas
 -- words that are numbers, one after the other
 mod AddressLemmas
 -- the lookup that a command line asks for
 mod AskedLemmas
--- one line more of a script
-mod AssignmentLemmas
--- from the lines of a script to its text
-mod RunLemmas
--- from the text of a listing of symbols alone to the readers that it was read from
-mod SymbolInputLemmas
--- from what was read of listings to the catalog that they say
-mod OpenedCatalogLemmas
 -- from what came of a log to what the engine returns
 mod AnnotationLemmas
 -- from listings that are checked to what is written of them
@@ -40,11 +16,3 @@ mod NameAnswerLemmas
 mod AskedNameLemmas
 -- the place of a word among words and among their texts
 mod OperandLemmas
--- the text that bytes are, from one byte that is no part of it to the next
-mod JsonLemmas
--- digits in front of what stands in a room for a line
-mod LineRoomLemmas
--- what is done and written of a trace whose steps are told, one event and one command after another
-mod StepLemmas
--- the text of a trace whose commands are run one after another
-mod GatheredLemmas

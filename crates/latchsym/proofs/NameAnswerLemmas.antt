@@ -8,13 +8,13 @@ use Rattle.modules.specs.Listed.{BoundNames}
 use Rattle.order_laws.specs.declared.refusals.Refusal.TheVariants as refusal
 use Rattle.latchsym.specs.Addresses.{AnswersGiven, AnswersNames, HasCatalog, HoldsOfRegions, IsAddressed}
 use Rattle.latchsym.specs.AddressTexts.{address_text}
-use Rattle.latchsym.specs.OpenedCatalogs.{AreReadAs, Given, HasBadRegion, HasCrowdedRegions, IsCatalogOf, OpensCatalog}
-use Rattle.latchsym.specs.Readings.{Failures, NoReaderFailed}
-use Rattle.latchsym.specs.SymbolLookups.{listed}
-use Rattle.latchsym.specs.declared.fault.Fault.{Fault}
-use Rattle.latchsym.specs.declared.fault.Fault.TheVariants.{Refused, BadLine, Read, Write}
+use Rattle.engines.specs.OpenedCatalogs.{AreReadAs, Given, HasBadRegion, HasCrowdedRegions, IsCatalogOf, OpensCatalog}
+use Rattle.engines.specs.Readings.{Failures, NoReaderFailed}
+use Rattle.engines.specs.SymbolLookups.{listed}
+use Rattle.engines.specs.declared.fault.Fault.{Fault}
+use Rattle.engines.specs.declared.fault.Fault.TheVariants.{Refused, BadLine, Read, Write}
 use Rattle.listing.specs.declared.listing_notes.ListingNotes.{ListingNotes}
-use Rattle.latchsym.specs.declared.opened_catalogs.GivenTexts.{GivenTexts}
+use Rattle.engines.specs.declared.opened_catalogs.GivenTexts.{GivenTexts}
 
 module _ {W : Type 0} (contents : W → Option (List ℕ)) (json : Bool) (kernel : Option BoundNames) (words : List (List ℕ)) (g : Given) (w w' : Counted W) where
   -- a fault on the way

@@ -7,7 +7,7 @@ use Rattle.listing.specs.Exact.{hexadecimal}
 use Rattle.modules.specs.Entries.{CatalogEntries}
 use Rattle.modules.specs.Listed.{ListedSymbol}
 use Rattle.latchsym.specs.AskedNames.{AskedSymbols, asked_of}
-use Rattle.latchsym.specs.JsonTexts.{address_member, named_module, offset_members, symbol_members}
+use Rattle.engines.specs.JsonTexts.{address_member, named_module, offset_members, symbol_members}
 use Rattle.latchsym.specs.KeptSymbols.{Kept, kept_symbols, named}
 use Rattle.latchsym.specs.NoteTexts.{line_where}
 

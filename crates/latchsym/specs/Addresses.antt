@@ -7,11 +7,11 @@ use Rattle.modules.specs.Entries.{CatalogEntries}
 use Rattle.modules.specs.Listed.{BoundNames}
 use Rattle.order_laws.specs.declared.refusals.Refusal.TheVariants as refusal
 use Rattle.latchsym.specs.AddressTexts.{address_text}
-use Rattle.latchsym.specs.OpenedCatalogs.{Given, HasBadRegion, HasCrowdedRegions, IsCatalogOf}
-use Rattle.latchsym.specs.Readings.{Failures, NoReaderFailed, OnlyFailed}
-use Rattle.latchsym.specs.SymbolLookups.{listed}
-use Rattle.latchsym.specs.declared.fault.Fault.{Fault}
-use Rattle.latchsym.specs.declared.fault.Fault.TheVariants.{Refused, BadLine, Read, Write}
+use Rattle.engines.specs.OpenedCatalogs.{Given, HasBadRegion, HasCrowdedRegions, IsCatalogOf}
+use Rattle.engines.specs.Readings.{Failures, NoReaderFailed, OnlyFailed}
+use Rattle.engines.specs.SymbolLookups.{listed}
+use Rattle.engines.specs.declared.fault.Fault.{Fault}
+use Rattle.engines.specs.declared.fault.Fault.TheVariants.{Refused, BadLine, Read, Write}
 use Rattle.listing.specs.declared.listing_notes.ListingNotes.{ListingNotes}
 
 -- the writer has taken the lines of these words, as JSON or as text, by the catalog of the listings,

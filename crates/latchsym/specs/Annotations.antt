@@ -7,16 +7,16 @@ use Rattle.listing.specs.Annotation.{Annotates}
 use Rattle.modules.specs.Entries.{CatalogEntries}
 use Rattle.modules.specs.Listed.{BoundNames}
 use Rattle.order_laws.specs.declared.refusals.Refusal.TheVariants as refusal
-use Rattle.latchsym.specs.Faults.{IsNoted}
+use Rattle.latchsym.specs.Reports.{IsNoted}
 use Rattle.listing.specs.ListingNotes.{is_some_noted}
 use Rattle.latchsym.specs.NoteTexts.{note_lines}
-use Rattle.latchsym.specs.OpenedCatalogs.{Given, HasBadRegion, HasCrowdedRegions, IsCatalogOf}
-use Rattle.latchsym.specs.Readings.{Failures, NoReaderFailed, OnlyFailed}
+use Rattle.engines.specs.OpenedCatalogs.{Given, HasBadRegion, HasCrowdedRegions, IsCatalogOf}
+use Rattle.engines.specs.Readings.{Failures, NoReaderFailed, OnlyFailed}
 use Rattle.latchsym.specs.declared.command_line.ListingFiles.{ListingFiles}
-use Rattle.latchsym.specs.declared.fault.Fault.{Fault}
-use Rattle.latchsym.specs.declared.fault.Fault.TheVariants.{Refused, BadLine, Read, TooLong, Write}
+use Rattle.engines.specs.declared.fault.Fault.{Fault}
+use Rattle.engines.specs.declared.fault.Fault.TheVariants.{Refused, BadLine, Read, TooLong, Write}
 use Rattle.listing.specs.declared.listing_notes.ListingNotes.{ListingNotes}
-use Rattle.latchsym.specs.declared.symbol_lookup.SymbolLookupOptions.{SymbolLookupOptions}
+use Rattle.engines.specs.declared.symbol_lookup.SymbolLookupOptions.{SymbolLookupOptions}
 
 -- how a fault of the log is told: the log is the file at place 3
 abbrev pub AnnotatesBy : {L W : Type 0} → (L → Option (List ℕ)) → (W → Option (List ℕ))

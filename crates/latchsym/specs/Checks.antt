@@ -15,17 +15,17 @@ use Rattle.modules.specs.Listed.{BoundNames, ListedRegion}
 use Rattle.modules.specs.Placed.{are_few}
 use Rattle.order_laws.specs.declared.refusals.Refusal.TheVariants as refusal
 use Rattle.listing.specs.ListingNotes.{is_of_kallsyms, is_of_modules}
-use Rattle.latchsym.specs.LookupInputs.{Inputs, catalog_in, counts_in, region_lines}
-use Rattle.latchsym.specs.Lookups.{count_lines, counts_text}
+use Rattle.engines.specs.LookupInputs.{Inputs, catalog_in, counts_in, region_lines}
+use Rattle.engines.specs.Lookups.{count_lines, counts_text}
 use Rattle.latchsym.specs.NoteTexts.{applying_lines}
-use Rattle.latchsym.specs.OpenedCatalogs.{Given, HasBadRegion, HasCrowdedRegions, inputs_by}
-use Rattle.latchsym.specs.Readings.{Failures, NoReaderFailed, OnlyFailed}
-use Rattle.latchsym.specs.SymbolLookups.{SaysOfModules, counts_text_of, found_counts_text, listed}
+use Rattle.engines.specs.OpenedCatalogs.{Given, HasBadRegion, HasCrowdedRegions, inputs_by}
+use Rattle.engines.specs.Readings.{Failures, NoReaderFailed, OnlyFailed}
+use Rattle.engines.specs.SymbolLookups.{SaysOfModules, counts_text_of, found_counts_text, listed}
 use Rattle.latchsym.specs.declared.command_line.ListingFiles.{ListingFiles}
-use Rattle.latchsym.specs.declared.fault.Fault.{Fault}
-use Rattle.latchsym.specs.declared.fault.Fault.TheVariants.{Refused, BadLine, Read, Write}
-use Rattle.latchsym.specs.declared.lookup.Listings.{Listings}
-use Rattle.latchsym.specs.declared.symbol_lookup.SymbolListing.{SymbolListing}
+use Rattle.engines.specs.declared.fault.Fault.{Fault}
+use Rattle.engines.specs.declared.fault.Fault.TheVariants.{Refused, BadLine, Read, Write}
+use Rattle.engines.specs.declared.lookup.Listings.{Listings}
+use Rattle.engines.specs.declared.symbol_lookup.SymbolListing.{SymbolListing}
 
 -- the name of the file of modules, which is empty where there is none
 abbrev pub modules_name : ListingFiles → Text

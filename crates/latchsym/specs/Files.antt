@@ -11,10 +11,10 @@ use Rattle.latchsym.specs.declared.command_line.ListingFiles.{ListingFiles}
 use Rattle.latchsym.specs.declared.command_line.LookupJob.{LookupJob}
 use Rattle.latchsym.specs.declared.command_line.RunJob.{RunJob}
 use Rattle.latchsym.specs.declared.command_line.SymbolLookupJob.{SymbolLookupJob}
-use Rattle.latchsym.specs.declared.lookup.LookupReaders.{LookupReaders}
-use Rattle.latchsym.specs.declared.opened_catalogs.ListingReaders.{ListingReaders}
-use Rattle.latchsym.specs.declared.runs.RunReaders.{RunReaders}
-use Rattle.latchsym.specs.declared.symbol_lookup.SymbolLookupReaders.{SymbolLookupReaders}
+use Rattle.engines.specs.declared.lookup.LookupReaders.{LookupReaders}
+use Rattle.engines.specs.declared.opened_catalogs.ListingReaders.{ListingReaders}
+use Rattle.engines.specs.declared.runs.RunReaders.{RunReaders}
+use Rattle.engines.specs.declared.symbol_lookup.SymbolLookupReaders.{SymbolLookupReaders}
 
 -- what the file of each name holds, where that is known
 abbrev pub Held : Type 0

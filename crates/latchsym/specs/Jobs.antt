@@ -25,7 +25,7 @@ use Rattle.latchsym.specs.declared.command_line.SymbolLookupJob.{SymbolLookupJob
 use Rattle.latchsym.specs.declared.command_line.Job.TheVariants.{Trace, Steps, Lookup, SymbolLookup}
 use Rattle.latchsym.specs.declared.command_line.Job.TheVariants.{Address, Annotate, Check, Run}
 use Rattle.latchsym.specs.declared.command_line.JobFault.{JobFault}
-use Rattle.latchsym.specs.declared.forms.AnswerForm.{AnswerForm}
+use Rattle.engines.specs.declared.forms.AnswerForm.{AnswerForm}
 use Rattle.latchsym.specs.declared.command_line.JobFault.TheVariants.{OutOfMemory, CommandLine}
 use Rattle.latchsym.specs.declared.command_line.JobFault.TheVariants.{BadAddress, NoAddress}
 use Rattle.latchsym.specs.declared.command_line.JobFault.TheVariants.{BadEnd, BadOffset}

@@ -5,7 +5,7 @@ use Rattle.clap.specs.declared.error.Error.{Error}
 use Rattle.clap.specs.declared.error.kind.ErrorKind.TheVariants as kind
 use Rattle.listing.specs.declared.counted.Counted.{Counted}
 use Rattle.order_laws.specs.declared.refusals.Refusal.TheVariants as refusal
-use Rattle.latchsym.specs.Faults.{IsReported, fault_text}
+use Rattle.latchsym.specs.Reports.{IsReported, fault_text}
 use Rattle.latchsym.specs.declared.command_line.JobFault.{JobFault}
 use Rattle.latchsym.specs.declared.command_line.JobFault.TheVariants.{OutOfMemory, CommandLine}
 use Rattle.latchsym.specs.declared.command_line.JobFault.TheVariants.{BadAddress, NoAddress}
@@ -13,7 +13,7 @@ use Rattle.latchsym.specs.declared.command_line.JobFault.TheVariants.{BadEnd, Ba
 use Rattle.latchsym.specs.declared.command_line.JobFault.TheVariants.{BadReaders, NoJob}
 use Rattle.latchsym.specs.declared.command_line.JobFault.TheVariants.{NoModules, ModulesTwice}
 use Rattle.latchsym.specs.declared.command_line.JobFault.TheVariants.{RegionsAlone}
-use Rattle.latchsym.specs.declared.fault.Fault.TheVariants.{Refused}
+use Rattle.engines.specs.declared.fault.Fault.TheVariants.{Refused}
 
 -- what is wrong with the command line, and with which word
 abbrev pub misuse_text : List ℕ → Text → List ℕ

@@ -6,20 +6,20 @@ use Rattle.order_laws.specs.declared.refusals.Refusal.TheVariants as refusal
 use Rattle.latchsym.specs.Addresses.{AnswersNames}
 use Rattle.latchsym.specs.Annotations.{AnnotatesLog}
 use Rattle.latchsym.specs.Checks.{ChecksListings}
-use Rattle.latchsym.specs.Faults.{with_notes, with_status, without_notes}
+use Rattle.engines.specs.Faults.{with_notes, with_status, without_notes}
 use Rattle.latchsym.specs.Files.{AreAnnotateFiles, AreListingFiles}
 use Rattle.latchsym.specs.Files.{AreLookupFiles, AreRunFiles, AreSymbolLookupFiles, Held}
 use Rattle.latchsym.specs.Files.{IsOpened}
 use Rattle.listing.specs.ListingNotes.{no_notes}
-use Rattle.latchsym.specs.LookupInputs.{known_inputs}
-use Rattle.latchsym.specs.Lookups.{AnswersLookup, failures_between}
-use Rattle.latchsym.specs.OpenedCatalogs.{known_given, listing_failures}
-use Rattle.latchsym.specs.RunInputs.{known_run_inputs}
-use Rattle.latchsym.specs.Runs.{AnswersRun, run_failures_between}
-use Rattle.latchsym.specs.SymbolLookups.{AnswersSymbolLookup, failures_of_symbols}
-use Rattle.latchsym.specs.SymbolLookups.{known_symbol_inputs}
-use Rattle.latchsym.specs.StepTraces.{AnswersSteps}
-use Rattle.latchsym.specs.Traces.{AnswersTrace}
+use Rattle.engines.specs.LookupInputs.{known_inputs}
+use Rattle.engines.specs.Lookups.{AnswersLookup, failures_between}
+use Rattle.engines.specs.OpenedCatalogs.{known_given, listing_failures}
+use Rattle.engines.specs.RunInputs.{known_run_inputs}
+use Rattle.engines.specs.Runs.{AnswersRun, run_failures_between}
+use Rattle.engines.specs.SymbolLookups.{AnswersSymbolLookup, failures_of_symbols}
+use Rattle.engines.specs.SymbolLookups.{known_symbol_inputs}
+use Rattle.engines.specs.StepTraces.{AnswersSteps}
+use Rattle.engines.specs.Traces.{AnswersTrace}
 use Rattle.latchsym.specs.declared.address_command.AddressJob.{AddressJob}
 use Rattle.latchsym.specs.declared.annotations.AnnotateReaders.{AnnotateReaders}
 use Rattle.latchsym.specs.declared.command_line.AnnotateJob.{AnnotateJob}
@@ -30,14 +30,14 @@ use Rattle.latchsym.specs.declared.command_line.Job.TheVariants.{Address, Annota
 use Rattle.latchsym.specs.declared.command_line.LookupJob.{LookupJob}
 use Rattle.latchsym.specs.declared.command_line.RunJob.{RunJob}
 use Rattle.latchsym.specs.declared.command_line.SymbolLookupJob.{SymbolLookupJob}
-use Rattle.latchsym.specs.declared.fault.Fault.{Fault}
-use Rattle.latchsym.specs.declared.fault.Finished.{Finished}
-use Rattle.latchsym.specs.declared.fault.Fault.TheVariants.{Refused}
+use Rattle.engines.specs.declared.fault.Fault.{Fault}
+use Rattle.engines.specs.declared.fault.Finished.{Finished}
+use Rattle.engines.specs.declared.fault.Fault.TheVariants.{Refused}
 use Rattle.listing.specs.declared.listing_notes.ListingNotes.{ListingNotes}
-use Rattle.latchsym.specs.declared.lookup.LookupReaders.{LookupReaders}
-use Rattle.latchsym.specs.declared.opened_catalogs.ListingReaders.{ListingReaders}
-use Rattle.latchsym.specs.declared.symbol_lookup.SymbolLookupReaders.{SymbolLookupReaders}
-use Rattle.latchsym.specs.declared.runs.RunReaders.{RunReaders}
+use Rattle.engines.specs.declared.lookup.LookupReaders.{LookupReaders}
+use Rattle.engines.specs.declared.opened_catalogs.ListingReaders.{ListingReaders}
+use Rattle.engines.specs.declared.symbol_lookup.SymbolLookupReaders.{SymbolLookupReaders}
+use Rattle.engines.specs.declared.runs.RunReaders.{RunReaders}
 
 -- what the trace engine returned for the file of this name, whose success is status 0
 pub record IsTraced {F W : Type 0} (remaining : F → Option (List ℕ))

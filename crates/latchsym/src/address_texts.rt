@@ -13,10 +13,8 @@ ghost use Rattle.latchsym.specs.KeptSymbols.{found_by};
 ghost use Rattle.latchsym.specs.NoteTexts.{line_where};
 
 use crate::asked_names::{AskedName, asked_name};
-use crate::json_texts::{
-    put_address_member, put_named_module, put_offset_members, put_symbol_members,
-};
 use crate::kept_symbols::{KeptSymbol, SoughtSymbols};
+use engines::{put_address_member, put_named_module, put_offset_members, put_symbol_members};
 use listing::{Counted, put, put_hexadecimal};
 use std::io;
 use std::io::Write;

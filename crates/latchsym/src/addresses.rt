@@ -5,12 +5,11 @@ ghost use Rattle.listing.specs.Exact.{Wrote};
 ghost use Rattle.latchsym.specs.Addresses.{AnswersGiven, AnswersNames};
 ghost use Rattle.latchsym.specs.AddressTexts.{words_text};
 ghost use Rattle.latchsym.specs.KeptSymbols.{found_by};
-ghost use Rattle.latchsym.specs.OpenedCatalogs.{given_in, known_given, listing_failures};
+ghost use Rattle.engines.specs.OpenedCatalogs.{given_in, known_given, listing_failures};
 
 use crate::address_texts::put_words;
-use crate::fault::Fault;
 use crate::kept_symbols::{SoughtSymbols, symbols_sought};
-use crate::opened_catalogs::{GivenTexts, ListingReaders, open_catalog, read_given};
+use engines::{Fault, GivenTexts, ListingReaders, open_catalog, read_given};
 use listing::{Counted, ListingNotes};
 use modules::{IndexedCatalog, KernelBounds};
 use std::alloc::Global;

@@ -6,12 +6,11 @@
 ghost use Rattle.std.specs.Prelude.{◌≡◌, [], Some};
 ghost use Rattle.listing.specs.AnnotatedLogs.{answered_by};
 ghost use Rattle.latchsym.specs.Annotations.{AnnotatesBy, AnnotatesLog};
-ghost use Rattle.latchsym.specs.OpenedCatalogs.{given_in, known_given, listing_failures};
+ghost use Rattle.engines.specs.OpenedCatalogs.{given_in, known_given, listing_failures};
 
 use crate::command_line::ListingFiles;
-use crate::fault::{Fault, note_listings};
-use crate::opened_catalogs::{GivenTexts, ListingReaders, open_catalog, read_given};
-use crate::symbol_lookup::SymbolLookupOptions;
+use crate::reports::note_listings;
+use engines::{Fault, GivenTexts, ListingReaders, SymbolLookupOptions, open_catalog, read_given};
 use listing::{AddressRule, Counted, LogFault, annotate};
 use modules::IndexedCatalog;
 use order_laws::Refusal;

@@ -11,18 +11,17 @@ ghost use Rattle.latchsym.specs.Checks.{ChecksGiven, ChecksListings, ChecksTexts
 ghost use Rattle.latchsym.specs.Checks.{IsSymbolsReport, listings_report, modules_name};
 ghost use Rattle.latchsym.specs.Checks.{status_of_kept, symbol_listing_report};
 ghost use Rattle.listing.specs.ListingNotes.{is_of_kallsyms, is_of_modules};
-ghost use Rattle.latchsym.specs.LookupInputs.{inputs_in};
+ghost use Rattle.engines.specs.LookupInputs.{inputs_in};
 ghost use Rattle.latchsym.specs.NoteTexts.{applying_lines};
-ghost use Rattle.latchsym.specs.OpenedCatalogs.{given_in, known_given, listing_failures};
+ghost use Rattle.engines.specs.OpenedCatalogs.{given_in, known_given, listing_failures};
 
 use crate::command_line::ListingFiles;
-use crate::fault::{FAILED, Fault, SUCCEEDED};
-use crate::lookup::{
-    Listings, LookupInputs, LookupOptions, listings_in, put_counts, region_lines_in,
-};
 use crate::note_texts::put_note_where;
-use crate::opened_catalogs::{GivenTexts, ListingReaders, bounds_or_usual, read_given};
-use crate::symbol_lookup::{SymbolListing, put_found_counts, symbol_listing_in};
+use engines::{
+    FAILED, Fault, GivenTexts, ListingReaders, Listings, LookupInputs, LookupOptions, SUCCEEDED,
+    SymbolListing, bounds_or_usual, listings_in, put_counts, put_found_counts, read_given,
+    region_lines_in, symbol_listing_in,
+};
 use listing::{AddressRule, Counted, ListingNote, applies_to_kallsyms, applies_to_modules};
 use modules::{Asked, Catalog, KernelBounds};
 use std::alloc::Global;

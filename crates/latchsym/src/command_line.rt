@@ -15,11 +15,9 @@ ghost use Rattle.latchsym.specs.Jobs.{AnswersWords, GivesAnyBounds, GivesAsked, 
 ghost use Rattle.latchsym.specs.Jobs.{AreNumbers, GivesOffset, IsFaultOf};
 
 use crate::address_command::{AddressJob, address_command, address_job};
-use crate::forms::AnswerForm;
-use crate::lookup::LookupOptions;
-use crate::symbol_lookup::SymbolLookupOptions;
 use clap::error::ErrorKind;
 use clap::{Arg, ArgAction, ArgMatches, Command, Error};
+use engines::{AnswerForm, LookupOptions, SymbolLookupOptions};
 use latch_table::MOST_READERS;
 use listing::{AddressRule, number, number_up_to};
 use modules::KernelBounds;

@@ -17,13 +17,11 @@ use crate::checks::check_engine;
 use crate::command_line::{
     AnnotateJob, CheckJob, Job, ListingFiles, LookupJob, RunJob, SymbolLookupJob,
 };
-use crate::fault::{Fault, Finished, with_notes, with_status, without_notes};
-use crate::lookup::{LookupReaders, lookup_engine};
-use crate::opened_catalogs::ListingReaders;
-use crate::runs::{RunReaders, run_engine};
-use crate::steps::steps_engine;
-use crate::symbol_lookup::{SymbolLookupReaders, symbol_lookup_engine};
-use crate::trace::trace_engine;
+use engines::{
+    Fault, Finished, ListingReaders, LookupReaders, RunReaders, SymbolLookupReaders, lookup_engine,
+    run_engine, steps_engine, symbol_lookup_engine, trace_engine, with_notes, with_status,
+    without_notes,
+};
 use listing::{Counted, ListingNotes};
 use order_laws::Refusal;
 use std::alloc::Global;

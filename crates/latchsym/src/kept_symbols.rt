@@ -8,7 +8,7 @@ ghost use Rattle.order_laws.specs.declared.items.Item.{Item};
 ghost use Rattle.latchsym.specs.AddressTexts.{size_of};
 ghost use Rattle.latchsym.specs.KeptSymbols.{IsSought, Kept, is_owner, kept_in};
 ghost use Rattle.latchsym.specs.KeptSymbols.{kept_line, kept_symbol, kept_symbols};
-ghost use Rattle.latchsym.specs.SymbolLookups.{listed};
+ghost use Rattle.engines.specs.SymbolLookups.{listed};
 
 use crate::asked_names::symbol_asked;
 use listing::{cut_tabbed_line, symbol_of_line};

@@ -13,6 +13,8 @@
 //! [--kernel START END]` says what is wrong with listings, and how many of their lines are of use.
 //! `latchsym address [--kallsyms FILE] [--modules FILE [--regions FILE]] [--kernel START END] [--json]
 //! [--no-counts] NAME..` says where the symbols of these names are.
+//!
+//! What `trace`, `lookup` and `run` do stands in `engines`; what needs no table stands here.
 #![tactic(auto)]
 
 mod address_command;
@@ -20,43 +22,27 @@ mod address_texts;
 mod addresses;
 mod annotations;
 mod asked_names;
-mod assignments;
 mod checks;
 mod command_line;
-mod fault;
-mod forms;
 mod input;
 mod jobs;
-mod json;
-mod json_texts;
 mod kept_symbols;
-mod line_rooms;
-mod lookup;
-mod lookup_texts;
 mod misuse;
 mod note_texts;
-mod opened_catalogs;
 mod operands;
-mod run_texts;
-mod runs;
-mod sifted_symbols;
-mod step_texts;
-mod steps;
-mod symbol_lookup;
-mod table;
+mod reports;
 #[cfg(test)]
 mod tests;
-mod texts;
-mod trace;
 
 use command_line::{Job, JobFault, job_of};
-use fault::{Fault, conclude};
+use engines::Fault;
 use input::FileSystem;
 use jobs::do_job;
 use listing::{BLOCK, Counted};
 use misuse::{misused, refuse};
 use operands::with_operands;
 use order_laws::Refusal;
+use reports::conclude;
 use std::env;
 use std::io::{BufWriter, ErrorKind, Stderr};
 use std::process::ExitCode;

@@ -4,8 +4,9 @@ ghost use Rattle.listing.specs.Exact.{Wrote};
 ghost use Rattle.latchsym.specs.Misuses.{IsExplained, IsMisused, IsNoJob, misuse_text};
 
 use crate::command_line::JobFault;
-use crate::fault::{Fault, SUCCEEDED, report_before_job};
+use crate::reports::report_before_job;
 use clap::Error;
+use engines::{Fault, SUCCEEDED};
 use listing::{Counted, put};
 use order_laws::Refusal;
 use std::io;

@@ -1,52 +1,17 @@
-//! The engine over readers and writers in memory.
-mod address_files;
-mod address_rules;
+//! Jobs, the words that ask for them, and the commands that open a catalog, over files in memory.
 mod addresses;
 mod annotations;
-mod at_size;
-mod bad_input;
 mod checks;
-mod devices_that_fail;
-mod failing_runs;
 mod fault_texts;
-mod forms;
 mod jobs;
 mod listing_notes;
-mod listings;
-mod long_listings;
 mod operands;
 mod option_words;
-mod rows;
-mod scripts;
-mod steps;
-mod stops;
-mod symbol_lookups;
 mod words;
-mod wrong_answers;
 
-use crate::fault::{Fault, Finished};
-use crate::forms::AnswerForm;
-use crate::lookup::LookupOptions;
-use crate::trace::trace_engine;
-use listing::{AddressRule, Counted, ListingNotes};
+use engines::{AnswerForm, Fault, Finished, LookupOptions};
+use listing::AddressRule;
 use modules::KernelBounds;
-use std::alloc::Global;
-
-/// What the engine returns for a trace, and what it writes.
-fn traced(alloc: Global, trace: &[u8]) -> (Result<(), Fault>, Vec<u8>) {
-    let mut reader = Counted::new(trace);
-    let mut writer = Counted::new(Vec::new(alloc));
-    let answer = trace_engine(alloc, &mut reader, &mut writer);
-    (answer, writer.into_inner())
-}
-
-/// Why a lookup failed, if it did, whatever is noted of its listings.
-fn unnoted(answer: Result<ListingNotes, Fault>) -> Result<(), Fault> {
-    match answer {
-        Ok(_) => Ok(()),
-        Err(fault) => Err(fault),
-    }
-}
 
 /// The status of a job, or why it failed, whatever is noted of its listings.
 fn status_of(outcome: Result<Finished, Fault>) -> Result<u8, Fault> {

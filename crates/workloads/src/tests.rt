@@ -1,9 +1,21 @@
 //! What the tests share.
 
+mod attempt_times;
+mod batches;
+mod cores;
+mod enlarging;
+mod event_batches;
+mod event_rows;
+mod events;
+mod interrupts;
+mod ledgers;
 mod meetings;
+mod openings;
 mod others;
 mod stops;
+mod tables;
 mod threads;
+mod widening;
 
 use crate::Schedule;
 use latch_core::Update;

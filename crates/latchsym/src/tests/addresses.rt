@@ -1,7 +1,6 @@
 //! Names that are looked for in listings in memory, by readers and writers that fail.
 use crate::addresses::address_engine;
-use crate::fault::Fault;
-use crate::opened_catalogs::ListingReaders;
+use engines::{Fault, ListingReaders};
 use listing::{Counted, FailAt, ListingNote, ListingNotes};
 use modules::KernelBounds;
 use std::alloc::Global;

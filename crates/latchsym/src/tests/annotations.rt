@@ -1,9 +1,7 @@
 //! Logs that are annotated by listings in memory, by readers and writers that fail.
 use crate::annotations::{AnnotateReaders, annotate_engine};
 use crate::command_line::ListingFiles;
-use crate::fault::Fault;
-use crate::opened_catalogs::ListingReaders;
-use crate::symbol_lookup::SymbolLookupOptions;
+use engines::{Fault, ListingReaders, SymbolLookupOptions};
 use listing::{AddressRule, BLOCK, Counted, FailAt};
 use modules::KernelBounds;
 use order_laws::Refusal;

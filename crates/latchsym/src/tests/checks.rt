@@ -1,8 +1,7 @@
 //! Listings in memory that are checked, by readers and writers that fail.
 use crate::checks::check_engine;
 use crate::command_line::ListingFiles;
-use crate::fault::Fault;
-use crate::opened_catalogs::ListingReaders;
+use engines::{Fault, ListingReaders};
 use listing::{Counted, FailAt};
 use modules::KernelBounds;
 use order_laws::Refusal;

@@ -1,5 +1,6 @@
 //! The text that a fault displays is the one that the program writes of it.
-use crate::fault::{Fault, report_before_job};
+use crate::reports::report_before_job;
+use engines::Fault;
 use listing::Counted;
 use order_laws::Refusal;
 use std::alloc::{AllocError, Global};

@@ -1,12 +1,11 @@
 //! Jobs over files in memory, from the names of their files to the program's status.
 use crate::address_command::AddressJob;
 use crate::command_line::{AnnotateJob, CheckJob, Job, JobFault, ListingFiles, LookupJob, RunJob};
-use crate::fault::{Fault, conclude, with_notes};
 use crate::jobs::{FileSource, do_job};
-use crate::lookup::LookupOptions;
 use crate::misuse::refuse;
-use crate::symbol_lookup::SymbolLookupOptions;
+use crate::reports::conclude;
 use crate::tests::{AS_TEXT, status_of};
+use engines::{Fault, LookupOptions, SymbolLookupOptions, with_notes};
 use listing::{AddressRule, Counted, FailAt, ListingNotes};
 use modules::KernelBounds;
 use order_laws::Refusal;

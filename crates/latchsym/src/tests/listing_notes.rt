@@ -1,8 +1,8 @@
 //! What is noted of listings of which nothing is of use, and the lines that say it.
 use crate::command_line::{Job, LookupJob, RunJob};
-use crate::fault::{Finished, conclude};
-use crate::lookup::{LookupOptions, LookupReaders, lookup_engine};
+use crate::reports::conclude;
 use crate::tests::{AS_TEXT, usual_options};
+use engines::{Finished, LookupOptions, LookupReaders, lookup_engine};
 use listing::{AddressRule, Counted, ListingNote, ListingNotes};
 use modules::KernelBounds;
 use std::alloc::Global;

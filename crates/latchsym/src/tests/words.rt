@@ -1,7 +1,8 @@
 //! Command lines, and the lines that report a fault.
 use crate::command_line::{Job, JobFault, LookupJob, RunJob, job_of};
-use crate::fault::{Fault, report, report_before_job};
+use crate::reports::{report, report_before_job};
 use clap::error::ErrorKind;
+use engines::Fault;
 use listing::Counted;
 use order_laws::Refusal;
 use std::alloc::Global;
@@ -282,4 +283,17 @@ fn a_fault_has_its_text(rt: HostRuntime) -> Result<(), Fail> {
         assert_eq!(rt; format!(in alloc; "{fault}")?.as_str(), text);
     }
     Ok(())
+}
+
+#[test]
+fn a_command_line_asks_for_steps(rt: HostRuntime) {
+    for words in [
+        ["latchsym", "trace", "--steps", "a file"],
+        ["latchsym", "trace", "a file", "--steps"],
+    ] {
+        match job_of(rt.alloc(), &words) {
+            Ok(Job::Steps { file }) => assert_eq!(rt; file, "a file"),
+            _ => assert!(rt; false, "no steps"),
+        }
+    }
 }

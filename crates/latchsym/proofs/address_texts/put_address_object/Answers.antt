@@ -2,7 +2,7 @@ use Rattle.std.proofs.Common.{◌∙◌, ◌+◌, ap}
 use Rattle.listing.proofs.WriteLemmas.{same_text, then}
 use Rattle.latchsym.specs.AddressTexts.{address_object, owner_member}
 use Rattle.latchsym.specs.AskedNames.{AskedSymbols}
-use Rattle.latchsym.specs.JsonTexts.{address_member, symbol_members}
+use Rattle.engines.specs.JsonTexts.{address_member, symbol_members}
 use Rattle.latchsym.specs.KeptSymbols.{Kept}
 use Rattle.latchsym.proofs.address_texts.put_address_object.Goals as goal
 

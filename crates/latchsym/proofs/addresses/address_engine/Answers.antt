@@ -1,6 +1,6 @@
 use Rattle.std.proofs.Common.{map}
 use Rattle.std.specs.Option.{option_copied}
-use Rattle.latchsym.specs.OpenedCatalogs.{given_in, known_given, listing_failures}
+use Rattle.engines.specs.OpenedCatalogs.{given_in, known_given, listing_failures}
 use Rattle.latchsym.proofs.NameAnswerLemmas.{listings_known}
 use Rattle.latchsym.proofs.addresses.address_engine.Goals as goal
 

@@ -3,8 +3,8 @@ use Rattle.std.specs.Prelude.{unwrap_or}
 use Rattle.std.specs.Option.{option_copied}
 use Rattle.latchsym.specs.AddressTexts.{address_text, words_text}
 use Rattle.latchsym.specs.KeptSymbols.{IsSought, found_by, kept_symbols}
-use Rattle.latchsym.specs.OpenedCatalogs.{IsCatalogOf, given_in}
-use Rattle.latchsym.specs.SymbolLookups.{listed}
+use Rattle.engines.specs.OpenedCatalogs.{IsCatalogOf, given_in}
+use Rattle.engines.specs.SymbolLookups.{listed}
 use Rattle.latchsym.proofs.NameAnswerLemmas.{ended, not_opened, was_not_written, was_written}
 use Rattle.latchsym.proofs.SoughtLemmas.{text_by_map}
 use Rattle.latchsym.proofs.addresses.answer_names.Goals as goal

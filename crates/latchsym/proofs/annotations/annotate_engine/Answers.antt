@@ -1,4 +1,4 @@
-use Rattle.latchsym.specs.OpenedCatalogs.{given_in, known_given, listing_failures}
+use Rattle.engines.specs.OpenedCatalogs.{given_in, known_given, listing_failures}
 use Rattle.latchsym.proofs.AnnotationLemmas.{ended, not_read, readers_known}
 use Rattle.latchsym.proofs.annotations.annotate_engine.Goals as goal
 

@@ -1,9 +1,9 @@
 use Rattle.std.proofs.Common.{[], Err, Some, inl, refl, subst, sym}
-use Rattle.latchsym.specs.Faults.{IsNoted}
+use Rattle.latchsym.specs.Reports.{IsNoted}
 use Rattle.listing.specs.ListingNotes.{is_some_noted}
 use Rattle.latchsym.specs.NoteTexts.{note_lines}
-use Rattle.latchsym.specs.OpenedCatalogs.{IsCatalogOf, OpensCatalog, given_in}
-use Rattle.latchsym.specs.declared.fault.Fault.TheVariants.{Refused}
+use Rattle.engines.specs.OpenedCatalogs.{IsCatalogOf, OpensCatalog, given_in}
+use Rattle.engines.specs.declared.fault.Fault.TheVariants.{Refused}
 use Rattle.order_laws.specs.declared.refusals.Refusal.TheVariants as refusal
 use Rattle.latchsym.proofs.AnnotationLemmas.{ended, log_annotated, not_opened}
 use Rattle.latchsym.proofs.annotations.annotate_over.Goals as goal

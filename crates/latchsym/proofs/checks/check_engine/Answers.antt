@@ -1,5 +1,5 @@
 use Rattle.std.specs.Option.{option_copied}
-use Rattle.latchsym.specs.OpenedCatalogs.{given_in, known_given, listing_failures}
+use Rattle.engines.specs.OpenedCatalogs.{given_in, known_given, listing_failures}
 use Rattle.latchsym.proofs.CheckLemmas.{listings_known}
 use Rattle.latchsym.proofs.checks.check_engine.Goals as goal
 

@@ -1,7 +1,7 @@
 use Rattle.std.proofs.Common.{None, Some, ap, option_map, subst, sym}
 use Rattle.std.specs.Option.{option_copied}
 use Rattle.latchsym.specs.Checks.{ChecksTexts, IsModulesReport, IsReportBy, IsSymbolsReport, regions_beside}
-use Rattle.latchsym.specs.OpenedCatalogs.{given_in}
+use Rattle.engines.specs.OpenedCatalogs.{given_in}
 use Rattle.latchsym.proofs.checks.check_given.Goals as goal
 
 pub returns-in-Some : goal.returns-in-Some

@@ -2,8 +2,8 @@ use Rattle.std.proofs.Common.{option_map, subst}
 use Rattle.std.specs.Option.{option_copied}
 use Rattle.listing.specs.AddressRules.{as_given}
 use Rattle.latchsym.specs.Checks.{IsModulesReport, listings_report}
-use Rattle.latchsym.specs.LookupInputs.{Inputs}
-use Rattle.latchsym.specs.declared.lookup.LookupOptions.{LookupOptions}
+use Rattle.engines.specs.LookupInputs.{Inputs}
+use Rattle.engines.specs.declared.lookup.LookupOptions.{LookupOptions}
 use Rattle.latchsym.proofs.CheckLemmas.{modules_reported, was_not_written, was_written}
 use Rattle.latchsym.proofs.checks.check_modules.Goals as goal
 

@@ -1,7 +1,7 @@
 use Rattle.std.proofs.Common.{inl, map, subst}
 use Rattle.std.specs.Option.{option_copied}
 use Rattle.latchsym.specs.Addresses.{AnswersNames}
-use Rattle.latchsym.specs.OpenedCatalogs.{known_given, listing_failures}
+use Rattle.engines.specs.OpenedCatalogs.{known_given, listing_failures}
 use Rattle.latchsym.proofs.jobs.do_address.Goals as goal
 
 pub returns : goal.returns

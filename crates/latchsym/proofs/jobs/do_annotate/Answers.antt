@@ -1,5 +1,5 @@
 use Rattle.std.proofs.Common.{ap, inl, ◌∙◌}
-use Rattle.latchsym.specs.Faults.{with_status}
+use Rattle.engines.specs.Faults.{with_status}
 use Rattle.latchsym.proofs.jobs.do_annotate.Goals as goal
 
 pub returns : goal.returns

@@ -1,7 +1,7 @@
 use Rattle.std.proofs.Common.{ap, inl, subst, ◌∙◌}
 use Rattle.latchsym.specs.Checks.{ChecksListings}
-use Rattle.latchsym.specs.Faults.{with_notes}
-use Rattle.latchsym.specs.OpenedCatalogs.{known_given, listing_failures}
+use Rattle.engines.specs.Faults.{with_notes}
+use Rattle.engines.specs.OpenedCatalogs.{known_given, listing_failures}
 use Rattle.latchsym.proofs.jobs.do_check.Goals as goal
 
 pub returns : goal.returns

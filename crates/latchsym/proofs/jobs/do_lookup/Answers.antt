@@ -1,6 +1,6 @@
 use Rattle.std.proofs.Common.{inl, subst}
-use Rattle.latchsym.specs.LookupInputs.{known_inputs}
-use Rattle.latchsym.specs.Lookups.{AnswersLookup, failures_between}
+use Rattle.engines.specs.LookupInputs.{known_inputs}
+use Rattle.engines.specs.Lookups.{AnswersLookup, failures_between}
 use Rattle.latchsym.proofs.jobs.do_lookup.Goals as goal
 
 pub returns : goal.returns

@@ -1,5 +1,5 @@
 use Rattle.std.proofs.Common.{inl, subst}
-use Rattle.latchsym.specs.SymbolLookups.{AnswersSymbolLookup, failures_of_symbols, known_symbol_inputs}
+use Rattle.engines.specs.SymbolLookups.{AnswersSymbolLookup, failures_of_symbols, known_symbol_inputs}
 use Rattle.latchsym.proofs.jobs.do_symbol_lookup.Goals as goal
 
 pub returns : goal.returns

@@ -1,0 +1,49 @@
+-- From what was read of listings to the catalog that they say.
+use Rattle.std.proofs.Common.{◌≡◌, ℕ, List, [], Option, Some, None, Result, Ok, Err, sym, ◌∙◌, ap, subst}
+use Rattle.std.specs.Prelude.{is_some, unwrap_or}
+use Rattle.listing.specs.Lines.{lines_of}
+use Rattle.listing.specs.ModuleListing.{modules_in}
+use Rattle.listing.specs.SymbolListing.{symbols_in}
+use Rattle.modules.specs.Catalogs.{catalog_of}
+use Rattle.modules.specs.Lines.{usual_bounds}
+use Rattle.modules.specs.Listed.{BoundNames, ListedRegion}
+use Rattle.order_laws.specs.declared.refusals.Refusal.TheVariants as refusal
+use Rattle.engines.specs.LookupInputs.{Inputs, catalog_in, counts_in, notes_of, region_lines}
+use Rattle.engines.specs.Lookups.{AreListingsOf}
+use Rattle.engines.specs.OpenedCatalogs.{Given, IsByModules, IsCatalogBy, OpensByModules, OpensBySymbols, OpensCatalog}
+use Rattle.engines.specs.declared.fault.Fault.{Fault}
+use Rattle.engines.specs.declared.fault.Fault.TheVariants.{Refused, BadLine}
+use Rattle.engines.specs.declared.lookup.Listings.{Listings}
+use Rattle.engines.specs.declared.lookup.LookupOptions.{LookupOptions}
+use Rattle.engines.specs.declared.opened_catalogs.OpenedCatalog.{OpenedCatalog}
+
+-- the catalog of a lookup in the same listings
+module _ (kernel : Option BoundNames) (options : LookupOptions) (modules kallsyms : List ℕ) (text : Option (List ℕ)) (lines : Option (List ListedRegion)) (addresses : List ℕ) where
+  abbrev inputs : Inputs
+  inputs = record { options = options; modules = modules; kallsyms = kallsyms; regions = lines; addresses = addresses }
+
+  pub by_modules : (l : Listings) → options.kernel ≡ unwrap_or kernel usual_bounds → region_lines text ≡ Ok lines → AreListingsOf inputs l
+      → IsByModules kernel modules kallsyms text l.catalog l.notes
+  unfolding catalog_in counts_in
+  by_modules l named read said = (
+    lines,
+    read,
+    said.few,
+    said.catalog ∙ ap (λ names. catalog_of names (modules_in (lines_of modules)) (unwrap_or lines []) (symbols_in (lines_of kallsyms))) named,
+    said.notes ∙ ap (λ names. notes_of (record { options = record { kernel = names; rule = options.rule }; modules = modules; kallsyms = kallsyms; regions = lines; addresses = addresses })) named,
+  )
+
+-- what is returned by modules, or by symbols alone
+pub opened_by_modules : (kernel : Option BoundNames) (g : Given) (modules : List ℕ) → g.modules ≡ Some modules → (result : Result OpenedCatalog Fault)
+    → OpensByModules kernel modules g.kallsyms g.regions result → OpensCatalog kernel g result
+opened_by_modules kernel g modules is (Ok o) h = subst (λ m. IsCatalogBy kernel g m o.catalog o.notes) (sym is) h
+opened_by_modules kernel g modules is (Err (Refused refusal.OutOfMemory)) h = tt
+opened_by_modules kernel g modules is (Err (Refused refusal.TooManyRegions)) h = (ap is_some is, h)
+opened_by_modules kernel g modules is (Err (BadLine place n)) h = (ap is_some is, h.0, h.1)
+opened_by_modules kernel g modules is (Err _) h = absurd h
+
+pub opened_by_symbols : (kernel : Option BoundNames) (g : Given) → g.modules ≡ None → (result : Result OpenedCatalog Fault)
+    → OpensBySymbols kernel g.kallsyms result → OpensCatalog kernel g result
+opened_by_symbols kernel g is (Ok o) h = subst (λ m. IsCatalogBy kernel g m o.catalog o.notes) (sym is) h
+opened_by_symbols kernel g is (Err (Refused refusal.OutOfMemory)) h = tt
+opened_by_symbols kernel g is (Err _) h = absurd h

@@ -1,0 +1,84 @@
+-- From the lines of a script, and from its text, to what its run returns.
+use Rattle.std.proofs.Common.{◌≡◌, ◌<◌, ◌≤◌, ℕ, List, [], Option, Some, None, Result, Ok, Err, true, false, refl, sym, subst}
+use Rattle.std.specs.Prelude.{IfSome, option_and_then}
+use Rattle.listing.specs.declared.counted.Counted.{Counted}
+use Rattle.latch_table.specs.Limits.{most_readers}
+use Rattle.listing.specs.declared.scripts.ScriptLine.{ScriptLine}
+use Rattle.listing.specs.Scripts.{script_of}
+use Rattle.modules.specs.Entries.{CatalogEntries}
+use Rattle.modules.specs.Listed.{BoundNames, ListedRegion}
+use Rattle.modules.specs.Placed.{are_few}
+use Rattle.order_laws.specs.declared.refusals.Refusal.TheVariants as refusal
+use Rattle.engines.specs.declared.fault.Fault.{Fault}
+use Rattle.engines.specs.declared.fault.Fault.TheVariants.{Refused, Write}
+use Rattle.engines.specs.declared.lookup.ListingTexts.{ListingTexts}
+use Rattle.engines.specs.LookupInputs.{Inputs, catalog_in, inputs_after, notes_of, region_lines, region_lines_of_inputs, texts_in}
+use Rattle.listing.specs.declared.listing_notes.ListingNotes.{ListingNotes}
+use Rattle.engines.specs.Faults.{with_notes}
+use Rattle.engines.specs.Readings.{HoldsOf}
+use Rattle.engines.specs.RunInputs.{RunInputs, run_inputs_after, run_inputs_of, run_inputs_with, run_options}
+use Rattle.engines.specs.Runs.{AnswersLines, AnswersRun, FitsRun, IsRun, IsRunOf, IsServed, MayRun, TellsServed}
+use Rattle.engines.specs.Assignments.{IsAssigned}
+use Rattle.engines.specs.declared.assignments.Assignments.{Assignments}
+use Rattle.shared_lookup.specs.Servings.{EachHasOutcome, EachIsAnswered, EachIsFoundIn, IsWrongCount, MayServe}
+use Rattle.shared_lookup.specs.declared.served.Served.{Served}
+
+-- what came back of the lists of these lines is told
+module _ {W : Type 0} (contents : W → Option (List ℕ)) (c : CatalogEntries) (readers : ℕ) (lines : List ScriptLine) (a : Assignments) (assigned : IsAssigned c readers lines a) (s : Served) (may : MayServe c a.keys.items) (outcomes : EachHasOutcome c a.changes.items s.changes.items) (answers : EachIsAnswered a.keys.items s.answers.items s.ended.items) (found : EachIsFoundIn s.log.items s.answers.items) (wrong : IsWrongCount c a.changes.items s.changes.items s.answers.items s.log.items s.wrong) (w w' : Counted W) where
+  may_run : MayRun c readers
+  may_run = (may.0, subst (λ n. 0 < n) assigned.keys.same may.1, subst (λ n. n ≤ most_readers) assigned.keys.same may.2)
+
+  pub served_answered : (r : Result ℕ Fault) → TellsServed contents c a.names.items s w w' r → AnswersLines contents c readers lines w w' r
+  served_answered (Ok status) h =
+      let served : IsServed c a s = record { outcomes = outcomes; answers = answers; found = found; whole = h.1; wrong = wrong } in
+      (h.0, may_run, (a, assigned, (s, served, h.2, h.3)))
+  served_answered (Err (Refused refusal.OutOfMemory)) h = h.0
+  served_answered (Err (Refused refusal.BadCapacity)) h = absurd h
+  served_answered (Err Write) h = (h, may_run)
+  served_answered (Err _) h = absurd h
+
+-- the lines of the script are there
+module _ {W : Type 0} (contents : W → Option (List ℕ)) (i : Inputs) (readers : ℕ) (text : List ℕ) (lines : List ScriptLine) (said : script_of readers text ≡ Ok lines) (w w' : Counted W) where
+  abbrev known : Option (Result RunInputs (ℕ × ℕ))
+  known = Some (run_inputs_with i (script_of readers text))
+
+  holds : (P : RunInputs → Type 0) → P (record { listings = i; lines = lines }) → IfSome known (HoldsOf P)
+  holds P p = subst (λ r. HoldsOf P (run_inputs_with i r)) (sym said) p
+
+  pub too_many_of_one : are_few (region_lines_of_inputs i) ≡ false → AnswersRun contents readers known [] w w (Err (Refused refusal.TooManyRegions))
+  too_many_of_one many = (tt, refl, holds _ many)
+
+  pub script_answered : (c : CatalogEntries) (notes : ListingNotes) → are_few (region_lines_of_inputs i) ≡ true → c ≡ catalog_in i
+      → notes ≡ notes_of i
+      → (r : Result ℕ Fault) → AnswersLines contents c readers lines w w' r → AnswersRun contents readers known [] w w' (with_notes notes r)
+  script_answered c notes few is noted (Ok status) h =
+      let fits : FitsRun readers (record { listings = i; lines = lines }) = (few, subst (λ c. MayRun c readers) is h.1) in
+      (tt, h.0, holds (λ j. IsRunOf contents readers w w' j (Ok (record { status = status; notes = notes }))) (fits, subst (λ c. IsRun contents c readers lines w w' status) is h.2, noted))
+  script_answered c notes few is noted (Err (Refused refusal.OutOfMemory)) h = (tt, h)
+  script_answered c notes few is noted (Err (Refused refusal.BadCapacity)) h = (tt, h.0, holds _ (few, subst (λ c. MayRun c readers → ⊥) is h.1))
+  script_answered c notes few is noted (Err Write) h = (tt, h.0, holds _ (few, subst (λ c. MayRun c readers) is h.1))
+  script_answered c notes few is noted (Err _) h = absurd h
+
+-- the inputs that the texts of listings are, with these region lines
+abbrev pub listings_with : BoundNames → ListingTexts → Option (List ListedRegion) → Inputs
+listings_with names t lines =
+    record { options = run_options names; modules = t.modules.items; kallsyms = t.kallsyms.items; regions = lines; addresses = [] }
+
+-- what holds of the inputs that were read holds of those that are known
+module _ (P : Result RunInputs (ℕ × ℕ) → Type 0) (names : BoundNames) (readers : ℕ) (t : ListingTexts) where
+  abbrev Behind : Option (List ℕ) → Result (Option (List ListedRegion)) ℕ → Type 0
+  Behind file lines = IfSome (option_and_then (run_inputs_after readers file) (inputs_after (run_options names) [] (texts_in t) lines (Some None))) P
+
+  with_script : (i : Inputs) (file : Option (List ℕ)) (text : List ℕ) → IfSome file (λ x. text ≡ x)
+      → P (run_inputs_with i (script_of readers text)) → IfSome (run_inputs_after readers file (Ok i)) P
+  with_script i None text is p = tt
+  with_script i (Some x) text is p = subst (λ s. P (run_inputs_with i (script_of readers s))) is p
+
+  pub run_known : (lines : Option (List ListedRegion)) (file : Option (List ℕ)) (text : List ℕ) → region_lines (texts_in t).regions ≡ Ok lines
+      → IfSome file (λ x. text ≡ x) → P (run_inputs_with (listings_with names t lines) (script_of readers text))
+      → IfSome (run_inputs_of names readers file (texts_in t)) P
+  run_known lines file text read is p = subst (Behind file) (sym read) (with_script (listings_with names t lines) file text is p)
+
+  pub bad_region : (n : ℕ) (file : Option (List ℕ)) → region_lines (texts_in t).regions ≡ Err n → P (Err (2, n))
+      → IfSome (run_inputs_of names readers file (texts_in t)) P
+  bad_region n file bad p = subst (Behind file) (sym bad) p

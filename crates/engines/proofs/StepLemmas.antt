@@ -1,0 +1,257 @@
+-- What is done and written of a trace whose steps are told, one event and one command after another.
+use Rattle.std.proofs.Common.{◌≡◌, ℕ, ◌+◌, ◌<◌, Bool, true, false, true≢false, List, [], ◌∷◌, ◌++◌, length, take, get_or, Option, Some, None, Ok, refl, sym, ◌∙◌, ap, subst, arith, append_assoc, append-nil, length-append, length-take-le, inl, inr, Err}
+use Rattle.std.proofs.KnownBytes.{Appends-nil, Appends-trans}
+use Rattle.std.specs.Prelude.{Result, OnOk}
+use Rattle.std.specs.Io.KnownBytes.{Appends, Keeps}
+use Rattle.facts.proofs.Lists.{take_push}
+use Rattle.listing.specs.declared.counted.Counted.{Counted}
+use Rattle.listing.specs.Counted.{NoneFailed, Rose, device_of, failures_of}
+use Rattle.listing.specs.Trace.{Contents}
+use Rattle.order_laws.specs.Orders.{Order}
+use Rattle.word_layout.specs.Words.{at}
+use Rattle.word_layout.specs.declared.layouts.Layout.{Layout}
+use Rattle.word_layout.specs.Layouts.{capacity_of, limit_of}
+use Rattle.latch_steps.specs.declared.commands.Command.{Command}
+use Rattle.latch_steps.specs.declared.commands.Command.TheVariants.{Begin as BeginCommand, Write as WriteCommand, WriteFlip, WriteEnd, Start as StartCommand, Read as ReadCommand}
+use Rattle.latch_steps.specs.declared.events.Event.{Event}
+use Rattle.latch_steps.specs.declared.events.Event.TheVariants.{Begin, Write, Start, Read}
+use Rattle.latch_steps.specs.declared.replies.NextLoad.{NextLoad}
+use Rattle.latch_steps.specs.declared.replies.Reply.{Reply}
+use Rattle.latch_steps.specs.declared.worlds.World.{World}
+use Rattle.latch_steps.specs.Expands.{Expand, Repeats, ends, event_of, most_of}
+use Rattle.latch_steps.specs.Runs.{Done, Moment, last_of, opening, step_done}
+use Rattle.latch_steps.specs.Steps.{Run, machine, machine_of}
+use Rattle.latch_steps.specs.WorldSteps.{Does, IsWorldStep, is_refused_for_memory}
+use Rattle.latch_steps.specs.Worlds.{HasEvents, HasSequence, RepresentsMoment, layout_in}
+use Rattle.latch_steps.proofs.RecorderLemmas.{IsUnended, does, expand_push, last_append, repeats_ended, repeats_full, run_append, unended_push}
+use Rattle.engines.specs.StepRuns.{AreCommandsTold, IsLoadBy, IsTellFault, IsTold, StopsTelling, Tells, TellsCommand, TellsCommands, TellsEvent, takes_memory}
+use Rattle.engines.specs.StepTexts.{event_text, load_by, opening_text, step_text, steps_text}
+use Rattle.engines.specs.StepTraces.{AnswersStepsIn, AreTold, IsStepsText}
+use Rattle.engines.specs.Traces.{HeaderMayOpen, greatest_of}
+use Rattle.engines.specs.declared.fault.Fault.{Fault}
+
+-- a text that a flush keeps
+appended_kept : (x y z : Option (List ℕ)) (text : List ℕ) → Appends x y text → Keeps y z → Appends x z text
+appended_kept None y z text p q = tt
+appended_kept (Some xs) None z text p q = absurd p
+appended_kept (Some xs) (Some ys) None text p q = absurd q
+appended_kept (Some xs) (Some ys) (Some zs) text p q = q ∙ p
+
+-- what an answer says that it gives where another holds
+pub on_ok : {A E P Q : Type 0} (r : Result A E) → (P → Q) → OnOk r P → OnOk r Q
+on_ok (Ok x) f p = f p
+on_ok (Err e) f p = tt
+
+-- only a beginning and a start may be refused because memory ran out, and these load nothing
+pub steady : {O : Type 0} (o : Order ℕ) (old new : World O ℕ) (e : Event ℕ) (r : Reply ℕ) → IsWorldStep o old e r new → takes_memory e ≡ false → Does o old e r new
+steady o old new (Begin u) r steps free = absurd (true≢false free)
+steady o old new Write r steps free = steps
+steady o old new (Start q k) r steps free = absurd (true≢false free)
+steady o old new (Read q) r steps free = steps
+
+pub loads_none : {O : Type 0} (o : Order ℕ) (c : World O ℕ) (e : Event ℕ) → takes_memory e ≡ true → IsLoadBy o c e None
+loads_none o c (Begin u) takes w s = refl
+loads_none o c Write takes w s = absurd (true≢false (sym takes))
+loads_none o c (Start q k) takes w s = refl
+loads_none o c (Read q) takes w s = absurd (true≢false (sym takes))
+
+-- and their commands do them once
+once : (c : Command ℕ) (e : Event ℕ) (r : Reply ℕ) (w next : Moment ℕ) → e ≡ event_of c → takes_memory e ≡ true → Repeats c (most_of w c) (step_done e r next ∷ [])
+once (BeginCommand u) e r w next same takes = (omega arith, same, refl)
+once (StartCommand q k) e r w next same takes = (omega arith, same, refl)
+once (WriteCommand most) e r w next same takes = absurd (true≢false (sym takes ∙ ap takes_memory same))
+once WriteFlip e r w next same takes = absurd (true≢false (sym takes ∙ ap takes_memory same))
+once WriteEnd e r w next same takes = absurd (true≢false (sym takes ∙ ap takes_memory same))
+once (ReadCommand q most) e r w next same takes = absurd (true≢false (sym takes ∙ ap takes_memory same))
+
+-- the lines of two runs one after the other
+pub steps_append : (o : Order ℕ) (n line : ℕ) (w : Moment ℕ) (run next : List (Done ℕ)) → steps_text o n line w (run ++ next) ≡ steps_text o n line w run ++ steps_text o n line (last_of w run) next
+steps_append o n line w [] next = refl
+steps_append o n line w (d ∷ run) next = ap (λ t. step_text o n line w d ++ t) (steps_append o n line d.after run next) ∙ sym (append_assoc (step_text o n line w d) (steps_text o n line d.after run) (steps_text o n line (last_of d.after run) next))
+
+module _ {O W : Type 0} (o : Order ℕ) (contents : W → Option (List ℕ)) (line : ℕ) where
+  pub line_told : (new : World O ℕ) (a b : Counted W) (e : Event ℕ) (r : Reply ℕ) (load : Option (NextLoad ℕ)) (number sequence : ℕ)
+      → HasEvents o new number → HasSequence o new sequence → Appends (contents (device_of a)) (contents (device_of b)) (event_text number line load e r sequence)
+      → IsTold o contents line load e r new a b
+  line_told new a b e r load number sequence events reads wrote next s =
+      let same : event_text number line load e r sequence ≡ event_text next.events line load e r (at next.latch.words 0) = (λ i. event_text (events next s i) line load e r (reads next s i)) in
+      subst (Appends (contents (device_of a)) (contents (device_of b))) same wrote
+
+  pub event_told : (old new : World O ℕ) (a b : Counted W) (e : Event ℕ) (r : Reply ℕ) (load : Option (NextLoad ℕ))
+      → Does o old e r new → layout_in new ≡ layout_in old → IsLoadBy o old e load → IsTold o contents line load e r new a b → TellsEvent o contents line e old new a b r
+  event_told old new a b e r load does lay loads told w s =
+      let d = does w s in
+      let n = capacity_of (layout_in old) in
+      let same : event_text d.0.events line load e r (at d.0.latch.words 0) ≡ event_text d.0.events line (load_by o n w e) e r (at d.0.latch.words 0) = (λ i. event_text d.0.events line (loads w s i) e r (at d.0.latch.words 0)) in
+      let written = subst (Appends (contents (device_of a)) (contents (device_of b))) (same ∙ sym (append-nil _)) (told d.0 d.2) in
+      (d.0, record { layout = lay; steps = (d.1, tt); shows = d.2; written = written })
+
+  -- an event that its command does once
+  pub command_told : (c : Command ℕ) (old new : World O ℕ) (a b : Counted W) (e : Event ℕ) (r : Reply ℕ)
+      → IsWorldStep o old e r new → is_refused_for_memory r ≡ false → layout_in new ≡ layout_in old → e ≡ event_of c → takes_memory e ≡ true
+      → IsTold o contents line None e r new a b → TellsCommand o contents line c old new a b
+  command_told c old new a b e r steps stays lay same takes told w s =
+      let d = event_told old new a b e r None (λ v t. does o false old new e r steps stays v t) lay (loads_none o old e takes) told w s in
+      (step_done e r d.0 ∷ [], d.1, once c e r w d.0 same takes)
+
+  tells_none : (c : World O ℕ) (a : Counted W) (w : Moment ℕ) → RepresentsMoment o c w → Tells o contents line c c a a w []
+  tells_none c a w s = record { layout = refl; steps = tt; shows = s; written = Appends-nil (contents (device_of a)) }
+
+  tells_append : (old mid new : World O ℕ) (a b c : Counted W) (w : Moment ℕ) (run next : List (Done ℕ)) → Tells o contents line old mid a b w run → Tells o contents line mid new b c (last_of w run) next → Tells o contents line old new a c w (run ++ next)
+  tells_append old mid new a b c w run next x y =
+      let n = capacity_of (layout_in old) in
+      let there = subst (λ l. Appends (contents (device_of b)) (contents (device_of c)) (steps_text o (capacity_of l) line (last_of w run) next)) x.layout y.written in
+      record {
+        layout = y.layout ∙ x.layout;
+        steps = run_append o n (limit_of (layout_in old)) w run next x.steps (subst (λ l. Run (machine_of o l) (last_of w run) next) x.layout y.steps);
+        shows = subst (RepresentsMoment o new) (sym (last_append w run next)) y.shows;
+        written = subst (Appends (contents (device_of a)) (contents (device_of c))) (sym (steps_append o n line w run next)) (Appends-trans _ _ _ _ _ x.written there);
+      }
+
+  -- a command's event so many times, none of which ends it
+  pub record Telling (c : Command ℕ) (old now : World O ℕ) (a b : Counted W) (turn : ℕ) (w : Moment ℕ) : Type 0 where
+    pub run : List (Done ℕ)
+    pub tells : Tells o contents line old now a b w run
+    pub unended : IsUnended c run
+    pub turns : length run ≡ turn
+
+  module _ (c : Command ℕ) (old : World O ℕ) (a : Counted W) where
+    pub telling_none : (w : Moment ℕ) → RepresentsMoment o old w → Telling c old old a a 0 w
+    telling_none w s = record { run = []; tells = tells_none old a w s; unended = tt; turns = refl }
+
+    pub telling_all : (now : World O ℕ) (b : Counted W) (turn most : ℕ) (w : Moment ℕ) → Telling c old now a b turn w → turn ≡ most → (run : List (Done ℕ)) × Tells o contents line old now a b w run × Repeats c most run
+    telling_all now b turn most w h e = (h.run, h.tells, repeats_full c h.run most h.unended (h.turns ∙ e))
+
+    module _ (now new : World O ℕ) (b b' : Counted W) (e : Event ℕ) (r : Reply ℕ) (whether : Bool) (turn : ℕ) (w : Moment ℕ) (h : Telling c old now a b turn w)
+        (told : TellsEvent o contents line e now new b b' r) (same : e ≡ event_of c) (tests : (v : Moment ℕ) → RepresentsMoment o new v → whether ≡ ends c r v) where
+      one : (next : Moment ℕ) × Tells o contents line old new a b' w (h.run ++ step_done e r next ∷ [])
+      one =
+          let d = told (last_of w h.run) h.tells.shows in
+          (d.0, tells_append old now new a b b' w h.run (step_done e r d.0 ∷ []) h.tells d.1)
+
+      tested : whether ≡ ends c r one.0
+      tested = tests one.0 (subst (RepresentsMoment o new) (last_append w h.run (step_done e r one.0 ∷ [])) one.1.shows)
+
+      pub telling_more : whether ≡ false → Telling c old new a b' (turn + 1) w
+      telling_more fails =
+          record {
+            run = h.run ++ step_done e r one.0 ∷ [];
+            tells = one.1;
+            unended = unended_push c h.run (step_done e r one.0) h.unended same (sym tested ∙ fails);
+            turns = length-append h.run (step_done e r one.0 ∷ []) ∙ ap (λ n. n + 1) h.turns;
+          }
+
+      pub telling_last : (most : ℕ) → turn < most → whether ≡ true → (run : List (Done ℕ)) × Tells o contents line old new a b' w run × Repeats c most run
+      telling_last most lt holds = (
+        h.run ++ step_done e r one.0 ∷ [],
+        one.1,
+        repeats_ended c h.run most (step_done e r one.0) h.unended (let t = h.turns in omega arith) same (sym tested ∙ holds),
+      )
+
+-- one command more, on the line at a place of the list
+module _ (o : Order ℕ) (n : ℕ) (lines : List ℕ) where
+  told_push : (place end : ℕ) (w : Moment ℕ) (cs : List (Command ℕ)) (c : Command ℕ) (run next : List (Done ℕ)) (text : List ℕ)
+      → end ≡ place + length cs → AreTold o n lines place w cs run text → Repeats c (most_of (last_of w run) c) next
+      → AreTold o n lines place w (cs ++ c ∷ []) (run ++ next) (text ++ steps_text o n (at lines end) (last_of w run) next)
+  told_push place end w [] c run next text e h again =
+      let here : end ≡ place = omega arith in
+      record {
+        part = next;
+        rest = [];
+        rest_text = [];
+        whole = ap (λ xs. xs ++ next) h.0 ∙ sym (append-nil next);
+        told = (λ i. h.1 i ++ steps_text o n (at lines (here i)) (last_of w (h.0 i)) next) ∙ sym (append-nil _);
+        repeats = subst (λ xs. Repeats c (most_of (last_of w xs) c) next) h.0 again;
+        goes_on = (refl, refl);
+      }
+  told_push place end w (d ∷ cs) c run next text e h again =
+      let there : last_of w run ≡ last_of (last_of w h.part) h.rest = ap (last_of w) h.whole ∙ last_append w h.part h.rest in
+      let last : List ℕ = steps_text o n (at lines end) (last_of (last_of w h.part) h.rest) next in
+      record {
+        part = h.part;
+        rest = h.rest ++ next;
+        rest_text = h.rest_text ++ last;
+        whole = ap (λ xs. xs ++ next) h.whole ∙ append_assoc h.part h.rest next;
+        told = (λ i. h.told i ++ steps_text o n (at lines end) (there i) next) ∙ append_assoc _ h.rest_text last;
+        repeats = h.repeats;
+        goes_on = told_push (place + 1) end (last_of w h.part) cs c h.rest next h.rest_text (omega arith) h.goes_on (subst (λ v. Repeats c (most_of v c) next) there again);
+      }
+
+module _ {O W : Type 0} (o : Order ℕ) (contents : W → Option (List ℕ)) (lines : List ℕ) (old : World O ℕ) (a : Counted W) (w : Moment ℕ) where
+  pub commands_none : RepresentsMoment o old w → AreCommandsTold o contents lines [] old old a a w
+  commands_none s = record { run = []; text = []; layout = refl; steps = tt; shows = s; expands = refl; told = (refl, refl); written = Appends-nil (contents (device_of a)) }
+
+  -- one command more of a list
+  pub commands_more : (now new : World O ℕ) (b b' : Counted W) (cs : List (Command ℕ)) (i line : ℕ) (c : Command ℕ)
+      → i < length cs → c ≡ get_or cs i c → line ≡ at lines i → AreCommandsTold o contents lines (take i cs) old now a b w
+      → TellsCommand o contents line c now new b b' → AreCommandsTold o contents lines (take (i + 1) cs) old new a b' w
+  commands_more now new b b' cs i line c there is on h tells =
+      let d = tells (last_of w h.run) h.shows in
+      let n = capacity_of (layout_in old) in
+      let l = layout_in old in
+      let some : length (take i cs) ≡ i = length-take-le {A = Command ℕ} i cs (omega arith) in
+      let many : i ≡ 0 + length (take i cs) = omega arith in
+      let more = expand_push w (take i cs) c h.run d.0 h.expands d.2 in
+      let told = told_push o n lines 0 i w (take i cs) c h.run d.0 h.text many h.told d.2 in
+      let wrote = subst (λ k. Appends (contents (device_of b)) (contents (device_of b')) (steps_text o (capacity_of k) line (last_of w h.run) d.0)) h.layout d.1.written in
+      let wrote_on = subst (λ at_line. Appends (contents (device_of b)) (contents (device_of b')) (steps_text o n at_line (last_of w h.run) d.0)) on wrote in
+      let all = take_push cs i c there is in
+      record {
+        run = h.run ++ d.0;
+        text = h.text ++ steps_text o n (at lines i) (last_of w h.run) d.0;
+        layout = d.1.layout ∙ h.layout;
+        steps = run_append o n (limit_of l) w h.run d.0 h.steps (subst (λ k. Run (machine_of o k) (last_of w h.run) d.0) h.layout d.1.steps);
+        shows = subst (RepresentsMoment o new) (sym (last_append w h.run d.0)) d.1.shows;
+        expands = subst (λ xs. Expand w xs (h.run ++ d.0)) all more;
+        told = subst (λ xs. AreTold o n lines 0 w xs (h.run ++ d.0) (h.text ++ steps_text o n (at lines i) (last_of w h.run) d.0)) all told;
+        written = Appends-trans _ _ _ _ _ h.written wrote_on;
+      }
+
+-- memory ran out at a command of a list, or a call of the writer failed
+pub stops_at : {O W : Type 0} (o : Order ℕ) (contents : W → Option (List ℕ)) (lines : List ℕ) (cs : List (Command ℕ)) (old now : World O ℕ) (a b c : Counted W) (place : ℕ) (f : Fault)
+    → place < length cs → TellsCommands o contents lines (take place cs) old now a b → NoneFailed a b → IsTellFault b c f → StopsTelling o contents lines cs old a c f
+stops_at o contents lines cs old now a b c place f within told none (inl h) =
+    inl (h.0, subst (λ d. NoneFailed a d) (sym h.1) none, (place, within, (now, subst (λ d. TellsCommands o contents lines (take place cs) old now a d) (sym h.1) told)))
+stops_at o contents lines cs old now a b c place f within told none (inr h) = inr (h.0, subst (λ n. Rose n (failures_of c)) none h.1)
+
+-- from the opening to the last byte
+module _ {O W : Type 0} (o : Order ℕ) (contents : W → Option (List ℕ)) (said : Contents) (lines : List ℕ) (l : Layout) (world : World O ℕ) (a b c : Counted W)
+    (lay : layout_in world ≡ l) (cap : capacity_of l ≡ said.header.capacity) (lim : limit_of l ≡ greatest_of said.header.version) (opens : HeaderMayOpen said.header)
+    (shows : RepresentsMoment o world (opening (capacity_of l) said.header.start))
+    (first : Appends (contents (device_of a)) (contents (device_of b)) (opening_text said.header)) (none_first : NoneFailed a b) where
+  -- the steps of commands, behind the opening
+  steps_written : (cs : List (Command ℕ)) (last : World O ℕ) → TellsCommands o contents lines cs world last b c
+      → (text : List ℕ) × IsStepsText o (record said { commands = cs }) lines text × Appends (contents (device_of a)) (contents (device_of c)) text
+  steps_written cs last tells =
+      let h = said.header in
+      let w = opening h.capacity h.start in
+      let told = tells w (subst (λ n. RepresentsMoment o world (opening n h.start)) cap shows) in
+      let cap' : capacity_of (layout_in world) ≡ h.capacity = ap capacity_of lay ∙ cap in
+      let lim' : limit_of (layout_in world) ≡ greatest_of h.version = ap limit_of lay ∙ lim in
+      let run_of = subst (λ n. Run (machine o n (limit_of (layout_in world))) w told.run) cap' told.steps in (
+        opening_text h ++ told.text,
+        record {
+          run = told.run;
+          steps = subst (λ m. Run (machine o h.capacity m) w told.run) lim' run_of;
+          expands = told.expands;
+          text = told.text;
+          told = subst (λ n. AreTold o n lines 0 w cs told.run told.text) cap' told.told;
+          whole = refl;
+        },
+        Appends-trans _ _ _ _ _ first told.written,
+      )
+
+  pub steps_answered : (last : World O ℕ) (d : Counted W) → TellsCommands o contents lines said.commands world last b c → NoneFailed b c
+      → Keeps (contents (device_of c)) (contents (device_of d)) → NoneFailed c d → AnswersStepsIn o contents said lines a d (Ok tt)
+  steps_answered last d told none_told kept none_kept =
+      let wrote = steps_written said.commands last told in
+      (none_kept ∙ none_told ∙ none_first, opens, (wrote.0, wrote.1, appended_kept _ _ _ wrote.0 wrote.2 kept))
+
+  pub steps_stopped : (f : Fault) → StopsTelling o contents lines said.commands world b c f → AnswersStepsIn o contents said lines a c (Err f)
+  steps_stopped f (inl h) =
+      let (is, none, (place, within, (last, told))) = h in
+      let wrote = steps_written (take place said.commands) last told in
+      subst (λ (g : Fault). AnswersStepsIn o contents said lines a c (Err g)) (sym is)
+      (inr (none ∙ none_first, (wrote.0, record { opens = opens; place = place; within = within; begun = wrote.1 }, wrote.2)))
+  steps_stopped f (inr h) =
+      subst (λ (g : Fault). AnswersStepsIn o contents said lines a c (Err g)) (sym h.0) (subst (λ n. Rose n (failures_of c)) none_first h.1, opens)

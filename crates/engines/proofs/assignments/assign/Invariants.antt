@@ -1,0 +1,7 @@
+use Rattle.std.proofs.Common.{take}
+use Rattle.engines.specs.Assignments.{IsAssigned}
+use Rattle.engines.proofs.assignments.assign.Given as goal
+
+-- the lines so far are assigned
+abbrev pub invariant-loop-line : goal.invariant-loop-line
+invariant-loop-line l = IsAssigned l.catalog l.readers (take l.line-index l.lines) l.assigned

@@ -1,0 +1,6 @@
+use Rattle.std.proofs.Common.{[]}
+use Rattle.engines.specs.Assignments.{AreListed}
+use Rattle.engines.proofs.assignments.empty_lists.Given as goal
+
+abbrev pub invariant-loop : goal.invariant-loop
+invariant-loop g l = AreListed l.counter [] l.lists.items

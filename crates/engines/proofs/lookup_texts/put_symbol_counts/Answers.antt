@@ -1,0 +1,17 @@
+use Rattle.std.proofs.Common.{◌∙◌, ap, drop, take}
+use Rattle.listing.specs.SymbolListing.{symbol_place}
+use Rattle.listing.specs.declared.symbol_listing.SkippedSymbol.TheVariants.{Long}
+use Rattle.listing.proofs.WriteLemmas.{same_text, then}
+use Rattle.engines.specs.LookupTexts.{symbol_causes_text, symbols_line}
+use Rattle.engines.proofs.lookup_texts.put_symbol_counts.Goals as goal
+
+pub returns : goal.returns
+unfolding symbols_line
+returns g c =
+    let text = symbol_causes_text c.args.skipped.now.by_place in
+    let all = c.all.result.now in
+    let low = c.split_at.ensures.front ∙ ap (λ k. take k all) c.place.ensures.place ∙ ap (take (symbol_place Long)) c.all.ensures in
+    let high = c.split_at.ensures.back ∙ ap (λ k. drop k all) c.place.ensures.place ∙ ap (drop (symbol_place Long)) c.all.ensures in
+    let before = same_text (ap text low) c.put_causes.ensures in
+    let after = same_text (ap text high) c.put_causes-2.ensures in
+    then c.in_ok-put_causes-2.was (then c.in_ok-put_count-2.was (then c.in_ok-put_causes.was (then c.in_ok-put_count.was (c.put_count.ensures) before) c.put_count-2.ensures) after) c.put.ensures

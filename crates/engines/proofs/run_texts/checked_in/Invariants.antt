@@ -1,0 +1,6 @@
+use Rattle.std.proofs.Common.{◌≡◌, take}
+use Rattle.engines.specs.RunTexts.{count_of_answers}
+use Rattle.engines.proofs.run_texts.checked_in.Given as goal
+
+abbrev pub invariant-loop-list : goal.invariant-loop-list
+invariant-loop-list l = l.checked ≡ count_of_answers (take l.list-index l.answers)

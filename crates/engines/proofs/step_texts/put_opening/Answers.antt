@@ -1,0 +1,13 @@
+use Rattle.std.proofs.Common.{ap, codes}
+use Rattle.listing.proofs.WriteLemmas.{same_text, then}
+use Rattle.engines.specs.JsonTexts.{json_count}
+use Rattle.engines.specs.StepTexts.{opening_text}
+use Rattle.engines.proofs.step_texts.put_opening.Goals as goal
+
+pub returns : goal.returns
+unfolding opening_text
+returns g c =
+    let version = same_text (ap (json_count (codes "{\"event\":0,\"line\":1,\"kind\":\"open\",\"version\":")) c.version_number-version.ensures) c.put_json_count.ensures in
+    let order = same_text c.order_text.ensures c.put-2.ensures in
+    let capacity = same_text (ap (json_count (codes ",\"capacity\":")) c.from.ensures) c.put_json_count-2.ensures in
+    then c.in_ok-put_json_count-3.was (then c.in_ok-put_json_count-2.was (then c.in_ok-put-2.was (then c.in_ok-put.was (then c.in_ok-put_json_count.was version c.put.ensures) order) capacity) c.put_json_count-3.ensures) c.put-3.ensures

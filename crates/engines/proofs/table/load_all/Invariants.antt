@@ -1,0 +1,5 @@
+use Rattle.engines.specs.LoadedWorlds.{HoldsBelow}
+use Rattle.engines.proofs.table.load_all.Given as goal
+
+abbrev pub invariant-loop-number : goal.invariant-loop-number
+invariant-loop-number l = HoldsBelow l.catalog l.number l.world

@@ -1,0 +1,64 @@
+-- The text of a trace whose commands are run one after another.
+use Rattle.std.specs.Prelude.{◌≡◌, ℕ, ◌<◌, List, [], ◌∷◌, ◌++◌, Option, Some, None, Result, Ok}
+use Rattle.std.specs.Prelude.{Err, flat_map}
+use Rattle.order_laws.specs.Orders.{Order}
+use Rattle.order_laws.specs.declared.refusals.Refusal.{Refusal}
+use Rattle.order_laws.specs.declared.refusals.Refusal.TheVariants as refusal
+use Rattle.word_layout.specs.declared.layouts.Layout.{Layout}
+use Rattle.word_layout.specs.Layouts.{capacity_of, limit_of}
+use Rattle.latch_steps.specs.declared.commands.Command.{Command}
+use Rattle.latch_steps.specs.declared.drivers.Driver.{Driver}
+use Rattle.latch_steps.specs.declared.replies.Note.{Note}
+use Rattle.latch_steps.specs.Drivers.{HasDriven, notes_in}
+use Rattle.listing.specs.declared.header.Header.{Header}
+use Rattle.listing.specs.CommandLines.{LinesLeft}
+use Rattle.listing.specs.Said.{entries_after}
+use Rattle.engines.specs.Texts.{note_text}
+use Rattle.engines.specs.Traces.{HeaderMayNotOpen, HeaderMayOpen, greatest_of}
+use Rattle.engines.specs.declared.fault.Fault.{Fault}
+use Rattle.engines.specs.declared.fault.Fault.TheVariants.{Refused, BadLine}
+
+-- a driver carried out these commands on a table as the header asks for it, and this text has the
+-- lines of what they came to
+pub record HasGathered {O : Type 0} (o : Order ℕ) (h : Header) (commands : List (Command ℕ))
+    (text : List ℕ) (d : Driver O ℕ) : Type 0 where
+  pub opens : HeaderMayOpen h
+  pub layout : Layout
+  pub capacity : capacity_of layout ≡ h.capacity
+  pub limit : limit_of layout ≡ greatest_of h.version
+  pub notes : List (Note ℕ)
+  pub driven : HasDriven o layout h.start commands notes d
+  pub none : notes_in d ≡ []
+  pub gathered : text ≡ flat_map note_text notes
+
+-- no table is opened
+abbrev pub IsNotOpened : Header → Refusal → Type 0
+IsNotOpened h refusal.OutOfMemory = Unit {0}
+IsNotOpened h refusal.BadCapacity = HeaderMayNotOpen h
+IsNotOpened h _ = ⊥
+
+-- whatever was gathered, then this command, too
+abbrev pub GathersCommand : {O : Type 0} → Order ℕ → Command ℕ → Driver O ℕ → List ℕ → Driver O ℕ → List ℕ
+    → Type 0
+GathersCommand o c old before new after =
+    (h : Header) (commands : List (Command ℕ)) → HasGathered o h commands before old
+    → HasGathered o h (commands ++ c ∷ []) after new
+
+-- whatever was gathered, then all commands that these lines say
+abbrev pub GathersLines : {O : Type 0} → Order ℕ → Result (List (Command ℕ)) ℕ → Driver O ℕ → List ℕ
+    → Driver O ℕ → List ℕ → Type 0
+GathersLines o said old before new after =
+    (more : List (Command ℕ)) × (said ≡ Ok more)
+    × ((h : Header) (commands : List (Command ℕ)) → HasGathered o h commands before old
+    → HasGathered o h (commands ++ more) after new)
+
+-- the next command of lines, if there is one, was taken from them
+abbrev pub IsNext : LinesLeft → LinesLeft → Option (Command ℕ) → Type 0
+IsNext old new None = old.said ≡ Ok []
+IsNext old new (Some c) = (old.said ≡ entries_after (c ∷ []) new.said) × (new.bytes < old.bytes)
+
+-- memory ran out, or a line is bad
+abbrev pub IsLinesFault : Result (List (Command ℕ)) ℕ → Fault → Type 0
+IsLinesFault said (Refused refusal.OutOfMemory) = Unit {0}
+IsLinesFault said (BadLine place n) = (place ≡ 0) × (said ≡ Err n)
+IsLinesFault said _ = ⊥

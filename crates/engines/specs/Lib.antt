@@ -1,0 +1,53 @@
+-- The definitions of this crate, in the order in which to read them.
+-- the lines that a trace writes
+pub mod Texts
+-- text that is appended in room that is there
+pub mod Blocks
+-- why a command failed, and what one came to that did not
+pub mod Faults
+-- what is written for a trace that is read
+pub mod Traces
+-- the text of a trace whose commands are run one after another
+pub mod GatheredTraces
+-- the table of a catalog's regions, and the answer that it has for an address
+pub mod CatalogTables
+-- a world that holds the regions of modules
+pub mod LoadedWorlds
+-- values of JSON (RFC 8259)
+pub mod Json
+-- the lines that a lookup of addresses writes
+pub mod LookupTexts
+-- the same lines as JSON
+pub mod JsonTexts
+-- the lines that the steps of a trace write
+pub mod StepTexts
+-- what is put into a room for such a line
+pub mod LineRooms
+-- what is written for a trace whose steps are asked for
+pub mod StepTraces
+-- what one event and one command of it do, while it is run
+pub mod StepRuns
+-- in which form answers are written
+pub mod AnswerForms
+-- what an engine returns that reads files one after the other
+pub mod Readings
+-- what a lookup of addresses reads, and what that says
+pub mod LookupInputs
+-- what is written for the listings and the addresses that are asked for
+pub mod Lookups
+-- what is kept of a listing of symbols that is read block by block
+pub mod SiftedSymbols
+-- what a lookup is asked over that keeps only what it needs of that listing
+pub mod SiftedLookups
+-- what a lookup writes whose modules come from a listing of symbols alone
+pub mod SymbolLookups
+-- the catalog that listings say, and what is noted of them
+pub mod OpenedCatalogs
+-- what the lines of a script have each writer and each reader do
+pub mod Assignments
+-- the lines that a run of a script writes
+pub mod RunTexts
+-- what a run of a script reads, and what that says
+pub mod RunInputs
+-- what is written for a script and the listings that it is run over
+pub mod Runs

@@ -1,0 +1,146 @@
+-- What a lookup of addresses reads, and what that says.
+use Rattle.std.specs.Prelude.{ℕ, List, [], Option, Some, None, Result, Ok, Err}
+use Rattle.std.specs.Prelude.{find, option_and_then, unwrap_or}
+use Rattle.std.specs.Global.{Vec}
+use Rattle.std.specs.Option.{option_map}
+use Rattle.listing.specs.declared.counted.Counted.{Counted}
+use Rattle.listing.specs.Counted.{device_of}
+use Rattle.listing.specs.Addresses.{addresses_of}
+use Rattle.listing.specs.Lines.{lines_of}
+use Rattle.listing.specs.ListingNotes.{all_notes, is_of_kallsyms, is_of_modules}
+use Rattle.listing.specs.declared.listing_notes.ListingNotes.{ListingNotes}
+use Rattle.listing.specs.ModuleListing.{modules_in}
+use Rattle.listing.specs.Said.{entries_after}
+use Rattle.listing.specs.SymbolListing.{symbols_in}
+use Rattle.modules.specs.declared.catalog.BuildCounts.{BuildCounts}
+use Rattle.modules.specs.Catalogs.{catalog_of, counts_of}
+use Rattle.modules.specs.Entries.{CatalogEntries}
+use Rattle.modules.specs.Listed.{ListedRegion}
+use Rattle.engines.specs.declared.lookup.ListingTexts.{ListingTexts}
+use Rattle.engines.specs.declared.lookup.LookupInputs.{LookupInputs}
+use Rattle.engines.specs.declared.lookup.LookupOptions.{LookupOptions}
+use Rattle.engines.specs.declared.lookup.LookupReaders.{LookupReaders}
+use Rattle.listing.specs.RegionListing.{regions_of_text as listed_regions}
+
+-- the texts of the listings, of which that of regions may be missing
+pub record Texts : Type 0 where
+  pub modules : List ℕ
+  pub kallsyms : List ℕ
+  pub regions : Option (List ℕ)
+
+-- the texts that the program has read
+abbrev pub texts_in : ListingTexts → Texts
+texts_in t = record {
+  modules = t.modules.items;
+  kallsyms = t.kallsyms.items;
+  regions = option_map (λ text. text.items) t.regions;
+}
+
+-- What a lookup is asked over: the options, the texts of two listings, the lines of that of regions,
+-- where there is one, and the addresses of both places.
+pub record Inputs : Type 0 where
+  pub options : LookupOptions
+  pub modules : List ℕ
+  pub kallsyms : List ℕ
+  pub regions : Option (List ListedRegion)
+  pub addresses : List ℕ
+
+-- the region lines of a listing that may be there, or the number of its first bad line
+abbrev pub some_lines : Result (List ListedRegion) ℕ → Result (Option (List ListedRegion)) ℕ
+some_lines (Ok lines) = Ok (Some lines)
+some_lines (Err n) = Err n
+
+abbrev pub region_lines : Option (List ℕ) → Result (Option (List ListedRegion)) ℕ
+region_lines None = Ok None
+region_lines (Some text) = some_lines (listed_regions text)
+
+-- the addresses of a file that may be there
+abbrev pub listed_addresses : Option (List ℕ) → Result (List ℕ) ℕ
+listed_addresses None = Ok []
+listed_addresses (Some text) = addresses_of text
+
+-- the addresses of the command line, and after them those of the file
+abbrev pub all_addresses : List ℕ → Option (List ℕ) → Result (List ℕ) ℕ
+all_addresses given text = entries_after given (listed_addresses text)
+
+-- the inputs with these region lines and addresses, or the first bad line of the file of addresses,
+-- as the place of that file and the number of the line
+abbrev pub inputs_with : LookupOptions → Texts → Option (List ListedRegion) → Result (List ℕ) ℕ
+    → Result Inputs (ℕ × ℕ)
+inputs_with options t regions (Err n) = Err (3, n)
+inputs_with options t regions (Ok addresses) = Ok (record {
+  options = options;
+  modules = t.modules;
+  kallsyms = t.kallsyms;
+  regions = regions;
+  addresses = addresses;
+})
+
+-- The same, where the text of that file is known. A bad region line is told before it is read.
+abbrev pub inputs_after : LookupOptions → List ℕ → Texts → Result (Option (List ListedRegion)) ℕ
+    → Option (Option (List ℕ)) → Option (Result Inputs (ℕ × ℕ))
+inputs_after options given t (Err n) file = Some (Err (2, n))
+inputs_after options given t (Ok regions) file =
+    option_map (λ text. inputs_with options t regions (all_addresses given text)) file
+
+-- the inputs that these texts are, after the options and the addresses of the command line
+abbrev pub inputs_of : LookupOptions → List ℕ → Option (Option (List ℕ)) → Texts
+    → Option (Result Inputs (ℕ × ℕ))
+inputs_of options given file t = inputs_after options given t (region_lines t.regions) file
+
+-- the inputs that the program gathers
+abbrev pub inputs_in : LookupInputs → Inputs
+inputs_in i = record {
+  options = i.options.now;
+  modules = i.modules.now;
+  kallsyms = i.kallsyms.now;
+  regions = option_map (λ lines. lines.items) i.regions;
+  addresses = i.addresses.items;
+}
+
+-- the region lines that the program has, of which there are none where there is no listing of them
+abbrev pub lines_or_none : Option (Vec ListedRegion) → List ListedRegion
+lines_or_none lines = unwrap_or (option_map (λ v. v.items) lines) []
+
+-- the same of the inputs
+abbrev pub region_lines_of_inputs : Inputs → List ListedRegion
+region_lines_of_inputs i = unwrap_or i.regions []
+
+-- the catalog that the listings say, and how many of their entries went where
+unfoldable pub catalog_in : Inputs → CatalogEntries
+catalog_in i =
+    catalog_of i.options.kernel (modules_in (lines_of i.modules)) (region_lines_of_inputs i)
+    (symbols_in (lines_of i.kallsyms))
+
+unfoldable pub counts_in : Inputs → BuildCounts
+counts_in i =
+    counts_of i.options.kernel (modules_in (lines_of i.modules)) (region_lines_of_inputs i)
+    (symbols_in (lines_of i.kallsyms))
+
+-- what a reader gives that may be there, where that is known
+abbrev pub known_text : {A : Type 0} → (A → Option (List ℕ)) → Option (Counted A)
+    → Option (Option (List ℕ))
+known_text remaining None = Some None
+known_text remaining (Some reader) = option_map (λ text. Some text) (remaining (device_of reader))
+
+-- the texts, where each of them is known
+abbrev pub texts_of : Option (List ℕ) → Option (List ℕ) → Option (Option (List ℕ)) → Option Texts
+texts_of (Some modules) (Some kallsyms) (Some regions) =
+    Some (record { modules = modules; kallsyms = kallsyms; regions = regions })
+texts_of _ _ _ = None
+
+-- the inputs that readers give, where the bytes of each that is read for them are known
+abbrev pub known_inputs : {M K R A : Type 0} → (M → Option (List ℕ)) → (K → Option (List ℕ))
+    → (R → Option (List ℕ)) → (A → Option (List ℕ)) → LookupReaders M K R A → LookupOptions → List ℕ
+    → Option (Result Inputs (ℕ × ℕ))
+known_inputs modules kallsyms regions addresses readers options given =
+    option_and_then (inputs_of options given (known_text addresses readers.addresses))
+    (texts_of (modules (device_of readers.modules)) (kallsyms (device_of readers.kallsyms))
+    (known_text regions readers.regions))
+
+-- of each listing the first note that applies to it
+abbrev pub notes_of : Inputs → ListingNotes
+notes_of i = record {
+  modules = find (is_of_modules i.modules (catalog_in i)) all_notes;
+  kallsyms = find (is_of_kallsyms i.options.kernel i.kallsyms (counts_in i).symbols) all_notes;
+}

@@ -1,0 +1,148 @@
+-- What is written for the listings and the addresses that are asked for.
+use Rattle.std.specs.Prelude.{◌≡◌, ℕ, List, [], ◌∷◌, ◌++◌, map, flat_map, Bool, true, false}
+use Rattle.std.specs.Prelude.{if◌then◌else◌, is_some, Option, Result, Ok, Err, IfSome}
+use Rattle.std.specs.Global.{Vec}
+use Rattle.std.specs.Option.{option_map}
+use Rattle.std.specs.Io.KnownBytes.{Appends}
+use Rattle.listing.specs.declared.counted.Counted.{Counted}
+use Rattle.listing.specs.Counted.{NoneFailed, Rose, device_of, failures_of}
+use Rattle.order_laws.specs.declared.refusals.Refusal.TheVariants as refusal
+use Rattle.listing.specs.Lines.{lines_of}
+use Rattle.listing.specs.Looks.{are_modules_hidden, are_symbols_hidden}
+use Rattle.listing.specs.ModuleListing.{module_counts}
+use Rattle.listing.specs.SymbolListing.{symbol_counts}
+use Rattle.modules.specs.declared.catalog.BuildCounts.{BuildCounts}
+use Rattle.modules.specs.Listed.{ListedRegion}
+use Rattle.modules.specs.Placed.{are_few}
+use Rattle.engines.specs.CatalogTables.{HasFewRegions, HasManyRegions, answer_at}
+use Rattle.engines.specs.LookupInputs.{Inputs, all_addresses, catalog_in, counts_in}
+use Rattle.engines.specs.LookupInputs.{notes_of, region_lines, region_lines_of_inputs}
+use Rattle.engines.specs.AnswerForms.{counts_by, line_by}
+use Rattle.engines.specs.JsonTexts.{json_counts}
+use Rattle.engines.specs.LookupTexts.{modules_line, regions_line, symbols_line}
+use Rattle.engines.specs.Readings.{AnswersInputs, Failures, failures_in}
+use Rattle.engines.specs.declared.fault.Fault.{Fault}
+use Rattle.engines.specs.declared.fault.Fault.TheVariants.{Refused, BadLine, Read, Write}
+use Rattle.engines.specs.declared.forms.AnswerForm.{AnswerForm}
+use Rattle.listing.specs.declared.listing_notes.ListingNotes.{ListingNotes}
+use Rattle.engines.specs.declared.lookup.Listings.{Listings}
+use Rattle.engines.specs.declared.lookup.LookupReaders.{LookupReaders}
+
+-- the line of counts of a listing of regions, where there is one
+abbrev pub regions_line_of : Bool → BuildCounts → List ℕ
+regions_line_of given built = if given then regions_line built else []
+
+-- the lines of counts
+abbrev pub count_lines : Inputs → List ℕ
+count_lines i =
+    modules_line (module_counts (lines_of i.modules)) (counts_in i)
+    ++ symbols_line (symbol_counts (lines_of i.kallsyms)) (counts_in i).symbols (counts_in i).stray
+    ++ regions_line_of (is_some i.regions) (counts_in i)
+
+-- the same counts as JSON
+abbrev pub json_count_line : Inputs → List ℕ
+json_count_line i =
+    json_counts (module_counts (lines_of i.modules)) (symbol_counts (lines_of i.kallsyms))
+    (is_some i.regions) (counts_in i)
+
+-- a line for each address, and then the counts, in this form
+abbrev pub lookup_text : AnswerForm → Inputs → List ℕ
+lookup_text form i =
+    let c = catalog_in i in
+    let rule = i.options.rule in
+    flat_map (line_by form c rule) (map (answer_at c rule) i.addresses)
+    ++ counts_by form (count_lines i) (json_count_line i)
+
+-- no module has too many region lines, and a table of all regions has so many nodes at most
+abbrev pub FitsTable : Inputs → Type 0
+FitsTable i = (are_few (region_lines_of_inputs i) ≡ true) × HasFewRegions (catalog_in i)
+
+abbrev pub HasTooManyRegions : Inputs → Type 0
+HasTooManyRegions i = (are_few (region_lines_of_inputs i) ≡ true) × HasManyRegions (catalog_in i)
+
+-- more than seven region lines have one name
+abbrev pub HasTooManyOfOne : Inputs → Type 0
+HasTooManyOfOne i = are_few (region_lines_of_inputs i) ≡ false
+
+-- the catalog and the counts are those of these inputs
+pub record AreListingsOf (i : Inputs) (l : Listings) : Type 0 where
+  pub few : are_few (region_lines_of_inputs i) ≡ true
+  pub catalog : l.catalog ≡ catalog_in i
+  pub built : l.built ≡ counts_in i
+  pub skipped_modules : l.skipped_modules.by_place ≡ module_counts (lines_of i.modules)
+  pub skipped_symbols : l.skipped_symbols.by_place ≡ symbol_counts (lines_of i.kallsyms)
+  pub has_regions : l.has_regions ≡ is_some i.regions
+  pub modules_hidden : l.modules_hidden ≡ are_modules_hidden (lines_of i.modules)
+  pub symbols_hidden : l.symbols_hidden ≡ are_symbols_hidden (lines_of i.kallsyms)
+  pub notes : l.notes ≡ notes_of i
+
+-- the lines of counts of these listings
+abbrev pub counts_text : Listings → List ℕ
+counts_text l =
+    modules_line l.skipped_modules.by_place l.built
+    ++ symbols_line l.skipped_symbols.by_place l.built.symbols l.built.stray
+    ++ regions_line_of l.has_regions l.built
+
+abbrev pub json_counts_text : Listings → List ℕ
+json_counts_text l =
+    json_counts l.skipped_modules.by_place l.skipped_symbols.by_place l.has_regions l.built
+
+-- the writer has taken the lines of these inputs
+abbrev pub IsWritten : {W : Type 0} → (W → Option (List ℕ)) → AnswerForm → Counted W → Counted W
+    → Inputs → Type 0
+IsWritten contents form w w' i =
+    FitsTable i × Appends (contents (device_of w)) (contents (device_of w')) (lookup_text form i)
+
+-- What is returned for these inputs, from one state of the writer to another. Every fault but a
+-- failed write leaves the writer as it was, and a call of it failed then alone.
+abbrev pub AnswersWith : {W : Type 0} → (W → Option (List ℕ)) → AnswerForm → Inputs
+    → Counted W → Counted W → Result ListingNotes Fault → Type 0
+AnswersWith contents form i w w' (Ok notes) =
+    NoneFailed w w' × IsWritten contents form w w' i × (notes ≡ notes_of i)
+AnswersWith contents form i w w' (Err (Refused refusal.OutOfMemory)) = w' ≡ w
+AnswersWith contents form i w w' (Err (Refused refusal.BadCapacity)) = (w' ≡ w) × HasTooManyRegions i
+AnswersWith contents form i w w' (Err (Refused refusal.TooManyRegions)) = (w' ≡ w) × HasTooManyOfOne i
+AnswersWith contents form i w w' (Err Write) = Rose (failures_of w) (failures_of w') × FitsTable i
+AnswersWith contents form i w w' (Err _) = ⊥
+
+-- the region lines, or why they are not there
+abbrev pub GivesLines : Option (List ℕ) → Result (Option (Vec ListedRegion)) Fault → Type 0
+GivesLines text (Ok lines) = region_lines text ≡ Ok (option_map (λ v. v.items) lines)
+GivesLines text (Err (Refused refusal.OutOfMemory)) = Unit {0}
+GivesLines text (Err (BadLine place n)) = (place ≡ 2) × (region_lines text ≡ Err n)
+GivesLines text (Err _) = ⊥
+
+-- the addresses of both places, where the text of the file is known, or why they are not there
+abbrev pub GivesAddresses : List ℕ → Option (Option (List ℕ)) → ℕ → ℕ
+    → Result (Vec ℕ) Fault → Type 0
+GivesAddresses given known before after (Ok v) =
+    (after ≡ before) × IfSome known (λ text. all_addresses given text ≡ Ok v.items)
+GivesAddresses given known before after (Err (Refused refusal.OutOfMemory)) = after ≡ before
+GivesAddresses given known before after (Err (BadLine place n)) =
+    (after ≡ before) × (place ≡ 3) × IfSome known (λ text. all_addresses given text ≡ Err n)
+GivesAddresses given known before after (Err (Read place)) = (place ≡ 3) × Rose before after
+GivesAddresses given known before after (Err _) = ⊥
+
+-- what is said of the inputs where this is returned
+abbrev pub IsLookupOf : {W : Type 0} → (W → Option (List ℕ)) → AnswerForm → Counted W → Counted W
+    → Inputs → Result ListingNotes Fault → Type 0
+IsLookupOf contents form w w' i (Ok notes) =
+    IsWritten contents form w w' i × (notes ≡ notes_of i)
+IsLookupOf contents form w w' i (Err (Refused refusal.BadCapacity)) = HasTooManyRegions i
+IsLookupOf contents form w w' i (Err (Refused refusal.TooManyRegions)) = HasTooManyOfOne i
+IsLookupOf contents form w w' i (Err Write) = FitsTable i
+IsLookupOf contents form w w' i (Err _) = Unit {0}
+
+-- what the engine returns that also read the inputs, where these are known
+abbrev pub AnswersLookup : {W : Type 0} → (W → Option (List ℕ)) → AnswerForm
+    → Option (Result Inputs (ℕ × ℕ)) → Failures → Counted W → Counted W → Result ListingNotes Fault → Type 0
+AnswersLookup contents form known counts w w' result =
+    AnswersInputs (IsLookupOf contents form w w') known counts w w' result
+
+abbrev pub failures_between : {M K R A : Type 0} → LookupReaders M K R A → LookupReaders M K R A
+    → Failures
+failures_between old new =
+    (failures_of old.modules, failures_of new.modules)
+    ∷ (failures_of old.kallsyms, failures_of new.kallsyms)
+    ∷ (failures_in old.regions, failures_in new.regions)
+    ∷ (failures_in old.addresses, failures_in new.addresses) ∷ []

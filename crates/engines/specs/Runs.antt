@@ -1,0 +1,117 @@
+-- What is written for a script and the listings that it is run over.
+use Rattle.std.specs.Prelude.{◌≡◌, ℕ, ◌<◌, ◌≤◌, ◌==◌, true, false, if◌then◌else◌, List, [], ◌∷◌}
+use Rattle.std.specs.Prelude.{Option, Result, Ok, Err}
+use Rattle.std.specs.Io.KnownBytes.{Appends}
+use Rattle.std.specs.Global.{Vec}
+use Rattle.std.specs.List.{list_any}
+use Rattle.listing.specs.declared.counted.Counted.{Counted}
+use Rattle.listing.specs.Counted.{NoneFailed, Rose, device_of, failures_of}
+use Rattle.latch_table.specs.Limits.{most_readers}
+use Rattle.listing.specs.declared.scripts.ScriptLine.{ScriptLine}
+use Rattle.modules.specs.Entries.{CatalogEntries}
+use Rattle.modules.specs.Placed.{are_few}
+use Rattle.order_laws.specs.declared.refusals.Refusal.TheVariants as refusal
+use Rattle.shared_lookup.specs.Servings.{EachHasOutcome, EachIsAnswered, EachIsFoundIn, IsWrongCount}
+use Rattle.shared_lookup.specs.declared.served.Served.{Served}
+use Rattle.engines.specs.Assignments.{IsAssigned}
+use Rattle.engines.specs.CatalogTables.{HasFewRegions}
+use Rattle.engines.specs.LookupInputs.{catalog_in, notes_of, region_lines_of_inputs}
+use Rattle.engines.specs.Lookups.{HasTooManyOfOne}
+use Rattle.engines.specs.Readings.{AnswersInputs, Failures, failures_in}
+use Rattle.engines.specs.RunInputs.{RunInputs}
+use Rattle.engines.specs.RunTexts.{run_text}
+use Rattle.engines.specs.declared.assignments.Assignments.{Assignments}
+use Rattle.engines.specs.declared.fault.Fault.{Fault}
+use Rattle.engines.specs.declared.fault.Finished.{Finished}
+use Rattle.engines.specs.declared.fault.Fault.TheVariants.{Refused, Write}
+use Rattle.engines.specs.declared.runs.RunReaders.{RunReaders}
+
+-- a table can have the regions of the catalog, and so many readers
+abbrev pub MayRun : CatalogEntries → ℕ → Type 0
+MayRun c readers = HasFewRegions c × (0 < readers) × (readers ≤ most_readers)
+
+-- What the writers and readers came back with for what they were assigned. No list of addresses
+-- ended early, and each answer is what its address lies in at its generation.
+pub record IsServed (c : CatalogEntries) (a : Assignments) (s : Served) : Type 0 where
+  pub outcomes : EachHasOutcome c a.changes.items s.changes.items
+  pub answers : EachIsAnswered a.keys.items s.answers.items s.ended.items
+  pub found : EachIsFoundIn s.log.items s.answers.items
+  pub whole : list_any (λ e. e) s.ended.items ≡ false
+  pub wrong : IsWrongCount c a.changes.items s.changes.items s.answers.items s.log.items s.wrong
+
+-- the program's status where so many are wrong
+abbrev pub status_of : ℕ → ℕ
+status_of wrong = if wrong == 0 then 0 else 1
+
+-- What is returned for what came back, where the changes are of modules of these names.
+abbrev pub TellsServed : {W : Type 0} → (W → Option (List ℕ)) → CatalogEntries
+    → List (Vec (List ℕ)) → Served
+    → Counted W → Counted W → Result ℕ Fault → Type 0
+TellsServed contents c names s w w' (Ok status) =
+    NoneFailed w w' × (list_any (λ e. e) s.ended.items ≡ false) × (status ≡ status_of s.wrong)
+    × Appends (contents (device_of w)) (contents (device_of w')) (run_text c names s)
+TellsServed contents c names s w w' (Err (Refused refusal.OutOfMemory)) =
+    (w' ≡ w) × (list_any (λ e. e) s.ended.items ≡ true)
+TellsServed contents c names s w w' (Err Write) = Rose (failures_of w) (failures_of w')
+TellsServed contents c names s w w' (Err _) = ⊥
+
+-- The writer has taken the text of what came back for these lines, and the status says whether
+-- something is wrong.
+abbrev pub IsRun : {W : Type 0} → (W → Option (List ℕ)) → CatalogEntries → ℕ → List ScriptLine
+    → Counted W → Counted W → ℕ → Type 0
+IsRun contents c readers lines w w' status =
+    (a : Assignments) × IsAssigned c readers lines a
+    × ((s : Served) × IsServed c a s × (status ≡ status_of s.wrong)
+    × Appends (contents (device_of w)) (contents (device_of w')) (run_text c a.names.items s))
+
+-- What is returned for these lines. Every fault but a failed write leaves the writer as it was, and
+-- a call of it failed then alone.
+abbrev pub AnswersLines : {W : Type 0} → (W → Option (List ℕ)) → CatalogEntries → ℕ
+    → List ScriptLine
+    → Counted W → Counted W → Result ℕ Fault → Type 0
+AnswersLines contents c readers lines w w' (Ok status) =
+    NoneFailed w w' × MayRun c readers × IsRun contents c readers lines w w' status
+AnswersLines contents c readers lines w w' (Err (Refused refusal.OutOfMemory)) = w' ≡ w
+AnswersLines contents c readers lines w w' (Err (Refused refusal.BadCapacity)) =
+    (w' ≡ w) × (MayRun c readers → ⊥)
+AnswersLines contents c readers lines w w' (Err Write) =
+    Rose (failures_of w) (failures_of w') × MayRun c readers
+AnswersLines contents c readers lines w w' (Err _) = ⊥
+
+-- no module has too many region lines, and a table can have all regions and so many readers
+abbrev pub FitsRun : ℕ → RunInputs → Type 0
+FitsRun readers i =
+    (are_few (region_lines_of_inputs i.listings) ≡ true) × MayRun (catalog_in i.listings) readers
+
+-- a table can not have all regions, or not so many readers
+abbrev pub FitsNoRun : ℕ → RunInputs → Type 0
+FitsNoRun readers i =
+    (are_few (region_lines_of_inputs i.listings) ≡ true)
+    × (MayRun (catalog_in i.listings) readers → ⊥)
+
+-- what is said of the inputs where this is returned
+abbrev pub IsRunOf : {W : Type 0} → (W → Option (List ℕ)) → ℕ → Counted W → Counted W
+    → RunInputs → Result Finished Fault → Type 0
+IsRunOf contents readers w w' i (Ok finished) =
+    FitsRun readers i
+    × IsRun contents (catalog_in i.listings) readers i.lines w w' finished.status
+    × (finished.notes ≡ notes_of i.listings)
+IsRunOf contents readers w w' i (Err (Refused refusal.BadCapacity)) = FitsNoRun readers i
+IsRunOf contents readers w w' i (Err (Refused refusal.TooManyRegions)) = HasTooManyOfOne i.listings
+IsRunOf contents readers w w' i (Err Write) = FitsRun readers i
+IsRunOf contents readers w w' i (Err _) = Unit {0}
+
+-- what the engine returns that also read the inputs, where these are known
+abbrev pub AnswersRun : {W : Type 0} → (W → Option (List ℕ)) → ℕ
+    → Option (Result RunInputs (ℕ × ℕ)) → Failures → Counted W → Counted W
+    → Result Finished Fault → Type 0
+AnswersRun contents readers known counts w w' result =
+    AnswersInputs (IsRunOf contents readers w w') known counts w w' result
+
+abbrev pub run_failures_between : {M K R S : Type 0} → RunReaders M K R S → RunReaders M K R S
+    → Failures
+run_failures_between old new =
+    (failures_of old.modules, failures_of new.modules)
+    ∷ (failures_of old.kallsyms, failures_of new.kallsyms)
+    ∷ (failures_in old.regions, failures_in new.regions)
+    ∷ (failures_of old.script, failures_of new.script) ∷ []

@@ -1,0 +1,112 @@
+-- What one event and one command of a trace do that is run while its steps are written.
+use Rattle.std.specs.Prelude.{◌≡◌, ◌⊎◌, ℕ, ◌<◌, Bool, true, false, List, [], ◌∷◌, length, take}
+use Rattle.std.specs.Prelude.{Option}
+use Rattle.std.specs.Io.KnownBytes.{Appends}
+use Rattle.listing.specs.declared.counted.Counted.{Counted}
+use Rattle.listing.specs.Counted.{NoneFailed, Rose, device_of, failures_of}
+use Rattle.order_laws.specs.Orders.{Order}
+use Rattle.order_laws.specs.declared.refusals.Refusal.TheVariants as refusal
+use Rattle.word_layout.specs.Layouts.{capacity_of}
+use Rattle.word_layout.specs.Words.{at}
+use Rattle.latch_steps.specs.declared.commands.Command.{Command}
+use Rattle.latch_steps.specs.declared.events.Event.{Event}
+use Rattle.latch_steps.specs.declared.events.Event.TheVariants.{Begin, Start}
+use Rattle.latch_steps.specs.declared.replies.NextLoad.{NextLoad}
+use Rattle.latch_steps.specs.declared.replies.Reply.{Reply}
+use Rattle.latch_steps.specs.declared.worlds.World.{World}
+use Rattle.latch_steps.specs.Expands.{Expand, Repeats, ends, most_of}
+use Rattle.latch_steps.specs.Runs.{Done, Moment, last_of, step_done}
+use Rattle.latch_steps.specs.Steps.{Run}
+use Rattle.latch_steps.specs.Worlds.{RepresentsMoment, layout_in, machine_in}
+use Rattle.engines.specs.StepTexts.{event_text, load_by, steps_text}
+use Rattle.engines.specs.StepTraces.{AreTold}
+use Rattle.engines.specs.declared.fault.Fault.{Fault}
+use Rattle.engines.specs.declared.fault.Fault.TheVariants.{Refused, Write as WriteFault}
+
+-- from a moment that its world shows this run was done, and its lines were written
+pub record Tells {O W : Type 0} (o : Order ℕ) (contents : W → Option (List ℕ)) (line : ℕ)
+    (old new : World O ℕ) (a b : Counted W) (w : Moment ℕ) (run : List (Done ℕ)) : Type 0 where
+  pub layout : layout_in new ≡ layout_in old
+  pub steps : Run (machine_in o old) w run
+  pub shows : RepresentsMoment o new (last_of w run)
+  pub written : Appends (contents (device_of a)) (contents (device_of b))
+      (steps_text o (capacity_of (layout_in old)) line w run)
+
+-- the line of an event was written, after which the world shows what is told of it
+abbrev pub IsTold : {O W : Type 0} → Order ℕ → (W → Option (List ℕ)) → ℕ → Option (NextLoad ℕ)
+    → Event ℕ → Reply ℕ → World O ℕ → Counted W → Counted W → Type 0
+IsTold o contents line load e reply new a b =
+    (next : Moment ℕ) → RepresentsMoment o new next
+    → Appends (contents (device_of a)) (contents (device_of b))
+    (event_text next.events line load e reply (at next.latch.words 0))
+
+-- one event, from each moment that the world shows
+abbrev pub TellsEvent : {O W : Type 0} → Order ℕ → (W → Option (List ℕ)) → ℕ → Event ℕ
+    → World O ℕ → World O ℕ → Counted W → Counted W → Reply ℕ → Type 0
+TellsEvent o contents line e old new a b reply =
+    (w : Moment ℕ) → RepresentsMoment o old w
+    → (next : Moment ℕ) × Tells o contents line old new a b w (step_done e reply next ∷ [])
+
+-- the event of a command, as often as the command says
+abbrev pub TellsCommand : {O W : Type 0} → Order ℕ → (W → Option (List ℕ)) → ℕ → Command ℕ
+    → World O ℕ → World O ℕ → Counted W → Counted W → Type 0
+TellsCommand o contents line c old new a b =
+    (w : Moment ℕ) → RepresentsMoment o old w
+    → (run : List (Done ℕ)) × Tells o contents line old new a b w run × Repeats c (most_of w c) run
+
+-- commands one after another, on lines of these numbers
+pub record AreCommandsTold {O W : Type 0} (o : Order ℕ) (contents : W → Option (List ℕ))
+    (lines : List ℕ) (cs : List (Command ℕ)) (old new : World O ℕ) (a b : Counted W)
+    (w : Moment ℕ) : Type 0 where
+  pub run : List (Done ℕ)
+  pub text : List ℕ
+  pub layout : layout_in new ≡ layout_in old
+  pub steps : Run (machine_in o old) w run
+  pub shows : RepresentsMoment o new (last_of w run)
+  pub expands : Expand w cs run
+  pub told : AreTold o (capacity_of (layout_in old)) lines 0 w cs run text
+  pub written : Appends (contents (device_of a)) (contents (device_of b)) text
+
+abbrev pub TellsCommands : {O W : Type 0} → Order ℕ → (W → Option (List ℕ)) → List ℕ
+    → List (Command ℕ) → World O ℕ → World O ℕ → Counted W → Counted W → Type 0
+TellsCommands o contents lines cs old new a b =
+    (w : Moment ℕ) → RepresentsMoment o old w → AreCommandsTold o contents lines cs old new a b w
+
+-- an event that takes memory: a beginning or a start, which a command does once
+abbrev pub takes_memory : Event ℕ → Bool
+takes_memory (Begin u) = true
+takes_memory (Start r k) = true
+takes_memory _ = false
+
+-- a call of the writer failed
+abbrev pub IsWriteFault : {W : Type 0} → Counted W → Counted W → Fault → Type 0
+IsWriteFault a b fault = (fault ≡ WriteFault) × Rose (failures_of a) (failures_of b)
+
+-- memory ran out and nothing was written, or a call of the writer failed
+abbrev pub IsTellFault : {W : Type 0} → Counted W → Counted W → Fault → Type 0
+IsTellFault a b fault =
+    ((fault ≡ Refused refusal.OutOfMemory) × (b ≡ a)) ⊎ IsWriteFault a b fault
+
+-- memory ran out at one of these commands, and those before it were told, or a call of the writer
+-- failed
+abbrev pub StopsTelling : {O W : Type 0} → Order ℕ → (W → Option (List ℕ)) → List ℕ
+    → List (Command ℕ) → World O ℕ → Counted W → Counted W → Fault → Type 0
+StopsTelling {O} o contents lines cs old a b fault =
+    ((fault ≡ Refused refusal.OutOfMemory) × NoneFailed a b
+    × ((place : ℕ) × (place < length cs)
+    × ((new : World O ℕ) × TellsCommands o contents lines (take place cs) old new a b)))
+    ⊎ IsWriteFault a b fault
+
+-- of whatever moment a world shows: what an event loads, how often a command repeats its event at
+-- most, and whether a reply ends it
+abbrev pub IsLoadBy : {O : Type 0} → Order ℕ → World O ℕ → Event ℕ → Option (NextLoad ℕ) → Type 0
+IsLoadBy o c e load =
+    (w : Moment ℕ) → RepresentsMoment o c w → load ≡ load_by o (capacity_of (layout_in c)) w e
+
+abbrev pub IsMostOf : {O : Type 0} → Order ℕ → World O ℕ → Command ℕ → ℕ → Type 0
+IsMostOf o c command most =
+    (w : Moment ℕ) → RepresentsMoment o c w → most ≡ most_of w command
+
+abbrev pub EndsCommand : {O : Type 0} → Order ℕ → World O ℕ → Command ℕ → Reply ℕ → Bool → Type 0
+EndsCommand o c command reply whether =
+    (w : Moment ℕ) → RepresentsMoment o c w → whether ≡ ends command reply w

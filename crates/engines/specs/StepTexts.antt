@@ -1,0 +1,170 @@
+-- The lines that the steps of a trace write, an object of JSON each.
+use Rattle.std.specs.Prelude.{ℕ, ◌==◌, if◌then◌else◌, Bool, List, [], ◌∷◌, ◌++◌, codes, flat_map}
+use Rattle.std.specs.Prelude.{Option, Some, None}
+use Rattle.std.specs.Option.{option_map_or}
+use Rattle.order_laws.specs.declared.items.Item.{Item}
+use Rattle.order_laws.specs.declared.refusals.Refusal.{Refusal}
+use Rattle.order_laws.specs.Orders.{Order}
+use Rattle.order_laws.specs.Refusals.{refusal_number}
+use Rattle.word_layout.specs.Words.{at}
+use Rattle.word_layout.specs.declared.stores.Store.{Store}
+use Rattle.latch_core.specs.declared.updates.Update.{Update}
+use Rattle.latch_core.specs.Updates.{erased, inserted}
+use Rattle.latch_steps.specs.declared.events.Event.{Event}
+use Rattle.latch_steps.specs.declared.events.Event.TheVariants.{Begin, Write, Start, Read}
+use Rattle.latch_steps.specs.declared.replies.NextLoad.{NextLoad}
+use Rattle.latch_steps.specs.declared.replies.Returned.{Returned}
+use Rattle.latch_steps.specs.declared.replies.Reply.{Reply}
+use Rattle.latch_steps.specs.declared.replies.Reply.TheVariants.{Begun, Wrote, Started, Loaded}
+use Rattle.latch_steps.specs.declared.replies.Reply.TheVariants.{Retried, Refused}
+use Rattle.latch_steps.specs.declared.replies.Reply.TheVariants.{Returned as ReturnedReply}
+use Rattle.latch_steps.specs.NextLoads.{load_of}
+use Rattle.latch_steps.specs.Runs.{Moment, Done}
+use Rattle.listing.specs.Exact.{hexadecimal}
+use Rattle.listing.specs.declared.header.Header.{Header}
+use Rattle.listing.specs.declared.header.Version.{Version}
+use Rattle.listing.specs.declared.header.Version.TheVariants.{First, Second, Third}
+use Rattle.engines.specs.Json.{json_number}
+use Rattle.engines.specs.JsonTexts.{json_count}
+
+-- a list of values
+abbrev pub json_list : {T : Type 0} → (T → List ℕ) → List T → List ℕ
+json_list value [] = codes "[]"
+json_list value (x ∷ xs) =
+    codes "[" ++ value x ++ flat_map (λ y. codes "," ++ value y) xs ++ codes "]"
+
+unfoldable pub json_item : Item → List ℕ
+json_item item =
+    json_count (codes "{\"a\":") item.a ++ json_count (codes ",\"b\":") item.b
+    ++ json_count (codes ",\"tag\":") item.tag ++ codes "}"
+
+-- what an update erases, and what it inserts
+unfoldable pub update_members : Update → List ℕ
+update_members u =
+    codes ",\"erase\":" ++ json_list json_number (erased u)
+    ++ codes ",\"insert\":" ++ json_list json_item (inserted u)
+
+-- a reader, and the key of its lookup
+unfoldable pub reader_members : ℕ → ℕ → List ℕ
+reader_members r key =
+    json_count (codes ",\"reader\":") r ++ codes ",\"address\":\"" ++ hexadecimal key ++ codes "\""
+
+-- a word and what it holds
+abbrev pub word_members : ℕ → ℕ → List ℕ
+word_members word value =
+    json_count (codes ",\"word\":") word ++ json_count (codes ",\"value\":") value
+
+-- what a reader loads, if it may load something
+abbrev pub loaded_word : Option (NextLoad ℕ) → List ℕ
+loaded_word load = option_map_or (λ l. word_members l.word l.value) load []
+
+-- a load after which its attempt goes on
+unfoldable pub plain_load_members : ℕ → Option (NextLoad ℕ) → List ℕ
+plain_load_members r load = json_count (codes "\"load\",\"reader\":") r ++ loaded_word load
+
+-- the last load of an attempt: of which lookup, what it loads, and how many loads and attempts
+-- these are
+unfoldable pub load_members : ℕ → NextLoad ℕ → List ℕ
+load_members r load =
+    reader_members r load.key ++ word_members load.word load.value
+    ++ json_count (codes ",\"loads\":") load.loads ++ json_count (codes ",\"tries\":") load.attempts
+
+-- the same of a reader that may load something
+abbrev pub loaded_members : ℕ → Option (NextLoad ℕ) → List ℕ
+loaded_members r load = option_map_or (load_members r) load []
+
+-- the tag of the item that was found, or `null`
+abbrev pub json_tag : Option Item → List ℕ
+json_tag answer = option_map_or (λ item. json_number item.tag) answer (codes "null")
+
+-- what a lookup found, and of which generation
+unfoldable pub answer_members : Returned ℕ → List ℕ
+answer_members x =
+    codes ",\"tag\":" ++ json_tag x.answer ++ json_count (codes ",\"generation\":") x.generation
+
+-- a refusal
+unfoldable pub refused_member : Refusal → List ℕ
+refused_member why = json_count (codes ",\"refused\":") (refusal_number why)
+
+-- what the writer began
+abbrev pub begun_members : Update → Reply ℕ → List ℕ
+begun_members u (Begun left) =
+    codes "\"begin\"" ++ update_members u ++ json_count (codes ",\"steps\":") left
+begun_members u (Refused why) =
+    codes "\"refusal\",\"of\":\"begin\"" ++ update_members u ++ refused_member why
+begun_members u _ = codes "null"
+
+-- what it stored
+unfoldable pub stored_members : Store → List ℕ
+stored_members s =
+    (if s.word == 0 then codes "\"flip\"" else codes "\"store\"") ++ word_members s.word s.value
+
+abbrev pub written_members : Reply ℕ → List ℕ
+written_members (Wrote s) = stored_members s
+written_members _ = codes "null"
+
+-- what a reader began
+abbrev pub started_members : ℕ → ℕ → Reply ℕ → List ℕ
+started_members r key Started = codes "\"start\"" ++ reader_members r key
+started_members r key (Refused why) =
+    codes "\"refusal\",\"of\":\"start\"" ++ reader_members r key ++ refused_member why
+started_members r key _ = codes "null"
+
+-- what it loaded, and what this came to
+abbrev pub read_members : ℕ → Option (NextLoad ℕ) → Reply ℕ → List ℕ
+read_members r load Loaded = plain_load_members r load
+read_members r load Retried = codes "\"retry\"" ++ loaded_members r load
+read_members r load (ReturnedReply x) =
+    codes "\"return\"" ++ loaded_members r load ++ answer_members x
+read_members r load (Refused why) =
+    json_count (codes "\"refusal\",\"of\":\"load\",\"reader\":") r ++ refused_member why
+read_members r load _ = codes "null"
+
+-- what was done, from its kind on; `null` stands where no run has such a reply
+abbrev pub done_members : Option (NextLoad ℕ) → Event ℕ → Reply ℕ → List ℕ
+done_members load (Begin u) reply = begun_members u reply
+done_members load Write reply = written_members reply
+done_members load (Start r key) reply = started_members r key reply
+done_members load (Read r) reply = read_members r load reply
+
+-- the line of an event of this number that a line of the trace asked for, after which the sequence
+-- is this
+unfoldable pub event_text : ℕ → ℕ → Option (NextLoad ℕ) → Event ℕ → Reply ℕ → ℕ → List ℕ
+event_text number line load e reply sequence =
+    json_count (codes "{\"event\":") number ++ json_count (codes ",\"line\":") line
+    ++ codes ",\"kind\":" ++ done_members load e reply
+    ++ json_count (codes ",\"sequence\":") sequence ++ codes "}\n"
+
+-- what an event loads at a moment, where it is a load
+abbrev pub load_by : {K : Type 0} → Order K → ℕ → Moment K → Event K → Option (NextLoad K)
+load_by o n w (Read r) = load_of o n w r
+load_by o n w _ = None
+
+-- the line of an event that was done at a moment
+abbrev pub step_text : Order ℕ → ℕ → ℕ → Moment ℕ → Done ℕ → List ℕ
+step_text o n line w d =
+    event_text d.after.events line (load_by o n w d.event) d.event d.reply
+    (at d.after.latch.words 0)
+
+-- the lines of all events of a run from a moment
+abbrev pub steps_text : Order ℕ → ℕ → ℕ → Moment ℕ → List (Done ℕ) → List ℕ
+steps_text o n line w [] = []
+steps_text o n line w (d ∷ run) = step_text o n line w d ++ steps_text o n line d.after run
+
+-- the number of a version
+abbrev pub version_number : Version → ℕ
+version_number First = 1
+version_number Second = 2
+version_number Third = 3
+
+abbrev pub order_text : Bool → List ℕ
+order_text closed = if closed then codes "\"closed\"" else codes "\"halfopen\""
+
+-- the first line: the opening, as event 0
+unfoldable pub opening_text : Header → List ℕ
+opening_text h =
+    json_count (codes "{\"event\":0,\"line\":1,\"kind\":\"open\",\"version\":")
+    (version_number h.version)
+    ++ codes ",\"order\":" ++ order_text h.closed
+    ++ json_count (codes ",\"capacity\":") h.capacity
+    ++ json_count (codes ",\"sequence\":") h.start ++ codes "}\n"

@@ -1,0 +1,184 @@
+-- What a lookup writes whose modules come from a listing of symbols alone.
+use Rattle.std.specs.Prelude.{◌≡◌, ℕ, List, [], ◌∷◌, ◌++◌, map, flat_map, find, Option, None}
+use Rattle.std.specs.Prelude.{Result, Ok, Err, option_and_then}
+use Rattle.std.specs.Option.{option_map}
+use Rattle.std.specs.Io.KnownBytes.{Appends}
+use Rattle.listing.specs.declared.address_rules.AddressRule.{AddressRule}
+use Rattle.listing.specs.declared.counted.Counted.{Counted}
+use Rattle.listing.specs.Counted.{NoneFailed, Rose, device_of, failures_of}
+use Rattle.listing.specs.Lines.{lines_of}
+use Rattle.listing.specs.Looks.{are_symbols_hidden}
+use Rattle.listing.specs.SymbolListing.{symbol_counts, symbols_in}
+use Rattle.modules.specs.declared.catalog.KeptCounts.{KeptCounts}
+use Rattle.modules.specs.Accepted.{Accepted}
+use Rattle.modules.specs.Catalogs.{catalog_with, kept_counts}
+use Rattle.modules.specs.Entries.{CatalogEntries}
+use Rattle.modules.specs.FromSymbols.{IsFromSymbols}
+use Rattle.modules.specs.Lines.{bounds_for, usual_bounds_of}
+use Rattle.modules.specs.Listed.{BoundNames, ListedSymbol}
+use Rattle.order_laws.specs.declared.refusals.Refusal.TheVariants as refusal
+use Rattle.engines.specs.CatalogTables.{HasFewRegions, HasManyRegions, answer_at}
+use Rattle.listing.specs.ListingNotes.{all_notes, is_of_kallsyms}
+use Rattle.engines.specs.LookupInputs.{all_addresses, known_text}
+use Rattle.engines.specs.AnswerForms.{counts_by, line_by}
+use Rattle.engines.specs.JsonTexts.{json_found_counts}
+use Rattle.engines.specs.LookupTexts.{found_modules_line, symbols_line}
+use Rattle.engines.specs.Readings.{AnswersInputs, Failures, failures_in}
+use Rattle.engines.specs.declared.fault.Fault.{Fault}
+use Rattle.engines.specs.declared.fault.Fault.TheVariants.{Refused, Write}
+use Rattle.engines.specs.declared.forms.AnswerForm.{AnswerForm}
+use Rattle.listing.specs.declared.listing_notes.ListingNote.{ListingNote}
+use Rattle.listing.specs.declared.listing_notes.ListingNotes.{ListingNotes}
+use Rattle.engines.specs.declared.symbol_lookup.SymbolListing.{SymbolListing}
+use Rattle.engines.specs.declared.symbol_lookup.SymbolLookupInputs.{SymbolLookupInputs}
+use Rattle.engines.specs.declared.symbol_lookup.SymbolLookupOptions.{SymbolLookupOptions}
+use Rattle.engines.specs.declared.symbol_lookup.SymbolLookupReaders.{SymbolLookupReaders}
+
+-- what such a lookup is asked over: the names that are given for the kernel's bounds, how addresses
+-- are taken, the text of the listing, and the addresses of both places
+pub record SymbolInputs : Type 0 where
+  pub kernel : Option BoundNames
+  pub rule : AddressRule
+  pub kallsyms : List ℕ
+  pub addresses : List ℕ
+
+-- the inputs that the program gathers
+abbrev pub symbol_inputs_in : SymbolLookupInputs → SymbolInputs
+symbol_inputs_in i = record {
+  kernel = i.options.now.kernel;
+  rule = i.options.now.rule;
+  kallsyms = i.kallsyms.now;
+  addresses = i.addresses.items;
+}
+
+-- the inputs with these addresses, or the first bad line of their file, as the place of that file
+-- and the number of the line
+abbrev pub symbol_inputs_with : SymbolLookupOptions → List ℕ → Result (List ℕ) ℕ
+    → Result SymbolInputs (ℕ × ℕ)
+symbol_inputs_with options text (Err n) = Err (3, n)
+symbol_inputs_with options text (Ok addresses) = Ok (record {
+  kernel = options.kernel;
+  rule = options.rule;
+  kallsyms = text;
+  addresses = addresses;
+})
+
+-- the same after the addresses of the command line, where the text of that file is known
+abbrev pub symbol_inputs_of : SymbolLookupOptions → List ℕ → Option (Option (List ℕ)) → List ℕ
+    → Option (Result SymbolInputs (ℕ × ℕ))
+symbol_inputs_of options given file text =
+    option_map (λ t. symbol_inputs_with options text (all_addresses given t)) file
+
+-- the inputs that readers give, where the bytes of each that is read for them are known
+abbrev pub known_symbol_inputs : {K A : Type 0} → (K → Option (List ℕ)) → (A → Option (List ℕ))
+    → SymbolLookupReaders K A → SymbolLookupOptions → List ℕ
+    → Option (Result SymbolInputs (ℕ × ℕ))
+known_symbol_inputs kallsyms addresses readers options given =
+    option_and_then (symbol_inputs_of options given (known_text addresses readers.addresses))
+    (kallsyms (device_of readers.kallsyms))
+
+-- the symbols that a text lists
+abbrev pub listed : List ℕ → List ListedSymbol
+listed text = symbols_in (lines_of text)
+
+-- what the listing in a text says of the kernel, which lies between the names that are given or
+-- else the usual ones, and of the modules
+abbrev pub SaysOfModules : Option BoundNames → List ℕ → Accepted → Type 0
+SaysOfModules kernel text a = IsFromSymbols (bounds_for kernel (listed text)) (listed text) a
+
+-- the first note that applies to such a listing, of which so many lines are kept
+abbrev pub symbol_note : Option BoundNames → List ℕ → ℕ → Option ListingNote
+symbol_note kernel text kept =
+    find (is_of_kallsyms (bounds_for kernel (listed text)) text kept) all_notes
+
+-- the catalog, the counts and the note are those of the listing in this text
+pub record IsSymbolListing (kernel : Option BoundNames) (text : List ℕ) (l : SymbolListing)
+    : Type 0 where
+  pub modules : Accepted
+  pub said : SaysOfModules kernel text modules
+  pub catalog : l.catalog ≡ catalog_with modules (listed text)
+  pub kept : l.kept ≡ kept_counts modules (listed text)
+  pub skipped : l.skipped.by_place ≡ symbol_counts (lines_of text)
+  pub hidden : l.hidden ≡ are_symbols_hidden (lines_of text)
+  pub usual : l.usual ≡ usual_bounds_of (listed text)
+  pub note : l.note ≡ symbol_note kernel text (kept_counts modules (listed text)).symbols
+
+-- how many modules and regions were found, and where the lines went
+abbrev pub counts_text_of : KeptCounts → List ℕ → List ℕ
+counts_text_of kept skipped =
+    found_modules_line kept ++ symbols_line skipped kept.symbols kept.stray
+
+abbrev pub found_counts_text : SymbolListing → List ℕ
+found_counts_text l = counts_text_of l.kept l.skipped.by_place
+
+-- the counts in this form
+abbrev pub found_counts_by : AnswerForm → KeptCounts → List ℕ → List ℕ
+found_counts_by form kept skipped =
+    counts_by form (counts_text_of kept skipped) (json_found_counts kept skipped)
+
+-- a line for each address, and then the counts, where the listing says this of the modules
+abbrev pub symbol_lookup_text : AnswerForm → SymbolInputs → Accepted → List ℕ
+symbol_lookup_text form i a =
+    let symbols = listed i.kallsyms in
+    let c = catalog_with a symbols in
+    flat_map (line_by form c i.rule) (map (answer_at c i.rule) i.addresses)
+    ++ found_counts_by form (kept_counts a symbols) (symbol_counts (lines_of i.kallsyms))
+
+-- this holds of the catalog that the listing says
+abbrev pub HoldsOfCatalog : (CatalogEntries → Type 0) → SymbolInputs → Type 0
+HoldsOfCatalog P i =
+    (a : Accepted) × SaysOfModules i.kernel i.kallsyms a
+    × P (catalog_with a (listed i.kallsyms))
+
+-- the notes of a job whose only listing is one of symbols
+abbrev pub notes_with : Option ListingNote → ListingNotes
+notes_with note = record { modules = None; kallsyms = note }
+
+-- the writer has taken the lines of these inputs, whose table has few regions, and this is noted
+abbrev pub IsWrittenBySymbols : {W : Type 0} → (W → Option (List ℕ)) → AnswerForm → Counted W
+    → Counted W → SymbolInputs → ListingNotes → Type 0
+IsWrittenBySymbols contents form w w' i notes =
+    (a : Accepted) × SaysOfModules i.kernel i.kallsyms a
+    × HasFewRegions (catalog_with a (listed i.kallsyms))
+    × Appends (contents (device_of w)) (contents (device_of w')) (symbol_lookup_text form i a)
+    × (notes
+    ≡ notes_with (symbol_note i.kernel i.kallsyms (kept_counts a (listed i.kallsyms)).symbols))
+
+-- What is returned for these inputs, from one state of the writer to another. Every fault but a
+-- failed write leaves the writer as it was, and a call of it failed then alone.
+abbrev pub AnswersBySymbols : {W : Type 0} → (W → Option (List ℕ)) → AnswerForm → SymbolInputs
+    → Counted W → Counted W → Result ListingNotes Fault → Type 0
+AnswersBySymbols contents form i w w' (Ok notes) =
+    NoneFailed w w' × IsWrittenBySymbols contents form w w' i notes
+AnswersBySymbols contents form i w w' (Err (Refused refusal.OutOfMemory)) = w' ≡ w
+AnswersBySymbols contents form i w w' (Err (Refused refusal.BadCapacity)) =
+    (w' ≡ w) × HoldsOfCatalog HasManyRegions i
+AnswersBySymbols contents form i w w' (Err Write) =
+    Rose (failures_of w) (failures_of w') × HoldsOfCatalog HasFewRegions i
+AnswersBySymbols contents form i w w' (Err _) = ⊥
+
+-- what is said of the inputs where this is returned
+abbrev pub IsSymbolLookupOf : {W : Type 0} → (W → Option (List ℕ)) → AnswerForm → Counted W
+    → Counted W → SymbolInputs → Result ListingNotes Fault → Type 0
+IsSymbolLookupOf contents form w w' i (Ok notes) =
+    IsWrittenBySymbols contents form w w' i notes
+IsSymbolLookupOf contents form w w' i (Err (Refused refusal.BadCapacity)) =
+    HoldsOfCatalog HasManyRegions i
+IsSymbolLookupOf contents form w w' i (Err (Refused refusal.TooManyRegions)) = ⊥
+IsSymbolLookupOf contents form w w' i (Err Write) = HoldsOfCatalog HasFewRegions i
+IsSymbolLookupOf contents form w w' i (Err _) = Unit {0}
+
+-- what the engine returns that also read the inputs, where these are known
+abbrev pub AnswersSymbolLookup : {W : Type 0} → (W → Option (List ℕ)) → AnswerForm
+    → Option (Result SymbolInputs (ℕ × ℕ)) → Failures → Counted W → Counted W
+    → Result ListingNotes Fault → Type 0
+AnswersSymbolLookup contents form known counts w w' result =
+    AnswersInputs (IsSymbolLookupOf contents form w w') known counts w w' result
+
+-- The counts of failed calls. The files have the places that they have in every lookup, so those of
+-- the listings of modules and of regions stay empty.
+abbrev pub failures_of_symbols : {K A : Type 0} → SymbolLookupReaders K A
+    → SymbolLookupReaders K A → Failures
+failures_of_symbols old new =
+    (0, 0) ∷ (failures_of old.kallsyms, failures_of new.kallsyms) ∷ (0, 0)
+    ∷ (failures_in old.addresses, failures_in new.addresses) ∷ []

@@ -1,0 +1,141 @@
+-- What is written for a trace that is read.
+use Rattle.std.specs.Prelude.{◌≡◌, ℕ, ◌%◌, ◌<◌, ◌≤◌, List, ◌++◌, Bool, true, false, Option, Result}
+use Rattle.std.specs.Prelude.{Ok, Err, IfSome, flat_map, if◌then◌else◌}
+use Rattle.std.specs.Io.KnownBytes.{Appends}
+use Rattle.listing.specs.declared.counted.Counted.{Counted}
+use Rattle.listing.specs.Counted.{NoneFailed, Rose, device_of, failures_of}
+use Rattle.order_laws.specs.Orders.{Order, closed, half_open}
+use Rattle.order_laws.specs.declared.refusals.Refusal.TheVariants as refusal
+use Rattle.word_layout.specs.Limits.{most_nodes, greatest_sequence, greatest_wide_sequence}
+use Rattle.word_layout.specs.Words.{at}
+use Rattle.latch_steps.specs.Runs.{Done, history, last_of, opening}
+use Rattle.latch_steps.specs.Steps.{machine, Run}
+use Rattle.latch_steps.specs.Traces.{notes_of}
+use Rattle.latch_steps.specs.Expands.{Expand}
+use Rattle.latch_steps.specs.Safe.{IsSafe}
+use Rattle.latch_steps.specs.Quiet.{IsQuiet}
+use Rattle.latch_steps.specs.Near.{AreNear}
+use Rattle.latch_steps.specs.Promises.{IsExactWherePlain}
+use Rattle.listing.specs.declared.header.Header.{Header}
+use Rattle.listing.specs.declared.header.Version.{Version}
+use Rattle.listing.specs.Header.{is_wide}
+use Rattle.listing.specs.Trace.{Contents, trace_of}
+use Rattle.engines.specs.Texts.{end_text, note_text}
+use Rattle.engines.specs.declared.fault.Fault.{Fault}
+use Rattle.engines.specs.declared.fault.Fault.TheVariants.{Refused, BadLine, Read, Write}
+
+-- the greatest sequence of the tables that a trace of this version runs on
+abbrev pub greatest_of : Version → ℕ
+greatest_of version = if is_wide version then greatest_wide_sequence else greatest_sequence
+
+-- a table is opened with at least one node and at most as many as a layout may have, at an even
+-- sequence of at most the greatest of its version
+pub record HeaderMayOpen (h : Header) : Type 0 where
+  pub some : 0 < h.capacity
+  pub most : h.capacity ≤ most_nodes
+  pub even : h.start % 2 ≡ 0
+  pub within : h.start ≤ greatest_of h.version
+
+abbrev pub HeaderMayNotOpen : Header → Type 0
+HeaderMayNotOpen h = ¬ HeaderMayOpen h
+
+-- the order of items that a header names
+abbrev pub order_by : Bool → Order ℕ
+order_by true = closed
+order_by false = half_open
+
+-- what some run of these commands in this order writes: its notes and its last sequence. The run is
+-- safe and quiet, its lookups that the writer leaves alone are as short as in a red-black tree, and
+-- where it is plain each lookup is that of one table.
+pub record IsRunText (o : Order ℕ) (said : Contents) (written : List ℕ) : Type 0 where
+  pub run : List (Done ℕ)
+  pub steps : Run (machine o said.header.capacity (greatest_of said.header.version))
+      (opening said.header.capacity said.header.start) run
+  pub expands : Expand (opening said.header.capacity said.header.start) said.commands run
+  pub safe : IsSafe o said.header.capacity said.header.start run
+  pub quiet : IsQuiet o said.header.start run
+  pub near : AreNear o said.header.start (history run) run
+  pub plain : IsExactWherePlain o said.header.capacity said.header.start run
+  pub text : written
+      ≡ flat_map note_text (notes_of run)
+      ++ end_text (at (last_of (opening said.header.capacity said.header.start) run).latch.words 0)
+
+-- The bytes that are read and those that are written: the lines are a header and commands, and what
+-- is written is the text of a run of these commands.
+pub record IsTraceText (read written : List ℕ) : Type 0 where
+  pub said : Contents
+  pub reads : trace_of read ≡ Ok said
+  pub opens : HeaderMayOpen said.header
+  pub runs : IsRunText (order_by said.header.closed) said written
+
+-- the trace is in the grammar, and its header is such a one
+pub record IsTraceWith (P : Header → Type 0) (read : List ℕ) : Type 0 where
+  pub said : Contents
+  pub reads : trace_of read ≡ Ok said
+  pub header : P said.header
+
+-- What an engine returns that ran a trace of this header from one state of the writer to another,
+-- where `IsText` says what a run writes, and `IsRefused` what became of the writer where memory ran
+-- out. A call of it failed where the answer says so, and else none.
+abbrev pub AnswersBy : {W : Type 0} → (List ℕ → Type 0) → (Counted W → Counted W → Type 0)
+    → (W → Option (List ℕ)) → Header → Counted W → Counted W → Result (Unit {0}) Fault → Type 0
+AnswersBy IsText IsRefused contents header w w' (Ok _) =
+    NoneFailed w w' × HeaderMayOpen header
+    × ((text : List ℕ) × IsText text
+    × Appends (contents (device_of w)) (contents (device_of w')) text)
+AnswersBy IsText IsRefused contents header w w' (Err (Refused refusal.OutOfMemory)) = IsRefused w w'
+AnswersBy IsText IsRefused contents header w w' (Err (Refused refusal.BadCapacity)) =
+    (w' ≡ w) × HeaderMayNotOpen header
+AnswersBy IsText IsRefused contents header w w' (Err Write) =
+    Rose (failures_of w) (failures_of w') × HeaderMayOpen header
+AnswersBy IsText IsRefused contents header w w' (Err _) = ⊥
+
+-- The same of an engine that also read the trace, where the bytes of the reader are known: `IsText`
+-- takes them and those that are written. A bad line leaves the writer as it was.
+abbrev pub AnswersReadBy : {R W : Type 0} → (List ℕ → List ℕ → Type 0)
+    → (Counted W → Counted W → Type 0) → (R → Option (List ℕ)) → (W → Option (List ℕ))
+    → Counted R → Counted R → Counted W → Counted W → Result (Unit {0}) Fault → Type 0
+AnswersReadBy IsText IsRefused remaining contents r r' w w' (Ok _) =
+    NoneFailed r r' × NoneFailed w w'
+    × IfSome (remaining (device_of r)) (λ read. (text : List ℕ) × IsText read text
+    × Appends (contents (device_of w)) (contents (device_of w')) text)
+AnswersReadBy IsText IsRefused remaining contents r r' w w' (Err (Refused refusal.OutOfMemory)) =
+    NoneFailed r r' × IsRefused w w'
+AnswersReadBy IsText IsRefused remaining contents r r' w w' (Err (Refused refusal.BadCapacity)) =
+    NoneFailed r r' × (w' ≡ w) × IfSome (remaining (device_of r)) (IsTraceWith HeaderMayNotOpen)
+AnswersReadBy IsText IsRefused remaining contents r r' w w' (Err (Refused _)) = ⊥
+AnswersReadBy IsText IsRefused remaining contents r r' w w' (Err (BadLine place n)) =
+    NoneFailed r r' × (w' ≡ w) × (place ≡ 0)
+    × IfSome (remaining (device_of r)) (λ read. trace_of read ≡ Err n)
+AnswersReadBy IsText IsRefused remaining contents r r' w w' (Err (Read place)) =
+    (w' ≡ w) × (place ≡ 0) × Rose (failures_of r) (failures_of r')
+AnswersReadBy IsText IsRefused remaining contents r r' w w' (Err Write) =
+    NoneFailed r r' × Rose (failures_of w) (failures_of w')
+    × IfSome (remaining (device_of r)) (IsTraceWith HeaderMayOpen)
+AnswersReadBy IsText IsRefused remaining contents r r' w w' (Err _) = ⊥
+
+-- every fault but a failed write leaves the writer as it was
+abbrev pub Stays : {W : Type 0} → Counted W → Counted W → Type 0
+Stays w w' = w' ≡ w
+
+-- What an engine returns that ran a trace of which the lines say this, and wrote its notes at the
+-- end.
+abbrev pub AnswersSaid : {W : Type 0} → (W → Option (List ℕ)) → Result Contents ℕ
+    → Counted W → Counted W → Result (Unit {0}) Fault → Type 0
+AnswersSaid contents said w w' (Ok _) =
+    NoneFailed w w' × ((c : Contents) × (said ≡ Ok c) × HeaderMayOpen c.header
+    × ((text : List ℕ) × IsRunText (order_by c.header.closed) c text
+    × Appends (contents (device_of w)) (contents (device_of w')) text))
+AnswersSaid contents said w w' (Err (Refused refusal.OutOfMemory)) = w' ≡ w
+AnswersSaid contents said w w' (Err (Refused refusal.BadCapacity)) =
+    (w' ≡ w) × ((c : Contents) × (said ≡ Ok c) × HeaderMayNotOpen c.header)
+AnswersSaid contents said w w' (Err (BadLine place n)) = (w' ≡ w) × (place ≡ 0) × (said ≡ Err n)
+AnswersSaid contents said w w' (Err Write) =
+    Rose (failures_of w) (failures_of w')
+    × ((c : Contents) × (said ≡ Ok c) × HeaderMayOpen c.header)
+AnswersSaid contents said w w' (Err _) = ⊥
+
+-- and also read it
+abbrev pub AnswersTrace : {R W : Type 0} → (R → Option (List ℕ)) → (W → Option (List ℕ))
+    → Counted R → Counted R → Counted W → Counted W → Result (Unit {0}) Fault → Type 0
+AnswersTrace remaining contents = AnswersReadBy IsTraceText Stays remaining contents

@@ -1,0 +1,48 @@
+//! What the commands of the program do that need a table: traces and their steps, lookups and
+//! scripts, each from the bytes of its files to the bytes that it writes.
+//!
+//! An engine is generic over its readers and its writer. It knows no word of a command line and no
+//! name of a file: a [`Fault`] tells of a file by its place in the order in which they are read.
+//! The commands that need no table stand in `latchsym`, and have the catalog of their listings
+//! from [`open_catalog`].
+#![tactic(auto)]
+
+mod assignments;
+mod fault;
+mod forms;
+mod json;
+mod json_texts;
+mod line_rooms;
+mod lookup;
+mod lookup_texts;
+mod opened_catalogs;
+mod run_texts;
+mod runs;
+mod sifted_symbols;
+mod step_texts;
+mod steps;
+mod symbol_lookup;
+mod table;
+#[cfg(test)]
+mod tests;
+mod texts;
+mod trace;
+
+pub use fault::{FAILED, Fault, Finished, SUCCEEDED, with_notes, with_status, without_notes};
+pub use forms::AnswerForm;
+pub use json_texts::{
+    put_address_member, put_named_module, put_offset_members, put_symbol_members,
+};
+pub use lookup::{
+    Listings, LookupInputs, LookupOptions, LookupReaders, listings_in, lookup_engine, put_counts,
+    region_lines_in,
+};
+pub use opened_catalogs::{GivenTexts, ListingReaders, bounds_or_usual, open_catalog, read_given};
+pub use runs::{RunReaders, run_engine};
+pub use steps::steps_engine;
+pub use symbol_lookup::{
+    SymbolListing, SymbolLookupOptions, SymbolLookupReaders, put_found_counts, symbol_listing_in,
+    symbol_lookup_engine,
+};
+pub use texts::{put_decimal, put_refused};
+pub use trace::trace_engine;

@@ -1,0 +1,458 @@
+//! From the bytes of the listings to the lines that a lookup of addresses writes.
+ghost use Rattle.std.specs.Prelude.{◌≡◌, ◌++◌, ◌∷◌, [], ℕ, Err, List, All, flat_map, is_some};
+ghost use Rattle.std.specs.Prelude.{option_map, not, true, ◌&&◌, IfOk, IfErr, IfSome};
+ghost use Rattle.std.specs.List.{list_any};
+ghost use Rattle.listing.specs.Counted.{device_of, failures_of};
+ghost use Rattle.listing.specs.Exact.{Wrote};
+ghost use Rattle.listing.specs.ListingNotes.{has_no_module};
+ghost use Rattle.modules.specs.Catalogs.{IsBuildRefusal};
+ghost use Rattle.modules.specs.Lines.{region_fits};
+ghost use Rattle.modules.specs.ModuleAddresses.{lies_in_its_module};
+ghost use Rattle.engines.specs.LookupInputs.{inputs_in, known_inputs, known_text, lines_or_none};
+ghost use Rattle.engines.specs.LookupInputs.{region_lines_of_inputs};
+ghost use Rattle.engines.specs.AnswerForms.{counts_by, line_by};
+ghost use Rattle.engines.specs.Lookups.{AnswersLookup, AnswersWith, AreListingsOf, GivesAddresses};
+ghost use Rattle.engines.specs.Lookups.{GivesLines, counts_text, failures_between};
+ghost use Rattle.engines.specs.Lookups.{json_counts_text, regions_line_of};
+ghost use Rattle.engines.specs.Readings.{IsReadAs, failures_in};
+ghost use Rattle.engines.specs.SiftedLookups.{AreSiftedListingsOf, inputs_from, places_of};
+ghost use Rattle.engines.specs.SiftedSymbols.{IsSiftedFrom};
+
+use crate::fault::Fault;
+use crate::forms::AnswerForm;
+use crate::json_texts::put_json_counts;
+use crate::lookup_texts::{put_answers, put_module_counts, put_region_counts, put_symbol_counts};
+use crate::sifted_symbols::{SiftedSymbols, next_block, sift};
+use crate::table::{AddressAnswer, answers_of};
+use listing::{
+    AddressRule, Counted, LineBlocks, ListingNotes, ModuleCounts, ModuleFacts, ReadFault,
+    SymbolCounts, SymbolFacts, are_modules_hidden, are_symbols_hidden, note_of_kallsyms,
+    note_of_modules, note_of_modules_by, read_addresses, read_kallsyms, read_modules, read_regions,
+    read_whole,
+};
+use modules::{Asked, BuildCounts, Catalog, KernelBounds, ListedAddresses, RegionLine};
+use order_laws::Refusal;
+use std::alloc::{AllocError, Global};
+use std::io;
+use std::io::{Read, Write};
+
+/// The readers of the files of a lookup, in the order in which they are read.
+#[derive(Drop)]
+pub struct LookupReaders<M, K, R, A> {
+    /// The listing of modules.
+    pub modules: Counted<M>,
+    /// The listing of symbols.
+    pub kallsyms: Counted<K>,
+    /// The listing of regions, where there is one.
+    pub regions: Option<Counted<R>>,
+    /// The file of further addresses, where there is one.
+    pub addresses: Option<Counted<A>>,
+}
+
+/// The places of the files among those that are read.
+pub const MODULES_PLACE: u64 = 0;
+
+pub const KALLSYMS_PLACE: u64 = 1;
+
+pub const REGIONS_PLACE: u64 = 2;
+
+const ADDRESSES_PLACE: u64 = 3;
+
+/// The texts of the listings, that of regions only where it is given.
+#[derive(Drop)]
+pub struct ListingTexts {
+    pub modules: Vec<u8>,
+    pub kallsyms: Vec<u8>,
+    pub regions: Option<Vec<u8>>,
+}
+
+/// How the kernel's own region is found, and how addresses are taken.
+#[derive(Debug, Drop)]
+pub struct LookupOptions<'a> {
+    /// The names of the symbols that bound the kernel's own region.
+    pub kernel: KernelBounds<'a>,
+    /// How the addresses are taken that are looked up.
+    pub rule: AddressRule,
+}
+
+/// What a lookup is asked over.
+#[derive(Drop)]
+pub struct LookupInputs<'o, 'a> {
+    pub options: &'o LookupOptions<'o>,
+    /// The text of the listing of modules.
+    pub modules: &'a [u8],
+    /// The text of the listing of symbols.
+    pub kallsyms: &'a [u8],
+    /// The lines of the listing of regions, where there is one.
+    pub regions: Option<Vec<RegionLine<'a>>>,
+    /// The addresses of the command line, and after them those of the file.
+    pub addresses: Vec<u64>,
+}
+
+/// What a lookup is asked over that has read the listing of symbols already.
+#[derive(Drop)]
+pub struct SiftedInputs<'o, 'a> {
+    pub options: &'o LookupOptions<'o>,
+    /// The text of the listing of modules.
+    pub modules: &'a [u8],
+    /// What is kept of the listing of symbols.
+    pub symbols: &'a SiftedSymbols,
+    /// The lines of the listing of regions, where there is one.
+    pub regions: Option<Vec<RegionLine<'a>>>,
+    /// The addresses of the command line, and after them those of the file.
+    pub addresses: Vec<u64>,
+    /// The addresses that are looked up for these, for which the symbols were sifted.
+    pub asked: Vec<u64>,
+}
+
+/// What the listings say: a catalog, and how many of their lines went where.
+#[derive(Drop)]
+pub struct Listings<'a> {
+    pub catalog: Catalog<'a>,
+    pub built: BuildCounts,
+    pub skipped_modules: ModuleCounts,
+    pub skipped_symbols: SymbolCounts,
+    /// Whether there is a listing of regions.
+    pub has_regions: bool,
+    /// All well-formed lines of the listing of modules are hidden, and there is one.
+    pub modules_hidden: bool,
+    /// The same of the listing of symbols.
+    pub symbols_hidden: bool,
+    /// What is noted of them.
+    pub notes: ListingNotes,
+}
+
+/// Looks addresses up in the listings of modules and of symbols, and writes a line for each address
+/// and the counts of each listing, in this form. Returns what is noted of the listings. A listing of
+/// regions may say where modules lie, and a file of addresses which are looked up after the given
+/// ones. The options name the symbols between which the kernel's own region lies, and say how the
+/// addresses are taken.
+///
+/// The listing of symbols is read block by block, and only what the answers need is kept of it; so
+/// the addresses are read behind its first block, and before the others.
+///
+/// All is read, and all answers are there, before the first byte is written; so every fault but a
+/// failed write leaves the writer as it was. docs/FORMATS.md has the files and the lines.
+pub fn lookup_engine<M: Read, K: Read, R: Read, A: Read, W: Write>(
+    alloc: Global,
+    readers: &mut LookupReaders<M, K, R, A>,
+    options: &LookupOptions<'_>,
+    addresses: &[u64],
+    form: AnswerForm,
+    writer: &mut Counted<W>,
+) -> Result<ListingNotes, Fault>
+    ensures { AnswersLookup W.contents form
+        (known_inputs M.remaining K.remaining R.remaining A.remaining
+        readers.old options.now addresses.now)
+        (failures_between readers.old readers.new) writer.old writer.new result }
+{
+    let modules = read_at(alloc, &mut readers.modules, MODULES_PLACE)?;
+    let mut blocks = LineBlocks::new(alloc);
+    next_block(&mut blocks, &mut readers.kallsyms)?;
+    let regions = read_if_given(alloc, &mut readers.regions, REGIONS_PLACE)?;
+    let lines = region_lines_in(alloc, &regions)?;
+    let addresses = all_addresses(alloc, addresses, &mut readers.addresses)?;
+    let asked = places_of(alloc, options.rule, &addresses)?;
+    let kallsyms = &mut readers.kallsyms;
+    let symbols = sift(alloc, &options.kernel, &asked, &mut blocks, kallsyms)?;
+    let inputs = SiftedInputs {
+        options,
+        modules: &modules,
+        symbols: &symbols,
+        regions: lines,
+        addresses,
+        asked,
+    };
+    answer_with(alloc, &inputs, form, writer)
+}
+
+/// Reads the file at a place of the order in which they are read, where there is one.
+pub(crate) fn read_if_given<R: Read>(
+    alloc: Global,
+    reader: &mut Option<Counted<R>>,
+    place: u64,
+) -> Result<Option<Vec<u8>>, Fault>
+    ensures bytes { IfOk result (λ text. IfSome (known_text R.remaining reader.old)
+        (λ left. option_map (λ t. t.items) text ≡ left)) }
+    ensures read { IsReadAs place (failures_in reader.old) (failures_in reader.new) result }
+{
+    match reader {
+        Some(reader) => Ok(Some(read_at(alloc, reader, place)?)),
+        None => Ok(None),
+    }
+}
+
+/// Reads the file at a place of the order in which they are read.
+pub(crate) fn read_at<R: Read>(
+    alloc: Global,
+    reader: &mut Counted<R>,
+    place: u64,
+) -> Result<Vec<u8>, Fault>
+    ensures bytes { IfOk result
+        (λ bytes. IfSome (R.remaining (device_of reader.old)) (λ left. bytes.items ≡ left)) }
+    ensures read { IsReadAs place (failures_of reader.old) (failures_of reader.new) result }
+{
+    match read_whole(alloc, reader) {
+        Ok(bytes) => Ok(bytes),
+        Err(ReadFault::OutOfMemory) => Err(Fault::Refused(Refusal::OutOfMemory)),
+        Err(ReadFault::Read) => Err(Fault::Read { place }),
+    }
+}
+
+/// The lines of the listing of regions, where there is one.
+pub fn region_lines_in(
+    alloc: Global,
+    text: &Option<Vec<u8>>,
+) -> Result<Option<Vec<RegionLine<'_>>>, Fault>
+    ensures lines { GivesLines (option_map (λ t. t.items) text.now) result }
+    ensures fit { IfOk result (λ o. IfSome o (λ v. All (λ r. region_fits r ≡ true) v.items)) }
+{
+    let Some(text) = text else {
+        return Ok(None);
+    };
+    match read_regions(alloc, text) {
+        Ok(lines) => Ok(Some(lines)),
+        Err(fault) => Err(Fault::of_lines(REGIONS_PLACE, fault)),
+    }
+}
+
+/// The addresses that are given, and after them those of the file, where there is one.
+pub(crate) fn all_addresses<A: Read>(
+    alloc: Global,
+    given: &[u64],
+    file: &mut Option<Counted<A>>,
+) -> Result<Vec<u64>, Fault>
+    ensures { GivesAddresses given.now (known_text A.remaining file.old)
+        (failures_in file.old) (failures_in file.new) result }
+{
+    let mut addresses = Vec::from_slice(alloc, given)?;
+    if let Some(reader) = file {
+        match read_addresses(alloc, reader) {
+            Ok(listed) => addresses.extend_from_slice(&listed)?,
+            Err(fault) => return Err(Fault::of_lines(ADDRESSES_PLACE, fault)),
+        }
+    }
+    Ok(addresses)
+}
+
+/// Looks the addresses up, and writes what is found.
+fn answer_with<W: Write>(
+    alloc: Global,
+    inputs: &SiftedInputs<'_, '_>,
+    form: AnswerForm,
+    writer: &mut Counted<W>,
+) -> Result<ListingNotes, Fault>
+    requires fit { All (λ r. region_fits r ≡ true) (lines_or_none inputs.now.regions) }
+    requires asked { inputs.now.asked.items
+        ≡ places_of inputs.now.options.now.rule inputs.now.addresses.items }
+    ensures { (text : List ℕ)
+        → IsSiftedFrom inputs.now.options.now.kernel inputs.now.asked.items text
+        inputs.now.symbols.now
+        → AnswersWith W.contents form (inputs_from inputs.now text)
+        writer.old writer.new result }
+{
+    let rule = inputs.options.rule;
+    let listings = sifted_listings_in(alloc, inputs)?;
+    let answers = answers_of(
+        alloc,
+        &listings.catalog,
+        listings.catalog.len(),
+        rule,
+        &inputs.addresses,
+    )?;
+    match put_lookup(writer, &listings, rule, form, &answers) {
+        Ok(()) => Ok(listings.notes),
+        Err(_) => Err(Fault::Write),
+    }
+}
+
+/// The addresses that are looked up for these.
+fn places_of(alloc: Global, rule: AddressRule, addresses: &[u64]) -> Result<Vec<u64>, AllocError>
+    ensures { IfOk result (λ v. v.items ≡ places_of rule addresses.now) }
+{
+    addresses
+        .iter()
+        .filter_map(|addr| rule.place_of(*addr))
+        .collect(alloc)
+}
+
+/// Reads the lines of the listing of modules, and builds the catalog of the kept lines of that of
+/// symbols. The counts and the notes are those of all its lines. Refused where more than 7 region
+/// lines have one name, and when out of memory.
+fn sifted_listings_in<'a>(
+    alloc: Global,
+    inputs: &SiftedInputs<'_, 'a>,
+) -> Result<Listings<'a>, Refusal>
+    requires { All (λ r. region_fits r ≡ true) (lines_or_none inputs.now.regions) }
+    ensures said { IfOk result (λ l. (text : List ℕ)
+        → IsSiftedFrom inputs.now.options.now.kernel inputs.now.asked.items text
+        inputs.now.symbols.now
+        → AreSiftedListingsOf (inputs_from inputs.now text) inputs.now.symbols.now.kept l) }
+    ensures refusal { IfErr result (IsBuildRefusal (lines_or_none inputs.now.regions)) }
+{
+    let (module_lines, skipped_modules) = read_modules(alloc, inputs.modules)?;
+    let names = &inputs.options.kernel;
+    let symbols = inputs.symbols;
+    let (catalog, built) = Catalog::build_sifted(
+        alloc,
+        names,
+        &module_lines,
+        region_lines_of(&inputs.regions),
+        symbols.kept.lines(alloc)?,
+        &symbols.addresses,
+        Asked::These(&inputs.asked),
+    )?;
+    let modules_hidden = are_modules_hidden(module_lines.len(), &skipped_modules);
+    let facts = module_facts(modules_hidden, &catalog, &symbols.addresses);
+    let notes = ListingNotes {
+        modules: note_of_modules_by(inputs.modules, facts),
+        kallsyms: symbols.facts.note(built.symbols),
+    };
+    Ok(Listings {
+        catalog,
+        built,
+        skipped_modules,
+        skipped_symbols: symbols.facts.skipped(),
+        has_regions: inputs.regions.is_some(),
+        modules_hidden,
+        symbols_hidden: symbols.facts.is_hidden(),
+        notes,
+    })
+}
+
+/// What is known of the modules of a catalog of kept lines, where these are the addresses of all.
+fn module_facts(hidden: bool, catalog: &Catalog, addresses: &ListedAddresses) -> ModuleFacts
+    ensures hidden { result.hidden ≡ hidden }
+    ensures none { result.none ≡ has_no_module catalog.now }
+    ensures lacking { result.lacks_symbols ≡ (not (has_no_module catalog.now)
+        && not (list_any (lies_in_its_module catalog.now) addresses.now)) }
+{
+    let none = catalog.len() == 0;
+    ModuleFacts {
+        hidden,
+        none,
+        lacks_symbols: !none && !catalog.any_in_its_module(addresses),
+    }
+}
+
+/// Reads the lines of the first two listings, and builds the catalog of all three, for who asks
+/// about these addresses. Refused where more than 7 region lines have one name, and when out of
+/// memory.
+#[tactic(auto, unfolding(crate::specs::LookupInputs::catalog_in, crate::specs::LookupInputs::counts_in))]
+pub fn listings_in<'a>(
+    alloc: Global,
+    inputs: &LookupInputs<'_, 'a>,
+    asked: Asked<'_>,
+) -> Result<Listings<'a>, Refusal>
+    requires { All (λ r. region_fits r ≡ true) (region_lines_of_inputs (inputs_in inputs.now)) }
+    ensures said { IfOk result (AreListingsOf (inputs_in inputs.now)) }
+    ensures refusal { IfErr result
+        (IsBuildRefusal (region_lines_of_inputs (inputs_in inputs.now))) }
+{
+    let (module_lines, skipped_modules) = read_modules(alloc, inputs.modules)?;
+    let (symbol_lines, skipped_symbols) = read_kallsyms(alloc, inputs.kallsyms)?;
+    let modules_hidden = are_modules_hidden(module_lines.len(), &skipped_modules);
+    let symbols_hidden = are_symbols_hidden(symbol_lines.len(), &skipped_symbols);
+    let regions = region_lines_of(&inputs.regions);
+    let (catalog, built) = Catalog::build_for(
+        alloc,
+        &inputs.options.kernel,
+        &module_lines,
+        regions,
+        symbol_lines,
+        asked,
+    )?;
+    let facts = SymbolFacts {
+        hidden: symbols_hidden,
+        kept: built.symbols,
+        has_kernel: catalog.module(0).is_some(),
+    };
+    let notes = ListingNotes {
+        modules: note_of_modules(inputs.modules, modules_hidden, &catalog),
+        kallsyms: note_of_kallsyms(inputs.kallsyms, &inputs.options.kernel, facts),
+    };
+    Ok(Listings {
+        catalog,
+        built,
+        skipped_modules,
+        skipped_symbols,
+        has_regions: inputs.regions.is_some(),
+        modules_hidden,
+        symbols_hidden,
+        notes,
+    })
+}
+
+/// The region lines, of which there are none where there is no listing of them.
+fn region_lines_of<'i, 'a>(lines: &'i Option<Vec<RegionLine<'a>>>) -> &'i [RegionLine<'a>]
+    ensures { result.now ≡ lines_or_none lines.now }
+{
+    match lines {
+        Some(lines) => lines,
+        None => &[],
+    }
+}
+
+/// Writes the line of each answer and the counts, and lets the writer keep nothing back.
+fn put_lookup<W: Write>(
+    writer: &mut Counted<W>,
+    listings: &Listings,
+    rule: AddressRule,
+    form: AnswerForm,
+    answers: &[AddressAnswer],
+) -> io::Result<()>
+    ensures { Wrote W.contents writer.old writer.new result
+        (flat_map (line_by form listings.now.catalog rule) answers.now
+        ++ counts_by form (counts_text listings.now) (json_counts_text listings.now)) }
+{
+    put_answers(writer, &listings.catalog, rule, form, answers)?;
+    put_counts_by(writer, listings, form)?;
+    writer.flush()
+}
+
+/// Writes the counts of the listings, where the form has them.
+#[tactic(auto, unfolding(crate::specs::AnswerForms::counts_by))]
+fn put_counts_by<W: Write>(
+    writer: &mut Counted<W>,
+    listings: &Listings,
+    form: AnswerForm,
+) -> io::Result<()>
+    ensures { Wrote W.contents writer.old writer.new result
+        (counts_by form (counts_text listings.now) (json_counts_text listings.now)) }
+{
+    if form.counts {
+        if form.json {
+            put_json_counts(writer, listings)
+        } else {
+            put_counts(writer, listings)
+        }
+    } else {
+        Ok(())
+    }
+}
+
+/// Writes the counts of the listings.
+pub fn put_counts<W: Write>(writer: &mut Counted<W>, listings: &Listings) -> io::Result<()>
+    ensures { Wrote W.contents writer.old writer.new result (counts_text listings.now) }
+{
+    put_module_counts(writer, &listings.skipped_modules, &listings.built)?;
+    put_symbol_counts(
+        writer,
+        &listings.skipped_symbols,
+        listings.built.symbols,
+        listings.built.stray,
+    )?;
+    put_counts_of_regions(writer, listings)
+}
+
+/// Writes the counts of the listing of regions, where there is one.
+fn put_counts_of_regions<W: Write>(writer: &mut Counted<W>, listings: &Listings) -> io::Result<()>
+    ensures { Wrote W.contents writer.old writer.new result
+        (regions_line_of listings.now.has_regions listings.now.built) }
+{
+    if listings.has_regions {
+        put_region_counts(writer, &listings.built)
+    } else {
+        Ok(())
+    }
+}

@@ -1,0 +1,439 @@
+//! The lines that the steps of a trace write, an object of JSON each, byte for byte, with no memory
+//! taken.
+ghost use Rattle.std.specs.Prelude.{◌≡◌, ◌+◌, ◌≤◌, ◌==◌, [], ◌++◌, if◌then◌else◌, codes, flat_map};
+ghost use Rattle.std.specs.Prelude.{length};
+ghost use Rattle.listing.specs.Exact.{Wrote};
+ghost use Rattle.engines.specs.Json.{json_number};
+ghost use Rattle.engines.specs.JsonTexts.{json_count};
+ghost use Rattle.engines.specs.LineRooms.{IsPutBefore};
+ghost use Rattle.engines.specs.StepTexts.{answer_members, begun_members, event_text, json_item};
+ghost use Rattle.engines.specs.StepTexts.{json_list, json_tag, load_members, loaded_members};
+ghost use Rattle.engines.specs.StepTexts.{loaded_word, opening_text, order_text};
+ghost use Rattle.engines.specs.StepTexts.{plain_load_members, read_members, reader_members};
+ghost use Rattle.engines.specs.StepTexts.{refused_member, started_members, stored_members};
+ghost use Rattle.engines.specs.StepTexts.{update_members, version_number, word_members};
+ghost use Rattle.engines.specs.StepTexts.{written_members};
+
+use crate::json::put_json_number;
+use crate::json_texts::put_json_count;
+use crate::line_rooms::{LONGEST_NUMBER, LineRoom, ROOM};
+use latch_core::Update;
+use latch_steps::{Event, NextLoad, Reply, Returned};
+use listing::{Counted, Header, Version, put};
+use order_laws::{Item, Refusal};
+use std::io;
+use std::io::Write;
+use word_layout::Store;
+
+/// Which event was done: its number, the line of the trace that asked for it, and the sequence
+/// after it.
+#[derive(Clone, Copy, Debug, PartialEq, Eq, Drop)]
+pub struct EventPlace {
+    pub number: u64,
+    pub line: u64,
+    pub sequence: u64,
+}
+
+/// Writes the line of the opening.
+#[tactic(auto, unfolding(crate::specs::StepTexts::opening_text))]
+pub fn put_opening<W: Write>(writer: &mut Counted<W>, header: &Header) -> io::Result<()>
+    ensures { Wrote W.contents writer.old writer.new result (opening_text header.now) }
+{
+    let version = version_number(header.version);
+    let before = b"{\"event\":0,\"line\":1,\"kind\":\"open\",\"version\":";
+    put_json_count(writer, before, version)?;
+    put(writer, b",\"order\":")?;
+    put(writer, order_text(header.closed))?;
+    put_json_count(writer, b",\"capacity\":", u64::from(header.capacity))?;
+    put_json_count(writer, b",\"sequence\":", header.start)?;
+    put(writer, b"}\n")
+}
+
+fn version_number(version: Version) -> u64
+    ensures { result ≡ version_number version }
+{
+    match version {
+        Version::First => 1,
+        Version::Second => 2,
+        Version::Third => 3,
+    }
+}
+
+fn order_text(closed: bool) -> &'static [u8]
+    ensures { result.now ≡ order_text closed }
+{
+    if closed {
+        b"\"closed\""
+    } else {
+        b"\"halfopen\""
+    }
+}
+
+/// The most bytes of what an event did that has no list.
+const LONGEST_DONE: usize = 290;
+
+/// No event has such a reply.
+const NO_REPLY: &[u8] = b"null";
+
+/// Writes the line of an event that had this reply; of a load there is also what is loaded.
+///
+/// A line is put together from its end, and written by one call; but the lists of an update, which
+/// may be of any length, are written between its start and its end.
+#[tactic(auto, unfolding(crate::specs::StepTexts::event_text))]
+pub fn put_event<W: Write>(
+    writer: &mut Counted<W>,
+    place: EventPlace,
+    load: Option<NextLoad<u64>>,
+    event: &Event<u64>,
+    reply: &Reply<u64>,
+) -> io::Result<()>
+    ensures { Wrote W.contents writer.old writer.new result
+        (event_text place.number place.line load event.now reply.now place.sequence) }
+{
+    let mut line = LineRoom::new();
+    put_end(&mut line, place.sequence);
+    match event {
+        Event::Begin(update) => put_begun(writer, place, update, reply, &mut line),
+        Event::Write => {
+            before_written(&mut line, reply);
+            put_behind_start(writer, place, &mut line)
+        }
+        Event::Start(reader, key) => {
+            before_started(&mut line, *reader, *key, reply);
+            put_behind_start(writer, place, &mut line)
+        }
+        Event::Read(reader) => {
+            before_read(&mut line, *reader, load, reply);
+            put_behind_start(writer, place, &mut line)
+        }
+    }
+}
+
+/// Puts the end of a line in an empty room.
+#[inline]
+fn put_end(line: &mut LineRoom, sequence: u64)
+    requires { line.old ≡ [] }
+    ensures { IsPutBefore [] line.new 40
+        (json_count (codes ",\"sequence\":") sequence ++ codes "}\n") }
+{
+    line.before(b"}\n");
+    line.before_count(b",\"sequence\":", sequence);
+}
+
+/// Writes the start of a line, and behind it what stands in the room.
+fn put_behind_start<W: Write>(
+    writer: &mut Counted<W>,
+    place: EventPlace,
+    line: &mut LineRoom,
+) -> io::Result<()>
+    requires { length line.old + 70 ≤ ROOM }
+    ensures { Wrote W.contents writer.old writer.new result
+        (json_count (codes "{\"event\":") place.number ++ json_count (codes ",\"line\":") place.line
+        ++ codes ",\"kind\":" ++ line.old) }
+{
+    line.before(b",\"kind\":");
+    line.before_count(b",\"line\":", place.line);
+    line.before_count(b"{\"event\":", place.number);
+    put(writer, line.line())
+}
+
+/// Writes a line of what the writer began, whose end is in the room.
+fn put_begun<W: Write>(
+    writer: &mut Counted<W>,
+    place: EventPlace,
+    update: &Update,
+    reply: &Reply<u64>,
+    end: &mut LineRoom,
+) -> io::Result<()>
+    requires { length end.old + 110 ≤ ROOM }
+    ensures { Wrote W.contents writer.old writer.new result
+        (json_count (codes "{\"event\":") place.number ++ json_count (codes ",\"line\":") place.line
+        ++ codes ",\"kind\":" ++ begun_members update.now reply.now ++ end.old) }
+{
+    match reply {
+        Reply::Begun(left) => {
+            end.before_count(b",\"steps\":", *left);
+            put_updating(writer, place, b"\"begin\"", update, end)
+        }
+        Reply::Refused(why) => {
+            before_refused(end, *why);
+            put_updating(writer, place, b"\"refusal\",\"of\":\"begin\"", update, end)
+        }
+        _ => {
+            end.before(NO_REPLY);
+            put_behind_start(writer, place, end)
+        }
+    }
+}
+
+/// Writes a line of this kind with an update in it, whose end is in the room.
+fn put_updating<W: Write>(
+    writer: &mut Counted<W>,
+    place: EventPlace,
+    kind: &[u8],
+    update: &Update,
+    end: &LineRoom,
+) -> io::Result<()>
+    requires { length kind.now ≤ 30 }
+    ensures { Wrote W.contents writer.old writer.new result
+        (json_count (codes "{\"event\":") place.number ++ json_count (codes ",\"line\":") place.line
+        ++ codes ",\"kind\":" ++ kind.now ++ update_members update.now ++ end.now) }
+{
+    let mut start = LineRoom::new();
+    start.before(kind);
+    put_behind_start(writer, place, &mut start)?;
+    put_update(writer, update)?;
+    put(writer, end.line())
+}
+
+/// Writes what an update erases, and what it inserts.
+#[tactic(auto, unfolding(crate::specs::StepTexts::update_members))]
+fn put_update<W: Write>(writer: &mut Counted<W>, update: &Update) -> io::Result<()>
+    ensures { Wrote W.contents writer.old writer.new result (update_members update.now) }
+{
+    match update {
+        Update::Insert(item) => put_lists(writer, &[], &[*item]),
+        Update::Erase(a) => put_lists(writer, &[*a], &[]),
+        Update::Batch { erase, insert } => put_lists(writer, erase.as_slice(), insert.as_slice()),
+    }
+}
+
+/// Writes these first words as erased, and these items as inserted.
+fn put_lists<W: Write>(writer: &mut Counted<W>, erased: &[u64], inserted: &[Item]) -> io::Result<()>
+    ensures { Wrote W.contents writer.old writer.new result
+        (codes ",\"erase\":" ++ json_list json_number erased.now
+        ++ codes ",\"insert\":" ++ json_list json_item inserted.now) }
+{
+    put(writer, b",\"erase\":")?;
+    put_numbers(writer, erased)?;
+    put(writer, b",\"insert\":")?;
+    put_items(writer, inserted)
+}
+
+/// Writes numbers as a list.
+fn put_numbers<W: Write>(writer: &mut Counted<W>, numbers: &[u64]) -> io::Result<()>
+    ensures { Wrote W.contents writer.old writer.new result (json_list json_number numbers.now) }
+{
+    let [first, rest @ ..] = numbers else {
+        return put(writer, b"[]");
+    };
+    put(writer, b"[")?;
+    put_json_number(writer, *first)?;
+    put_further_numbers(writer, rest)?;
+    put(writer, b"]")
+}
+
+fn put_further_numbers<W: Write>(writer: &mut Counted<W>, numbers: &[u64]) -> io::Result<()>
+    ensures { Wrote W.contents writer.old writer.new result
+        (flat_map (λ n. codes "," ++ json_number n) numbers.now) }
+{
+    for number in numbers {
+        put_json_count(writer, b",", *number)?;
+    }
+    Ok(())
+}
+
+/// Writes items as a list.
+fn put_items<W: Write>(writer: &mut Counted<W>, items: &[Item]) -> io::Result<()>
+    ensures { Wrote W.contents writer.old writer.new result (json_list json_item items.now) }
+{
+    let [first, rest @ ..] = items else {
+        return put(writer, b"[]");
+    };
+    put(writer, b"[")?;
+    put_item(writer, *first)?;
+    put_further_items(writer, rest)?;
+    put(writer, b"]")
+}
+
+fn put_further_items<W: Write>(writer: &mut Counted<W>, items: &[Item]) -> io::Result<()>
+    ensures { Wrote W.contents writer.old writer.new result
+        (flat_map (λ item. codes "," ++ json_item item) items.now) }
+{
+    for item in items {
+        put(writer, b",")?;
+        put_item(writer, *item)?;
+    }
+    Ok(())
+}
+
+#[tactic(auto, unfolding(crate::specs::StepTexts::json_item))]
+fn put_item<W: Write>(writer: &mut Counted<W>, item: Item) -> io::Result<()>
+    ensures { Wrote W.contents writer.old writer.new result (json_item item) }
+{
+    put_json_count(writer, b"{\"a\":", item.a)?;
+    put_json_count(writer, b",\"b\":", item.b)?;
+    put_json_count(writer, b",\"tag\":", item.tag)?;
+    put(writer, b"}")
+}
+
+/// Puts what the writer stored in front.
+fn before_written(line: &mut LineRoom, reply: &Reply<u64>)
+    requires { length line.old + LONGEST_DONE ≤ ROOM }
+    ensures { IsPutBefore line.old line.new LONGEST_DONE (written_members reply.now) }
+{
+    match reply {
+        Reply::Wrote(store) => before_stored(line, *store),
+        _ => line.before(NO_REPLY),
+    }
+}
+
+#[tactic(auto, unfolding(crate::specs::StepTexts::stored_members))]
+fn before_stored(line: &mut LineRoom, store: Store)
+    requires { length line.old + 80 ≤ ROOM }
+    ensures { IsPutBefore line.old line.new 80 (stored_members store) }
+{
+    before_word(line, store.word, store.value);
+    line.before(store_kind(store));
+}
+
+/// A store to word 0 is a flip.
+fn store_kind(store: Store) -> &'static [u8]
+    ensures kind { result.now ≡ (if store.word == 0 then codes "\"flip\"" else codes "\"store\"") }
+    ensures short { length result.now ≤ 10 }
+{
+    if store.word == 0 {
+        b"\"flip\""
+    } else {
+        b"\"store\""
+    }
+}
+
+/// Puts a word and what it holds in front.
+#[inline]
+fn before_word(line: &mut LineRoom, word: usize, value: u64)
+    requires { length line.old + 70 ≤ ROOM }
+    ensures { IsPutBefore line.old line.new 70 (word_members word value) }
+{
+    line.before_count(b",\"value\":", value);
+    line.before_count(b",\"word\":", word as u64);
+}
+
+/// Puts what a reader began in front.
+fn before_started(line: &mut LineRoom, reader: u32, key: u64, reply: &Reply<u64>)
+    requires { length line.old + LONGEST_DONE ≤ ROOM }
+    ensures { IsPutBefore line.old line.new LONGEST_DONE (started_members reader key reply.now) }
+{
+    match reply {
+        Reply::Started => {
+            before_reader(line, reader, key);
+            line.before(b"\"start\"");
+        }
+        Reply::Refused(why) => {
+            before_refused(line, *why);
+            before_reader(line, reader, key);
+            line.before(b"\"refusal\",\"of\":\"start\"");
+        }
+        _ => line.before(NO_REPLY),
+    }
+}
+
+/// Puts a reader, and the key of its lookup, in front.
+#[tactic(auto, unfolding(crate::specs::StepTexts::reader_members))]
+fn before_reader(line: &mut LineRoom, reader: u32, key: u64)
+    requires { length line.old + 70 ≤ ROOM }
+    ensures { IsPutBefore line.old line.new 70 (reader_members reader key) }
+{
+    line.before(b"\"");
+    line.before_hexadecimal(key);
+    line.before(b",\"address\":\"");
+    line.before_count(b",\"reader\":", u64::from(reader));
+}
+
+/// Puts what a reader loaded, and what this came to, in front.
+fn before_read(line: &mut LineRoom, reader: u32, load: Option<NextLoad<u64>>, reply: &Reply<u64>)
+    requires { length line.old + LONGEST_DONE ≤ ROOM }
+    ensures { IsPutBefore line.old line.new LONGEST_DONE (read_members reader load reply.now) }
+{
+    match reply {
+        Reply::Loaded => before_plain_load(line, reader, load),
+        Reply::Retried => {
+            before_load(line, reader, load);
+            line.before(b"\"retry\"");
+        }
+        Reply::Returned(returned) => {
+            before_answer(line, returned);
+            before_load(line, reader, load);
+            line.before(b"\"return\"");
+        }
+        Reply::Refused(why) => {
+            before_refused(line, *why);
+            line.before_count(
+                b"\"refusal\",\"of\":\"load\",\"reader\":",
+                u64::from(reader),
+            );
+        }
+        _ => line.before(NO_REPLY),
+    }
+}
+
+/// Puts a load after which its attempt goes on in front.
+#[tactic(auto, unfolding(crate::specs::StepTexts::plain_load_members))]
+fn before_plain_load(line: &mut LineRoom, reader: u32, load: Option<NextLoad<u64>>)
+    requires { length line.old + 110 ≤ ROOM }
+    ensures { IsPutBefore line.old line.new 110 (plain_load_members reader load) }
+{
+    before_loaded_word(line, load);
+    line.before_count(b"\"load\",\"reader\":", u64::from(reader));
+}
+
+/// Puts what a reader loads in front, if it may load something.
+fn before_loaded_word(line: &mut LineRoom, load: Option<NextLoad<u64>>)
+    requires { length line.old + 70 ≤ ROOM }
+    ensures { IsPutBefore line.old line.new 70 (loaded_word load) }
+{
+    if let Some(load) = load {
+        before_word(line, load.word, load.value);
+    }
+}
+
+/// Puts the load of a reader in front, if it has one.
+fn before_load(line: &mut LineRoom, reader: u32, load: Option<NextLoad<u64>>)
+    requires { length line.old + 210 ≤ ROOM }
+    ensures { IsPutBefore line.old line.new 210 (loaded_members reader load) }
+{
+    if let Some(load) = load {
+        before_next_load(line, reader, load);
+    }
+}
+
+#[tactic(auto, unfolding(crate::specs::StepTexts::load_members))]
+fn before_next_load(line: &mut LineRoom, reader: u32, load: NextLoad<u64>)
+    requires { length line.old + 210 ≤ ROOM }
+    ensures { IsPutBefore line.old line.new 210 (load_members reader load) }
+{
+    line.before_count(b",\"tries\":", load.attempts);
+    line.before_count(b",\"loads\":", load.loads);
+    before_word(line, load.word, load.value);
+    before_reader(line, reader, load.key);
+}
+
+/// Puts what a lookup found, and of which generation, in front.
+#[tactic(auto, unfolding(crate::specs::StepTexts::answer_members))]
+fn before_answer(line: &mut LineRoom, returned: &Returned<u64>)
+    requires { length line.old + 70 ≤ ROOM }
+    ensures { IsPutBefore line.old line.new 70 (answer_members returned.now) }
+{
+    line.before_count(b",\"generation\":", returned.generation);
+    before_tag(line, returned.answer);
+    line.before(b",\"tag\":");
+}
+
+fn before_tag(line: &mut LineRoom, answer: Option<Item>)
+    requires { length line.old + LONGEST_NUMBER ≤ ROOM }
+    ensures { IsPutBefore line.old line.new LONGEST_NUMBER (json_tag answer) }
+{
+    match answer {
+        Some(item) => line.before_number(item.tag),
+        None => line.before(b"null"),
+    }
+}
+
+/// Puts why something was refused in front.
+#[tactic(auto, unfolding(crate::specs::StepTexts::refused_member))]
+fn before_refused(line: &mut LineRoom, why: Refusal)
+    requires { length line.old + 40 ≤ ROOM }
+    ensures { IsPutBefore line.old line.new 40 (refused_member why) }
+{
+    line.before_count(b",\"refused\":", u64::from(why.number()));
+}

@@ -1,0 +1,241 @@
+//! A lookup whose modules, and where they lie, come from the listing of symbols alone.
+ghost use Rattle.std.specs.Prelude.{◌≡◌, ◌++◌, flat_map, IfOk};
+ghost use Rattle.std.specs.Option.{option_copied};
+ghost use Rattle.listing.specs.Counted.{device_of, failures_of};
+ghost use Rattle.listing.specs.Exact.{Wrote};
+ghost use Rattle.engines.specs.LookupInputs.{known_text};
+ghost use Rattle.engines.specs.AnswerForms.{line_by};
+ghost use Rattle.engines.specs.Readings.{failures_in, last_failures};
+ghost use Rattle.engines.specs.SymbolLookups.{AnswersBySymbols, AnswersSymbolLookup};
+ghost use Rattle.engines.specs.SymbolLookups.{IsSymbolListing, failures_of_symbols};
+ghost use Rattle.engines.specs.SymbolLookups.{found_counts_by, found_counts_text};
+ghost use Rattle.engines.specs.SymbolLookups.{known_symbol_inputs};
+ghost use Rattle.engines.specs.SymbolLookups.{symbol_inputs_in, symbol_inputs_of};
+
+use crate::fault::Fault;
+use crate::forms::AnswerForm;
+use crate::json_texts::put_json_found_counts;
+use crate::lookup::{KALLSYMS_PLACE, all_addresses, read_at};
+use crate::lookup_texts::{put_answers, put_found_modules, put_symbol_counts};
+use crate::table::{AddressAnswer, answers_of};
+use listing::{
+    AddressRule, Counted, ListingNote, ListingNotes, SymbolCounts, SymbolFacts, are_symbols_hidden,
+    note_of_kallsyms, read_kallsyms,
+};
+use modules::{Catalog, KeptCounts, KernelBounds};
+use std::alloc::{AllocError, Global};
+use std::io;
+use std::io::{Read, Write};
+
+/// The readers of the files of such a lookup, in the order in which they are read.
+#[derive(Drop)]
+pub struct SymbolLookupReaders<K, A> {
+    /// The listing of symbols.
+    pub kallsyms: Counted<K>,
+    /// The file of further addresses, where there is one.
+    pub addresses: Option<Counted<A>>,
+}
+
+/// How the kernel's own region is found, and how addresses are taken.
+#[derive(Debug, Drop)]
+pub struct SymbolLookupOptions<'a> {
+    /// The names of the symbols that bound the kernel's own region, where they are given; else the
+    /// usual ones of the listing do.
+    pub kernel: Option<KernelBounds<'a>>,
+    /// How the addresses are taken that are looked up.
+    pub rule: AddressRule,
+}
+
+/// What such a lookup is asked over.
+#[derive(Drop)]
+struct SymbolLookupInputs<'a> {
+    options: &'a SymbolLookupOptions<'a>,
+    /// The text of the listing of symbols.
+    kallsyms: &'a [u8],
+    /// The addresses of the command line, and after them those of the file.
+    addresses: Vec<u64>,
+}
+
+/// What a listing of symbols alone says: a catalog, and how many of its lines went where.
+#[derive(Drop)]
+pub struct SymbolListing<'a> {
+    pub catalog: Catalog<'a>,
+    pub kept: KeptCounts,
+    pub skipped: SymbolCounts,
+    /// All well-formed lines are hidden, and there is one.
+    pub hidden: bool,
+    /// The names that it has for both bounds of the kernel.
+    pub usual: KernelBounds<'static>,
+    /// What is noted of the listing.
+    pub note: Option<ListingNote>,
+}
+
+impl SymbolListing<'_> {
+    ghost use Rattle.engines.specs.SymbolLookups.{notes_with};
+
+    /// The notes of a job whose only listing it is.
+    pub(crate) fn notes(&self) -> ListingNotes
+        ensures { result ≡ notes_with self.now.note }
+    {
+        ListingNotes {
+            modules: None,
+            kallsyms: self.note,
+        }
+    }
+}
+
+/// Looks addresses up in a listing of symbols, which says by the order of its addresses where each
+/// module lies, and writes a line for each address, then how many modules and regions were found,
+/// and the counts of the listing. Returns what is noted of it.
+///
+/// All is read, and all answers are there, before the first byte is written; so every fault but a
+/// failed write leaves the writer as it was. docs/FORMATS.md has the rule and the lines.
+pub fn symbol_lookup_engine<K: Read, A: Read, W: Write>(
+    alloc: Global,
+    readers: &mut SymbolLookupReaders<K, A>,
+    options: &SymbolLookupOptions<'_>,
+    addresses: &[u64],
+    form: AnswerForm,
+    writer: &mut Counted<W>,
+) -> Result<ListingNotes, Fault>
+    ensures { AnswersSymbolLookup W.contents form
+        (known_symbol_inputs K.remaining A.remaining readers.old options.now addresses.now)
+        (failures_of_symbols readers.old readers.new) writer.old writer.new result }
+{
+    let kallsyms = read_at(alloc, &mut readers.kallsyms, KALLSYMS_PLACE)?;
+    let file = &mut readers.addresses;
+    answer_from_symbols(alloc, options, addresses, &kallsyms, file, form, writer)
+}
+
+/// Gives the answers for the text of the listing, and for the addresses that are given and those of
+/// a file.
+fn answer_from_symbols<A: Read, W: Write>(
+    alloc: Global,
+    options: &SymbolLookupOptions<'_>,
+    given: &[u64],
+    kallsyms: &[u8],
+    file: &mut Option<Counted<A>>,
+    form: AnswerForm,
+    writer: &mut Counted<W>,
+) -> Result<ListingNotes, Fault>
+    ensures { AnswersSymbolLookup W.contents form
+        (symbol_inputs_of options.now given.now (known_text A.remaining file.old) kallsyms.now)
+        (last_failures (failures_in file.old) (failures_in file.new)) writer.old writer.new result }
+{
+    let addresses = all_addresses(alloc, given, file)?;
+    let inputs = SymbolLookupInputs {
+        options,
+        kallsyms,
+        addresses,
+    };
+    answer_by_symbols(alloc, &inputs, form, writer)
+}
+
+/// Looks the addresses up, and writes what is found.
+fn answer_by_symbols<W: Write>(
+    alloc: Global,
+    inputs: &SymbolLookupInputs<'_>,
+    form: AnswerForm,
+    writer: &mut Counted<W>,
+) -> Result<ListingNotes, Fault>
+    ensures { AnswersBySymbols W.contents form (symbol_inputs_in inputs.now)
+        writer.old writer.new result }
+{
+    let rule = inputs.options.rule;
+    let listing = symbol_listing_in(alloc, inputs.options.kernel.as_ref(), inputs.kallsyms)?;
+    let answers = answers_of(
+        alloc,
+        &listing.catalog,
+        listing.kept.modules,
+        rule,
+        &inputs.addresses,
+    )?;
+    match put_symbol_lookup(writer, &listing, rule, form, &answers) {
+        Ok(()) => Ok(listing.notes()),
+        Err(_) => Err(Fault::Write),
+    }
+}
+
+/// Reads the lines of a listing of symbols, and builds the catalog that they say. The kernel itself
+/// lies between the given names, or else between the usual ones that the listing has.
+pub fn symbol_listing_in<'a>(
+    alloc: Global,
+    kernel: Option<&KernelBounds>,
+    kallsyms: &'a [u8],
+) -> Result<SymbolListing<'a>, AllocError>
+    ensures { IfOk result (IsSymbolListing (option_copied kernel.entry) kallsyms.now) }
+{
+    let (lines, skipped) = read_kallsyms(alloc, kallsyms)?;
+    let hidden = are_symbols_hidden(lines.len(), &skipped);
+    let usual = lines.usual_bounds();
+    let (catalog, kept) = Catalog::from_symbols(alloc, kernel, lines)?;
+    let facts = SymbolFacts {
+        hidden,
+        kept: kept.symbols,
+        has_kernel: catalog.module(0).is_some(),
+    };
+    let names = kernel.unwrap_or(&usual);
+    let note = note_of_kallsyms(kallsyms, names, facts);
+    Ok(SymbolListing {
+        catalog,
+        kept,
+        skipped,
+        hidden,
+        usual,
+        note,
+    })
+}
+
+/// Writes the line of each answer and the counts, and lets the writer keep nothing back.
+fn put_symbol_lookup<W: Write>(
+    writer: &mut Counted<W>,
+    listing: &SymbolListing,
+    rule: AddressRule,
+    form: AnswerForm,
+    answers: &[AddressAnswer],
+) -> io::Result<()>
+    ensures { Wrote W.contents writer.old writer.new result
+        (flat_map (line_by form listing.now.catalog rule) answers.now
+        ++ found_counts_by form listing.now.kept listing.now.skipped.by_place) }
+{
+    put_answers(writer, &listing.catalog, rule, form, answers)?;
+    put_found_counts_by(writer, listing, form)?;
+    writer.flush()
+}
+
+/// Writes the counts of the listing, where the form has them.
+#[tactic(auto, unfolding(crate::specs::AnswerForms::counts_by))]
+fn put_found_counts_by<W: Write>(
+    writer: &mut Counted<W>,
+    listing: &SymbolListing,
+    form: AnswerForm,
+) -> io::Result<()>
+    ensures { Wrote W.contents writer.old writer.new result
+        (found_counts_by form listing.now.kept listing.now.skipped.by_place) }
+{
+    if form.counts {
+        if form.json {
+            put_json_found_counts(writer, listing)
+        } else {
+            put_found_counts(writer, listing)
+        }
+    } else {
+        Ok(())
+    }
+}
+
+/// Writes how many modules and regions were found, and the counts of the listing.
+pub fn put_found_counts<W: Write>(
+    writer: &mut Counted<W>,
+    listing: &SymbolListing,
+) -> io::Result<()>
+    ensures { Wrote W.contents writer.old writer.new result (found_counts_text listing.now) }
+{
+    put_found_modules(writer, &listing.kept)?;
+    put_symbol_counts(
+        writer,
+        &listing.skipped,
+        listing.kept.symbols,
+        listing.kept.stray,
+    )
+}

@@ -1,0 +1,179 @@
+//! From the bytes of a trace to the lines that it writes.
+//!
+//! A command is run as soon as it is read, and what it came to is put behind the text: neither
+//! commands nor notes are kept. The text goes out at the end, so that a bad line, or memory that
+//! runs out, leaves the output empty.
+ghost use Rattle.std.specs.Prelude.{◌≡◌, ◌<◌, ◌++◌, ◌↔◌, ◌⊎◌, [], IfErr, IfOk, IsErr, OnOk};
+ghost use Rattle.std.specs.Prelude.{flat_map};
+ghost use Rattle.listing.specs.CommandLines.{IsUnderstood};
+ghost use Rattle.listing.specs.Exact.{Wrote};
+ghost use Rattle.listing.specs.Trace.{trace_of, with_header};
+ghost use Rattle.word_layout.specs.Layouts.{capacity_of, limit_of};
+ghost use Rattle.word_layout.specs.Limits.{most_nodes};
+ghost use Rattle.engines.specs.Texts.{note_text};
+ghost use Rattle.engines.specs.GatheredTraces.{IsLinesFault, IsNext, IsNotOpened, HasGathered, GathersCommand, GathersLines};
+ghost use Rattle.engines.specs.Traces.{AnswersSaid, AnswersTrace, greatest_of, order_by};
+
+use crate::fault::Fault;
+use crate::lookup::read_at;
+use crate::texts::{LONGEST_LINE, append_end, append_note};
+use latch_steps::{Command, Driver, Note};
+use listing::{CommandLines, Counted, Header, Version, open_trace, put};
+use order_laws::{Closed, HalfOpen, Refusal, TreeOrder};
+use std::alloc::{AllocError, Global};
+use std::io;
+use std::io::{Read, Write};
+use word_layout::Layout;
+
+/// Runs a trace, and writes a line for each lookup that returned and for each refusal, and the line
+/// of the last sequence.
+///
+/// The trace is run to its end before the first byte is written, so every fault but a failed write
+/// leaves the writer as it was. docs/FORMATS.md has the grammar and the lines.
+pub fn trace_engine<R: Read, W: Write>(
+    alloc: Global,
+    reader: &mut Counted<R>,
+    writer: &mut Counted<W>,
+) -> Result<(), Fault>
+    ensures { AnswersTrace R.remaining W.contents reader.old reader.new
+        writer.old writer.new result }
+{
+    let bytes = read_at(alloc, reader, 0)?;
+    run_text(alloc, &bytes, writer)
+}
+
+/// Runs the trace that bytes are.
+fn run_text<W: Write>(alloc: Global, bytes: &[u8], writer: &mut Counted<W>) -> Result<(), Fault>
+    ensures { AnswersSaid W.contents (trace_of bytes.now) writer.old writer.new result }
+{
+    let Some((header, mut lines)) = open_trace(alloc, bytes) else {
+        return Err(Fault::BadLine { place: 0, line: 1 });
+    };
+    if header.closed {
+        run_lines::<Closed, W>(alloc, header, &mut lines, writer)
+    } else {
+        run_lines::<HalfOpen, W>(alloc, header, &mut lines, writer)
+    }
+}
+
+/// Runs the commands behind this header, in the order that it names.
+fn run_lines<O: TreeOrder<Key = u64>, W: Write>(
+    alloc: Global,
+    header: Header,
+    lines: &mut CommandLines<'_>,
+    writer: &mut Counted<W>,
+) -> Result<(), Fault>
+    requires { O.order ≡ order_by header.closed }
+    ensures { AnswersSaid W.contents (with_header header lines.old.said)
+        writer.old writer.new result }
+{
+    let mut driver = match driver_for::<O>(alloc, header) {
+        Ok(driver) => driver,
+        Err(why) => {
+            understand(lines)?;
+            return Err(Fault::Refused(why));
+        }
+    };
+    let mut text = Vec::new(alloc);
+    gather_lines(&mut driver, lines, &mut text)?;
+    let left = driver.finish()?;
+    text.reserve(LONGEST_LINE)?;
+    append_end(&mut text, left.sequence);
+    match put_text(writer, &text) {
+        Ok(()) => Ok(()),
+        Err(_) => Err(Fault::Write),
+    }
+}
+
+/// An empty table as a header asks for it.
+fn driver_for<O: TreeOrder<Key = u64>>(alloc: Global, header: Header) -> Result<Driver<O>, Refusal>
+    ensures opened { IfOk result (HasGathered O.order header [] []) }
+    ensures refusal { IfErr result (IsNotOpened header) }
+{
+    let layout = layout_for(header.version, header.capacity)?;
+    let driver = Driver::open(alloc, layout, header.start)?;
+    Ok(driver)
+}
+
+/// The layout of the table that a trace of this version runs on: a wide sequence from version 3 on.
+pub fn layout_for(version: Version, capacity: u32) -> Result<Layout, Refusal>
+    ensures capacity { IfOk result (λ l. capacity_of l ≡ capacity) }
+    ensures limit { IfOk result (λ l. limit_of l ≡ greatest_of version) }
+    ensures refused { IsErr result ↔ ((capacity ≡ 0) ⊎ (most_nodes < capacity)) }
+    ensures refusal { IfErr result (λ e. e ≡ Refusal.BadCapacity) }
+{
+    if version.is_wide() {
+        Layout::wide(capacity)
+    } else {
+        Layout::new(capacity)
+    }
+}
+
+/// Runs the commands of lines, and puts behind the text what they came to.
+fn gather_lines<O: TreeOrder<Key = u64>>(
+    driver: &mut Driver<O>,
+    lines: &mut CommandLines<'_>,
+    text: &mut Vec<u8>,
+) -> Result<(), Fault>
+    ensures gathered { OnOk result (GathersLines O.order lines.old.said driver.old text.old.items
+        driver.new text.new.items) }
+    ensures fault { IfErr result (IsLinesFault lines.old.said) }
+{
+    while let Some(command) = next_command(lines)? {
+        gather_command(driver, &command, text)?;
+    }
+    Ok(())
+}
+
+/// Goes past the commands of lines: each line has to be in the grammar, also where nothing runs.
+fn understand(lines: &mut CommandLines<'_>) -> Result<(), Fault>
+    ensures understood { OnOk result (IsUnderstood lines.old.said) }
+    ensures fault { IfErr result (IsLinesFault lines.old.said) }
+{
+    let understood = lines.understand();
+    understood.map_err(|fault| Fault::of_lines(0, fault))
+}
+
+/// The next command of lines, with the fault of the program where there is none.
+fn next_command(lines: &mut CommandLines<'_>) -> Result<Option<Command<u64>>, Fault>
+    ensures next { IfOk result (IsNext lines.old lines.new) }
+    ensures fault { IfErr result (IsLinesFault lines.old.said) }
+{
+    let next = lines.next_command();
+    next.map_err(|fault| Fault::of_lines(0, fault))
+}
+
+/// Runs a command, and puts behind the text what it came to.
+fn gather_command<O: TreeOrder<Key = u64>>(
+    driver: &mut Driver<O>,
+    command: &Command<u64>,
+    text: &mut Vec<u8>,
+) -> Result<(), Refusal>
+    ensures gathered { OnOk result (GathersCommand O.order command.now driver.old text.old.items
+        driver.new text.new.items) }
+    ensures refusal { IfErr result (λ why. why ≡ Refusal.OutOfMemory) }
+{
+    driver.obey(command)?;
+    gather_notes(driver.notes(), text)?;
+    driver.forget_notes();
+    Ok(())
+}
+
+/// Puts the lines of notes behind the text.
+fn gather_notes(notes: &[Note<u64>], text: &mut Vec<u8>) -> Result<(), AllocError>
+    ensures { OnOk result (text.new.items ≡ text.old.items ++ flat_map note_text notes.now) }
+{
+    for note in notes {
+        text.reserve(LONGEST_LINE)?;
+        append_note(text, note);
+    }
+    Ok(())
+}
+
+/// Writes the text, and lets the writer keep nothing back.
+fn put_text<W: Write>(writer: &mut Counted<W>, text: &[u8]) -> io::Result<()>
+    ensures { Wrote W.contents writer.old writer.new result text.now }
+{
+    put(writer, text)?;
+    writer.flush()
+}

@@ -1,7 +1,0 @@
-use Rattle.std.proofs.Common.{take}
-use Rattle.latchsym.specs.Assignments.{IsAssigned}
-use Rattle.latchsym.proofs.assignments.assign.Given as goal
-
--- the lines so far are assigned
-abbrev pub invariant-loop-line : goal.invariant-loop-line
-invariant-loop-line l = IsAssigned l.catalog l.readers (take l.line-index l.lines) l.assigned

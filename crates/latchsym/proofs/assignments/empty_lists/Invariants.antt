@@ -1,6 +1,0 @@
-use Rattle.std.proofs.Common.{[]}
-use Rattle.latchsym.specs.Assignments.{AreListed}
-use Rattle.latchsym.proofs.assignments.empty_lists.Given as goal
-
-abbrev pub invariant-loop : goal.invariant-loop
-invariant-loop g l = AreListed l.counter [] l.lists.items

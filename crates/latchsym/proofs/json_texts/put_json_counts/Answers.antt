@@ -1,8 +1,0 @@
-use Rattle.listing.proofs.WriteLemmas.{then}
-use Rattle.latchsym.specs.JsonTexts.{json_counts}
-use Rattle.latchsym.proofs.json_texts.put_json_counts.Goals as goal
-
-pub returns : goal.returns
-unfolding json_counts
-returns g c =
-    then c.in_ok-put_regions_object.was (then c.in_ok-put_symbols_object.was (then c.in_ok-put_modules_object.was c.put_modules_object.ensures c.put_symbols_object.ensures) c.put_regions_object.ensures) c.put.ensures

@@ -1,7 +1,0 @@
-use Rattle.listing.proofs.WriteLemmas.{then}
-use Rattle.latchsym.specs.JsonTexts.{json_found_counts}
-use Rattle.latchsym.proofs.json_texts.put_json_found_counts.Goals as goal
-
-pub returns : goal.returns
-unfolding json_found_counts
-returns g c = then c.in_ok-put_symbols_object.was (then c.in_ok-put_found_object.was c.put_found_object.ensures c.put_symbols_object.ensures) c.put.ensures

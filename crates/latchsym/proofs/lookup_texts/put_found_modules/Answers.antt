@@ -1,8 +1,0 @@
-use Rattle.latchsym.specs.LookupTexts.{found_modules_line}
-use Rattle.listing.proofs.WriteLemmas.{then}
-use Rattle.latchsym.proofs.lookup_texts.put_found_modules.Goals as goal
-
-pub returns : goal.returns
-unfolding found_modules_line
-returns g c =
-    then c.in_ok-put_count-2.was (then c.in_ok-put_count.was (c.put_count.ensures) c.put_count-2.ensures) c.put.ensures

@@ -1,0 +1,15 @@
+use Rattle.std.proofs.Common.{subst, sym, refl, ◌∙◌}
+use Rattle.std.specs.Option.{option_copied}
+use Rattle.latchsym.specs.Reports.{IsNoted}
+use Rattle.latchsym.specs.NoteTexts.{note_lines}
+use Rattle.latchsym.proofs.reports.note_listings.Goals as goal
+
+pub returns-then-any : goal.returns-then-any
+returns-then-any g c =
+    subst (λ noted. IsNoted g.W.Write.contents c.args.writer.now c.report_listing_notes.new.writer noted (note_lines (option_copied c.args.kernel) c.args.files.now c.args.notes.now))
+    (sym c.if-any.true ∙ c.any.ensures) c.report_listing_notes.ensures
+
+pub returns-else-any : goal.returns-else-any
+returns-else-any g c =
+    subst (λ noted. IsNoted g.W.Write.contents c.args.writer.now c.args.writer.now noted (note_lines (option_copied c.args.kernel) c.args.files.now c.args.notes.now))
+    (sym c.if-any.false ∙ c.any.ensures) refl

@@ -1,6 +1,0 @@
-use Rattle.std.proofs.Common.{◌≡◌, take}
-use Rattle.latchsym.specs.RunTexts.{count_of_answers}
-use Rattle.latchsym.proofs.run_texts.checked_in.Given as goal
-
-abbrev pub invariant-loop-list : goal.invariant-loop-list
-invariant-loop-list l = l.checked ≡ count_of_answers (take l.list-index l.answers)

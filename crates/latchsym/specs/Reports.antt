@@ -1,0 +1,63 @@
+-- What is said at the end of a run: what is noted of its listings, or why it failed.
+use Rattle.std.specs.Prelude.{◌≡◌, ℕ, List, [], ◌++◌, ◌≤◌, ◌⊎◌, Option, Result, Ok, Err}
+use Rattle.std.specs.Prelude.{Bool, true, false, codes, decimal, option_and_then, unwrap_or}
+use Rattle.std.specs.Io.KnownBytes.{Appends}
+use Rattle.clap.specs.Words.{Text}
+use Rattle.listing.specs.declared.counted.Counted.{Counted}
+use Rattle.listing.specs.Counted.{Rose, device_of, failures_of}
+use Rattle.order_laws.specs.Refusals.{refusal_number}
+use Rattle.latchsym.specs.Jobs.{file_at}
+use Rattle.listing.specs.ListingNotes.{is_some_noted}
+use Rattle.latchsym.specs.NoteTexts.{notes_text}
+use Rattle.engines.specs.Texts.{refused_text}
+use Rattle.latchsym.specs.declared.command_line.Job.{Job}
+use Rattle.engines.specs.declared.fault.Fault.{Fault}
+use Rattle.engines.specs.declared.fault.Finished.{Finished}
+use Rattle.engines.specs.declared.fault.Fault.TheVariants.{Refused, BadLine, Read, TooLong, Write}
+use Rattle.engines.specs.Faults.{fault_place}
+
+abbrev pub bad_line_text : Text → ℕ → List ℕ
+bad_line_text file line = file ++ codes ": line " ++ decimal line ++ codes " is not understood\n"
+
+abbrev pub unread_text : Text → List ℕ
+unread_text file = file ++ codes ": cannot be read\n"
+
+-- what is said of a fault that is about this file, after the program's name
+abbrev pub message_text : Text → Fault → List ℕ
+message_text file (Refused refusal) = refused_text (refusal_number refusal)
+message_text file (BadLine place line) = bad_line_text file line
+message_text file (Read place) = unread_text file
+message_text file (TooLong place) = file ++ codes ": is too long\n"
+message_text file Write = codes "cannot write\n"
+
+-- the line on the standard error
+abbrev pub fault_text : Text → Fault → List ℕ
+fault_text file fault = codes "latchsym: " ++ message_text file fault
+
+-- the file of the job that the fault is about
+abbrev pub file_of : Job → Fault → Text
+file_of job fault = unwrap_or (option_and_then (file_at job) (fault_place fault)) []
+
+-- the writer has taken this line and nothing else, or a call of it failed
+pub record IsReported {D : Type 0} (contents : D → Option (List ℕ)) (old new : Counted D)
+    (line : List ℕ) : Type 0 where
+  pub outcome : Appends (contents (device_of old)) (contents (device_of new)) line
+      ⊎ Rose (failures_of old) (failures_of new)
+  pub never_falls : failures_of old ≤ failures_of new
+
+-- where something is noted the writer has taken these lines, or a call of it failed, and else it
+-- was not called
+abbrev pub IsNoted : {D : Type 0} → (D → Option (List ℕ)) → Counted D → Counted D → Bool
+    → List ℕ → Type 0
+IsNoted contents old new true lines = IsReported contents old new lines
+IsNoted contents old new false lines = new ≡ old
+
+-- The program's status after a job with this outcome, and what it has said of it: of a status that
+-- the job itself came to, what is noted of its listings.
+abbrev pub IsConcluded : {D : Type 0} → (D → Option (List ℕ)) → Job → Counted D → Counted D
+    → Result Finished Fault → ℕ → Type 0
+IsConcluded contents job old new (Ok own) status =
+    (status ≡ own.status)
+    × IsNoted contents old new (is_some_noted own.notes) (notes_text job own.notes)
+IsConcluded contents job old new (Err fault) status =
+    (status ≡ 1) × IsReported contents old new (fault_text (file_of job fault) fault)
