@@ -30,6 +30,7 @@ pub mod region_index;
 mod regions;
 mod sieve;
 pub mod sifted_laws;
+mod stretches;
 pub mod symbol_lines;
 pub mod symbols;
 

@@ -15,7 +15,7 @@
 //! cells that were touched are noted, so that the work for a run does not grow with the asked
 //! addresses. The first lines of the two names that bound the kernel itself are marked besides.
 
-ghost use Rattle.std.specs.Prelude.{◌≡◌, ◌≤◌, ◌<◌, ◌+◌, ◌++◌, ◌∷◌, [], ℕ, true, length, Contains};
+ghost use Rattle.std.specs.Prelude.{◌≡◌, ◌≤◌, ◌<◌, ◌+◌, ◌++◌, ◌∷◌, [], ℕ, length, Contains};
 ghost use Rattle.std.specs.Prelude.{if◌then◌else◌, is_none, None, Some, IfOk, OnErr, OnOk};
 ghost use Rattle.std.specs.Prelude.{slice_index_or, slice_set};
 ghost use Rattle.std.specs.List.{position};
@@ -26,9 +26,9 @@ ghost use Rattle.modules.specs.Sifted.{Suffices, marked};
 ghost use Rattle.modules.specs.Stretches.{AreCells, AreCellsWithin, AreCovered, AreEmpty, AreKept};
 ghost use Rattle.modules.specs.Stretches.{AreMarked, AreTouched, IsCellMarked, IsCellWithin};
 ghost use Rattle.modules.specs.Stretches.{IsFirstMarked, cell_after, cell_of, cell_with};
-ghost use Rattle.modules.specs.Stretches.{stretch_of};
 
 use crate::lines::KernelBounds;
+use crate::stretches::Stretches;
 use crate::symbol_lines::{Run, SymbolLines};
 use crate::symbols::Symbol;
 use std::alloc::{AllocError, Global};
@@ -78,46 +78,6 @@ impl Cell {
     }
 }
 
-/// How many of the asked addresses lie below this one: the number of its stretch.
-#[inline(never)]
-fn stretch_of(asked: &[u64], addr: u64) -> usize
-    requires { IsNonDecreasing asked.now }
-    ensures { result ≡ stretch_of asked.now addr }
-{
-    asked.partition_point(|q| *q < addr)
-}
-
-/// Whether this is the number of the stretch of an address.
-#[inline(always)]
-fn is_stretch(asked: &[u64], stretch: usize, addr: u64) -> bool
-    requires sorted { IsNonDecreasing asked.now }
-    requires within { stretch ≤ length asked.now }
-    ensures { result ≡ true → stretch ≡ stretch_of asked.now addr }
-{
-    if stretch > 0 && asked[stretch - 1] >= addr {
-        return false;
-    }
-    if stretch < asked.len() && asked[stretch] < addr {
-        return false;
-    }
-    true
-}
-
-/// The number of the stretch of an address. A number is tried first: listings mostly have symbols
-/// by rising address.
-#[inline(always)]
-fn stretch_near(asked: &[u64], near: usize, addr: u64) -> usize
-    requires sorted { IsNonDecreasing asked.now }
-    requires within { near ≤ length asked.now }
-    ensures { result ≡ stretch_of asked.now addr }
-{
-    if is_stretch(asked, near, addr) {
-        near
-    } else {
-        stretch_of(asked, addr)
-    }
-}
-
 /// Takes a line, which is listed after the others, into a cell.
 #[inline(always)]
 fn put(cell: &mut Option<Cell>, addr: u64, line: usize)
@@ -164,21 +124,20 @@ fn take_line(
 
 /// Takes the lines of a run into the cells of their stretches.
 fn take_run(
-    asked: &[u64],
+    stretches: &Stretches,
     cells: &mut [Option<Cell>],
     touched: &mut Vec<usize>,
     symbols: &[Symbol],
 ) -> Result<(), AllocError>
-    requires sorted { IsNonDecreasing asked.now }
-    requires count { length cells.old ≡ length asked.now + 1 }
+    requires count { length cells.old ≡ length stretches.now + 1 }
     requires empty { AreEmpty cells.old }
     requires touched { AreTouched cells.old touched.old.items }
-    ensures taken { OnOk result (AreCells asked.now symbols.now (length symbols.now) cells.new) }
+    ensures taken { OnOk result (AreCells stretches.now symbols.now (length symbols.now) cells.new) }
     ensures touched { AreTouched cells.new touched.new.items }
 {
     let mut near = 0;
     for (line, symbol) in symbols.iter().enumerate() {
-        near = stretch_near(asked, near, symbol.addr);
+        near = stretches.stretch_near(near, symbol.addr);
         take_line(cells, touched, near, symbol.addr, line)?;
     }
     Ok(())
@@ -221,51 +180,49 @@ fn mark_cells(cells: &[Option<Cell>], stretches: &[usize], first: usize, marks: 
 
 /// Marks the lines of a run that can answer. The first of them has this place.
 fn mark_run(
-    asked: &[u64],
+    stretches: &Stretches,
     cells: &mut [Option<Cell>],
     touched: &mut Vec<usize>,
     run: &Run,
     first: usize,
     marks: &mut [bool],
 ) -> Result<(), AllocError>
-    requires sorted { IsNonDecreasing asked.now }
-    requires count { length cells.old ≡ length asked.now + 1 }
+    requires count { length cells.old ≡ length stretches.now + 1 }
     requires touched { AreTouched cells.old touched.old.items }
     requires fits { first + length (lines_of_run run.now) ≤ length marks.old }
     ensures touched { AreTouched cells.new touched.new.items }
     ensures kept { AreKept marks.old marks.new }
-    ensures covered { OnOk result (AreCovered asked.now (lines_of_run run.now) first marks.new) }
+    ensures covered { OnOk result (AreCovered stretches.now (lines_of_run run.now) first marks.new) }
 {
     empty_cells(cells, touched.as_slice());
     touched.clear();
-    take_run(asked, cells, touched, run.symbols.as_slice())?;
+    take_run(stretches, cells, touched, run.symbols.as_slice())?;
     mark_cells(cells, touched.as_slice(), first, marks);
     Ok(())
 }
 
 /// Marks the lines of runs that can answer.
 fn mark_runs(
-    asked: &[u64],
+    stretches: &Stretches,
     cells: &mut [Option<Cell>],
     touched: &mut Vec<usize>,
     runs: &[Run],
     last: &Run,
     marks: &mut [bool],
 ) -> Result<(), AllocError>
-    requires sorted { IsNonDecreasing asked.now }
-    requires count { length cells.old ≡ length asked.now + 1 }
+    requires count { length cells.old ≡ length stretches.now + 1 }
     requires touched { AreTouched cells.old touched.old.items }
     requires fits { length (lines_of_all (runs.now ++ last.now ∷ [])) ≤ length marks.old }
     ensures touched { AreTouched cells.new touched.new.items }
     ensures covered { OnOk result
-        (AreCovered asked.now (lines_of_all (runs.now ++ last.now ∷ [])) 0 marks.new) }
+        (AreCovered stretches.now (lines_of_all (runs.now ++ last.now ∷ [])) 0 marks.new) }
 {
     let mut first = 0;
     for run in runs {
-        mark_run(asked, cells, touched, run, first, marks)?;
+        mark_run(stretches, cells, touched, run, first, marks)?;
         first += run.symbols.len();
     }
-    mark_run(asked, cells, touched, last, first, marks)
+    mark_run(stretches, cells, touched, last, first, marks)
 }
 
 /// The place of the first symbol of this name.
@@ -306,34 +263,33 @@ fn mark_name(runs: &[Run], last: &Run, name: &[u8], marks: &mut [bool])
 
 /// Marks the lines that can answer.
 fn mark_lines(
-    asked: &[u64],
+    stretches: &Stretches,
     cells: &mut [Option<Cell>],
     touched: &mut Vec<usize>,
     names: &KernelBounds,
     lines: &SymbolLines,
     marks: &mut [bool],
 ) -> Result<(), AllocError>
-    requires sorted { IsNonDecreasing asked.now }
-    requires count { length cells.old ≡ length asked.now + 1 }
+    requires count { length cells.old ≡ length stretches.now + 1 }
     requires touched { AreTouched cells.old touched.old.items }
     requires fits { length lines.now ≤ length marks.old }
     ensures touched { AreTouched cells.new touched.new.items }
-    ensures marked { OnOk result (AreMarked names.now asked.now lines.now marks.new) }
+    ensures marked { OnOk result (AreMarked names.now stretches.now lines.now marks.new) }
 {
     let runs = lines.runs.as_slice();
-    mark_runs(asked, cells, touched, runs, &lines.last, marks)?;
+    mark_runs(stretches, cells, touched, runs, &lines.last, marks)?;
     mark_name(runs, &lines.last, names.start, marks);
     mark_name(runs, &lines.last, names.end, marks);
     Ok(())
 }
 
 /// Cells that hold no lines, one more than there are asked addresses.
-fn cells_for(alloc: Global, asked: &[u64]) -> Result<Vec<Option<Cell>>, AllocError>
-    ensures count { IfOk result (λ v. length v.items ≡ length asked.now + 1) }
+fn cells_for(alloc: Global, asked: usize) -> Result<Vec<Option<Cell>>, AllocError>
+    ensures count { IfOk result (λ v. length v.items ≡ asked + 1) }
     ensures empty { IfOk result (λ v. AreEmpty v.items) }
 {
-    let mut cells = Vec::with_capacity(alloc, asked.len().saturating_add(1))?;
-    for _ in 0..asked.len() {
+    let mut cells = Vec::with_capacity(alloc, asked.saturating_add(1))?;
+    for _ in 0..asked {
         cells.push(None)?;
     }
     cells.push(None)?;
@@ -344,8 +300,8 @@ fn cells_for(alloc: Global, asked: &[u64]) -> Result<Vec<Option<Cell>>, AllocErr
 /// for the next block again.
 #[derive(Drop)]
 pub struct Sieve {
-    /// The asked addresses in rising order.
-    asked: Vec<u64>,
+    /// The stretches between the asked addresses.
+    stretches: Stretches,
     /// A cell for each stretch.
     cells: Vec<Option<Cell>>,
     /// The stretches of the cells that hold lines.
@@ -375,11 +331,10 @@ impl Sieve {
         ensures only { IfOk result (λ s. (addr : ℕ) → Contains s.asked addr
             → Contains addresses.now addr) }
     {
-        let mut asked = Vec::from_slice(alloc, addresses)?;
-        asked.sort_unstable();
-        let cells = cells_for(alloc, asked.as_slice())?;
+        let stretches = Stretches::new(alloc, addresses)?;
+        let cells = cells_for(alloc, stretches.asked())?;
         Ok(Sieve {
-            asked,
+            stretches,
             cells,
             touched: Vec::new(alloc),
             marks: Vec::new(alloc),
@@ -397,7 +352,7 @@ impl Sieve {
         self.marks.clear();
         self.marks.resize(lines.len(), false)?;
         mark_lines(
-            self.asked.as_slice(),
+            &self.stretches,
             self.cells.as_mut_slice(),
             &mut self.touched,
             names,

@@ -36,7 +36,7 @@ pub returns-clause-marked : goal.returns-clause-marked
 returns-clause-marked c =
     let inside = c.lines.inside in
     let letters = inside.letters.items in
-    let asked = c.args.asked.now in
+    let asked = c.args.stretches.now in
     let m3 = c.mark_name-2.new.marks in
     let names : BoundNames = record { start = c.names.inside.start.now; end = c.names.inside.end.now } in
     let xs = lines_of_all (c.as_slice-runs.result.now ++ inside.last ∷ []) in

@@ -18,7 +18,6 @@ mark_run-requires c =
     let fits = run_fits runs c.args.last.now i run c.loop-run-test.true in
     let here : length (lines_of_run run) ≡ length (lines_of_run (get_or runs i run)) = ap (λ (r : Run). length (lines_of_run r)) c.run-item.is in
     record {
-      sorted = c.requires.sorted;
       count = omega arith;
       touched = c.loop-run.invariant.touched;
       fits = omega arith;
@@ -36,7 +35,7 @@ loop-run-preserved c =
     record {
       first = omega arith;
       touched = c.in_ok-mark_run.ensures.touched;
-      covered = subst (λ (rs : List Run). AreCovered c.args.asked.now (lines_of_all rs) 0 c.mark_run.new.marks) (sym more) (covered_runs c.args.asked.now (take i runs) run c.loop-run.first c.loop-run.marks c.mark_run.new.marks c.loop-run.invariant.first c.in_ok-mark_run.ensures.kept c.loop-run.invariant.covered c.in_ok-mark_run.ensures.covered);
+      covered = subst (λ (rs : List Run). AreCovered c.args.stretches.now (lines_of_all rs) 0 c.mark_run.new.marks) (sym more) (covered_runs c.args.stretches.now (take i runs) run c.loop-run.first c.loop-run.marks c.mark_run.new.marks c.loop-run.invariant.first c.in_ok-mark_run.ensures.kept c.loop-run.invariant.covered c.in_ok-mark_run.ensures.covered);
     }
 
 pub overflow_add-first : goal.overflow_add-first
@@ -51,7 +50,7 @@ overflow_add-first c =
 
 pub returns-clause-covered : goal.returns-clause-covered
 returns-clause-covered c =
-    let asked = c.args.asked.now in
+    let asked = c.args.stretches.now in
     let runs = c.args.runs.now in
     let i = c.loop-run.run-index in
     let all : take i runs ≡ runs = take_all i runs c.loop-run-test.false in

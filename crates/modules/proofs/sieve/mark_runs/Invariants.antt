@@ -7,5 +7,5 @@ abbrev pub invariant-loop-run : goal.invariant-loop-run
 invariant-loop-run l = record {
   first : l.first ≡ length (lines_of_all (take l.run-index l.runs));
   touched : AreTouched l.cells l.touched.items;
-  covered : AreCovered l.asked (lines_of_all (take l.run-index l.runs)) 0 l.marks;
+  covered : AreCovered l.stretches (lines_of_all (take l.run-index l.runs)) 0 l.marks;
 }

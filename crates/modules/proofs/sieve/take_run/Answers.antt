@@ -9,13 +9,13 @@ use Rattle.modules.proofs.sieve.take_run.Goals as goal
 pub loop-line-init : goal.loop-line-init
 loop-line-init c = record {
   near = omega arith;
-  taken = no_cells c.args.asked.now c.args.symbols.now c.args.cells.now c.requires.empty;
+  taken = no_cells c.args.stretches.now c.args.symbols.now c.args.cells.now c.requires.empty;
   touched = c.requires.touched;
 }
 
 pub loop-line-preserved : goal.loop-line-preserved
 loop-line-preserved c =
-    let asked = c.args.asked.now in
+    let asked = c.args.stretches.now in
     let symbols = c.args.symbols.now in
     let cells = c.loop-line.cells in
     let n = c.loop-line.line in

@@ -1,22 +1,10 @@
-use Rattle.std.proofs.Common.{ℕ, ◌+◌, List, length, sym, ap, subst, ◌∙◌}
-use Rattle.std.specs.List.Sorted.{IsPermutation}
-use Rattle.std.proofs.lemmas.List.Sorted.{Contains-permutation, IsNonDecreasingBy-from_sort, IsPermutation-sym}
+use Rattle.std.proofs.Common.{ℕ, ◌+◌, sym, ap, subst, ◌∙◌}
 use Rattle.modules.specs.Stretches.{AreTouched}
 use Rattle.modules.proofs.CellLemmas.{none_touched}
 use Rattle.modules.proofs.sieve.Sieve.new.Goals as goal
 
-pub returns-clause-rising : goal.returns-clause-rising
-returns-clause-rising c = IsNonDecreasingBy-from_sort (λ a. a) c.sort_unstable.new.self.items c.sort_unstable.ensures.sorted
-
-pub returns-clause-all : goal.returns-clause-all
-returns-clause-all c = λ addr there. Contains-permutation c.args.addresses.now c.sort_unstable.new.self.items addr (subst (λ xs. IsPermutation xs c.sort_unstable.new.self.items) c.in_ok-asked.ensures.items c.sort_unstable.ensures.permutation) there
-
-pub returns-clause-only : goal.returns-clause-only
-returns-clause-only c = λ addr there. Contains-permutation c.sort_unstable.new.self.items c.args.addresses.now addr (IsPermutation-sym c.args.addresses.now c.sort_unstable.new.self.items (subst (λ xs. IsPermutation xs c.sort_unstable.new.self.items) c.in_ok-asked.ensures.items c.sort_unstable.ensures.permutation)) there
-
 pub invariant_of-result : goal.invariant_of-result
 invariant_of-result c = record {
-  rising = IsNonDecreasingBy-from_sort (λ a. a) c.sort_unstable.new.self.items c.sort_unstable.ensures.sorted;
-  count = c.in_ok-cells.ensures.count ∙ ap (λ (xs : List ℕ). length xs + 1) c.as_slice.ensures.value;
-  touched = subst (AreTouched c.in_ok-cells.cells.items) (sym c.new.ensures.items) (none_touched c.in_ok-cells.cells.items c.in_ok-cells.ensures.empty);
+  count = c.in_ok-cells.ensures.count ∙ ap (λ n. n + 1) c.asked.ensures;
+  touched = subst (AreTouched c.in_ok-cells.cells.items) (sym c.new-2.ensures.items) (none_touched c.in_ok-cells.cells.items c.in_ok-cells.ensures.empty);
 }

@@ -2,7 +2,7 @@ use Rattle.std.proofs.Common.{nat_lt, rules, ◌≤◌, arith}
 use Rattle.std.proofs.lemmas.Bool.{ltb-true, ltb-false}
 use Rattle.std.proofs.lemmas.List.Sorted.{IsPartitionPoint-from_clause, IsPartitionedBy-ltb}
 use Rattle.modules.proofs.StretchLemmas.{stretch_from_partition}
-use Rattle.modules.proofs.sieve.stretch_of.Goals as goal
+use Rattle.modules.proofs.stretches.stretch_of.Goals as goal
 
 pub returns : goal.returns
 returns c =

@@ -1,8 +1,8 @@
 use Rattle.std.proofs.Common.{◌<◌, ◌≤◌, ◌-◌, length, get_or, arith}
 use Rattle.modules.proofs.StretchLemmas.{stretch_here}
-use Rattle.modules.proofs.sieve.is_stretch.Goals as goal
-use Rattle.modules.proofs.sieve.is_stretch.Goals.{else-stretch-gt0-via-then-stretch-gt0+else-asked-stretch, else-stretch-gt0-via-else-stretch-gt0}
-use Rattle.modules.proofs.sieve.is_stretch.Goals.{else-stretch-asked-via-then-stretch-asked+else-asked-stretch-2, else-stretch-asked-via-else-stretch-asked}
+use Rattle.modules.proofs.stretches.is_stretch.Goals as goal
+use Rattle.modules.proofs.stretches.is_stretch.Goals.{else-stretch-gt0-via-then-stretch-gt0+else-asked-stretch, else-stretch-gt0-via-else-stretch-gt0}
+use Rattle.modules.proofs.stretches.is_stretch.Goals.{else-stretch-asked-via-then-stretch-asked+else-asked-stretch-2, else-stretch-asked-via-else-stretch-asked}
 
 pub returns : goal.returns
 returns c = λ _.
