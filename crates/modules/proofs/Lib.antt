@@ -16,6 +16,8 @@ pub mod BorderLemmas
 pub mod IndexLemmas
 -- symbols that are listed by rising address
 pub mod RisingLemmas
+-- addresses that are kept by halves
+pub mod AddressListLemmas
 -- lines that have the name of their module by their run, and their letter beside it
 pub mod RunLemmas
 -- where a symbol is kept

@@ -1,6 +1,7 @@
 -- The addresses of lines, in runs of one module.
 use Rattle.std.specs.Prelude.{◌≡◌, ℕ, ◌<◌, ◌^◌, List, [], flat_map, length, map, Option}
 use Rattle.std.specs.Option.{option_map}
+use Rattle.modules.specs.AddressLists.{addresses_in}
 use Rattle.modules.specs.Listed.{ListedSymbol}
 use Rattle.modules.specs.declared.listed_addresses.AddressRun.{AddressRun}
 
@@ -14,7 +15,7 @@ owner_of_run r = option_map (λ v. v.items) r.module
 
 -- the lines of a run, without their letters and names
 abbrev pub bare_lines_of_run : AddressRun → List ListedSymbol
-bare_lines_of_run r = map (bare_line_at (owner_of_run r)) r.addresses.items
+bare_lines_of_run r = map (bare_line_at (owner_of_run r)) (addresses_in r.addresses)
 
 abbrev pub bare_lines_of : List AddressRun → List ListedSymbol
 bare_lines_of runs = flat_map bare_lines_of_run runs

@@ -55,6 +55,7 @@ pub mod Runs
 -- lines of symbols whose bytes lie in one text
 pub mod KeptLines
 -- the addresses of lines, in runs of one module
+pub mod AddressLists
 pub mod AddressRuns
 -- whether a line lies in the module that it names
 pub mod ModuleAddresses

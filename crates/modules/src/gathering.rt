@@ -19,12 +19,14 @@ ghost use Rattle.std.specs.Prelude.{◌≡◌, ◌+◌, ◌<◌, ◌^◌, ◌++�
 ghost use Rattle.std.specs.Prelude.{count_by, vec_len};
 ghost use Rattle.std.specs.Option.{option_copied};
 ghost use Rattle.modules.specs.Accepted.{names_of};
+ghost use Rattle.modules.specs.AddressLists.{addresses_in};
 ghost use Rattle.modules.specs.AddressRuns.{bare_lines_of, bare_lines_of_run};
 ghost use Rattle.modules.specs.Kept.{AreDistinctNames, is_kept};
 ghost use Rattle.modules.specs.Gathering.{owner_for, lies_for, CountsStay, HasRoom, Keeps};
 ghost use Rattle.modules.specs.Gathering.{KeepsRun, IsEmptyFor, Gathers};
 ghost use Rattle.modules.specs.Runs.{lines_of_all};
 
+use crate::address_lists::{AddressList, with_high};
 use crate::listed_addresses::{AddressRun, ListedAddresses};
 use crate::placed_modules::PlacedModules;
 use crate::symbol_lines::{Run, SymbolLines};
@@ -191,13 +193,19 @@ pub(crate) fn gather<'a>(
 }
 
 /// How many of these addresses are those of kept symbols of this owner.
-fn kept_among(placed: &PlacedModules, owner: Owner, addresses: &[u64]) -> usize
-    ensures { result ≡ count_by (lies_for placed.now owner) addresses.now }
+fn kept_among(placed: &PlacedModules, owner: Owner, addresses: &AddressList) -> usize
+    ensures { result ≡ count_by (lies_for placed.now owner) (addresses_in addresses.now) }
 {
-    addresses
-        .iter()
-        .filter(|addr| lies_at(placed, owner, **addr))
-        .count()
+    match addresses {
+        AddressList::Halves { high, low } => low
+            .iter()
+            .filter(|low| lies_at(placed, owner, with_high(*high, **low)))
+            .count(),
+        AddressList::Whole(addresses) => addresses
+            .iter()
+            .filter(|addr| lies_at(placed, owner, **addr))
+            .count(),
+    }
 }
 
 /// How many lines of a run are kept.
@@ -206,7 +214,7 @@ fn kept_in_run(placed: &PlacedModules, run: &AddressRun) -> usize
     ensures { result ≡ count_by (is_kept placed.now) (bare_lines_of_run run.now) }
 {
     let owner = owner_of(placed, run.owner());
-    kept_among(placed, owner, run.addresses.as_slice())
+    kept_among(placed, owner, &run.addresses)
 }
 
 /// How many lines of runs are kept.

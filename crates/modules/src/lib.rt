@@ -2,6 +2,7 @@
 //! address belongs to.
 #![tactic(auto)]
 
+mod address_lists;
 mod admission;
 mod asked;
 mod buckets;

@@ -1,4 +1,4 @@
-//! The addresses of the lines of a listing, eight bytes for each.
+//! The addresses of the lines of a listing, four bytes for most of them.
 //!
 //! They stand in the runs of one module in which the lines come, so that the name of a module is
 //! kept once for each run.
@@ -9,8 +9,8 @@ ghost use Rattle.modules.specs.AddressRuns.{bare_lines_of_run, owner_of_run};
 ghost use Rattle.modules.specs.Runs.{lines_of_all, lines_of_run};
 ghost use Rattle.modules.specs.Sifted.{bare_line};
 
+use crate::address_lists::AddressList;
 use crate::symbol_lines::{Run, SymbolLines};
-use crate::symbols::Symbol;
 use std::alloc::{AllocError, Global};
 use std::marker::Model;
 
@@ -19,7 +19,7 @@ use std::marker::Model;
 pub(crate) struct AddressRun {
     /// The name of the module; none for the kernel itself.
     module: Option<Vec<u8>>,
-    pub(crate) addresses: Vec<u64>,
+    pub(crate) addresses: AddressList,
 }
 
 /// The addresses of lines, with the name of the module of each. A contract sees the list of the
@@ -54,13 +54,6 @@ fn owned_name(alloc: Global, owner: Option<&[u8]>) -> Result<Option<Vec<u8>>, Al
     }
 }
 
-/// The address of each symbol.
-fn addresses_of(alloc: Global, symbols: &[Symbol]) -> Result<Vec<u64>, AllocError>
-    ensures { IfOk result (λ v. v.items ≡ map (λ s. s.addr) symbols.now) }
-{
-    symbols.iter().map(|symbol| symbol.addr).collect(alloc)
-}
-
 impl AddressRun {
     /// The addresses of the lines of a run.
     fn of(alloc: Global, run: &Run) -> Result<AddressRun, AllocError>
@@ -68,7 +61,7 @@ impl AddressRun {
             (λ r. bare_lines_of_run r ≡ map bare_line (lines_of_run run.now)) }
     {
         let module = owned_name(alloc, run.module)?;
-        let addresses = addresses_of(alloc, run.symbols.as_slice())?;
+        let addresses = AddressList::of(alloc, run.symbols.as_slice())?;
         Ok(AddressRun { module, addresses })
     }
 

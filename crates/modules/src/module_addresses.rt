@@ -3,22 +3,36 @@
 ghost use Rattle.std.specs.Prelude.{◌≡◌, map, Some};
 ghost use Rattle.std.specs.List.{list_any, position_from};
 ghost use Rattle.std.specs.Str.{bytes_eq};
+ghost use Rattle.modules.specs.AddressLists.{addresses_in, with_high};
 ghost use Rattle.modules.specs.AddressRuns.{bare_line_at, bare_lines_of_run};
 ghost use Rattle.modules.specs.ModuleAddresses.{lies_in_its_module, regions_at};
 ghost use Rattle.modules.specs.Names.{names_in};
 ghost use Rattle.modules.specs.Regions.{lies_in_any};
 
+use crate::address_lists::{AddressList, with_high};
 use crate::catalog::Catalog;
 use crate::listed_addresses::{AddressRun, ListedAddresses};
 use crate::names::place_of;
 use crate::placing::lies_in_any;
 use crate::regions::Region;
 
-/// Whether one of these addresses lies in one of the regions.
-fn any_within(regions: &[Region], addresses: &[u64]) -> bool
-    ensures { result ≡ list_any (lies_in_any regions.now) addresses.now }
+/// Whether one of the addresses with this upper half and these lower ones lies in one of the
+/// regions.
+fn any_low(regions: &[Region], high: u32, low: &[u32]) -> bool
+    ensures { result ≡ list_any (λ l. lies_in_any regions.now (with_high high l)) low.now }
 {
-    addresses.iter().any(|addr| lies_in_any(regions, *addr))
+    low.iter()
+        .any(|low| lies_in_any(regions, with_high(high, *low)))
+}
+
+/// Whether one of these addresses lies in one of the regions.
+fn any_within(regions: &[Region], addresses: &AddressList) -> bool
+    ensures { result ≡ list_any (lies_in_any regions.now) (addresses_in addresses.now) }
+{
+    match addresses {
+        AddressList::Halves { high, low } => any_low(regions, *high, low.as_slice()),
+        AddressList::Whole(addresses) => addresses.iter().any(|addr| lies_in_any(regions, *addr)),
+    }
 }
 
 impl<'a> Catalog<'a> {
@@ -43,9 +57,9 @@ impl<'a> Catalog<'a> {
     }
 
     /// Whether one of these addresses lies in the module of this name.
-    fn any_named(&self, name: &[u8], addresses: &[u64]) -> bool
+    fn any_named(&self, name: &[u8], addresses: &AddressList) -> bool
         ensures { result ≡ list_any (lies_in_its_module self.now)
-            (map (bare_line_at (Some name.now)) addresses.now) }
+            (map (bare_line_at (Some name.now)) (addresses_in addresses.now)) }
     {
         self.stays_sound();
         any_within(self.regions_at(self.place_named(name)), addresses)
@@ -56,7 +70,7 @@ impl<'a> Catalog<'a> {
         ensures { result ≡ list_any (lies_in_its_module self.now) (bare_lines_of_run run.now) }
     {
         match run.owner() {
-            Some(name) => self.any_named(name, run.addresses.as_slice()),
+            Some(name) => self.any_named(name, &run.addresses),
             None => false,
         }
     }
