@@ -1,12 +1,12 @@
 -- Lines whose bytes lie in a text that grows, and the marked lines of runs.
 use Rattle.std.proofs.Common.{◌≡◌, ℕ, zero, suc, ◌+◌, ◌-◌, ◌<◌, ◌≤◌, Bool, true, false, List, [], ◌∷◌, ◌++◌, length, map, take, drop, get_or, Some, None, Option, refl, sym, ap, subst, ◌∙◌, arith, append_assoc, length-append, length-drop}
-use Rattle.std.specs.Prelude.{IfSome}
+use Rattle.std.specs.Prelude.{IfSome, if◌then◌else◌, is_some, unwrap_or}
 use Rattle.std.specs.List.{zip}
 use Rattle.std.specs.Option.{option_copied, option_map}
 use Rattle.std.proofs.lemmas.List.{append-nil, drop-append-le, drop_all, drop_at, drop_more, length-map, map_push, take-append-le, take_all}
 use Rattle.std.proofs.lemmas.List.Elements.{All-head, All-push, All-tail, All-weaker}
 use Rattle.modules.specs.Entries.{SymbolEntry}
-use Rattle.modules.specs.KeptLines.{AreWithin, bytes_in, Grows, IsSpanWithin, IsWithin, lettered_run, line_in, lines_in}
+use Rattle.modules.specs.KeptLines.{AreWithin, bytes_in, Grows, IsSpanWithin, IsWithin, lettered_run, line_in, lines_in, owner_span}
 use Rattle.modules.specs.Listed.{ListedSymbol}
 use Rattle.modules.specs.Runs.{lines_of_all, lines_of_run, lines_of_runs, unlettered, with_letter}
 use Rattle.modules.specs.Sifted.{marked}
@@ -31,8 +31,8 @@ line_with l name owner = record { addr = l.addr; letter = l.letter; name = name;
 
 line_grown : (text more : List ℕ) (l : KeptLine) → IsWithin (length text) l → line_in (text ++ more) l ≡ line_in text l
 line_grown text more l within =
-    ap (λ (name : List ℕ). line_with l name (option_map (bytes_in (text ++ more)) l.owner)) (bytes_grown text more l.name within.name)
-    ∙ ap (λ (owner : Option (List ℕ)). line_with l (bytes_in text l.name) owner) (owner_grown text more l.owner within.owner)
+    ap (λ (name : List ℕ). line_with l name (option_map (bytes_in (text ++ more)) (owner_span l))) (bytes_grown text more l.name within.name)
+    ∙ ap (λ (owner : Option (List ℕ)). line_with l (bytes_in text l.name) owner) (owner_grown text more (owner_span l) within.owner)
 
 lines_grown_by : (text more : List ℕ) (lines : List KeptLine) → AreWithin text lines → lines_in (text ++ more) lines ≡ lines_in text lines
 lines_grown_by text more [] within = refl
@@ -62,7 +62,7 @@ owner_within m n (Some s) le within = still_within m n s le within
 line_within : (m n : ℕ) (l : KeptLine) → m ≤ n → IsWithin m l → IsWithin n l
 line_within m n l le within = record {
   name = still_within m n l.name le within.name;
-  owner = owner_within m n l.owner le within.owner;
+  owner = owner_within m n (owner_span l) le within.owner;
 }
 
 -- and they lie within it
@@ -221,10 +221,15 @@ run_gone kept more r runs letters marks all n left count is =
 abbrev listed : ℕ → ℕ → List ℕ → Option (List ℕ) → ListedSymbol
 listed addr letter name owner = record { addr = addr; letter = letter; name = name; owner = owner }
 
-pub line_put : (named longer : List ℕ) (l : KeptLine) (name : List ℕ) (owner : Option (List ℕ)) → Grows named longer → IsSpanWithin (length named) l.name → bytes_in named l.name ≡ name → option_map (bytes_in longer) l.owner ≡ owner → line_in longer l ≡ listed l.addr l.letter name owner
+pub line_put : (named longer : List ℕ) (l : KeptLine) (name : List ℕ) (owner : Option (List ℕ)) → Grows named longer → IsSpanWithin (length named) l.name → bytes_in named l.name ≡ name → option_map (bytes_in longer) (owner_span l) ≡ owner → line_in longer l ≡ listed l.addr l.letter name owner
 line_put named longer l name owner grows within is whose =
-    ap (λ (n : List ℕ). listed l.addr l.letter n (option_map (bytes_in longer) l.owner)) (span_grown named longer l.name grows within ∙ is)
+    ap (λ (n : List ℕ). listed l.addr l.letter n (option_map (bytes_in longer) (owner_span l))) (span_grown named longer l.name grows within ∙ is)
     ∙ ap (λ (o : Option (List ℕ)). listed l.addr l.letter name o) whose
+
+-- an option is told by whether it is some, and by what it has
+pub owner_is : (o : Option Span) (has : Bool) (d s : Span) → has ≡ is_some o → s ≡ unwrap_or o d → (if has then Some s else None) ≡ o
+owner_is None has d s is who = ap (λ b. if b then Some s else None) is
+owner_is (Some x) has d s is who = ap (λ b. if b then Some s else None) is ∙ ap Some who
 
 -- the runs from a place on, the last one behind them
 pub runs_here : (runs : List Run) (last : Run) (i : ℕ) (r : Run) → i < length runs → r ≡ get_or runs i r → drop i runs ++ last ∷ [] ≡ r ∷ (drop (i + 1) runs ++ last ∷ [])

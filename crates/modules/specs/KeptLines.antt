@@ -1,5 +1,6 @@
 -- Lines whose bytes lie in one text.
-use Rattle.std.specs.Prelude.{◌≡◌, ℕ, ◌≤◌, List, ◌++◌, length, map, All, IfSome}
+use Rattle.std.specs.Prelude.{◌≡◌, ℕ, ◌≤◌, List, ◌++◌, length, map, All, if◌then◌else◌}
+use Rattle.std.specs.Prelude.{Option, Some, None, IfSome}
 use Rattle.std.specs.List.{between, zip}
 use Rattle.std.specs.Option.{option_map}
 use Rattle.modules.specs.Listed.{ListedSymbol}
@@ -12,13 +13,17 @@ use Rattle.modules.specs.declared.symbol_lines.Run.{Run}
 abbrev pub bytes_in : List ℕ → Span → List ℕ
 bytes_in text s = between s.start s.end text
 
+-- where the name of a line's module lies, if it has one
+abbrev pub owner_span : KeptLine → Option Span
+owner_span l = if l.has_owner then Some l.owner else None
+
 -- a line, with the bytes that it names
 abbrev pub line_in : List ℕ → KeptLine → ListedSymbol
 line_in text l = record {
   addr = l.addr;
   letter = l.letter;
   name = bytes_in text l.name;
-  owner = option_map (bytes_in text) l.owner;
+  owner = option_map (bytes_in text) (owner_span l);
 }
 
 abbrev pub lines_in : List ℕ → List KeptLine → List ListedSymbol
@@ -32,7 +37,7 @@ pub record IsSpanWithin (count : ℕ) (s : Span) : Type 0 where
 -- the names of a line lie within a text of so many bytes
 pub record IsWithin (count : ℕ) (l : KeptLine) : Type 0 where
   pub name : IsSpanWithin count l.name
-  pub owner : IfSome l.owner (IsSpanWithin count)
+  pub owner : IfSome (owner_span l) (IsSpanWithin count)
 
 abbrev pub AreWithin : List ℕ → List KeptLine → Type 0
 AreWithin text lines = All (IsWithin (length text)) lines

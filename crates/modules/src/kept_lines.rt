@@ -12,7 +12,7 @@
 ghost use Rattle.std.specs.Prelude.{◌≡◌, ◌++◌, ◌∷◌, [], length, IfOk, IfSome, OnErr, OnOk};
 ghost use Rattle.std.specs.Option.{option_copied, option_map};
 ghost use Rattle.modules.specs.KeptLines.{AreWithin, bytes_in, Grows, IsSpanWithin, IsWithin};
-ghost use Rattle.modules.specs.KeptLines.{lettered_run, line_in, lines_in};
+ghost use Rattle.modules.specs.KeptLines.{lettered_run, line_in, lines_in, owner_span};
 ghost use Rattle.modules.specs.Runs.{AreLettered, lines_of_runs};
 ghost use Rattle.modules.specs.Sifted.{marked};
 
@@ -33,9 +33,11 @@ struct Span {
 struct KeptLine {
     addr: u64,
     letter: u8,
+    /// Whether it has a module; not where it is a symbol of the kernel itself.
+    has_owner: bool,
     name: Span,
-    /// The name of its module; none for a symbol of the kernel itself.
-    owner: Option<Span>,
+    /// The name of its module, where it has one.
+    owner: Span,
 }
 
 /// Lines that own their bytes, in the order in which they were put in. A contract sees the list of
@@ -81,6 +83,17 @@ fn owner_in(text: &[u8], owner: Option<Span>) -> Option<&[u8]>
 }
 
 impl KeptLine {
+    /// Where the name of its module lies, if it has one.
+    fn owner(&self) -> Option<Span>
+        ensures { result ≡ owner_span self.now }
+    {
+        if self.has_owner {
+            Some(self.owner)
+        } else {
+            None
+        }
+    }
+
     /// The line, with its bytes in the text.
     fn line_in<'t>(&self, text: &'t [u8]) -> SymbolLine<'t>
         requires { IsWithin (length text.now) self.now }
@@ -90,7 +103,7 @@ impl KeptLine {
             addr: self.addr,
             letter: self.letter,
             name: self.name.of(text),
-            module: owner_in(text, self.owner),
+            module: owner_in(text, self.owner()),
         }
     }
 }
@@ -133,8 +146,9 @@ fn put_line(text: &mut Vec<u8>, line: &SymbolLine) -> Result<KeptLine, AllocErro
     Ok(KeptLine {
         addr: line.addr,
         letter: line.letter,
+        has_owner: owner.is_some(),
         name,
-        owner,
+        owner: owner.unwrap_or(name),
     })
 }
 
