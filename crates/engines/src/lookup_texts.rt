@@ -12,9 +12,10 @@ use crate::table::AddressAnswer;
 use crate::texts::put_decimal;
 use listing::{
     AddressRule, Cause, Counted, Counts, ModuleCounts, SkippedModule, SkippedSymbol, SymbolCounts,
-    put, put_hexadecimal, write_answer_by,
+    put, put_hexadecimal, write_next_answer,
 };
-use modules::{BuildCounts, Catalog, KeptCounts};
+use modules::{BuildCounts, Catalog, KeptCounts, MOST_EXPECTED, SymbolFinder};
+use order_laws::Item;
 use std::io;
 use std::io::Write;
 
@@ -30,28 +31,62 @@ pub fn put_answers<W: Write>(
     ensures { Wrote W.contents writer.old writer.new result
         (flat_map (line_by form catalog.now rule) answers.now) }
 {
-    for answer in answers {
-        put_line(writer, catalog, rule, form, answer)?;
+    let mut finder = SymbolFinder::new(catalog);
+    for (place, answer) in answers.iter().enumerate() {
+        if place % MOST_EXPECTED == 0 {
+            expect_answers(&mut finder, rule, &answers[place..]);
+        }
+        put_line(writer, &mut finder, rule, form, answer)?;
     }
     Ok(())
+}
+
+/// Tells a finder which symbols the next answers are to name.
+fn expect_answers(finder: &mut SymbolFinder, rule: AddressRule, answers: &[AddressAnswer])
+    ensures { finder.new ≡ finder.old }
+{
+    let mut asked = [(NO_ITEM, 0); MOST_EXPECTED];
+    let mut count = 0;
+    for answer in answers.iter().take(MOST_EXPECTED) {
+        if let Some(sought) = sought(rule, answer) {
+            asked[count] = sought;
+            count += 1;
+        }
+    }
+    finder.expect(&asked[..count]);
+}
+
+/// Stands where no item was found.
+const NO_ITEM: Item = Item { a: 0, b: 0, tag: 0 };
+
+/// The item and the address of the symbol that an answer names, if it names one.
+fn sought(rule: AddressRule, answer: &AddressAnswer) -> Option<(Item, u64)> {
+    let place = rule.place_of(answer.addr)?;
+    let item = answer.item?;
+    if item.a <= place && place < item.b {
+        Some((item, place))
+    } else {
+        None
+    }
 }
 
 /// Writes the line of an answer.
 #[tactic(auto, unfolding(crate::specs::AnswerForms::line_by))]
 fn put_line<W: Write>(
     writer: &mut Counted<W>,
-    catalog: &Catalog,
+    finder: &mut SymbolFinder,
     rule: AddressRule,
     form: AnswerForm,
     answer: &AddressAnswer,
 ) -> io::Result<()>
-    ensures { Wrote W.contents writer.old writer.new result
-        (line_by form catalog.now rule answer.now) }
+    ensures stays { finder.new ≡ finder.old }
+    ensures wrote { Wrote W.contents writer.old writer.new result
+        (line_by form finder.old rule answer.now) }
 {
     if form.json {
-        put_json_answer(writer, catalog, rule, answer)
+        put_json_answer(writer, finder.catalog(), rule, answer)
     } else {
-        put_answer(writer, catalog, rule, answer)
+        put_answer(writer, finder, rule, answer)
     }
 }
 
@@ -59,15 +94,17 @@ fn put_line<W: Write>(
 #[tactic(auto, unfolding(crate::specs::LookupTexts::answer_line))]
 fn put_answer<W: Write>(
     writer: &mut Counted<W>,
-    catalog: &Catalog,
+    finder: &mut SymbolFinder,
     rule: AddressRule,
     answer: &AddressAnswer,
 ) -> io::Result<()>
-    ensures { Wrote W.contents writer.old writer.new result (answer_line catalog.now rule answer.now) }
+    ensures stays { finder.new ≡ finder.old }
+    ensures wrote { Wrote W.contents writer.old writer.new result
+        (answer_line finder.old rule answer.now) }
 {
     put_hexadecimal(writer, answer.addr)?;
     put(writer, b" ")?;
-    write_answer_by(writer, catalog, rule, answer.item, answer.addr)?;
+    write_next_answer(writer, finder, rule, answer.item, answer.addr)?;
     put(writer, b"\n")
 }
 

@@ -6,7 +6,7 @@ ghost use Rattle.listing.specs.Answers.{answer_text, answer_text_by, farther, fo
 ghost use Rattle.listing.specs.Answers.{held_text, module_text, symbol_text};
 
 use crate::{AddressRule, Counted, put, put_hexadecimal};
-use modules::{Catalog, FoundSymbol, symbol_in};
+use modules::{Catalog, FoundSymbol, SymbolFinder};
 use order_laws::Item;
 use std::io;
 use std::io::Write;
@@ -53,7 +53,7 @@ fn farther<'c, 'a>(found: FoundSymbol<'c, 'a>, bytes: u64) -> FoundSymbol<'c, 'a
 /// farther on.
 fn write_held<W: Write>(
     writer: &mut Counted<W>,
-    catalog: &Catalog,
+    finder: &mut SymbolFinder,
     item: Item,
     addr: u64,
     before: u64,
@@ -61,13 +61,14 @@ fn write_held<W: Write>(
     requires from { item.a ≤ addr }
     requires below { addr < item.b }
     requires near { before ≤ 1 }
-    ensures { Wrote W.contents writer.old writer.new result
-        (held_text catalog.now item before addr) }
+    ensures stays { finder.new ≡ finder.old }
+    ensures wrote { Wrote W.contents writer.old writer.new result
+        (held_text finder.old item before addr) }
 {
-    let Some(module) = catalog.module(item.tag) else {
+    let Some(module) = finder.catalog().module(item.tag) else {
         return put(writer, b"-");
     };
-    match symbol_in(module, item.a, item.b, addr) {
+    match finder.find(item, addr) {
         Some(found) => write_symbol(writer, &farther(found, before))?,
         None if item.tag == 0 => return put(writer, b"-"),
         None => put(writer, b"?")?,
@@ -85,7 +86,7 @@ pub fn write_answer<W: Write>(
 ) -> io::Result<()>
     ensures { Wrote W.contents writer.old writer.new result (answer_text catalog.now item addr) }
 {
-    write_found(writer, catalog, item, addr, 0)
+    write_found(writer, &mut SymbolFinder::new(catalog), item, addr, 0)
 }
 
 /// Writes the text of an answer for an address, where `item` was found for the address that the
@@ -105,8 +106,24 @@ pub fn write_answer_by<W: Write>(
     ensures { Wrote W.contents writer.old writer.new result
         (answer_text_by catalog.now rule item addr) }
 {
+    write_next_answer(writer, &mut SymbolFinder::new(catalog), rule, item, addr)
+}
+
+/// The same, over the catalog of a finder. Of it an address is asked for only where its item holds
+/// the one that is looked up.
+pub fn write_next_answer<W: Write>(
+    writer: &mut Counted<W>,
+    finder: &mut SymbolFinder,
+    rule: AddressRule,
+    item: Option<Item>,
+    addr: u64,
+) -> io::Result<()>
+    ensures stays { finder.new ≡ finder.old }
+    ensures wrote { Wrote W.contents writer.old writer.new result
+        (answer_text_by finder.old rule item addr) }
+{
     match rule.place_of(addr) {
-        Some(place) => write_found(writer, catalog, item, place, rule.before()),
+        Some(place) => write_found(writer, finder, item, place, rule.before()),
         None => put(writer, b"-"),
     }
 }
@@ -114,18 +131,19 @@ pub fn write_answer_by<W: Write>(
 /// Writes the text of the answer for an address, told of one that lies `before` bytes farther on.
 fn write_found<W: Write>(
     writer: &mut Counted<W>,
-    catalog: &Catalog,
+    finder: &mut SymbolFinder,
     item: Option<Item>,
     addr: u64,
     before: u64,
 ) -> io::Result<()>
     requires near { before ≤ 1 }
-    ensures { Wrote W.contents writer.old writer.new result
-        (found_text catalog.now item before addr) }
+    ensures stays { finder.new ≡ finder.old }
+    ensures wrote { Wrote W.contents writer.old writer.new result
+        (found_text finder.old item before addr) }
 {
     match item {
         Some(item) if item.a <= addr && addr < item.b => {
-            write_held(writer, catalog, item, addr, before)
+            write_held(writer, finder, item, addr, before)
         }
         _ => put(writer, b"-"),
     }

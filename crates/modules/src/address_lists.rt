@@ -21,10 +21,7 @@ const HALF: u64 = 0x1_0000_0000;
 #[derive(Drop)]
 pub(crate) enum AddressList {
     /// Of addresses with one upper half.
-    Halves {
-        high: u32,
-        low: Vec<u32>,
-    },
+    Halves { high: u32, low: Vec<u32> },
     /// Of any.
     Whole(Vec<u64>),
 }

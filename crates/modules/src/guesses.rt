@@ -14,11 +14,13 @@
 //!
 //! Whoever uses a guess compares it with what lies there: no contract rests on it.
 
+use crate::catalog::Catalog;
 use crate::module::Module;
 use crate::region_index::IndexedCatalog;
+use order_laws::Item;
 
 /// For how many addresses guesses are made at once.
-const TURNS: usize = 16;
+pub(crate) const TURNS: usize = 16;
 
 /// A region by its place among all regions, and how many symbols of its module are not above the
 /// address.
@@ -59,7 +61,11 @@ impl<'c, 'a> Lane<'c, 'a> {
     /// Reads from where on the symbol is to be sought.
     fn begin(catalog: &'c IndexedCatalog<'a>, addr: u64) -> Lane<'c, 'a> {
         let region = catalog.region_near(0, addr);
-        let module = catalog.module_at(region);
+        Lane::within(catalog.module_at(region), region, addr)
+    }
+
+    /// The same, in a module that is known.
+    fn within(module: Option<&'c Module<'a>>, region: usize, addr: u64) -> Lane<'c, 'a> {
         Lane {
             addr,
             region,
@@ -94,9 +100,30 @@ fn begin_all<'c, 'a>(lanes: &mut [Lane<'c, 'a>], catalog: &'c IndexedCatalog<'a>
     }
 }
 
+/// Begins each of the searches, for addresses whose items are known.
+fn begin_known<'c, 'a>(
+    lanes: &mut [Lane<'c, 'a>],
+    catalog: &'c Catalog<'a>,
+    asked: &[(Item, u64)],
+) {
+    for (lane, (item, addr)) in lanes.iter_mut().zip(asked) {
+        *lane = Lane::within(catalog.module(item.tag), 0, *addr);
+    }
+}
+
 fn step_all(lanes: &mut [Lane]) {
     for lane in lanes.iter_mut() {
         lane.step();
+    }
+}
+
+/// Guesses where the symbols of the first of these addresses stand in the modules of their items.
+pub(crate) fn guess_places(catalog: &Catalog, asked: &[(Item, u64)], places: &mut [usize; TURNS]) {
+    let mut lanes = [Lane::none(); TURNS];
+    begin_known(&mut lanes, catalog, asked);
+    step_all(&mut lanes);
+    for (place, lane) in places.iter_mut().zip(&lanes) {
+        *place = lane.guess().place;
     }
 }
 

@@ -32,6 +32,7 @@ mod regions;
 mod sieve;
 pub mod sifted_laws;
 mod stretches;
+pub mod symbol_finder;
 pub mod symbol_lines;
 pub mod symbols;
 
@@ -46,5 +47,6 @@ pub use module::{MOST_REGIONS, Module};
 pub use region_index::IndexedCatalog;
 pub use regions::Region;
 pub use sieve::Sieve;
+pub use symbol_finder::{MOST_EXPECTED, SymbolFinder};
 pub use symbol_lines::SymbolLines;
 pub use symbols::Symbol;
