@@ -1,17 +1,11 @@
 #!/usr/bin/env bash
 # SPDX-License-Identifier: MIT OR Apache-2.0
-# The numbers and tables of the pages that follow from the files: docs/figures.sh writes them into
+# The numbers and lists of the pages that follow from the files: docs/figures.sh writes them into
 # docs/PROOF.md and README.md, and --check says which of them are no longer so. Needs python3.
 #
-# A table of docs/PROOF.md stands below a line
-#
-#     <!-- read NAME [by file]: FILE FUNCTION.. [FILE FUNCTION..].. [but WORD..] [beyond NAME..] -->
-#
-# and has the definitions that the clauses of these functions rest on, file by file, each before its
-# use. `but` leaves out what stands behind these words alone, `beyond` what the tables of these names
-# have; `by file` makes it a list, without what each file is about. A block below a line
-# `<!-- quoted: FILE FUNCTION -->` has clauses of that function. A number stands between `<!-- NAME -->`
-# and `<!-- -->`.
+# A list of docs/PROOF.md stands below a line `<!-- read NAME -->`; PATHS says what it is of. A block
+# below a line `<!-- quoted: FILE FUNCTION -->` has clauses of that function. A number stands between
+# `<!-- NAME -->` and `<!-- -->`.
 set -euo pipefail
 cd "$(dirname "$0")/.."
 python3 - "$@" <<'PYTHON'
@@ -90,8 +84,34 @@ def clauses_of(file, function):
     return text, found[0][at.start():] if at else ""
 
 
+# What each list is of, FILE FUNCTION.. [FILE FUNCTION..].. [but WORD..] [beyond NAME..]: the definitions
+# that the clauses of these functions rest on, each before its use. `but` leaves out what stands behind
+# these words alone, `beyond` what the lists of these names have.
+PATHS = {
+    "headline": "latch_steps/src/runs.rt run but IsTraceOf MayOpen IsOpeningRefused",
+    "steps": "latch_steps/src/runs.rt run drive_notes beyond headline",
+    "lookup": "engines/src/lookup.rt lookup_engine but json_line json_counts notes_of",
+    "json": "engines/src/lookup.rt lookup_engine beyond lookup",
+    "annotate": "latchsym/src/annotations.rt annotate_engine beyond lookup json",
+    "table": """latch_table/src/readers/seated.rt try_find
+        latch_table/src/writers/updates.rt begin step finish latch_table/src/writers/lookups.rt find
+        latch_table/src/meeting.rt meet latch_table/src/enlarging.rt enlarge
+        latch_table/src/adding.rt add_reader beyond headline steps""",
+    "weak": """latch_weak/src/laws.rt every_attempt_is_right generations_never_fall
+        attempts_without_flip_return own_processor_returns rising_loads_are_right
+        write_barriers_are_needed orders_of_loads_are_needed beyond headline steps""",
+    "library": """latchsym_ffi/src/catalogs.rt latchsym_catalog_open_nonnull latchsym_catalog_find
+        latchsym_ffi/src/lookups.rt latchsym_reader_try_find
+        latchsym_ffi/src/updates.rt latchsym_writer_step
+        beyond headline steps lookup json annotate table""",
+}
+
+# The list that names the definitions; the others name their files.
+NAMED = "headline"
+
+
 def parts_of(words):
-    """The words of a table by what they are for: its functions, each with its file, and those after `but` and `beyond`."""
+    """The words of a path by what they are for: its functions, each with its file, and those after `but` and `beyond`."""
     functions, after, kind, file = [], {"but": [], "beyond": []}, None, None
     for word in words:
         if word in after:
@@ -120,20 +140,6 @@ def rested_on(functions, but):
     return found
 
 
-def says(path):
-    """What a file of definitions is about: what specs/Lib.antt has above its name, or its own first comment."""
-    folder, stem = path.rsplit("/", 1)
-    with open(f"{folder}/Lib.antt", encoding="utf-8") as it:
-        found = re.search(rf"((?:^-- .*\n)+)pub mod {stem[:-5]}$", it.read(), re.MULTILINE)
-    with open(path, encoding="utf-8") as it:
-        found = found or re.match(r"((?:-- .*\n)+)", it.read())
-    lines = [it[3:] for it in found[1].splitlines()] if found else []
-    # (a line with a full stop there is about several files)
-    own = [it for it in lines if not it.endswith(".")] or lines
-    text = " ".join(own).split(". ")[0].rstrip(".")
-    return text[:1].lower() + text[1:]
-
-
 def in_order(found):
     """The files of these definitions, each behind those that it rests on."""
     files, done = {}, []
@@ -153,30 +159,41 @@ def in_order(found):
     return [(file, files[file]) for file in done]
 
 
-TABLES = {}
+def filled(text, indent=""):
+    """The text in lines, of which those after the first are indented."""
+    return textwrap.fill(text, 100, subsequent_indent=indent, break_long_words=False, break_on_hyphens=False)
 
 
-def listed(found):
-    """The files of these definitions as a list, each with how many it has; a crate is named once for its files in a row."""
+def stem_of(path):
+    """What a file of definitions is called in its crate."""
+    return path.rsplit("/", 1)[1][:-5]
+
+
+def files_of(found):
+    """The files of these definitions; a crate is named once for its files in a row."""
     runs = itertools.groupby(in_order(found), lambda it: it[0].split("/")[1])
-    files = lambda run: ", ".join(f"{path.rsplit('/', 1)[1][:-5]} {len(here)}" for path, here in run)
-    text = "; ".join(f"`{crate}` {files(run)}" for crate, run in runs)
-    whole = f"{len(found)} definitions in {sum(it.lines for it in found)} lines: {text}."
-    return textwrap.fill(whole, 100, break_long_words=False, break_on_hyphens=False)
+    return "; ".join(f"`{crate}` " + ", ".join(stem_of(path) for path, _ in run) for crate, run in runs)
 
 
-def table(name, is_brief, words):
-    """The table of a reading path, or its list."""
-    functions, but, beyond = parts_of(words)
-    found = TABLES[name] = rested_on(functions, but)
-    found = found.difference(*(TABLES[it] for it in beyond))
-    if is_brief:
-        return listed(found)
-    rows = [("Read", "About", "Definitions", "Lines"), ("---",) * 4]
-    for path, here in in_order(found):
-        rows.append((f"`{path[7:]}`", says(path), len(here), sum(it.lines for it in here)))
-    rows.append(("together", "", len(found), sum(it.lines for it in found)))
-    return "\n".join("| " + " | ".join(map(str, row)) + " |" for row in rows)
+def named_in(path, here, number):
+    """One file of a list, with its definitions in their order there."""
+    names = ", ".join(f"`{it.name}`" for it in sorted(here, key=lambda it: it.place))
+    start = f"{number}. "
+    return filled(f"{start}`{path.split('/')[1]}` {stem_of(path)}: {names}", " " * len(start))
+
+
+LISTS = {}
+
+
+def listed(name):
+    """The list of a reading path."""
+    functions, but, beyond = parts_of(PATHS[name].split())
+    found = LISTS[name] = rested_on(functions, but)
+    found = found.difference(*(LISTS[it] for it in beyond))
+    size = f"{len(found)} definitions in {sum(it.lines for it in found)} lines:"
+    if name != NAMED:
+        return filled(f"{size} {files_of(found)}.")
+    return "\n".join([size, *(named_in(*it, n) for n, it in enumerate(in_order(found), 1))])
 
 
 NUMBERS = {
@@ -186,9 +203,9 @@ NUMBERS = {
 
 
 def renewed(text):
-    """The text of a page with its tables and numbers made anew."""
-    of_table = r"(<!-- read (\w+)( by file)?: ([^>]*) -->\n\n)(?:.+\n)*"
-    text = re.sub(of_table, lambda it: f"{it[1]}{table(it[2], it[3], it[4].split())}\n", text)
+    """The text of a page with its lists and numbers made anew."""
+    of_list = r"(<!-- read (\w+) -->\n\n)(?:.+\n)*"
+    text = re.sub(of_list, lambda it: f"{it[1]}{listed(it[2])}\n", text)
     return re.sub(r"(<!-- ([a-z ]+) -->)[^<]*(<!-- -->)", lambda it: f"{it[1]}{NUMBERS[it[2]]}{it[3]}", text)
 
 
