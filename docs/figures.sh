@@ -182,6 +182,16 @@ def named_in(path, here, number):
     return filled(f"{start}`{path.split('/')[1]}` {stem_of(path)}: {names}", " " * len(start))
 
 
+def expect_order(found, but):
+    """Fails where one of these definitions, but for the words after `but`, comes before one that it names."""
+    met = set()
+    for path, here in in_order(found):
+        for it in sorted(here, key=lambda it: it.place):
+            if it.name not in but and not behind(it) <= met:
+                sys.exit(f"figures: {path} has {it.name} before a definition that it names")
+            met.add(it)
+
+
 LISTS = {}
 
 
@@ -193,6 +203,7 @@ def listed(name):
     size = f"{len(found)} definitions in {sum(it.lines for it in found)} lines:"
     if name != NAMED:
         return filled(f"{size} {files_of(found)}.")
+    expect_order(found, but)
     return "\n".join([size, *(named_in(*it, n) for n, it in enumerate(in_order(found), 1))])
 
 
