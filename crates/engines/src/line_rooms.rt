@@ -88,7 +88,7 @@ impl LineRoom {
 
     /// Puts a number in decimal in front, without leading zeros.
     #[inline]
-    fn before_decimal(&mut self, n: u64)
+    pub fn before_decimal(&mut self, n: u64)
         requires { length self.old + LONGEST_DECIMAL ≤ ROOM }
         ensures { IsPutBefore self.old self.new LONGEST_DECIMAL (decimal n) }
     {

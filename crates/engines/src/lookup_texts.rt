@@ -1,5 +1,5 @@
 //! The lines that a lookup of addresses writes, byte for byte, with no memory taken.
-ghost use Rattle.std.specs.Prelude.{◌++◌, codes, decimal, flat_map};
+ghost use Rattle.std.specs.Prelude.{◌≡◌, ◌++◌, codes, decimal, flat_map};
 ghost use Rattle.listing.specs.Exact.{Wrote};
 ghost use Rattle.engines.specs.AnswerForms.{line_by};
 ghost use Rattle.engines.specs.LookupTexts.{answer_line, causes_text, count_text};
@@ -46,14 +46,16 @@ fn expect_answers(finder: &mut SymbolFinder, rule: AddressRule, answers: &[Addre
     ensures { finder.new ≡ finder.old }
 {
     let mut asked = [(NO_ITEM, 0); MOST_EXPECTED];
-    let mut count = 0;
+    let mut count = 0usize;
     for answer in answers.iter().take(MOST_EXPECTED) {
         if let Some(sought) = sought(rule, answer) {
-            asked[count] = sought;
-            count += 1;
+            if let Some(slot) = asked.get_mut(count) {
+                *slot = sought;
+            }
+            count = count.saturating_add(1);
         }
     }
-    finder.expect(&asked[..count]);
+    finder.expect(&asked[..count.min(MOST_EXPECTED)]);
 }
 
 /// Stands where no item was found.

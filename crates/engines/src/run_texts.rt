@@ -2,18 +2,18 @@
 //!
 //! Many answers are gathered in memory before they are put on the writer at once. Memory that runs
 //! out for that fails no run: then the answers go to the writer piece by piece.
-ghost use Rattle.std.specs.Prelude.{◌++◌, ◌≡◌, IfOk, codes, decimal, flat_map, min};
+ghost use Rattle.std.specs.Prelude.{◌++◌, ◌+◌, ◌≡◌, IfOk, codes, decimal, flat_map, min};
 ghost use Rattle.std.specs.Prelude.{sum_by, vec_len};
 ghost use Rattle.std.specs.List.{zip};
-ghost use Rattle.listing.specs.Exact.{Wrote};
+ghost use Rattle.listing.specs.Exact.{Wrote, hexadecimal};
 ghost use Rattle.engines.specs.LookupTexts.{count_text};
 ghost use Rattle.engines.specs.RunTexts.{answered_text, answers_text, change_text};
 ghost use Rattle.engines.specs.RunTexts.{count_of_answers, refusals_text, run_text, totals_text};
 ghost use Rattle.engines.specs.RunTexts.{writer_text};
 
+use crate::line_rooms::LineRoom;
 use crate::lookup_texts::put_count;
-use crate::texts::put_decimal;
-use listing::{BLOCK, Counted, ModuleName, put, put_hexadecimal, write_answer};
+use listing::{BLOCK, Counted, ModuleName, put, write_answer};
 use modules::Catalog;
 use order_laws::Refusal;
 use shared_lookup::{Answer, Served};
@@ -179,13 +179,34 @@ fn put_answered<W: Write>(
 ) -> io::Result<()>
     ensures { Wrote W.contents writer.old writer.new result (answered_text catalog.now answer.now) }
 {
-    put_decimal(writer, u64::from(answer.reader) + 1)?;
-    put(writer, b" ")?;
-    put_hexadecimal(writer, answer.key)?;
-    put(writer, b" -> ")?;
+    put_asked(writer, answer.reader, answer.key)?;
     write_answer(writer, catalog, answer.item, answer.key)?;
-    put_count(writer, b" gen ", answer.generation)?;
-    put(writer, b"\n")
+    put_generation(writer, answer.generation)
+}
+
+/// Writes `R ADDR -> ` for the reader at this place, at once.
+fn put_asked<W: Write>(writer: &mut Counted<W>, reader: u32, key: u64) -> io::Result<()>
+    ensures { Wrote W.contents writer.old writer.new result
+        (decimal (reader + 1) ++ codes " " ++ hexadecimal key ++ codes " -> ") }
+{
+    let mut line = LineRoom::new();
+    line.before(b" -> ");
+    line.before_hexadecimal(key);
+    line.before(b" ");
+    line.before_decimal(u64::from(reader) + 1);
+    put(writer, line.line())
+}
+
+/// Writes ` gen J` and a line's end, at once.
+fn put_generation<W: Write>(writer: &mut Counted<W>, generation: u64) -> io::Result<()>
+    ensures { Wrote W.contents writer.old writer.new result
+        (count_text (codes " gen ") generation ++ codes "\n") }
+{
+    let mut line = LineRoom::new();
+    line.before(b"\n");
+    line.before_decimal(generation);
+    line.before(b" gen ");
+    put(writer, line.line())
 }
 
 /// How many answers there are in all lists; it stays at the greatest number.
