@@ -34,7 +34,8 @@ const LOG_PLACE: u64 = 3;
 /// taken.
 ///
 /// What is noted of the listings in these files is told to `errors` before the log is begun. Every
-/// fault that comes before that leaves the log, the writer and `errors` as they were. Of the log all that is decided is written, and the writer flushed, after each block that was read; so
+/// fault that comes before that leaves the log, the writer and `errors` as they were. Of the log
+/// all that is decided is written, and the writer flushed, after each block that was read; so
 /// whatever ends it, what was written is a beginning of the annotated log. docs/FORMATS.md has the
 /// listings, and says what is inserted.
 pub fn annotate_engine<M: Read, K: Read, R: Read, L: Read, E: Write, W: Write>(

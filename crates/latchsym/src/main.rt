@@ -1,18 +1,15 @@
 //! The program `latchsym`: a latched address tree, one word at a time.
 //!
-//! `latchsym trace [--steps] FILE` runs a trace in the step machine and writes what its lookups
-//! found, or what each of its steps did.
-//! `latchsym lookup --modules FILE --kallsyms FILE [--regions FILE] [--kernel START END]
-//! [--addresses FILE] [--callers] [--offset N] [--json] [--no-counts] [ADDR]..` says which module and
-//! which symbol hold an address; with `--modules-from-symbols` in place of `--modules` and `--regions` the symbols alone
-//! say where each module lies. `latchsym run --modules FILE --kallsyms FILE [--regions FILE]
-//! [--kernel START END] --readers N SCRIPT` does what a script says, each writer and each reader on
-//! a thread of its own. `latchsym annotate [--kallsyms FILE] [--modules FILE [--regions FILE]]
-//! [--kernel START END] [--callers] [--offset N] [LOG]` writes a log again, with the symbol behind
-//! each address. `latchsym check [--modules FILE [--regions FILE]] --kallsyms FILE
-//! [--kernel START END]` says what is wrong with listings, and how many of their lines are of use.
-//! `latchsym address [--kallsyms FILE] [--modules FILE [--regions FILE]] [--kernel START END] [--json]
-//! [--no-counts] NAME..` says where the symbols of these names are.
+//! - `trace` runs a trace in the step machine, and writes what its lookups found or, with
+//!   `--steps`, what each of its steps did
+//! - `lookup` says which module and which symbol hold an address, by listings of modules and of
+//!   symbols, or by symbols alone
+//! - `run` does what a script says, each writer and each reader on a thread of its own
+//! - `annotate` writes a log again, with the symbol after each address
+//! - `check` says what is wrong with listings, and how many of their lines are of use
+//! - `address` says where the symbols of some names are
+//!
+//! The options of each stand in `command_line`.
 //!
 //! What `trace`, `lookup` and `run` do stands in `engines`; what needs no table stands here.
 #![tactic(auto)]
@@ -84,9 +81,9 @@ fn answer<T: Threads + Wait + Sync>(
 }
 
 /// Does the job, and returns the program's status. The host that may start threads and wait for
-/// them is taken beside the one that reads and writes, since a script alone needs it. The engines of
-/// traces and of logs write blocks, so nothing gathers their output; for the others there is a buffer
-/// before anything is read.
+/// them is taken beside the one that reads and writes, since a script alone needs it. The engines
+/// of traces and of logs write blocks, so nothing gathers their output; for the others there is a
+/// buffer before anything is read.
 fn run<T: Threads + Wait + Sync>(
     rt: &HostRuntime,
     threads: &T,
