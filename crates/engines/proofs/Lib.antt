@@ -26,6 +26,8 @@ mod OpenedCatalogLemmas
 mod JsonLemmas
 -- digits in front of what stands in a room for a line
 mod LineRoomLemmas
+-- lines of events from their parts
+mod EventLineLemmas
 -- what is done and written of a trace whose steps are told, one event and one command after another
 mod StepLemmas
 -- the text of a trace whose commands are run one after another

@@ -3,7 +3,7 @@
 //! What is put in stands in front of what stands there already. So the digits of a number are
 //! written where they stay, the last one first, with none counted before and none copied after, and
 //! the whole line goes to a writer by one call: such a call costs more than the digits of a number.
-ghost use Rattle.std.specs.Prelude.{◌≡◌, ◌+◌, ◌≤◌, [], ◌++◌, decimal, length};
+ghost use Rattle.std.specs.Prelude.{◌≡◌, ◌+◌, ◌≤◌, [], ◌++◌, decimal, drop, length};
 ghost use Rattle.listing.specs.Exact.{hexadecimal};
 ghost use Rattle.engines.specs.Json.{json_number};
 ghost use Rattle.engines.specs.JsonTexts.{json_count};
@@ -60,6 +60,23 @@ impl LineRoom {
         &self.bytes[self.start..]
     }
 
+    /// Takes everything out.
+    #[inline]
+    pub fn clear(&mut self)
+        ensures { self.new ≡ [] }
+    {
+        self.start = ROOM;
+    }
+
+    /// Takes so many bytes from its front.
+    #[inline(always)]
+    pub fn drop_front(&mut self, count: usize)
+        requires { count ≤ length self.old }
+        ensures { self.new ≡ drop count self.old }
+    {
+        self.start += count;
+    }
+
     /// Puts bytes in front, for which there must be room.
     #[inline(always)]
     pub fn before(&mut self, text: &[u8])
@@ -72,7 +89,7 @@ impl LineRoom {
     }
 
     /// Puts a number of JSON in front: a text where a reader may round it.
-    #[inline]
+    #[inline(always)]
     pub fn before_number(&mut self, n: u64)
         requires { length self.old + LONGEST_NUMBER ≤ ROOM }
         ensures { IsPutBefore self.old self.new LONGEST_NUMBER (json_number n) }
@@ -87,7 +104,7 @@ impl LineRoom {
     }
 
     /// Puts a number in decimal in front, without leading zeros.
-    #[inline]
+    #[inline(always)]
     pub fn before_decimal(&mut self, n: u64)
         requires { length self.old + LONGEST_DECIMAL ≤ ROOM }
         ensures { IsPutBefore self.old self.new LONGEST_DECIMAL (decimal n) }

@@ -13,11 +13,11 @@ ghost use Rattle.latch_steps.specs.Quiet.{is_flip};
 ghost use Rattle.latch_steps.specs.WorldSteps.{is_refused_for_memory};
 ghost use Rattle.engines.specs.StepRuns.{EndsCommand, IsLoadBy, IsMostOf, IsTellFault, IsTold};
 ghost use Rattle.engines.specs.StepRuns.{IsWriteFault, StopsTelling, TellsCommand};
-ghost use Rattle.engines.specs.StepRuns.{TellsCommands, TellsEvent, takes_memory};
+ghost use Rattle.engines.specs.StepRuns.{TellsCommands, takes_memory};
 ghost use Rattle.engines.specs.StepTraces.{AnswersSteps, AnswersStepsIn};
 
 use crate::fault::Fault;
-use crate::step_texts::{EventPlace, put_event, put_opening};
+use crate::step_texts::{EventLine, EventPlace, put_event, put_opening};
 use crate::trace::layout_for;
 use latch_steps::{Command, Event, NextLoad, Reply, World};
 use listing::{Counted, NumberedTrace, read_numbered_trace};
@@ -78,8 +78,15 @@ fn tell_commands<O: TreeOrder<Key = u64>, W: Write>(
     ensures fault { IfErr result (StopsTelling O.order W.contents lines.now commands.now
         world.old writer.old writer.new) }
 {
+    let mut event_line = EventLine::new();
     for (place, command) in commands.iter().enumerate() {
-        tell_command(world, writer, line_at(lines, place), command)?;
+        tell_command(
+            world,
+            &mut event_line,
+            writer,
+            line_at(lines, place),
+            command,
+        )?;
     }
     Ok(())
 }
@@ -94,6 +101,7 @@ fn line_at(lines: &[u64], place: usize) -> u64
 /// Does the event of a command as often as the command says, and writes what each time did.
 fn tell_command<O: TreeOrder<Key = u64>, W: Write>(
     world: &mut World<O>,
+    event_line: &mut EventLine,
     writer: &mut Counted<W>,
     line: u64,
     command: &Command<u64>,
@@ -106,10 +114,10 @@ fn tell_command<O: TreeOrder<Key = u64>, W: Write>(
     let event = event_of(command)?;
     match command {
         Command::Begin(_) | Command::Start(_, _) => {
-            tell_once(world, writer, line, command, &event)
+            tell_once(world, event_line, writer, line, command, &event)
         }
         Command::Write(_) | Command::WriteFlip | Command::WriteEnd | Command::Read(_, _) => {
-            tell_repeated(world, writer, line, command, &event)
+            tell_repeated(world, event_line, writer, line, command, &event)
         }
     }
 }
@@ -117,6 +125,7 @@ fn tell_command<O: TreeOrder<Key = u64>, W: Write>(
 /// Does an event that takes memory, which its command does once, and writes what it did.
 fn tell_once<O: TreeOrder<Key = u64>, W: Write>(
     world: &mut World<O>,
+    event_line: &mut EventLine,
     writer: &mut Counted<W>,
     line: u64,
     command: &Command<u64>,
@@ -133,12 +142,13 @@ fn tell_once<O: TreeOrder<Key = u64>, W: Write>(
     if is_refused_for_memory(&reply) {
         return Err(Fault::Refused(Refusal::OutOfMemory));
     }
-    tell(world, writer, line, None, event, &reply)
+    tell(world, event_line, writer, line, None, event, &reply)
 }
 
 /// Does an event that takes no memory as often as its command says, and writes what each time did.
 fn tell_repeated<O: TreeOrder<Key = u64>, W: Write>(
     world: &mut World<O>,
+    event_line: &mut EventLine,
     writer: &mut Counted<W>,
     line: u64,
     command: &Command<u64>,
@@ -153,7 +163,9 @@ fn tell_repeated<O: TreeOrder<Key = u64>, W: Write>(
 {
     let most = most_of(world, command);
     for _turn in 0..most {
-        let reply = tell_event(world, writer, line, event)?;
+        let load = load_by(world, event);
+        let reply = world.step_from(event);
+        tell(world, event_line, writer, line, load, event, &reply)?;
         if ends(world, command, &reply) {
             break;
         }
@@ -161,28 +173,11 @@ fn tell_repeated<O: TreeOrder<Key = u64>, W: Write>(
     Ok(())
 }
 
-/// Does one event that takes no memory, and writes what it did.
-fn tell_event<O: TreeOrder<Key = u64>, W: Write>(
-    world: &mut World<O>,
-    writer: &mut Counted<W>,
-    line: u64,
-    event: &Event<u64>,
-) -> Result<Reply<u64>, Fault>
-    requires memory { takes_memory event.now ≡ false }
-    ensures told { IfOk result (TellsEvent O.order W.contents line event.now
-        world.old world.new writer.old writer.new) }
-    ensures none_failed { OnOk result (NoneFailed writer.old writer.new) }
-    ensures fault { IfErr result (IsWriteFault writer.old writer.new) }
-{
-    let load = load_by(world, event);
-    let reply = world.step_from(event);
-    tell(world, writer, line, load, event, &reply)?;
-    Ok(reply)
-}
-
 /// Writes what an event did that led to this world.
+#[inline(always)]
 fn tell<O: TreeOrder<Key = u64>, W: Write>(
     world: &World<O>,
+    event_line: &mut EventLine,
     writer: &mut Counted<W>,
     line: u64,
     load: Option<NextLoad<u64>>,
@@ -199,7 +194,7 @@ fn tell<O: TreeOrder<Key = u64>, W: Write>(
         line,
         sequence: world.sequence(),
     };
-    put_event(writer, place, load, event, reply).map_err(|_| Fault::Write)?;
+    put_event(event_line, writer, place, load, event, reply).map_err(|_| Fault::Write)?;
     Ok(())
 }
 
