@@ -62,6 +62,14 @@ impl Plan {
         (self.stores.len() - self.made) as u64
     }
 
+    /// The stores to be made, in their order.
+    #[inline(always)]
+    pub fn stores_left(&self) -> &[Store]
+        ensures { result.now ≡ self.now.stores_left }
+    {
+        &self.stores[self.made..]
+    }
+
     /// The store to be made next.
     #[inline(always)]
     pub fn next(&self) -> Option<Store>

@@ -2,7 +2,7 @@
 
 ghost use Rattle.std.specs.Prelude.{◌≡◌, false, ◌↔◌, ◌+◌, ◌*◌, ◌<◌, ◌≤◌, [], Some, None, ◌||◌};
 ghost use Rattle.std.specs.Prelude.{IsTrue, IsSome, IfSome, IfOk, IfErr, OnOk, OnErr, length};
-ghost use Rattle.std.specs.Prelude.{vec_len, vec_capacity, IfNone, OnSome};
+ghost use Rattle.std.specs.Prelude.{vec_len, vec_capacity, IfNone, OnSome, All};
 ghost use Rattle.order_laws.specs.Tables.{has, without_all};
 ghost use Rattle.word_layout.specs.declared.stores.Store.{Store};
 ghost use Rattle.word_layout.specs.Layouts.{capacity_of, limit_of};
@@ -482,6 +482,15 @@ impl<O: TreeOrder> WriterCore<O> {
         if store.word == 0 {
             self.sequence = store.value;
         }
+    }
+
+    /// The stores that are left, in the order in which they are made; each word lies in the memory.
+    #[inline(always)]
+    pub fn stores_left(&self) -> &[Store]
+        ensures are { result.now ≡ self.now.stores_left }
+        ensures within { All (λ s. s.word < words_for self.now.capacity) self.now.stores_left }
+    {
+        self.plan.stores_left()
     }
 
     /// How many stores are left until the pending update is at its end; 0 where none is pending.

@@ -11,7 +11,7 @@ ghost use Rattle.latch_table.specs.contracts.writers.Writer.{the_row};
 ghost use Rattle.latch_table.specs.Writers.{Begins, Refuses, Steps, Finishes, steps_left_of};
 ghost use Rattle.latch_table.specs.Writers.{shown_updates};
 
-use super::steps::take_update;
+use super::steps::{load_ahead, take_update};
 use super::{Did, InHand, Writer};
 use crate::rule::StoreWord;
 use latch_core::Update;
@@ -21,6 +21,7 @@ use std::marker::Brand;
 impl<O: TreeOrder> Writer<O> {
     /// Begins an update. Refused as [`WriterCore::begin`](latch_core::WriterCore::begin) refuses; a
     /// refusal changes nothing.
+    #[inline(always)]
     pub fn begin(&mut self, u: Update) -> Result<InHand<'_, O>, Refusal>
         ensures* rests { sem 𝓛 (RestsIfErr (the_row O.row O.Key.row O.TreeOrder O.Key.Clone)
             self.entry (λ h. h.writer.ghost_name) result (λ n. n ≡ self.old)) }
@@ -30,6 +31,7 @@ impl<O: TreeOrder> Writer<O> {
     {
         self.core.begin_from(&u)?;
         take_update::<O, Brand>(&self.table.shared, &mut self.seat, &u);
+        load_ahead::<O>(&self.table.shared, &mut self.seat, self.core.stores_left());
         Ok(InHand { writer: self })
     }
 
