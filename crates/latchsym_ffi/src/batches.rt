@@ -6,7 +6,7 @@ ghost use Rattle.latchsym_ffi.specs.Batches.{told_at, told_of};
 ghost use Rattle.latchsym_ffi.specs.Finding.{shown_seen};
 
 use crate::finding::{CatalogAnswer, Seen, description_of, seek_next};
-use modules::{Catalog, Finder, IndexedCatalog};
+use modules::{Catalog, Finder, IndexedCatalog, MOST_EXPECTED};
 
 /// What is told of one of several addresses: what a search for it alone tells, and the number that
 /// this returns.
@@ -35,7 +35,9 @@ pub(crate) fn tell_all(catalog: &IndexedCatalog<'static>, addrs: &[u64], out: &m
 {
     let mut finder = Finder::new(catalog);
     for place in 0..addrs.len() {
-        finder.expect(&addrs[place..]);
+        if place % MOST_EXPECTED == 0 {
+            finder.expect(&addrs[place..]);
+        }
         out[place] = told(catalog.catalog(), seek_next(&mut finder, addrs[place]));
     }
 }

@@ -1,12 +1,20 @@
 -- For which addresses the same is found as was found last.
 use Rattle.std.specs.Prelude.{◌≡◌, ℕ, ◌-◌, ◌<◌, ◌≤◌, Some}
-use Rattle.modules.specs.Entries.{CatalogEntries}
+use Rattle.order_laws.specs.declared.items.Item.{Item}
+use Rattle.modules.specs.Catalogs.{module_of}
+use Rattle.modules.specs.Entries.{CatalogEntries, ModuleEntry}
 use Rattle.modules.specs.Found.{symbol_at}
 use Rattle.modules.specs.Items.{item_of_address}
 use Rattle.modules.specs.declared.finder.LastFound.{LastFound}
 
+-- each address of the item lies in it alone, and it is a region of this module
+pub record IsRegionOf (c : CatalogEntries) (item : Item) (m : ModuleEntry) : Type 0 where
+  pub items : (x : ℕ) → item.a ≤ x → x < item.b → item_of_address c x ≡ Some item
+  pub owner : module_of c item.tag ≡ Some m
+
 -- each address of this stretch lies in the item and belongs to the symbol
 pub record IsSameWithin (c : CatalogEntries) (l : LastFound) : Type 0 where
+  pub region : IsRegionOf c l.item l.owner.now
   pub above : (x : ℕ) → l.from ≤ x → l.symbol.now.addr ≤ x
   pub items : (x : ℕ) → l.from ≤ x → x < l.to → item_of_address c x ≡ Some l.item
   pub symbols : (x : ℕ) → l.from ≤ x → x < l.to

@@ -1,26 +1,45 @@
 //! Addresses that are sought one after another, where it is known which come next.
 
-ghost use Rattle.std.specs.Prelude.{◌≡◌, Some};
-ghost use Rattle.std.specs.Option.{option_map};
+ghost use Rattle.std.specs.Prelude.{◌≡◌, ◌≤◌, ◌<◌, Some, IfSome};
+ghost use Rattle.std.specs.Option.{option_copied, option_map};
+ghost use Rattle.modules.specs.Catalogs.{module_of};
 ghost use Rattle.modules.specs.Found.{symbol_at};
 ghost use Rattle.modules.specs.Items.{item_of_address};
-ghost use Rattle.modules.specs.Again.{IsSameWithin};
+ghost use Rattle.modules.specs.Again.{IsRegionOf, IsSameWithin};
 
-use crate::found_symbols::{FoundSymbol, symbol_near};
+use crate::found_symbols::{FoundSymbol, symbol_around};
 use crate::guesses::Guesses;
+use crate::module::Module;
 use crate::region_index::IndexedCatalog;
 use crate::symbols::Symbol;
 use order_laws::Item;
 use std::marker::Model;
 
-/// What was found last, from which address on the same is found, and up to which.
+/// What was found last, in which module, from which address on the same is found, and up to which.
 #[derive(Clone, Copy, Drop)]
 struct LastFound<'c, 'a> {
     item: Item,
+    owner: &'c Module<'a>,
     symbol: &'c Symbol<'a>,
     size: u64,
     from: u64,
     to: u64,
+}
+
+/// The module of the region that an address lies in, if there is one.
+#[inline(always)]
+fn owner_of<'c, 'a>(
+    catalog: &'c IndexedCatalog<'a>,
+    item: Item,
+    addr: u64,
+) -> Option<&'c Module<'a>>
+    requires { item_of_address catalog.now addr ≡ Some item }
+    ensures owner { option_copied result ≡ module_of catalog.now item.tag }
+    ensures region { IfSome result (λ m. IsRegionOf catalog.now item m.now) }
+{
+    let catalog = catalog.catalog();
+    catalog.stays_sound();
+    catalog.module(item.tag)
 }
 
 /// Where the same is found as for an address.
@@ -28,17 +47,20 @@ fn same_within<'c, 'a>(
     catalog: &'c IndexedCatalog<'a>,
     addr: u64,
     item: Item,
+    owner: &'c Module<'a>,
     found: &FoundSymbol<'c, 'a>,
 ) -> LastFound<'c, 'a>
-    requires item { item_of_address catalog.now addr ≡ Some item }
+    requires region { IsRegionOf catalog.now item owner.now }
+    requires from { item.a ≤ addr }
+    requires below { addr < item.b }
     requires symbol { symbol_at catalog.now item addr ≡ Some found.now }
     ensures { IsSameWithin catalog.now result }
 {
-    catalog.catalog().stays_sound();
     let symbol = found.symbol;
     let start = symbol.addr;
     LastFound {
         item,
+        owner,
         symbol,
         size: found.size,
         from: start.max(item.a),
@@ -81,12 +103,18 @@ impl<'c, 'a> Finder<'c, 'a> {
         }
     }
 
-    /// Tells it the addresses that come next, which costs no more than a comparison where it knows
-    /// the next one.
+    /// Tells it all addresses that come next. It makes ready for [`MOST_EXPECTED`] of them, and
+    /// where it still knows the next one this costs no more than a comparison.
+    ///
+    /// [`MOST_EXPECTED`]: crate::MOST_EXPECTED
+    #[inline(never)]
     pub fn expect(&mut self, addrs: &[u64])
         ensures { self.new ≡ self.old }
     {
         self.guesses.renew(self.catalog, addrs);
+        if let Some(last) = &self.last {
+            self.guesses.read_ahead(last.owner, last.item.b, addrs);
+        }
     }
 
     /// The region that an address lies in, and the symbol that it belongs to, if there is one.
@@ -106,11 +134,36 @@ impl<'c, 'a> Finder<'c, 'a> {
                 };
                 return Some((last.item, Some(found)));
             }
+            if self.guesses.are_rising() && last.item.a <= addr && addr < last.item.b {
+                return Some((last.item, self.find_in(last.item, last.owner, addr)));
+            }
         }
         self.seek(addr)
     }
 
-    /// The same, where it is not what was found last.
+    /// The symbol of an address in the region that was found last.
+    #[inline(always)]
+    fn find_in(
+        &mut self,
+        item: Item,
+        owner: &'c Module<'a>,
+        addr: u64,
+    ) -> Option<FoundSymbol<'c, 'a>>
+        requires region { IsRegionOf self.old item owner.now }
+        requires from { item.a ≤ addr }
+        requires below { addr < item.b }
+        ensures stays { self.new ≡ self.old }
+        ensures found { result ≡ symbol_at self.old item addr }
+    {
+        let place = self.guesses.next_in(owner, addr);
+        let found = symbol_around(owner, place, item.a, item.b, addr);
+        if let Some(found) = &found {
+            self.last = Some(same_within(self.catalog, addr, item, owner, found));
+        }
+        found
+    }
+
+    /// The same, where it is not in the region that was found last.
     fn seek(&mut self, addr: u64) -> Option<(Item, Option<FoundSymbol<'c, 'a>>)>
         ensures stays { self.new ≡ self.old }
         ensures found { result
@@ -119,10 +172,13 @@ impl<'c, 'a> Finder<'c, 'a> {
         let catalog = self.catalog;
         let guess = self.guesses.next(catalog, addr);
         let item = catalog.find_near(guess.region, addr)?;
-        let found = symbol_near(catalog.catalog(), item, guess.place, addr);
+        let Some(owner) = owner_of(catalog, item, addr) else {
+            return Some((item, None));
+        };
+        let found = symbol_around(owner, guess.place, item.a, item.b, addr);
         if self.guesses.are_rising() {
             if let Some(found) = &found {
-                self.last = Some(same_within(catalog, addr, item, found));
+                self.last = Some(same_within(catalog, addr, item, owner, found));
             }
         }
         Some((item, found))

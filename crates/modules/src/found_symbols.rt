@@ -42,7 +42,7 @@ pub fn symbol_in<'c, 'a>(
 
 /// The same, tried first at a place by rising address.
 #[inline(always)]
-fn symbol_around<'c, 'a>(
+pub(crate) fn symbol_around<'c, 'a>(
     owner: &'c Module<'a>,
     near: usize,
     start: u64,

@@ -10,7 +10,9 @@
 //! ```
 //!
 //! Where the addresses rise, each is sought among the few symbols from the place of the one before
-//! it on: what lies near was brought near by the one before.
+//! it on: what lies near was brought near by the one before. The symbols of a module stand in
+//! another order than its index, so where many of the addresses lie in it, they are read through
+//! first as they stand.
 //!
 //! Whoever uses a guess compares it with what lies there: no contract rests on it.
 
@@ -127,11 +129,10 @@ pub(crate) fn guess_places(catalog: &Catalog, asked: &[(Item, u64)], places: &mu
     }
 }
 
-/// The guess of an address that lies not far above that of another guess.
-fn next_to(catalog: &IndexedCatalog, last: Guess, addr: u64) -> Guess {
-    let region = catalog.region_near(last.region, addr);
+/// The guess of an address, whose region is tried first where another guess has it.
+fn guess_near(catalog: &IndexedCatalog, region: usize, addr: u64) -> Guess {
+    let region = catalog.region_near(region, addr);
     let place = match catalog.module_at(region) {
-        Some(module) if region == last.region => module.place_from::<8>(last.place, addr),
         Some(module) => module.place_of(addr),
         None => 0,
     };
@@ -146,6 +147,8 @@ pub(crate) struct Guesses {
     taken: usize,
     rising: bool,
     last: Guess,
+    /// Whether the symbols of the last one's module were read through.
+    is_read: bool,
 }
 
 impl Guesses {
@@ -156,6 +159,7 @@ impl Guesses {
             taken: TURNS,
             rising: false,
             last: Guess::FIRST,
+            is_read: false,
         }
     }
 
@@ -169,6 +173,18 @@ impl Guesses {
         self.rising = addrs.is_sorted_by(|x, y| x <= y);
         if !self.rising {
             self.guess_all(catalog, addrs);
+        }
+    }
+
+    /// Reads through the symbols of the last one's module, where at least a quarter as many of the
+    /// addresses that come next lie in its region, which ends at `end`.
+    pub(crate) fn read_ahead(&mut self, module: &Module, end: u64, addrs: &[u64]) {
+        if !self.rising || self.is_read {
+            return;
+        }
+        let many = module.symbols().len() / 4;
+        if addrs.get(many).is_some_and(|addr| *addr < end) {
+            self.is_read = module.read_through(end);
         }
     }
 
@@ -197,12 +213,21 @@ impl Guesses {
         let place = self.taken;
         self.pass();
         if self.rising {
-            self.last = next_to(catalog, self.last, addr);
+            self.last = guess_near(catalog, self.last.region, addr);
+            self.is_read = false;
             return self.last;
         }
         match self.all.get(place) {
             Some(guess) => *guess,
-            None => catalog.guess(addr),
+            None => guess_near(catalog, 0, addr),
         }
+    }
+
+    /// The next, which is of this address: its place in the module of the one before.
+    #[inline(always)]
+    pub(crate) fn next_in(&mut self, module: &Module, addr: u64) -> usize {
+        self.pass();
+        self.last.place = module.place_from::<4>(self.last.place, addr);
+        self.last.place
     }
 }

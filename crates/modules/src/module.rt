@@ -243,6 +243,7 @@ impl<'a> Module<'a> {
     }
 
     /// The same as `around`, tried first at a place by rising address.
+    #[inline(always)]
     pub(crate) fn around_near(&self, near: usize, addr: u64) -> (Option<&Symbol<'a>>, Option<u64>)
         ensures below { option_copied result.0 ≡ symbol_below self.now.symbols addr }
         ensures above { result.1 ≡ address_above self.now.symbols addr }
@@ -264,6 +265,7 @@ impl<'a> Module<'a> {
 
     /// The same, where the symbols below a place are not above the address, and the one that is
     /// sought is one of the next `N`, or else where it is sought from anew.
+    #[inline(always)]
     pub(crate) fn place_from<const N: usize>(&self, from: usize, addr: u64) -> usize {
         let place = match &self.by_address {
             Some(index) => place_near::<IndexEntry, N>(index.as_slice(), from, addr),
@@ -278,6 +280,20 @@ impl<'a> Module<'a> {
     /// From which place on the first symbol above the address is to be sought.
     pub(crate) fn start_of(&self, addr: u64) -> usize {
         self.buckets.start_of(addr)
+    }
+
+    /// Reads every symbol as it stands, which brings it near, where there is an index of them.
+    /// Returns whether one lies below an address.
+    #[inline(never)]
+    pub(crate) fn read_through(&self, addr: u64) -> bool {
+        if self.by_address.is_none() {
+            return false;
+        }
+        let mut below = 0usize;
+        for symbol in self.symbols.as_slice() {
+            below = below.wrapping_add(usize::from(symbol.addr < addr));
+        }
+        below > 0
     }
 
     /// Whether the symbol of the entry below a place in the index is not above the address. Where

@@ -18,7 +18,6 @@ ghost use Rattle.modules.specs.Items.{item_of_address};
 
 use crate::buckets::{Addressed, Buckets};
 use crate::catalog::Catalog;
-use crate::guesses::Guess;
 use crate::module::Module;
 use crate::regions::Region;
 use order_laws::Item;
@@ -179,15 +178,5 @@ impl<'a> IndexedCatalog<'a> {
     /// The module of the region at a place, if there is one.
     pub(crate) fn module_at(&self, region: usize) -> Option<&Module<'a>> {
         self.catalog.module(self.items.get(region)?.tag)
-    }
-
-    /// Where an address may lie.
-    pub(crate) fn guess(&self, addr: u64) -> Guess {
-        let region = self.region_near(0, addr);
-        let place = match self.module_at(region) {
-            Some(module) => module.place_of(addr),
-            None => 0,
-        };
-        Guess { region, place }
     }
 }

@@ -99,6 +99,7 @@ fn symbol_at<'s, 'a>(symbols: &'s [Symbol<'a>], place: usize) -> Option<&'s Symb
 }
 
 /// The symbols around an address, as an index has them.
+#[inline(always)]
 pub(crate) fn around_in_index<'s, 'a>(
     symbols: &'s [Symbol<'a>],
     index: &[IndexEntry],
@@ -155,18 +156,43 @@ fn back_from(symbols: &[Symbol], place: usize, addr: u64) -> usize {
     first
 }
 
+/// How many symbols are below the address, where the one at a place has it and another before it.
+#[cold]
+#[inline(never)]
+fn first_far(symbols: &[Symbol], place: usize, addr: u64) -> usize
+    requires { IsRising symbols.now }
+    ensures { IsFirstOf symbols.now addr result }
+{
+    let near = back_from(symbols, place, addr);
+    first_near(symbols, near, addr)
+}
+
+/// The same, where the one at a place has it and mostly no other.
+#[inline(always)]
+fn first_back(symbols: &[Symbol], place: usize, addr: u64) -> usize
+    requires { IsRising symbols.now }
+    ensures { IsFirstOf symbols.now addr result }
+{
+    if is_first(symbols, place, addr) {
+        place
+    } else {
+        first_far(symbols, place, addr)
+    }
+}
+
 /// The place of the first symbol that has the address of the one at a place.
+#[inline(always)]
 fn first_of_equal(symbols: &[Symbol], place: usize) -> usize
     requires rising { IsRising symbols.now }
     requires within { place < length symbols.now }
     ensures { IsFirstAt symbols.now place result }
 {
     let symbol = &symbols[place];
-    let near = back_from(symbols, place, symbol.addr);
-    first_near(symbols, near, symbol.addr)
+    first_back(symbols, place, symbol.addr)
 }
 
 /// The symbols around an address, where they stand by rising address.
+#[inline(always)]
 fn around_as_listed<'s, 'a>(
     symbols: &'s [Symbol<'a>],
     near: usize,
@@ -248,6 +274,7 @@ fn around_in_any_order<'s, 'a>(
 }
 
 /// The symbols around an address, which stand by rising address where that is said.
+#[inline(always)]
 pub(crate) fn around_in_list<'s, 'a>(
     symbols: &'s [Symbol<'a>],
     rising: bool,

@@ -10,4 +10,4 @@ returns c = λ (d : SymbolEntry).
     let place : ℕ = c.args.place in
     let t : SymbolEntry = c.index-symbols-place.result in
     let addr : c.symbol.inside.addr ≡ (get_or symbols place d).addr = ap (λ (e : SymbolEntry). e.addr) (c.symbol.view_is ∙ c.index-symbols-place.is ∙ get_or_default symbols place t d c.requires.within) in
-    subst (λ a. IsFirstOf symbols a c.first_near.result) addr c.first_near.ensures
+    subst (λ a. IsFirstOf symbols a c.first_back.result) addr c.first_back.ensures
