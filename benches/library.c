@@ -4,16 +4,21 @@
  *
  * FOLDER has modules.txt, kallsyms.txt and addr.100000. libbcc reads /proc/kallsyms, so that has to
  * be the folder's (library.sh binds it in a mount namespace of its own). Each round opens the
- * listings with both and looks all addresses up with both, by turns: with the names copied into the
- * caller's room by both, and without copies; and then 1,000,000 addresses near these, unsorted and
- * sorted, in one call of ours and in a loop of theirs. Prints the medians of the rounds' ratios. */
+ * listings with both, ours over the mapped files, and looks all addresses up with both, by turns:
+ * with the names copied into the caller's room by both, and without copies; and then 1,000,000
+ * addresses near these, unsorted and sorted, in one call of ours and in a loop of theirs. Prints the
+ * medians of the rounds' ratios. */
 #define _GNU_SOURCE
 #include <bcc/bcc_syms.h>
+#include <fcntl.h>
 #include <latchsym.h>
 #include <stdio.h>
 #include <stdlib.h>
 #include <string.h>
+#include <sys/mman.h>
+#include <sys/stat.h>
 #include <time.h>
+#include <unistd.h>
 
 enum { MOST_ADDRESSES = 100000, MANY = 1000000, MOST_ROUNDS = 101, NAME = 4096, MODULE = 256 };
 
@@ -29,27 +34,28 @@ static double now(void) {
     return t.tv_sec + t.tv_nsec / 1e9;
 }
 
-static uint8_t *read_file(const char *folder, const char *file, size_t *len) {
+/* The bytes of a file, which stay in memory as they lie in the system's. */
+static uint8_t *map_file(const char *folder, const char *file, size_t *len) {
     char path[4096];
     snprintf(path, sizeof path, "%s/%s", folder, file);
-    FILE *f = fopen(path, "rb");
-    if (!f) { perror(path); exit(1); }
-    fseek(f, 0, SEEK_END);
-    *len = ftell(f);
-    rewind(f);
-    uint8_t *bytes = malloc(*len + 1);
-    if (!bytes || fread(bytes, 1, *len, f) != *len) exit(1);
-    fclose(f);
+    struct stat about;
+    int f = open(path, O_RDONLY);
+    if (f < 0 || fstat(f, &about)) { perror(path); exit(1); }
+    *len = about.st_size;
+    uint8_t *bytes = mmap(NULL, *len, PROT_READ, MAP_PRIVATE, f, 0);
+    if (bytes == MAP_FAILED) { perror(path); exit(1); }
+    close(f);
     return bytes;
 }
 
 static void read_addresses(const char *folder) {
-    size_t len;
-    char *text = (char *)read_file(folder, "addr.100000", &len);
-    text[len] = 0;
-    for (char *word = strtok(text, "\n"); word && count < MOST_ADDRESSES; word = strtok(NULL, "\n"))
-        addresses[count++] = strtoull(word, NULL, 16);
-    free(text);
+    char path[4096], line[64];
+    snprintf(path, sizeof path, "%s/addr.100000", folder);
+    FILE *f = fopen(path, "r");
+    if (!f) { perror(path); exit(1); }
+    while (count < MOST_ADDRESSES && fgets(line, sizeof line, f))
+        addresses[count++] = strtoull(line, NULL, 16);
+    fclose(f);
 }
 
 /* What ours find, with copies of the names: the offset and the length, so that no call can be left
@@ -160,8 +166,8 @@ int main(int argc, char **argv) {
         struct latchsym_counts counts;
         uint64_t bad_line;
         double start = now();
-        uint8_t *modules = read_file(argv[1], "modules.txt", &modules_len);
-        uint8_t *kallsyms = read_file(argv[1], "kallsyms.txt", &kallsyms_len);
+        uint8_t *modules = map_file(argv[1], "modules.txt", &modules_len);
+        uint8_t *kallsyms = map_file(argv[1], "kallsyms.txt", &kallsyms_len);
         listings.modules = (struct latchsym_place){modules, modules_len};
         listings.kallsyms = (struct latchsym_place){kallsyms, kallsyms_len};
         listings.has_modules = 1;
@@ -184,8 +190,8 @@ int main(int argc, char **argv) {
                 1e9 * mine / count, 1e9 * theirs / count, 1e9 * all / MANY, 1e9 * in_order / MANY);
         bcc_free_symcache(cache, -1);
         latchsym_catalog_close(&catalog);
-        free(modules);
-        free(kallsyms);
+        munmap(modules, modules_len);
+        munmap(kallsyms, kallsyms_len);
     }
     printf("open %.2f, find with copies %.2f, without %.2f, many in one call %.2f, sorted %.2f "
            "times libbcc's time\n",

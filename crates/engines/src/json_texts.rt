@@ -19,7 +19,7 @@ use listing::{
     AddressRule, Cause, Counted, Counts, ModuleCounts, SkippedModule, SkippedSymbol, SymbolCounts,
     put, put_hexadecimal,
 };
-use modules::{BuildCounts, Catalog, FoundSymbol, KeptCounts, symbol_in};
+use modules::{BuildCounts, FoundSymbol, KeptCounts, SymbolFinder};
 use order_laws::Item;
 use std::io;
 use std::io::Write;
@@ -27,15 +27,16 @@ use std::io::Write;
 /// Writes the object of an address, for addresses that are taken by this rule.
 pub fn put_json_answer<W: Write>(
     writer: &mut Counted<W>,
-    catalog: &Catalog,
+    finder: &mut SymbolFinder,
     rule: AddressRule,
     answer: &AddressAnswer,
 ) -> io::Result<()>
-    ensures { Wrote W.contents writer.old writer.new result
-        (json_line catalog.now rule answer.now) }
+    ensures stays { finder.new ≡ finder.old }
+    ensures wrote { Wrote W.contents writer.old writer.new result
+        (json_line finder.old rule answer.now) }
 {
     put_address_member(writer, answer.addr)?;
-    put_members(writer, catalog, rule, answer.item, answer.addr)?;
+    put_members(writer, finder, rule, answer.item, answer.addr)?;
     put(writer, b"}\n")
 }
 
@@ -51,16 +52,17 @@ pub fn put_address_member<W: Write>(writer: &mut Counted<W>, addr: u64) -> io::R
 /// Writes what is known of an address, where the item was found for the one that is looked up.
 fn put_members<W: Write>(
     writer: &mut Counted<W>,
-    catalog: &Catalog,
+    finder: &mut SymbolFinder,
     rule: AddressRule,
     item: Option<Item>,
     addr: u64,
 ) -> io::Result<()>
-    ensures { Wrote W.contents writer.old writer.new result
-        (members_by catalog.now rule item addr) }
+    ensures stays { finder.new ≡ finder.old }
+    ensures wrote { Wrote W.contents writer.old writer.new result
+        (members_by finder.old rule item addr) }
 {
     match rule.place_of(addr) {
-        Some(place) => put_found(writer, catalog, item, place, before(rule)),
+        Some(place) => put_found(writer, finder, item, place, before(rule)),
         None => Ok(()),
     }
 }
@@ -75,18 +77,19 @@ fn before(rule: AddressRule) -> u64
 /// Writes what is known of an address, told of one that lies `before` bytes farther on.
 fn put_found<W: Write>(
     writer: &mut Counted<W>,
-    catalog: &Catalog,
+    finder: &mut SymbolFinder,
     item: Option<Item>,
     addr: u64,
     before: u64,
 ) -> io::Result<()>
     requires near { before ≤ 1 }
-    ensures { Wrote W.contents writer.old writer.new result
-        (found_members catalog.now item before addr) }
+    ensures stays { finder.new ≡ finder.old }
+    ensures wrote { Wrote W.contents writer.old writer.new result
+        (found_members finder.old item before addr) }
 {
     match item {
         Some(item) if item.a <= addr && addr < item.b => {
-            put_held(writer, catalog, item, addr, before)
+            put_held(writer, finder, item, addr, before)
         }
         _ => Ok(()),
     }
@@ -95,7 +98,7 @@ fn put_found<W: Write>(
 /// Writes what is known of an address that the item holds.
 fn put_held<W: Write>(
     writer: &mut Counted<W>,
-    catalog: &Catalog,
+    finder: &mut SymbolFinder,
     item: Item,
     addr: u64,
     before: u64,
@@ -103,13 +106,14 @@ fn put_held<W: Write>(
     requires from { item.a ≤ addr }
     requires below { addr < item.b }
     requires near { before ≤ 1 }
-    ensures { Wrote W.contents writer.old writer.new result
-        (held_members catalog.now item before addr) }
+    ensures stays { finder.new ≡ finder.old }
+    ensures wrote { Wrote W.contents writer.old writer.new result
+        (held_members finder.old item before addr) }
 {
-    let Some(module) = catalog.module(item.tag) else {
+    let Some(module) = finder.catalog().module(item.tag) else {
         return Ok(());
     };
-    match symbol_in(module, item.a, item.b, addr) {
+    match finder.find(item, addr) {
         Some(found) => {
             put_found_symbol(writer, &found, before)?;
             put_module(writer, item.tag, module.name())

@@ -86,7 +86,7 @@ fn put_line<W: Write>(
         (line_by form finder.old rule answer.now) }
 {
     if form.json {
-        put_json_answer(writer, finder.catalog(), rule, answer)
+        put_json_answer(writer, finder, rule, answer)
     } else {
         put_answer(writer, finder, rule, answer)
     }

@@ -1,7 +1,7 @@
 //! Why a measure came to nothing.
 
 use order_laws::Refusal;
-use std::alloc::AllocError;
+use std::alloc::{AllocError, AllocFailed};
 use std::io;
 
 /// The table refused an update or its opening, or a device failed.
@@ -20,6 +20,12 @@ impl From<Refusal> for MeasureFault {
 impl From<AllocError> for MeasureFault {
     fn from(error: AllocError) -> MeasureFault {
         MeasureFault::Refused(Refusal::from(error))
+    }
+}
+
+impl<T: Drop> From<AllocFailed<T>> for MeasureFault {
+    fn from(_failed: AllocFailed<T>) -> MeasureFault {
+        MeasureFault::Refused(Refusal::OutOfMemory)
     }
 }
 

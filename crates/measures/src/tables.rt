@@ -24,7 +24,7 @@ pub struct Measured {
     pub ranges: Vec<Item>,
     pub writer: Writer<HalfOpen>,
     pub readers: Vec<Reader<HalfOpen>>,
-    /// The bytes of memory that the table took, an item.
+    /// The bytes of memory that such a table takes, an item.
     pub bytes: f64,
 }
 
@@ -41,6 +41,30 @@ fn build(
         writer.begin(Update::Insert(*range))?.finish();
     }
     Ok((writer, readers))
+}
+
+/// So many items at least are built to tell how much memory a table takes: the system tells it in
+/// whole pages, which are much of one small table.
+const ITEMS_WEIGHED: u32 = 65536;
+
+/// The bytes an item that tables take which are built as this one, all at once.
+fn weigh<R: Files + AllocGlobal>(
+    rt: &R,
+    items: u32,
+    order: &[Item],
+    readers: u32,
+) -> Result<f64, MeasureFault>
+    requires { 0 < items }
+{
+    let count = (ITEMS_WEIGHED / items).max(1);
+    let before = resident(rt);
+    let mut tables = Vec::new(rt.alloc());
+    for _ in 0..count {
+        tables.push(build(rt.alloc(), items, order, readers)?)?;
+    }
+    let bytes = resident(rt).saturating_sub(before);
+    let all = u64::from(items).saturating_mul(u64::from(count));
+    Ok(nearest_u64_to_f64(bytes) / nearest_u64_to_f64(all))
 }
 
 /// A table of so many items, with so many readers and at least one.
@@ -60,9 +84,8 @@ pub fn prepare<R: Files + AllocGlobal>(
     let ranges = ranges(rt.alloc(), &mut random, items)?;
     let mut order = ranges.to_vec(rt.alloc())?;
     shuffle(&mut random, &mut order);
-    let before = resident(rt);
+    let bytes = weigh(rt, items, &order, readers.max(1))?;
     let (writer, readers) = build(rt.alloc(), items, &order, readers.max(1))?;
-    let bytes = nearest_u64_to_f64(resident(rt).saturating_sub(before)) / items as f64;
     Ok(Measured {
         ranges,
         writer,
