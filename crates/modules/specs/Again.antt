@@ -18,4 +18,8 @@ pub record IsSameWithin (c : CatalogEntries) (l : LastFound) : Type 0 where
   pub above : (x : ℕ) → l.from ≤ x → l.symbol.now.addr ≤ x
   pub items : (x : ℕ) → l.from ≤ x → x < l.to → item_of_address c x ≡ Some l.item
   pub symbols : (x : ℕ) → l.from ≤ x → x < l.to
-      → symbol_at c l.item x ≡ Some (record { symbol = l.symbol.now; offset = x - l.symbol.now.addr; size = l.size })
+      → symbol_at c l.item x ≡ Some (record {
+        symbol = l.symbol.now;
+        offset = x - l.symbol.now.addr;
+        size = l.size;
+      })

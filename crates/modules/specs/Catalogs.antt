@@ -73,8 +73,8 @@ entries_of c = option_to_list c.built_in ++ c.modules
 abbrev pub regions_of : CatalogEntries → List (ℕ × ℕ)
 regions_of c = flat_map (λ m. m.regions) (entries_of c)
 
--- each module has a region of its core, all regions have addresses and lie apart, and no two modules
--- from number 1 on have one name
+-- each module has a region of its core, all regions have addresses and lie apart, and no two
+-- modules from number 1 on have one name
 pub record IsSoundCatalog (c : CatalogEntries) : Type 0 where
   pub placed : All (λ m. IsPlaced (placed_module_of m)) (entries_of c)
   pub apart : AreApart (regions_of c)

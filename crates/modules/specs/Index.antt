@@ -53,7 +53,8 @@ pub record IsFirstOf (symbols : List SymbolEntry) (addr place : ℕ) : Type 0 wh
       → addr ≤ (slice_index_or symbols k d).addr
 
 -- what stands before the place is by its measure below the address, and what stands at it is not
-pub record IsFirstBorder {A : Type 0} (measure : A → ℕ) (xs : List A) (addr place : ℕ) : Type 0 where
+pub record IsFirstBorder {A : Type 0} (measure : A → ℕ) (xs : List A) (addr place : ℕ)
+    : Type 0 where
   pub bound : place ≤ length xs
   pub below : (d : A) → 0 < place → measure (slice_index_or xs (place - 1) d) < addr
   pub others : (d : A) → place < length xs → addr ≤ measure (slice_index_or xs place d)

@@ -183,8 +183,8 @@ impl<'a> Catalog<'a> {
         Catalog::build_for(alloc, names, modules, regions, symbols, Asked::Any)
     }
 
-    /// The same catalog, for a caller that says which addresses it asks about: a module in which few
-    /// of them lie is built in less time, and each search of it takes more.
+    /// The same catalog, for a caller that says which addresses it asks about: a module in which
+    /// few of them lie is built in less time, and each search of it takes more.
     pub fn build_for(
         alloc: Global,
         names: &KernelBounds,

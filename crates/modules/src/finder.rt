@@ -103,8 +103,8 @@ impl<'c, 'a> Finder<'c, 'a> {
         }
     }
 
-    /// Tells it all addresses that come next. It makes ready for [`MOST_EXPECTED`] of them, and
-    /// where it still knows the next one this costs no more than a comparison.
+    /// Tells it all addresses that come next. It makes ready for [`MOST_EXPECTED`] of them, and is
+    /// to be told again after so many.
     ///
     /// [`MOST_EXPECTED`]: crate::MOST_EXPECTED
     #[inline(never)]
@@ -113,7 +113,7 @@ impl<'c, 'a> Finder<'c, 'a> {
     {
         self.guesses.renew(self.catalog, addrs);
         if let Some(last) = &self.last {
-            self.guesses.read_ahead(last.owner, last.item.b, addrs);
+            self.guesses.read_ahead(last.owner, last.item, addrs);
         }
     }
 

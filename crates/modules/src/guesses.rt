@@ -12,7 +12,8 @@
 //! Where the addresses rise, each is sought among the few symbols from the place of the one before
 //! it on: what lies near was brought near by the one before. The symbols of a module stand in
 //! another order than its index, so where many of the addresses lie in it, they are read through
-//! first as they stand.
+//! first as they stand. That is asked once where the addresses come into a region, and no farther
+//! than they rise in it: so it costs each of them a comparison.
 //!
 //! Whoever uses a guess compares it with what lies there: no contract rests on it.
 
@@ -139,6 +140,18 @@ fn guess_near(catalog: &IndexedCatalog, region: usize, addr: u64) -> Guess {
     Guess { region, place }
 }
 
+/// Whether so many of the addresses rise in a region.
+fn rise_within(region: Item, addrs: &[u64], many: usize) -> bool {
+    let mut from = region.a;
+    for addr in addrs.iter().take(many) {
+        if *addr < from || region.b <= *addr {
+            return false;
+        }
+        from = *addr;
+    }
+    many <= addrs.len()
+}
+
 /// Guesses for the next addresses, and how many of these have been asked for; and the last guess,
 /// where each is made from the one before it.
 #[derive(Drop)]
@@ -147,8 +160,8 @@ pub(crate) struct Guesses {
     taken: usize,
     rising: bool,
     last: Guess,
-    /// Whether the symbols of the last one's module were read through.
-    is_read: bool,
+    /// Whether it was asked if the symbols of the last one's module are to be read through.
+    has_asked: bool,
 }
 
 impl Guesses {
@@ -159,7 +172,7 @@ impl Guesses {
             taken: TURNS,
             rising: false,
             last: Guess::FIRST,
-            is_read: false,
+            has_asked: false,
         }
     }
 
@@ -177,14 +190,15 @@ impl Guesses {
     }
 
     /// Reads through the symbols of the last one's module, where at least a quarter as many of the
-    /// addresses that come next lie in its region, which ends at `end`.
-    pub(crate) fn read_ahead(&mut self, module: &Module, end: u64, addrs: &[u64]) {
-        if !self.rising || self.is_read {
+    /// addresses that come next rise in its region.
+    pub(crate) fn read_ahead(&mut self, module: &Module, region: Item, addrs: &[u64]) {
+        if !self.rising || self.has_asked {
             return;
         }
+        self.has_asked = true;
         let many = module.symbols().len() / 4;
-        if addrs.get(many).is_some_and(|addr| *addr < end) {
-            self.is_read = module.read_through(end);
+        if module.is_indexed() && rise_within(region, addrs, many) {
+            self.has_asked = module.read_through(region.b);
         }
     }
 
@@ -214,7 +228,7 @@ impl Guesses {
         self.pass();
         if self.rising {
             self.last = guess_near(catalog, self.last.region, addr);
-            self.is_read = false;
+            self.has_asked = false;
             return self.last;
         }
         match self.all.get(place) {

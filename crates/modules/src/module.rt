@@ -282,13 +282,15 @@ impl<'a> Module<'a> {
         self.buckets.start_of(addr)
     }
 
-    /// Reads every symbol as it stands, which brings it near, where there is an index of them.
-    /// Returns whether one lies below an address.
+    /// Whether there is an index of its symbols, which stand in another order then.
+    pub(crate) fn is_indexed(&self) -> bool {
+        self.by_address.is_some()
+    }
+
+    /// Reads every symbol as it stands, which brings it near. Returns whether one lies below an
+    /// address, so that no reading can be left out.
     #[inline(never)]
     pub(crate) fn read_through(&self, addr: u64) -> bool {
-        if self.by_address.is_none() {
-            return false;
-        }
         let mut below = 0usize;
         for symbol in self.symbols.as_slice() {
             below = below.wrapping_add(usize::from(symbol.addr < addr));

@@ -132,7 +132,8 @@ fn take_run(
     requires count { length cells.old ≡ length stretches.now + 1 }
     requires empty { AreEmpty cells.old }
     requires touched { AreTouched cells.old touched.old.items }
-    ensures taken { OnOk result (AreCells stretches.now symbols.now (length symbols.now) cells.new) }
+    ensures taken { OnOk result
+        (AreCells stretches.now symbols.now (length symbols.now) cells.new) }
     ensures touched { AreTouched cells.new touched.new.items }
 {
     let mut near = 0;
@@ -192,7 +193,8 @@ fn mark_run(
     requires fits { first + length (lines_of_run run.now) ≤ length marks.old }
     ensures touched { AreTouched cells.new touched.new.items }
     ensures kept { AreKept marks.old marks.new }
-    ensures covered { OnOk result (AreCovered stretches.now (lines_of_run run.now) first marks.new) }
+    ensures covered { OnOk result
+        (AreCovered stretches.now (lines_of_run run.now) first marks.new) }
 {
     empty_cells(cells, touched.as_slice());
     touched.clear();

@@ -1,4 +1,4 @@
-use Rattle.std.proofs.Common.{ℕ, ◌+◌, sym, ap, subst, ◌∙◌}
+use Rattle.std.proofs.Common.{◌+◌, sym, ap, subst, ◌∙◌}
 use Rattle.modules.specs.Stretches.{AreTouched}
 use Rattle.modules.proofs.CellLemmas.{none_touched}
 use Rattle.modules.proofs.sieve.Sieve.new.Goals as goal
