@@ -14,6 +14,8 @@ pub mod StartLemmas
 pub mod BorderLemmas
 -- the order of the index
 pub mod IndexLemmas
+-- copies of symbols in the order of their index
+pub mod OrderedLemmas
 -- symbols that are listed by rising address
 pub mod RisingLemmas
 -- addresses that are kept by halves

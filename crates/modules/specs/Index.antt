@@ -1,5 +1,5 @@
 -- Symbols by rising address.
-use Rattle.std.specs.Prelude.{◌≡◌, ℕ, ◌-◌, ◌<◌, ◌≤◌, Bool, ◌&&◌, ◌||◌, nat_lt, nat_eq, List, length}
+use Rattle.std.specs.Prelude.{◌≡◌, ℕ, ◌-◌, ◌<◌, ◌≤◌, Bool, ◌&&◌, ◌||◌, nat_lt, nat_eq, List, [], length}
 use Rattle.std.specs.Prelude.{slice_index_or, map, IsPermutation, Option, Some}
 use Rattle.std.specs.Global.{Vec}
 use Rattle.std.specs.List.{enumerate_from}
@@ -64,7 +64,17 @@ abbrev pub IsFirstAt : List SymbolEntry → ℕ → ℕ → Type 0
 IsFirstAt symbols place first =
     (d : SymbolEntry) → IsFirstOf symbols (slice_index_or symbols place d).addr first
 
--- where there is an index, it is that of the symbols
-abbrev pub IsIndexed : List SymbolEntry → Option (Vec IndexEntry) → Type 0
-IsIndexed symbols by_address =
-    (v : Vec IndexEntry) → by_address ≡ Some v → IsIndex symbols v.items
+-- the symbol that an entry of their index stands for
+abbrev pub symbol_of_entry : List SymbolEntry → IndexEntry → SymbolEntry
+symbol_of_entry symbols e = slice_index_or symbols e.place (record { addr = e.addr; name = [] })
+
+-- the symbols in the order of their index
+pub record IsOrdered (symbols ordered : List SymbolEntry) : Type 0 where
+  pub index : List IndexEntry
+  pub is : IsIndex symbols index
+  pub each : ordered ≡ map (symbol_of_entry symbols) index
+
+-- where there is a copy of the symbols in order, it is theirs
+abbrev pub HasOrdered : List SymbolEntry → Option (Vec SymbolEntry) → Type 0
+HasOrdered symbols by_address =
+    (v : Vec SymbolEntry) → by_address ≡ Some v → IsOrdered symbols v.items

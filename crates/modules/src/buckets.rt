@@ -32,6 +32,9 @@ pub(crate) trait Addressed {
         ensures { result ≡ addr_of self.now };
 }
 
+/// Among how many of its bucket the first above an address mostly is.
+const MOST_IN_BUCKET: usize = 4;
+
 /// How many of the next `N` are not above the address, where so many stand there.
 ///
 /// They are counted and not sought, since a processor that guesses wrongly where a search ends
@@ -172,7 +175,7 @@ impl Buckets {
     pub(crate) fn place_of<T: Addressed>(&self, listed: &[T], addr: u64) -> usize {
         let bucket = self.bucket_of(addr);
         let from = self.below(bucket);
-        match place_near::<T, 4>(listed, from, addr) {
+        match place_near::<T, MOST_IN_BUCKET>(listed, from, addr) {
             Some(place) => place,
             None => bisect(listed, from, self.below(bucket.saturating_add(1)), addr),
         }

@@ -112,9 +112,6 @@ impl<'c, 'a> Finder<'c, 'a> {
         ensures { self.new ≡ self.old }
     {
         self.guesses.renew(self.catalog, addrs);
-        if let Some(last) = &self.last {
-            self.guesses.read_ahead(last.owner, last.item, addrs);
-        }
     }
 
     /// The region that an address lies in, and the symbol that it belongs to, if there is one.
@@ -135,18 +132,21 @@ impl<'c, 'a> Finder<'c, 'a> {
                 return Some((last.item, Some(found)));
             }
             if self.guesses.are_rising() && last.item.a <= addr && addr < last.item.b {
-                return Some((last.item, self.find_in(last.item, last.owner, addr)));
+                let place = self.guesses.next_in(last.owner, addr);
+                return Some((last.item, self.find_in(last.item, last.owner, place, addr)));
             }
         }
         self.seek(addr)
     }
 
-    /// The symbol of an address in the region that was found last.
+    /// The symbol of an address in a region, tried first at a place by rising address. It is kept
+    /// where the next address may lie near.
     #[inline(always)]
     fn find_in(
         &mut self,
         item: Item,
         owner: &'c Module<'a>,
+        near: usize,
         addr: u64,
     ) -> Option<FoundSymbol<'c, 'a>>
         requires region { IsRegionOf self.old item owner.now }
@@ -155,10 +155,11 @@ impl<'c, 'a> Finder<'c, 'a> {
         ensures stays { self.new ≡ self.old }
         ensures found { result ≡ symbol_at self.old item addr }
     {
-        let place = self.guesses.next_in(owner, addr);
-        let found = symbol_around(owner, place, item.a, item.b, addr);
-        if let Some(found) = &found {
-            self.last = Some(same_within(self.catalog, addr, item, owner, found));
+        let found = symbol_around(owner, near, item.a, item.b, addr);
+        if self.guesses.are_rising() {
+            if let Some(found) = &found {
+                self.last = Some(same_within(self.catalog, addr, item, owner, found));
+            }
         }
         found
     }
@@ -175,12 +176,6 @@ impl<'c, 'a> Finder<'c, 'a> {
         let Some(owner) = owner_of(catalog, item, addr) else {
             return Some((item, None));
         };
-        let found = symbol_around(owner, guess.place, item.a, item.b, addr);
-        if self.guesses.are_rising() {
-            if let Some(found) = &found {
-                self.last = Some(same_within(catalog, addr, item, owner, found));
-            }
-        }
-        Some((item, found))
+        Some((item, self.find_in(item, owner, guess.place, addr)))
     }
 }

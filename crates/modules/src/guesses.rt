@@ -10,10 +10,7 @@
 //! ```
 //!
 //! Where the addresses rise, each is sought among the few symbols from the place of the one before
-//! it on: what lies near was brought near by the one before. The symbols of a module stand in
-//! another order than its index, so where many of the addresses lie in it, they are read through
-//! first as they stand. That is asked once where the addresses come into a region, and no farther
-//! than they rise in it: so it costs each of them a comparison.
+//! it on: what lies near was brought near by the one before.
 //!
 //! Whoever uses a guess compares it with what lies there: no contract rests on it.
 
@@ -80,18 +77,15 @@ impl<'c, 'a> Lane<'c, 'a> {
     /// Goes on to the symbol.
     fn step(&mut self) {
         if let Some(module) = self.module {
-            self.place = module.place_from::<4>(self.place, self.addr);
+            self.place = module.place_from(self.place, self.addr);
         }
     }
 
-    /// The guess that it came to. To look at the symbol brings it near before it is asked for.
+    /// The guess that it came to.
     fn guess(&self) -> Guess {
-        let is_near = self
-            .module
-            .is_some_and(|module| module.is_near(self.place, self.addr));
         Guess {
             region: self.region,
-            place: if is_near { self.place } else { 0 },
+            place: self.place,
         }
     }
 }
@@ -126,7 +120,7 @@ pub(crate) fn guess_places(catalog: &Catalog, asked: &[(Item, u64)], places: &mu
     begin_known(&mut lanes, catalog, asked);
     step_all(&mut lanes);
     for (place, lane) in places.iter_mut().zip(&lanes) {
-        *place = lane.guess().place;
+        *place = lane.place;
     }
 }
 
@@ -140,18 +134,6 @@ fn guess_near(catalog: &IndexedCatalog, region: usize, addr: u64) -> Guess {
     Guess { region, place }
 }
 
-/// Whether so many of the addresses rise in a region.
-fn rise_within(region: Item, addrs: &[u64], many: usize) -> bool {
-    let mut from = region.a;
-    for addr in addrs.iter().take(many) {
-        if *addr < from || region.b <= *addr {
-            return false;
-        }
-        from = *addr;
-    }
-    many <= addrs.len()
-}
-
 /// Guesses for the next addresses, and how many of these have been asked for; and the last guess,
 /// where each is made from the one before it.
 #[derive(Drop)]
@@ -160,8 +142,6 @@ pub(crate) struct Guesses {
     taken: usize,
     rising: bool,
     last: Guess,
-    /// Whether it was asked if the symbols of the last one's module are to be read through.
-    has_asked: bool,
 }
 
 impl Guesses {
@@ -172,7 +152,6 @@ impl Guesses {
             taken: TURNS,
             rising: false,
             last: Guess::FIRST,
-            has_asked: false,
         }
     }
 
@@ -186,19 +165,6 @@ impl Guesses {
         self.rising = addrs.is_sorted_by(|x, y| x <= y);
         if !self.rising {
             self.guess_all(catalog, addrs);
-        }
-    }
-
-    /// Reads through the symbols of the last one's module, where at least a quarter as many of the
-    /// addresses that come next rise in its region.
-    pub(crate) fn read_ahead(&mut self, module: &Module, region: Item, addrs: &[u64]) {
-        if !self.rising || self.has_asked {
-            return;
-        }
-        self.has_asked = true;
-        let many = module.symbols().len() / 4;
-        if module.is_indexed() && rise_within(region, addrs, many) {
-            self.has_asked = module.read_through(region.b);
         }
     }
 
@@ -228,7 +194,6 @@ impl Guesses {
         self.pass();
         if self.rising {
             self.last = guess_near(catalog, self.last.region, addr);
-            self.has_asked = false;
             return self.last;
         }
         match self.all.get(place) {
@@ -241,7 +206,7 @@ impl Guesses {
     #[inline(always)]
     pub(crate) fn next_in(&mut self, module: &Module, addr: u64) -> usize {
         self.pass();
-        self.last.place = module.place_from::<4>(self.last.place, addr);
+        self.last.place = module.place_from(self.last.place, addr);
         self.last.place
     }
 }

@@ -49,4 +49,4 @@ pub use regions::Region;
 pub use sieve::Sieve;
 pub use symbol_finder::{MOST_EXPECTED, SymbolFinder};
 pub use symbol_lines::SymbolLines;
-pub use symbols::Symbol;
+pub use symbols::{IndexEntry, Symbol};

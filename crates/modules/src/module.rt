@@ -4,7 +4,7 @@ ghost use Rattle.std.specs.Prelude.{◌≡◌, [], position, IfOk, Ok};
 ghost use Rattle.std.specs.List.{list_any};
 ghost use Rattle.std.specs.Option.{option_copied};
 ghost use Rattle.modules.specs.Around.{symbol_below, address_above};
-ghost use Rattle.modules.specs.Index.{IsIndexed};
+ghost use Rattle.modules.specs.Index.{HasOrdered};
 ghost use Rattle.modules.specs.Building.{module_with, placed_module_of};
 ghost use Rattle.modules.specs.Loads.{GivesOrLacksMemory, is_erasing, update_of};
 ghost use Rattle.modules.specs.Parts.{is_core, is_init};
@@ -17,7 +17,7 @@ use crate::lines::Part;
 use crate::loads::{erasing, is_erasing};
 use crate::placing::Placed;
 use crate::regions::Region;
-use crate::symbols::{IndexEntry, Symbol, around_in_index, around_in_list, by_address, is_rising};
+use crate::symbols::{Symbol, around_in_list, around_in_order, is_rising, ordered};
 use latch_core::Update;
 use order_laws::Refusal;
 use std::alloc::{AllocError, Global};
@@ -26,6 +26,10 @@ use std::marker::Model;
 /// The greatest number of region lines of one module, as the kernel's `enum mod_mem_type` has seven
 /// kinds of memory.
 pub const MOST_REGIONS: usize = 7;
+
+/// Among how many symbols the one of the next of many rising addresses mostly is: with 4 a quarter
+/// of them were sought from anew in the kernel itself, and to count 8 takes longer.
+const MOST_NEXT: usize = 6;
 
 /// A module of the kernel, or the kernel itself.
 #[derive(Drop)]
@@ -38,9 +42,9 @@ pub struct Module<'a> {
     symbols: Vec<Symbol<'a>>,
     /// Whether the symbols are known to be listed by rising address.
     rising: bool,
-    /// An index of the symbols, where they are not and where it pays.
-    by_address: Option<Vec<IndexEntry>>,
-    /// The buckets of the index, or else of the symbols.
+    /// Copies of them by rising address, where they are not and where it pays.
+    by_address: Option<Vec<Symbol<'a>>>,
+    /// The buckets of the copies, or else of the symbols.
     buckets: Buckets,
 }
 
@@ -54,21 +58,6 @@ impl<'a> Model for Module<'a> {
     ghost view = { module_view };
 
     ghost invariant = { IsWholeModule };
-}
-
-/// An index of the symbols, where one is wanted.
-fn index_of(
-    alloc: Global,
-    symbols: &[Symbol],
-    wanted: bool,
-) -> Result<Option<Vec<IndexEntry>>, AllocError>
-    ensures { IfOk result (IsIndexed symbols.now) }
-{
-    if wanted {
-        Ok(Some(by_address(alloc, symbols)?))
-    } else {
-        Ok(None)
-    }
 }
 
 /// The place of the first part of the core.
@@ -112,18 +101,24 @@ fn has_init(parts: &[Part]) -> bool
     parts.iter().any(|part| part.is_init())
 }
 
-/// The buckets of the index, or else of the symbols, where they are to be cut into buckets.
-fn buckets_of(
+/// Copies of the symbols by rising address, where they are wanted, and their buckets; or else those
+/// of the symbols, where they are to be cut into buckets.
+fn order_of<'a>(
     alloc: Global,
-    symbols: &[Symbol],
-    index: &Option<Vec<IndexEntry>>,
+    symbols: &[Symbol<'a>],
+    wanted: bool,
     cut: bool,
-) -> Result<Buckets, AllocError> {
-    match index {
-        _ if !cut => Ok(Buckets::none(alloc)),
-        Some(index) => Buckets::of(alloc, index.as_slice()),
-        None => Buckets::of(alloc, symbols),
+) -> Result<(Option<Vec<Symbol<'a>>>, Buckets), AllocError>
+    ensures { IfOk result (λ r. HasOrdered symbols.now r.0) }
+{
+    if wanted {
+        let (copies, buckets) = ordered(alloc, symbols)?;
+        return Ok((Some(copies), buckets));
     }
+    if cut {
+        return Ok((None, Buckets::of(alloc, symbols)?));
+    }
+    Ok((None, Buckets::none(alloc)))
 }
 
 impl<'a> Module<'a> {
@@ -139,9 +134,8 @@ impl<'a> Module<'a> {
     {
         let rising = is_rising(symbols.as_slice());
         let wanted = !rising && asked.pays_index(placed.regions.as_slice(), symbols.len());
-        let by_address = index_of(alloc, symbols.as_slice(), wanted)?;
-        let cut = (rising || wanted) && asked.pays_buckets(symbols.len());
-        let buckets = buckets_of(alloc, symbols.as_slice(), &by_address, cut)?;
+        let cut = rising && asked.pays_buckets(symbols.len());
+        let (by_address, buckets) = order_of(alloc, symbols.as_slice(), wanted, cut)?;
         Ok(Module {
             name: placed.name,
             regions: placed.regions,
@@ -248,30 +242,31 @@ impl<'a> Module<'a> {
         ensures below { option_copied result.0 ≡ symbol_below self.now.symbols addr }
         ensures above { result.1 ≡ address_above self.now.symbols addr }
     {
-        let symbols = self.symbols.as_slice();
         match &self.by_address {
-            None => around_in_list(symbols, self.rising, near, addr),
-            Some(index) => around_in_index(symbols, index.as_slice(), near, addr),
+            None => around_in_list(self.symbols.as_slice(), self.rising, near, addr),
+            Some(ordered) => around_in_order(ordered.as_slice(), near, addr),
+        }
+    }
+
+    /// The symbols by rising address, where they stand so or have copies that do.
+    #[inline(always)]
+    fn by_address(&self) -> &[Symbol<'a>] {
+        match &self.by_address {
+            Some(copies) => copies.as_slice(),
+            None => self.symbols.as_slice(),
         }
     }
 
     /// How many symbols by rising address may be not above the address.
     pub(crate) fn place_of(&self, addr: u64) -> usize {
-        match &self.by_address {
-            Some(index) => self.buckets.place_of(index.as_slice(), addr),
-            None => self.buckets.place_of(self.symbols.as_slice(), addr),
-        }
+        self.buckets.place_of(self.by_address(), addr)
     }
 
     /// The same, where the symbols below a place are not above the address, and the one that is
-    /// sought is one of the next `N`, or else where it is sought from anew.
+    /// sought is one of the next few, or else where it is sought from anew.
     #[inline(always)]
-    pub(crate) fn place_from<const N: usize>(&self, from: usize, addr: u64) -> usize {
-        let place = match &self.by_address {
-            Some(index) => place_near::<IndexEntry, N>(index.as_slice(), from, addr),
-            None => place_near::<Symbol<'a>, N>(self.symbols.as_slice(), from, addr),
-        };
-        match place {
+    pub(crate) fn place_from(&self, from: usize, addr: u64) -> usize {
+        match place_near::<Symbol<'a>, MOST_NEXT>(self.by_address(), from, addr) {
             Some(place) => place,
             None => self.place_of(addr),
         }
@@ -280,35 +275,5 @@ impl<'a> Module<'a> {
     /// From which place on the first symbol above the address is to be sought.
     pub(crate) fn start_of(&self, addr: u64) -> usize {
         self.buckets.start_of(addr)
-    }
-
-    /// Whether there is an index of its symbols, which stand in another order then.
-    pub(crate) fn is_indexed(&self) -> bool {
-        self.by_address.is_some()
-    }
-
-    /// Reads every symbol as it stands, which brings it near. Returns whether one lies below an
-    /// address, so that no reading can be left out.
-    #[inline(never)]
-    pub(crate) fn read_through(&self, addr: u64) -> bool {
-        let mut below = 0usize;
-        for symbol in self.symbols.as_slice() {
-            below = below.wrapping_add(usize::from(symbol.addr < addr));
-        }
-        below > 0
-    }
-
-    /// Whether the symbol of the entry below a place in the index is not above the address. Where
-    /// there is no index it has been looked at.
-    pub(crate) fn is_near(&self, place: usize, addr: u64) -> bool {
-        let Some(index) = &self.by_address else {
-            return true;
-        };
-        let Some(entry) = index.as_slice().get(place.wrapping_sub(1)) else {
-            return true;
-        };
-        self.symbols
-            .get(entry.place)
-            .is_some_and(|symbol| symbol.addr <= addr)
     }
 }

@@ -109,12 +109,12 @@ fn all_go_down(entries: &mut [IndexEntry])
     }
 }
 
-/// Brings the entries near their places.
-pub(crate) fn presort(alloc: Global, entries: &mut [IndexEntry]) -> Result<(), AllocError>
+/// Brings the entries near their places. Returns their buckets.
+pub(crate) fn presort(alloc: Global, entries: &mut [IndexEntry]) -> Result<Buckets, AllocError>
     ensures { IsPermutation entries.old entries.new }
 {
     let mut filling = Filling::of(alloc, entries)?;
     distribute(entries, &mut filling);
     all_go_down(entries);
-    Ok(())
+    Ok(filling.buckets)
 }

@@ -2,26 +2,30 @@
 //!
 //! A listing mostly has the symbols of the kernel itself by rising address, and then they are
 //! searched as they stand. Those of a module come in the order of its symbol table, and get an
-//! index, in which of equal addresses the one that is listed first stands last:
+//! index, in which of equal addresses the one that is listed first stands last. It gives the order
+//! of a copy of the symbols, which is searched, so that neighbours by address lie side by side:
 //!
 //! ```text
 //! symbols:  40 c    10 a    10 b    20 d
 //! index:    10 at 2, 10 at 1, 20 at 3, 40 at 0
+//! ordered:  10 b    10 a    20 d    40 c
 //! ```
 //!
-//! So the last entry that is not above an address is that of the symbol to be found.
+//! So the last of the copy that is not above an address is the symbol to be found.
 //!
-//! To make an index costs as much as to go through the symbols some times. So where few addresses
-//! are asked of a module, it has no index, and its symbols are gone through for each.
+//! To order them costs as much as to go through the symbols some times. So where few addresses are
+//! asked of a module, it has no such copy, and its symbols are gone through for each.
 
-ghost use Rattle.std.specs.Prelude.{◌≡◌, ◌<◌, true, IfOk, Some, filter, length, nat_le};
+ghost use Rattle.std.specs.Prelude.{◌≡◌, ◌<◌, true, IfOk, List, Some, filter, length, map, nat_le};
 ghost use Rattle.std.specs.Prelude.{nat_lt, slice_get};
 ghost use Rattle.std.specs.Option.{option_copied};
 ghost use Rattle.modules.specs.Around.{symbol_below, address_above};
+ghost use Rattle.modules.specs.Entries.{SymbolEntry};
 ghost use Rattle.modules.specs.Index.{index_entries_of, IsIndex, IsRising, IsFirstOf, IsFirstAt};
+ghost use Rattle.modules.specs.Index.{IsOrdered, symbol_of_entry};
 ghost use Rattle.modules.specs.Preferred.{highest_of, is_above, is_below, lowest_of, preferred};
 
-use crate::buckets::{Addressed, address_at, is_first, split_at};
+use crate::buckets::{Addressed, Buckets, address_at, is_first, split_at};
 use crate::presort::presort;
 use std::alloc::{AllocError, Global};
 use std::marker::Model;
@@ -51,11 +55,13 @@ impl<'a> Addressed for Symbol<'a> {
     }
 }
 
-/// Where the symbol of an address stands in the order of the listing.
+/// An entry of an index of symbols, of which contracts speak.
 #[derive(Clone, Copy, Debug, Drop)]
-pub(crate) struct IndexEntry {
-    pub(crate) addr: u64,
-    pub(crate) place: usize,
+pub struct IndexEntry {
+    /// Where the symbol begins.
+    pub addr: u64,
+    /// Where it stands in the order of the listing.
+    pub place: usize,
 }
 
 impl Addressed for IndexEntry {
@@ -80,15 +86,56 @@ fn listed_entries(alloc: Global, symbols: &[Symbol]) -> Result<Vec<IndexEntry>, 
         .collect(alloc)
 }
 
-/// The symbols by rising address. Of equal addresses the one that is listed first stands last, so
-/// that the last entry that is not above an address is the one to be found.
-pub(crate) fn by_address(alloc: Global, symbols: &[Symbol]) -> Result<Vec<IndexEntry>, AllocError>
-    ensures { IfOk result (λ v. IsIndex symbols.now v.items) }
+/// The entries of the symbols by rising address, and their buckets. Of equal addresses the one that
+/// is listed first stands last, so that the last entry that is not above an address is that of the
+/// one to be found.
+fn by_address(alloc: Global, symbols: &[Symbol]) -> Result<(Vec<IndexEntry>, Buckets), AllocError>
+    ensures { IfOk result (λ r. IsIndex symbols.now r.0.items) }
 {
     let mut entries = listed_entries(alloc, symbols)?;
-    presort(alloc, entries.as_mut_slice())?;
+    let buckets = presort(alloc, entries.as_mut_slice())?;
     entries.sort_unstable_by(|x, y| x.addr.cmp(&y.addr).then(y.place.cmp(&x.place)));
-    Ok(entries)
+    Ok((entries, buckets))
+}
+
+/// A copy of the symbol that an entry stands for.
+fn copy_of<'a>(symbols: &[Symbol<'a>], entry: &IndexEntry) -> Symbol<'a>
+    requires { entry.now.place < length symbols.now }
+    ensures { result ≡ symbol_of_entry symbols.now entry.now }
+{
+    let symbol = &symbols[entry.place];
+    Symbol {
+        addr: symbol.addr,
+        name: symbol.name,
+    }
+}
+
+/// Copies of the symbols in the order of an index of them.
+fn in_order_of<'a>(
+    alloc: Global,
+    symbols: &[Symbol<'a>],
+    index: &[IndexEntry],
+) -> Result<Vec<Symbol<'a>>, AllocError>
+    requires { IsIndex symbols.now index.now }
+    ensures { IfOk result (λ v. v.items ≡ map (symbol_of_entry symbols.now) index.now) }
+{
+    index
+        .iter()
+        .map(|entry| copy_of(symbols, entry))
+        .collect(alloc)
+}
+
+/// Copies of the symbols by rising address, and their buckets. The last that is not above an address
+/// is the one to be found.
+pub(crate) fn ordered<'a>(
+    alloc: Global,
+    symbols: &[Symbol<'a>],
+) -> Result<(Vec<Symbol<'a>>, Buckets), AllocError>
+    ensures { IfOk result (λ r. IsOrdered symbols.now r.0.items) }
+{
+    let (index, buckets) = by_address(alloc, symbols)?;
+    let ordered = in_order_of(alloc, symbols, index.as_slice())?;
+    Ok((ordered, buckets))
 }
 
 /// The symbol at a place, if there is one.
@@ -98,25 +145,25 @@ fn symbol_at<'s, 'a>(symbols: &'s [Symbol<'a>], place: usize) -> Option<&'s Symb
     symbols.get(place)
 }
 
-/// The symbols around an address, as an index has them.
+/// The symbols around an address, of which these are copies in order.
 #[inline(always)]
-pub(crate) fn around_in_index<'s, 'a>(
-    symbols: &'s [Symbol<'a>],
-    index: &[IndexEntry],
+pub(crate) fn around_in_order<'s, 'a>(
+    ordered: &'s [Symbol<'a>],
     near: usize,
     addr: u64,
 ) -> (Option<&'s Symbol<'a>>, Option<u64>)
-    requires { IsIndex symbols.now index.now }
-    ensures below { option_copied result.0 ≡ symbol_below symbols.now addr }
-    ensures above { result.1 ≡ address_above symbols.now addr }
+    requires { IsRising ordered.now }
+    ensures below { (symbols : List SymbolEntry) → IsOrdered symbols ordered.now
+        → option_copied result.0 ≡ symbol_below symbols addr }
+    ensures above { (symbols : List SymbolEntry) → IsOrdered symbols ordered.now
+        → result.1 ≡ address_above symbols addr }
 {
-    let split = split_at(index, near, addr);
-    let above = address_at(index, split);
+    let split = split_at(ordered, near, addr);
+    let above = address_at(ordered, split);
     if split == 0 {
         return (None, above);
     }
-    let entry = index[split - 1];
-    (symbol_at(symbols, entry.place), above)
+    (symbol_at(ordered, split - 1), above)
 }
 
 /// How many symbols, of those that stand by rising address, are below the address.

@@ -1,6 +1,6 @@
 use Rattle.std.proofs.Common.{List, sym, subst}
 use Rattle.modules.specs.Entries.{SymbolEntry}
-use Rattle.modules.specs.Index.{IsIndexed, IsRising}
+use Rattle.modules.specs.Index.{HasOrdered, IsRising}
 use Rattle.modules.specs.Placed.{IsPlaced}
 use Rattle.modules.proofs.module.Module.new.Goals as goal
 
@@ -8,5 +8,5 @@ pub invariant_of-result : goal.invariant_of-result
 invariant_of-result c = record {
   placed = subst IsPlaced (sym c.placed.view_is) c.requires;
   rising = λ yes. subst IsRising c.as_slice.ensures.value (c.is_rising-rising.ensures yes);
-  indexed = subst (λ (s : List SymbolEntry). IsIndexed s c.in_ok-by_address.by_address) c.as_slice-2.ensures.value c.in_ok-by_address.ensures;
+  ordered = subst (λ (s : List SymbolEntry). HasOrdered s c.in_ok-by_address.by_address) c.as_slice-2.ensures.value c.in_ok-by_address.ensures;
 }
