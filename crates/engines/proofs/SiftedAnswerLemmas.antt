@@ -1,12 +1,12 @@
 -- The catalog of kept lines answers for the asked addresses as that of all lines does.
-use Rattle.std.proofs.Common.{◌≡◌, ◌∙◌, ℕ, ◌&&◌, nat_le, nat_lt, cond, List, [], ◌∷◌, ◌++◌, map, flat_map, codes, Option, Some, None, refl, ap, ⊎_elim}
+use Rattle.std.proofs.Common.{◌≡◌, ◌∙◌, ℕ, ◌&&◌, nat_le, nat_lt, Bool, true, false, cond, List, [], ◌∷◌, ◌++◌, map, flat_map, codes, Option, Some, None, refl, ap, ⊎_elim}
 use Rattle.std.specs.Prelude.{Contains, option_and_then}
 use Rattle.std.specs.List.{cons_option}
 use Rattle.std.specs.Option.{option_map_or}
 use Rattle.facts.proofs.Members.{Contains-cons_cases, Contains-head, Contains-none, Contains-rest}
 use Rattle.order_laws.specs.declared.items.Item.{Item}
 use Rattle.listing.specs.AddressRules.{before_of, place_of}
-use Rattle.listing.specs.Answers.{answer_text_by, farther, found_text, held_text, module_text, symbol_text, unknown_text}
+use Rattle.listing.specs.Answers.{answer_text_by, farther, held_at, held_text, module_text, sought, symbol_text, unknown_text}
 use Rattle.listing.specs.Exact.{hexadecimal}
 use Rattle.listing.specs.declared.address_rules.AddressRule.{AddressRule}
 use Rattle.modules.specs.Entries.{CatalogEntries}
@@ -16,7 +16,7 @@ use Rattle.modules.specs.Sifted.{HaveSamePlaces, told_at}
 use Rattle.modules.proofs.SamePlaceLemmas.{items_alike}
 use Rattle.engines.specs.AnswerForms.{line_by}
 use Rattle.engines.specs.CatalogTables.{answer_at, answer_in}
-use Rattle.engines.specs.JsonTexts.{address_member, found_members, found_symbol, held_members, json_line, members_by, module_member}
+use Rattle.engines.specs.JsonTexts.{address_member, found_symbol, held_members, json_line, members_by, module_member}
 use Rattle.engines.specs.LookupTexts.{answer_line}
 use Rattle.engines.specs.SiftedLookups.{places_of}
 use Rattle.engines.specs.declared.forms.AnswerForm.{AnswerForm}
@@ -44,32 +44,37 @@ module _ (d c : CatalogEntries) (asked : List ℕ) (same : HaveSamePlaces d c) (
   same_held_members item before place is_asked is =
       told (λ name found. option_map_or (found_symbol before) found [] ++ module_member item.tag name) [] place item is_asked is
 
-  same_found_text : (before place : ℕ) → Contains asked place → (o : Option Item) → item_of_address c place ≡ o → found_text d o before place ≡ found_text c o before place
-  same_found_text before place is_asked None is = refl
-  same_found_text before place is_asked (Some item) is = ap (λ t. cond (nat_le item.a place && nat_lt place item.b) t (codes "-")) (same_held_text item before place is_asked is)
-
-  same_found_members : (before place : ℕ) → Contains asked place → (o : Option Item) → item_of_address c place ≡ o → found_members d o before place ≡ found_members c o before place
-  same_found_members before place is_asked None is = refl
-  same_found_members before place is_asked (Some item) is = ap (λ t. cond (nat_le item.a place && nat_lt place item.b) t []) (same_held_members item before place is_asked is)
+  -- what is told of an address where the item holds it
+  held_alike : (tell : CatalogEntries → Item → ℕ → List ℕ) (untold : List ℕ) (place : ℕ)
+      → ((item : Item) → item_of_address c place ≡ Some item → tell d item place ≡ tell c item place)
+      → (o : Option Item) → item_of_address c place ≡ o
+      → option_map_or (λ s. tell d s.0 s.1) (held_at o place) untold ≡ option_map_or (λ s. tell c s.0 s.1) (held_at o place) untold
+  held_alike tell untold place alike None is = refl
+  held_alike tell untold place alike (Some item) is =
+      let found : Item × ℕ = (item, place) in
+      elim (nat_le item.a place && nat_lt place item.b) as (λ (b : Bool). option_map_or (λ (s : Item × ℕ). tell d s.0 s.1) (cond b (Some found) None) untold ≡ option_map_or (λ (s : Item × ℕ). tell c s.0 s.1) (cond b (Some found) None) untold) [
+        | true ↦ alike item is
+        | false ↦ refl
+      ]
 
   -- what is told of an address where it is looked up
-  by_place : (tell : CatalogEntries → Option Item → ℕ → List ℕ) (untold : List ℕ) (addr : ℕ)
-      → ((place : ℕ) → Contains asked place → tell d (item_of_address c place) place ≡ tell c (item_of_address c place) place)
+  sought_alike : (tell : CatalogEntries → Item → ℕ → List ℕ) (untold : List ℕ) (addr : ℕ)
+      → ((item : Item) (place : ℕ) → Contains asked place → item_of_address c place ≡ Some item → tell d item place ≡ tell c item place)
       → ((place : ℕ) → place_of rule addr ≡ Some place → Contains asked place)
-      → option_map_or (tell d (answer_at c rule addr).item) (place_of rule addr) untold ≡ option_map_or (tell c (answer_at c rule addr).item) (place_of rule addr) untold
-  by_place tell untold addr alike among =
-      elim (place_of rule addr) as (λ o. place_of rule addr ≡ o → option_map_or (tell d (option_and_then (item_of_address c) o)) o untold ≡ option_map_or (tell c (option_and_then (item_of_address c) o)) o untold) [
+      → option_map_or (λ s. tell d s.0 s.1) (sought rule (answer_at c rule addr).item addr) untold ≡ option_map_or (λ s. tell c s.0 s.1) (sought rule (answer_at c rule addr).item addr) untold
+  sought_alike tell untold addr alike among =
+      elim (place_of rule addr) as (λ o. place_of rule addr ≡ o → option_map_or (λ s. tell d s.0 s.1) (option_and_then (held_at (option_and_then (item_of_address c) o)) o) untold ≡ option_map_or (λ s. tell c s.0 s.1) (option_and_then (held_at (option_and_then (item_of_address c) o)) o) untold) [
         | None ↦ λ is. refl
-        | Some place ↦ λ is. alike place (among place is)
+        | Some place ↦ λ is. held_alike tell untold place (λ item. alike item place (among place is)) (item_of_address c place) refl
       ] refl
 
   same_text : (addr : ℕ) → ((place : ℕ) → place_of rule addr ≡ Some place → Contains asked place)
       → answer_text_by d rule (answer_at c rule addr).item addr ≡ answer_text_by c rule (answer_at c rule addr).item addr
-  same_text addr among = by_place (λ k o place. found_text k o (before_of rule) place) (codes "-") addr (λ place is_asked. same_found_text (before_of rule) place is_asked (item_of_address c place) refl) among
+  same_text addr among = sought_alike (λ k item place. held_text k item (before_of rule) place) (codes "-") addr (λ item place. same_held_text item (before_of rule) place) among
 
   same_members : (addr : ℕ) → ((place : ℕ) → place_of rule addr ≡ Some place → Contains asked place)
       → members_by d rule (answer_at c rule addr).item addr ≡ members_by c rule (answer_at c rule addr).item addr
-  same_members addr among = by_place (λ k o place. found_members k o (before_of rule) place) [] addr (λ place is_asked. same_found_members (before_of rule) place is_asked (item_of_address c place) refl) among
+  same_members addr among = sought_alike (λ k item place. held_members k item (before_of rule) place) [] addr (λ item place. same_held_members item (before_of rule) place) among
 
   same_answer_line : (addr : ℕ) → ((place : ℕ) → place_of rule addr ≡ Some place → Contains asked place) → answer_line d rule (answer_at c rule addr) ≡ answer_line c rule (answer_at c rule addr)
   unfolding answer_line

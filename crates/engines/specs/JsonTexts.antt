@@ -1,11 +1,12 @@
 -- The lines that are written as JSON, an object each: those of a lookup of addresses, and the members
 -- that those of names share with them.
-use Rattle.std.specs.Prelude.{ℕ, ◌+◌, ◌&&◌, nat_eq, nat_le, nat_lt, if◌then◌else◌, Bool}
+use Rattle.std.specs.Prelude.{ℕ, ◌+◌, nat_eq, if◌then◌else◌, Bool}
 use Rattle.std.specs.Prelude.{List, [], ◌++◌, codes, take, drop, flat_map, slice_index}
-use Rattle.std.specs.Prelude.{Option, Some, None}
+use Rattle.std.specs.Prelude.{Option}
 use Rattle.std.specs.Option.{option_map_or}
 use Rattle.listing.specs.declared.address_rules.AddressRule.{AddressRule}
-use Rattle.listing.specs.AddressRules.{before_of, place_of}
+use Rattle.listing.specs.AddressRules.{before_of}
+use Rattle.listing.specs.Answers.{sought}
 use Rattle.listing.specs.Exact.{hexadecimal}
 use Rattle.listing.specs.ModuleListing.{module_cause_name, module_causes, module_place}
 use Rattle.listing.specs.SymbolListing.{symbol_cause_name, symbol_causes, symbol_place}
@@ -60,16 +61,10 @@ abbrev pub held_members : CatalogEntries → Item → ℕ → ℕ → List ℕ
 held_members c item before addr =
     option_map_or (λ m. members_in m item before addr) (module_of c item.tag) []
 
--- of an address and the item that was found for it
-abbrev pub found_members : CatalogEntries → Option Item → ℕ → ℕ → List ℕ
-found_members c None before addr = []
-found_members c (Some item) before addr =
-    if nat_le item.a addr && nat_lt addr item.b then held_members c item before addr else []
-
 -- of an address that is taken by a rule, and the item that was found for the one looked up
 abbrev pub members_by : CatalogEntries → AddressRule → Option Item → ℕ → List ℕ
 members_by c rule item addr =
-    option_map_or (found_members c item (before_of rule)) (place_of rule addr) []
+    option_map_or (λ s. held_members c s.0 (before_of rule) s.1) (sought rule item addr) []
 
 -- the object of an address
 unfoldable pub json_line : CatalogEntries → AddressRule → AddressAnswer → List ℕ

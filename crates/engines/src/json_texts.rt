@@ -1,9 +1,8 @@
 //! The lines that are written as JSON, byte for byte, with no memory taken: those of a lookup of
 //! addresses, and the members that those of names share with them.
 ghost use Rattle.std.specs.Prelude.{◌≡◌, ◌+◌, ◌^◌, ◌≤◌, ◌<◌};
-ghost use Rattle.listing.specs.AddressRules.{before_of};
 ghost use Rattle.listing.specs.Exact.{Wrote};
-ghost use Rattle.engines.specs.JsonTexts.{address_member, found_members, found_object};
+ghost use Rattle.engines.specs.JsonTexts.{address_member, found_object};
 ghost use Rattle.engines.specs.JsonTexts.{found_symbol, named_module, offset_members};
 ghost use Rattle.engines.specs.JsonTexts.{held_members, json_causes};
 ghost use Rattle.engines.specs.JsonTexts.{json_count, json_counts, json_found_counts, json_line};
@@ -17,7 +16,7 @@ use crate::symbol_lookup::SymbolListing;
 use crate::table::AddressAnswer;
 use listing::{
     AddressRule, Cause, Counted, Counts, ModuleCounts, SkippedModule, SkippedSymbol, SymbolCounts,
-    put, put_hexadecimal,
+    put, put_hexadecimal, sought,
 };
 use modules::{BuildCounts, FoundSymbol, KeptCounts, SymbolFinder};
 use order_laws::Item;
@@ -61,37 +60,9 @@ fn put_members<W: Write>(
     ensures wrote { Wrote W.contents writer.old writer.new result
         (members_by finder.old rule item addr) }
 {
-    match rule.place_of(addr) {
-        Some(place) => put_found(writer, finder, item, place, before(rule)),
+    match sought(rule, item, addr) {
+        Some((item, place)) => put_held(writer, finder, item, place, rule.before()),
         None => Ok(()),
-    }
-}
-
-/// How many bytes before the address that is told of the looked up one lies.
-fn before(rule: AddressRule) -> u64
-    ensures { result ≡ before_of rule }
-{
-    u64::from(rule.callers)
-}
-
-/// Writes what is known of an address, told of one that lies `before` bytes farther on.
-fn put_found<W: Write>(
-    writer: &mut Counted<W>,
-    finder: &mut SymbolFinder,
-    item: Option<Item>,
-    addr: u64,
-    before: u64,
-) -> io::Result<()>
-    requires near { before ≤ 1 }
-    ensures stays { finder.new ≡ finder.old }
-    ensures wrote { Wrote W.contents writer.old writer.new result
-        (found_members finder.old item before addr) }
-{
-    match item {
-        Some(item) if item.a <= addr && addr < item.b => {
-            put_held(writer, finder, item, addr, before)
-        }
-        _ => Ok(()),
     }
 }
 

@@ -1,5 +1,5 @@
 //! The lines that a lookup of addresses writes, byte for byte, with no memory taken.
-ghost use Rattle.std.specs.Prelude.{◌≡◌, ◌++◌, codes, decimal, flat_map};
+ghost use Rattle.std.specs.Prelude.{◌≡◌, flat_map};
 ghost use Rattle.listing.specs.Exact.{Wrote};
 ghost use Rattle.engines.specs.AnswerForms.{line_by};
 ghost use Rattle.engines.specs.LookupTexts.{answer_line, causes_text, count_text};
@@ -12,7 +12,7 @@ use crate::table::AddressAnswer;
 use crate::texts::put_decimal;
 use listing::{
     AddressRule, Cause, Counted, Counts, ModuleCounts, SkippedModule, SkippedSymbol, SymbolCounts,
-    put, put_hexadecimal, write_next_answer,
+    put, put_hexadecimal, sought, write_next_answer,
 };
 use modules::{BuildCounts, Catalog, KeptCounts, MOST_EXPECTED, SymbolFinder};
 use order_laws::Item;
@@ -48,7 +48,7 @@ fn expect_answers(finder: &mut SymbolFinder, rule: AddressRule, answers: &[Addre
     let mut asked = [(NO_ITEM, 0); MOST_EXPECTED];
     let mut count = 0usize;
     for answer in answers.iter().take(MOST_EXPECTED) {
-        if let Some(sought) = sought(rule, answer) {
+        if let Some(sought) = sought(rule, answer.item, answer.addr) {
             if let Some(slot) = asked.get_mut(count) {
                 *slot = sought;
             }
@@ -60,17 +60,6 @@ fn expect_answers(finder: &mut SymbolFinder, rule: AddressRule, answers: &[Addre
 
 /// Stands where no item was found.
 const NO_ITEM: Item = Item { a: 0, b: 0, tag: 0 };
-
-/// The item and the address of the symbol that an answer names, if it names one.
-fn sought(rule: AddressRule, answer: &AddressAnswer) -> Option<(Item, u64)> {
-    let place = rule.place_of(answer.addr)?;
-    let item = answer.item?;
-    if item.a <= place && place < item.b {
-        Some((item, place))
-    } else {
-        None
-    }
-}
 
 /// Writes the line of an answer.
 #[tactic(auto, unfolding(crate::specs::AnswerForms::line_by))]

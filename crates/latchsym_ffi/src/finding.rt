@@ -1,14 +1,14 @@
 //! What is known of an address.
 
-ghost use Rattle.std.specs.Prelude.{◌≡◌, ◌≤◌, ◌<◌, ◌+◌, ◌^◌, IfSome};
+ghost use Rattle.std.specs.Prelude.{◌≡◌, ◌≤◌, ◌<◌, IfSome};
 ghost use Rattle.std.specs.Option.{option_map};
-ghost use Rattle.listing.specs.Answers.{farther};
 ghost use Rattle.latchsym_ffi.specs.Finding.{Describes, answer_of, copied, known_at, known_code};
 ghost use Rattle.latchsym_ffi.specs.Finding.{known_in, module_name, owner_named, shown_seen};
 ghost use Rattle.latchsym_ffi.specs.Finding.{known_call, symbol_named};
 ghost use Rattle.latchsym_ffi.specs.Named.{IsNamed};
 
 use crate::answers::{DONE, NO_SYMBOL, NOTHING};
+use listing::farther;
 use modules::{Catalog, Finder, FoundSymbol, IndexedCatalog, symbol_of};
 use order_laws::Item;
 
@@ -98,18 +98,6 @@ pub(crate) fn seek_next<'c>(finder: &mut Finder<'c, 'static>, addr: u64) -> Opti
     Some(Seen { item, found })
 }
 
-/// The symbol as it is told of the address after the one that was looked up.
-fn farther<'c>(found: FoundSymbol<'c, 'static>) -> FoundSymbol<'c, 'static>
-    requires { found.offset + 1 < 2 ^ 64 }
-    ensures { result ≡ farther 1 found.entry }
-{
-    FoundSymbol {
-        symbol: found.symbol,
-        offset: found.offset + 1,
-        size: found.size,
-    }
-}
-
 /// The same of a return address. The call before it may be the last instruction of its symbol, so
 /// the address one byte lower is looked up, and the offset is that of the return address.
 pub(crate) fn seek_call<'c>(catalog: &'c IndexedCatalog<'static>, addr: u64) -> Option<Seen<'c>>
@@ -117,7 +105,7 @@ pub(crate) fn seek_call<'c>(catalog: &'c IndexedCatalog<'static>, addr: u64) -> 
 {
     let Seen { item, found } = seek(catalog, addr.checked_sub(1)?)?;
     let found = match found {
-        Some(found) => Some(farther(found)),
+        Some(found) => Some(farther(found, 1)),
         None => None,
     };
     Some(Seen { item, found })

@@ -1,6 +1,6 @@
 -- The text of an answer.
 use Rattle.std.specs.Prelude.{ℕ, ◌+◌, ◌&&◌, nat_eq, nat_le, nat_lt, if◌then◌else◌, List, [], ◌++◌, codes}
-use Rattle.std.specs.Prelude.{Option, Some, None}
+use Rattle.std.specs.Prelude.{Option, Some, None, option_and_then}
 use Rattle.std.specs.Option.{option_map_or}
 use Rattle.listing.specs.declared.address_rules.AddressRule.{AddressRule}
 use Rattle.listing.specs.AddressRules.{before_of, place_of}
@@ -41,17 +41,22 @@ abbrev pub held_text : CatalogEntries → Item → ℕ → ℕ → List ℕ
 held_text c item before addr =
     option_map_or (λ m. text_in m item before addr) (module_of c item.tag) (codes "-")
 
--- of an address and the item that was found for it
-abbrev pub found_text : CatalogEntries → Option Item → ℕ → ℕ → List ℕ
-found_text c None before addr = codes "-"
-found_text c (Some item) before addr =
-    if nat_le item.a addr && nat_lt addr item.b then held_text c item before addr else codes "-"
+-- the item and the address, where the item holds it
+abbrev pub held_at : Option Item → ℕ → Option (Item × ℕ)
+held_at None addr = None
+held_at (Some item) addr =
+    if nat_le item.a addr && nat_lt addr item.b then Some (item, addr) else None
 
--- of an address that is looked up as it is
+-- the same of the address that is looked up by a rule, for which the item was found
+abbrev pub sought : AddressRule → Option Item → ℕ → Option (Item × ℕ)
+sought rule item addr = option_and_then (held_at item) (place_of rule addr)
+
+-- of an address that is looked up as it is, and the item that was found for it
 abbrev pub answer_text : CatalogEntries → Option Item → ℕ → List ℕ
-answer_text c item addr = found_text c item 0 addr
+answer_text c item addr =
+    option_map_or (λ s. held_text c s.0 0 s.1) (held_at item addr) (codes "-")
 
 -- of an address that is taken by a rule, and the item that was found for the one looked up
 abbrev pub answer_text_by : CatalogEntries → AddressRule → Option Item → ℕ → List ℕ
 answer_text_by c rule item addr =
-    option_map_or (found_text c item (before_of rule)) (place_of rule addr) (codes "-")
+    option_map_or (λ s. held_text c s.0 (before_of rule) s.1) (sought rule item addr) (codes "-")

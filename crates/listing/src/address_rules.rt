@@ -29,7 +29,7 @@ impl AddressRule {
     }
 
     /// How many bytes before the address that is told of the looked up one lies.
-    pub(crate) fn before(self) -> u64
+    pub fn before(self) -> u64
         ensures { result ≡ before_of self }
     {
         u64::from(self.callers)

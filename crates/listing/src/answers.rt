@@ -1,9 +1,9 @@
 //! The text of an answer.
 
-ghost use Rattle.std.specs.Prelude.{◌≡◌, ◌+◌, ◌^◌, ◌≤◌, ◌<◌};
+ghost use Rattle.std.specs.Prelude.{◌≡◌, ◌+◌, ◌^◌, ◌≤◌, ◌<◌, IfSome};
 ghost use Rattle.listing.specs.Exact.{Wrote};
-ghost use Rattle.listing.specs.Answers.{answer_text, answer_text_by, farther, found_text};
-ghost use Rattle.listing.specs.Answers.{held_text, module_text, symbol_text};
+ghost use Rattle.listing.specs.Answers.{answer_text, answer_text_by, farther, held_at};
+ghost use Rattle.listing.specs.Answers.{held_text, module_text, sought, symbol_text};
 
 use crate::{AddressRule, Counted, put, put_hexadecimal};
 use modules::{Catalog, FoundSymbol, SymbolFinder};
@@ -38,7 +38,7 @@ fn write_module<W: Write>(writer: &mut Counted<W>, number: u64, name: &[u8]) -> 
 }
 
 /// The symbol as it is told of an address so many bytes farther on.
-fn farther<'c, 'a>(found: FoundSymbol<'c, 'a>, bytes: u64) -> FoundSymbol<'c, 'a>
+pub fn farther<'c, 'a>(found: FoundSymbol<'c, 'a>, bytes: u64) -> FoundSymbol<'c, 'a>
     requires { found.offset + bytes < 2 ^ 64 }
     ensures { result ≡ farther bytes found.entry }
 {
@@ -76,6 +76,28 @@ fn write_held<W: Write>(
     write_module(writer, item.tag, module.name())
 }
 
+/// The item and the address, where the item holds it.
+fn held_at(item: Option<Item>, addr: u64) -> Option<(Item, u64)>
+    ensures is { result ≡ held_at item addr }
+    ensures holds { IfSome result (λ s. (s.0.a ≤ s.1) × (s.1 < s.0.b)) }
+{
+    let item = item?;
+    if item.a <= addr && addr < item.b {
+        Some((item, addr))
+    } else {
+        None
+    }
+}
+
+/// The item that was found for the address that the rule looks up, and this address, where the item
+/// holds it.
+pub fn sought(rule: AddressRule, item: Option<Item>, addr: u64) -> Option<(Item, u64)>
+    ensures is { result ≡ sought rule item addr }
+    ensures holds { IfSome result (λ s. (s.0.a ≤ s.1) × (s.1 < s.0.b)) }
+{
+    held_at(item, rule.place_of(addr)?)
+}
+
 /// Writes the text of an answer for an address that is looked up as it is: `write_answer_by` of
 /// [`AddressRule::AS_GIVEN`].
 pub fn write_answer<W: Write>(
@@ -86,7 +108,10 @@ pub fn write_answer<W: Write>(
 ) -> io::Result<()>
     ensures { Wrote W.contents writer.old writer.new result (answer_text catalog.now item addr) }
 {
-    write_found(writer, &mut SymbolFinder::new(catalog), item, addr, 0)
+    match held_at(item, addr) {
+        Some((item, addr)) => { write_held(writer, &mut SymbolFinder::new(catalog), item, addr, 0) }
+        None => put(writer, b"-"),
+    }
 }
 
 /// Writes the text of an answer for an address, where `item` was found for the address that the
@@ -122,29 +147,8 @@ pub fn write_next_answer<W: Write>(
     ensures wrote { Wrote W.contents writer.old writer.new result
         (answer_text_by finder.old rule item addr) }
 {
-    match rule.place_of(addr) {
-        Some(place) => write_found(writer, finder, item, place, rule.before()),
+    match sought(rule, item, addr) {
+        Some((item, place)) => write_held(writer, finder, item, place, rule.before()),
         None => put(writer, b"-"),
-    }
-}
-
-/// Writes the text of the answer for an address, told of one that lies `before` bytes farther on.
-fn write_found<W: Write>(
-    writer: &mut Counted<W>,
-    finder: &mut SymbolFinder,
-    item: Option<Item>,
-    addr: u64,
-    before: u64,
-) -> io::Result<()>
-    requires near { before ≤ 1 }
-    ensures stays { finder.new ≡ finder.old }
-    ensures wrote { Wrote W.contents writer.old writer.new result
-        (found_text finder.old item before addr) }
-{
-    match item {
-        Some(item) if item.a <= addr && addr < item.b => {
-            write_held(writer, finder, item, addr, before)
-        }
-        _ => put(writer, b"-"),
     }
 }

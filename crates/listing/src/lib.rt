@@ -44,7 +44,7 @@ mod trace;
 pub use address_rules::AddressRule;
 pub use addresses::read_addresses;
 pub use annotation::{LogFault, annotate};
-pub use answers::{write_answer, write_answer_by, write_next_answer};
+pub use answers::{farther, sought, write_answer, write_answer_by, write_next_answer};
 pub use causes::{Cause, Counts, each_line_is_counted_once};
 pub use command_lines::{CommandLines, open_trace};
 pub use counted::{BLOCK, Counted};
