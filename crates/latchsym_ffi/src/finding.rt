@@ -79,6 +79,10 @@ fn name_of<'a>(catalog: &Catalog<'a>, number: u64) -> &'a [u8]
 }
 
 /// The region that the address lies in, and the symbol, the offset and the size where there is one.
+///
+/// It is compiled into its callers: handed on through memory the answer was stored by words and
+/// loaded by pairs of them, which waits.
+#[inline(always)]
 pub(crate) fn seek<'c>(catalog: &'c IndexedCatalog<'static>, addr: u64) -> Option<Seen<'c>>
     ensures { option_map shown_seen result ≡ known_at catalog.now addr }
 {
