@@ -34,7 +34,7 @@ static double now(void) {
     return t.tv_sec + t.tv_nsec / 1e9;
 }
 
-/* The bytes of a file, which stay in memory as they lie in the system's. */
+/* The bytes of a file, which stay in memory as they lie in the system's; of an empty one nothing. */
 static uint8_t *map_file(const char *folder, const char *file, size_t *len) {
     char path[4096];
     snprintf(path, sizeof path, "%s/%s", folder, file);
@@ -42,7 +42,7 @@ static uint8_t *map_file(const char *folder, const char *file, size_t *len) {
     int f = open(path, O_RDONLY);
     if (f < 0 || fstat(f, &about)) { perror(path); exit(1); }
     *len = about.st_size;
-    uint8_t *bytes = mmap(NULL, *len, PROT_READ, MAP_PRIVATE, f, 0);
+    uint8_t *bytes = *len ? mmap(NULL, *len, PROT_READ, MAP_PRIVATE, f, 0) : NULL;
     if (bytes == MAP_FAILED) { perror(path); exit(1); }
     close(f);
     return bytes;
