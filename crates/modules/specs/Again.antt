@@ -14,7 +14,6 @@ pub record IsRegionOf (c : CatalogEntries) (item : Item) (m : ModuleEntry) : Typ
 
 -- each address of this stretch lies in the item and belongs to the symbol
 pub record IsSameWithin (c : CatalogEntries) (l : LastFound) : Type 0 where
-  pub region : IsRegionOf c l.item l.owner.now
   pub above : (x : ℕ) → l.from ≤ x → l.symbol.now.addr ≤ x
   pub items : (x : ℕ) → l.from ≤ x → x < l.to → item_of_address c x ≡ Some l.item
   pub symbols : (x : ℕ) → l.from ≤ x → x < l.to

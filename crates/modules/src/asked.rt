@@ -1,9 +1,10 @@
-//! Whether an index of a module's symbols pays for what is asked of it.
+//! Whether it pays to make a module's symbols ready for what is asked of them.
 
 use crate::placing::lies_in_any;
 use crate::regions::Region;
 
-/// How often the symbols of a module are gone through before an index costs less.
+/// How often the symbols of a module are gone through before to copy them by rising address costs
+/// less.
 const MOST_SCANS: usize = 8;
 
 /// For how many symbols one search without buckets costs less than to put them into buckets.
@@ -30,8 +31,8 @@ impl Asked<'_> {
     }
 
     /// Whether more of the addresses lie in these regions than so many symbols are gone through
-    /// for. They are counted only where that costs less than the index.
-    pub(crate) fn pays_index(self, regions: &[Region], symbols: usize) -> bool {
+    /// for. They are counted only where that costs less than the copies.
+    pub(crate) fn pays_copies(self, regions: &[Region], symbols: usize) -> bool {
         match self {
             Asked::Any => true,
             Asked::These(addrs) => {

@@ -171,14 +171,22 @@ impl Buckets {
         self.below(self.bucket_of(addr))
     }
 
-    /// How many are not above an address.
-    pub(crate) fn place_of<T: Addressed>(&self, listed: &[T], addr: u64) -> usize {
-        let bucket = self.bucket_of(addr);
-        let from = self.below(bucket);
+    /// How many are not above an address, where it is known from where on it is to be sought.
+    #[inline(always)]
+    pub(crate) fn place_from<T: Addressed>(&self, listed: &[T], from: usize, addr: u64) -> usize {
         match place_near::<T, MOST_IN_BUCKET>(listed, from, addr) {
             Some(place) => place,
-            None => bisect(listed, from, self.below(bucket.saturating_add(1)), addr),
+            None => {
+                let next = self.bucket_of(addr).saturating_add(1);
+                bisect(listed, from, self.below(next), addr)
+            }
         }
+    }
+
+    /// How many are not above an address.
+    #[inline(always)]
+    pub(crate) fn place_of<T: Addressed>(&self, listed: &[T], addr: u64) -> usize {
+        self.place_from(listed, self.start_of(addr), addr)
     }
 }
 

@@ -15,11 +15,17 @@ use crate::symbols::Symbol;
 use order_laws::Item;
 use std::marker::Model;
 
-/// What was found last, in which module, from which address on the same is found, and up to which.
+/// The region that addresses were found in last, and its module.
+#[derive(Clone, Copy, Drop)]
+struct LastRegion<'c, 'a> {
+    item: Item,
+    owner: &'c Module<'a>,
+}
+
+/// What was found last, from which address on the same is found, and up to which.
 #[derive(Clone, Copy, Drop)]
 struct LastFound<'c, 'a> {
     item: Item,
-    owner: &'c Module<'a>,
     symbol: &'c Symbol<'a>,
     size: u64,
     from: u64,
@@ -46,21 +52,20 @@ fn owner_of<'c, 'a>(
 fn same_within<'c, 'a>(
     catalog: &'c IndexedCatalog<'a>,
     addr: u64,
-    item: Item,
-    owner: &'c Module<'a>,
+    region: &LastRegion<'c, 'a>,
     found: &FoundSymbol<'c, 'a>,
 ) -> LastFound<'c, 'a>
-    requires region { IsRegionOf catalog.now item owner.now }
-    requires from { item.a ≤ addr }
-    requires below { addr < item.b }
-    requires symbol { symbol_at catalog.now item addr ≡ Some found.now }
+    requires region { IsRegionOf catalog.now region.now.item region.now.owner.now }
+    requires from { region.now.item.a ≤ addr }
+    requires below { addr < region.now.item.b }
+    requires symbol { symbol_at catalog.now region.now.item addr ≡ Some found.now }
     ensures { IsSameWithin catalog.now result }
 {
+    let item = region.item;
     let symbol = found.symbol;
     let start = symbol.addr;
     LastFound {
         item,
-        owner,
         symbol,
         size: found.size,
         from: start.max(item.a),
@@ -76,6 +81,7 @@ fn same_within<'c, 'a>(
 pub struct Finder<'c, 'a> {
     catalog: &'c IndexedCatalog<'a>,
     guesses: Guesses,
+    region: Option<LastRegion<'c, 'a>>,
     last: Option<LastFound<'c, 'a>>,
 }
 
@@ -99,6 +105,7 @@ impl<'c, 'a> Finder<'c, 'a> {
         Finder {
             catalog,
             guesses: Guesses::none(),
+            region: None,
             last: None,
         }
     }
@@ -131,9 +138,11 @@ impl<'c, 'a> Finder<'c, 'a> {
                 };
                 return Some((last.item, Some(found)));
             }
-            if self.guesses.are_rising() && last.item.a <= addr && addr < last.item.b {
-                let place = self.guesses.next_in(last.owner, addr);
-                return Some((last.item, self.find_in(last.item, last.owner, place, addr)));
+        }
+        if let Some(region) = self.region {
+            if region.item.a <= addr && addr < region.item.b {
+                let place = self.guesses.next_in(region.owner, addr);
+                return Some((region.item, self.find_in(&region, place, addr)));
             }
         }
         self.seek(addr)
@@ -144,21 +153,20 @@ impl<'c, 'a> Finder<'c, 'a> {
     #[inline(always)]
     fn find_in(
         &mut self,
-        item: Item,
-        owner: &'c Module<'a>,
+        region: &LastRegion<'c, 'a>,
         near: usize,
         addr: u64,
     ) -> Option<FoundSymbol<'c, 'a>>
-        requires region { IsRegionOf self.old item owner.now }
-        requires from { item.a ≤ addr }
-        requires below { addr < item.b }
+        requires region { IsRegionOf self.old region.now.item region.now.owner.now }
+        requires from { region.now.item.a ≤ addr }
+        requires below { addr < region.now.item.b }
         ensures stays { self.new ≡ self.old }
-        ensures found { result ≡ symbol_at self.old item addr }
+        ensures found { result ≡ symbol_at self.old region.now.item addr }
     {
-        let found = symbol_around(owner, near, item.a, item.b, addr);
+        let found = symbol_around(region.owner, near, region.item.a, region.item.b, addr);
         if self.guesses.are_rising() {
             if let Some(found) = &found {
-                self.last = Some(same_within(self.catalog, addr, item, owner, found));
+                self.last = Some(same_within(self.catalog, addr, region, found));
             }
         }
         found
@@ -176,6 +184,8 @@ impl<'c, 'a> Finder<'c, 'a> {
         let Some(owner) = owner_of(catalog, item, addr) else {
             return Some((item, None));
         };
-        Some((item, self.find_in(item, owner, guess.place, addr)))
+        let region = LastRegion { item, owner };
+        self.region = Some(region);
+        Some((item, self.find_in(&region, guess.place, addr)))
     }
 }

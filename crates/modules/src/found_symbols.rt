@@ -27,6 +27,10 @@ impl<'c, 'a> Model for FoundSymbol<'c, 'a> {
 
 /// Of the symbols of a module from `start` up to `end`, the one at an address, which reaches to the
 /// next address of a symbol or to `end`. Of symbols at one address it is the one listed first.
+///
+/// Like [`symbol_of`] it is compiled into its callers: handed on through memory its answer was
+/// stored by words and loaded by pairs of them, which waits.
+#[inline(always)]
 pub fn symbol_in<'c, 'a>(
     owner: &'c Module<'a>,
     start: u64,
@@ -72,6 +76,7 @@ pub(crate) fn symbol_around<'c, 'a>(
 /// address that is not above `addr`, the first listed among equal addresses. Its size reaches to
 /// the next greater address of such a symbol, or to the item's end. There is none where no such
 /// symbol is at or below the address, or where the item's tag is the number of no module.
+#[inline(always)]
 pub fn symbol_of<'c, 'a>(
     catalog: &'c Catalog<'a>,
     item: Item,

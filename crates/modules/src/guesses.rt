@@ -37,91 +37,88 @@ impl Guess {
     };
 }
 
-/// One of the searches that take their steps by turns: for an address, through the symbols of the
-/// module that has the region.
-#[derive(Clone, Copy, Drop)]
-struct Lane<'c, 'a> {
-    addr: u64,
+/// From which place on an address is to be sought in a module, if there is one.
+#[inline(always)]
+fn start_in(module: Option<&Module>, addr: u64) -> usize {
+    match module {
+        Some(module) => module.start_of(addr),
+        None => 0,
+    }
+}
+
+/// The place that the search from a place on comes to.
+#[inline(always)]
+fn place_in(module: Option<&Module>, from: usize, addr: u64) -> usize {
+    match module {
+        Some(module) => module.place_from(from, addr),
+        None => 0,
+    }
+}
+
+/// The module of the region that was gone to last. The next address mostly lies in the same.
+#[derive(Drop)]
+struct LastModule<'c, 'a> {
     region: usize,
-    place: usize,
     module: Option<&'c Module<'a>>,
 }
 
-impl<'c, 'a> Lane<'c, 'a> {
-    /// One that has no module to go through.
-    fn none() -> Lane<'c, 'a> {
-        Lane {
-            addr: 0,
+impl<'c, 'a> LastModule<'c, 'a> {
+    /// That of the first region.
+    fn first(catalog: &'c IndexedCatalog<'a>) -> LastModule<'c, 'a> {
+        LastModule {
             region: 0,
-            place: 0,
-            module: None,
+            module: catalog.module_at(0),
         }
     }
 
-    /// Reads from where on the symbol is to be sought.
-    fn begin(catalog: &'c IndexedCatalog<'a>, addr: u64) -> Lane<'c, 'a> {
-        let region = catalog.region_near(0, addr);
-        Lane::within(catalog.module_at(region), region, addr)
-    }
-
-    /// The same, in a module that is known.
-    fn within(module: Option<&'c Module<'a>>, region: usize, addr: u64) -> Lane<'c, 'a> {
-        Lane {
-            addr,
-            region,
-            place: module.map_or(0, |module| module.start_of(addr)),
-            module,
-        }
-    }
-
-    /// Goes on to the symbol.
-    fn step(&mut self) {
-        if let Some(module) = self.module {
-            self.place = module.place_from(self.place, self.addr);
-        }
-    }
-
-    /// The guess that it came to.
-    fn guess(&self) -> Guess {
-        Guess {
-            region: self.region,
-            place: self.place,
+    /// Goes to a region.
+    #[inline(always)]
+    fn go_to(&mut self, catalog: &'c IndexedCatalog<'a>, region: usize) {
+        if region != self.region {
+            self.region = region;
+            self.module = catalog.module_at(region);
         }
     }
 }
 
-/// Begins each of the searches.
-fn begin_all<'c, 'a>(lanes: &mut [Lane<'c, 'a>], catalog: &'c IndexedCatalog<'a>, addrs: &[u64]) {
-    for (lane, addr) in lanes.iter_mut().zip(addrs) {
-        *lane = Lane::begin(catalog, *addr);
+/// The first step of each search: reads from where on the symbol is to be sought.
+fn begin_all(guesses: &mut [Guess], catalog: &IndexedCatalog, addrs: &[u64]) {
+    let mut last = LastModule::first(catalog);
+    for (guess, addr) in guesses.iter_mut().zip(addrs) {
+        let region = catalog.region_near(last.region, *addr);
+        last.go_to(catalog, region);
+        let place = start_in(last.module, *addr);
+        *guess = Guess { region, place };
     }
 }
 
-/// Begins each of the searches, for addresses whose items are known.
-fn begin_known<'c, 'a>(
-    lanes: &mut [Lane<'c, 'a>],
-    catalog: &'c Catalog<'a>,
-    asked: &[(Item, u64)],
-) {
-    for (lane, (item, addr)) in lanes.iter_mut().zip(asked) {
-        *lane = Lane::within(catalog.module(item.tag), 0, *addr);
+/// The second step of each: goes on to the symbol.
+fn step_all(guesses: &mut [Guess], catalog: &IndexedCatalog, addrs: &[u64]) {
+    let mut last = LastModule::first(catalog);
+    for (guess, addr) in guesses.iter_mut().zip(addrs) {
+        last.go_to(catalog, guess.region);
+        guess.place = place_in(last.module, guess.place, *addr);
     }
 }
 
-fn step_all(lanes: &mut [Lane]) {
-    for lane in lanes.iter_mut() {
-        lane.step();
+/// The first step for addresses whose items are known.
+fn begin_known(places: &mut [usize], catalog: &Catalog, asked: &[(Item, u64)]) {
+    for (place, (item, addr)) in places.iter_mut().zip(asked) {
+        *place = start_in(catalog.module(item.tag), *addr);
+    }
+}
+
+/// The second step for these.
+fn step_known(places: &mut [usize], catalog: &Catalog, asked: &[(Item, u64)]) {
+    for (place, (item, addr)) in places.iter_mut().zip(asked) {
+        *place = place_in(catalog.module(item.tag), *place, *addr);
     }
 }
 
 /// Guesses where the symbols of the first of these addresses stand in the modules of their items.
 pub(crate) fn guess_places(catalog: &Catalog, asked: &[(Item, u64)], places: &mut [usize; TURNS]) {
-    let mut lanes = [Lane::none(); TURNS];
-    begin_known(&mut lanes, catalog, asked);
-    step_all(&mut lanes);
-    for (place, lane) in places.iter_mut().zip(&lanes) {
-        *place = lane.place;
-    }
+    begin_known(places, catalog, asked);
+    step_known(places, catalog, asked);
 }
 
 /// The guess of an address, whose region is tried first where another guess has it.
@@ -164,17 +161,8 @@ impl Guesses {
         let addrs = &addrs[..addrs.len().min(TURNS)];
         self.rising = addrs.is_sorted_by(|x, y| x <= y);
         if !self.rising {
-            self.guess_all(catalog, addrs);
-        }
-    }
-
-    /// Makes a guess for each of these addresses.
-    fn guess_all(&mut self, catalog: &IndexedCatalog, addrs: &[u64]) {
-        let mut lanes = [Lane::none(); TURNS];
-        begin_all(&mut lanes, catalog, addrs);
-        step_all(&mut lanes);
-        for (guess, lane) in self.all.iter_mut().zip(&lanes) {
-            *guess = lane.guess();
+            begin_all(&mut self.all, catalog, addrs);
+            step_all(&mut self.all, catalog, addrs);
         }
     }
 
@@ -202,11 +190,19 @@ impl Guesses {
         }
     }
 
-    /// The next, which is of this address: its place in the module of the one before.
+    /// The next, which is of this address: its place in the module, which is that of the region
+    /// where the one before was found.
     #[inline(always)]
     pub(crate) fn next_in(&mut self, module: &Module, addr: u64) -> usize {
+        let place = self.taken;
         self.pass();
-        self.last.place = module.place_from(self.last.place, addr);
-        self.last.place
+        if self.rising {
+            self.last.place = module.next_place(self.last.place, addr);
+            return self.last.place;
+        }
+        match self.all.get(place) {
+            Some(guess) => guess.place,
+            None => module.place_of(addr),
+        }
     }
 }

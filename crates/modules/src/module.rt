@@ -101,28 +101,38 @@ fn has_init(parts: &[Part]) -> bool
     parts.iter().any(|part| part.is_init())
 }
 
-/// Copies of the symbols by rising address, where they are wanted, and their buckets; or else those
-/// of the symbols, where they are to be cut into buckets.
+/// The buckets of symbols by rising address, where they pay for what is asked.
+fn buckets_of(alloc: Global, symbols: &[Symbol], asked: Asked<'_>) -> Result<Buckets, AllocError> {
+    if asked.pays_buckets(symbols.len()) {
+        Buckets::of(alloc, symbols)
+    } else {
+        Ok(Buckets::none(alloc))
+    }
+}
+
+/// Copies of the symbols by rising address, where they do not stand so and it pays for what is
+/// asked; and the buckets of the copies, or else of the symbols.
 fn order_of<'a>(
     alloc: Global,
     symbols: &[Symbol<'a>],
-    wanted: bool,
-    cut: bool,
+    rising: bool,
+    regions: &[Region],
+    asked: Asked<'_>,
 ) -> Result<(Option<Vec<Symbol<'a>>>, Buckets), AllocError>
     ensures { IfOk result (λ r. HasOrdered symbols.now r.0) }
 {
-    if wanted {
-        let (copies, buckets) = ordered(alloc, symbols)?;
-        return Ok((Some(copies), buckets));
+    if rising {
+        return Ok((None, buckets_of(alloc, symbols, asked)?));
     }
-    if cut {
-        return Ok((None, Buckets::of(alloc, symbols)?));
+    if !asked.pays_copies(regions, symbols.len()) {
+        return Ok((None, Buckets::none(alloc)));
     }
-    Ok((None, Buckets::none(alloc)))
+    let (copies, buckets) = ordered(alloc, symbols)?;
+    Ok((Some(copies), buckets))
 }
 
 impl<'a> Module<'a> {
-    /// The module in this place with these symbols, indexed if it pays for what is asked.
+    /// The module in this place with these symbols, made ready for what is asked of them.
     pub(crate) fn new(
         alloc: Global,
         placed: Placed<'a>,
@@ -132,10 +142,8 @@ impl<'a> Module<'a> {
         requires { IsPlaced placed }
         ensures { IfOk result (λ m. m ≡ module_with placed.entry symbols.entry.items) }
     {
-        let rising = is_rising(symbols.as_slice());
-        let wanted = !rising && asked.pays_index(placed.regions.as_slice(), symbols.len());
-        let cut = rising && asked.pays_buckets(symbols.len());
-        let (by_address, buckets) = order_of(alloc, symbols.as_slice(), wanted, cut)?;
+        let rising = is_rising(&symbols);
+        let (by_address, buckets) = order_of(alloc, &symbols, rising, &placed.regions, asked)?;
         Ok(Module {
             name: placed.name,
             regions: placed.regions,
@@ -258,14 +266,22 @@ impl<'a> Module<'a> {
     }
 
     /// How many symbols by rising address may be not above the address.
+    #[inline(always)]
     pub(crate) fn place_of(&self, addr: u64) -> usize {
         self.buckets.place_of(self.by_address(), addr)
+    }
+
+    /// The same, where it is known from which place on the first symbol above the address is to be
+    /// sought.
+    #[inline(always)]
+    pub(crate) fn place_from(&self, from: usize, addr: u64) -> usize {
+        self.buckets.place_from(self.by_address(), from, addr)
     }
 
     /// The same, where the symbols below a place are not above the address, and the one that is
     /// sought is one of the next few, or else where it is sought from anew.
     #[inline(always)]
-    pub(crate) fn place_from(&self, from: usize, addr: u64) -> usize {
+    pub(crate) fn next_place(&self, from: usize, addr: u64) -> usize {
         match place_near::<Symbol<'a>, MOST_NEXT>(self.by_address(), from, addr) {
             Some(place) => place,
             None => self.place_of(addr),
@@ -273,6 +289,7 @@ impl<'a> Module<'a> {
     }
 
     /// From which place on the first symbol above the address is to be sought.
+    #[inline(always)]
     pub(crate) fn start_of(&self, addr: u64) -> usize {
         self.buckets.start_of(addr)
     }

@@ -141,12 +141,13 @@ impl<'a> IndexedCatalog<'a> {
         &self.catalog
     }
 
-    /// The region that an address lies in, with the number of its module as the tag.
+    /// The region that an address lies in, with the number of its module as the tag. The first is
+    /// asked first: it is mostly that of the kernel itself, where most addresses lie.
     pub fn find(&self, addr: u64) -> Option<Item>
         ensures is { result ≡ item_of_address self.now addr }
         ensures holds { IfSome result (λ i. (i.a ≤ addr) × (addr < i.b)) }
     {
-        self.find_near(self.region_of(addr), addr)
+        self.find_near(self.region_near(0, addr), addr)
     }
 
     /// The same, tried first at a place by rising address.
@@ -163,11 +164,13 @@ impl<'a> IndexedCatalog<'a> {
     }
 
     /// The place of the region that an address may lie in.
+    #[inline(never)]
     fn region_of(&self, addr: u64) -> usize {
         self.buckets.place_of(&self.items, addr).saturating_sub(1)
     }
 
     /// The same, tried first at a place.
+    #[inline(always)]
     pub(crate) fn region_near(&self, near: usize, addr: u64) -> usize {
         match self.items.get(near) {
             Some(item) if item.a <= addr && addr < item.b => near,

@@ -125,8 +125,8 @@ fn in_order_of<'a>(
         .collect(alloc)
 }
 
-/// Copies of the symbols by rising address, and their buckets. The last that is not above an address
-/// is the one to be found.
+/// Copies of the symbols by rising address, and their buckets. The last that is not above an
+/// address is the one to be found.
 pub(crate) fn ordered<'a>(
     alloc: Global,
     symbols: &[Symbol<'a>],
@@ -214,17 +214,20 @@ fn first_far(symbols: &[Symbol], place: usize, addr: u64) -> usize
     first_near(symbols, near, addr)
 }
 
-/// The same, where the one at a place has it and mostly no other.
+/// The same, where the one at a place has it, and mostly none before it or just one.
 #[inline(always)]
 fn first_back(symbols: &[Symbol], place: usize, addr: u64) -> usize
     requires { IsRising symbols.now }
     ensures { IsFirstOf symbols.now addr result }
 {
     if is_first(symbols, place, addr) {
-        place
-    } else {
-        first_far(symbols, place, addr)
+        return place;
     }
+    let before = place.saturating_sub(1);
+    if is_first(symbols, before, addr) {
+        return before;
+    }
+    first_far(symbols, place, addr)
 }
 
 /// The place of the first symbol that has the address of the one at a place.

@@ -5,3 +5,8 @@ pub returns-then-is_first : goal.returns-then-is_first
 returns-then-is_first c =
     IsFirstOf-from_border c.args.symbols.now c.args.addr c.args.place c.requires
     (c.is_first.ensures c.if-is_first.true)
+
+pub returns-then-is_first-2 : goal.returns-then-is_first-2
+returns-then-is_first-2 c =
+    IsFirstOf-from_border c.args.symbols.now c.args.addr c.saturating_sub-before.result c.requires
+    (c.is_first-2.ensures c.if-is_first-2.true)
