@@ -42,6 +42,8 @@ writes '-:do_one+0xFF 0xffffffff810001ff 0x1f00\n-:ext4_a -\n' --kallsyms basic.
 writes 'do_one 0xffffffff81000100 0x1f00\n-:do_two -\n--kernel -\n' --kallsyms=basic.kallsyms do_one -:do_two --kernel
 writes '-:do_one 0xffffffff81000100 0x1f00\n' --kallsyms basic.kallsyms -- -:do_one
 writes 'do_one -\n' --kallsyms basic.kallsyms --kernel do_one do_one do_one
+# (no name of a listing has the end of a line, and no file of words)
+writes '{"symbol":"a\\u000ab","offset":0}\n{"symbol":"","offset":1}\n' --kallsyms basic.kallsyms --json $'a\nb' +0x1
 
 # faulty STATUS LINE ARGUMENT..: the program fails so, with nothing on standard output
 faulty() {

@@ -1,7 +1,8 @@
 #!/usr/bin/env bash
 # Annotates the logs of examples/logs/, and compares what is written with the logs beside them; looks
 # that what is decided is written while a log goes on, and what is noted before it is begun; and
-# tries what may be wrong with the command line and the files.
+# tries what may be wrong with the command line and the files. With EMULATED, large logs are left out,
+# for which an emulator takes minutes, and more memory than they leave.
 set -euo pipefail
 . "$(dirname "$0")/program.sh"
 build latchsym
@@ -55,7 +56,9 @@ writes "$work/none" --kallsyms "$work/kallsyms" "$work/none"
 
 # words and lines of any length, and bytes of any value
 {
+    printf ffffffffc0000018
     head -c 100000 /dev/zero | tr '\0' f
+    printf ffffffffc0000018
     printf ' ffffffffc0000018 '
     head -c 10000000 /dev/zero | tr '\0' ' '
     printf "(0xffffffffc0000018)$(printf '\\%03o' $(seq 0 255))ffffffffc0000018\n"
@@ -74,10 +77,12 @@ many() {
     local turn
     for turn in $(seq 1 $((1000000000 / $(stat -c %s "$work/log") + 1))); do cat "$1"; done
 }
-many "$work/log" | (ulimit -v 32768 && exec "$program" annotate --kallsyms "$work/kallsyms") 2>"$work/err" |
-    cmp -s - <(many "$work/wanted") || fail "a log of 1 GB: $(cat "$work/err")"
-head -c 50000000 /dev/zero | tr '\0' a >"$work/long"
-(ulimit -v 32768 && exec "$program" annotate --kallsyms "$work/kallsyms" "$work/long") 2>"$work/err" | cmp -s - "$work/long" || fail "a line of 50000000 bytes: $(cat "$work/err")"
+if [ -z "${EMULATED:-}" ]; then
+    many "$work/log" | (ulimit -v 32768 && exec "$program" annotate --kallsyms "$work/kallsyms") 2>"$work/err" |
+        cmp -s - <(many "$work/wanted") || fail "a log of 1 GB: $(cat "$work/err")"
+    head -c 50000000 /dev/zero | tr '\0' a >"$work/long"
+    (ulimit -v 32768 && exec "$program" annotate --kallsyms "$work/kallsyms" "$work/long") 2>"$work/err" | cmp -s - "$work/long" || fail "a line of 50000000 bytes: $(cat "$work/err")"
+fi
 
 # waits FILE WANTED: until the file has what is wanted
 waits() {

@@ -7,22 +7,12 @@
 set -euo pipefail
 . "$(dirname "$0")/program.sh"
 . "$top/tests/library.sh"
+. "$top/tests/tools.sh"
 build_library
 mkdir "$work/lib"
 cp "$library" "$work/lib/liblatchsym.a"
 cp "$shared" "$work/lib/liblatchsym.so.1"
 export LATCHSYM_LIBRARY=$work/lib/liblatchsym.so.1 LATCHSYM_LIB_DIR=$work/lib PYTHONDONTWRITEBYTECODE=1
-
-# has TEST PACKAGE..: whether the test holds, once the packages are there, if they can be had
-has() {
-    if ! eval "$1" >/dev/null 2>&1 && [ "$(id -u)" = 0 ] && command -v apt-get >/dev/null; then
-        echo "bindings: installing ${*:2}"
-        timeout 60 apt-get -qq update >/dev/null 2>&1 || true
-        DEBIAN_FRONTEND=noninteractive timeout 120 apt-get -qq install -y --no-install-recommends "${@:2}" \
-            </dev/null >/dev/null 2>&1 || true
-    fi
-    eval "$1" >/dev/null 2>&1 || { echo "bindings: passed over, since Debian's ${*:2} are not there"; return 1; }
-}
 
 # same PROGRAM..: the program finds what `latchsym lookup` does
 same() {
@@ -65,6 +55,10 @@ if has 'python3 -m venv "$work/venv"' python3-venv; then
 fi
 { echo "addresses = [$addr]"; sample Python; echo 'assert answers[0].offset == 8'; } >"$work/sample.py"
 [ "$(PYTHONPATH=$top/python/src python3 "$work/sample.py")" = $named ]
+# and as installed into a prefix: the library in ~/.local/lib, and nothing that says where it is
+mkdir -p "$work/home/.local/lib"
+cp "$shared" "$work/home/.local/lib/liblatchsym.so.1"
+[ "$(env -u LATCHSYM_LIBRARY -u PYTHONUSERBASE HOME="$work/home" PYTHONPATH="$top/python/src" python3 "$work/sample.py")" = $named ]
 echo "bindings: Python: ok"
 
 for options in -O2 "-g -fsanitize=address,undefined" "-g -fsanitize=thread"; do
@@ -113,6 +107,16 @@ if has 'command -v cargo' cargo; then
     rustc --edition 2021 -L "$work/target/debug/deps" --extern "latchsym=$work/target/debug/liblatchsym.rlib" \
         -o "$work/sample" "$work/sample.rs"
     [ "$("$work/sample")" = $named ]
+    # a library that is missing is said to be, with what to do
+    for words in LATCHSYM_LIB_DIR=/none "-u LATCHSYM_LIB_DIR PKG_CONFIG=/none PKG_CONFIG_PATH=/none"; do
+        # shellcheck disable=SC2086
+        if (cd "$top/bindings/rust" && env $words cargo build --quiet --offline) 2>"$work/err"; then
+            find /usr/lib /usr/lib64 /usr/local/lib -name liblatchsym.a | grep -q . || { echo "bindings: Rust: built of nothing"; exit 1; }
+        elif ! grep -q 'liblatchsym.a' "$work/err" || ! grep -q 'LATCHSYM_LIB_DIR' "$work/err"; then
+            cat "$work/err"
+            exit 1
+        fi
+    done
     echo "bindings: Rust: ok"
 fi
 

@@ -1,10 +1,11 @@
 #!/usr/bin/env bash
 # Builds the library for C, and runs the programs of tests/c and examples/c with it: the text of each
-# number, null pointers, what is found of addresses, views on several threads, the table on threads and beside signals,
-# readers that are added, each request for memory refused, code that is sampled while it comes and
-# goes, and the listings of examples/ as `latchsym lookup` answers; under valgrind and sanitizers
-# where these are there, and names of 700 bytes under gcc's own for addresses. Looks at the object
-# code that a call for signal handlers takes no memory. Needs gcc.
+# number, null pointers, what is found of addresses, views on several threads, the table on threads,
+# beside signals and at each stop of its writer, readers that are added, each request for memory
+# refused, code that is sampled while it comes and goes, the listings of examples/ as
+# `latchsym lookup` answers, and its logs as `latchsym annotate` writes them; under valgrind and
+# sanitizers where these are there, and names of 700 bytes under gcc's own for addresses. Looks at
+# the object code that a call for signal handlers takes no memory. Needs gcc.
 set -euo pipefail
 . "$(dirname "$0")/program.sh"
 . "$top/tests/library.sh"
@@ -15,7 +16,7 @@ compile() {
     gcc -std=gnu11 -Wall -Wextra -Werror -O2 -I"$top/include" "$top/tests/c/$1.c" "$library" -lpthread -o "$work/$1" "${@:2}"
 }
 
-for name in numbers nulls find view table adding refused; do
+for name in numbers nulls find view table adding stops refused; do
     compile $name
     "$work/$name"
 done
@@ -65,6 +66,12 @@ for name in basic causes empty; do
     # shellcheck disable=SC2046
     "$work/lookup" $name.modules $name.kallsyms $(cat $name.addresses) >"$work/lines"
     grep '^0x' $name.expected | cmp "$work/lines" -
+done
+watched "$top/examples/c/annotate.c" "$work/annotate"
+for log in "$top"/examples/logs/*.log; do
+    listings=basic
+    [ ! -e "${log%.log}.kallsyms" ] || listings=${log%.log}
+    "$work/annotate" "$listings.kallsyms" "$listings.modules" <"$log" | cmp - "${log%.log}.expected"
 done
 
 # code that comes and goes, on threads that signals sample: as it is, and under two sanitizers

@@ -27,7 +27,7 @@ run() {
 
 run --help
 [ $status = 0 ] && [ -s "$work/out" ] && [ ! -s "$work/err" ] || fail '--help: not on standard output'
-for words in '' '--prefix' 'a b'; do
+for words in '' '--prefix' 'a b' '--target' '--target arm64 a'; do
     # shellcheck disable=SC2086
     run $words
     [ $status = 2 ] && [ ! -s "$work/out" ] && [ -s "$work/err" ] || fail "install.sh $words: status $status"

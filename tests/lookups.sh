@@ -42,6 +42,128 @@ noted 'latchsym: note: basic.kallsyms: has no symbol _text\n' "${symbols[@]}" --
 noted 'latchsym: note: basic.kallsyms: has no symbol _etext\n' "${symbols[@]}" --kernel _stext _etext 0
 noted 'latchsym: note: basic.modules: no symbol lies in a listed module; are both listings of one boot?\n' --modules basic.modules --kallsyms empty.kallsyms 0
 noted 'latchsym: note: packed.modules: is compressed by gzip; unpack it first\nlatchsym: note: crlf.kallsyms: lines end in CR LF\n' --modules packed.modules --kallsyms crlf.kallsyms 0
+# notes MODULES KALLSYMS LINES ARGUMENT..: a lookup in the listings that printf makes of these notes
+# these lines, of `modules` or of `kallsyms`; by the symbols alone where MODULES is -
+notes() {
+    local options=(--modules "$work/modules" --kallsyms "$work/kallsyms") lines=$3
+    [ "$1" != - ] || options=(--modules-from-symbols --kallsyms "$work/kallsyms")
+    printf "${1#-}" >"$work/modules"
+    printf "$2" >"$work/kallsyms"
+    shift 3
+    notes_on_files "$lines" "${options[@]}" "$@" 1
+}
+# notes_on_files LINES ARGUMENT..: the same of the listings that are there
+notes_on_files() {
+    local lines=$1
+    shift
+    noted "$(printf "$lines" | sed "s,^,latchsym: note: $work/,; s,\$,\\\\n," | tr -d '\n')" "$@"
+}
+m='a 4096 0 - Live 0x3000\n'
+s='1000 T _stext\n2000 T _end\n3010 t a_run\t[a]\n'
+packed='is compressed by gzip; unpack it first\n'
+hidden='every address is 0; read it as root (kernel.kptr_restrict)\n'
+ends='lines end in CR LF\n'
+other_boot='no symbol lies in a listed module; are both listings of one boot?\n'
+no_start='has no symbol _stext\n'
+no_end='has no symbol _end; try --kernel _stext _einittext\n'
+notes "$m" "$s" ''
+notes '' "$s" ''
+notes '' '' ''
+# (a kernel whose symbols are not listed, and lines that are skipped for other causes alone)
+notes "$m" '3010 t a_run\t[a]\n' ''
+notes 'nonsense\n' 'nonsense\n' ''
+notes '\037\213\010\n' "$s" "modules: $packed"
+notes '' '\037\213' "kallsyms: $packed"
+notes '' '\037' ''
+notes 'a 4096 0 - Live 0x0000000000000000\nnonsense\nb 0 0 - Live 0x0\n' "$s" "modules: $hidden"
+notes '' '0000000000000000 T _stext\n\n0000000000000000 t a_run\t[a]\n' "kallsyms: $hidden"
+# (one line that is shown, if it is of no use)
+notes 'a 4096 0 - Live 0x0\nb 0 0 - Live 0x3000\n' "$s" ''
+notes '' '0 T _stext\n3010 t a_run\t[a]\n' ''
+notes "$s" "$m" 'modules: looks like a listing of symbols\nkallsyms: looks like a listing of modules\n'
+notes '\nnonsense\n0 T _stext\n' "$s" 'modules: looks like a listing of symbols\n'
+# (a module that is listed is of use, whatever stands before it)
+notes '0 T _stext\na 4096 0 - Live 0x3000\n' "$s" ''
+notes 'a 4096 0 - Live 0x3000\r\n' "$s" "modules: $ends"
+notes '' '1000 T _stext\r\n2000 T _end\r\n' "kallsyms: $ends"
+notes '' 'nonsense\n1000 T _stext\r\n' "kallsyms: $no_start"
+notes '' '1000 T _text\n2000 T _end\n' "kallsyms: $no_start"
+notes '' '1000 T _text\n' "kallsyms: $no_start"
+notes '' '1000 T _stext\n2000 T _etext\n' "kallsyms: $no_end"
+notes '' '1000 T _stext\n2000 T _etext\n' '' --kernel _stext _etext
+# (one of a module is none of the kernel itself; both may be there in another order)
+notes '' '1000 T _stext\n2000 T _end\t[a]\n' "kallsyms: $no_end"
+notes '' '2000 T _stext\n1000 T _end\n' ''
+notes 'a 4096 0 - Live 0x5000\n' "$s" "modules: $other_boot"
+notes 'b 4096 0 - Live 0x3000\n' "$s" "modules: $other_boot"
+notes 'b 4096 0 - Live 0x5000\na 4096 0 - Live 0x3000\n' "$s" ''
+# (the only module lies in the kernel itself, and is not accepted)
+notes 'a 4096 0 - Live 0x1000\n' "$s" ''
+notes - "$s" ''
+notes - '' ''
+notes - '0 T _stext\n0 t a_run\t[a]\n' "kallsyms: $hidden"
+notes - "$m" 'kallsyms: looks like a listing of modules\n'
+notes - '1000 T _stext\n1800 T run\n' 'kallsyms: has no symbol _etext\n'
+notes - '1800 T run\n2000 T _end\n' "kallsyms: $no_start"
+notes - '1000 T _stext\n1800 T run\n2000 T _end\n' 'kallsyms: has no symbol other\n' --kernel run other
+
+# Parts of a listing that stand far apart. apart BYTES PART..: what printf makes of these parts, with
+# a line of so many bytes between any two
+apart() {
+    local bytes=$1 between='' part
+    shift
+    for part; do
+        [ -z "$between" ] || { head -c "$bytes" /dev/zero | tr '\0' x; echo; }
+        printf "$part"
+        between=yes
+    done
+}
+block=1048576  # more than is read at once
+for bytes in 5000 600000 $((block - 59)); do
+    apart $bytes 'ffffffffc0000010 t ext4_a\t[ext4]\nffffffff81000100 T do_one\n' \
+        'ffffffff81000000 T _stext\nffffffffc0000010 t ext4_b\t[ext4]\n' \
+        'ffffffffc0000040 T ext4_c\t[ext4]\n0 t hidden\nffffffff81000050 T do_none\n' \
+        'ffffffff81002000 B _end\nffffffffc0005000 t far\t[ext4]\n' \
+        'ffffffffc0000030 t ext4_late\t[ext4]' >"$work/kallsyms"
+    noted '' --modules basic.modules --kallsyms "$work/kallsyms" 0xffffffffc0000018 0xffffffffc0000038 0xffffffffc0000fff \
+        0xffffffffc0000008 0xffffffff81000008 0xffffffff81000108 0xffffffff81002000
+    cmp -s "$work/out" - <<'END' || fail "parts with $bytes bytes between: $(cat "$work/out")"
+0xffffffffc0000018 ext4_a+0x8/0x20 [ext4]
+0xffffffffc0000038 ext4_late+0x8/0x10 [ext4]
+0xffffffffc0000fff ext4_c+0xfbf/0xfc0 [ext4]
+0xffffffffc0000008 ? [ext4]
+0xffffffff81000008 _stext+0x8/0x50
+0xffffffff81000108 do_one+0x8/0x1f00
+0xffffffff81002000 -
+modules 1 hidden 0 empty 0 wraps 0 overlap 0 double 0 long 0 malformed 0
+symbols 7 hidden 1 stray 2 long 4 malformed 0
+END
+done
+# names that are long, so that few lines take several blocks
+awk 'BEGIN {
+    print "1000 T _stext"
+    for (i = 0; i < 24000; i++) printf "%x T s%d_of_a_name_that_is_long_enough_for_a_listing_of_several_blocks_of_few_lines_each\n", 4096 + i * 16, i
+    print "ffffff T _end"
+}' >"$work/kallsyms"
+for i in 1 9000 12345 23998; do
+    noted '' --modules empty.modules --kallsyms "$work/kallsyms" $((4099 + 16 * i))
+    [ "$(sed "1s,_of.*_each+,+," "$work/out")" = "$(printf '0x%x s%d+0x3/0x10\nmodules 0 hidden 0 empty 0 wraps 0 overlap 0 double 0 long 0 malformed 0\nsymbols 24001 hidden 0 stray 1 long 0 malformed 0' $((4099 + 16 * i)) $i)" ] ||
+        fail "long names: $(cat "$work/out")"
+done
+# blocks_note LINES PART..: of these parts, a block apart, these lines are noted
+blocks_note() {
+    local lines=$1
+    shift
+    printf "$m" >"$work/modules"
+    apart $block "$@" >"$work/kallsyms"
+    notes_on_files "$lines" --modules "$work/modules" --kallsyms "$work/kallsyms" 0x1008
+}
+blocks_note '' '3010 t a\t[a]\n' '2000 T _end\n' '1000 T _stext\n'
+blocks_note "kallsyms: $no_end" '1000 T _stext\n' '1000 T b\n' '3010 t a\t[a]\n'
+blocks_note "modules: ${other_boot}kallsyms: $no_start" '4000 t a\t[a]\n' '1 T b\n' '2000 T _end\n'
+blocks_note "modules: ${other_boot}kallsyms: $hidden" '0 T _stext\n' '0 T _end\n' '0 t a\t[a]\n'
+blocks_note "modules: ${other_boot}kallsyms: looks like a listing of modules\n" 'x\n' 'a 1 0 - Live 0x1\n' '1 t b\t[b]\n'
+
 # a status and an output that cannot be told of are no fault
 if [ -e /dev/full ]; then
     status=0
@@ -130,7 +252,7 @@ lines '0xffffffffc0001040 ext4_a+0x30/0x30 [ext4]\n0x1000 -\n' --offset 4096 --c
 "$program" lookup "${basic[@]}" --no-counts --addresses basic.addresses | cmp -s - <(head -n -2 basic.expected) || fail "--no-counts"
 "$program" lookup "${basic[@]}" --no-counts --addresses /dev/null >"$work/out" && [ ! -s "$work/out" ] || fail "--no-counts without an address"
 "$program" lookup "${basic[@]}" --json --no-counts 0xffffffff81000108 0 | cmp -s - <(printf '{"address":"0xffffffff81000108","symbol":"do_one","offset":8,"size":7936}\n{"address":"0x0"}\n') || fail "--json"
-"$program" --version | cmp -s - <(echo 'latchsym 1.0.0') || fail "--version"
+"$program" --version | cmp -s - <(echo 'latchsym 1.1.0') || fail "--version"
 "$program" --help | grep -q 'hold an address' || fail "--help says not what the program is for"
 
 # a line of 4096 bytes is read, and one byte more makes it long
@@ -140,8 +262,8 @@ printf 'm 1 0 - Live 0x1000 %04077d\n' 0 >"$work/long"
 "$program" lookup --modules "$work/long" --kallsyms empty.kallsyms 0x1000 | head -n 2 | cmp -s - <(printf '0x1000 -\nmodules 0 hidden 0 empty 0 wraps 0 overlap 0 double 0 long 1 malformed 0\n') || fail "a line of 4097 bytes"
 
 # a table has 65536 nodes at most
-awk 'BEGIN { for (i = 1; i <= 70000; i++) printf "m%d 4096 0 - Live 0x%x\n", i, i * 4096 }' >"$work/many"
-head -n 65536 "$work/many" >"$work/most"
+awk 'BEGIN { for (i = 1; i <= 65537; i++) printf "m%d 4096 0 - Live 0x%x\n", i, i * 4096 }' >"$work/more"
+head -n 65536 "$work/more" >"$work/most"
 "$program" lookup --modules "$work/most" --kallsyms empty.kallsyms 0x10000fff 2>"$work/err" | head -n 2 | cmp -s - <(printf '0x10000fff ? [m65536]\nmodules 65536 hidden 0 empty 0 wraps 0 overlap 0 double 0 long 0 malformed 0\n') || fail "65536 modules"
 
 # the symbols alone say where modules lie: two take turns, one has no line in /proc/modules
@@ -209,8 +331,10 @@ refused() {
     [ $status = "$want" ] && [ ! -s "$work/out" ] && [ -s "$work/err" ] || fail "lookup $*: status $status in place of $want"
     [ -z "$line" ] || [ "$(cat "$work/err")" = "latchsym: $line" ] || fail "lookup $*: $(cat "$work/err")"
 }
-refused 1 "refused 10" --modules "$work/many" --kallsyms empty.kallsyms 1
-refused 2 "bad offset x" "${basic[@]}" --offset x 1
+refused 1 "refused 10" --modules "$work/more" --kallsyms empty.kallsyms 1
+for offset in '' x 0x 18446744073709551616; do
+    refused 2 "bad offset $offset" "${basic[@]}" 1 --offset "$offset"
+done
 refused 2 "--kernel takes two names of symbols, and its END is 0x10" "${basic[@]}" --kernel _stext 0x10
 refused 1 "no_such: cannot be read" --modules no_such --kallsyms basic.kallsyms 1
 refused 1 "no_such: cannot be read" --modules basic.modules --kallsyms no_such 1
@@ -221,7 +345,7 @@ refused 1 "no_such: cannot be read" --modules no_such --kallsyms . 1
 printf 'latchregions 1\nm core 0 1\n' >"$work/bad.regions"
 printf 'latchregions 2\n' >"$work/other.regions"
 : >"$work/none.regions"
-{ printf 'latchregions 1\n'; printf 'm core %d 1\n' 1 2 3 4 5 6 7 8; } >"$work/eight.regions"
+{ printf 'latchregions 1\n'; printf 'm core %d 1\n' 1 2 3 4; printf 'm init %d 1\n' 5 6 7 8; } >"$work/eight.regions"
 refused 1 "$work/bad.regions: line 2 is not understood" --modules regions.modules --kallsyms regions.kallsyms --regions "$work/bad.regions" 1
 refused 1 "$work/other.regions: line 1 is not understood" --modules regions.modules --kallsyms regions.kallsyms --regions "$work/other.regions" 1
 refused 1 "$work/none.regions: line 1 is not understood" --modules regions.modules --kallsyms regions.kallsyms --regions "$work/none.regions" 1
@@ -233,7 +357,11 @@ refused 2 "" --modules regions.modules --kallsyms regions.kallsyms --regions reg
 printf '16\n# a comment\n0x\n16x\n' >"$work/bad.addresses"
 printf '16\n 17\n' >"$work/blank.addresses"
 printf '%04097d\n' 1 >"$work/long.addresses"
+printf '1 2\n' >"$work/two.addresses"
+printf '1\n18446744073709551616\n1\nx\n' >"$work/great.addresses"
 refused 1 "$work/bad.addresses: line 3 is not understood" "${basic[@]}" --addresses "$work/bad.addresses"
+refused 1 "$work/two.addresses: line 1 is not understood" "${basic[@]}" --addresses "$work/two.addresses"
+refused 1 "$work/great.addresses: line 2 is not understood" "${basic[@]}" --addresses "$work/great.addresses" 1
 refused 1 "$work/blank.addresses: line 2 is not understood" "${basic[@]}" --addresses "$work/blank.addresses" 1
 refused 1 "$work/long.addresses: line 1 is not understood" "${basic[@]}" --addresses "$work/long.addresses"
 refused 1 "-: line 3 is not understood" "${basic[@]}" --addresses - <"$work/bad.addresses"

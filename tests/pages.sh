@@ -1,9 +1,10 @@
 #!/usr/bin/env bash
 # Compares the man page and the completions with what the program says of itself by `--help`: each
 # has all options of each command, and none that the program lacks; and the library's page with its
-# header. Formats the pages without a warning and runs the examples of the program's; completes words
-# in bash, and in fish where that is installed; and has zsh read its completion where it is. Needs
-# man and groff (Debian has them in man-db and groff-base).
+# header. Formats the pages without a warning and runs the examples of the program's and of README.md;
+# completes words in bash, and in fish where that is installed; and has zsh read its completion where
+# it is. Follows the links of all pages, and has scripts say so where there is no kit. Needs man and
+# groff (Debian has them in man-db and groff-base).
 set -euo pipefail
 . "$(dirname "$0")/program.sh"
 for tool in man groff; do
@@ -89,6 +90,31 @@ while IFS= read -r line; do
 done < <(section EXAMPLES)
 for command in $helped; do
     grep -q "latchsym $command " "$work/commands" || fail "no example of $command"
+done
+
+# README.md: its first command, from the top of the repository, and the log that it begins with
+mapfile -t blocks < <(awk '/^## Try it/ { here = 1 } /^As root/ { here = 0 } here' "$top/README.md" |
+    awk '/^    / { printf "%s%s", sep, substr($0, 5); sep = "\\n"; next } sep { print ""; sep = "" }')
+[ ${#blocks[@]} = 2 ] || fail "README.md has ${#blocks[@]} blocks below Try it"
+same 'what README.md tries' "$(printf '%b' "${blocks[1]}")" \
+    "$(cd "$top" && PATH=$work/bin:$PATH bash -c "${blocks[0]//\\\\n/ }" 2>&1)"
+awk '/^    \[/ { print substr($0, 5); next } /^    /, 0 { exit }' "$top/README.md" >"$work/logs"
+half=$(($(wc -l <"$work/logs") / 2))
+same 'the log of README.md' "$(tail -n "$half" "$work/logs")" "$(head -n "$half" "$work/logs" |
+    "$program" annotate --callers --modules "$top/examples/listings/basic.modules" --kallsyms "$top/examples/listings/basic.kallsyms")"
+python3 "$top/tests/links.py" "$top" >"$work/links" || fail "$(cat "$work/links")"
+
+# without the kit a script that builds says so, in one line
+mkdir "$work/tools"
+for tool in bash cat cp cut date dirname find grep mktemp realpath rm sed tr; do
+    ln -s "$(command -v $tool)" "$work/tools"
+done
+for script in "install.sh $work/prefix" tests/cases.sh tests/quick.sh tests/linear.sh tests/bindings.sh 'tests/wrong_bodies.sh --all'; do
+    status=0
+    # shellcheck disable=SC2086
+    (cd "$top" && env -u UNPROVED PATH="$work/tools" bash $script) >"$work/out" 2>&1 || status=$?
+    [ $status = 1 ] && [ "$(wc -l <"$work/out")" = 1 ] && grep -q 'Rattle kit' "$work/out" ||
+        fail "$script without the kit: status $status, $(cat "$work/out")"
 done
 
 # the page of the library: the calls of the header, word for word, and its numbers

@@ -26,9 +26,15 @@ tar -C "$work" -xf "$work/first/$name.tar.xz"
 cp "$top"/examples/listings/basic.{modules,kallsyms,addresses} "$work/$name"
 for file in LICENSE-MIT LICENSE-APACHE CHANGELOG.md include/latchsym.h include/latchsym.hpp lib/liblatchsym.a \
     share/man/man1/latchsym.1 share/man/man3/latchsym.3 python/pyproject.toml bindings/rust/Cargo.toml \
-    examples/fleet/README.md; do
+    bindings/rust/lib/x86_64/liblatchsym.a examples/fleet/README.md debian/rules latchsym.spdx.json \
+    licences/memchr/LICENSE-MIT; do
     [ -s "$work/$name/$file" ] || fail "it has no $file"
 done
+# the pages: all of them, and no dead link
+for file in README.md docs/PROOF.md docs/headline.txt docs/watch/index.html docs/watch/torn.png; do
+    [ -s "$work/$name/$file" ] || fail "it has no $file"
+done
+python3 "$top/tests/links.py" "$work/$name" || fail 'dead links'
 size=$(stat -c %s "$work/first/$name.tar.xz")
 
 if ! in_root / true 2>/dev/null; then

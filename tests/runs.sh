@@ -75,6 +75,42 @@ awk '
     END { exit !(generation >= 2000 && refused + generation == 33334 && !fell) }
 ' "$work/out" || fail "eight writers beside 64 readers: too few generations, or they do not add up, or fall"
 
+# eight writers of three modules each, of which one has an init region: what becomes of the 5000
+# changes of each follows from its own modules, whatever the others do meanwhile
+awk -v folder="$work" '
+    function may(change, n) {
+        if (n == 0) return 11
+        if (change == "load") { if (state[n]) return 12; state[n] = n % 3 ? 1 : 2; return 0 }
+        if (!state[n]) return 13
+        if (change == "init" && state[n] == 1) return 17
+        state[n] = change == "init"
+        return 0
+    }
+    BEGIN {
+        srand(1)
+        print "latchregions 1" >(folder "/own.regions")
+        for (n = 1; n <= 24; n++) {
+            printf "m%d 4096 0 - Live 0x%x\n", n, 4096 * n >(folder "/own")
+            if (n % 3 == 0) printf "m%d core 0x%x 4096\nm%d init 0x%x 4096\n", n, 4096 * n, n, 4096 * n + 1048576 >(folder "/own.regions")
+        }
+        for (i = 0; i < 40000; i++) {
+            w = i % 8
+            n = int(16 * rand()) ? 3 * w + 1 + int(3 * rand()) : 0
+            change = substr("load  load  unloadunloadinit  ", 1 + 6 * int(5 * rand()), 6)
+            sub(/ +$/, "", change)
+            printf "%s %d m%d\nlook %d 0x%x\n", change, w + 1, n, 1 + i % 2, 4096 * (1 + i % 24) + 1048576 * (int(i / 24) % 2) >(folder "/own.script")
+            if (why = may(change, n)) refused[w] = refused[w] "refused " w + 1 " " why " m" n "\n"
+            else accepted++
+        }
+        for (w = 0; w < 8; w++) printf "%s", refused[w] >(folder "/own.expected")
+        printf "checked 40000 wrong 0 seq %d gen %d\n", 2 * accepted, accepted >(folder "/own.expected")
+        exit accepted < 10000
+    }' || fail "changes of own modules: too few are accepted"
+notes="latchsym: note: $work/own: no symbol lies in a listed module; are both listings of one boot?"
+run --modules "$work/own" --kallsyms /dev/null --regions "$work/own.regions" --readers 2 "$work/own.script"
+notes=
+grep -v '^[0-9]' "$work/out" | cmp -s - "$work/own.expected" || fail "changes of own modules: other lines"
+
 # the names of changes and the addresses of lookups come in the order of the script, by writer and
 # by reader
 printf 'unload 8 b\nlook 2 7\nunload 1 a\n\nload 8 c\n# last\nlook 1 0x8\nlook 2 9' >"$work/order"
@@ -114,7 +150,7 @@ refused() {
     [ $status = "$want" ] && [ ! -s "$work/out" ] && [ -s "$work/err" ] || fail "run $*: status $status in place of $want"
     [ -z "$line" ] || [ "$(cat "$work/err")" = "latchsym: $line" ] || fail "run $*: $(cat "$work/err")"
 }
-for word in 0 65 x 64x ''; do
+for word in 0 65 x 64x '' 18446744073709551617; do
     refused 2 "bad number of readers $word" "${basic[@]}" --readers "$word" loads.script
 done
 refused 2 "--kernel takes two names of symbols, and its END is 0x10" "${basic[@]}" --kernel _stext 0x10 --readers 1 loads.script

@@ -28,7 +28,8 @@ function drawn() {
   };
 }
 
-const press = (key) => document.dispatchEvent(new KeyboardEvent("keydown", { key, bubbles: true }));
+const press = (key, target = document) => target.dispatchEvent(new KeyboardEvent("keydown", { key, bubbles: true }));
+const wait = (time) => new Promise((done) => setTimeout(done, time));
 const faults = [];
 
 function expect(holds, what) {
@@ -68,6 +69,11 @@ async function keysAndFiles() {
   $("number").value = 5;
   $("number").dispatchEvent(new Event("change"));
   expect(page.event === 5, "the number");
+  for (const [asked, shown] of [["1.5", 2], ["0.2", 0], ["1e9", page.run.count], ["", 0]]) {
+    $("number").value = asked;
+    $("number").dispatchEvent(new Event("change"));
+    expect(page.event === shown && $("number").value === `${shown}`, `the number ${asked}`);
+  }
   $("steps").children[2].click();
   expect(page.event === 2, "a line of the steps");
   $("theme").click();
@@ -76,9 +82,88 @@ async function keysAndFiles() {
   await open([new File([example.steps], "my.steps"), new File([example.trace], "my.trace")]);
   expect(page.run.trace === example.trace && page.event === 0, "a file that is opened");
   await open([new File(["latchtrace 1 halfopen 4\n"], "my.trace")]);
-  expect($("reason").textContent.startsWith("Cannot play it"), "a file without steps");
+  expect(/^Cannot play it: my.trace is a trace.*latchsym trace --steps my.trace /.test($("reason").textContent), "a trace without its steps");
   await open([new File([example.steps.split("\n").slice(2).join("\n")], "cut.steps")]);
   expect($("reason").textContent.startsWith("Cannot play it"), "a file without its beginning");
+}
+
+// the keys work where a button has the focus, which takes its Space alone
+function keysOnButtons() {
+  playExample(examples()[0].name);
+  $("next").focus();
+  $("next").click();
+  press("ArrowRight", $("next"));
+  expect(page.event === 2, "ArrowRight on a button");
+  press("End", $("next"));
+  expect(page.event === page.run.count, "End on a button");
+  press("Home", $("last"));
+  press("n", $("last"));
+  press("n", $("last"));
+  const turn = page.event;
+  press("p", $("last"));
+  expect(page.event > 0 && page.event < turn, "n and p on a button");
+  press(" ", $("last"));
+  expect(page.timer === null, "Space on a button is the button's");
+  press(" ");
+  expect(page.timer !== null, "Space plays");
+  press(" ");
+  press("ArrowRight", $("example"));
+  expect(page.event > 0 && page.event < turn, "a list keeps its keys");
+}
+
+// the address names the moment, and is followed
+async function addresses() {
+  playExample("torn_item");
+  show(20);
+  await wait(400);
+  expect(location.hash === "#example=torn_item&event=20", `the address of a moment: ${location.hash}`);
+  location.hash = "#example=every_stop&event=7";
+  await wait(100);
+  expect(page.example === "every_stop" && page.event === 7, "an address that is followed");
+  location.hash = "#example=every_stop&event=9";
+  await wait(100);
+  expect(page.event === 9, "another event of the same example");
+}
+
+// what is said, in words
+function words() {
+  expect(examples()[0].name === "one_insert", "the first example");
+  const said = (name, kind) => {
+    playExample(name);
+    show(page.run.steps.findIndex((step) => step.kind === kind));
+    return $("sentence").textContent;
+  };
+  expect(said("full_where_full", "open").includes("1 node,"), "one node");
+  expect(said("torn_item", "refusal") === "The writer may not erase 0x99: no item has this first word.", "a refusal");
+  expect(!$("about").textContent.includes("`") && said("every_stop", "open") && $("about").querySelector("code"), "code in a description");
+  const footer = document.querySelector("footer").textContent;
+  expect(footer.includes("Space") && footer.includes("previous") && !footer.includes("blank"), "the keys in the footer");
+  const intro = document.querySelector(".intro");
+  expect(/latched tree is/.test(intro.textContent) && intro.querySelector('a[href="../HOW_IT_WORKS.md"]'), "what a latched tree is");
+}
+
+// the contrast of a text with what it stands on, as WCAG computes it
+function contrast(element) {
+  const light = (color) => {
+    const [r, g, b] = color.match(/[\d.]+/g).slice(0, 3).map((it) => it / 255).map((it) => (it <= 0.03928 ? it / 12.92 : ((it + 0.055) / 1.055) ** 2.4));
+    return 0.2126 * r + 0.7152 * g + 0.0722 * b + 0.05;
+  };
+  const style = getComputedStyle(element);
+  const [x, y] = [light(style.color), light(style.backgroundColor)];
+  return Math.max(x, y) / Math.min(x, y);
+}
+
+function badges() {
+  for (const theme of ["light", "dark"]) {
+    paint(theme);
+    for (const event of [0, 16]) {
+      playExample("one_insert");
+      show(event);
+      for (const badge of document.querySelectorAll(".badge")) {
+        expect(contrast(badge) >= 4.5, `the contrast of "${badge.textContent}" is ${contrast(badge)} in ${theme}`);
+      }
+    }
+  }
 }
 
 // plays to its end by itself
@@ -86,7 +171,7 @@ async function played() {
   playExample(examples()[0].name);
   $("speed").value = "180";
   $("play").click();
-  await new Promise((done) => setTimeout(done, 181 * (page.run.count + 2)));
+  await wait(181 * (page.run.count + 2));
   expect(page.event === page.run.count && page.timer === null, "playing ends at the end");
 }
 
@@ -94,6 +179,10 @@ async function drive() {
   const shown = {};
   for (const { name } of examples()) shown[name] = watched(name);
   await keysAndFiles();
+  keysOnButtons();
+  await addresses();
+  words();
+  badges();
   await played();
   const result = document.createElement("pre");
   result.id = "result";

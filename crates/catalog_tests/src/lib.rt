@@ -1,7 +1,7 @@
-//! Tests of listings, catalogs and symbols: of `listing` and `modules`.
+//! Tests of `listing`, `texts` and `modules`: devices that fail or give little at once.
 //!
-//! They call what those crates offer to anyone, and stand beside them, since a crate with tests is
-//! proved twice.
+//! What those crates make of bytes is shown by the built program (tests/cases/, tests/lines.sh).
+//! They stand beside the crates, since a crate with tests is proved twice.
 #![tactic(auto)]
 
 #[cfg(test)]
@@ -9,28 +9,8 @@ mod address_files;
 #[cfg(test)]
 mod annotated_logs;
 #[cfg(test)]
-mod catalogs;
-#[cfg(test)]
-mod counted_devices;
-#[cfg(test)]
-mod kernel_listings;
-#[cfg(test)]
-mod listing_blocks;
-#[cfg(test)]
 mod portions;
-#[cfg(test)]
-mod region_files;
-#[cfg(test)]
-mod script_files;
-#[cfg(test)]
-mod sieved_lines;
-#[cfg(test)]
-mod sifted_catalogs;
 #[cfg(test)]
 mod symbol_answers;
 #[cfg(test)]
 mod symbol_lists;
-#[cfg(test)]
-mod symbols_alone;
-#[cfg(test)]
-mod trace_files;

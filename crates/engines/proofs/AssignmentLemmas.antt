@@ -3,10 +3,10 @@ use Rattle.std.proofs.Common.{◌≡◌, ℕ, List, [], ◌∷◌, ◌++◌, Som
 use Rattle.std.specs.Global.{Vec}
 use Rattle.std.specs.List.{filter_map}
 use Rattle.facts.proofs.Lists.{one_given_more, none_given_more}
-use Rattle.listing.specs.declared.scripts.ScriptLine.{ScriptLine}
+use Rattle.run_files.specs.declared.scripts.ScriptLine.{ScriptLine}
 use Rattle.modules.specs.Entries.{CatalogEntries}
 use Rattle.shared_lookup.specs.declared.changes.Change.{Change}
-use Rattle.listing.specs.Scripts.{most_writers}
+use Rattle.run_files.specs.Scripts.{most_writers}
 use Rattle.engines.specs.declared.assignments.Assignments.{Assignments}
 use Rattle.engines.specs.Assignments.{AreListed, IsAssigned, change_in, key_in, name_in}
 

@@ -9,9 +9,9 @@ use Rattle.order_laws.specs.declared.refusals.Refusal.TheVariants.{OutOfMemory}
 use Rattle.order_laws.specs.Orders.{half_open}
 use Rattle.word_layout.specs.Layouts.{capacity_of, limit_of}
 use Rattle.word_layout.specs.Words.{at}
-use Rattle.latch_core.specs.declared.updates.Update.{Update}
-use Rattle.latch_core.specs.Histories.{replay}
-use Rattle.latch_core.specs.Updates.{erased, inserted, refusal_for}
+use Rattle.table_updates.specs.declared.updates.Update.{Update}
+use Rattle.table_updates.specs.Updates.{replay}
+use Rattle.table_updates.specs.Updates.{erased, inserted, refusal_for}
 use Rattle.latch_steps.specs.declared.events.Event.TheVariants.{Begin}
 use Rattle.latch_steps.specs.declared.replies.Reply.{Reply}
 use Rattle.latch_steps.specs.declared.replies.Reply.TheVariants.{Begun, Refused}

@@ -13,26 +13,26 @@ use Rattle.latch_steps.specs.declared.commands.Command.{Command}
 use Rattle.latch_steps.specs.declared.drivers.Driver.{Driver}
 use Rattle.latch_steps.specs.declared.replies.Note.{Note}
 use Rattle.latch_steps.specs.declared.traces.Notes.{Notes}
-use Rattle.latch_steps.specs.Drivers.{DrivesOn, HasDriven, IsTakenFrom, LeavesNotes, notes_in}
+use Rattle.latch_steps.specs.Drivers.{DrivesOn, IsTakenFrom, LeavesNotes, notes_in}
 use Rattle.latch_steps.specs.Expands.{Expand}
 use Rattle.latch_steps.specs.Promises.{AreNotesOfCommands, IsExactWherePlain}
 use Rattle.latch_steps.specs.Runs.{last_of, opening}
 use Rattle.latch_steps.specs.Safe.{IsSafe}
 use Rattle.latch_steps.specs.Steps.{Run, machine}
 use Rattle.latch_steps.specs.Traces.{notes_of}
-use Rattle.listing.specs.declared.counted.Counted.{Counted}
-use Rattle.listing.specs.declared.header.Header.{Header}
-use Rattle.listing.specs.CommandLines.{IsUnderstood, LinesLeft}
-use Rattle.listing.specs.Counted.{NoneFailed, Rose, device_of, failures_of}
-use Rattle.listing.proofs.ReadLemmas.{of_read}
-use Rattle.listing.specs.Said.{entries_after}
-use Rattle.listing.proofs.SaidLemmas.{all_said, bad_said, none_before, one_more}
-use Rattle.listing.specs.Trace.{trace_of, with_header}
+use Rattle.texts.specs.declared.counted.Counted.{Counted}
+use Rattle.run_files.specs.declared.header.Header.{Header}
+use Rattle.run_files.specs.CommandLines.{IsUnderstood, LinesLeft}
+use Rattle.texts.specs.Counted.{NoneFailed, Rose, device_of, failures_of}
+use Rattle.texts.proofs.ReadLemmas.{of_read}
+use Rattle.texts.specs.Said.{entries_after}
+use Rattle.texts.proofs.SaidLemmas.{all_said, bad_said, none_before, one_more}
+use Rattle.run_files.specs.Trace.{trace_of, with_header}
 use Rattle.engines.specs.GatheredTraces.{GathersCommand, GathersLines, HasGathered, IsLinesFault, IsNext, IsNotOpened}
-use Rattle.engines.specs.Texts.{end_text, note_text}
+use Rattle.engines.specs.TraceTexts.{end_text, note_text}
 use Rattle.engines.specs.Traces.{AnswersReadBy, AnswersSaid, HeaderMayNotOpen, HeaderMayOpen, IsRunText, IsTraceText, IsTraceWith, Stays, greatest_of, order_by}
 use Rattle.engines.specs.declared.fault.Fault.{Fault}
-use Rattle.engines.specs.declared.fault.Fault.TheVariants.{Refused, BadLine, Read, Write}
+use Rattle.engines.specs.declared.fault.Fault.TheVariants.{Refused, BadLine, Write}
 
 -- what was taken from lines, where its test is known
 pub taken : (old new : LinesLeft) (next : Option (Command ℕ)) (c : Command ℕ) → next ≡ Some c → IsNext old new next

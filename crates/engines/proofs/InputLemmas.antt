@@ -1,8 +1,8 @@
 -- The same answer, where more is known of what was read.
 use Rattle.std.proofs.Common.{◌≡◌, ℕ, zero, suc, [], ◌∷◌, Option, Result, Ok, Err, ⊎_elim, arith}
 use Rattle.std.specs.Prelude.{IfSome}
-use Rattle.listing.specs.declared.counted.Counted.{Counted}
-use Rattle.listing.specs.Counted.{Rose}
+use Rattle.texts.specs.declared.counted.Counted.{Counted}
+use Rattle.texts.specs.Counted.{Rose}
 use Rattle.order_laws.specs.declared.refusals.Refusal.TheVariants as refusal
 use Rattle.engines.specs.declared.fault.Fault.{Fault}
 use Rattle.engines.specs.declared.fault.Fault.TheVariants.{Refused, BadLine, Read, Write}

@@ -6,12 +6,6 @@ mod WorldOpeningLemmas
 mod CatalogLoadLemmas
 -- the same answer, where more is known of what was read
 mod InputLemmas
--- from the blocks of a listing of symbols to what is kept of it
-mod SiftedSymbolLemmas
--- the catalog of kept lines answers for the asked addresses as that of all lines does
-mod SiftedAnswerLemmas
--- from what is kept of a listing of symbols to what its lookup writes
-mod SiftedLookupLemmas
 -- from the files that a lookup reads to what it returns
 mod LookupReadingLemmas
 -- one line more of a script

@@ -1,7 +1,7 @@
 -- Digits in front of what stands in a room.
 use Rattle.std.proofs.Common.{◌≡◌, ◌∙◌, ℕ, zero, suc, ◌+◌, ◌-◌, ◌*◌, ◌/◌, ◌%◌, ◌^◌, ◌<◌, ◌≤◌, Bool, true, false, cond, List, [], ◌∷◌, ◌++◌, refl, sym, ap, subst, arith, inl, inr, ◌==◌}
 use Rattle.std.proofs.Math.Nat.{eq-or-lt_of_le, pow-suc, div-lt_iff_lt-mul}
-use Rattle.listing.proofs.HexadecimalLemmas.{more}
+use Rattle.texts.proofs.HexadecimalLemmas.{more}
 use Rattle.std.specs.Fmt.{digits, digits_onto, digit_glyph}
 
 either : (b : Bool) (xs ys behind : List ℕ) → cond b (xs ++ behind) (ys ++ behind) ≡ cond b xs ys ++ behind

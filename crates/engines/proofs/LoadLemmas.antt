@@ -7,10 +7,10 @@ use Rattle.order_laws.specs.Orders.{Order, half_open, half_open_lawful}
 use Rattle.order_laws.specs.Tables.{IsTable, look}
 use Rattle.order_laws.proofs.TableLemmas.{look_is, look_only, same_look}
 use Rattle.facts.proofs.Members.{Contains-none}
-use Rattle.latch_core.proofs.HistoryLemmas.{from_replay, length_replay, to_replay}
-use Rattle.latch_core.specs.declared.updates.Update.{Update}
-use Rattle.latch_core.specs.Histories.{replay}
-use Rattle.latch_core.specs.Updates.{erased, inserted}
+use Rattle.table_updates.proofs.HistoryLemmas.{from_replay, length_replay, to_replay}
+use Rattle.table_updates.specs.declared.updates.Update.{Update}
+use Rattle.table_updates.specs.Updates.{replay}
+use Rattle.table_updates.specs.Updates.{erased, inserted}
 use Rattle.engines.specs.LoadedWorlds.{AreInsertsOf}
 
 -- a list of updates that erase nothing

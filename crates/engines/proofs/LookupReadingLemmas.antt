@@ -1,8 +1,8 @@
 -- From the files that a lookup reads to what it returns.
 use Rattle.std.proofs.Common.{◌≡◌, ◌∙◌, ℕ, List, Option, Some, None, Result, Ok, Err, IfSome, inl, inr, refl, sym, ap, subst}
 use Rattle.std.specs.Prelude.{option_and_then}
-use Rattle.listing.specs.declared.counted.Counted.{Counted}
-use Rattle.listing.specs.Counted.{Rose}
+use Rattle.texts.specs.declared.counted.Counted.{Counted}
+use Rattle.texts.specs.Counted.{Rose}
 use Rattle.listing.specs.declared.listing_notes.ListingNotes.{ListingNotes}
 use Rattle.order_laws.specs.declared.refusals.Refusal.TheVariants as refusal
 use Rattle.modules.specs.Listed.{ListedRegion}
@@ -12,7 +12,7 @@ use Rattle.engines.specs.declared.forms.AnswerForm.{AnswerForm}
 use Rattle.engines.specs.declared.lookup.LookupOptions.{LookupOptions}
 use Rattle.engines.specs.LookupInputs.{Inputs, Texts, all_addresses, inputs_after, inputs_of, inputs_with, notes_of, region_lines, texts_of}
 use Rattle.engines.specs.Lookups.{AnswersLookup, AnswersWith, FitsTable, GivesAddresses, GivesLines, HasTooManyOfOne, HasTooManyRegions, IsWritten}
-use Rattle.engines.specs.Readings.{AnswersInputs, Failures, HoldsOf, IsReadAs, NoReaderFailed, OnlyFailed}
+use Rattle.engines.specs.Readings.{Failures, HoldsOf, NoReaderFailed, OnlyFailed}
 
 -- What is known of the texts of the listings of modules, of symbols and of regions, and of that of
 -- the addresses.

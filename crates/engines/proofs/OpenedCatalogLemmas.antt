@@ -1,7 +1,7 @@
 -- From what was read of listings to the catalog that they say.
 use Rattle.std.proofs.Common.{◌≡◌, ℕ, List, [], Option, Some, None, Result, Ok, Err, sym, ◌∙◌, ap, subst}
 use Rattle.std.specs.Prelude.{is_some, unwrap_or}
-use Rattle.listing.specs.Lines.{lines_of}
+use Rattle.texts.specs.Lines.{lines_of}
 use Rattle.listing.specs.ModuleListing.{modules_in}
 use Rattle.listing.specs.SymbolListing.{symbols_in}
 use Rattle.modules.specs.Catalogs.{catalog_of}

@@ -1,10 +1,10 @@
 -- From the lines of a script, and from its text, to what its run returns.
 use Rattle.std.proofs.Common.{◌≡◌, ◌<◌, ◌≤◌, ℕ, List, [], Option, Some, None, Result, Ok, Err, true, false, refl, sym, subst}
 use Rattle.std.specs.Prelude.{IfSome, option_and_then}
-use Rattle.listing.specs.declared.counted.Counted.{Counted}
+use Rattle.texts.specs.declared.counted.Counted.{Counted}
 use Rattle.latch_table.specs.Limits.{most_readers}
-use Rattle.listing.specs.declared.scripts.ScriptLine.{ScriptLine}
-use Rattle.listing.specs.Scripts.{script_of}
+use Rattle.run_files.specs.declared.scripts.ScriptLine.{ScriptLine}
+use Rattle.run_files.specs.Scripts.{script_of}
 use Rattle.modules.specs.Entries.{CatalogEntries}
 use Rattle.modules.specs.Listed.{BoundNames, ListedRegion}
 use Rattle.modules.specs.Placed.{are_few}

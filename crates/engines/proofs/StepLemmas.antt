@@ -4,9 +4,9 @@ use Rattle.std.proofs.KnownBytes.{Appends-nil, Appends-trans}
 use Rattle.std.specs.Prelude.{Result, OnOk}
 use Rattle.std.specs.Io.KnownBytes.{Appends, Keeps}
 use Rattle.facts.proofs.Lists.{take_push}
-use Rattle.listing.specs.declared.counted.Counted.{Counted}
-use Rattle.listing.specs.Counted.{NoneFailed, Rose, device_of, failures_of}
-use Rattle.listing.specs.Trace.{Contents}
+use Rattle.texts.specs.declared.counted.Counted.{Counted}
+use Rattle.texts.specs.Counted.{NoneFailed, Rose, device_of, failures_of}
+use Rattle.run_files.specs.Trace.{Contents}
 use Rattle.order_laws.specs.Orders.{Order}
 use Rattle.word_layout.specs.Words.{at}
 use Rattle.word_layout.specs.declared.layouts.Layout.{Layout}

@@ -2,15 +2,10 @@
 use Rattle.std.proofs.Common.{◌≡◌, ℕ, List, ◌++◌, length, map, Option, Some, None, Result, Ok, Err, refl, sym, ◌∙◌, ap, subst, inr}
 use Rattle.std.specs.Prelude.{IfSome, flat_map, option_and_then}
 use Rattle.std.proofs.lemmas.List.{length-map}
-use Rattle.listing.specs.declared.counted.Counted.{Counted}
-use Rattle.listing.specs.Lines.{lines_of}
-use Rattle.listing.specs.SymbolListing.{symbol_counts}
-use Rattle.modules.specs.Accepted.{Accepted}
+use Rattle.texts.specs.declared.counted.Counted.{Counted}
 use Rattle.modules.specs.Catalogs.{catalog_with, entry_for, kept_counts}
 use Rattle.modules.specs.Entries.{CatalogEntries}
-use Rattle.modules.specs.FromSymbols.{IsFromSymbols}
-use Rattle.modules.specs.Lines.{bounds_for}
-use Rattle.modules.specs.Listed.{BoundNames, ListedSymbol}
+use Rattle.modules.specs.Listed.{BoundNames}
 use Rattle.modules.specs.declared.catalog.KeptCounts.{KeptCounts}
 use Rattle.order_laws.specs.declared.refusals.Refusal.TheVariants as refusal
 use Rattle.engines.specs.CatalogTables.{HasFewRegions, HasManyRegions, answer_at}
@@ -18,7 +13,7 @@ use Rattle.engines.specs.LookupInputs.{all_addresses}
 use Rattle.engines.specs.AnswerForms.{line_by}
 use Rattle.engines.specs.Lookups.{GivesAddresses}
 use Rattle.engines.specs.Readings.{Failures, HoldsOf, NoReaderFailed, OnlyFailed, failures_in, last_failures}
-use Rattle.engines.specs.SymbolLookups.{AnswersBySymbols, AnswersSymbolLookup, HoldsOfCatalog, IsSymbolListing, IsWrittenBySymbols, SymbolInputs, found_counts_by, listed, symbol_inputs_of, symbol_inputs_with, symbol_lookup_text, symbol_note}
+use Rattle.engines.specs.SymbolLookups.{AnswersBySymbols, AnswersSymbolLookup, HoldsOfCatalog, IsSymbolListing, IsWrittenBySymbols, SymbolInputs, found_counts_by, listed, symbol_inputs_of, symbol_inputs_with, symbol_lookup_text}
 use Rattle.engines.specs.declared.fault.Fault.{Fault}
 use Rattle.engines.specs.declared.forms.AnswerForm.{AnswerForm}
 use Rattle.engines.specs.declared.fault.Fault.TheVariants.{Refused, BadLine, Read, Write}

@@ -12,7 +12,7 @@ use Rattle.order_laws.specs.Tables.{look}
 use Rattle.word_layout.specs.declared.layouts.Layout.{Layout}
 use Rattle.word_layout.specs.Layouts.{capacity_of, limit_of}
 use Rattle.word_layout.specs.Limits.{greatest_wide_sequence}
-use Rattle.latch_core.specs.declared.updates.Update.{Update}
+use Rattle.table_updates.specs.declared.updates.Update.{Update}
 use Rattle.latch_steps.specs.declared.worlds.World.{World}
 use Rattle.latch_steps.specs.declared.replies.Returned.{Returned}
 use Rattle.latch_steps.specs.Runs.{Moment, opening}

@@ -3,9 +3,9 @@ use Rattle.std.specs.Prelude.{◌≡◌, ℕ, ◌+◌, ◌<◌, ◌==◌, List, 
 use Rattle.std.specs.Prelude.{Option, Some, None}
 use Rattle.std.specs.Global.{Vec}
 use Rattle.std.specs.List.{filter_map}
-use Rattle.listing.specs.declared.scripts.ScriptLine.{ScriptLine}
-use Rattle.listing.specs.declared.scripts.ScriptLine.TheVariants as line
-use Rattle.listing.specs.Scripts.{most_writers}
+use Rattle.run_files.specs.declared.scripts.ScriptLine.{ScriptLine}
+use Rattle.run_files.specs.declared.scripts.ScriptLine.TheVariants as line
+use Rattle.run_files.specs.Scripts.{most_writers}
 use Rattle.modules.specs.Catalogs.{number_for}
 use Rattle.modules.specs.Entries.{CatalogEntries}
 use Rattle.shared_lookup.specs.declared.changes.Change.{Change}

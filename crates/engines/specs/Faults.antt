@@ -1,7 +1,7 @@
 -- Why a command failed, and what one came to that did not.
 use Rattle.std.specs.Prelude.{◌≡◌, ℕ, Option, Some, None, Result, Ok, Err}
-use Rattle.listing.specs.declared.faults.LineFault.{LineFault}
-use Rattle.listing.specs.declared.faults.LineFault.TheVariants as line
+use Rattle.texts.specs.declared.faults.LineFault.{LineFault}
+use Rattle.texts.specs.declared.faults.LineFault.TheVariants as line
 use Rattle.order_laws.specs.Refusals.{refusal_number}
 use Rattle.order_laws.specs.declared.refusals.Refusal.TheVariants as refusal
 use Rattle.listing.specs.ListingNotes.{no_notes}

@@ -10,10 +10,10 @@ use Rattle.latch_steps.specs.declared.commands.Command.{Command}
 use Rattle.latch_steps.specs.declared.drivers.Driver.{Driver}
 use Rattle.latch_steps.specs.declared.replies.Note.{Note}
 use Rattle.latch_steps.specs.Drivers.{HasDriven, notes_in}
-use Rattle.listing.specs.declared.header.Header.{Header}
-use Rattle.listing.specs.CommandLines.{LinesLeft}
-use Rattle.listing.specs.Said.{entries_after}
-use Rattle.engines.specs.Texts.{note_text}
+use Rattle.run_files.specs.declared.header.Header.{Header}
+use Rattle.run_files.specs.CommandLines.{LinesLeft}
+use Rattle.texts.specs.Said.{entries_after}
+use Rattle.engines.specs.TraceTexts.{note_text}
 use Rattle.engines.specs.Traces.{HeaderMayNotOpen, HeaderMayOpen, greatest_of}
 use Rattle.engines.specs.declared.fault.Fault.{Fault}
 use Rattle.engines.specs.declared.fault.Fault.TheVariants.{Refused, BadLine}

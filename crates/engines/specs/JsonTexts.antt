@@ -7,7 +7,7 @@ use Rattle.std.specs.Option.{option_map_or}
 use Rattle.listing.specs.declared.address_rules.AddressRule.{AddressRule}
 use Rattle.listing.specs.AddressRules.{before_of}
 use Rattle.listing.specs.Answers.{sought}
-use Rattle.listing.specs.Exact.{hexadecimal}
+use Rattle.texts.specs.Exact.{hexadecimal}
 use Rattle.listing.specs.ModuleListing.{module_cause_name, module_causes, module_place}
 use Rattle.listing.specs.SymbolListing.{symbol_cause_name, symbol_causes, symbol_place}
 use Rattle.listing.specs.declared.module_listing.SkippedModule.{SkippedModule}

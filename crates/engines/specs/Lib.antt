@@ -1,6 +1,6 @@
 -- The definitions of this crate, in the order in which to read them.
 -- the lines that a trace writes
-pub mod Texts
+pub mod TraceTexts
 -- text that is appended in room that is there
 pub mod Blocks
 -- why a command failed, and what one came to that did not
@@ -37,10 +37,6 @@ pub mod Readings
 pub mod LookupInputs
 -- what is written for the listings and the addresses that are asked for
 pub mod Lookups
--- what is kept of a listing of symbols that is read block by block
-pub mod SiftedSymbols
--- what a lookup is asked over that keeps only what it needs of that listing
-pub mod SiftedLookups
 -- what a lookup writes whose modules come from a listing of symbols alone
 pub mod SymbolLookups
 -- the catalog that listings say, and what is noted of them

@@ -9,8 +9,8 @@ use Rattle.order_laws.specs.declared.refusals.Refusal.TheVariants.{BadCapacity, 
 use Rattle.order_laws.specs.Orders.{half_open}
 use Rattle.word_layout.specs.Layouts.{capacity_of, limit_of}
 use Rattle.word_layout.specs.Limits.{greatest_wide_sequence}
-use Rattle.latch_core.specs.declared.updates.Update.{Update}
-use Rattle.latch_core.specs.Updates.{erased, inserted}
+use Rattle.table_updates.specs.declared.updates.Update.{Update}
+use Rattle.table_updates.specs.Updates.{erased, inserted}
 use Rattle.latch_steps.specs.declared.worlds.World.{World}
 use Rattle.latch_steps.specs.Worlds.{IsAfter, layout_in}
 use Rattle.modules.specs.Catalogs.{IsSoundCatalog}

@@ -1,16 +1,15 @@
 -- What a lookup of addresses reads, and what that says.
 use Rattle.std.specs.Prelude.{ℕ, List, [], Option, Some, None, Result, Ok, Err}
 use Rattle.std.specs.Prelude.{find, option_and_then, unwrap_or}
-use Rattle.std.specs.Global.{Vec}
 use Rattle.std.specs.Option.{option_map}
-use Rattle.listing.specs.declared.counted.Counted.{Counted}
-use Rattle.listing.specs.Counted.{device_of}
+use Rattle.texts.specs.declared.counted.Counted.{Counted}
+use Rattle.texts.specs.Counted.{device_of}
 use Rattle.listing.specs.Addresses.{addresses_of}
-use Rattle.listing.specs.Lines.{lines_of}
+use Rattle.texts.specs.Lines.{lines_of}
 use Rattle.listing.specs.ListingNotes.{all_notes, is_of_kallsyms, is_of_modules}
 use Rattle.listing.specs.declared.listing_notes.ListingNotes.{ListingNotes}
 use Rattle.listing.specs.ModuleListing.{modules_in}
-use Rattle.listing.specs.Said.{entries_after}
+use Rattle.texts.specs.Said.{entries_after}
 use Rattle.listing.specs.SymbolListing.{symbols_in}
 use Rattle.modules.specs.declared.catalog.BuildCounts.{BuildCounts}
 use Rattle.modules.specs.Catalogs.{catalog_of, counts_of}
@@ -98,11 +97,7 @@ inputs_in i = record {
   addresses = i.addresses.items;
 }
 
--- the region lines that the program has, of which there are none where there is no listing of them
-abbrev pub lines_or_none : Option (Vec ListedRegion) → List ListedRegion
-lines_or_none lines = unwrap_or (option_map (λ v. v.items) lines) []
-
--- the same of the inputs
+-- the region lines, of which there are none where there is no listing of them
 abbrev pub region_lines_of_inputs : Inputs → List ListedRegion
 region_lines_of_inputs i = unwrap_or i.regions []
 

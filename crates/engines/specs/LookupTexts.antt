@@ -1,6 +1,6 @@
 -- The lines that a lookup of addresses writes.
 use Rattle.std.specs.Prelude.{ℕ, List, ◌++◌, codes, decimal, take, drop, flat_map, slice_index}
-use Rattle.listing.specs.Exact.{hexadecimal}
+use Rattle.texts.specs.Exact.{hexadecimal}
 use Rattle.listing.specs.ModuleListing.{module_cause_name, module_causes, module_place}
 use Rattle.listing.specs.SymbolListing.{symbol_cause_name, symbol_causes, symbol_place}
 use Rattle.listing.specs.declared.module_listing.SkippedModule.{SkippedModule}

@@ -2,7 +2,7 @@
 use Rattle.std.specs.Prelude.{◌≡◌, ℕ, List, [], ◌∷◌, Option, Some, None, Result, Ok, Err}
 use Rattle.std.specs.Prelude.{unwrap_or, is_some, true, false}
 use Rattle.std.specs.Option.{option_map}
-use Rattle.listing.specs.Counted.{device_of, failures_of}
+use Rattle.texts.specs.Counted.{device_of, failures_of}
 use Rattle.modules.specs.Accepted.{Accepted}
 use Rattle.modules.specs.Catalogs.{catalog_with, kept_counts}
 use Rattle.modules.specs.Entries.{CatalogEntries}

@@ -1,9 +1,9 @@
 -- What a run of a script reads, and what that says.
 use Rattle.std.specs.Prelude.{ℕ, List, [], Option, Some, None, Result, Ok, Err, option_and_then}
 use Rattle.std.specs.Option.{option_map}
-use Rattle.listing.specs.Counted.{device_of}
-use Rattle.listing.specs.declared.scripts.ScriptLine.{ScriptLine}
-use Rattle.listing.specs.Scripts.{script_of}
+use Rattle.texts.specs.Counted.{device_of}
+use Rattle.run_files.specs.declared.scripts.ScriptLine.{ScriptLine}
+use Rattle.run_files.specs.Scripts.{script_of}
 use Rattle.listing.specs.AddressRules.{as_given}
 use Rattle.modules.specs.Listed.{BoundNames}
 use Rattle.engines.specs.LookupInputs.{Inputs, Texts, inputs_of, known_text, texts_of}

@@ -3,7 +3,7 @@ use Rattle.std.specs.Prelude.{ℕ, ◌+◌, ◌-◌, ◌*◌, ◌^◌, List, [],
 use Rattle.std.specs.Prelude.{length, min, sum_by, Ok, Err}
 use Rattle.std.specs.Global.{Vec}
 use Rattle.std.specs.List.{range_with_len, zip}
-use Rattle.listing.specs.Exact.{hexadecimal}
+use Rattle.texts.specs.Exact.{hexadecimal}
 use Rattle.modules.specs.Entries.{CatalogEntries}
 use Rattle.order_laws.specs.Refusals.{refusal_number}
 use Rattle.shared_lookup.specs.Servings.{ChangeOutcome}

@@ -1,6 +1,6 @@
 -- The lines that the steps of a trace write, an object of JSON each.
 use Rattle.std.specs.Prelude.{ℕ, ◌==◌, if◌then◌else◌, Bool, List, [], ◌∷◌, ◌++◌, codes, flat_map}
-use Rattle.std.specs.Prelude.{Option, Some, None}
+use Rattle.std.specs.Prelude.{Option, None}
 use Rattle.std.specs.Option.{option_map_or}
 use Rattle.order_laws.specs.declared.items.Item.{Item}
 use Rattle.order_laws.specs.declared.refusals.Refusal.{Refusal}
@@ -8,8 +8,8 @@ use Rattle.order_laws.specs.Orders.{Order}
 use Rattle.order_laws.specs.Refusals.{refusal_number}
 use Rattle.word_layout.specs.Words.{at}
 use Rattle.word_layout.specs.declared.stores.Store.{Store}
-use Rattle.latch_core.specs.declared.updates.Update.{Update}
-use Rattle.latch_core.specs.Updates.{erased, inserted}
+use Rattle.table_updates.specs.declared.updates.Update.{Update}
+use Rattle.table_updates.specs.Updates.{erased, inserted}
 use Rattle.latch_steps.specs.declared.events.Event.{Event}
 use Rattle.latch_steps.specs.declared.events.Event.TheVariants.{Begin, Write, Start, Read}
 use Rattle.latch_steps.specs.declared.replies.NextLoad.{NextLoad}
@@ -20,10 +20,10 @@ use Rattle.latch_steps.specs.declared.replies.Reply.TheVariants.{Retried, Refuse
 use Rattle.latch_steps.specs.declared.replies.Reply.TheVariants.{Returned as ReturnedReply}
 use Rattle.latch_steps.specs.NextLoads.{load_of}
 use Rattle.latch_steps.specs.Runs.{Moment, Done}
-use Rattle.listing.specs.Exact.{hexadecimal}
-use Rattle.listing.specs.declared.header.Header.{Header}
-use Rattle.listing.specs.declared.header.Version.{Version}
-use Rattle.listing.specs.declared.header.Version.TheVariants.{First, Second, Third}
+use Rattle.texts.specs.Exact.{hexadecimal}
+use Rattle.run_files.specs.declared.header.Header.{Header}
+use Rattle.run_files.specs.declared.header.Version.{Version}
+use Rattle.run_files.specs.declared.header.Version.TheVariants.{First, Second, Third}
 use Rattle.engines.specs.Json.{json_number}
 use Rattle.engines.specs.JsonTexts.{json_count}
 

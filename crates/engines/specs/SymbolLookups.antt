@@ -4,9 +4,9 @@ use Rattle.std.specs.Prelude.{Result, Ok, Err, option_and_then}
 use Rattle.std.specs.Option.{option_map}
 use Rattle.std.specs.Io.KnownBytes.{Appends}
 use Rattle.listing.specs.declared.address_rules.AddressRule.{AddressRule}
-use Rattle.listing.specs.declared.counted.Counted.{Counted}
-use Rattle.listing.specs.Counted.{NoneFailed, Rose, device_of, failures_of}
-use Rattle.listing.specs.Lines.{lines_of}
+use Rattle.texts.specs.declared.counted.Counted.{Counted}
+use Rattle.texts.specs.Counted.{NoneFailed, Rose, device_of, failures_of}
+use Rattle.texts.specs.Lines.{lines_of}
 use Rattle.listing.specs.Looks.{are_symbols_hidden}
 use Rattle.listing.specs.SymbolListing.{symbol_counts, symbols_in}
 use Rattle.modules.specs.declared.catalog.KeptCounts.{KeptCounts}

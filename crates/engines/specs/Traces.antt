@@ -2,8 +2,8 @@
 use Rattle.std.specs.Prelude.{◌≡◌, ℕ, ◌%◌, ◌<◌, ◌≤◌, List, ◌++◌, Bool, true, false, Option, Result}
 use Rattle.std.specs.Prelude.{Ok, Err, IfSome, flat_map, if◌then◌else◌}
 use Rattle.std.specs.Io.KnownBytes.{Appends}
-use Rattle.listing.specs.declared.counted.Counted.{Counted}
-use Rattle.listing.specs.Counted.{NoneFailed, Rose, device_of, failures_of}
+use Rattle.texts.specs.declared.counted.Counted.{Counted}
+use Rattle.texts.specs.Counted.{NoneFailed, Rose, device_of, failures_of}
 use Rattle.order_laws.specs.Orders.{Order, closed, half_open}
 use Rattle.order_laws.specs.declared.refusals.Refusal.TheVariants as refusal
 use Rattle.word_layout.specs.Limits.{most_nodes, greatest_sequence, greatest_wide_sequence}
@@ -16,11 +16,11 @@ use Rattle.latch_steps.specs.Safe.{IsSafe}
 use Rattle.latch_steps.specs.Quiet.{IsQuiet}
 use Rattle.latch_steps.specs.Near.{AreNear}
 use Rattle.latch_steps.specs.Promises.{IsExactWherePlain}
-use Rattle.listing.specs.declared.header.Header.{Header}
-use Rattle.listing.specs.declared.header.Version.{Version}
-use Rattle.listing.specs.Header.{is_wide}
-use Rattle.listing.specs.Trace.{Contents, trace_of}
-use Rattle.engines.specs.Texts.{end_text, note_text}
+use Rattle.run_files.specs.declared.header.Header.{Header}
+use Rattle.run_files.specs.declared.header.Version.{Version}
+use Rattle.run_files.specs.Header.{is_wide}
+use Rattle.run_files.specs.Trace.{Contents, trace_of}
+use Rattle.engines.specs.TraceTexts.{end_text, note_text}
 use Rattle.engines.specs.declared.fault.Fault.{Fault}
 use Rattle.engines.specs.declared.fault.Fault.TheVariants.{Refused, BadLine, Read, Write}
 

@@ -1,13 +1,13 @@
 //! What the lines of a script have each writer and each reader do, each in the order of its lines.
 ghost use Rattle.std.specs.Prelude.{◌≡◌, ◌≤◌, ◌<◌, ◌++◌, ◌∷◌, ℕ, List, [], true, All, IfOk, length};
-ghost use Rattle.listing.specs.declared.scripts.ScriptLine.{ScriptLine};
-ghost use Rattle.listing.specs.Scripts.{has_actor, lies_between, most_writers};
+ghost use Rattle.run_files.specs.declared.scripts.ScriptLine.{ScriptLine};
+ghost use Rattle.run_files.specs.Scripts.{has_actor, lies_between, most_writers};
 ghost use Rattle.modules.specs.Catalogs.{number_for};
 ghost use Rattle.shared_lookup.specs.declared.changes.Change.{Change};
 ghost use Rattle.engines.specs.Assignments.{AreListed, HasLists, IsAssigned};
 
-use listing::{MOST_WRITERS, ModuleName, ScriptLine};
 use modules::Catalog;
+use run_files::{MOST_WRITERS, ModuleName, ScriptLine};
 use shared_lookup::Change;
 use std::alloc::{AllocError, Global};
 

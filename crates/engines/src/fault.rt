@@ -3,9 +3,10 @@ ghost use Rattle.std.specs.Prelude.{◌≡◌};
 ghost use Rattle.engines.specs.Faults.{IsLineFault, line_of, fault_number, fault_place, with_notes};
 ghost use Rattle.engines.specs.Faults.{with_status, without_notes};
 
-use listing::{LineFault, ListingNotes};
+use listing::ListingNotes;
 use order_laws::Refusal;
 use std::alloc::AllocError;
+use texts::LineFault;
 use thiserror::Error;
 
 /// The program's status where it did what it was asked.

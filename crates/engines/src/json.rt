@@ -1,13 +1,13 @@
 //! Values of JSON (RFC 8259), byte for byte, with no memory taken.
 ghost use Rattle.std.specs.Prelude.{◌≡◌, ◌<◌, flat_map};
-ghost use Rattle.listing.specs.Exact.{Wrote};
+ghost use Rattle.texts.specs.Exact.{Wrote};
 ghost use Rattle.engines.specs.Json.{escaped, hexadecimal_digit, json_number, json_string};
 ghost use Rattle.engines.specs.Json.{text_of};
 
-use crate::texts::put_decimal;
-use listing::{Counted, put};
+use crate::trace_texts::put_decimal;
 use std::io;
 use std::io::Write;
+use texts::{Counted, put};
 
 /// U+FFFD, which stands for a byte that is no part of UTF-8.
 const REPLACEMENT: &[u8] = b"\xef\xbf\xbd";

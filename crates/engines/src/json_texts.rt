@@ -1,7 +1,7 @@
 //! The lines that are written as JSON, byte for byte, with no memory taken: those of a lookup of
 //! addresses, and the members that those of names share with them.
 ghost use Rattle.std.specs.Prelude.{◌≡◌, ◌+◌, ◌^◌, ◌≤◌, ◌<◌};
-ghost use Rattle.listing.specs.Exact.{Wrote};
+ghost use Rattle.texts.specs.Exact.{Wrote};
 ghost use Rattle.engines.specs.JsonTexts.{address_member, found_object};
 ghost use Rattle.engines.specs.JsonTexts.{found_symbol, named_module, offset_members};
 ghost use Rattle.engines.specs.JsonTexts.{held_members, json_causes};
@@ -15,27 +15,26 @@ use crate::lookup::Listings;
 use crate::symbol_lookup::SymbolListing;
 use crate::table::AddressAnswer;
 use listing::{
-    AddressRule, Cause, Counted, Counts, ModuleCounts, SkippedModule, SkippedSymbol, SymbolCounts,
-    put, put_hexadecimal, sought,
+    AddressRule, Cause, Counts, ModuleCounts, SkippedModule, SkippedSymbol, SymbolCounts, sought,
 };
-use modules::{BuildCounts, FoundSymbol, KeptCounts, SymbolFinder};
+use modules::{BuildCounts, Catalog, FoundSymbol, KeptCounts, symbol_of};
 use order_laws::Item;
 use std::io;
 use std::io::Write;
+use texts::{Counted, put, put_hexadecimal};
 
 /// Writes the object of an address, for addresses that are taken by this rule.
 pub fn put_json_answer<W: Write>(
     writer: &mut Counted<W>,
-    finder: &mut SymbolFinder,
+    catalog: &Catalog,
     rule: AddressRule,
     answer: &AddressAnswer,
 ) -> io::Result<()>
-    ensures stays { finder.new ≡ finder.old }
-    ensures wrote { Wrote W.contents writer.old writer.new result
-        (json_line finder.old rule answer.now) }
+    ensures { Wrote W.contents writer.old writer.new result
+        (json_line catalog.now rule answer.now) }
 {
     put_address_member(writer, answer.addr)?;
-    put_members(writer, finder, rule, answer.item, answer.addr)?;
+    put_members(writer, catalog, rule, answer.item, answer.addr)?;
     put(writer, b"}\n")
 }
 
@@ -51,17 +50,16 @@ pub fn put_address_member<W: Write>(writer: &mut Counted<W>, addr: u64) -> io::R
 /// Writes what is known of an address, where the item was found for the one that is looked up.
 fn put_members<W: Write>(
     writer: &mut Counted<W>,
-    finder: &mut SymbolFinder,
+    catalog: &Catalog,
     rule: AddressRule,
     item: Option<Item>,
     addr: u64,
 ) -> io::Result<()>
-    ensures stays { finder.new ≡ finder.old }
-    ensures wrote { Wrote W.contents writer.old writer.new result
-        (members_by finder.old rule item addr) }
+    ensures { Wrote W.contents writer.old writer.new result
+        (members_by catalog.now rule item addr) }
 {
     match sought(rule, item, addr) {
-        Some((item, place)) => put_held(writer, finder, item, place, rule.before()),
+        Some((item, place)) => put_held(writer, catalog, item, place, rule.before()),
         None => Ok(()),
     }
 }
@@ -69,7 +67,7 @@ fn put_members<W: Write>(
 /// Writes what is known of an address that the item holds.
 fn put_held<W: Write>(
     writer: &mut Counted<W>,
-    finder: &mut SymbolFinder,
+    catalog: &Catalog,
     item: Item,
     addr: u64,
     before: u64,
@@ -77,14 +75,13 @@ fn put_held<W: Write>(
     requires from { item.a ≤ addr }
     requires below { addr < item.b }
     requires near { before ≤ 1 }
-    ensures stays { finder.new ≡ finder.old }
-    ensures wrote { Wrote W.contents writer.old writer.new result
-        (held_members finder.old item before addr) }
+    ensures { Wrote W.contents writer.old writer.new result
+        (held_members catalog.now item before addr) }
 {
-    let Some(module) = finder.catalog().module(item.tag) else {
+    let Some(module) = catalog.module(item.tag) else {
         return Ok(());
     };
-    match finder.find(item, addr) {
+    match symbol_of(catalog, item, addr) {
         Some(found) => {
             put_found_symbol(writer, &found, before)?;
             put_module(writer, item.tag, module.name())

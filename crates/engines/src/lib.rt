@@ -18,15 +18,12 @@ mod lookup_texts;
 mod opened_catalogs;
 mod run_texts;
 mod runs;
-mod sifted_symbols;
 mod step_texts;
 mod steps;
 mod symbol_lookup;
 mod table;
-#[cfg(test)]
-mod tests;
-mod texts;
 mod trace;
+mod trace_texts;
 
 pub use fault::{FAILED, Fault, Finished, SUCCEEDED, with_notes, with_status, without_notes};
 pub use forms::AnswerForm;
@@ -44,5 +41,5 @@ pub use symbol_lookup::{
     SymbolListing, SymbolLookupOptions, SymbolLookupReaders, put_found_counts, symbol_listing_in,
     symbol_lookup_engine,
 };
-pub use texts::{put_decimal, put_refused};
 pub use trace::trace_engine;
+pub use trace_texts::{put_decimal, put_refused};

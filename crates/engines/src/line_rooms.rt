@@ -4,15 +4,15 @@
 //! written where they stay, the last one first, with none counted before and none copied after, and
 //! the whole line goes to a writer by one call: such a call costs more than the digits of a number.
 ghost use Rattle.std.specs.Prelude.{◌≡◌, ◌+◌, ◌≤◌, [], ◌++◌, decimal, drop, length};
-ghost use Rattle.listing.specs.Exact.{hexadecimal};
+ghost use Rattle.texts.specs.Exact.{hexadecimal};
 ghost use Rattle.engines.specs.Json.{json_number};
 ghost use Rattle.engines.specs.JsonTexts.{json_count};
 ghost use Rattle.engines.specs.LineRooms.{IsPutBefore};
 
 use crate::json::{FIRST_TO_ROUND, digit};
 use itoa::write_digits;
-use listing::LONGEST_HEXADECIMAL;
 use std::marker::Model;
+use texts::LONGEST_HEXADECIMAL;
 
 /// How many bytes there is room for.
 pub const ROOM: usize = 400;

@@ -1,40 +1,34 @@
 //! From the bytes of the listings to the lines that a lookup of addresses writes.
-ghost use Rattle.std.specs.Prelude.{◌≡◌, ◌++◌, ◌∷◌, [], ℕ, Err, List, All, flat_map, is_some};
-ghost use Rattle.std.specs.Prelude.{option_map, not, true, ◌&&◌, IfOk, IfErr, IfSome};
-ghost use Rattle.std.specs.List.{list_any};
-ghost use Rattle.listing.specs.Counted.{device_of, failures_of};
-ghost use Rattle.listing.specs.Exact.{Wrote};
-ghost use Rattle.listing.specs.ListingNotes.{has_no_module};
+ghost use Rattle.std.specs.Prelude.{◌≡◌, ◌++◌, ◌∷◌, [], Err, All, flat_map, is_some, option_map};
+ghost use Rattle.std.specs.Prelude.{true, IfOk, IfErr, IfSome};
+ghost use Rattle.texts.specs.Counted.{device_of, failures_of};
+ghost use Rattle.texts.specs.Exact.{Wrote};
 ghost use Rattle.modules.specs.Catalogs.{IsBuildRefusal};
 ghost use Rattle.modules.specs.Lines.{region_fits};
-ghost use Rattle.modules.specs.ModuleAddresses.{lies_in_its_module};
-ghost use Rattle.engines.specs.LookupInputs.{inputs_in, known_inputs, known_text, lines_or_none};
+ghost use Rattle.engines.specs.LookupInputs.{inputs_in, known_inputs, known_text};
 ghost use Rattle.engines.specs.LookupInputs.{region_lines_of_inputs};
 ghost use Rattle.engines.specs.AnswerForms.{counts_by, line_by};
 ghost use Rattle.engines.specs.Lookups.{AnswersLookup, AnswersWith, AreListingsOf, GivesAddresses};
 ghost use Rattle.engines.specs.Lookups.{GivesLines, counts_text, failures_between};
 ghost use Rattle.engines.specs.Lookups.{json_counts_text, regions_line_of};
 ghost use Rattle.engines.specs.Readings.{IsReadAs, failures_in};
-ghost use Rattle.engines.specs.SiftedLookups.{AreSiftedListingsOf, inputs_from, places_of};
-ghost use Rattle.engines.specs.SiftedSymbols.{IsSiftedFrom};
 
 use crate::fault::Fault;
 use crate::forms::AnswerForm;
 use crate::json_texts::put_json_counts;
 use crate::lookup_texts::{put_answers, put_module_counts, put_region_counts, put_symbol_counts};
-use crate::sifted_symbols::{SiftedSymbols, next_block, sift};
 use crate::table::{AddressAnswer, answers_of};
 use listing::{
-    AddressRule, Counted, LineBlocks, ListingNotes, ModuleCounts, ModuleFacts, ReadFault,
-    SymbolCounts, SymbolFacts, are_modules_hidden, are_symbols_hidden, note_of_kallsyms,
-    note_of_modules, note_of_modules_by, read_addresses, read_kallsyms, read_modules, read_regions,
-    read_whole,
+    AddressRule, ListingNotes, ModuleCounts, SymbolCounts, SymbolFacts, are_modules_hidden,
+    are_symbols_hidden, note_of_kallsyms, note_of_modules, read_addresses, read_kallsyms,
+    read_modules, read_regions,
 };
-use modules::{Asked, BuildCounts, Catalog, KernelBounds, ListedAddresses, RegionLine};
+use modules::{Asked, BuildCounts, Catalog, KernelBounds, RegionLine};
 use order_laws::Refusal;
 use std::alloc::{AllocError, Global};
 use std::io;
 use std::io::{Read, Write};
+use texts::{Counted, ReadFault, read_whole};
 
 /// The readers of the files of a lookup, in the order in which they are read.
 #[derive(Drop)]
@@ -89,22 +83,6 @@ pub struct LookupInputs<'o, 'a> {
     pub addresses: Vec<u64>,
 }
 
-/// What a lookup is asked over that has read the listing of symbols already.
-#[derive(Drop)]
-pub struct SiftedInputs<'o, 'a> {
-    pub options: &'o LookupOptions<'o>,
-    /// The text of the listing of modules.
-    pub modules: &'a [u8],
-    /// What is kept of the listing of symbols.
-    pub symbols: &'a SiftedSymbols,
-    /// The lines of the listing of regions, where there is one.
-    pub regions: Option<Vec<RegionLine<'a>>>,
-    /// The addresses of the command line, and after them those of the file.
-    pub addresses: Vec<u64>,
-    /// The addresses that are looked up for these, for which the symbols were sifted.
-    pub asked: Vec<u64>,
-}
-
 /// What the listings say: a catalog, and how many of their lines went where.
 #[derive(Drop)]
 pub struct Listings<'a> {
@@ -128,9 +106,6 @@ pub struct Listings<'a> {
 /// ones. The options name the symbols between which the kernel's own region lies, and say how the
 /// addresses are taken.
 ///
-/// The listing of symbols is read block by block, and only what the answers need is kept of it; so
-/// the addresses are read behind its first block, and before the others.
-///
 /// All is read, and all answers are there, before the first byte is written; so every fault but a
 /// failed write leaves the writer as it was. docs/FORMATS.md has the files and the lines.
 pub fn lookup_engine<M: Read, K: Read, R: Read, A: Read, W: Write>(
@@ -147,21 +122,16 @@ pub fn lookup_engine<M: Read, K: Read, R: Read, A: Read, W: Write>(
         (failures_between readers.old readers.new) writer.old writer.new result }
 {
     let modules = read_at(alloc, &mut readers.modules, MODULES_PLACE)?;
-    let mut blocks = LineBlocks::new(alloc);
-    next_block(&mut blocks, &mut readers.kallsyms)?;
+    let kallsyms = read_at(alloc, &mut readers.kallsyms, KALLSYMS_PLACE)?;
     let regions = read_if_given(alloc, &mut readers.regions, REGIONS_PLACE)?;
     let lines = region_lines_in(alloc, &regions)?;
     let addresses = all_addresses(alloc, addresses, &mut readers.addresses)?;
-    let asked = places_of(alloc, options.rule, &addresses)?;
-    let kallsyms = &mut readers.kallsyms;
-    let symbols = sift(alloc, &options.kernel, &asked, &mut blocks, kallsyms)?;
-    let inputs = SiftedInputs {
+    let inputs = LookupInputs {
         options,
         modules: &modules,
-        symbols: &symbols,
+        kallsyms: &kallsyms,
         regions: lines,
         addresses,
-        asked,
     };
     answer_with(alloc, &inputs, form, writer)
 }
@@ -238,21 +208,16 @@ pub(crate) fn all_addresses<A: Read>(
 /// Looks the addresses up, and writes what is found.
 fn answer_with<W: Write>(
     alloc: Global,
-    inputs: &SiftedInputs<'_, '_>,
+    inputs: &LookupInputs<'_, '_>,
     form: AnswerForm,
     writer: &mut Counted<W>,
 ) -> Result<ListingNotes, Fault>
-    requires fit { All (λ r. region_fits r ≡ true) (lines_or_none inputs.now.regions) }
-    requires asked { inputs.now.asked.items
-        ≡ places_of inputs.now.options.now.rule inputs.now.addresses.items }
-    ensures { (text : List ℕ)
-        → IsSiftedFrom inputs.now.options.now.kernel inputs.now.asked.items text
-        inputs.now.symbols.now
-        → AnswersWith W.contents form (inputs_from inputs.now text)
-        writer.old writer.new result }
+    requires { All (λ r. region_fits r ≡ true) (region_lines_of_inputs (inputs_in inputs.now)) }
+    ensures { AnswersWith W.contents form (inputs_in inputs.now) writer.old writer.new result }
 {
     let rule = inputs.options.rule;
-    let listings = sifted_listings_in(alloc, inputs)?;
+    let places = places_of(alloc, rule, &inputs.addresses)?;
+    let listings = listings_in(alloc, inputs, Asked::These(&places))?;
     let answers = answers_of(
         alloc,
         &listings.catalog,
@@ -266,73 +231,16 @@ fn answer_with<W: Write>(
     }
 }
 
-/// The addresses that are looked up for these.
-fn places_of(alloc: Global, rule: AddressRule, addresses: &[u64]) -> Result<Vec<u64>, AllocError>
-    ensures { IfOk result (λ v. v.items ≡ places_of rule addresses.now) }
-{
+/// The addresses that are looked up for these, for who builds a catalog.
+pub(crate) fn places_of(
+    alloc: Global,
+    rule: AddressRule,
+    addresses: &[u64],
+) -> Result<Vec<u64>, AllocError> {
     addresses
         .iter()
         .filter_map(|addr| rule.place_of(*addr))
         .collect(alloc)
-}
-
-/// Reads the lines of the listing of modules, and builds the catalog of the kept lines of that of
-/// symbols. The counts and the notes are those of all its lines. Refused where more than 7 region
-/// lines have one name, and when out of memory.
-fn sifted_listings_in<'a>(
-    alloc: Global,
-    inputs: &SiftedInputs<'_, 'a>,
-) -> Result<Listings<'a>, Refusal>
-    requires { All (λ r. region_fits r ≡ true) (lines_or_none inputs.now.regions) }
-    ensures said { IfOk result (λ l. (text : List ℕ)
-        → IsSiftedFrom inputs.now.options.now.kernel inputs.now.asked.items text
-        inputs.now.symbols.now
-        → AreSiftedListingsOf (inputs_from inputs.now text) inputs.now.symbols.now.kept l) }
-    ensures refusal { IfErr result (IsBuildRefusal (lines_or_none inputs.now.regions)) }
-{
-    let (module_lines, skipped_modules) = read_modules(alloc, inputs.modules)?;
-    let names = &inputs.options.kernel;
-    let symbols = inputs.symbols;
-    let (catalog, built) = Catalog::build_sifted(
-        alloc,
-        names,
-        &module_lines,
-        region_lines_of(&inputs.regions),
-        symbols.kept.lines(alloc)?,
-        &symbols.addresses,
-        Asked::These(&inputs.asked),
-    )?;
-    let modules_hidden = are_modules_hidden(module_lines.len(), &skipped_modules);
-    let facts = module_facts(modules_hidden, &catalog, &symbols.addresses);
-    let notes = ListingNotes {
-        modules: note_of_modules_by(inputs.modules, facts),
-        kallsyms: symbols.facts.note(built.symbols),
-    };
-    Ok(Listings {
-        catalog,
-        built,
-        skipped_modules,
-        skipped_symbols: symbols.facts.skipped(),
-        has_regions: inputs.regions.is_some(),
-        modules_hidden,
-        symbols_hidden: symbols.facts.is_hidden(),
-        notes,
-    })
-}
-
-/// What is known of the modules of a catalog of kept lines, where these are the addresses of all.
-fn module_facts(hidden: bool, catalog: &Catalog, addresses: &ListedAddresses) -> ModuleFacts
-    ensures hidden { result.hidden ≡ hidden }
-    ensures none { result.none ≡ has_no_module catalog.now }
-    ensures lacking { result.lacks_symbols ≡ (not (has_no_module catalog.now)
-        && not (list_any (lies_in_its_module catalog.now) addresses.now)) }
-{
-    let none = catalog.len() == 0;
-    ModuleFacts {
-        hidden,
-        none,
-        lacks_symbols: !none && !catalog.any_in_its_module(addresses),
-    }
 }
 
 /// Reads the lines of the first two listings, and builds the catalog of all three, for who asks
@@ -353,8 +261,8 @@ pub fn listings_in<'a>(
     let (symbol_lines, skipped_symbols) = read_kallsyms(alloc, inputs.kallsyms)?;
     let modules_hidden = are_modules_hidden(module_lines.len(), &skipped_modules);
     let symbols_hidden = are_symbols_hidden(symbol_lines.len(), &skipped_symbols);
-    let regions = region_lines_of(&inputs.regions);
-    let (catalog, built) = Catalog::build_for(
+    let regions = region_lines_of(inputs);
+    let (catalog, built) = Catalog::build(
         alloc,
         &inputs.options.kernel,
         &module_lines,
@@ -384,10 +292,10 @@ pub fn listings_in<'a>(
 }
 
 /// The region lines, of which there are none where there is no listing of them.
-fn region_lines_of<'i, 'a>(lines: &'i Option<Vec<RegionLine<'a>>>) -> &'i [RegionLine<'a>]
-    ensures { result.now ≡ lines_or_none lines.now }
+fn region_lines_of<'i, 'a>(inputs: &'i LookupInputs<'_, 'a>) -> &'i [RegionLine<'a>]
+    ensures { result.now ≡ region_lines_of_inputs (inputs_in inputs.now) }
 {
-    match lines {
+    match &inputs.regions {
         Some(lines) => lines,
         None => &[],
     }

@@ -1,6 +1,6 @@
 //! The lines that a lookup of addresses writes, byte for byte, with no memory taken.
 ghost use Rattle.std.specs.Prelude.{◌≡◌, flat_map};
-ghost use Rattle.listing.specs.Exact.{Wrote};
+ghost use Rattle.texts.specs.Exact.{Wrote};
 ghost use Rattle.engines.specs.AnswerForms.{line_by};
 ghost use Rattle.engines.specs.LookupTexts.{answer_line, causes_text, count_text};
 ghost use Rattle.engines.specs.LookupTexts.{found_modules_line, modules_line, regions_line};
@@ -9,15 +9,15 @@ ghost use Rattle.engines.specs.LookupTexts.{symbols_line};
 use crate::forms::AnswerForm;
 use crate::json_texts::put_json_answer;
 use crate::table::AddressAnswer;
-use crate::texts::put_decimal;
+use crate::trace_texts::put_decimal;
 use listing::{
-    AddressRule, Cause, Counted, Counts, ModuleCounts, SkippedModule, SkippedSymbol, SymbolCounts,
-    put, put_hexadecimal, sought, write_next_answer,
+    AddressRule, Cause, Counts, ModuleCounts, SkippedModule, SkippedSymbol, SymbolCounts,
+    write_answer_by,
 };
-use modules::{BuildCounts, Catalog, KeptCounts, MOST_EXPECTED, SymbolFinder};
-use order_laws::Item;
+use modules::{BuildCounts, Catalog, KeptCounts};
 use std::io;
 use std::io::Write;
+use texts::{Counted, put, put_hexadecimal};
 
 /// Writes the line of each answer, in order and in this form, for addresses that are taken by this
 /// rule.
@@ -31,53 +31,28 @@ pub fn put_answers<W: Write>(
     ensures { Wrote W.contents writer.old writer.new result
         (flat_map (line_by form catalog.now rule) answers.now) }
 {
-    let mut finder = SymbolFinder::new(catalog);
-    for (place, answer) in answers.iter().enumerate() {
-        if place % MOST_EXPECTED == 0 {
-            expect_answers(&mut finder, rule, &answers[place..]);
-        }
-        put_line(writer, &mut finder, rule, form, answer)?;
+    for answer in answers {
+        put_line(writer, catalog, rule, form, answer)?;
     }
     Ok(())
 }
-
-/// Tells a finder which symbols the next answers are to name.
-fn expect_answers(finder: &mut SymbolFinder, rule: AddressRule, answers: &[AddressAnswer])
-    ensures { finder.new ≡ finder.old }
-{
-    let mut asked = [(NO_ITEM, 0); MOST_EXPECTED];
-    let mut count = 0usize;
-    for answer in answers.iter().take(MOST_EXPECTED) {
-        if let Some(sought) = sought(rule, answer.item, answer.addr) {
-            if let Some(slot) = asked.get_mut(count) {
-                *slot = sought;
-            }
-            count = count.saturating_add(1);
-        }
-    }
-    finder.expect(&asked[..count.min(MOST_EXPECTED)]);
-}
-
-/// Stands where no item was found.
-const NO_ITEM: Item = Item { a: 0, b: 0, tag: 0 };
 
 /// Writes the line of an answer.
 #[tactic(auto, unfolding(crate::specs::AnswerForms::line_by))]
 fn put_line<W: Write>(
     writer: &mut Counted<W>,
-    finder: &mut SymbolFinder,
+    catalog: &Catalog,
     rule: AddressRule,
     form: AnswerForm,
     answer: &AddressAnswer,
 ) -> io::Result<()>
-    ensures stays { finder.new ≡ finder.old }
-    ensures wrote { Wrote W.contents writer.old writer.new result
-        (line_by form finder.old rule answer.now) }
+    ensures { Wrote W.contents writer.old writer.new result
+        (line_by form catalog.now rule answer.now) }
 {
     if form.json {
-        put_json_answer(writer, finder, rule, answer)
+        put_json_answer(writer, catalog, rule, answer)
     } else {
-        put_answer(writer, finder, rule, answer)
+        put_answer(writer, catalog, rule, answer)
     }
 }
 
@@ -85,17 +60,16 @@ fn put_line<W: Write>(
 #[tactic(auto, unfolding(crate::specs::LookupTexts::answer_line))]
 fn put_answer<W: Write>(
     writer: &mut Counted<W>,
-    finder: &mut SymbolFinder,
+    catalog: &Catalog,
     rule: AddressRule,
     answer: &AddressAnswer,
 ) -> io::Result<()>
-    ensures stays { finder.new ≡ finder.old }
-    ensures wrote { Wrote W.contents writer.old writer.new result
-        (answer_line finder.old rule answer.now) }
+    ensures { Wrote W.contents writer.old writer.new result
+        (answer_line catalog.now rule answer.now) }
 {
     put_hexadecimal(writer, answer.addr)?;
     put(writer, b" ")?;
-    write_next_answer(writer, finder, rule, answer.item, answer.addr)?;
+    write_answer_by(writer, catalog, rule, answer.item, answer.addr)?;
     put(writer, b"\n")
 }
 

@@ -14,10 +14,11 @@ use crate::lookup::{
     read_at, read_if_given, region_lines_in,
 };
 use crate::symbol_lookup::symbol_listing_in;
-use listing::{AddressRule, Counted, ListingNotes};
+use listing::{AddressRule, ListingNotes};
 use modules::{Asked, Catalog, KernelBounds};
 use std::alloc::Global;
 use std::io::Read;
+use texts::Counted;
 
 /// The readers of listings, in the order in which they are read.
 #[derive(Drop)]
@@ -132,7 +133,7 @@ fn open_by_symbols<'a>(
 ) -> Result<OpenedCatalog<'a>, Fault>
     ensures { OpensBySymbols (option_copied kernel.entry) kallsyms.now result }
 {
-    let listing = symbol_listing_in(alloc, kernel, kallsyms)?;
+    let listing = symbol_listing_in(alloc, kernel, kallsyms, Asked::Any)?;
     let notes = listing.notes();
     Ok(OpenedCatalog {
         catalog: listing.catalog,

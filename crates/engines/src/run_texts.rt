@@ -5,7 +5,7 @@
 ghost use Rattle.std.specs.Prelude.{◌++◌, ◌+◌, ◌≡◌, IfOk, codes, decimal, flat_map, min};
 ghost use Rattle.std.specs.Prelude.{sum_by, vec_len};
 ghost use Rattle.std.specs.List.{zip};
-ghost use Rattle.listing.specs.Exact.{Wrote, hexadecimal};
+ghost use Rattle.texts.specs.Exact.{Wrote, hexadecimal};
 ghost use Rattle.engines.specs.LookupTexts.{count_text};
 ghost use Rattle.engines.specs.RunTexts.{answered_text, answers_text, change_text};
 ghost use Rattle.engines.specs.RunTexts.{count_of_answers, refusals_text, run_text, totals_text};
@@ -13,13 +13,15 @@ ghost use Rattle.engines.specs.RunTexts.{writer_text};
 
 use crate::line_rooms::LineRoom;
 use crate::lookup_texts::put_count;
-use listing::{BLOCK, Counted, ModuleName, put, write_answer};
+use listing::write_answer;
 use modules::Catalog;
 use order_laws::Refusal;
+use run_files::ModuleName;
 use shared_lookup::{Answer, Served};
 use std::alloc::Global;
 use std::io;
 use std::io::Write;
+use texts::{BLOCK, Counted, put};
 
 /// How many answers are gathered at once. Mostly their lines fit in a block.
 const GATHERED: usize = 1024;

@@ -5,8 +5,8 @@
 //! against the log of the table's updates before the first byte is written.
 ghost use Rattle.std.specs.Prelude.{◌≡◌, [], Some, true, All};
 ghost use Rattle.std.specs.List.{list_any};
-ghost use Rattle.listing.specs.Counted.{device_of, failures_of};
-ghost use Rattle.listing.specs.Scripts.{has_actor, script_of};
+ghost use Rattle.texts.specs.Counted.{device_of, failures_of};
+ghost use Rattle.run_files.specs.Scripts.{has_actor, script_of};
 ghost use Rattle.modules.specs.Lines.{region_fits};
 ghost use Rattle.engines.specs.LookupInputs.{inputs_in, region_lines_of_inputs, texts_in};
 ghost use Rattle.engines.specs.Readings.{last_failures};
@@ -21,14 +21,16 @@ use crate::lookup::{
     listings_in, read_at, read_if_given, region_lines_in,
 };
 use crate::run_texts::put_run;
-use listing::{AddressRule, Counted, ModuleName, ScriptLine, read_script};
+use listing::AddressRule;
 use modules::{Asked, Catalog, KernelBounds};
 use order_laws::Refusal;
+use run_files::{ModuleName, ScriptLine, read_script};
 use shared_lookup::{Open, Served, serve};
 use std::alloc::Global;
 use std::io::{Read, Write};
 use std::sync::Wait;
 use std::thread::Threads;
+use texts::Counted;
 
 /// The readers of the files of a run, in the order in which they are read.
 #[derive(Drop)]
@@ -174,7 +176,7 @@ fn give_back(lines: Vec<ScriptLine<'_>>) {
 /// Writes the lines of what came back, from writers whose changes are of modules of these names and
 /// from readers, and returns the program's status, 1 where something is wrong. Refused as out of
 /// memory where some list of addresses ended early.
-pub(crate) fn tell<W: Write>(
+fn tell<W: Write>(
     writer: &mut Counted<W>,
     alloc: Global,
     catalog: &Catalog<'_>,

@@ -2,7 +2,7 @@
 //! taken.
 ghost use Rattle.std.specs.Prelude.{◌≡◌, ◌+◌, ◌≤◌, ◌==◌, [], ◌++◌, if◌then◌else◌, codes, flat_map};
 ghost use Rattle.std.specs.Prelude.{length};
-ghost use Rattle.listing.specs.Exact.{Wrote};
+ghost use Rattle.texts.specs.Exact.{Wrote};
 ghost use Rattle.engines.specs.EventLines.{IsInFront, event_line, line_end, load_middle};
 ghost use Rattle.engines.specs.Json.{json_number};
 ghost use Rattle.engines.specs.JsonTexts.{json_count};
@@ -18,13 +18,14 @@ ghost use Rattle.engines.specs.StepTexts.{written_members};
 use crate::json::put_json_number;
 use crate::json_texts::put_json_count;
 use crate::line_rooms::{LONGEST_NUMBER, LineRoom, ROOM};
-use latch_core::Update;
 use latch_steps::{Event, NextLoad, Reply, Returned};
-use listing::{Counted, Header, Version, put};
 use order_laws::{Item, Refusal};
+use run_files::{Header, Version};
 use std::io;
 use std::io::Write;
 use std::marker::Model;
+use table_updates::Update;
+use texts::{Counted, put};
 use word_layout::Store;
 
 /// Which event was done: its number, the line of the trace that asked for it, and the sequence

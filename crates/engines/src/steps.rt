@@ -5,8 +5,8 @@
 //! of it is kept. How a command stands for events is in `Expands` of latch_steps, whose `event_of`,
 //! `most_of` and `ends` are the functions of these names here.
 ghost use Rattle.std.specs.Prelude.{◌≡◌, ◌≤◌, true, false, IfErr, IfOk, OnOk};
-ghost use Rattle.listing.specs.Counted.{NoneFailed};
-ghost use Rattle.listing.specs.Trace.{contents_of};
+ghost use Rattle.texts.specs.Counted.{NoneFailed};
+ghost use Rattle.run_files.specs.Trace.{contents_of};
 ghost use Rattle.word_layout.specs.Words.{at};
 ghost use Rattle.latch_steps.specs.Expands.{event_of};
 ghost use Rattle.latch_steps.specs.Quiet.{is_flip};
@@ -20,10 +20,11 @@ use crate::fault::Fault;
 use crate::step_texts::{EventLine, EventPlace, put_event, put_opening};
 use crate::trace::layout_for;
 use latch_steps::{Command, Event, NextLoad, Reply, World};
-use listing::{Counted, NumberedTrace, read_numbered_trace};
 use order_laws::{Closed, HalfOpen, Refusal, TreeOrder};
+use run_files::{NumberedTrace, read_numbered_trace};
 use std::alloc::Global;
 use std::io::{Read, Write};
+use texts::Counted;
 
 /// Runs a trace, and writes a line for its opening and for each event that is done.
 ///

@@ -1,8 +1,8 @@
 //! A lookup whose modules, and where they lie, come from the listing of symbols alone.
 ghost use Rattle.std.specs.Prelude.{◌≡◌, ◌++◌, flat_map, IfOk};
 ghost use Rattle.std.specs.Option.{option_copied};
-ghost use Rattle.listing.specs.Counted.{device_of, failures_of};
-ghost use Rattle.listing.specs.Exact.{Wrote};
+ghost use Rattle.texts.specs.Counted.{device_of, failures_of};
+ghost use Rattle.texts.specs.Exact.{Wrote};
 ghost use Rattle.engines.specs.LookupInputs.{known_text};
 ghost use Rattle.engines.specs.AnswerForms.{line_by};
 ghost use Rattle.engines.specs.Readings.{failures_in, last_failures};
@@ -15,17 +15,18 @@ ghost use Rattle.engines.specs.SymbolLookups.{symbol_inputs_in, symbol_inputs_of
 use crate::fault::Fault;
 use crate::forms::AnswerForm;
 use crate::json_texts::put_json_found_counts;
-use crate::lookup::{KALLSYMS_PLACE, all_addresses, read_at};
+use crate::lookup::{KALLSYMS_PLACE, all_addresses, places_of, read_at};
 use crate::lookup_texts::{put_answers, put_found_modules, put_symbol_counts};
 use crate::table::{AddressAnswer, answers_of};
 use listing::{
-    AddressRule, Counted, ListingNote, ListingNotes, SymbolCounts, SymbolFacts, are_symbols_hidden,
+    AddressRule, ListingNote, ListingNotes, SymbolCounts, SymbolFacts, are_symbols_hidden,
     note_of_kallsyms, read_kallsyms,
 };
-use modules::{Catalog, KeptCounts, KernelBounds};
+use modules::{Asked, Catalog, KeptCounts, KernelBounds};
 use std::alloc::{AllocError, Global};
 use std::io;
 use std::io::{Read, Write};
+use texts::Counted;
 
 /// The readers of the files of such a lookup, in the order in which they are read.
 #[derive(Drop)]
@@ -142,7 +143,9 @@ fn answer_by_symbols<W: Write>(
         writer.old writer.new result }
 {
     let rule = inputs.options.rule;
-    let listing = symbol_listing_in(alloc, inputs.options.kernel.as_ref(), inputs.kallsyms)?;
+    let places = places_of(alloc, rule, &inputs.addresses)?;
+    let kernel = inputs.options.kernel.as_ref();
+    let listing = symbol_listing_in(alloc, kernel, inputs.kallsyms, Asked::These(&places))?;
     let answers = answers_of(
         alloc,
         &listing.catalog,
@@ -156,19 +159,21 @@ fn answer_by_symbols<W: Write>(
     }
 }
 
-/// Reads the lines of a listing of symbols, and builds the catalog that they say. The kernel itself
-/// lies between the given names, or else between the usual ones that the listing has.
+/// Reads the lines of a listing of symbols, and builds the catalog that they say, for who asks about
+/// these addresses. The kernel itself lies between the given names, or else between the usual ones
+/// that the listing has.
 pub fn symbol_listing_in<'a>(
     alloc: Global,
     kernel: Option<&KernelBounds>,
     kallsyms: &'a [u8],
+    asked: Asked<'_>,
 ) -> Result<SymbolListing<'a>, AllocError>
     ensures { IfOk result (IsSymbolListing (option_copied kernel.entry) kallsyms.now) }
 {
     let (lines, skipped) = read_kallsyms(alloc, kallsyms)?;
     let hidden = are_symbols_hidden(lines.len(), &skipped);
     let usual = lines.usual_bounds();
-    let (catalog, kept) = Catalog::from_symbols(alloc, kernel, lines)?;
+    let (catalog, kept) = Catalog::from_symbols(alloc, kernel, lines, asked)?;
     let facts = SymbolFacts {
         hidden,
         kept: kept.symbols,

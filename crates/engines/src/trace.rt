@@ -5,24 +5,25 @@
 //! runs out, leaves the output empty.
 ghost use Rattle.std.specs.Prelude.{◌≡◌, ◌<◌, ◌++◌, ◌↔◌, ◌⊎◌, [], IfErr, IfOk, IsErr, OnOk};
 ghost use Rattle.std.specs.Prelude.{flat_map};
-ghost use Rattle.listing.specs.CommandLines.{IsUnderstood};
-ghost use Rattle.listing.specs.Exact.{Wrote};
-ghost use Rattle.listing.specs.Trace.{trace_of, with_header};
+ghost use Rattle.run_files.specs.CommandLines.{IsUnderstood};
+ghost use Rattle.texts.specs.Exact.{Wrote};
+ghost use Rattle.run_files.specs.Trace.{trace_of, with_header};
 ghost use Rattle.word_layout.specs.Layouts.{capacity_of, limit_of};
 ghost use Rattle.word_layout.specs.Limits.{most_nodes};
-ghost use Rattle.engines.specs.Texts.{note_text};
+ghost use Rattle.engines.specs.TraceTexts.{note_text};
 ghost use Rattle.engines.specs.GatheredTraces.{IsLinesFault, IsNext, IsNotOpened, HasGathered, GathersCommand, GathersLines};
 ghost use Rattle.engines.specs.Traces.{AnswersSaid, AnswersTrace, greatest_of, order_by};
 
 use crate::fault::Fault;
 use crate::lookup::read_at;
-use crate::texts::{LONGEST_LINE, append_end, append_note};
+use crate::trace_texts::{LONGEST_LINE, append_end, append_note};
 use latch_steps::{Command, Driver, Note};
-use listing::{CommandLines, Counted, Header, Version, open_trace, put};
 use order_laws::{Closed, HalfOpen, Refusal, TreeOrder};
+use run_files::{CommandLines, Header, Version, open_trace};
 use std::alloc::{AllocError, Global};
 use std::io;
 use std::io::{Read, Write};
+use texts::{Counted, put};
 use word_layout::Layout;
 
 /// Runs a trace, and writes a line for each lookup that returned and for each refusal, and the line

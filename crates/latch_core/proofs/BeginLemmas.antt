@@ -14,9 +14,9 @@ use Rattle.word_layout.specs.Stores.{AreLinkStores}
 use Rattle.rb_words.specs.Pictures.{Picture}
 use Rattle.facts.proofs.Lists.{nil-from_length}
 use Rattle.word_layout.proofs.LinkLemmas.{links_in_range}
-use Rattle.latch_core.specs.declared.updates.Update.{Update}
-use Rattle.latch_core.specs.declared.updates.Update.TheVariants.{Batch}
-use Rattle.latch_core.specs.Updates.{after, size_of, some_invalid, some_missing, some_twice, some_overlap, some_meet}
+use Rattle.table_updates.specs.declared.updates.Update.{Update}
+use Rattle.table_updates.specs.declared.updates.Update.TheVariants.{Batch}
+use Rattle.table_updates.specs.Updates.{after, size_of, some_invalid, some_missing, some_twice, some_overlap, some_meet}
 use Rattle.latch_core.specs.Latches.{Latch}
 use Rattle.latch_core.specs.Plans.{flip_to, update_stores}
 use Rattle.latch_core.specs.FreeNodes.{AreAllNodes}

@@ -21,10 +21,10 @@ use Rattle.rb_words.specs.Pictures.{Picture, IsPictured}
 use Rattle.rb_words.specs.Plans.{Inserts, Erases, item_stores}
 use Rattle.rb_words.specs.Mirrors.{mirror_stores, second_picture}
 use Rattle.rb_words.specs.Rows.{AreDistinct}
-use Rattle.latch_core.specs.declared.updates.Update.{Update}
-use Rattle.latch_core.specs.declared.updates.Update.TheVariants.{Insert, Erase, Batch}
+use Rattle.table_updates.specs.declared.updates.Update.{Update}
+use Rattle.table_updates.specs.declared.updates.Update.TheVariants.{Insert, Erase, Batch}
 use Rattle.latch_core.specs.Sequences.{stable_copy_of}
-use Rattle.latch_core.specs.Updates.{after, size_of, with_items}
+use Rattle.table_updates.specs.Updates.{after, size_of, with_items}
 use Rattle.latch_core.specs.Plans.{update_stores}
 use Rattle.latch_core.specs.FreeNodes.{AreAllNodes}
 use Rattle.latch_core.specs.Changes.{PlacedItems, stores_of_placed, AreInPlace, PlansBoth, ErasesWords, InsertsItems}

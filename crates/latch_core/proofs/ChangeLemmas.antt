@@ -25,10 +25,10 @@ use Rattle.rb_words.specs.Plans.{Inserts, Erases, LeadsWithItem, LeadsByLinks, i
 use Rattle.rb_words.specs.Mirrors.{mirror_stores, mirror_store, second_picture}
 use Rattle.rb_words.specs.Rows.{AreDistinct}
 use Rattle.rb_words.proofs.MirrorLemmas.{inserts_mirrored, with_item_mirrored, erases_mirrored, by_links_mirrored}
-use Rattle.latch_core.specs.Updates.{some_missing, some_twice, some_invalid, some_overlap, some_meet, with_items}
+use Rattle.table_updates.specs.Updates.{some_missing, some_twice, some_invalid, some_overlap, some_meet, with_items}
 use Rattle.latch_core.specs.FreeNodes.{AreAllNodes}
 use Rattle.latch_core.specs.Changes.{PlacedItems, stores_of_placed, AreInPlace, RelinksCopy, RelinksBoth, ErasesWords, InsertsItems}
-use Rattle.latch_core.proofs.BatchLemmas.{AreApart, AreOff, all_valid, all_apart, all_off, still_off}
+use Rattle.table_updates.proofs.BatchLemmas.{AreApart, AreOff, all_valid, all_apart, all_off, still_off}
 use Rattle.latch_core.proofs.NodeLemmas.{moved_nodes, node_freed, node_taken, last_is_free}
 
 placed_kept : (m : List ℕ) (n copy : ℕ) (links : List Store) → copy ≤ 1 → AreLinkStores n copy links → (placed : PlacedItems) → AreInPlace m placed → AreInPlace (words_after_all m links) placed

@@ -18,9 +18,9 @@ use Rattle.facts.proofs.Tests.{all_fail, list_any-all_fail}
 use Rattle.facts.proofs.Numbers.{eqb-flip}
 use Rattle.order_laws.proofs.MeetLemmas.{no_meeting}
 use Rattle.order_laws.proofs.InLineLemmas.{precedes, beyond}
-use Rattle.latch_core.specs.declared.updates.Update.TheVariants.{Batch}
-use Rattle.latch_core.specs.Updates.{first_that_holds, failed_test, some_invalid, some_twice, some_overlap, some_meet}
-use Rattle.latch_core.proofs.BatchLemmas.{all_apart}
+use Rattle.table_updates.specs.declared.updates.Update.TheVariants.{Batch}
+use Rattle.table_updates.specs.Updates.{first_that_holds, failed_test, some_invalid, some_twice, some_overlap, some_meet}
+use Rattle.table_updates.proofs.BatchLemmas.{all_apart}
 
 -- some entry clashes with one after it
 abbrev clash : {X : Type 0} → (X → X → Bool) → List X → Bool

@@ -9,8 +9,8 @@ use Rattle.word_layout.specs.Words.{at, InUse}
 use Rattle.word_layout.specs.Stores.{words_after}
 use Rattle.latch_core.specs.Sequences.{generation_of, stable_copy_of}
 use Rattle.latch_core.specs.Attempts.{Reading, Load, Ends, Outcome, Answer, attempt, rest_after, IsAttempt, Stand}
-use Rattle.latch_core.specs.Histories.{replay}
-use Rattle.latch_core.specs.declared.updates.Update.{Update}
+use Rattle.table_updates.specs.Updates.{replay}
+use Rattle.table_updates.specs.declared.updates.Update.{Update}
 use Rattle.latch_core.specs.Latches.{PendingUpdate, Latch, IsHidden, IsWriterStep}
 use Rattle.latch_core.proofs.ReadingLemmas.{AllLoads}
 use Rattle.latch_core.proofs.StepLemmas.{hidden_same, attempt_uses, sequence_after}

@@ -1,7 +1,6 @@
 pub mod ReadingLemmas
 pub mod WalkLemmas
 pub mod TestLemmas
-pub mod BatchLemmas
 pub mod StepLemmas
 pub mod SoundLemmas
 pub mod StoreOrderLemmas
@@ -17,7 +16,6 @@ pub mod ShallowLemmas
 pub mod LatchedLemmas
 pub mod WideningLemmas
 pub mod AttemptLemmas
-pub mod HistoryLemmas
 pub mod RestLemmas
 pub mod LoadingLemmas
 pub mod StillLemmas

@@ -4,11 +4,12 @@ use Rattle.std.specs.Prelude.{◌==◌}
 use Rattle.std.proofs.lemmas.Bool.{eq-eqb, ne_eqb, eqb-true}
 use Rattle.std.proofs.lemmas.List.{take-append-le, take_all, get_or-replicate}
 use Rattle.word_layout.specs.declared.stores.Store.{Store}
-use Rattle.latch_core.specs.declared.updates.Update.{Update}
+use Rattle.table_updates.specs.declared.updates.Update.{Update}
 use Rattle.order_laws.specs.Orders.{Order, IsLawful}
 use Rattle.order_laws.specs.Tables.{IsTable}
-use Rattle.latch_core.specs.Updates.{after, refusal_for}
-use Rattle.latch_core.specs.Histories.{replay, table_at, current_table}
+use Rattle.table_updates.specs.Updates.{after, refusal_for}
+use Rattle.table_updates.specs.Updates.{replay}
+use Rattle.latch_core.specs.Histories.{table_at, current_table}
 use Rattle.word_layout.specs.Words.{words_per_node, at, root_word, none, HoldsTable}
 use Rattle.latch_core.specs.Sequences.{generation_of, stable_copy_of}
 use Rattle.latch_core.specs.Latches.{PendingUpdate, Latch, IsWriterStep, flips_after, latch_after_step, latch_with_update, opening_latch}

@@ -6,12 +6,12 @@ use Rattle.std.proofs.lemmas.List.{take-append-le, take_all}
 use Rattle.order_laws.specs.declared.items.Item.{Item}
 use Rattle.word_layout.specs.declared.stores.Store.{Store}
 use Rattle.word_layout.proofs.HoldsLemmas.{flip_adds}
-use Rattle.latch_core.specs.declared.updates.Update.{Update}
-use Rattle.latch_core.specs.declared.updates.Update.TheVariants.{Insert, Erase, Batch}
+use Rattle.table_updates.specs.declared.updates.Update.{Update}
+use Rattle.table_updates.specs.declared.updates.Update.TheVariants.{Insert, Erase, Batch}
 use Rattle.order_laws.specs.Orders.{Order, IsLawful}
 use Rattle.order_laws.specs.Tables.{IsTable, meets, with_item, without, without_all}
-use Rattle.latch_core.specs.Updates.{after, refusal_for, some_overlap, some_meet}
-use Rattle.latch_core.specs.Histories.{replay}
+use Rattle.table_updates.specs.Updates.{after, refusal_for, some_overlap, some_meet}
+use Rattle.table_updates.specs.Updates.{replay}
 use Rattle.word_layout.specs.Words.{at, root_word, by_root, InUse}
 use Rattle.latch_core.specs.Sequences.{stable_copy_of}
 use Rattle.latch_core.specs.Attempts.{Reading, Load, attempt, rest_after}
@@ -23,7 +23,7 @@ use Rattle.order_laws.proofs.TableLemmas.{with_item_table, without_table, length
 use Rattle.order_laws.proofs.WithoutLemmas.{length_without_all, without_all_table}
 use Rattle.order_laws.proofs.MeetLemmas.{not_meeting}
 use Rattle.latch_core.proofs.TestLemmas.{NoneHolds, all_tests, none_holds}
-use Rattle.latch_core.proofs.BatchLemmas.{all_valid, all_apart, all_off, with_items_table, length_with_items}
+use Rattle.table_updates.proofs.BatchLemmas.{all_valid, all_apart, all_off, with_items_table, length_with_items}
 use Rattle.latch_core.proofs.ReadingLemmas.{AllLoads, stand_on, stand_push}
 use Rattle.latch_core.proofs.WalkLemmas.{walk_uses}
 

@@ -8,9 +8,9 @@ use Rattle.order_laws.specs.declared.refusals.Refusal.TheVariants.{Overlap, NoSu
 use Rattle.order_laws.specs.Orders.{Order}
 use Rattle.order_laws.specs.declared.items.Item.{Item}
 use Rattle.order_laws.specs.Tables.{meets, without_all}
-use Rattle.latch_core.specs.declared.updates.Update.{Update}
-use Rattle.latch_core.specs.declared.updates.Update.TheVariants.{Insert, Erase, Batch}
-use Rattle.latch_core.specs.Updates.{Test, first_that_holds, tests_of, refusal_for, some_invalid, some_missing, some_twice, some_overlap, some_meet}
+use Rattle.table_updates.specs.declared.updates.Update.{Update}
+use Rattle.table_updates.specs.declared.updates.Update.TheVariants.{Insert, Erase, Batch}
+use Rattle.table_updates.specs.Updates.{Test, first_that_holds, tests_of, refusal_for, some_invalid, some_missing, some_twice, some_overlap, some_meet}
 use Rattle.std.proofs.Common.{◌≤◌}
 use Rattle.facts.proofs.Numbers.{eqb-false_wider, ltb-false_wider}
 

@@ -10,9 +10,10 @@ use Rattle.word_layout.specs.Layouts.{capacity_of, limit_of}
 use Rattle.word_layout.specs.Words.{words_per_node, at, Holds, HoldsTable}
 use Rattle.word_layout.specs.Wider.{wider_words}
 use Rattle.word_layout.proofs.WiderLemmas.{at_wider, length_wider, holds_wider, table_wider}
-use Rattle.latch_core.specs.declared.updates.Update.{Update}
+use Rattle.table_updates.specs.declared.updates.Update.{Update}
 use Rattle.latch_core.specs.Sequences.{generation_of, stable_copy_of}
-use Rattle.latch_core.specs.Histories.{replay, table_at}
+use Rattle.table_updates.specs.Updates.{replay}
+use Rattle.latch_core.specs.Histories.{table_at}
 use Rattle.latch_core.specs.Latches.{Latch}
 use Rattle.latch_core.specs.Invariants.{IsPendingOf, IsSound}
 use Rattle.latch_core.specs.Latched.{IsLatched}

@@ -12,9 +12,9 @@ use Rattle.word_layout.specs.Words.{words_per_node, at, words_for, Holds, IsUnre
 use Rattle.word_layout.specs.Stores.{words_after, words_after_all}
 use Rattle.word_layout.proofs.StoreLemmas.{length_after}
 use Rattle.word_layout.proofs.ReachLemmas.{reached_listed}
-use Rattle.latch_core.specs.declared.updates.Update.{Update}
+use Rattle.table_updates.specs.declared.updates.Update.{Update}
 use Rattle.latch_core.specs.Sequences.{stable_copy_of}
-use Rattle.latch_core.specs.Updates.{refusal_for, after}
+use Rattle.table_updates.specs.Updates.{refusal_for, after}
 use Rattle.latch_core.specs.Latches.{PendingUpdate, Latch, IsWriterStep, latch_after_step, latch_with_update, opening_latch}
 use Rattle.latch_core.specs.Plans.{IsPlan, update_stores}
 use Rattle.latch_core.specs.WriterViews.{WriterView}

@@ -11,7 +11,7 @@ use Rattle.rb_words.specs.Pictures.{Picture, IsPictured}
 use Rattle.rb_words.specs.Plans.{item_stores}
 use Rattle.rb_words.specs.Mirrors.{mirror_stores, second_picture}
 use Rattle.rb_words.specs.Rows.{AreDistinct}
-use Rattle.latch_core.specs.Updates.{with_items}
+use Rattle.table_updates.specs.Updates.{with_items}
 use Rattle.latch_core.specs.Plans.{update_stores}
 use Rattle.latch_core.specs.FreeNodes.{AreAllNodes}
 

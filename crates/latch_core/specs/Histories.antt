@@ -1,16 +1,11 @@
--- The table after a list of updates.
-use Rattle.std.specs.Prelude.{ℕ, ◌-◌, List, [], ◌∷◌, take}
+-- The table at a generation, after a list of updates.
+use Rattle.std.specs.Prelude.{ℕ, ◌-◌, List, [], take}
 use Rattle.order_laws.specs.declared.items.Item.{Item}
 use Rattle.order_laws.specs.Orders.{Order}
 use Rattle.word_layout.specs.Words.{at}
-use Rattle.latch_core.specs.declared.updates.Update.{Update}
-use Rattle.latch_core.specs.Updates.{after}
+use Rattle.table_updates.specs.declared.updates.Update.{Update}
+use Rattle.table_updates.specs.Updates.{replay}
 use Rattle.latch_core.specs.Sequences.{generation_of}
-
--- the table after these updates, in order
-abbrev pub replay : {K : Type 0} → Order K → List Item → List Update → List Item
-replay o table [] = table
-replay o table (u ∷ us) = replay o (after o table u) us
 
 -- the table at a generation, where the opening sequence is start
 abbrev pub table_at : {K : Type 0} → Order K → ℕ → List Update → ℕ → List Item

@@ -1,10 +1,11 @@
 -- What stays true at every step.
 use Rattle.std.specs.Prelude.{◌≡◌, ℕ, ◌+◌, ◌-◌, ◌*◌, ◌<◌, ◌≤◌, List, [], ◌∷◌, length, take, Option}
 use Rattle.std.specs.Prelude.{Some, None}
-use Rattle.latch_core.specs.declared.updates.Update.{Update}
+use Rattle.table_updates.specs.declared.updates.Update.{Update}
 use Rattle.order_laws.specs.Orders.{Order}
 use Rattle.order_laws.specs.Tables.{IsTable}
-use Rattle.latch_core.specs.Histories.{replay, current_table}
+use Rattle.table_updates.specs.Updates.{replay}
+use Rattle.latch_core.specs.Histories.{current_table}
 use Rattle.word_layout.specs.Words.{at, HoldsTable}
 use Rattle.latch_core.specs.Sequences.{stable_copy_of}
 use Rattle.latch_core.specs.Attempts.{Reading, Stand}

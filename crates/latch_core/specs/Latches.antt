@@ -6,9 +6,9 @@ use Rattle.word_layout.specs.declared.stores.Store.{Store}
 use Rattle.order_laws.specs.Orders.{Order}
 use Rattle.word_layout.specs.Words.{words_per_node, at, HoldsTable, InUse, IsUnreached}
 use Rattle.word_layout.specs.Stores.{words_after, IsItemWord}
-use Rattle.latch_core.specs.declared.updates.Update.{Update}
+use Rattle.table_updates.specs.declared.updates.Update.{Update}
 use Rattle.latch_core.specs.Sequences.{stable_copy_of}
-use Rattle.latch_core.specs.Updates.{after}
+use Rattle.table_updates.specs.Updates.{after}
 
 -- a pending update: the table before it, the words when it began, how many flips it has made, how
 -- many steps are to come

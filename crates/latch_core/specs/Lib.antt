@@ -1,9 +1,7 @@
 -- The definitions of this crate, in the order in which to read them.
 -- the sequence of a latch (Documentation/locking/seqlock.rst, latch sequence counters)
 pub mod Sequences
--- updates of a table
-pub mod Updates
--- the table after a list of updates
+-- the table at a generation
 pub mod Histories
 -- how a reader looks a key up
 pub mod Attempts

@@ -6,7 +6,7 @@ use Rattle.order_laws.specs.declared.refusals.Refusal.TheVariants.{OutOfMemory}
 use Rattle.word_layout.specs.declared.layouts.Layout.{Layout}
 use Rattle.word_layout.specs.Layouts.{capacity_of, limit_of}
 use Rattle.word_layout.specs.Wider.{wider_words}
-use Rattle.latch_core.specs.Updates.{first_that_holds}
+use Rattle.table_updates.specs.Updates.{first_that_holds}
 use Rattle.latch_core.specs.Latches.{Latch}
 use Rattle.latch_core.specs.WriterViews.{WriterView}
 use Rattle.latch_core.specs.Writers.{RepresentsLatch, has_pending}

@@ -13,9 +13,9 @@ use Rattle.word_layout.specs.Stores.{words_after, words_after_all}
 use Rattle.order_laws.specs.declared.items.Item.{Item}
 use Rattle.rb_trees.specs.Trees.{IsBalanced}
 use Rattle.rb_words.specs.Pictures.{Picture}
-use Rattle.latch_core.specs.declared.updates.Update.{Update}
+use Rattle.table_updates.specs.declared.updates.Update.{Update}
 use Rattle.latch_core.specs.Sequences.{stable_copy_of}
-use Rattle.latch_core.specs.Updates.{refusal_for, after, size_of, most_steps}
+use Rattle.table_updates.specs.Updates.{refusal_for, after, size_of, most_steps}
 use Rattle.latch_core.specs.Latches.{Latch, PendingUpdate, IsWriterStep, latch_after_step}
 use Rattle.latch_core.specs.Latches.{latch_with_update}
 use Rattle.latch_core.specs.Plans.{IsPlan}

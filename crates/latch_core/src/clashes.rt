@@ -7,7 +7,7 @@ ghost use Rattle.std.specs.Prelude.{◌≡◌, false, IsTrue, IfOk};
 ghost use Rattle.std.specs.List.Sorted.{IsPermutation, IsNonDecreasing, IsNonDecreasingBy};
 ghost use Rattle.order_laws.specs.declared.items.Item.{Item};
 ghost use Rattle.order_laws.specs.Orders.{IsInLine};
-ghost use Rattle.latch_core.specs.Updates.{some_twice, some_invalid, some_overlap};
+ghost use Rattle.table_updates.specs.Updates.{some_twice, some_invalid, some_overlap};
 
 use crate::plain;
 use order_laws::{Item, TreeOrder};

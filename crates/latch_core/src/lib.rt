@@ -41,7 +41,6 @@
 #![tactic(auto)]
 
 pub mod attempts;
-pub mod batches;
 mod changes;
 mod clashes;
 pub mod laws;
@@ -51,11 +50,9 @@ mod plans;
 mod progress;
 pub mod readers;
 pub mod sequences;
-pub mod updates;
 pub mod writers;
 
 pub use attempts::{Attempted, Loads, attempt_from, attempt_in};
-pub use batches::Entries;
 pub use readers::{ReaderCore, Taken};
-pub use updates::Update;
+pub use table_updates::{Entries, Update};
 pub use writers::WriterCore;

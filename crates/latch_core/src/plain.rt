@@ -3,17 +3,17 @@
 ghost use Rattle.std.specs.Prelude.{◌≡◌, [], None, Some, if◌then◌else◌, IfOk};
 ghost use Rattle.order_laws.specs.Tables.{has, meets, without_all};
 ghost use Rattle.word_layout.specs.Layouts.{capacity_of, limit_of};
-ghost use Rattle.latch_core.specs.Updates.{failed_test, refusal_for, some_invalid, some_missing};
-ghost use Rattle.latch_core.specs.Updates.{some_twice, cannot_erase};
-ghost use Rattle.latch_core.specs.Updates.{some_overlap, some_meet, cannot_insert, with_items};
-ghost use Rattle.latch_core.specs.Updates.{after};
-ghost use Rattle.latch_core.specs.Histories.{replay};
+ghost use Rattle.table_updates.specs.Updates.{failed_test, refusal_for, some_invalid, some_missing};
+ghost use Rattle.table_updates.specs.Updates.{some_twice, cannot_erase};
+ghost use Rattle.table_updates.specs.Updates.{some_overlap, some_meet, cannot_insert, with_items};
+ghost use Rattle.table_updates.specs.Updates.{after};
+ghost use Rattle.table_updates.specs.Updates.{replay};
 
 use crate::sequences::is_spent;
-use crate::updates::Update;
 use order_laws::tables::{with_item, without};
 use order_laws::{Item, Refusal, TreeOrder};
 use std::alloc::{AllocError, Global};
+use table_updates::Update;
 use word_layout::Layout;
 
 /// Why an update of a table is refused, if it is.

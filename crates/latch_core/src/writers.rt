@@ -10,8 +10,8 @@ ghost use Rattle.word_layout.specs.Limits.{most_nodes};
 ghost use Rattle.word_layout.specs.Words.{at, words_for};
 ghost use Rattle.rb_words.specs.Pictures.{IsPicture};
 ghost use Rattle.latch_core.specs.Sequences.{generation_of};
-ghost use Rattle.latch_core.specs.Updates.{failed_test, some_invalid, some_missing, some_meet};
-ghost use Rattle.latch_core.specs.Updates.{cannot_erase, cannot_insert};
+ghost use Rattle.table_updates.specs.Updates.{failed_test, some_invalid, some_missing, some_meet};
+ghost use Rattle.table_updates.specs.Updates.{cannot_erase, cannot_insert};
 ghost use Rattle.std.specs.List.Sorted.{IsNonDecreasing};
 ghost use Rattle.latch_core.specs.Latches.{Latch, PendingUpdate, latch_after_step, opening_latch};
 ghost use Rattle.latch_core.specs.Writers.{next_store, why_refused, IsRefusedBy};
@@ -27,11 +27,11 @@ use crate::nodes::{add_nodes, all_nodes};
 use crate::plain::some_invalid;
 use crate::plans::Plan;
 use crate::sequences::{generation, is_spent};
-use crate::updates::Update;
 use order_laws::{Item, Refusal, TreeOrder};
 use rb_words::{STORES, Shape};
 use std::alloc::Global;
 use std::marker::Model;
+use table_updates::Update;
 use word_layout::{Layout, Store, TreeCopy};
 
 /// The writer's side of a latch (`latch_tree_insert`, `latch_tree_erase` and

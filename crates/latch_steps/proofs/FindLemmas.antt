@@ -12,7 +12,7 @@ use Rattle.facts.proofs.Maps.{get-insert_other, get-insert_same, get-remove_othe
 use Rattle.word_layout.specs.Layouts.{capacity_of, limit_of}
 use Rattle.word_layout.specs.Words.{at, words_for}
 use Rattle.word_layout.proofs.StoreLemmas.{length_after}
-use Rattle.latch_core.specs.declared.updates.Update.{Update}
+use Rattle.table_updates.specs.declared.updates.Update.{Update}
 use Rattle.latch_core.specs.Sequences.{generation_of}
 use Rattle.latch_core.specs.Histories.{current_table}
 use Rattle.latch_core.specs.Invariants.{IsSound}

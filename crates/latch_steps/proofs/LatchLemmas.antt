@@ -7,7 +7,7 @@ use Rattle.std.proofs.lemmas.Bool.{eq-eqb, ne_eqb}
 use Rattle.std.proofs.lemmas.List.{drop-take, take-take}
 use Rattle.std.proofs.lemmas.List.Sums.{sum_by-append, sum_by-take-drop}
 use Rattle.word_layout.specs.declared.stores.Store.{Store}
-use Rattle.latch_core.specs.declared.updates.Update.{Update}
+use Rattle.table_updates.specs.declared.updates.Update.{Update}
 use Rattle.order_laws.specs.declared.refusals.Refusal.{Refusal}
 use Rattle.latch_steps.specs.declared.events.Event.{Event}
 use Rattle.latch_steps.specs.declared.events.Event.TheVariants.{Begin, Write, Start, Read}
@@ -16,7 +16,7 @@ use Rattle.latch_steps.specs.declared.replies.Reply.TheVariants.{Begun, Wrote}
 use Rattle.order_laws.specs.Orders.{Order, IsLawful}
 use Rattle.word_layout.specs.Words.{at}
 use Rattle.word_layout.specs.Stores.{words_after}
-use Rattle.latch_core.specs.Updates.{refusal_for}
+use Rattle.table_updates.specs.Updates.{refusal_for}
 use Rattle.latch_core.specs.Latches.{PendingUpdate, Latch, IsWriterStep}
 use Rattle.latch_core.specs.Invariants.{IsSound}
 use Rattle.word_layout.proofs.HoldsLemmas.{flip_adds}

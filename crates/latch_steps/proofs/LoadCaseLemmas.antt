@@ -6,7 +6,7 @@ use Rattle.order_laws.specs.declared.items.Item.{Item}
 use Rattle.order_laws.specs.Orders.{Order, IsLawful}
 use Rattle.order_laws.specs.Tables.{IsTable, look}
 use Rattle.word_layout.specs.Words.{at, Nodes, Holds}
-use Rattle.latch_core.specs.declared.updates.Update.{Update}
+use Rattle.table_updates.specs.declared.updates.Update.{Update}
 use Rattle.latch_core.specs.Sequences.{generation_of, stable_copy_of}
 use Rattle.latch_core.specs.Histories.{current_table}
 use Rattle.latch_core.specs.Attempts.{Answer, Again, Reading, Load, Ends, attempt, rest_after, Stand}

@@ -9,9 +9,10 @@ use Rattle.order_laws.specs.Tables.{look}
 use Rattle.order_laws.specs.declared.refusals.Refusal.{Refusal}
 use Rattle.facts.proofs.Maps.{get-insert_other, get-insert_same, get-remove_other, get-remove_same}
 use Rattle.word_layout.specs.Words.{at}
-use Rattle.latch_core.specs.declared.updates.Update.{Update}
+use Rattle.table_updates.specs.declared.updates.Update.{Update}
 use Rattle.latch_core.specs.Sequences.{generation_of, stable_copy_of}
-use Rattle.latch_core.specs.Histories.{replay, current_table}
+use Rattle.table_updates.specs.Updates.{replay}
+use Rattle.latch_core.specs.Histories.{current_table}
 use Rattle.latch_core.specs.Invariants.{IsSound, IsPendingOf}
 use Rattle.latch_core.specs.Latches.{PendingUpdate, Latch}
 use Rattle.latch_core.specs.Attempts.{attempt, Stand}

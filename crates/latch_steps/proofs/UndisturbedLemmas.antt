@@ -5,7 +5,7 @@ use Rattle.std.specs.Prelude.{◌==◌}
 use Rattle.std.specs.FinMap.{get}
 use Rattle.std.proofs.lemmas.Bool.{eqb-true, eqb-false}
 use Rattle.order_laws.specs.declared.items.Item.{Item}
-use Rattle.latch_core.specs.declared.updates.Update.{Update}
+use Rattle.table_updates.specs.declared.updates.Update.{Update}
 use Rattle.order_laws.specs.declared.refusals.Refusal.{Refusal}
 use Rattle.order_laws.specs.declared.refusals.Refusal.TheVariants.{ReaderBusy}
 use Rattle.latch_steps.specs.declared.events.Event.{Event}
@@ -15,7 +15,8 @@ use Rattle.latch_steps.specs.declared.replies.Reply.TheVariants.{Started, Loaded
 use Rattle.order_laws.specs.Orders.{Order, IsLawful}
 use Rattle.order_laws.specs.Tables.{IsTable}
 use Rattle.facts.proofs.Maps.{get-insert_other, get-insert_same, get-remove_other}
-use Rattle.latch_core.specs.Histories.{replay, current_table}
+use Rattle.table_updates.specs.Updates.{replay}
+use Rattle.latch_core.specs.Histories.{current_table}
 use Rattle.word_layout.specs.Words.{at, Nodes, Holds}
 use Rattle.latch_core.specs.Sequences.{generation_of, stable_copy_of}
 use Rattle.latch_core.specs.Attempts.{Reading, Load, attempt, rest_after, Stand}

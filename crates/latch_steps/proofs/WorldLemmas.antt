@@ -13,9 +13,9 @@ use Rattle.word_layout.specs.declared.stores.Store.{Store}
 use Rattle.word_layout.specs.Layouts.{capacity_of, limit_of}
 use Rattle.word_layout.specs.Words.{at}
 use Rattle.word_layout.specs.Stores.{words_after}
-use Rattle.latch_core.specs.declared.updates.Update.{Update}
+use Rattle.table_updates.specs.declared.updates.Update.{Update}
 use Rattle.latch_core.specs.WriterViews.{WriterView}
-use Rattle.latch_core.specs.Updates.{refusal_for, most_steps}
+use Rattle.table_updates.specs.Updates.{refusal_for, most_steps}
 use Rattle.latch_core.proofs.TestLemmas.{never_for_memory}
 use Rattle.latch_core.specs.Latches.{PendingUpdate, Latch, IsWriterStep, latch_after_step, latch_with_update}
 use Rattle.latch_core.specs.Plans.{IsPlan}

@@ -4,7 +4,7 @@ use Rattle.std.specs.Prelude.{length, take, drop, count_by, if◌then◌else◌,
 use Rattle.std.specs.List.{AllByRecursion}
 use Rattle.order_laws.specs.declared.items.Item.{Item}
 use Rattle.order_laws.specs.Orders.{Order}
-use Rattle.latch_core.specs.declared.updates.Update.{Update}
+use Rattle.table_updates.specs.declared.updates.Update.{Update}
 use Rattle.latch_core.specs.Histories.{current_table}
 use Rattle.latch_steps.specs.declared.events.Event.{Event}
 use Rattle.latch_steps.specs.declared.events.Event.TheVariants.{Start, Read}

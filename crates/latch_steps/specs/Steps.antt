@@ -2,7 +2,7 @@
 use Rattle.std.specs.Prelude.{◌≡◌, ℕ, ◌+◌, ◌<◌, ◌≤◌, List, [], ◌∷◌, ◌++◌, min, Option, Some, None}
 use Rattle.std.specs.Ordering.{nat_cmp}
 use Rattle.std.specs.FinMap.{FinMap, get, insert, remove}
-use Rattle.latch_core.specs.declared.updates.Update.{Update}
+use Rattle.table_updates.specs.declared.updates.Update.{Update}
 use Rattle.order_laws.specs.declared.items.Item.{Item}
 use Rattle.order_laws.specs.declared.refusals.Refusal.{Refusal}
 use Rattle.order_laws.specs.declared.refusals.Refusal.TheVariants.{ReaderBusy, ReaderIdle}
@@ -16,7 +16,7 @@ use Rattle.latch_steps.specs.declared.replies.Reply.TheVariants.{Begun, Wrote, I
 use Rattle.latch_steps.specs.declared.replies.Reply.TheVariants.{Loaded, Retried}
 use Rattle.latch_steps.specs.declared.replies.Reply.TheVariants.{Returned as ReturnedReply, Refused}
 use Rattle.order_laws.specs.Orders.{Order}
-use Rattle.latch_core.specs.Updates.{most_steps}
+use Rattle.table_updates.specs.Updates.{most_steps}
 use Rattle.latch_core.specs.Writers.{latch_refusal}
 use Rattle.word_layout.specs.Layouts.{capacity_of, limit_of}
 use Rattle.word_layout.specs.Words.{at}

@@ -1,6 +1,6 @@
 //! Groups of steps, as a trace file names them.
 
-use latch_core::Update;
+use table_updates::Update;
 
 /// A group of events of one actor.
 #[derive(Debug, PartialEq, Eq, Drop)]

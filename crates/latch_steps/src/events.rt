@@ -2,8 +2,8 @@
 
 ghost use Rattle.std.specs.Prelude.{◌≡◌, IfOk, IfErr};
 
-use latch_core::Update;
 use order_laws::Refusal;
+use table_updates::Update;
 
 /// One step of the writer or of a reader. Readers are told apart by a number.
 #[derive(Debug, PartialEq, Eq, Drop)]

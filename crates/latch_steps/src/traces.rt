@@ -13,9 +13,9 @@ use crate::commands::Command;
 use crate::events::Event;
 use crate::replies::{Note, Reply};
 use crate::worlds::World;
-use latch_core::Update;
 use order_laws::{Refusal, TreeOrder};
 use std::alloc::Global;
+use table_updates::Update;
 use word_layout::Layout;
 
 /// What a run leaves.

@@ -5,7 +5,7 @@ ghost use Rattle.std.specs.Prelude.{IfErr, IfSome, IfNone, OnSome, OnOk, is_some
 ghost use Rattle.word_layout.specs.Words.{at};
 ghost use Rattle.word_layout.specs.Layouts.{capacity_of};
 ghost use Rattle.latch_core.specs.Writers.{MayOpen, IsOpeningRefused};
-ghost use Rattle.latch_core.specs.declared.updates.Update.{Update};
+ghost use Rattle.table_updates.specs.declared.updates.Update.{Update};
 ghost use Rattle.latch_steps.specs.declared.events.Event.TheVariants.{Begin, Write, Start, Read};
 ghost use Rattle.latch_steps.specs.Runs.{Moment, accepted, opening};
 
@@ -13,10 +13,11 @@ use crate::events::Event;
 use crate::lookups::{Loaded, Lookup, LookupProgress, LookupState};
 use crate::replies::{NextLoad, Note, Reply, Returned};
 use crate::words::{opening_words, put, word_at};
-use latch_core::{Attempted, Update, WriterCore, attempt_in};
+use latch_core::{Attempted, WriterCore, attempt_in};
 use order_laws::{Item, Refusal, TreeOrder};
 use std::alloc::Global;
 use std::collections::BTreeMap;
+use table_updates::Update;
 use word_layout::{Layout, Store};
 
 /// The words of a latched tree with their writer, the pending lookups by reader, and the count of

@@ -7,7 +7,7 @@ use Rattle.order_laws.specs.Orders.{Order, IsLawful}
 use Rattle.order_laws.specs.Tables.{look}
 use Rattle.word_layout.specs.Words.{at}
 use Rattle.latch_core.specs.Sequences.{generation_of}
-use Rattle.latch_core.specs.Histories.{replay}
+use Rattle.table_updates.specs.Updates.{replay}
 use Rattle.latch_core.specs.Attempts.{Reading, Load, Ends, Outcome, Answer, Again, outcome, last_load, attempt, attempt_after, rest_after, Stand}
 use Rattle.latch_core.specs.Latched.{loads_of, IsLatched}
 use Rattle.latch_core.specs.Loading.{Leads, IsReady, HasTried}

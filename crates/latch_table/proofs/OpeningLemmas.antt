@@ -8,7 +8,7 @@ use Rattle.word_layout.specs.declared.layouts.Layout.{Layout}
 use Rattle.word_layout.specs.Layouts.{capacity_of}
 use Rattle.word_layout.specs.Words.{HoldsTable, words_per_node}
 use Rattle.latch_core.specs.Sequences.{generation_of, stable_copy_of}
-use Rattle.latch_core.specs.Histories.{replay}
+use Rattle.table_updates.specs.Updates.{replay}
 use Rattle.latch_core.specs.Latches.{opening_latch}
 use Rattle.latch_core.specs.Invariants.{IsSound}
 use Rattle.latch_core.specs.WriterViews.{WriterView}

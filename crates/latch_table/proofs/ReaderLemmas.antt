@@ -8,9 +8,9 @@ use Rattle.facts.proofs.Lists.{IsPrefix-along, IsPrefix-whole}
 use Rattle.word_layout.specs.declared.stores.Store.{Store}
 use Rattle.word_layout.specs.Words.{at}
 use Rattle.word_layout.specs.Stores.{words_after}
-use Rattle.latch_core.specs.declared.updates.Update.{Update}
+use Rattle.table_updates.specs.declared.updates.Update.{Update}
 use Rattle.latch_core.specs.Sequences.{generation_of}
-use Rattle.latch_core.specs.Histories.{replay}
+use Rattle.table_updates.specs.Updates.{replay}
 use Rattle.latch_core.specs.Attempts.{Reading, Load, Ends, Answer, attempt, rest_after, IsAttempt}
 use Rattle.latch_core.specs.Latches.{PendingUpdate, Latch, IsWriterStep}
 use Rattle.latch_core.proofs.StepLemmas.{sequence_after}

@@ -12,7 +12,7 @@ use Rattle.order_laws.specs.declared.items.Item.{Item}
 use Rattle.word_layout.specs.declared.stores.Store.{Store}
 use Rattle.word_layout.specs.Words.{at}
 use Rattle.word_layout.specs.Stores.{words_after}
-use Rattle.latch_core.specs.declared.updates.Update.{Update}
+use Rattle.table_updates.specs.declared.updates.Update.{Update}
 use Rattle.latch_core.specs.Latches.{PendingUpdate, IsWriterStep}
 use Rattle.latch_table.specs.declared.knowledge.ReaderKnowledge.{ReaderKnowledge}
 use Rattle.latch_table.specs.declared.knowledge.WriterKnowledge.{WriterKnowledge}

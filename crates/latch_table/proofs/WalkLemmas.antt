@@ -9,9 +9,9 @@ use Rattle.order_laws.specs.declared.items.Item.{Item}
 use Rattle.order_laws.specs.Orders.{Order}
 use Rattle.order_laws.specs.Tables.{look}
 use Rattle.facts.proofs.Lists.{IsPrefix-along, IsPrefix-whole}
-use Rattle.latch_core.specs.declared.updates.Update.{Update}
+use Rattle.table_updates.specs.declared.updates.Update.{Update}
 use Rattle.latch_core.specs.Sequences.{generation_of}
-use Rattle.latch_core.specs.Histories.{replay}
+use Rattle.table_updates.specs.Updates.{replay}
 use Rattle.latch_core.specs.Attempts.{Reading, Load, Ends, Outcome, Answer, Again, WalkEnd, AtItem, AtEmptyLink, Stuck, outcome, last_load, attempt, attempt_after, rest_after, IsAttempt}
 use Rattle.latch_core.proofs.ReadingLemmas.{rest_push}
 use Rattle.latch_core.proofs.WalkLemmas.{attempt_length}

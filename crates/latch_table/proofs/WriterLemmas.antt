@@ -16,10 +16,10 @@ use Rattle.word_layout.specs.Words.{at, words_for, HoldsTable}
 use Rattle.word_layout.specs.Stores.{words_after}
 use Rattle.word_layout.proofs.StoreLemmas.{length_after}
 use Rattle.latch_core.proofs.WriterLemmas.{rests_before}
-use Rattle.latch_core.specs.declared.updates.Update.{Update}
+use Rattle.table_updates.specs.declared.updates.Update.{Update}
 use Rattle.latch_core.specs.Sequences.{generation_of, stable_copy_of}
-use Rattle.latch_core.specs.Updates.{refusal_for}
-use Rattle.latch_core.specs.Histories.{replay}
+use Rattle.table_updates.specs.Updates.{refusal_for}
+use Rattle.table_updates.specs.Updates.{replay}
 use Rattle.latch_core.specs.Latches.{PendingUpdate, Latch, IsWriterStep, flips_after, latch_after_step}
 use Rattle.latch_core.specs.Invariants.{IsPendingUpdate, IsPendingOf, IsSound}
 use Rattle.latch_core.specs.WriterViews.{WriterView}

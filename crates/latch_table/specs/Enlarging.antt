@@ -7,7 +7,7 @@ use Rattle.order_laws.specs.declared.refusals.Refusal.TheVariants.{UpdateInHand}
 use Rattle.word_layout.specs.declared.layouts.Layout.{Layout}
 use Rattle.word_layout.specs.Layouts.{capacity_of, limit_of}
 use Rattle.word_layout.specs.Words.{at}
-use Rattle.latch_core.specs.declared.updates.Update.{Update}
+use Rattle.table_updates.specs.declared.updates.Update.{Update}
 use Rattle.latch_core.specs.Widening.{widened_latch}
 use Rattle.latch_table.specs.Seats.{blank_reader}
 use Rattle.latch_table.specs.Readers.{ReaderState}

@@ -5,7 +5,7 @@ use Rattle.order_laws.specs.Orders.{Order}
 use Rattle.order_laws.specs.Tables.{look}
 use Rattle.word_layout.specs.Words.{at}
 use Rattle.latch_core.specs.Sequences.{generation_of}
-use Rattle.latch_core.specs.Histories.{replay}
+use Rattle.table_updates.specs.Updates.{replay}
 use Rattle.latch_core.specs.Attempts.{Answer, attempt, IsAttempt}
 use Rattle.latch_table.specs.declared.knowledge.WriterKnowledge.{WriterKnowledge}
 use Rattle.latch_core.specs.Latched.{loads_of}

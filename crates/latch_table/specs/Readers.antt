@@ -5,9 +5,9 @@ use Rattle.atomic_table.specs.Seated.{TableId}
 use Rattle.order_laws.specs.declared.items.Item.{Item}
 use Rattle.order_laws.specs.Orders.{Order}
 use Rattle.order_laws.specs.Tables.{look}
-use Rattle.latch_core.specs.declared.updates.Update.{Update}
+use Rattle.table_updates.specs.declared.updates.Update.{Update}
 use Rattle.latch_core.specs.Sequences.{generation_of}
-use Rattle.latch_core.specs.Histories.{replay}
+use Rattle.table_updates.specs.Updates.{replay}
 use Rattle.latch_core.specs.Attempts.{Outcome, Answer, Again, attempt, IsAttempt}
 use Rattle.latch_table.specs.declared.knowledge.ReaderKnowledge.{ReaderKnowledge}
 use Rattle.latch_table.specs.declared.knowledge.Knowledge.{Knowledge}

@@ -9,9 +9,9 @@ use Rattle.order_laws.specs.Orders.{Order}
 use Rattle.order_laws.specs.Tables.{look}
 use Rattle.word_layout.specs.Layouts.{capacity_of}
 use Rattle.word_layout.specs.Words.{at}
-use Rattle.latch_core.specs.declared.updates.Update.{Update}
+use Rattle.table_updates.specs.declared.updates.Update.{Update}
 use Rattle.latch_core.specs.Sequences.{generation_of}
-use Rattle.latch_core.specs.Histories.{replay}
+use Rattle.table_updates.specs.Updates.{replay}
 use Rattle.latch_core.specs.Attempts.{Outcome, Answer, attempt, IsAttempt}
 use Rattle.latch_table.specs.declared.knowledge.ReaderKnowledge.{ReaderKnowledge}
 use Rattle.latch_table.specs.declared.knowledge.WriterKnowledge.{WriterKnowledge}

@@ -4,9 +4,9 @@ use Rattle.std.specs.Prelude.{if◌then◌else◌, ◌==◌, ◌&&◌}
 use Rattle.order_laws.specs.Orders.{Order}
 use Rattle.word_layout.specs.Layouts.{capacity_of}
 use Rattle.word_layout.specs.Words.{at}
-use Rattle.latch_core.specs.declared.updates.Update.{Update}
+use Rattle.table_updates.specs.declared.updates.Update.{Update}
 use Rattle.latch_core.specs.Sequences.{generation_of, stable_copy_of}
-use Rattle.latch_core.specs.Histories.{replay}
+use Rattle.table_updates.specs.Updates.{replay}
 use Rattle.latch_core.specs.Latches.{opening_latch}
 use Rattle.latch_table.specs.declared.knowledge.ReaderKnowledge.{ReaderKnowledge}
 use Rattle.latch_table.specs.declared.knowledge.WriterKnowledge.{WriterKnowledge}

@@ -4,7 +4,7 @@ use Rattle.atomic_table.specs.Table.{Me}
 use Rattle.atomic_table.specs.Seated.{TableId}
 use Rattle.order_laws.specs.Orders.{Order}
 use Rattle.word_layout.specs.Words.{at}
-use Rattle.latch_core.specs.declared.updates.Update.{Update}
+use Rattle.table_updates.specs.declared.updates.Update.{Update}
 use Rattle.latch_core.specs.Latched.{IsKept, StandAll}
 use Rattle.latch_table.specs.declared.knowledge.ReaderKnowledge.{ReaderKnowledge}
 use Rattle.latch_table.specs.declared.knowledge.Knowledge.{Knowledge}

@@ -4,9 +4,9 @@
 //! program keeps. A clause reads an array as a list, of any length.
 
 use atomic_table::Seat;
-use latch_core::Update;
 use order_laws::Item;
 use std::snapshot::Snapshot;
+use table_updates::Update;
 use word_layout::Layout;
 
 /// What a reader knows.

@@ -1,7 +1,7 @@
 //! The rule of the shared words, and what each step on them tells its seat.
 
 ghost use Rattle.std.specs.Prelude.{[]};
-ghost use Rattle.latch_core.specs.declared.updates.Update.TheVariants.{Erase};
+ghost use Rattle.table_updates.specs.declared.updates.Update.TheVariants.{Erase};
 
 use crate::knowledge::{Knowledge, Origin};
 use atomic_table::{Join, Play, Shared, Split, Table, TableRule};
@@ -78,7 +78,7 @@ impl Play<(), Knowledge> for CopyWord {
 
 /// Which update the writer begins.
 pub trait NamesUpdate {
-    ghost use Rattle.latch_core.specs.declared.updates.Update.{Update};
+    ghost use Rattle.table_updates.specs.declared.updates.Update.{Update};
 
     ghost update: { Update };
 }

@@ -4,8 +4,8 @@ use Rattle.std.specs.Prelude.{Result, Ok, Err, IfErr, IsErrAnd}
 use Rattle.order_laws.specs.declared.refusals.Refusal.{Refusal}
 use Rattle.order_laws.specs.Orders.{Order}
 use Rattle.word_layout.specs.declared.stores.Store.{Store}
-use Rattle.latch_core.specs.declared.updates.Update.{Update}
-use Rattle.latch_core.specs.Updates.{most_steps}
+use Rattle.table_updates.specs.declared.updates.Update.{Update}
+use Rattle.table_updates.specs.Updates.{most_steps}
 use Rattle.latch_core.specs.Latches.{PendingUpdate, Latch, IsWriterStep, latch_after_step, latch_with_update, opening_latch}
 use Rattle.latch_core.specs.Writers.{next_store, why_refused, RefusesAsRepresented, RepresentsLatch, MayBeNext, StoresNext, HasBegun, latch_refusal}
 use Rattle.latch_core.specs.WriterViews.{WriterView}

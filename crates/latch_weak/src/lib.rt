@@ -20,8 +20,6 @@ pub mod attempts;
 pub mod barriers;
 pub mod laws;
 pub mod recording;
-#[cfg(test)]
-mod schedule_tests;
 
 pub use attempts::{Glance, LoadSchedule, Moments, ReaderView};
 pub use barriers::Barriers;

@@ -2,14 +2,15 @@
 
 ghost use Rattle.std.specs.Prelude.{◌≡◌, ℕ, List, ◌∷◌, ◌++◌, [], IfOk, IfErr, OnOk};
 ghost use Rattle.word_layout.specs.Layouts.{capacity_of, limit_of};
-ghost use Rattle.latch_core.specs.declared.updates.Update.{Update};
+ghost use Rattle.table_updates.specs.declared.updates.Update.{Update};
 ghost use Rattle.latch_weak.specs.Works.{AreStoresOf};
 ghost use Rattle.latch_core.specs.Writers.{IsRefusedBy};
 ghost use Rattle.latch_weak.specs.Recordings.{Continues, RefusesRecording};
 
-use latch_core::{Update, WriterCore};
+use latch_core::WriterCore;
 use order_laws::{Refusal, TreeOrder};
 use std::alloc::Global;
+use table_updates::Update;
 use word_layout::{Layout, Store};
 
 /// The stores that a writer makes for these updates, one after another, from an empty table whose

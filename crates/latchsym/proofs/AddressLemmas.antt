@@ -8,7 +8,7 @@ use Rattle.std.proofs.lemmas.List.{map-append, take_more, take-append-drop}
 use Rattle.std.proofs.lemmas.List.Elements.{filter_map-append}
 use Rattle.std.proofs.lemmas.List.Folds.{find-append}
 use Rattle.clap.specs.Words.{Text}
-use Rattle.listing.specs.Numbers.{number_of}
+use Rattle.texts.specs.Numbers.{number_of}
 use Rattle.latchsym.specs.Jobs.{is_no_number}
 
 -- the texts of words

@@ -1,7 +1,7 @@
 -- From what came of a log by the catalog of listings to what the engine returns.
 use Rattle.std.proofs.Common.{◌≡◌, ℕ, List, [], Option, Some, None, Result, Ok, Err, refl, sym, subst, inl, inr, ⊎_elim}
 use Rattle.std.specs.Prelude.{IfSome, IsErrAnd, is_some, true}
-use Rattle.listing.specs.declared.counted.Counted.{Counted}
+use Rattle.texts.specs.declared.counted.Counted.{Counted}
 use Rattle.listing.specs.AnnotatedLogs.{answered_by}
 use Rattle.order_laws.specs.declared.refusals.Refusal.TheVariants as refusal
 use Rattle.latchsym.specs.Annotations.{AnnotatesBy, AnnotatesLog, IsTold}

@@ -6,10 +6,10 @@ use Rattle.std.proofs.KnownBytes.{Appends-trans}
 use Rattle.std.proofs.lemmas.Grind.{flat_map-append}
 use Rattle.std.proofs.lemmas.List.{append-nil, take_more}
 use Rattle.clap.specs.Words.{Text}
-use Rattle.listing.specs.declared.counted.Counted.{Counted}
-use Rattle.listing.specs.Counted.{NoneFailed, device_of}
-use Rattle.listing.specs.Exact.{Wrote}
-use Rattle.listing.specs.Lines.{lines_of}
+use Rattle.texts.specs.declared.counted.Counted.{Counted}
+use Rattle.texts.specs.Counted.{NoneFailed, device_of}
+use Rattle.texts.specs.Exact.{Wrote}
+use Rattle.texts.specs.Lines.{lines_of}
 use Rattle.listing.specs.ModuleListing.{module_counts, modules_in}
 use Rattle.listing.specs.SymbolListing.{symbol_counts, symbols_in}
 use Rattle.modules.specs.declared.catalog.BuildCounts.{BuildCounts}

@@ -24,10 +24,10 @@ use Rattle.modules.specs.Entries.{CatalogEntries}
 use Rattle.modules.specs.Found.{Found, symbol_at}
 use Rattle.modules.specs.Items.{item_of_address}
 use Rattle.modules.specs.Listed.{ListedSymbol}
-use Rattle.listing.specs.declared.counted.Counted.{Counted}
-use Rattle.listing.specs.Counted.{NoneFailed, device_of}
-use Rattle.listing.specs.Exact.{Wrote}
-use Rattle.listing.specs.Lines.{lines_of}
+use Rattle.texts.specs.declared.counted.Counted.{Counted}
+use Rattle.texts.specs.Counted.{NoneFailed, device_of}
+use Rattle.texts.specs.Exact.{Wrote}
+use Rattle.texts.specs.Lines.{lines_of}
 use Rattle.listing.specs.SymbolListing.{symbol_of, symbols_in}
 use Rattle.latchsym.specs.AddressTexts.{symbols_text, word_text, words_text}
 use Rattle.latchsym.specs.AskedNames.{asked_of}

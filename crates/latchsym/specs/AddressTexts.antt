@@ -3,7 +3,7 @@ use Rattle.std.specs.Prelude.{ℕ, ◌+◌, ◌-◌, Bool, ◌&&◌, true, false
 use Rattle.std.specs.Prelude.{List, [], ◌++◌, codes, flat_map, Option, Some, None}
 use Rattle.std.specs.List.{list_any}
 use Rattle.std.specs.Str.{bytes_eq}
-use Rattle.listing.specs.Exact.{hexadecimal}
+use Rattle.texts.specs.Exact.{hexadecimal}
 use Rattle.modules.specs.Entries.{CatalogEntries}
 use Rattle.modules.specs.Listed.{ListedSymbol}
 use Rattle.latchsym.specs.AskedNames.{AskedSymbols, asked_of}

@@ -1,8 +1,8 @@
 -- What is returned where names are asked for, and what is written of them.
 use Rattle.std.specs.Prelude.{◌≡◌, ℕ, Bool, List, Option, Result, Ok, Err, IfSome, is_some, true}
 use Rattle.std.specs.Io.KnownBytes.{Appends}
-use Rattle.listing.specs.declared.counted.Counted.{Counted}
-use Rattle.listing.specs.Counted.{NoneFailed, Rose, device_of, failures_of}
+use Rattle.texts.specs.declared.counted.Counted.{Counted}
+use Rattle.texts.specs.Counted.{NoneFailed, Rose, device_of, failures_of}
 use Rattle.modules.specs.Entries.{CatalogEntries}
 use Rattle.modules.specs.Listed.{BoundNames}
 use Rattle.order_laws.specs.declared.refusals.Refusal.TheVariants as refusal

@@ -1,7 +1,7 @@
 -- What is written for a log, and told of the listings that say what its addresses are.
 use Rattle.std.specs.Prelude.{◌≡◌, ◌⊎◌, ℕ, List, Option, Result, Ok, Err, IfSome, is_some, true}
 use Rattle.listing.specs.declared.annotation.LogFault.TheVariants as log_fault
-use Rattle.listing.specs.declared.counted.Counted.{Counted}
+use Rattle.texts.specs.declared.counted.Counted.{Counted}
 use Rattle.listing.specs.AnnotatedLogs.{Answering, answered_by}
 use Rattle.listing.specs.Annotation.{Annotates}
 use Rattle.modules.specs.Entries.{CatalogEntries}

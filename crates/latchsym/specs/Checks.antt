@@ -4,9 +4,9 @@ use Rattle.std.specs.Prelude.{Result, Ok, Err, IfSome, unwrap_or, true}
 use Rattle.std.specs.Option.{option_map}
 use Rattle.std.specs.Io.KnownBytes.{Appends}
 use Rattle.clap.specs.Words.{Text}
-use Rattle.listing.specs.declared.counted.Counted.{Counted}
-use Rattle.listing.specs.Counted.{NoneFailed, Rose, device_of, failures_of}
-use Rattle.listing.specs.Lines.{lines_of}
+use Rattle.texts.specs.declared.counted.Counted.{Counted}
+use Rattle.texts.specs.Counted.{NoneFailed, Rose, device_of, failures_of}
+use Rattle.texts.specs.Lines.{lines_of}
 use Rattle.listing.specs.SymbolListing.{symbol_counts}
 use Rattle.modules.specs.Accepted.{Accepted}
 use Rattle.modules.specs.Catalogs.{kept_counts}

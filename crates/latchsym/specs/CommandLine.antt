@@ -140,11 +140,11 @@ latchsym_app =
     (with_subcommand
     (with_subcommand
     (with_subcommand
-    (with_subcommand (with_subcommand top_app trace_app.top) lookup_app.top)
-    run_app.top)
-    annotate_app.top)
+    (with_subcommand (with_subcommand top_app annotate_app.top) lookup_app.top)
+    address_app.top)
     check_app.top)
-    address_app.top
+    trace_app.top)
+    run_app.top
 
 -- the command reads words as `app` does
 abbrev pub IsCommand : App → Command → Type 0

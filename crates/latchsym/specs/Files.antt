@@ -3,8 +3,8 @@ use Rattle.std.specs.Prelude.{◌≡◌, ℕ, List, codes, Option, Some, None, i
 use Rattle.std.specs.Borrow.{Bor}
 use Rattle.std.specs.Str.{bytes_eq}
 use Rattle.clap.specs.Words.{Text}
-use Rattle.listing.specs.declared.counted.Counted.{Counted}
-use Rattle.listing.specs.Counted.{device_of}
+use Rattle.texts.specs.declared.counted.Counted.{Counted}
+use Rattle.texts.specs.Counted.{device_of}
 use Rattle.latchsym.specs.declared.annotations.AnnotateReaders.{AnnotateReaders}
 use Rattle.latchsym.specs.declared.command_line.AnnotateJob.{AnnotateJob}
 use Rattle.latchsym.specs.declared.command_line.ListingFiles.{ListingFiles}

@@ -10,7 +10,7 @@ use Rattle.clap.specs.Words.{IsAmong, Row, Text, all_of, fault_of, first_of, kin
 use Rattle.clap.specs.declared.error.Error.{Error}
 use Rattle.clap.specs.declared.error.kind.ErrorKind.TheVariants as kind
 use Rattle.latch_table.specs.Limits.{most_readers}
-use Rattle.listing.specs.Numbers.{between, number_of}
+use Rattle.texts.specs.Numbers.{between, number_of}
 use Rattle.modules.specs.Lines.{usual_bounds}
 use Rattle.modules.specs.Listed.{BoundNames}
 use Rattle.latchsym.specs.CommandLine.{latchsym_app}

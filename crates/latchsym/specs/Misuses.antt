@@ -1,9 +1,9 @@
 -- What is said of a command line that gives no job, and the program's status.
-use Rattle.std.specs.Prelude.{◌≡◌, ◌≢◌, ◌⊎◌, ℕ, ◌≤◌, List, [], ◌++◌, Option, codes}
+use Rattle.std.specs.Prelude.{◌≡◌, ◌≢◌, ◌⊎◌, ℕ, List, [], ◌++◌, Option, codes}
 use Rattle.clap.specs.Words.{Text, kind_of}
 use Rattle.clap.specs.declared.error.Error.{Error}
 use Rattle.clap.specs.declared.error.kind.ErrorKind.TheVariants as kind
-use Rattle.listing.specs.declared.counted.Counted.{Counted}
+use Rattle.texts.specs.declared.counted.Counted.{Counted}
 use Rattle.order_laws.specs.declared.refusals.Refusal.TheVariants as refusal
 use Rattle.latchsym.specs.Reports.{IsReported, fault_text}
 use Rattle.latchsym.specs.declared.command_line.JobFault.{JobFault}
@@ -13,7 +13,7 @@ use Rattle.latchsym.specs.declared.command_line.JobFault.TheVariants.{BadEnd, Ba
 use Rattle.latchsym.specs.declared.command_line.JobFault.TheVariants.{BadReaders, NoJob}
 use Rattle.latchsym.specs.declared.command_line.JobFault.TheVariants.{NoModules, ModulesTwice}
 use Rattle.latchsym.specs.declared.command_line.JobFault.TheVariants.{RegionsAlone}
-use Rattle.engines.specs.declared.fault.Fault.TheVariants.{Refused}
+use Rattle.engines.specs.declared.fault.Fault.TheVariants.{Refused, Write}
 
 -- what is wrong with the command line, and with which word
 abbrev pub misuse_text : List ℕ → Text → List ℕ
@@ -29,17 +29,26 @@ IsMisused contents old new message word status =
 abbrev pub IsParseFault : Error → Type 0
 IsParseFault e = (kind_of e ≢ kind.DisplayHelp) × (kind_of e ≢ kind.DisplayVersion)
 
--- the status after the parser's own text: help that could not be printed is a failed write
-abbrev pub IsExplained : Error → ℕ → Type 0
-IsExplained e status =
-    (IsParseFault e × (status ≡ 2)) ⊎ ((IsParseFault e → ⊥) × (status ≤ 1))
+-- help that was asked for was printed, or the writer was told that it could not be
+abbrev pub IsHelped : {D : Type 0} → (D → Option (List ℕ)) → Counted D → Counted D → ℕ → Type 0
+IsHelped contents old new status =
+    ((status ≡ 0) × (new ≡ old))
+    ⊎ ((status ≡ 1) × IsReported contents old new (fault_text [] Write))
+
+-- The status after the parser's own text, which goes to devices of its own: the writer is as it was
+-- but where help could not be printed.
+abbrev pub IsExplained : {D : Type 0} → (D → Option (List ℕ)) → Counted D → Counted D → Error
+    → ℕ → Type 0
+IsExplained contents old new e status =
+    (IsParseFault e × (status ≡ 2) × (new ≡ old))
+    ⊎ ((IsParseFault e → ⊥) × IsHelped contents old new status)
 
 -- What is said of a command line that gives no job, and the status.
 abbrev pub IsNoJob : {D : Type 0} → (D → Option (List ℕ)) → Counted D → Counted D → JobFault
     → ℕ → Type 0
 IsNoJob contents old new OutOfMemory status =
     (status ≡ 1) × IsReported contents old new (fault_text [] (Refused refusal.OutOfMemory))
-IsNoJob contents old new (CommandLine e) status = IsExplained e status
+IsNoJob contents old new (CommandLine e) status = IsExplained contents old new e status
 IsNoJob contents old new (BadAddress word) status =
     IsMisused contents old new (codes "bad address ") word.now status
 IsNoJob contents old new NoAddress status =

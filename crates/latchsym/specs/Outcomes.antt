@@ -1,7 +1,7 @@
 -- What comes of a job: that of its engine over the job's own files.
 use Rattle.std.specs.Prelude.{◌≡◌, ◌⊎◌, ℕ, List, map, Option, Result, Err}
 use Rattle.clap.specs.Words.{Text}
-use Rattle.listing.specs.declared.counted.Counted.{Counted}
+use Rattle.texts.specs.declared.counted.Counted.{Counted}
 use Rattle.order_laws.specs.declared.refusals.Refusal.TheVariants as refusal
 use Rattle.latchsym.specs.Addresses.{AnswersNames}
 use Rattle.latchsym.specs.Annotations.{AnnotatesLog}

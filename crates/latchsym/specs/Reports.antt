@@ -3,13 +3,13 @@ use Rattle.std.specs.Prelude.{◌≡◌, ℕ, List, [], ◌++◌, ◌≤◌, ◌
 use Rattle.std.specs.Prelude.{Bool, true, false, codes, decimal, option_and_then, unwrap_or}
 use Rattle.std.specs.Io.KnownBytes.{Appends}
 use Rattle.clap.specs.Words.{Text}
-use Rattle.listing.specs.declared.counted.Counted.{Counted}
-use Rattle.listing.specs.Counted.{Rose, device_of, failures_of}
+use Rattle.texts.specs.declared.counted.Counted.{Counted}
+use Rattle.texts.specs.Counted.{Rose, device_of, failures_of}
 use Rattle.order_laws.specs.Refusals.{refusal_number}
 use Rattle.latchsym.specs.Jobs.{file_at}
 use Rattle.listing.specs.ListingNotes.{is_some_noted}
 use Rattle.latchsym.specs.NoteTexts.{notes_text}
-use Rattle.engines.specs.Texts.{refused_text}
+use Rattle.engines.specs.TraceTexts.{refused_text}
 use Rattle.latchsym.specs.declared.command_line.Job.{Job}
 use Rattle.engines.specs.declared.fault.Fault.{Fault}
 use Rattle.engines.specs.declared.fault.Finished.{Finished}

@@ -30,15 +30,15 @@ pub struct AddressJob<'a> {
 pub fn address_command<'a>(alloc: Global) -> Result<Command<'a>, AllocError>
     ensures { IfOk result (IsCommand address_app) }
 {
-    let kallsyms_help = "The symbols, in place of those of /proc/kallsyms";
-    let json_help = "Write each address as an object of JSON, a line each";
-    let counts_help = "Taken as by lookup; there are no counts here";
+    let kallsyms_help = "The symbols, instead of /proc/kallsyms";
+    let json_help = "Write JSON, one object per line";
+    let counts_help = "Accepted for compatibility with lookup; has no effect";
     let name_help =
-        "The names: SYMBOL or SYMBOL+0xOFFSET, with MODULE: in front for one module, -: for none";
+        "SYMBOL or SYMBOL+0xOFFSET, after MODULE: for one module, after -: for the kernel";
     let command = described(
         alloc,
         "address",
-        "Say where the symbols of these names are, and how far they reach",
+        "Say where the symbols of a name are, and how long they are",
     );
     command
         .arg(optional_option(alloc, "kallsyms", "FILE").help(kallsyms_help))?

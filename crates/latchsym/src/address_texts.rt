@@ -3,7 +3,7 @@
 ghost use Rattle.std.specs.Prelude.{◌≡◌, ◌<◌, [], map, unwrap_or};
 ghost use Rattle.std.specs.List.{list_any};
 ghost use Rattle.std.specs.Option.{option_copied};
-ghost use Rattle.listing.specs.Exact.{Wrote};
+ghost use Rattle.texts.specs.Exact.{Wrote};
 ghost use Rattle.latchsym.specs.AddressTexts.{address_line, address_object, asked_member};
 ghost use Rattle.latchsym.specs.AddressTexts.{asked_object, is_of, is_told, no_address};
 ghost use Rattle.latchsym.specs.AddressTexts.{owner_member, owner_text, size_of, symbols_text};
@@ -15,9 +15,9 @@ ghost use Rattle.latchsym.specs.NoteTexts.{line_where};
 use crate::asked_names::{AskedName, asked_name};
 use crate::kept_symbols::{KeptSymbol, SoughtSymbols};
 use engines::{put_address_member, put_named_module, put_offset_members, put_symbol_members};
-use listing::{Counted, put, put_hexadecimal};
 use std::io;
 use std::io::Write;
+use texts::{Counted, put, put_hexadecimal};
 
 /// Writes the lines of each word, in order, as objects of JSON or as text.
 pub fn put_words<W: Write>(

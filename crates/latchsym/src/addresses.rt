@@ -1,7 +1,7 @@
 //! From the bytes of listings and from names to the lines that say where the symbols are.
 ghost use Rattle.std.specs.Prelude.{◌≡◌, [], map, unwrap_or, Some};
 ghost use Rattle.std.specs.Option.{option_copied};
-ghost use Rattle.listing.specs.Exact.{Wrote};
+ghost use Rattle.texts.specs.Exact.{Wrote};
 ghost use Rattle.latchsym.specs.Addresses.{AnswersGiven, AnswersNames};
 ghost use Rattle.latchsym.specs.AddressTexts.{words_text};
 ghost use Rattle.latchsym.specs.KeptSymbols.{found_by};
@@ -10,11 +10,12 @@ ghost use Rattle.engines.specs.OpenedCatalogs.{given_in, known_given, listing_fa
 use crate::address_texts::put_words;
 use crate::kept_symbols::{SoughtSymbols, symbols_sought};
 use engines::{Fault, GivenTexts, ListingReaders, open_catalog, read_given};
-use listing::{Counted, ListingNotes};
+use listing::ListingNotes;
 use modules::{IndexedCatalog, KernelBounds};
 use std::alloc::Global;
 use std::io;
 use std::io::{Read, Write};
+use texts::Counted;
 
 /// Writes where the kept symbols of each name are, in the order listed, as objects of JSON or as
 /// lines of text, and returns what is noted of the listings. A name may have the module in front of

@@ -11,11 +11,12 @@ ghost use Rattle.engines.specs.OpenedCatalogs.{given_in, known_given, listing_fa
 use crate::command_line::ListingFiles;
 use crate::reports::note_listings;
 use engines::{Fault, GivenTexts, ListingReaders, SymbolLookupOptions, open_catalog, read_given};
-use listing::{AddressRule, Counted, LogFault, annotate};
+use listing::{AddressRule, LogFault, annotate};
 use modules::IndexedCatalog;
 use order_laws::Refusal;
 use std::alloc::Global;
 use std::io::{Read, Write};
+use texts::Counted;
 
 /// The readers of the files of an annotation, in the order in which they are read.
 #[derive(Drop)]

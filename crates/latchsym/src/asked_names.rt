@@ -8,9 +8,10 @@ ghost use Rattle.std.specs.Prelude.{◌≡◌, option_map};
 ghost use Rattle.std.specs.Option.{option_copied};
 ghost use Rattle.latchsym.specs.AskedNames.{asked_in, asked_of, offset_in, symbol_and_offset};
 
-use listing::{cut, number};
+use listing::cut;
 use memchr::memrchr;
 use std::marker::Model;
+use texts::number;
 
 /// The symbols of one name, and how far above them.
 #[derive(Debug, Drop)]

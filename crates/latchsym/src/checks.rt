@@ -4,8 +4,8 @@
 //! they are its answer it writes them.
 ghost use Rattle.std.specs.Prelude.{◌≡◌, None};
 ghost use Rattle.std.specs.Option.{option_copied, option_map};
-ghost use Rattle.listing.specs.Exact.{Wrote};
-ghost use Rattle.listing.specs.Lines.{lines_of};
+ghost use Rattle.texts.specs.Exact.{Wrote};
+ghost use Rattle.texts.specs.Lines.{lines_of};
 ghost use Rattle.listing.specs.Looks.{are_modules_hidden, are_symbols_hidden};
 ghost use Rattle.latchsym.specs.Checks.{ChecksGiven, ChecksListings, ChecksTexts, IsModulesReport};
 ghost use Rattle.latchsym.specs.Checks.{IsSymbolsReport, listings_report, modules_name};
@@ -22,11 +22,12 @@ use engines::{
     SymbolListing, bounds_or_usual, listings_in, put_counts, put_found_counts, read_given,
     region_lines_in, symbol_listing_in,
 };
-use listing::{AddressRule, Counted, ListingNote, applies_to_kallsyms, applies_to_modules};
+use listing::{AddressRule, ListingNote, applies_to_kallsyms, applies_to_modules};
 use modules::{Asked, Catalog, KernelBounds};
 use std::alloc::Global;
 use std::io;
 use std::io::{Read, Write};
+use texts::Counted;
 
 /// Writes a line for each note that applies to the listings in these files, and then the counts
 /// that a lookup over the same listings has. Returns the program's status: 1 where no symbol is
@@ -91,7 +92,7 @@ fn check_modules<W: Write>(
         regions: region_lines_in(alloc, &texts.regions)?,
         addresses: Vec::new(alloc),
     };
-    let listings = listings_in(alloc, &inputs, Asked::Any)?;
+    let listings = listings_in(alloc, &inputs, Asked::These(&[]))?;
     match put_listings(writer, files, &inputs, &listings) {
         Ok(()) => Ok(status_of_kept(listings.built.symbols)),
         Err(_) => Err(Fault::Write),
@@ -110,7 +111,7 @@ fn check_symbols<W: Write>(
         (IsSymbolsReport (option_copied kernel.entry) file.now kallsyms.now) None
         writer.old writer.new result }
 {
-    let listing = symbol_listing_in(alloc, kernel, kallsyms)?;
+    let listing = symbol_listing_in(alloc, kernel, kallsyms, Asked::These(&[]))?;
     let names = kernel.unwrap_or(&listing.usual);
     match put_symbol_listing(writer, names, file, kallsyms, &listing) {
         Ok(()) => Ok(status_of_kept(listing.kept.symbols)),

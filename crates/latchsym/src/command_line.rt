@@ -19,10 +19,11 @@ use clap::error::ErrorKind;
 use clap::{Arg, ArgAction, ArgMatches, Command, Error};
 use engines::{AnswerForm, LookupOptions, SymbolLookupOptions};
 use latch_table::MOST_READERS;
-use listing::{AddressRule, number, number_up_to};
+use listing::AddressRule;
 use modules::KernelBounds;
 use std::alloc::{AllocError, AllocFailed, Global};
 use std::convert::AsStr;
+use texts::{number, number_up_to};
 
 /// What a command line asks for.
 #[derive(Debug, Drop)]
@@ -231,14 +232,14 @@ impl<T: Drop> From<AllocFailed<T>> for JobFault<'_> {
 }
 
 /// The version that `--version` tells.
-const VERSION: &str = "1.0.0";
+const VERSION: &str = "1.1.0";
 
 /// What the help ends with.
 const STATUSES: &str = "\
-ADDR and N are numbers: decimal, or hexadecimal behind 0x.
+ADDR and N are numbers: decimal, or hexadecimal after 0x.
 
-Status 0: done. 1: a file or the output failed, or the program was refused. 2: the command line is
-at fault.";
+Status 0: done. 1: an error; or `run` found a wrong answer; or `check` found no usable symbol. 2: an
+error in the command line.";
 
 /// The job that a program's words ask for, the first of which is the program's name.
 pub fn job_of<'a, S: AsStr>(alloc: Global, words: &'a [S]) -> Result<Job<'a>, JobFault<'a>>
@@ -262,12 +263,12 @@ fn latchsym_command<'a>(alloc: Global) -> Result<Command<'a>, AllocError>
         .after_help(STATUSES)
         .version(VERSION)
         .subcommand_required(true);
-    let command = with_subcommand(command, trace_command(alloc))?;
-    let command = with_subcommand(command, lookup_command(alloc))?;
-    let command = with_subcommand(command, run_command(alloc))?;
     let command = with_subcommand(command, annotate_command(alloc))?;
+    let command = with_subcommand(command, lookup_command(alloc))?;
+    let command = with_subcommand(command, address_command(alloc))?;
     let command = with_subcommand(command, check_command(alloc))?;
-    with_subcommand(command, address_command(alloc))
+    let command = with_subcommand(command, trace_command(alloc))?;
+    with_subcommand(command, run_command(alloc))
 }
 
 /// The command with one subcommand more, where memory did not run out for it.
@@ -292,12 +293,11 @@ pub(crate) fn described<'a>(alloc: Global, name: &'a str, about: &'a str) -> Com
 fn trace_command<'a>(alloc: Global) -> Result<Command<'a>, AllocError>
     ensures { IfOk result (IsCommand trace_app) }
 {
-    let steps_help =
-        "Write what each step did, an object of JSON a line, in place of what was found";
+    let steps_help = "Write what each step did instead, as JSON, one object per line";
     described(
         alloc,
         "trace",
-        "Run a trace, and write what its lookups found",
+        "Play the steps of a trace, and write what its lookups found",
     )
     .arg(flag(alloc, "steps").help(steps_help))?
     .arg(required_word(alloc, "file", "FILE").help("The trace"))
@@ -306,13 +306,11 @@ fn trace_command<'a>(alloc: Global) -> Result<Command<'a>, AllocError>
 /// Options that several commands have, as the help tells them.
 const MODULES_HELP: &str = "The modules, in the form of /proc/modules";
 
-pub(crate) const REGIONS_HELP: &str = "The regions of the modules, where they have more than one";
+pub(crate) const REGIONS_HELP: &str = "The regions of modules that have more than one";
 
-const CALLERS_HELP: &str =
-    "Return addresses: look up the call before each, and tell its own offset";
+const CALLERS_HELP: &str = "Take the addresses as return addresses, and name the callers";
 
-const OFFSET_HELP: &str =
-    "Look each address up N bytes lower, as of a kernel moved up by N at boot";
+const OFFSET_HELP: &str = "Subtract N from each address, as for a kernel moved up by N at boot";
 
 /// The command with the options for the listings, which both `lookup` and `run` have. That for the
 /// modules is given, since a lookup can do without it.
@@ -325,7 +323,7 @@ fn with_listings<'a>(
         → IsPlainArg rule modules.entry → IfOk result (IsCommand (with_listings app rule)) }
 {
     let kallsyms_help = "The symbols, in the form of /proc/kallsyms";
-    let kernel_help = "The symbols that bound the kernel itself, in place of _stext and _end";
+    let kernel_help = "The first and the last symbol of the kernel, instead of _stext and _end";
     command
         .arg(modules)?
         .arg(required_option(alloc, "kallsyms", "FILE").help(kallsyms_help))?
@@ -336,15 +334,15 @@ fn with_listings<'a>(
 fn lookup_command<'a>(alloc: Global) -> Result<Command<'a>, AllocError>
     ensures { IfOk result (IsCommand lookup_app) }
 {
-    let symbols_help = "Find the modules by their symbols, in place of --modules and --regions";
-    let file_help = "Further addresses, a number a line; - is the standard input";
-    let json_help = "Write each answer as an object of JSON, a line each, and the counts so too";
-    let counts_help = "Leave the counts out";
-    let address_help = "The addresses, decimal, or hexadecimal behind 0x";
+    let symbols_help = "Find the modules from their symbols, instead of --modules and --regions";
+    let file_help = "More addresses, one per line; - is standard input";
+    let json_help = "Write answers and counts as JSON, one object per line";
+    let counts_help = "Leave out the counts";
+    let address_help = "The addresses, decimal, or hexadecimal after 0x";
     let command = described(
         alloc,
         "lookup",
-        "Say which module and which symbol hold an address",
+        "Say which module and symbol hold an address",
     );
     let modules = optional_option(alloc, "modules", "FILE").help(MODULES_HELP);
     with_listings(alloc, command, modules)?
@@ -361,11 +359,11 @@ fn run_command<'a>(alloc: Global) -> Result<Command<'a>, AllocError>
     ensures { IfOk result (IsCommand run_app) }
 {
     let readers_help = "How many readers there are, 1 to 64";
-    let script_help = "What each writer and reader does; - is the standard input";
+    let script_help = "What each writer and reader does; - is standard input";
     let command = described(
         alloc,
         "run",
-        "Load and look up beside each other, as a script says",
+        "Run concurrent loads and lookups from a script",
     );
     let modules = required_option(alloc, "modules", "FILE").help(MODULES_HELP);
     with_listings(alloc, command, modules)?
@@ -375,21 +373,21 @@ fn run_command<'a>(alloc: Global) -> Result<Command<'a>, AllocError>
 
 /// The listing of modules where the symbols stand in for one that is not given.
 pub(crate) const GIVEN_MODULES_HELP: &str =
-    "The modules, in the form of /proc/modules; else the symbols say where they lie";
+    "The modules, in the form of /proc/modules; without it they come from the symbols";
 
 /// The bounds of the kernel where the listing's own stand in for those that are not given.
 pub(crate) const GIVEN_BOUNDS_HELP: &str =
-    "The symbols that bound the kernel itself, in place of the usual ones";
+    "The first and the last symbol of the kernel, instead of the usual ones";
 
 fn annotate_command<'a>(alloc: Global) -> Result<Command<'a>, AllocError>
     ensures { IfOk result (IsCommand annotate_app) }
 {
-    let kallsyms_help = "The symbols, in place of those of /proc/kallsyms";
-    let log_help = "The log; - is the standard input, and so is none";
+    let kallsyms_help = "The symbols, instead of /proc/kallsyms";
+    let log_help = "The log to annotate; standard input if - or omitted";
     let command = described(
         alloc,
         "annotate",
-        "Write a log again, with the symbol behind each address",
+        "Copy a log, adding the symbol after each address",
     );
     command
         .arg(optional_option(alloc, "kallsyms", "FILE").help(kallsyms_help))?
@@ -408,7 +406,7 @@ fn check_command<'a>(alloc: Global) -> Result<Command<'a>, AllocError>
     let command = described(
         alloc,
         "check",
-        "Say what is wrong with listings, and how many of their lines are of use",
+        "Say what is wrong with listings, and how many of their lines are usable",
     );
     command
         .arg(optional_option(alloc, "modules", "FILE").help(GIVEN_MODULES_HELP))?

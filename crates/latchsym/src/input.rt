@@ -1,11 +1,11 @@
 //! The files that a job reads.
 
 use crate::jobs::FileSource;
-use listing::Counted;
 use order_laws::Refusal;
 use std::fs::File;
 use std::io::{ErrorKind, Read, Stdin};
 use std::{fs, io};
+use texts::Counted;
 
 /// A file that was to be opened, or the standard input. Where a file cannot be opened, reading it
 /// fails, so that of several files the first in the order of reading is the one whose fault is

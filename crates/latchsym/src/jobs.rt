@@ -1,6 +1,6 @@
 //! A job from the names of its files to its status.
 ghost use Rattle.std.specs.Prelude.{◌≡◌, ◌⊎◌, IfOk, IfErr, List, ℕ, Option};
-ghost use Rattle.listing.specs.Counted.{device_of};
+ghost use Rattle.texts.specs.Counted.{device_of};
 ghost use Rattle.latchsym.specs.Files.{AreAnnotateFiles, AreListingFiles, AreLookupFiles};
 ghost use Rattle.latchsym.specs.Files.{AreRunFiles, AreSymbolLookupFiles};
 ghost use Rattle.latchsym.specs.Files.{IsOpened, IsOpenedIfGiven, or_standard};
@@ -22,12 +22,13 @@ use engines::{
     run_engine, steps_engine, symbol_lookup_engine, trace_engine, with_notes, with_status,
     without_notes,
 };
-use listing::{Counted, ListingNotes};
+use listing::ListingNotes;
 use order_laws::Refusal;
 use std::alloc::Global;
 use std::io::{Read, Write};
 use std::sync::Wait;
 use std::thread::Threads;
+use texts::Counted;
 
 /// Where the files of a job are found. A file that cannot be opened is one whose reader fails, so
 /// that of several files the first in the order of reading is the one whose fault is told.

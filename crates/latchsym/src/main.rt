@@ -28,14 +28,11 @@ mod misuse;
 mod note_texts;
 mod operands;
 mod reports;
-#[cfg(test)]
-mod tests;
 
 use command_line::{Job, JobFault, job_of};
 use engines::Fault;
 use input::FileSystem;
 use jobs::do_job;
-use listing::{BLOCK, Counted};
 use misuse::{misused, refuse};
 use operands::with_operands;
 use order_laws::Refusal;
@@ -45,6 +42,7 @@ use std::io::{BufWriter, ErrorKind, Stderr};
 use std::process::ExitCode;
 use std::sync::Wait;
 use std::thread::Threads;
+use texts::{BLOCK, Counted};
 
 fn main(rt: HostRuntime) -> ExitCode {
     let mut errors = Counted::new(rt.stderr());

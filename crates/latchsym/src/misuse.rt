@@ -1,16 +1,16 @@
 //! What is said of a command line that gives no job, and the program's status.
 ghost use Rattle.std.specs.Prelude.{◌≡◌};
-ghost use Rattle.listing.specs.Exact.{Wrote};
+ghost use Rattle.texts.specs.Exact.{Wrote};
 ghost use Rattle.latchsym.specs.Misuses.{IsExplained, IsMisused, IsNoJob, misuse_text};
 
 use crate::command_line::JobFault;
 use crate::reports::report_before_job;
 use clap::Error;
 use engines::{Fault, SUCCEEDED};
-use listing::{Counted, put};
 use order_laws::Refusal;
 use std::io;
 use std::io::Write;
+use texts::{Counted, put};
 
 /// The program's status where the command line is at fault.
 const MISUSED: u8 = 2;
@@ -53,7 +53,7 @@ pub fn refuse<P: Print + Eprint, E: Write>(
 /// Prints what the parser of the command line has to say: help on the standard output, a fault on
 /// the standard error.
 fn explain<P: Print + Eprint, E: Write>(rt: &P, error: &Error, errors: &mut Counted<E>) -> u8
-    ensures { IsExplained error.now result }
+    ensures { IsExplained E.contents errors.old errors.new error.now result }
 {
     let printed = error.print(rt);
     if error.use_stderr() {

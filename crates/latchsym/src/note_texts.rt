@@ -1,16 +1,17 @@
 //! The lines that say what is noted of listings, byte for byte, with no memory taken.
 ghost use Rattle.std.specs.Prelude.{◌≡◌};
 ghost use Rattle.std.specs.Option.{option_copied};
-ghost use Rattle.listing.specs.Exact.{Wrote};
+ghost use Rattle.texts.specs.Exact.{Wrote};
 ghost use Rattle.latchsym.specs.NoteTexts.{line_if_noted, line_where, lines_for, message_of};
 ghost use Rattle.latchsym.specs.NoteTexts.{missing_text, note_line, note_lines, noted_bounds};
 ghost use Rattle.latchsym.specs.NoteTexts.{notes_text, remedy_text};
 
 use crate::command_line::{Job, ListingFiles};
-use listing::{Counted, ListingNote, ListingNotes, put};
+use listing::{ListingNote, ListingNotes};
 use modules::KernelBounds;
 use std::io;
 use std::io::Write;
+use texts::{Counted, put};
 
 /// Writes the lines of what is noted of the listings of a job, by the names of its files.
 pub fn put_job_notes<W: Write>(

@@ -1,7 +1,7 @@
 //! What is said at the end of a run: what is noted of its listings, or why it failed.
 ghost use Rattle.std.specs.Prelude.{◌≡◌, ◌++◌, []};
 ghost use Rattle.std.specs.Option.{option_copied};
-ghost use Rattle.listing.specs.Exact.{Wrote};
+ghost use Rattle.texts.specs.Exact.{Wrote};
 ghost use Rattle.latchsym.specs.Reports.{IsConcluded, IsNoted, IsReported, bad_line_text};
 ghost use Rattle.latchsym.specs.Reports.{fault_text, file_of, message_text};
 ghost use Rattle.listing.specs.ListingNotes.{is_some_noted};
@@ -10,10 +10,11 @@ ghost use Rattle.latchsym.specs.NoteTexts.{note_lines, notes_text};
 use crate::command_line::{Job, ListingFiles};
 use crate::note_texts::{put_job_notes, put_notes_of};
 use engines::{FAILED, Fault, Finished, put_decimal, put_refused};
-use listing::{Counted, ListingNotes, put};
+use listing::ListingNotes;
 use modules::KernelBounds;
 use std::io;
 use std::io::Write;
+use texts::{Counted, put};
 
 /// Ends a job: returns the program's status, which is the job's own where it came to one. Writes
 /// what is noted of its listings, or, where it failed, the line that says why.

@@ -15,15 +15,16 @@ use crate::answers::{NOTHING, number_if_noted};
 use crate::contents::Content;
 use crate::open_catalogs::OpenCatalog;
 use listing::{
-    LineFault, ListingNote, ListingNotes, ModuleCounts, SkippedModule, SkippedSymbol, SymbolCounts,
+    ListingNote, ListingNotes, ModuleCounts, SkippedModule, SkippedSymbol, SymbolCounts,
     SymbolFacts, are_modules_hidden, are_symbols_hidden, note_of_kallsyms, note_of_modules,
     read_kallsyms, read_modules, read_regions,
 };
 use modules::{
-    BuildCounts, Catalog, IndexedCatalog, KeptCounts, KernelBounds, RegionLine, SymbolLines,
+    Asked, BuildCounts, Catalog, IndexedCatalog, KeptCounts, KernelBounds, RegionLine, SymbolLines,
 };
 use order_laws::Refusal;
 use std::alloc::{AllocError, AllocFailed, Global};
+use texts::LineFault;
 
 /// How many lines of each listing went where: the accepted ones, and the others by the cause for
 /// which they were skipped, as `latchsym lookup` prints them; and the number of what is noted of
@@ -215,12 +216,13 @@ fn catalog_between(
     let names = bounds_for(&texts.kernel, &symbol_lines);
     let modules_hidden = are_modules_hidden(module_lines.len(), &skipped_modules);
     let symbols_hidden = are_symbols_hidden(symbol_lines.len(), &skipped_symbols);
-    let (catalog, built) = Catalog::build_between(
+    let (catalog, built) = Catalog::build(
         alloc,
         &names,
         &module_lines,
         regions,
         symbol_lines,
+        Asked::Any,
     )?;
     let facts = SymbolFacts {
         hidden: symbols_hidden,
@@ -246,7 +248,12 @@ fn catalog_alone(
     let (symbol_lines, skipped_symbols) = read_kallsyms(alloc, texts.kallsyms)?;
     let hidden = are_symbols_hidden(symbol_lines.len(), &skipped_symbols);
     let names = bounds_for(&texts.kernel, &symbol_lines);
-    let (catalog, kept) = Catalog::from_symbols(alloc, texts.kernel.as_ref(), symbol_lines)?;
+    let (catalog, kept) = Catalog::from_symbols(
+        alloc,
+        texts.kernel.as_ref(),
+        symbol_lines,
+        Asked::Any,
+    )?;
     let facts = SymbolFacts {
         hidden,
         kept: kept.symbols,

@@ -2,7 +2,7 @@
 
 ghost use Rattle.std.specs.Prelude.{◌≡◌, ◌≢◌, ◌⊎◌, IfOk, Option, map};
 ghost use Rattle.order_laws.specs.Orders.{half_open};
-ghost use Rattle.latch_core.specs.declared.updates.Update.TheVariants.{Batch, Erase, Insert};
+ghost use Rattle.table_updates.specs.declared.updates.Update.TheVariants.{Batch, Erase, Insert};
 ghost use Rattle.latch_table.specs.declared.writers.Did.{Did};
 ghost use Rattle.latch_table.specs.Writers.{Begins, Finishes, Steps, WriterState};
 ghost use Rattle.latchsym_ffi.specs.Updates.{RefusesAs, did_code, item_from};
@@ -12,10 +12,10 @@ ghost use Rattle.latchsym_ffi.specs.Kinds.{writer_kind};
 use crate::answers::{BAD_HANDLE, DONE, FLIP, STORE};
 use crate::contents::{Content, WRITER};
 use crate::handles::Handle;
-use latch_core::{Entries, Update};
 use latch_table::{Did, Writer};
 use order_laws::{HalfOpen, Item, Refusal};
 use std::alloc::{AllocError, Global};
+use table_updates::{Entries, Update};
 
 /// An item: the addresses from `a` up to `b`, which is excluded, and a number of the caller's.
 #[repr(C)]

@@ -1,11 +1,11 @@
 -- Blocks that are read and written one after the other.
-use Rattle.std.proofs.Common.{◌≡◌, ◌∙◌, ℕ, ◌⊎◌, inl, inr, List, [], ◌++◌, refl, sym, ap, subst, Option, Result, Ok, Err, append_assoc}
-use Rattle.std.specs.Prelude.{reverse, IsErrAnd}
+use Rattle.std.proofs.Common.{◌≡◌, ◌∙◌, ℕ, ◌+◌, ◌<◌, ◌≤◌, ◌⊎◌, inl, inr, List, [], ◌++◌, length, length-append, arith, refl, sym, ap, subst, Option, Result, Ok, Err, append_assoc}
+use Rattle.std.specs.Prelude.{◌-◌, ◌^◌, reverse, IsErrAnd}
 use Rattle.std.proofs.lemmas.List.{reverse-append}
 use Rattle.std.specs.Io.KnownBytes.{Appends, Consumes, IsAtEnd, Keeps}
 use Rattle.std.proofs.KnownBytes.{Appends-nil, Appends-trans, Consumes-kept, Consumes-nil, Consumes-trans, Keeps-refl}
-use Rattle.listing.specs.declared.counted.Counted.{Counted}
-use Rattle.listing.specs.Counted.{NoneFailed, Rose, device_of, failures_of}
+use Rattle.texts.specs.declared.counted.Counted.{Counted}
+use Rattle.texts.specs.Counted.{NoneFailed, Rose, device_of, failures_of}
 use Rattle.listing.specs.AnnotatedLogs.{Answering, annotated, context_behind}
 use Rattle.listing.specs.LogContexts.{annotated_from, context_over, first_context, kept_in}
 use Rattle.listing.specs.Insertions.{IsWaiting}
@@ -16,11 +16,12 @@ use Rattle.listing.specs.declared.annotation.LogFault.TheVariants as fault
 use Rattle.listing.proofs.LogContextLemmas.{from_begin, from_behind, kept_behind, kept_over, waiting_behind}
 
 -- What was written, and what is still owed, are the annotated log; what is held back is nothing, or
--- waits for more.
-pub record IsOn {R W : Type 0} (remaining : R → Option (List ℕ)) (contents : W → Option (List ℕ)) (answer : Answering) (r r' : Counted R) (w w' : Counted W) (a : Annotator) : Type 0 where
+-- waits for more. Each turn read a byte at least.
+pub record IsOn {R W : Type 0} (remaining : R → Option (List ℕ)) (contents : W → Option (List ℕ)) (answer : Answering) (r r' : Counted R) (w w' : Counted W) (a : Annotator) (turns : ℕ) : Type 0 where
   pub read_all : NoneFailed r r'
   pub written_all : NoneFailed w w'
   pub read : List ℕ
+  pub many : turns ≤ length read
   pub written : List ℕ
   pub consumed : Consumes (remaining (device_of r)) (remaining (device_of r')) read
   pub appended : Appends (contents (device_of w)) (contents (device_of w')) written
@@ -32,9 +33,9 @@ pub record IsOn {R W : Type 0} (remaining : R → Option (List ℕ)) (contents :
 
 module _ {R W : Type 0} (remaining : R → Option (List ℕ)) (contents : W → Option (List ℕ)) (answer : Answering) (r : Counted R) (w : Counted W) where
   -- what was written is a beginning of the annotated log, however much more was read
-  pub under_way : (r' r'' : Counted R) (w' : Counted W) (a : Annotator) (more : List ℕ) → IsOn remaining contents answer r r' w w' a → Consumes (remaining (device_of r')) (remaining (device_of r'')) more
+  pub under_way : (r' r'' : Counted R) (w' : Counted W) (a : Annotator) (n : ℕ) (more : List ℕ) → IsOn remaining contents answer r r' w w' a n → Consumes (remaining (device_of r')) (remaining (device_of r'')) more
       → IsUnderWay remaining contents answer r r'' w w'
-  under_way r' r'' w' a more on took = (
+  under_way r' r'' w' a n more on took = (
     on.read ++ more,
     on.written,
     Consumes-trans _ _ _ on.read more on.consumed took,
@@ -43,11 +44,12 @@ module _ {R W : Type 0} (remaining : R → Option (List ℕ)) (contents : W → 
   )
 
   -- where nothing was read, nothing is written
-  pub begun : (a : Annotator) → kept_in a.context ≡ first_context → a.held.items ≡ [] → IsOn remaining contents answer r r w w a
+  pub begun : (a : Annotator) → kept_in a.context ≡ first_context → a.held.items ≡ [] → IsOn remaining contents answer r r w w a 0
   begun a first none = record {
     read_all = refl;
     written_all = refl;
     read = [];
+    many = omega arith;
     written = [];
     consumed = Consumes-nil _;
     appended = Appends-nil _;
@@ -65,9 +67,9 @@ module _ {R W : Type 0} (remaining : R → Option (List ℕ)) (contents : W → 
   waits_behind a passed is (inr waits) = inr (waiting_behind answer (reverse passed) a.held.items (subst (λ k. IsWaiting answer k.context a.held.items) is waits))
 
   -- what was written is up to date, where the reader kept what it has
-  pub following : (r' r'' : Counted R) (w' : Counted W) (a : Annotator) → IsOn remaining contents answer r r' w w' a → Keeps (remaining (device_of r')) (remaining (device_of r''))
+  pub following : (r' r'' : Counted R) (w' : Counted W) (a : Annotator) (n : ℕ) → IsOn remaining contents answer r r' w w' a n → Keeps (remaining (device_of r')) (remaining (device_of r''))
       → IsFollowing remaining contents answer r r'' w w'
-  following r' r'' w' a on keeps = (
+  following r' r'' w' a n on keeps = (
     on.read,
     on.written,
     Consumes-kept _ _ _ on.read on.consumed keeps,
@@ -84,21 +86,25 @@ module _ {R W : Type 0} (remaining : R → Option (List ℕ)) (contents : W → 
   )
 
   -- a read failed
-  pub not_read : (r' r'' : Counted R) (w' : Counted W) (a : Annotator) → IsOn remaining contents answer r r' w w' a → Rose (failures_of r') (failures_of r'') → Keeps (remaining (device_of r')) (remaining (device_of r''))
+  pub not_read : (r' r'' : Counted R) (w' : Counted W) (a : Annotator) (n : ℕ) → IsOn remaining contents answer r r' w w' a n → Rose (failures_of r') (failures_of r'') → Keeps (remaining (device_of r')) (remaining (device_of r''))
       → Annotates remaining contents answer r r'' w w' (Err fault.Read)
-  not_read r' r'' w' a on rose keeps = (subst (λ n. Rose n (failures_of r'')) on.read_all rose, on.written_all, following r' r'' w' a on keeps)
+  not_read r' r'' w' a n on rose keeps = (subst (λ n. Rose n (failures_of r'')) on.read_all rose, on.written_all, following r' r'' w' a n on keeps)
 
   -- no block is left to be read
-  pub too_long : (r' : Counted R) (w' : Counted W) (a : Annotator) → IsOn remaining contents answer r r' w w' a → Annotates remaining contents answer r r' w w' (Err fault.TooLong)
-  too_long r' w' a on = (on.read_all, on.written_all, following r' r' w' a on (Keeps-refl _))
+  pub too_long : (r' : Counted R) (w' : Counted W) (a : Annotator) (n : ℕ) → IsOn remaining contents answer r r' w w' a n → 2 ^ 64 - 1 ≤ n → Annotates remaining contents answer r r' w w' (Err fault.TooLong)
+  unfolding following
+  too_long r' w' a n on last =
+      let f = following r' r' w' a n on (Keeps-refl _) in
+      (on.read_all, on.written_all, (f.0, f.1, f.2, f.3, f.4, omega (arith, on.many, last)))
 
   -- a block more
-  pub one_more : (r' r'' : Counted R) (w' w'' : Counted W) (a a' : Annotator) (bytes : List ℕ) (u : Unit {0}) → IsOn remaining contents answer r r' w w' a → NoneFailed r' r'' → Consumes (remaining (device_of r')) (remaining (device_of r'')) bytes
-      → PutsMore contents answer a a' bytes w' w'' (Ok u) → IsOn remaining contents answer r r'' w w'' a'
-  one_more r' r'' w' w'' a a' bytes u on all took (none, text, put, decides) = record {
+  pub one_more : (r' r'' : Counted R) (w' w'' : Counted W) (a a' : Annotator) (n : ℕ) (bytes : List ℕ) (u : Unit {0}) → 0 < length bytes → IsOn remaining contents answer r r' w w' a n → NoneFailed r' r'' → Consumes (remaining (device_of r')) (remaining (device_of r'')) bytes
+      → PutsMore contents answer a a' bytes w' w'' (Ok u) → IsOn remaining contents answer r r'' w w'' a' (n + 1)
+  one_more r' r'' w' w'' a a' n bytes u some on all took (none, text, put, decides) = record {
     read_all = all ∙ on.read_all;
     written_all = none ∙ on.written_all;
     read = on.read ++ bytes;
+    many = omega (arith, on.many, some, length-append on.read bytes);
     written = on.written ++ text;
     consumed = Consumes-trans _ _ _ on.read bytes on.consumed took;
     appended = Appends-trans _ _ _ on.written text on.appended put;
@@ -115,13 +121,13 @@ module _ {R W : Type 0} (remaining : R → Option (List ℕ)) (contents : W → 
   }
 
   -- the block could not be put out
-  pub not_put : (r' r'' : Counted R) (w' w'' : Counted W) (a a' : Annotator) (bytes : List ℕ) (e : LogFault) → IsOn remaining contents answer r r' w w' a → NoneFailed r' r'' → Consumes (remaining (device_of r')) (remaining (device_of r'')) bytes
+  pub not_put : (r' r'' : Counted R) (w' w'' : Counted W) (a a' : Annotator) (n : ℕ) (bytes : List ℕ) (e : LogFault) → IsOn remaining contents answer r r' w w' a n → NoneFailed r' r'' → Consumes (remaining (device_of r')) (remaining (device_of r'')) bytes
       → PutsMore contents answer a a' bytes w' w'' (Err e) → Annotates remaining contents answer r r'' w w'' (Err e)
-  not_put r' r'' w' w'' a a' bytes fault.OutOfMemory on all took puts =
-      subst (λ x. Annotates remaining contents answer r r'' w x (Err fault.OutOfMemory)) (sym puts) (all ∙ on.read_all, on.written_all, under_way r' r'' w' a bytes on took)
-  not_put r' r'' w' w'' a a' bytes fault.Write on all took puts = (all ∙ on.read_all, subst (λ n. Rose n (failures_of w'')) on.written_all puts)
-  not_put r' r'' w' w'' a a' bytes fault.Read on all took puts = absurd puts
-  not_put r' r'' w' w'' a a' bytes fault.TooLong on all took puts = absurd puts
+  not_put r' r'' w' w'' a a' n bytes fault.OutOfMemory on all took puts =
+      subst (λ x. Annotates remaining contents answer r r'' w x (Err fault.OutOfMemory)) (sym puts) (all ∙ on.read_all, on.written_all, under_way r' r'' w' a n bytes on took)
+  not_put r' r'' w' w'' a a' n bytes fault.Write on all took puts = (all ∙ on.read_all, subst (λ n. Rose n (failures_of w'')) on.written_all puts)
+  not_put r' r'' w' w'' a a' n bytes fault.Read on all took puts = absurd puts
+  not_put r' r'' w' w'' a a' n bytes fault.TooLong on all took puts = absurd puts
 
   -- a fault is told as it came
   pub passed_on : (r' : Counted R) (w' : Counted W) (result : Result (Unit {0}) LogFault) (e : LogFault) → IsErrAnd result (λ f. f ≡ e) → Annotates remaining contents answer r r' w w' (Err e) → Annotates remaining contents answer r r' w w' result
@@ -129,9 +135,9 @@ module _ {R W : Type 0} (remaining : R → Option (List ℕ)) (contents : W → 
   passed_on r' w' (Err f) e is told = subst (λ x. Annotates remaining contents answer r r' w w' (Err x)) (sym is) told
 
   -- the log is at its end
-  pub ended : (r' r'' : Counted R) (w' w'' : Counted W) (a : Annotator) (result : Result (Unit {0}) LogFault) → IsOn remaining contents answer r r' w w' a → NoneFailed r' r'' → Consumes (remaining (device_of r')) (remaining (device_of r'')) []
+  pub ended : (r' r'' : Counted R) (w' w'' : Counted W) (a : Annotator) (n : ℕ) (result : Result (Unit {0}) LogFault) → IsOn remaining contents answer r r' w w' a n → NoneFailed r' r'' → Consumes (remaining (device_of r')) (remaining (device_of r'')) []
       → IsAtEnd (remaining (device_of r'')) → PutsText contents (owed answer a []) w' w'' result → Annotates remaining contents answer r r'' w w'' result
-  ended r' r'' w' w'' a (Ok u) on all took at_end (none, put) = (
+  ended r' r'' w' w'' a n (Ok u) on all took at_end (none, put) = (
     all ∙ on.read_all,
     none ∙ on.written_all,
     (
@@ -141,8 +147,8 @@ module _ {R W : Type 0} (remaining : R → Option (List ℕ)) (contents : W → 
       subst (Appends (contents (device_of w)) (contents (device_of w''))) (on.is_owed [] ∙ from_begin answer (on.read ++ [])) (Appends-trans _ _ _ on.written (owed answer a []) on.appended put),
     ),
   )
-  ended r' r'' w' w'' a (Err fault.OutOfMemory) on all took at_end puts =
-      subst (λ x. Annotates remaining contents answer r r'' w x (Err fault.OutOfMemory)) (sym puts) (all ∙ on.read_all, on.written_all, under_way r' r'' w' a [] on took)
-  ended r' r'' w' w'' a (Err fault.Write) on all took at_end puts = (all ∙ on.read_all, subst (λ n. Rose n (failures_of w'')) on.written_all puts)
-  ended r' r'' w' w'' a (Err fault.Read) on all took at_end puts = absurd puts
-  ended r' r'' w' w'' a (Err fault.TooLong) on all took at_end puts = absurd puts
+  ended r' r'' w' w'' a n (Err fault.OutOfMemory) on all took at_end puts =
+      subst (λ x. Annotates remaining contents answer r r'' w x (Err fault.OutOfMemory)) (sym puts) (all ∙ on.read_all, on.written_all, under_way r' r'' w' a n [] on took)
+  ended r' r'' w' w'' a n (Err fault.Write) on all took at_end puts = (all ∙ on.read_all, subst (λ n. Rose n (failures_of w'')) on.written_all puts)
+  ended r' r'' w' w'' a n (Err fault.Read) on all took at_end puts = absurd puts
+  ended r' r'' w' w'' a n (Err fault.TooLong) on all took at_end puts = absurd puts

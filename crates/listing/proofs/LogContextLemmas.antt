@@ -2,7 +2,7 @@
 use Rattle.std.proofs.Common.{◌≡◌, ◌∙◌, ℕ, ◌<◌, ◌≤◌, Bool, true, false, cond, List, [], ◌∷◌, ◌++◌, length, take, drop, refl, sym, ap, subst, Option, Some, None, arith, true≢false, eqb-true, append_assoc, length-append, length-take, length-drop}
 use Rattle.std.specs.Prelude.{◌&&◌, ◌||◌, not, nat_lt, nat_le, reverse, replicate, ◌==◌, option_and_then}
 use Rattle.std.proofs.lemmas.List.{take_all, take-append-le, length-take-le, reverse-append}
-use Rattle.listing.specs.Numbers.{numeral}
+use Rattle.texts.specs.Numbers.{numeral}
 use Rattle.listing.specs.LogWords.{address_of_word, digits_from, has_prefix, is_closer, is_word_byte}
 use Rattle.listing.specs.AnnotatedLogs.{Answering, LogContext, annotated, annotated_behind, context_behind, ends_closed, ends_marked, inserted, insertion_at, is_marked, last_word, text_behind, word_before}
 use Rattle.listing.specs.Insertions.{IsWaiting}

@@ -4,7 +4,7 @@ use Rattle.std.specs.Prelude.{All}
 use Rattle.std.specs.List.{cons_option}
 use Rattle.std.specs.Result.{result_ok}
 use Rattle.std.proofs.lemmas.List.Elements.{All-cons}
-use Rattle.listing.specs.Lines.{longest_line}
+use Rattle.texts.specs.Lines.{longest_line}
 use Rattle.modules.specs.Lines.{fits}
 use Rattle.modules.specs.Listed.{ListedModule}
 use Rattle.listing.specs.ModuleListing.{module_of_line, modules_in, placed_module, checked_module, module_of_words, runs_of}

@@ -8,16 +8,17 @@ use Rattle.std.proofs.lemmas.List.Elements.{All-cons}
 use Rattle.modules.specs.Lines.{region_fits}
 use Rattle.modules.specs.Listed.{ListedRegion}
 use Rattle.modules.specs.declared.lines.Part.{Part}
-use Rattle.listing.specs.declared.faults.LineFault.{LineFault}
-use Rattle.listing.specs.declared.said.Said.{Said}
-use Rattle.listing.specs.declared.said.Said.TheVariants.{Nothing, One, Bad}
-use Rattle.listing.specs.Lines.{words_of}
-use Rattle.listing.specs.Numbers.{number_of}
+use Rattle.texts.specs.declared.faults.LineFault.{LineFault}
+use Rattle.texts.specs.declared.said.Said.{Said}
+use Rattle.texts.specs.declared.said.Said.TheVariants.{Nothing, One, Bad}
+use Rattle.texts.specs.Lines.{words_of}
+use Rattle.texts.specs.Numbers.{number_of}
 use Rattle.listing.specs.RegionListing.{is_regions_header, part_of, regions_of_lines, region_by, region_of_parts, region_of_words}
-use Rattle.listing.specs.Said.{entries_from, GivesInGrammar, is_passed_over, is_too_long}
-use Rattle.listing.specs.Understood.{entry_by, AreSaidBy, IsFirstBadFrom, IsFirstBadRegion, IsRegionListingBy}
-use Rattle.listing.proofs.UnderstoodLemmas.{are_entries}
-use Rattle.listing.proofs.FormLemmas.{Words}
+use Rattle.texts.specs.Said.{entries_from, GivesInGrammar, is_passed_over, is_too_long}
+use Rattle.texts.specs.Understood.{entry_by, AreSaidBy, IsFirstBadFrom}
+use Rattle.listing.specs.RegionListing.{IsFirstBadRegion, IsRegionListingBy}
+use Rattle.texts.proofs.UnderstoodLemmas.{are_entries}
+use Rattle.texts.proofs.LineCutLemmas.{Words}
 
 -- ---- words of another number
 

@@ -8,7 +8,7 @@ use Rattle.std.proofs.lemmas.List.{length-map}
 use Rattle.std.proofs.lemmas.Option.{slice_get_within}
 use Rattle.std.proofs.lemmas.List.Sums.{count_by-le-length, sum_by-append, sum_by-cons, sum_by-set}
 use Rattle.facts.proofs.Lists.{length-onto_first, moved_over, none_given_more, one_given_more}
-use Rattle.listing.specs.Lines.{lines_of}
+use Rattle.texts.specs.Lines.{lines_of}
 use Rattle.listing.specs.Skipping.{counts_by, is_skipped_for, one_more_at, skipped_for, taken_by}
 
 -- ---- counts of which one is one more

@@ -10,9 +10,9 @@ use Rattle.std.proofs.lemmas.List.Sums.{AllPass-from_list_all}
 use Rattle.facts.proofs.Digits.{digit_not_blank}
 use Rattle.facts.proofs.Options.{cond-Some_true}
 use Rattle.memchr.specs.Find.{Nowhere, Passes, is_byte}
-use Rattle.listing.specs.Numbers.{numeral}
+use Rattle.texts.specs.Numbers.{numeral}
 use Rattle.listing.specs.SymbolListing.{address_in, cut_at}
-use Rattle.listing.proofs.LineCutLemmas.{cut_here}
+use Rattle.listing.proofs.CutLemmas.{cut_here}
 
 all_digits : (digits : List ℕ) (a : ℕ) → numeral 16 16 digits ≡ Some a → list_all (λ c. is_digit c 16) digits ≡ true
 all_digits digits a e =

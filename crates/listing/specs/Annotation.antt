@@ -1,8 +1,9 @@
 -- What was read of a log, and what was written for it.
-use Rattle.std.specs.Prelude.{◌≡◌, ℕ, ◌⊎◌, List, [], ◌++◌, reverse, Option, Result, Ok, Err}
+use Rattle.std.specs.Prelude.{◌≡◌, ℕ, ◌-◌, ◌^◌, ◌≤◌, ◌⊎◌, List, [], ◌++◌, length, reverse}
+use Rattle.std.specs.Prelude.{Option, Result, Ok, Err}
 use Rattle.std.specs.Io.KnownBytes.{Appends, Consumes, IsAtEnd}
-use Rattle.listing.specs.declared.counted.Counted.{Counted}
-use Rattle.listing.specs.Counted.{NoneFailed, Rose, device_of, failures_of}
+use Rattle.texts.specs.declared.counted.Counted.{Counted}
+use Rattle.texts.specs.Counted.{NoneFailed, Rose, device_of, failures_of}
 use Rattle.listing.specs.AnnotatedLogs.{Answering, annotated, annotated_behind, context_behind}
 use Rattle.listing.specs.LogContexts.{annotated_from, context_over, kept_in}
 use Rattle.listing.specs.Insertions.{IsWaiting}
@@ -68,6 +69,15 @@ IsFollowing remaining contents answer r r' w w' =
     × Appends (contents (device_of w)) (contents (device_of w')) written
     × IsUpToDate answer written read
 
+-- The same of more bytes than a number of 64 bits counts.
+abbrev pub IsTooLong : {R W : Type 0} → (R → Option (List ℕ)) → (W → Option (List ℕ)) → Answering
+    → Counted R → Counted R → Counted W → Counted W → Type 0
+IsTooLong remaining contents answer r r' w w' =
+    (read : List ℕ) × (written : List ℕ)
+    × Consumes (remaining (device_of r)) (remaining (device_of r')) read
+    × Appends (contents (device_of w)) (contents (device_of w')) written
+    × IsUpToDate answer written read × (2 ^ 64 - 1 ≤ length read)
+
 -- The reader gave some bytes, and what was written is a beginning of the annotated log.
 abbrev pub IsUnderWay : {R W : Type 0} → (R → Option (List ℕ)) → (W → Option (List ℕ)) → Answering
     → Counted R → Counted R → Counted W → Counted W → Type 0
@@ -94,7 +104,7 @@ Annotates remaining contents answer r r' w w' (Ok _) =
 Annotates remaining contents answer r r' w w' (Err fault.OutOfMemory) =
     NoneFailed r r' × NoneFailed w w' × IsUnderWay remaining contents answer r r' w w'
 Annotates remaining contents answer r r' w w' (Err fault.TooLong) =
-    NoneFailed r r' × NoneFailed w w' × IsFollowing remaining contents answer r r' w w'
+    NoneFailed r r' × NoneFailed w w' × IsTooLong remaining contents answer r r' w w'
 Annotates remaining contents answer r r' w w' (Err fault.Read) =
     Rose (failures_of r) (failures_of r') × NoneFailed w w'
     × IsFollowing remaining contents answer r r' w w'

@@ -4,7 +4,7 @@ use Rattle.std.specs.Prelude.{Option, Some, None, option_and_then}
 use Rattle.std.specs.Option.{option_map_or}
 use Rattle.listing.specs.declared.address_rules.AddressRule.{AddressRule}
 use Rattle.listing.specs.AddressRules.{before_of, place_of}
-use Rattle.listing.specs.Exact.{hexadecimal}
+use Rattle.texts.specs.Exact.{hexadecimal}
 use Rattle.order_laws.specs.declared.items.Item.{Item}
 use Rattle.modules.specs.Catalogs.{module_of}
 use Rattle.modules.specs.Entries.{CatalogEntries, ModuleEntry}

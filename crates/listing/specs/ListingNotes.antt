@@ -3,7 +3,7 @@ use Rattle.std.specs.Prelude.{ℕ, Bool, false, not, ◌&&◌, ◌||◌, nat_eq,
 use Rattle.std.specs.Prelude.{length, Option, Some, None, is_some}
 use Rattle.std.specs.List.{list_any}
 use Rattle.std.specs.Option.{option_map_or}
-use Rattle.listing.specs.Lines.{lines_of}
+use Rattle.texts.specs.Lines.{lines_of}
 use Rattle.listing.specs.Looks.{are_modules_hidden, are_symbols_hidden, first_ends_in_cr, is_gzip}
 use Rattle.listing.specs.Looks.{is_kernel_symbol, is_of_kernel, looks_like_modules}
 use Rattle.listing.specs.Looks.{looks_like_symbols}

@@ -3,7 +3,7 @@ use Rattle.std.specs.Prelude.{ℕ, ◌==◌, ◌||◌, Bool, if◌then◌else◌
 use Rattle.std.specs.Prelude.{Option, None, nat_eq, nat_le}
 use Rattle.std.specs.List.{starts_with}
 use Rattle.std.specs.Char.{is_digit}
-use Rattle.listing.specs.Numbers.{numeral}
+use Rattle.texts.specs.Numbers.{numeral}
 
 -- letters, digits and `_`: a word is a longest run of them
 abbrev pub is_word_byte : ℕ → Bool

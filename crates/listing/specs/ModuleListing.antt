@@ -4,8 +4,8 @@ use Rattle.std.specs.Prelude.{if◌then◌else◌, List, [], ◌∷◌, length, 
 use Rattle.std.specs.Prelude.{Some, None, Result, Ok, Err}
 use Rattle.std.specs.List.{slice_split, starts_with}
 use Rattle.modules.specs.Listed.{ListedModule}
-use Rattle.listing.specs.Lines.{longest_line}
-use Rattle.listing.specs.Numbers.{numeral}
+use Rattle.texts.specs.Lines.{longest_line}
+use Rattle.texts.specs.Numbers.{numeral}
 use Rattle.listing.specs.Skipping.{counts_by, taken_by}
 use Rattle.listing.specs.declared.module_listing.SkippedModule.{SkippedModule}
 use Rattle.listing.specs.declared.module_listing.SkippedModule.TheVariants.{Hidden, Empty, Wraps}

@@ -1,15 +1,16 @@
 -- What a listing of regions says: the regions, or the number of the first line that is not in the
 -- grammar.
-use Rattle.std.specs.Prelude.{ℕ, Bool, nat_lt, if◌then◌else◌, List, [], ◌∷◌, length, codes, Option}
-use Rattle.std.specs.Prelude.{Some, None, Result, Err}
+use Rattle.std.specs.Prelude.{◌≡◌, ◌⊎◌, ℕ, Bool, true, false, nat_lt, if◌then◌else◌, List, [], ◌∷◌}
+use Rattle.std.specs.Prelude.{length, codes, Option, Some, None, Result, Err}
 use Rattle.std.specs.Str.{bytes_eq}
 use Rattle.modules.specs.Lines.{region_fits}
 use Rattle.modules.specs.Listed.{ListedRegion}
 use Rattle.modules.specs.declared.lines.Part.{Part}
 use Rattle.modules.specs.declared.lines.Part.TheVariants.{Core, Init}
-use Rattle.listing.specs.Lines.{lines_of, words_of}
-use Rattle.listing.specs.Numbers.{number_of}
-use Rattle.listing.specs.Said.{entries_from}
+use Rattle.texts.specs.Lines.{lines_of, words_of}
+use Rattle.texts.specs.Numbers.{number_of}
+use Rattle.texts.specs.Said.{entries_from}
+use Rattle.texts.specs.Understood.{AreSaidBy, IsFirstBadFrom}
 
 -- the part of a module that a word names
 abbrev pub part_of : List ℕ → Option Part
@@ -56,3 +57,17 @@ regions_of_lines (first ∷ lines) =
 
 abbrev pub regions_of_text : List ℕ → Result (List ListedRegion) ℕ
 regions_of_text text = regions_of_lines (lines_of text)
+
+-- the first line is the header, each later line is in the grammar, and the regions are theirs
+abbrev pub IsRegionListingBy : List (List ℕ) → List ListedRegion → Type 0
+IsRegionListingBy [] regions = ⊥
+IsRegionListingBy (first ∷ lines) regions =
+    (is_regions_header first ≡ true) × AreSaidBy region_by lines regions
+
+-- the line with this number is the first that is not in the grammar; a listing of no lines has a
+-- bad line 1
+abbrev pub IsFirstBadRegion : List (List ℕ) → ℕ → Type 0
+IsFirstBadRegion [] n = n ≡ 1
+IsFirstBadRegion (first ∷ lines) n =
+    ((n ≡ 1) × (is_regions_header first ≡ false))
+    ⊎ ((is_regions_header first ≡ true) × IsFirstBadFrom region_by 2 lines n)

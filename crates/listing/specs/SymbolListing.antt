@@ -5,9 +5,9 @@ use Rattle.std.specs.Prelude.{Option, Some, None, Result, Ok, Err}
 use Rattle.std.specs.List.{list_any}
 use Rattle.std.specs.Option.{option_map, option_and_then}
 use Rattle.modules.specs.Listed.{ListedSymbol}
-use Rattle.listing.specs.Lines.{longest_line}
+use Rattle.texts.specs.Lines.{longest_line}
 use Rattle.listing.specs.ModuleListing.{is_gap}
-use Rattle.listing.specs.Numbers.{numeral}
+use Rattle.texts.specs.Numbers.{numeral}
 use Rattle.listing.specs.Skipping.{counts_by, taken_by}
 use Rattle.listing.specs.declared.symbol_listing.SkippedSymbol.{SkippedSymbol}
 use Rattle.listing.specs.declared.symbol_listing.SkippedSymbol.TheVariants.{Hidden, Long, Malformed}
@@ -31,7 +31,7 @@ bracketed text =
 abbrev pub symbol_with : Option (List ℕ) → List ℕ → ℕ → Option ListedSymbol
 symbol_with owner (letter ∷ blank ∷ first ∷ name) addr =
     if not (is_gap letter) && blank == 32
-    then Some (record { addr = addr; letter = letter; name = first ∷ name; owner = owner })
+    then Some (record { addr = addr; name = first ∷ name; owner = owner })
     else None
 symbol_with owner _ addr = None
 

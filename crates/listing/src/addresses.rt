@@ -2,16 +2,14 @@
 //!
 //! Each line is a NUMBER, is empty, or is a comment that begins with `#`.
 ghost use Rattle.std.specs.Prelude.{◌≡◌, ◌≢◌, ◌≤◌, ◌<◌, Err, IfSome, IsErrOf};
-ghost use Rattle.listing.specs.Counted.{device_of, failures_of, Rose};
-ghost use Rattle.listing.specs.Numbers.{number_of};
-ghost use Rattle.listing.specs.Said.{Gives};
+ghost use Rattle.texts.specs.Counted.{device_of, failures_of, Rose};
+ghost use Rattle.texts.specs.Numbers.{number_of};
+ghost use Rattle.texts.specs.Said.{Gives};
 ghost use Rattle.listing.specs.Addresses.{addresses_of};
 
-use crate::numbers::number;
-use crate::said::{Form, entries_in};
-use crate::{Counted, LineFault, read_whole};
 use std::alloc::{AllocError, Global};
 use std::io::Read;
+use texts::{Counted, Form, LineFault, entries_in, number, read_whole};
 
 /// The form of a line that is an address.
 #[derive(Drop)]
@@ -31,7 +29,7 @@ impl<'a> Form<'a> for AddressForm {
 ///
 /// Each line is a NUMBER (as [`number`] reads it), or is passed over: it is empty, or a comment
 /// that begins with `#`. No line, also no comment, has more than
-/// [`LONGEST_LINE`](crate::LONGEST_LINE) bytes. Bytes after the last line's end are a line too. A
+/// [`LONGEST_LINE`](texts::LONGEST_LINE) bytes. Bytes after the last line's end are a line too. A
 /// file of no bytes has no address.
 pub fn read_addresses<R: Read>(
     alloc: Global,

@@ -10,19 +10,20 @@
 //!     held                          ^^^^^^^^^^
 //! ```
 ghost use Rattle.std.specs.Prelude.{◌≡◌, [], IfOk};
-ghost use Rattle.listing.specs.Exact.{Wrote};
+ghost use Rattle.texts.specs.Exact.{Wrote};
 ghost use Rattle.listing.specs.AnnotatedLogs.{answered_by};
 ghost use Rattle.listing.specs.LogContexts.{first_context, kept_in};
 ghost use Rattle.listing.specs.Insertions.{answering_of};
 ghost use Rattle.listing.specs.Annotation.{Annotates, Decides, PutsMore, PutsText, owed};
 
+use crate::AddressRule;
 use crate::insertions::LogAnswers;
 use crate::log_contexts::Context;
-use crate::{AddressRule, BLOCK, Counted, put};
 use modules::IndexedCatalog;
 use std::alloc::{AllocError, Global};
 use std::io;
 use std::io::{Read, Write};
+use texts::{BLOCK, Counted, put};
 
 /// Why a log was not annotated to its end.
 #[derive(Clone, Copy, Debug, PartialEq, Eq)]
@@ -33,7 +34,7 @@ pub enum LogFault {
     Read,
     /// The writer failed.
     Write,
-    /// The log has more blocks than a `u64` counts.
+    /// The log has more bytes than a `u64` counts.
     TooLong,
 }
 
@@ -120,7 +121,7 @@ pub fn annotate<R: Read, W: Write>(
     room.resize(BLOCK, 0)?;
     let block = room.as_mut_slice();
     let mut annotator = Annotator::new(alloc);
-    for _ in 0..u64::MAX {
+    for turn in 0..u64::MAX {
         let Ok(count) = reader.read(block) else {
             return Err(LogFault::Read);
         };

@@ -1,15 +1,16 @@
 //! The text of an answer.
 
 ghost use Rattle.std.specs.Prelude.{◌≡◌, ◌+◌, ◌^◌, ◌≤◌, ◌<◌, IfSome};
-ghost use Rattle.listing.specs.Exact.{Wrote};
+ghost use Rattle.texts.specs.Exact.{Wrote};
 ghost use Rattle.listing.specs.Answers.{answer_text, answer_text_by, farther, held_at};
 ghost use Rattle.listing.specs.Answers.{held_text, module_text, sought, symbol_text};
 
-use crate::{AddressRule, Counted, put, put_hexadecimal};
-use modules::{Catalog, FoundSymbol, SymbolFinder};
+use crate::AddressRule;
+use modules::{Catalog, FoundSymbol, symbol_of};
 use order_laws::Item;
 use std::io;
 use std::io::Write;
+use texts::{Counted, put, put_hexadecimal};
 
 /// Writes `NAME+0xOFFSET/0xSIZE`.
 #[tactic(auto, unfolding(crate::specs::Answers::symbol_text))]
@@ -53,7 +54,7 @@ pub fn farther<'c, 'a>(found: FoundSymbol<'c, 'a>, bytes: u64) -> FoundSymbol<'c
 /// farther on.
 fn write_held<W: Write>(
     writer: &mut Counted<W>,
-    finder: &mut SymbolFinder,
+    catalog: &Catalog,
     item: Item,
     addr: u64,
     before: u64,
@@ -61,14 +62,13 @@ fn write_held<W: Write>(
     requires from { item.a ≤ addr }
     requires below { addr < item.b }
     requires near { before ≤ 1 }
-    ensures stays { finder.new ≡ finder.old }
-    ensures wrote { Wrote W.contents writer.old writer.new result
-        (held_text finder.old item before addr) }
+    ensures { Wrote W.contents writer.old writer.new result
+        (held_text catalog.now item before addr) }
 {
-    let Some(module) = finder.catalog().module(item.tag) else {
+    let Some(module) = catalog.module(item.tag) else {
         return put(writer, b"-");
     };
-    match finder.find(item, addr) {
+    match symbol_of(catalog, item, addr) {
         Some(found) => write_symbol(writer, &farther(found, before))?,
         None if item.tag == 0 => return put(writer, b"-"),
         None => put(writer, b"?")?,
@@ -109,7 +109,7 @@ pub fn write_answer<W: Write>(
     ensures { Wrote W.contents writer.old writer.new result (answer_text catalog.now item addr) }
 {
     match held_at(item, addr) {
-        Some((item, addr)) => { write_held(writer, &mut SymbolFinder::new(catalog), item, addr, 0) }
+        Some((item, addr)) => write_held(writer, catalog, item, addr, 0),
         None => put(writer, b"-"),
     }
 }
@@ -131,24 +131,8 @@ pub fn write_answer_by<W: Write>(
     ensures { Wrote W.contents writer.old writer.new result
         (answer_text_by catalog.now rule item addr) }
 {
-    write_next_answer(writer, &mut SymbolFinder::new(catalog), rule, item, addr)
-}
-
-/// The same, over the catalog of a finder. Of it an address is asked for only where its item holds
-/// the one that is looked up.
-pub fn write_next_answer<W: Write>(
-    writer: &mut Counted<W>,
-    finder: &mut SymbolFinder,
-    rule: AddressRule,
-    item: Option<Item>,
-    addr: u64,
-) -> io::Result<()>
-    ensures stays { finder.new ≡ finder.old }
-    ensures wrote { Wrote W.contents writer.old writer.new result
-        (answer_text_by finder.old rule item addr) }
-{
     match sought(rule, item, addr) {
-        Some((item, place)) => write_held(writer, finder, item, place, rule.before()),
+        Some((item, place)) => write_held(writer, catalog, item, place, rule.before()),
         None => put(writer, b"-"),
     }
 }

@@ -4,19 +4,20 @@ ghost use Rattle.std.specs.Prelude.{option_and_then, option_map};
 ghost use Rattle.modules.specs.Items.{item_of_address};
 ghost use Rattle.listing.specs.AddressRules.{place_of};
 ghost use Rattle.listing.specs.Answers.{answer_text_by};
-ghost use Rattle.listing.specs.Exact.{Wrote};
+ghost use Rattle.texts.specs.Exact.{Wrote};
 ghost use Rattle.listing.specs.AnnotatedLogs.{goes_on, rule_behind, text_behind};
 ghost use Rattle.listing.specs.LogContexts.{kept_in};
 ghost use Rattle.listing.specs.Insertions.{IsInsertionAt, answering_of};
 
 use crate::log_contexts::Context;
 use crate::log_words::{address_of_word, is_closer, is_word_byte};
-use crate::{AddressRule, Counted, put, write_answer_by};
+use crate::{AddressRule, write_answer_by};
 use modules::IndexedCatalog;
 use order_laws::Item;
 use std::alloc::{AllocError, Global};
 use std::io;
 use std::io::Write;
+use texts::{Counted, put};
 
 /// What the addresses of a log are answered by.
 #[derive(Drop)]

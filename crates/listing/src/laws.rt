@@ -1,30 +1,19 @@
 //! What follows from the grammars, as contracts of functions that do nothing.
-ghost use Rattle.std.specs.Prelude.{◌≡◌, ℕ, ◌+◌, ◌++◌, List, length, sum, MatchResult};
-ghost use Rattle.listing.specs.LineBlocks.{HasWholeLines};
-ghost use Rattle.listing.specs.Lines.{lines_of};
+ghost use Rattle.std.specs.Prelude.{◌≡◌, ℕ, ◌+◌, List, length, sum, MatchResult};
+ghost use Rattle.texts.specs.Lines.{lines_of};
 ghost use Rattle.listing.specs.ModuleListing.{module_counts, modules_in};
-ghost use Rattle.listing.specs.Skipping.{sums_of};
 ghost use Rattle.listing.specs.SymbolListing.{symbol_counts, symbols_in};
 ghost use Rattle.listing.specs.Addresses.{addresses_of};
-ghost use Rattle.listing.specs.Numbers.{number_of};
+ghost use Rattle.texts.specs.Numbers.{number_of};
 ghost use Rattle.listing.specs.RegionListing.{regions_of_text};
-ghost use Rattle.listing.specs.Scripts.{script_line_by, script_of};
-ghost use Rattle.listing.specs.Trace.{trace_of};
-ghost use Rattle.listing.specs.Understood.{AreSaidBy, IsFirstBad, IsFirstBadFrom, IsFirstBadRegion};
-ghost use Rattle.listing.specs.Understood.{IsRegionListingBy, IsTraceBy};
+ghost use Rattle.texts.specs.Understood.{AreSaidBy, IsFirstBadFrom};
+ghost use Rattle.listing.specs.RegionListing.{IsFirstBadRegion};
+ghost use Rattle.listing.specs.RegionListing.{IsRegionListingBy};
 
 use crate::causes::each_line_is_counted_once;
 use crate::module_listing::SkippedModule;
 use crate::symbol_listing::SkippedSymbol;
 use modules::{ModuleLine, SymbolLine};
-
-/// A text is a trace exactly where each of its lines is in the grammar, and its commands are then
-/// those of its lines, in their order; otherwise the line that is named is the first one that is
-/// not.
-pub fn trace_by_its_lines()
-    ensures { (bytes : List ℕ)
-        → MatchResult (trace_of bytes) (IsTraceBy (lines_of bytes)) (IsFirstBad (lines_of bytes)) }
-{}
 
 /// A text is a listing of regions exactly where each of its lines is in the grammar, and its
 /// regions are then those of its lines, in their order; otherwise the line that is named is the
@@ -42,13 +31,6 @@ pub fn addresses_by_their_lines()
         (IsFirstBadFrom number_of 1 (lines_of text)) }
 {}
 
-/// The same of a script, for any number of readers.
-pub fn script_by_its_lines()
-    ensures { (readers : ℕ) → (text : List ℕ) → MatchResult (script_of readers text)
-        (AreSaidBy (script_line_by readers) (lines_of text))
-        (IsFirstBadFrom (script_line_by readers) 1 (lines_of text)) }
-{}
-
 /// Each line of a listing is taken, or is counted for one cause for which it is skipped.
 pub fn each_listed_line_is_counted_once()
     ensures modules { (text : List ℕ) → let lines = lines_of text in
@@ -59,16 +41,3 @@ pub fn each_listed_line_is_counted_once()
     each_line_is_counted_once::<ModuleLine<'static>, SkippedModule, 5>();
     each_line_is_counted_once::<SymbolLine<'static>, SkippedSymbol, 3>();
 }
-
-/// Where each line of a text has its end, the lines of what follows it follow its own. So do the
-/// symbols, and the counts of skipped lines are the sums.
-pub fn listing_by_its_blocks()
-    ensures lines { (text more : List ℕ) → HasWholeLines text
-        → lines_of (text ++ more) ≡ lines_of text ++ lines_of more }
-    ensures symbols { (text more : List ℕ) → HasWholeLines text
-        → symbols_in (lines_of (text ++ more))
-        ≡ symbols_in (lines_of text) ++ symbols_in (lines_of more) }
-    ensures counts { (text more : List ℕ) → HasWholeLines text
-        → symbol_counts (lines_of (text ++ more))
-        ≡ sums_of (symbol_counts (lines_of text)) (symbol_counts (lines_of more)) }
-{}

@@ -5,7 +5,7 @@
 //! through again only where none of its lines is kept, or where the kernel itself has no region.
 ghost use Rattle.std.specs.Prelude.{◌≡◌, find, is_some, if◌then◌else◌, None, Some};
 ghost use Rattle.std.specs.Option.{option_copied};
-ghost use Rattle.listing.specs.Lines.{lines_of};
+ghost use Rattle.texts.specs.Lines.{lines_of};
 ghost use Rattle.listing.specs.Looks.{are_modules_hidden, are_symbols_hidden};
 ghost use Rattle.listing.specs.SymbolListing.{symbols_in};
 ghost use Rattle.modules.specs.Entries.{CatalogEntries};

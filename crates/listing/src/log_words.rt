@@ -3,7 +3,7 @@ ghost use Rattle.std.specs.Prelude.{◌≡◌};
 ghost use Rattle.listing.specs.LogWords.{address_of_word, digits_from, has_prefix};
 ghost use Rattle.listing.specs.LogWords.{is_closer, is_word_byte, kind_of};
 
-use crate::numbers::hexadecimal;
+use texts::hexadecimal;
 
 /// The fewest hexadecimal digits of an address behind `0x`. Fewer are mostly a size or an offset.
 const DIGITS_BEHIND_PREFIX: usize = 9;

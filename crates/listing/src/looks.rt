@@ -3,7 +3,7 @@
 ghost use Rattle.std.specs.Prelude.{◌≡◌, ◌∷◌, ◌&&◌, ◌||◌, [], List, ℕ, find, length, nat_lt, not};
 ghost use Rattle.std.specs.Prelude.{option_map};
 ghost use Rattle.std.specs.List.{list_any};
-ghost use Rattle.listing.specs.Lines.{lines_of};
+ghost use Rattle.texts.specs.Lines.{lines_of};
 ghost use Rattle.listing.specs.Looks.{AreKernelSymbols, are_modules_hidden, are_symbols_hidden};
 ghost use Rattle.listing.specs.Looks.{first_ends_in_cr, is_gzip, is_kernel_symbol, is_module_line};
 ghost use Rattle.listing.specs.Looks.{is_of_kernel, is_symbol_line, looks_like_modules};
@@ -12,11 +12,11 @@ ghost use Rattle.listing.specs.ModuleListing.{module_counts, modules_in};
 ghost use Rattle.listing.specs.SymbolListing.{symbol_counts, symbols_in};
 ghost use Rattle.modules.specs.Listed.{BoundNames};
 
-use crate::lines::cut_line;
 use crate::module_listing::{ModuleCounts, SkippedModule, module_in};
 use crate::symbol_listing::{SkippedSymbol, SymbolCounts, cut_tabbed_line, symbol_of_line};
 use memchr::memchr;
 use modules::{KernelBounds, SymbolLine, SymbolLines};
+use texts::cut_line;
 
 /// Whether the first two bytes are those of a file that gzip made.
 pub fn is_gzip(text: &[u8]) -> bool

@@ -8,8 +8,8 @@
 //!              looked at
 //! ```
 ghost use Rattle.std.specs.Prelude.{◌≡◌, true, All, map, refl, IfOk};
-ghost use Rattle.listing.specs.Lines.{lines_of};
-ghost use Rattle.listing.specs.Numbers.{numeral};
+ghost use Rattle.texts.specs.Lines.{lines_of};
+ghost use Rattle.texts.specs.Numbers.{numeral};
 ghost use Rattle.listing.specs.ModuleListing.{base_of, module_cause_name, module_causes};
 ghost use Rattle.listing.specs.ModuleListing.{module_counts, module_of_line, module_of_words};
 ghost use Rattle.listing.specs.ModuleListing.{module_of_parts, module_place, modules_in};
@@ -20,10 +20,9 @@ ghost use Rattle.modules.specs.Lines.{fits};
 
 use crate::causes::{Cause, Counts};
 use crate::gaps::first_words;
-use crate::lines::{LONGEST_LINE, cut_line};
-use crate::numbers::{decimal, hexadecimal};
 use modules::ModuleLine;
 use std::alloc::{AllocError, Global};
+use texts::{LONGEST_LINE, cut_line, decimal, hexadecimal};
 
 /// Why a line of a listing of modules is skipped. The causes stand in the order in which their
 /// counts are written, and a line is skipped for the first that holds of it in the order long,
@@ -146,7 +145,7 @@ pub(crate) fn module_in<'a>(line: &'a [u8]) -> Result<ModuleLine<'a>, SkippedMod
 /// The modules of a listing in the form of /proc/modules, and how many of its lines were skipped.
 ///
 /// Words are separated by blanks and tabs, any number of them. A line is skipped as long where it
-/// has more than [`LONGEST_LINE`](crate::LONGEST_LINE) bytes, else as malformed where it has fewer
+/// has more than [`LONGEST_LINE`](texts::LONGEST_LINE) bytes, else as malformed where it has fewer
 /// than six words, or the second is not 1 to 20 decimal digits of a 64-bit number (the size) or the
 /// sixth not `0x` and 1 to 16 hexadecimal digits (the base), else as hidden where the base is 0, as
 /// empty where the size is 0, and as one that wraps where the region goes past the greatest

@@ -11,17 +11,14 @@
 //!
 //! The parts have exactly one blank between them, and names any bytes but a blank.
 ghost use Rattle.std.specs.Prelude.{◌≡◌, true, All, map, IfOk};
-ghost use Rattle.listing.specs.Said.{GivesInGrammar};
+ghost use Rattle.texts.specs.Said.{GivesInGrammar};
 ghost use Rattle.listing.specs.RegionListing.{part_of, placed_region, region_by};
 ghost use Rattle.listing.specs.RegionListing.{region_of_words, regions_of_text};
 ghost use Rattle.modules.specs.Lines.{region_fits};
 
-use crate::LineFault;
-use crate::lines::{cut_line, words_in};
-use crate::numbers::number;
-use crate::said::{Form, entries_in};
 use modules::{Part, RegionLine};
 use std::alloc::{AllocError, Global};
+use texts::{Form, LineFault, cut_line, entries_in, number, words_in};
 
 /// The part of a module that a word names.
 fn part_named(word: &[u8]) -> Option<Part>
@@ -89,7 +86,7 @@ impl<'a> Form<'a> for RegionForm {
 /// blank between two words, or is passed over: it is empty, or a comment that begins with `#`. NAME
 /// is one byte or more and has no blank, PART is `core` or `init`, BASE and SIZE are NUMBERs other
 /// than 0 (as [`number`] reads them) with a sum of at most the greatest `u64`. No line has more
-/// than [`LONGEST_LINE`](crate::LONGEST_LINE) bytes. Any other line is [`LineFault::BadLine`], the
+/// than [`LONGEST_LINE`](texts::LONGEST_LINE) bytes. Any other line is [`LineFault::BadLine`], the
 /// first of them, and a text of no bytes has a bad line 1. No reader is asked here, so that
 /// [`LineFault::Read`] is never returned. The names are those of the text.
 pub fn read_regions<'a>(alloc: Global, text: &'a [u8]) -> Result<Vec<RegionLine<'a>>, LineFault>

@@ -12,7 +12,7 @@
 ghost use Rattle.std.specs.Prelude.{◌≡◌, ◌<◌, ◌∷◌, refl, IfOk, length, unwrap_or};
 ghost use Rattle.memchr.specs.Find.{IsFirst, IsFirstByte, Passes, is_byte};
 ghost use Rattle.std.specs.Option.{option_copied, option_map};
-ghost use Rattle.listing.specs.Lines.{lines_of};
+ghost use Rattle.texts.specs.Lines.{lines_of};
 ghost use Rattle.listing.specs.SymbolListing.{address_in, bracketed, cut_at, symbol_before};
 ghost use Rattle.listing.specs.SymbolListing.{symbol_cause_name, symbol_causes, symbol_counts};
 ghost use Rattle.listing.specs.SymbolListing.{symbol_of, symbol_of_text, symbol_place, symbols_in};
@@ -20,11 +20,10 @@ ghost use Rattle.listing.specs.declared.symbol_listing.SkippedSymbol.TheVariants
 ghost use Rattle.listing.specs.declared.symbol_listing.SkippedSymbol.TheVariants.{Malformed};
 
 use crate::causes::{Cause, Counts};
-use crate::lines::LONGEST_LINE;
-use crate::numbers::{hexadecimal, sixteen_digits};
 use memchr::{memchr, memchr2};
 use modules::{SymbolLine, SymbolLines};
 use std::alloc::{AllocError, Global};
+use texts::{LONGEST_LINE, hexadecimal, sixteen_digits};
 
 /// Why a line of a listing of symbols is skipped. The causes stand in the order in which their
 /// counts are written, and a line is skipped for the first that holds of it in the order long,
@@ -160,7 +159,6 @@ fn named_symbol<'a>(text: &'a [u8], owner: Option<&'a [u8]>) -> Option<SymbolLin
         [letter, b' ', name @ ..] if *letter != b' ' && *letter != b'\t' && !name.is_empty() => {
             Some(SymbolLine {
                 addr,
-                letter: *letter,
                 name,
                 module: owner,
             })
@@ -208,7 +206,7 @@ pub fn symbol_of_line<'a>(
 ///
 /// A line is 1 to 16 hexadecimal digits, a blank, a letter, a blank and a name, and where the
 /// symbol is one of a module, a tab and the module's name in brackets. A line is skipped as long
-/// where it has more than [`LONGEST_LINE`](crate::LONGEST_LINE) bytes, else as malformed where it
+/// where it has more than [`LONGEST_LINE`](texts::LONGEST_LINE) bytes, else as malformed where it
 /// is not of that form, else as hidden where its address is 0. The names are those of the text.
 pub fn read_kallsyms<'a>(
     alloc: Global,

@@ -3,12 +3,12 @@
 
 use crate::faults::MeasureFault;
 use crate::listings::tell;
-use latch_core::Update;
-use modules::{Catalog, Held, ModuleLine, SymbolLine, SymbolLines, symbol_of};
+use modules::{Asked, Catalog, Held, KernelBounds, ModuleLine, SymbolLine, SymbolLines, symbol_of};
 use order_laws::Item;
 use std::alloc::{AllocError, Global};
 use std::io::{Eprint, Print};
 use std::time::{Clock, Instant};
+use table_updates::Update;
 
 /// Where the kernel itself begins.
 const KERNEL: u64 = 0xffff_ffff_8100_0000;
@@ -73,7 +73,6 @@ fn push_kernel_lines<'a>(
         };
         lines.push(SymbolLine {
             addr: KERNEL.wrapping_add((i as u64).wrapping_mul(16)),
-            letter: b'T',
             name,
             module: None,
         })?;
@@ -90,7 +89,6 @@ fn push_module_lines<'a>(
     for (i, name) in names.iter().enumerate() {
         lines.push(SymbolLine {
             addr: module.base.wrapping_add(spread(i as u64) % SIZE),
-            letter: b't',
             name: *name,
             module: Some(module.name),
         })?;
@@ -169,7 +167,14 @@ pub fn build_and_look_up<R: Print + Eprint + Clock>(
         return Ok(());
     }
     let start = Instant::now(rt)?;
-    let (catalog, counts) = Catalog::build(alloc, &module_lines, symbol_lines)?;
+    let (catalog, counts) = Catalog::build(
+        alloc,
+        &KernelBounds::usual(),
+        &module_lines,
+        &[],
+        symbol_lines,
+        Asked::Any,
+    )?;
     tell(rt, "build", &start)?;
     let items = items(alloc, &catalog, modules)?;
     let start = Instant::now(rt)?;

@@ -6,11 +6,11 @@
 ghost use Rattle.std.specs.Prelude.{◌<◌};
 
 use crate::faults::MeasureFault;
-use latch_core::Update;
 use latch_steps::{Command, Trace, drive};
 use order_laws::{HalfOpen, Item, Refusal};
 use std::alloc::{AllocError, Global};
 use std::io::Print;
+use table_updates::Update;
 use word_layout::Layout;
 
 /// How far the first addresses of two ranges lie apart.

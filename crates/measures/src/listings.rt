@@ -1,15 +1,13 @@
 //! Two listings that are read from files, cut into lines and built into a catalog.
 
 use crate::faults::MeasureFault;
-use listing::{
-    Cause, Counted, Counts, ReadFault, SkippedModule, SkippedSymbol, read_kallsyms, read_modules,
-    read_whole,
-};
-use modules::Catalog;
+use listing::{Cause, Counts, SkippedModule, SkippedSymbol, read_kallsyms, read_modules};
+use modules::{Asked, Catalog, KernelBounds};
 use std::alloc::Global;
 use std::io::{Eprint, Print};
 use std::time::{Clock, Instant};
 use std::{fs, io};
+use texts::{Counted, ReadFault, read_whole};
 
 /// Tells how long a part took.
 pub fn tell<R: Eprint + Clock>(rt: &R, part: &str, start: &Instant) -> io::Result<()> {
@@ -41,7 +39,14 @@ fn build<R: Print + Eprint + Clock>(
     let (symbols, skipped_symbols) = read_kallsyms(alloc, kallsyms)?;
     tell(rt, "lines", &start)?;
     let start = Instant::now(rt)?;
-    let (_, counts) = Catalog::build(alloc, &modules, symbols)?;
+    let (_, counts) = Catalog::build(
+        alloc,
+        &KernelBounds::usual(),
+        &modules,
+        &[],
+        symbols,
+        Asked::Any,
+    )?;
     tell(rt, "build", &start)?;
     let (of_content, of_form) = SkippedModule::all().split_at(SkippedModule::Long.place());
     print!(rt; "modules {}", counts.modules)?;

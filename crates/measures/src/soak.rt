@@ -1,7 +1,6 @@
 //! Readers beside a writer for a time, each answer compared with the replay of its generation.
 
 use crate::faults::MeasureFault;
-use latch_core::Update;
 use latch_table::{Reader, Writer, open};
 use order_laws::{HalfOpen, Item, Refusal};
 use std::alloc::{AllocError, Global};
@@ -9,6 +8,7 @@ use std::io::Print;
 use std::sync::atomic::{AtomicBool, Ordering};
 use std::thread::{Threads, join, map_vec};
 use std::time::{Clock, Duration, Instant};
+use table_updates::Update;
 use word_layout::Layout;
 use workloads::{Observer, Random, Schedule, Tally, addresses, ranges, shuffle};
 

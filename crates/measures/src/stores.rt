@@ -9,10 +9,11 @@ ghost use Rattle.word_layout.specs.Limits.{most_nodes};
 ghost use Rattle.word_layout.specs.Words.{words_for};
 
 use crate::faults::MeasureFault;
-use latch_core::{Update, WriterCore};
+use latch_core::WriterCore;
 use order_laws::{HalfOpen, Item, Refusal};
 use std::alloc::Global;
 use std::io::Print;
+use table_updates::Update;
 use word_layout::{Layout, apply};
 use workloads::{Random, ranges, shuffle};
 

@@ -5,12 +5,12 @@ ghost use Rattle.word_layout.specs.Limits.{most_nodes};
 
 use crate::faults::MeasureFault;
 use crate::memory::resident;
-use latch_core::Update;
 use latch_table::{Reader, Writer, open};
 use order_laws::{HalfOpen, Item, Refusal};
 use std::alloc::Global;
 use std::num::nearest_u64_to_f64;
 use std::rt::Files;
+use table_updates::Update;
 use word_layout::{Layout, MOST_NODES};
 use workloads::{Random, ranges, shuffle};
 

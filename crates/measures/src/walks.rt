@@ -10,10 +10,11 @@ ghost use Rattle.word_layout.specs.Limits.{most_nodes};
 ghost use Rattle.word_layout.specs.Words.{words_for};
 
 use crate::faults::MeasureFault;
-use latch_core::{Attempted, Update, WriterCore, attempt_in};
+use latch_core::{Attempted, WriterCore, attempt_in};
 use order_laws::{HalfOpen, Item, Refusal};
 use std::alloc::{AllocError, Global};
 use std::io::Print;
+use table_updates::Update;
 use word_layout::{Layout, apply};
 use workloads::{Random, addresses, ranges, shuffle};
 

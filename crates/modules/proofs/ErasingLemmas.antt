@@ -5,7 +5,7 @@ use Rattle.std.specs.Str.{bytes_eq}
 use Rattle.std.proofs.lemmas.Bool.{cases_lt, eqb-true, eq-eqb}
 use Rattle.std.proofs.lemmas.List.{append-nil, length-take-le}
 use Rattle.std.proofs.Math.Seq.{get_or-append_seam, take-length}
-use Rattle.latch_core.specs.declared.updates.Update.TheVariants.{Erase}
+use Rattle.table_updates.specs.declared.updates.Update.TheVariants.{Erase}
 use Rattle.order_laws.specs.declared.items.Item.{Item}
 use Rattle.modules.specs.Loads.{TakesMemory, has_no_items, only_of, update_of}
 use Rattle.modules.specs.Parts.{is_of}

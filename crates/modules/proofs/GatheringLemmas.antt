@@ -1,9 +1,9 @@
 -- One more run of symbol lines.
 use Rattle.std.proofs.Common.{◌≡◌, ℕ, ◌+◌, ◌<◌, ◌≤◌, Bool, false, cond, List, ◌++◌, length, get_or, map, not, Some, None, Ok, Err, Option, Result, refl, sym, ap, subst, ◌∙◌, ⊎_elim, arith, length-append}
-use Rattle.std.specs.Prelude.{filter, count_by, IfOk, OnOk}
+use Rattle.std.specs.Prelude.{filter, count_by, OnOk}
 use Rattle.std.specs.Borrow.{Bor}
 use Rattle.std.specs.Global.{Vec}
-use Rattle.std.specs.List.{position_from, zip}
+use Rattle.std.specs.List.{position_from}
 use Rattle.std.specs.Option.{option_copied, option_map_or}
 use Rattle.std.specs.declared.alloc.AllocError.{AllocError}
 use Rattle.std.specs.Str.{bytes_eq}
@@ -18,30 +18,29 @@ use Rattle.modules.specs.Gathering.{CountsStay, Gathers, HasRoom, Keeps, KeepsRu
 use Rattle.modules.specs.Kept.{AreDistinctNames, belongs, is_built_in, is_kept, symbols_that, entry_of}
 use Rattle.modules.specs.Listed.{ListedSymbol}
 use Rattle.modules.specs.Placed.{PlacedModule}
-use Rattle.modules.specs.Runs.{AreLettered, lines_of_runs, lines_of_run, lines_of_all, unlettered, with_letter}
+use Rattle.modules.specs.Runs.{lines_of_run, line_of}
 use Rattle.modules.specs.declared.gathering.Gathered.{Gathered}
 use Rattle.modules.specs.declared.gathering.Owner.{Owner}
 use Rattle.modules.specs.declared.gathering.Owner.TheVariants as owner
 use Rattle.modules.specs.declared.symbol_lines.Run.{Run}
 use Rattle.modules.proofs.HomeLemmas.{that_run, that_none, count_run, count_rest, kept_unnamed, kept_nowhere, kept_there, belongs_there}
 use Rattle.modules.proofs.KeptLemmas.{no_home, only_home, place_within}
-use Rattle.modules.proofs.RunLemmas.{that-lettered, count-lettered}
 
 that-append : (p : ListedSymbol → Bool) (xs ys : List ListedSymbol) → symbols_that p (xs ++ ys) ≡ symbols_that p xs ++ symbols_that p ys
 that-append p xs ys = ap (map entry_of) (filter-append p xs ys) ∙ map-append entry_of (filter p xs) (filter p ys)
 
 -- what the lines of a run add to each list and each count
 record Adds (a : Accepted) (n : Option (List ℕ)) (q : SymbolEntry → Bool) (ss : List SymbolEntry) (g h : Gathered) : Type 0 where
-  pub built_in : h.built_in.items ≡ g.built_in.items ++ symbols_that (is_built_in a.built_in) (map (unlettered n) ss)
+  pub built_in : h.built_in.items ≡ g.built_in.items ++ symbols_that (is_built_in a.built_in) (map (line_of n) ss)
   pub lists : length h.modules.items ≡ length g.modules.items
-  pub each : (j : ℕ) (d : Vec SymbolEntry) (m : PlacedModule) → j < length a.modules → (get_or h.modules.items j d).items ≡ (get_or g.modules.items j d).items ++ symbols_that (belongs (get_or a.modules j m)) (map (unlettered n) ss)
-  pub is : (s : SymbolEntry) → is_kept a (unlettered n s) ≡ q s
+  pub each : (j : ℕ) (d : Vec SymbolEntry) (m : PlacedModule) → j < length a.modules → (get_or h.modules.items j d).items ≡ (get_or g.modules.items j d).items ++ symbols_that (belongs (get_or a.modules j m)) (map (line_of n) ss)
+  pub is : (s : SymbolEntry) → is_kept a (line_of n s) ≡ q s
   pub kept : h.kept ≡ g.kept + length (filter q ss)
   pub stray : h.stray + length (filter q ss) ≡ g.stray + length ss
 
-Gathers-added : (a : Accepted) (n : Option (List ℕ)) (q : SymbolEntry → Bool) (ss : List SymbolEntry) (xs : List ListedSymbol) (g h : Gathered) → Gathers a xs g → Adds a n q ss g h → Gathers a (xs ++ map (unlettered n) ss) h
+Gathers-added : (a : Accepted) (n : Option (List ℕ)) (q : SymbolEntry → Bool) (ss : List SymbolEntry) (xs : List ListedSymbol) (g h : Gathered) → Gathers a xs g → Adds a n q ss g h → Gathers a (xs ++ map (line_of n) ss) h
 Gathers-added a n q ss xs g h before adds =
-    let lines : List ListedSymbol = map (unlettered n) ss in
+    let lines : List ListedSymbol = map (line_of n) ss in
     let kept : count_by (is_kept a) lines ≡ length (filter q ss) = count_run (is_kept a) q n adds.is ss in
     let rest : count_by (λ s. not (is_kept a s)) lines + length (filter q ss) ≡ length ss = count_rest (is_kept a) q n adds.is ss in
     record {
@@ -53,11 +52,11 @@ Gathers-added a n q ss xs g h before adds =
     }
 
 -- a list to which nothing is put
-stays : (p : ListedSymbol → Bool) (n : Option (List ℕ)) (ss es fs : List SymbolEntry) → ((s : SymbolEntry) → p (unlettered n s) ≡ false) → fs ≡ es → fs ≡ es ++ symbols_that p (map (unlettered n) ss)
+stays : (p : ListedSymbol → Bool) (n : Option (List ℕ)) (ss es fs : List SymbolEntry) → ((s : SymbolEntry) → p (line_of n s) ≡ false) → fs ≡ es → fs ≡ es ++ symbols_that p (map (line_of n) ss)
 stays p n ss es fs none same = same ∙ sym (append-nil es) ∙ ap (λ xs. es ++ xs) (sym (that_none p n none ss))
 
 -- one to which the kept ones are put
-grows : (p : ListedSymbol → Bool) (q : SymbolEntry → Bool) (n : Option (List ℕ)) (ss es fs : List SymbolEntry) → ((s : SymbolEntry) → p (unlettered n s) ≡ q s) → fs ≡ es ++ filter q ss → fs ≡ es ++ symbols_that p (map (unlettered n) ss)
+grows : (p : ListedSymbol → Bool) (q : SymbolEntry → Bool) (n : Option (List ℕ)) (ss es fs : List SymbolEntry) → ((s : SymbolEntry) → p (line_of n s) ≡ q s) → fs ≡ es ++ filter q ss → fs ≡ es ++ symbols_that p (map (line_of n) ss)
 grows p q n ss es fs is more = more ∙ ap (λ xs. es ++ xs) (sym (that_run p q n is ss))
 
 abbrev lies : Accepted → Owner → SymbolEntry → Bool
@@ -80,7 +79,7 @@ named_adds : (a : Accepted) (name : List ℕ) (o : Option ℕ) (ss : List Symbol
 named_adds a name None ss g h distinct at keeps kept stray = record {
   built_in = stays (is_built_in a.built_in) (Some name) ss g.built_in.items h.built_in.items (λ s. refl) keeps.0;
   lists = ap length keeps.1;
-  each = λ j d m lt. stays (belongs (get_or a.modules j m)) (Some name) ss (get_or g.modules.items j d).items (get_or h.modules.items j d).items (λ s. no_home a (unlettered (Some name) s) name refl at j m lt) (ap (λ (ls : List (Vec SymbolEntry)). (get_or ls j d).items) keeps.1);
+  each = λ j d m lt. stays (belongs (get_or a.modules j m)) (Some name) ss (get_or g.modules.items j d).items (get_or h.modules.items j d).items (λ s. no_home a (line_of (Some name) s) name refl at j m lt) (ap (λ (ls : List (Vec SymbolEntry)). (get_or ls j d).items) keeps.1);
   is = kept_nowhere a name at;
   kept = kept;
   stray = stray;
@@ -90,10 +89,10 @@ named_adds a name (Some k) ss g h distinct at keeps kept stray = record {
   lists = keeps.1;
   each = λ j d m lt. ⊎_elim
       (λ same. grows (belongs (get_or a.modules j m)) (lies a (owner.Module k)) (Some name) ss (get_or g.modules.items j d).items (get_or h.modules.items j d).items
-      (λ s. ap (λ (i : ℕ). belongs (get_or a.modules i m) (unlettered (Some name) s)) same ∙ belongs_there a name k at m s)
+      (λ s. ap (λ (i : ℕ). belongs (get_or a.modules i m) (line_of (Some name) s)) same ∙ belongs_there a name k at m s)
       (ap (λ (i : ℕ). (get_or h.modules.items i d).items) same ∙ keeps.2 d ∙ ap (λ (i : ℕ). (get_or g.modules.items i d).items ++ filter (lies a (owner.Module k)) ss) (sym same)))
       (λ other. stays (belongs (get_or a.modules j m)) (Some name) ss (get_or g.modules.items j d).items (get_or h.modules.items j d).items
-      (λ s. only_home a (unlettered (Some name) s) name k distinct refl at j m lt other)
+      (λ s. only_home a (line_of (Some name) s) name k distinct refl at j m lt other)
       (ap (λ (v : Vec SymbolEntry). v.items) (keeps.3 j d other)))
       (cases_eq j k);
   is = kept_there a name k distinct at;
@@ -110,19 +109,9 @@ Gathers-run a xs r g h distinct before keeps =
     let n : Option (List ℕ) = option_copied r.module in
     Gathers-added a n (lies a (owner_for a n)) r.symbols.items xs g h before (run_adds a n r.symbols.items g h distinct keeps.lists keeps.kept keeps.stray)
 
--- letters change nothing of what is gathered
-pub Gathers-lettered : (a : Accepted) (xs : List ListedSymbol) (ls : List ℕ) (g : Gathered) → length xs ≡ length ls → Gathers a xs g → Gathers a (map with_letter (zip xs ls)) g
-Gathers-lettered a xs ls g same gathers = record {
-  built_in = gathers.built_in ∙ sym (that-lettered (is_built_in a.built_in) (λ x k. refl) xs ls same);
-  lists = gathers.lists;
-  each = λ j d m lt. gathers.each j d m lt ∙ sym (that-lettered (belongs (get_or a.modules j m)) (λ x k. refl) xs ls same);
-  kept = gathers.kept ∙ sym (count-lettered (is_kept a) (λ x k. refl) xs ls same);
-  stray = gathers.stray ∙ sym (count-lettered (λ s. not (is_kept a s)) (λ x k. refl) xs ls same);
-}
-
 -- so many more lines are counted
 pub counts_run : (a : Accepted) (r : Run) (g h : Gathered) (xs : List ListedSymbol) → KeepsRun a r g h → g.kept + g.stray ≡ length xs → h.kept + h.stray ≡ length (xs ++ lines_of_run r)
-counts_run a r g h xs keeps before = omega (arith, keeps.kept, keeps.stray, before, length-append xs (lines_of_run r), length-map r.symbols.items (unlettered (option_copied r.module)))
+counts_run a r g h xs keeps before = omega (arith, keeps.kept, keeps.stray, before, length-append xs (lines_of_run r), length-map r.symbols.items (line_of (option_copied r.module)))
 
 -- no more are kept than there are
 pub kept_within : (a : Accepted) (o : Owner) (ss kept : List SymbolEntry) → kept ≡ filter (lies a o) ss → length kept ≤ length ss
@@ -160,8 +149,3 @@ kept_or_fails a r g kept rest o symbols h (Ok v) owner is few others lists count
       kept = omega (arith, counts.0, few, same);
       stray = omega (arith, counts.1, others, same);
     }
-
--- the lines with their letters, or no memory
-pub gathers_or_fails : (a : Accepted) (runs : List Run) (letters : List ℕ) (lines : List ListedSymbol) (result : Result Gathered AllocError) → AreLettered runs letters → lines_of_runs runs letters ≡ lines → IfOk result (Gathers a (lines_of_all runs)) → IfOk result (Gathers a lines)
-gathers_or_fails a runs letters lines (Ok g) same is gathers = subst (λ (ls : List ListedSymbol). Gathers a ls g) is (Gathers-lettered a (lines_of_all runs) letters g same gathers)
-gathers_or_fails a runs letters lines (Err e) same is gathers = tt

@@ -18,9 +18,7 @@ pub mod IndexLemmas
 pub mod OrderedLemmas
 -- symbols that are listed by rising address
 pub mod RisingLemmas
--- addresses that are kept by halves
-pub mod AddressListLemmas
--- lines that have the name of their module by their run, and their letter beside it
+-- lines that have the name of their module by their run
 pub mod RunLemmas
 -- where a symbol is kept
 pub mod KeptLemmas
@@ -36,12 +34,6 @@ pub mod SoundnessLemmas
 pub mod AbsentLemmas
 -- the modules that are made of the accepted ones
 pub mod MakingLemmas
--- lines whose bytes lie in a text that grows, and the marked lines of runs
-pub mod KeptLineLemmas
--- lines without their letters and names, in runs of one module
-pub mod AddressRunLemmas
--- which addresses of a run lie in the module that it names
-pub mod ModuleAddressLemmas
 -- each line is counted once
 pub mod CountLemmas
 -- which updates a load, an unload, and the end of a module's start give
@@ -100,25 +92,3 @@ pub mod SymbolModuleLemmas
 pub mod AloneLemmas
 -- one answer for all addresses that a found symbol reaches to
 pub mod AgainLemmas
--- two lists put together have the better of what each of them has around an address
-pub mod JoinedLemmas
--- which lines of symbols suffice for others
-pub mod SiftedLemmas
--- catalogs that have the same modules in the same places
-pub mod SamePlaceLemmas
--- the symbols in an item are those of its owner
-pub mod OwnedItemLemmas
--- lines that suffice find the same symbols at asked addresses
-pub mod SiftedSymbolLemmas
--- whether any module has symbols, by the addresses and owners of lines
-pub mod SomeSymbolLemmas
--- the stretch of an address between asked addresses
-pub mod StretchLemmas
--- cells that take one line more, or none
-pub mod CellLemmas
--- marks that cover the lines of one run more
-pub mod CoverLemmas
--- the best of the symbols that pass a test
-pub mod BestLemmas
--- marks that cover all lines suffice
-pub mod SieveLemmas

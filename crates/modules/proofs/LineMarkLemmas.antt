@@ -9,7 +9,7 @@ use Rattle.modules.specs.Entries.{SymbolEntry}
 use Rattle.modules.specs.LineMarks.{is_free, kernel_marks, line_marks, mark_of, marks_of, number_for, number_in, symbol_marks}
 use Rattle.modules.specs.Listed.{ListedSymbol}
 use Rattle.modules.specs.Owners.{is_outside}
-use Rattle.modules.specs.Runs.{lines_of_all, lines_of_run, unlettered}
+use Rattle.modules.specs.Runs.{lines_of_all, lines_of_run, line_of}
 use Rattle.modules.specs.declared.marks.Mark.{Mark}
 use Rattle.modules.specs.declared.symbol_lines.Run.{Run}
 use Rattle.modules.proofs.NumberLemmas.{number_within}
@@ -26,14 +26,14 @@ owners_within kernel names lines =
 module _ (kernel : Option (ℕ × ℕ)) (names : List (List ℕ)) where
   -- ---- the lines of a run
 
-  of_kernel : (ss : List SymbolEntry) → line_marks kernel names (map (unlettered None) ss) ≡ []
+  of_kernel : (ss : List SymbolEntry) → line_marks kernel names (map (line_of None) ss) ≡ []
   of_kernel [] = refl
   of_kernel (s ∷ ss) = of_kernel ss
 
-  of_module : (name : List ℕ) (ss : List SymbolEntry) → line_marks kernel names (map (unlettered (Some name)) ss) ≡ symbol_marks kernel (number_in names name) ss
+  of_module : (name : List ℕ) (ss : List SymbolEntry) → line_marks kernel names (map (line_of (Some name)) ss) ≡ symbol_marks kernel (number_in names name) ss
   of_module name [] = refl
   of_module name (s ∷ ss) =
-      elim (is_free kernel s.addr) as (λ b. map (mark_of names) (cond b (unlettered (Some name) s ∷ filter (is_outside kernel) (map (unlettered (Some name)) ss)) (filter (is_outside kernel) (map (unlettered (Some name)) ss))) ≡ map (λ (t : SymbolEntry). record { addr = t.addr; owner = number_in names name }) (cond b (s ∷ filter (λ (t : SymbolEntry). is_free kernel t.addr) ss) (filter (λ (t : SymbolEntry). is_free kernel t.addr) ss))) [
+      elim (is_free kernel s.addr) as (λ b. map (mark_of names) (cond b (line_of (Some name) s ∷ filter (is_outside kernel) (map (line_of (Some name)) ss)) (filter (is_outside kernel) (map (line_of (Some name)) ss))) ≡ map (λ (t : SymbolEntry). record { addr = t.addr; owner = number_in names name }) (cond b (s ∷ filter (λ (t : SymbolEntry). is_free kernel t.addr) ss) (filter (λ (t : SymbolEntry). is_free kernel t.addr) ss))) [
         | true ↦ ap (λ (ms : List Mark). record { addr = s.addr; owner = number_in names name } ∷ ms) (of_module name ss)
         | false ↦ of_module name ss
       ]
@@ -42,7 +42,7 @@ module _ (kernel : Option (ℕ × ℕ)) (names : List (List ℕ)) where
   pub marks_of_kernel_run : (r : Run) → is_some r.module ≡ false → line_marks kernel names (lines_of_run r) ≡ []
   marks_of_kernel_run r none = by r.module none
     where
-      by : (m : Option (Bor (List ℕ))) → is_some m ≡ false → line_marks kernel names (map (unlettered (option_copied m)) r.symbols.items) ≡ []
+      by : (m : Option (Bor (List ℕ))) → is_some m ≡ false → line_marks kernel names (map (line_of (option_copied m)) r.symbols.items) ≡ []
       by None e = of_kernel r.symbols.items
       by (Some b) e = absurd (cc)
 
@@ -50,7 +50,7 @@ module _ (kernel : Option (ℕ × ℕ)) (names : List (List ℕ)) where
   pub marks_of_module_run : (r : Run) → is_some r.module ≡ true → line_marks kernel names (lines_of_run r) ≡ symbol_marks kernel (number_for names (option_copied r.module)) r.symbols.items
   marks_of_module_run r some = by r.module some
     where
-      by : (m : Option (Bor (List ℕ))) → is_some m ≡ true → line_marks kernel names (map (unlettered (option_copied m)) r.symbols.items) ≡ symbol_marks kernel (number_for names (option_copied m)) r.symbols.items
+      by : (m : Option (Bor (List ℕ))) → is_some m ≡ true → line_marks kernel names (map (line_of (option_copied m)) r.symbols.items) ≡ symbol_marks kernel (number_for names (option_copied m)) r.symbols.items
       by None e = absurd (cc)
       by (Some b) e = of_module b.now r.symbols.items
 

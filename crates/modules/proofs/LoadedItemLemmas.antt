@@ -6,9 +6,9 @@ use Rattle.order_laws.specs.declared.items.Item.{Item}
 use Rattle.order_laws.specs.Orders.{half_open}
 use Rattle.order_laws.specs.Tables.{without_all}
 use Rattle.order_laws.proofs.PlaceLemmas.{without_none}
-use Rattle.latch_core.proofs.HistoryLemmas.{all_are_valid, insert_accepted, no_test_holds, none_meet}
-use Rattle.latch_core.specs.declared.updates.Update.{Update}
-use Rattle.latch_core.specs.Updates.{erased, inserted, refusal_for, some_invalid, some_meet, some_overlap}
+use Rattle.table_updates.proofs.HistoryLemmas.{all_are_valid, insert_accepted, no_test_holds, none_meet}
+use Rattle.table_updates.specs.declared.updates.Update.{Update}
+use Rattle.table_updates.specs.Updates.{erased, inserted, refusal_for, some_invalid, some_meet, some_overlap}
 use Rattle.modules.specs.Loads.{update_of, GivesOrLacksMemory, item_of, load_of, load_update}
 use Rattle.std.specs.List.{list_any}
 use Rattle.std.specs.Option.{option_map_or, option_to_list}

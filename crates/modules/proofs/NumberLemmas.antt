@@ -17,7 +17,7 @@ use Rattle.modules.specs.FromSymbols.{with_name}
 use Rattle.modules.specs.LineMarks.{AreNamed, number_for, with_owner}
 use Rattle.modules.specs.Listed.{ListedSymbol}
 use Rattle.modules.specs.Numbered.{names_at}
-use Rattle.modules.specs.Runs.{lines_of_all, lines_of_run, unlettered}
+use Rattle.modules.specs.Runs.{lines_of_all, lines_of_run, line_of}
 use Rattle.modules.specs.declared.symbol_lines.Run.{Run}
 use Rattle.modules.proofs.PostLemmas.{all_mapped}
 use Rattle.modules.proofs.RunLemmas.{lines_of_all-last}
@@ -104,4 +104,4 @@ module _ (names : List (List ℕ)) where
       subst (λ (ls : List ListedSymbol). All IsNamed ls) (sym (lines_of_all-last runs run))
       (All-append IsNamed (lines_of_all runs) (lines_of_run run)
       (λ k d lt. stays_owner owner (get_or (lines_of_all runs) k d).owner (named k d lt))
-      (all_mapped (unlettered owner) IsNamed run.symbols.items (λ k d lt. is_owner owner)))
+      (all_mapped (line_of owner) IsNamed run.symbols.items (λ k d lt. is_owner owner)))

@@ -13,7 +13,7 @@ use Rattle.order_laws.specs.declared.items.Item.{Item}
 use Rattle.order_laws.specs.Orders.{half_open, half_open_lawful}
 use Rattle.order_laws.specs.Tables.{meets}
 use Rattle.order_laws.proofs.MeetLemmas.{none_meets}
-use Rattle.latch_core.specs.Updates.{some_overlap}
+use Rattle.table_updates.specs.Updates.{some_overlap}
 use Rattle.modules.specs.Catalogs.{IsSoundCatalog, regions_of}
 use Rattle.modules.specs.Entries.{CatalogEntries}
 use Rattle.modules.specs.Items.{items_at, items_below, items_of}

@@ -1,60 +1,37 @@
--- Lines that have the name of their module by their run, and their letter beside it.
-use Rattle.std.proofs.Common.{◌≡◌, ℕ, zero, suc, ◌<◌, ◌+◌, Bool, true, false, not, ◌&&◌, ◌||◌, ◌==◌, cond, List, [], ◌∷◌, ◌++◌, length, map, take, drop, get_or, Some, None, Option, refl, sym, ap, ◌∙◌, arith, append_assoc}
-use Rattle.std.specs.Prelude.{filter, find, count_by, is_none, is_some}
+-- Lines that have the name of their module by their run.
+use Rattle.std.proofs.Common.{◌≡◌, ℕ, zero, suc, ◌<◌, Bool, true, false, not, ◌&&◌, ◌||◌, ◌==◌, cond, List, [], ◌∷◌, ◌++◌, length, map, take, drop, get_or, Some, None, Option, refl, sym, ap, ◌∙◌, arith, append_assoc}
+use Rattle.std.specs.Prelude.{find, is_none, is_some}
 use Rattle.std.specs.Borrow.{Bor}
-use Rattle.std.specs.List.{list_any, zip}
+use Rattle.std.specs.List.{list_any}
 use Rattle.std.specs.Option.{option_copied, option_map}
 use Rattle.std.specs.Str.{bytes_eq}
 use Rattle.std.proofs.lemmas.List.{map-append, append-nil}
 use Rattle.std.proofs.lemmas.Bool.{ne_eqb}
 use Rattle.std.proofs.lemmas.List.Folds.{list_any-append}
-use Rattle.std.proofs.lemmas.List.Sums.{sum_by-cons}
 use Rattle.std.proofs.lemmas.Grind.{flat_map-append}
 use Rattle.modules.specs.Entries.{SymbolEntry}
-use Rattle.modules.specs.Kept.{symbols_that, entry_of}
 use Rattle.modules.specs.Lines.{first_address}
 use Rattle.modules.specs.Listed.{ListedSymbol}
-use Rattle.modules.specs.Runs.{unlettered, lines_of_run, lines_of_all, with_letter}
+use Rattle.modules.specs.Runs.{line_of, lines_of_run, lines_of_all}
 use Rattle.modules.specs.declared.symbol_lines.Run.{Run}
-
--- one line more, with its letter
-pub zip-more : (xs : List ListedSymbol) (ls : List ℕ) (x : ListedSymbol) (l : ℕ) → length xs ≡ length ls → zip (xs ++ x ∷ []) (ls ++ l ∷ []) ≡ zip xs ls ++ (x, l) ∷ []
-zip-more [] [] x l same = refl
-zip-more [] (k ∷ ls) x l same = absurd (omega arith)
-zip-more (y ∷ xs) [] x l same = absurd (omega arith)
-zip-more (y ∷ xs) (k ∷ ls) x l same = ap (λ ps. (y, k) ∷ ps) (zip-more xs ls x l (omega arith))
-
-pub lettered-more : (xs : List ListedSymbol) (ls : List ℕ) (x : ListedSymbol) (l : ℕ) → length xs ≡ length ls → map with_letter (zip (xs ++ x ∷ []) (ls ++ l ∷ [])) ≡ map with_letter (zip xs ls) ++ with_letter (x, l) ∷ []
-lettered-more xs ls x l same = ap (map with_letter) (zip-more xs ls x l same) ∙ map-append with_letter (zip xs ls) ((x, l) ∷ [])
-
-pub lettered-pushed : (xs : List ListedSymbol) (ls : List ℕ) (ys : List ListedSymbol) (ks : List ℕ) (x : ListedSymbol) (l : ℕ) → length xs ≡ length ls → ys ≡ xs ++ x ∷ [] → ks ≡ ls ++ l ∷ [] → map with_letter (zip ys ks) ≡ map with_letter (zip xs ls) ++ with_letter (x, l) ∷ []
-lettered-pushed xs ls ys ks x l same lines letters =
-    ap (λ (zs : List ListedSymbol). map with_letter (zip zs ks)) lines ∙ ap (λ (js : List ℕ). map with_letter (zip (xs ++ x ∷ []) js)) letters ∙ lettered-more xs ls x l same
-
--- a line for each letter
-pub length-lettered : (xs : List ListedSymbol) (ls : List ℕ) → length xs ≡ length ls → length (map with_letter (zip xs ls)) ≡ length ls
-length-lettered [] [] same = refl
-length-lettered [] (k ∷ ls) same = absurd (omega arith)
-length-lettered (y ∷ xs) [] same = absurd (omega arith)
-length-lettered (y ∷ xs) (k ∷ ls) same = ap suc (length-lettered xs ls (omega arith))
 
 -- the lines of all runs, and those of the last
 pub lines_of_all-last : (runs : List Run) (r : Run) → lines_of_all (runs ++ r ∷ []) ≡ lines_of_all runs ++ lines_of_run r
 lines_of_all-last runs r = flat_map-append lines_of_run runs (r ∷ []) ∙ ap (λ xs. lines_of_all runs ++ xs) (append-nil (lines_of_run r))
 
 -- a line of a module is none of the kernel itself
-named_none : (owner name : List ℕ) (ss : List SymbolEntry) → find (λ (l : ListedSymbol). is_none l.owner && bytes_eq l.name name) (map (unlettered (Some owner)) ss) ≡ None
+named_none : (owner name : List ℕ) (ss : List SymbolEntry) → find (λ (l : ListedSymbol). is_none l.owner && bytes_eq l.name name) (map (line_of (Some owner)) ss) ≡ None
 named_none owner name [] = refl
 named_none owner name (s ∷ ss) = named_none owner name ss
 
-pub first_of_module : (owner name : List ℕ) (ss : List SymbolEntry) → first_address name (map (unlettered (Some owner)) ss) ≡ None
+pub first_of_module : (owner name : List ℕ) (ss : List SymbolEntry) → first_address name (map (line_of (Some owner)) ss) ≡ None
 first_of_module owner name ss = ap (option_map (λ (l : ListedSymbol). l.addr)) (named_none owner name ss)
 
 -- the first line of this name, of lines of the kernel itself
-pub first_of_kernel : (name : List ℕ) (ss : List SymbolEntry) → first_address name (map (unlettered None) ss) ≡ option_map (λ (s : SymbolEntry). s.addr) (find (λ (s : SymbolEntry). bytes_eq s.name name) ss)
+pub first_of_kernel : (name : List ℕ) (ss : List SymbolEntry) → first_address name (map (line_of None) ss) ≡ option_map (λ (s : SymbolEntry). s.addr) (find (λ (s : SymbolEntry). bytes_eq s.name name) ss)
 first_of_kernel name [] = refl
 first_of_kernel name (s ∷ ss) =
-    elim (bytes_eq s.name name) as (λ b. option_map (λ (l : ListedSymbol). l.addr) (cond b (Some (unlettered None s)) (find (λ (l : ListedSymbol). is_none l.owner && bytes_eq l.name name) (map (unlettered None) ss))) ≡ option_map (λ (x : SymbolEntry). x.addr) (cond b (Some s) (find (λ (x : SymbolEntry). bytes_eq x.name name) ss)))
+    elim (bytes_eq s.name name) as (λ b. option_map (λ (l : ListedSymbol). l.addr) (cond b (Some (line_of None s)) (find (λ (l : ListedSymbol). is_none l.owner && bytes_eq l.name name) (map (line_of None) ss))) ≡ option_map (λ (x : SymbolEntry). x.addr) (cond b (Some s) (find (λ (x : SymbolEntry). bytes_eq x.name name) ss)))
     [ true ↦ refl | false ↦ first_of_kernel name ss ]
 
 -- where the first lines have none of this name, the others decide
@@ -73,40 +50,12 @@ first_address-front name (x ∷ xs) ys addr some =
     [ true ↦ λ e. e | false ↦ λ e. first_address-front name xs ys addr e ]
     some
 
--- a letter changes no name and no address
-pub first_address-lettered : (name : List ℕ) (xs : List ListedSymbol) (ls : List ℕ) → length xs ≡ length ls → first_address name (map with_letter (zip xs ls)) ≡ first_address name xs
-first_address-lettered name [] [] same = refl
-first_address-lettered name [] (k ∷ ls) same = absurd (omega arith)
-first_address-lettered name (x ∷ xs) [] same = absurd (omega arith)
-first_address-lettered name (x ∷ xs) (k ∷ ls) same =
-    elim (is_none x.owner && bytes_eq x.name name) as (λ b. option_map (λ (l : ListedSymbol). l.addr) (cond b (Some (with_letter (x, k))) (find (λ (l : ListedSymbol). is_none l.owner && bytes_eq l.name name) (map with_letter (zip xs ls)))) ≡ option_map (λ (l : ListedSymbol). l.addr) (cond b (Some x) (find (λ (l : ListedSymbol). is_none l.owner && bytes_eq l.name name) xs)))
-    [ true ↦ refl | false ↦ first_address-lettered name xs ls (omega arith) ]
-
--- so with a test that sees no letter the same symbols pass
-pub that-lettered : (p : ListedSymbol → Bool) → ((x : ListedSymbol) (k : ℕ) → p (with_letter (x, k)) ≡ p x) → (xs : List ListedSymbol) (ls : List ℕ) → length xs ≡ length ls → symbols_that p (map with_letter (zip xs ls)) ≡ symbols_that p xs
-that-lettered p blind [] [] same = refl
-that-lettered p blind [] (k ∷ ls) same = absurd (omega arith)
-that-lettered p blind (x ∷ xs) [] same = absurd (omega arith)
-that-lettered p blind (x ∷ xs) (k ∷ ls) same =
-    let rest : symbols_that p (map with_letter (zip xs ls)) ≡ symbols_that p xs = that-lettered p blind xs ls (omega arith) in
-    ap (λ b. map entry_of (cond b (with_letter (x, k) ∷ filter p (map with_letter (zip xs ls))) (filter p (map with_letter (zip xs ls))))) (blind x k)
-    ∙ elim (p x) as (λ b. map entry_of (cond b (with_letter (x, k) ∷ filter p (map with_letter (zip xs ls))) (filter p (map with_letter (zip xs ls)))) ≡ map entry_of (cond b (x ∷ filter p xs) (filter p xs)))
-    [ true ↦ ap (λ es. entry_of x ∷ es) rest | false ↦ rest ]
-
-pub count-lettered : (p : ListedSymbol → Bool) → ((x : ListedSymbol) (k : ℕ) → p (with_letter (x, k)) ≡ p x) → (xs : List ListedSymbol) (ls : List ℕ) → length xs ≡ length ls → count_by p (map with_letter (zip xs ls)) ≡ count_by p xs
-count-lettered p blind [] [] same = refl
-count-lettered p blind [] (k ∷ ls) same = absurd (omega arith)
-count-lettered p blind (x ∷ xs) [] same = absurd (omega arith)
-count-lettered p blind (x ∷ xs) (k ∷ ls) same =
-    let h = λ (l : ListedSymbol). cond (p l) 1 0 in
-    sum_by-cons h (with_letter (x, k)) (map with_letter (zip xs ls)) ∙ ap (λ b. cond b 1 0 + count_by p (map with_letter (zip xs ls))) (blind x k) ∙ ap (λ n. cond (p x) 1 0 + n) (count-lettered p blind xs ls (omega arith)) ∙ sym (sum_by-cons h x xs)
-
 -- of a run
-pub first_of_some : (m : Option (Bor (List ℕ))) (name : List ℕ) (ss : List SymbolEntry) → is_some m ≡ true → None ≡ first_address name (map (unlettered (option_copied m)) ss)
+pub first_of_some : (m : Option (Bor (List ℕ))) (name : List ℕ) (ss : List SymbolEntry) → is_some m ≡ true → None ≡ first_address name (map (line_of (option_copied m)) ss)
 first_of_some None name ss some = cc
 first_of_some (Some owner) name ss some = sym (first_of_module owner.now name ss)
 
-pub first_of_none : (m : Option (Bor (List ℕ))) (name : List ℕ) (ss : List SymbolEntry) → is_some m ≡ false → option_map (λ (s : SymbolEntry). s.addr) (find (λ (s : SymbolEntry). bytes_eq s.name name) ss) ≡ first_address name (map (unlettered (option_copied m)) ss)
+pub first_of_none : (m : Option (Bor (List ℕ))) (name : List ℕ) (ss : List SymbolEntry) → is_some m ≡ false → option_map (λ (s : SymbolEntry). s.addr) (find (λ (s : SymbolEntry). bytes_eq s.name name) ss) ≡ first_address name (map (line_of (option_copied m)) ss)
 first_of_none None name ss none = sym (first_of_kernel name ss)
 first_of_none (Some owner) name ss none = cc
 
@@ -117,9 +66,9 @@ lines_of_all-at (r ∷ runs) zero d lt = refl
 lines_of_all-at (r ∷ runs) (suc i) d lt = ap (λ xs. lines_of_run r ++ xs) (lines_of_all-at runs i d (omega arith)) ∙ sym (append_assoc (lines_of_run r) (lines_of_all (take i runs)) (lines_of_run (get_or runs i d) ++ lines_of_all (drop (suc i) runs)))
 
 -- one symbol more in the last run
-pub lines_of-more : (m n : Option (Bor (List ℕ))) (ss ts : List SymbolEntry) (s : SymbolEntry) → option_copied m ≡ option_copied n → ts ≡ ss ++ s ∷ [] → map (unlettered (option_copied m)) ts ≡ map (unlettered (option_copied m)) ss ++ unlettered (option_copied n) s ∷ []
+pub lines_of-more : (m n : Option (Bor (List ℕ))) (ss ts : List SymbolEntry) (s : SymbolEntry) → option_copied m ≡ option_copied n → ts ≡ ss ++ s ∷ [] → map (line_of (option_copied m)) ts ≡ map (line_of (option_copied m)) ss ++ line_of (option_copied n) s ∷ []
 lines_of-more m n ss ts s same more =
-    ap (map (unlettered (option_copied m))) more ∙ map-append (unlettered (option_copied m)) ss (s ∷ []) ∙ ap (λ (o : Option (List ℕ)). map (unlettered (option_copied m)) ss ++ unlettered o s ∷ []) same
+    ap (map (line_of (option_copied m))) more ∙ map-append (line_of (option_copied m)) ss (s ∷ []) ∙ ap (λ (o : Option (List ℕ)). map (line_of (option_copied m)) ss ++ line_of o s ∷ []) same
 
 -- the first line of a name, in all runs but the last or in the last
 pub first_in_last : (runs : List Run) (last : Run) (name : List ℕ) → first_address name (lines_of_all runs) ≡ None → first_address name (lines_of_all (runs ++ last ∷ [])) ≡ first_address name (lines_of_run last)
@@ -134,13 +83,13 @@ first_in_front runs last name (Some addr) some is = sym (ap (first_address name)
 abbrev pub is_in_kernel : ListedSymbol → Bool
 is_in_kernel l = is_none l.owner
 
-kernel_in_lines : (owner : Option (List ℕ)) (ss : List SymbolEntry) → list_any is_in_kernel (map (unlettered owner) ss) ≡ (is_none owner && not (length ss == 0))
+kernel_in_lines : (owner : Option (List ℕ)) (ss : List SymbolEntry) → list_any is_in_kernel (map (line_of owner) ss) ≡ (is_none owner && not (length ss == 0))
 kernel_in_lines None [] = refl
 kernel_in_lines (Some name) [] = refl
 kernel_in_lines None (s ∷ ss) = sym (ap not (ne_eqb (length (s ∷ ss)) 0 (λ none. absurd (omega (arith, none)))))
 kernel_in_lines (Some name) (s ∷ ss) = kernel_in_lines (Some name) ss
 
-pub kernel_in_run : (owner : Option (Bor (List ℕ))) (ss : List SymbolEntry) (b : Bool) → is_some owner ≡ not b → list_any is_in_kernel (map (unlettered (option_copied owner)) ss) ≡ (b && not (length ss == 0))
+pub kernel_in_run : (owner : Option (Bor (List ℕ))) (ss : List SymbolEntry) (b : Bool) → is_some owner ≡ not b → list_any is_in_kernel (map (line_of (option_copied owner)) ss) ≡ (b && not (length ss == 0))
 kernel_in_run None ss true is = kernel_in_lines None ss
 kernel_in_run None ss false is = let differs : false ≡ true = is in absurd (cc)
 kernel_in_run (Some name) ss true is = let differs : true ≡ false = is in absurd (cc)
@@ -152,19 +101,9 @@ kernel_in_runs (r ∷ runs) =
     ap (λ b. list_any is_in_kernel (lines_of_run r) || b) (kernel_in_runs runs)
     ∙ sym (list_any-append is_in_kernel (lines_of_run r) (lines_of_all runs))
 
--- a letter changes no owner
-kernel-lettered : (xs : List ListedSymbol) (ls : List ℕ) → length xs ≡ length ls → list_any is_in_kernel (map with_letter (zip xs ls)) ≡ list_any is_in_kernel xs
-kernel-lettered [] [] same = refl
-kernel-lettered [] (k ∷ ls) same = absurd (omega arith)
-kernel-lettered (x ∷ xs) [] same = absurd (omega arith)
-kernel-lettered (x ∷ xs) (k ∷ ls) same = ap (λ b. is_none x.owner || b) (kernel-lettered xs ls (omega arith))
-
-pub kernel_in_all : (runs : List Run) (last : Run) (letters : List ℕ) (lines : List ListedSymbol) → length (lines_of_all (runs ++ last ∷ [])) ≡ length letters
-    → map with_letter (zip (lines_of_all (runs ++ last ∷ [])) letters) ≡ lines
-    → (list_any (λ r. list_any is_in_kernel (lines_of_run r)) runs || list_any is_in_kernel (lines_of_run last)) ≡ list_any is_in_kernel lines
-kernel_in_all runs last letters lines same is =
+pub kernel_in_all : (runs : List Run) (last : Run)
+    → (list_any (λ r. list_any is_in_kernel (lines_of_run r)) runs || list_any is_in_kernel (lines_of_run last)) ≡ list_any is_in_kernel (lines_of_all (runs ++ last ∷ []))
+kernel_in_all runs last =
     ap (λ b. b || list_any is_in_kernel (lines_of_run last)) (kernel_in_runs runs)
     ∙ sym (list_any-append is_in_kernel (lines_of_all runs) (lines_of_run last))
     ∙ sym (ap (list_any is_in_kernel) (lines_of_all-last runs last))
-    ∙ sym (kernel-lettered (lines_of_all (runs ++ last ∷ [])) letters same)
-    ∙ ap (list_any is_in_kernel) is

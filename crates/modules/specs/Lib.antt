@@ -27,10 +27,6 @@ pub mod Around
 pub mod Preferred
 -- the symbol that an address belongs to
 pub mod Found
--- which lines of symbols tell as much as all of them, at addresses that are asked
-pub mod Sifted
--- what a sieve of lines shows
-pub mod Sieves
 -- whose an address is, by a listing of symbols alone
 pub mod Owners
 -- the modules of such a listing, and their regions
@@ -52,13 +48,6 @@ pub mod LineMarks
 pub mod Numbered
 -- lines of symbols that have the name of their module by the number of a run
 pub mod Runs
--- lines of symbols whose bytes lie in one text
-pub mod KeptLines
--- the addresses of lines, in runs of one module
-pub mod AddressLists
-pub mod AddressRuns
--- whether a line lies in the module that it names
-pub mod ModuleAddresses
 -- regions in the order of their first addresses
 pub mod Spread
 -- the region lines by name
@@ -79,10 +68,6 @@ pub mod Sound
 pub mod RegionIndexes
 -- what the catalog with this list keeps
 pub mod IndexedCatalogs
--- the stretches between asked addresses, and which lines of each of them are marked
-pub mod Stretches
--- what a sieve keeps
-pub mod WholeSieves
 -- for which addresses the same is found
 pub mod Again
 -- what a finder keeps

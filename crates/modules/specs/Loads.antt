@@ -5,8 +5,8 @@ use Rattle.std.specs.Prelude.{Err}
 use Rattle.std.specs.List.{list_any}
 use Rattle.std.specs.Option.{option_map_or}
 use Rattle.std.specs.Str.{bytes_eq}
-use Rattle.latch_core.specs.declared.updates.Update.{Update}
-use Rattle.latch_core.specs.declared.updates.Update.TheVariants.{Insert, Erase, Batch}
+use Rattle.table_updates.specs.declared.updates.Update.{Update}
+use Rattle.table_updates.specs.declared.updates.Update.TheVariants.{Insert, Erase, Batch}
 use Rattle.order_laws.specs.declared.items.Item.{Item}
 use Rattle.order_laws.specs.declared.refusals.Refusal.{Refusal}
 use Rattle.order_laws.specs.declared.refusals.Refusal.TheVariants.{AlreadyLoaded, NoInit, NotLoaded}

@@ -1,6 +1,6 @@
 //! How a catalog is built, step by step.
 
-ghost use Rattle.std.specs.Prelude.{◌≡◌, ◌+◌, ◌-◌, ◌^◌, ◌<◌, ◌≤◌, true, All, List, length, map};
+ghost use Rattle.std.specs.Prelude.{◌≡◌, ◌+◌, ◌-◌, ◌^◌, ◌<◌, ◌≤◌, true, All, length};
 ghost use Rattle.std.specs.Prelude.{IfOk, IfSome, count_by};
 ghost use Rattle.std.specs.List.{flat_map};
 ghost use Rattle.std.specs.Option.{option_copied};
@@ -11,18 +11,15 @@ ghost use Rattle.modules.specs.Catalogs.{catalog_of, catalog_with, counts_of, ke
 ghost use Rattle.modules.specs.FromSymbols.{IsFromSymbols};
 ghost use Rattle.modules.specs.Kept.{is_used};
 ghost use Rattle.modules.specs.Lines.{bounds_for, built_in_region, fits, region_fits};
-ghost use Rattle.modules.specs.Listed.{ListedSymbol};
 ghost use Rattle.modules.specs.Placed.{are_few, IsPlaced};
 ghost use Rattle.modules.specs.PlacedModules.{AreSoundModules};
-ghost use Rattle.modules.specs.Sifted.{bare_line};
 
 use crate::admission::{Admission, admit};
 use crate::asked::Asked;
 use crate::catalog::{BuildCounts, Catalog, KeptCounts};
 use crate::from_symbols::modules_of;
-use crate::gathering::{gather, kept_addresses};
+use crate::gathering::gather;
 use crate::lines::{KernelBounds, ModuleLine, RegionLine};
-use crate::listed_addresses::ListedAddresses;
 use crate::module::Module;
 use crate::names::by_name;
 use crate::placed_modules::PlacedModules;
@@ -203,37 +200,6 @@ pub(crate) fn assemble<'a>(
     Ok((catalog, counts))
 }
 
-/// The same with some of the symbols alone, where the addresses are those of all lines.
-pub(crate) fn assemble_sifted<'a>(
-    alloc: Global,
-    names: &KernelBounds,
-    modules: &[ModuleLine<'a>],
-    regions: &RegionLines<'_, 'a>,
-    kept: SymbolLines<'a>,
-    addresses: &ListedAddresses,
-    asked: Asked<'_>,
-) -> Result<(Catalog<'a>, BuildCounts), AllocError>
-    requires fit { All (λ l. fits l ≡ true) modules.now }
-    requires regions_fit { All (λ l. region_fits l ≡ true) regions.now }
-    requires few { are_few regions.now ≡ true }
-    ensures built { IfOk result
-        (λ r. r.0 ≡ catalog_of names.now modules.now regions.now kept.entry) }
-    ensures counted { IfOk result (λ r. (all : List ListedSymbol)
-        → map bare_line all ≡ addresses.now
-        → built_in_region names.now kept.entry ≡ built_in_region names.now all
-        → r.1 ≡ counts_of names.now modules.now regions.now all) }
-{
-    let (admission, lines) = accept_lines(alloc, names, modules, regions, &kept)?;
-    let symbols = kept_addresses(&admission.accepted, addresses);
-    let (catalog, _) = catalog_with(alloc, admission.accepted, kept, asked)?;
-    let counts = BuildCounts {
-        symbols,
-        stray: addresses.len() as u64 - symbols,
-        ..lines
-    };
-    Ok((catalog, counts))
-}
-
 /// The region of the kernel itself, between these names or those that the listing has.
 fn kernel_region(lines: &SymbolLines, names: Option<&KernelBounds>) -> Option<Region>
     ensures { result
@@ -250,6 +216,7 @@ pub(crate) fn assemble_symbols<'a>(
     alloc: Global,
     names: Option<&KernelBounds>,
     symbols: SymbolLines<'a>,
+    asked: Asked<'_>,
 ) -> Result<(Catalog<'a>, KeptCounts), AllocError>
     ensures { IfOk result (λ r. (a : Accepted)
         × IsFromSymbols (bounds_for (option_copied names.entry) symbols.entry) symbols.entry a
@@ -258,5 +225,5 @@ pub(crate) fn assemble_symbols<'a>(
     let kernel = kernel_region(&symbols, names);
     let modules = modules_of(alloc, &kernel, &symbols)?;
     let placed = PlacedModules::of(alloc, kernel, modules)?;
-    catalog_with(alloc, placed, symbols, Asked::Any)
+    catalog_with(alloc, placed, symbols, asked)
 }

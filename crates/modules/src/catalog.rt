@@ -1,12 +1,10 @@
 //! The modules that may be loaded, and what a load or an unload changes.
 
-ghost use Rattle.std.specs.Prelude.{◌≡◌, ◌↔◌, IsTrue, [], true, All, List, length, map, IfOk};
+ghost use Rattle.std.specs.Prelude.{◌≡◌, ◌↔◌, IsTrue, true, All, length, IfOk};
 ghost use Rattle.std.specs.Prelude.{IfErr};
 ghost use Rattle.std.specs.Option.{option_copied};
 ghost use Rattle.modules.specs.Accepted.{Accepted};
-ghost use Rattle.modules.specs.Lines.{bounds_for, built_in_region, fits, region_fits};
-ghost use Rattle.modules.specs.Lines.{usual_bounds};
-ghost use Rattle.modules.specs.Listed.{ListedSymbol};
+ghost use Rattle.modules.specs.Lines.{bounds_for, fits, region_fits};
 ghost use Rattle.modules.specs.Catalogs.{catalog_of, catalog_with, counts_of, IsBuildRefusal};
 ghost use Rattle.modules.specs.Catalogs.{kept_counts, module_of};
 ghost use Rattle.modules.specs.Catalogs.{module_number_of, number_for, regions_of, IsNoneAbsent};
@@ -15,21 +13,19 @@ ghost use Rattle.modules.specs.FromSymbols.{IsFromSymbols};
 ghost use Rattle.modules.specs.Loads.{drop_init_of, GivesOrLacksMemory, GivesSome, load_of};
 ghost use Rattle.modules.specs.Loads.{unload_of};
 ghost use Rattle.modules.specs.Placed.{are_few};
-ghost use Rattle.modules.specs.Sifted.{bare_line};
 
 use crate::asked::Asked;
-use crate::build::{assemble, assemble_sifted, assemble_symbols};
+use crate::build::{assemble, assemble_symbols};
 use crate::lines::{KernelBounds, ModuleLine, RegionLine};
-use crate::listed_addresses::ListedAddresses;
 use crate::loads::{inserting, is_inserting};
 use crate::module::Module;
 use crate::names::place_of;
 use crate::placing::RegionLines;
 use crate::symbol_lines::SymbolLines;
-use latch_core::Update;
 use order_laws::Refusal;
 use std::alloc::{AllocError, Global};
 use std::marker::Model;
+use table_updates::Update;
 
 /// The number that stands for a module which a catalog lacks. No module has it where there are
 /// fewer regions, as in every catalog that a table can hold.
@@ -103,52 +99,6 @@ impl<'a> Model for Catalog<'a> {
 }
 
 impl<'a> Catalog<'a> {
-    /// Builds the catalog of two listings: that of [`Catalog::build_with`] without region lines.
-    ///
-    /// Refused by [`Refusal::OutOfMemory`] alone.
-    pub fn build(
-        alloc: Global,
-        modules: &[ModuleLine<'a>],
-        symbols: SymbolLines<'a>,
-    ) -> Result<(Catalog<'a>, BuildCounts), Refusal>
-        requires { All (λ l. fits l ≡ true) modules.now }
-        ensures built { IfOk result
-            (λ r. r.0 ≡ catalog_of usual_bounds modules.now [] symbols.entry) }
-        ensures counted { IfOk result
-            (λ r. r.1 ≡ counts_of usual_bounds modules.now [] symbols.entry) }
-        ensures refused { IfErr result (λ e. e ≡ Refusal.OutOfMemory) }
-    {
-        let regions = RegionLines::new(alloc, &[])?;
-        Ok(assemble(
-            alloc,
-            &KernelBounds::usual(),
-            modules,
-            &regions,
-            symbols,
-            Asked::Any,
-        )?)
-    }
-
-    /// Builds the catalog of three listings, in which the kernel itself lies from `_stext` up to
-    /// `_end`: that of [`Catalog::build_between`] with these names.
-    pub fn build_with(
-        alloc: Global,
-        modules: &[ModuleLine<'a>],
-        regions: &[RegionLine<'a>],
-        symbols: SymbolLines<'a>,
-    ) -> Result<(Catalog<'a>, BuildCounts), Refusal>
-        requires fit { All (λ l. fits l ≡ true) modules.now }
-        requires regions_fit { All (λ l. region_fits l ≡ true) regions.now }
-        ensures built { IfOk result
-            (λ r. r.0 ≡ catalog_of usual_bounds modules.now regions.now symbols.entry) }
-        ensures counted { IfOk result
-            (λ r. r.1 ≡ counts_of usual_bounds modules.now regions.now symbols.entry) }
-        ensures few { IfOk result (λ _. are_few regions.now ≡ true) }
-        ensures refused { IfErr result (IsBuildRefusal regions.now) }
-    {
-        Catalog::build_between(alloc, &KernelBounds::usual(), modules, regions, symbols)
-    }
-
     /// Builds the catalog of three listings, of which each module line and each region line has a
     /// region ([`ModuleLine::fits`], [`RegionLine::fits`]).
     ///
@@ -162,30 +112,11 @@ impl<'a> Catalog<'a> {
     /// stray otherwise. A region line is stray where its module is not accepted, or has no line of
     /// a core region.
     ///
+    /// What is asked of it changes nothing but how long building and searching take.
+    ///
     /// Refused by [`Refusal::TooManyRegions`] where more than 7 region lines have one name, and by
     /// [`Refusal::OutOfMemory`].
-    pub fn build_between(
-        alloc: Global,
-        names: &KernelBounds,
-        modules: &[ModuleLine<'a>],
-        regions: &[RegionLine<'a>],
-        symbols: SymbolLines<'a>,
-    ) -> Result<(Catalog<'a>, BuildCounts), Refusal>
-        requires fit { All (λ l. fits l ≡ true) modules.now }
-        requires regions_fit { All (λ l. region_fits l ≡ true) regions.now }
-        ensures built { IfOk result
-            (λ r. r.0 ≡ catalog_of names.now modules.now regions.now symbols.entry) }
-        ensures counted { IfOk result
-            (λ r. r.1 ≡ counts_of names.now modules.now regions.now symbols.entry) }
-        ensures few { IfOk result (λ _. are_few regions.now ≡ true) }
-        ensures refused { IfErr result (IsBuildRefusal regions.now) }
-    {
-        Catalog::build_for(alloc, names, modules, regions, symbols, Asked::Any)
-    }
-
-    /// The same catalog, for a caller that says which addresses it asks about: a module in which
-    /// few of them lie is built in less time, and each search of it takes more.
-    pub fn build_for(
+    pub fn build(
         alloc: Global,
         names: &KernelBounds,
         modules: &[ModuleLine<'a>],
@@ -209,38 +140,6 @@ impl<'a> Catalog<'a> {
         Ok(assemble(alloc, names, modules, &regions, symbols, asked)?)
     }
 
-    /// Builds the catalog of some of the lines of symbols, for a caller that has forgotten the
-    /// others but for their addresses.
-    ///
-    /// It has the symbols of the lines in `kept` alone. The counts are those of all lines, where
-    /// `addresses` has the addresses of these, and where the kernel's region is the same by both.
-    pub fn build_sifted(
-        alloc: Global,
-        names: &KernelBounds,
-        modules: &[ModuleLine<'a>],
-        regions: &[RegionLine<'a>],
-        kept: SymbolLines<'a>,
-        addresses: &ListedAddresses,
-        asked: Asked<'_>,
-    ) -> Result<(Catalog<'a>, BuildCounts), Refusal>
-        requires fit { All (λ l. fits l ≡ true) modules.now }
-        requires regions_fit { All (λ l. region_fits l ≡ true) regions.now }
-        ensures built { IfOk result
-            (λ r. r.0 ≡ catalog_of names.now modules.now regions.now kept.entry) }
-        ensures counted { IfOk result (λ r. (all : List ListedSymbol)
-            → map bare_line all ≡ addresses.now
-            → built_in_region names.now kept.entry ≡ built_in_region names.now all
-            → r.1 ≡ counts_of names.now modules.now regions.now all) }
-        ensures few { IfOk result (λ _. are_few regions.now ≡ true) }
-        ensures refused { IfErr result (IsBuildRefusal regions.now) }
-    {
-        let regions = RegionLines::new(alloc, regions)?;
-        if !regions.are_few() {
-            return Err(Refusal::TooManyRegions);
-        }
-        Ok(assemble_sifted(alloc, names, modules, &regions, kept, addresses, asked)?)
-    }
-
     /// Builds the catalog of a listing of symbols alone.
     ///
     /// The kernel's region is between the two symbols of `names`, or else between those that the
@@ -259,12 +158,13 @@ impl<'a> Catalog<'a> {
         alloc: Global,
         names: Option<&KernelBounds>,
         symbols: SymbolLines<'a>,
+        asked: Asked<'_>,
     ) -> Result<(Catalog<'a>, KeptCounts), AllocError>
         ensures built { IfOk result (λ r. (a : Accepted)
             × IsFromSymbols (bounds_for (option_copied names.entry) symbols.entry) symbols.entry a
             × (r.0 ≡ catalog_with a symbols.entry) × (r.1 ≡ kept_counts a symbols.entry)) }
     {
-        assemble_symbols(alloc, names, symbols)
+        assemble_symbols(alloc, names, symbols, asked)
     }
 
     /// The module of a number.

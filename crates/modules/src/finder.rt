@@ -8,12 +8,15 @@ ghost use Rattle.modules.specs.Items.{item_of_address};
 ghost use Rattle.modules.specs.Again.{IsRegionOf, IsSameWithin};
 
 use crate::found_symbols::{FoundSymbol, symbol_around};
-use crate::guesses::Guesses;
+use crate::guesses::{Guesses, TURNS};
 use crate::module::Module;
 use crate::region_index::IndexedCatalog;
 use crate::symbols::Symbol;
 use order_laws::Item;
 use std::marker::Model;
+
+/// How many addresses a finder is told at once, at most. It passes over more.
+pub const MOST_EXPECTED: usize = TURNS;
 
 /// The region that addresses were found in last, and its module.
 #[derive(Clone, Copy, Drop)]
@@ -112,8 +115,6 @@ impl<'c, 'a> Finder<'c, 'a> {
 
     /// Tells it all addresses that come next. It makes ready for [`MOST_EXPECTED`] of them, and is
     /// to be told again after so many.
-    ///
-    /// [`MOST_EXPECTED`]: crate::MOST_EXPECTED
     #[inline(never)]
     pub fn expect(&mut self, addrs: &[u64])
         ensures { self.new ≡ self.old }

@@ -88,18 +88,3 @@ pub fn symbol_of<'c, 'a>(
 {
     symbol_in(catalog.module(item.tag)?, item.a, item.b, addr)
 }
-
-/// The same, tried first where the next symbol is guessed to stand by rising address.
-pub(crate) fn symbol_near<'c, 'a>(
-    catalog: &'c Catalog<'a>,
-    item: Item,
-    near: usize,
-    addr: u64,
-) -> Option<FoundSymbol<'c, 'a>>
-    requires from { item.a ≤ addr }
-    requires below { addr < item.b }
-    ensures { result ≡ symbol_at catalog.now item addr }
-{
-    let owner = catalog.module(item.tag)?;
-    symbol_around(owner, near, item.a, item.b, addr)
-}

@@ -12,22 +12,16 @@
 //!
 //! The strays are taken out of the list of a run, and the first list of a module becomes the
 //! module's own; so no symbol is copied where the lines of each module stand side by side.
-//!
-//! Where only some of the lines have their names still, addresses tell how many of all are kept.
 
 ghost use Rattle.std.specs.Prelude.{◌≡◌, ◌+◌, ◌<◌, ◌^◌, ◌++◌, ◌∷◌, [], IfOk, OnOk, filter, length};
-ghost use Rattle.std.specs.Prelude.{count_by, vec_len};
+ghost use Rattle.std.specs.Prelude.{vec_len};
 ghost use Rattle.std.specs.Option.{option_copied};
 ghost use Rattle.modules.specs.Accepted.{names_of};
-ghost use Rattle.modules.specs.AddressLists.{addresses_in};
-ghost use Rattle.modules.specs.AddressRuns.{bare_lines_of, bare_lines_of_run};
-ghost use Rattle.modules.specs.Kept.{AreDistinctNames, is_kept};
+ghost use Rattle.modules.specs.Kept.{AreDistinctNames};
 ghost use Rattle.modules.specs.Gathering.{owner_for, lies_for, CountsStay, HasRoom, Keeps};
 ghost use Rattle.modules.specs.Gathering.{KeepsRun, IsEmptyFor, Gathers};
 ghost use Rattle.modules.specs.Runs.{lines_of_all};
 
-use crate::address_lists::{AddressList, with_high};
-use crate::listed_addresses::{AddressRun, ListedAddresses};
 use crate::placed_modules::PlacedModules;
 use crate::symbol_lines::{Run, SymbolLines};
 use crate::symbols::Symbol;
@@ -190,50 +184,4 @@ pub(crate) fn gather<'a>(
 {
     let SymbolLines { runs, last, .. } = symbols;
     gather_runs(alloc, placed, runs, last)
-}
-
-/// How many of these addresses are those of kept symbols of this owner.
-fn kept_among(placed: &PlacedModules, owner: Owner, addresses: &AddressList) -> usize
-    ensures { result ≡ count_by (lies_for placed.now owner) (addresses_in addresses.now) }
-{
-    match addresses {
-        AddressList::Halves { high, low } => low
-            .iter()
-            .filter(|low| lies_at(placed, owner, with_high(*high, **low)))
-            .count(),
-        AddressList::Whole(addresses) => addresses
-            .iter()
-            .filter(|addr| lies_at(placed, owner, **addr))
-            .count(),
-    }
-}
-
-/// How many lines of a run are kept.
-fn kept_in_run(placed: &PlacedModules, run: &AddressRun) -> usize
-    requires { AreDistinctNames (names_of placed.now.modules) }
-    ensures { result ≡ count_by (is_kept placed.now) (bare_lines_of_run run.now) }
-{
-    let owner = owner_of(placed, run.owner());
-    kept_among(placed, owner, &run.addresses)
-}
-
-/// How many lines of runs are kept.
-fn kept_in_runs(placed: &PlacedModules, runs: &[AddressRun]) -> u64
-    requires distinct { AreDistinctNames (names_of placed.now.modules) }
-    requires few { length (bare_lines_of runs.now) < 2 ^ 64 }
-    ensures { result ≡ count_by (is_kept placed.now) (bare_lines_of runs.now) }
-{
-    let mut kept = 0;
-    for run in runs {
-        kept += kept_in_run(placed, run) as u64;
-    }
-    kept
-}
-
-/// How many of the lines with these addresses are kept.
-pub(crate) fn kept_addresses(placed: &PlacedModules, addresses: &ListedAddresses) -> u64
-    requires { AreDistinctNames (names_of placed.now.modules) }
-    ensures { result ≡ count_by (is_kept placed.now) addresses.now }
-{
-    kept_in_runs(placed, addresses.runs.as_slice())
 }

@@ -14,10 +14,8 @@
 //!
 //! Whoever uses a guess compares it with what lies there: no contract rests on it.
 
-use crate::catalog::Catalog;
 use crate::module::Module;
 use crate::region_index::IndexedCatalog;
-use order_laws::Item;
 
 /// For how many addresses guesses are made at once.
 pub(crate) const TURNS: usize = 16;
@@ -99,26 +97,6 @@ fn step_all(guesses: &mut [Guess], catalog: &IndexedCatalog, addrs: &[u64]) {
         last.go_to(catalog, guess.region);
         guess.place = place_in(last.module, guess.place, *addr);
     }
-}
-
-/// The first step for addresses whose items are known.
-fn begin_known(places: &mut [usize], catalog: &Catalog, asked: &[(Item, u64)]) {
-    for (place, (item, addr)) in places.iter_mut().zip(asked) {
-        *place = start_in(catalog.module(item.tag), *addr);
-    }
-}
-
-/// The second step for these.
-fn step_known(places: &mut [usize], catalog: &Catalog, asked: &[(Item, u64)]) {
-    for (place, (item, addr)) in places.iter_mut().zip(asked) {
-        *place = place_in(catalog.module(item.tag), *place, *addr);
-    }
-}
-
-/// Guesses where the symbols of the first of these addresses stand in the modules of their items.
-pub(crate) fn guess_places(catalog: &Catalog, asked: &[(Item, u64)], places: &mut [usize; TURNS]) {
-    begin_known(places, catalog, asked);
-    step_known(places, catalog, asked);
 }
 
 /// The guess of an address, whose region is tried first where another guess has it.

@@ -138,8 +138,6 @@ impl<'a> RegionLine<'a> {
 pub struct SymbolLine<'a> {
     /// The symbol's address.
     pub addr: u64,
-    /// The letter of its type, as `nm` prints it.
-    pub letter: u8,
     /// The symbol's name, any bytes of the text that was read.
     pub name: &'a [u8],
     /// The name of its module; none for a symbol of the kernel itself.
@@ -155,7 +153,6 @@ impl<'a> Model for SymbolLine<'a> {
 
     ghost view = { λ l. record {
       addr = l.addr;
-      letter = l.letter;
       name = l.name.now;
       owner = option_copied l.module;
     } };

@@ -12,9 +12,9 @@ ghost use Rattle.modules.specs.Starts.{starts_of};
 
 use crate::lines::Part;
 use crate::regions::Region;
-use latch_core::{Entries, Update};
 use order_laws::{Item, Refusal};
 use std::alloc::{AllocError, Global};
+use table_updates::{Entries, Update};
 
 /// The item of a region.
 pub(crate) fn item_of(region: Region, number: u64) -> Item

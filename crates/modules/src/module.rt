@@ -18,10 +18,10 @@ use crate::loads::{erasing, is_erasing};
 use crate::placing::Placed;
 use crate::regions::Region;
 use crate::symbols::{Symbol, around_in_list, around_in_order, is_rising, ordered};
-use latch_core::Update;
 use order_laws::Refusal;
 use std::alloc::{AllocError, Global};
 use std::marker::Model;
+use table_updates::Update;
 
 /// The greatest number of region lines of one module, as the kernel's `enum mod_mem_type` has seven
 /// kinds of memory.

@@ -2,11 +2,10 @@
 //!
 //! A listing has the lines of one module side by side, so the name of the module is kept once for
 //! each such run of lines. The symbols of a run stand in a list of their own, which a catalog takes
-//! over as it is. The letters of all lines stand beside them:
+//! over as it is:
 //!
 //! ```text
 //! runs:     none: a b c   "ext4": d e   none: f
-//! letters:        T t D           t b         T
 //! ```
 
 ghost use Rattle.std.specs.Prelude.{◌≡◌, ◌++◌, ◌∷◌, [], length, find, is_none, is_some, IfOk, OnOk};
@@ -24,7 +23,7 @@ use std::alloc::{AllocError, Global};
 use std::marker::Model;
 use std::mem;
 
-/// Lines of one module that stand side by side, without their letters.
+/// Lines of one module that stand side by side.
 #[derive(Drop)]
 pub(crate) struct Run<'a> {
     /// The name of the module; none for the kernel itself.
@@ -40,21 +39,21 @@ pub struct SymbolLines<'a> {
     pub(crate) runs: Vec<Run<'a>>,
     /// The last run. It has no lines only where there are none at all.
     pub(crate) last: Run<'a>,
-    /// The letter of each line.
-    pub(crate) letters: Vec<u8>,
+    /// How many lines there are.
+    count: usize,
 }
 
 impl<'a> Model for SymbolLines<'a> {
-    ghost use Rattle.std.specs.Prelude.{List, [], ◌∷◌, ◌++◌};
+    ghost use Rattle.std.specs.Prelude.{◌≡◌, List, [], ◌∷◌, ◌++◌, length};
     ghost use Rattle.modules.specs.Listed.{ListedSymbol};
 
     ghost Value = { List ListedSymbol };
 
-    ghost use Rattle.modules.specs.Runs.{lines_of_runs, AreLettered};
+    ghost use Rattle.modules.specs.Runs.{lines_of_all};
 
-    ghost view = { λ l. lines_of_runs (l.runs.items ++ l.last ∷ []) l.letters.items };
+    ghost view = { λ l. lines_of_all (l.runs.items ++ l.last ∷ []) };
 
-    ghost invariant = { λ l. AreLettered (l.runs.items ++ l.last ∷ []) l.letters.items };
+    ghost invariant = { λ l. length (lines_of_all (l.runs.items ++ l.last ∷ [])) ≡ l.count };
 }
 
 impl<'a> Run<'a> {
@@ -135,7 +134,7 @@ impl<'a> SymbolLines<'a> {
         SymbolLines {
             runs: Vec::new(alloc),
             last,
-            letters: Vec::new(alloc),
+            count: 0,
         }
     }
 
@@ -143,7 +142,7 @@ impl<'a> SymbolLines<'a> {
     pub fn len(&self) -> usize
         ensures { result ≡ length self.now }
     {
-        self.letters.len()
+        self.count
     }
 
     /// Whether a line has no module.
@@ -166,13 +165,15 @@ impl<'a> SymbolLines<'a> {
         ensures pushed { OnOk result (self.new ≡ self.old ++ line.entry ∷ []) }
         ensures err { OnErr result (self.new ≡ self.old) }
     {
-        self.letters.reserve(1)?;
+        let Some(count) = self.count.checked_add(1) else {
+            return Err(AllocError);
+        };
         let symbol = Symbol {
             addr: line.addr,
             name: line.name,
         };
         put_line(&mut self.runs, &mut self.last, line.module, symbol)?;
-        self.letters.push(line.letter).unwrap();
+        self.count = count;
         Ok(())
     }
 

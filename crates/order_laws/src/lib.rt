@@ -10,8 +10,6 @@ pub mod closed_ranges;
 pub mod half_open_ranges;
 pub mod items;
 pub mod laws;
-#[cfg(test)]
-mod order_tests;
 pub mod orders;
 pub mod refusals;
 pub mod tables;

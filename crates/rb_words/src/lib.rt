@@ -8,11 +8,7 @@
 #![tactic(auto)]
 
 pub mod mirrors;
-#[cfg(test)]
-mod run_tests;
 pub mod shapes;
-#[cfg(test)]
-mod tests;
 
 pub use mirrors::{mirror_store, mirrored};
 pub use shapes::{STORES, Shape, item_stores};

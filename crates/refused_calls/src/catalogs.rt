@@ -1,10 +1,12 @@
-//! `Catalog::build_with` and `load`, and `Ledger::change` and `serve` by that catalog.
+//! `Catalog::build` and `load`, and `Ledger::change` and `serve` by that catalog.
 
 ghost use Rattle.std.specs.Prelude.{◌≡◌, true, All};
 ghost use Rattle.modules.specs.Lines.{fits, region_fits};
 
 use crate::{End, ledgers, servings};
-use modules::{Catalog, Held, ModuleLine, Part, RegionLine, SymbolLine, SymbolLines};
+use modules::{
+    Asked, Catalog, Held, KernelBounds, ModuleLine, Part, RegionLine, SymbolLine, SymbolLines,
+};
 use order_laws::Refusal;
 use std::alloc::Global;
 use std::io::Print;
@@ -24,7 +26,6 @@ fn symbols(alloc: Global, count: u32) -> Result<SymbolLines<'static>, Refusal> {
     for place in 0..count {
         lines.push(SymbolLine {
             addr: (place as u64 + 1) * 16,
-            letter: b'T',
             name: if place == 0 { b"_stext" } else { b"_end" },
             module: if place % 3 == 2 { Some(NAME) } else { None },
         })?;
@@ -70,8 +71,19 @@ fn build<R: Threads + Wait + Print + Sync>(
     requires regions_fit { All (λ l. region_fits l ≡ true) regions.now }
 {
     let lines = symbols(alloc, count)?;
-    let (catalog, counts) = match Catalog::build_with(alloc, modules, regions, lines) {
-        Err(_) => Catalog::build_with(alloc, modules, regions, symbols(alloc, count)?)?,
+    let names = KernelBounds::usual();
+    let (catalog, counts) = match Catalog::build(
+        alloc,
+        &names,
+        modules,
+        regions,
+        lines,
+        Asked::Any,
+    ) {
+        Err(_) => {
+            let lines = symbols(alloc, count)?;
+            Catalog::build(alloc, &names, modules, regions, lines, Asked::Any)?
+        }
         Ok(built) => built,
     };
     println!(rt;

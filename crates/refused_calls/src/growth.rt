@@ -6,12 +6,12 @@ ghost use Rattle.shared_lookup.specs.Enlarging.{AreLedgerReaders};
 use crate::End;
 use crate::tables::with;
 use crate::updates::{KEYS, key};
-use latch_core::Update;
 use latch_table::{Reader, Try, Writer, open};
 use order_laws::{HalfOpen, Item, Refusal};
 use shared_lookup::{Ledger, Open};
 use std::alloc::Global;
 use std::io::Print;
+use table_updates::Update;
 use word_layout::Layout;
 
 /// An item of the table before it is enlarged, and one that comes after.

@@ -3,13 +3,13 @@
 use crate::End;
 use crate::tables::with;
 use crate::updates::{KEYS, key};
-use latch_core::Update;
 use latch_table::{Reader, Try};
 use modules::Catalog;
 use order_laws::{HalfOpen, Refusal};
 use shared_lookup::{Change, Ledger, Open};
 use std::alloc::Global;
 use std::io::{self, Print};
+use table_updates::Update;
 use word_layout::Layout;
 
 const READERS: u32 = 2;

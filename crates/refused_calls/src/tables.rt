@@ -2,11 +2,11 @@
 
 use crate::End;
 use crate::updates::{KEYS, key};
-use latch_core::Update;
 use latch_table::{InHand, Reader, Try, Writer, open};
 use order_laws::{HalfOpen, Item, Refusal};
 use std::alloc::Global;
 use std::io::{self, Print};
+use table_updates::Update;
 use word_layout::Layout;
 
 const READERS: u32 = 2;

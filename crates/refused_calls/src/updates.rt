@@ -1,8 +1,8 @@
 //! The updates that each table goes through, and the keys that it is asked for.
 
-use latch_core::{Entries, Update};
 use order_laws::{Item, Refusal};
 use std::alloc::Global;
+use table_updates::{Entries, Update};
 
 /// How far the first addresses of two items lie apart.
 pub(crate) const STEP: u64 = 16;

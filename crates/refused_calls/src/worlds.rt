@@ -2,11 +2,11 @@
 
 use crate::End;
 use crate::updates::{KEYS, STEP, key};
-use latch_core::Update;
 use latch_steps::{Command, Event, Note, Reply, World, drive, run};
 use order_laws::{HalfOpen, Refusal};
 use std::alloc::Global;
 use std::io::{self, Print};
+use table_updates::Update;
 use word_layout::Layout;
 
 /// How many readers have a pending lookup while the updates are made.

@@ -2,10 +2,11 @@
 
 use crate::End;
 use crate::updates::{KEYS, key};
-use latch_core::{Update, WriterCore};
+use latch_core::WriterCore;
 use order_laws::{HalfOpen, Refusal};
 use std::alloc::Global;
 use std::io::{self, Print};
+use table_updates::Update;
 use word_layout::Layout;
 
 /// What a writer returns when it is asked.

@@ -8,8 +8,8 @@ use Rattle.std.proofs.lemmas.Bool.Decides.{nat_tests}
 use Rattle.order_laws.specs.declared.items.Item.{Item}
 use Rattle.order_laws.specs.Orders.{half_open}
 use Rattle.order_laws.specs.Tables.{look}
-use Rattle.latch_core.specs.declared.updates.Update.{Update}
-use Rattle.latch_core.specs.Histories.{replay}
+use Rattle.table_updates.specs.declared.updates.Update.{Update}
+use Rattle.table_updates.specs.Updates.{replay}
 use Rattle.std.specs.Result.{result_unwrap_or}
 use Rattle.order_laws.specs.declared.refusals.Refusal.{Refusal}
 use Rattle.shared_lookup.specs.declared.served.Answer.{Answer}

@@ -5,7 +5,7 @@ use Rattle.order_laws.specs.Orders.{half_open}
 use Rattle.atomic_table.specs.Seated.{TableId}
 use Rattle.word_layout.specs.declared.layouts.Layout.{Layout}
 use Rattle.word_layout.specs.Layouts.{capacity_of, limit_of}
-use Rattle.latch_core.specs.Histories.{replay}
+use Rattle.table_updates.specs.Updates.{replay}
 use Rattle.latch_core.specs.Invariants.{IsSound}
 use Rattle.latch_core.proofs.TestLemmas.{none_wider}
 use Rattle.latch_table.specs.Readers.{ReaderState}

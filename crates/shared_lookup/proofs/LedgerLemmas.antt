@@ -6,8 +6,8 @@ use Rattle.order_laws.specs.declared.refusals.Refusal.{Refusal}
 use Rattle.order_laws.specs.Orders.{half_open}
 use Rattle.facts.proofs.Lists.{slice_get-push_cases}
 use Rattle.word_layout.specs.Words.{at}
-use Rattle.latch_core.specs.declared.updates.Update.{Update}
-use Rattle.latch_core.specs.Updates.{refusal_for}
+use Rattle.table_updates.specs.declared.updates.Update.{Update}
+use Rattle.table_updates.specs.Updates.{refusal_for}
 use Rattle.latch_core.specs.Latches.{PendingUpdate}
 use Rattle.latch_core.specs.Invariants.{IsSound, IsPendingOf}
 use Rattle.latch_table.specs.Writers.{WriterState, writer_refusal}

@@ -9,10 +9,10 @@ use Rattle.order_laws.specs.declared.refusals.Refusal.TheVariants.{OutOfMemory}
 use Rattle.order_laws.specs.Orders.{half_open}
 use Rattle.word_layout.specs.declared.layouts.Layout.{Layout}
 use Rattle.word_layout.specs.Layouts.{capacity_of, limit_of}
-use Rattle.latch_core.specs.declared.updates.Update.{Update}
+use Rattle.table_updates.specs.declared.updates.Update.{Update}
 use Rattle.latch_core.specs.Sequences.{generation_of}
-use Rattle.latch_core.specs.Updates.{refusal_for}
-use Rattle.latch_core.specs.Histories.{replay}
+use Rattle.table_updates.specs.Updates.{refusal_for}
+use Rattle.table_updates.specs.Updates.{replay}
 use Rattle.latch_table.specs.Writers.{WriterState, shown_updates, writer_refusal}
 
 -- A ledger, as clauses see it: its table, how many readers came with it, the opening generation,

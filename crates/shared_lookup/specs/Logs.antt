@@ -2,7 +2,7 @@
 use Rattle.std.specs.Prelude.{◌≡◌, ℕ, List}
 use Rattle.word_layout.specs.declared.layouts.Layout.{Layout}
 use Rattle.word_layout.specs.Layouts.{capacity_of, limit_of}
-use Rattle.latch_core.specs.declared.updates.Update.{Update}
+use Rattle.table_updates.specs.declared.updates.Update.{Update}
 use Rattle.latch_core.specs.Sequences.{generation_of}
 use Rattle.latch_core.specs.Writers.{MayOpen}
 use Rattle.shared_lookup.specs.Ledgers.{LedgerState}

@@ -1,7 +1,7 @@
 -- What the readers of lists of keys know.
 use Rattle.std.specs.Prelude.{◌≡◌, ℕ, Bool, List, [], Option, Some, None, IfSome}
 use Rattle.atomic_table.specs.Seated.{TableId}
-use Rattle.latch_core.specs.declared.updates.Update.{Update}
+use Rattle.table_updates.specs.declared.updates.Update.{Update}
 use Rattle.latch_table.specs.Readers.{ReaderState}
 use Rattle.shared_lookup.specs.declared.served.Answer.{Answer}
 use Rattle.shared_lookup.specs.Ledgers.{IsNamed}

@@ -11,8 +11,8 @@ use Rattle.order_laws.specs.Orders.{half_open}
 use Rattle.order_laws.specs.Tables.{look}
 use Rattle.word_layout.specs.Limits.{most_nodes}
 use Rattle.latch_table.specs.Limits.{most_readers}
-use Rattle.latch_core.specs.declared.updates.Update.{Update}
-use Rattle.latch_core.specs.Histories.{replay}
+use Rattle.table_updates.specs.declared.updates.Update.{Update}
+use Rattle.table_updates.specs.Updates.{replay}
 use Rattle.modules.specs.Catalogs.{regions_of}
 use Rattle.modules.specs.Entries.{CatalogEntries}
 use Rattle.shared_lookup.specs.declared.changes.Change.{Change}

@@ -4,9 +4,9 @@ ghost use Rattle.std.specs.Prelude.{◌≡◌, ◌↔◌, IsTrue};
 ghost use Rattle.modules.specs.Loads.{GivesOrLacksMemory};
 ghost use Rattle.shared_lookup.specs.Changes.{asked, number_of_change, IsUpdateFor};
 
-use latch_core::Update;
 use modules::{Catalog, Held};
 use order_laws::Refusal;
+use table_updates::Update;
 
 /// A change of what is loaded, by the number of the module in the catalog.
 #[derive(Clone, Copy, Debug, PartialEq, Eq, Drop)]

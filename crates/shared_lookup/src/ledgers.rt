@@ -14,12 +14,12 @@ ghost use Rattle.shared_lookup.specs.Ledgers.{ledger_table};
 use crate::changes::Change;
 use crate::gates::Gate;
 use crate::resting::RestingWriter;
-use latch_core::Update;
 use latch_table::Reader;
 use modules::{Catalog, Held};
 use order_laws::{HalfOpen, Refusal};
 use std::alloc::Global;
 use std::marker::Model;
+use table_updates::Update;
 use word_layout::Layout;
 
 mod enlarging;

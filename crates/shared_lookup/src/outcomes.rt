@@ -11,9 +11,9 @@ ghost use Rattle.shared_lookup.specs.Servings.{IsWrongEntry};
 ghost use Rattle.shared_lookup.specs.Servings.{entries, has_generation};
 
 use crate::changes::Change;
-use latch_core::Update;
 use modules::Catalog;
 use order_laws::Refusal;
+use table_updates::Update;
 
 /// Whether the entry of a generation is one that the catalog gives for a change.
 fn is_logged(c: &Catalog<'_>, log: &[Update], change: Change, generation: u64) -> bool

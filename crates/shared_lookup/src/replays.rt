@@ -14,9 +14,9 @@ ghost use Rattle.shared_lookup.specs.Servings.{entries};
 use crate::gates::Open;
 use crate::resting::RestingWriter;
 use crate::served::Answer;
-use latch_core::Update;
 use order_laws::Refusal;
 use std::alloc::{AllocError, Global};
+use table_updates::Update;
 
 /// Adds a reference to each answer of a list.
 fn refer_to<'a>(all: &mut Vec<&'a Answer>, list: &'a [Answer]) -> Result<(), AllocError>

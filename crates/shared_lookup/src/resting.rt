@@ -14,11 +14,11 @@ ghost use Rattle.shared_lookup.specs.Ledgers.{Applies, AreAccepted, CarriesOut, 
 ghost use Rattle.shared_lookup.specs.Ledgers.{new_ledger, ledger_table};
 
 use crate::gates::{Gate, Point};
-use latch_core::Update;
 use latch_table::{Did, InHand, Reader, Writer, meet, open};
 use order_laws::{HalfOpen, Item, Refusal};
 use std::alloc::Global;
 use std::marker::Model;
+use table_updates::Update;
 use word_layout::Layout;
 
 /// A writer with no pending update between its calls.

@@ -1,7 +1,7 @@
 //! What several writers and readers come back with.
 
-use latch_core::Update;
 use order_laws::{Item, Refusal};
+use table_updates::Update;
 
 /// What a reader found.
 #[derive(Clone, Copy, Debug, PartialEq, Eq, Drop)]

@@ -11,8 +11,6 @@ pub mod laws;
 pub mod layouts;
 pub mod places;
 pub mod stores;
-#[cfg(test)]
-mod tests;
 
 pub use layouts::{Layout, MOST_NODES};
 pub use places::TreeCopy;

@@ -10,10 +10,10 @@ use Rattle.std.proofs.lemmas.List.{take_more, append-nil}
 use Rattle.order_laws.specs.declared.items.Item.{Item}
 use Rattle.order_laws.specs.Orders.{half_open}
 use Rattle.order_laws.specs.Tables.{look}
-use Rattle.latch_core.proofs.HistoryLemmas.{replay_append}
-use Rattle.latch_core.specs.declared.updates.Update.{Update}
-use Rattle.latch_core.specs.Updates.{after}
-use Rattle.latch_core.specs.Histories.{replay}
+use Rattle.table_updates.proofs.HistoryLemmas.{replay_append}
+use Rattle.table_updates.specs.declared.updates.Update.{Update}
+use Rattle.table_updates.specs.Updates.{after}
+use Rattle.table_updates.specs.Updates.{replay}
 use Rattle.latch_core.proofs.StepLemmas.{replay_push}
 use Rattle.workloads.specs.Schedules.{times, first_updates, table_after, IsRound, AreTablesBefore}
 

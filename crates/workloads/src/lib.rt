@@ -3,17 +3,11 @@
 //!
 //! A writer goes through a schedule of updates again and again, and readers on threads of their own
 //! compare each answer with the plain table after as many updates as its generation tells.
-//!
-//! The tests are also those of the latched table: of `latch_core`, `latch_steps`, `latch_table` and
-//! `shared_lookup`. They call what those crates offer to anyone, and stand above them, since a crate
-//! with tests is proved twice.
 #![tactic(auto)]
 
 pub mod observers;
 pub mod schedules;
 mod slots;
-#[cfg(test)]
-mod tests;
 
 pub use observers::{Observer, Tally};
 pub use schedules::Schedule;

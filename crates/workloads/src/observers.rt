@@ -3,9 +3,8 @@
 ghost use Rattle.std.specs.Prelude.{◌≡◌, ◌≤◌};
 
 use crate::schedules::Schedule;
-use latch_table::{Reader, Try, Writer};
-use order_laws::{HalfOpen, Item, Refusal};
-use std::thread::{Threads, join, map_vec};
+use latch_table::{Reader, Try};
+use order_laws::{HalfOpen, Item};
 
 /// What a reader saw.
 #[derive(Clone, Copy, Debug, PartialEq, Eq, Drop)]
@@ -86,32 +85,5 @@ impl Observer<'_> {
                 Try::Retry => tally.retries = tally.retries.saturating_add(1),
             }
         }
-    }
-
-    /// Looks the keys up through each of these readers, each on a thread of its own, beside a
-    /// writer that goes through its schedule so many times. Returns the generation that the writer
-    /// comes to, and each reader with what it saw.
-    pub fn watch<R: Threads + Sync>(
-        &self,
-        rt: &R,
-        writer: &mut Writer<HalfOpen>,
-        rounds: u32,
-        readers: Vec<Reader<HalfOpen>>,
-    ) -> Result<(u64, Vec<(Reader<HalfOpen>, Tally)>), Refusal> {
-        let observer = *self;
-        let (written, seen) = join(
-            rt,
-            || observer.schedule.carry_out(writer, rounds),
-            || map_vec(
-                rt,
-                readers,
-                &|mut reader: Reader<HalfOpen>| {
-                    let mut tally = Tally::new();
-                    observer.observe(&mut reader, &mut tally);
-                    (reader, tally)
-                },
-            ),
-        );
-        Ok((written?, seen?))
     }
 }

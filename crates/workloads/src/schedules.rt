@@ -5,12 +5,13 @@ ghost use Rattle.order_laws.specs.Orders.{half_open};
 ghost use Rattle.order_laws.specs.Tables.{look};
 ghost use Rattle.workloads.specs.Schedules.{first_updates, table_after, times, IsRound};
 
-use latch_core::{Update, plain};
+use latch_core::plain;
 use latch_table::Writer;
 use order_laws::laws::look_through;
 use order_laws::{HalfOpen, Item, Refusal};
 use std::alloc::{AllocError, Global};
 use std::marker::Model;
+use table_updates::Update;
 
 /// A list of updates that leads from the empty table back to it, so that it can be made any number
 /// of times.
@@ -23,7 +24,7 @@ pub struct Schedule {
 
 impl Model for Schedule {
     ghost use Rattle.std.specs.Prelude.{List};
-    ghost use Rattle.latch_core.specs.declared.updates.Update.{Update};
+    ghost use Rattle.table_updates.specs.declared.updates.Update.{Update};
     ghost use Rattle.workloads.specs.Schedules.{AreTablesBefore, IsRound};
 
     ghost Value = { List Update };

@@ -5,8 +5,8 @@ ghost use Rattle.latch_table.specs.Seats.{writer_of, writer_knowledge, with_upda
 
 use crate::knowledge::TableSeat;
 use crate::rule::{CopyWord, NamesUpdate, TakeUpdate, Words};
-use latch_core::Update;
 use order_laws::TreeOrder;
+use table_updates::Update;
 use word_layout::Store;
 
 /// How many words are loaded before the first step of an update; about as many loads go on at once.

@@ -5,7 +5,7 @@ ghost use Rattle.std.specs.Borrow.{sem, RestsIfErr};
 ghost use Rattle.order_laws.specs.Tables.{has};
 ghost use Rattle.word_layout.specs.Words.{at};
 ghost use Rattle.latch_core.specs.Sequences.{generation_of};
-ghost use Rattle.latch_core.specs.Histories.{replay};
+ghost use Rattle.table_updates.specs.Updates.{replay};
 ghost use Rattle.latch_core.specs.Invariants.{IsSound};
 ghost use Rattle.latch_table.specs.contracts.writers.Writer.{the_row};
 ghost use Rattle.latch_table.specs.Writers.{Begins, Refuses, Steps, Finishes, steps_left_of};
@@ -14,9 +14,9 @@ ghost use Rattle.latch_table.specs.Writers.{shown_updates};
 use super::steps::{load_ahead, take_update};
 use super::{Did, InHand, Writer};
 use crate::rule::StoreWord;
-use latch_core::Update;
 use order_laws::{Refusal, TreeOrder};
 use std::marker::Brand;
+use table_updates::Update;
 
 impl<O: TreeOrder> Writer<O> {
     /// Begins an update. Refused as [`WriterCore::begin`](latch_core::WriterCore::begin) refuses; a

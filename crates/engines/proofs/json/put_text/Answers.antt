@@ -3,9 +3,9 @@ use Rattle.std.proofs.KnownBytes.{Appends-trans}
 use Rattle.std.proofs.lemmas.Grind.{common_steps}
 use Rattle.std.proofs.lemmas.List.{drop-drop, take_rest}
 use Rattle.std.specs.Str.Lossy.{replacement_bytes}
-use Rattle.listing.specs.Exact.{Wrote}
-use Rattle.listing.proofs.WriteLemmas.{same_text, then}
-use Rattle.engines.specs.Json.{escaped, text_of}
+use Rattle.texts.specs.Exact.{Wrote}
+use Rattle.texts.proofs.WriteLemmas.{same_text, then}
+use Rattle.engines.specs.Json.{escaped}
 use Rattle.engines.proofs.JsonLemmas.{moves_past, text_of_text}
 use Rattle.engines.proofs.json.put_text.Goals as goal
 

@@ -1,4 +1,4 @@
-use Rattle.listing.proofs.WriteLemmas.{then}
+use Rattle.texts.proofs.WriteLemmas.{then}
 use Rattle.engines.proofs.json_texts.put_address_member.Goals as goal
 
 pub returns : goal.returns

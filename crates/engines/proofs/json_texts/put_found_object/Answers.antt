@@ -1,4 +1,4 @@
-use Rattle.listing.proofs.WriteLemmas.{then}
+use Rattle.texts.proofs.WriteLemmas.{then}
 use Rattle.engines.specs.JsonTexts.{found_object}
 use Rattle.engines.proofs.json_texts.put_found_object.Goals as goal
 

@@ -1,6 +1,6 @@
 use Rattle.std.proofs.Common.{take}
 use Rattle.std.specs.Io.KnownBytes.{Appends}
-use Rattle.listing.specs.Counted.{NoneFailed, device_of}
+use Rattle.texts.specs.Counted.{NoneFailed, device_of}
 use Rattle.engines.specs.JsonTexts.{json_causes}
 use Rattle.engines.proofs.json_texts.put_json_causes.Given as goal
 

@@ -1,4 +1,4 @@
-use Rattle.listing.proofs.WriteLemmas.{then}
+use Rattle.texts.proofs.WriteLemmas.{then}
 use Rattle.engines.specs.JsonTexts.{json_counts}
 use Rattle.engines.proofs.json_texts.put_json_counts.Goals as goal
 

@@ -1,4 +1,4 @@
-use Rattle.listing.proofs.WriteLemmas.{then}
+use Rattle.texts.proofs.WriteLemmas.{then}
 use Rattle.engines.specs.JsonTexts.{region_counts_object}
 use Rattle.engines.proofs.json_texts.put_region_counts_object.Goals as goal
 

@@ -1,7 +1,7 @@
 use Rattle.std.proofs.Common.{◌≡◌, ◌∙◌, length, ap, sym, refl, Option, Some, None, option_map}
 use Rattle.std.specs.Prelude.{find, is_some}
 use Rattle.std.specs.Global.{Vec}
-use Rattle.listing.specs.Lines.{lines_of}
+use Rattle.texts.specs.Lines.{lines_of}
 use Rattle.listing.specs.ModuleListing.{modules_in}
 use Rattle.modules.specs.Catalogs.{catalog_of, counts_of}
 use Rattle.modules.specs.Entries.{CatalogEntries}

@@ -1,4 +1,4 @@
-use Rattle.listing.proofs.WriteLemmas.{then}
+use Rattle.texts.proofs.WriteLemmas.{then}
 use Rattle.engines.proofs.lookup.put_counts.Goals as goal
 
 pub returns : goal.returns

@@ -1,5 +1,5 @@
 use Rattle.engines.specs.LookupTexts.{found_modules_line}
-use Rattle.listing.proofs.WriteLemmas.{then}
+use Rattle.texts.proofs.WriteLemmas.{then}
 use Rattle.engines.proofs.lookup_texts.put_found_modules.Goals as goal
 
 pub returns : goal.returns

@@ -1,7 +1,7 @@
 use Rattle.std.proofs.Common.{◌∙◌, ap, drop, take}
 use Rattle.listing.specs.ModuleListing.{module_place}
 use Rattle.listing.specs.declared.module_listing.SkippedModule.TheVariants.{Long}
-use Rattle.listing.proofs.WriteLemmas.{same_text, then}
+use Rattle.texts.proofs.WriteLemmas.{same_text, then}
 use Rattle.engines.specs.LookupTexts.{module_causes_text, modules_line}
 use Rattle.engines.proofs.lookup_texts.put_module_counts.Goals as goal
 

@@ -1,5 +1,5 @@
 use Rattle.engines.specs.LookupTexts.{regions_line}
-use Rattle.listing.proofs.WriteLemmas.{then}
+use Rattle.texts.proofs.WriteLemmas.{then}
 use Rattle.engines.proofs.lookup_texts.put_region_counts.Goals as goal
 
 pub returns : goal.returns

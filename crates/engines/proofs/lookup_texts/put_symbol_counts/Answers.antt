@@ -1,7 +1,7 @@
 use Rattle.std.proofs.Common.{◌∙◌, ap, drop, take}
 use Rattle.listing.specs.SymbolListing.{symbol_place}
 use Rattle.listing.specs.declared.symbol_listing.SkippedSymbol.TheVariants.{Long}
-use Rattle.listing.proofs.WriteLemmas.{same_text, then}
+use Rattle.texts.proofs.WriteLemmas.{same_text, then}
 use Rattle.engines.specs.LookupTexts.{symbol_causes_text, symbols_line}
 use Rattle.engines.proofs.lookup_texts.put_symbol_counts.Goals as goal
 

@@ -1,9 +1,9 @@
 use Rattle.std.proofs.Common.{◌+◌, ◌++◌, codes, decimal, sym, append_assoc}
 use Rattle.listing.specs.Answers.{answer_text}
-use Rattle.listing.specs.Exact.{hexadecimal}
+use Rattle.texts.specs.Exact.{hexadecimal}
 use Rattle.engines.specs.LookupTexts.{count_text}
 use Rattle.engines.specs.RunTexts.{answered_text}
-use Rattle.listing.proofs.WriteLemmas.{same_text, then}
+use Rattle.texts.proofs.WriteLemmas.{same_text, then}
 use Rattle.engines.proofs.run_texts.put_answered.Goals as goal
 
 pub returns : goal.returns

@@ -4,7 +4,7 @@ use Rattle.std.proofs.KnownBytes.{Appends-trans}
 use Rattle.std.proofs.lemmas.Bool.{eqb-true}
 use Rattle.std.proofs.lemmas.Grind.{flat_map-append}
 use Rattle.std.proofs.lemmas.List.{append-nil, nil_from_length}
-use Rattle.listing.specs.Counted.{device_of}
+use Rattle.texts.specs.Counted.{device_of}
 use Rattle.engines.specs.RunTexts.{answered_text}
 use Rattle.engines.proofs.run_texts.put_list.Goals as goal
 

@@ -1,6 +1,6 @@
 use Rattle.std.proofs.Common.{◌≡◌, ◌++◌, List, flat_map, length}
 use Rattle.std.specs.Io.KnownBytes.{Appends}
-use Rattle.listing.specs.Counted.{NoneFailed, device_of}
+use Rattle.texts.specs.Counted.{NoneFailed, device_of}
 use Rattle.shared_lookup.specs.declared.served.Answer.{Answer}
 use Rattle.engines.specs.RunTexts.{answered_text}
 use Rattle.engines.proofs.run_texts.put_list.Given as goal

@@ -4,7 +4,7 @@ use Rattle.std.specs.List.{range_with_len, zip}
 use Rattle.std.proofs.lemmas.List.FromFn.{length-range_with_len}
 use Rattle.facts.proofs.Numbers.{below_min, past_min}
 use Rattle.facts.proofs.Pairs.{numbered-zip, written-zip_more, written-zip_whole, zip-past, zip-within}
-use Rattle.listing.specs.Counted.{device_of}
+use Rattle.texts.specs.Counted.{device_of}
 use Rattle.engines.specs.RunTexts.{numbered_text, writer_text}
 use Rattle.engines.proofs.run_texts.put_refusals.Goals as goal
 

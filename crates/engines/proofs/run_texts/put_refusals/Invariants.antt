@@ -1,7 +1,7 @@
 use Rattle.std.proofs.Common.{flat_map, length, take}
 use Rattle.std.specs.Io.KnownBytes.{Appends}
 use Rattle.std.specs.List.{range_with_len, zip}
-use Rattle.listing.specs.Counted.{NoneFailed, device_of}
+use Rattle.texts.specs.Counted.{NoneFailed, device_of}
 use Rattle.engines.specs.RunTexts.{numbered_text}
 use Rattle.engines.proofs.run_texts.put_refusals.Given as goal
 

@@ -2,7 +2,7 @@ use Rattle.std.proofs.Common.{arith, Ok, ◌∙◌, get_or, length, subst}
 use Rattle.std.specs.Io.KnownBytes.{Appends}
 use Rattle.facts.proofs.Numbers.{below_min, past_min}
 use Rattle.facts.proofs.Pairs.{written-zip_more, written-zip_whole}
-use Rattle.listing.specs.Counted.{device_of}
+use Rattle.texts.specs.Counted.{device_of}
 use Rattle.engines.specs.RunTexts.{change_text}
 use Rattle.engines.proofs.run_texts.put_writer.Goals as goal
 

@@ -1,7 +1,7 @@
 use Rattle.std.proofs.Common.{flat_map, take}
 use Rattle.std.specs.Io.KnownBytes.{Appends}
 use Rattle.std.specs.List.{zip}
-use Rattle.listing.specs.Counted.{NoneFailed, device_of}
+use Rattle.texts.specs.Counted.{NoneFailed, device_of}
 use Rattle.engines.specs.RunTexts.{change_text}
 use Rattle.engines.proofs.run_texts.put_writer.Given as goal
 

@@ -1,5 +1,5 @@
 use Rattle.std.proofs.Common.{[], Some, subst, sym}
-use Rattle.listing.specs.Scripts.{script_of}
+use Rattle.run_files.specs.Scripts.{script_of}
 use Rattle.engines.specs.LookupInputs.{inputs_in}
 use Rattle.engines.specs.RunInputs.{run_inputs_with}
 use Rattle.engines.specs.Runs.{AnswersRun}

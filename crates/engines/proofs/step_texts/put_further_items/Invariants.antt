@@ -1,6 +1,6 @@
 use Rattle.std.proofs.Common.{◌++◌, codes, flat_map, take}
 use Rattle.std.specs.Io.KnownBytes.{Appends}
-use Rattle.listing.specs.Counted.{NoneFailed, device_of}
+use Rattle.texts.specs.Counted.{NoneFailed, device_of}
 use Rattle.engines.specs.StepTexts.{json_item}
 use Rattle.engines.proofs.step_texts.put_further_items.Given as goal
 

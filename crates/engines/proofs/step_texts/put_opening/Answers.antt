@@ -1,5 +1,5 @@
 use Rattle.std.proofs.Common.{ap, codes}
-use Rattle.listing.proofs.WriteLemmas.{same_text, then}
+use Rattle.texts.proofs.WriteLemmas.{same_text, then}
 use Rattle.engines.specs.JsonTexts.{json_count}
 use Rattle.engines.specs.StepTexts.{opening_text}
 use Rattle.engines.proofs.step_texts.put_opening.Goals as goal

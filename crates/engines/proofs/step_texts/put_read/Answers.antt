@@ -1,6 +1,6 @@
 use Rattle.std.proofs.Common.{◌≡◌, ◌∙◌, Some, sym, ap}
 use Rattle.latch_steps.specs.declared.replies.Reply.TheVariants.{Loaded}
-use Rattle.listing.proofs.WriteLemmas.{same_text}
+use Rattle.texts.proofs.WriteLemmas.{same_text}
 use Rattle.engines.specs.EventLines.{event_line}
 use Rattle.engines.specs.StepTexts.{read_members}
 use Rattle.engines.proofs.EventLineLemmas.{front_all, front_put, load_told, whole_line}

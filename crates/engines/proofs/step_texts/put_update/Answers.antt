@@ -1,5 +1,5 @@
 use Rattle.std.proofs.Common.{subst, sym}
-use Rattle.listing.specs.Exact.{Wrote}
+use Rattle.texts.specs.Exact.{Wrote}
 use Rattle.engines.specs.StepTexts.{update_members}
 use Rattle.engines.proofs.step_texts.put_update.Goals as goal
 

@@ -1,7 +1,7 @@
 use Rattle.std.proofs.Common.{rules, ◌≡◌, ℕ, List, subst}
 use Rattle.std.specs.Io.KnownBytes.{Appends}
-use Rattle.listing.specs.Counted.{NoneFailed, device_of}
-use Rattle.listing.specs.Trace.{contents_of}
+use Rattle.texts.specs.Counted.{NoneFailed, device_of}
+use Rattle.run_files.specs.Trace.{contents_of}
 use Rattle.std.proofs.lemmas.Result.{err_from_is_err_and}
 use Rattle.latch_steps.specs.declared.commands.Command.{Command}
 use Rattle.engines.specs.StepRuns.{StopsTelling, TellsCommands}

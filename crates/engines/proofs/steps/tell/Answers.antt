@@ -1,6 +1,6 @@
 use Rattle.std.proofs.Common.{rules}
 use Rattle.std.specs.Io.KnownBytes.{Appends}
-use Rattle.listing.specs.Counted.{device_of}
+use Rattle.texts.specs.Counted.{device_of}
 use Rattle.engines.specs.StepTexts.{event_text}
 use Rattle.engines.proofs.StepLemmas.{line_told}
 use Rattle.engines.proofs.steps.tell.Goals as goal

@@ -1,5 +1,5 @@
 use Rattle.std.proofs.Common.{take}
-use Rattle.listing.specs.Counted.{NoneFailed}
+use Rattle.texts.specs.Counted.{NoneFailed}
 use Rattle.engines.specs.StepRuns.{TellsCommands}
 use Rattle.engines.proofs.steps.tell_commands.Given as goal
 

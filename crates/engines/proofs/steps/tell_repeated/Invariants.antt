@@ -1,5 +1,5 @@
 use Rattle.std.proofs.Common.{ℕ}
-use Rattle.listing.specs.Counted.{NoneFailed}
+use Rattle.texts.specs.Counted.{NoneFailed}
 use Rattle.latch_steps.specs.Runs.{Moment}
 use Rattle.latch_steps.specs.Worlds.{RepresentsMoment}
 use Rattle.engines.proofs.StepLemmas.{Telling}

@@ -1,6 +1,6 @@
 use Rattle.std.proofs.Common.{◌≡◌, refl, subst, sym}
 use Rattle.std.specs.Prelude.{IfSome}
-use Rattle.listing.specs.Counted.{device_of, failures_of}
+use Rattle.texts.specs.Counted.{device_of, failures_of}
 use Rattle.engines.specs.LookupInputs.{known_text}
 use Rattle.engines.specs.Readings.{failures_in}
 use Rattle.engines.specs.SymbolLookups.{IsSymbolLookupOf, known_symbol_inputs, symbol_inputs_of}

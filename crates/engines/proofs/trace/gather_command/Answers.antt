@@ -1,5 +1,5 @@
 use Rattle.std.proofs.Common.{◌++◌, ◌∙◌, ap, flat_map}
-use Rattle.engines.specs.Texts.{note_text}
+use Rattle.engines.specs.TraceTexts.{note_text}
 use Rattle.engines.proofs.GatheredLemmas.{command_gathered}
 use Rattle.engines.proofs.trace.gather_command.Goals as goal
 

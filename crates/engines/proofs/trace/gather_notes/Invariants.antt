@@ -1,5 +1,5 @@
 use Rattle.std.proofs.Common.{◌≡◌, ◌++◌, flat_map, take}
-use Rattle.engines.specs.Texts.{note_text}
+use Rattle.engines.specs.TraceTexts.{note_text}
 use Rattle.engines.proofs.trace.gather_notes.Given as goal
 
 -- the lines of the notes before this one stand behind the text

@@ -1,7 +1,7 @@
 use Rattle.std.proofs.Common.{rules, ◌++◌}
 use Rattle.std.specs.Io.KnownBytes.{Appends}
-use Rattle.listing.specs.Counted.{NoneFailed, Rose, device_of, failures_of}
-use Rattle.engines.specs.Texts.{end_text}
+use Rattle.texts.specs.Counted.{NoneFailed, Rose, device_of, failures_of}
+use Rattle.engines.specs.TraceTexts.{end_text}
 use Rattle.engines.proofs.GatheredLemmas.{answered, not_opened, unwritten}
 use Rattle.engines.proofs.trace.run_lines.Goals as goal
 

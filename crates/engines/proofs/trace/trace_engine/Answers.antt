@@ -1,5 +1,5 @@
 use Rattle.std.proofs.Common.{◌≡◌, IfSome, subst, sym}
-use Rattle.listing.specs.Counted.{device_of}
+use Rattle.texts.specs.Counted.{device_of}
 use Rattle.engines.proofs.GatheredLemmas.{answers_read}
 use Rattle.engines.proofs.trace.trace_engine.Goals as goal
 

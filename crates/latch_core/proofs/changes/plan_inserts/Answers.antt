@@ -5,7 +5,7 @@ use Rattle.order_laws.specs.declared.items.Item.{Item}
 use Rattle.order_laws.proofs.MeetLemmas.{no_meeting}
 use Rattle.rb_words.specs.Plans.{item_stores}
 use Rattle.latch_core.specs.Changes.{InsertsItems}
-use Rattle.latch_core.proofs.BatchLemmas.{AreOff}
+use Rattle.table_updates.proofs.BatchLemmas.{AreOff}
 use Rattle.latch_core.proofs.ChangeLemmas.{next_node, inserting_none, inserting_step}
 use Rattle.latch_core.proofs.changes.plan_inserts.Goals as goal
 

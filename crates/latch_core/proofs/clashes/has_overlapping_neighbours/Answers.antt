@@ -1,6 +1,6 @@
 use Rattle.std.proofs.Common.{◌≤◌, ◌+◌, ◌-◌, length, sym, ◌∙◌, arith}
 use Rattle.order_laws.specs.declared.items.Item.{Item}
-use Rattle.latch_core.proofs.BatchLemmas.{all_valid}
+use Rattle.table_updates.proofs.BatchLemmas.{all_valid}
 use Rattle.latch_core.proofs.ClashLemmas.{overlap_on, none_left}
 use Rattle.latch_core.proofs.clashes.has_overlapping_neighbours.Goals as goal
 

@@ -1,7 +1,7 @@
 use Rattle.std.proofs.Common.{◌≡◌, List, sym, ◌∙◌, ap, subst}
 use Rattle.std.specs.Prelude.{IfOk}
 use Rattle.order_laws.specs.declared.items.Item.{Item}
-use Rattle.latch_core.specs.Updates.{after}
+use Rattle.table_updates.specs.Updates.{after}
 use Rattle.latch_core.proofs.StepLemmas.{after_insert, after_erase}
 use Rattle.latch_core.proofs.plain.after.Goals as goal
 

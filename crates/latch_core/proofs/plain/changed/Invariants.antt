@@ -1,6 +1,6 @@
 use Rattle.std.proofs.Common.{◌≡◌, drop}
 use Rattle.order_laws.specs.Tables.{without_all}
-use Rattle.latch_core.specs.Updates.{with_items}
+use Rattle.table_updates.specs.Updates.{with_items}
 use Rattle.latch_core.proofs.plain.changed.Given as goal
 
 abbrev pub invariant-loop-item : goal.invariant-loop-item

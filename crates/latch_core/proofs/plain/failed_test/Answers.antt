@@ -1,7 +1,7 @@
 use Rattle.std.proofs.Common.{◌∙◌, sym, ap}
 use Rattle.word_layout.specs.Layouts.{capacity_of}
-use Rattle.latch_core.specs.declared.updates.Update.TheVariants.{Batch}
-use Rattle.latch_core.specs.Updates.{failed_test}
+use Rattle.table_updates.specs.declared.updates.Update.TheVariants.{Batch}
+use Rattle.table_updates.specs.Updates.{failed_test}
 use Rattle.latch_core.proofs.plain.failed_test.Goals as goal
 
 pub returns-in-Batch : goal.returns-in-Batch

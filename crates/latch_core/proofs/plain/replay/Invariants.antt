@@ -1,5 +1,5 @@
 use Rattle.std.proofs.Common.{◌≡◌, [], drop}
-use Rattle.latch_core.specs.Histories.{replay}
+use Rattle.table_updates.specs.Updates.{replay}
 use Rattle.latch_core.proofs.plain.replay.Given as goal
 
 abbrev pub invariant-loop-u : goal.invariant-loop-u

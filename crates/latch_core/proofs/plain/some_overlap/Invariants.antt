@@ -1,5 +1,5 @@
 use Rattle.std.proofs.Common.{◌≡◌, drop}
-use Rattle.latch_core.specs.Updates.{some_overlap}
+use Rattle.table_updates.specs.Updates.{some_overlap}
 use Rattle.latch_core.proofs.plain.some_overlap.Given as goal
 
 abbrev pub invariant-loop-place : goal.invariant-loop-place

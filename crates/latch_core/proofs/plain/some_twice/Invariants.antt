@@ -1,5 +1,5 @@
 use Rattle.std.proofs.Common.{◌≡◌, drop}
-use Rattle.latch_core.specs.Updates.{some_twice}
+use Rattle.table_updates.specs.Updates.{some_twice}
 use Rattle.latch_core.proofs.plain.some_twice.Given as goal
 
 abbrev pub invariant-loop-place : goal.invariant-loop-place

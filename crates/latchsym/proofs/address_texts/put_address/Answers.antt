@@ -1,6 +1,6 @@
 use Rattle.std.proofs.Common.{◌∙◌, ◌+◌, ap}
-use Rattle.listing.specs.Exact.{hexadecimal}
-use Rattle.listing.proofs.WriteLemmas.{same_text, then}
+use Rattle.texts.specs.Exact.{hexadecimal}
+use Rattle.texts.proofs.WriteLemmas.{same_text, then}
 use Rattle.latchsym.specs.AddressTexts.{address_line, owner_text}
 use Rattle.latchsym.specs.AskedNames.{AskedSymbols}
 use Rattle.latchsym.specs.KeptSymbols.{Kept}

@@ -1,5 +1,5 @@
 use Rattle.std.proofs.Common.{◌∙◌, ◌+◌, ap}
-use Rattle.listing.proofs.WriteLemmas.{same_text, then}
+use Rattle.texts.proofs.WriteLemmas.{same_text, then}
 use Rattle.latchsym.specs.AddressTexts.{address_object, owner_member}
 use Rattle.latchsym.specs.AskedNames.{AskedSymbols}
 use Rattle.engines.specs.JsonTexts.{address_member, symbol_members}

@@ -1,6 +1,6 @@
 use Rattle.std.proofs.Common.{take}
 use Rattle.std.specs.Io.KnownBytes.{Appends}
-use Rattle.listing.specs.Counted.{NoneFailed, device_of}
+use Rattle.texts.specs.Counted.{NoneFailed, device_of}
 use Rattle.latchsym.specs.AddressTexts.{told_lines}
 use Rattle.latchsym.proofs.address_texts.put_all_told.Given as goal
 

@@ -1,6 +1,6 @@
 use Rattle.std.proofs.Common.{[], List, ℕ, subst}
 use Rattle.std.specs.Prelude.{unwrap_or}
-use Rattle.listing.specs.Exact.{Wrote}
+use Rattle.texts.specs.Exact.{Wrote}
 use Rattle.latchsym.specs.AddressTexts.{word_text}
 use Rattle.latchsym.specs.KeptSymbols.{Kept, found_by}
 use Rattle.latchsym.proofs.SoughtLemmas.{word_written}

@@ -1,7 +1,7 @@
 use Rattle.std.proofs.Common.{[], map, take}
 use Rattle.std.specs.Prelude.{unwrap_or}
 use Rattle.std.specs.Io.KnownBytes.{Appends}
-use Rattle.listing.specs.Counted.{NoneFailed, device_of}
+use Rattle.texts.specs.Counted.{NoneFailed, device_of}
 use Rattle.latchsym.specs.AddressTexts.{words_text}
 use Rattle.latchsym.specs.KeptSymbols.{found_by}
 use Rattle.latchsym.proofs.address_texts.put_words.Given as goal

@@ -1,6 +1,6 @@
 use Rattle.std.proofs.Common.{flat_map, take}
 use Rattle.std.specs.Io.KnownBytes.{Appends}
-use Rattle.listing.specs.Counted.{NoneFailed, device_of}
+use Rattle.texts.specs.Counted.{NoneFailed, device_of}
 use Rattle.listing.specs.ListingNotes.{is_of_modules}
 use Rattle.latchsym.specs.NoteTexts.{line_where, note_line}
 use Rattle.latchsym.proofs.checks.put_module_notes.Given as goal

@@ -1,5 +1,5 @@
 use Rattle.std.proofs.Common.{ap}
-use Rattle.listing.proofs.WriteLemmas.{same_text, then}
+use Rattle.texts.proofs.WriteLemmas.{same_text, then}
 use Rattle.listing.specs.ListingNotes.{is_of_kallsyms}
 use Rattle.latchsym.specs.NoteTexts.{applying_lines}
 use Rattle.latchsym.proofs.checks.put_symbols_report.Goals as goal

@@ -1,5 +1,5 @@
 use Rattle.std.proofs.Common.{[], ◌∷◌, ◌++◌, ◌∙◌, ap, sym}
-use Rattle.listing.specs.Numbers.{number_of}
+use Rattle.texts.specs.Numbers.{number_of}
 use Rattle.latchsym.proofs.AddressLemmas.{first_bad, one_number_more, still_numbers}
 use Rattle.latchsym.proofs.command_line.addresses_in.Goals as goal
 

@@ -1,7 +1,7 @@
 use Rattle.std.proofs.Common.{◌≡◌, take, None}
 use Rattle.std.specs.Prelude.{find}
 use Rattle.std.specs.List.{filter_map}
-use Rattle.listing.specs.Numbers.{number_of}
+use Rattle.texts.specs.Numbers.{number_of}
 use Rattle.latchsym.specs.Jobs.{is_no_number}
 use Rattle.latchsym.proofs.AddressLemmas.{texts}
 use Rattle.latchsym.proofs.command_line.addresses_in.Given as goal

@@ -2,7 +2,7 @@ use Rattle.std.proofs.Common.{[], ◌∷◌, ◌++◌, ◌∙◌, length, map, r
 use Rattle.facts.proofs.Lists.{moved_over}
 use Rattle.std.proofs.lemmas.Bool.{eqb-true}
 use Rattle.std.proofs.lemmas.List.{nil_from_length}
-use Rattle.listing.specs.Lines.{lines_of}
+use Rattle.texts.specs.Lines.{lines_of}
 use Rattle.listing.specs.SymbolListing.{symbols_in}
 use Rattle.latchsym.specs.KeptSymbols.{IsSought, kept_symbols}
 use Rattle.latchsym.proofs.SoughtLemmas.{line_more, whole_text}

@@ -1,5 +1,5 @@
 use Rattle.std.proofs.Common.{◌≡◌, ◌++◌, List, ℕ, length, map}
-use Rattle.listing.specs.Lines.{lines_of}
+use Rattle.texts.specs.Lines.{lines_of}
 use Rattle.listing.specs.SymbolListing.{symbols_in}
 use Rattle.latchsym.specs.KeptSymbols.{IsSought, kept_symbols}
 use Rattle.latchsym.proofs.kept_symbols.symbols_sought.Given as goal

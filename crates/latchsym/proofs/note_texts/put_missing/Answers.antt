@@ -1,4 +1,4 @@
-use Rattle.listing.proofs.WriteLemmas.{same_text, then}
+use Rattle.texts.proofs.WriteLemmas.{same_text, then}
 use Rattle.latchsym.proofs.note_texts.put_missing.Goals as goal
 
 pub returns : goal.returns

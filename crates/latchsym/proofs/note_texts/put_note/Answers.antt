@@ -1,4 +1,4 @@
-use Rattle.listing.proofs.WriteLemmas.{then}
+use Rattle.texts.proofs.WriteLemmas.{then}
 use Rattle.latchsym.proofs.note_texts.put_note.Goals as goal
 
 pub returns : goal.returns

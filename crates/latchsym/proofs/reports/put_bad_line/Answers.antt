@@ -1,4 +1,4 @@
-use Rattle.listing.proofs.WriteLemmas.{then}
+use Rattle.texts.proofs.WriteLemmas.{then}
 use Rattle.latchsym.proofs.reports.put_bad_line.Goals as goal
 
 pub returns : goal.returns

@@ -1,7 +1,7 @@
 use Rattle.std.proofs.Common.{◌≡◌, ◌∙◌, Option, Some, None, [], refl, rules, sym}
 use Rattle.order_laws.specs.Orders.{half_open}
 use Rattle.order_laws.proofs.HalfOpenLemmas.{found_holds}
-use Rattle.latch_core.specs.Histories.{replay}
+use Rattle.table_updates.specs.Updates.{replay}
 use Rattle.latch_table.specs.Readers.{ReaderState}
 use Rattle.latchsym_ffi.specs.declared.contents.Content.{Content}
 use Rattle.latchsym_ffi.specs.declared.contents.Content.TheVariants.{Catalog, Reader, Writer}

@@ -2,7 +2,7 @@ use Rattle.std.proofs.Common.{◌∷◌, ap, ◌∙◌, ◌+◌, take, sym}
 use Rattle.std.specs.List.{slice_split}
 use Rattle.std.proofs.lemmas.List.{take_rest}
 use Rattle.listing.specs.ModuleListing.{is_gap}
-use Rattle.listing.proofs.LineCutLemmas.{split_here, split_nowhere}
+use Rattle.texts.proofs.LineCutLemmas.{split_here, split_nowhere}
 use Rattle.listing.proofs.gaps.cut_at_gap.Goals as goal
 
 pub returns-in-Some-clause-cut : goal.returns-in-Some-clause-cut

@@ -1,6 +1,6 @@
-use Rattle.listing.specs.Lines.{lines_of}
-use Rattle.listing.specs.Numbers.{number_of}
-use Rattle.listing.proofs.UnderstoodLemmas.{are_entries}
+use Rattle.texts.specs.Lines.{lines_of}
+use Rattle.texts.specs.Numbers.{number_of}
+use Rattle.texts.proofs.UnderstoodLemmas.{are_entries}
 use Rattle.listing.proofs.laws.addresses_by_their_lines.Goals as goal
 
 pub returns : goal.returns

@@ -1,4 +1,4 @@
-use Rattle.listing.specs.Lines.{lines_of}
+use Rattle.texts.specs.Lines.{lines_of}
 use Rattle.listing.specs.ModuleListing.{module_of_line}
 use Rattle.listing.specs.SymbolListing.{symbol_of}
 use Rattle.listing.proofs.laws.each_listed_line_is_counted_once.Goals as goal

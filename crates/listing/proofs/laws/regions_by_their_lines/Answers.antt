@@ -1,4 +1,4 @@
-use Rattle.listing.specs.Lines.{lines_of}
+use Rattle.texts.specs.Lines.{lines_of}
 use Rattle.listing.proofs.RegionLineLemmas.{regions_by_lines}
 use Rattle.listing.proofs.laws.regions_by_their_lines.Goals as goal
 

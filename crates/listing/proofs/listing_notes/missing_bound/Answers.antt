@@ -1,5 +1,5 @@
 use Rattle.std.proofs.Common.{sym, ◌∙◌}
-use Rattle.listing.specs.Lines.{lines_of}
+use Rattle.texts.specs.Lines.{lines_of}
 use Rattle.listing.specs.SymbolListing.{symbols_in}
 use Rattle.listing.proofs.ListingNoteLemmas.{nothing_lacked}
 use Rattle.listing.proofs.listing_notes.missing_bound.Goals as goal

@@ -1,6 +1,6 @@
 use Rattle.std.proofs.Common.{◌≡◌, ◌||◌, length}
 use Rattle.std.specs.Prelude.{find}
-use Rattle.listing.specs.Lines.{lines_of}
+use Rattle.texts.specs.Lines.{lines_of}
 use Rattle.listing.specs.Looks.{is_module_line, is_symbol_line}
 use Rattle.listing.proofs.looks.first_formed_line.Given as goal
 

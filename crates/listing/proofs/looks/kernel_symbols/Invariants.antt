@@ -1,6 +1,6 @@
 use Rattle.std.proofs.Common.{◌≡◌, ◌||◌, length}
 use Rattle.std.specs.List.{list_any}
-use Rattle.listing.specs.Lines.{lines_of}
+use Rattle.texts.specs.Lines.{lines_of}
 use Rattle.listing.specs.Looks.{is_kernel_symbol, is_of_kernel}
 use Rattle.listing.specs.SymbolListing.{symbols_in}
 use Rattle.listing.proofs.looks.kernel_symbols.Given as goal

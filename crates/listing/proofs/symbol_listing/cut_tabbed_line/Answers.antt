@@ -1,8 +1,8 @@
 use Rattle.std.proofs.Common.{◌∷◌, ap, ◌∙◌, ◌+◌, List, ℕ, subst, take, sym}
 use Rattle.std.proofs.lemmas.List.{take_rest}
 use Rattle.memchr.specs.Find.{IsFirstByte, is_byte}
-use Rattle.listing.specs.Lines.{lines_of}
-use Rattle.listing.proofs.LineCutLemmas.{line_here, line_nowhere}
+use Rattle.texts.specs.Lines.{lines_of}
+use Rattle.texts.proofs.LineCutLemmas.{line_here, line_nowhere}
 use Rattle.listing.proofs.symbol_listing.cut_tabbed_line.Goals as goal
 
 pub returns-in-Some-clause-line : goal.returns-in-Some-clause-line

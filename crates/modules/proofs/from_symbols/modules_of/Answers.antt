@@ -43,6 +43,6 @@ returns c =
     ap (λ (is : List Item). modules_numbered names is (kept_numbers is c.as_slice-2.result.now)) c.as_slice-3.ensures.value
     ∙ ap (λ (ms : List Mark). modules_numbered names items (kept_numbers items ms)) c.as_slice-2.ensures.value in
     record {
-      found = IfOk-weaker c.modules_in_order.result _ _ (λ v is bounds at. found_modules bounds kernel names runs inside.letters.items c.args.lines.now marks items v.items c.lines.invariant c.lines.view_is named are regions (is ∙ given) at) c.modules_in_order.ensures;
+      found = IfOk-weaker c.modules_in_order.result _ _ (λ v is bounds at. found_modules bounds kernel names runs c.args.lines.now marks items v.items c.lines.view_is named are regions (is ∙ given) at) c.modules_in_order.ensures;
       few = IfOk-weaker c.modules_in_order.result _ _ (λ v is. omega (arith, few_regions names items marks, ap (λ (ms : List PlacedModule). length (flat_map (λ (m : PlacedModule). m.regions) ms)) (is ∙ given), c.in_ok-items.items.ok.0, c.in_ok-items.items.ok.1, c.in_ok-items.items.small)) c.modules_in_order.ensures;
     }

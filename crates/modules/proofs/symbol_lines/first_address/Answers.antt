@@ -3,7 +3,7 @@ use Rattle.modules.specs.Lines.{first_address}
 use Rattle.modules.specs.Listed.{ListedSymbol}
 use Rattle.modules.specs.Runs.{lines_of_all}
 use Rattle.modules.specs.declared.symbol_lines.Run.{Run}
-use Rattle.modules.proofs.RunLemmas.{first_in_last, first_in_front, first_address-lettered}
+use Rattle.modules.proofs.RunLemmas.{first_in_last, first_in_front}
 use Rattle.modules.proofs.symbol_lines.first_address.Goals as goal
 
 pub returns-in-None : goal.returns-in-None
@@ -12,7 +12,7 @@ returns-in-None c =
     let inside = c.lines.inside in
     let all : List ListedSymbol = lines_of_all (inside.runs.items ++ inside.last ∷ []) in
     let none : first_address name (lines_of_all inside.runs.items) ≡ None = ap (λ (rs : List Run). first_address name (lines_of_all rs)) (sym c.as_slice.ensures.value) ∙ sym c.in-None.ensures in
-    let lined : first_address name all ≡ first_address name c.args.lines.now = sym (first_address-lettered name all inside.letters.items c.lines.invariant) ∙ ap (first_address name) c.lines.view_is in
+    let lined : first_address name all ≡ first_address name c.args.lines.now = ap (first_address name) c.lines.view_is in
     c.first_address.ensures ∙ sym (first_in_last inside.runs.items inside.last name none) ∙ lined
 
 pub returns-in_default : goal.returns-in_default
@@ -21,5 +21,5 @@ returns-in_default c =
     let inside = c.lines.inside in
     let all : List ListedSymbol = lines_of_all (inside.runs.items ++ inside.last ∷ []) in
     let is : c.first_in_runs.result ≡ first_address name (lines_of_all inside.runs.items) = c.first_in_runs.ensures ∙ ap (λ (rs : List Run). first_address name (lines_of_all rs)) c.as_slice.ensures.value in
-    let lined : first_address name all ≡ first_address name c.args.lines.now = sym (first_address-lettered name all inside.letters.items c.lines.invariant) ∙ ap (first_address name) c.lines.view_is in
+    let lined : first_address name all ≡ first_address name c.args.lines.now = ap (first_address name) c.lines.view_is in
     first_in_front inside.runs.items inside.last name c.first_in_runs.result c.in_default.not-None is ∙ lined

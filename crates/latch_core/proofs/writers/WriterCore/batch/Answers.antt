@@ -5,8 +5,8 @@ use Rattle.word_layout.specs.Layouts.{capacity_of, limit_of}
 use Rattle.rb_trees.specs.Trees.{IsBalanced}
 use Rattle.rb_words.specs.Pictures.{Picture}
 use Rattle.rb_words.specs.Mirrors.{mirror_stores, mirror_store}
-use Rattle.latch_core.specs.declared.updates.Update.TheVariants.{Batch}
-use Rattle.latch_core.specs.Updates.{some_meet, size_of}
+use Rattle.table_updates.specs.declared.updates.Update.TheVariants.{Batch}
+use Rattle.table_updates.specs.Updates.{some_meet, size_of}
 use Rattle.latch_core.specs.Plans.{update_stores}
 use Rattle.latch_core.specs.Changes.{stores_of_placed, InsertsItems}
 use Rattle.latch_core.specs.WriterViews.{WriterView}

@@ -1,6 +1,6 @@
 use Rattle.std.proofs.Common.{◌∙◌, sym, ap}
-use Rattle.latch_core.specs.declared.updates.Update.TheVariants.{Batch}
-use Rattle.latch_core.specs.Updates.{failed_test}
+use Rattle.table_updates.specs.declared.updates.Update.TheVariants.{Batch}
+use Rattle.table_updates.specs.Updates.{failed_test}
 use Rattle.latch_core.proofs.ClashLemmas.{tests_moved}
 use Rattle.latch_core.proofs.writers.WriterCore.batch_test.Goals as goal
 

@@ -5,7 +5,7 @@ use Rattle.rb_trees.specs.Trees.{IsBalanced}
 use Rattle.rb_words.specs.Pictures.{Picture}
 use Rattle.rb_words.specs.Plans.{Erases}
 use Rattle.rb_words.specs.Mirrors.{second_picture}
-use Rattle.latch_core.specs.declared.updates.Update.TheVariants.{Erase}
+use Rattle.table_updates.specs.declared.updates.Update.TheVariants.{Erase}
 use Rattle.latch_core.specs.WriterViews.{WriterView}
 use Rattle.latch_core.specs.Writers.{AreInStep, HasBegun}
 use Rattle.latch_core.proofs.BothLemmas.{with_room, PlansUpdate, erase_planned, planned_step, planned_begun}

@@ -5,7 +5,7 @@ use Rattle.word_layout.specs.Words.{listed}
 use Rattle.rb_trees.specs.Trees.{IsBalanced}
 use Rattle.rb_words.specs.Pictures.{Picture}
 use Rattle.rb_words.specs.Mirrors.{second_picture}
-use Rattle.latch_core.specs.declared.updates.Update.TheVariants.{Insert}
+use Rattle.table_updates.specs.declared.updates.Update.TheVariants.{Insert}
 use Rattle.latch_core.specs.WriterViews.{WriterView}
 use Rattle.latch_core.specs.Writers.{HasBegun}
 use Rattle.latch_core.proofs.BeginLemmas.{taken_node}

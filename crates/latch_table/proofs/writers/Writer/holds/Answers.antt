@@ -1,6 +1,6 @@
 use Rattle.std.proofs.Common.{◌≡◌, [], None, ◌∙◌, ap, subst}
 use Rattle.order_laws.specs.Tables.{has}
-use Rattle.latch_core.specs.Histories.{replay}
+use Rattle.table_updates.specs.Updates.{replay}
 use Rattle.latch_table.specs.Writers.{WriterState, shown_updates}
 use Rattle.latch_table.proofs.WriterLemmas.{table_rests}
 use Rattle.latch_table.proofs.writers.Writer.holds.Goals as goal

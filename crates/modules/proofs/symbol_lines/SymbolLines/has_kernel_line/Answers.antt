@@ -1,5 +1,6 @@
 use Rattle.std.proofs.Common.{◌≡◌, ◌||◌, Bool, List, true, false, ◌∙◌, ap, sym}
 use Rattle.std.specs.List.{list_any}
+use Rattle.modules.specs.Listed.{ListedSymbol}
 use Rattle.modules.specs.Runs.{lines_of_run}
 use Rattle.modules.specs.declared.symbol_lines.Run.{Run}
 use Rattle.modules.proofs.RunLemmas.{is_in_kernel, kernel_in_all}
@@ -15,7 +16,7 @@ returns-then-is_some_in_kernel c =
     let some : in_runs i.runs.items ≡ true = ap in_runs (sym c.as_slice.ensures.value) ∙ sym c.is_some_in_kernel.ensures ∙ c.if-is_some_in_kernel.true in
     c.if-is_some_in_kernel.true
     ∙ sym (ap (λ (b : Bool). b || list_any is_in_kernel (lines_of_run i.last)) some)
-    ∙ kernel_in_all i.runs.items i.last i.letters.items c.args.self.now c.self.invariant c.self.view_is
+    ∙ kernel_in_all i.runs.items i.last ∙ ap (λ (ls : List ListedSymbol). list_any is_in_kernel ls) c.self.view_is
 
 pub returns-else-is_some_in_kernel : goal.returns-else-is_some_in_kernel
 unfolding in_runs
@@ -24,4 +25,4 @@ returns-else-is_some_in_kernel c =
     let none : in_runs i.runs.items ≡ false = ap in_runs (sym c.as_slice.ensures.value) ∙ sym c.is_some_in_kernel.ensures ∙ c.if-is_some_in_kernel.false in
     c.is_in_kernel.ensures
     ∙ sym (ap (λ (b : Bool). b || list_any is_in_kernel (lines_of_run i.last)) none)
-    ∙ kernel_in_all i.runs.items i.last i.letters.items c.args.self.now c.self.invariant c.self.view_is
+    ∙ kernel_in_all i.runs.items i.last ∙ ap (λ (ls : List ListedSymbol). list_any is_in_kernel ls) c.self.view_is

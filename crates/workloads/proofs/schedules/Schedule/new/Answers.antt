@@ -1,7 +1,7 @@
 use Rattle.std.proofs.Common.{ap, ◌∙◌, arith, length-append}
 use Rattle.workloads.proofs.RoundLemmas.{table_more, tables_more}
 use Rattle.order_laws.specs.Orders.{half_open}
-use Rattle.latch_core.specs.Updates.{after}
+use Rattle.table_updates.specs.Updates.{after}
 use Rattle.workloads.proofs.schedules.Schedule.new.Goals as goal
 
 pub loop-update-preserved : goal.loop-update-preserved

@@ -1,0 +1,31 @@
+//! What C calls, of the library itself.
+
+ghost use Rattle.std.specs.Prelude.{◌≡◌, ◌++◌, [], ◌∷◌};
+ghost use Rattle.latchsym_ffi.specs.Answers.{text_with};
+
+use crate::answers::text_of;
+
+/// Where bytes lie that stay there.
+#[repr(C)]
+#[derive(Clone, Copy, Drop)]
+pub struct Place {
+    pub bytes: &'static [u8],
+}
+
+/// Tells where the text of a number lies, with the 0 at its end.
+#[unsafe(no_mangle)]
+pub extern "C" fn latchsym_place_of_text(number: u32, out: &mut Place)
+    ensures { out.new.bytes.now ≡ text_with number ++ 0 ∷ [] }
+{
+    *out = Place {
+        bytes: text_of(number),
+    };
+}
+
+/// The version of the library: 10000 of each major, 100 of each minor and 1 of each patch number.
+#[unsafe(no_mangle)]
+pub extern "C" fn latchsym_version() -> u32
+    ensures { result ≡ 10100 }
+{
+    10100
+}

@@ -1,7 +1,0 @@
-use Rattle.listing.specs.Lines.{lines_of}
-use Rattle.listing.specs.Scripts.{script_line_by}
-use Rattle.listing.proofs.UnderstoodLemmas.{are_entries}
-use Rattle.listing.proofs.laws.script_by_its_lines.Goals as goal
-
-pub returns : goal.returns
-returns c = λ readers text. are_entries (script_line_by readers) 1 (lines_of text)

@@ -1,0 +1,6 @@
+-- how many words a form has
+pub mod FormLemmas
+-- what a line of a script is
+pub mod ScriptLineLemmas
+-- what the lines of a trace say of it
+pub mod TraceLineLemmas

@@ -1,0 +1,36 @@
+-- What the lines of a trace say of it.
+use Rattle.std.proofs.Common.{◌≡◌, ℕ, List, [], ◌∷◌, ◌++◌, Option, Some, None, Result, Ok, Err, MatchResult, refl, inl, inr}
+use Rattle.latch_steps.specs.declared.commands.Command.{Command}
+use Rattle.texts.proofs.SaidLemmas.{one_more}
+use Rattle.texts.proofs.UnderstoodLemmas.{AreEntries, are_entries}
+use Rattle.texts.specs.Said.{entries_after, entries_from}
+use Rattle.run_files.specs.declared.header.Header.{Header}
+use Rattle.run_files.specs.CommandLines.{GivesCommand}
+use Rattle.run_files.specs.Commands.{command_by}
+use Rattle.run_files.specs.Header.{header_of}
+use Rattle.run_files.specs.Trace.{contents_with, trace_of_lines, with_header}
+use Rattle.run_files.specs.Understood.{IsFirstBad, IsTraceBy}
+
+-- entries before those that lines say which are left, where what was taken is known by its test
+pub gone_past : {T : Type 0} (left rest whole : Result (List T) ℕ) (next : Option T) (entry : T) → next ≡ Some entry
+    → GivesCommand left rest (Ok next) → (front : List T) × (entries_after front left ≡ whole)
+    → (front : List T) × (entries_after front rest ≡ whole)
+gone_past left rest whole None entry there gives way = absurd (cc)
+gone_past left rest whole (Some x) entry there gives way =
+    let (front, is) = way in (front ++ x ∷ [], one_more front left whole is x rest gives)
+
+with_commands : (first : List ℕ) (lines : List (List ℕ)) (header : Header) → header_of first ≡ Some header
+    → (r : Result (List (Command ℕ)) ℕ) → AreEntries (command_by header.version) 2 lines r
+    → MatchResult (with_header header r) (IsTraceBy (first ∷ lines)) (IsFirstBad (first ∷ lines))
+with_commands first lines header e (Ok commands) all = (e, all)
+with_commands first lines header e (Err n) bad = inr (header, e, bad)
+
+headed_by : (first : List ℕ) (lines : List (List ℕ)) (header : Option Header) → header_of first ≡ header
+    → MatchResult (contents_with header lines) (IsTraceBy (first ∷ lines)) (IsFirstBad (first ∷ lines))
+headed_by first lines None e = inl (refl, e)
+headed_by first lines (Some header) e =
+    with_commands first lines header e (entries_from (command_by header.version) 2 lines) (are_entries (command_by header.version) 2 lines)
+
+pub trace_by_lines : (lines : List (List ℕ)) → MatchResult (trace_of_lines lines) (IsTraceBy lines) (IsFirstBad lines)
+trace_by_lines [] = refl
+trace_by_lines (first ∷ lines) = headed_by first lines (header_of first) refl

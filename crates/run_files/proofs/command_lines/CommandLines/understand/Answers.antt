@@ -1,0 +1,22 @@
+use Rattle.std.proofs.Common.{[]}
+use Rattle.texts.proofs.SaidLemmas.{none_before}
+use Rattle.run_files.proofs.TraceLineLemmas.{gone_past}
+use Rattle.run_files.proofs.command_lines.CommandLines.understand.Goals as goal
+
+pub loop-init : goal.loop-init
+loop-init c = ([], none_before _)
+
+pub loop-preserved-in-Some : goal.loop-preserved-in-Some
+loop-preserved-in-Some c =
+    gone_past _ _ _ c.in_ok-next_command.field-0 c.in-Some.field-0 c.in-Some.is c.in_ok-next_command.ensures.next
+    c.loop.invariant
+
+pub loop-preserved-in-Some-2 : goal.loop-preserved-in-Some-2
+loop-preserved-in-Some-2 c =
+    gone_past _ _ _ c.in_ok-next_command.field-0 c.in-Some.field-0 c.in-Some.is c.in_ok-next_command.ensures.next
+    c.loop.invariant
+
+pub loop-preserved-in-Some-3 : goal.loop-preserved-in-Some-3
+loop-preserved-in-Some-3 c =
+    gone_past _ _ _ c.in_ok-next_command.field-0 c.in-Some.field-0 c.in-Some.is c.in_ok-next_command.ensures.next
+    c.loop.invariant

@@ -1,0 +1,12 @@
+use Rattle.std.proofs.Common.{◌≡◌, ◌++◌, map, length}
+use Rattle.arrayvec.specs.ArrayVec.{array_vec_len}
+use Rattle.texts.specs.Lines.{words_of}
+use Rattle.texts.proofs.lines.words_in.Given as goal
+
+-- the words so far, and those that are left
+abbrev pub invariant-loop : goal.invariant-loop
+invariant-loop g l = record {
+  cut : map (λ w. w.now) l.words.items ++ words_of l.rest ≡ words_of l.line;
+  counted : array_vec_len l.words ≡ l.counter;
+  all : length l.words.items ≡ l.counter;
+}

@@ -1,0 +1,36 @@
+-- What a clause reads of a counted device, and how its count moves.
+use Rattle.std.specs.Prelude.{◌≡◌, ℕ, ◌+◌, ◌-◌, ◌^◌, ◌<◌, ◌⊎◌, ◌&&◌, min, nat_eq, nat_lt}
+use Rattle.std.specs.Prelude.{if◌then◌else◌, length, List, Result, Ok, Err}
+use Rattle.texts.specs.declared.counted.Counted.{Counted}
+
+-- the reader or writer inside
+abbrev pub device_of : {D : Type 0} → Counted D → D
+device_of c = c.device
+
+-- how many of its calls failed
+abbrev pub failures_of : {D : Type 0} → Counted D → ℕ
+failures_of c = c.failures
+
+-- one failure more, up to the greatest u64
+abbrev pub one_failure_more : ℕ → ℕ
+one_failure_more n = min (n + 1) (2 ^ 64 - 1)
+
+-- the count after a call of which only an error is a failure
+abbrev pub after_call : {A E : Type 0} → ℕ → Result A E → ℕ
+after_call n (Ok _) = n
+after_call n (Err _) = one_failure_more n
+
+-- the count after a write: an error is a failure, and so is a write of at least one byte that takes
+-- none
+abbrev pub after_write : {E : Type 0} → ℕ → Result ℕ E → List ℕ → ℕ
+after_write n (Ok taken) bytes =
+    if nat_eq taken 0 && nat_lt 0 (length bytes) then one_failure_more n else n
+after_write n (Err _) bytes = one_failure_more n
+
+-- no call failed between the two
+abbrev pub NoneFailed : {D : Type 0} → Counted D → Counted D → Type 0
+NoneFailed old new = failures_of new ≡ failures_of old
+
+-- a failed call was counted between the two, or no more can be counted
+abbrev pub Rose : ℕ → ℕ → Type 0
+Rose before after = (before < after) ⊎ (after ≡ 2 ^ 64 - 1)

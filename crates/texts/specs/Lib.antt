@@ -1,0 +1,15 @@
+-- The definitions of this crate, in the order in which to read them.
+-- what a clause reads of a counted device, and how its count moves
+pub mod Counted
+-- what a call that writes an exact text does, and the text of an address
+pub mod Exact
+-- what a clause reads of a device that fails at one call
+pub mod FailAt
+-- the lines of a text and the words of a line
+pub mod Lines
+-- the numbers that words are
+pub mod Numbers
+-- what lines say, each of which has to be understood
+pub mod Said
+-- what a text is, line by line
+pub mod Understood

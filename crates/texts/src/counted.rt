@@ -1,0 +1,116 @@
+//! A device and the number of its failed calls.
+ghost use Rattle.std.specs.Prelude.{◌≡◌, ◌≤◌, ◌<◌, length, IfOk, OnErr};
+ghost use Rattle.std.specs.Io.{ReadsAtMost, WritesAtMost};
+ghost use Rattle.std.specs.Io.KnownBytes.{ReadConsumes, WriteAppends, Keeps};
+
+use std::io;
+use std::io::{Read, Write};
+
+/// How many bytes are asked of a reader, or gathered for a writer, at once.
+pub const BLOCK: usize = 65536;
+
+/// A reader or a writer, and how many of its calls failed.
+///
+/// A failed call is an error of any kind, or a write of at least one byte that takes none. The
+/// count stays at the greatest `u64` once it is there. What the device has left to be read, or
+/// holds of what was written, is that of the device inside.
+#[derive(Drop)]
+pub struct Counted<D> {
+    device: D,
+    failures: u64,
+}
+
+impl<D> Counted<D> {
+    ghost use Rattle.texts.specs.Counted.{device_of, failures_of};
+
+    /// The device, with no call made.
+    pub fn new(device: D) -> Counted<D>
+        ensures device { device_of result ≡ device }
+        ensures none { failures_of result ≡ 0 }
+    {
+        Counted {
+            device,
+            failures: 0,
+        }
+    }
+
+    /// How many calls failed.
+    pub fn failures(&self) -> u64
+        ensures { result ≡ failures_of self.now }
+    {
+        self.failures
+    }
+
+    /// The device alone.
+    pub fn into_inner(self) -> D
+        ensures { result ≡ device_of self }
+    {
+        self.device
+    }
+}
+
+impl<R: Read> Read for Counted<R> {
+    ghost use Rattle.texts.specs.Counted.{device_of, failures_of, after_call, Rose};
+
+    ghost remaining = { λ c. R.remaining (device_of c) };
+
+    fn read(&mut self, buf: &mut [u8]) -> io::Result<usize>
+        ensures bound { ReadsAtMost result buf.new }
+        ensures bytes { ReadConsumes (R.remaining (device_of self.old))
+            (R.remaining (device_of self.new)) result buf.new }
+
+        ensures counted { failures_of self.new ≡ after_call (failures_of self.old) result }
+        ensures failed { OnErr result (Rose (failures_of self.old) (failures_of self.new)) }
+        ensures never_falls { failures_of self.old ≤ failures_of self.new }
+    {
+        let result = self.device.read(buf);
+        if result.is_err() {
+            self.failures = self.failures.saturating_add(1);
+        }
+        result
+    }
+}
+
+impl<W: Write> Write for Counted<W> {
+    ghost use Rattle.texts.specs.Counted.{device_of, failures_of, after_call, after_write, Rose};
+
+    ghost contents = { λ c. W.contents (device_of c) };
+
+    #[inline(always)]
+    fn write(&mut self, buf: &[u8]) -> io::Result<usize>
+        ensures bound { WritesAtMost result buf.now }
+        ensures bytes { WriteAppends (W.contents (device_of self.old))
+            (W.contents (device_of self.new)) result buf.now }
+
+        ensures counted { failures_of self.new ≡ after_write (failures_of self.old) result buf.now }
+        ensures failed { OnErr result (Rose (failures_of self.old) (failures_of self.new)) }
+        ensures none_taken { IfOk result (λ n. n ≡ 0 → 0 < length buf.now →
+            Rose (failures_of self.old) (failures_of self.new)) }
+        ensures never_falls { failures_of self.old ≤ failures_of self.new }
+    {
+        let result = self.device.write(buf);
+        match &result {
+            Ok(taken) => {
+                if *taken == 0 && buf.len() > 0 {
+                    self.failures = self.failures.saturating_add(1);
+                }
+            }
+            Err(_) => self.failures = self.failures.saturating_add(1),
+        }
+        result
+    }
+
+    fn flush(&mut self) -> io::Result<()>
+        ensures bytes { Keeps (W.contents (device_of self.old)) (W.contents (device_of self.new)) }
+
+        ensures counted { failures_of self.new ≡ after_call (failures_of self.old) result }
+        ensures failed { OnErr result (Rose (failures_of self.old) (failures_of self.new)) }
+        ensures never_falls { failures_of self.old ≤ failures_of self.new }
+    {
+        let result = self.device.flush();
+        if result.is_err() {
+            self.failures = self.failures.saturating_add(1);
+        }
+        result
+    }
+}

@@ -1,0 +1,123 @@
+#!/usr/bin/env bash
+# Fails each read and each write of a run of the program in turn, until a run meets no failure. A
+# read that fails is told as that of its file, with status 1 and nothing on standard output, where a
+# beginning of an annotated log may stand; a write that fails is told, and a beginning was written.
+# Then reads logs and listings a few bytes at a time.
+#
+# The program is linked to the C library dynamically, so a library in front of it can fail a call.
+# Needs a C compiler.
+set -euo pipefail
+. "$(dirname "$0")/program.sh"
+build latchsym
+cc -O1 -shared -fPIC -o "$work/fail.so" "$top/tests/devices/fail.c"
+cd "$work"
+failed=0
+calls=0
+
+fail() {
+    echo "devices: $1"
+    failed=1
+}
+
+# once VARIABLE=NUMBER ARGUMENT..: a run in which that call fails
+once() {
+    local setting=$1
+    shift
+    status=0
+    rm -f mark
+    env "$setting" FAILURE_MARK="$work/mark" LD_PRELOAD="$work/fail.so" "$program" "$@" <input >out 2>err || status=$?
+}
+
+# is_begun: whether what was written is a beginning of what is written where nothing fails
+is_begun() {
+    [ ! -s out ] || cmp -s -n "$(stat -c %s out)" out ample
+}
+
+# tried READS WRITES ARGUMENT..: each call of the run is failed; so many reads and writes there are at
+# least
+tried() {
+    local reads=$1 writes=$2 call name before=0
+    shift 2
+    "$program" "$@" <input >ample 2>err && [ ! -s err ] || fail "latchsym $*: $(cat err)"
+    for ((call = 1; ; call++)); do
+        once FAILED_READ=$call "$@"
+        [ -e mark ] || break
+        name=$(basename "$(cat mark)")
+        [ "$name" != input ] || name=-
+        [ $status = 1 ] && [ "$(cat err)" = "latchsym: $name: cannot be read" ] && is_begun ||
+            fail "latchsym $*: read $call fails: status $status, $(cat err)"
+        if [ "$1" != annotate ]; then
+            [ ! -s out ] || fail "latchsym $*: read $call fails: $(head -c 200 out)"
+        elif [ "$(stat -c %s out)" -lt $before ]; then
+            fail "latchsym $*: read $call fails, and less is written than before"
+        else
+            before=$(stat -c %s out)
+        fi
+    done
+    [ $status = 0 ] && cmp -s out ample || fail "latchsym $*: no read fails: status $status, $(cat err)"
+    [ $((call - 1)) -ge "$reads" ] || fail "latchsym $*: $((call - 1)) reads, fewer than $reads"
+    [ "$1" != annotate ] || [ $before -gt 0 ] || fail "latchsym $*: nothing was written before the last read"
+    calls=$((calls + call - 1))
+    for ((call = 1; ; call++)); do
+        once FAILED_WRITE=$call "$@"
+        [ -e mark ] || break
+        [ $status = 1 ] && [ "$(cat err)" = "latchsym: cannot write" ] && is_begun ||
+            fail "latchsym $*: write $call fails: status $status, $(cat err)"
+    done
+    [ $status = 0 ] && cmp -s out ample || fail "latchsym $*: no write fails: status $status, $(cat err)"
+    [ $((call - 1)) -ge "$writes" ] || fail "latchsym $*: $((call - 1)) writes, fewer than $writes"
+    calls=$((calls + call - 1))
+}
+
+# Files of several blocks: what comes after their beginnings is a comment, or malformed.
+# long NAME BEGINNING
+long() {
+    { printf "$2"; for _ in {1..3500}; do echo '# nothing of a run'; done; } >"$1"
+}
+long modules 'a 4096 1 - Live 0x3000\n'
+long kallsyms '1000 T _stext\n2000 T _end\n3010 t a_run\t[a]\n'
+long regions 'latchregions 1\na core 0x3000 4096\n'
+long script 'unload 1 b\nlook 1 0x2000\n'
+long log 'at ffffffff81000108, 00003018, 0x000003018\n'
+long asked ''
+for _ in {1..5000}; do echo 0x3018; done >>asked
+cp asked input
+{ echo 'latchtrace 1 halfopen 1'; for _ in {1..2500}; do printf 'start 1 0x0\nread 1 3\n'; done; } >trace
+both=(--modules modules --kallsyms kallsyms --regions regions)
+cp "$top/examples/traces/torn_item.trace" short
+tried 2 1 trace short
+tried 2 1 trace trace
+tried 2 2 trace --steps trace
+tried 11 3 lookup "${both[@]}" --addresses asked
+tried 8 3 lookup --modules modules --kallsyms kallsyms --addresses - 1
+tried 5 3 lookup --modules-from-symbols --kallsyms kallsyms --addresses asked --json
+tried 12 1 run "${both[@]}" --readers 1 script
+tried 6 2 annotate --kallsyms kallsyms log
+tried 12 2 annotate "${both[@]}" log
+tried 5 1 annotate --kallsyms kallsyms -
+tried 9 1 check "${both[@]}"
+tried 3 1 check --kallsyms kallsyms
+tried 9 1 address "${both[@]}" a:a_run none
+tried 3 1 address --kallsyms kallsyms --json a_run
+
+# portions ARGUMENT..: what is read a few bytes at a time is answered as in one piece
+portions() {
+    local most
+    "$program" "$@" <input >ample
+    for most in {1..40}; do
+        status=0
+        env LONGEST_READ="$most" LD_PRELOAD="$work/fail.so" "$program" "$@" <input >out 2>err || status=$?
+        [ $status = 0 ] && [ ! -s err ] && cmp -s out ample || fail "latchsym $*: $most bytes at a time: status $status, $(cat err)"
+    done
+}
+cases=$top/tests/cases
+cp "$cases"/a_log_by_listed_modules/{modules,kallsyms,log} .
+cp log input
+portions annotate --kallsyms kallsyms --kernel _stext _end log
+portions annotate --modules modules --kallsyms kallsyms
+portions check --modules modules --kallsyms kallsyms
+portions address --kallsyms kallsyms do_one ext4_b
+portions lookup --modules modules --kallsyms kallsyms 0xffffffffc0000018
+portions trace --steps short
+[ $failed = 1 ] || echo "devices: $calls calls failed, and files read in portions"
+exit $failed

@@ -1,0 +1,50 @@
+/* Stands in front of the C library's read and write, and fails one call of a program that is linked
+ * to the C library dynamically.
+ *
+ *   FAILED_READ    the number of the read that fails, from 1 on; 0 or nothing fails none
+ *   FAILED_WRITE   the number of the write to standard output that fails
+ *   FAILURE_MARK   a file that is made where the call came, with the path of what was read or written
+ *   LONGEST_READ   the most bytes that a read gives
+ *
+ * A call that fails does nothing, and says EIO. */
+#include <errno.h>
+#include <fcntl.h>
+#include <stdio.h>
+#include <stdlib.h>
+#include <sys/syscall.h>
+#include <unistd.h>
+
+static long failed_read, failed_write, longest_read, reads, writes;
+
+static long number(const char *name) {
+    const char *text = getenv(name);
+    return text ? atol(text) : 0;
+}
+
+static ssize_t fail(int file) {
+    char link[64], path[4096];
+    int mark = open(getenv("FAILURE_MARK"), O_CREAT | O_TRUNC | O_WRONLY, 0600);
+    snprintf(link, sizeof link, "/proc/self/fd/%d", file);
+    ssize_t length = readlink(link, path, sizeof path);
+    if (length > 0) syscall(SYS_write, mark, path, (size_t)length);
+    close(mark);
+    errno = EIO;
+    return -1;
+}
+
+ssize_t read(int file, void *bytes, size_t count) {
+    if (__atomic_add_fetch(&reads, 1, __ATOMIC_SEQ_CST) == failed_read) return fail(file);
+    if (longest_read > 0 && count > (size_t)longest_read) count = (size_t)longest_read;
+    return syscall(SYS_read, file, bytes, count);
+}
+
+ssize_t write(int file, const void *bytes, size_t count) {
+    if (file == 1 && __atomic_add_fetch(&writes, 1, __ATOMIC_SEQ_CST) == failed_write) return fail(file);
+    return syscall(SYS_write, file, bytes, count);
+}
+
+__attribute__((constructor)) static void begin(void) {
+    failed_read = number("FAILED_READ");
+    failed_write = number("FAILED_WRITE");
+    longest_read = number("LONGEST_READ");
+}
