@@ -4,7 +4,7 @@
 # release, which has all files where they are to be under PREFIX.
 set -euo pipefail
 
-usage='usage: install.sh [--static] [--uninstall] PREFIX
+usage='usage: install.sh [--static] [--target PROCESSOR] [--uninstall] PREFIX
 
 Puts the program latchsym and the library for C and C++ under PREFIX: bin/latchsym, the headers in
 include, liblatchsym.a and liblatchsym.so in lib with latchsym.pc for pkg-config; and the man pages
@@ -14,6 +14,8 @@ All are copied before the first is renamed to its name, so a program that runs g
 with the files that it has, and a copy that fails leaves them as they are.
 
 --static      links the program without shared libraries, as that of a release is
+--target P    builds for the processor P, x86_64 or aarch64; the program is as with --static, and
+              aarch64 takes Debian'"'"'s gcc-aarch64-linux-gnu. A release is of one processor
 --uninstall   takes these files away again, and leaves the folders
 --help        this text
 
@@ -26,8 +28,11 @@ fault() {
 
 uninstall=
 static=
+processor=
 prefix=
-for word in "$@"; do
+while [ $# -gt 0 ]; do
+    word=$1
+    shift
     case $word in
         --help)
             printf '%s\n' "$usage"
@@ -35,6 +40,13 @@ for word in "$@"; do
             ;;
         --uninstall) uninstall=1 ;;
         --static) static=1 ;;
+        --target)
+            case ${1:-} in
+                x86_64 | aarch64) processor=$1 ;;
+                *) fault "--target takes x86_64 or aarch64" ;;
+            esac
+            shift
+            ;;
         -*) fault "there is no option $word" ;;
         *)
             [ -z "$prefix" ] || fault 'more than one PREFIX is given'
@@ -77,13 +89,14 @@ source_of() {
 }
 
 if [ -e "$here/bin/latchsym" ]; then
+    [ -z "$processor" ] || fault 'a release is of one processor'
     source_of() { echo "$here/$1"; }
     work=$(mktemp -d)
 else
     . "$here/tests/program.sh"
     . "$top/tests/library.sh"
-    if [ -n "$static" ]; then build_static latchsym; else build latchsym; fi
-    build_library
+    if [ -n "$static$processor" ]; then build_static latchsym "$processor"; else build latchsym; fi
+    build_library "$processor"
 fi
 
 # (quotes, for a prefix with blanks)

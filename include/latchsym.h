@@ -52,7 +52,7 @@ static_assert(sizeof(struct latchsym_reader) == sizeof(struct latchsym_handle), 
 
 /* The version of this header: 10000 of each major, 100 of each minor and 1 of each patch number.
  * What a program of one major version was compiled with, each later minor version gives it too. */
-#define LATCHSYM_VERSION 10000
+#define LATCHSYM_VERSION 10100
 
 /* What calls return. A number means one thing, whatever call returns it. Those below 20 are
  * refusals, and are the numbers that the program prints. */

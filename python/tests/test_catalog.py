@@ -4,7 +4,9 @@ import gc
 import mmap
 import pathlib
 import pickle
+import re
 import tempfile
+import textwrap
 import threading
 import unittest
 
@@ -156,6 +158,46 @@ class Many(unittest.TestCase):
 
     def test_texts(self):
         self.assertEqual(self.catalog.texts(self.ADDRESSES), self.TEXTS)
+
+
+    def test_factors(self):
+        for addresses in (self.ADDRESSES, array.array("Q", self.ADDRESSES), self.ADDRESSES * 3):
+            codes, symbols, offsets = self.catalog.factorize(addresses)
+            self.assertEqual([str(it) for it in symbols], ["ext4_a+0x0/0x30 [ext4]", "None", "do_one+0x0/0x1f00", "? [ext4]"])
+            self.assertEqual(codes.tolist(), [0, 1, 2, 3, 0] * (len(addresses) // 5))
+            self.assertEqual(offsets.tolist(), [8, 0, 8, 0, 10] * (len(addresses) // 5))
+        signed = array.array("q", array.array("Q", self.ADDRESSES).tobytes())
+        self.assertEqual(self.catalog.factorize(signed).codes.tolist(), [0, 1, 2, 3, 0])
+        self.assertEqual(self.catalog.factorize([])[:2], (array.array("i"), []))
+        self.assertEqual(len(self.catalog.factorize([]).offsets), 0)
+
+    def test_factors_tell_apart_what_texts_do(self):
+        with Catalog(SYMBOLS + b"ffffffffc1000000 t f\t[m]\nffffffffc1000010 t f\t[m]\n") as catalog:
+            addresses = [0xFFFFFFFFC1000000, 0xFFFFFFFFC1000011, 0, (1 << 64) - 1, EXT4_A, 0xFFFFFFFFC1000001]
+            codes, symbols, offsets = catalog.factorize(addresses)
+            self.assertEqual(codes.tolist(), [0, 1, 2, 2, 3, 0])
+            made = [symbols[code] and str(symbols[code]._replace(offset=offset)) for code, offset in zip(codes, offsets)]
+            self.assertEqual([text or "-" for text in made], catalog.texts(addresses))
+
+    def test_factors_of_modules_without_a_symbol(self):
+        modules = MODULES + b"nfs 4096 1 - Live 0xffffffffd0000000\n"
+        with Catalog(SYMBOLS, modules) as catalog:
+            codes, symbols, _ = catalog.factorize([0xFFFFFFFFC0000001, 0xFFFFFFFFD0000000, 0xFFFFFFFFC0000002])
+            self.assertEqual(codes.tolist(), [0, 1, 0])
+            self.assertEqual([str(it) for it in symbols], ["? [ext4]", "? [nfs]"])
+
+    def test_the_table_of_the_page(self):
+        try:
+            import numpy
+            import pandas
+        except ImportError:
+            self.skipTest("pandas is not here")
+        page = (pathlib.Path(__file__).parents[1] / "README.md").read_text()
+        block = re.search(r"^    import numpy\n(?:    .*\n)+", page, re.MULTILINE)[0]
+        samples = pandas.DataFrame({"address": numpy.array(self.ADDRESSES, dtype="uint64")})
+        exec(textwrap.dedent(block), {"samples": samples, "catalog": self.catalog})
+        self.assertEqual(samples["symbol"].tolist(), ["ext4_a", None, "do_one", None, "ext4_a"])
+        self.assertEqual(samples["offset"].tolist(), [8, 0, 8, 0, 10])
 
 
 class Entries(unittest.TestCase):

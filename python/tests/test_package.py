@@ -3,8 +3,10 @@ import doctest
 import os
 import pathlib
 import re
+import shutil
 import subprocess
 import sys
+import tempfile
 import unittest
 
 import latchsym
@@ -46,6 +48,35 @@ class Package(unittest.TestCase):
         run = subprocess.run(words, env=environment, stderr=subprocess.PIPE, text=True)
         self.assertEqual(run.returncode, 1)
         self.assertIn("LATCHSYM_LIBRARY", run.stderr)
+
+    def test_where_the_library_is_looked_for(self):
+        program = "import latchsym._library as it; print(it.lib._name)"
+        path = os.pathsep.join(map(os.path.abspath, filter(None, sys.path)))
+        library = pathlib.Path(_library.lib._name)
+        if not library.is_absolute():
+            self.skipTest("the library's file is not known")
+        if library.parent == pathlib.Path(latchsym.__file__).absolute().parent:
+            self.skipTest("the package has the library itself")
+        with tempfile.TemporaryDirectory() as folder:
+            there = pathlib.Path(folder, "lib", "liblatchsym.so.1")
+            there.parent.mkdir()
+            shutil.copy(library, there)
+            own = pathlib.Path(folder, "own", "latchsym")
+            shutil.copytree(pathlib.Path(latchsym.__file__).parent, own)
+            shutil.copy(library, own / "liblatchsym.so.1")
+            tool = pathlib.Path(folder, "bin", "latchsym")
+            tool.parent.mkdir()
+            tool.write_text("#!/bin/sh\n")
+            tool.chmod(0o755)
+            for wanted, given in (
+                (there, {"PYTHONPATH": path, "PYTHONUSERBASE": folder}),
+                (there, {"PYTHONPATH": path, "PATH": f"{tool.parent}:{os.environ['PATH']}"}),
+                (own / "liblatchsym.so.1", {"PYTHONPATH": str(own.parent)}),
+            ):
+                environment = {**os.environ, "PYTHONDONTWRITEBYTECODE": "1", "LATCHSYM_LIBRARY": "", **given}
+                words = [sys.executable, "-c", program]
+                run = subprocess.run(words, env=environment, stdout=subprocess.PIPE, text=True, check=True)
+                self.assertEqual(os.path.realpath(run.stdout.strip()), os.path.realpath(wanted))
 
     def test_every_public_name_is_documented(self):
         for name in latchsym.__all__:

@@ -7,7 +7,7 @@ wait for its writer. Both are those of the library for C, `liblatchsym.so.1`, wh
 where the environment's LATCHSYM_LIBRARY says and else where the system looks for libraries.
 """
 
-from ._catalog import Answer, Answers, Catalog, Counts, Entry, Module, Region, Symbol, View
+from ._catalog import Answer, Answers, Catalog, Counts, Entry, Factors, Module, Region, Symbol, View
 from ._errors import (
     BadCapacity,
     BadItem,
@@ -26,7 +26,7 @@ from ._errors import (
 from ._library import lib as _lib
 from ._table import Found, Item, Reader, Step, Table, Writer
 
-__version__ = "1.0.0"
+__version__ = "1.1.0"
 
 
 def library_version() -> int:
@@ -51,6 +51,7 @@ __all__ = [
     "Counts",
     "Entry",
     "Error",
+    "Factors",
     "Found",
     "Full",
     "Item",

@@ -4,9 +4,11 @@
 from __future__ import annotations
 
 import ctypes
+import operator
 import os
 import threading
 import weakref
+from array import array
 from ctypes import byref, c_char, c_size_t, c_uint64
 from pathlib import Path
 from types import TracebackType
@@ -157,6 +159,17 @@ class Answers(Sequence[Answer]):
         return Answer(
             found.module_number, found.offset, found.size, found.name_len, found.module_len, told.code
         )
+
+
+class Factors(NamedTuple):
+    """What `Catalog.factorize` tells of many addresses."""
+
+    codes: array[int]
+    """For each address the place in `symbols` of what it was found in."""
+    symbols: list[Symbol | None]
+    """Each symbol that was found, once, at offset 0; None where nothing is."""
+    offsets: memoryview
+    """For each address how far it lies above its symbol; a column of `Answers`."""
 
 
 def _symbol(number: int, found: it.Symbol, modules: dict[int, str]) -> Symbol | None:
@@ -407,6 +420,39 @@ class Catalog:
             name, rest = parts[start]
             texts.append(f"{name}+0x{offset:x}{rest}")
         return texts
+
+    def factorize(self, addresses: Any) -> Factors:
+        """The distinct symbols of many addresses, and for each address which of them it lies in.
+
+        As `pandas.factorize` does: no `str` is made for an address, and a name only once.
+
+        >>> import latchsym
+        >>> symbols = b"ffffffffc0000010 t ext4_a\\t[ext4]\\nffffffffc0000040 t ext4_b\\t[ext4]\\n"
+        >>> with latchsym.Catalog(symbols) as catalog:
+        ...     found = catalog.factorize([0xffffffffc0000018, 0x1000, 0xffffffffc000001a])
+        >>> found.codes.tolist(), found.offsets.tolist()
+        ([0, 1, 0], [8, 0, 10])
+        >>> [str(symbol) for symbol in found.symbols]
+        ['ext4_a+0x0/0x30 [ext4]', 'None']
+        """
+        view = numbers(addresses)
+        answers = self.find_many(view)
+        if not len(view):
+            return Factors(array("i"), [], answers.offsets)
+        words = view.cast("B").cast("Q").tolist()
+        # What tells them apart: a symbol its first address, modules without one their numbers, below 0.
+        keys: list[int | None] = list(map(operator.sub, words, answers.offsets.tolist()))
+        told = answers.numbers.tolist()
+        address_of: dict[int, int] = {}
+        for place in (place for place, number in enumerate(told) if number):
+            key = -1 - answers[place].module_number if told[place] == it.NO_SYMBOL else None
+            keys[place] = key
+            if key is not None:
+                address_of[key] = words[place]
+        distinct = dict.fromkeys(keys)
+        symbols = [None if key is None else self.find(address_of.get(key, key)) for key in distinct]
+        places = dict(zip(distinct, range(len(symbols))))
+        return Factors(array("i", map(places.__getitem__, keys)), symbols, answers.offsets)
 
     def _parts(self, start: int) -> tuple[str, str]:
         """What stands before and behind the offset in the text of a symbol that is there."""

@@ -6,6 +6,9 @@ from __future__ import annotations
 import ctypes
 import ctypes.util
 import os
+import shutil
+import site
+import sys
 from ctypes import POINTER, c_char, c_size_t, c_uint8, c_uint32, c_uint64, c_void_p
 from typing import Iterator
 
@@ -199,11 +202,28 @@ def _paths() -> Iterator[str]:
     if chosen:
         yield chosen
         return
-    yield f"liblatchsym.so.{MAJOR}"
+    name = f"liblatchsym.so.{MAJOR}"
+    own = os.path.join(os.path.dirname(os.path.abspath(__file__)), name)
+    if os.path.exists(own):
+        yield own
+    yield name
     yield "liblatchsym.so"
     known = ctypes.util.find_library("latchsym")
     if known:
         yield known
+    for prefix in _prefixes():
+        path = os.path.join(prefix, "lib", name)
+        if os.path.exists(path):
+            yield path
+
+
+def _prefixes() -> Iterator[str]:
+    """Where install.sh may have put the library: Python's prefix, the user's, the program's."""
+    yield sys.prefix
+    yield site.getuserbase() or sys.prefix
+    program = shutil.which("latchsym")
+    if program:
+        yield os.path.dirname(os.path.dirname(os.path.realpath(program)))
 
 
 def _load() -> ctypes.CDLL:
@@ -224,7 +244,8 @@ def _load() -> ctypes.CDLL:
             return library
         faults.append(f"{path}: of version {version}, not {MAJOR}")
     raise ImportError(
-        "liblatchsym is not found (LATCHSYM_LIBRARY names its file): " + "; ".join(faults)
+        "liblatchsym is not found: install it by install.sh, or set "
+        f"LATCHSYM_LIBRARY=PREFIX/lib/liblatchsym.so.{MAJOR}: " + "; ".join(faults)
     )
 
 
