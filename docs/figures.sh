@@ -1,7 +1,8 @@
 #!/usr/bin/env bash
 # SPDX-License-Identifier: MIT OR Apache-2.0
 # The numbers and lists of the pages that follow from the files: docs/figures.sh writes them into
-# docs/PROOF.md and README.md, and --check says which of them are no longer so. Needs python3.
+# docs/PROOF.md and README.md, and the definitions of the headline into docs/headline.txt; --check says
+# which of them are no longer so. Needs python3.
 #
 # A list of docs/PROOF.md stands below a line `<!-- read NAME -->`; PATHS says what it is of. A block
 # below a line `<!-- quoted: FILE FUNCTION -->` has clauses of that function. A number stands between
@@ -16,11 +17,12 @@ WORD = re.compile(r"[^\s(){}\[\],;:.`λ→×⊎≡≢≤<>=+*/∷|&]+")
 
 
 class Definition:
-    """A definition of specs/: its file, its name, its place there, how many lines it has and the names in it."""
+    """A definition of specs/: its file, its name, its place there, its lines, and the comment above it."""
 
-    def __init__(self, file, name, place, lines):
+    def __init__(self, file, name, place, lines, about):
         self.file, self.name, self.place, self.lines = file, name, place, len(lines)
         self.text = "\n".join(lines)
+        self.about = about
 
 
 def imports_of(text):
@@ -35,17 +37,18 @@ def imports_of(text):
 
 def definitions_of(file, text):
     """The definitions of a file. A line that begins another one ends it; a comment and an empty line are none of it."""
-    found, name, lines = [], None, []
+    found, name, lines, about, comment = [], None, [], [], []
     head = re.compile(r"(?:abbrev |unfoldable |record |data |pub )+(\S+)")
     for line in [*text.split("\n"), "end"]:
         bare = re.sub(r"--.*", "", line).rstrip()
         begins = re.match(r"\S", bare) and head.match(bare)
         if begins or bare == "end" or bare.startswith(("use ", "pub use ", "module ")):
             if name:
-                found.append(Definition(file, name, len(found), lines))
-            name, lines = begins[1] if begins else None, []
+                found.append(Definition(file, name, len(found), lines, about))
+            name, lines, about = begins[1] if begins else None, [], comment
         if bare and name:
             lines.append(bare)
+        comment = [*comment, line] if line.startswith("--") else []
     return found
 
 
@@ -106,8 +109,8 @@ PATHS = {
         beyond headline steps lookup json annotate table""",
 }
 
-# The list that names the definitions; the others name their files.
-NAMED = "headline"
+# The list whose definitions docs/headline.txt spells out.
+SPELLED = "headline"
 
 
 def parts_of(words):
@@ -159,9 +162,9 @@ def in_order(found):
     return [(file, files[file]) for file in done]
 
 
-def filled(text, indent=""):
-    """The text in lines, of which those after the first are indented."""
-    return textwrap.fill(text, 100, subsequent_indent=indent, break_long_words=False, break_on_hyphens=False)
+def filled(text):
+    """The text in lines."""
+    return textwrap.fill(text, 100, break_long_words=False, break_on_hyphens=False)
 
 
 def stem_of(path):
@@ -173,13 +176,6 @@ def files_of(found):
     """The files of these definitions; a crate is named once for its files in a row."""
     runs = itertools.groupby(in_order(found), lambda it: it[0].split("/")[1])
     return "; ".join(f"`{crate}` " + ", ".join(stem_of(path) for path, _ in run) for crate, run in runs)
-
-
-def named_in(path, here, number):
-    """One file of a list, with its definitions in their order there."""
-    names = ", ".join(f"`{it.name}`" for it in sorted(here, key=lambda it: it.place))
-    start = f"{number}. "
-    return filled(f"{start}`{path.split('/')[1]}` {stem_of(path)}: {names}", " " * len(start))
 
 
 def expect_order(found, but):
@@ -201,10 +197,41 @@ def listed(name):
     found = LISTS[name] = rested_on(functions, but)
     found = found.difference(*(LISTS[it] for it in beyond))
     size = f"{len(found)} definitions in {sum(it.lines for it in found)} lines:"
-    if name != NAMED:
-        return filled(f"{size} {files_of(found)}.")
-    expect_order(found, but)
-    return "\n".join([size, *(named_in(*it, n) for n, it in enumerate(in_order(found), 1))])
+    if name == SPELLED:
+        expect_order(found, but)
+    return filled(f"{size} {files_of(found)}.")
+
+
+HEADLINE = """\
+The definitions that the headline of docs/PROOF.md rests on, each before its use and below a sentence
+that says it in words, and then its clauses. docs/figures.sh writes this file from the sources.
+
+The notation:
+
+- f x y, λ x. e: f of x and y; the function that makes e of x
+- ℕ, List X, Option X: the numbers from 0 on; lists; Some X or None
+- [], x ∷ xs, xs ++ ys: the empty list; x and then xs; one list after the other
+- take n xs, drop n xs: the first n of a list; the others
+- .. → Type 0: a statement, told case by case; other definitions are values
+- record: all of its fields hold, or together make a value
+- A × B, A ⊎ B, A → ⊥: both, one of the two, not A
+- A → B, (x : T) → B, (x : T) × B: if A then B; B for every x; some x with B
+- x ≡ y, x ≢ y: equal, different
+- AllByRecursion P xs: P of each in the list
+- x.old, x.new, x.now: what a &mut argument held before and after the call; what a &
+  argument holds
+- IfOk r P, IfErr r P: where r is Ok (Err), its value has P
+- Unit, ⊥ as a case: nothing is said; this result never comes
+"""
+
+
+def spelled(found, quoted):
+    """The definitions of a list in their order, each with the comment above it, and then the clauses."""
+    parts = [HEADLINE]
+    for path, here in in_order(found):
+        parts.append(f"==== {path}\n")
+        parts += ["\n".join([*it.about, it.text]) + "\n" for it in sorted(here, key=lambda it: it.place)]
+    return "\n".join([*parts, *(f"==== crates/{file}, {function}\n\n{block}" for file, function, block in quoted)])
 
 
 NUMBERS = {
@@ -221,17 +248,32 @@ def renewed(text):
 
 
 failed = False
-for page in ("docs/PROOF.md", "README.md"):
-    with open(page, encoding="utf-8") as it:
-        old = it.read()
-    new = renewed(old)
+
+
+def keep(page, new):
+    """Writes a page where it is to be another, or says so."""
+    global failed
+    try:
+        with open(page, encoding="utf-8") as it:
+            old = it.read()
+    except FileNotFoundError:
+        old = None
     if new != old and CHECK:
-        print(f"figures: {page} has other numbers than the files: run docs/figures.sh")
+        print(f"figures: {page} has other numbers or definitions than the files: run docs/figures.sh")
         failed = True
     elif new != old:
         with open(page, "w", encoding="utf-8") as it:
             it.write(new)
-    for file, function, block in re.findall(r"<!-- quoted: (\S+) (\S+) -->\n\n((?:    .*\n)+)", new):
+
+
+for page in ("docs/PROOF.md", "README.md"):
+    with open(page, encoding="utf-8") as it:
+        new = renewed(it.read())
+    keep(page, new)
+    quoted = re.findall(r"<!-- quoted: (\S+) (\S+) -->\n\n((?:    .*\n)+)", new)
+    if page == "docs/PROOF.md":
+        keep("docs/headline.txt", spelled(LISTS[SPELLED], quoted))
+    for file, function, block in quoted:
         clauses = " ".join(clauses_of(file, function)[1].split())
         for line in block.splitlines():
             if " ".join(line.split()) not in clauses:

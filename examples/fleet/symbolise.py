@@ -44,6 +44,9 @@ class Catalogs:
 
 CATALOGS = Catalogs()
 
+# A task costs some milliseconds to send. With two for each worker the others go on where one is slow.
+TASKS_OF_A_WORKER = 2
+
 
 def opened():
     """How many catalogs the process has opened."""
@@ -64,13 +67,22 @@ def symbolised(lines, listings):
     return out
 
 
-def symbolise(source, target, listings):
-    """Does one file, and returns how many samples it has. Files are anything that fsspec opens."""
-    with fsspec.open(source, "rt") as file:
-        lines = file.read().splitlines()
-    with fsspec.open(target, "wt") as file:
-        file.writelines(symbolised(lines, listings))
-    return len(lines)
+def symbolise(pairs, listings):
+    """Does some files, and returns how many samples they have. Files are anything that fsspec opens."""
+    count = 0
+    for source, target in pairs:
+        with fsspec.open(source, "rt") as file:
+            lines = file.read().splitlines()
+        with fsspec.open(target, "wt") as file:
+            file.writelines(symbolised(lines, listings))
+        count += len(lines)
+    return count
+
+
+def tasks_of(pairs, workers):
+    """The files in as many tasks as keep all workers busy: two for each, or one for each file."""
+    count = min(len(pairs), TASKS_OF_A_WORKER * workers)
+    return [pairs[place::count] for place in range(count)]
 
 
 @contextlib.contextmanager
@@ -108,12 +120,11 @@ def main(words):
     sys.path.insert(0, str(pathlib.Path(__file__).parent))
     from symbolise import opened, symbolise
 
+    pairs = [(source, f"{given.out}/{source.rpartition('/')[2]}") for source in given.samples]
     with engine(given.scheduler, given.workers) as client:
         begin = time.perf_counter()
-        tasks = [
-            dask.delayed(symbolise)(source, f"{given.out}/{source.rpartition('/')[2]}", given.listings)
-            for source in given.samples
-        ]
+        workers = len(client.scheduler_info()["workers"]) if client else 1
+        tasks = [dask.delayed(symbolise)(task, given.listings) for task in tasks_of(pairs, workers)]
         count = sum(dask.compute(*tasks))
         seconds = time.perf_counter() - begin
         catalogs = client.run(opened).values() if client else [opened()]

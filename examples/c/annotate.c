@@ -1,0 +1,103 @@
+/* SPDX-License-Identifier: MIT OR Apache-2.0 */
+/* Writes a log with the symbol after each address, as `latchsym annotate` does:
+ * annotate KALLSYMS [MODULES] <LOG, where modules come from KALLSYMS alone unless a file is given.
+ * cc annotate.c $(pkg-config --cflags --libs latchsym) -o annotate */
+#define _POSIX_C_SOURCE 200809L
+#include <ctype.h>
+#include <latchsym.h>
+#include <stdio.h>
+#include <stdlib.h>
+#include <string.h>
+
+/* all bytes of a file */
+static struct latchsym_place read_file(const char *path) {
+    FILE *file = fopen(path, "rb");
+    uint8_t *bytes = NULL;
+    size_t len = 0, room = 0;
+    while (file && !feof(file) && !ferror(file)) {
+        if (len == room && !(bytes = realloc(bytes, room = 2 * room + 4096))) break;
+        len += fread(bytes + len, 1, room - len, file);
+    }
+    if (!file || !bytes || ferror(file)) {
+        fprintf(stderr, "annotate: %s: cannot be read\n", path);
+        exit(1);
+    }
+    fclose(file);
+    return (struct latchsym_place){bytes, len};
+}
+
+/* whether a word is an address: 0x and 9 to 16 hexadecimal digits, or 16 of them */
+static int is_address(const char *word, size_t len, uint64_t *addr) {
+    int has_head = len > 2 && word[0] == '0' && (word[1] | 32) == 'x';
+    size_t i = has_head ? 2 : 0;
+    if (len - i > 16 || len - i < (has_head ? 9 : 16)) return 0;
+    for (*addr = 0; i < len; i++) {
+        if (!isxdigit((unsigned char)word[i])) return 0;
+        *addr <<= 4;
+        *addr += (uint64_t)(word[i] <= '9' ? word[i] - '0' : (word[i] | 32) - 'a' + 10);
+    }
+    return 1;
+}
+
+/* writes the text of an address, or nothing where it is in no symbol and no module */
+static void write_text(FILE *out, struct latchsym_catalog *catalog, uint64_t addr) {
+    struct latchsym_symbol found = LATCHSYM_SYMBOL_INIT;
+    uint32_t answer = latchsym_catalog_find(catalog, addr, &found);
+    if (answer == LATCHSYM_DONE) {
+        fputc(' ', out);
+        fwrite(found.name.at, 1, found.name.len, out);
+        fprintf(out, "+0x%llx/0x%llx", (unsigned long long)found.offset,
+                (unsigned long long)found.size);
+    } else if (found.module_number) {
+        fputs(" ?", out);
+    }
+    if (found.module_number) {
+        fputs(" [", out);
+        fwrite(found.module.at, 1, found.module.len, out);
+        fputc(']', out);
+    }
+}
+
+int main(int argc, char **argv) {
+    struct latchsym_listings listings = LATCHSYM_LISTINGS_INIT;
+    struct latchsym_catalog catalog = {0};
+    struct latchsym_counts counts;
+    uint64_t bad_line, addr;
+    char *line = NULL, *text = NULL;
+    size_t room = 0, text_len = 0;
+    FILE *texts = open_memstream(&text, &text_len);
+    if (argc < 2 || argc > 3 || !texts)
+        return fprintf(stderr, "usage: annotate KALLSYMS [MODULES] <LOG\n"), 2;
+    listings.kallsyms = read_file(argv[1]);
+    listings.has_modules = argc == 3;
+    if (listings.has_modules) listings.modules = read_file(argv[2]);
+    uint32_t refused = latchsym_catalog_open(&listings, &catalog, &counts, &bad_line);
+    if (refused) return fprintf(stderr, "annotate: %s\n", latchsym_text(refused)), 1;
+    if (counts.symbols_note != LATCHSYM_NOTHING)
+        fprintf(stderr, "annotate: note: %s: %s\n", argv[1], latchsym_text(counts.symbols_note));
+    for (ssize_t got; (got = getline(&line, &room, stdin)) > 0; fflush(stdout)) {
+        size_t len = (size_t)got, end;
+        for (size_t at = 0; at < len; at = end) {
+            for (end = at; end < len; end++)
+                if (!isalnum((unsigned char)line[end]) && line[end] != '_') break;
+            int is_one = is_address(line + at, end - at, &addr);
+            if (end == at) end++;
+            while (is_one && end < len && memchr(">])", line[end], 3)) end++;
+            fwrite(line + at, 1, end - at, stdout);
+            if (!is_one) continue;
+            rewind(texts);
+            write_text(texts, &catalog, addr);
+            fflush(texts);
+            /* a log that has the text already keeps it as it is */
+            if (len - end < text_len || memcmp(line + end, text, text_len))
+                fwrite(text, 1, text_len, stdout);
+        }
+    }
+    latchsym_catalog_close(&catalog); /* and only now the bytes that it points into */
+    free((void *)listings.kallsyms.at);
+    if (listings.has_modules) free((void *)listings.modules.at);
+    fclose(texts);
+    free(text);
+    free(line);
+    return ferror(stdin) || ferror(stdout);
+}
