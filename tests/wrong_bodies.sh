@@ -8,9 +8,8 @@
 # so that `.ci/run` comes to all of them in turn. --all is for a release. What was tried, with which
 # result and at which commit, is written to tests/wrong_bodies/TRIED.
 #
-# It works on a copy of the crates that these stand on, over what `rt ci` has proved of the same
-# files on this machine. An edit takes
-# 10 to 45 seconds, after a check of its crate.
+# It works on a copy of their crates and those below, over what `rt ci` has proved of the same files
+# on this machine. An edit takes 10 to 45 seconds, after a check of its crate.
 set -euo pipefail
 top=$(cd "$(dirname "$0")/.." && pwd)
 . "$top/tests/needs_kit.sh"
