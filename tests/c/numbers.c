@@ -31,6 +31,8 @@ static const struct { uint32_t number; const char *text; } texts[] = {
     {LATCHSYM_NOTE_NO_START, "has no symbol at the kernel's first address"},
     {LATCHSYM_NOTE_NO_END, "has no symbol at the kernel's end; try the end _einittext"},
     {LATCHSYM_NOTE_OTHER_BOOT, "no symbol lies in a listed module; are both listings of one boot?"},
+    {LATCHSYM_NOTE_NO_MODULE_LINE, "no line is of the form of /proc/modules"},
+    {LATCHSYM_NOTE_NO_SYMBOL_LINE, "no line is of the form of /proc/kallsyms"},
     {LATCHSYM_BAD_HANDLE, "the handle does not hold what is wanted"},
     {LATCHSYM_BAD_LENGTH, "the room is not for as many answers as there are addresses"},
     {LATCHSYM_BAD_LISTINGS, "the listings are not as this version has them"},

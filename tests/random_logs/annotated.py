@@ -19,18 +19,26 @@ from expected import GREATEST, Plain, asked, random_bounds, random_listing, read
 
 BLOCK = 65536
 WORD = re.compile(rb"[0-9A-Za-z_]+")
-ADDRESS = re.compile(rb"0[xX]([0-9a-fA-F]{9,16})|([0-9a-fA-F]{16})")
+WIDE = rb"(?:0[xX][0-9a-fA-F]{9,16}|[0-9a-fA-F]{16})(?![0-9A-Za-z_])"
+NARROW = rb"(?:0[xX])?[0-9a-fA-F]{8}(?![0-9A-Za-z_])"
 CLOSERS = re.compile(rb"[>\])]*")
+
+# what may stand before the first address of a line, and the opening marks of the address
+MARKS = rb"(?:[(\[<][(\[< ]*)?"
+BEFORE = rb"(?:[ \t?]|\[[ 0-9TC.@]*\]|<[0-9]+>|%s%s[)\]>]*)*(%s)"
+KERNEL = re.compile(rb".*(?<![0-9A-Za-z_])kernel:", re.S)
+LABEL = re.compile(rb"(?<![0-9A-Za-z_])(?:ra|lr|LR|at)[ :=(\[<]+")
+USER = re.compile(rb"(?<![0-9A-Za-z_])User PSW(?![0-9A-Za-z_])")
 
 
 class Rule:
-    """How the addresses of a log are taken: N lower, and for return addresses."""
+    """How the addresses of a log are taken: N lower, and which for return addresses."""
 
     def __init__(self, offset, callers):
         self.offset, self.callers = offset, callers
 
     def words(self):
-        return ["--offset", hex(self.offset)] * bool(self.offset) + ["--callers"] * self.callers
+        return ["--offset", hex(self.offset)] * bool(self.offset) + [self.callers] * bool(self.callers)
 
     def answer(self, plain, address, is_return):
         lower = address - self.offset
@@ -39,15 +47,27 @@ class Rule:
         return plain.answer(lower - is_return, lower)
 
 
+def says_caller(before, word, address):
+    """Whether the place of an address word behind these bytes of its line says that it is a caller's."""
+    for at in range(len(before)):
+        if LABEL.fullmatch(before, at):
+            return True
+    kernel = KERNEL.match(before)
+    marks = re.compile(BEFORE % (MARKS, address, MARKS)).fullmatch(before, kernel.end() if kernel else 0)
+    return bool(marks) and (b"[" in marks[1] or word[:2] in (b"0x", b"0X"))
+
+
 def annotated(log, plain, rule):
+    address = NARROW if plain.is_narrow() else WIDE
     written, done = [], 0
     for word in WORD.finditer(log):
-        said = ADDRESS.fullmatch(word[0])
-        if not said:
+        if not re.fullmatch(address, word[0]):
             continue
-        line = log[log.rfind(b"\n", 0, word.start()) + 1 : word.start()]
-        is_return = rule.callers and b"RIP:" not in line and b"pc :" not in line
-        text = rule.answer(plain, int(said[1] or said[2], 16), is_return)
+        before = log[log.rfind(b"\n", 0, word.start()) + 1 : word.start()]
+        if USER.search(before):
+            continue
+        is_return = rule.callers == "--callers" or not rule.callers and says_caller(before, word[0], address)
+        text = rule.answer(plain, int(word[0], 16), is_return)
         behind = CLOSERS.match(log, word.end()).end()
         if text == b"-" or log.startswith(b" " + text, behind):
             continue
@@ -58,8 +78,17 @@ def annotated(log, plain, rule):
 
 def shown(draw, address):
     """The address in one of the forms that logs have, or in one that is no address."""
-    digits = draw.choice([b"%016x", b"%016x", b"%016X", b"%x", b"%015x", b"%017x"]) % address
+    digits = draw.choice([b"%016x", b"%016x", b"%016X", b"%x", b"%015x", b"%017x", b"%08x", b"%08x"]) % address
     return draw.choice([b"", b"", b"0x", b"0X", b"x", b"_"]) + digits + draw.choice([b""] * 9 + [b"g", b"_"])
+
+
+# what stands before addresses in logs, and what looks like it
+PLACES = [
+    b"\n", b"\n[<", b"\n [<", b"\n[", b"[ ", b"\n  0x", b"? ", b"\n([<", b"\n<4>[<", b"\n[   12.345678] ",
+    b"\n[  1.000000] [T7] [<", b"[C0]", b"\n[   @T12] ", b"\nNov 27 host kernel: [<", b"\nhost xkernel: [<",
+    b"RIP:", b"pc : ", b"\nlr : ", b"lr : [<", b"\nLR is at [<", b"at: ", b"ra=", b" at ", b"LR [", b"xlr ", b"lrx ",
+    b"User PSW : ", b"User  PSW : ", b"XUser PSW ", b"Krnl PSW : ", b"Call Trace:\n", b"]", b"[", b"<", b"<12>", b"12",
+]
 
 
 def piece(draw, plain, rule, addresses):
@@ -68,13 +97,13 @@ def piece(draw, plain, rule, addresses):
         address = min(draw.choice(addresses) + rule.offset, GREATEST)
         text = shown(draw, address) + draw.choice([b"", b"", b">", b">]", b")", b"]>)"])
         if draw.randrange(3) == 0:
-            answer = rule.answer(plain, address, draw.choice([rule.callers, False]))
+            answer = rule.answer(plain, address, draw.choice([True, False]))
             text += b" " + answer[: draw.choice([len(answer), len(answer), draw.randrange(len(answer) + 1)])]
         return text
     if kind < 8:
         return draw.choice([b" ", b" ", b"\n", b"\r\n", b"[<", b"(", b": "])
     if kind < 10:
-        return draw.choice([b"RIP:", b"pc :", b" pc : ", b"RIP", b"Call Trace:\n", b"lr : "])
+        return draw.choice(PLACES)
     if kind < 11:
         return bytes(draw.randrange(256) for _ in range(draw.randrange(8)))
     return draw.choice([b"a", b"0", b"f", b"_"]) * draw.choice([1, 8, 15, 16, 17, 200])
@@ -115,7 +144,7 @@ def main():
     changed = 0
     for _ in range(int(runs)):
         listing, bounds = random_listing(draw), random_bounds(draw)
-        rule = Rule(draw.choice([0, 0, 0, 1, 4096]), draw.randrange(2) == 0)
+        rule = Rule(draw.choice([0, 0, 0, 1, 4096]), draw.choice(["", "", "", "--callers", "--exact"]))
         plain = Plain(listing, bounds)
         log = random_log(draw, plain, rule, asked(read(listing)[0]))
         changed += compare(program, folder, listing, bounds, plain, rule, log)
@@ -123,7 +152,7 @@ def main():
     plain = Plain(listing, None)
     for before in range(60):
         log = b"a " * (BLOCK // 2) + b"[<ffffffff81000108>] do_one+0x8/0x1f00, (0xffffffff81000100)): "
-        compare(program, folder, listing, None, plain, Rule(0, False), log[before:])
+        compare(program, folder, listing, None, plain, Rule(0, "--exact"), log[before:])
     print(f"random_logs: {runs} logs, {changed} of them changed; and an address at each place about a block's end")
 
 

@@ -60,6 +60,7 @@ class Plain:
 
     def __init__(self, text, bounds):
         symbols, self.skipped = read(text)
+        self.listed = symbols
         self.kernel = kernel_of(symbols, bounds)
         self.first_post = {}
         for symbol in filter(self.is_post, symbols):
@@ -69,6 +70,10 @@ class Plain:
         self.stray = len(symbols) - len(self.kept)
         # where the owner may change: at a post, and where one reaches no further
         self.edges = sorted({edge for post in self.posts for edge in (post, post + REACH)} | {GREATEST})
+
+    def is_narrow(self):
+        """Whether the listing is that of a 32-bit kernel."""
+        return bool(self.listed) and all(symbol.address < 2**32 for symbol in self.listed)
 
     def is_post(self, symbol):
         if symbol.module is None:

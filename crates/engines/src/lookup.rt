@@ -258,16 +258,16 @@ pub fn listings_in<'a>(
         (IsBuildRefusal (region_lines_of_inputs (inputs_in inputs.now))) }
 {
     let (module_lines, skipped_modules) = read_modules(alloc, inputs.modules)?;
-    let (symbol_lines, skipped_symbols) = read_kallsyms(alloc, inputs.kallsyms)?;
+    let symbols = read_kallsyms(alloc, inputs.kallsyms, true)?;
     let modules_hidden = are_modules_hidden(module_lines.len(), &skipped_modules);
-    let symbols_hidden = are_symbols_hidden(symbol_lines.len(), &skipped_symbols);
+    let symbols_hidden = are_symbols_hidden(symbols.listed, &symbols.skipped);
     let regions = region_lines_of(inputs);
     let (catalog, built) = Catalog::build(
         alloc,
         &inputs.options.kernel,
         &module_lines,
         regions,
-        symbol_lines,
+        symbols.lines,
         asked,
     )?;
     let facts = SymbolFacts {
@@ -283,7 +283,7 @@ pub fn listings_in<'a>(
         catalog,
         built,
         skipped_modules,
-        skipped_symbols,
+        skipped_symbols: symbols.skipped,
         has_regions: inputs.regions.is_some(),
         modules_hidden,
         symbols_hidden,

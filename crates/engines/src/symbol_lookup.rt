@@ -19,7 +19,7 @@ use crate::lookup::{KALLSYMS_PLACE, all_addresses, places_of, read_at};
 use crate::lookup_texts::{put_answers, put_found_modules, put_symbol_counts};
 use crate::table::{AddressAnswer, answers_of};
 use listing::{
-    AddressRule, ListingNote, ListingNotes, SymbolCounts, SymbolFacts, are_symbols_hidden,
+    AddressRule, ListedSymbols, ListingNote, ListingNotes, SymbolCounts, SymbolFacts, are_symbols_hidden,
     note_of_kallsyms, read_kallsyms,
 };
 use modules::{Asked, Catalog, KeptCounts, KernelBounds};
@@ -170,8 +170,12 @@ pub fn symbol_listing_in<'a>(
 ) -> Result<SymbolListing<'a>, AllocError>
     ensures { IfOk result (IsSymbolListing (option_copied kernel.entry) kallsyms.now) }
 {
-    let (lines, skipped) = read_kallsyms(alloc, kallsyms)?;
-    let hidden = are_symbols_hidden(lines.len(), &skipped);
+    let ListedSymbols {
+        lines,
+        listed,
+        skipped,
+    } = read_kallsyms(alloc, kallsyms, true)?;
+    let hidden = are_symbols_hidden(listed, &skipped);
     let usual = lines.usual_bounds();
     let (catalog, kept) = Catalog::from_symbols(alloc, kernel, lines, asked)?;
     let facts = SymbolFacts {

@@ -1,5 +1,5 @@
 -- What is written for a log, and told of the listings that say what its addresses are.
-use Rattle.std.specs.Prelude.{◌≡◌, ◌⊎◌, ℕ, List, Option, Result, Ok, Err, IfSome, is_some, true}
+use Rattle.std.specs.Prelude.{◌≡◌, ◌⊎◌, ℕ, Bool, List, Option, Result, Ok, Err, IfSome, is_some, true}
 use Rattle.listing.specs.declared.annotation.LogFault.TheVariants as log_fault
 use Rattle.texts.specs.declared.counted.Counted.{Counted}
 use Rattle.listing.specs.AnnotatedLogs.{Answering, answered_by}
@@ -11,12 +11,14 @@ use Rattle.latchsym.specs.Reports.{IsNoted}
 use Rattle.listing.specs.ListingNotes.{is_some_noted}
 use Rattle.latchsym.specs.NoteTexts.{note_lines}
 use Rattle.engines.specs.OpenedCatalogs.{Given, HasBadRegion, HasCrowdedRegions, IsCatalogOf}
+use Rattle.engines.specs.SymbolLookups.{listed}
+use Rattle.listing.specs.SymbolListing.{is_narrow}
 use Rattle.engines.specs.Readings.{Failures, NoReaderFailed, OnlyFailed}
 use Rattle.latchsym.specs.declared.command_line.ListingFiles.{ListingFiles}
 use Rattle.engines.specs.declared.fault.Fault.{Fault}
 use Rattle.engines.specs.declared.fault.Fault.TheVariants.{Refused, BadLine, Read, TooLong, Write}
 use Rattle.listing.specs.declared.listing_notes.ListingNotes.{ListingNotes}
-use Rattle.engines.specs.declared.symbol_lookup.SymbolLookupOptions.{SymbolLookupOptions}
+use Rattle.latchsym.specs.declared.annotations.AnnotateOptions.{AnnotateOptions}
 
 -- how a fault of the log is told: the log is the file at place 3
 abbrev pub AnnotatesBy : {L W : Type 0} → (L → Option (List ℕ)) → (W → Option (List ℕ))
@@ -34,15 +36,18 @@ AnnotatesBy remaining contents answer l l' w w' (Err Write) =
 AnnotatesBy remaining contents answer l l' w w' (Err _) = ⊥
 
 -- There is a catalog of the listings, where these are known; what is noted of them was told; and
--- this holds of the catalog.
+-- this holds of the catalog, and of whether the listing of symbols is that of a 32-bit kernel.
 pub record IsTold {E : Type 0} (contents : E → Option (List ℕ)) (kernel : Option BoundNames)
-    (files : ListingFiles) (known : Option Given) (e e' : Counted E) (P : CatalogEntries → Type 0)
+    (files : ListingFiles) (known : Option Given) (e e' : Counted E)
+    (P : CatalogEntries → Bool → Type 0)
     : Type 0 where
   pub catalog : CatalogEntries
+  pub narrow : Bool
   pub notes : ListingNotes
   pub said : IfSome known (λ g. IsCatalogOf kernel g catalog notes)
+  pub sized : IfSome known (λ g. narrow ≡ is_narrow (listed g.kallsyms))
   pub told : IsNoted contents e e' (is_some_noted notes) (note_lines kernel files notes)
-  pub holds : P catalog
+  pub holds : P catalog narrow
 
 -- neither the log nor the writers were touched
 abbrev pub IsUntouched : {L W E : Type 0} → Counted L → Counted L → Counted W → Counted W
@@ -74,11 +79,11 @@ AnnotatesAfter known counts Untouched Told (Err _) = ⊥
 -- What the engine returns. Once it told what is noted of the listings, the log is annotated by the
 -- answers of their catalog.
 abbrev pub AnnotatesLog : {L W E : Type 0} → (L → Option (List ℕ)) → (W → Option (List ℕ))
-    → (E → Option (List ℕ)) → SymbolLookupOptions → ListingFiles → Option Given → Failures
+    → (E → Option (List ℕ)) → AnnotateOptions → ListingFiles → Option Given → Failures
     → Counted L → Counted L → Counted W → Counted W → Counted E → Counted E
     → Result (Unit {0}) Fault → Type 0
 AnnotatesLog remaining contents errors o files known counts l l' w w' e e' result =
     AnnotatesAfter known counts (IsUntouched l l' w w' e e')
     (λ r. IsTold errors o.kernel files known e e'
-    (λ c. AnnotatesBy remaining contents (answered_by c o.rule) l l' w w' r))
+    (λ c narrow. AnnotatesBy remaining contents (answered_by c o.rule narrow) l l' w w' r))
     result

@@ -89,10 +89,11 @@ run_app =
     (word_rule (codes "script"))
 
 -- annotate [--kallsyms FILE] [--modules FILE] [--regions FILE] [--kernel START END] [--callers]
--- [--offset N] [LOG]
+-- [--exact] [--offset N] [LOG]
 abbrev pub annotate_app : App
 annotate_app =
     with_rule
+    (with_rule
     (with_rule
     (with_rule
     (with_rule
@@ -103,6 +104,7 @@ annotate_app =
     (optional_rule (codes "regions")))
     (pair_rule (codes "kernel")))
     (flag_rule (codes "callers")))
+    (flag_rule (codes "exact")))
     (optional_rule (codes "offset")))
     (optional_word_rule (codes "log"))
 

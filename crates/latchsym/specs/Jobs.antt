@@ -9,6 +9,8 @@ use Rattle.std.specs.Str.{bytes_eq}
 use Rattle.clap.specs.Words.{IsAmong, Row, Text, all_of, fault_of, first_of, kind_of, subcommand_of}
 use Rattle.clap.specs.declared.error.Error.{Error}
 use Rattle.clap.specs.declared.error.kind.ErrorKind.TheVariants as kind
+use Rattle.listing.specs.declared.address_rules.Callers.{Callers}
+use Rattle.listing.specs.declared.address_rules.Callers.TheVariants as callers
 use Rattle.latch_table.specs.Limits.{most_readers}
 use Rattle.texts.specs.Numbers.{between, number_of}
 use Rattle.modules.specs.Lines.{usual_bounds}
@@ -31,7 +33,7 @@ use Rattle.latchsym.specs.declared.command_line.JobFault.TheVariants.{BadAddress
 use Rattle.latchsym.specs.declared.command_line.JobFault.TheVariants.{BadEnd, BadOffset}
 use Rattle.latchsym.specs.declared.command_line.JobFault.TheVariants.{BadReaders, NoJob}
 use Rattle.latchsym.specs.declared.command_line.JobFault.TheVariants.{NoModules, ModulesTwice}
-use Rattle.latchsym.specs.declared.command_line.JobFault.TheVariants.{RegionsAlone}
+use Rattle.latchsym.specs.declared.command_line.JobFault.TheVariants.{RegionsAlone, TakenTwice}
 
 -- the files that a job reads, in order; the place of one that is not given stays empty
 abbrev pub files_of : Job → List (Option Text)
@@ -95,14 +97,14 @@ pub record RunWords : Type 0 where
   pub script : Text
 
 -- to annotate the log in a file by listings of symbols, and of modules and regions where these are
--- named, where the given symbols bound the kernel, or else the usual ones; its addresses are return
--- addresses or not, and are lower by the number that a word is
+-- named, where the given symbols bound the kernel, or else the usual ones; which of its addresses
+-- are return addresses, and by the number of which word they are lower
 pub record AnnotateWords : Type 0 where
   pub modules : Option Text
   pub kallsyms : Text
   pub regions : Option Text
   pub kernel : Option BoundNames
-  pub callers : Bool
+  pub callers : Callers
   pub offset : Option Text
   pub log : Text
 
@@ -127,7 +129,8 @@ pub record NameWords : Type 0 where
 
 -- what a subcommand asks for: to run the trace in a file, to write its steps, a lookup, to run a
 -- script, to annotate a log, to check listings, or to say where symbols are; a lookup may fail to
--- say where modules lie, or say it in two ways, and regions may be named without modules
+-- say where modules lie, or say it in two ways, regions may be named without modules, and callers
+-- in two ways
 pub data Asked : Type 0 where
   ForTrace : Text → Asked
   ForSteps : Text → Asked
@@ -140,6 +143,7 @@ pub data Asked : Type 0 where
   ForCheck : CheckWords → Asked
   ForAddress : NameWords → Asked
   WithRegionsAlone : Asked
+  WithCallersTwice : Asked
   ForNothing : Asked
 
 -- the names after `--kernel`, or the usual ones where it is not given
@@ -251,18 +255,30 @@ asked_run rows =
     (first_of (codes "regions") rows) (bounds_in (values_in (codes "kernel") rows))
     (first_of (codes "readers") rows) (first_of (codes "script") rows)
 
+-- which addresses of a log are taken as return addresses, by whether all are to be, and none
+abbrev pub callers_by : Bool → Bool → Option Callers
+callers_by false false = Some callers.ByPlace
+callers_by true false = Some callers.Every
+callers_by false true = Some callers.Never
+callers_by true true = None
+
+abbrev pub callers_in : List Row → Option Callers
+callers_in rows =
+    callers_by (has_flag (codes "callers") rows) (has_flag (codes "exact") rows)
+
 -- the log that these values ask to annotate, where the names of the bounds are two
-abbrev pub annotate_in : List Row → Option (Option BoundNames) → Asked
-annotate_in rows (Some kernel) = ForAnnotate (record {
+abbrev pub annotate_in : List Row → Option Callers → Option (Option BoundNames) → Asked
+annotate_in rows None kernel = WithCallersTwice
+annotate_in rows (Some callers) (Some kernel) = ForAnnotate (record {
   modules = first_of (codes "modules") rows;
   kallsyms = unwrap_or (first_of (codes "kallsyms") rows) (codes "/proc/kallsyms");
   regions = first_of (codes "regions") rows;
   kernel = kernel;
-  callers = has_flag (codes "callers") rows;
+  callers = callers;
   offset = first_of (codes "offset") rows;
   log = unwrap_or (first_of (codes "log") rows) (codes "-");
 })
-annotate_in rows None = ForNothing
+annotate_in rows (Some callers) None = ForNothing
 
 -- a file of regions is named, and none of modules
 abbrev pub are_regions_alone : List Row → Bool
@@ -272,7 +288,7 @@ are_regions_alone rows =
 abbrev pub asked_annotate : List Row → Asked
 asked_annotate rows =
     if are_regions_alone rows then WithRegionsAlone
-    else annotate_in rows (given_bounds (values_in (codes "kernel") rows))
+    else annotate_in rows (callers_in rows) (given_bounds (values_in (codes "kernel") rows))
 
 -- the listings that these values ask to check, where those that have to be there are
 abbrev pub check_in : List Row → Option Text → Option (Option BoundNames) → Asked
@@ -568,6 +584,7 @@ AnswersAsked asked (Err NoAddress) = HasNoAddress asked
 AnswersAsked asked (Err NoModules) = asked ≡ WithoutModules
 AnswersAsked asked (Err ModulesTwice) = asked ≡ WithModulesTwice
 AnswersAsked asked (Err RegionsAlone) = asked ≡ WithRegionsAlone
+AnswersAsked asked (Err TakenTwice) = asked ≡ WithCallersTwice
 AnswersAsked asked (Err (BadOffset word)) = HasBadOffset asked word.now
 AnswersAsked asked (Err (BadEnd word)) = HasBadEnd asked word.now
 AnswersAsked asked (Err (BadReaders word)) = HasBadReaders asked word.now
@@ -613,6 +630,9 @@ AnswersWords words (Err ModulesTwice) =
 AnswersWords words (Err RegionsAlone) =
     (fault_of latchsym_app words ≡ [])
     × (asked_by (subcommand_of latchsym_app words) ≡ WithRegionsAlone)
+AnswersWords words (Err TakenTwice) =
+    (fault_of latchsym_app words ≡ [])
+    × (asked_by (subcommand_of latchsym_app words) ≡ WithCallersTwice)
 AnswersWords words (Err (BadOffset word)) =
     (fault_of latchsym_app words ≡ [])
     × HasBadOffset (asked_by (subcommand_of latchsym_app words)) word.now

@@ -1,5 +1,7 @@
 -- What is said of a command line that gives no job, and the program's status.
-use Rattle.std.specs.Prelude.{◌≡◌, ◌≢◌, ◌⊎◌, ℕ, List, [], ◌++◌, Option, codes}
+use Rattle.std.specs.Prelude.{◌≡◌, ◌≢◌, ◌⊎◌, ℕ, List, [], ◌++◌, Option, codes, is_some}
+use Rattle.std.specs.Prelude.{if◌then◌else◌}
+use Rattle.texts.specs.Numbers.{numeral}
 use Rattle.clap.specs.Words.{Text, kind_of}
 use Rattle.clap.specs.declared.error.Error.{Error}
 use Rattle.clap.specs.declared.error.kind.ErrorKind.TheVariants as kind
@@ -12,12 +14,18 @@ use Rattle.latchsym.specs.declared.command_line.JobFault.TheVariants.{BadAddress
 use Rattle.latchsym.specs.declared.command_line.JobFault.TheVariants.{BadEnd, BadOffset}
 use Rattle.latchsym.specs.declared.command_line.JobFault.TheVariants.{BadReaders, NoJob}
 use Rattle.latchsym.specs.declared.command_line.JobFault.TheVariants.{NoModules, ModulesTwice}
-use Rattle.latchsym.specs.declared.command_line.JobFault.TheVariants.{RegionsAlone}
+use Rattle.latchsym.specs.declared.command_line.JobFault.TheVariants.{RegionsAlone, TakenTwice}
 use Rattle.engines.specs.declared.fault.Fault.TheVariants.{Refused, Write}
 
 -- what is wrong with the command line, and with which word
 abbrev pub misuse_text : List ℕ → Text → List ℕ
 misuse_text message word = codes "latchsym: " ++ message ++ word ++ codes "\n"
+
+-- what is wrong with an offset: it may be a hexadecimal number that lacks its prefix
+abbrev pub offset_message : Text → List ℕ
+offset_message word =
+    if is_some (numeral 16 16 word) then codes "bad offset, 0x is missing before "
+    else codes "bad offset "
 
 -- the writer has taken what is wrong, or a call of it failed, and the status is that of a misuse
 abbrev pub IsMisused : {D : Type 0} → (D → Option (List ℕ)) → Counted D → Counted D
@@ -61,8 +69,10 @@ IsNoJob contents old new ModulesTwice status =
     (codes "--modules-from-symbols stands in place of --modules and --regions") [] status
 IsNoJob contents old new RegionsAlone status =
     IsMisused contents old new (codes "--regions needs --modules") [] status
+IsNoJob contents old new TakenTwice status =
+    IsMisused contents old new (codes "--callers and --exact exclude each other") [] status
 IsNoJob contents old new (BadOffset word) status =
-    IsMisused contents old new (codes "bad offset ") word.now status
+    IsMisused contents old new (offset_message word.now) word.now status
 IsNoJob contents old new (BadEnd word) status =
     IsMisused contents old new (codes "--kernel takes two names of symbols, and its END is ") word.now
     status

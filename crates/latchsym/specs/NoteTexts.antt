@@ -18,6 +18,8 @@ use Rattle.listing.specs.declared.listing_notes.ListingNote.TheVariants.{LooksLi
 use Rattle.listing.specs.declared.listing_notes.ListingNote.TheVariants.{LooksLikeModules}
 use Rattle.listing.specs.declared.listing_notes.ListingNote.TheVariants.{LinesEndInCrLf, NoStart}
 use Rattle.listing.specs.declared.listing_notes.ListingNote.TheVariants.{NoEnd, OtherBoot}
+use Rattle.listing.specs.declared.listing_notes.ListingNote.TheVariants.{NoModuleLine}
+use Rattle.listing.specs.declared.listing_notes.ListingNote.TheVariants.{NoSymbolLine}
 use Rattle.listing.specs.declared.listing_notes.ListingNotes.{ListingNotes}
 
 -- what to try where a name is missing: many kernels list no `_end`
@@ -39,6 +41,8 @@ message_of names NoStart = missing_text names.start
 message_of names NoEnd = missing_text names.end
 message_of names OtherBoot =
     codes "no symbol lies in a listed module; are both listings of one boot?"
+message_of names NoModuleLine = codes "no line is of the form of /proc/modules"
+message_of names NoSymbolLine = codes "no line is of the form of /proc/kallsyms"
 
 -- the line of a note on the listing in this file
 abbrev pub note_line : BoundNames → Text → ListingNote → List ℕ

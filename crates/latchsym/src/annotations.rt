@@ -10,9 +10,9 @@ ghost use Rattle.engines.specs.OpenedCatalogs.{given_in, known_given, listing_fa
 
 use crate::command_line::ListingFiles;
 use crate::reports::note_listings;
-use engines::{Fault, GivenTexts, ListingReaders, SymbolLookupOptions, open_catalog, read_given};
-use listing::{AddressRule, LogFault, annotate};
-use modules::IndexedCatalog;
+use engines::{Fault, GivenTexts, ListingReaders, open_catalog, read_given};
+use listing::{LogFault, LogRule, annotate, is_narrow};
+use modules::{IndexedCatalog, KernelBounds};
 use order_laws::Refusal;
 use std::alloc::Global;
 use std::io::{Read, Write};
@@ -27,12 +27,22 @@ pub struct AnnotateReaders<M, K, R, L> {
     pub log: Counted<L>,
 }
 
+/// How the kernel's own regions are found, and how the addresses of a log are taken.
+#[derive(Debug, Drop)]
+pub struct AnnotateOptions<'a> {
+    /// The names of the symbols that bound the kernel, where they are given; else the usual ones of
+    /// the listing do.
+    pub kernel: Option<KernelBounds<'a>>,
+    /// How the addresses are taken.
+    pub rule: LogRule,
+}
+
 /// The place of the log among the files that are read.
 const LOG_PLACE: u64 = 3;
 
 /// Writes a log again, with the text of the answer behind each address in it that the listings
 /// have. The options say between which symbols the kernel itself lies, and how the addresses are
-/// taken.
+/// taken; the listing of symbols says whether the log is of a 32-bit kernel.
 ///
 /// What is noted of the listings in these files is told to `errors` before the log is begun. Every
 /// fault that comes before that leaves the log, the writer and `errors` as they were. Of the log
@@ -42,7 +52,7 @@ const LOG_PLACE: u64 = 3;
 pub fn annotate_engine<M: Read, K: Read, R: Read, L: Read, E: Write, W: Write>(
     alloc: Global,
     readers: &mut AnnotateReaders<M, K, R, L>,
-    options: &SymbolLookupOptions<'_>,
+    options: &AnnotateOptions<'_>,
     files: &ListingFiles<'_>,
     errors: &mut Counted<E>,
     writer: &mut Counted<W>,
@@ -69,7 +79,7 @@ pub fn annotate_engine<M: Read, K: Read, R: Read, L: Read, E: Write, W: Write>(
 fn annotate_over<L: Read, E: Write, W: Write>(
     alloc: Global,
     texts: &GivenTexts,
-    options: &SymbolLookupOptions<'_>,
+    options: &AnnotateOptions<'_>,
     files: &ListingFiles<'_>,
     errors: &mut Counted<E>,
     log: &mut Counted<L>,
@@ -83,21 +93,23 @@ fn annotate_over<L: Read, E: Write, W: Write>(
     let notes = opened.notes;
     let index = IndexedCatalog::new(alloc, opened.catalog)?;
     note_listings(&notes, options.kernel.as_ref(), files, errors);
-    annotate_by(alloc, &index, options.rule, log, writer)
+    let is_narrow = is_narrow(&texts.kallsyms);
+    annotate_by(alloc, &index, options.rule, is_narrow, log, writer)
 }
 
 /// Writes the log again by this catalog.
 fn annotate_by<L: Read, W: Write>(
     alloc: Global,
     index: &IndexedCatalog<'_>,
-    rule: AddressRule,
+    rule: LogRule,
+    is_narrow: bool,
     log: &mut Counted<L>,
     writer: &mut Counted<W>,
 ) -> Result<(), Fault>
-    ensures { AnnotatesBy L.remaining W.contents (answered_by index.now rule) log.old log.new
-        writer.old writer.new result }
+    ensures { AnnotatesBy L.remaining W.contents (answered_by index.now rule is_narrow)
+        log.old log.new writer.old writer.new result }
 {
-    match annotate(alloc, index, rule, log, writer) {
+    match annotate(alloc, index, rule, is_narrow, log, writer) {
         Ok(()) => Ok(()),
         Err(LogFault::OutOfMemory) => Err(Fault::Refused(Refusal::OutOfMemory)),
         Err(LogFault::Read) => Err(Fault::Read { place: LOG_PLACE }),

@@ -7,19 +7,20 @@ ghost use Rattle.latchsym.specs.CommandLine.{latchsym_app, optional_word_rule};
 ghost use Rattle.latchsym.specs.CommandLine.{option_rule, optional_rule, pair_rule, with_listings};
 ghost use Rattle.latchsym.specs.CommandLine.{flag_rule, word_rule, words_rule, IsCommand, IsPlainArg};
 ghost use Rattle.latchsym.specs.Jobs.{address_words, asked_annotate, asked_check, asked_lookup};
-ghost use Rattle.latchsym.specs.Jobs.{asked_run, asked_trace, form_in, has_flag};
+ghost use Rattle.latchsym.specs.Jobs.{asked_run, asked_trace, callers_in, form_in, has_flag};
 ghost use Rattle.latchsym.specs.Jobs.{is_like_address};
 ghost use Rattle.latchsym.specs.Jobs.{listed_lookup, readers_of};
 ghost use Rattle.latchsym.specs.Jobs.{symbol_lookup_in, values_in, AnswersAsked, AnswersMatches};
 ghost use Rattle.latchsym.specs.Jobs.{AnswersWords, GivesAnyBounds, GivesAsked, GivesBounds};
 ghost use Rattle.latchsym.specs.Jobs.{AreNumbers, GivesOffset, IsFaultOf};
 
+use crate::annotations::AnnotateOptions;
 use crate::address_command::{AddressJob, address_command, address_job};
 use clap::error::ErrorKind;
 use clap::{Arg, ArgAction, ArgMatches, Command, Error};
 use engines::{AnswerForm, LookupOptions, SymbolLookupOptions};
 use latch_table::MOST_READERS;
-use listing::AddressRule;
+use listing::{AddressRule, Callers, LogRule};
 use modules::KernelBounds;
 use std::alloc::{AllocError, AllocFailed, Global};
 use std::convert::AsStr;
@@ -44,7 +45,7 @@ pub enum Job<'a> {
     /// SCRIPT`: do what a script says, each writer and each reader on a thread.
     Run(RunJob<'a>),
     /// `latchsym annotate [--kallsyms FILE] [--modules FILE [--regions FILE]] [--kernel START END]
-    /// [--callers] [--offset N] [LOG]`: write a log again, with a symbol behind each address.
+    /// [--callers | --exact] [--offset N] [LOG]`: write a log again, with a symbol behind each address.
     Annotate(AnnotateJob<'a>),
     /// `latchsym check [--modules FILE [--regions FILE]] --kallsyms FILE [--kernel START END]`: write
     /// all that is noted of listings, and their counts.
@@ -134,8 +135,8 @@ pub struct ListingFiles<'a> {
 pub struct AnnotateJob<'a> {
     /// The files of the listings.
     pub listings: ListingFiles<'a>,
-    /// How the kernel's own region is found, and how the addresses of the log are taken.
-    pub options: SymbolLookupOptions<'a>,
+    /// How the kernel's own regions are found, and how the addresses of the log are taken.
+    pub options: AnnotateOptions<'a>,
     /// The file of the log; `-` is the standard input.
     pub log: &'a str,
 }
@@ -211,6 +212,8 @@ pub enum JobFault<'a> {
     ModulesTwice,
     /// Regions of modules, and no listing of these.
     RegionsAlone,
+    /// A log whose addresses are taken in two ways.
+    TakenTwice,
     /// A value of `--offset` that is no NUMBER.
     BadOffset(&'a str),
     /// An END of `--kernel` that begins with `0x`, as an address does.
@@ -310,7 +313,12 @@ pub(crate) const REGIONS_HELP: &str = "The regions of modules that have more tha
 
 const CALLERS_HELP: &str = "Take the addresses as return addresses, and name the callers";
 
-const OFFSET_HELP: &str = "Subtract N from each address, as for a kernel moved up by N at boot";
+const EVERY_CALLER_HELP: &str =
+    "Take every address as a return address, not only where its place in the line says so";
+
+const EXACT_HELP: &str = "Take no address as a return address";
+
+pub(crate) const OFFSET_HELP: &str = "Subtract N from each address, as for a kernel moved up by N at boot";
 
 /// The command with the options for the listings, which both `lookup` and `run` have. That for the
 /// modules is given, since a lookup can do without it.
@@ -394,7 +402,8 @@ fn annotate_command<'a>(alloc: Global) -> Result<Command<'a>, AllocError>
         .arg(optional_option(alloc, "modules", "FILE").help(GIVEN_MODULES_HELP))?
         .arg(optional_option(alloc, "regions", "FILE").help(REGIONS_HELP))?
         .arg(optional_pair(alloc, "kernel", &["START", "END"]).help(GIVEN_BOUNDS_HELP))?
-        .arg(flag(alloc, "callers").help(CALLERS_HELP))?
+        .arg(flag(alloc, "callers").help(EVERY_CALLER_HELP))?
+        .arg(flag(alloc, "exact").help(EXACT_HELP))?
         .arg(optional_option(alloc, "offset", "N").help(OFFSET_HELP))?
         .arg(optional_word(alloc, "log", "LOG").help(log_help))
 }
@@ -634,6 +643,9 @@ fn annotate_job<'a>(found: &ArgMatches<'a>) -> Result<Job<'a>, JobFault<'a>>
     if modules.is_none() && regions.is_some() {
         return Err(JobFault::RegionsAlone);
     }
+    let Some(callers) = callers_in(found) else {
+        return Err(JobFault::TakenTwice);
+    };
     let kernel = given_bounds(values_of(found, "kernel"))?;
     let offset = offset_in(value_of(found, "offset"))?;
     Ok(Job::Annotate(AnnotateJob {
@@ -642,15 +654,24 @@ fn annotate_job<'a>(found: &ArgMatches<'a>) -> Result<Job<'a>, JobFault<'a>>
             kallsyms: value_or(found, "kallsyms", KALLSYMS),
             regions,
         },
-        options: SymbolLookupOptions {
+        options: AnnotateOptions {
             kernel,
-            rule: AddressRule {
-                callers: is_given(found, "callers"),
-                offset,
-            },
+            rule: LogRule { callers, offset },
         },
         log: value_or(found, "log", STANDARD_INPUT),
     }))
+}
+
+/// Which addresses of a log are taken as return addresses, where that is not said in two ways.
+fn callers_in(found: &ArgMatches<'_>) -> Option<Callers>
+    ensures { result ≡ callers_in (rows_of (found_of found.now)) }
+{
+    match (is_given(found, "callers"), is_given(found, "exact")) {
+        (false, false) => Some(Callers::ByPlace),
+        (true, false) => Some(Callers::Every),
+        (false, true) => Some(Callers::Never),
+        (true, true) => None,
+    }
 }
 
 /// The listings that are checked.
@@ -726,7 +747,7 @@ fn is_like_address(word: &str) -> bool
 }
 
 /// How many bytes lower the addresses are looked up: none where no word says it.
-fn offset_in<'a>(word: Option<&'a str>) -> Result<u64, JobFault<'a>>
+pub(crate) fn offset_in<'a>(word: Option<&'a str>) -> Result<u64, JobFault<'a>>
     ensures { GivesOffset (option_map (λ w. w.now) word.entry) result }
 {
     let Some(word) = word else {

@@ -2,6 +2,7 @@
 ghost use Rattle.std.specs.Prelude.{◌≡◌};
 ghost use Rattle.texts.specs.Exact.{Wrote};
 ghost use Rattle.latchsym.specs.Misuses.{IsExplained, IsMisused, IsNoJob, misuse_text};
+ghost use Rattle.latchsym.specs.Misuses.{offset_message};
 
 use crate::command_line::JobFault;
 use crate::reports::report_before_job;
@@ -10,7 +11,7 @@ use engines::{Fault, SUCCEEDED};
 use order_laws::Refusal;
 use std::io;
 use std::io::Write;
-use texts::{Counted, put};
+use texts::{Counted, hexadecimal, put};
 
 /// The program's status where the command line is at fault.
 const MISUSED: u8 = 2;
@@ -39,7 +40,10 @@ pub fn refuse<P: Print + Eprint, E: Write>(
             errors,
         ),
         JobFault::RegionsAlone => misused(b"--regions needs --modules", "", errors),
-        JobFault::BadOffset(word) => misused(b"bad offset ", word, errors),
+        JobFault::TakenTwice => {
+            misused(b"--callers and --exact exclude each other", "", errors)
+        }
+        JobFault::BadOffset(word) => misused(offset_message(word), word, errors),
         JobFault::BadEnd(word) => misused(
             b"--kernel takes two names of symbols, and its END is ",
             word,
@@ -47,6 +51,18 @@ pub fn refuse<P: Print + Eprint, E: Write>(
         ),
         JobFault::BadReaders(word) => misused(b"bad number of readers ", word, errors),
         JobFault::NoJob => misused(b"the command line names no job", "", errors),
+    }
+}
+
+/// What is wrong with an offset: it may be a hexadecimal number that lacks its prefix, as the kernel
+/// writes it in vmcoreinfo.
+fn offset_message(word: &str) -> &'static [u8]
+    ensures { result.now ≡ offset_message word.now }
+{
+    if hexadecimal(word.as_bytes()).is_some() {
+        b"bad offset, 0x is missing before "
+    } else {
+        b"bad offset "
     }
 }
 

@@ -168,6 +168,8 @@ fn put_message<W: Write>(
             writer,
             b"no symbol lies in a listed module; are both listings of one boot?",
         ),
+        ListingNote::NoModuleLine => put(writer, b"no line is of the form of /proc/modules"),
+        ListingNote::NoSymbolLine => put(writer, b"no line is of the form of /proc/kallsyms"),
     }
 }
 

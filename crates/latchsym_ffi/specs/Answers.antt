@@ -22,6 +22,8 @@ note_number note.LinesEndInCrLf = 45
 note_number note.NoStart = 46
 note_number note.NoEnd = 47
 note_number note.OtherBoot = 48
+note_number note.NoModuleLine = 49
+note_number note.NoSymbolLine = 50
 
 -- the number that is returned for an answer
 abbrev pub answer_number : Answer → ℕ
@@ -48,8 +50,8 @@ all_answers =
     ∷ Refused refusal.NotLoaded ∷ Refused refusal.TooManyRegions ∷ BadLine ∷ Refused refusal.NoInit
     ∷ NoSymbol ∷ Nothing ∷ Retry ∷ Flip ∷ Store ∷ Noted note.Gzip ∷ Noted note.AllHidden
     ∷ Noted note.LooksLikeSymbols ∷ Noted note.LooksLikeModules ∷ Noted note.LinesEndInCrLf
-    ∷ Noted note.NoStart ∷ Noted note.NoEnd ∷ Noted note.OtherBoot ∷ BadHandle ∷ BadLength
-    ∷ BadListings ∷ []
+    ∷ Noted note.NoStart ∷ Noted note.NoEnd ∷ Noted note.OtherBoot
+    ∷ Noted note.NoModuleLine ∷ Noted note.NoSymbolLine ∷ BadHandle ∷ BadLength ∷ BadListings ∷ []
 
 unfoldable pub has_number : ℕ → Answer → Bool
 has_number number a = nat_eq (answer_number a) number
@@ -87,6 +89,8 @@ note_text note.NoStart = codes "has no symbol at the kernel's first address"
 note_text note.NoEnd = codes "has no symbol at the kernel's end; try the end _einittext"
 note_text note.OtherBoot =
     codes "no symbol lies in a listed module; are both listings of one boot?"
+note_text note.NoModuleLine = codes "no line is of the form of /proc/modules"
+note_text note.NoSymbolLine = codes "no line is of the form of /proc/kallsyms"
 
 abbrev pub answer_text : Answer → List ℕ
 answer_text Done = codes "done"

@@ -58,7 +58,7 @@ pub enum Answer {
 }
 
 /// All that a call of the crates below and of this one returns, by rising number.
-const ALL: [Answer; 33] = [
+const ALL: [Answer; 35] = [
     Answer::Done,
     Answer::Refused(Refusal::BadItem),
     Answer::Refused(Refusal::Overlap),
@@ -89,6 +89,8 @@ const ALL: [Answer; 33] = [
     Answer::Noted(ListingNote::NoStart),
     Answer::Noted(ListingNote::NoEnd),
     Answer::Noted(ListingNote::OtherBoot),
+    Answer::Noted(ListingNote::NoModuleLine),
+    Answer::Noted(ListingNote::NoSymbolLine),
     Answer::BadHandle,
     Answer::BadLength,
     Answer::BadListings,
@@ -199,6 +201,8 @@ fn number_of_note(note: ListingNote) -> u32
         ListingNote::NoStart => 46,
         ListingNote::NoEnd => 47,
         ListingNote::OtherBoot => 48,
+        ListingNote::NoModuleLine => 49,
+        ListingNote::NoSymbolLine => 50,
     }
 }
 
@@ -229,6 +233,8 @@ fn text_of_note(note: ListingNote) -> &'static [u8]
         ListingNote::OtherBoot => {
             b"no symbol lies in a listed module; are both listings of one boot?\0"
         }
+        ListingNote::NoModuleLine => b"no line is of the form of /proc/modules\0",
+        ListingNote::NoSymbolLine => b"no line is of the form of /proc/kallsyms\0",
     }
 }
 

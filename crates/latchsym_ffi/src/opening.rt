@@ -15,7 +15,7 @@ use crate::answers::{NOTHING, number_if_noted};
 use crate::contents::Content;
 use crate::open_catalogs::OpenCatalog;
 use listing::{
-    ListingNote, ListingNotes, ModuleCounts, SkippedModule, SkippedSymbol, SymbolCounts,
+    ListedSymbols, ListingNote, ListingNotes, ModuleCounts, SkippedModule, SkippedSymbol, SymbolCounts,
     SymbolFacts, are_modules_hidden, are_symbols_hidden, note_of_kallsyms, note_of_modules,
     read_kallsyms, read_modules, read_regions,
 };
@@ -212,10 +212,14 @@ fn catalog_between(
     ensures refusal { IfErr result (IsBuildRefusal regions.now) }
 {
     let (module_lines, skipped_modules) = read_modules(alloc, modules)?;
-    let (symbol_lines, skipped_symbols) = read_kallsyms(alloc, texts.kallsyms)?;
+    let ListedSymbols {
+        lines: symbol_lines,
+        listed,
+        skipped: skipped_symbols,
+    } = read_kallsyms(alloc, texts.kallsyms, true)?;
     let names = bounds_for(&texts.kernel, &symbol_lines);
     let modules_hidden = are_modules_hidden(module_lines.len(), &skipped_modules);
-    let symbols_hidden = are_symbols_hidden(symbol_lines.len(), &skipped_symbols);
+    let symbols_hidden = are_symbols_hidden(listed, &skipped_symbols);
     let (catalog, built) = Catalog::build(
         alloc,
         &names,
@@ -245,8 +249,12 @@ fn catalog_alone(
 ) -> Result<(IndexedCatalog<'static>, CatalogCounts), AllocError>
     ensures { IfOk result (λ r. AreReadAlone (shown_texts texts.now) r.0 r.1) }
 {
-    let (symbol_lines, skipped_symbols) = read_kallsyms(alloc, texts.kallsyms)?;
-    let hidden = are_symbols_hidden(symbol_lines.len(), &skipped_symbols);
+    let ListedSymbols {
+        lines: symbol_lines,
+        listed,
+        skipped: skipped_symbols,
+    } = read_kallsyms(alloc, texts.kallsyms, true)?;
+    let hidden = are_symbols_hidden(listed, &skipped_symbols);
     let names = bounds_for(&texts.kernel, &symbol_lines);
     let (catalog, kept) = Catalog::from_symbols(
         alloc,

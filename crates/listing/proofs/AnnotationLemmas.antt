@@ -27,9 +27,9 @@ pub record IsOn {R W : Type 0} (remaining : R → Option (List ℕ)) (contents :
   pub appended : Appends (contents (device_of w)) (contents (device_of w')) written
   pub passed : List ℕ
   pub parts : read ≡ passed ++ a.held.items
-  pub context : kept_in a.context ≡ kept_behind (reverse passed)
-  pub rest : (a.held.items ≡ []) ⊎ IsWaiting answer (kept_in a.context).context a.held.items
-  pub is_owed : (more : List ℕ) → written ++ owed answer a more ≡ annotated_from answer first_context (read ++ more)
+  pub context : kept_in a.context ≡ kept_behind answer.is_narrow (reverse passed)
+  pub rest : (a.held.items ≡ []) ⊎ IsWaiting answer (kept_in a.context) a.held.items
+  pub is_owed : (more : List ℕ) → written ++ owed answer a more ≡ annotated_from answer (first_context answer.is_narrow) (read ++ more)
 
 module _ {R W : Type 0} (remaining : R → Option (List ℕ)) (contents : W → Option (List ℕ)) (answer : Answering) (r : Counted R) (w : Counted W) where
   -- what was written is a beginning of the annotated log, however much more was read
@@ -44,7 +44,7 @@ module _ {R W : Type 0} (remaining : R → Option (List ℕ)) (contents : W → 
   )
 
   -- where nothing was read, nothing is written
-  pub begun : (a : Annotator) → kept_in a.context ≡ first_context → a.held.items ≡ [] → IsOn remaining contents answer r r w w a 0
+  pub begun : (a : Annotator) → kept_in a.context ≡ first_context answer.is_narrow → a.held.items ≡ [] → IsOn remaining contents answer r r w w a 0
   begun a first none = record {
     read_all = refl;
     written_all = refl;
@@ -57,14 +57,14 @@ module _ {R W : Type 0} (remaining : R → Option (List ℕ)) (contents : W → 
     parts = sym none;
     context = first;
     rest = inl none;
-    is_owed = λ more. ap (λ k. annotated_from answer k (a.held.items ++ more)) first ∙ ap (λ h. annotated_from answer first_context (h ++ more)) none;
+    is_owed = λ more. ap (λ k. annotated_from answer k (a.held.items ++ more)) first ∙ ap (λ h. annotated_from answer (first_context answer.is_narrow) (h ++ more)) none;
   }
 
   -- what waits, waits behind the bytes that were passed
-  waits_behind : (a : Annotator) (passed : List ℕ) → kept_in a.context ≡ kept_behind (reverse passed) → ((a.held.items ≡ []) ⊎ IsWaiting answer (kept_in a.context).context a.held.items)
-      → (a.held.items ≡ []) ⊎ IsWaiting answer (context_behind (reverse passed)) a.held.items
+  waits_behind : (a : Annotator) (passed : List ℕ) → kept_in a.context ≡ kept_behind answer.is_narrow (reverse passed) → ((a.held.items ≡ []) ⊎ IsWaiting answer (kept_in a.context) a.held.items)
+      → (a.held.items ≡ []) ⊎ IsWaiting answer (context_behind answer.is_narrow (reverse passed)) a.held.items
   waits_behind a passed is (inl none) = inl none
-  waits_behind a passed is (inr waits) = inr (waiting_behind answer (reverse passed) a.held.items (subst (λ k. IsWaiting answer k.context a.held.items) is waits))
+  waits_behind a passed is (inr waits) = inr (waiting_behind answer (reverse passed) a.held.items (subst (λ k. IsWaiting answer k a.held.items) is waits))
 
   -- what was written is up to date, where the reader kept what it has
   pub following : (r' r'' : Counted R) (w' : Counted W) (a : Annotator) (n : ℕ) → IsOn remaining contents answer r r' w w' a n → Keeps (remaining (device_of r')) (remaining (device_of r''))
@@ -114,10 +114,10 @@ module _ {R W : Type 0} (remaining : R → Option (List ℕ)) (contents : W → 
         ∙ ap (λ l. on.passed ++ l) decides.parts ∙ sym (append_assoc on.passed decides.passed a'.held.items);
     context =
         decides.context ∙ ap (λ k. context_over k decides.passed) on.context
-        ∙ kept_over (reverse on.passed) decides.passed
-        ∙ ap kept_behind (sym (reverse-append on.passed decides.passed));
+        ∙ kept_over answer.is_narrow (reverse on.passed) decides.passed
+        ∙ ap (kept_behind answer.is_narrow) (sym (reverse-append on.passed decides.passed));
     rest = decides.rest;
-    is_owed = λ more. append_assoc on.written text (owed answer a' more) ∙ ap (λ t. on.written ++ t) (decides.same more) ∙ on.is_owed (bytes ++ more) ∙ ap (annotated_from answer first_context) (sym (append_assoc on.read bytes more));
+    is_owed = λ more. append_assoc on.written text (owed answer a' more) ∙ ap (λ t. on.written ++ t) (decides.same more) ∙ on.is_owed (bytes ++ more) ∙ ap (annotated_from answer (first_context answer.is_narrow)) (sym (append_assoc on.read bytes more));
   }
 
   -- the block could not be put out

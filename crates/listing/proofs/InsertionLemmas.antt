@@ -3,8 +3,8 @@ use Rattle.std.proofs.Common.{◌≡◌, ◌∙◌, ℕ, ◌<◌, ◌≤◌, Boo
 use Rattle.std.specs.Prelude.{◌&&◌, ◌||◌, nat_eq, nat_le, option_and_then}
 use Rattle.std.specs.List.{starts_with}
 use Rattle.facts.proofs.Numbers.{eqb-flip}
-use Rattle.listing.specs.LogWords.{address_of_word, has_prefix}
-use Rattle.listing.specs.AnnotatedLogs.{Answering, LogContext, goes_on, inserted, insertion_at, text_behind}
+use Rattle.listing.specs.LogWords.{address_of_word, digits_between, has_prefix, most_short}
+use Rattle.listing.specs.AnnotatedLogs.{Answering, LogContext, goes_on, inserted, insertion_at, says_caller, text_behind}
 use Rattle.listing.specs.Insertions.{IsInsert, IsInserted, MayCome}
 
 pub nothing_inserted : (o : Option (List ℕ)) (context : LogContext) (rest : List ℕ) → goes_on context rest ≡ true → inserted context rest o ≡ []
@@ -73,23 +73,44 @@ text_inserted answer context rest text is_last there is stops e f more may =
     differs true m g = ap (λ x. starts_with nat_eq x text) (ap (λ x. rest ++ x) (m refl) ∙ append-nil rest) ∙ e
     differs false m g = differs_more rest text more e (g refl)
 
-few_digits : (a b : Bool) (o p : Option ℕ) → a ≡ false → b ≡ false → (c : Bool) → cond c (cond a o None) (cond b p None) ≡ None
-few_digits true b o p e f c = absurd (true≢false e)
-few_digits false true o p e f c = absurd (true≢false f)
-few_digits false false o p e f true = refl
-few_digits false false o p e f false = refl
+few_digits : (least most : ℕ) (digits : List ℕ) → length digits < least → digits_between least most digits ≡ None
+few_digits least most digits few = none (nat_le least (length digits)) (nat_le (length digits) most) _ (grind arith)
+  where
+    none : (a b : Bool) (o : Option ℕ) → a ≡ false → cond (a && b) o None ≡ None
+    none true b o e = absurd (true≢false e)
+    none false b o e = refl
 
 -- a word that is too short for an address is none
-short_word : (word : List ℕ) → length word ≤ 10 → address_of_word word ≡ None
-short_word word few =
-    let n = length-drop 2 word in
-    few_digits (nat_le 9 (length (drop 2 word))) (nat_le 16 (length word)) _ _ (grind (arith, n, few)) (grind (arith, few)) (has_prefix word)
+pub short_word : (is_narrow : Bool) (word : List ℕ) → length word ≤ most_short is_narrow → address_of_word is_narrow word ≡ None
+short_word true word few = few_digits 8 8 (cond (has_prefix word) (drop 2 word) word) (rest (has_prefix word))
+  where
+    rest : (b : Bool) → length (cond b (drop 2 word) word) < 8
+    rest true = let n = length-drop 2 word in omega (arith, n, few)
+    rest false = omega (arith, few)
+short_word false word few = by (has_prefix word)
+  where
+    by : (b : Bool) → cond b (digits_between 9 16 (drop 2 word)) (digits_between 16 16 word) ≡ None
+    by true = few_digits 9 16 (drop 2 word) (let n = length-drop 2 word in omega (arith, n, few))
+    by false = few_digits 16 16 word (omega (arith, few))
 
-pub short_insertion : (answer : Answering) (context : LogContext) (rest : List ℕ) → length context.word ≤ 10 → insertion_at answer context rest ≡ []
-short_insertion answer context rest few = ap (λ o. inserted context rest (option_and_then (answer context.is_marked) o)) (short_word context.word few)
+always_none : {X : Type 0} (b : Bool) (o : Option X) → o ≡ None → cond b o o ≡ None
+always_none true o e = e
+always_none false o e = e
+
+-- where a word is no address nothing is inserted
+pub plain_text : (answer : Answering) (context : LogContext) → address_of_word context.is_narrow context.word ≡ None → text_behind answer context ≡ None
+plain_text answer context none =
+    ap (λ o. cond context.place.is_user None (option_and_then (answer.text (says_caller context.place.taking context.word)) o)) none
+    ∙ always_none context.place.is_user None refl
+
+pub plain_word : (answer : Answering) (context : LogContext) (rest : List ℕ) → address_of_word context.is_narrow context.word ≡ None → insertion_at answer context rest ≡ []
+plain_word answer context rest none = ap (inserted context rest) (plain_text answer context none)
+
+pub short_insertion : (answer : Answering) (context : LogContext) (rest : List ℕ) → length context.word ≤ most_short context.is_narrow → insertion_at answer context rest ≡ []
+short_insertion answer context rest few = plain_word answer context rest (short_word context.is_narrow context.word few)
 
 -- behind a short word nothing is inserted
-pub none_inserted : (answer : Answering) (context : LogContext) (rest : List ℕ) (is_last : Bool) (out : List ℕ) → nat_le (length context.word) 10 ≡ true → IsInsert answer context rest is_last out out true
+pub none_inserted : (answer : Answering) (context : LogContext) (rest : List ℕ) (is_last : Bool) (out : List ℕ) → nat_le (length context.word) (most_short context.is_narrow) ≡ true → IsInsert answer context rest is_last out out true
 none_inserted answer context rest is_last out few more may =
-    let short : length context.word ≤ 10 = grind (arith, few) in
+    let short : length context.word ≤ most_short context.is_narrow = grind (arith, few) in
     sym (ap (λ t. out ++ t) (short_insertion answer context (rest ++ more) short) ∙ append-nil out)

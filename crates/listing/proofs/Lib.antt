@@ -4,6 +4,8 @@ pub mod CutLemmas
 pub mod WordRunLemmas
 -- an address of sixteen digits has no blank
 pub mod SymbolAddressLemmas
+-- symbols with mapping symbols among them or without
+pub mod SymbolListingLemmas
 -- lines that are taken, or skipped for a cause, one after the other
 pub mod SkippingLemmas
 -- what is read of a listing of modules
@@ -24,7 +26,5 @@ pub mod InsertionLemmas
 pub mod AnnotationLemmas
 -- how far nothing is inserted between the bytes of a log
 pub mod LogPlainLemmas
--- the markers of a log, and its last bytes, over bytes that are passed together
-pub mod LogMarkLemmas
 -- bytes of a log that are passed together
 pub mod LogPassLemmas

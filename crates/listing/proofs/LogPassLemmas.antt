@@ -5,14 +5,14 @@ use Rattle.std.proofs.lemmas.Bool.{and_parts, eqb-true}
 use Rattle.std.specs.Global.{Vec}
 use Rattle.std.proofs.lemmas.List.{drop-append-le, drop-take, length-take-le, take-append-drop, take_rest, take-take}
 use Rattle.std.proofs.lemmas.List.Sums.{fold-append, fold_more}
-use Rattle.listing.specs.LogWords.{is_closer, is_word_byte, kind_of}
+use Rattle.listing.specs.LogWords.{kind_of}
 use Rattle.listing.specs.AnnotatedLogs.{Answering, LogContext, insertion_at, text_behind}
 use Rattle.listing.specs.Insertions.{IsInserted, IsInsertionAt, IsPassed, IsWaiting, KeepsPromise}
-use Rattle.listing.specs.LogContexts.{ArePlain, IsPlain, KeptContext, annotated_from, context_over, kept_in, next_context, next_word, with_byte}
+use Rattle.listing.specs.LogContexts.{ArePlain, IsPlain, annotated_from, context_over, first_context, next_context}
 use Rattle.listing.specs.declared.insertions.Insertion.{Insertion}
 use Rattle.listing.specs.declared.insertions.Insertion.TheVariants.{Nothing, Text, Undecided}
-use Rattle.listing.specs.declared.log_contexts.Context.{Context}
-use Rattle.listing.proofs.InsertionLemmas.{goes_on_more, nothing_inserted, short_insertion}
+use Rattle.listing.proofs.InsertionLemmas.{goes_on_more, nothing_inserted, plain_word}
+use Rattle.listing.proofs.LogContextLemmas.{same_narrow}
 use Rattle.listing.proofs.LogPlainLemmas.{take_parts}
 
 -- ---- a table of what bytes are
@@ -31,67 +31,36 @@ kind_at (kind ∷ kinds) n (suc k) holds below =
     let same : n + 1 + k ≡ n + suc k = omega arith in
     kind_at kinds (n + 1) k (and_parts _ _ holds).1 (omega arith) ∙ ap kind_of same
 
--- ---- words
+-- ---- lines
 
-ended : (is_word is_close closed : Bool) (word more : List ℕ) (b : ℕ) → is_word ≡ false → is_close ≡ false → cond is_word (cond closed (b ∷ []) more) (cond is_close word []) ≡ []
-ended is_word is_close closed word more b e f = rw (e, f) refl
-
--- a byte that ends a word leaves nothing of it
-pub none_behind : (kept : KeptContext) (bytes : List ℕ) (s : ℕ) → 0 < s → s ≤ length bytes → is_word_byte (get_or bytes (s - 1) 0) ≡ false → is_closer (get_or bytes (s - 1) 0) ≡ false
-    → ([] ≡ (context_over kept (take s bytes)).context.word) × (false ≡ (context_over kept (take s bytes)).context.is_closed)
-none_behind kept bytes s some within no_word no_closer =
-    let b : ℕ = get_or bytes (s - 1) 0 in
-    let before : KeptContext = context_over kept (take (s - 1) bytes) in
+-- what stands before a line that begins is of no matter
+pub line_alone : (kept : LogContext) (bytes : List ℕ) (s : ℕ) → 0 < s → s ≤ length bytes → get_or bytes (s - 1) 0 ≡ 10
+    → first_context kept.is_narrow ≡ context_over kept (take s bytes)
+line_alone kept bytes s some within is =
     let same : s - 1 + 1 ≡ s = omega arith in
     let next = fold_more next_context kept bytes (s - 1) 0 (omega arith) in
-    let is : next_context before b ≡ context_over kept (take s bytes) = sym next ∙ ap (λ j. context_over kept (take j bytes)) same in (
-      sym (ended (is_word_byte b) (is_closer b) before.context.is_closed before.context.word (with_byte before.context.word b) b no_word no_closer) ∙ ap (λ (k : KeptContext). k.context.word) is,
-      sym no_closer ∙ ap (λ (k : KeptContext). k.context.is_closed) is,
-    )
+    ap first_context (sym (same_narrow kept (take (s - 1) bytes)))
+    ∙ ap (next_context (context_over kept (take (s - 1) bytes))) (sym is)
+    ∙ sym next ∙ ap (λ j. context_over kept (take j bytes)) same
 
-pub words_more : (kept : KeptContext) (bytes : List ℕ) (i : ℕ) (c c' : Context) → i < length bytes
-    → c.word.items ≡ (context_over kept (take i bytes)).context.word → c.is_closed ≡ (context_over kept (take i bytes)).context.is_closed
-    → c'.word.items ≡ next_word (kept_in c).context (get_or bytes i 0) → c'.is_closed ≡ is_closer (get_or bytes i 0)
-    → (c'.word.items ≡ (context_over kept (take (i + 1) bytes)).context.word) × (c'.is_closed ≡ (context_over kept (take (i + 1) bytes)).context.is_closed)
-words_more kept bytes i c c' below word closed word' closed' =
-    let b : ℕ = get_or bytes i 0 in
-    let before : KeptContext = context_over kept (take i bytes) in
-    let next = fold_more next_context kept bytes i 0 below in (
-      word'
-          ∙ ap (λ (w : List ℕ). cond (is_word_byte b) (cond c.is_closed (b ∷ []) (with_byte w b)) (cond (is_closer b) w [])) word
-          ∙ ap (λ (t : Bool). cond (is_word_byte b) (cond t (b ∷ []) (with_byte before.context.word b)) (cond (is_closer b) before.context.word [])) closed
-          ∙ sym (ap (λ (k : KeptContext). k.context.word) next),
-      closed' ∙ sym (ap (λ (k : KeptContext). k.context.is_closed) next),
-    )
-
--- ---- all of it
-
-pub all_of : (c : Context) (k : KeptContext) → c.word.items ≡ k.context.word → c.is_closed ≡ k.context.is_closed → c.is_marked ≡ k.context.is_marked → c.recent ≡ k.recent → kept_in c ≡ k
-all_of c k word closed marked recent =
-    ap (λ (w : List ℕ). of w c.is_closed c.is_marked c.recent) word
-    ∙ ap (λ (x : Bool). of k.context.word x c.is_marked c.recent) closed
-    ∙ ap (λ (x : Bool). of k.context.word k.context.is_closed x c.recent) marked
-    ∙ ap (of k.context.word k.context.is_closed k.context.is_marked) recent
-  where
-    of : List ℕ → Bool → Bool → List ℕ → KeptContext
-    of word closed marked recent = record {
-      context = record { word = word; is_closed = closed; is_marked = marked };
-      recent = recent;
-    }
+-- a byte more of the line
+pub byte_more : (kept : LogContext) (bytes : List ℕ) (i : ℕ) → i < length bytes
+    → next_context (context_over kept (take i bytes)) (get_or bytes i 0) ≡ context_over kept (take (i + 1) bytes)
+byte_more kept bytes i below = sym (fold_more next_context kept bytes i 0 below)
 
 -- ---- what is put out for bytes that are passed together
 
-plain_insertion : (answer : Answering) (kept : KeptContext) (rest : List ℕ) → IsPlain kept rest → insertion_at answer kept.context rest ≡ []
-plain_insertion answer kept rest (inl few) = short_insertion answer kept.context rest few
-plain_insertion answer kept rest (inr on) = nothing_inserted (text_behind answer kept.context) kept.context rest on
+plain_insertion : (answer : Answering) (kept : LogContext) (rest : List ℕ) → IsPlain kept rest → insertion_at answer kept rest ≡ []
+plain_insertion answer kept rest (inl none) = plain_word answer kept rest none
+plain_insertion answer kept rest (inr on) = nothing_inserted (text_behind answer kept) kept rest on
 
 -- more bytes behind do not change it
-plain_more : (kept : KeptContext) (rest more : List ℕ) → IsPlain kept rest → IsPlain kept (rest ++ more)
-plain_more kept rest more (inl few) = inl few
-plain_more kept rest more (inr on) = inr (goes_on_more kept.context rest more on)
+plain_more : (kept : LogContext) (rest more : List ℕ) → IsPlain kept rest → IsPlain kept (rest ++ more)
+plain_more kept rest more (inl none) = inl none
+plain_more kept rest more (inr on) = inr (goes_on_more kept rest more on)
 
 -- bytes between which nothing is inserted are put as they are
-plain_put : (answer : Answering) (kept : KeptContext) (seg rest : List ℕ) → ((k : ℕ) → k < length seg → IsPlain (context_over kept (take k seg)) (drop k seg ++ rest))
+plain_put : (answer : Answering) (kept : LogContext) (seg rest : List ℕ) → ((k : ℕ) → k < length seg → IsPlain (context_over kept (take k seg)) (drop k seg ++ rest))
     → annotated_from answer kept (seg ++ rest) ≡ seg ++ annotated_from answer (context_over kept seg) rest
 plain_put answer kept [] rest plain = refl
 plain_put answer kept (b ∷ seg) rest plain =
@@ -99,7 +68,7 @@ plain_put answer kept (b ∷ seg) rest plain =
     ∙ ap (λ (t : List ℕ). b ∷ t) (plain_put answer (next_context kept b) seg rest (λ k below. plain (suc k) (omega (arith, below))))
 
 -- so many bytes are put behind what is inserted before the first of them
-some_put : (answer : Answering) (kept : KeptContext) (bytes : List ℕ) (n : ℕ) (text more : List ℕ) → 0 < n → ArePlain kept bytes n → insertion_at answer kept.context (bytes ++ more) ≡ text
+some_put : (answer : Answering) (kept : LogContext) (bytes : List ℕ) (n : ℕ) (text more : List ℕ) → 0 < n → ArePlain kept bytes n → insertion_at answer kept (bytes ++ more) ≡ text
     → annotated_from answer kept (bytes ++ more) ≡ text ++ (take n bytes ++ annotated_from answer (context_over kept (take n bytes)) (drop n bytes ++ more))
 some_put answer kept bytes zero text more some plain is = absurd (omega (arith, some))
 some_put answer kept [] (suc n) text more some plain is = absurd (let few = plain.0 in omega (arith, few))
@@ -118,13 +87,13 @@ some_put answer kept (b ∷ bytes) (suc n) text more some plain is =
     (plain_more (context_over (next_context kept b) (take k bytes)) (drop k bytes) more (plain.1 (suc k) (omega arith) (omega (arith, less)))))))
 
 -- So many bytes are passed. Those from a place on are not put out yet.
-pub record HasPut (answer : Answering) (first kept : KeptContext) (bytes : List ℕ) (is_last : Bool) (before out : List ℕ) (put at : ℕ) : Type 0 where
+pub record HasPut (answer : Answering) (first kept : LogContext) (bytes : List ℕ) (is_last : Bool) (before out : List ℕ) (put at : ℕ) : Type 0 where
   pub put_below : put ≤ at
   pub among : at ≤ length bytes
   pub keeps : KeepsPromise answer first kept bytes is_last before (out ++ drop put (take at bytes)) at
   pub context : kept ≡ context_over first (take at bytes)
 
-pub put_none : (answer : Answering) (first : KeptContext) (bytes : List ℕ) (is_last : Bool) (before : List ℕ) → HasPut answer first first bytes is_last before before 0 0
+pub put_none : (answer : Answering) (first : LogContext) (bytes : List ℕ) (is_last : Bool) (before : List ℕ) → HasPut answer first first bytes is_last before before 0 0
 put_none answer first bytes is_last before = record {
   put_below = omega arith;
   among = omega arith;
@@ -132,8 +101,8 @@ put_none answer first bytes is_last before = record {
   context = refl;
 }
 
-pub put_more : (answer : Answering) (first kept kept' : KeptContext) (bytes : List ℕ) (is_last : Bool) (before out out' : List ℕ) (put put' at n : ℕ) (text : List ℕ)
-    → HasPut answer first kept bytes is_last before out put at → 0 < n → ArePlain kept (drop at bytes) n → kept' ≡ context_over kept (take n (drop at bytes)) → IsInserted answer kept.context (drop at bytes) is_last text
+pub put_more : (answer : Answering) (first kept kept' : LogContext) (bytes : List ℕ) (is_last : Bool) (before out out' : List ℕ) (put put' at n : ℕ) (text : List ℕ)
+    → HasPut answer first kept bytes is_last before out put at → 0 < n → ArePlain kept (drop at bytes) n → kept' ≡ context_over kept (take n (drop at bytes)) → IsInserted answer kept (drop at bytes) is_last text
     → put' ≤ at → out' ++ drop put' (take at bytes) ≡ (out ++ drop put (take at bytes)) ++ text
     → HasPut answer first kept' bytes is_last before out' put' (at + n)
 put_more answer first kept kept' bytes is_last before out out' put put' at n text has some plain is inserted below outs = record {
@@ -152,20 +121,20 @@ put_more answer first kept kept' bytes is_last before out out' put put' at n tex
       let owed : List ℕ = annotated_from answer (context_over kept seg) (drop n rest ++ more) in
       ap (λ (o : List ℕ). o ++ annotated_from answer kept' (drop (at + n) bytes ++ more)) grew
       ∙ ap (λ (l : List ℕ). ((virtual ++ text) ++ seg) ++ annotated_from answer kept' (l ++ more)) (sym (drop-drop n at bytes))
-      ∙ ap (λ (k : KeptContext). ((virtual ++ text) ++ seg) ++ annotated_from answer k (drop n rest ++ more)) is
+      ∙ ap (λ (k : LogContext). ((virtual ++ text) ++ seg) ++ annotated_from answer k (drop n rest ++ more)) is
       ∙ append_assoc (virtual ++ text) seg owed
       ∙ append_assoc virtual text (seg ++ owed)
       ∙ ap (λ (l : List ℕ). virtual ++ l) (sym (some_put answer kept rest n text more some plain (inserted more may)))
       ∙ has.keeps more may;
   context =
       is
-      ∙ ap (λ (k : KeptContext). context_over k (take n (drop at bytes))) has.context
+      ∙ ap (λ (k : LogContext). context_over k (take n (drop at bytes))) has.context
       ∙ sym (fold-append next_context first (take at bytes) (take n (drop at bytes)))
       ∙ ap (context_over first) (sym (take_parts at n bytes));
 }
 
 -- what is held back is put too, where all bytes are passed
-pub put_all : (answer : Answering) (first kept : KeptContext) (bytes : List ℕ) (is_last : Bool) (before out out' : List ℕ) (put at : ℕ) → HasPut answer first kept bytes is_last before out put at → at ≡ length bytes
+pub put_all : (answer : Answering) (first kept : LogContext) (bytes : List ℕ) (is_last : Bool) (before out out' : List ℕ) (put at : ℕ) → HasPut answer first kept bytes is_last before out put at → at ≡ length bytes
     → out' ≡ out ++ drop put (take at bytes) → IsPassed answer first kept bytes is_last before out' at
 put_all answer first kept bytes is_last before out out' put at has all is = record {
   among = has.among;
@@ -176,8 +145,8 @@ put_all answer first kept bytes is_last before out out' put at has all is = reco
 }
 
 -- and where the next one waits
-pub put_waiting : (answer : Answering) (first kept : KeptContext) (bytes : List ℕ) (is_last : Bool) (before out out' : List ℕ) (put at : ℕ) → HasPut answer first kept bytes is_last before out put at
-    → (is_last ≡ false) × IsWaiting answer kept.context (drop at bytes)
+pub put_waiting : (answer : Answering) (first kept : LogContext) (bytes : List ℕ) (is_last : Bool) (before out out' : List ℕ) (put at : ℕ) → HasPut answer first kept bytes is_last before out put at
+    → (is_last ≡ false) × IsWaiting answer kept (drop at bytes)
     → out' ≡ out ++ drop put (take at bytes) → IsPassed answer first kept bytes is_last before out' at
 put_waiting answer first kept bytes is_last before out out' put at has (not_last, waits) is = record {
   among = has.among;

@@ -1,5 +1,5 @@
 -- Lines that are taken, or skipped for a cause, one after the other.
-use Rattle.std.proofs.Common.{◌≡◌, ℕ, zero, suc, ◌==◌, ◌+◌, ◌<◌, ◌≤◌, Bool, true, false, cond, List, [], ◌∷◌, ◌++◌, length, map, Some, Result, Ok, Err, refl, sym, ap, ◌∙◌, arith, length-append}
+use Rattle.std.proofs.Common.{◌≡◌, ℕ, zero, suc, ◌==◌, ◌+◌, ◌<◌, ◌≤◌, Bool, true, false, cond, List, [], ◌∷◌, ◌++◌, length, map, Option, None, Some, Result, Ok, Err, refl, sym, ap, ◌∙◌, arith, length-append}
 use Rattle.std.specs.Prelude.{slice_get, slice_index, sum}
 use Rattle.std.specs.List.{cons_option, onto_first, range_with_len}
 use Rattle.std.specs.Result.{result_ok}
@@ -62,6 +62,15 @@ lines_few [] = omega arith
 lines_few (b ∷ bytes) =
     elim (b == 10) as (λ t. length (cond t ([] ∷ lines_of bytes) (onto_first b (lines_of bytes))) ≤ suc (length bytes))
     [ true ↦ omega (arith, lines_few bytes) | false ↦ omega (arith, length-onto_first b (lines_of bytes), lines_few bytes) ]
+
+-- lines that are taken are no more than all
+one_at_most : {T : Type 0} (o : Option T) (xs : List T) (n : ℕ) → length xs ≤ n → length (cons_option o xs) ≤ suc n
+one_at_most None xs n few = omega (arith, few)
+one_at_most (Some t) xs n few = omega (arith, few)
+
+few_taken : {T E : Type 0} (said : List ℕ → Result T E) (lines : List (List ℕ)) → length (taken_by said lines) ≤ length lines
+few_taken said [] = omega arith
+few_taken said (line ∷ lines) = one_at_most (result_ok (said line)) (taken_by said lines) (length lines) (few_taken said lines)
 
 -- ---- one more line
 
@@ -135,6 +144,11 @@ module _ {T E : Type 0} (place : E → ℕ) (causes : List E) (said : List ℕ �
   counts_low k =
       let (done, joined, is_taken, is_counted) = read in
       omega (arith, count_few place causes said done k, lines_few text, ap length joined, length-append done (lines_of rest), ap length first, ap (λ ns. slice_index ns k) is_counted)
+
+  pub taken_low : length taken + 1 ≤ length text
+  taken_low =
+      let (done, joined, is_taken, is_counted) = read in
+      omega (arith, few_taken said done, lines_few text, ap length joined, length-append done (lines_of rest), ap length first, ap length is_taken)
 
   module _ (n : ℕ) (in_order : map place causes ≡ range_with_len 0 n) where
     pub one_taken : (entry : T) → said line ≡ Ok entry → IsReadTo place causes said text after (taken ++ entry ∷ []) counted

@@ -1,7 +1,11 @@
 -- How an address is taken that a user gives.
 use Rattle.std.specs.Prelude.{ℕ, ◌-◌, nat_le, false, if◌then◌else◌, Option, Some, None}
 use Rattle.std.specs.Prelude.{option_and_then}
+use Rattle.std.specs.Prelude.{Bool, true}
 use Rattle.listing.specs.declared.address_rules.AddressRule.{AddressRule}
+use Rattle.listing.specs.declared.address_rules.Callers.{Callers}
+use Rattle.listing.specs.declared.address_rules.Callers.TheVariants.{ByPlace, Every, Never}
+use Rattle.listing.specs.declared.address_rules.LogRule.{LogRule}
 
 -- the address so many bytes lower, where there is one
 abbrev pub lower_by : ℕ → ℕ → Option ℕ
@@ -19,3 +23,13 @@ place_of rule addr = option_and_then (lower_by (before_of rule)) (lower_by rule.
 -- addresses are looked up as they are given
 abbrev pub as_given : AddressRule
 as_given = record { callers = false; offset = 0 }
+
+-- whether an address of a log is taken as a return address, whose place in its line says so or not
+abbrev pub is_taken_as_caller : Callers → Bool → Bool
+is_taken_as_caller ByPlace says_so = says_so
+is_taken_as_caller Every says_so = true
+is_taken_as_caller Never says_so = false
+
+abbrev pub rule_at : LogRule → Bool → AddressRule
+rule_at rule says_so =
+    record { callers = is_taken_as_caller rule.callers says_so; offset = rule.offset }

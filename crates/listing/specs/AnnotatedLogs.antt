@@ -2,26 +2,28 @@
 --
 -- What is inserted at a place is told by the bytes before it and those behind it alone, whatever
 -- is inserted elsewhere.
-use Rattle.std.specs.Prelude.{ℕ, ◌==◌, ◌&&◌, ◌||◌, not, Bool, false, if◌then◌else◌}
+use Rattle.std.specs.Prelude.{ℕ, ◌&&◌, ◌||◌, not, Bool, true, false, if◌then◌else◌}
 use Rattle.std.specs.Prelude.{List, [], ◌∷◌, ◌++◌, codes, Option, Some, None, nat_eq, reverse}
 use Rattle.std.specs.Prelude.{option_and_then}
 use Rattle.std.specs.List.{starts_with}
 use Rattle.std.specs.Str.{bytes_eq}
 use Rattle.modules.specs.Entries.{CatalogEntries}
 use Rattle.modules.specs.Items.{item_of_address}
-use Rattle.listing.specs.AddressRules.{place_of}
+use Rattle.listing.specs.AddressRules.{place_of, rule_at}
 use Rattle.listing.specs.Answers.{answer_text_by}
-use Rattle.listing.specs.LogWords.{address_of_word, is_closer, is_word_byte}
+use Rattle.listing.specs.LogPlaces.{first_place, next_place}
+use Rattle.listing.specs.LogWords.{address_of_word, has_prefix, is_closer, is_word_byte}
 use Rattle.listing.specs.declared.address_rules.AddressRule.{AddressRule}
+use Rattle.listing.specs.declared.address_rules.LogRule.{LogRule}
+use Rattle.listing.specs.declared.log_places.Place.{Place}
+use Rattle.listing.specs.declared.log_places.Taking.{Taking}
+use Rattle.listing.specs.declared.log_places.Taking.TheVariants as taking
 
--- what is inserted for an address, if anything is, where a marker stands before it in its line, or
--- where none does
-abbrev pub Answering : Type 0
-Answering = Bool → ℕ → Option (List ℕ)
-
--- An address behind a marker is where the processor was, and not where a call returns to.
-abbrev pub rule_behind : AddressRule → Bool → AddressRule
-rule_behind rule marked = record rule { callers = rule.callers && not marked }
+-- what is inserted for an address, if anything is, that is taken as a caller's or as it is; and
+-- whether the log is of a 32-bit kernel
+pub record Answering : Type 0 where
+  pub is_narrow : Bool
+  pub text : Bool → ℕ → Option (List ℕ)
 
 -- the text of the answer for an address
 abbrev pub text_of_address : CatalogEntries → AddressRule → ℕ → List ℕ
@@ -32,15 +34,21 @@ text_of_address c rule addr =
 abbrev pub behind_blank : List ℕ → Option (List ℕ)
 behind_blank text = if bytes_eq text (codes "-") then None else Some (codes " " ++ text)
 
-abbrev pub answered_by : CatalogEntries → AddressRule → Answering
-answered_by c rule marked addr = behind_blank (text_of_address c (rule_behind rule marked) addr)
+-- a blank and the text of the answer by this rule, for an address whose place says that it is a
+-- caller's, or does not
+abbrev pub text_by : CatalogEntries → LogRule → Bool → ℕ → Option (List ℕ)
+text_by c rule says_so addr = behind_blank (text_of_address c (rule_at rule says_so) addr)
 
--- What stands before a place: a word, whether closers stand behind it, and whether the line has a
--- marker.
+abbrev pub answered_by : CatalogEntries → LogRule → Bool → Answering
+answered_by c rule is_narrow = record { is_narrow = is_narrow; text = text_by c rule }
+
+-- What stands before a place: a word, whether closers stand behind it, and where it stands in its
+-- line; and whether the log is of a 32-bit kernel.
 pub record LogContext : Type 0 where
+  pub is_narrow : Bool
   pub word : List ℕ
   pub is_closed : Bool
-  pub is_marked : Bool
+  pub place : Place
 
 -- In what follows the bytes before a place are given from the last one to the first.
 
@@ -59,22 +67,18 @@ abbrev pub ends_closed : List ℕ → Bool
 ends_closed [] = false
 ends_closed (b ∷ back) = is_closer b
 
--- whether they end in a marker
-abbrev pub ends_marked : List ℕ → Bool
-ends_marked back =
-    starts_with nat_eq back (reverse (codes "RIP:"))
-    || starts_with nat_eq back (reverse (codes "pc :"))
+-- where they end in their line
+abbrev pub place_behind : Bool → List ℕ → Place
+place_behind is_narrow [] = first_place
+place_behind is_narrow (b ∷ back) =
+    next_place is_narrow (reverse (last_word back)) (place_behind is_narrow back) b
 
--- whether the line that they end in has a marker
-abbrev pub is_marked : List ℕ → Bool
-is_marked [] = false
-is_marked (b ∷ back) = not (b == 10) && (ends_marked (b ∷ back) || is_marked back)
-
-abbrev pub context_behind : List ℕ → LogContext
-context_behind back = record {
+abbrev pub context_behind : Bool → List ℕ → LogContext
+context_behind is_narrow back = record {
+  is_narrow = is_narrow;
   word = word_before back;
   is_closed = ends_closed back;
-  is_marked = is_marked back;
+  place = place_behind is_narrow back;
 }
 
 -- whether the bytes behind a place go on with the closers, or with the word
@@ -82,10 +86,18 @@ abbrev pub goes_on : LogContext → List ℕ → Bool
 goes_on context [] = false
 goes_on context (b ∷ rest) = is_closer b || (is_word_byte b && not context.is_closed)
 
--- what may be inserted: the word is an address, and this is told of it
+-- whether the place of a word says that it is a caller's
+abbrev pub says_caller : Taking → List ℕ → Bool
+says_caller taking.Exact word = false
+says_caller taking.Prefixed word = has_prefix word
+says_caller taking.Caller word = true
+
+-- what may be inserted: the word is an address, its line is not of a program, and this is told of it
 abbrev pub text_behind : Answering → LogContext → Option (List ℕ)
 text_behind answer context =
-    option_and_then (answer context.is_marked) (address_of_word context.word)
+    if context.place.is_user then None
+    else option_and_then (answer.text (says_caller context.place.taking context.word))
+    (address_of_word context.is_narrow context.word)
 
 -- The text is inserted, unless the place lies within the word or its closers, or the text stands
 -- there already.
@@ -100,9 +112,9 @@ insertion_at answer context rest = inserted context rest (text_behind answer con
 
 -- the rest of a log behind the bytes before a place, with what is inserted
 abbrev pub annotated_behind : Answering → List ℕ → List ℕ → List ℕ
-annotated_behind answer back [] = insertion_at answer (context_behind back) []
+annotated_behind answer back [] = insertion_at answer (context_behind answer.is_narrow back) []
 annotated_behind answer back (b ∷ rest) =
-    insertion_at answer (context_behind back) (b ∷ rest)
+    insertion_at answer (context_behind answer.is_narrow back) (b ∷ rest)
     ++ b ∷ annotated_behind answer (b ∷ back) rest
 
 abbrev pub annotated : Answering → List ℕ → List ℕ

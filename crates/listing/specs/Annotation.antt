@@ -22,7 +22,7 @@ pub record Decides (answer : Answering) (a a' : Annotator) (bytes text : List �
   pub parts : a.held.items ++ bytes ≡ passed ++ a'.held.items
   pub context : kept_in a'.context ≡ context_over (kept_in a.context) passed
   pub same : (more : List ℕ) → text ++ owed answer a' more ≡ owed answer a (bytes ++ more)
-  pub rest : (a'.held.items ≡ []) ⊎ IsWaiting answer (kept_in a'.context).context a'.held.items
+  pub rest : (a'.held.items ≡ []) ⊎ IsWaiting answer (kept_in a'.context) a'.held.items
 
 -- the text was written, or no call failed and nothing was, or a call failed
 abbrev pub PutsText : {W : Type 0} → (W → Option (List ℕ)) → List ℕ → Counted W → Counted W
@@ -55,7 +55,7 @@ pub record IsUpToDate (answer : Answering) (written read : List ℕ) : Type 0 wh
   pub passed : List ℕ
   pub held : List ℕ
   pub parts : read ≡ passed ++ held
-  pub rest : (held ≡ []) ⊎ IsWaiting answer (context_behind (reverse passed)) held
+  pub rest : (held ≡ []) ⊎ IsWaiting answer (context_behind answer.is_narrow (reverse passed)) held
   pub begins : (more : List ℕ)
       → written ++ annotated_behind answer (reverse passed) (held ++ more)
       ≡ annotated answer (read ++ more)

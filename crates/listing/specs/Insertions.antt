@@ -4,14 +4,14 @@ use Rattle.std.specs.Prelude.{take, nat_eq, Some}
 use Rattle.std.specs.List.{starts_with}
 use Rattle.listing.specs.AnnotatedLogs.{Answering, LogContext, answered_by, insertion_at}
 use Rattle.listing.specs.AnnotatedLogs.{text_behind}
-use Rattle.listing.specs.LogContexts.{KeptContext, annotated_from, context_over}
+use Rattle.listing.specs.LogContexts.{annotated_from, context_over}
 use Rattle.listing.specs.declared.insertions.Insertion.{Insertion}
 use Rattle.listing.specs.declared.insertions.Insertion.TheVariants.{Nothing, Text, Undecided}
 use Rattle.listing.specs.declared.insertions.LogAnswers.{LogAnswers}
 
 -- how the engine answers
 abbrev pub answering_of : LogAnswers → Answering
-answering_of a = answered_by a.index.now a.rule
+answering_of a = answered_by a.index.now a.rule a.is_narrow
 
 -- these bytes may come behind those that are there: none behind the last
 abbrev pub MayCome : Bool → List ℕ → Type 0
@@ -46,7 +46,7 @@ IsInsert answer context rest is_last out out' false =
     (is_last ≡ false) × (out' ≡ out) × IsWaiting answer context rest
 
 -- With these bytes put out, and so many of the bytes passed, the same is put out in the end.
-abbrev pub KeepsPromise : Answering → KeptContext → KeptContext → List ℕ → Bool → List ℕ → List ℕ
+abbrev pub KeepsPromise : Answering → LogContext → LogContext → List ℕ → Bool → List ℕ → List ℕ
     → ℕ → Type 0
 KeepsPromise answer kept kept' bytes is_last out out' n =
     (more : List ℕ) → MayCome is_last more
@@ -54,10 +54,10 @@ KeepsPromise answer kept kept' bytes is_last out out' n =
     ≡ out ++ annotated_from answer kept (bytes ++ more)
 
 -- So many bytes were passed: all of them, or those before some that wait for more.
-pub record IsPassed (answer : Answering) (kept kept' : KeptContext) (bytes : List ℕ)
+pub record IsPassed (answer : Answering) (kept kept' : LogContext) (bytes : List ℕ)
     (is_last : Bool) (out out' : List ℕ) (n : ℕ) : Type 0 where
   pub among : n ≤ length bytes
   pub whole : is_last ≡ true → n ≡ length bytes
   pub context : kept' ≡ context_over kept (take n bytes)
-  pub rest : (n ≡ length bytes) ⊎ IsWaiting answer kept'.context (drop n bytes)
+  pub rest : (n ≡ length bytes) ⊎ IsWaiting answer kept' (drop n bytes)
   pub keeps : KeepsPromise answer kept kept' bytes is_last out out' n

@@ -19,6 +19,8 @@ pub mod ListingNotes
 pub mod RegionListing
 -- the words of a log, and the addresses that words are
 pub mod LogWords
+-- where an address word stands in its line
+pub mod LogPlaces
 -- a log with the text of the answer behind each address that stands in it
 pub mod AnnotatedLogs
 -- what is kept of the bytes before a place of a log

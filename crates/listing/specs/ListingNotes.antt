@@ -5,8 +5,8 @@ use Rattle.std.specs.List.{list_any}
 use Rattle.std.specs.Option.{option_map_or}
 use Rattle.texts.specs.Lines.{lines_of}
 use Rattle.listing.specs.Looks.{are_modules_hidden, are_symbols_hidden, first_ends_in_cr, is_gzip}
-use Rattle.listing.specs.Looks.{is_kernel_symbol, is_of_kernel, looks_like_modules}
-use Rattle.listing.specs.Looks.{looks_like_symbols}
+use Rattle.listing.specs.Looks.{is_kernel_symbol, is_module_line, is_of_kernel, is_symbol_line}
+use Rattle.listing.specs.Looks.{lacks_lines, looks_like_modules, looks_like_symbols}
 use Rattle.listing.specs.SymbolListing.{symbols_in}
 use Rattle.modules.specs.Entries.{CatalogEntries, ModuleEntry}
 use Rattle.modules.specs.Listed.{BoundNames, ListedSymbol}
@@ -16,13 +16,15 @@ use Rattle.listing.specs.declared.listing_notes.ListingNote.TheVariants.{LooksLi
 use Rattle.listing.specs.declared.listing_notes.ListingNote.TheVariants.{LooksLikeModules}
 use Rattle.listing.specs.declared.listing_notes.ListingNote.TheVariants.{LinesEndInCrLf, NoStart}
 use Rattle.listing.specs.declared.listing_notes.ListingNote.TheVariants.{NoEnd, OtherBoot}
+use Rattle.listing.specs.declared.listing_notes.ListingNote.TheVariants.{NoModuleLine}
+use Rattle.listing.specs.declared.listing_notes.ListingNote.TheVariants.{NoSymbolLine}
 use Rattle.listing.specs.declared.listing_notes.ListingNotes.{ListingNotes}
 
 -- the notes, in the order in which the first that applies is sought
 abbrev pub all_notes : List ListingNote
 all_notes =
     Gzip ∷ AllHidden ∷ LooksLikeSymbols ∷ LooksLikeModules ∷ LinesEndInCrLf ∷ NoStart ∷ NoEnd
-    ∷ OtherBoot ∷ []
+    ∷ OtherBoot ∷ NoModuleLine ∷ NoSymbolLine ∷ []
 
 -- no line of the listing of modules is accepted
 abbrev pub has_no_module : CatalogEntries → Bool
@@ -48,6 +50,7 @@ is_of_modules text c AllHidden = are_modules_hidden (lines_of text)
 is_of_modules text c LooksLikeSymbols = has_no_module c && looks_like_symbols (lines_of text)
 is_of_modules text c LinesEndInCrLf = has_no_module c && first_ends_in_cr (lines_of text)
 is_of_modules text c OtherBoot = lacks_symbols c
+is_of_modules text c NoModuleLine = has_no_module c && lacks_lines is_module_line text
 is_of_modules text c _ = false
 
 -- what is noted of a listing of symbols with this text, of which so many are kept, where these
@@ -60,6 +63,7 @@ is_of_kallsyms names text kept LooksLikeModules =
 is_of_kallsyms names text kept LinesEndInCrLf = nat_eq kept 0 && first_ends_in_cr (lines_of text)
 is_of_kallsyms names text kept NoStart = lacks_symbol names.start (symbols_in (lines_of text))
 is_of_kallsyms names text kept NoEnd = lacks_symbol names.end (symbols_in (lines_of text))
+is_of_kallsyms names text kept NoSymbolLine = nat_eq kept 0 && lacks_lines is_symbol_line text
 is_of_kallsyms names text kept _ = false
 
 -- something is noted

@@ -1,9 +1,11 @@
 -- What a listing looks like of which no line is of use.
-use Rattle.std.specs.Prelude.{◌≡◌, ℕ, Bool, true, false, not, ◌||◌, ◌&&◌, nat_eq, is_none, find}
+use Rattle.std.specs.Prelude.{◌≡◌, ℕ, Bool, true, false, not, ◌||◌, ◌&&◌, nat_eq, nat_lt, is_none, find}
+use Rattle.std.specs.Prelude.{length}
 use Rattle.std.specs.Prelude.{List, [], ◌∷◌, Result, Ok, Err}
 use Rattle.std.specs.List.{ends_with, list_any, starts_with}
 use Rattle.std.specs.Option.{option_map_or}
 use Rattle.std.specs.Str.{bytes_eq}
+use Rattle.texts.specs.Lines.{lines_of}
 use Rattle.modules.specs.Listed.{BoundNames, ListedModule, ListedSymbol}
 use Rattle.listing.specs.ModuleListing.{module_of_line}
 use Rattle.listing.specs.SymbolListing.{symbol_of}
@@ -71,6 +73,10 @@ looks_like_modules lines =
 abbrev pub looks_like_symbols : List (List ℕ) → Bool
 looks_like_symbols lines =
     option_map_or is_symbol_line (find (λ l. is_module_line l || is_symbol_line l) lines) false
+
+-- there are bytes, and no line passes
+abbrev pub lacks_lines : (List ℕ → Bool) → List ℕ → Bool
+lacks_lines passes text = nat_lt 0 (length text) && not (list_any passes (lines_of text))
 
 -- a symbol of the kernel itself, and one of this name
 abbrev pub is_of_kernel : ListedSymbol → Bool

@@ -1,8 +1,9 @@
 -- The lines of a listing of symbols, in the form of /proc/kallsyms.
-use Rattle.std.specs.Prelude.{ℕ, ◌-◌, not, ◌&&◌, ◌==◌, nat_lt, codes}
+use Rattle.std.specs.Prelude.{ℕ, ◌-◌, ◌^◌, Bool, true, false, not, ◌&&◌, ◌||◌, ◌==◌, nat_eq, nat_lt}
+use Rattle.std.specs.Prelude.{codes, filter}
 use Rattle.std.specs.Prelude.{if◌then◌else◌, List, [], ◌∷◌, length, slice_index, slice_range}
 use Rattle.std.specs.Prelude.{Option, Some, None, Result, Ok, Err}
-use Rattle.std.specs.List.{list_any}
+use Rattle.std.specs.List.{list_all, list_any, starts_with}
 use Rattle.std.specs.Option.{option_map, option_and_then}
 use Rattle.modules.specs.Listed.{ListedSymbol}
 use Rattle.texts.specs.Lines.{longest_line}
@@ -78,6 +79,22 @@ abbrev pub symbol_cause_name : SkippedSymbol → List ℕ
 symbol_cause_name Hidden = codes "hidden"
 symbol_cause_name Long = codes "long"
 symbol_cause_name Malformed = codes "malformed"
+
+-- the name is one of a mapping symbol, which marks code or data within a function: it begins with
+-- `$`, `.L` or `L0` (is_mapping_symbol of Linux 6.1)
+abbrev pub is_mapping : List ℕ → Bool
+is_mapping name =
+    starts_with nat_eq name (codes "$") || starts_with nat_eq name (codes ".L")
+    || starts_with nat_eq name (codes "L0")
+
+-- the symbols, with mapping symbols among them or without
+abbrev pub symbols_with : Bool → List ListedSymbol → List ListedSymbol
+symbols_with true symbols = symbols
+symbols_with false symbols = filter (λ s. not (is_mapping s.name)) symbols
+
+-- some symbols are listed, and all below 4294967296, as those of a 32-bit kernel
+abbrev pub is_narrow : List ListedSymbol → Bool
+is_narrow symbols = nat_lt 0 (length symbols) && list_all (λ s. nat_lt s.addr (2 ^ 32)) symbols
 
 -- the symbols that the lines are, in their order
 abbrev pub symbols_in : List (List ℕ) → List ListedSymbol

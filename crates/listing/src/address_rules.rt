@@ -1,7 +1,8 @@
-//! How an address is taken that a user gives: as it is, or lower than it is.
+//! How an address is taken that a user gives or a log has: as it is, or lower than it is.
 
 ghost use Rattle.std.specs.Prelude.{◌≡◌};
-ghost use Rattle.listing.specs.AddressRules.{before_of, lower_by, place_of};
+ghost use Rattle.listing.specs.AddressRules.{before_of, is_taken_as_caller, lower_by};
+ghost use Rattle.listing.specs.AddressRules.{place_of, rule_at};
 
 /// How the addresses are taken that are looked up.
 #[derive(Clone, Copy, Debug, Drop)]
@@ -33,6 +34,50 @@ impl AddressRule {
         ensures { result ≡ before_of self }
     {
         u64::from(self.callers)
+    }
+}
+
+/// Which addresses of a log are taken as return addresses.
+#[derive(Clone, Copy, Debug, Drop)]
+pub enum Callers {
+    /// Those whose place in their line says that they are.
+    ByPlace,
+    /// Every one.
+    Every,
+    /// None.
+    Never,
+}
+
+/// How the addresses of a log are taken.
+#[derive(Clone, Copy, Debug, Drop)]
+pub struct LogRule {
+    /// Which are return addresses.
+    pub callers: Callers,
+    /// How many bytes lower the listings have what lies at an address.
+    pub offset: u64,
+}
+
+impl LogRule {
+    /// The rule for an address whose place in its line says that it is a return address, or does
+    /// not.
+    pub(crate) fn rule_at(self, says_so: bool) -> AddressRule
+        ensures { result ≡ rule_at self says_so }
+    {
+        AddressRule {
+            callers: is_taken_as_caller(self.callers, says_so),
+            offset: self.offset,
+        }
+    }
+}
+
+/// Whether such an address is taken as a return address.
+fn is_taken_as_caller(callers: Callers, says_so: bool) -> bool
+    ensures { result ≡ is_taken_as_caller callers says_so }
+{
+    match callers {
+        Callers::ByPlace => says_so,
+        Callers::Every => true,
+        Callers::Never => false,
     }
 }
 

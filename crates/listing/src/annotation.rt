@@ -16,7 +16,7 @@ ghost use Rattle.listing.specs.LogContexts.{first_context, kept_in};
 ghost use Rattle.listing.specs.Insertions.{answering_of};
 ghost use Rattle.listing.specs.Annotation.{Annotates, Decides, PutsMore, PutsText, owed};
 
-use crate::AddressRule;
+use crate::LogRule;
 use crate::insertions::LogAnswers;
 use crate::log_contexts::Context;
 use modules::IndexedCatalog;
@@ -56,12 +56,12 @@ struct Annotator {
 }
 
 impl Annotator {
-    fn new(alloc: Global) -> Annotator
-        ensures context { kept_in result.context ≡ first_context }
+    fn new(alloc: Global, is_narrow: bool) -> Annotator
+        ensures context { kept_in result.context ≡ first_context is_narrow }
         ensures held { result.held.items ≡ [] }
     {
         Annotator {
-            context: Context::new(),
+            context: Context::new(is_narrow),
             held: Vec::new(alloc),
         }
     }
@@ -100,8 +100,9 @@ fn put_now<W: Write>(writer: &mut Counted<W>, bytes: &[u8]) -> io::Result<()>
 /// Writes a log again, with a blank and the text of the answer behind each address word and the
 /// closers that follow it, where the answer is not `-` and does not stand there already.
 ///
-/// Each address is taken by the rule, but behind `RIP:` or `pc :` in its line as one that is no
-/// return address. docs/FORMATS.md says what an address word is.
+/// Each address is taken by the rule; the log is one of a 32-bit kernel, or of one with 64 bits.
+/// docs/FORMATS.md says what an address word is, and whose place in its line says that it is a
+/// return address.
 ///
 /// After each block that was read all that is decided is written, and the writer flushed. The
 /// memory that is taken is that of some blocks, however long the log or its lines are. Whatever
@@ -109,18 +110,24 @@ fn put_now<W: Write>(writer: &mut Counted<W>, bytes: &[u8]) -> io::Result<()>
 pub fn annotate<R: Read, W: Write>(
     alloc: Global,
     index: &IndexedCatalog<'_>,
-    rule: AddressRule,
+    rule: LogRule,
+    is_narrow: bool,
     reader: &mut Counted<R>,
     writer: &mut Counted<W>,
 ) -> Result<(), LogFault>
-    ensures { Annotates R.remaining W.contents (answered_by index.now rule) reader.old reader.new
-        writer.old writer.new result }
+    ensures { Annotates R.remaining W.contents (answered_by index.now rule is_narrow)
+        reader.old reader.new writer.old writer.new result }
 {
-    let answers = LogAnswers { alloc, index, rule };
+    let answers = LogAnswers {
+        alloc,
+        index,
+        rule,
+        is_narrow,
+    };
     let mut room = Vec::new(alloc);
     room.resize(BLOCK, 0)?;
     let block = room.as_mut_slice();
-    let mut annotator = Annotator::new(alloc);
+    let mut annotator = Annotator::new(alloc, is_narrow);
     for turn in 0..u64::MAX {
         let Ok(count) = reader.read(block) else {
             return Err(LogFault::Read);

@@ -5,13 +5,14 @@ ghost use Rattle.modules.specs.Items.{item_of_address};
 ghost use Rattle.listing.specs.AddressRules.{place_of};
 ghost use Rattle.listing.specs.Answers.{answer_text_by};
 ghost use Rattle.texts.specs.Exact.{Wrote};
-ghost use Rattle.listing.specs.AnnotatedLogs.{goes_on, rule_behind, text_behind};
+ghost use Rattle.listing.specs.AnnotatedLogs.{goes_on, says_caller, text_behind};
 ghost use Rattle.listing.specs.LogContexts.{kept_in};
 ghost use Rattle.listing.specs.Insertions.{IsInsertionAt, answering_of};
 
 use crate::log_contexts::Context;
-use crate::log_words::{address_of_word, is_closer, is_word_byte};
-use crate::{AddressRule, write_answer_by};
+use crate::log_places::Taking;
+use crate::log_words::{address_of_word, has_prefix, is_closer, is_word_byte};
+use crate::{AddressRule, LogRule, write_answer_by};
 use modules::IndexedCatalog;
 use order_laws::Item;
 use std::alloc::{AllocError, Global};
@@ -24,7 +25,9 @@ use texts::{Counted, put};
 pub(crate) struct LogAnswers<'i, 'c> {
     pub(crate) alloc: Global,
     pub(crate) index: &'i IndexedCatalog<'c>,
-    pub(crate) rule: AddressRule,
+    pub(crate) rule: LogRule,
+    /// Whether the log is of a 32-bit kernel.
+    pub(crate) is_narrow: bool,
 }
 
 /// The room that is taken for a text at once. Most texts fit in it.
@@ -49,7 +52,7 @@ impl<'i, 'c> LogAnswers<'i, 'c> {
         is_last: bool,
     ) -> Result<Insertion, AllocError>
         requires { is_last ≡ false → 0 < length rest.now }
-        ensures { IfOk result (IsInsertionAt (answering_of self.now) (kept_in context.now).context
+        ensures { IfOk result (IsInsertionAt (answering_of self.now) (kept_in context.now)
             rest.now is_last) }
     {
         if goes_on(context, rest) {
@@ -67,24 +70,27 @@ impl<'i, 'c> LogAnswers<'i, 'c> {
         Ok(Insertion::Text(text))
     }
 
-    /// What may be inserted behind a word: nothing where it is no address, or where there is no
-    /// answer.
+    /// What may be inserted behind a word: nothing where it is no address, where its line is of a
+    /// program, or where there is no answer.
     fn text_behind(&self, context: &Context) -> Result<Option<Vec<u8>>, AllocError>
         ensures { IfOk result (λ o. option_map (λ v. v.items) o
-            ≡ text_behind (answering_of self.now) (kept_in context.now).context) }
+            ≡ text_behind (answering_of self.now) (kept_in context.now)) }
     {
-        match address_of_word(&context.word) {
-            Some(addr) => self.text_of(addr, context.is_marked),
+        if context.place.is_user {
+            return Ok(None);
+        }
+        match address_of_word(context.is_narrow, &context.word) {
+            Some(addr) => self.text_of(addr, says_caller(context.place.taking, &context.word)),
             None => Ok(None),
         }
     }
 
     /// What is inserted for an address, if anything is.
-    fn text_of(&self, addr: u64, is_marked: bool) -> Result<Option<Vec<u8>>, AllocError>
+    fn text_of(&self, addr: u64, says_so: bool) -> Result<Option<Vec<u8>>, AllocError>
         ensures { IfOk result
-            (λ o. option_map (λ v. v.items) o ≡ answering_of self.now is_marked addr) }
+            (λ o. option_map (λ v. v.items) o ≡ (answering_of self.now).text says_so addr) }
     {
-        let rule = rule_behind(self.rule, is_marked);
+        let rule = self.rule.rule_at(says_so);
         let Some(item) = self.item_of(rule, addr) else {
             return Ok(None);
         };
@@ -124,19 +130,20 @@ impl<'i, 'c> LogAnswers<'i, 'c> {
     }
 }
 
-/// The rule for an address, by whether a marker stands before it in its line.
-fn rule_behind(rule: AddressRule, is_marked: bool) -> AddressRule
-    ensures { result ≡ rule_behind rule is_marked }
+/// Whether the place of a word says that it is a caller's.
+fn says_caller(taking: Taking, word: &[u8]) -> bool
+    ensures { result ≡ says_caller taking word.now }
 {
-    AddressRule {
-        callers: rule.callers && !is_marked,
-        offset: rule.offset,
+    match taking {
+        Taking::Exact => false,
+        Taking::Prefixed => has_prefix(word),
+        Taking::Caller => true,
     }
 }
 
 /// Whether the bytes behind a place go on with the closers, or with the word.
 fn goes_on(context: &Context, rest: &[u8]) -> bool
-    ensures { result ≡ goes_on (kept_in context.now).context rest.now }
+    ensures { result ≡ goes_on (kept_in context.now) rest.now }
 {
     match rest {
         [] => false,

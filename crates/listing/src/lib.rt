@@ -12,13 +12,14 @@ mod laws;
 mod listing_notes;
 mod log_blocks;
 mod log_contexts;
+mod log_places;
 mod log_words;
 mod looks;
 mod module_listing;
 mod region_listing;
 mod symbol_listing;
 
-pub use address_rules::AddressRule;
+pub use address_rules::{AddressRule, Callers, LogRule};
 pub use addresses::read_addresses;
 pub use annotation::{LogFault, annotate};
 pub use answers::{farther, sought, write_answer, write_answer_by};
@@ -37,5 +38,6 @@ pub use looks::{
 pub use module_listing::{ModuleCounts, SkippedModule, read_modules};
 pub use region_listing::read_regions;
 pub use symbol_listing::{
-    SkippedSymbol, SymbolCounts, cut, cut_tabbed_line, read_kallsyms, symbol_of_line,
+    ListedSymbols, SkippedSymbol, SymbolCounts, cut, cut_tabbed_line, is_narrow, read_kallsyms,
+    symbol_of_line,
 };

@@ -15,7 +15,8 @@ ghost use Rattle.listing.specs.ListingNotes.{is_of_kallsyms, is_of_modules, is_s
 ghost use Rattle.listing.specs.ListingNotes.{lacks_symbol, lacks_symbols, no_notes};
 
 use crate::looks::{
-    first_line_ends_in_cr, is_gzip, kernel_symbols, looks_like_modules, looks_like_symbols,
+    first_line_ends_in_cr, is_gzip, kernel_symbols, lacks_module_lines, lacks_symbol_lines,
+    looks_like_modules, looks_like_symbols,
 };
 use modules::{Catalog, KernelBounds, Module};
 
@@ -39,6 +40,10 @@ pub enum ListingNote {
     NoEnd,
     /// No symbol of a listed module lies in its region.
     OtherBoot,
+    /// There are bytes, and no line is well formed in a listing of modules.
+    NoModuleLine,
+    /// There are bytes, and no line is well formed in a listing of symbols.
+    NoSymbolLine,
 }
 
 /// The first note that applies to each listing, where one does.
@@ -49,7 +54,7 @@ pub struct ListingNotes {
 }
 
 /// All notes, in the order in which the first that applies to a listing is sought.
-const ALL: [ListingNote; 8] = [
+const ALL: [ListingNote; 10] = [
     ListingNote::Gzip,
     ListingNote::AllHidden,
     ListingNote::LooksLikeSymbols,
@@ -58,6 +63,8 @@ const ALL: [ListingNote; 8] = [
     ListingNote::NoStart,
     ListingNote::NoEnd,
     ListingNote::OtherBoot,
+    ListingNote::NoModuleLine,
+    ListingNote::NoSymbolLine,
 ];
 
 impl ListingNote {
@@ -153,6 +160,8 @@ pub fn note_of_modules_by(text: &[u8], modules: ModuleFacts) -> Option<ListingNo
         Some(ListingNote::LinesEndInCrLf)
     } else if modules.lacks_symbols {
         Some(ListingNote::OtherBoot)
+    } else if modules.none && lacks_module_lines(text) {
+        Some(ListingNote::NoModuleLine)
     } else {
         None
     }
@@ -189,8 +198,12 @@ pub fn note_of_kallsyms(
         Some(ListingNote::LooksLikeModules)
     } else if none && first_line_ends_in_cr(text) {
         Some(ListingNote::LinesEndInCrLf)
+    } else if let Some(note) = missing_bound(text, names, facts.has_kernel) {
+        Some(note)
+    } else if none && lacks_symbol_lines(text) {
+        Some(ListingNote::NoSymbolLine)
     } else {
-        missing_bound(text, names, facts.has_kernel)
+        None
     }
 }
 
@@ -231,7 +244,11 @@ pub fn applies_to_modules(note: ListingNote, text: &[u8], hidden: bool, catalog:
         ListingNote::LooksLikeSymbols => none && looks_like_symbols(text),
         ListingNote::LinesEndInCrLf => none && first_line_ends_in_cr(text),
         ListingNote::OtherBoot => lacks_symbols(catalog),
-        ListingNote::LooksLikeModules | ListingNote::NoStart | ListingNote::NoEnd => false,
+        ListingNote::NoModuleLine => none && lacks_module_lines(text),
+        ListingNote::LooksLikeModules
+        | ListingNote::NoStart
+        | ListingNote::NoEnd
+        | ListingNote::NoSymbolLine => false,
     }
 }
 
@@ -255,7 +272,8 @@ pub fn applies_to_kallsyms(
         ListingNote::LinesEndInCrLf => none && first_line_ends_in_cr(text),
         ListingNote::NoStart => lacks_start(text, names),
         ListingNote::NoEnd => lacks_end(text, names),
-        ListingNote::LooksLikeSymbols | ListingNote::OtherBoot => false,
+        ListingNote::NoSymbolLine => none && lacks_symbol_lines(text),
+        ListingNote::LooksLikeSymbols | ListingNote::OtherBoot | ListingNote::NoModuleLine => false,
     }
 }
 

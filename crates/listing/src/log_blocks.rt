@@ -62,7 +62,7 @@ impl<'i, 'c> LogAnswers<'i, 'c> {
         is_last: bool,
     ) -> Result<Insertion, AllocError>
         requires { is_last ≡ false → 0 < length rest.now }
-        ensures { IfOk result (IsInsertionAt (answering_of self.now) (kept_in context.now).context
+        ensures { IfOk result (IsInsertionAt (answering_of self.now) (kept_in context.now)
             rest.now is_last) }
     {
         if context.has_short_word() {
@@ -81,7 +81,7 @@ impl<'i, 'c> LogAnswers<'i, 'c> {
         out: &mut Vec<u8>,
     ) -> Result<bool, AllocError>
         requires { is_last ≡ false → 0 < length rest.now }
-        ensures { IfOk result (IsInsert (answering_of self.now) (kept_in context.now).context
+        ensures { IfOk result (IsInsert (answering_of self.now) (kept_in context.now)
             rest.now is_last out.old.items out.new.items) }
     {
         if context.has_short_word() {

@@ -4,13 +4,14 @@
 //!
 //! ```text
 //!     RIP: 0010:[<ffffffff81000108>]
-//!     ^^^^        ^^^^^^^^^^^^^^^^ ^^
-//!     marker      word             closers
+//!     ~~~~~~~~~~~~^^^^^^^^^^^^^^^^^^
+//!     place       word            closers
 //! ```
 //!
-//! An address word has eleven bytes at least. So the bytes are passed in leaps of eleven: the last of
-//! them that ends a word says that none before it is long enough, and the next leap begins behind it.
-//! Where none of them ends a word, that word is passed to its end at once, with its closers:
+//! An address word has eleven bytes at least (eight in a log of a 32-bit kernel). So the bytes are
+//! passed in leaps of so many: the last of them that ends a word says that none before it is long
+//! enough, and the next leap begins behind it. Where none of them ends a word, that word is passed to
+//! its end at once, with its closers:
 //!
 //! ```text
 //!     at 3 of 77 pages [<ffffffff81000108>]
@@ -18,23 +19,26 @@
 //!                |------|                       up to the `<`
 //!                        |---------|======|     no end: up to the closers
 //! ```
-ghost use Rattle.std.specs.Prelude.{◌≡◌, ◌≤◌, ◌<◌, ◌-◌, ◌&&◌, ◌||◌, ◌==◌, not, false, [], ◌∷◌};
-ghost use Rattle.std.specs.Prelude.{length, nat_le, slice_index, slice_index_or, take, IfSome};
-ghost use Rattle.std.specs.Prelude.{ℕ, unwrap_or};
-ghost use Rattle.listing.specs.AnnotatedLogs.{ends_marked};
-ghost use Rattle.listing.specs.LogContexts.{ArePlain, GoOn, HasNoMark, IsMarkedBy};
-ghost use Rattle.listing.specs.LogContexts.{context_over, first_context};
+//!
+//! Only behind an address the bytes of its line are gone through one by one, to say where it stands.
+ghost use Rattle.std.specs.Prelude.{◌≡◌, ◌≢◌, ◌≤◌, ◌<◌, ◌-◌, false, None, ℕ, length, nat_le};
+ghost use Rattle.std.specs.Prelude.{drop, slice_index, slice_index_or, take, IfSome};
+ghost use Rattle.listing.specs.AnnotatedLogs.{LogContext};
+ghost use Rattle.listing.specs.LogContexts.{AreOfKind, ArePlain, GoOn, context_over};
+ghost use Rattle.listing.specs.LogContexts.{first_context};
 ghost use Rattle.listing.specs.LogContexts.{kept_in, next_context, next_length, next_word};
-ghost use Rattle.listing.specs.LogWords.{is_closer, is_word_byte, kind_of};
+ghost use Rattle.listing.specs.LogContexts.{open_word};
+ghost use Rattle.listing.specs.LogWords.{address_of_word, is_closer, kind_of, most_short};
 
-use crate::log_words::{CLOSER, WORD_BYTE, is_closer, is_word_byte, kind_of};
+use crate::log_places::Place;
+use crate::log_words::{
+    CLOSER, WORD_BYTE, address_of_word, is_closer, is_word_byte, kind_of, most_short,
+};
 use arrayvec::ArrayVec;
+use memchr::memrchr;
 
 /// One byte more than the longest address word has: a longer word is none, however it goes on.
 pub(crate) const KEPT_BYTES: usize = 19;
-
-/// The most bytes of a word that is too short for an address.
-const SHORT_WORD: usize = 10;
 
 /// What is kept of the bytes before a place.
 #[derive(Drop)]
@@ -43,32 +47,32 @@ pub(crate) struct Context {
     pub(crate) word: ArrayVec<u8, KEPT_BYTES>,
     /// Whether closers stand behind it.
     pub(crate) is_closed: bool,
-    /// Whether the line has a marker, `RIP:` or `pc :`: what comes behind it is where the processor
-    /// was, and not where a call returns to.
-    pub(crate) is_marked: bool,
-    /// The last three bytes, from the last one to the first.
-    pub(crate) recent: [u8; 3],
+    /// Where the bytes end in their line.
+    pub(crate) place: Place,
+    /// Whether the log is of a 32-bit kernel.
+    pub(crate) is_narrow: bool,
 }
 
 impl Context {
     /// That of the beginning of a log.
-    pub(crate) fn new() -> Context
-        ensures { kept_in result ≡ first_context }
+    pub(crate) fn new(is_narrow: bool) -> Context
+        ensures { kept_in result ≡ first_context is_narrow }
     {
         Context {
             word: ArrayVec::new(),
             is_closed: false,
-            is_marked: false,
-            recent: [0; 3],
+            place: Place::FIRST,
+            is_narrow,
         }
     }
 
     /// Whether the word is too short for an address.
     #[inline]
     pub(crate) fn has_short_word(&self) -> bool
-        ensures { result ≡ nat_le (length (kept_in self.now).context.word) 10 }
+        ensures { result
+            ≡ nat_le (length (kept_in self.now).word) (most_short (kept_in self.now).is_narrow) }
     {
-        self.word.len() <= SHORT_WORD
+        self.word.len() <= most_short(self.is_narrow)
     }
 
     /// Goes on behind some of the bytes, one at least, and returns how many they are: between them
@@ -86,113 +90,56 @@ impl Context {
     }
 
     /// How many bytes there are up to the end of the first word that may be an address, with the
-    /// closers behind it: before that the words are too short. The first byte is among them.
+    /// closers behind it. The first byte is among them.
     fn plain_bytes(&self, bytes: &[u8]) -> usize
         requires { 0 < length bytes.now }
         ensures some { 0 < result }
         ensures plain { ArePlain (kept_in self.now) bytes.now result }
     {
-        let mut at = 1;
-        let mut length = next_length(self.word.len(), bytes[0]);
-        while length <= SHORT_WORD && at + (SHORT_WORD - length) < bytes.len() {
-            let stop = at + (SHORT_WORD - length) + 1;
-            match behind_an_end(bytes, at, stop) {
-                Some(place) => {
-                    at = place;
-                    length = 0;
-                }
-                None => {
-                    at = stop;
-                    length = SHORT_WORD + 1;
-                }
-            }
+        let mut at = short_bytes(self.word.len(), self.is_narrow, bytes);
+        while at < bytes.len() && !may_end_in_address(self.is_narrow, &bytes[..at]) {
+            at += short_bytes(KEPT_BYTES, self.is_narrow, &bytes[at..]);
         }
-        if length > SHORT_WORD {
-            at + going_on(is_closer(bytes[at - 1]), &bytes[at..])
-        } else {
-            bytes.len()
-        }
+        at
     }
 
-    /// Goes on behind all of the bytes.
+    /// Goes on behind all of the bytes. What stands in lines before the last one is of no matter.
     fn pass_all(&mut self, bytes: &[u8])
         ensures { kept_in self.new ≡ context_over (kept_in self.old) bytes.now }
     {
-        self.pass_words(bytes);
-        self.pass_marks(bytes);
-    }
-
-    /// The same of the word alone. What stands before the last byte that ends a word is of no
-    /// matter.
-    fn pass_words(&mut self, bytes: &[u8])
-        ensures word { self.new.word.items
-            ≡ (context_over (kept_in self.old) bytes.now).context.word }
-        ensures closed { self.new.is_closed
-            ≡ (context_over (kept_in self.old) bytes.now).context.is_closed }
-        ensures marked { self.new.is_marked ≡ self.old.is_marked }
-        ensures recent { self.new.recent ≡ self.old.recent }
-    {
-        let start = behind_last_end(bytes);
+        let start = behind_last_line(bytes);
         if start > 0 {
-            self.word.clear();
-            self.is_closed = false;
+            *self = Context::new(self.is_narrow);
         }
         for i in start..bytes.len() {
-            self.pass_word(bytes[i]);
+            self.pass_byte(bytes[i]);
         }
     }
 
-    /// The same of the marker and the last bytes. Bytes that neither end a marker nor a line leave
-    /// the marker as it is.
-    fn pass_marks(&mut self, bytes: &[u8])
-        ensures marks { IsMarkedBy self.old.is_marked self.old.recent self.new.is_marked
-            self.new.recent bytes.now }
-        ensures word { self.new.word.items ≡ self.old.word.items }
-        ensures closed { self.new.is_closed ≡ self.old.is_closed }
+    /// Goes on behind a byte.
+    #[inline]
+    fn pass_byte(&mut self, byte: u8)
+        ensures { kept_in self.new ≡ next_context (kept_in self.old) byte }
     {
-        let mut rest = bytes;
-        while let Some(place) = mark_in(rest) {
-            let (before, behind) = rest.split_at(place);
-            self.pass_unmarked(before);
-            self.pass_mark(behind[0]);
-            rest = &behind[1..];
-        }
-        self.pass_unmarked(rest);
+        self.place = self.place.next(self.is_narrow, self.open_word(), byte);
+        self.pass_word(byte);
     }
 
-    /// The same of bytes that end neither a marker nor a line.
-    fn pass_unmarked(&mut self, bytes: &[u8])
-        requires { HasNoMark bytes.now }
-        ensures marks { IsMarkedBy self.old.is_marked self.old.recent self.new.is_marked
-            self.new.recent bytes.now }
-        ensures word { self.new.word.items ≡ self.old.word.items }
-        ensures closed { self.new.is_closed ≡ self.old.is_closed }
+    /// The bytes before the place that are of a word which may go on there.
+    #[inline]
+    fn open_word(&self) -> &[u8]
+        ensures { result.now ≡ open_word (kept_in self.now) }
     {
-        let start = bytes.len().saturating_sub(3);
-        for byte in &bytes[start..] {
-            self.recent = [*byte, self.recent[0], self.recent[1]];
-        }
-    }
-
-    /// The same of a byte.
-    fn pass_mark(&mut self, byte: u8)
-        ensures marks { IsMarkedBy self.old.is_marked self.old.recent self.new.is_marked
-            self.new.recent (byte ∷ []) }
-        ensures word { self.new.word.items ≡ self.old.word.items }
-        ensures closed { self.new.is_closed ≡ self.old.is_closed }
-    {
-        let [last, second, third] = self.recent;
-        self.is_marked = is_marked_behind(self.is_marked, third, second, last, byte);
-        self.recent = [byte, last, second];
+        if self.is_closed { &[] } else { &self.word }
     }
 
     /// The word behind a byte more.
     #[inline]
     fn pass_word(&mut self, byte: u8)
-        ensures word { self.new.word.items ≡ next_word (kept_in self.old).context byte }
+        ensures word { self.new.word.items ≡ next_word (kept_in self.old) byte }
         ensures closed { self.new.is_closed ≡ is_closer byte }
-        ensures marked { self.new.is_marked ≡ self.old.is_marked }
-        ensures recent { self.new.recent ≡ self.old.recent }
+        ensures place { self.new.place ≡ self.old.place }
+        ensures narrow { self.new.is_narrow ≡ self.old.is_narrow }
     {
         if is_word_byte(byte) {
             if self.is_closed {
@@ -208,23 +155,60 @@ impl Context {
     }
 }
 
-/// Whether the line has a marker behind a byte more, and three before it.
-#[inline]
-fn is_marked_behind(is_marked: bool, third: u8, second: u8, last: u8, byte: u8) -> bool
-    ensures { result
-        ≡ (not (byte == 10) && (ends_marked (byte ∷ last ∷ second ∷ third ∷ []) || is_marked)) }
+/// How many bytes there are, behind a word of at most so many, up to the end of the first word that
+/// is long enough for an address, with the closers behind it.
+fn short_bytes(before: usize, is_narrow: bool, bytes: &[u8]) -> usize
+    requires some { 0 < length bytes.now }
+    requires few { before ≤ 19 }
+    ensures some { 0 < result }
+    ensures plain { (kept : LogContext) → length kept.word ≤ before
+        → kept.is_narrow ≡ is_narrow → ArePlain kept bytes.now result }
 {
-    byte != b'\n' && (is_marked || is_marker(third, second, last, byte))
+    let short = most_short(is_narrow);
+    let mut at = 1;
+    let mut length = next_length(before, bytes[0]);
+    while length <= short && at + (short - length) < bytes.len() {
+        let stop = at + (short - length) + 1;
+        match behind_an_end(bytes, at, stop) {
+            Some(place) => {
+                at = place;
+                length = 0;
+            }
+            None => {
+                at = stop;
+                length = short + 1;
+            }
+        }
+    }
+    if length > short {
+        at + going_on(is_closer(bytes[at - 1]), &bytes[at..])
+    } else {
+        bytes.len()
+    }
 }
 
-/// Whether these four bytes are `RIP:` or `pc :`.
-#[inline]
-fn is_marker(third: u8, second: u8, last: u8, byte: u8) -> bool
-    ensures { result ≡ ends_marked (byte ∷ last ∷ second ∷ third ∷ []) }
+/// Whether the bytes end in a word that may be an address, with its closers. Of one that began
+/// before them it is not known.
+fn may_end_in_address(is_narrow: bool, bytes: &[u8]) -> bool
+    ensures { result ≡ false → (kept : LogContext) → kept.is_narrow ≡ is_narrow
+        → address_of_word is_narrow (context_over kept bytes.now).word ≡ None }
 {
-    byte == b':'
-        && ((third == b'R' && second == b'I' && last == b'P')
-            || (third == b'p' && second == b'c' && last == b' '))
+    let end = before_run(CLOSER, bytes);
+    let start = before_run(WORD_BYTE, &bytes[..end]);
+    start == 0 || address_of_word(is_narrow, &bytes[start..end]).is_some()
+}
+
+/// Where the run of bytes of a kind begins that the bytes end in.
+fn before_run(kind: u8, bytes: &[u8]) -> usize
+    ensures within { result ≤ length bytes.now }
+    ensures run { AreOfKind kind (drop result bytes.now) }
+    ensures end { 0 < result → kind_of (slice_index_or bytes.now (result - 1) 0) ≢ kind }
+{
+    let mut start = bytes.len();
+    while start > 0 && kind_of(bytes[start - 1]) == kind {
+        start -= 1;
+    }
+    start
 }
 
 /// A place behind one of these bytes that ends a word and is no closer: the last such place.
@@ -240,19 +224,6 @@ fn behind_an_end(bytes: &[u8], start: usize, stop: usize) -> Option<usize>
             return Some(place);
         }
         place -= 1;
-    }
-    None
-}
-
-/// The first place of a byte that may end a marker or a line.
-fn mark_in(bytes: &[u8]) -> Option<usize>
-    ensures within { IfSome result (λ p. p < length bytes.now) }
-    ensures none { HasNoMark (take (unwrap_or result (length bytes.now)) bytes.now) }
-{
-    for (i, byte) in bytes.iter().enumerate() {
-        if *byte == b':' || *byte == b'\n' {
-            return Some(i);
-        }
     }
     None
 }
@@ -297,15 +268,13 @@ fn next_length(length: usize, byte: u8) -> usize
     }
 }
 
-/// The place behind the last of the bytes that ends a word and is no closer, or 0.
-fn behind_last_end(bytes: &[u8]) -> usize
+/// The place where the last line of the bytes begins that begins among them, or 0.
+fn behind_last_line(bytes: &[u8]) -> usize
     ensures within { result ≤ length bytes.now }
-    ensures word { 0 < result → is_word_byte (slice_index_or bytes.now (result - 1) 0) ≡ false }
-    ensures closer { 0 < result → is_closer (slice_index_or bytes.now (result - 1) 0) ≡ false }
+    ensures line { 0 < result → slice_index_or bytes.now (result - 1) 0 ≡ 10 }
 {
-    let mut start = bytes.len();
-    while start > 0 && (is_word_byte(bytes[start - 1]) || is_closer(bytes[start - 1])) {
-        start -= 1;
+    match memrchr(b'\n', bytes) {
+        Some(place) => place + 1,
+        None => 0,
     }
-    start
 }

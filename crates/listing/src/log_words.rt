@@ -1,15 +1,18 @@
 //! The words of a log, and the addresses that words are.
 ghost use Rattle.std.specs.Prelude.{◌≡◌};
-ghost use Rattle.listing.specs.LogWords.{address_of_word, digits_from, has_prefix};
-ghost use Rattle.listing.specs.LogWords.{is_closer, is_word_byte, kind_of};
+ghost use Rattle.listing.specs.LogWords.{address_of_word, digits_between, has_prefix};
+ghost use Rattle.listing.specs.LogWords.{is_closer, is_word_byte, kind_of, most_short};
 
 use texts::hexadecimal;
 
 /// The fewest hexadecimal digits of an address behind `0x`. Fewer are mostly a size or an offset.
-const DIGITS_BEHIND_PREFIX: usize = 9;
+const FEWEST_DIGITS: usize = 9;
 
 /// The hexadecimal digits of an address without `0x`: those that the kernel writes.
-const DIGITS_ALONE: usize = 16;
+const DIGITS: usize = 16;
+
+/// The hexadecimal digits of an address of a 32-bit kernel.
+const NARROW_DIGITS: usize = 8;
 
 /// Whether the byte is a letter, a digit or `_`.
 #[inline]
@@ -53,30 +56,40 @@ pub(crate) fn kind_of(byte: u8) -> u8
     KINDS[usize::from(byte)]
 }
 
-/// The address that a word is: `0x` or `0X` and 9 to 16 hexadecimal digits, or just 16 of them.
-pub(crate) fn address_of_word(word: &[u8]) -> Option<u64>
-    ensures { result ≡ address_of_word word.now }
+/// The address that a word is: `0x` or `0X` and 9 to 16 hexadecimal digits, or just 16 of them. In a
+/// log of a 32-bit kernel it has just 8, with the prefix or without it.
+pub(crate) fn address_of_word(is_narrow: bool, word: &[u8]) -> Option<u64>
+    ensures { result ≡ address_of_word is_narrow word.now }
 {
-    if has_prefix(word) {
-        digits_from(DIGITS_BEHIND_PREFIX, &word[2..])
-    } else {
-        digits_from(DIGITS_ALONE, word)
+    match (is_narrow, has_prefix(word)) {
+        (true, true) => digits_between(NARROW_DIGITS, NARROW_DIGITS, &word[2..]),
+        (true, false) => digits_between(NARROW_DIGITS, NARROW_DIGITS, word),
+        (false, true) => digits_between(FEWEST_DIGITS, DIGITS, &word[2..]),
+        (false, false) => digits_between(DIGITS, DIGITS, word),
     }
 }
 
 /// Whether the word begins with `0x` or `0X`.
-fn has_prefix(word: &[u8]) -> bool
+pub(crate) fn has_prefix(word: &[u8]) -> bool
     ensures { result ≡ has_prefix word.now }
 {
     word.starts_with(b"0x") || word.starts_with(b"0X")
 }
 
-/// The number that so many hexadecimal digits at least, and 16 at most, write.
-fn digits_from(least: usize, digits: &[u8]) -> Option<u64>
-    ensures { result ≡ digits_from least digits.now }
+/// The number that so many hexadecimal digits at least, and so many at most, write.
+fn digits_between(least: usize, most: usize, digits: &[u8]) -> Option<u64>
+    ensures { result ≡ digits_between least most digits.now }
 {
-    if digits.len() < least {
+    if digits.len() < least || digits.len() > most {
         return None;
     }
     hexadecimal(digits)
+}
+
+/// The most bytes of a word that is too short for an address.
+#[inline]
+pub(crate) fn most_short(is_narrow: bool) -> usize
+    ensures { result ≡ most_short is_narrow }
+{
+    if is_narrow { 7 } else { 10 }
 }

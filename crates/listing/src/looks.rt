@@ -6,8 +6,8 @@ ghost use Rattle.std.specs.List.{list_any};
 ghost use Rattle.texts.specs.Lines.{lines_of};
 ghost use Rattle.listing.specs.Looks.{AreKernelSymbols, are_modules_hidden, are_symbols_hidden};
 ghost use Rattle.listing.specs.Looks.{first_ends_in_cr, is_gzip, is_kernel_symbol, is_module_line};
-ghost use Rattle.listing.specs.Looks.{is_of_kernel, is_symbol_line, looks_like_modules};
-ghost use Rattle.listing.specs.Looks.{looks_like_symbols};
+ghost use Rattle.listing.specs.Looks.{is_of_kernel, is_symbol_line, lacks_lines};
+ghost use Rattle.listing.specs.Looks.{looks_like_modules, looks_like_symbols};
 ghost use Rattle.listing.specs.ModuleListing.{module_counts, modules_in};
 ghost use Rattle.listing.specs.SymbolListing.{symbol_counts, symbols_in};
 ghost use Rattle.modules.specs.Listed.{BoundNames};
@@ -122,6 +122,36 @@ pub fn looks_like_symbols(text: &[u8]) -> bool
         Some(line) => is_symbol_line(line),
         None => false,
     }
+}
+
+/// Whether there are bytes, and no line of them is well formed in a listing of modules.
+pub(crate) fn lacks_module_lines(text: &[u8]) -> bool
+    ensures { result ≡ lacks_lines is_module_line text.now }
+{
+    let mut rest = text;
+    while !rest.is_empty() {
+        let (line, after) = cut_line(rest);
+        if is_module_line(line) {
+            return false;
+        }
+        rest = after;
+    }
+    !text.is_empty()
+}
+
+/// The same of a listing of symbols.
+pub(crate) fn lacks_symbol_lines(text: &[u8]) -> bool
+    ensures { result ≡ lacks_lines is_symbol_line text.now }
+{
+    let mut rest = text;
+    while !rest.is_empty() {
+        let (line, after) = cut_line(rest);
+        if is_symbol_line(line) {
+            return false;
+        }
+        rest = after;
+    }
+    !text.is_empty()
 }
 
 /// Which symbols of the kernel itself a listing shows.

@@ -9,13 +9,14 @@
 //! ```
 //!
 //! The parts have exactly one blank between them, and names any bytes but a tab.
-ghost use Rattle.std.specs.Prelude.{◌≡◌, ◌<◌, ◌∷◌, refl, IfOk, length, unwrap_or};
+ghost use Rattle.std.specs.Prelude.{◌≡◌, ◌<◌, ◌∷◌, ◌++◌, [], refl, IfOk, OnOk, length, unwrap_or};
 ghost use Rattle.memchr.specs.Find.{IsFirst, IsFirstByte, Passes, is_byte};
 ghost use Rattle.std.specs.Option.{option_copied, option_map};
 ghost use Rattle.texts.specs.Lines.{lines_of};
-ghost use Rattle.listing.specs.SymbolListing.{address_in, bracketed, cut_at, symbol_before};
-ghost use Rattle.listing.specs.SymbolListing.{symbol_cause_name, symbol_causes, symbol_counts};
-ghost use Rattle.listing.specs.SymbolListing.{symbol_of, symbol_of_text, symbol_place, symbols_in};
+ghost use Rattle.listing.specs.SymbolListing.{address_in, bracketed, cut_at, is_mapping, is_narrow};
+ghost use Rattle.listing.specs.SymbolListing.{symbol_before, symbol_cause_name, symbol_causes};
+ghost use Rattle.listing.specs.SymbolListing.{symbol_counts, symbol_of, symbol_of_text};
+ghost use Rattle.listing.specs.SymbolListing.{symbol_place, symbols_in, symbols_with};
 ghost use Rattle.listing.specs.declared.symbol_listing.SkippedSymbol.TheVariants.{Hidden, Long};
 ghost use Rattle.listing.specs.declared.symbol_listing.SkippedSymbol.TheVariants.{Malformed};
 
@@ -71,6 +72,9 @@ impl Cause<3> for SkippedSymbol {
 
     ghost in_order = { refl };
 }
+
+/// The greatest address of a 32-bit kernel.
+const GREATEST_NARROW: u64 = 4294967295;
 
 /// How many lines of a listing of symbols were skipped, by cause.
 pub type SymbolCounts = Counts<SkippedSymbol, 3>;
@@ -202,7 +206,43 @@ pub fn symbol_of_line<'a>(
     }
 }
 
-/// The symbols of a listing in the form of /proc/kallsyms, and how many of its lines were skipped.
+/// The symbols of a listing.
+#[derive(Drop)]
+pub struct ListedSymbols<'a> {
+    /// The lines that are symbols, in their order, with mapping symbols or without.
+    pub lines: SymbolLines<'a>,
+    /// How many lines are symbols, mapping symbols among them.
+    pub listed: usize,
+    /// How many lines were skipped.
+    pub skipped: SymbolCounts,
+}
+
+/// Whether a name is that of a mapping symbol, which marks code or data within a function: the
+/// listings of arm64, arm and riscv are full of them, and the kernel never answers with one.
+fn is_mapping(name: &[u8]) -> bool
+    ensures { result ≡ is_mapping name.now }
+{
+    name.starts_with(b"$") || name.starts_with(b".L") || name.starts_with(b"L0")
+}
+
+/// Puts a symbol after these lines, unless it is a mapping symbol and these are left out.
+#[inline(always)]
+fn put_symbol<'a>(
+    lines: &mut SymbolLines<'a>,
+    symbol: SymbolLine<'a>,
+    with_mapping: bool,
+) -> Result<(), AllocError>
+    ensures { OnOk result
+        (lines.new ≡ lines.old ++ symbols_with with_mapping (symbol.entry ∷ [])) }
+{
+    if with_mapping || !is_mapping(symbol.name) {
+        lines.push(symbol)?;
+    }
+    Ok(())
+}
+
+/// The symbols of a listing in the form of /proc/kallsyms, with mapping symbols or without, and how
+/// many of its lines were skipped.
 ///
 /// A line is 1 to 16 hexadecimal digits, a blank, a letter, a blank and a name, and where the
 /// symbol is one of a module, a tab and the module's name in brackets. A line is skipped as long
@@ -211,20 +251,52 @@ pub fn symbol_of_line<'a>(
 pub fn read_kallsyms<'a>(
     alloc: Global,
     text: &'a [u8],
-) -> Result<(SymbolLines<'a>, SymbolCounts), AllocError>
-    ensures symbols { IfOk result (λ r. r.0 ≡ symbols_in (lines_of text.now)) }
-    ensures counts { IfOk result (λ r. r.1.by_place ≡ symbol_counts (lines_of text.now)) }
+    with_mapping: bool,
+) -> Result<ListedSymbols<'a>, AllocError>
+    ensures lines { IfOk result
+        (λ r. r.lines ≡ symbols_with with_mapping (symbols_in (lines_of text.now))) }
+    ensures listed { IfOk result (λ r. r.listed ≡ length (symbols_in (lines_of text.now))) }
+    ensures skipped { IfOk result
+        (λ r. r.skipped.by_place ≡ symbol_counts (lines_of text.now)) }
 {
-    let mut symbols = SymbolLines::new(alloc);
-    let mut counts = SymbolCounts::new();
+    let mut lines = SymbolLines::new(alloc);
+    let mut listed = 0;
+    let mut skipped = SymbolCounts::new();
     let mut rest = text;
     while !rest.is_empty() {
         let (line, tab, after) = cut_tabbed_line(rest);
         match symbol_of_line(line, tab) {
-            Ok(symbol) => symbols.push(symbol)?,
-            Err(cause) => counts.add(cause),
+            Ok(symbol) => {
+                put_symbol(&mut lines, symbol, with_mapping)?;
+                listed += 1;
+            }
+            Err(cause) => skipped.add(cause),
         }
         rest = after;
     }
-    Ok((symbols, counts))
+    Ok(ListedSymbols {
+        lines,
+        listed,
+        skipped,
+    })
+}
+
+/// Whether a listing of symbols has one, and none above 4294967295, as that of a 32-bit kernel. It
+/// is read up to the first that is.
+pub fn is_narrow(text: &[u8]) -> bool
+    ensures { result ≡ is_narrow (symbols_in (lines_of text.now)) }
+{
+    let mut any = false;
+    let mut rest = text;
+    while !rest.is_empty() {
+        let (line, tab, after) = cut_tabbed_line(rest);
+        if let Ok(symbol) = symbol_of_line(line, tab) {
+            if symbol.addr > GREATEST_NARROW {
+                return false;
+            }
+            any = true;
+        }
+        rest = after;
+    }
+    any
 }

@@ -36,7 +36,7 @@ fn build<R: Print + Eprint + Clock>(
 ) -> Result<(), MeasureFault> {
     let start = Instant::now(rt)?;
     let (modules, skipped_modules) = read_modules(alloc, modules)?;
-    let (symbols, skipped_symbols) = read_kallsyms(alloc, kallsyms)?;
+    let symbols = read_kallsyms(alloc, kallsyms, true)?;
     tell(rt, "lines", &start)?;
     let start = Instant::now(rt)?;
     let (_, counts) = Catalog::build(
@@ -44,7 +44,7 @@ fn build<R: Print + Eprint + Clock>(
         &KernelBounds::usual(),
         &modules,
         &[],
-        symbols,
+        symbols.lines,
         Asked::Any,
     )?;
     tell(rt, "build", &start)?;
@@ -55,9 +55,9 @@ fn build<R: Print + Eprint + Clock>(
     print_causes(rt, of_form, &skipped_modules)?;
     let (of_content, of_form) = SkippedSymbol::all().split_at(SkippedSymbol::Long.place());
     print!(rt; "\nsymbols {}", counts.symbols)?;
-    print_causes(rt, of_content, &skipped_symbols)?;
+    print_causes(rt, of_content, &symbols.skipped)?;
     print!(rt; " stray {}", counts.stray)?;
-    print_causes(rt, of_form, &skipped_symbols)?;
+    print_causes(rt, of_form, &symbols.skipped)?;
     println!(rt;)?;
     Ok(())
 }

@@ -9,17 +9,17 @@ use Rattle.listing.proofs.insertions.LogAnswers.insertion_at.Goals as goal
 use Rattle.listing.proofs.insertions.LogAnswers.insertion_at.Goals.{else-not-is_last-via-then-not-is_last+else-starts_with-2, else-not-is_last-via-else-not-is_last}
 
 pub returns-then-goes_on : goal.returns-then-goes_on
-returns-then-goes_on c = nothing_within (answering_of c.args.self.now) (kept_in c.args.context.now).context c.args.rest.now c.args.is_last (sym c.goes_on.ensures ∙ c.if-goes_on.true)
+returns-then-goes_on c = nothing_within (answering_of c.args.self.now) (kept_in c.args.context.now) c.args.rest.now c.args.is_last (sym c.goes_on.ensures ∙ c.if-goes_on.true)
 
 pub returns-then-starts_with : goal.returns-then-starts_with
 returns-then-starts_with c =
-    nothing_again (answering_of c.args.self.now) (kept_in c.args.context.now).context c.args.rest.now c.in-Some.text.items c.args.is_last c.requires
+    nothing_again (answering_of c.args.self.now) (kept_in c.args.context.now) c.args.rest.now c.in-Some.text.items c.args.is_last c.requires
     (sym c.in_ok-text.ensures ∙ ap (option_map (λ v. v.items)) c.in-Some.is)
     (ap (starts_with nat_eq c.args.rest.now) (sym c.deref.ensures.value) ∙ sym c.starts_with.ensures.value ∙ c.if-starts_with.true)
 
 pub returns : goal.returns
 returns c =
-    text_inserted (answering_of c.args.self.now) (kept_in c.args.context.now).context c.args.rest.now c.in-Some.text.items c.args.is_last c.requires
+    text_inserted (answering_of c.args.self.now) (kept_in c.args.context.now) c.args.rest.now c.in-Some.text.items c.args.is_last c.requires
     (sym c.in_ok-text.ensures ∙ ap (option_map (λ v. v.items)) c.in-Some.is)
     (sym c.goes_on.ensures ∙ c.if-goes_on.false)
     (ap (starts_with nat_eq c.args.rest.now) (sym c.deref.ensures.value) ∙ sym c.starts_with.ensures.value ∙ c.if-starts_with.false)

@@ -12,7 +12,7 @@ returns-in-Undecided c =
     let bytes = c.args.bytes.now in
     let i = c.loop-at.invariant in
     put_waiting answer (kept_in c.args.context.now) (kept_in c.loop-at.context) bytes c.args.is_last c.args.out.now.items c.loop-at.out.items c.extend_from_slice-in-Undecided.new.self.items c.loop-at.put c.loop-at.at i
-    (undecided answer (kept_in c.loop-at.context).context bytes c.loop-at.at c.args.is_last c.in_ok-insertion_behind.field-0 c.in-Undecided.is c.in_ok-insertion_behind.ensures)
+    (undecided answer (kept_in c.loop-at.context) bytes c.loop-at.at c.args.is_last c.in_ok-insertion_behind.field-0 c.in-Undecided.is c.in_ok-insertion_behind.ensures)
     (c.in_ok-extend_from_slice-in-Undecided.ensures.items ∙ ap (λ (l : List ℕ). c.loop-at.out.items ++ l) (held_back bytes c.loop-at.put c.loop-at.at i.put_below))
 
 pub loop-at-preserved : goal.loop-at-preserved
@@ -31,7 +31,7 @@ loop-at-preserved c =
       | in-Nothing w ↦
           rw (w.out-is, w.put-is)
           (put_more answer first kept kept' bytes c.args.is_last c.args.out.now.items c.loop-at.out.items c.loop-at.out.items c.loop-at.put c.loop-at.put at n [] i c.pass_some-at.ensures.some plain context
-          (nothing answer kept.context bytes at c.args.is_last c.in_ok-insertion_behind.field-0 w.in-Nothing.is c.in_ok-insertion_behind.ensures)
+          (nothing answer kept bytes at c.args.is_last c.in_ok-insertion_behind.field-0 w.in-Nothing.is c.in_ok-insertion_behind.ensures)
           i.put_below (sym (append-nil (c.loop-at.out.items ++ drop c.loop-at.put (take at bytes)))))
       | in-Text+in_ok-extend_from_slice-in-Text+in_ok-extend_from_slice-in-Text-2 w ↦
           let text = w.in-Text.text in
@@ -43,7 +43,7 @@ loop-at-preserved c =
           ∙ ap (λ (l : List ℕ). (c.loop-at.out.items ++ drop c.loop-at.put (take at bytes)) ++ l) w.deref.ensures.value in
           rw (w.out-is, w.put-is)
           (put_more answer first kept kept' bytes c.args.is_last c.args.out.now.items c.loop-at.out.items out' c.loop-at.put at at n text.items i c.pass_some-at.ensures.some plain context
-          (a_text answer kept.context bytes at c.args.is_last c.in_ok-insertion_behind.field-0 text w.in-Text.is c.in_ok-insertion_behind.ensures)
+          (a_text answer kept bytes at c.args.is_last c.in_ok-insertion_behind.field-0 text w.in-Text.is c.in_ok-insertion_behind.ensures)
           (omega arith)
           (ap (λ (l : List ℕ). out' ++ l) (drop_all at (take at bytes) all) ∙ append-nil out' ∙ is))
     ]

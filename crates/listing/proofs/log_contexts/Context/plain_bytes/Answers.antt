@@ -1,43 +1,38 @@
-use Rattle.std.proofs.Common.{ℕ, ◌+◌, ◌-◌, ◌≤◌, List, length, drop, subst, arith}
+use Rattle.std.proofs.Common.{◌-◌, ℕ, List, drop, length, length-drop, length-take, refl, subst, take, arith}
 use Rattle.std.proofs.lemmas.List.{take_rest}
-use Rattle.listing.specs.LogContexts.{GoOn, kept_in}
-use Rattle.listing.proofs.LogPlainLemmas.{all_short, plain_on, short_before, short_behind}
+use Rattle.listing.specs.LogContexts.{ArePlain, context_over, kept_in}
+use Rattle.listing.proofs.LogContextLemmas.{same_narrow}
+use Rattle.listing.proofs.LogPlainLemmas.{kept_few_over, plain_joined}
 use Rattle.listing.proofs.log_contexts.Context.plain_bytes.Goals as goal
-use Rattle.listing.proofs.log_contexts.Context.plain_bytes.Goals.{then-loop-length-test+else-at-length, else-loop-length-test}
 
-pub loop-length-preserved-in-Some : goal.loop-length-preserved-in-Some
-loop-length-preserved-in-Some c =
-    let l = c.loop-length in
-    let above = c.in-Some.ensures.above in
-    let within = c.in-Some.ensures.within in
-    let short = c.loop-length-test.true in
-    let few = c.if-at-length.true in
-    short_behind (kept_in c.args.self.now) c.args.bytes.now l.at l.length c.in-Some.place l.invariant above (omega (arith, within, few, short)) (omega (arith, within, short, above)) c.in-Some.ensures.end
+pub loop-at-init : goal.loop-at-init
+loop-at-init c =
+    let kept = kept_in c.args.self.now in
+    (c.short_bytes-at.ensures.some, c.short_bytes-at.ensures.plain kept (omega (arith, c.len.ensures.value)) refl)
 
-pub loop-length-preserved : goal.loop-length-preserved
-loop-length-preserved c =
-    let l = c.loop-length in
-    let short = c.loop-length-test.true in
-    let few = c.if-at-length.true in
-    short_before (kept_in c.args.self.now) c.args.bytes.now l.at l.length (l.at + (10 - l.length) + 1) l.invariant (omega arith) (omega (arith, few)) (omega (arith, short))
-
-pub returns-then-length-gt-SHORT_WORD-clause-plain :
-    goal.returns-then-length-gt-SHORT_WORD-clause-plain
-returns-then-length-gt-SHORT_WORD-clause-plain c =
-    let l = c.loop-length in
+pub overflow_add-at : goal.overflow_add-at
+overflow_add-at c =
+    let kept = kept_in c.args.self.now in
     let bytes : List ℕ = c.args.bytes.now in
-    let rest = take_rest bytes l.at in
-    plain_on (kept_in c.args.self.now) bytes l.at l.length c.going_on.result l.invariant
-    (subst (λ (x : List ℕ). c.going_on.result ≤ length x) rest c.going_on.ensures.within)
-    (subst (λ t. GoOn t (drop l.at bytes) c.going_on.result) c.is_closer.ensures
-    (subst (λ (x : List ℕ). GoOn c.is_closer.result x c.going_on.result) rest c.going_on.ensures.go_on))
+    let at : ℕ = c.loop-at.at in
+    let (some, plain) = c.loop-at.invariant in
+    let few = kept_few_over kept (take at bytes) (omega (arith, c.len.ensures.value, c.len.ensures.fits)) in
+    let more = c.short_bytes-at-in-loop-at.ensures.plain (context_over kept (take at bytes)) few (same_narrow kept (take at bytes)) in
+    let within = more.0 in
+    let taken = length-take (length bytes - at) (drop at bytes) in
+    let left = length-drop at bytes in
+    omega (arith, within, taken, left, plain.0)
 
-pub returns-else-length-gt-SHORT_WORD-clause-plain :
-    goal.returns-else-length-gt-SHORT_WORD-clause-plain
-returns-else-length-gt-SHORT_WORD-clause-plain c =
-    let l = c.loop-length in
-    let short = c.if-length-gt-SHORT_WORD.false in
-    all_short (kept_in c.args.self.now) c.args.bytes.now l.at l.length l.invariant (elim c.loop-length-test.branch [
-      | then-loop-length-test+else-at-length w ↦ let all = w.if-at-length.false in omega (arith, all, short)
-      | else-loop-length-test w ↦ let long = w.loop-length-test.false in absurd (omega (arith, long, short))
-    ])
+pub loop-at-preserved : goal.loop-at-preserved
+loop-at-preserved c =
+    let kept = kept_in c.args.self.now in
+    let bytes : List ℕ = c.args.bytes.now in
+    let at : ℕ = c.loop-at.at in
+    let n : ℕ = c.short_bytes-at-in-loop-at.result in
+    let (some, plain) = c.loop-at.invariant in
+    let few = kept_few_over kept (take at bytes) (omega (arith, c.len.ensures.value, c.len.ensures.fits)) in
+    let none = c.may_end_in_address.ensures c.if-not-may_end_in_address.true kept refl in
+    let more = c.short_bytes-at-in-loop-at.ensures.plain (context_over kept (take at bytes)) few (same_narrow kept (take at bytes)) in (
+      omega (arith, some),
+      plain_joined kept bytes at n plain.0 plain none (subst (λ (l : List ℕ). ArePlain (context_over kept (take at bytes)) l n) (take_rest bytes at) more),
+    )

@@ -1,10 +1,9 @@
-use Rattle.std.proofs.Common.{◌-◌, length}
-use Rattle.listing.specs.LogContexts.{kept_in}
-use Rattle.listing.proofs.LogPlainLemmas.{AreShort}
+use Rattle.std.proofs.Common.{◌-◌, ◌<◌, length}
+use Rattle.listing.specs.LogContexts.{ArePlain, kept_in}
 use Rattle.listing.proofs.log_contexts.Context.plain_bytes.Given as goal
 
-abbrev pub invariant-loop-length : goal.invariant-loop-length
-invariant-loop-length l = AreShort (kept_in l.self) l.bytes l.at l.length
+abbrev pub invariant-loop-at : goal.invariant-loop-at
+invariant-loop-at l = (0 < l.at) × ArePlain (kept_in l.self) l.bytes l.at
 
-abbrev pub decreases-loop-length : goal.decreases-loop-length
-decreases-loop-length l = length l.bytes - l.at
+abbrev pub decreases-loop-at : goal.decreases-loop-at
+decreases-loop-at l = length l.bytes - l.at
