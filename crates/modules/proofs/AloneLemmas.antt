@@ -1,5 +1,5 @@
 -- The modules of symbols alone lie apart, and have distinct names.
-use Rattle.std.proofs.Common.{◌≡◌, ◌≢◌, ℕ, ◌+◌, ◌-◌, ◌^◌, ◌<◌, ◌≤◌, Bool, true, false, ◌&&◌, ◌||◌, not, nat_le, nat_lt, cond, List, [], ◌∷◌, ◌++◌, length, get_or, map, Option, Some, None, refl, sym, ap, subst, ◌∙◌, ⊎_elim, arith}
+use Rattle.std.proofs.Common.{◌≡◌, ◌≢◌, ℕ, ◌-◌, ◌^◌, ◌<◌, ◌≤◌, Bool, true, false, ◌&&◌, ◌||◌, not, nat_le, nat_lt, cond, List, [], ◌∷◌, ◌++◌, length, get_or, map, Option, Some, None, refl, sym, ap, subst, ◌∙◌, ⊎_elim, arith}
 use Rattle.std.specs.Prelude.{All, IfSome, filter, find, fold}
 use Rattle.std.specs.Cmp.{first_so, second_so}
 use Rattle.std.specs.List.{AllPairs, flat_map, list_any}
@@ -18,7 +18,7 @@ use Rattle.modules.specs.Kept.{AreDistinctNames, is_built_in, lies_in}
 use Rattle.modules.specs.LineMarks.{HasFirstLine}
 use Rattle.modules.specs.Lines.{built_in_region}
 use Rattle.modules.specs.Listed.{BoundNames, ListedSymbol}
-use Rattle.modules.specs.Owners.{is_nearest_line, is_outside, module_of_address, posts, reach}
+use Rattle.modules.specs.Owners.{goes_on, is_in_page, is_nearest_line, is_outside, module_of_address, post_below, posts}
 use Rattle.modules.specs.Parts.{is_core}
 use Rattle.modules.specs.Placed.{IsPlaced, PlacedModule}
 use Rattle.modules.specs.PlacedModules.{AreSoundModules}
@@ -39,17 +39,17 @@ record IsOwner (lines : List ListedSymbol) (addr : ℕ) (name : List ℕ) (l : L
   pub its : l.owner ≡ Some name
 
 owner_of : (lines : List ListedSymbol) (addr : ℕ) (name : List ℕ) → module_of_address lines addr ≡ Some name → (l : ListedSymbol) × IsOwner lines addr name l
-owner_of lines addr name h = by (find (is_nearest_line lines addr) lines) refl h
+owner_of lines addr name h = by (post_below lines addr) refl h
   where
-    reached : (l : ListedSymbol) (b : Bool) → option_and_then (λ (t : ListedSymbol). t.owner) (cond b (Some l) None) ≡ Some name → l.owner ≡ Some name
+    reached : (l : ListedSymbol) (b : Bool) → cond b l.owner None ≡ Some name → l.owner ≡ Some name
     reached l true e = e
     reached l false e = absurd (cc)
 
-    by : (o : Option ListedSymbol) → find (is_nearest_line lines addr) lines ≡ o
-        → option_and_then (λ (t : ListedSymbol). t.owner) (option_and_then (λ (t : ListedSymbol). cond (nat_lt addr (t.addr + reach)) (Some t) None) o) ≡ Some name
+    by : (o : Option ListedSymbol) → post_below lines addr ≡ o
+        → option_and_then (λ (t : ListedSymbol). cond (is_in_page t.addr addr || goes_on lines addr t) t.owner None) o ≡ Some name
         → (l : ListedSymbol) × IsOwner lines addr name l
     by None at e = absurd (cc)
-    by (Some l) at e = (l, record { found = at; its = reached l (nat_lt addr (l.addr + reach)) e })
+    by (Some l) at e = (l, record { found = at; its = reached l (is_in_page l.addr addr || goes_on lines addr l) e })
 
 -- ---- a module and the kernel itself
 

@@ -6,25 +6,24 @@ use Rattle.std.specs.List.{list_all, position_from}
 use Rattle.std.specs.Option.{option_and_then, option_map, option_map_or}
 use Rattle.std.specs.Str.{bytes_eq}
 use Rattle.std.specs.Cmp.Lexicographic.{bytes_decides}
-use Rattle.std.proofs.lemmas.Bool.{and_from, and_parts, cases_lt, eq-eqb, eqb-false, eqb-true, le-leb, leb-true, lt-ltb, ltb-true, ne_eqb, or_cases, or_left, or_right}
+use Rattle.std.proofs.lemmas.Bool.{and_from, and_parts, cases_lt, eq-eqb, eqb-true, le-leb, leb-true, lt-ltb, ltb-true, ne_eqb, or_cases, or_left, or_right}
 use Rattle.std.proofs.lemmas.Iterator.Adapters.{position_from-zero}
 use Rattle.std.proofs.lemmas.List.Elements.{All-cons, All-contains, All-head, All-nil, All-tail}
 use Rattle.std.proofs.lemmas.List.Quantifiers.{position-Some}
 use Rattle.std.proofs.lemmas.List.Sums.{AllPass-from_list_all, list_all-from_AllPass}
-use Rattle.std.proofs.lemmas.Option.{get_or_from_slice_get, slice_get_within}
 use Rattle.facts.proofs.Members.{Contains-slice_get}
 use Rattle.facts.proofs.Tests.{find-agree, find-filter, find-has, find-passes, find_place}
 use Rattle.modules.specs.Kept.{is_built_in}
 use Rattle.modules.specs.LineMarks.{HasFirstLine, mark_of, marks_of, name_of, number_for, number_in}
 use Rattle.modules.specs.Listed.{ListedSymbol}
 use Rattle.modules.specs.MarkedModules.{StandsFor}
-use Rattle.modules.specs.Marks.{IsNearestMark, Owns}
-use Rattle.modules.specs.Owners.{is_nearest_line, is_outside, module_of_address, posts, reach}
+use Rattle.modules.specs.Marks.{GoesOn, IsFirstMark, IsNearestMark, IsNextMark, Owns}
+use Rattle.modules.specs.Owners.{goes_on, is_in_page, is_nearest_line, is_next_line, is_of_one_module, is_outside, module_of_address, post_above, post_below, posts, reach}
 use Rattle.modules.specs.Regions.{holds}
 use Rattle.modules.specs.declared.marks.Mark.{Mark}
 use Rattle.modules.proofs.KeptLemmas.{not_built_in}
-use Rattle.modules.proofs.MarkOrderLemmas.{found_first, is_at}
-use Rattle.modules.proofs.OwnLineLemmas.{same_bool}
+use Rattle.modules.proofs.MarkOrderLemmas.{first_found, found_first, is_at}
+use Rattle.modules.proofs.OwnLineLemmas.{is_of, named, same_bool}
 use Rattle.modules.proofs.SpacedLemmas.{inside, within}
 
 -- ---- what passes a test
@@ -73,6 +72,17 @@ pub record IsNearestAddress {X : Type 0} (at : X → ℕ) (xs : List X) (x a : �
   pub below : a ≤ x
   pub clear : All (λ t. (at t ≤ a) ⊎ (x < at t)) xs
 
+-- the address is above x, and none of the list lies between them
+pub record IsNextAddress {X : Type 0} (at : X → ℕ) (xs : List X) (x a : ℕ) : Type 0 where
+  pub above : x < a
+  pub clear : All (λ t. (at t ≤ x) ⊎ (a ≤ at t)) xs
+
+abbrev IsNextOf : List ListedSymbol → ℕ → ℕ → Type 0
+IsNextOf ls x a = IsNextAddress (λ (t : ListedSymbol). t.addr) ls x a
+
+abbrev IsNextIn : List Mark → ℕ → ℕ → Type 0
+IsNextIn ms x a = IsNextAddress (λ (t : Mark). t.addr) ms x a
+
 abbrev IsNearestOf : List ListedSymbol → ℕ → ℕ → Type 0
 IsNearestOf ls x a = IsNearestAddress (λ (t : ListedSymbol). t.addr) ls x a
 
@@ -120,16 +130,48 @@ nearest_by_address ls x l there n =
     (λ e. line_is_nearest ls x t (subst (λ a. IsNearestOf ls x a) (sym (eqb-true t.addr l.addr e)) n)))
 
 mark_nearest : (ms : List Mark) (x : ℕ) (m : Mark) → IsNearestIn ms x m.addr → find (is_at m.addr) ms ≡ Some m → IsNearestMark ms x m
-mark_nearest ms x m n found =
-    let (place, first) = find_place (is_at m.addr) ms m found in
-    record {
-      place = place;
-      within = slice_get_within ms place m first.at;
-      listed = get_or_from_slice_get ms place m m first.at;
-      below = n.below;
-      nearest = n.clear;
-      first = λ k d lt e. eqb-false (get_or ms k d).addr m.addr (first.before k d lt) e;
-    }
+mark_nearest ms x m n found = record { its = first_found ms m found; below = n.below; clear = n.clear }
+
+-- ---- the next address above
+
+either_above : (t a x : ℕ) → (nat_le t x || nat_le a t) ≡ true → (t ≤ x) ⊎ (a ≤ t)
+either_above t a x h = ⊎_elim (λ e. inl (leb-true t x e)) (λ e. inr (leb-true a t e)) (or_cases (nat_le t x) (nat_le a t) h)
+
+from_either_above : (t a x : ℕ) → (t ≤ x) ⊎ (a ≤ t) → (nat_le t x || nat_le a t) ≡ true
+from_either_above t a x h = ⊎_elim (λ e. or_left (nat_le t x) (nat_le a t) (le-leb t x e)) (λ e. or_right (nat_le t x) (nat_le a t) (le-leb a t e)) h
+
+next_line_is : (ls : List ListedSymbol) (x : ℕ) (l : ListedSymbol) → is_next_line ls x l ≡ true → IsNextOf ls x l.addr
+next_line_is ls x l h = record {
+  above = ltb-true x l.addr (first_so (nat_lt x l.addr) (list_all (λ (t : ListedSymbol). nat_le t.addr x || nat_le l.addr t.addr) ls) h);
+  clear = λ k d lt. either_above (get_or ls k d).addr l.addr x (AllPass-from_list_all (λ (t : ListedSymbol). nat_le t.addr x || nat_le l.addr t.addr) ls (second_so (nat_lt x l.addr) (list_all (λ (t : ListedSymbol). nat_le t.addr x || nat_le l.addr t.addr) ls) h) k d lt);
+}
+
+line_is_next : (ls : List ListedSymbol) (x : ℕ) (l : ListedSymbol) → IsNextOf ls x l.addr → is_next_line ls x l ≡ true
+line_is_next ls x l n =
+    and_from (nat_lt x l.addr) (list_all (λ (t : ListedSymbol). nat_le t.addr x || nat_le l.addr t.addr) ls)
+    (lt-ltb x l.addr n.above)
+    (list_all-from_AllPass (λ (t : ListedSymbol). nat_le t.addr x || nat_le l.addr t.addr) ls (λ k d lt. from_either_above (get_or ls k d).addr l.addr x (n.clear k d lt)))
+
+-- of two next addresses that are listed neither is below the other
+not_below : {X : Type 0} (at : X → ℕ) (xs : List X) (x a b : ℕ) (t : X) → IsNextAddress at xs x a → IsNextAddress at xs x b → Contains xs t → at t ≡ b → a ≤ b
+not_below at xs x a b t n m there is =
+    ⊎_elim (λ le. absurd (let high = m.above in omega (arith, is))) (λ ge. subst (λ c. a ≤ c) is ge) (All-contains (λ s. (at s ≤ x) ⊎ (a ≤ at s)) xs t n.clear there)
+
+-- the first of the next lines is the first of their address
+next_by_address : (ls : List ListedSymbol) (x : ℕ) (l : ListedSymbol) → Contains ls l → IsNextOf ls x l.addr → find (is_next_line ls x) ls ≡ find (is_line_at l.addr) ls
+next_by_address ls x l there n =
+    find-agree (is_next_line ls x) (is_line_at l.addr) ls (λ k d lt.
+    let t : ListedSymbol = get_or ls k d in
+    same_bool (is_next_line ls x t) (is_line_at l.addr t)
+    (λ yes.
+    let m = next_line_is ls x t yes in
+    let high : t.addr ≤ l.addr = not_below (λ (s : ListedSymbol). s.addr) ls x t.addr l.addr l m n there refl in
+    let low : l.addr ≤ t.addr = ⊎_elim (λ le. absurd (let b = m.above in omega arith)) (λ ge. ge) (n.clear k d lt) in
+    eq-eqb t.addr l.addr (omega arith))
+    (λ e. line_is_next ls x t (subst (λ a. IsNextOf ls x a) (sym (eqb-true t.addr l.addr e)) n)))
+
+mark_next : (ms : List Mark) (x : ℕ) (m : Mark) → IsNextIn ms x m.addr → find (is_at m.addr) ms ≡ Some m → IsNextMark ms x m
+mark_next ms x m n found = record { its = first_found ms m found; above = n.above; clear = n.clear }
 
 -- ---- numbers and names
 
@@ -161,9 +203,6 @@ outside_not_inside kernel l h =
     turned : (b : Bool) → not b ≡ true → b ≡ false
     turned true h = absurd (cc)
     turned false h = refl
-
-not_outside_unnamed : (kernel : Option (ℕ × ℕ)) (l : ListedSymbol) → l.owner ≡ None → is_outside kernel l ≡ false
-not_outside_unnamed kernel l none = rw none refl
 
 -- of lines at an address outside the kernel's region, just those of modules are posts
 posts_at : (kernel : Option (ℕ × ℕ)) (lines : List ListedSymbol) (a : ℕ) → is_inside kernel a ≡ false → find (is_line_at a) (posts kernel lines) ≡ find (is_line_at a) (filter (is_outside kernel) lines)
@@ -212,9 +251,9 @@ module _ (names : List (List ℕ)) (lines : List ListedSymbol) where
 
   -- ---- the nearest address of marks and of posts
 
-  outside_clear : (kernel : Option (ℕ × ℕ)) (x a : ℕ) → All (λ (t : Mark). (t.addr ≤ a) ⊎ (x < t.addr)) (marks_of kernel names lines) → All (λ (t : ListedSymbol). is_outside kernel t ≡ true → (t.addr ≤ a) ⊎ (x < t.addr)) lines
-  outside_clear None x a all = all_of_passing (is_outside None) (λ (t : ListedSymbol). (t.addr ≤ a) ⊎ (x < t.addr)) lines (all_of_mapped (mark_of names) (λ (t : Mark). (t.addr ≤ a) ⊎ (x < t.addr)) (filter (is_outside None) lines) all)
-  outside_clear (Some r) x a all = all_of_passing (is_outside (Some r)) (λ (t : ListedSymbol). (t.addr ≤ a) ⊎ (x < t.addr)) lines (all_of_mapped (mark_of names) (λ (t : Mark). (t.addr ≤ a) ⊎ (x < t.addr)) (filter (is_outside (Some r)) lines) (All-tail (λ (t : Mark). (t.addr ≤ a) ⊎ (x < t.addr)) (record { addr = r.0; owner = 0 }) (map (mark_of names) (filter (is_outside (Some r)) lines)) all))
+  outside_all : (kernel : Option (ℕ × ℕ)) (P : ℕ → Type 0) → All (λ (t : Mark). P t.addr) (marks_of kernel names lines) → All (λ (t : ListedSymbol). is_outside kernel t ≡ true → P t.addr) lines
+  outside_all None P all = all_of_passing (is_outside None) (λ (t : ListedSymbol). P t.addr) lines (all_of_mapped (mark_of names) (λ (t : Mark). P t.addr) (filter (is_outside None) lines) all)
+  outside_all (Some r) P all = all_of_passing (is_outside (Some r)) (λ (t : ListedSymbol). P t.addr) lines (all_of_mapped (mark_of names) (λ (t : Mark). P t.addr) (filter (is_outside (Some r)) lines) (All-tail (λ (t : Mark). P t.addr) (record { addr = r.0; owner = 0 }) (map (mark_of names) (filter (is_outside (Some r)) lines)) all))
 
   kernel_clear : (kernel : Option (ℕ × ℕ)) (x a : ℕ) (t : ListedSymbol) → is_inside kernel a ≡ false → All (λ (s : Mark). (s.addr ≤ a) ⊎ (x < s.addr)) (marks_of kernel names lines) → is_inside kernel t.addr ≡ true → (t.addr ≤ a) ⊎ (x < t.addr)
   kernel_clear None x a t out all in' = absurd (cc)
@@ -228,6 +267,26 @@ module _ (names : List (List ℕ)) (lines : List ListedSymbol) where
       (λ past. inr (omega arith))
       (All-head (λ (s : Mark). (s.addr ≤ a) ⊎ (x < s.addr)) (record { addr = r.0; owner = 0 }) (map (mark_of names) (filter (is_outside (Some r)) lines)) all)
 
+  -- a kernel's line that is above is not below the next mark
+  kernel_next : (kernel : Option (ℕ × ℕ)) (x a b : ℕ) (t : ListedSymbol) → is_inside kernel a ≡ false → IsNearestIn (marks_of kernel names lines) x a → IsNextIn (marks_of kernel names lines) x b → is_inside kernel t.addr ≡ true → (t.addr ≤ x) ⊎ (b ≤ t.addr)
+  kernel_next None x a b t out near next in' = absurd (cc)
+  kernel_next (Some r) x a b t out near next in' =
+      let (from, below) = inside r t.addr in' in
+      let low = near.below in
+      ⊎_elim
+      (λ le. inl (omega arith))
+      (λ past. ⊎_elim
+      (λ start. ⊎_elim
+      (λ le. ⊎_elim
+      (λ lt. absurd (let at : holds r a ≡ true = within r a le lt in cc))
+      (λ ge. absurd (omega arith))
+      (cases_lt a r.1))
+      (λ over. absurd (omega arith))
+      (All-head (λ (s : Mark). (s.addr ≤ a) ⊎ (x < s.addr)) (record { addr = r.0; owner = 0 }) (map (mark_of names) (filter (is_outside (Some r)) lines)) near.clear))
+      (λ ge. inr (omega arith))
+      (All-head (λ (s : Mark). (s.addr ≤ x) ⊎ (b ≤ s.addr)) (record { addr = r.0; owner = 0 }) (map (mark_of names) (filter (is_outside (Some r)) lines)) next.clear))
+      (kernel_clear (Some r) x a t out near.clear in')
+
   built_in_inside : (kernel : Option (ℕ × ℕ)) (t : ListedSymbol) → is_built_in kernel t ≡ true → is_inside kernel t.addr ≡ true
   built_in_inside kernel t h = (and_parts (is_none t.owner) (is_inside kernel t.addr) h).1
 
@@ -238,82 +297,169 @@ module _ (names : List (List ℕ)) (lines : List ListedSymbol) where
         let t : ListedSymbol = get_or lines k d in
         ⊎_elim
         (λ own. kernel_clear kernel x a t out n.clear (built_in_inside kernel t own))
-        (λ its. outside_clear kernel x a n.clear k d lt its)
+        (λ its. outside_all kernel (λ c. (c ≤ a) ⊎ (x < c)) n.clear k d lt its)
         (or_cases (is_built_in kernel t) (is_outside kernel t) passes));
   }
 
-  posts_clear : (kernel : Option (ℕ × ℕ)) (x a : ℕ) → IsNearestOf (posts kernel lines) x a → All (λ (t : ListedSymbol). (is_built_in kernel t || is_outside kernel t) ≡ true → (t.addr ≤ a) ⊎ (x < t.addr)) lines
-  posts_clear kernel x a n = all_of_passing (λ l. is_built_in kernel l || is_outside kernel l) (λ (t : ListedSymbol). (t.addr ≤ a) ⊎ (x < t.addr)) lines n.clear
-
-  others_clear : (kernel : Option (ℕ × ℕ)) (x a : ℕ) → IsNearestOf (posts kernel lines) x a → All (λ (t : Mark). (t.addr ≤ a) ⊎ (x < t.addr)) (map (mark_of names) (filter (is_outside kernel) lines))
-  others_clear kernel x a n =
-      all_mapped (mark_of names) (λ (t : Mark). (t.addr ≤ a) ⊎ (x < t.addr)) (filter (is_outside kernel) lines)
-      (all_passing (is_outside kernel) (λ (t : ListedSymbol). (t.addr ≤ a) ⊎ (x < t.addr)) lines (λ k d lt yes.
-      let t : ListedSymbol = get_or lines k d in
-      posts_clear kernel x a n k d lt (or_right (is_built_in kernel t) (is_outside kernel t) yes)))
+  next_posts : (kernel : Option (ℕ × ℕ)) (x a b : ℕ) → is_inside kernel a ≡ false → IsNearestIn (marks_of kernel names lines) x a → IsNextIn (marks_of kernel names lines) x b → IsNextOf (posts kernel lines) x b
+  next_posts kernel x a b out near n = record {
+    above = n.above;
+    clear = all_passing (λ l. is_built_in kernel l || is_outside kernel l) (λ (t : ListedSymbol). (t.addr ≤ x) ⊎ (b ≤ t.addr)) lines (λ k d lt passes.
+        let t : ListedSymbol = get_or lines k d in
+        ⊎_elim
+        (λ own. kernel_next kernel x a b t out near n (built_in_inside kernel t own))
+        (λ its. outside_all kernel (λ c. (c ≤ x) ⊎ (b ≤ c)) n.clear k d lt its)
+        (or_cases (is_built_in kernel t) (is_outside kernel t) passes));
+  }
 
   first_passes : (r : ℕ × ℕ) (l : ListedSymbol) → r.0 < r.1 → l.owner ≡ None → l.addr ≡ r.0 → is_built_in (Some r) l ≡ true
   first_passes r l valid none at = rw (none, at) (within r r.0 (omega arith) valid)
 
-  near_marks : (kernel : Option (ℕ × ℕ)) (x a : ℕ) → HasFirstLine kernel lines → IsNearestOf (posts kernel lines) x a → IsNearestIn (marks_of kernel names lines) x a
-  near_marks None x a has n = record { below = n.below; clear = others_clear None x a n }
-  near_marks (Some r) x a (valid, first) n =
+  others_all : (kernel : Option (ℕ × ℕ)) (P : ℕ → Type 0) → All (λ (t : ListedSymbol). (is_built_in kernel t || is_outside kernel t) ≡ true → P t.addr) lines → All (λ (t : Mark). P t.addr) (map (mark_of names) (filter (is_outside kernel) lines))
+  others_all kernel P all =
+      all_mapped (mark_of names) (λ (t : Mark). P t.addr) (filter (is_outside kernel) lines)
+      (all_passing (is_outside kernel) (λ (t : ListedSymbol). P t.addr) lines (λ k d lt yes.
+      let t : ListedSymbol = get_or lines k d in
+      all k d lt (or_right (is_built_in kernel t) (is_outside kernel t) yes)))
+
+  -- what holds of the posts' addresses holds of the marks'
+  marks_all : (kernel : Option (ℕ × ℕ)) (P : ℕ → Type 0) → HasFirstLine kernel lines → All (λ (t : ListedSymbol). P t.addr) (posts kernel lines) → All (λ (t : Mark). P t.addr) (marks_of kernel names lines)
+  marks_all None P has all = others_all None P (all_of_passing (λ l. is_built_in None l || is_outside None l) (λ (t : ListedSymbol). P t.addr) lines all)
+  marks_all (Some r) P (valid, first) all =
       let (l, there, none, at) = first in
-      record {
-        below = n.below;
-        clear = All-cons (λ (t : Mark). (t.addr ≤ a) ⊎ (x < t.addr)) (record { addr = r.0; owner = 0 }) (map (mark_of names) (filter (is_outside (Some r)) lines))
-            (subst (λ b. (b ≤ a) ⊎ (x < b)) at
-            (All-contains (λ (t : ListedSymbol). (is_built_in (Some r) t || is_outside (Some r) t) ≡ true → (t.addr ≤ a) ⊎ (x < t.addr)) lines l (posts_clear (Some r) x a n) there
-            (or_left (is_built_in (Some r) l) (is_outside (Some r) l) (first_passes r l valid none at))))
-            (others_clear (Some r) x a n);
-      }
+      let each = all_of_passing (λ l. is_built_in (Some r) l || is_outside (Some r) l) (λ (t : ListedSymbol). P t.addr) lines all in
+      All-cons (λ (t : Mark). P t.addr) (record { addr = r.0; owner = 0 }) (map (mark_of names) (filter (is_outside (Some r)) lines))
+      (subst P at
+      (All-contains (λ (t : ListedSymbol). (is_built_in (Some r) t || is_outside (Some r) t) ≡ true → P t.addr) lines l each there
+      (or_left (is_built_in (Some r) l) (is_outside (Some r) l) (first_passes r l valid none at))))
+      (others_all (Some r) P each)
 
-  -- ---- whose an address is
+  near_marks : (kernel : Option (ℕ × ℕ)) (x a : ℕ) → HasFirstLine kernel lines → IsNearestOf (posts kernel lines) x a → IsNearestIn (marks_of kernel names lines) x a
+  near_marks kernel x a has n = record { below = n.below; clear = marks_all kernel (λ c. (c ≤ a) ⊎ (x < c)) has n.clear }
 
-  owned : (x : ℕ) (name : List ℕ) (o : Option ListedSymbol) → option_and_then (λ (l : ListedSymbol). l.owner) (option_and_then (λ (l : ListedSymbol). cond (nat_lt x (l.addr + reach)) (Some l) None) o) ≡ Some name → (l : ListedSymbol) × (o ≡ Some l) × (x < l.addr + reach) × (l.owner ≡ Some name)
-  owned x name None h = absurd (cc)
-  owned x name (Some l) h =
-      elim (nat_lt x (l.addr + reach)) as (λ b. nat_lt x (l.addr + reach) ≡ b → option_and_then (λ (t : ListedSymbol). t.owner) (cond b (Some l) None) ≡ Some name → (t : ListedSymbol) × (Some l ≡ Some t) × (x < t.addr + reach) × (t.owner ≡ Some name)) [
-        | true ↦ λ e k. (l, refl, ltb-true x (l.addr + reach) e, k)
-        | false ↦ λ _ k. absurd (cc)
-      ] refl h
+  next_marks : (kernel : Option (ℕ × ℕ)) (x b : ℕ) → HasFirstLine kernel lines → IsNextOf (posts kernel lines) x b → IsNextIn (marks_of kernel names lines) x b
+  next_marks kernel x b has n = record { above = n.above; clear = marks_all kernel (λ c. (c ≤ x) ⊎ (b ≤ c)) has n.clear }
+
+  -- ---- the lines of a module
 
   passes_outside : (kernel : Option (ℕ × ℕ)) (l : ListedSymbol) (a : ℕ) → find (is_line_at a) (filter (is_outside kernel) lines) ≡ Some l → is_outside kernel l ≡ true
   passes_outside kernel l a at = find-has (is_line_at a) (filter (is_outside kernel) lines) l at (λ t. is_outside kernel t ≡ true) (all_passing (is_outside kernel) (λ t. is_outside kernel t ≡ true) lines (λ k d lt yes. yes))
 
-  nearest_found : (kernel : Option (ℕ × ℕ)) (x : ℕ) (l : ListedSymbol) → IsNearestIn (marks_of kernel names lines) x l.addr → find (is_line_at l.addr) (filter (is_outside kernel) lines) ≡ Some l → find (is_nearest_line (posts kernel lines) x) (posts kernel lines) ≡ Some l
-  nearest_found kernel x l near at =
-      let out : is_inside kernel l.addr ≡ false = outside_not_inside kernel l (passes_outside kernel l l.addr at) in
-      let found : find (is_line_at l.addr) (posts kernel lines) ≡ Some l = posts_at kernel lines l.addr out ∙ at in
-      nearest_by_address (posts kernel lines) x l (listed_found (is_line_at l.addr) (posts kernel lines) l found) (near_posts kernel x l.addr out near) ∙ found
+  is_named_outside : (kernel : Option (ℕ × ℕ)) (l : ListedSymbol) (name : List ℕ) → l.owner ≡ Some name → (is_built_in kernel l || is_outside kernel l) ≡ true → is_outside kernel l ≡ true
+  is_named_outside kernel l name own passes = ⊎_elim (λ built_in. absurd (let other : is_built_in kernel l ≡ false = not_built_in kernel l name own in cc)) (λ its. its) (or_cases (is_built_in kernel l) (is_outside kernel l) passes)
+
+  -- a found post of a module is outside
+  found_outside : (kernel : Option (ℕ × ℕ)) (p : ListedSymbol → Bool) (l : ListedSymbol) (name : List ℕ) → find p (posts kernel lines) ≡ Some l → l.owner ≡ Some name → is_inside kernel l.addr ≡ false
+  found_outside kernel p l name at own =
+      let passes : (is_built_in kernel l || is_outside kernel l) ≡ true = find-has p (posts kernel lines) l at (λ t. (is_built_in kernel t || is_outside kernel t) ≡ true) (all_passing (λ t. is_built_in kernel t || is_outside kernel t) (λ t. (is_built_in kernel t || is_outside kernel t) ≡ true) lines (λ k d lt yes. yes)) in
+      outside_not_inside kernel l (is_named_outside kernel l name own passes)
+
+  -- the line of a first mark of a module, which is the first of its address among the posts
+  record IsLineOf (kernel : Option (ℕ × ℕ)) (m : Mark) (l : ListedSymbol) : Type 0 where
+    made : mark_of names l ≡ m
+    out : is_inside kernel l.addr ≡ false
+    first : find (is_line_at l.addr) (posts kernel lines) ≡ Some l
+
+  line_of_first : (kernel : Option (ℕ × ℕ)) (m : Mark) → m.owner ≢ 0 → IsFirstMark (marks_of kernel names lines) m → (l : ListedSymbol) × IsLineOf kernel m l
+  line_of_first kernel m some first =
+      let (l, at, made) = mark_found kernel m some (found_first (marks_of kernel names lines) m first) in
+      let addr : m.addr ≡ l.addr = sym (ap (λ (s : Mark). s.addr) made) in
+      let here : find (is_line_at l.addr) (filter (is_outside kernel) lines) ≡ Some l = subst (λ a. find (is_line_at a) (filter (is_outside kernel) lines) ≡ Some l) addr at in
+      let out : is_inside kernel l.addr ≡ false = outside_not_inside kernel l (passes_outside kernel l l.addr here) in
+      (l, record { made = made; out = out; first = posts_at kernel lines l.addr out ∙ here })
+
+  owner_of_line : (kernel : Option (ℕ × ℕ)) (m : Mark) (l : ListedSymbol) (n : ℕ) (name : List ℕ) → n ≢ 0 → number_in names name ≡ n → m.owner ≡ n → IsLineOf kernel m l → l.owner ≡ Some name
+  owner_of_line kernel m l n name some is its line =
+      owner_named names l.owner n (ap (λ (s : Mark). s.owner) line.made ∙ its) some ∙ ap (λ (w : List ℕ). Some w) (number_names names name n is some)
+
+  -- the first mark of a post of a module
+  mark_of_first : (kernel : Option (ℕ × ℕ)) (l : ListedSymbol) → HasFirstLine kernel lines → is_inside kernel l.addr ≡ false → find (is_line_at l.addr) (posts kernel lines) ≡ Some l → find (is_at l.addr) (marks_of kernel names lines) ≡ Some (mark_of names l)
+  mark_of_first kernel l has out found = found_mark kernel l has out (sym (posts_at kernel lines l.addr out) ∙ found)
+
+  -- ---- how far a module goes on
+
+  of_one : (l t : ListedSymbol) (name : List ℕ) → l.owner ≡ Some name → t.owner ≡ Some name → is_of_one_module l t ≡ true
+  of_one l t name own its = rw (own, its) (named name)
+
+  one_of : (l t : ListedSymbol) (name : List ℕ) → l.owner ≡ Some name → is_of_one_module l t ≡ true → t.owner ≡ Some name
+  one_of l t name own h = let here : option_map_or (bytes_eq name) t.owner false ≡ true = (rw own at h) in is_of name t.owner here
+
+  next_near : (kernel : Option (ℕ × ℕ)) (x : ℕ) (l : ListedSymbol) (name : List ℕ) → l.owner ≡ Some name → goes_on (posts kernel lines) x l ≡ true → (t : ListedSymbol) × (post_above (posts kernel lines) x ≡ Some t) × (t.owner ≡ Some name) × (t.addr < l.addr + reach)
+  next_near kernel x l name own h = by (post_above (posts kernel lines) x) refl h
+    where
+      by : (o : Option ListedSymbol) → post_above (posts kernel lines) x ≡ o → option_map_or (λ t. is_of_one_module l t && nat_lt t.addr (l.addr + reach)) o false ≡ true → (t : ListedSymbol) × (post_above (posts kernel lines) x ≡ Some t) × (t.owner ≡ Some name) × (t.addr < l.addr + reach)
+      by None at e = absurd (cc)
+      by (Some t) at e =
+          let both = and_parts (is_of_one_module l t) (nat_lt t.addr (l.addr + reach)) e in
+          (t, at, one_of l t name own both.0, ltb-true t.addr (l.addr + reach) both.1)
+
+  to_goes_on : (kernel : Option (ℕ × ℕ)) (n x : ℕ) (name : List ℕ) (m : Mark) (l : ListedSymbol) → n ≢ 0 → number_in names name ≡ n → m.owner ≡ n → IsLineOf kernel m l → IsNearestIn (marks_of kernel names lines) x l.addr → GoesOn (marks_of kernel names lines) x m → goes_on (posts kernel lines) x l ≡ true
+  to_goes_on kernel n x name m l some is its line near on =
+      let ps : List ListedSymbol = posts kernel lines in
+      let of : on.mark.owner ≡ n = on.its ∙ its in
+      let (t, its_line) = line_of_first kernel on.mark (λ zero. some (sym of ∙ zero)) on.next.its in
+      let addr : on.mark.addr ≡ t.addr = sym (ap (λ (s : Mark). s.addr) its_line.made) in
+      let from : m.addr ≡ l.addr = sym (ap (λ (s : Mark). s.addr) line.made) in
+      let next : IsNextIn (marks_of kernel names lines) x t.addr = subst (λ a. IsNextIn (marks_of kernel names lines) x a) addr (record { above = on.next.above; clear = on.next.clear }) in
+      let found : post_above ps x ≡ Some t = next_by_address ps x t (listed_found (is_line_at t.addr) ps t its_line.first) (next_posts kernel x l.addr t.addr line.out near next) ∙ its_line.first in
+      let near : t.addr < l.addr + reach = let far = on.near in omega arith in
+      let both : (is_of_one_module l t && nat_lt t.addr (l.addr + reach)) ≡ true = and_from (is_of_one_module l t) (nat_lt t.addr (l.addr + reach)) (of_one l t name (owner_of_line kernel m l n name some is its line) (owner_of_line kernel on.mark t n name some is of its_line)) (lt-ltb t.addr (l.addr + reach) near) in
+      ap (λ (o : Option ListedSymbol). option_map_or (λ t. is_of_one_module l t && nat_lt t.addr (l.addr + reach)) o false) found ∙ both
+
+  from_goes_on : (kernel : Option (ℕ × ℕ)) (n x : ℕ) (name : List ℕ) (l : ListedSymbol) → HasFirstLine kernel lines → number_in names name ≡ n → l.owner ≡ Some name → goes_on (posts kernel lines) x l ≡ true → GoesOn (marks_of kernel names lines) x (mark_of names l)
+  from_goes_on kernel n x name l has is own h =
+      let ps : List ListedSymbol = posts kernel lines in
+      let (t, at, its, near) = next_near kernel x l name own h in
+      let next : IsNextOf ps x t.addr = next_line_is ps x t (find-passes (is_next_line ps x) ps t at) in
+      let found : find (is_line_at t.addr) ps ≡ Some t = sym (next_by_address ps x t (listed_found (is_next_line ps x) ps t at) next) ∙ at in
+      record {
+        mark = mark_of names t;
+        next = mark_next (marks_of kernel names lines) x (mark_of names t) (next_marks kernel x t.addr has next) (mark_of_first kernel t has (found_outside kernel (is_next_line ps x) t name at its) found);
+        its = ap (number_for names) (its ∙ sym own);
+        near = near;
+      }
+
+  -- ---- whose an address is
+
+  owned : (ls : List ListedSymbol) (x : ℕ) (name : List ℕ) (o : Option ListedSymbol) → option_and_then (λ (l : ListedSymbol). cond (is_in_page l.addr x || goes_on ls x l) l.owner None) o ≡ Some name → (l : ListedSymbol) × (o ≡ Some l) × ((is_in_page l.addr x || goes_on ls x l) ≡ true) × (l.owner ≡ Some name)
+  owned ls x name None h = absurd (cc)
+  owned ls x name (Some l) h =
+      elim (is_in_page l.addr x || goes_on ls x l) as (λ b. (is_in_page l.addr x || goes_on ls x l) ≡ b → cond b l.owner None ≡ Some name → (t : ListedSymbol) × (Some l ≡ Some t) × ((is_in_page t.addr x || goes_on ls x t) ≡ true) × (t.owner ≡ Some name)) [
+        | true ↦ λ e k. (l, refl, e, k)
+        | false ↦ λ _ k. absurd (cc)
+      ] refl h
 
   to_lines : (kernel : Option (ℕ × ℕ)) (n x : ℕ) (name : List ℕ) → n ≢ 0 → number_in names name ≡ n → Owns (marks_of kernel names lines) n x → module_of_address (posts kernel lines) x ≡ Some name
   to_lines kernel n x name some is o =
+      let ps : List ListedSymbol = posts kernel lines in
       let m : Mark = o.mark in
-      let (l, at, made) = mark_found kernel m (λ zero. some (sym o.its ∙ zero)) (found_first (marks_of kernel names lines) x m o.nearest) in
-      let addr : l.addr ≡ m.addr = ap (λ (s : Mark). s.addr) made in
-      let near : IsNearestIn (marks_of kernel names lines) x l.addr = subst (λ a. IsNearestIn (marks_of kernel names lines) x a) (sym addr) (record { below = o.nearest.below; clear = o.nearest.nearest }) in
-      let line : find (is_nearest_line (posts kernel lines) x) (posts kernel lines) ≡ Some l = nearest_found kernel x l near (subst (λ a. find (is_line_at a) (filter (is_outside kernel) lines) ≡ Some l) (sym addr) at) in
-      let own : l.owner ≡ Some name = owner_named names l.owner n (ap (λ (s : Mark). s.owner) made ∙ o.its) some ∙ ap (λ (w : List ℕ). Some w) (number_names names name n is some) in
-      let reached : nat_lt x (l.addr + reach) ≡ true = lt-ltb x (l.addr + reach) (subst (λ a. x < a + reach) (sym addr) o.reached) in
-      ap (λ (p : Option ListedSymbol). option_and_then (λ (t : ListedSymbol). t.owner) (option_and_then (λ (t : ListedSymbol). cond (nat_lt x (t.addr + reach)) (Some t) None) p)) line ∙ rw reached own
-
-  is_named_outside : (kernel : Option (ℕ × ℕ)) (l : ListedSymbol) (name : List ℕ) → l.owner ≡ Some name → (is_built_in kernel l || is_outside kernel l) ≡ true → is_outside kernel l ≡ true
-  is_named_outside kernel l name own passes = ⊎_elim (λ built_in. absurd (let other : is_built_in kernel l ≡ false = not_built_in kernel l name own in cc)) (λ its. its) (or_cases (is_built_in kernel l) (is_outside kernel l) passes)
+      let (l, line) = line_of_first kernel m (λ zero. some (sym o.its ∙ zero)) o.nearest.its in
+      let addr : m.addr ≡ l.addr = sym (ap (λ (s : Mark). s.addr) line.made) in
+      let near : IsNearestIn (marks_of kernel names lines) x l.addr = subst (λ a. IsNearestIn (marks_of kernel names lines) x a) addr (record { below = o.nearest.below; clear = o.nearest.clear }) in
+      let found : post_below ps x ≡ Some l = nearest_by_address ps x l (listed_found (is_line_at l.addr) ps l line.first) (near_posts kernel x l.addr line.out near) ∙ line.first in
+      let reached : (is_in_page l.addr x || goes_on ps x l) ≡ true = ⊎_elim
+      (λ page. or_left (is_in_page l.addr x) (goes_on ps x l) (subst (λ a. is_in_page a x ≡ true) addr page))
+      (λ on. or_right (is_in_page l.addr x) (goes_on ps x l) (to_goes_on kernel n x name m l some is o.its line near on))
+      o.reached in
+      ap (option_and_then (λ (t : ListedSymbol). cond (is_in_page t.addr x || goes_on ps x t) t.owner None)) found
+      ∙ ap (λ b. cond b l.owner None) reached
+      ∙ owner_of_line kernel m l n name some is o.its line
 
   from_lines : (kernel : Option (ℕ × ℕ)) (n x : ℕ) (name : List ℕ) → HasFirstLine kernel lines → n ≢ 0 → number_in names name ≡ n → module_of_address (posts kernel lines) x ≡ Some name → Owns (marks_of kernel names lines) n x
   from_lines kernel n x name has some is h =
       let ps : List ListedSymbol = posts kernel lines in
-      let (l, at, reached, own) = owned x name (find (is_nearest_line ps x) ps) h in
+      let (l, at, reached, own) = owned ps x name (post_below ps x) h in
       let near : IsNearestOf ps x l.addr = nearest_line_is ps x l (find-passes (is_nearest_line ps x) ps l at) in
       let found : find (is_line_at l.addr) ps ≡ Some l = sym (nearest_by_address ps x l (listed_found (is_nearest_line ps x) ps l at) near) ∙ at in
-      let passes : (is_built_in kernel l || is_outside kernel l) ≡ true = find-has (is_nearest_line ps x) ps l at (λ t. (is_built_in kernel t || is_outside kernel t) ≡ true) (all_passing (λ t. is_built_in kernel t || is_outside kernel t) (λ t. (is_built_in kernel t || is_outside kernel t) ≡ true) lines (λ k d lt yes. yes)) in
-      let out : is_inside kernel l.addr ≡ false = outside_not_inside kernel l (is_named_outside kernel l name own passes) in
+      let out : is_inside kernel l.addr ≡ false = found_outside kernel (is_nearest_line ps x) l name at own in
       record {
         mark = mark_of names l;
-        nearest = mark_nearest (marks_of kernel names lines) x (mark_of names l) (near_marks kernel x l.addr has near) (found_mark kernel l has out (sym (posts_at kernel lines l.addr out) ∙ found));
+        nearest = mark_nearest (marks_of kernel names lines) x (mark_of names l) (near_marks kernel x l.addr has near) (mark_of_first kernel l has out found);
         its = ap (number_for names) own ∙ is;
-        reached = reached;
+        reached = ⊎_elim
+            (λ page. inl page)
+            (λ on. inr (from_goes_on kernel n x name l has is own on))
+            (or_cases (is_in_page l.addr x) (goes_on ps x l) reached);
         some = some;
       }
 
