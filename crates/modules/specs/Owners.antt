@@ -6,17 +6,16 @@ use Rattle.std.specs.Option.{option_map_or, option_and_then}
 use Rattle.std.specs.Str.{bytes_eq}
 use Rattle.modules.specs.Kept.{is_built_in}
 use Rattle.modules.specs.Listed.{ListedSymbol}
-use Rattle.modules.specs.Regions.{holds}
+use Rattle.modules.specs.Regions.{lies_in_any}
 
--- a line of a module outside the kernel's region, and below the greatest address, which no region
+-- a line of a module outside the kernel's regions, and below the greatest address, which no region
 -- holds
-abbrev pub is_outside : Option (ℕ × ℕ) → ListedSymbol → Bool
+abbrev pub is_outside : List (ℕ × ℕ) → ListedSymbol → Bool
 is_outside kernel l =
-    is_some l.owner && not (option_map_or (λ r. holds r l.addr) kernel false)
-    && nat_lt l.addr (2 ^ 64 - 1)
+    is_some l.owner && not (lies_in_any kernel l.addr) && nat_lt l.addr (2 ^ 64 - 1)
 
 -- the lines that may say whose an address is
-abbrev pub posts : Option (ℕ × ℕ) → List ListedSymbol → List ListedSymbol
+abbrev pub posts : List (ℕ × ℕ) → List ListedSymbol → List ListedSymbol
 posts kernel lines = filter (λ l. is_built_in kernel l || is_outside kernel l) lines
 
 -- the line is not above the address, and none lies above it and not above the address
