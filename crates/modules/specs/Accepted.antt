@@ -6,9 +6,9 @@ use Rattle.modules.specs.Listed.{ListedModule, ListedRegion}
 use Rattle.modules.specs.Placed.{PlacedModule, placed_line}
 use Rattle.modules.specs.Regions.{are_beside, lie_apart}
 
--- the regions of the kernel itself, the accepted modules in the order of their lines, how many other
--- lines have the name of one accepted before them, and how many of the rest have regions that meet
--- each other or those taken before them
+-- the regions of the kernel itself, the accepted modules in the order of their lines, how many
+-- other lines have the name of one accepted before them, and how many of the rest have regions that
+-- meet each other or those taken before them
 pub record Accepted : Type 0 where
   pub built_in : List (ℕ × ℕ)
   pub modules : List PlacedModule

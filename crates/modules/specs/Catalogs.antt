@@ -36,14 +36,14 @@ catalog_with a symbols = record {
 }
 
 -- those that lines of modules and of regions say
-abbrev pub catalog_of : Option BoundNames → List ListedModule → List ListedRegion → List ListedSymbol
-    → CatalogEntries
+abbrev pub catalog_of : Option BoundNames → List ListedModule → List ListedRegion
+    → List ListedSymbol → CatalogEntries
 catalog_of names modules regions symbols =
     catalog_with (accepted_of (kernel_regions names symbols) regions modules) symbols
 
 -- how many lines went where
-abbrev pub counts_of : Option BoundNames → List ListedModule → List ListedRegion → List ListedSymbol
-    → BuildCounts
+abbrev pub counts_of : Option BoundNames → List ListedModule → List ListedRegion
+    → List ListedSymbol → BuildCounts
 counts_of names modules regions symbols =
     let a = accepted_of (kernel_regions names symbols) regions modules in
     record {

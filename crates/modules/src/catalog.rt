@@ -105,11 +105,11 @@ impl<'a> Catalog<'a> {
     /// A module lies in the regions of the region lines of its name, in their order, if one of them
     /// is of its core, and else in the region of its own line. A module line is skipped as double
     /// where a line accepted before has its name, else as overlap where its regions are not all
-    /// apart from each other, from that of the kernel itself and from those of the modules accepted
+    /// apart from each other, from those of the kernel itself and from those of the modules accepted
     /// before. The kernel's region is between the two symbols of `names`, or else its regions are
     /// the usual ones ([`SymbolLines::kernel_regions`]). A symbol is kept where it lies in a region
-    /// of its module, or of the kernel itself if it has none, and is stray otherwise. A region line is stray where its module is not accepted, or has no line of
-    /// a core region.
+    /// of its module, or of the kernel itself if it has none, and is stray otherwise. A region line
+    /// is stray where its module is not accepted, or has no line of a core region.
     ///
     /// What is asked of it changes nothing but how long building and searching take.
     ///
@@ -146,11 +146,11 @@ impl<'a> Catalog<'a> {
     /// The kernel's region is between the two symbols of `names`, or else its regions are the usual
     /// ones ([`SymbolLines::kernel_regions`]). The lines that count are those without a module
     /// inside of them, and those of modules outside of them and below the greatest address. Of the
-    /// nearest of these lines at or below an address the first listed is asked: if it is a module's,
-    /// the address is that module's where it lies in the page of the line, or where the first listed
-    /// of the nearest lines above is the same module's and less than 1048576 above the line. The
-    /// regions of a module are the longest runs of addresses that are its own, by rising address,
-    /// all of its core.
+    /// nearest of these lines at or below an address the first listed is asked: if it is a
+    /// module's, the address is that module's where it lies in the page of the line, or where the
+    /// first listed of the nearest lines above is the same module's and less than 1048576 above the
+    /// line. The regions of a module are the longest runs of addresses that are its own, by rising
+    /// address, all of its core.
     ///
     /// A line of a module is kept where its own address is its module's, and one without a module
     /// where it lies in a region of the kernel; the rest are stray. The modules are those that have

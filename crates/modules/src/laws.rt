@@ -31,8 +31,8 @@ pub fn each_line_is_counted_once()
 
 /// Each kept line is the symbol of one module: the modules have as many symbols as lines were kept.
 pub fn each_kept_line_is_in_one_module()
-    ensures { (names : Option BoundNames) (modules : List ListedModule) (regions : List ListedRegion)
-        (symbols : List ListedSymbol)
+    ensures { (names : Option BoundNames) (modules : List ListedModule)
+        (regions : List ListedRegion) (symbols : List ListedSymbol)
         → All (λ l. fits l ≡ true) modules → All (λ l. region_fits l ≡ true) regions
         → are_few regions ≡ true
         → let c = catalog_of names modules regions symbols in
@@ -55,13 +55,13 @@ pub fn each_line_of_symbols_alone_is_counted_once()
 /// In the catalog of lines that fit, each module has 1 to 7 regions and one of its core, the
 /// regions have addresses and lie apart, and no two modules from number 1 on have one name.
 pub fn every_catalog_is_sound()
-    ensures sound { (names : Option BoundNames) (modules : List ListedModule) (regions : List ListedRegion)
-        (symbols : List ListedSymbol)
+    ensures sound { (names : Option BoundNames) (modules : List ListedModule)
+        (regions : List ListedRegion) (symbols : List ListedSymbol)
         → All (λ l. fits l ≡ true) modules → All (λ l. region_fits l ≡ true) regions
         → are_few regions ≡ true
         → IsSoundCatalog (catalog_of names modules regions symbols) }
-    ensures few { (names : Option BoundNames) (modules : List ListedModule) (regions : List ListedRegion)
-        (symbols : List ListedSymbol)
+    ensures few { (names : Option BoundNames) (modules : List ListedModule)
+        (regions : List ListedRegion) (symbols : List ListedSymbol)
         → are_few regions ≡ true
         → All (λ m. length m.regions ≤ 7) (catalog_of names modules regions symbols).modules }
 {}

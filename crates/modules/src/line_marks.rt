@@ -1,5 +1,5 @@
-//! The marks of a listing of symbols: one of each region of the kernel itself, at its first address,
-//! and one of each line of a module that is outside the kernel's regions.
+//! The marks of a listing of symbols: one of each region of the kernel itself, at its first
+//! address, and one of each line of a module that is outside the kernel's regions.
 //!
 //! One mark stands for all lines in a region of the kernel: nothing from below reaches over its
 //! first address, and no module has an address inside.

@@ -10,8 +10,8 @@
 //!                 <REACH>      <- page ->
 //! ```
 
-ghost use Rattle.std.specs.Prelude.{◌≡◌, ◌≢◌, ◌≤◌, ◌<◌, ◌+◌, ◌-◌, ◌^◌, ◌⊎◌, ◌↔◌, ℕ, true, All, IfOk};
-ghost use Rattle.std.specs.Prelude.{List, OnOk};
+ghost use Rattle.std.specs.Prelude.{◌≡◌, ◌≢◌, ◌≤◌, ◌<◌, ◌+◌, ◌-◌, ◌^◌, ◌⊎◌, ◌↔◌, ℕ, All, IfOk};
+ghost use Rattle.std.specs.Prelude.{true, List, OnOk};
 ghost use Rattle.std.specs.List.Sorted.{IsNonDecreasingBy};
 ghost use Rattle.order_laws.specs.Orders.{half_open};
 ghost use Rattle.order_laws.specs.Tables.{look};

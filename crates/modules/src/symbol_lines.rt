@@ -179,10 +179,10 @@ impl<'a> SymbolLines<'a> {
     }
 
     /// The regions of the kernel itself: that between these names, where both are listed in this
-    /// order, or else the usual ones. These are the region from `_stext` up to `_end` or, where they
-    /// are not listed in this order, those of the kernel's code, `_stext` up to `_etext` and
-    /// `_sinittext` up to `_einittext`, each where it is listed so, and the second only where it is
-    /// apart from the first.
+    /// order, or else the usual ones. These are the region from `_stext` up to `_end` or, where
+    /// there is none, those of the kernel's code: `_stext` up to `_etext` and `_sinittext` up to
+    /// `_einittext`, each where both are listed in this order, and the second only where it is apart
+    /// from the first.
     pub fn kernel_regions(
         &self,
         alloc: Global,
