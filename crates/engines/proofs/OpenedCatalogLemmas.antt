@@ -29,7 +29,7 @@ module _ (kernel : Option BoundNames) (options : LookupOptions) (modules kallsym
     lines,
     read,
     said.few,
-    said.catalog ∙ ap (λ names. catalog_of names (modules_in (lines_of modules)) (unwrap_or lines []) (symbols_in (lines_of kallsyms))) named,
+    said.catalog ∙ ap (λ names. catalog_of (Some names) (modules_in (lines_of modules)) (unwrap_or lines []) (symbols_in (lines_of kallsyms))) named,
     said.notes ∙ ap (λ names. notes_of (record { options = record { kernel = names; rule = options.rule }; modules = modules; kallsyms = kallsyms; regions = lines; addresses = addresses })) named,
   )
 

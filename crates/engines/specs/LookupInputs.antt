@@ -104,12 +104,12 @@ region_lines_of_inputs i = unwrap_or i.regions []
 -- the catalog that the listings say, and how many of their entries went where
 unfoldable pub catalog_in : Inputs → CatalogEntries
 catalog_in i =
-    catalog_of i.options.kernel (modules_in (lines_of i.modules)) (region_lines_of_inputs i)
+    catalog_of (Some i.options.kernel) (modules_in (lines_of i.modules)) (region_lines_of_inputs i)
     (symbols_in (lines_of i.kallsyms))
 
 unfoldable pub counts_in : Inputs → BuildCounts
 counts_in i =
-    counts_of i.options.kernel (modules_in (lines_of i.modules)) (region_lines_of_inputs i)
+    counts_of (Some i.options.kernel) (modules_in (lines_of i.modules)) (region_lines_of_inputs i)
     (symbols_in (lines_of i.kallsyms))
 
 -- what a reader gives that may be there, where that is known

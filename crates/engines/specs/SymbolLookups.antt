@@ -82,9 +82,9 @@ abbrev pub listed : List ℕ → List ListedSymbol
 listed text = symbols_in (lines_of text)
 
 -- what the listing in a text says of the kernel, which lies between the names that are given or
--- else the usual ones, and of the modules
+-- else in its usual regions, and of the modules
 abbrev pub SaysOfModules : Option BoundNames → List ℕ → Accepted → Type 0
-SaysOfModules kernel text a = IsFromSymbols (bounds_for kernel (listed text)) (listed text) a
+SaysOfModules kernel text a = IsFromSymbols kernel (listed text) a
 
 -- the first note that applies to such a listing, of which so many lines are kept
 abbrev pub symbol_note : Option BoundNames → List ℕ → ℕ → Option ListingNote

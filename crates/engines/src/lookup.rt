@@ -264,7 +264,7 @@ pub fn listings_in<'a>(
     let regions = region_lines_of(inputs);
     let (catalog, built) = Catalog::build(
         alloc,
-        &inputs.options.kernel,
+        Some(&inputs.options.kernel),
         &module_lines,
         regions,
         symbols.lines,

@@ -67,8 +67,8 @@ pub fn read_given<M: Read, K: Read, R: Read>(
 }
 
 /// Builds the catalog that the listings say. The kernel itself lies between the given names, or
-/// else between `_stext` and `_end` where modules are listed, as for a lookup, and where they are
-/// not between the usual ones that the listing of symbols has.
+/// else between `_stext` and `_end` where modules are listed, as for a lookup, and in its usual
+/// regions where they are not.
 pub fn open_catalog<'a>(
     alloc: Global,
     kernel: Option<&KernelBounds>,

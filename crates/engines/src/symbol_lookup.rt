@@ -40,8 +40,8 @@ pub struct SymbolLookupReaders<K, A> {
 /// How the kernel's own region is found, and how addresses are taken.
 #[derive(Debug, Drop)]
 pub struct SymbolLookupOptions<'a> {
-    /// The names of the symbols that bound the kernel's own region, where they are given; else the
-    /// usual ones of the listing do.
+    /// The names of the symbols that bound the kernel's own region, where they are given; else it
+    /// has its usual regions.
     pub kernel: Option<KernelBounds<'a>>,
     /// How the addresses are taken that are looked up.
     pub rule: AddressRule,
@@ -65,7 +65,7 @@ pub struct SymbolListing<'a> {
     pub skipped: SymbolCounts,
     /// All well-formed lines are hidden, and there is one.
     pub hidden: bool,
-    /// The names that it has for both bounds of the kernel.
+    /// The usual names of both bounds of the kernel, as far as it has them.
     pub usual: KernelBounds<'static>,
     /// What is noted of the listing.
     pub note: Option<ListingNote>,
@@ -160,8 +160,7 @@ fn answer_by_symbols<W: Write>(
 }
 
 /// Reads the lines of a listing of symbols, and builds the catalog that they say, for who asks about
-/// these addresses. The kernel itself lies between the given names, or else between the usual ones
-/// that the listing has.
+/// these addresses. The kernel itself lies between the given names, or else in its usual regions.
 pub fn symbol_listing_in<'a>(
     alloc: Global,
     kernel: Option<&KernelBounds>,
@@ -177,13 +176,14 @@ pub fn symbol_listing_in<'a>(
     } = read_kallsyms(alloc, kallsyms, true)?;
     let hidden = are_symbols_hidden(listed, &skipped);
     let usual = lines.usual_bounds();
+    let names = kernel.unwrap_or(&usual);
+    let has_kernel = lines.has_region(names);
     let (catalog, kept) = Catalog::from_symbols(alloc, kernel, lines, asked)?;
     let facts = SymbolFacts {
         hidden,
         kept: kept.symbols,
-        has_kernel: catalog.module(0).is_some(),
+        has_kernel,
     };
-    let names = kernel.unwrap_or(&usual);
     let note = note_of_kallsyms(kallsyms, names, facts);
     Ok(SymbolListing {
         catalog,

@@ -76,8 +76,8 @@ module _ (kernel : Option BoundNames) (files : ListingFiles) (options : LookupOp
   modules_reported l named read said =
       let of_modules = module_counts (lines_of modules) in
       let of_symbols = symbol_counts (lines_of kallsyms) in
-      let built : BoundNames → BuildCounts = λ names. counts_of names (modules_in (lines_of modules)) (unwrap_or lines []) (symbols_in (lines_of kallsyms)) in
-      let c : BoundNames → CatalogEntries = λ names. catalog_of names (modules_in (lines_of modules)) (unwrap_or lines []) (symbols_in (lines_of kallsyms)) in
+      let built : BoundNames → BuildCounts = λ names. counts_of (Some names) (modules_in (lines_of modules)) (unwrap_or lines []) (symbols_in (lines_of kallsyms)) in
+      let c : BoundNames → CatalogEntries = λ names. catalog_of (Some names) (modules_in (lines_of modules)) (unwrap_or lines []) (symbols_in (lines_of kallsyms)) in
       let n = options.kernel in (
         lines,
         read,

@@ -48,7 +48,7 @@ shown_texts t =
 abbrev pub symbols_of_text : ListingTexts → List ListedSymbol
 symbols_of_text t = symbols_in (lines_of t.kallsyms)
 
--- the names that are given, or else those that the listing of symbols has
+-- the names that are given, or else the usual ones as far as the listing of symbols has them
 abbrev pub bounds_of_texts : ListingTexts → BoundNames
 bounds_of_texts t = bounds_for t.kernel (symbols_of_text t)
 
@@ -120,11 +120,11 @@ pub record IsOpenedCatalog (t : ListingTexts) (modules : List ℕ) (lines : List
     : Type 0 where
   pub catalog :
       c
-      ≡ catalog_of (bounds_of_texts t) (modules_in (lines_of modules)) lines (symbols_of_text t)
+      ≡ catalog_of t.kernel (modules_in (lines_of modules)) lines (symbols_of_text t)
   pub built : BuildCounts
   pub counted :
       built
-      ≡ counts_of (bounds_of_texts t) (modules_in (lines_of modules)) lines (symbols_of_text t)
+      ≡ counts_of t.kernel (modules_in (lines_of modules)) lines (symbols_of_text t)
   pub counts :
       n ≡ counts_in (module_counts (lines_of modules)) (symbol_counts (lines_of t.kallsyms)) built
       (notes_on t modules c built.symbols)
@@ -141,7 +141,7 @@ pub record AreReadWith (t : ListingTexts) (modules : List ℕ) (c : CatalogEntri
 -- the catalog and the counts are those of the listing of symbols alone
 pub record AreReadAlone (t : ListingTexts) (c : CatalogEntries) (n : CatalogCounts) : Type 0 where
   pub accepted : Accepted
-  pub from_symbols : IsFromSymbols (bounds_of_texts t) (symbols_of_text t) accepted
+  pub from_symbols : IsFromSymbols t.kernel (symbols_of_text t) accepted
   pub catalog : c ≡ catalog_with accepted (symbols_of_text t)
   pub counts :
       let kept = kept_counts accepted (symbols_of_text t) in

@@ -181,7 +181,7 @@ fn counts_alone(
     }
 }
 
-/// The names that are given, or else those that the listing of symbols has.
+/// The names that are given, or else the usual ones as far as the listing of symbols has them.
 fn bounds_for(
     names: &Option<KernelBounds<'static>>,
     symbols: &SymbolLines<'static>,
@@ -218,11 +218,12 @@ fn catalog_between(
         skipped: skipped_symbols,
     } = read_kallsyms(alloc, texts.kallsyms, true)?;
     let names = bounds_for(&texts.kernel, &symbol_lines);
+    let has_kernel = symbol_lines.has_region(&names);
     let modules_hidden = are_modules_hidden(module_lines.len(), &skipped_modules);
     let symbols_hidden = are_symbols_hidden(listed, &skipped_symbols);
     let (catalog, built) = Catalog::build(
         alloc,
-        &names,
+        texts.kernel.as_ref(),
         &module_lines,
         regions,
         symbol_lines,
@@ -231,7 +232,7 @@ fn catalog_between(
     let facts = SymbolFacts {
         hidden: symbols_hidden,
         kept: built.symbols,
-        has_kernel: catalog.module(0).is_some(),
+        has_kernel,
     };
     let notes = ListingNotes {
         modules: note_of_modules(modules, modules_hidden, &catalog),
@@ -256,6 +257,7 @@ fn catalog_alone(
     } = read_kallsyms(alloc, texts.kallsyms, true)?;
     let hidden = are_symbols_hidden(listed, &skipped_symbols);
     let names = bounds_for(&texts.kernel, &symbol_lines);
+    let has_kernel = symbol_lines.has_region(&names);
     let (catalog, kept) = Catalog::from_symbols(
         alloc,
         texts.kernel.as_ref(),
@@ -265,7 +267,7 @@ fn catalog_alone(
     let facts = SymbolFacts {
         hidden,
         kept: kept.symbols,
-        has_kernel: catalog.module(0).is_some(),
+        has_kernel,
     };
     let note = note_of_kallsyms(texts.kallsyms, &names, facts);
     let counts = counts_alone(&skipped_symbols, &kept, note);

@@ -3,19 +3,16 @@ use Rattle.std.proofs.Common.{◌≡◌, ◌<◌, ℕ, zero, suc, ◌+◌, Bool,
 use Rattle.std.specs.Borrow.{Bor}
 use Rattle.std.specs.Prelude.{find, is_none, is_some, nat_eq, slice_get, unwrap_or}
 use Rattle.std.specs.List.{list_any}
-use Rattle.std.specs.Option.{option_and_then, option_copied, option_map}
+use Rattle.std.specs.Option.{option_and_then, option_copied, option_map, option_to_list}
 use Rattle.std.specs.Str.{bytes_eq}
 use Rattle.std.proofs.lemmas.Bool.{lt-ltb, ne_eqb, or_parts}
 use Rattle.std.proofs.lemmas.List.{take_all}
 use Rattle.listing.specs.Looks.{is_kernel_symbol, is_of_kernel}
 use Rattle.modules.specs.Entries.{CatalogEntries, ModuleEntry}
-use Rattle.modules.specs.Accepted.{Accepted, accepted_of, none_yet}
-use Rattle.modules.specs.Catalogs.{built_in_of, catalog_of, catalog_with}
-use Rattle.modules.specs.FromSymbols.{IsFromSymbols}
-use Rattle.modules.specs.Lines.{bounds_for, built_in_region, first_address, usual_bounds_of}
+use Rattle.modules.specs.Catalogs.{built_in_of, catalog_of}
+use Rattle.modules.specs.Lines.{bounds_for, built_in_region, first_address, kernel_regions, usual_bounds_of}
 use Rattle.modules.specs.Listed.{BoundNames, ListedModule, ListedRegion, ListedSymbol}
-use Rattle.modules.specs.Placed.{placed_line}
-use Rattle.modules.proofs.SoundnessLemmas.{built_in_kept}
+use Rattle.modules.proofs.SoundnessLemmas.{built_in_of_accepted}
 use Rattle.listing.specs.declared.listing_notes.ListingNote.TheVariants.{NoEnd, NoStart}
 use Rattle.listing.specs.ListingNotes.{has_symbols, lacks_symbol, lacks_symbols}
 
@@ -73,19 +70,15 @@ bounds_are None usual names symbols is own = ap (λ n. n.now) is ∙ own
 bounds_are (Some n) usual names symbols is own = ap (λ n. n.now) is
 
 -- the kernel itself is in a catalog where it has a region
-has_its_region : (region : Option (ℕ × ℕ)) (symbols : List ListedSymbol) → is_some (built_in_of region symbols) ≡ is_some region
+has_its_region : (region : Option (ℕ × ℕ)) (symbols : List ListedSymbol) → is_some (built_in_of (option_to_list region) symbols) ≡ is_some region
 has_its_region None symbols = refl
 has_its_region (Some r) symbols = refl
 
 pub kernel_of_listings : (names : BoundNames) (modules : List ListedModule) (regions : List ListedRegion) (symbols : List ListedSymbol)
-    → is_some (catalog_of names modules regions symbols).built_in ≡ is_some (built_in_region names symbols)
+    → is_some (catalog_of (Some names) modules regions symbols).built_in ≡ is_some (built_in_region names symbols)
 kernel_of_listings names modules regions symbols =
-    let region = built_in_region names symbols in
-    has_its_region (accepted_of region regions modules).built_in symbols ∙ ap (λ o. is_some o) (built_in_kept (none_yet region) (map (placed_line regions) modules))
-
-pub kernel_of_symbols : (names : BoundNames) (symbols : List ListedSymbol) (a : Accepted) → IsFromSymbols names symbols a
-    → is_some (catalog_with a symbols).built_in ≡ is_some (built_in_region names symbols)
-kernel_of_symbols names symbols a said = has_its_region a.built_in symbols ∙ ap (λ o. is_some o) said.kernel
+    ap (λ rs. is_some (built_in_of rs symbols)) (built_in_of_accepted (kernel_regions (Some names) symbols) regions modules)
+    ∙ has_its_region (built_in_region names symbols) symbols
 
 -- ---- the symbols of modules
 

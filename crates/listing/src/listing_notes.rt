@@ -174,7 +174,7 @@ pub struct SymbolFacts {
     pub hidden: bool,
     /// How many lines are kept.
     pub kept: u64,
-    /// The kernel itself has a region.
+    /// Both names that bound the kernel are listed, the first below the second.
     pub has_kernel: bool,
 }
 
@@ -208,7 +208,7 @@ pub fn note_of_kallsyms(
 }
 
 /// Which of the names that bound the kernel no symbol has, where symbols of the kernel itself are
-/// listed. A kernel that has a region has both.
+/// listed. Where there is a region between them, both are.
 fn missing_bound(text: &[u8], names: &KernelBounds, has_kernel: bool) -> Option<ListingNote>
     requires { has_kernel
         ≡ is_some (built_in_region names.now (symbols_in (lines_of text.now))) }

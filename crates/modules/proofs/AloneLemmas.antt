@@ -1,6 +1,6 @@
 -- The modules of symbols alone lie apart, and have distinct names.
-use Rattle.std.proofs.Common.{◌≡◌, ◌≢◌, ℕ, ◌+◌, ◌-◌, ◌^◌, ◌<◌, ◌≤◌, Bool, true, false, ◌&&◌, ◌||◌, not, nat_le, nat_lt, cond, List, [], ◌∷◌, ◌++◌, length, get_or, map, Option, Some, None, refl, sym, ap, subst, ◌∙◌, ⊎_elim, arith}
-use Rattle.std.specs.Prelude.{All, IfSome, filter, find, fold}
+use Rattle.std.proofs.Common.{◌≡◌, ◌≢◌, ℕ, ◌-◌, ◌^◌, ◌<◌, ◌≤◌, Bool, true, false, ◌&&◌, ◌||◌, not, nat_le, nat_lt, cond, List, [], ◌∷◌, ◌++◌, length, get_or, map, Option, Some, None, refl, sym, ap, subst, ◌∙◌, ⊎_elim, arith}
+use Rattle.std.specs.Prelude.{All, filter, find, fold}
 use Rattle.std.specs.Cmp.{first_so, second_so}
 use Rattle.std.specs.List.{AllPairs, flat_map, list_any}
 use Rattle.std.specs.Option.{option_and_then, option_to_list}
@@ -15,20 +15,20 @@ use Rattle.facts.proofs.Tests.{find-has, find-passes}
 use Rattle.modules.specs.Accepted.{Accepted, names_of}
 use Rattle.modules.specs.FromSymbols.{HasItsRegions, IsFromSymbols, is_kept_line, owner_names, with_name}
 use Rattle.modules.specs.Kept.{AreDistinctNames, is_built_in, lies_in}
-use Rattle.modules.specs.LineMarks.{HasFirstLine}
-use Rattle.modules.specs.Lines.{built_in_region}
+use Rattle.modules.specs.LineMarks.{HaveFirstLines}
+use Rattle.modules.specs.Lines.{kernel_regions}
 use Rattle.modules.specs.Listed.{BoundNames, ListedSymbol}
-use Rattle.modules.specs.Owners.{is_nearest_line, is_outside, module_of_address, posts, reach}
+use Rattle.modules.specs.Owners.{goes_on, is_in_page, is_nearest_line, is_outside, module_of_address, post_below, posts}
 use Rattle.modules.specs.Parts.{is_core}
 use Rattle.modules.specs.Placed.{IsPlaced, PlacedModule}
 use Rattle.modules.specs.PlacedModules.{AreSoundModules}
-use Rattle.modules.specs.Regions.{AreApart, holds, is_apart}
+use Rattle.modules.specs.Regions.{AreApart, holds, is_apart, lies_in_any}
 use Rattle.modules.specs.declared.lines.Part.TheVariants.{Core}
-use Rattle.modules.proofs.KeptOrderLemmas.{has_first_line}
+use Rattle.modules.proofs.KeptOrderLemmas.{first_lines}
 use Rattle.modules.proofs.MarkedModuleLemmas.{pairs_cons, pairs_first, pairs_rest}
 use Rattle.modules.proofs.OwnLineLemmas.{is_of}
 use Rattle.modules.proofs.PostLemmas.{all_of_passing}
-use Rattle.modules.proofs.SoundnessLemmas.{AreDistinct-push}
+use Rattle.modules.proofs.SoundnessLemmas.{AreDistinct-push, kernel_apart}
 use Rattle.modules.proofs.SpacedLemmas.{Range, inside, within}
 
 -- ---- whose an address is
@@ -39,53 +39,54 @@ record IsOwner (lines : List ListedSymbol) (addr : ℕ) (name : List ℕ) (l : L
   pub its : l.owner ≡ Some name
 
 owner_of : (lines : List ListedSymbol) (addr : ℕ) (name : List ℕ) → module_of_address lines addr ≡ Some name → (l : ListedSymbol) × IsOwner lines addr name l
-owner_of lines addr name h = by (find (is_nearest_line lines addr) lines) refl h
+owner_of lines addr name h = by (post_below lines addr) refl h
   where
-    reached : (l : ListedSymbol) (b : Bool) → option_and_then (λ (t : ListedSymbol). t.owner) (cond b (Some l) None) ≡ Some name → l.owner ≡ Some name
+    reached : (l : ListedSymbol) (b : Bool) → cond b l.owner None ≡ Some name → l.owner ≡ Some name
     reached l true e = e
     reached l false e = absurd (cc)
 
-    by : (o : Option ListedSymbol) → find (is_nearest_line lines addr) lines ≡ o
-        → option_and_then (λ (t : ListedSymbol). t.owner) (option_and_then (λ (t : ListedSymbol). cond (nat_lt addr (t.addr + reach)) (Some t) None) o) ≡ Some name
+    by : (o : Option ListedSymbol) → post_below lines addr ≡ o
+        → option_and_then (λ (t : ListedSymbol). cond (is_in_page t.addr addr || goes_on lines addr t) t.owner None) o ≡ Some name
         → (l : ListedSymbol) × IsOwner lines addr name l
     by None at e = absurd (cc)
-    by (Some l) at e = (l, record { found = at; its = reached l (nat_lt addr (l.addr + reach)) e })
+    by (Some l) at e = (l, record { found = at; its = reached l (is_in_page l.addr addr || goes_on lines addr l) e })
 
 -- ---- a module and the kernel itself
 
-abbrev is_post : Option (ℕ × ℕ) → ListedSymbol → Bool
+abbrev is_post : List Range → ListedSymbol → Bool
 is_post kernel l = is_built_in kernel l || is_outside kernel l
 
--- a post of a module lies outside the kernel's region
-outside : (r : Range) (l : ListedSymbol) (name : List ℕ) → l.owner ≡ Some name → is_post (Some r) l ≡ true → holds r l.addr ≡ false
-outside r l name own h =
-    let out : is_outside (Some r) l ≡ true = ⊎_elim (λ built. absurd (let no : is_built_in (Some r) l ≡ false = rw own refl in cc)) (λ o. o) (or_cases (is_built_in (Some r) l) (is_outside (Some r) l) h) in
-    let free : (not (holds r l.addr) && nat_lt l.addr (2 ^ 64 - 1)) ≡ true = (rw own at out) in
-    by (holds r l.addr) refl (and_parts (not (holds r l.addr)) (nat_lt l.addr (2 ^ 64 - 1)) free).0
+-- a post of a module lies outside the kernel's regions
+outside : (kernel : List Range) (l : ListedSymbol) (name : List ℕ) → l.owner ≡ Some name → is_post kernel l ≡ true → lies_in_any kernel l.addr ≡ false
+outside kernel l name own h =
+    let out : is_outside kernel l ≡ true = ⊎_elim (λ built. absurd (let no : is_built_in kernel l ≡ false = rw own refl in cc)) (λ o. o) (or_cases (is_built_in kernel l) (is_outside kernel l) h) in
+    let free : (not (lies_in_any kernel l.addr) && nat_lt l.addr (2 ^ 64 - 1)) ≡ true = (rw own at out) in
+    by (lies_in_any kernel l.addr) refl (and_parts (not (lies_in_any kernel l.addr)) (nat_lt l.addr (2 ^ 64 - 1)) free).0
   where
-    by : (b : Bool) → holds r l.addr ≡ b → not b ≡ true → b ≡ false
+    by : (b : Bool) → lies_in_any kernel l.addr ≡ b → not b ≡ true → b ≡ false
     by true e h = absurd (cc)
     by false e h = refl
 
--- no address of the kernel's region is a module's
-kernel_owns : (names : BoundNames) (lines : List ListedSymbol) (r : Range) (addr : ℕ) (name : List ℕ) → built_in_region names lines ≡ Some r → holds r addr ≡ true → module_of_address (posts (Some r) lines) addr ≡ Some name → ⊥
-kernel_owns names lines r addr name is in' h =
-    let kept = posts (Some r) lines in
+-- no address of one of the kernel's regions is a module's
+kernel_owns : (kernel : List Range) (lines : List ListedSymbol) (k : ℕ) (d : Range) (addr : ℕ) (name : List ℕ) → HaveFirstLines kernel lines → k < length kernel → holds (get_or kernel k d) addr ≡ true → module_of_address (posts kernel lines) addr ≡ Some name → ⊥
+kernel_owns kernel lines k d addr name has lt in' h =
+    let r : Range = get_or kernel k d in
+    let kept = posts kernel lines in
     let (l, owner) = owner_of kept addr name h in
     let near : is_nearest_line kept addr l ≡ true = find-passes (is_nearest_line kept addr) kept l owner.found in
-    let passes : is_post (Some r) l ≡ true = find-has (is_nearest_line kept addr) kept l owner.found (λ t. is_post (Some r) t ≡ true) (filter_passes (is_post (Some r)) lines) in
-    let out : holds r l.addr ≡ false = outside r l name owner.its passes in
-    let first = subst (λ (o : Option Range). HasFirstLine o lines) is (has_first_line names lines) in
-    let nonempty : r.0 < r.1 = first.0 in
-    let (t, there, unowned, at_start) = first.1 in
+    let passes : is_post kernel l ≡ true = find-has (is_nearest_line kept addr) kept l owner.found (λ t. is_post kernel t ≡ true) (filter_passes (is_post kernel) lines) in
+    let out : lies_in_any kernel l.addr ≡ false = outside kernel l name owner.its passes in
+    let held : (x : ℕ) → holds r x ≡ true → lies_in_any kernel x ≡ true = λ x its. list_any_at (λ s. holds s x) kernel k d lt its in
+    let (nonempty, first) = has k d lt in
+    let (t, there, unowned, at_start) = first in
     let clear : All (λ t. (nat_le t.addr l.addr || nat_lt addr t.addr) ≡ true) kept = AllPass-from_list_all (λ (t : ListedSymbol). nat_le t.addr l.addr || nat_lt addr t.addr) kept (second_so (nat_le l.addr addr) _ near) in
     let valid = inside r addr in' in
-    let here : holds r t.addr ≡ true = within r t.addr (omega (arith, at_start)) (omega (arith, at_start)) in
-    let start : is_post (Some r) t ≡ true = or_left (is_built_in (Some r) t) (is_outside (Some r) t) (rw unowned here) in
-    let cleared : (nat_le t.addr l.addr || nat_lt addr t.addr) ≡ true = All-contains (λ (u : ListedSymbol). is_post (Some r) u ≡ true → (nat_le u.addr l.addr || nat_lt addr u.addr) ≡ true) lines t (all_of_passing (is_post (Some r)) (λ u. (nat_le u.addr l.addr || nat_lt addr u.addr) ≡ true) lines clear) there start in
+    let here : lies_in_any kernel t.addr ≡ true = held t.addr (within r t.addr (omega (arith, at_start)) (omega (arith, at_start))) in
+    let start : is_post kernel t ≡ true = or_left (is_built_in kernel t) (is_outside kernel t) (rw unowned here) in
+    let cleared : (nat_le t.addr l.addr || nat_lt addr t.addr) ≡ true = All-contains (λ (u : ListedSymbol). is_post kernel u ≡ true → (nat_le u.addr l.addr || nat_lt addr u.addr) ≡ true) lines t (all_of_passing (is_post kernel) (λ u. (nat_le u.addr l.addr || nat_lt addr u.addr) ≡ true) lines clear) there start in
     let below : l.addr ≤ addr = leb-true l.addr addr (first_so (nat_le l.addr addr) _ near) in
     ⊎_elim
-    (λ le. let from : t.addr ≤ l.addr = leb-true t.addr l.addr le in let its : holds r l.addr ≡ true = within r l.addr (omega (arith, at_start)) (omega arith) in cc)
+    (λ le. let from : t.addr ≤ l.addr = leb-true t.addr l.addr le in let its : lies_in_any kernel l.addr ≡ true = held l.addr (within r l.addr (omega (arith, at_start)) (omega arith)) in cc)
     (λ past. let over : addr < t.addr = ltb-true addr t.addr past in omega (arith, at_start))
     (or_cases (nat_le t.addr l.addr) (nat_lt addr t.addr) cleared)
 
@@ -95,7 +96,7 @@ kernel_owns names lines r addr name is in' h =
 abbrev HasAddress : List ListedSymbol → List ℕ → Type 0
 HasAddress lines name = (addr : ℕ) × (addr < 2 ^ 64 - 1) × (module_of_address lines addr ≡ Some name)
 
-below_top : (kernel : Option (ℕ × ℕ)) (l : ListedSymbol) (name : List ℕ) → l.owner ≡ Some name → is_post kernel l ≡ true → l.addr < 2 ^ 64 - 1
+below_top : (kernel : List Range) (l : ListedSymbol) (name : List ℕ) → l.owner ≡ Some name → is_post kernel l ≡ true → l.addr < 2 ^ 64 - 1
 below_top kernel l name own h =
     ltb-true l.addr (2 ^ 64 - 1)
     (⊎_elim
@@ -103,7 +104,7 @@ below_top kernel l name own h =
     (λ out. (and_parts _ (nat_lt l.addr (2 ^ 64 - 1)) out).1)
     (or_cases (is_built_in kernel l) (is_outside kernel l) h))
 
-module _ (kernel : Option (ℕ × ℕ)) (lines : List ListedSymbol) where
+module _ (kernel : List Range) (lines : List ListedSymbol) where
   kept_owner : (l : ListedSymbol) (o : Option (List ℕ)) → l.owner ≡ o → is_post kernel l ≡ true → is_kept_line lines l ≡ true → All (HasAddress lines) (option_to_list o)
   kept_owner l None own post kept = All-nil (HasAddress lines)
   kept_owner l (Some name) own post kept =
@@ -129,7 +130,7 @@ distinct_names (n ∷ ns) acc distinct =
     let more : AreDistinctNames (with_name acc n) = elim (list_any (bytes_eq n) acc) as (λ b. list_any (bytes_eq n) acc ≡ b → AreDistinctNames (cond b acc (acc ++ n ∷ []))) [ true ↦ λ _. distinct | false ↦ λ absent. AreDistinct-push acc n distinct absent ] refl in
     distinct_names ns (with_name acc n) more
 
-named_addresses : (kernel : Option (ℕ × ℕ)) (lines : List ListedSymbol) → All (HasAddress (posts kernel lines)) (owner_names (posts kernel lines))
+named_addresses : (kernel : List Range) (lines : List ListedSymbol) → All (HasAddress (posts kernel lines)) (owner_names (posts kernel lines))
 named_addresses kernel lines =
     let ps : List ListedSymbol = posts kernel lines in
     let kept : List ListedSymbol = filter (is_kept_line ps) ps in
@@ -226,25 +227,20 @@ module _ (lines : List ListedSymbol) where
 
 -- ---- all of it
 
-with_kernel : (kernel : Option Range) (rs : List Range) → IfSome kernel (λ k. (k.0 < k.1) × All (λ s. is_apart k s ≡ true) rs) → All (λ r. r.0 < r.1) rs → AllPairs (λ r s. is_apart r s ≡ true) rs → AreApart (option_to_list kernel ++ rs)
-with_kernel None rs first valid apart = record { valid = valid; apart = apart }
-with_kernel (Some k) rs first valid apart = record {
-  valid = All-cons (λ (r : Range). r.0 < r.1) k rs first.0 valid;
-  apart = pairs_cons (λ (r s : Range). is_apart r s ≡ true) k rs first.1 apart;
+with_kernel : (kernel rs : List Range) → AreApart kernel → All (λ k. All (λ s. is_apart k s ≡ true) rs) kernel → All (λ r. r.0 < r.1) rs → AllPairs (λ r s. is_apart r s ≡ true) rs → AreApart (kernel ++ rs)
+with_kernel kernel rs first across valid apart = record {
+  valid = All-append (λ (r : Range). r.0 < r.1) kernel rs first.valid valid;
+  apart = pairs_append (λ (r s : Range). is_apart r s ≡ true) kernel rs first.apart apart across;
 }
 
-kernel_apart : (names : BoundNames) (lines : List ListedSymbol) (ms : List PlacedModule) (kernel : Option Range) → built_in_region names lines ≡ kernel → All (HasItsRegions (posts kernel lines)) ms → IfSome kernel (λ k. (k.0 < k.1) × All (λ s. is_apart k s ≡ true) (flat_map (λ m. m.regions) ms))
-kernel_apart names lines ms None is all = tt
-kernel_apart names lines ms (Some k) is all =
-    let first = subst (λ (o : Option Range). HasFirstLine o lines) is (has_first_line names lines) in (
-      first.0,
-      apart_from_modules k ms first.0 (valid_in (posts (Some k) lines) ms all) (λ j m lt x h i.
-          kernel_owns names lines k x (get_or ms j m).name is h (((all j m lt).exact x).0 i).1),
-    )
+across_kernel : (kernel : List Range) (lines : List ListedSymbol) (ms : List PlacedModule) → HaveFirstLines kernel lines → All (HasItsRegions (posts kernel lines)) ms → All (λ k. All (λ s. is_apart k s ≡ true) (flat_map (λ m. m.regions) ms)) kernel
+across_kernel kernel lines ms has all = λ k d within.
+    apart_from_modules (get_or kernel k d) ms (has k d within).0 (valid_in (posts kernel lines) ms all) (λ j m lt x h i.
+    kernel_owns kernel lines k d x (get_or ms j m).name has within h (((all j m lt).exact x).0 i).1)
 
-pub sound_alone : (names : BoundNames) (lines : List ListedSymbol) (a : Accepted) → IsFromSymbols names lines a → AreSoundModules a
+pub sound_alone : (names : Option BoundNames) (lines : List ListedSymbol) (a : Accepted) → IsFromSymbols names lines a → AreSoundModules a
 sound_alone names lines a h =
-    let kernel : Option Range = built_in_region names lines in
+    let kernel : List Range = kernel_regions names lines in
     let ps : List ListedSymbol = posts kernel lines in
     let ms : List PlacedModule = a.modules in
     let addresses : All (HasAddress ps) (names_of ms) = subst (All (HasAddress ps)) (sym h.named) (named_addresses kernel lines) in
@@ -252,7 +248,7 @@ sound_alone names lines a h =
     record {
       placed = λ k d lt. placed ps (get_or ms k d) (h.regions k d lt)
           (subst (HasAddress ps) (get_or-map (λ (m : PlacedModule). m.name) ms k d [] lt) (addresses k [] (omega (arith, length-map ms (λ (m : PlacedModule). m.name)))));
-      apart = subst (λ (k : Option Range). AreApart (option_to_list k ++ flat_map (λ m. m.regions) ms)) (sym h.kernel)
-          (with_kernel kernel (flat_map (λ m. m.regions) ms) (kernel_apart names lines ms kernel refl h.regions) (all_valid ms (valid_in ps ms h.regions)) (apart_modules ps ms h.regions distinct));
+      apart = subst (λ (k : List Range). AreApart (k ++ flat_map (λ m. m.regions) ms)) (sym h.kernel)
+          (with_kernel kernel (flat_map (λ m. m.regions) ms) (kernel_apart names lines) (across_kernel kernel lines ms (first_lines names lines) h.regions) (all_valid ms (valid_in ps ms h.regions)) (apart_modules ps ms h.regions distinct));
       distinct = distinct;
     }

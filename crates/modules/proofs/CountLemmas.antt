@@ -1,6 +1,6 @@
 -- Each line is counted once.
 use Rattle.std.proofs.Common.{◌≡◌, ◌≢◌, ℕ, ◌+◌, Bool, true, false, ◌&&◌, cond, List, [], ◌∷◌, ◌++◌, length, get_or, map, Some, None, Option, refl, sym, suc, ap, ◌∙◌, arith}
-use Rattle.std.specs.Prelude.{All, codes, count_by, filter, fold, is_none, sum_by}
+use Rattle.std.specs.Prelude.{All, count_by, filter, fold, is_none, sum_by}
 use Rattle.std.specs.List.{list_any}
 use Rattle.std.specs.Option.{option_map_or, option_to_list}
 use Rattle.std.specs.Str.{bytes_eq}
@@ -15,12 +15,12 @@ use Rattle.facts.proofs.Options.{bytes_eq-one_name}
 use Rattle.modules.specs.Accepted.{Accepted, accepted_of, after_module, names_of, none_yet}
 use Rattle.modules.specs.Catalogs.{built_in_of, catalog_of, catalog_with, counts_of, entries_of, entry_for}
 use Rattle.modules.specs.Entries.{ModuleEntry}
-use Rattle.modules.specs.Building.{kernel_at}
+use Rattle.modules.specs.Building.{kernel_at, module_with}
 use Rattle.modules.specs.Kept.{AreDistinctNames, belongs, entry_of, is_built_in, is_kept, is_used, lies_in, symbols_that}
-use Rattle.modules.specs.Lines.{built_in_region, fits, region_fits}
+use Rattle.modules.specs.Lines.{fits, kernel_regions, region_fits}
 use Rattle.modules.specs.Listed.{BoundNames, ListedModule, ListedRegion, ListedSymbol}
 use Rattle.modules.specs.Placed.{PlacedModule, are_few, placed_line}
-use Rattle.modules.specs.Regions.{holds}
+use Rattle.modules.specs.Regions.{lies_in_any}
 use Rattle.modules.proofs.AdmissionLemmas.{total, total-after_module}
 use Rattle.modules.proofs.SoundnessLemmas.{accepted_good}
 
@@ -28,14 +28,14 @@ pub total-fold : (a : Accepted) (ms : List PlacedModule) → total (fold after_m
 total-fold a [] = omega arith
 total-fold a (m ∷ ms) = omega (arith, total-fold (after_module a m) ms, total-after_module a m)
 
-pub modules_counted : (names : BoundNames) (modules : List ListedModule) (regions : List ListedRegion) (symbols : List ListedSymbol) → let n = counts_of names modules regions symbols in n.modules + n.double + n.overlap ≡ length modules
-modules_counted names modules regions symbols = omega (arith, total-fold (none_yet (built_in_region names symbols)) (map (placed_line regions) modules), length-map modules (placed_line regions))
+pub modules_counted : (names : Option BoundNames) (modules : List ListedModule) (regions : List ListedRegion) (symbols : List ListedSymbol) → let n = counts_of names modules regions symbols in n.modules + n.double + n.overlap ≡ length modules
+modules_counted names modules regions symbols = omega (arith, total-fold (none_yet (kernel_regions names symbols)) (map (placed_line regions) modules), length-map modules (placed_line regions))
 
-pub symbols_counted : (names : BoundNames) (modules : List ListedModule) (regions : List ListedRegion) (symbols : List ListedSymbol) → let n = counts_of names modules regions symbols in n.symbols + n.stray ≡ length symbols
-symbols_counted names modules regions symbols = count_by-either (is_kept (accepted_of (built_in_region names symbols) regions modules)) symbols
+pub symbols_counted : (names : Option BoundNames) (modules : List ListedModule) (regions : List ListedRegion) (symbols : List ListedSymbol) → let n = counts_of names modules regions symbols in n.symbols + n.stray ≡ length symbols
+symbols_counted names modules regions symbols = count_by-either (is_kept (accepted_of (kernel_regions names symbols) regions modules)) symbols
 
-pub regions_counted : (names : BoundNames) (modules : List ListedModule) (regions : List ListedRegion) (symbols : List ListedSymbol) → let n = counts_of names modules regions symbols in n.regions + n.stray_regions ≡ length regions
-regions_counted names modules regions symbols = count_by-either (is_used (accepted_of (built_in_region names symbols) regions modules) regions) regions
+pub regions_counted : (names : Option BoundNames) (modules : List ListedModule) (regions : List ListedRegion) (symbols : List ListedSymbol) → let n = counts_of names modules regions symbols in n.regions + n.stray_regions ≡ length regions
+regions_counted names modules regions symbols = count_by-either (is_used (accepted_of (kernel_regions names symbols) regions modules) regions) regions
 
 -- ---- each kept line is in one module
 
@@ -104,12 +104,12 @@ unowned None addr ms h = list_any_none (without_owner None addr) ms (λ k d lt. 
 unowned (Some name) addr ms h = absurd (cc)
 
 -- each kept symbol is counted once
-pub kept_by_home : (built_in : Option (ℕ × ℕ)) (a : Accepted) (symbols : List ListedSymbol) → a.built_in ≡ built_in → AreDistinctNames (names_of a.modules) → count_by (is_built_in built_in) symbols + sum_by (homes a.modules) symbols ≡ count_by (is_kept a) symbols
+pub kept_by_home : (built_in : List (ℕ × ℕ)) (a : Accepted) (symbols : List ListedSymbol) → a.built_in ≡ built_in → AreDistinctNames (names_of a.modules) → count_by (is_built_in built_in) symbols + sum_by (homes a.modules) symbols ≡ count_by (is_kept a) symbols
 kept_by_home built_in a [] same distinct = omega arith
 kept_by_home built_in a (s ∷ symbols) same distinct =
     let one : homes a.modules s ≡ cond (list_any (λ m. belongs m s) a.modules) 1 0 = one_home a.modules s distinct in
-    let apart : is_built_in a.built_in s ≡ true → list_any (λ m. belongs m s) a.modules ≡ false = λ h. unowned s.owner s.addr a.modules (first_so (is_none s.owner) (option_map_or (λ r. holds r s.addr) a.built_in false) h) in
-    let this : cond (is_built_in built_in s) 1 0 + cond (list_any (λ m. belongs m s) a.modules) 1 0 ≡ cond (is_kept a s) 1 0 = ap (λ (b : Option (ℕ × ℕ)). cond (is_built_in b s) 1 0 + cond (list_any (λ m. belongs m s) a.modules) 1 0) (sym same) ∙ count-or_apart (is_built_in a.built_in s) (list_any (λ m. belongs m s) a.modules) apart in
+    let apart : is_built_in a.built_in s ≡ true → list_any (λ m. belongs m s) a.modules ≡ false = λ h. unowned s.owner s.addr a.modules (first_so (is_none s.owner) (lies_in_any a.built_in s.addr) h) in
+    let this : cond (is_built_in built_in s) 1 0 + cond (list_any (λ m. belongs m s) a.modules) 1 0 ≡ cond (is_kept a s) 1 0 = ap (λ (b : List (ℕ × ℕ)). cond (is_built_in b s) 1 0 + cond (list_any (λ m. belongs m s) a.modules) 1 0) (sym same) ∙ count-or_apart (is_built_in a.built_in s) (list_any (λ m. belongs m s) a.modules) apart in
     omega (
       arith,
       one,
@@ -124,23 +124,22 @@ sum_of_modules : (symbols : List ListedSymbol) (lines : List PlacedModule) → s
 sum_of_modules symbols [] = refl
 sum_of_modules symbols (m ∷ ms) = omega (arith, length-symbols_that (belongs m) symbols, sum_of_modules symbols ms, sum_by-cons (λ (e : ModuleEntry). length e.symbols) (entry_for symbols m) (map (entry_for symbols) ms), sum_by-cons (λ n. count_by (belongs n) symbols) m ms)
 
-none_built_in : (symbols : List ListedSymbol) → count_by (is_built_in None) symbols ≡ 0
+none_built_in : (symbols : List ListedSymbol) → count_by (is_built_in []) symbols ≡ 0
 none_built_in [] = refl
-none_built_in (s ∷ symbols) = omega (arith, none_built_in symbols, count-and_false (is_none s.owner), sum_by-cons (λ x. cond (is_built_in None x) 1 0) s symbols)
+none_built_in (s ∷ symbols) = omega (arith, none_built_in symbols, count-and_false (is_none s.owner), sum_by-cons (λ x. cond (is_built_in [] x) 1 0) s symbols)
 
-abbrev pub kernel : ℕ × ℕ → List ListedSymbol → ModuleEntry
-kernel r symbols = record { name = codes "-"; regions = r ∷ []; parts = (kernel_at r).parts; symbols = symbols_that (is_built_in (Some r)) symbols }
-
-sum_of_entries : (built_in : Option (ℕ × ℕ)) (symbols : List ListedSymbol) (lines : List PlacedModule) → sum_by (λ (m : ModuleEntry). length m.symbols) (option_to_list (built_in_of built_in symbols) ++ map (entry_for symbols) lines) ≡ count_by (is_built_in built_in) symbols + sum_by (λ m. count_by (belongs m) symbols) lines
-sum_of_entries None symbols lines = omega (arith, none_built_in symbols, sum_of_modules symbols lines)
-sum_of_entries (Some r) symbols lines = omega (arith, length-symbols_that (is_built_in (Some r)) symbols, sum_of_modules symbols lines, sum_by-cons (λ (e : ModuleEntry). length e.symbols) (kernel r symbols) (map (entry_for symbols) lines))
+sum_of_entries : (built_in : List (ℕ × ℕ)) (symbols : List ListedSymbol) (lines : List PlacedModule) → sum_by (λ (m : ModuleEntry). length m.symbols) (option_to_list (built_in_of built_in symbols) ++ map (entry_for symbols) lines) ≡ count_by (is_built_in built_in) symbols + sum_by (λ m. count_by (belongs m) symbols) lines
+sum_of_entries [] symbols lines = omega (arith, none_built_in symbols, sum_of_modules symbols lines)
+sum_of_entries (r ∷ rs) symbols lines =
+    let kernel : ModuleEntry = module_with (kernel_at (r ∷ rs)) (symbols_that (is_built_in (r ∷ rs)) symbols) in
+    omega (arith, length-symbols_that (is_built_in (r ∷ rs)) symbols, sum_of_modules symbols lines, sum_by-cons (λ (e : ModuleEntry). length e.symbols) kernel (map (entry_for symbols) lines))
 
 pub kept_in_one_of : (a : Accepted) (symbols : List ListedSymbol) → AreDistinctNames (names_of a.modules)
     → sum_by (λ m. length m.symbols) (entries_of (catalog_with a symbols)) ≡ count_by (is_kept a) symbols
 kept_in_one_of a symbols distinct =
     sum_of_entries a.built_in symbols a.modules ∙ ap (λ n. count_by (is_built_in a.built_in) symbols + n) (symbols_by_home a.modules symbols) ∙ kept_by_home a.built_in a symbols refl distinct
 
-pub kept_in_one : (names : BoundNames) (modules : List ListedModule) (regions : List ListedRegion) (symbols : List ListedSymbol) → All (λ l. fits l ≡ true) modules → All (λ l. region_fits l ≡ true) regions → are_few regions ≡ true
+pub kept_in_one : (names : Option BoundNames) (modules : List ListedModule) (regions : List ListedRegion) (symbols : List ListedSymbol) → All (λ l. fits l ≡ true) modules → All (λ l. region_fits l ≡ true) regions → are_few regions ≡ true
     → sum_by (λ m. length m.symbols) (entries_of (catalog_of names modules regions symbols)) ≡ (counts_of names modules regions symbols).symbols
 kept_in_one names modules regions symbols fit regions_fit few =
-    kept_in_one_of (accepted_of (built_in_region names symbols) regions modules) symbols (accepted_good names modules regions symbols fit regions_fit).distinct
+    kept_in_one_of (accepted_of (kernel_regions names symbols) regions modules) symbols (accepted_good names modules regions symbols fit regions_fit).distinct

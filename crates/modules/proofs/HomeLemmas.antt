@@ -16,7 +16,7 @@ use Rattle.modules.specs.Gathering.{lies_for}
 use Rattle.modules.specs.Kept.{AreDistinctNames, belongs, is_kept, lies_in, symbols_that, entry_of}
 use Rattle.modules.specs.Listed.{ListedSymbol}
 use Rattle.modules.specs.Placed.{PlacedModule}
-use Rattle.modules.specs.Regions.{holds}
+use Rattle.modules.specs.Regions.{lies_in_any}
 use Rattle.modules.specs.Runs.{line_of}
 use Rattle.modules.specs.declared.gathering.Owner.TheVariants as owner
 use Rattle.modules.proofs.KeptLemmas.{no_home, place_within, only_home, belongs_at}
@@ -63,10 +63,10 @@ count_rest p q o is (s ∷ ss) =
 no_lines : (a : Accepted) (s : ListedSymbol) → ((j : ℕ) (m : PlacedModule) → j < length a.modules → belongs (get_or a.modules j m) s ≡ false) → list_any (λ m. belongs m s) a.modules ≡ false
 no_lines a s none = list_any_none (λ (m : PlacedModule). belongs m s) a.modules none
 
--- a line of the kernel itself is kept where its region has it
+-- a line of the kernel itself is kept where its regions have it
 pub kept_unnamed : (a : Accepted) (s : SymbolEntry) → is_kept a (line_of None s) ≡ lies_for a owner.BuiltIn s.addr
 kept_unnamed a s =
-    let b : Bool = option_map_or (λ r. holds r s.addr) a.built_in false in
+    let b : Bool = lies_in_any a.built_in s.addr in
     let none : list_any (λ m. belongs m (line_of None s)) a.modules ≡ false = no_lines a (line_of None s) (λ j m lt. refl) in
     ap (λ c. b || c) none ∙ or-false b
 

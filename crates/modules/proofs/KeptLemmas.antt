@@ -1,5 +1,5 @@
 -- Where a symbol is kept.
-use Rattle.std.proofs.Common.{◌≡◌, ℕ, ◌<◌, true, false, ◌&&◌, List, [], length, get_or, Some, None, Option, sym, ap, ◌∙◌, ⊎_elim}
+use Rattle.std.proofs.Common.{◌≡◌, ℕ, ◌<◌, true, false, ◌&&◌, List, [], length, get_or, Some, None, sym, ap, ◌∙◌, ⊎_elim}
 use Rattle.std.specs.Prelude.{is_some}
 use Rattle.std.specs.Cmp.Lexicographic.{bytes_decides}
 use Rattle.std.specs.List.{list_any, position_from}
@@ -17,7 +17,7 @@ use Rattle.modules.specs.Kept.{AreDistinctNames, belongs, is_built_in, lies_in}
 use Rattle.modules.specs.Listed.{ListedSymbol}
 use Rattle.modules.specs.Placed.{PlacedModule}
 
-pub not_built_in : (built_in : Option (ℕ × ℕ)) (s : ListedSymbol) (name : List ℕ) → s.owner ≡ Some name → is_built_in built_in s ≡ false
+pub not_built_in : (built_in : List (ℕ × ℕ)) (s : ListedSymbol) (name : List ℕ) → s.owner ≡ Some name → is_built_in built_in s ≡ false
 not_built_in built_in s name owner = rw owner
 
 owned_by : (s : ListedSymbol) (name : List ℕ) (m : PlacedModule) → s.owner ≡ Some name → belongs m s ≡ (bytes_eq name m.name && lies_in m s.addr)

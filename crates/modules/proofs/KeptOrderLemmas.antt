@@ -1,7 +1,7 @@
 -- The modules in the order of their first kept lines are those of the lines.
 use Rattle.std.proofs.Common.{◌≡◌, ◌≢◌, ℕ, ◌-◌, ◌^◌, ◌<◌, Bool, true, false, ◌&&◌, ◌||◌, nat_lt, nat_eq, cond, suc, List, [], ◌∷◌, ◌++◌, get_or, map, Option, Some, None, refl, sym, ap, subst, ◌∙◌, arith}
-use Rattle.std.specs.Prelude.{All, Contains, filter, find, fold, is_none, is_some}
-use Rattle.std.specs.List.{flat_map, list_any, position_from}
+use Rattle.std.specs.Prelude.{All, IfSome, Contains, filter, find, fold, is_none, is_some}
+use Rattle.std.specs.List.{list_all, flat_map, list_any, position_from}
 use Rattle.std.specs.Option.{option_and_then, option_map, option_map_or, option_to_list}
 use Rattle.std.specs.Str.{bytes_eq}
 use Rattle.std.specs.Cmp.Lexicographic.{bytes_decides}
@@ -17,20 +17,21 @@ use Rattle.facts.proofs.Tests.{find-passes, is_some-position_from}
 use Rattle.modules.specs.FromSymbols.{HasItsRegions, IsFromSymbols, is_kept_line, with_name}
 use Rattle.modules.specs.Kept.{is_built_in}
 use Rattle.modules.specs.Accepted.{accepted_with}
-use Rattle.modules.specs.LineMarks.{AreNamed, HasFirstLine, is_kept_mark, kept_numbers, kernel_marks, mark_of, marks_of, modules_numbered, name_of, number_for, number_in, with_number}
-use Rattle.modules.specs.Lines.{built_in_region, first_address}
+use Rattle.modules.specs.LineMarks.{AreNamed, HasFirstLine, HaveFirstLines, is_kept_mark, kept_numbers, kernel_marks, mark_of, marks_of, modules_numbered, name_of, number_for, number_in, with_number}
+use Rattle.modules.specs.Lines.{built_in_region, code_regions, first_address, kernel_regions, start_bounds, text_bounds, usual_bounds, with_apart}
 use Rattle.modules.specs.Listed.{BoundNames, ListedSymbol}
 use Rattle.modules.specs.MarkedModules.{numbered_module}
 use Rattle.modules.specs.Marks.{AreRegions, HoldsFor}
 use Rattle.modules.specs.Owners.{is_outside, module_of_address, posts}
 use Rattle.modules.specs.Placed.{PlacedModule}
+use Rattle.modules.specs.Regions.{is_apart}
 use Rattle.modules.specs.declared.marks.Mark.{Mark}
 use Rattle.modules.proofs.LaidLemmas.{found}
 use Rattle.modules.proofs.MarkedModuleLemmas.{its_regions}
 use Rattle.modules.proofs.OwnLineLemmas.{is_of, of_is, same_bool}
 use Rattle.modules.proofs.PostLemmas.{all_mapped, listed_found, marks_stand, number_names}
 
--- ---- the kernel's first line
+-- ---- the first lines of the kernel's regions
 
 first_line : (name : List ℕ) (lines : List ListedSymbol) (a : ℕ) → first_address name lines ≡ Some a → (l : ListedSymbol) × Contains lines l × (l.owner ≡ None) × (l.addr ≡ a)
 first_line name lines a h = by (find (λ l. is_none l.owner && bytes_eq l.name name) lines) refl h
@@ -43,17 +44,40 @@ first_line name lines a h = by (find (λ l. is_none l.owner && bytes_eq l.name n
     by None at e = absurd (cc)
     by (Some l) at e = (l, listed_found (λ (t : ListedSymbol). is_none t.owner && bytes_eq t.name name) lines l at, unnamed l.owner (bytes_eq l.name name) (find-passes (λ (t : ListedSymbol). is_none t.owner && bytes_eq t.name name) lines l at), (let same : l.addr ≡ a = cc in same))
 
-pub has_first_line : (names : BoundNames) (lines : List ListedSymbol) → HasFirstLine (built_in_region names lines) lines
-has_first_line names lines = by (first_address names.start lines) (first_address names.end lines) refl
+one_first_line : (names : BoundNames) (lines : List ListedSymbol) → IfSome (built_in_region names lines) (HasFirstLine lines)
+one_first_line names lines = by (first_address names.start lines) (first_address names.end lines) refl
   where
-    by : (s e : Option ℕ) → first_address names.start lines ≡ s → HasFirstLine (option_and_then (λ start. option_and_then (λ end. cond (nat_lt start end) (Some (start, end)) None) e) s) lines
+    by : (s e : Option ℕ) → first_address names.start lines ≡ s → IfSome {T = ℕ × ℕ} (option_and_then (λ start. option_and_then (λ end. cond (nat_lt start end) (Some (start, end)) None) e) s) (HasFirstLine lines)
     by None e at = tt
     by (Some s) None at = tt
     by (Some s) (Some e) at =
-        elim (nat_lt s e) as (λ b. nat_lt s e ≡ b → HasFirstLine (cond b (Some (s, e)) None) lines) [
+        elim (nat_lt s e) as (λ b. nat_lt s e ≡ b → IfSome {T = ℕ × ℕ} (cond b (Some (s, e)) None) (HasFirstLine lines)) [
           | true ↦ λ lt. (ltb-true s e lt, first_line names.start lines s at)
           | false ↦ λ _. tt
         ] refl
+
+module _ (P : ℕ × ℕ → Type 0) where
+  all_listed : (region : Option (ℕ × ℕ)) → IfSome region P → All P (option_to_list region)
+  all_listed None its = All-nil P
+  all_listed (Some r) its = All-cons P r [] its (All-nil P)
+
+  all_with : (regions : List (ℕ × ℕ)) (region : Option (ℕ × ℕ)) → All P regions → IfSome region P → All P (with_apart regions region)
+  all_with regions None all its = all
+  all_with regions (Some r) all its =
+      elim (list_all (is_apart r) regions) as (λ b. All P (cond b (regions ++ r ∷ []) regions))
+      [ true ↦ All-push P regions r all its | false ↦ all ]
+
+  all_or : (region : Option (ℕ × ℕ)) (rest : List (ℕ × ℕ)) → IfSome region P → All P rest → All P (option_map_or (λ r. r ∷ []) region rest)
+  all_or None rest its all = all
+  all_or (Some r) rest its all = All-cons P r [] its (All-nil P)
+
+pub first_lines : (names : Option BoundNames) (lines : List ListedSymbol) → HaveFirstLines (kernel_regions names lines) lines
+first_lines None lines =
+    let P : ℕ × ℕ → Type 0 = HasFirstLine lines in
+    let text : Option (ℕ × ℕ) = built_in_region text_bounds lines in
+    all_or P (built_in_region usual_bounds lines) (code_regions lines) (one_first_line usual_bounds lines)
+    (all_with P (with_apart [] text) (built_in_region start_bounds lines) (all_with P [] text (All-nil P) (one_first_line text_bounds lines)) (one_first_line start_bounds lines))
+first_lines (Some names) lines = all_listed (HasFirstLine lines) (built_in_region names lines) (one_first_line names lines)
 
 -- ---- numbers
 
@@ -75,7 +99,7 @@ IsNumber-in names name some =
 
 -- ---- what is kept by the marks is what is kept by the lines
 
-module _ (kernel : Option (ℕ × ℕ)) (names : List (List ℕ)) (lines : List ListedSymbol) (items : List Item) (has : HasFirstLine kernel lines) (regions : AreRegions (marks_of kernel names lines) items) where
+module _ (kernel : List (ℕ × ℕ)) (names : List (List ℕ)) (lines : List ListedSymbol) (items : List Item) (has : HaveFirstLines kernel lines) (regions : AreRegions (marks_of kernel names lines) items) where
   at_look : (n addr : ℕ) (o : Option Item) → look half_open addr items ≡ o → option_map_or (λ (i : Item). nat_eq i.tag n) o false ≡ true → HoldsFor items n addr
   at_look n addr None at h = absurd (cc)
   at_look n addr (Some i) at h =
@@ -153,11 +177,12 @@ module _ (kernel : Option (ℕ × ℕ)) (names : List (List ℕ)) (lines : List 
           let known : list_any (bytes_eq name) names ≡ true = sym (ap (λ (o : Option (List ℕ)). option_map_or (λ (w : List ℕ). list_any (bytes_eq w) names) o true) own) ∙ some in
           rw out (owned (is_outside kernel l) name own known refl rest)
 
-  without_kernel : (k : Option (ℕ × ℕ)) (ms : List Mark) → filter (is_kept_mark items) (kernel_marks k ++ ms) ≡ filter (is_kept_mark items) ms
-  without_kernel None ms = refl
-  without_kernel (Some r) ms =
+  without_kernel : (k : List (ℕ × ℕ)) (ms : List Mark) → filter (is_kept_mark items) (kernel_marks k ++ ms) ≡ filter (is_kept_mark items) ms
+  without_kernel [] ms = refl
+  without_kernel (r ∷ rs) ms =
       let first : Mark = record { addr = r.0; owner = 0 } in
-      ap (λ b. cond b (first ∷ filter (is_kept_mark items) ms) (filter (is_kept_mark items) ms)) (kernel_not_kept r)
+      ap (λ b. cond b (first ∷ filter (is_kept_mark items) (kernel_marks rs ++ ms)) (filter (is_kept_mark items) (kernel_marks rs ++ ms))) (kernel_not_kept r)
+      ∙ without_kernel rs ms
 
   kept_names : AreNamed names lines → map (name_of names) (kept_marks (marks_of kernel names lines)) ≡ kept_owners (posts kernel lines)
   kept_names all =
@@ -225,12 +250,12 @@ module _ (names : List (List ℕ)) where
   names_numbered items (n ∷ ns) = ap (λ (ws : List (List ℕ)). name_of names n ∷ ws) (names_numbered items ns)
 
 -- what the marks give is what the lines say
-pub from_symbols : (bounds : BoundNames) (lines : List ListedSymbol) (names : List (List ℕ)) (items : List Item) → AreNamed names lines → AreRegions (marks_of (built_in_region bounds lines) names lines) items
-    → IsFromSymbols bounds lines (accepted_with (built_in_region bounds lines) (modules_numbered names items (kept_numbers items (marks_of (built_in_region bounds lines) names lines))))
+pub from_symbols : (bounds : Option BoundNames) (lines : List ListedSymbol) (names : List (List ℕ)) (items : List Item) → AreNamed names lines → AreRegions (marks_of (kernel_regions bounds lines) names lines) items
+    → IsFromSymbols bounds lines (accepted_with (kernel_regions bounds lines) (modules_numbered names items (kept_numbers items (marks_of (kernel_regions bounds lines) names lines))))
 from_symbols bounds lines names items all regions =
-    let kernel : Option (ℕ × ℕ) = built_in_region bounds lines in
+    let kernel : List (ℕ × ℕ) = kernel_regions bounds lines in
     let marks : List Mark = marks_of kernel names lines in
-    let has : HasFirstLine kernel lines = has_first_line bounds lines in
+    let has : HaveFirstLines kernel lines = first_lines bounds lines in
     let every : All (IsNumber names) (map (λ (m : Mark). m.owner) (filter (is_kept_mark items) marks)) = good_marks kernel names lines items has regions all in
     let numbers : List ℕ = kept_numbers items marks in
     let good : All (IsNumber names) numbers = fold_good names (map (λ (m : Mark). m.owner) (filter (is_kept_mark items) marks)) [] every (All-nil (IsNumber names)) in

@@ -2,7 +2,7 @@
 use Rattle.std.proofs.Common.{◌≡◌, ℕ, ◌≤◌, true, false, cond, List, [], ◌∷◌, ◌++◌, length, get_or, map, Option, Some, None, refl, sym, ap, ◌∙◌, arith, append_assoc}
 use Rattle.std.specs.Prelude.{All, filter, is_some}
 use Rattle.std.specs.Borrow.{Bor}
-use Rattle.std.specs.Option.{option_copied, option_to_list}
+use Rattle.std.specs.Option.{option_copied}
 use Rattle.std.proofs.lemmas.List.{map-append}
 use Rattle.std.proofs.lemmas.List.Elements.{All-append, filter-append}
 use Rattle.modules.specs.Entries.{SymbolEntry}
@@ -17,13 +17,13 @@ use Rattle.modules.proofs.PostLemmas.{all_mapped}
 use Rattle.modules.proofs.RunLemmas.{lines_of_all-last}
 
 -- the number of the owner of a mark is at most the count of the names
-pub owners_within : (kernel : Option (ℕ × ℕ)) (names : List (List ℕ)) (lines : List ListedSymbol) → All (λ m. m.owner ≤ length names) (marks_of kernel names lines)
+pub owners_within : (kernel : List (ℕ × ℕ)) (names : List (List ℕ)) (lines : List ListedSymbol) → All (λ m. m.owner ≤ length names) (marks_of kernel names lines)
 owners_within kernel names lines =
     All-append (λ (m : Mark). m.owner ≤ length names) (kernel_marks kernel) (line_marks kernel names lines)
-    (all_mapped (λ (r : ℕ × ℕ). record { addr = r.0; owner = 0 }) (λ (m : Mark). m.owner ≤ length names) (option_to_list kernel) (λ k d lt. omega arith))
+    (all_mapped (λ (r : ℕ × ℕ). record { addr = r.0; owner = 0 }) (λ (m : Mark). m.owner ≤ length names) kernel (λ k d lt. omega arith))
     (all_mapped (mark_of names) (λ (m : Mark). m.owner ≤ length names) (filter (is_outside kernel) lines) (λ k d lt. number_within names (get_or (filter (is_outside kernel) lines) k d).owner))
 
-module _ (kernel : Option (ℕ × ℕ)) (names : List (List ℕ)) where
+module _ (kernel : List (ℕ × ℕ)) (names : List (List ℕ)) where
   -- ---- the lines of a run
 
   of_kernel : (ss : List SymbolEntry) → line_marks kernel names (map (line_of None) ss) ≡ []

@@ -1,6 +1,6 @@
 -- A stable sort by address leaves the nearest mark.
-use Rattle.std.proofs.Common.{◌≡◌, ℕ, ◌<◌, ◌≤◌, Bool, true, false, ◌&&◌, nat_eq, List, get_or, Some, refl, ap, sym, ◌∙◌, arith}
-use Rattle.std.specs.Prelude.{◌⊎◌, filter, find}
+use Rattle.std.proofs.Common.{◌≡◌, ℕ, ◌<◌, ◌≤◌, Bool, true, false, ◌&&◌, nat_eq, List, get_or, Some, refl, ap, sym, ◌∙◌, inl, inr, ⊎_elim, arith}
+use Rattle.std.specs.Prelude.{◌⊎◌, All, filter, find}
 use Rattle.std.specs.List.Sorted.{IsPermutation, IsStableByKey, ties}
 use Rattle.std.specs.Ordering.{is_lt, nat_cmp}
 use Rattle.std.proofs.lemmas.Bool.{eq-eqb, eqb-false, ne_eqb}
@@ -11,8 +11,7 @@ use Rattle.std.proofs.lemmas.List.{get_or_default}
 use Rattle.std.proofs.lemmas.Option.{get_or_from_slice_get, slice_get_within}
 use Rattle.order_laws.specs.declared.items.Item.{Item}
 use Rattle.facts.proofs.Tests.{find-first, find_place, find-filter, find-agree}
-use Rattle.modules.specs.Marks.{IsNearestMark, Owns}
-use Rattle.modules.specs.Marks.{AreRegions}
+use Rattle.modules.specs.Marks.{AreRegions, GoesOn, IsFirstMark, IsNearestMark, Owns}
 use Rattle.modules.specs.declared.marks.Mark.{Mark}
 
 -- the mark is of the address
@@ -33,33 +32,63 @@ find_in_filter p xs ys same = sym (whole xs) ∙ ap (find p) same ∙ whole ys
     whole zs = find-filter p p zs ∙ find-agree (λ x. p x && p x) p zs (λ k d lt. twice (p (get_or zs k d)))
 
 -- the first listed of its address
-pub found_first : (xs : List Mark) (x : ℕ) (l : Mark) → IsNearestMark xs x l → find (is_at l.addr) xs ≡ Some l
-found_first xs x l n =
+pub found_first : (xs : List Mark) (l : Mark) → IsFirstMark xs l → find (is_at l.addr) xs ≡ Some l
+found_first xs l n =
     find-first (is_at l.addr) xs n.place l n.within
     (eq-eqb (get_or xs n.place l).addr l.addr (ap (λ (s : Mark). s.addr) n.listed))
     (λ k lt. ne_eqb (get_or xs k l).addr l.addr (n.first k l lt))
     ∙ ap (λ (s : Mark). Some s) n.listed
 
-pub nearest_moved : (xs ys : List Mark) → IsPermutation xs ys → IsStableByKey (λ (s : Mark). s.addr) nat_cmp xs ys → (x : ℕ) (l : Mark) → IsNearestMark ys x l → IsNearestMark xs x l
-nearest_moved xs ys moved stable x l n =
-    let same : filter (is_at l.addr) ys ≡ filter (is_at l.addr) xs = sym (filter_agree (ties (λ (a b : Mark). is_lt (nat_cmp a.addr b.addr)) l) (is_at l.addr) (as_ties l) ys) ∙ stable l ∙ filter_agree (ties (λ (a b : Mark). is_lt (nat_cmp a.addr b.addr)) l) (is_at l.addr) (as_ties l) xs in
-    let found : find (is_at l.addr) xs ≡ Some l = find_in_filter (is_at l.addr) xs ys (sym same) ∙ found_first ys x l n in
+pub first_found : (xs : List Mark) (l : Mark) → find (is_at l.addr) xs ≡ Some l → IsFirstMark xs l
+first_found xs l found =
     let (place, first) = find_place (is_at l.addr) xs l found in
     record {
       place = place;
       within = slice_get_within xs place l first.at;
       listed = get_or_from_slice_get xs place l l first.at;
-      below = n.below;
-      nearest = λ k d lt. All-contains (λ (s : Mark). (s.addr ≤ l.addr) ⊎ (x < s.addr)) ys (get_or xs k d) n.nearest (Contains-permutation xs ys (get_or xs k d) moved (k, lt, get_or_default xs k (get_or xs k d) d lt));
       first = λ k d lt e. eqb-false (get_or xs k d).addr l.addr (first.before k d lt) e;
     }
+
+module _ (xs ys : List Mark) (moved : IsPermutation xs ys) (stable : IsStableByKey (λ (s : Mark). s.addr) nat_cmp xs ys) where
+  first_moved : (l : Mark) → IsFirstMark ys l → IsFirstMark xs l
+  first_moved l n =
+      let same : filter (is_at l.addr) ys ≡ filter (is_at l.addr) xs = sym (filter_agree (ties (λ (a b : Mark). is_lt (nat_cmp a.addr b.addr)) l) (is_at l.addr) (as_ties l) ys) ∙ stable l ∙ filter_agree (ties (λ (a b : Mark). is_lt (nat_cmp a.addr b.addr)) l) (is_at l.addr) (as_ties l) xs in
+      first_found xs l (find_in_filter (is_at l.addr) xs ys (sym same) ∙ found_first ys l n)
+
+  all_moved : (P : Mark → Type 0) → All P ys → All P xs
+  all_moved P all = λ k d lt. All-contains P ys (get_or xs k d) all (Contains-permutation xs ys (get_or xs k d) moved (k, lt, get_or_default xs k (get_or xs k d) d lt))
+
+  nearest_moved : (x : ℕ) (l : Mark) → IsNearestMark ys x l → IsNearestMark xs x l
+  nearest_moved x l n = record {
+    its = first_moved l n.its;
+    below = n.below;
+    clear = all_moved (λ (s : Mark). (s.addr ≤ l.addr) ⊎ (x < s.addr)) n.clear;
+  }
+
+  goes_on_moved : (x : ℕ) (l : Mark) → GoesOn ys x l → GoesOn xs x l
+  goes_on_moved x l on = record {
+    mark = on.mark;
+    next = record {
+      its = first_moved on.mark on.next.its;
+      above = on.next.above;
+      clear = all_moved (λ (s : Mark). (s.addr ≤ x) ⊎ (on.mark.addr ≤ s.addr)) on.next.clear;
+    };
+    its = on.its;
+    near = on.near;
+  }
+
+  owns_moved : (m x : ℕ) → Owns ys m x → Owns xs m x
+  owns_moved m x o = record {
+    mark = o.mark;
+    nearest = nearest_moved x o.mark o.nearest;
+    its = o.its;
+    reached = ⊎_elim (λ page. inl page) (λ on. inr (goes_on_moved x o.mark on)) o.reached;
+    some = o.some;
+  }
 
 -- a key sort the other way
 stable_back : (xs ys : List Mark) → IsStableByKey (λ (s : Mark). s.addr) nat_cmp xs ys → IsStableByKey (λ (s : Mark). s.addr) nat_cmp ys xs
 stable_back xs ys stable = λ l. sym (stable l)
-
-owns_moved : (xs ys : List Mark) → IsPermutation xs ys → IsStableByKey (λ (s : Mark). s.addr) nat_cmp xs ys → (m x : ℕ) → Owns ys m x → Owns xs m x
-owns_moved xs ys moved stable m x o = record { mark = o.mark; nearest = nearest_moved xs ys moved stable x o.mark o.nearest; its = o.its; reached = o.reached; some = o.some }
 
 -- the regions of the sorted marks are those of the marks
 pub regions_moved : (xs ys : List Mark) (items : List Item) → IsPermutation xs ys → IsStableByKey (λ (s : Mark). s.addr) nat_cmp xs ys → AreRegions ys items → AreRegions xs items

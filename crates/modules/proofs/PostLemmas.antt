@@ -1,30 +1,30 @@
 -- Whose an address is by the marks of a listing is what its lines say.
-use Rattle.std.proofs.Common.{◌≡◌, ◌≢◌, ℕ, ◌+◌, ◌-◌, ◌^◌, ◌<◌, ◌≤◌, Bool, true, false, ◌&&◌, ◌||◌, not, nat_le, nat_lt, nat_eq, cond, suc, List, [], ◌∷◌, get_or, map, Option, Some, None, refl, sym, ap, subst, ◌∙◌, inl, inr, ⊎_elim, arith}
+use Rattle.std.proofs.Common.{◌≡◌, ◌≢◌, ℕ, ◌+◌, ◌-◌, ◌^◌, ◌<◌, ◌≤◌, Bool, true, false, ◌&&◌, ◌||◌, not, nat_le, nat_lt, nat_eq, cond, suc, List, [], ◌∷◌, ◌++◌, get_or, map, Option, Some, None, refl, sym, ap, subst, ◌∙◌, inl, inr, ⊎_elim, arith}
 use Rattle.std.specs.Prelude.{◌⊎◌, All, Contains, filter, find, is_none, is_some}
 use Rattle.std.specs.Cmp.{first_so, second_so}
 use Rattle.std.specs.List.{list_all, position_from}
 use Rattle.std.specs.Option.{option_and_then, option_map, option_map_or}
 use Rattle.std.specs.Str.{bytes_eq}
 use Rattle.std.specs.Cmp.Lexicographic.{bytes_decides}
-use Rattle.std.proofs.lemmas.Bool.{and_from, and_parts, cases_lt, eq-eqb, eqb-false, eqb-true, le-leb, leb-true, lt-ltb, ltb-true, ne_eqb, or_cases, or_left, or_right}
+use Rattle.std.proofs.lemmas.Bool.{and_from, and_parts, cases_lt, eq-eqb, eqb-true, le-leb, leb-true, lt-ltb, ltb-true, ne_eqb, or_cases, or_left, or_parts, or_right}
 use Rattle.std.proofs.lemmas.Iterator.Adapters.{position_from-zero}
-use Rattle.std.proofs.lemmas.List.Elements.{All-cons, All-contains, All-head, All-nil, All-tail}
+use Rattle.std.proofs.lemmas.List.Elements.{All-append, All-cons, All-contains, All-head, All-nil, All-tail}
+use Rattle.std.proofs.lemmas.List.Folds.{list_any_at}
 use Rattle.std.proofs.lemmas.List.Quantifiers.{position-Some}
 use Rattle.std.proofs.lemmas.List.Sums.{AllPass-from_list_all, list_all-from_AllPass}
-use Rattle.std.proofs.lemmas.Option.{get_or_from_slice_get, slice_get_within}
 use Rattle.facts.proofs.Members.{Contains-slice_get}
 use Rattle.facts.proofs.Tests.{find-agree, find-filter, find-has, find-passes, find_place}
 use Rattle.modules.specs.Kept.{is_built_in}
-use Rattle.modules.specs.LineMarks.{HasFirstLine, mark_of, marks_of, name_of, number_for, number_in}
+use Rattle.modules.specs.LineMarks.{HaveFirstLines, kernel_marks, line_marks, mark_of, marks_of, name_of, number_for, number_in}
 use Rattle.modules.specs.Listed.{ListedSymbol}
 use Rattle.modules.specs.MarkedModules.{StandsFor}
-use Rattle.modules.specs.Marks.{IsNearestMark, Owns}
-use Rattle.modules.specs.Owners.{is_nearest_line, is_outside, module_of_address, posts, reach}
-use Rattle.modules.specs.Regions.{holds}
+use Rattle.modules.specs.Marks.{GoesOn, IsFirstMark, IsNearestMark, IsNextMark, Owns}
+use Rattle.modules.specs.Owners.{goes_on, is_in_page, is_nearest_line, is_next_line, is_of_one_module, is_outside, module_of_address, post_above, post_below, posts, reach}
+use Rattle.modules.specs.Regions.{holds, lies_in_any}
 use Rattle.modules.specs.declared.marks.Mark.{Mark}
 use Rattle.modules.proofs.KeptLemmas.{not_built_in}
-use Rattle.modules.proofs.MarkOrderLemmas.{found_first, is_at}
-use Rattle.modules.proofs.OwnLineLemmas.{same_bool}
+use Rattle.modules.proofs.MarkOrderLemmas.{first_found, found_first, is_at}
+use Rattle.modules.proofs.OwnLineLemmas.{is_of, named, same_bool}
 use Rattle.modules.proofs.SpacedLemmas.{inside, within}
 
 -- ---- what passes a test
@@ -73,6 +73,17 @@ pub record IsNearestAddress {X : Type 0} (at : X → ℕ) (xs : List X) (x a : �
   pub below : a ≤ x
   pub clear : All (λ t. (at t ≤ a) ⊎ (x < at t)) xs
 
+-- the address is above x, and none of the list lies between them
+pub record IsNextAddress {X : Type 0} (at : X → ℕ) (xs : List X) (x a : ℕ) : Type 0 where
+  pub above : x < a
+  pub clear : All (λ t. (at t ≤ x) ⊎ (a ≤ at t)) xs
+
+abbrev IsNextOf : List ListedSymbol → ℕ → ℕ → Type 0
+IsNextOf ls x a = IsNextAddress (λ (t : ListedSymbol). t.addr) ls x a
+
+abbrev IsNextIn : List Mark → ℕ → ℕ → Type 0
+IsNextIn ms x a = IsNextAddress (λ (t : Mark). t.addr) ms x a
+
 abbrev IsNearestOf : List ListedSymbol → ℕ → ℕ → Type 0
 IsNearestOf ls x a = IsNearestAddress (λ (t : ListedSymbol). t.addr) ls x a
 
@@ -120,16 +131,48 @@ nearest_by_address ls x l there n =
     (λ e. line_is_nearest ls x t (subst (λ a. IsNearestOf ls x a) (sym (eqb-true t.addr l.addr e)) n)))
 
 mark_nearest : (ms : List Mark) (x : ℕ) (m : Mark) → IsNearestIn ms x m.addr → find (is_at m.addr) ms ≡ Some m → IsNearestMark ms x m
-mark_nearest ms x m n found =
-    let (place, first) = find_place (is_at m.addr) ms m found in
-    record {
-      place = place;
-      within = slice_get_within ms place m first.at;
-      listed = get_or_from_slice_get ms place m m first.at;
-      below = n.below;
-      nearest = n.clear;
-      first = λ k d lt e. eqb-false (get_or ms k d).addr m.addr (first.before k d lt) e;
-    }
+mark_nearest ms x m n found = record { its = first_found ms m found; below = n.below; clear = n.clear }
+
+-- ---- the next address above
+
+either_above : (t a x : ℕ) → (nat_le t x || nat_le a t) ≡ true → (t ≤ x) ⊎ (a ≤ t)
+either_above t a x h = ⊎_elim (λ e. inl (leb-true t x e)) (λ e. inr (leb-true a t e)) (or_cases (nat_le t x) (nat_le a t) h)
+
+from_either_above : (t a x : ℕ) → (t ≤ x) ⊎ (a ≤ t) → (nat_le t x || nat_le a t) ≡ true
+from_either_above t a x h = ⊎_elim (λ e. or_left (nat_le t x) (nat_le a t) (le-leb t x e)) (λ e. or_right (nat_le t x) (nat_le a t) (le-leb a t e)) h
+
+next_line_is : (ls : List ListedSymbol) (x : ℕ) (l : ListedSymbol) → is_next_line ls x l ≡ true → IsNextOf ls x l.addr
+next_line_is ls x l h = record {
+  above = ltb-true x l.addr (first_so (nat_lt x l.addr) (list_all (λ (t : ListedSymbol). nat_le t.addr x || nat_le l.addr t.addr) ls) h);
+  clear = λ k d lt. either_above (get_or ls k d).addr l.addr x (AllPass-from_list_all (λ (t : ListedSymbol). nat_le t.addr x || nat_le l.addr t.addr) ls (second_so (nat_lt x l.addr) (list_all (λ (t : ListedSymbol). nat_le t.addr x || nat_le l.addr t.addr) ls) h) k d lt);
+}
+
+line_is_next : (ls : List ListedSymbol) (x : ℕ) (l : ListedSymbol) → IsNextOf ls x l.addr → is_next_line ls x l ≡ true
+line_is_next ls x l n =
+    and_from (nat_lt x l.addr) (list_all (λ (t : ListedSymbol). nat_le t.addr x || nat_le l.addr t.addr) ls)
+    (lt-ltb x l.addr n.above)
+    (list_all-from_AllPass (λ (t : ListedSymbol). nat_le t.addr x || nat_le l.addr t.addr) ls (λ k d lt. from_either_above (get_or ls k d).addr l.addr x (n.clear k d lt)))
+
+-- of two next addresses that are listed neither is below the other
+not_below : {X : Type 0} (at : X → ℕ) (xs : List X) (x a b : ℕ) (t : X) → IsNextAddress at xs x a → IsNextAddress at xs x b → Contains xs t → at t ≡ b → a ≤ b
+not_below at xs x a b t n m there is =
+    ⊎_elim (λ le. absurd (let high = m.above in omega (arith, is))) (λ ge. subst (λ c. a ≤ c) is ge) (All-contains (λ s. (at s ≤ x) ⊎ (a ≤ at s)) xs t n.clear there)
+
+-- the first of the next lines is the first of their address
+next_by_address : (ls : List ListedSymbol) (x : ℕ) (l : ListedSymbol) → Contains ls l → IsNextOf ls x l.addr → find (is_next_line ls x) ls ≡ find (is_line_at l.addr) ls
+next_by_address ls x l there n =
+    find-agree (is_next_line ls x) (is_line_at l.addr) ls (λ k d lt.
+    let t : ListedSymbol = get_or ls k d in
+    same_bool (is_next_line ls x t) (is_line_at l.addr t)
+    (λ yes.
+    let m = next_line_is ls x t yes in
+    let high : t.addr ≤ l.addr = not_below (λ (s : ListedSymbol). s.addr) ls x t.addr l.addr l m n there refl in
+    let low : l.addr ≤ t.addr = ⊎_elim (λ le. absurd (let b = m.above in omega arith)) (λ ge. ge) (n.clear k d lt) in
+    eq-eqb t.addr l.addr (omega arith))
+    (λ e. line_is_next ls x t (subst (λ a. IsNextOf ls x a) (sym (eqb-true t.addr l.addr e)) n)))
+
+mark_next : (ms : List Mark) (x : ℕ) (m : Mark) → IsNextIn ms x m.addr → find (is_at m.addr) ms ≡ Some m → IsNextMark ms x m
+mark_next ms x m n found = record { its = first_found ms m found; above = n.above; clear = n.clear }
 
 -- ---- numbers and names
 
@@ -149,10 +192,10 @@ owner_named names (Some name) n is some = ap (λ (w : List ℕ). Some w) (sym (n
 
 -- ---- the kernel and the lines outside
 
-abbrev is_inside : Option (ℕ × ℕ) → ℕ → Bool
-is_inside kernel a = option_map_or (λ r. holds r a) kernel false
+abbrev is_inside : List (ℕ × ℕ) → ℕ → Bool
+is_inside kernel a = lies_in_any kernel a
 
-outside_not_inside : (kernel : Option (ℕ × ℕ)) (l : ListedSymbol) → is_outside kernel l ≡ true → is_inside kernel l.addr ≡ false
+outside_not_inside : (kernel : List (ℕ × ℕ)) (l : ListedSymbol) → is_outside kernel l ≡ true → is_inside kernel l.addr ≡ false
 outside_not_inside kernel l h =
     let first = and_parts (is_some l.owner && not (is_inside kernel l.addr)) (nat_lt l.addr (2 ^ 64 - 1)) h in
     let both = and_parts (is_some l.owner) (not (is_inside kernel l.addr)) first.0 in
@@ -162,11 +205,8 @@ outside_not_inside kernel l h =
     turned true h = absurd (cc)
     turned false h = refl
 
-not_outside_unnamed : (kernel : Option (ℕ × ℕ)) (l : ListedSymbol) → l.owner ≡ None → is_outside kernel l ≡ false
-not_outside_unnamed kernel l none = rw none refl
-
 -- of lines at an address outside the kernel's region, just those of modules are posts
-posts_at : (kernel : Option (ℕ × ℕ)) (lines : List ListedSymbol) (a : ℕ) → is_inside kernel a ≡ false → find (is_line_at a) (posts kernel lines) ≡ find (is_line_at a) (filter (is_outside kernel) lines)
+posts_at : (kernel : List (ℕ × ℕ)) (lines : List ListedSymbol) (a : ℕ) → is_inside kernel a ≡ false → find (is_line_at a) (posts kernel lines) ≡ find (is_line_at a) (filter (is_outside kernel) lines)
 posts_at kernel lines a out =
     find-filter (is_line_at a) (λ l. is_built_in kernel l || is_outside kernel l) lines
     ∙ find-agree (λ l. (is_built_in kernel l || is_outside kernel l) && is_line_at a l) (λ l. is_outside kernel l && is_line_at a l) lines (λ k d lt. here (get_or lines k d))
@@ -186,137 +226,296 @@ posts_at kernel lines a out =
     here l = by (is_built_in kernel l) (is_outside kernel l) (is_line_at a l) (λ at.
         ap (λ n. is_none l.owner && is_inside kernel n) (eqb-true l.addr a at) ∙ ap (λ b. is_none l.owner && b) out ∙ no (is_none l.owner))
 
-kernel_apart : (r : ℕ × ℕ) (a : ℕ) → r.0 < r.1 → holds r a ≡ false → r.0 ≡ a → ⊥
-kernel_apart r a valid out e = let in' : holds r a ≡ true = within r a (omega arith) (omega arith) in cc
+first_apart : (r : ℕ × ℕ) (a : ℕ) → r.0 < r.1 → holds r a ≡ false → r.0 ≡ a → ⊥
+first_apart r a valid out e = let in' : holds r a ≡ true = within r a (omega arith) (omega arith) in cc
+
+-- ---- the marks of the kernel
+
+-- the mark of a region
+abbrev first_of : ℕ × ℕ → Mark
+first_of r = record { addr = r.0; owner = 0 }
+
+abbrev AreValid : List (ℕ × ℕ) → Type 0
+AreValid kernel = All (λ (r : ℕ × ℕ). r.0 < r.1) kernel
+
+-- none of them is at an address outside
+found_behind : (kernel : List (ℕ × ℕ)) (ms : List Mark) (a : ℕ) → AreValid kernel → is_inside kernel a ≡ false → find (is_at a) (kernel_marks kernel ++ ms) ≡ find (is_at a) ms
+found_behind [] ms a valid out = refl
+found_behind (r ∷ rs) ms a valid out =
+    let parts = or_parts (holds r a) (is_inside rs a) out in
+    let other : nat_eq r.0 a ≡ false = ne_eqb r.0 a (first_apart r a (All-head (λ (s : ℕ × ℕ). s.0 < s.1) r rs valid) parts.0) in
+    ap (λ b. cond b (Some (first_of r)) (find (is_at a) (kernel_marks rs ++ ms))) other
+    ∙ found_behind rs ms a (All-tail (λ (s : ℕ × ℕ). s.0 < s.1) r rs valid) parts.1
+
+-- and none is a module's
+module_behind : (kernel : List (ℕ × ℕ)) (ms : List Mark) (m : Mark) → m.owner ≢ 0 → find (is_at m.addr) (kernel_marks kernel ++ ms) ≡ Some m → find (is_at m.addr) ms ≡ Some m
+module_behind [] ms m some h = h
+module_behind (r ∷ rs) ms m some h =
+    elim (nat_eq r.0 m.addr) as (λ b. cond b (Some (first_of r)) (find (is_at m.addr) (kernel_marks rs ++ ms)) ≡ Some m → find (is_at m.addr) ms ≡ Some m) [
+      | true ↦ λ e. let same : first_of r ≡ m = cc in absurd (some (sym (ap (λ (s : Mark). s.owner) same)))
+      | false ↦ λ e. module_behind rs ms m some e
+    ] h
+
+all_behind : (Q : Mark → Type 0) (kernel : List (ℕ × ℕ)) (ms : List Mark) → All Q (kernel_marks kernel ++ ms) → All Q ms
+all_behind Q [] ms all = all
+all_behind Q (r ∷ rs) ms all = all_behind Q rs ms (All-tail Q (first_of r) (kernel_marks rs ++ ms) all)
+
+all_of_kernel : (Q : Mark → Type 0) (kernel : List (ℕ × ℕ)) (ms : List Mark) → All Q (kernel_marks kernel ++ ms) → All (λ r. Q (first_of r)) kernel
+all_of_kernel Q [] ms all = All-nil (λ r. Q (first_of r))
+all_of_kernel Q (r ∷ rs) ms all = All-cons (λ r. Q (first_of r)) r rs (All-head Q (first_of r) (kernel_marks rs ++ ms) all) (all_of_kernel Q rs ms (All-tail Q (first_of r) (kernel_marks rs ++ ms) all))
+
+-- a line of the kernel between a module's post and an address above has the first of its region
+-- between them
+region_clear : (r : ℕ × ℕ) (x a t : ℕ) → holds r a ≡ false → (r.0 ≤ a) ⊎ (x < r.0) → holds r t ≡ true → (t ≤ a) ⊎ (x < t)
+region_clear r x a t out first in' =
+    let (from, below) = inside r t in' in
+    ⊎_elim
+    (λ le. ⊎_elim
+    (λ lt. absurd (let at : holds r a ≡ true = within r a le lt in cc))
+    (λ ge. inl (omega arith))
+    (cases_lt a r.1))
+    (λ past. inr (omega arith))
+    first
+
+kernel_clear : (kernel : List (ℕ × ℕ)) (x a t : ℕ) → is_inside kernel a ≡ false → All (λ (r : ℕ × ℕ). (r.0 ≤ a) ⊎ (x < r.0)) kernel → is_inside kernel t ≡ true → (t ≤ a) ⊎ (x < t)
+kernel_clear [] x a t out all in' = absurd (cc)
+kernel_clear (r ∷ rs) x a t out all in' =
+    let parts = or_parts (holds r a) (is_inside rs a) out in
+    ⊎_elim
+    (λ here. region_clear r x a t parts.0 (All-head (λ (s : ℕ × ℕ). (s.0 ≤ a) ⊎ (x < s.0)) r rs all) here)
+    (λ rest. kernel_clear rs x a t parts.1 (All-tail (λ (s : ℕ × ℕ). (s.0 ≤ a) ⊎ (x < s.0)) r rs all) rest)
+    (or_cases (holds r t) (is_inside rs t) in')
+
+-- a line of the kernel that is above is not below the next mark
+region_next : (r : ℕ × ℕ) (x a b t : ℕ) → a ≤ x → holds r a ≡ false → (r.0 ≤ a) ⊎ (x < r.0) → (r.0 ≤ x) ⊎ (b ≤ r.0) → holds r t ≡ true → (t ≤ x) ⊎ (b ≤ t)
+region_next r x a b t low out first next in' =
+    let (from, below) = inside r t in' in
+    ⊎_elim
+    (λ le. inl (omega arith))
+    (λ past. ⊎_elim
+    (λ start. ⊎_elim
+    (λ le. ⊎_elim
+    (λ lt. absurd (let at : holds r a ≡ true = within r a le lt in cc))
+    (λ ge. absurd (omega arith))
+    (cases_lt a r.1))
+    (λ over. absurd (omega arith))
+    first)
+    (λ ge. inr (omega arith))
+    next)
+    (region_clear r x a t out first in')
+
+kernel_next : (kernel : List (ℕ × ℕ)) (x a b t : ℕ) → a ≤ x → is_inside kernel a ≡ false → All (λ (r : ℕ × ℕ). (r.0 ≤ a) ⊎ (x < r.0)) kernel → All (λ (r : ℕ × ℕ). (r.0 ≤ x) ⊎ (b ≤ r.0)) kernel → is_inside kernel t ≡ true → (t ≤ x) ⊎ (b ≤ t)
+kernel_next [] x a b t low out near next in' = absurd (cc)
+kernel_next (r ∷ rs) x a b t low out near next in' =
+    let parts = or_parts (holds r a) (is_inside rs a) out in
+    ⊎_elim
+    (λ here. region_next r x a b t low parts.0 (All-head (λ (s : ℕ × ℕ). (s.0 ≤ a) ⊎ (x < s.0)) r rs near) (All-head (λ (s : ℕ × ℕ). (s.0 ≤ x) ⊎ (b ≤ s.0)) r rs next) here)
+    (λ rest. kernel_next rs x a b t low parts.1 (All-tail (λ (s : ℕ × ℕ). (s.0 ≤ a) ⊎ (x < s.0)) r rs near) (All-tail (λ (s : ℕ × ℕ). (s.0 ≤ x) ⊎ (b ≤ s.0)) r rs next) rest)
+    (or_cases (holds r t) (is_inside rs t) in')
 
 module _ (names : List (List ℕ)) (lines : List ListedSymbol) where
   -- ---- the first mark of an address
 
-  found_mark : (kernel : Option (ℕ × ℕ)) (l : ListedSymbol) → HasFirstLine kernel lines → is_inside kernel l.addr ≡ false → find (is_line_at l.addr) (filter (is_outside kernel) lines) ≡ Some l → find (is_at l.addr) (marks_of kernel names lines) ≡ Some (mark_of names l)
-  found_mark None l has out h = find_mapped (is_at l.addr) (mark_of names) (filter (is_outside None) lines) ∙ ap (option_map (mark_of names)) h
-  found_mark (Some r) l has out h =
-      let other : nat_eq r.0 l.addr ≡ false = ne_eqb r.0 l.addr (kernel_apart r l.addr has.0 out) in
-      rw other (find_mapped (is_at l.addr) (mark_of names) (filter (is_outside (Some r)) lines) ∙ ap (option_map (mark_of names)) h)
+  all_valid : (kernel : List (ℕ × ℕ)) → HaveFirstLines kernel lines → AreValid kernel
+  all_valid kernel has = λ k d lt. (has k d lt).0
 
-  marked : (kernel : Option (ℕ × ℕ)) (m : Mark) → find (is_at m.addr) (map (mark_of names) (filter (is_outside kernel) lines)) ≡ Some m → (l : ListedSymbol) × (find (is_line_at m.addr) (filter (is_outside kernel) lines) ≡ Some l) × (mark_of names l ≡ m)
+  found_mark : (kernel : List (ℕ × ℕ)) (l : ListedSymbol) → HaveFirstLines kernel lines → is_inside kernel l.addr ≡ false → find (is_line_at l.addr) (filter (is_outside kernel) lines) ≡ Some l → find (is_at l.addr) (marks_of kernel names lines) ≡ Some (mark_of names l)
+  found_mark kernel l has out h =
+      found_behind kernel (line_marks kernel names lines) l.addr (all_valid kernel has) out
+      ∙ find_mapped (is_at l.addr) (mark_of names) (filter (is_outside kernel) lines) ∙ ap (option_map (mark_of names)) h
+
+  marked : (kernel : List (ℕ × ℕ)) (m : Mark) → find (is_at m.addr) (map (mark_of names) (filter (is_outside kernel) lines)) ≡ Some m → (l : ListedSymbol) × (find (is_line_at m.addr) (filter (is_outside kernel) lines) ≡ Some l) × (mark_of names l ≡ m)
   marked kernel m h = some_mapped (mark_of names) (find (is_line_at m.addr) (filter (is_outside kernel) lines)) m (sym (find_mapped (is_at m.addr) (mark_of names) (filter (is_outside kernel) lines)) ∙ h)
 
-  mark_found : (kernel : Option (ℕ × ℕ)) (m : Mark) → m.owner ≢ 0 → find (is_at m.addr) (marks_of kernel names lines) ≡ Some m → (l : ListedSymbol) × (find (is_line_at m.addr) (filter (is_outside kernel) lines) ≡ Some l) × (mark_of names l ≡ m)
-  mark_found None m some h = marked None m h
-  mark_found (Some r) m some h =
-      let first : Mark = record { addr = r.0; owner = 0 } in
-      elim (nat_eq r.0 m.addr) as (λ b. cond b (Some first) (find (is_at m.addr) (map (mark_of names) (filter (is_outside (Some r)) lines))) ≡ Some m → (l : ListedSymbol) × (find (is_line_at m.addr) (filter (is_outside (Some r)) lines) ≡ Some l) × (mark_of names l ≡ m)) [
-        | true ↦ λ e. let same : first ≡ m = cc in absurd (some (sym (ap (λ (s : Mark). s.owner) same)))
-        | false ↦ λ e. marked (Some r) m e
-      ] h
+  mark_found : (kernel : List (ℕ × ℕ)) (m : Mark) → m.owner ≢ 0 → find (is_at m.addr) (marks_of kernel names lines) ≡ Some m → (l : ListedSymbol) × (find (is_line_at m.addr) (filter (is_outside kernel) lines) ≡ Some l) × (mark_of names l ≡ m)
+  mark_found kernel m some h = marked kernel m (module_behind kernel (line_marks kernel names lines) m some h)
 
   -- ---- the nearest address of marks and of posts
 
-  outside_clear : (kernel : Option (ℕ × ℕ)) (x a : ℕ) → All (λ (t : Mark). (t.addr ≤ a) ⊎ (x < t.addr)) (marks_of kernel names lines) → All (λ (t : ListedSymbol). is_outside kernel t ≡ true → (t.addr ≤ a) ⊎ (x < t.addr)) lines
-  outside_clear None x a all = all_of_passing (is_outside None) (λ (t : ListedSymbol). (t.addr ≤ a) ⊎ (x < t.addr)) lines (all_of_mapped (mark_of names) (λ (t : Mark). (t.addr ≤ a) ⊎ (x < t.addr)) (filter (is_outside None) lines) all)
-  outside_clear (Some r) x a all = all_of_passing (is_outside (Some r)) (λ (t : ListedSymbol). (t.addr ≤ a) ⊎ (x < t.addr)) lines (all_of_mapped (mark_of names) (λ (t : Mark). (t.addr ≤ a) ⊎ (x < t.addr)) (filter (is_outside (Some r)) lines) (All-tail (λ (t : Mark). (t.addr ≤ a) ⊎ (x < t.addr)) (record { addr = r.0; owner = 0 }) (map (mark_of names) (filter (is_outside (Some r)) lines)) all))
+  outside_all : (kernel : List (ℕ × ℕ)) (P : ℕ → Type 0) → All (λ (t : Mark). P t.addr) (marks_of kernel names lines) → All (λ (t : ListedSymbol). is_outside kernel t ≡ true → P t.addr) lines
+  outside_all kernel P all = all_of_passing (is_outside kernel) (λ (t : ListedSymbol). P t.addr) lines (all_of_mapped (mark_of names) (λ (t : Mark). P t.addr) (filter (is_outside kernel) lines) (all_behind (λ (t : Mark). P t.addr) kernel (line_marks kernel names lines) all))
 
-  kernel_clear : (kernel : Option (ℕ × ℕ)) (x a : ℕ) (t : ListedSymbol) → is_inside kernel a ≡ false → All (λ (s : Mark). (s.addr ≤ a) ⊎ (x < s.addr)) (marks_of kernel names lines) → is_inside kernel t.addr ≡ true → (t.addr ≤ a) ⊎ (x < t.addr)
-  kernel_clear None x a t out all in' = absurd (cc)
-  kernel_clear (Some r) x a t out all in' =
-      let (from, below) = inside r t.addr in' in
-      ⊎_elim
-      (λ le. ⊎_elim
-      (λ lt. absurd (let at : holds r a ≡ true = within r a le lt in cc))
-      (λ ge. inl (omega arith))
-      (cases_lt a r.1))
-      (λ past. inr (omega arith))
-      (All-head (λ (s : Mark). (s.addr ≤ a) ⊎ (x < s.addr)) (record { addr = r.0; owner = 0 }) (map (mark_of names) (filter (is_outside (Some r)) lines)) all)
+  -- what holds of the marks' addresses holds of the first ones of the kernel's regions
+  firsts : (kernel : List (ℕ × ℕ)) (P : ℕ → Type 0) → All (λ (t : Mark). P t.addr) (marks_of kernel names lines) → All (λ (r : ℕ × ℕ). P r.0) kernel
+  firsts kernel P all = all_of_kernel (λ (t : Mark). P t.addr) kernel (line_marks kernel names lines) all
 
-  built_in_inside : (kernel : Option (ℕ × ℕ)) (t : ListedSymbol) → is_built_in kernel t ≡ true → is_inside kernel t.addr ≡ true
+  built_in_inside : (kernel : List (ℕ × ℕ)) (t : ListedSymbol) → is_built_in kernel t ≡ true → is_inside kernel t.addr ≡ true
   built_in_inside kernel t h = (and_parts (is_none t.owner) (is_inside kernel t.addr) h).1
 
-  near_posts : (kernel : Option (ℕ × ℕ)) (x a : ℕ) → is_inside kernel a ≡ false → IsNearestIn (marks_of kernel names lines) x a → IsNearestOf (posts kernel lines) x a
+  near_posts : (kernel : List (ℕ × ℕ)) (x a : ℕ) → is_inside kernel a ≡ false → IsNearestIn (marks_of kernel names lines) x a → IsNearestOf (posts kernel lines) x a
   near_posts kernel x a out n = record {
     below = n.below;
     clear = all_passing (λ l. is_built_in kernel l || is_outside kernel l) (λ (t : ListedSymbol). (t.addr ≤ a) ⊎ (x < t.addr)) lines (λ k d lt passes.
         let t : ListedSymbol = get_or lines k d in
         ⊎_elim
-        (λ own. kernel_clear kernel x a t out n.clear (built_in_inside kernel t own))
-        (λ its. outside_clear kernel x a n.clear k d lt its)
+        (λ own. kernel_clear kernel x a t.addr out (firsts kernel (λ c. (c ≤ a) ⊎ (x < c)) n.clear) (built_in_inside kernel t own))
+        (λ its. outside_all kernel (λ c. (c ≤ a) ⊎ (x < c)) n.clear k d lt its)
         (or_cases (is_built_in kernel t) (is_outside kernel t) passes));
   }
 
-  posts_clear : (kernel : Option (ℕ × ℕ)) (x a : ℕ) → IsNearestOf (posts kernel lines) x a → All (λ (t : ListedSymbol). (is_built_in kernel t || is_outside kernel t) ≡ true → (t.addr ≤ a) ⊎ (x < t.addr)) lines
-  posts_clear kernel x a n = all_of_passing (λ l. is_built_in kernel l || is_outside kernel l) (λ (t : ListedSymbol). (t.addr ≤ a) ⊎ (x < t.addr)) lines n.clear
+  next_posts : (kernel : List (ℕ × ℕ)) (x a b : ℕ) → is_inside kernel a ≡ false → IsNearestIn (marks_of kernel names lines) x a → IsNextIn (marks_of kernel names lines) x b → IsNextOf (posts kernel lines) x b
+  next_posts kernel x a b out near n = record {
+    above = n.above;
+    clear = all_passing (λ l. is_built_in kernel l || is_outside kernel l) (λ (t : ListedSymbol). (t.addr ≤ x) ⊎ (b ≤ t.addr)) lines (λ k d lt passes.
+        let t : ListedSymbol = get_or lines k d in
+        ⊎_elim
+        (λ own. kernel_next kernel x a b t.addr near.below out (firsts kernel (λ c. (c ≤ a) ⊎ (x < c)) near.clear) (firsts kernel (λ c. (c ≤ x) ⊎ (b ≤ c)) n.clear) (built_in_inside kernel t own))
+        (λ its. outside_all kernel (λ c. (c ≤ x) ⊎ (b ≤ c)) n.clear k d lt its)
+        (or_cases (is_built_in kernel t) (is_outside kernel t) passes));
+  }
 
-  others_clear : (kernel : Option (ℕ × ℕ)) (x a : ℕ) → IsNearestOf (posts kernel lines) x a → All (λ (t : Mark). (t.addr ≤ a) ⊎ (x < t.addr)) (map (mark_of names) (filter (is_outside kernel) lines))
-  others_clear kernel x a n =
-      all_mapped (mark_of names) (λ (t : Mark). (t.addr ≤ a) ⊎ (x < t.addr)) (filter (is_outside kernel) lines)
-      (all_passing (is_outside kernel) (λ (t : ListedSymbol). (t.addr ≤ a) ⊎ (x < t.addr)) lines (λ k d lt yes.
+  others_all : (kernel : List (ℕ × ℕ)) (P : ℕ → Type 0) → All (λ (t : ListedSymbol). (is_built_in kernel t || is_outside kernel t) ≡ true → P t.addr) lines → All (λ (t : Mark). P t.addr) (map (mark_of names) (filter (is_outside kernel) lines))
+  others_all kernel P all =
+      all_mapped (mark_of names) (λ (t : Mark). P t.addr) (filter (is_outside kernel) lines)
+      (all_passing (is_outside kernel) (λ (t : ListedSymbol). P t.addr) lines (λ k d lt yes.
       let t : ListedSymbol = get_or lines k d in
-      posts_clear kernel x a n k d lt (or_right (is_built_in kernel t) (is_outside kernel t) yes)))
+      all k d lt (or_right (is_built_in kernel t) (is_outside kernel t) yes)))
 
-  first_passes : (r : ℕ × ℕ) (l : ListedSymbol) → r.0 < r.1 → l.owner ≡ None → l.addr ≡ r.0 → is_built_in (Some r) l ≡ true
-  first_passes r l valid none at = rw (none, at) (within r r.0 (omega arith) valid)
-
-  near_marks : (kernel : Option (ℕ × ℕ)) (x a : ℕ) → HasFirstLine kernel lines → IsNearestOf (posts kernel lines) x a → IsNearestIn (marks_of kernel names lines) x a
-  near_marks None x a has n = record { below = n.below; clear = others_clear None x a n }
-  near_marks (Some r) x a (valid, first) n =
+  -- what holds of the posts' addresses holds of the marks'
+  marks_all : (kernel : List (ℕ × ℕ)) (P : ℕ → Type 0) → HaveFirstLines kernel lines → All (λ (t : ListedSymbol). P t.addr) (posts kernel lines) → All (λ (t : Mark). P t.addr) (marks_of kernel names lines)
+  marks_all kernel P has all =
+      let each = all_of_passing (λ l. is_built_in kernel l || is_outside kernel l) (λ (t : ListedSymbol). P t.addr) lines all in
+      All-append (λ (t : Mark). P t.addr) (kernel_marks kernel) (line_marks kernel names lines)
+      (all_mapped first_of (λ (t : Mark). P t.addr) kernel (λ k d lt.
+      let r : ℕ × ℕ = get_or kernel k d in
+      let (valid, first) = has k d lt in
       let (l, there, none, at) = first in
+      let in' : is_inside kernel r.0 ≡ true = list_any_at (λ s. holds s r.0) kernel k d lt (within r r.0 (omega arith) valid) in
+      let built_in : is_built_in kernel l ≡ true = rw (none, at) in' in
+      subst P at
+      (All-contains (λ (t : ListedSymbol). (is_built_in kernel t || is_outside kernel t) ≡ true → P t.addr) lines l each there
+      (or_left (is_built_in kernel l) (is_outside kernel l) built_in))))
+      (others_all kernel P each)
+
+  near_marks : (kernel : List (ℕ × ℕ)) (x a : ℕ) → HaveFirstLines kernel lines → IsNearestOf (posts kernel lines) x a → IsNearestIn (marks_of kernel names lines) x a
+  near_marks kernel x a has n = record { below = n.below; clear = marks_all kernel (λ c. (c ≤ a) ⊎ (x < c)) has n.clear }
+
+  next_marks : (kernel : List (ℕ × ℕ)) (x b : ℕ) → HaveFirstLines kernel lines → IsNextOf (posts kernel lines) x b → IsNextIn (marks_of kernel names lines) x b
+  next_marks kernel x b has n = record { above = n.above; clear = marks_all kernel (λ c. (c ≤ x) ⊎ (b ≤ c)) has n.clear }
+
+  -- ---- the lines of a module
+
+  passes_outside : (kernel : List (ℕ × ℕ)) (l : ListedSymbol) (a : ℕ) → find (is_line_at a) (filter (is_outside kernel) lines) ≡ Some l → is_outside kernel l ≡ true
+  passes_outside kernel l a at = find-has (is_line_at a) (filter (is_outside kernel) lines) l at (λ t. is_outside kernel t ≡ true) (all_passing (is_outside kernel) (λ t. is_outside kernel t ≡ true) lines (λ k d lt yes. yes))
+
+  is_named_outside : (kernel : List (ℕ × ℕ)) (l : ListedSymbol) (name : List ℕ) → l.owner ≡ Some name → (is_built_in kernel l || is_outside kernel l) ≡ true → is_outside kernel l ≡ true
+  is_named_outside kernel l name own passes = ⊎_elim (λ built_in. absurd (let other : is_built_in kernel l ≡ false = not_built_in kernel l name own in cc)) (λ its. its) (or_cases (is_built_in kernel l) (is_outside kernel l) passes)
+
+  -- a found post of a module is outside
+  found_outside : (kernel : List (ℕ × ℕ)) (p : ListedSymbol → Bool) (l : ListedSymbol) (name : List ℕ) → find p (posts kernel lines) ≡ Some l → l.owner ≡ Some name → is_inside kernel l.addr ≡ false
+  found_outside kernel p l name at own =
+      let passes : (is_built_in kernel l || is_outside kernel l) ≡ true = find-has p (posts kernel lines) l at (λ t. (is_built_in kernel t || is_outside kernel t) ≡ true) (all_passing (λ t. is_built_in kernel t || is_outside kernel t) (λ t. (is_built_in kernel t || is_outside kernel t) ≡ true) lines (λ k d lt yes. yes)) in
+      outside_not_inside kernel l (is_named_outside kernel l name own passes)
+
+  -- the line of a first mark of a module, which is the first of its address among the posts
+  record IsLineOf (kernel : List (ℕ × ℕ)) (m : Mark) (l : ListedSymbol) : Type 0 where
+    made : mark_of names l ≡ m
+    out : is_inside kernel l.addr ≡ false
+    first : find (is_line_at l.addr) (posts kernel lines) ≡ Some l
+
+  line_of_first : (kernel : List (ℕ × ℕ)) (m : Mark) → m.owner ≢ 0 → IsFirstMark (marks_of kernel names lines) m → (l : ListedSymbol) × IsLineOf kernel m l
+  line_of_first kernel m some first =
+      let (l, at, made) = mark_found kernel m some (found_first (marks_of kernel names lines) m first) in
+      let addr : m.addr ≡ l.addr = sym (ap (λ (s : Mark). s.addr) made) in
+      let here : find (is_line_at l.addr) (filter (is_outside kernel) lines) ≡ Some l = subst (λ a. find (is_line_at a) (filter (is_outside kernel) lines) ≡ Some l) addr at in
+      let out : is_inside kernel l.addr ≡ false = outside_not_inside kernel l (passes_outside kernel l l.addr here) in
+      (l, record { made = made; out = out; first = posts_at kernel lines l.addr out ∙ here })
+
+  owner_of_line : (kernel : List (ℕ × ℕ)) (m : Mark) (l : ListedSymbol) (n : ℕ) (name : List ℕ) → n ≢ 0 → number_in names name ≡ n → m.owner ≡ n → IsLineOf kernel m l → l.owner ≡ Some name
+  owner_of_line kernel m l n name some is its line =
+      owner_named names l.owner n (ap (λ (s : Mark). s.owner) line.made ∙ its) some ∙ ap (λ (w : List ℕ). Some w) (number_names names name n is some)
+
+  -- the first mark of a post of a module
+  mark_of_first : (kernel : List (ℕ × ℕ)) (l : ListedSymbol) → HaveFirstLines kernel lines → is_inside kernel l.addr ≡ false → find (is_line_at l.addr) (posts kernel lines) ≡ Some l → find (is_at l.addr) (marks_of kernel names lines) ≡ Some (mark_of names l)
+  mark_of_first kernel l has out found = found_mark kernel l has out (sym (posts_at kernel lines l.addr out) ∙ found)
+
+  -- ---- how far a module goes on
+
+  of_one : (l t : ListedSymbol) (name : List ℕ) → l.owner ≡ Some name → t.owner ≡ Some name → is_of_one_module l t ≡ true
+  of_one l t name own its = rw (own, its) (named name)
+
+  one_of : (l t : ListedSymbol) (name : List ℕ) → l.owner ≡ Some name → is_of_one_module l t ≡ true → t.owner ≡ Some name
+  one_of l t name own h = let here : option_map_or (bytes_eq name) t.owner false ≡ true = (rw own at h) in is_of name t.owner here
+
+  next_near : (kernel : List (ℕ × ℕ)) (x : ℕ) (l : ListedSymbol) (name : List ℕ) → l.owner ≡ Some name → goes_on (posts kernel lines) x l ≡ true → (t : ListedSymbol) × (post_above (posts kernel lines) x ≡ Some t) × (t.owner ≡ Some name) × (t.addr < l.addr + reach)
+  next_near kernel x l name own h = by (post_above (posts kernel lines) x) refl h
+    where
+      by : (o : Option ListedSymbol) → post_above (posts kernel lines) x ≡ o → option_map_or (λ t. is_of_one_module l t && nat_lt t.addr (l.addr + reach)) o false ≡ true → (t : ListedSymbol) × (post_above (posts kernel lines) x ≡ Some t) × (t.owner ≡ Some name) × (t.addr < l.addr + reach)
+      by None at e = absurd (cc)
+      by (Some t) at e =
+          let both = and_parts (is_of_one_module l t) (nat_lt t.addr (l.addr + reach)) e in
+          (t, at, one_of l t name own both.0, ltb-true t.addr (l.addr + reach) both.1)
+
+  to_goes_on : (kernel : List (ℕ × ℕ)) (n x : ℕ) (name : List ℕ) (m : Mark) (l : ListedSymbol) → n ≢ 0 → number_in names name ≡ n → m.owner ≡ n → IsLineOf kernel m l → IsNearestIn (marks_of kernel names lines) x l.addr → GoesOn (marks_of kernel names lines) x m → goes_on (posts kernel lines) x l ≡ true
+  to_goes_on kernel n x name m l some is its line near on =
+      let ps : List ListedSymbol = posts kernel lines in
+      let of : on.mark.owner ≡ n = on.its ∙ its in
+      let (t, its_line) = line_of_first kernel on.mark (λ zero. some (sym of ∙ zero)) on.next.its in
+      let addr : on.mark.addr ≡ t.addr = sym (ap (λ (s : Mark). s.addr) its_line.made) in
+      let from : m.addr ≡ l.addr = sym (ap (λ (s : Mark). s.addr) line.made) in
+      let next : IsNextIn (marks_of kernel names lines) x t.addr = subst (λ a. IsNextIn (marks_of kernel names lines) x a) addr (record { above = on.next.above; clear = on.next.clear }) in
+      let found : post_above ps x ≡ Some t = next_by_address ps x t (listed_found (is_line_at t.addr) ps t its_line.first) (next_posts kernel x l.addr t.addr line.out near next) ∙ its_line.first in
+      let near : t.addr < l.addr + reach = let far = on.near in omega arith in
+      let both : (is_of_one_module l t && nat_lt t.addr (l.addr + reach)) ≡ true = and_from (is_of_one_module l t) (nat_lt t.addr (l.addr + reach)) (of_one l t name (owner_of_line kernel m l n name some is its line) (owner_of_line kernel on.mark t n name some is of its_line)) (lt-ltb t.addr (l.addr + reach) near) in
+      ap (λ (o : Option ListedSymbol). option_map_or (λ t. is_of_one_module l t && nat_lt t.addr (l.addr + reach)) o false) found ∙ both
+
+  from_goes_on : (kernel : List (ℕ × ℕ)) (n x : ℕ) (name : List ℕ) (l : ListedSymbol) → HaveFirstLines kernel lines → number_in names name ≡ n → l.owner ≡ Some name → goes_on (posts kernel lines) x l ≡ true → GoesOn (marks_of kernel names lines) x (mark_of names l)
+  from_goes_on kernel n x name l has is own h =
+      let ps : List ListedSymbol = posts kernel lines in
+      let (t, at, its, near) = next_near kernel x l name own h in
+      let next : IsNextOf ps x t.addr = next_line_is ps x t (find-passes (is_next_line ps x) ps t at) in
+      let found : find (is_line_at t.addr) ps ≡ Some t = sym (next_by_address ps x t (listed_found (is_next_line ps x) ps t at) next) ∙ at in
       record {
-        below = n.below;
-        clear = All-cons (λ (t : Mark). (t.addr ≤ a) ⊎ (x < t.addr)) (record { addr = r.0; owner = 0 }) (map (mark_of names) (filter (is_outside (Some r)) lines))
-            (subst (λ b. (b ≤ a) ⊎ (x < b)) at
-            (All-contains (λ (t : ListedSymbol). (is_built_in (Some r) t || is_outside (Some r) t) ≡ true → (t.addr ≤ a) ⊎ (x < t.addr)) lines l (posts_clear (Some r) x a n) there
-            (or_left (is_built_in (Some r) l) (is_outside (Some r) l) (first_passes r l valid none at))))
-            (others_clear (Some r) x a n);
+        mark = mark_of names t;
+        next = mark_next (marks_of kernel names lines) x (mark_of names t) (next_marks kernel x t.addr has next) (mark_of_first kernel t has (found_outside kernel (is_next_line ps x) t name at its) found);
+        its = ap (number_for names) (its ∙ sym own);
+        near = near;
       }
 
   -- ---- whose an address is
 
-  owned : (x : ℕ) (name : List ℕ) (o : Option ListedSymbol) → option_and_then (λ (l : ListedSymbol). l.owner) (option_and_then (λ (l : ListedSymbol). cond (nat_lt x (l.addr + reach)) (Some l) None) o) ≡ Some name → (l : ListedSymbol) × (o ≡ Some l) × (x < l.addr + reach) × (l.owner ≡ Some name)
-  owned x name None h = absurd (cc)
-  owned x name (Some l) h =
-      elim (nat_lt x (l.addr + reach)) as (λ b. nat_lt x (l.addr + reach) ≡ b → option_and_then (λ (t : ListedSymbol). t.owner) (cond b (Some l) None) ≡ Some name → (t : ListedSymbol) × (Some l ≡ Some t) × (x < t.addr + reach) × (t.owner ≡ Some name)) [
-        | true ↦ λ e k. (l, refl, ltb-true x (l.addr + reach) e, k)
+  owned : (ls : List ListedSymbol) (x : ℕ) (name : List ℕ) (o : Option ListedSymbol) → option_and_then (λ (l : ListedSymbol). cond (is_in_page l.addr x || goes_on ls x l) l.owner None) o ≡ Some name → (l : ListedSymbol) × (o ≡ Some l) × ((is_in_page l.addr x || goes_on ls x l) ≡ true) × (l.owner ≡ Some name)
+  owned ls x name None h = absurd (cc)
+  owned ls x name (Some l) h =
+      elim (is_in_page l.addr x || goes_on ls x l) as (λ b. (is_in_page l.addr x || goes_on ls x l) ≡ b → cond b l.owner None ≡ Some name → (t : ListedSymbol) × (Some l ≡ Some t) × ((is_in_page t.addr x || goes_on ls x t) ≡ true) × (t.owner ≡ Some name)) [
+        | true ↦ λ e k. (l, refl, e, k)
         | false ↦ λ _ k. absurd (cc)
       ] refl h
 
-  passes_outside : (kernel : Option (ℕ × ℕ)) (l : ListedSymbol) (a : ℕ) → find (is_line_at a) (filter (is_outside kernel) lines) ≡ Some l → is_outside kernel l ≡ true
-  passes_outside kernel l a at = find-has (is_line_at a) (filter (is_outside kernel) lines) l at (λ t. is_outside kernel t ≡ true) (all_passing (is_outside kernel) (λ t. is_outside kernel t ≡ true) lines (λ k d lt yes. yes))
-
-  nearest_found : (kernel : Option (ℕ × ℕ)) (x : ℕ) (l : ListedSymbol) → IsNearestIn (marks_of kernel names lines) x l.addr → find (is_line_at l.addr) (filter (is_outside kernel) lines) ≡ Some l → find (is_nearest_line (posts kernel lines) x) (posts kernel lines) ≡ Some l
-  nearest_found kernel x l near at =
-      let out : is_inside kernel l.addr ≡ false = outside_not_inside kernel l (passes_outside kernel l l.addr at) in
-      let found : find (is_line_at l.addr) (posts kernel lines) ≡ Some l = posts_at kernel lines l.addr out ∙ at in
-      nearest_by_address (posts kernel lines) x l (listed_found (is_line_at l.addr) (posts kernel lines) l found) (near_posts kernel x l.addr out near) ∙ found
-
-  to_lines : (kernel : Option (ℕ × ℕ)) (n x : ℕ) (name : List ℕ) → n ≢ 0 → number_in names name ≡ n → Owns (marks_of kernel names lines) n x → module_of_address (posts kernel lines) x ≡ Some name
+  to_lines : (kernel : List (ℕ × ℕ)) (n x : ℕ) (name : List ℕ) → n ≢ 0 → number_in names name ≡ n → Owns (marks_of kernel names lines) n x → module_of_address (posts kernel lines) x ≡ Some name
   to_lines kernel n x name some is o =
+      let ps : List ListedSymbol = posts kernel lines in
       let m : Mark = o.mark in
-      let (l, at, made) = mark_found kernel m (λ zero. some (sym o.its ∙ zero)) (found_first (marks_of kernel names lines) x m o.nearest) in
-      let addr : l.addr ≡ m.addr = ap (λ (s : Mark). s.addr) made in
-      let near : IsNearestIn (marks_of kernel names lines) x l.addr = subst (λ a. IsNearestIn (marks_of kernel names lines) x a) (sym addr) (record { below = o.nearest.below; clear = o.nearest.nearest }) in
-      let line : find (is_nearest_line (posts kernel lines) x) (posts kernel lines) ≡ Some l = nearest_found kernel x l near (subst (λ a. find (is_line_at a) (filter (is_outside kernel) lines) ≡ Some l) (sym addr) at) in
-      let own : l.owner ≡ Some name = owner_named names l.owner n (ap (λ (s : Mark). s.owner) made ∙ o.its) some ∙ ap (λ (w : List ℕ). Some w) (number_names names name n is some) in
-      let reached : nat_lt x (l.addr + reach) ≡ true = lt-ltb x (l.addr + reach) (subst (λ a. x < a + reach) (sym addr) o.reached) in
-      ap (λ (p : Option ListedSymbol). option_and_then (λ (t : ListedSymbol). t.owner) (option_and_then (λ (t : ListedSymbol). cond (nat_lt x (t.addr + reach)) (Some t) None) p)) line ∙ rw reached own
+      let (l, line) = line_of_first kernel m (λ zero. some (sym o.its ∙ zero)) o.nearest.its in
+      let addr : m.addr ≡ l.addr = sym (ap (λ (s : Mark). s.addr) line.made) in
+      let near : IsNearestIn (marks_of kernel names lines) x l.addr = subst (λ a. IsNearestIn (marks_of kernel names lines) x a) addr (record { below = o.nearest.below; clear = o.nearest.clear }) in
+      let found : post_below ps x ≡ Some l = nearest_by_address ps x l (listed_found (is_line_at l.addr) ps l line.first) (near_posts kernel x l.addr line.out near) ∙ line.first in
+      let reached : (is_in_page l.addr x || goes_on ps x l) ≡ true = ⊎_elim
+      (λ page. or_left (is_in_page l.addr x) (goes_on ps x l) (subst (λ a. is_in_page a x ≡ true) addr page))
+      (λ on. or_right (is_in_page l.addr x) (goes_on ps x l) (to_goes_on kernel n x name m l some is o.its line near on))
+      o.reached in
+      ap (option_and_then (λ (t : ListedSymbol). cond (is_in_page t.addr x || goes_on ps x t) t.owner None)) found
+      ∙ ap (λ b. cond b l.owner None) reached
+      ∙ owner_of_line kernel m l n name some is o.its line
 
-  is_named_outside : (kernel : Option (ℕ × ℕ)) (l : ListedSymbol) (name : List ℕ) → l.owner ≡ Some name → (is_built_in kernel l || is_outside kernel l) ≡ true → is_outside kernel l ≡ true
-  is_named_outside kernel l name own passes = ⊎_elim (λ built_in. absurd (let other : is_built_in kernel l ≡ false = not_built_in kernel l name own in cc)) (λ its. its) (or_cases (is_built_in kernel l) (is_outside kernel l) passes)
-
-  from_lines : (kernel : Option (ℕ × ℕ)) (n x : ℕ) (name : List ℕ) → HasFirstLine kernel lines → n ≢ 0 → number_in names name ≡ n → module_of_address (posts kernel lines) x ≡ Some name → Owns (marks_of kernel names lines) n x
+  from_lines : (kernel : List (ℕ × ℕ)) (n x : ℕ) (name : List ℕ) → HaveFirstLines kernel lines → n ≢ 0 → number_in names name ≡ n → module_of_address (posts kernel lines) x ≡ Some name → Owns (marks_of kernel names lines) n x
   from_lines kernel n x name has some is h =
       let ps : List ListedSymbol = posts kernel lines in
-      let (l, at, reached, own) = owned x name (find (is_nearest_line ps x) ps) h in
+      let (l, at, reached, own) = owned ps x name (post_below ps x) h in
       let near : IsNearestOf ps x l.addr = nearest_line_is ps x l (find-passes (is_nearest_line ps x) ps l at) in
       let found : find (is_line_at l.addr) ps ≡ Some l = sym (nearest_by_address ps x l (listed_found (is_nearest_line ps x) ps l at) near) ∙ at in
-      let passes : (is_built_in kernel l || is_outside kernel l) ≡ true = find-has (is_nearest_line ps x) ps l at (λ t. (is_built_in kernel t || is_outside kernel t) ≡ true) (all_passing (λ t. is_built_in kernel t || is_outside kernel t) (λ t. (is_built_in kernel t || is_outside kernel t) ≡ true) lines (λ k d lt yes. yes)) in
-      let out : is_inside kernel l.addr ≡ false = outside_not_inside kernel l (is_named_outside kernel l name own passes) in
+      let out : is_inside kernel l.addr ≡ false = found_outside kernel (is_nearest_line ps x) l name at own in
       record {
         mark = mark_of names l;
-        nearest = mark_nearest (marks_of kernel names lines) x (mark_of names l) (near_marks kernel x l.addr has near) (found_mark kernel l has out (sym (posts_at kernel lines l.addr out) ∙ found));
+        nearest = mark_nearest (marks_of kernel names lines) x (mark_of names l) (near_marks kernel x l.addr has near) (mark_of_first kernel l has out found);
         its = ap (number_for names) own ∙ is;
-        reached = reached;
+        reached = ⊎_elim
+            (λ page. inl page)
+            (λ on. inr (from_goes_on kernel n x name l has is own on))
+            (or_cases (is_in_page l.addr x) (goes_on ps x l) reached);
         some = some;
       }
 
   -- the marks of a number stand for the posts of the module of its name
-  pub marks_stand : (kernel : Option (ℕ × ℕ)) (n : ℕ) (name : List ℕ) → HasFirstLine kernel lines → n ≢ 0 → number_in names name ≡ n → StandsFor (marks_of kernel names lines) (posts kernel lines) n name
+  pub marks_stand : (kernel : List (ℕ × ℕ)) (n : ℕ) (name : List ℕ) → HaveFirstLines kernel lines → n ≢ 0 → number_in names name ≡ n → StandsFor (marks_of kernel names lines) (posts kernel lines) n name
   marks_stand kernel n name has some is = λ x lt. (to_lines kernel n x name some is, from_lines kernel n x name has some is)

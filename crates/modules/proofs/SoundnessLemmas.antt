@@ -1,10 +1,9 @@
 -- The accepted modules have distinct names and regions that lie apart.
-use Rattle.std.proofs.Common.{◌≡◌, ◌≢◌, ℕ, ◌+◌, ◌*◌, ◌<◌, ◌≤◌, true, false, ◌&&◌, nat_lt, cond, List, [], ◌∷◌, ◌++◌, length, get_or, map, Some, None, Option, refl, sym, ap, ◌∙◌, subst, arith, append_assoc, length-append}
-use Rattle.std.specs.Prelude.{All, IfSome, fold, is_some, codes}
+use Rattle.std.proofs.Common.{◌≡◌, ◌≢◌, ℕ, ◌+◌, ◌*◌, ◌<◌, ◌≤◌, suc, true, false, ◌&&◌, nat_lt, cond, List, [], ◌∷◌, ◌++◌, length, get_or, map, Some, None, Option, refl, sym, ap, ◌∙◌, subst, arith, append_assoc, length-append}
+use Rattle.std.specs.Prelude.{All, IfSome, fold}
 use Rattle.std.specs.Cmp.Lexicographic.{bytes_decides}
-use Rattle.std.specs.List.{flat_map, list_any, list_all}
-use Rattle.std.specs.Option.{option_to_list, option_and_then}
-use Rattle.std.specs.Int.{from_bool}
+use Rattle.std.specs.List.{AllPairs, flat_map, list_any, list_all}
+use Rattle.std.specs.Option.{option_and_then, option_map_or, option_to_list}
 use Rattle.std.specs.Str.{bytes_eq}
 use Rattle.std.proofs.lemmas.Bool.Decides.{nat_tests}
 use Rattle.std.proofs.lemmas.List.{append-nil, length-map, map-append}
@@ -12,20 +11,21 @@ use Rattle.std.proofs.lemmas.List.Concat.{flat_map-append}
 use Rattle.std.proofs.lemmas.List.Elements.{All-nil, All-push, All-head, All-tail, All-cons}
 use Rattle.std.proofs.lemmas.List.Folds.{list_all-append, list_any_at}
 use Rattle.std.proofs.lemmas.List.Quantifiers.{all_pairs_push}
-use Rattle.std.proofs.lemmas.List.Sums.{AllPass-from_list_all}
+use Rattle.std.proofs.lemmas.List.Sums.{AllPass-from_list_all, list_all-from_AllPass}
 use Rattle.std.proofs.lemmas.Bool.{and_from, and_parts}
 use Rattle.facts.proofs.Pairs.{AllPairs-few}
 use Rattle.modules.specs.Accepted.{Accepted, accepted_of, after_module, names_of, none_yet, taken_regions}
-use Rattle.modules.specs.Building.{built_in_with, kernel_at, placed_module_of}
+use Rattle.modules.specs.Building.{built_in_with, kernel_at, module_with, placed_module_of}
 use Rattle.modules.specs.Catalogs.{IsSoundCatalog, built_in_of, catalog_of, catalog_with, entry_for}
 use Rattle.modules.specs.Entries.{ModuleEntry, SymbolEntry}
 use Rattle.modules.specs.Kept.{AreDistinctNames, is_built_in, symbols_that}
-use Rattle.modules.specs.Lines.{fits, region_fits, first_address, built_in_region}
+use Rattle.modules.specs.Lines.{fits, region_fits, first_address, built_in_region, code_regions, kernel_regions, start_bounds, text_bounds, usual_bounds, with_apart}
 use Rattle.modules.specs.Listed.{BoundNames, ListedModule, ListedRegion, ListedSymbol}
 use Rattle.modules.specs.Names.{names_in}
 use Rattle.modules.specs.Placed.{IsPlaced, PlacedModule, are_few, placed_line}
 use Rattle.modules.specs.PlacedModules.{AreSoundModules}
 use Rattle.modules.specs.Regions.{AreApart, are_beside, is_apart, lie_apart}
+use Rattle.modules.specs.declared.lines.Part.TheVariants.{Core}
 use Rattle.modules.proofs.RegionLemmas.{HasFew, IsPlaced-placed, few_placed}
 
 pub turned : (r s : ℕ × ℕ) → is_apart r s ≡ true → is_apart s r ≡ true
@@ -64,8 +64,8 @@ AreApart-append taken_regions (r ∷ rs) apart valid lie beside =
 
 pub taken_more : (a : Accepted) (m : PlacedModule) → taken_regions (record a { modules = a.modules ++ m ∷ [] }) ≡ taken_regions a ++ m.regions
 taken_more a m =
-    ap (λ rs. option_to_list a.built_in ++ rs) (flat_map-append (λ (n : PlacedModule). n.regions) a.modules (m ∷ []) ∙ ap (λ rs. flat_map (λ (n : PlacedModule). n.regions) a.modules ++ rs) (append-nil m.regions))
-    ∙ sym (append_assoc (option_to_list a.built_in) (flat_map (λ (n : PlacedModule). n.regions) a.modules) m.regions)
+    ap (λ rs. a.built_in ++ rs) (flat_map-append (λ (n : PlacedModule). n.regions) a.modules (m ∷ []) ∙ ap (λ rs. flat_map (λ (n : PlacedModule). n.regions) a.modules ++ rs) (append-nil m.regions))
+    ∙ sym (append_assoc a.built_in (flat_map (λ (n : PlacedModule). n.regions) a.modules) m.regions)
 
 names_more : (a : Accepted) (m : PlacedModule) → names_of (a.modules ++ m ∷ []) ≡ names_of a.modules ++ m.name ∷ []
 names_more a m = map-append (λ (n : PlacedModule). n.name) a.modules (m ∷ [])
@@ -91,38 +91,100 @@ pub AreSoundModules-fold : (a : Accepted) (ms : List PlacedModule) → AreSoundM
 AreSoundModules-fold a [] good all = good
 AreSoundModules-fold a (m ∷ ms) good all = AreSoundModules-fold (after_module a m) ms (AreSoundModules-after_module a m good (All-head IsPlaced m ms all)) (All-tail IsPlaced m ms all)
 
-pub AreSoundModules-none : (built_in : Option (ℕ × ℕ)) → IfSome built_in (λ r. r.0 < r.1) → AreSoundModules (none_yet built_in)
-AreSoundModules-none None valid =
+pub AreSoundModules-none : (built_in : List (ℕ × ℕ)) → AreApart built_in → AreSoundModules (none_yet built_in)
+AreSoundModules-none built_in apart =
     record {
       placed = All-nil IsPlaced;
       distinct = AllPairs-few (λ (x y : List ℕ). x ≢ y) [] (omega arith);
-      apart = record { valid = All-nil (λ (x : ℕ × ℕ). x.0 < x.1); apart = AllPairs-few (λ (x y : ℕ × ℕ). is_apart x y ≡ true) [] (omega arith) };
+      apart = subst AreApart (sym (append-nil built_in)) apart;
     }
-AreSoundModules-none (Some r) valid =
-    record {
-      placed = All-nil IsPlaced;
-      distinct = AllPairs-few (λ (x y : List ℕ). x ≢ y) [] (omega arith);
-      apart = record { valid = All-cons (λ (x : ℕ × ℕ). x.0 < x.1) r [] valid (All-nil (λ (x : ℕ × ℕ). x.0 < x.1)); apart = AllPairs-few (λ (x y : ℕ × ℕ). is_apart x y ≡ true) (r ∷ []) (omega arith) };
-    }
+
+-- ---- the regions of the kernel itself
 
 picked : (start end : ℕ) → IfSome {T = ℕ × ℕ} (cond (nat_lt start end) (Some (start, end)) None) (λ r. r.0 < r.1)
 picked start end =
     elim (nat_lt start end) as (λ b. nat_lt start end ≡ b → IfSome {T = ℕ × ℕ} (cond b (Some (start, end)) None) (λ r. r.0 < r.1))
     [ true ↦ λ h. grind (arith, nat_tests) | false ↦ λ h. tt ] refl
 
--- the region of the kernel itself has an address
+-- a region between two symbols has an address
 pub valid_built_in : (start end : Option ℕ) → IfSome {T = ℕ × ℕ} (option_and_then (λ s. option_and_then (λ e. cond (nat_lt s e) (Some (s, e)) None) end) start) (λ r. r.0 < r.1)
 valid_built_in None end = tt
 valid_built_in (Some s) None = tt
 valid_built_in (Some s) (Some e) = picked s e
+
+abbrev IsValid : Option (ℕ × ℕ) → Type 0
+IsValid region = IfSome region (λ r. r.0 < r.1)
+
+valid_region : (names : BoundNames) (lines : List ListedSymbol) → IsValid (built_in_region names lines)
+valid_region names lines = valid_built_in (first_address names.start lines) (first_address names.end lines)
+
+apart_none : AreApart []
+apart_none = record { valid = All-nil (λ (x : ℕ × ℕ). x.0 < x.1); apart = AllPairs-few (λ (x y : ℕ × ℕ). is_apart x y ≡ true) [] (omega arith) }
+
+apart_one : (r : ℕ × ℕ) → r.0 < r.1 → AreApart (r ∷ [])
+apart_one r valid = AreApart-push [] r apart_none valid refl
+
+apart_with : (regions : List (ℕ × ℕ)) (region : Option (ℕ × ℕ)) → AreApart regions → IsValid region → AreApart (with_apart regions region)
+apart_with regions None apart valid = apart
+apart_with regions (Some r) apart valid =
+    elim (list_all (is_apart r) regions) as (λ b. list_all (is_apart r) regions ≡ b → AreApart (cond b (regions ++ r ∷ []) regions))
+    [ true ↦ λ beside. AreApart-push regions r apart valid beside | false ↦ λ _. apart ] refl
+
+apart_listed : (region : Option (ℕ × ℕ)) → IsValid region → AreApart (option_to_list region)
+apart_listed None valid = apart_none
+apart_listed (Some r) valid = apart_one r valid
+
+apart_or : (region : Option (ℕ × ℕ)) (rest : List (ℕ × ℕ)) → IsValid region → AreApart rest → AreApart (option_map_or (λ r. r ∷ []) region rest)
+apart_or None rest valid apart = apart
+apart_or (Some r) rest valid apart = apart_one r valid
+
+pub kernel_apart : (names : Option BoundNames) (lines : List ListedSymbol) → AreApart (kernel_regions names lines)
+kernel_apart None lines =
+    let text : Option (ℕ × ℕ) = built_in_region text_bounds lines in
+    apart_or (built_in_region usual_bounds lines) (code_regions lines) (valid_region usual_bounds lines)
+    (apart_with (with_apart [] text) (built_in_region start_bounds lines) (apart_with [] text apart_none (valid_region text_bounds lines)) (valid_region start_bounds lines))
+kernel_apart (Some names) lines = apart_listed (built_in_region names lines) (valid_region names lines)
+
+-- as the test of a list has it
+pub lie_apart_is : (regions : List (ℕ × ℕ)) → AllPairs (λ r s. is_apart r s ≡ true) regions → lie_apart regions ≡ true
+lie_apart_is [] pairs = refl
+lie_apart_is (r ∷ rs) pairs =
+    and_from (list_all (is_apart r) rs) (lie_apart rs)
+    (list_all-from_AllPass (is_apart r) rs (λ k d lt. pairs 0 (suc k) d (omega arith) (omega arith)))
+    (lie_apart_is rs (λ i j d less lt. pairs (suc i) (suc j) d (omega arith) (omega arith)))
+
+pub none_beside : (regions : List (ℕ × ℕ)) → are_beside [] regions ≡ true
+none_beside [] = refl
+none_beside (r ∷ rs) = none_beside rs
+
+length_with : (regions : List (ℕ × ℕ)) (region : Option (ℕ × ℕ)) → length (with_apart regions region) ≤ length regions + 1
+length_with regions None = omega arith
+length_with regions (Some r) =
+    elim (list_all (is_apart r) regions) as (λ b. length (cond b (regions ++ r ∷ []) regions) ≤ length regions + 1)
+    [ true ↦ omega (arith, length-append regions (r ∷ [])) | false ↦ omega arith ]
+
+length_listed : (region : Option (ℕ × ℕ)) → length (option_to_list region) ≤ 1
+length_listed None = omega arith
+length_listed (Some r) = omega arith
+
+length_or : (region : Option (ℕ × ℕ)) (rest : List (ℕ × ℕ)) → length rest ≤ 2 → length (option_map_or (λ r. r ∷ []) region rest) ≤ 2
+length_or None rest few = few
+length_or (Some r) rest few = omega arith
+
+-- there are two at most
+pub two_of_kernel : (names : Option BoundNames) (lines : List ListedSymbol) → length (kernel_regions names lines) ≤ 2
+two_of_kernel None lines =
+    let text : Option (ℕ × ℕ) = built_in_region text_bounds lines in
+    length_or (built_in_region usual_bounds lines) (code_regions lines) (omega (arith, length_with [] text, length_with (with_apart [] text) (built_in_region start_bounds lines)))
+two_of_kernel (Some names) lines = omega (arith, length_listed (built_in_region names lines))
 
 pub all_placed : (regions : List ListedRegion) (modules : List ListedModule) → All (λ l. fits l ≡ true) modules → All (λ l. region_fits l ≡ true) regions → All IsPlaced (map (placed_line regions) modules)
 all_placed regions [] fit regions_fit = All-nil IsPlaced
 all_placed regions (l ∷ ls) fit regions_fit =
     All-cons IsPlaced (placed_line regions l) (map (placed_line regions) ls) (IsPlaced-placed regions l (All-head (λ (x : ListedModule). fits x ≡ true) l ls fit) regions_fit) (all_placed regions ls (All-tail (λ (x : ListedModule). fits x ≡ true) l ls fit) regions_fit)
 
-pub accepted_good : (names : BoundNames) (modules : List ListedModule) (regions : List ListedRegion) (symbols : List ListedSymbol) → All (λ l. fits l ≡ true) modules → All (λ l. region_fits l ≡ true) regions → AreSoundModules (accepted_of (built_in_region names symbols) regions modules)
-accepted_good names modules regions symbols fit regions_fit = AreSoundModules-fold (none_yet (built_in_region names symbols)) (map (placed_line regions) modules) (AreSoundModules-none (built_in_region names symbols) (valid_built_in (first_address names.start symbols) (first_address names.end symbols))) (all_placed regions modules fit regions_fit)
+pub accepted_good : (names : Option BoundNames) (modules : List ListedModule) (regions : List ListedRegion) (symbols : List ListedSymbol) → All (λ l. fits l ≡ true) modules → All (λ l. region_fits l ≡ true) regions → AreSoundModules (accepted_of (kernel_regions names symbols) regions modules)
+accepted_good names modules regions symbols fit regions_fit = AreSoundModules-fold (none_yet (kernel_regions names symbols)) (map (placed_line regions) modules) (AreSoundModules-none (kernel_regions names symbols) (kernel_apart names symbols)) (all_placed regions modules fit regions_fit)
 
 -- ---- of the catalog
 
@@ -137,33 +199,36 @@ pub built_in_kept : (a : Accepted) (ms : List PlacedModule) → (fold after_modu
 built_in_kept a [] = refl
 built_in_kept a (m ∷ ms) = built_in_kept (after_module a m) ms ∙ built_in_after a m
 
+pub built_in_of_accepted : (built_in : List (ℕ × ℕ)) (regions : List ListedRegion) (modules : List ListedModule) → (accepted_of built_in regions modules).built_in ≡ built_in
+built_in_of_accepted built_in regions modules = built_in_kept (none_yet built_in) (map (placed_line regions) modules)
+
 pub module_regions : (symbols : List ListedSymbol) (ms : List PlacedModule) → flat_map (λ (m : ModuleEntry). m.regions) (map (entry_for symbols) ms) ≡ flat_map (λ (m : PlacedModule). m.regions) ms
 module_regions symbols [] = refl
 module_regions symbols (m ∷ ms) = ap (λ rs. m.regions ++ rs) (module_regions symbols ms)
 
-all_regions : (built_in : Option (ℕ × ℕ)) (symbols : List ListedSymbol) (ms : List PlacedModule) → flat_map (λ (m : ModuleEntry). m.regions) (option_to_list (built_in_of built_in symbols) ++ map (entry_for symbols) ms) ≡ option_to_list built_in ++ flat_map (λ (m : PlacedModule). m.regions) ms
-all_regions None symbols ms = module_regions symbols ms
-all_regions (Some r) symbols ms = ap (λ rs. r ∷ rs) (module_regions symbols ms)
+all_regions : (built_in : List (ℕ × ℕ)) (symbols : List ListedSymbol) (ms : List PlacedModule) → flat_map (λ (m : ModuleEntry). m.regions) (option_to_list (built_in_of built_in symbols) ++ map (entry_for symbols) ms) ≡ built_in ++ flat_map (λ (m : PlacedModule). m.regions) ms
+all_regions [] symbols ms = module_regions symbols ms
+all_regions (r ∷ rs) symbols ms = ap (λ xs. (r ∷ rs) ++ xs) (module_regions symbols ms)
 
 module_names : (symbols : List ListedSymbol) (ms : List PlacedModule) → names_in (map (entry_for symbols) ms) ≡ names_of ms
 module_names symbols [] = refl
 module_names symbols (m ∷ ms) = ap (λ ns. m.name ∷ ns) (module_names symbols ms)
 
--- the kernel itself lies in its one region
-pub kernel_placed : (r : ℕ × ℕ) → r.0 < r.1 → IsPlaced (kernel_at r)
-kernel_placed r valid = record { same = refl; some_core = refl; valid = All-cons (λ (x : ℕ × ℕ). x.0 < x.1) r [] valid (All-nil (λ (x : ℕ × ℕ). x.0 < x.1)) }
+-- the kernel itself lies in its regions
+pub kernel_placed : (r : ℕ × ℕ) (rs : List (ℕ × ℕ)) → All (λ r. r.0 < r.1) (r ∷ rs) → IsPlaced (kernel_at (r ∷ rs))
+kernel_placed r rs valid = record { same = length-map (r ∷ rs) (λ (_ : ℕ × ℕ). Core); some_core = refl; valid = valid }
 
 modules_placed : (symbols : List ListedSymbol) (ms : List PlacedModule) → All IsPlaced ms → All (λ m. IsPlaced (placed_module_of m)) (map (entry_for symbols) ms)
 modules_placed symbols [] all = All-nil (λ (m : ModuleEntry). IsPlaced (placed_module_of m))
 modules_placed symbols (m ∷ ms) all = All-cons (λ (x : ModuleEntry). IsPlaced (placed_module_of x)) (entry_for symbols m) (map (entry_for symbols) ms) (All-head IsPlaced m ms all) (modules_placed symbols ms (All-tail IsPlaced m ms all))
 
-entries_placed : (built_in : Option (ℕ × ℕ)) (symbols : List ListedSymbol) (ms : List PlacedModule) → IfSome built_in (λ r. r.0 < r.1) → All IsPlaced ms → All (λ m. IsPlaced (placed_module_of m)) (option_to_list (built_in_of built_in symbols) ++ map (entry_for symbols) ms)
-entries_placed None symbols ms valid all = modules_placed symbols ms all
-entries_placed (Some r) symbols ms valid all = All-cons (λ (x : ModuleEntry). IsPlaced (placed_module_of x)) (record { name = codes "-"; regions = r ∷ []; parts = (kernel_at r).parts; symbols = symbols_that (is_built_in (Some r)) symbols }) (map (entry_for symbols) ms) (kernel_placed r valid) (modules_placed symbols ms all)
+entries_placed : (built_in : List (ℕ × ℕ)) (symbols : List ListedSymbol) (ms : List PlacedModule) → All (λ r. r.0 < r.1) built_in → All IsPlaced ms → All (λ m. IsPlaced (placed_module_of m)) (option_to_list (built_in_of built_in symbols) ++ map (entry_for symbols) ms)
+entries_placed [] symbols ms valid all = modules_placed symbols ms all
+entries_placed (r ∷ rs) symbols ms valid all = All-cons (λ (x : ModuleEntry). IsPlaced (placed_module_of x)) (module_with (kernel_at (r ∷ rs)) (symbols_that (is_built_in (r ∷ rs)) symbols)) (map (entry_for symbols) ms) (kernel_placed r rs valid) (modules_placed symbols ms all)
 
-pub valid_kernel : (built_in : Option (ℕ × ℕ)) (rest : List (ℕ × ℕ)) → All (λ r. r.0 < r.1) (option_to_list built_in ++ rest) → IfSome built_in (λ r. r.0 < r.1)
-valid_kernel None rest valid = tt
-valid_kernel (Some r) rest valid = All-head (λ (x : ℕ × ℕ). x.0 < x.1) r rest valid
+pub valid_kernel : (built_in rest : List (ℕ × ℕ)) → All (λ r. r.0 < r.1) (built_in ++ rest) → All (λ r. r.0 < r.1) built_in
+valid_kernel [] rest valid = All-nil (λ (x : ℕ × ℕ). x.0 < x.1)
+valid_kernel (r ∷ rs) rest valid = All-cons (λ (x : ℕ × ℕ). x.0 < x.1) r rs (All-head (λ (x : ℕ × ℕ). x.0 < x.1) r (rs ++ rest) valid) (valid_kernel rs rest (All-tail (λ (x : ℕ × ℕ). x.0 < x.1) r (rs ++ rest) valid))
 
 pub IsSound-catalog_with : (a : Accepted) (symbols : List ListedSymbol) → AreSoundModules a → IsSoundCatalog (catalog_with a symbols)
 IsSound-catalog_with a symbols good =
@@ -173,18 +238,14 @@ IsSound-catalog_with a symbols good =
       distinct = subst AreDistinctNames (sym (module_names symbols a.modules)) good.distinct;
     }
 
-pub IsSound-catalog_of : (names : BoundNames) (modules : List ListedModule) (regions : List ListedRegion) (symbols : List ListedSymbol) → All (λ l. fits l ≡ true) modules → All (λ l. region_fits l ≡ true) regions → IsSoundCatalog (catalog_of names modules regions symbols)
+pub IsSound-catalog_of : (names : Option BoundNames) (modules : List ListedModule) (regions : List ListedRegion) (symbols : List ListedSymbol) → All (λ l. fits l ≡ true) modules → All (λ l. region_fits l ≡ true) regions → IsSoundCatalog (catalog_of names modules regions symbols)
 IsSound-catalog_of names modules regions symbols fit regions_fit =
-    IsSound-catalog_with (accepted_of (built_in_region names symbols) regions modules) symbols (accepted_good names modules regions symbols fit regions_fit)
+    IsSound-catalog_with (accepted_of (kernel_regions names symbols) regions modules) symbols (accepted_good names modules regions symbols fit regions_fit)
 
 -- how many regions the kernel itself and the modules have
-pub count_of_regions : (built_in : Option ModuleEntry) (modules : List ModuleEntry) → IfSome built_in (λ m. length m.regions ≡ 1) → from_bool (is_some built_in) + length (flat_map (λ m. m.regions) modules) ≡ length (flat_map (λ m. m.regions) (option_to_list built_in ++ modules))
-count_of_regions None modules one = omega arith
-count_of_regions (Some m) modules one = omega (arith, length-append m.regions (flat_map (λ (x : ModuleEntry). x.regions) modules))
-
-pub kernel_one : (region : Option (ℕ × ℕ)) (symbols : List SymbolEntry) → IfSome (built_in_with region symbols) (λ m. length m.regions ≡ 1)
-kernel_one None symbols = tt
-kernel_one (Some r) symbols = refl
+pub count_of_regions : (built_in : List (ℕ × ℕ)) (symbols : List SymbolEntry) (modules : List ModuleEntry) → length built_in + length (flat_map (λ m. m.regions) modules) ≡ length (flat_map (λ m. m.regions) (option_to_list (built_in_with built_in symbols) ++ modules))
+count_of_regions [] symbols modules = omega arith
+count_of_regions (r ∷ rs) symbols modules = sym (length-append (r ∷ rs) (flat_map (λ (x : ModuleEntry). x.regions) modules))
 
 -- each line in turn, at its module, as the modules in turn
 pub fold_placed : (regions : List ListedRegion) (a : Accepted) (lines : List ListedModule) → fold (λ b x. after_module b (placed_line regions x)) a lines ≡ fold after_module a (map (placed_line regions) lines)
@@ -204,7 +265,7 @@ few_fold : (regions : List ListedRegion) (a : Accepted) (modules : List ListedMo
 few_fold regions a [] few all = all
 few_fold regions a (l ∷ ls) few all = few_fold regions (after_module a (placed_line regions l)) ls few (few_after a (placed_line regions l) all (few_placed regions l few))
 
-pub accepted_few : (built_in : Option (ℕ × ℕ)) (regions : List ListedRegion) (modules : List ListedModule) → are_few regions ≡ true → All HasFew (accepted_of built_in regions modules).modules
+pub accepted_few : (built_in : List (ℕ × ℕ)) (regions : List ListedRegion) (modules : List ListedModule) → are_few regions ≡ true → All HasFew (accepted_of built_in regions modules).modules
 accepted_few built_in regions modules few = few_fold regions (none_yet built_in) modules few (All-nil HasFew)
 
 few_entries : (symbols : List ListedSymbol) (ms : List PlacedModule) → All HasFew ms → All (λ (m : ModuleEntry). length m.regions ≤ 7) (map (entry_for symbols) ms)
@@ -212,9 +273,9 @@ few_entries symbols [] all = All-nil (λ (m : ModuleEntry). length m.regions ≤
 few_entries symbols (m ∷ ms) all = All-cons (λ (x : ModuleEntry). length x.regions ≤ 7) (entry_for symbols m) (map (entry_for symbols) ms) (All-head HasFew m ms all) (few_entries symbols ms (All-tail HasFew m ms all))
 
 -- no module of the catalog of listings has more than seven
-pub few_in_catalog : (names : BoundNames) (modules : List ListedModule) (regions : List ListedRegion) (symbols : List ListedSymbol) → are_few regions ≡ true → All (λ m. length m.regions ≤ 7) (catalog_of names modules regions symbols).modules
+pub few_in_catalog : (names : Option BoundNames) (modules : List ListedModule) (regions : List ListedRegion) (symbols : List ListedSymbol) → are_few regions ≡ true → All (λ m. length m.regions ≤ 7) (catalog_of names modules regions symbols).modules
 few_in_catalog names modules regions symbols few =
-    few_entries symbols (accepted_of (built_in_region names symbols) regions modules).modules (accepted_few (built_in_region names symbols) regions modules few)
+    few_entries symbols (accepted_of (kernel_regions names symbols) regions modules).modules (accepted_few (kernel_regions names symbols) regions modules few)
 
 -- so many modules of at most seven regions
 few_regions : (ms : List PlacedModule) → All HasFew ms → length (flat_map (λ (m : PlacedModule). m.regions) ms) ≤ 7 * length ms
@@ -238,7 +299,7 @@ count_fold a [] = omega arith
 count_fold a (m ∷ ms) = omega (arith, count_fold (after_module a m) ms, count_after a m)
 
 -- no more than seven regions a line of a module
-pub few_accepted : (built_in : Option (ℕ × ℕ)) (regions : List ListedRegion) (modules : List ListedModule) → are_few regions ≡ true → length (flat_map (λ m. m.regions) (accepted_of built_in regions modules).modules) ≤ 7 * length modules
+pub few_accepted : (built_in : List (ℕ × ℕ)) (regions : List ListedRegion) (modules : List ListedModule) → are_few regions ≡ true → length (flat_map (λ m. m.regions) (accepted_of built_in regions modules).modules) ≤ 7 * length modules
 few_accepted built_in regions modules few =
     let placed : List PlacedModule = map (placed_line regions) modules in
     omega (

@@ -1,12 +1,12 @@
 -- Regions by rising address, with addresses between any two, are determined by what they hold.
-use Rattle.std.proofs.Common.{◌≡◌, ℕ, ◌<◌, ◌≤◌, suc, Bool, true, List, [], ◌∷◌, map, Some, refl, ap, sym, ◌∙◌, ⊎_elim, arith}
+use Rattle.std.proofs.Common.{◌≡◌, ℕ, ◌<◌, ◌≤◌, suc, Bool, true, List, [], ◌∷◌, map, Option, Some, refl, ap, sym, ◌∙◌, ⊎_elim, arith}
 use Rattle.std.specs.Prelude.{All}
 use Rattle.std.specs.List.{AllPairs, list_any}
 use Rattle.std.proofs.lemmas.Bool.{cases_lt, or_cases, or_left, or_right}
 use Rattle.std.proofs.lemmas.Bool.Decides.{nat_tests}
 use Rattle.std.proofs.lemmas.List.Elements.{All-head, All-tail}
 use Rattle.modules.specs.Accepted.{Accepted}
-use Rattle.modules.specs.Lines.{built_in_region}
+use Rattle.modules.specs.Lines.{kernel_regions}
 use Rattle.modules.specs.Listed.{BoundNames, ListedSymbol}
 use Rattle.modules.specs.Owners.{posts}
 use Rattle.modules.specs.Placed.{PlacedModule}
@@ -114,9 +114,9 @@ same_modules lines (m ∷ ms) (n ∷ ns) e p q =
     ap (λ x. x ∷ ms) (one_module lines m n (All-head (HasItsRegions lines) m ms p) (All-head (HasItsRegions lines) n ns q) name)
     ∙ ap (λ xs. n ∷ xs) (same_modules lines ms ns rest (All-tail (HasItsRegions lines) m ms p) (All-tail (HasItsRegions lines) n ns q))
 
-pub same_accepted : (names : BoundNames) (lines : List ListedSymbol) (a b : Accepted) → IsFromSymbols names lines a → IsFromSymbols names lines b → a ≡ b
+pub same_accepted : (names : Option BoundNames) (lines : List ListedSymbol) (a b : Accepted) → IsFromSymbols names lines a → IsFromSymbols names lines b → a ≡ b
 same_accepted names lines a b p q =
-    let modules : a.modules ≡ b.modules = same_modules (posts (built_in_region names lines) lines) a.modules b.modules (p.named ∙ sym q.named) p.regions q.regions in
+    let modules : a.modules ≡ b.modules = same_modules (posts (kernel_regions names lines) lines) a.modules b.modules (p.named ∙ sym q.named) p.regions q.regions in
     ap (λ x. record { built_in = x; modules = a.modules; double = a.double; overlap = a.overlap }) (p.kernel ∙ sym q.kernel)
     ∙ ap (λ x. record { built_in = b.built_in; modules = x; double = a.double; overlap = a.overlap }) modules
     ∙ ap (λ x. record { built_in = b.built_in; modules = b.modules; double = x; overlap = a.overlap }) (p.double ∙ sym q.double)

@@ -1,13 +1,13 @@
 -- What one step of the sweep adds.
-use Rattle.std.proofs.Common.{◌≡◌, ℕ, ◌+◌, ◌<◌, ◌≤◌, List, length, get_or, ap, sym, subst, ◌∙◌, inl, inr, ⊎_elim, arith}
+use Rattle.std.proofs.Common.{◌≡◌, ℕ, ◌+◌, ◌-◌, ◌^◌, ◌<◌, ◌≤◌, true, List, length, get_or, ap, sym, subst, ◌∙◌, inl, inr, ⊎_elim, arith}
 use Rattle.std.specs.Prelude.{◌≢◌, ◌⊎◌, ◌↔◌}
 use Rattle.std.specs.List.Sorted.{IsNonDecreasingBy}
 use Rattle.std.proofs.lemmas.Bool.{cases_lt}
 use Rattle.std.proofs.lemmas.List.{get_or_default}
 use Rattle.order_laws.specs.declared.items.Item.{Item}
 use Rattle.modules.specs.Marks.{HoldsFor}
-use Rattle.modules.specs.Marks.{IsNearestMark, Owns}
-use Rattle.modules.specs.Owners.{reach}
+use Rattle.modules.specs.Marks.{GoesOn, IsFirstMark, IsNearestMark, IsNextMark, Owns}
+use Rattle.modules.specs.Owners.{is_in_page, reach}
 use Rattle.modules.specs.declared.marks.Mark.{Mark}
 
 -- of the marks below a place, this is the first of the greatest address
@@ -24,43 +24,120 @@ AreAbove marks done next = (k : ℕ) (d : Mark) → done ≤ k → k < length ma
 
 -- ---- the nearest mark
 
-pub nearest_from : (marks : List Mark) (done : ℕ) (from : Mark) (next x : ℕ) → IsFrom marks done from → AreAbove marks done next → from.addr ≤ x → x < next → IsNearestMark marks x from
-nearest_from marks done from next x is rest le lt = record {
+first_mark : (marks : List Mark) (done : ℕ) (from : Mark) → IsFrom marks done from → IsFirstMark marks from
+first_mark marks done from is = record {
   place = is.place;
   within = is.within;
   listed = is.listed;
-  below = le;
-  nearest = λ k d within. ⊎_elim
-      (λ less. inl (is.greatest k d less within))
-      (λ ge. inr (let r = rest k d ge within in omega arith))
-      (cases_lt k done);
   first = λ k d less e. (let f = is.first k d less in omega arith);
 }
 
-address_le : (marks : List Mark) (x : ℕ) (l n : Mark) → IsNearestMark marks x l → IsNearestMark marks x n → l.addr ≤ n.addr
-address_le marks x l n p q =
-    let e : (get_or marks p.place l).addr ≡ l.addr = ap (λ (s : Mark). s.addr) p.listed in
-    let b = p.below in
-    ⊎_elim (λ le. omega arith) (λ lt. absurd (omega arith)) (q.nearest p.place l p.within)
+pub nearest_from : (marks : List Mark) (done : ℕ) (from : Mark) (next x : ℕ) → IsFrom marks done from → AreAbove marks done next → from.addr ≤ x → x < next → IsNearestMark marks x from
+nearest_from marks done from next x is rest le lt = record {
+  its = first_mark marks done from is;
+  below = le;
+  clear = λ k d within. ⊎_elim
+      (λ less. inl (is.greatest k d less within))
+      (λ ge. inr (let r = rest k d ge within in omega arith))
+      (cases_lt k done);
+}
 
-place_ge : (marks : List Mark) (x : ℕ) (l n : Mark) → (p : IsNearestMark marks x l) → (q : IsNearestMark marks x n) → p.place < q.place → ⊥
-place_ge marks x l n p q lt =
-    let e : (get_or marks p.place l).addr ≡ l.addr = ap (λ (s : Mark). s.addr) p.listed in
-    let a = address_le marks x l n p q in
-    let b = address_le marks x n l q p in
-    q.first p.place l lt (omega arith)
+address_at : (marks : List Mark) (l : Mark) (p : IsFirstMark marks l) → (get_or marks p.place l).addr ≡ l.addr
+address_at marks l p = ap (λ (s : Mark). s.addr) p.listed
 
--- there is one
-pub nearest_is_one : (marks : List Mark) (x : ℕ) (l n : Mark) → IsNearestMark marks x l → IsNearestMark marks x n → l ≡ n
-nearest_is_one marks x l n p q =
+-- of one address there is one first mark
+place_ge : (marks : List Mark) (l n : Mark) → (p : IsFirstMark marks l) → (q : IsFirstMark marks n) → l.addr ≡ n.addr → p.place < q.place → ⊥
+place_ge marks l n p q same lt = let e = address_at marks l p in q.first p.place l lt (omega arith)
+
+first_is_one : (marks : List Mark) (l n : Mark) → IsFirstMark marks l → IsFirstMark marks n → l.addr ≡ n.addr → l ≡ n
+first_is_one marks l n p q same =
     ⊎_elim
-    (λ lt. absurd (place_ge marks x l n p q lt))
+    (λ lt. absurd (place_ge marks l n p q same lt))
     (λ ge. ⊎_elim
-    (λ lt. absurd (place_ge marks x n l q p lt))
+    (λ lt. absurd (place_ge marks n l q p (sym same) lt))
     (λ le. let e : p.place ≡ q.place = omega arith in
     sym p.listed ∙ get_or_default marks p.place l n p.within ∙ ap (λ k. get_or marks k n) e ∙ q.listed)
     (cases_lt q.place p.place))
     (cases_lt p.place q.place)
+
+nearest_le : (marks : List Mark) (x : ℕ) (l n : Mark) → IsNearestMark marks x l → IsNearestMark marks x n → l.addr ≤ n.addr
+nearest_le marks x l n p q =
+    let e = address_at marks l p.its in
+    let b = p.below in
+    ⊎_elim (λ le. omega arith) (λ lt. absurd (omega arith)) (q.clear p.its.place l p.its.within)
+
+-- there is one
+pub nearest_is_one : (marks : List Mark) (x : ℕ) (l n : Mark) → IsNearestMark marks x l → IsNearestMark marks x n → l ≡ n
+nearest_is_one marks x l n p q =
+    let a = nearest_le marks x l n p q in
+    let b = nearest_le marks x n l q p in
+    first_is_one marks l n p.its q.its (omega arith)
+
+next_le : (marks : List Mark) (x : ℕ) (l n : Mark) → IsNextMark marks x l → IsNextMark marks x n → n.addr ≤ l.addr
+next_le marks x l n p q =
+    let e = address_at marks l p.its in
+    let b = p.above in
+    ⊎_elim (λ le. absurd (omega arith)) (λ ge. omega arith) (q.clear p.its.place l p.its.within)
+
+next_is_one : (marks : List Mark) (x : ℕ) (l n : Mark) → IsNextMark marks x l → IsNextMark marks x n → l ≡ n
+next_is_one marks x l n p q =
+    let a = next_le marks x l n p q in
+    let b = next_le marks x n l q p in
+    first_is_one marks l n p.its q.its (omega arith)
+
+-- the mark at a place is the next of those that lie above the ones before it
+next_at : (marks : List Mark) (done : ℕ) (from next : Mark) (x : ℕ) → IsFrom marks done from → AreAbove marks done next.addr → done < length marks → get_or marks done next ≡ next → from.addr ≤ x → x < next.addr → IsNextMark marks x next
+next_at marks done from next x is rest within at le lt = record {
+  its = record {
+    place = done;
+    within = within;
+    listed = at;
+    first = λ k d less e. (let g = is.greatest k d less (omega arith) in omega arith);
+  };
+  above = lt;
+  clear = λ k d inside. ⊎_elim
+      (λ less. inl (let g = is.greatest k d less inside in omega arith))
+      (λ ge. inr (rest k d ge inside))
+      (cases_lt k done);
+}
+
+-- ---- how far a mark's addresses go
+
+-- the address is in the page of the mark, or the mark's addresses go on
+abbrev pub IsReached : List Mark → Mark → ℕ → Type 0
+IsReached marks m x = (is_in_page m.addr x ≡ true) ⊎ GoesOn marks x m
+
+-- up to the next mark
+pub reached_before : (marks : List Mark) (done : ℕ) (from next : Mark) (end : ℕ) → IsFrom marks done from → AreAbove marks done next.addr → done < length marks → get_or marks done next ≡ next
+    → ((x : ℕ) → from.addr ≤ x → x < next.addr → (x < end) ↔ ((is_in_page from.addr x ≡ true) ⊎ ((next.owner ≡ from.owner) × (next.addr < from.addr + reach))))
+    → (x : ℕ) → from.addr ≤ x → x < next.addr → (x < end) ↔ IsReached marks from x
+reached_before marks done from next end is rest within at exact x le lt =
+    let here : IsNextMark marks x next = next_at marks done from next x is rest within at le lt in (
+      λ h. ⊎_elim (λ page. inl page) (λ (its, near). inr (record { mark = next; next = here; its = its; near = near })) ((exact x le lt).0 h),
+      λ h. (exact x le lt).1 (⊎_elim
+          (λ page. inl page)
+          (λ on.
+          let same : on.mark ≡ next = next_is_one marks x on.mark next on.next here in
+          inr (ap (λ (s : Mark). s.owner) (sym same) ∙ on.its, subst (λ (s : Mark). s.addr < from.addr + reach) same on.near))
+          h),
+    )
+
+-- no mark lies above the last
+pub reached_last : (marks : List Mark) (done : ℕ) (from : Mark) (end : ℕ) → IsFrom marks done from → length marks ≤ done
+    → ((x : ℕ) → from.addr ≤ x → x < 2 ^ 64 - 1 → (is_in_page from.addr x ≡ true) ↔ (x < end))
+    → (x : ℕ) → from.addr ≤ x → x < 2 ^ 64 - 1 → (x < end) ↔ IsReached marks from x
+reached_last marks done from end is all exact x le lt = (
+  λ h. inl ((exact x le lt).1 h),
+  λ h. (exact x le lt).0 (⊎_elim
+      (λ page. page)
+      (λ on.
+      let f : IsFirstMark marks on.mark = on.next.its in
+      let e = address_at marks on.mark f in
+      let g = is.greatest f.place on.mark (let w = f.within in omega arith) f.within in
+      let a = on.next.above in
+      absurd (omega arith))
+      h),
+)
 
 -- ---- the items of the addresses so far
 
@@ -68,23 +145,34 @@ nearest_is_one marks x l n p q =
 abbrev pub AreExact : List Mark → List Item → ℕ → Type 0
 AreExact marks items bound = (m x : ℕ) → HoldsFor items m x ↔ ((x < bound) × Owns marks m x)
 
--- the addresses that a mark has below the next
+-- the addresses from a mark up to an end
 abbrev pub Reaches : Mark → ℕ → ℕ → ℕ → Type 0
-Reaches from next m x = (from.owner ≢ 0) × (from.owner ≡ m) × (from.addr ≤ x) × (x < next) × (x < from.addr + reach)
+Reaches from end m x = (from.owner ≢ 0) × (from.owner ≡ m) × (from.addr ≤ x) × (x < end)
 
-pub exact_with : (marks : List Mark) (done : ℕ) (from : Mark) (next : ℕ) (old new : List Item) → IsFrom marks done from → AreAbove marks done next → from.addr ≤ next → AreExact marks old from.addr
-    → ((m x : ℕ) → HoldsFor new m x ↔ (HoldsFor old m x ⊎ Reaches from next m x)) → AreExact marks new next
-exact_with marks done from next old new is rest le exact more m x = (
+-- all marks from a place on lie above the addresses that are added
+pub exact_with : (marks : List Mark) (done : ℕ) (from : Mark) (end next : ℕ) (old new : List Item) → IsFrom marks done from → AreAbove marks done next → from.addr ≤ next → end ≤ next → ((x : ℕ) → from.addr ≤ x → x < next → (x < end) ↔ IsReached marks from x)
+    → AreExact marks old from.addr → ((m x : ℕ) → HoldsFor new m x ↔ (HoldsFor old m x ⊎ Reaches from end m x)) → AreExact marks new next
+exact_with marks done from end next old new is rest le within reached exact more m x = (
   λ h. ⊎_elim
       (λ before. let (lt, owns) = (exact m x).0 before in (omega arith, owns))
-      (λ (some, its, ge, lt, reached). (lt, record { mark = from; nearest = nearest_from marks done from next x is rest ge lt; its = its; reached = reached; some = λ zero. some (its ∙ zero) }))
+      (λ (some, its, ge, lt).
+      let below : x < next = omega arith in (
+        below,
+        record {
+          mark = from;
+          nearest = nearest_from marks done from next x is rest ge below;
+          its = its;
+          reached = (reached x ge below).0 lt;
+          some = λ zero. some (its ∙ zero);
+        },
+      ))
       ((more m x).0 h),
   λ (lt, owns). (more m x).1 (⊎_elim
       (λ before. inl ((exact m x).1 (before, owns)))
       (λ ge.
       let e : owns.mark ≡ from = nearest_is_one marks x owns.mark from owns.nearest (nearest_from marks done from next x is rest ge lt) in
       let its : from.owner ≡ m = ap (λ (s : Mark). s.owner) (sym e) ∙ owns.its in
-      inr (λ zero. owns.some (sym its ∙ zero), its, ge, lt, subst (λ (s : Mark). x < s.addr + reach) e owns.reached))
+      inr (λ zero. owns.some (sym its ∙ zero), its, ge, (reached x ge lt).1 (subst (λ (s : Mark). IsReached marks s x) e owns.reached)))
       (cases_lt x from.addr)),
 )
 
@@ -93,11 +181,11 @@ pub exact_none : (marks : List Mark) (items : List Item) (from : Mark) → IsNon
 exact_none marks items from rising is none m x = (
   λ h. absurd (let (k, lt, at) = h.there in omega arith),
   λ (lt, owns).
-      let n = owns.nearest in
+      let n = owns.nearest.its in
       let up : (get_or marks 0 owns.mark).addr ≤ (get_or marks n.place owns.mark).addr = rising 0 n.place owns.mark (omega arith) n.within in
-      let e : (get_or marks n.place owns.mark).addr ≡ owns.mark.addr = ap (λ (s : Mark). s.addr) n.listed in
+      let e = address_at marks owns.mark n in
       let f : (get_or marks 0 owns.mark).addr ≡ from.addr = ap (λ (s : Mark). s.addr) (get_or_default marks 0 owns.mark from (let w = n.within in omega arith) ∙ is) in
-      let b = n.below in
+      let b = owns.nearest.below in
       absurd (omega arith),
 )
 

@@ -4,7 +4,7 @@ use Rattle.order_laws.specs.declared.items.Item.{Item}
 use Rattle.modules.specs.Accepted.{accepted_with}
 use Rattle.modules.specs.FromSymbols.{IsFromSymbols}
 use Rattle.modules.specs.LineMarks.{AreNamed, kept_numbers, marks_of, modules_numbered}
-use Rattle.modules.specs.Lines.{built_in_region}
+use Rattle.modules.specs.Lines.{kernel_regions}
 use Rattle.modules.specs.Listed.{BoundNames, ListedSymbol}
 use Rattle.modules.specs.Marks.{AreRegions}
 use Rattle.modules.specs.Placed.{PlacedModule}
@@ -14,16 +14,16 @@ use Rattle.modules.specs.declared.symbol_lines.Run.{Run}
 use Rattle.modules.proofs.KeptOrderLemmas.{from_symbols}
 
 -- the modules of the kept numbers are those of the listing
-pub found_modules : (bounds : BoundNames) (kernel : Option (ℕ × ℕ)) (names : List (List ℕ)) (runs : List Run) (lines : List ListedSymbol) (marks : List Mark) (items : List Item) (modules : List PlacedModule)
+pub found_modules : (bounds : Option BoundNames) (kernel : List (ℕ × ℕ)) (names : List (List ℕ)) (runs : List Run) (lines : List ListedSymbol) (marks : List Mark) (items : List Item) (modules : List PlacedModule)
     → lines_of_all runs ≡ lines → AreNamed names (lines_of_all runs) → marks ≡ marks_of kernel names (lines_of_all runs) → AreRegions marks items
-    → modules ≡ modules_numbered names items (kept_numbers items marks) → kernel ≡ built_in_region bounds lines → IsFromSymbols bounds lines (accepted_with kernel modules)
+    → modules ≡ modules_numbered names items (kept_numbers items marks) → kernel ≡ kernel_regions bounds lines → IsFromSymbols bounds lines (accepted_with kernel modules)
 found_modules bounds kernel names runs lines marks items modules shown named are regions is at =
-    let built_in : Option (ℕ × ℕ) = built_in_region bounds lines in
+    let built_in : List (ℕ × ℕ) = kernel_regions bounds lines in
     let same : marks ≡ marks_of built_in names lines =
     are
     ∙ ap (λ (ls : List ListedSymbol). marks_of kernel names ls) shown
-    ∙ ap (λ (k : Option (ℕ × ℕ)). marks_of k names lines) at in
+    ∙ ap (λ (k : List (ℕ × ℕ)). marks_of k names lines) at in
     let all : AreNamed names lines = subst (λ (ls : List ListedSymbol). AreNamed names ls) shown named in
     let found = from_symbols bounds lines names items all (subst (λ (ms : List Mark). AreRegions ms items) same regions) in
-    subst (λ (k : Option (ℕ × ℕ)). IsFromSymbols bounds lines (accepted_with k modules)) (sym at)
+    subst (λ (k : List (ℕ × ℕ)). IsFromSymbols bounds lines (accepted_with k modules)) (sym at)
     (subst (λ (ms : List PlacedModule). IsFromSymbols bounds lines (accepted_with built_in ms)) (sym (is ∙ ap (λ (ms : List Mark). modules_numbered names items (kept_numbers items ms)) same)) found)

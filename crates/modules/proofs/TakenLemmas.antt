@@ -242,7 +242,7 @@ items_numbered count marks items regions within = λ k d lt.
     let some : i.a < i.b = regions.laid.valid k d lt in
     let holds : HoldsFor items i.tag i.a = record { item = i; there = (k, lt, get_or_default items k i d lt); its = refl; from = omega arith; below = some } in
     let owns = ((regions.exact i.tag i.a).0 holds).1 in
-    let near = owns.nearest in
+    let near = owns.nearest.its in
     let most : (get_or marks near.place owns.mark).owner ≤ count = within near.place owns.mark near.within in
     let is : (get_or marks near.place owns.mark).owner ≡ i.tag = ap (λ (m : Mark). m.owner) near.listed ∙ owns.its in
     let positive : 0 < i.tag = pos i.tag owns.some in

@@ -1,17 +1,16 @@
 -- Which lines of the listing of modules are accepted.
-use Rattle.std.specs.Prelude.{ℕ, ◌+◌, ◌&&◌, if◌then◌else◌, List, [], ◌∷◌, ◌++◌, map, fold, Option}
+use Rattle.std.specs.Prelude.{ℕ, ◌+◌, ◌&&◌, if◌then◌else◌, List, [], ◌∷◌, ◌++◌, map, fold}
 use Rattle.std.specs.List.{flat_map, list_any}
-use Rattle.std.specs.Option.{option_to_list}
 use Rattle.std.specs.Str.{bytes_eq}
 use Rattle.modules.specs.Listed.{ListedModule, ListedRegion}
 use Rattle.modules.specs.Placed.{PlacedModule, placed_line}
 use Rattle.modules.specs.Regions.{are_beside, lie_apart}
 
--- the region of the kernel itself, the accepted modules in the order of their lines, how many other
--- lines have the name of one accepted before them, and how many of the rest have regions that meet
--- each other or those taken before them
+-- the regions of the kernel itself, the accepted modules in the order of their lines, how many
+-- other lines have the name of one accepted before them, and how many of the rest have regions that
+-- meet each other or those taken before them
 pub record Accepted : Type 0 where
-  pub built_in : Option (ℕ × ℕ)
+  pub built_in : List (ℕ × ℕ)
   pub modules : List PlacedModule
   pub double : ℕ
   pub overlap : ℕ
@@ -20,16 +19,16 @@ pub record Accepted : Type 0 where
 abbrev pub names_of : List PlacedModule → List (List ℕ)
 names_of modules = map (λ m. m.name) modules
 
--- the regions that are taken: that of the kernel itself, and those of the accepted modules
+-- the regions that are taken: those of the kernel itself, and those of the accepted modules
 abbrev pub taken_regions : Accepted → List (ℕ × ℕ)
-taken_regions a = option_to_list a.built_in ++ flat_map (λ m. m.regions) a.modules
+taken_regions a = a.built_in ++ flat_map (λ m. m.regions) a.modules
 
--- the region of the kernel itself and these modules, with no line that is not accepted
-abbrev pub accepted_with : Option (ℕ × ℕ) → List PlacedModule → Accepted
+-- the regions of the kernel itself and these modules, with no line that is not accepted
+abbrev pub accepted_with : List (ℕ × ℕ) → List PlacedModule → Accepted
 accepted_with built_in modules =
     record { built_in = built_in; modules = modules; double = 0; overlap = 0 }
 
-abbrev pub none_yet : Option (ℕ × ℕ) → Accepted
+abbrev pub none_yet : List (ℕ × ℕ) → Accepted
 none_yet built_in = record { built_in = built_in; modules = []; double = 0; overlap = 0 }
 
 -- a module is double, or else overlaps, or else is accepted
@@ -41,6 +40,6 @@ after_module a m =
     else record a { overlap = a.overlap + 1 }
 
 -- each line in turn, at the regions of its module
-abbrev pub accepted_of : Option (ℕ × ℕ) → List ListedRegion → List ListedModule → Accepted
+abbrev pub accepted_of : List (ℕ × ℕ) → List ListedRegion → List ListedModule → Accepted
 accepted_of built_in regions lines =
     fold after_module (none_yet built_in) (map (placed_line regions) lines)

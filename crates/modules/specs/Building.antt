@@ -1,14 +1,15 @@
 -- Modules made of their places and lists of symbols.
-use Rattle.std.specs.Prelude.{◌≡◌, ℕ, ◌<◌, List, [], ◌∷◌, length, slice_index_or, codes, Option}
+use Rattle.std.specs.Prelude.{◌≡◌, ℕ, ◌<◌, List, [], ◌∷◌, length, map, slice_index_or}
+use Rattle.std.specs.Prelude.{codes, Option, Some, None}
 use Rattle.std.specs.Global.{Vec}
-use Rattle.std.specs.Option.{option_map}
 use Rattle.modules.specs.Entries.{ModuleEntry, SymbolEntry}
 use Rattle.modules.specs.Placed.{PlacedModule}
 use Rattle.modules.specs.declared.lines.Part.TheVariants.{Core}
 
--- the kernel itself in its region
-abbrev pub kernel_at : ℕ × ℕ → PlacedModule
-kernel_at region = record { name = codes "-"; regions = region ∷ []; parts = Core ∷ [] }
+-- the kernel itself in its regions, which are of its core
+abbrev pub kernel_at : List (ℕ × ℕ) → PlacedModule
+kernel_at regions =
+    record { name = codes "-"; regions = regions; parts = map (λ _. Core) regions }
 
 -- a module where it lies, with these symbols
 abbrev pub module_with : PlacedModule → List SymbolEntry → ModuleEntry
@@ -23,10 +24,10 @@ module_with m symbols = record {
 abbrev pub placed_module_of : ModuleEntry → PlacedModule
 placed_module_of m = record { name = m.name; regions = m.regions; parts = m.parts }
 
--- the kernel itself, with these symbols
-abbrev pub built_in_with : Option (ℕ × ℕ) → List SymbolEntry → Option ModuleEntry
-built_in_with built_in symbols =
-    option_map (λ region. module_with (kernel_at region) symbols) built_in
+-- the kernel itself with these symbols, where it has regions
+abbrev pub built_in_with : List (ℕ × ℕ) → List SymbolEntry → Option ModuleEntry
+built_in_with [] symbols = None
+built_in_with (r ∷ rs) symbols = Some (module_with (kernel_at (r ∷ rs)) symbols)
 
 -- for each list the module at its place, with the list
 abbrev pub EachMade : List PlacedModule → List (Vec SymbolEntry) → List ModuleEntry → Type 0

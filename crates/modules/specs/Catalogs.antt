@@ -12,7 +12,7 @@ use Rattle.modules.specs.Building.{built_in_with, module_with, placed_module_of}
 use Rattle.modules.specs.Entries.{CatalogEntries, ModuleEntry}
 use Rattle.modules.specs.Kept.{AreDistinctNames, belongs, is_built_in, is_kept, is_used}
 use Rattle.modules.specs.Kept.{symbols_that}
-use Rattle.modules.specs.Lines.{built_in_region}
+use Rattle.modules.specs.Lines.{kernel_regions}
 use Rattle.modules.specs.Listed.{BoundNames, ListedModule, ListedRegion, ListedSymbol}
 use Rattle.modules.specs.Names.{names_in}
 use Rattle.modules.specs.Placed.{IsPlaced, PlacedModule, are_few}
@@ -20,15 +20,15 @@ use Rattle.modules.specs.Regions.{AreApart}
 use Rattle.modules.specs.declared.catalog.BuildCounts.{BuildCounts}
 use Rattle.modules.specs.declared.catalog.KeptCounts.{KeptCounts}
 
--- the kernel itself, with the symbols that have no module and lie in its region
-abbrev pub built_in_of : Option (ℕ × ℕ) → List ListedSymbol → Option ModuleEntry
+-- the kernel itself, with the symbols that have no module and lie in its regions
+abbrev pub built_in_of : List (ℕ × ℕ) → List ListedSymbol → Option ModuleEntry
 built_in_of built_in symbols = built_in_with built_in (symbols_that (is_built_in built_in) symbols)
 
 -- an accepted module, with the symbols that belong to it
 abbrev pub entry_for : List ListedSymbol → PlacedModule → ModuleEntry
 entry_for symbols m = module_with m (symbols_that (belongs m) symbols)
 
--- the kernel itself where it has a region, and the accepted modules
+-- the kernel itself where it has regions, and the accepted modules
 abbrev pub catalog_with : Accepted → List ListedSymbol → CatalogEntries
 catalog_with a symbols = record {
   built_in = built_in_of a.built_in symbols;
@@ -36,16 +36,16 @@ catalog_with a symbols = record {
 }
 
 -- those that lines of modules and of regions say
-abbrev pub catalog_of : BoundNames → List ListedModule → List ListedRegion → List ListedSymbol
-    → CatalogEntries
+abbrev pub catalog_of : Option BoundNames → List ListedModule → List ListedRegion
+    → List ListedSymbol → CatalogEntries
 catalog_of names modules regions symbols =
-    catalog_with (accepted_of (built_in_region names symbols) regions modules) symbols
+    catalog_with (accepted_of (kernel_regions names symbols) regions modules) symbols
 
 -- how many lines went where
-abbrev pub counts_of : BoundNames → List ListedModule → List ListedRegion → List ListedSymbol
-    → BuildCounts
+abbrev pub counts_of : Option BoundNames → List ListedModule → List ListedRegion
+    → List ListedSymbol → BuildCounts
 counts_of names modules regions symbols =
-    let a = accepted_of (built_in_region names symbols) regions modules in
+    let a = accepted_of (kernel_regions names symbols) regions modules in
     record {
       modules = length a.modules;
       double = a.double;
@@ -65,7 +65,7 @@ kept_counts a symbols = record {
   stray = count_by (λ s. not (is_kept a s)) symbols;
 }
 
--- the kernel itself where it has a region, and then the modules
+-- the kernel itself where it has regions, and then the modules
 abbrev pub entries_of : CatalogEntries → List ModuleEntry
 entries_of c = option_to_list c.built_in ++ c.modules
 

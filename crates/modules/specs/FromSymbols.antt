@@ -1,12 +1,12 @@
 -- The modules of a listing of symbols alone, and their regions.
 use Rattle.std.specs.Prelude.{◌≡◌, ℕ, ◌-◌, ◌<◌, ◌^◌, ◌↔◌, Bool, true, false, if◌then◌else◌, All}
-use Rattle.std.specs.Prelude.{List, [], ◌∷◌, ◌++◌, map, fold, filter, Some}
+use Rattle.std.specs.Prelude.{List, [], ◌∷◌, ◌++◌, map, fold, filter, Option, Some}
 use Rattle.std.specs.List.{AllPairs, list_any, flat_map}
 use Rattle.std.specs.Option.{option_map_or, option_to_list}
 use Rattle.std.specs.Str.{bytes_eq}
 use Rattle.modules.specs.Accepted.{Accepted, names_of}
 use Rattle.modules.specs.Kept.{lies_in}
-use Rattle.modules.specs.Lines.{built_in_region}
+use Rattle.modules.specs.Lines.{kernel_regions}
 use Rattle.modules.specs.Listed.{BoundNames, ListedSymbol}
 use Rattle.modules.specs.Owners.{module_of_address, posts}
 use Rattle.modules.specs.Placed.{PlacedModule}
@@ -39,10 +39,10 @@ pub record HasItsRegions (lines : List ListedSymbol) (m : PlacedModule) : Type 0
   pub parts : m.parts ≡ map (λ _. Core) m.regions
 
 -- what a listing of symbols alone says of the kernel itself and of the modules
-pub record IsFromSymbols (names : BoundNames) (lines : List ListedSymbol)
+pub record IsFromSymbols (names : Option BoundNames) (lines : List ListedSymbol)
     (a : Accepted) : Type 0 where
-  pub kernel : a.built_in ≡ built_in_region names lines
-  pub named : names_of a.modules ≡ owner_names (posts (built_in_region names lines) lines)
-  pub regions : All (HasItsRegions (posts (built_in_region names lines) lines)) a.modules
+  pub kernel : a.built_in ≡ kernel_regions names lines
+  pub named : names_of a.modules ≡ owner_names (posts (kernel_regions names lines) lines)
+  pub regions : All (HasItsRegions (posts (kernel_regions names lines) lines)) a.modules
   pub double : a.double ≡ 0
   pub overlap : a.overlap ≡ 0

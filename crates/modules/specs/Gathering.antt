@@ -11,7 +11,7 @@ use Rattle.modules.specs.Entries.{SymbolEntry}
 use Rattle.modules.specs.Kept.{belongs, is_built_in, is_kept, lies_in, symbols_that}
 use Rattle.modules.specs.Listed.{ListedSymbol}
 use Rattle.modules.specs.Placed.{PlacedModule}
-use Rattle.modules.specs.Regions.{holds}
+use Rattle.modules.specs.Regions.{lies_in_any}
 use Rattle.modules.specs.declared.gathering.Gathered.{Gathered}
 use Rattle.modules.specs.declared.gathering.Owner.{Owner}
 use Rattle.modules.specs.declared.gathering.Owner.TheVariants as owner
@@ -33,7 +33,7 @@ owner_for a (Some name) =
 
 -- a symbol of this owner is kept at this address
 abbrev pub lies_for : Accepted → Owner → ℕ → Bool
-lies_for a owner.BuiltIn addr = option_map_or (λ r. holds r addr) a.built_in false
+lies_for a owner.BuiltIn addr = lies_in_any a.built_in addr
 lies_for a (owner.Module place) addr =
     option_map_or (λ m. lies_in m addr) (slice_get a.modules place) false
 lies_for a owner.Nobody addr = false

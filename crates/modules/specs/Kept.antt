@@ -1,5 +1,5 @@
 -- Which symbols and region lines are kept, and in which module.
-use Rattle.std.specs.Prelude.{◌≢◌, ℕ, Bool, false, ◌&&◌, ◌||◌, is_none, List, map, filter, Option}
+use Rattle.std.specs.Prelude.{◌≢◌, ℕ, Bool, false, ◌&&◌, ◌||◌, is_none, List, map, filter}
 use Rattle.std.specs.List.{AllPairs, list_any}
 use Rattle.std.specs.Option.{option_map_or}
 use Rattle.std.specs.Str.{bytes_eq}
@@ -7,7 +7,7 @@ use Rattle.modules.specs.Accepted.{Accepted, names_of}
 use Rattle.modules.specs.Entries.{SymbolEntry}
 use Rattle.modules.specs.Listed.{ListedRegion, ListedSymbol}
 use Rattle.modules.specs.Placed.{PlacedModule, has_core, lines_named}
-use Rattle.modules.specs.Regions.{holds}
+use Rattle.modules.specs.Regions.{holds, lies_in_any}
 
 -- no two names are equal
 abbrev pub AreDistinctNames : List (List ℕ) → Type 0
@@ -17,9 +17,9 @@ AreDistinctNames names = AllPairs (λ x y. x ≢ y) names
 abbrev pub entry_of : ListedSymbol → SymbolEntry
 entry_of s = record { addr = s.addr; name = s.name }
 
--- a symbol without a module that lies in the region of the kernel itself
-abbrev pub is_built_in : Option (ℕ × ℕ) → ListedSymbol → Bool
-is_built_in built_in s = is_none s.owner && option_map_or (λ r. holds r s.addr) built_in false
+-- a symbol without a module that lies in a region of the kernel itself
+abbrev pub is_built_in : List (ℕ × ℕ) → ListedSymbol → Bool
+is_built_in built_in s = is_none s.owner && lies_in_any built_in s.addr
 
 -- the address lies in one of the module's regions
 abbrev pub lies_in : PlacedModule → ℕ → Bool

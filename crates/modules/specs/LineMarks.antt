@@ -1,10 +1,10 @@
 -- The marks of the lines of a listing, by the numbers of their modules.
 use Rattle.std.specs.Prelude.{◌≡◌, ℕ, suc, ◌-◌, ◌^◌, ◌<◌, ◌&&◌, Bool, true, false, not, nat_eq}
 use Rattle.std.specs.Prelude.{nat_lt, if◌then◌else◌, All, Contains, List, [], ◌∷◌, ◌++◌, length}
-use Rattle.std.specs.Prelude.{map, filter, fold, slice_index_or, Option, Some, None}
+use Rattle.std.specs.Prelude.{map, filter, fold, slice_index_or, Option, None}
 use Rattle.std.specs.Global.{Vec}
 use Rattle.std.specs.List.{list_any, position_from}
-use Rattle.std.specs.Option.{option_map_or, option_to_list}
+use Rattle.std.specs.Option.{option_map_or}
 use Rattle.std.specs.Str.{bytes_eq}
 use Rattle.order_laws.specs.declared.items.Item.{Item}
 use Rattle.order_laws.specs.Orders.{half_open}
@@ -15,7 +15,7 @@ use Rattle.modules.specs.Listed.{ListedSymbol}
 use Rattle.modules.specs.MarkedModules.{numbered_module, ranges_of}
 use Rattle.modules.specs.Owners.{is_outside}
 use Rattle.modules.specs.Placed.{PlacedModule}
-use Rattle.modules.specs.Regions.{holds}
+use Rattle.modules.specs.Regions.{lies_in_any}
 use Rattle.modules.specs.declared.marks.Mark.{Mark}
 
 -- the number of a name, from 1 on by its first place; 0 where it is not among the names
@@ -34,25 +34,24 @@ name_of names number = slice_index_or names (number - 1) []
 abbrev pub mark_of : List (List ℕ) → ListedSymbol → Mark
 mark_of names l = record { addr = l.addr; owner = number_for names l.owner }
 
--- the mark of the kernel itself, at its first address
-abbrev pub kernel_marks : Option (ℕ × ℕ) → List Mark
-kernel_marks kernel = map (λ r. record { addr = r.0; owner = 0 }) (option_to_list kernel)
+-- the marks of the kernel itself, at the first address of each of its regions
+abbrev pub kernel_marks : List (ℕ × ℕ) → List Mark
+kernel_marks kernel = map (λ r. record { addr = r.0; owner = 0 }) kernel
 
--- those of the lines of modules outside its region
-abbrev pub line_marks : Option (ℕ × ℕ) → List (List ℕ) → List ListedSymbol → List Mark
+-- those of the lines of modules outside its regions
+abbrev pub line_marks : List (ℕ × ℕ) → List (List ℕ) → List ListedSymbol → List Mark
 line_marks kernel names lines = map (mark_of names) (filter (is_outside kernel) lines)
 
--- first that of the kernel itself
-abbrev pub marks_of : Option (ℕ × ℕ) → List (List ℕ) → List ListedSymbol → List Mark
+-- first those of the kernel itself
+abbrev pub marks_of : List (ℕ × ℕ) → List (List ℕ) → List ListedSymbol → List Mark
 marks_of kernel names lines = kernel_marks kernel ++ line_marks kernel names lines
 
--- an address outside the kernel's region, and below the greatest, which no region holds
-abbrev pub is_free : Option (ℕ × ℕ) → ℕ → Bool
-is_free kernel addr =
-    not (option_map_or (λ r. holds r addr) kernel false) && nat_lt addr (2 ^ 64 - 1)
+-- an address outside the kernel's regions, and below the greatest, which no region holds
+abbrev pub is_free : List (ℕ × ℕ) → ℕ → Bool
+is_free kernel addr = not (lies_in_any kernel addr) && nat_lt addr (2 ^ 64 - 1)
 
 -- the marks of symbols of the module of this number
-abbrev pub symbol_marks : Option (ℕ × ℕ) → ℕ → List SymbolEntry → List Mark
+abbrev pub symbol_marks : List (ℕ × ℕ) → ℕ → List SymbolEntry → List Mark
 symbol_marks kernel owner symbols =
     map (λ s. record { addr = s.addr; owner = owner }) (filter (λ s. is_free kernel s.addr) symbols)
 
@@ -60,11 +59,14 @@ symbol_marks kernel owner symbols =
 abbrev pub with_owner : List (List ℕ) → Option (List ℕ) → List (List ℕ)
 with_owner names owner = option_map_or (with_name names) owner names
 
--- a line without a module is at the first address of the kernel's region, where it has one
-abbrev pub HasFirstLine : Option (ℕ × ℕ) → List ListedSymbol → Type 0
-HasFirstLine None lines = Unit {0}
-HasFirstLine (Some r) lines =
+-- the region has an address, and a line without a module is at its first
+abbrev pub HasFirstLine : List ListedSymbol → ℕ × ℕ → Type 0
+HasFirstLine lines r =
     (r.0 < r.1) × ((l : ListedSymbol) × Contains lines l × (l.owner ≡ None) × (l.addr ≡ r.0))
+
+-- so it is of all of these regions
+abbrev pub HaveFirstLines : List (ℕ × ℕ) → List ListedSymbol → Type 0
+HaveFirstLines regions lines = All (HasFirstLine lines) regions
 
 -- the modules of the lines are among these names
 abbrev pub AreNamed : List (List ℕ) → List ListedSymbol → Type 0

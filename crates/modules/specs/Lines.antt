@@ -1,9 +1,11 @@
 -- What the lines of the listings stand for.
 use Rattle.std.specs.Prelude.{ℕ, ◌+◌, ◌^◌, Bool, not, ◌&&◌, nat_lt, nat_eq, is_none, is_some}
-use Rattle.std.specs.Prelude.{if◌then◌else◌, List, find, Option, Some, None, codes}
-use Rattle.std.specs.Option.{option_map, option_and_then}
+use Rattle.std.specs.Prelude.{if◌then◌else◌, List, [], ◌∷◌, ◌++◌, find, Option, Some, None, codes}
+use Rattle.std.specs.List.{list_all}
+use Rattle.std.specs.Option.{option_map, option_map_or, option_and_then, option_to_list}
 use Rattle.std.specs.Str.{bytes_eq}
 use Rattle.modules.specs.Listed.{BoundNames, ListedModule, ListedRegion, ListedSymbol}
+use Rattle.modules.specs.Regions.{is_apart}
 
 -- at least one byte, not at 0 and not past the greatest address
 abbrev pub is_region : ℕ → ℕ → Bool
@@ -39,23 +41,46 @@ built_in_region names lines =
     (first_address names.end lines))
     (first_address names.start lines)
 
--- the names where none are given
+-- the names that many listings have for both ends of the kernel
 abbrev pub usual_bounds : BoundNames
 usual_bounds = record { start = codes "_stext"; end = codes "_end" }
 
--- the name of the symbol at which the kernel itself ends, as a listing has it: the first of `_end`,
--- `_einittext` and `_etext`, in this order, that a line without a module has
+-- the names for both ends of the kernel's code, and of the code that its start alone needs
+abbrev pub text_bounds : BoundNames
+text_bounds = record { start = codes "_stext"; end = codes "_etext" }
+
+abbrev pub start_bounds : BoundNames
+start_bounds = record { start = codes "_sinittext"; end = codes "_einittext" }
+
+-- the regions with this one after them, where it is there and apart from them
+abbrev pub with_apart : List (ℕ × ℕ) → Option (ℕ × ℕ) → List (ℕ × ℕ)
+with_apart regions None = regions
+with_apart regions (Some r) =
+    if list_all (is_apart r) regions then regions ++ r ∷ [] else regions
+
+-- the regions of the kernel's code, as the kernel itself takes them where its listing has no end
+abbrev pub code_regions : List ListedSymbol → List (ℕ × ℕ)
+code_regions lines =
+    with_apart (with_apart [] (built_in_region text_bounds lines))
+    (built_in_region start_bounds lines)
+
+-- the regions of the kernel itself: that between the names that are given, or else the usual ones,
+-- which are the whole kernel or else its code
+abbrev pub kernel_regions : Option BoundNames → List ListedSymbol → List (ℕ × ℕ)
+kernel_regions None lines =
+    option_map_or (λ r. r ∷ []) (built_in_region usual_bounds lines) (code_regions lines)
+kernel_regions (Some names) lines = option_to_list (built_in_region names lines)
+
+-- the name of the symbol at which the usual regions of the kernel end, as far as a listing has it
 abbrev pub usual_end : List ListedSymbol → List ℕ
 usual_end lines =
-    if is_some (first_address (codes "_end") lines) then codes "_end"
-    else if is_some (first_address (codes "_einittext") lines) then codes "_einittext"
-    else codes "_etext"
+    if is_some (first_address (codes "_end") lines) then codes "_end" else codes "_etext"
 
--- the names that a listing itself has for both bounds of the kernel
+-- the names that are noted where a listing has no symbol of one of them
 abbrev pub usual_bounds_of : List ListedSymbol → BoundNames
 usual_bounds_of lines = record { start = codes "_stext"; end = usual_end lines }
 
--- the names that are given, or else those that the listing has
+-- the names that are given, or else the usual ones
 abbrev pub bounds_for : Option BoundNames → List ListedSymbol → BoundNames
 bounds_for None lines = usual_bounds_of lines
 bounds_for (Some names) lines = names

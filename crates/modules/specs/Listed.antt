@@ -22,7 +22,7 @@ pub record ListedSymbol : Type 0 where
   pub name : List ℕ
   pub owner : Option (List ℕ)
 
--- the names of the two symbols that bound the region of the kernel itself
+-- the names of the two symbols that bound a region of the kernel itself
 pub record BoundNames : Type 0 where
   pub start : List ℕ
   pub end : List ℕ

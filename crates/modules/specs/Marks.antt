@@ -1,28 +1,44 @@
 -- Marks, and the regions that they stand for.
 use Rattle.std.specs.Prelude.{◌≡◌, ◌≢◌, ℕ, ◌+◌, ◌-◌, ◌<◌, ◌≤◌, ◌^◌, ◌⊎◌, ◌↔◌, All, Contains, List}
-use Rattle.std.specs.Prelude.{length, slice_index_or}
+use Rattle.std.specs.Prelude.{length, slice_index_or, true}
 use Rattle.std.specs.List.{AllPairs}
 use Rattle.order_laws.specs.declared.items.Item.{Item}
-use Rattle.modules.specs.Owners.{reach}
+use Rattle.modules.specs.Owners.{is_in_page, reach}
 use Rattle.modules.specs.declared.marks.Mark.{Mark}
 
--- the mark is not above the address, none lies between them, and none that is listed before it has
--- its address
-pub record IsNearestMark (marks : List Mark) (addr : ℕ) (m : Mark) : Type 0 where
+-- the mark is listed, and none that is listed before it has its address
+pub record IsFirstMark (marks : List Mark) (m : Mark) : Type 0 where
   pub place : ℕ
   pub within : place < length marks
   pub listed : slice_index_or marks place m ≡ m
-  pub below : m.addr ≤ addr
-  pub nearest : All (λ s. (s.addr ≤ m.addr) ⊎ (addr < s.addr)) marks
   pub first : (k : ℕ) (d : Mark) → k < place → (slice_index_or marks k d).addr ≢ m.addr
 
--- the address is that of the owner of the nearest mark, which reaches it, and this owner is not the
--- kernel itself
+-- the mark is not above the address, and none lies between them
+pub record IsNearestMark (marks : List Mark) (addr : ℕ) (m : Mark) : Type 0 where
+  pub its : IsFirstMark marks m
+  pub below : m.addr ≤ addr
+  pub clear : All (λ s. (s.addr ≤ m.addr) ⊎ (addr < s.addr)) marks
+
+-- the mark is above the address, and none lies between them
+pub record IsNextMark (marks : List Mark) (addr : ℕ) (m : Mark) : Type 0 where
+  pub its : IsFirstMark marks m
+  pub above : addr < m.addr
+  pub clear : All (λ s. (s.addr ≤ addr) ⊎ (m.addr ≤ s.addr)) marks
+
+-- the next mark above the address is of the owner of this one, and near it
+pub record GoesOn (marks : List Mark) (addr : ℕ) (m : Mark) : Type 0 where
+  pub mark : Mark
+  pub next : IsNextMark marks addr mark
+  pub its : mark.owner ≡ m.owner
+  pub near : mark.addr < m.addr + reach
+
+-- the address is that of the owner of the nearest mark, in whose page it lies or which goes on, and
+-- this owner is not the kernel itself
 pub record Owns (marks : List Mark) (owner addr : ℕ) : Type 0 where
   pub mark : Mark
   pub nearest : IsNearestMark marks addr mark
   pub its : mark.owner ≡ owner
-  pub reached : addr < mark.addr + reach
+  pub reached : (is_in_page mark.addr addr ≡ true) ⊎ GoesOn marks addr mark
   pub some : owner ≢ 0
 
 -- the first ends before the second begins, or where it begins if they are of two owners

@@ -12,7 +12,7 @@ use Rattle.modules.specs.Regions.{AreApart}
 use Rattle.modules.specs.declared.placed_modules.PlacedModules.TheInside.{Inside}
 
 abbrev pub placed_modules_view : Inside → Accepted
-placed_modules_view p = accepted_with p.built_in p.modules.items
+placed_modules_view p = accepted_with p.built_in.items p.modules.items
 
 -- each name is found at its first place
 abbrev pub HasPlaces : Inside → Type 0

@@ -11,13 +11,13 @@ ghost use Rattle.modules.specs.Regions.{is_apart, are_beside, lie_apart};
 use crate::lines::ModuleLine;
 use crate::placed_modules::PlacedModules;
 use crate::placing::{Placed, RegionLines};
-use crate::regions::{Region, Regions};
+use crate::regions::{Region, Regions, is_apart_from};
 use std::alloc::{AllocError, Global};
 
 /// The modules accepted so far, and how many lines were not.
 #[derive(Drop)]
 pub(crate) struct Admission<'a> {
-    /// The region of the kernel itself, and the accepted modules in the order of their lines.
+    /// The regions of the kernel itself, and the accepted modules in the order of their lines.
     pub(crate) accepted: PlacedModules<'a>,
     /// The regions that those of a further module are to lie apart from.
     taken: Regions,
@@ -25,13 +25,6 @@ pub(crate) struct Admission<'a> {
     pub(crate) double: u64,
     /// How many others have regions that meet each other or a region that is taken.
     pub(crate) overlap: u64,
-}
-
-/// Whether no address lies in the region and in one of the others.
-fn is_apart_from(region: Region, others: &[Region]) -> bool
-    ensures { result ≡ list_all (is_apart region) others.now }
-{
-    others.iter().all(|other| region.is_apart(*other))
 }
 
 /// Whether no two of the regions have an address in common.
@@ -72,14 +65,13 @@ fn take_all(taken: &mut Regions, regions: &[Region]) -> Result<(), AllocError>
 }
 
 impl<'a> Admission<'a> {
-    fn new(alloc: Global, built_in: Option<Region>) -> Result<Admission<'a>, AllocError>
-        ensures none { IfOk result (λ a. admission_view a ≡ none_yet built_in) }
+    fn new(alloc: Global, built_in: Vec<Region>) -> Result<Admission<'a>, AllocError>
+        requires { lie_apart built_in.items ≡ true }
+        ensures none { IfOk result (λ a. admission_view a ≡ none_yet built_in.items) }
         ensures tied { IfOk result IsAdmission }
     {
         let mut taken = Regions::new(alloc);
-        if let Some(region) = built_in {
-            taken.insert(region)?;
-        }
+        take_all(&mut taken, built_in.as_slice())?;
         Ok(Admission {
             accepted: PlacedModules::new(alloc, built_in),
             taken,
@@ -114,16 +106,17 @@ impl<'a> Admission<'a> {
 /// Goes through the lines in their order, each at the regions of its module.
 pub(crate) fn admit<'a>(
     alloc: Global,
-    built_in: Option<Region>,
+    built_in: Vec<Region>,
     regions: &RegionLines<'_, 'a>,
     lines: &[ModuleLine<'a>],
 ) -> Result<Admission<'a>, AllocError>
+    requires apart { lie_apart built_in.items ≡ true }
     requires fit { All (λ l. fits l ≡ true) lines.now }
     requires regions_fit { All (λ l. region_fits l ≡ true) regions.now }
     ensures admitted { IfOk result
-        (λ a. admission_view a ≡ accepted_of built_in regions.now lines.now) }
+        (λ a. admission_view a ≡ accepted_of built_in.items regions.now lines.now) }
     ensures tied { IfOk result IsAdmission }
-    ensures short { IfOk result (λ _. 7 * length lines.now < 2 ^ 64 - 1) }
+    ensures short { IfOk result (λ _. 7 * length lines.now < 2 ^ 64 - 2) }
 {
     let mut admission = Admission::new(alloc, built_in)?;
     for line in lines {

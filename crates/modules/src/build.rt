@@ -1,16 +1,16 @@
 //! How a catalog is built, step by step.
 
 ghost use Rattle.std.specs.Prelude.{◌≡◌, ◌+◌, ◌-◌, ◌^◌, ◌<◌, ◌≤◌, true, All, length};
-ghost use Rattle.std.specs.Prelude.{IfOk, IfSome, count_by};
+ghost use Rattle.std.specs.Prelude.{IfOk, count_by};
 ghost use Rattle.std.specs.List.{flat_map};
 ghost use Rattle.std.specs.Option.{option_copied};
-ghost use Rattle.modules.specs.Accepted.{Accepted, accepted_of};
+ghost use Rattle.modules.specs.Accepted.{Accepted, accepted_of, taken_regions};
 ghost use Rattle.modules.specs.Admissions.{admission_view, module_counts};
 ghost use Rattle.modules.specs.Building.{AreModules, built_in_with};
 ghost use Rattle.modules.specs.Catalogs.{catalog_of, catalog_with, counts_of, kept_counts};
 ghost use Rattle.modules.specs.FromSymbols.{IsFromSymbols};
 ghost use Rattle.modules.specs.Kept.{is_used};
-ghost use Rattle.modules.specs.Lines.{bounds_for, built_in_region, fits, region_fits};
+ghost use Rattle.modules.specs.Lines.{fits, kernel_regions, region_fits};
 ghost use Rattle.modules.specs.Placed.{are_few, IsPlaced};
 ghost use Rattle.modules.specs.PlacedModules.{AreSoundModules};
 
@@ -25,27 +25,25 @@ use crate::names::by_name;
 use crate::placed_modules::PlacedModules;
 use crate::placing::{Placed, RegionLines};
 use crate::regions::Region;
-use crate::symbol_lines::{SymbolLines, built_in_region};
+use crate::symbol_lines::SymbolLines;
 use crate::symbols::Symbol;
 use std::alloc::{AllocError, Global};
 
-/// The kernel itself, where it has a region.
+/// The kernel itself, where it has regions.
 fn built_in_module<'a>(
     alloc: Global,
-    region: Option<Region>,
+    regions: Vec<Region>,
     symbols: Vec<Symbol<'a>>,
     asked: Asked<'_>,
 ) -> Result<Option<Module<'a>>, AllocError>
-    requires { IfSome region (λ r. r.0 < r.1) }
-    ensures { IfOk result (λ m. m ≡ built_in_with region symbols.entry.items) }
+    requires { All (λ r. r.0 < r.1) regions.items }
+    ensures { IfOk result (λ m. m ≡ built_in_with regions.items symbols.entry.items) }
 {
-    match region {
-        Some(region) => {
-            let placed = Placed::kernel(alloc, region)?;
-            Ok(Some(Module::new(alloc, placed, symbols, asked)?))
-        }
-        None => Ok(None),
+    if regions.is_empty() {
+        return Ok(None);
     }
+    let placed = Placed::kernel(alloc, regions)?;
+    Ok(Some(Module::new(alloc, placed, symbols, asked)?))
 }
 
 /// The accepted modules, each with its symbols.
@@ -89,11 +87,12 @@ fn catalog_with<'a>(
     asked: Asked<'_>,
 ) -> Result<(Catalog<'a>, KeptCounts), AllocError>
     requires sound { AreSoundModules placed }
-    requires few { length (flat_map (λ m. m.regions) placed.modules) < 2 ^ 64 - 1 }
+    requires few { length (taken_regions placed) < 2 ^ 64 }
     ensures built { IfOk result (λ r. r.0 ≡ catalog_with placed.entry symbols.entry) }
     ensures counted { IfOk result (λ r. r.1 ≡ kept_counts placed.entry symbols.entry) }
 {
     let gathered = gather(alloc, &placed, symbols)?;
+    let of_kernel = placed.built_in.len();
     let built_in = built_in_module(alloc, placed.built_in, gathered.built_in, asked)?;
     let modules = modules_from(alloc, placed.modules, gathered.modules, asked)?;
     let by_name = by_name(alloc, modules.as_slice())?;
@@ -105,7 +104,7 @@ fn catalog_with<'a>(
         stray: gathered.stray,
     };
     let catalog = Catalog {
-        regions: usize::from(built_in.is_some()) + regions,
+        regions: of_kernel + regions,
         built_in,
         modules,
         by_name,
@@ -147,11 +146,11 @@ fn module_counts(admission: &Admission, regions: &RegionLines) -> BuildCounts
     }
 }
 
-/// Accepts module lines, where the kernel itself lies between two of the symbols, and counts them
-/// and those of regions.
+/// Accepts module lines, where the kernel itself lies as these names or the usual ones say, and
+/// counts them and those of regions.
 fn accept_lines<'a>(
     alloc: Global,
-    names: &KernelBounds,
+    names: Option<&KernelBounds>,
     modules: &[ModuleLine<'a>],
     regions: &RegionLines<'_, 'a>,
     symbols: &SymbolLines,
@@ -160,14 +159,14 @@ fn accept_lines<'a>(
     requires regions_fit { All (λ l. region_fits l ≡ true) regions.now }
     requires few { are_few regions.now ≡ true }
     ensures accepted { IfOk result (λ r. admission_view r.0
-        ≡ accepted_of (built_in_region names.now symbols.now) regions.now modules.now) }
+        ≡ accepted_of (kernel_regions (option_copied names.entry) symbols.now) regions.now
+        modules.now) }
     ensures counted { IfOk result
         (λ r. r.1 ≡ module_counts (admission_view r.0) regions.now) }
     ensures sound { IfOk result (λ r. AreSoundModules r.0.accepted) }
-    ensures few { IfOk result
-        (λ r. length (flat_map (λ m. m.regions) r.0.accepted.modules) < 2 ^ 64 - 1) }
+    ensures few { IfOk result (λ r. length (taken_regions r.0.accepted) < 2 ^ 64) }
 {
-    let built_in = built_in_region(symbols, names);
+    let built_in = symbols.kernel_regions(alloc, names)?;
     let admission = admit(alloc, built_in, regions, modules)?;
     let counts = module_counts(&admission, regions);
     Ok((admission, counts))
@@ -176,7 +175,7 @@ fn accept_lines<'a>(
 /// Accepts module lines, and makes the catalog of these modules.
 pub(crate) fn assemble<'a>(
     alloc: Global,
-    names: &KernelBounds,
+    names: Option<&KernelBounds>,
     modules: &[ModuleLine<'a>],
     regions: &RegionLines<'_, 'a>,
     symbols: SymbolLines<'a>,
@@ -186,9 +185,11 @@ pub(crate) fn assemble<'a>(
     requires regions_fit { All (λ l. region_fits l ≡ true) regions.now }
     requires few { are_few regions.now ≡ true }
     ensures built { IfOk result
-        (λ r. r.0 ≡ catalog_of names.now modules.now regions.now symbols.entry) }
+        (λ r. r.0
+        ≡ catalog_of (option_copied names.entry) modules.now regions.now symbols.entry) }
     ensures counted { IfOk result
-        (λ r. r.1 ≡ counts_of names.now modules.now regions.now symbols.entry) }
+        (λ r. r.1
+        ≡ counts_of (option_copied names.entry) modules.now regions.now symbols.entry) }
 {
     let (admission, lines) = accept_lines(alloc, names, modules, regions, &symbols)?;
     let (catalog, kept) = catalog_with(alloc, admission.accepted, symbols, asked)?;
@@ -200,17 +201,6 @@ pub(crate) fn assemble<'a>(
     Ok((catalog, counts))
 }
 
-/// The region of the kernel itself, between these names or those that the listing has.
-fn kernel_region(lines: &SymbolLines, names: Option<&KernelBounds>) -> Option<Region>
-    ensures { result
-        ≡ built_in_region (bounds_for (option_copied names.entry) lines.now) lines.now }
-{
-    match names {
-        Some(names) => built_in_region(lines, names),
-        None => built_in_region(lines, &lines.usual_bounds()),
-    }
-}
-
 /// Finds the modules in the lines, and makes the catalog of these modules.
 pub(crate) fn assemble_symbols<'a>(
     alloc: Global,
@@ -219,11 +209,11 @@ pub(crate) fn assemble_symbols<'a>(
     asked: Asked<'_>,
 ) -> Result<(Catalog<'a>, KeptCounts), AllocError>
     ensures { IfOk result (λ r. (a : Accepted)
-        × IsFromSymbols (bounds_for (option_copied names.entry) symbols.entry) symbols.entry a
+        × IsFromSymbols (option_copied names.entry) symbols.entry a
         × (r.0 ≡ catalog_with a symbols.entry) × (r.1 ≡ kept_counts a symbols.entry)) }
 {
-    let kernel = kernel_region(&symbols, names);
-    let modules = modules_of(alloc, &kernel, &symbols)?;
+    let kernel = symbols.kernel_regions(alloc, names)?;
+    let modules = modules_of(alloc, kernel.as_slice(), &symbols)?;
     let placed = PlacedModules::of(alloc, kernel, modules)?;
     catalog_with(alloc, placed, symbols, asked)
 }

@@ -4,7 +4,7 @@ ghost use Rattle.std.specs.Prelude.{◌≡◌, ◌↔◌, IsTrue, true, All, len
 ghost use Rattle.std.specs.Prelude.{IfErr};
 ghost use Rattle.std.specs.Option.{option_copied};
 ghost use Rattle.modules.specs.Accepted.{Accepted};
-ghost use Rattle.modules.specs.Lines.{bounds_for, fits, region_fits};
+ghost use Rattle.modules.specs.Lines.{fits, region_fits};
 ghost use Rattle.modules.specs.Catalogs.{catalog_of, catalog_with, counts_of, IsBuildRefusal};
 ghost use Rattle.modules.specs.Catalogs.{kept_counts, module_of};
 ghost use Rattle.modules.specs.Catalogs.{module_number_of, number_for, regions_of, IsNoneAbsent};
@@ -73,7 +73,7 @@ pub struct Held {
     pub init: bool,
 }
 
-/// The kernel itself as number 0, where the listing of symbols has its region, and the accepted
+/// The kernel itself as number 0, where the listing of symbols has regions of it, and the accepted
 /// modules from number 1 on in the order of their lines; those of symbols alone in the order of
 /// their first kept lines. Their regions lie apart and no two of the modules have one name. It does
 /// not change.
@@ -105,12 +105,11 @@ impl<'a> Catalog<'a> {
     /// A module lies in the regions of the region lines of its name, in their order, if one of them
     /// is of its core, and else in the region of its own line. A module line is skipped as double
     /// where a line accepted before has its name, else as overlap where its regions are not all
-    /// apart from each other, from that of the kernel itself and from those of the modules accepted
-    /// before. The kernel's region is from the first symbol without a module of the one name of
-    /// `names` up to the first of the other, where both are there in this order. A symbol is kept
-    /// where it lies in a region of its module, or of the kernel itself if it has none, and is
-    /// stray otherwise. A region line is stray where its module is not accepted, or has no line of
-    /// a core region.
+    /// apart from each other, from those of the kernel itself and from those of the modules accepted
+    /// before. The kernel's region is between the two symbols of `names`, or else its regions are
+    /// the usual ones ([`SymbolLines::kernel_regions`]). A symbol is kept where it lies in a region
+    /// of its module, or of the kernel itself if it has none, and is stray otherwise. A region line
+    /// is stray where its module is not accepted, or has no line of a core region.
     ///
     /// What is asked of it changes nothing but how long building and searching take.
     ///
@@ -118,7 +117,7 @@ impl<'a> Catalog<'a> {
     /// [`Refusal::OutOfMemory`].
     pub fn build(
         alloc: Global,
-        names: &KernelBounds,
+        names: Option<&KernelBounds>,
         modules: &[ModuleLine<'a>],
         regions: &[RegionLine<'a>],
         symbols: SymbolLines<'a>,
@@ -127,9 +126,11 @@ impl<'a> Catalog<'a> {
         requires fit { All (λ l. fits l ≡ true) modules.now }
         requires regions_fit { All (λ l. region_fits l ≡ true) regions.now }
         ensures built { IfOk result
-            (λ r. r.0 ≡ catalog_of names.now modules.now regions.now symbols.entry) }
+            (λ r. r.0
+            ≡ catalog_of (option_copied names.entry) modules.now regions.now symbols.entry) }
         ensures counted { IfOk result
-            (λ r. r.1 ≡ counts_of names.now modules.now regions.now symbols.entry) }
+            (λ r. r.1
+            ≡ counts_of (option_copied names.entry) modules.now regions.now symbols.entry) }
         ensures few { IfOk result (λ _. are_few regions.now ≡ true) }
         ensures refused { IfErr result (IsBuildRefusal regions.now) }
     {
@@ -142,16 +143,18 @@ impl<'a> Catalog<'a> {
 
     /// Builds the catalog of a listing of symbols alone.
     ///
-    /// The kernel's region is between the two symbols of `names`, or else between those that the
-    /// listing itself has ([`SymbolLines::usual_bounds`]). The lines that count are those without a
-    /// module inside of it, and those of modules outside of it and below the greatest address. An
-    /// address is a module's where of the nearest of these lines at or below it the first listed is
-    /// that module's, and less than 1048576 below. The regions of a module are the longest runs of
-    /// addresses that are its own, by rising address, all of its core.
+    /// The kernel's region is between the two symbols of `names`, or else its regions are the usual
+    /// ones ([`SymbolLines::kernel_regions`]). The lines that count are those without a module
+    /// inside of them, and those of modules outside of them and below the greatest address. Of the
+    /// nearest of these lines at or below an address the first listed is asked: if it is a
+    /// module's, the address is that module's where it lies in the page of the line, or where the
+    /// first listed of the nearest lines above is the same module's and less than 1048576 above the
+    /// line. The regions of a module are the longest runs of addresses that are its own, by rising
+    /// address, all of its core.
     ///
     /// A line of a module is kept where its own address is its module's, and one without a module
-    /// where it lies in the kernel's region; the rest are stray. The modules are those that have a
-    /// kept line, in the order of their first ones.
+    /// where it lies in a region of the kernel; the rest are stray. The modules are those that have
+    /// a kept line, in the order of their first ones.
     ///
     /// Refused only when out of memory.
     pub fn from_symbols(
@@ -161,7 +164,7 @@ impl<'a> Catalog<'a> {
         asked: Asked<'_>,
     ) -> Result<(Catalog<'a>, KeptCounts), AllocError>
         ensures built { IfOk result (λ r. (a : Accepted)
-            × IsFromSymbols (bounds_for (option_copied names.entry) symbols.entry) symbols.entry a
+            × IsFromSymbols (option_copied names.entry) symbols.entry a
             × (r.0 ≡ catalog_with a symbols.entry) × (r.1 ≡ kept_counts a symbols.entry)) }
     {
         assemble_symbols(alloc, names, symbols, asked)

@@ -15,9 +15,9 @@ ghost use Rattle.std.specs.Prelude.{All, IfOk, length};
 ghost use Rattle.std.specs.List.{flat_map};
 ghost use Rattle.modules.specs.Accepted.{accepted_with};
 ghost use Rattle.modules.specs.FromSymbols.{IsFromSymbols};
-ghost use Rattle.modules.specs.LineMarks.{AreLeft, AreNamed, HasFirstLine, is_kept_mark};
+ghost use Rattle.modules.specs.LineMarks.{AreLeft, AreNamed, HaveFirstLines, is_kept_mark};
 ghost use Rattle.modules.specs.LineMarks.{kept_numbers, marks_of, modules_numbered, number_in};
-ghost use Rattle.modules.specs.Lines.{built_in_region};
+ghost use Rattle.modules.specs.Lines.{kernel_regions};
 ghost use Rattle.modules.specs.Listed.{BoundNames, ListedSymbol};
 ghost use Rattle.modules.specs.MarkedModules.{StandsFor};
 ghost use Rattle.modules.specs.Marks.{AreLaid, AreRegions};
@@ -103,14 +103,14 @@ fn modules_in_order<'a>(
 /// The modules that the lines have, in the order of their first kept lines.
 pub(crate) fn modules_of<'a>(
     alloc: Global,
-    kernel: &Option<Region>,
+    kernel: &[Region],
     lines: &SymbolLines<'a>,
 ) -> Result<Vec<Placed<'a>>, AllocError>
-    ensures found { IfOk result (λ v. (bounds : BoundNames)
-        → kernel.now ≡ built_in_region bounds lines.now
-        → IsFromSymbols bounds lines.now (accepted_with kernel.now v.items)) }
+    ensures found { IfOk result (λ v. (names : Option BoundNames)
+        → kernel.now ≡ kernel_regions names lines.now
+        → IsFromSymbols names lines.now (accepted_with kernel.now v.items)) }
     ensures few { IfOk result
-        (λ v. length (flat_map (λ m. m.regions) v.items) < 2 ^ 64 - 1) }
+        (λ v. length (flat_map (λ m. m.regions) v.items) < 2 ^ 64 - 2) }
 {
     let runs = lines.runs.as_slice();
     let numbers = ModuleNumbers::of(alloc, runs, &lines.last)?;
@@ -121,15 +121,15 @@ pub(crate) fn modules_of<'a>(
 
 /// The marks of a module's number say whose an address is as the lines do.
 fn marks_stand_for_lines()
-    ensures { (kernel : Option (ℕ × ℕ)) (names : List (List ℕ)) (lines : List ListedSymbol) (n : ℕ)
-        (name : List ℕ) → HasFirstLine kernel lines → n ≢ 0 → number_in names name ≡ n
+    ensures { (kernel : List (ℕ × ℕ)) (names : List (List ℕ)) (lines : List ListedSymbol) (n : ℕ)
+        (name : List ℕ) → HaveFirstLines kernel lines → n ≢ 0 → number_in names name ≡ n
         → StandsFor (marks_of kernel names lines) (posts kernel lines) n name }
 {}
 
 /// The modules of the kept numbers, in the regions of the marks, are those of the lines.
 fn marks_give_the_modules()
-    ensures { (bounds : BoundNames) (lines : List ListedSymbol) (names : List (List ℕ))
-        (items : List Item) → let kernel = built_in_region bounds lines in
+    ensures { (bounds : Option BoundNames) (lines : List ListedSymbol) (names : List (List ℕ))
+        (items : List Item) → let kernel = kernel_regions bounds lines in
         let marks = marks_of kernel names lines in
         AreNamed names lines → AreRegions marks items
         → IsFromSymbols bounds lines

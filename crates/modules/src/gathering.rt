@@ -23,6 +23,7 @@ ghost use Rattle.modules.specs.Gathering.{KeepsRun, IsEmptyFor, Gathers};
 ghost use Rattle.modules.specs.Runs.{lines_of_all};
 
 use crate::placed_modules::PlacedModules;
+use crate::placing::lies_in_any;
 use crate::symbol_lines::{Run, SymbolLines};
 use crate::symbols::Symbol;
 use std::alloc::{AllocError, Global};
@@ -128,10 +129,7 @@ fn lies_at(placed: &PlacedModules, owner: Owner, addr: u64) -> bool
     ensures { result ≡ lies_for placed.now owner addr }
 {
     match owner {
-        Owner::BuiltIn => match placed.built_in {
-            Some(region) => region.holds(addr),
-            None => false,
-        },
+        Owner::BuiltIn => lies_in_any(placed.built_in.as_slice(), addr),
         Owner::Module(place) => match placed.modules.get(place) {
             Some(module) => module.lies_at(addr),
             None => false,

@@ -1,7 +1,7 @@
 //! What follows from the definitions, as contracts of functions that do nothing.
 
 ghost use Rattle.std.specs.Prelude.{◌≡◌, ◌+◌, ◌-◌, ◌^◌, ◌<◌, ◌≤◌, true, ℕ, All, List, MatchOption};
-ghost use Rattle.std.specs.Prelude.{length, sum_by, Some};
+ghost use Rattle.std.specs.Prelude.{length, sum_by, Option, Some};
 ghost use Rattle.modules.specs.Accepted.{Accepted};
 ghost use Rattle.modules.specs.Catalogs.{catalog_of, catalog_with, counts_of, entries_of};
 ghost use Rattle.modules.specs.Catalogs.{IsNoneAbsent, IsSoundCatalog, kept_counts};
@@ -15,15 +15,15 @@ ghost use Rattle.modules.specs.Placed.{are_few, PlacedModule};
 
 /// Each line of each listing is counted once.
 pub fn each_line_is_counted_once()
-    ensures modules { (names : BoundNames) (modules : List ListedModule)
+    ensures modules { (names : Option BoundNames) (modules : List ListedModule)
         (regions : List ListedRegion) (symbols : List ListedSymbol)
         → let n = counts_of names modules regions symbols in
         n.modules + n.double + n.overlap ≡ length modules }
-    ensures regions { (names : BoundNames) (modules : List ListedModule)
+    ensures regions { (names : Option BoundNames) (modules : List ListedModule)
         (regions : List ListedRegion) (symbols : List ListedSymbol)
         → let n = counts_of names modules regions symbols in
         n.regions + n.stray_regions ≡ length regions }
-    ensures symbols { (names : BoundNames) (modules : List ListedModule)
+    ensures symbols { (names : Option BoundNames) (modules : List ListedModule)
         (regions : List ListedRegion) (symbols : List ListedSymbol)
         → let n = counts_of names modules regions symbols in
         n.symbols + n.stray ≡ length symbols }
@@ -31,8 +31,8 @@ pub fn each_line_is_counted_once()
 
 /// Each kept line is the symbol of one module: the modules have as many symbols as lines were kept.
 pub fn each_kept_line_is_in_one_module()
-    ensures { (names : BoundNames) (modules : List ListedModule) (regions : List ListedRegion)
-        (symbols : List ListedSymbol)
+    ensures { (names : Option BoundNames) (modules : List ListedModule)
+        (regions : List ListedRegion) (symbols : List ListedSymbol)
         → All (λ l. fits l ≡ true) modules → All (λ l. region_fits l ≡ true) regions
         → are_few regions ≡ true
         → let c = catalog_of names modules regions symbols in
@@ -46,7 +46,7 @@ pub fn each_line_of_symbols_alone_is_counted_once()
     ensures counted { (a : Accepted) (symbols : List ListedSymbol)
         → let n = kept_counts a symbols in
         n.symbols + n.stray ≡ length symbols }
-    ensures kept { (names : BoundNames) (symbols : List ListedSymbol) (a : Accepted)
+    ensures kept { (names : Option BoundNames) (symbols : List ListedSymbol) (a : Accepted)
         → IsFromSymbols names symbols a
         → sum_by (λ m. length m.symbols) (entries_of (catalog_with a symbols))
         ≡ (kept_counts a symbols).symbols }
@@ -55,13 +55,13 @@ pub fn each_line_of_symbols_alone_is_counted_once()
 /// In the catalog of lines that fit, each module has 1 to 7 regions and one of its core, the
 /// regions have addresses and lie apart, and no two modules from number 1 on have one name.
 pub fn every_catalog_is_sound()
-    ensures sound { (names : BoundNames) (modules : List ListedModule) (regions : List ListedRegion)
-        (symbols : List ListedSymbol)
+    ensures sound { (names : Option BoundNames) (modules : List ListedModule)
+        (regions : List ListedRegion) (symbols : List ListedSymbol)
         → All (λ l. fits l ≡ true) modules → All (λ l. region_fits l ≡ true) regions
         → are_few regions ≡ true
         → IsSoundCatalog (catalog_of names modules regions symbols) }
-    ensures few { (names : BoundNames) (modules : List ListedModule) (regions : List ListedRegion)
-        (symbols : List ListedSymbol)
+    ensures few { (names : Option BoundNames) (modules : List ListedModule)
+        (regions : List ListedRegion) (symbols : List ListedSymbol)
         → are_few regions ≡ true
         → All (λ m. length m.regions ≤ 7) (catalog_of names modules regions symbols).modules }
 {}
@@ -69,7 +69,7 @@ pub fn every_catalog_is_sound()
 /// The modules of symbols alone make a sound catalog: each has a region, the regions have addresses
 /// and lie apart, and no two modules from number 1 on have one name.
 pub fn every_catalog_of_symbols_is_sound()
-    ensures { (names : BoundNames) (lines : List ListedSymbol) (a : Accepted)
+    ensures { (names : Option BoundNames) (lines : List ListedSymbol) (a : Accepted)
         → IsFromSymbols names lines a → IsSoundCatalog (catalog_with a lines) }
 {}
 
@@ -88,9 +88,9 @@ pub fn a_found_symbol_is_the_nearest()
         (IsFound symbols end addr) }
 {}
 
-/// A listing of symbols alone determines the kernel's region and the modules with their regions.
+/// A listing of symbols alone determines the kernel's regions and the modules with their regions.
 pub fn the_symbols_determine_the_modules()
-    ensures { (names : BoundNames) (lines : List ListedSymbol) (a b : Accepted)
+    ensures { (names : Option BoundNames) (lines : List ListedSymbol) (a b : Accepted)
         → IsFromSymbols names lines a → IsFromSymbols names lines b → a ≡ b }
 {}
 

@@ -1,8 +1,8 @@
-//! The marks of a listing of symbols: one of the kernel itself, at its first address, and one of
-//! each line of a module that is outside the kernel's region.
+//! The marks of a listing of symbols: one of each region of the kernel itself, at its first
+//! address, and one of each line of a module that is outside the kernel's regions.
 //!
-//! One mark stands for all lines of the kernel: nothing from below reaches over its first address,
-//! and no module has an address inside.
+//! One mark stands for all lines in a region of the kernel: nothing from below reaches over its
+//! first address, and no module has an address inside.
 //!
 //! ```text
 //! runs:   none          "ext4"   none   "nfs"
@@ -17,26 +17,23 @@ ghost use Rattle.modules.specs.Runs.{lines_of_all, lines_of_run};
 
 use crate::marks::Mark;
 use crate::module_numbers::ModuleNumbers;
+use crate::placing::lies_in_any;
 use crate::regions::Region;
 use crate::symbol_lines::Run;
 use crate::symbols::Symbol;
 use std::alloc::{AllocError, Global};
 
 /// Whether a line of a module at this address may say whose an address is.
-fn is_free(kernel: &Option<Region>, addr: u64) -> bool
+fn is_free(kernel: &[Region], addr: u64) -> bool
     ensures { result ≡ is_free kernel.now addr }
 {
-    let inside = match kernel {
-        Some(region) => region.holds(addr),
-        None => false,
-    };
-    !inside && addr < u64::MAX
+    !lies_in_any(kernel, addr) && addr < u64::MAX
 }
 
 /// Puts the marks of the lines of a module after these.
 fn push_marks(
     marks: &mut Vec<Mark>,
-    kernel: &Option<Region>,
+    kernel: &[Region],
     symbols: &[Symbol],
     owner: u64,
 ) -> Result<(), AllocError>
@@ -57,7 +54,7 @@ fn push_marks(
 /// Puts the marks of a run after these. The lines of the kernel itself have none.
 fn push_run(
     marks: &mut Vec<Mark>,
-    kernel: &Option<Region>,
+    kernel: &[Region],
     run: &Run,
     numbers: &ModuleNumbers,
 ) -> Result<(), AllocError>
@@ -75,12 +72,12 @@ fn push_run(
     )
 }
 
-/// The mark of the kernel itself, where it has a region.
-fn kernel_marks(alloc: Global, kernel: &Option<Region>) -> Result<Vec<Mark>, AllocError>
+/// The marks of the kernel itself.
+fn kernel_marks(alloc: Global, kernel: &[Region]) -> Result<Vec<Mark>, AllocError>
     ensures { IfOk result (λ v. v.items ≡ kernel_marks kernel.now) }
 {
     let mut marks = Vec::new(alloc);
-    if let Some(region) = kernel {
+    for region in kernel {
         marks.push(Mark {
             addr: region.start(),
             owner: 0,
@@ -89,10 +86,10 @@ fn kernel_marks(alloc: Global, kernel: &Option<Region>) -> Result<Vec<Mark>, All
     Ok(marks)
 }
 
-/// The mark of the kernel itself, and then those of the lines of modules as they are listed.
+/// The marks of the kernel itself, and then those of the lines of modules as they are listed.
 pub(crate) fn marks_of(
     alloc: Global,
-    kernel: &Option<Region>,
+    kernel: &[Region],
     runs: &[Run],
     last: &Run,
     numbers: &ModuleNumbers,

@@ -2,7 +2,7 @@
 
 ghost use Rattle.std.specs.Prelude.{◌≡◌, true};
 ghost use Rattle.modules.specs.Lines.{fits, module_line_region, region_fits, region_line_region};
-ghost use Rattle.modules.specs.Lines.{is_region, usual_bounds};
+ghost use Rattle.modules.specs.Lines.{is_region, start_bounds, text_bounds, usual_bounds};
 ghost use Rattle.modules.specs.Parts.{is_core, is_init, is_of};
 
 use crate::regions::Region;
@@ -158,7 +158,7 @@ impl<'a> Model for SymbolLine<'a> {
     } };
 }
 
-/// The names of the two symbols that bound the region of the kernel itself.
+/// The names of the two symbols that bound a region of the kernel itself.
 #[derive(Debug, Drop)]
 pub struct KernelBounds<'a> {
     /// The name of the symbol at its first address.
@@ -176,13 +176,33 @@ impl<'a> Model for KernelBounds<'a> {
 }
 
 impl KernelBounds<'static> {
-    /// The names that a kernel's own listing has: `_stext` and `_end`.
+    /// The names around the whole kernel: `_stext` and `_end`.
     pub fn usual() -> KernelBounds<'static>
         ensures { result ≡ usual_bounds }
     {
         KernelBounds {
             start: b"_stext",
             end: b"_end",
+        }
+    }
+
+    /// Those around the kernel's code.
+    pub(crate) fn of_text() -> KernelBounds<'static>
+        ensures { result ≡ text_bounds }
+    {
+        KernelBounds {
+            start: b"_stext",
+            end: b"_etext",
+        }
+    }
+
+    /// Those around the code that its start alone needs.
+    pub(crate) fn of_start() -> KernelBounds<'static>
+        ensures { result ≡ start_bounds }
+    {
+        KernelBounds {
+            start: b"_sinittext",
+            end: b"_einittext",
         }
     }
 }

@@ -1,15 +1,17 @@
 //! Regions of addresses from marks alone: each mark says from which address on whose addresses they
-//! are, up to the next mark, and no further than a mark reaches.
+//! are. They go on to the next mark where that one has the same owner and is near, and else to the
+//! end of the page or to the next mark, whichever comes first.
 //!
 //! ```text
-//! marks:     a1    a2      b1                c1   kernel
-//!            |     |       |                 |    |
-//! regions:   [  a         )[  b   )          [ c )
-//!                           <- REACH ->
+//! pages:     |        |        |        |        |
+//! marks:       a1 a2     a3  b1            c1  kernel
+//!              |  |      |   |             |   |
+//! regions:     [ a          )[ b       )   [ c )
+//!                 <REACH>      <- page ->
 //! ```
 
 ghost use Rattle.std.specs.Prelude.{◌≡◌, ◌≢◌, ◌≤◌, ◌<◌, ◌+◌, ◌-◌, ◌^◌, ◌⊎◌, ◌↔◌, ℕ, All, IfOk};
-ghost use Rattle.std.specs.Prelude.{List, OnOk};
+ghost use Rattle.std.specs.Prelude.{true, List, OnOk};
 ghost use Rattle.std.specs.List.Sorted.{IsNonDecreasingBy};
 ghost use Rattle.order_laws.specs.Orders.{half_open};
 ghost use Rattle.order_laws.specs.Tables.{look};
@@ -17,14 +19,17 @@ ghost use Rattle.modules.specs.FromSymbols.{HasItsRegions};
 ghost use Rattle.modules.specs.Listed.{ListedSymbol};
 ghost use Rattle.modules.specs.MarkedModules.{numbered_module, StandsFor};
 ghost use Rattle.modules.specs.Marks.{AreLaid, AreRegions, HoldsFor};
-ghost use Rattle.modules.specs.Owners.{reach};
+ghost use Rattle.modules.specs.Owners.{is_in_page, reach};
 ghost use Rattle.modules.specs.declared.marks.Mark.{Mark};
 ghost use Rattle.order_laws.specs.declared.items.Item.{Item};
 
 use order_laws::Item;
 use std::alloc::{AllocError, Global};
 
-/// How many addresses from its own on a mark reaches at most.
+/// How many addresses a page has.
+const PAGE: u64 = 4096;
+
+/// How far apart two marks of one owner lie at least if nothing between them is the owner's.
 const REACH: u64 = 1048576;
 
 /// An address, and the number of its owner: 0 is the kernel itself.
@@ -61,19 +66,42 @@ fn put(items: &mut Vec<Item>, piece: Item) -> Result<(), AllocError>
     Ok(())
 }
 
-/// Puts the addresses that a mark has below `next` after the regions.
-fn cover(items: &mut Vec<Item>, mark: Mark, next: u64) -> Result<(), AllocError>
-    requires below { mark.addr ≤ next }
+/// The end of the page that an address lies in. The last page ends at the greatest address, which
+/// no region holds.
+fn end_of_page(addr: u64) -> u64
+    ensures bounds { (addr ≤ result) × (result ≤ 2 ^ 64 - 1) }
+    ensures exact { (x : ℕ) → addr ≤ x → x < 2 ^ 64 - 1
+        → (is_in_page addr x ≡ true) ↔ (x < result) }
+{
+    (addr - addr % PAGE + (PAGE - 1)).saturating_add(1)
+}
+
+/// The end of the addresses that a mark has below the next one.
+fn end_before(mark: Mark, next: Mark) -> u64
+    requires { mark.addr ≤ next.addr }
+    ensures bounds { (mark.addr ≤ result) × (result ≤ next.addr) }
+    ensures exact { (x : ℕ) → mark.addr ≤ x → x < next.addr → (x < result)
+        ↔ ((is_in_page mark.addr x ≡ true)
+        ⊎ ((next.owner ≡ mark.owner) × (next.addr < mark.addr + reach))) }
+{
+    if next.owner == mark.owner && next.addr - mark.addr < REACH {
+        next.addr
+    } else {
+        next.addr.min(end_of_page(mark.addr))
+    }
+}
+
+/// Puts the addresses from a mark's own up to this end after the regions, if they are a module's.
+fn cover(items: &mut Vec<Item>, mark: Mark, end: u64) -> Result<(), AllocError>
+    requires below { mark.addr ≤ end }
     requires laid { AreLaid items.old.items }
     requires behind { All (λ i. i.b ≤ mark.addr) items.old.items }
     ensures laid { OnOk result (AreLaid items.new.items) }
-    ensures ends { OnOk result (All (λ i. i.b ≤ next) items.new.items) }
+    ensures ends { OnOk result (All (λ i. i.b ≤ end) items.new.items) }
     ensures holds { OnOk result ((owner addr : ℕ) → HoldsFor items.new.items owner addr
         ↔ (HoldsFor items.old.items owner addr
-        ⊎ ((mark.owner ≢ 0) × (mark.owner ≡ owner) × (mark.addr ≤ addr) × (addr < next)
-        × (addr < mark.addr + reach)))) }
+        ⊎ ((mark.owner ≢ 0) × (mark.owner ≡ owner) × (mark.addr ≤ addr) × (addr < end)))) }
 {
-    let end = next.min(mark.addr.saturating_add(REACH));
     if mark.owner == 0 || end <= mark.addr {
         return Ok(());
     }
@@ -85,20 +113,6 @@ fn cover(items: &mut Vec<Item>, mark: Mark, next: u64) -> Result<(), AllocError>
             tag: mark.owner,
         },
     )
-}
-
-/// Puts the addresses that the last mark has after the regions.
-fn cover_last(items: &mut Vec<Item>, mark: Mark) -> Result<(), AllocError>
-    requires laid { AreLaid items.old.items }
-    requires behind { All (λ i. i.b ≤ mark.addr) items.old.items }
-    ensures laid { OnOk result (AreLaid items.new.items) }
-    ensures bound { mark.addr ≤ 2 ^ 64 - 1 }
-    ensures holds { OnOk result ((owner addr : ℕ) → HoldsFor items.new.items owner addr
-        ↔ (HoldsFor items.old.items owner addr
-        ⊎ ((mark.owner ≢ 0) × (mark.owner ≡ owner) × (mark.addr ≤ addr) × (addr < 2 ^ 64 - 1)
-        × (addr < mark.addr + reach)))) }
-{
-    cover(items, mark, u64::MAX)
 }
 
 /// The regions of marks by rising address. Of equal addresses the first mark counts.
@@ -113,11 +127,11 @@ fn regions_of_rising(alloc: Global, marks: &[Mark]) -> Result<Vec<Item>, AllocEr
     let mut from = marks[0];
     for mark in marks {
         if from.addr < mark.addr {
-            cover(&mut items, from, mark.addr)?;
+            cover(&mut items, from, end_before(from, *mark))?;
             from = *mark;
         }
     }
-    cover_last(&mut items, from)?;
+    cover(&mut items, from, end_of_page(from.addr))?;
     Ok(items)
 }
 

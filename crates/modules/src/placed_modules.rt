@@ -12,12 +12,12 @@ use std::alloc::{AllocError, Global};
 use std::collections::BTreeMap;
 use std::marker::Model;
 
-/// The region of the kernel itself, and modules in their regions, which are found by name. A
+/// The regions of the kernel itself, and modules in theirs, which are found by name. A
 /// contract sees them as what was accepted, with no line that was not.
 #[derive(Drop)]
 pub(crate) struct PlacedModules<'a> {
-    /// The region of the kernel itself.
-    pub(crate) built_in: Option<Region>,
+    /// The regions of the kernel itself.
+    pub(crate) built_in: Vec<Region>,
     /// The modules in their order.
     pub(crate) modules: Vec<Placed<'a>>,
     /// The place of each name among them.
@@ -38,8 +38,8 @@ impl<'a> Model for PlacedModules<'a> {
 
 impl<'a> PlacedModules<'a> {
     /// No modules.
-    pub(crate) fn new(alloc: Global, built_in: Option<Region>) -> PlacedModules<'a>
-        ensures { result ≡ none_yet built_in }
+    pub(crate) fn new(alloc: Global, built_in: Vec<Region>) -> PlacedModules<'a>
+        ensures { result ≡ none_yet built_in.items }
     {
         PlacedModules {
             built_in,
@@ -51,11 +51,11 @@ impl<'a> PlacedModules<'a> {
     /// These modules, whose names are distinct.
     pub(crate) fn of(
         alloc: Global,
-        built_in: Option<Region>,
+        built_in: Vec<Region>,
         modules: Vec<Placed<'a>>,
     ) -> Result<PlacedModules<'a>, AllocError>
         requires { AreDistinctNames (names_of modules.items) }
-        ensures { IfOk result (λ p. p ≡ accepted_with built_in modules.entry.items) }
+        ensures { IfOk result (λ p. p ≡ accepted_with built_in.items modules.entry.items) }
     {
         let mut placed = PlacedModules::new(alloc, built_in);
         for module in modules {

@@ -77,11 +77,17 @@ pub(crate) fn lies_in_any(regions: &[Region], addr: u64) -> bool
 }
 
 impl<'a> Placed<'a> {
-    /// The kernel itself, in its region.
-    pub(crate) fn kernel(alloc: Global, region: Region) -> Result<Placed<'static>, AllocError>
-        ensures { IfOk result (λ p. p ≡ kernel_at region) }
+    /// The kernel itself, in its regions.
+    pub(crate) fn kernel(alloc: Global, regions: Vec<Region>) -> Result<Placed<'static>, AllocError>
+        ensures { IfOk result (λ p. p ≡ kernel_at regions.items) }
     {
-        Placed::in_one(alloc, b"-", region)
+        let parts = vec![in alloc; Part::Core; regions.len()]?;
+        Ok(Placed {
+            name: b"-",
+            regions,
+            parts,
+            rising: false,
+        })
     }
 
     /// Whether the address lies in one of its regions.

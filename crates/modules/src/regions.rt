@@ -66,6 +66,13 @@ impl Region {
     }
 }
 
+/// Whether no address lies in the region and in one of the others.
+pub(crate) fn is_apart_from(region: Region, others: &[Region]) -> bool
+    ensures { result ≡ list_all (is_apart region) others.now }
+{
+    others.iter().all(|other| region.is_apart(*other))
+}
+
 /// Regions by their first addresses. They lie apart, so that one neighbour tells whether a further
 /// region is apart from all of them.
 #[derive(Drop)]

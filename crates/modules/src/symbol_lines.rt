@@ -9,15 +9,16 @@
 //! ```
 
 ghost use Rattle.std.specs.Prelude.{◌≡◌, ◌++◌, ◌∷◌, [], length, find, is_none, is_some, IfOk, OnOk};
-ghost use Rattle.std.specs.Prelude.{OnErr};
+ghost use Rattle.std.specs.Prelude.{OnErr, None};
 ghost use Rattle.std.specs.List.{list_any};
-ghost use Rattle.modules.specs.Lines.{first_address, built_in_region, usual_bounds_of, usual_end};
-ghost use Rattle.std.specs.Option.{option_copied, option_map};
+ghost use Rattle.modules.specs.Lines.{first_address, built_in_region, code_regions};
+ghost use Rattle.modules.specs.Lines.{kernel_regions, usual_bounds_of, usual_end, with_apart};
+ghost use Rattle.std.specs.Option.{option_copied, option_map, option_to_list};
 ghost use Rattle.std.specs.Str.{bytes_eq};
 ghost use Rattle.modules.specs.Runs.{lines_of_run, lines_of_all, one_line};
 
 use crate::lines::{KernelBounds, SymbolLine};
-use crate::regions::Region;
+use crate::regions::{Region, is_apart_from};
 use crate::symbols::Symbol;
 use std::alloc::{AllocError, Global};
 use std::marker::Model;
@@ -177,8 +178,34 @@ impl<'a> SymbolLines<'a> {
         Ok(())
     }
 
-    /// The names of the two symbols that bound the region of the kernel itself, as this listing has
-    /// them: `_stext`, and `_end` or, where it is missing, `_einittext` or else `_etext`.
+    /// The regions of the kernel itself: that between these names, where both are listed in this
+    /// order, or else the usual ones. These are the region from `_stext` up to `_end` or, where
+    /// there is none, those of the kernel's code: `_stext` up to `_etext` and `_sinittext` up to
+    /// `_einittext`, each where both are listed in this order, and the second only where it is apart
+    /// from the first.
+    pub fn kernel_regions(
+        &self,
+        alloc: Global,
+        names: Option<&KernelBounds>,
+    ) -> Result<Vec<Region>, AllocError>
+        ensures { IfOk result
+            (λ v. v.items ≡ kernel_regions (option_copied names.entry) self.now) }
+    {
+        match names {
+            Some(names) => regions_with(alloc, built_in_region(self, names)),
+            None => usual_regions(alloc, self),
+        }
+    }
+
+    /// Whether both names are listed, the first below the second.
+    pub fn has_region(&self, names: &KernelBounds) -> bool
+        ensures { result ≡ is_some (built_in_region names.now self.now) }
+    {
+        built_in_region(self, names).is_some()
+    }
+
+    /// The names of both ends of the usual regions, of which a listing may lack one: `_stext`, and
+    /// `_end` where it is listed or else `_etext`.
     pub fn usual_bounds(&self) -> KernelBounds<'static>
         ensures { result ≡ usual_bounds_of self.now }
     {
@@ -226,14 +253,12 @@ fn is_some_in_kernel(runs: &[Run]) -> bool
     runs.iter().any(|run| run.is_in_kernel())
 }
 
-/// The name of the symbol at which the kernel itself ends. Many kernels list no `_end`.
+/// The name of the symbol at which the usual regions end. Many kernels list no `_end`.
 fn usual_end(lines: &SymbolLines) -> &'static [u8]
     ensures { result.now ≡ usual_end lines.now }
 {
     if lists_kernel_symbol(lines, b"_end") {
         b"_end"
-    } else if lists_kernel_symbol(lines, b"_einittext") {
-        b"_einittext"
     } else {
         b"_etext"
     }
@@ -249,5 +274,54 @@ pub(crate) fn built_in_region(lines: &SymbolLines, names: &KernelBounds) -> Opti
         Some(Region::new(start, end))
     } else {
         None
+    }
+}
+
+/// A list of this region, where it is there.
+fn regions_with(alloc: Global, region: Option<Region>) -> Result<Vec<Region>, AllocError>
+    ensures { IfOk result (λ v. v.items ≡ option_to_list region) }
+{
+    let mut regions = Vec::new(alloc);
+    if let Some(region) = region {
+        regions.push(region)?;
+    }
+    Ok(regions)
+}
+
+/// Puts a region after others, where it is there and apart from them.
+fn push_if_apart(regions: &mut Vec<Region>, region: Option<Region>) -> Result<(), AllocError>
+    ensures { OnOk result (regions.new.items ≡ with_apart regions.old.items region) }
+{
+    if let Some(region) = region {
+        if is_apart_from(region, regions.as_slice()) {
+            regions.push(region)?;
+        }
+    }
+    Ok(())
+}
+
+/// The regions of the kernel's code.
+fn code_regions(alloc: Global, lines: &SymbolLines) -> Result<Vec<Region>, AllocError>
+    ensures { IfOk result (λ v. v.items ≡ code_regions lines.now) }
+{
+    let mut regions = Vec::new(alloc);
+    push_if_apart(
+        &mut regions,
+        built_in_region(lines, &KernelBounds::of_text()),
+    )?;
+    push_if_apart(
+        &mut regions,
+        built_in_region(lines, &KernelBounds::of_start()),
+    )?;
+    Ok(regions)
+}
+
+/// The regions that the usual names bound.
+fn usual_regions(alloc: Global, lines: &SymbolLines) -> Result<Vec<Region>, AllocError>
+    ensures { IfOk result (λ v. v.items ≡ kernel_regions None lines.now) }
+{
+    match built_in_region(lines, &KernelBounds::usual()) {
+        Some(whole) => regions_with(alloc, Some(whole)),
+        None => code_regions(alloc, lines),
     }
 }

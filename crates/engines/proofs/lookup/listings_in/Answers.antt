@@ -31,13 +31,13 @@ returns-clause-said c =
     let all_lines = region_lines_of_inputs (inputs_in i) in
     let is_modules = c.deref.ensures.value ∙ c.in_ok-module_lines.ensures.modules in
     let is_catalog : c.in_ok-catalog.catalog ≡ catalog_in (inputs_in i) =
-    c.in_ok-catalog.ensures.built ∙ ap (λ m. catalog_of names m lines symbols) is_modules
-    ∙ ap (λ r. catalog_of names all_modules r symbols) c.region_lines_of-regions.ensures
-    ∙ ap (λ s. catalog_of names all_modules all_lines s) c.in_ok-symbol_lines.ensures.symbols in
+    c.in_ok-catalog.ensures.built ∙ ap (λ m. catalog_of (Some names) m lines symbols) is_modules
+    ∙ ap (λ r. catalog_of (Some names) all_modules r symbols) c.region_lines_of-regions.ensures
+    ∙ ap (λ s. catalog_of (Some names) all_modules all_lines s) c.in_ok-symbol_lines.ensures.symbols in
     let is_built : c.in_ok-catalog.built ≡ counts_in (inputs_in i) =
-    c.in_ok-catalog.ensures.counted ∙ ap (λ m. counts_of names m lines symbols) is_modules
-    ∙ ap (λ r. counts_of names all_modules r symbols) c.region_lines_of-regions.ensures
-    ∙ ap (λ s. counts_of names all_modules all_lines s) c.in_ok-symbol_lines.ensures.symbols in
+    c.in_ok-catalog.ensures.counted ∙ ap (λ m. counts_of (Some names) m lines symbols) is_modules
+    ∙ ap (λ r. counts_of (Some names) all_modules r symbols) c.region_lines_of-regions.ensures
+    ∙ ap (λ s. counts_of (Some names) all_modules all_lines s) c.in_ok-symbol_lines.ensures.symbols in
     let of_modules : CatalogEntries → Option ListingNote = λ k. find (is_of_modules i.modules.now k) all_notes in
     let of_kallsyms : BuildCounts → Option ListingNote = λ b. find (is_of_kallsyms names i.kallsyms.now b.symbols) all_notes in
     let with_modules : Option ListingNote → ListingNotes = λ n. record { modules = n; kallsyms = c.note_of_kallsyms.result } in

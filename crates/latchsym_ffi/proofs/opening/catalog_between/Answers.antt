@@ -1,5 +1,6 @@
 use Rattle.std.proofs.Common.{◌≡◌, ◌∙◌, Option, ap, sym}
 use Rattle.std.specs.Prelude.{find, is_some}
+use Rattle.std.specs.Option.{option_copied}
 use Rattle.texts.specs.Lines.{lines_of}
 use Rattle.listing.specs.ListingNotes.{all_notes, is_of_kallsyms, is_of_modules}
 use Rattle.listing.specs.ModuleListing.{module_counts, modules_in}
@@ -20,16 +21,18 @@ returns-clause-opened c =
     let regions = c.args.regions.now in
     let symbols = c.in_ok-symbol_lines.symbol_lines in
     let bounds = bounds_of_texts texts in
+    let kernel = texts.kernel in
     let all_modules = modules_in (lines_of c.args.modules.now) in
     let symbol_skips = c.in_ok-symbol_lines.skipped_symbols.by_place in
     let built = c.in_ok-catalog.built in
     let is_symbols = c.in_ok-symbol_lines.ensures.symbols in
     let is_bounds : c.bounds_for-names.result ≡ bounds = c.bounds_for-names.ensures ∙ ap (bounds_for texts.kernel) is_symbols in
+    let is_kernel : option_copied c.as_ref.result ≡ kernel = c.as_ref.ensures.value in
     let is_modules = c.deref.ensures.value ∙ c.in_ok-module_lines.ensures.modules in
     let is_built = c.in_ok-catalog.ensures.counted
-    ∙ ap (λ n. counts_of n c.deref.result.now regions symbols) is_bounds
-    ∙ ap (λ m. counts_of bounds m regions symbols) is_modules
-    ∙ ap (λ s. counts_of bounds all_modules regions s) is_symbols in
+    ∙ ap (λ k. counts_of k c.deref.result.now regions symbols) is_kernel
+    ∙ ap (λ m. counts_of kernel m regions symbols) is_modules
+    ∙ ap (λ s. counts_of kernel all_modules regions s) is_symbols in
     let indexed = c.in_ok-indexed.indexed in
     let of_modules : CatalogEntries → Option ListingNote = λ k. find (is_of_modules c.args.modules.now k) all_notes in
     let of_kallsyms : BoundNames → Option ListingNote = λ n. find (is_of_kallsyms n texts.kallsyms built.symbols) all_notes in
@@ -39,9 +42,9 @@ returns-clause-opened c =
     ∙ ap with_kallsyms (c.note_of_kallsyms.ensures ∙ ap of_kallsyms is_bounds) in
     record {
       catalog = c.in_ok-indexed.ensures ∙ c.in_ok-catalog.ensures.built
-          ∙ ap (λ n. catalog_of n c.deref.result.now regions symbols) is_bounds
-          ∙ ap (λ m. catalog_of bounds m regions symbols) is_modules
-          ∙ ap (λ s. catalog_of bounds all_modules regions s) is_symbols;
+          ∙ ap (λ k. catalog_of k c.deref.result.now regions symbols) is_kernel
+          ∙ ap (λ m. catalog_of kernel m regions symbols) is_modules
+          ∙ ap (λ s. catalog_of kernel all_modules regions s) is_symbols;
       built = built;
       counted = is_built;
       counts = c.counts_of-counts.ensures
@@ -52,7 +55,4 @@ returns-clause-opened c =
 
 pub note_of_kallsyms-requires-clause-kernel : goal.note_of_kallsyms-requires-clause-kernel
 note_of_kallsyms-requires-clause-kernel c =
-    let names = c.bounds_for-names.result in
-    c.is_some.ensures ∙ copied_some c.module.result ∙ ap is_some (c.module.ensures ∙ ap (λ k. k.built_in) c.in_ok-catalog.ensures.built)
-    ∙ kernel_of_listings names c.deref.result.now c.args.regions.now c.in_ok-symbol_lines.symbol_lines
-    ∙ ap (λ s. is_some (built_in_region names s)) c.in_ok-symbol_lines.ensures.symbols
+    c.has_region-has_kernel.ensures ∙ ap (λ s. is_some (built_in_region c.bounds_for-names.result s)) c.in_ok-symbol_lines.ensures.symbols

@@ -1,8 +1,9 @@
 use Rattle.std.proofs.Common.{ap, ◌∙◌}
+use Rattle.std.specs.Option.{option_copied}
 use Rattle.modules.specs.Accepted.{Accepted, accepted_of}
 use Rattle.modules.specs.Admissions.{admission_view}
 use Rattle.modules.specs.Catalogs.{catalog_with}
-use Rattle.modules.specs.Lines.{built_in_region}
+use Rattle.modules.specs.Lines.{kernel_regions}
 use Rattle.modules.specs.declared.catalog.KeptCounts.{KeptCounts}
 use Rattle.modules.proofs.MakingLemmas.{counts_from}
 use Rattle.modules.proofs.build.assemble.Goals as goal
@@ -16,6 +17,6 @@ returns-clause-counted c =
     let symbols = c.args.symbols in
     let regions = c.args.regions.now in
     let kept : KeptCounts = c.in_ok-catalog.kept in
-    counts_from (admission_view c.in_ok-admission.admission) (accepted_of (built_in_region c.args.names.now symbols) regions c.args.modules.now) regions symbols c.in_ok-admission.lines kept.symbols kept.stray c.in_ok-admission.ensures.accepted c.in_ok-admission.ensures.counted
+    counts_from (admission_view c.in_ok-admission.admission) (accepted_of (kernel_regions (option_copied c.args.names) symbols) regions c.args.modules.now) regions symbols c.in_ok-admission.lines kept.symbols kept.stray c.in_ok-admission.ensures.accepted c.in_ok-admission.ensures.counted
     (ap (λ (k : KeptCounts). k.symbols) c.in_ok-catalog.ensures.counted)
     (ap (λ (k : KeptCounts). k.stray) c.in_ok-catalog.ensures.counted)

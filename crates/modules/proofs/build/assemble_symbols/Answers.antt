@@ -1,20 +1,21 @@
-use Rattle.std.proofs.Common.{◌≡◌, ◌-◌, ◌^◌, ◌<◌, List, Ok, Err, Result, sym, subst, length}
+use Rattle.std.proofs.Common.{◌≡◌, ℕ, ◌^◌, ◌<◌, List, Ok, Err, Option, Result, sym, ap, subst, length, length-append, arith, ◌∙◌}
 use Rattle.std.specs.Prelude.{IfOk}
 use Rattle.std.specs.List.{flat_map}
 use Rattle.std.specs.Option.{option_copied}
 use Rattle.std.specs.declared.alloc.AllocError.{AllocError}
-use Rattle.modules.specs.Accepted.{Accepted, accepted_with}
+use Rattle.modules.specs.Accepted.{Accepted, accepted_with, taken_regions}
 use Rattle.modules.specs.Catalogs.{catalog_with, kept_counts}
 use Rattle.modules.specs.Entries.{CatalogEntries}
 use Rattle.modules.specs.FromSymbols.{IsFromSymbols}
-use Rattle.modules.specs.Lines.{bounds_for}
 use Rattle.modules.specs.Listed.{BoundNames, ListedSymbol}
+use Rattle.modules.specs.Placed.{PlacedModule}
 use Rattle.modules.specs.PlacedModules.{AreSoundModules}
 use Rattle.modules.specs.declared.catalog.KeptCounts.{KeptCounts}
 use Rattle.modules.proofs.AloneLemmas.{sound_alone}
+use Rattle.modules.proofs.SoundnessLemmas.{two_of_kernel}
 use Rattle.modules.proofs.build.assemble_symbols.Goals as goal
 
-answered : (names : BoundNames) (lines : List ListedSymbol) (a : Accepted) (result : Result (CatalogEntries × KeptCounts) AllocError) → IsFromSymbols names lines a
+answered : (names : Option BoundNames) (lines : List ListedSymbol) (a : Accepted) (result : Result (CatalogEntries × KeptCounts) AllocError) → IsFromSymbols names lines a
     → IfOk result (λ r. r.0 ≡ catalog_with a lines) → IfOk result (λ r. r.1 ≡ kept_counts a lines)
     → IfOk result (λ r. (b : Accepted) × IsFromSymbols names lines b × (r.0 ≡ catalog_with b lines) × (r.1 ≡ kept_counts b lines))
 answered names lines a (Ok r) h built counted = (a, h, built, counted)
@@ -23,24 +24,30 @@ answered names lines a (Err e) h built counted = tt
 pub of-requires : goal.of-requires
 of-requires c =
     let lines = c.args.symbols in
-    let names : BoundNames = bounds_for (option_copied c.args.names) lines in
-    let found = c.in_ok-modules.ensures.found names c.kernel_region-kernel.ensures in
-    (sound_alone names lines (accepted_with c.kernel_region-kernel.result c.in_ok-modules.modules.items) found).distinct
+    let names : Option BoundNames = option_copied c.args.names in
+    let made : List PlacedModule = c.in_ok-modules.modules.items in
+    let found = subst (λ (k : List (ℕ × ℕ)). IsFromSymbols names lines (accepted_with k made)) c.as_slice.ensures.value (c.in_ok-modules.ensures.found names (c.as_slice.ensures.value ∙ c.in_ok-kernel.ensures)) in
+    (sound_alone names lines (accepted_with c.in_ok-kernel.kernel.items made) found).distinct
 
 pub catalog_with-requires : goal.catalog_with-requires
 catalog_with-requires c =
     let lines = c.args.symbols in
-    let names : BoundNames = bounds_for (option_copied c.args.names) lines in
-    let found = c.in_ok-modules.ensures.found names c.kernel_region-kernel.ensures in
+    let names : Option BoundNames = option_copied c.args.names in
+    let made : List PlacedModule = c.in_ok-modules.modules.items in
+    let found = subst (λ (k : List (ℕ × ℕ)). IsFromSymbols names lines (accepted_with k made)) c.as_slice.ensures.value (c.in_ok-modules.ensures.found names (c.as_slice.ensures.value ∙ c.in_ok-kernel.ensures)) in
     let is = c.in_ok-placed.ensures in
     record {
-      sound = subst AreSoundModules (sym is) (sound_alone names lines (accepted_with c.kernel_region-kernel.result c.in_ok-modules.modules.items) found);
-      few = subst (λ (a : Accepted). length (flat_map (λ m. m.regions) a.modules) < 2 ^ 64 - 1) (sym is) c.in_ok-modules.ensures.few;
+      sound = subst AreSoundModules (sym is) (sound_alone names lines (accepted_with c.in_ok-kernel.kernel.items made) found);
+      few =
+          let kernel = ap length c.in_ok-kernel.ensures in
+          subst (λ (a : Accepted). length (taken_regions a) < 2 ^ 64) (sym is)
+          (omega (arith, kernel, two_of_kernel names lines, length-append c.in_ok-kernel.kernel.items (flat_map (λ (m : PlacedModule). m.regions) made), c.in_ok-modules.ensures.few));
     }
 
 pub returns : goal.returns
 returns c =
     let lines = c.args.symbols in
-    let names : BoundNames = bounds_for (option_copied c.args.names) lines in
-    let found = c.in_ok-modules.ensures.found names c.kernel_region-kernel.ensures in
+    let names : Option BoundNames = option_copied c.args.names in
+    let made : List PlacedModule = c.in_ok-modules.modules.items in
+    let found = subst (λ (k : List (ℕ × ℕ)). IsFromSymbols names lines (accepted_with k made)) c.as_slice.ensures.value (c.in_ok-modules.ensures.found names (c.as_slice.ensures.value ∙ c.in_ok-kernel.ensures)) in
     answered names lines c.in_ok-placed.placed c.catalog_with.result (subst (IsFromSymbols names lines) (sym c.in_ok-placed.ensures) found) c.catalog_with.ensures.built c.catalog_with.ensures.counted

@@ -1,21 +1,25 @@
-use Rattle.std.proofs.Common.{◌≡◌, ◌+◌, ◌^◌, ◌<◌, ◌≤◌, Bool, true, false, List, Option, sym, ap, subst, ◌∙◌, length, map, arith}
-use Rattle.std.specs.Prelude.{All, IfSome, is_some}
-use Rattle.std.specs.Int.{from_bool}
+use Rattle.std.proofs.Common.{◌≡◌, ◌+◌, ◌^◌, ◌<◌, List, Option, sym, ap, subst, ◌∙◌, length, length-append, map, arith}
+use Rattle.std.specs.Prelude.{All, ◌++◌}
+use Rattle.std.specs.Option.{option_to_list}
 use Rattle.std.specs.List.{flat_map}
-use Rattle.modules.specs.Accepted.{Accepted}
+use Rattle.modules.specs.Accepted.{Accepted, taken_regions}
 use Rattle.modules.specs.Building.{AreModules, built_in_with}
 use Rattle.modules.specs.Catalogs.{IsSoundCatalog, entry_for}
 use Rattle.modules.specs.Entries.{ModuleEntry}
 use Rattle.modules.specs.Gathering.{Gathers}
 use Rattle.modules.specs.Placed.{IsPlaced, PlacedModule}
-use Rattle.modules.proofs.SoundnessLemmas.{count_of_regions, kernel_one, valid_kernel, IsSound-catalog_with}
+use Rattle.modules.proofs.SoundnessLemmas.{count_of_regions, valid_kernel, IsSound-catalog_with}
 use Rattle.modules.proofs.MakingLemmas.{catalog_from, kept_from, modules_are, regions_made}
 use Rattle.modules.proofs.build.catalog_with.Goals as goal
+
+-- how many regions are taken
+taken_of : (a : Accepted) → length (taken_regions a) ≡ length a.built_in + length (flat_map (λ m. m.regions) a.modules)
+taken_of a = length-append a.built_in (flat_map (λ (m : PlacedModule). m.regions) a.modules)
 
 pub built_in_module-requires : goal.built_in_module-requires
 built_in_module-requires c =
     let a : Accepted = c.args.placed in
-    subst (λ (x : Accepted). IfSome x.built_in (λ r. r.0 < r.1)) (sym c.placed.view_is) (valid_kernel a.built_in (flat_map (λ (m : PlacedModule). m.regions) a.modules) c.requires.sound.apart.valid)
+    subst (λ (x : Accepted). All (λ r. r.0 < r.1) x.built_in) (sym c.placed.view_is) (valid_kernel a.built_in (flat_map (λ (m : PlacedModule). m.regions) a.modules) c.requires.sound.apart.valid)
 
 pub modules_from-requires : goal.modules_from-requires
 modules_from-requires c =
@@ -34,11 +38,7 @@ regions_in-regions-requires c =
     let gathers : Gathers a symbols g = c.in_ok-gathered.ensures in
     let others : made ≡ map (entry_for symbols) a.modules = modules_are a symbols g made gathers (subst (λ (x : Accepted). AreModules x.modules g.modules.items made) c.placed.view_is c.in_ok-modules.ensures) in
     let total : length (flat_map (λ (m : ModuleEntry). m.regions) made) ≡ length (flat_map (λ (m : PlacedModule). m.regions) a.modules) = ap length (regions_made a symbols made others) in
-    subst (λ (ms : List ModuleEntry). length (flat_map (λ (m : ModuleEntry). m.regions) ms) < 2 ^ 64) (sym c.as_slice-2.ensures.value) (omega (arith, total, c.requires.few))
-
-bit : (b : Bool) → from_bool b ≤ 1
-bit true = omega arith
-bit false = omega arith
+    subst (λ (ms : List ModuleEntry). length (flat_map (λ (m : ModuleEntry). m.regions) ms) < 2 ^ 64) (sym c.as_slice-2.ensures.value) (omega (arith, total, taken_of a, c.requires.few))
 
 pub overflow_add-catalog : goal.overflow_add-catalog
 overflow_add-catalog c =
@@ -50,7 +50,8 @@ overflow_add-catalog c =
     let others : made ≡ map (entry_for symbols) a.modules = modules_are a symbols g made gathers (subst (λ (x : Accepted). AreModules x.modules g.modules.items made) c.placed.view_is c.in_ok-modules.ensures) in
     let total : length (flat_map (λ (m : ModuleEntry). m.regions) made) ≡ length (flat_map (λ (m : PlacedModule). m.regions) a.modules) = ap length (regions_made a symbols made others) in
     let counted = c.regions_in-regions.ensures ∙ ap (λ (ms : List ModuleEntry). length (flat_map (λ (m : ModuleEntry). m.regions) ms)) c.as_slice-2.ensures.value ∙ total in
-    omega (arith, counted, c.requires.few, c.from.ensures, bit c.is_some.result)
+    let kernel = c.len-of_kernel.ensures ∙ c.placed.inside.built_in.ok.0 ∙ ap (λ (x : Accepted). length x.built_in) c.placed.view_is in
+    omega (arith, counted, kernel, taken_of a, c.requires.few)
 
 pub invariant_of-catalog : goal.invariant_of-catalog
 invariant_of-catalog c =
@@ -63,13 +64,14 @@ invariant_of-catalog c =
     let others : made ≡ map (entry_for symbols) a.modules = modules_are a symbols g made gathers (subst (λ (x : Accepted). AreModules x.modules g.modules.items made) c.placed.view_is c.in_ok-modules.ensures) in
     let first : built_in ≡ built_in_with a.built_in g.built_in.items = c.in_ok-built_in.ensures ∙ ap (λ (x : Accepted). built_in_with x.built_in g.built_in.items) c.placed.view_is in
     let built = catalog_from a g symbols built_in made gathers first others in
-    let one : IfSome built_in (λ m. length m.regions ≡ 1) = subst (λ (o : Option ModuleEntry). IfSome o (λ m. length m.regions ≡ 1)) (sym first) (kernel_one a.built_in g.built_in.items) in
+    let kernel = c.len-of_kernel.ensures ∙ c.placed.inside.built_in.ok.0 ∙ ap (λ (x : Accepted). length x.built_in) c.placed.view_is in
     record {
       sound = subst IsSoundCatalog (sym built) (IsSound-catalog_with a symbols c.requires.sound);
       named = rw (← c.as_slice.ensures.value) c.in_ok-by_name.ensures;
-      counted = ap (λ n. n + c.regions_in-regions.result) (c.from.ensures ∙ ap from_bool c.is_some.ensures)
-          ∙ ap (λ n. from_bool (is_some built_in) + n) (c.regions_in-regions.ensures ∙ ap (λ (ms : List ModuleEntry). length (flat_map (λ (m : ModuleEntry). m.regions) ms)) c.as_slice-2.ensures.value)
-          ∙ count_of_regions built_in made one;
+      counted = ap (λ n. n + c.regions_in-regions.result) kernel
+          ∙ ap (λ n. length a.built_in + n) (c.regions_in-regions.ensures ∙ ap (λ (ms : List ModuleEntry). length (flat_map (λ (m : ModuleEntry). m.regions) ms)) c.as_slice-2.ensures.value)
+          ∙ count_of_regions a.built_in g.built_in.items made
+          ∙ ap (λ (o : Option ModuleEntry). length (flat_map (λ (m : ModuleEntry). m.regions) (option_to_list o ++ made))) (sym first);
     }
 
 pub returns-clause-built : goal.returns-clause-built

@@ -1,7 +1,7 @@
 use Rattle.std.proofs.Common.{◌≡◌, ◌-◌, ◌^◌, ◌<◌, ◌≤◌, length, get_or, arith, rules}
 use Rattle.std.proofs.lemmas.List.{get_or_default}
 use Rattle.modules.specs.declared.marks.Mark.{Mark}
-use Rattle.modules.proofs.SweepLemmas.{exact_with, exact_none, from_first, from_next, from_same, is_above, none_above}
+use Rattle.modules.proofs.SweepLemmas.{exact_with, exact_none, from_first, from_next, from_same, is_above, none_above, reached_before, reached_last}
 use Rattle.modules.proofs.marks.regions_of_rising.Goals as goal
 use Rattle.modules.proofs.marks.regions_of_rising.Goals.{then-from-mark+in_ok-cover, else-from-mark}
 
@@ -28,8 +28,10 @@ loop-mark-preserved c =
       | then-from-mark+in_ok-cover w ↦
           rw (w.items-is, w.from-is) (record {
             laid = w.in_ok-cover.ensures.laid;
-            ends = w.in_ok-cover.ensures.ends;
-            exact = exact_with marks k c.loop-mark.from next.addr c.loop-mark.items.items w.cover.new.items.items i.head (is_above marks k next c.requires listed) (omega (arith, w.if-from-mark.true)) i.exact w.in_ok-cover.ensures.holds;
+            ends = λ j d lt. (let e = w.in_ok-cover.ensures.ends j d lt in let b = w.end_before.ensures.bounds.1 in omega arith);
+            exact = exact_with marks k c.loop-mark.from w.end_before.result next.addr c.loop-mark.items.items w.cover.new.items.items i.head (is_above marks k next c.requires listed) (omega (arith, w.if-from-mark.true)) w.end_before.ensures.bounds.1
+                (reached_before marks k c.loop-mark.from next w.end_before.result i.head (is_above marks k next c.requires listed) c.loop-mark-test.true listed w.end_before.ensures.exact)
+                i.exact w.in_ok-cover.ensures.holds;
             head = from_next marks k c.loop-mark.from next c.requires i.head c.loop-mark-test.true listed w.if-from-mark.true;
           })
       | else-from-mark w ↦
@@ -47,7 +49,11 @@ returns c =
     let i = c.loop-mark.invariant in
     let k = c.loop-mark.mark-index in
     let all : length marks ≤ k = omega (arith, c.loop-mark-test.false) in
+    let end = c.end_of_page.result in
+    let bounds = c.end_of_page.ensures.bounds in
     record {
-      laid = c.in_ok-cover_last.ensures.laid;
-      exact = exact_with marks k c.loop-mark.from (2 ^ 64 - 1) c.loop-mark.items.items c.cover_last.new.items.items i.head (none_above marks k (2 ^ 64 - 1) all) c.in_ok-cover_last.ensures.bound i.exact c.in_ok-cover_last.ensures.holds;
+      laid = c.in_ok-cover-2.ensures.laid;
+      exact = exact_with marks k c.loop-mark.from end (2 ^ 64 - 1) c.loop-mark.items.items c.cover-2.new.items.items i.head (none_above marks k (2 ^ 64 - 1) all) (omega (arith, bounds.0, bounds.1)) bounds.1
+          (reached_last marks k c.loop-mark.from end i.head all c.end_of_page.ensures.exact)
+          i.exact c.in_ok-cover-2.ensures.holds;
     }

@@ -36,4 +36,4 @@ returns c =
     let i = c.loop-module.invariant in
     let done = c.loop-module.yielded in
     let all : c.args.modules.items ≡ done = i.gone ∙ ap (λ (ms : List PlacedModule). done ++ ms) (nil_from_length (into_iter_items c.loop-module.module-iterator) (sym c.loop-module.module-iterator.rest.ok.0 ∙ c.in-None.ensures.steps.0)) ∙ append-nil done in
-    i.shows ∙ ap (accepted_with c.args.built_in) (sym all)
+    i.shows ∙ ap (accepted_with c.args.built_in.items) (sym all)
