@@ -116,6 +116,7 @@ fn looked_up(alloc: Global, failing: Failing, writer: &mut Writer) -> Result<u8,
     let options = LookupOptions {
         kernel: KernelBounds::usual(),
         rule: AddressRule::AS_GIVEN,
+        with_mapping: true,
     };
     succeeded(lookup_engine(alloc, &mut readers, &options, &[], FORM, writer))
 }

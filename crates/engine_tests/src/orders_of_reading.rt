@@ -23,6 +23,7 @@ fn fault_of(
     let options = LookupOptions {
         kernel: KernelBounds::usual(),
         rule: AddressRule::AS_GIVEN,
+        with_mapping: true,
     };
     let form = AnswerForm {
         json: false,

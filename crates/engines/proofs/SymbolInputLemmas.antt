@@ -13,7 +13,7 @@ use Rattle.engines.specs.LookupInputs.{all_addresses}
 use Rattle.engines.specs.AnswerForms.{line_by}
 use Rattle.engines.specs.Lookups.{GivesAddresses}
 use Rattle.engines.specs.Readings.{Failures, HoldsOf, NoReaderFailed, OnlyFailed, failures_in, last_failures}
-use Rattle.engines.specs.SymbolLookups.{AnswersBySymbols, AnswersSymbolLookup, HoldsOfCatalog, IsSymbolListing, IsWrittenBySymbols, SymbolInputs, found_counts_by, listed, symbol_inputs_of, symbol_inputs_with, symbol_lookup_text}
+use Rattle.engines.specs.SymbolLookups.{AnswersBySymbols, AnswersSymbolLookup, HoldsOfCatalog, IsSymbolListing, IsWrittenBySymbols, SymbolInputs, found_counts_by, kept_in_text, listed, symbol_inputs_of, symbol_inputs_with, symbol_lookup_text}
 use Rattle.engines.specs.declared.fault.Fault.{Fault}
 use Rattle.engines.specs.declared.forms.AnswerForm.{AnswerForm}
 use Rattle.engines.specs.declared.fault.Fault.TheVariants.{Refused, BadLine, Read, Write}
@@ -39,7 +39,7 @@ pub text_is : (form : AnswerForm) (i : SymbolInputs) (l : SymbolListing) (is : I
 text_is form i l is answers are =
     let c = catalog_with is.modules (listed i.kallsyms) in
     let lines : CatalogEntries → List ℕ = λ k. flat_map (line_by form k i.rule) (map (answer_at k i.rule) i.addresses) in
-    let kept : KeptCounts = kept_counts is.modules (listed i.kallsyms) in
+    let kept : KeptCounts = kept_in_text i.kallsyms is.modules in
     let found = found_counts_by form l.kept l.skipped.by_place in
     ap (λ xs. flat_map (line_by form l.catalog i.rule) xs ++ found) are
     ∙ ap (λ k. lines k ++ found) is.catalog

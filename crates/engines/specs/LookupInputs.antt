@@ -1,5 +1,5 @@
 -- What a lookup of addresses reads, and what that says.
-use Rattle.std.specs.Prelude.{ℕ, List, [], Option, Some, None, Result, Ok, Err}
+use Rattle.std.specs.Prelude.{ℕ, length, List, [], Option, Some, None, Result, Ok, Err}
 use Rattle.std.specs.Prelude.{find, option_and_then, unwrap_or}
 use Rattle.std.specs.Option.{option_map}
 use Rattle.texts.specs.declared.counted.Counted.{Counted}
@@ -10,11 +10,11 @@ use Rattle.listing.specs.ListingNotes.{all_notes, is_of_kallsyms, is_of_modules}
 use Rattle.listing.specs.declared.listing_notes.ListingNotes.{ListingNotes}
 use Rattle.listing.specs.ModuleListing.{modules_in}
 use Rattle.texts.specs.Said.{entries_after}
-use Rattle.listing.specs.SymbolListing.{symbols_in}
+use Rattle.listing.specs.SymbolListing.{symbols_in, symbols_with}
 use Rattle.modules.specs.declared.catalog.BuildCounts.{BuildCounts}
-use Rattle.modules.specs.Catalogs.{catalog_of, counts_of}
+use Rattle.modules.specs.Catalogs.{build_of_listed, catalog_of, counts_of}
 use Rattle.modules.specs.Entries.{CatalogEntries}
-use Rattle.modules.specs.Listed.{ListedRegion}
+use Rattle.modules.specs.Listed.{ListedRegion, ListedSymbol}
 use Rattle.engines.specs.declared.lookup.ListingTexts.{ListingTexts}
 use Rattle.engines.specs.declared.lookup.LookupInputs.{LookupInputs}
 use Rattle.engines.specs.declared.lookup.LookupOptions.{LookupOptions}
@@ -101,16 +101,24 @@ inputs_in i = record {
 abbrev pub region_lines_of_inputs : Inputs → List ListedRegion
 region_lines_of_inputs i = unwrap_or i.regions []
 
+-- the symbols that are listed, and those of them that the catalog may keep
+abbrev pub all_symbols : Inputs → List ListedSymbol
+all_symbols i = symbols_in (lines_of i.kallsyms)
+
+abbrev pub symbols_of_inputs : Inputs → List ListedSymbol
+symbols_of_inputs i = symbols_with i.options.with_mapping (all_symbols i)
+
 -- the catalog that the listings say, and how many of their entries went where
 unfoldable pub catalog_in : Inputs → CatalogEntries
 catalog_in i =
     catalog_of (Some i.options.kernel) (modules_in (lines_of i.modules)) (region_lines_of_inputs i)
-    (symbols_in (lines_of i.kallsyms))
+    (symbols_of_inputs i)
 
 unfoldable pub counts_in : Inputs → BuildCounts
 counts_in i =
-    counts_of (Some i.options.kernel) (modules_in (lines_of i.modules)) (region_lines_of_inputs i)
-    (symbols_in (lines_of i.kallsyms))
+    build_of_listed (length (all_symbols i))
+    (counts_of (Some i.options.kernel) (modules_in (lines_of i.modules)) (region_lines_of_inputs i)
+    (symbols_of_inputs i))
 
 -- what a reader gives that may be there, where that is known
 abbrev pub known_text : {A : Type 0} → (A → Option (List ℕ)) → Option (Counted A)

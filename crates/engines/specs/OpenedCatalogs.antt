@@ -4,7 +4,7 @@ use Rattle.std.specs.Prelude.{unwrap_or, is_some, true, false}
 use Rattle.std.specs.Option.{option_map}
 use Rattle.texts.specs.Counted.{device_of, failures_of}
 use Rattle.modules.specs.Accepted.{Accepted}
-use Rattle.modules.specs.Catalogs.{catalog_with, kept_counts}
+use Rattle.modules.specs.Catalogs.{catalog_with}
 use Rattle.modules.specs.Entries.{CatalogEntries}
 use Rattle.modules.specs.Lines.{usual_bounds}
 use Rattle.modules.specs.Listed.{BoundNames, ListedRegion}
@@ -12,8 +12,9 @@ use Rattle.modules.specs.Placed.{are_few}
 use Rattle.order_laws.specs.declared.refusals.Refusal.TheVariants as refusal
 use Rattle.engines.specs.LookupInputs.{Inputs, catalog_in, known_text, notes_of, region_lines}
 use Rattle.engines.specs.Readings.{Failures, NoReaderFailed, OnlyFailed, failures_in}
-use Rattle.engines.specs.RunInputs.{run_options}
-use Rattle.engines.specs.SymbolLookups.{SaysOfModules, listed, notes_with, symbol_note}
+use Rattle.engines.specs.declared.lookup.LookupOptions.{LookupOptions}
+use Rattle.listing.specs.AddressRules.{as_given}
+use Rattle.engines.specs.SymbolLookups.{SaysOfModules, kept_in_text, listed, notes_with, symbol_note}
 use Rattle.engines.specs.declared.fault.Fault.{Fault}
 use Rattle.engines.specs.declared.fault.Fault.TheVariants.{Refused, BadLine, Read}
 use Rattle.listing.specs.declared.listing_notes.ListingNotes.{ListingNotes}
@@ -63,11 +64,15 @@ AreReadAs counts (Err (Refused refusal.OutOfMemory)) = NoReaderFailed counts
 AreReadAs counts (Err (Read place)) = OnlyFailed place counts
 AreReadAs counts (Err _) = ⊥
 
+-- the options of who opens listings: the names that bound the kernel, and no mapping symbols
+abbrev pub opening_options : BoundNames → LookupOptions
+opening_options names = record { kernel = names; rule = as_given; with_mapping = false }
+
 -- what a lookup of no address is asked over in listings of modules and of symbols, and with these
 -- region lines
 abbrev pub inputs_by : Option BoundNames → List ℕ → List ℕ → Option (List ListedRegion) → Inputs
 inputs_by kernel modules kallsyms regions = record {
-  options = run_options (unwrap_or kernel usual_bounds);
+  options = opening_options (unwrap_or kernel usual_bounds);
   modules = modules;
   kallsyms = kallsyms;
   regions = regions;
@@ -87,7 +92,7 @@ IsByModules kernel modules kallsyms regions c notes =
 abbrev pub IsBySymbols : Option BoundNames → List ℕ → CatalogEntries → ListingNotes → Type 0
 IsBySymbols kernel text c notes =
     (a : Accepted) × SaysOfModules kernel text a × (c ≡ catalog_with a (listed text))
-    × (notes ≡ notes_with (symbol_note kernel text (kept_counts a (listed text)).symbols))
+    × (notes ≡ notes_with (symbol_note kernel text (kept_in_text text a).symbols))
 
 -- the catalog and the notes are those of the listings that are given
 abbrev pub IsCatalogBy : Option BoundNames → Given → Option (List ℕ) → CatalogEntries → ListingNotes

@@ -1,5 +1,5 @@
 -- What a run of a script reads, and what that says.
-use Rattle.std.specs.Prelude.{ℕ, List, [], Option, Some, None, Result, Ok, Err, option_and_then}
+use Rattle.std.specs.Prelude.{ℕ, true, List, [], Option, Some, None, Result, Ok, Err, option_and_then}
 use Rattle.std.specs.Option.{option_map}
 use Rattle.texts.specs.Counted.{device_of}
 use Rattle.run_files.specs.declared.scripts.ScriptLine.{ScriptLine}
@@ -29,9 +29,10 @@ run_inputs_after readers script (Err bad) = Some (Err bad)
 run_inputs_after readers script (Ok i) =
     option_map (λ text. run_inputs_with i (script_of readers text)) script
 
--- the options of a run: the names that bound the kernel, and addresses that are taken as they are
+-- the options of a run: the names that bound the kernel, addresses that are taken as they are, and
+-- mapping symbols that are kept
 abbrev pub run_options : BoundNames → LookupOptions
-run_options names = record { kernel = names; rule = as_given }
+run_options names = record { kernel = names; rule = as_given; with_mapping = true }
 
 -- the inputs that these texts and this script are, where these names bound the kernel
 abbrev pub run_inputs_of : BoundNames → ℕ → Option (List ℕ) → Texts

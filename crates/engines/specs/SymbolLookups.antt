@@ -1,5 +1,5 @@
 -- What a lookup writes whose modules come from a listing of symbols alone.
-use Rattle.std.specs.Prelude.{◌≡◌, ℕ, List, [], ◌∷◌, ◌++◌, map, flat_map, find, Option, None}
+use Rattle.std.specs.Prelude.{◌≡◌, ℕ, false, length, List, [], ◌∷◌, ◌++◌, map, flat_map, find, Option, None}
 use Rattle.std.specs.Prelude.{Result, Ok, Err, option_and_then}
 use Rattle.std.specs.Option.{option_map}
 use Rattle.std.specs.Io.KnownBytes.{Appends}
@@ -8,10 +8,10 @@ use Rattle.texts.specs.declared.counted.Counted.{Counted}
 use Rattle.texts.specs.Counted.{NoneFailed, Rose, device_of, failures_of}
 use Rattle.texts.specs.Lines.{lines_of}
 use Rattle.listing.specs.Looks.{are_symbols_hidden}
-use Rattle.listing.specs.SymbolListing.{symbol_counts, symbols_in}
+use Rattle.listing.specs.SymbolListing.{symbol_counts, symbols_in, symbols_with}
 use Rattle.modules.specs.declared.catalog.KeptCounts.{KeptCounts}
 use Rattle.modules.specs.Accepted.{Accepted}
-use Rattle.modules.specs.Catalogs.{catalog_with, kept_counts}
+use Rattle.modules.specs.Catalogs.{catalog_with, kept_counts, kept_of_listed}
 use Rattle.modules.specs.Entries.{CatalogEntries}
 use Rattle.modules.specs.FromSymbols.{IsFromSymbols}
 use Rattle.modules.specs.Lines.{bounds_for, usual_bounds_of}
@@ -77,9 +77,15 @@ known_symbol_inputs kallsyms addresses readers options given =
     option_and_then (symbol_inputs_of options given (known_text addresses readers.addresses))
     (kallsyms (device_of readers.kallsyms))
 
--- the symbols that a text lists
+-- the symbols that a text lists, but mapping symbols
 abbrev pub listed : List ℕ → List ListedSymbol
-listed text = symbols_in (lines_of text)
+listed text = symbols_with false (symbols_in (lines_of text))
+
+-- how many modules and regions a text says, and how many of its lines went where; mapping symbols
+-- are stray
+abbrev pub kept_in_text : List ℕ → Accepted → KeptCounts
+kept_in_text text a =
+    kept_of_listed (length (symbols_in (lines_of text))) (kept_counts a (listed text))
 
 -- what the listing in a text says of the kernel, which lies between the names that are given or
 -- else in its usual regions, and of the modules
@@ -97,11 +103,11 @@ pub record IsSymbolListing (kernel : Option BoundNames) (text : List ℕ) (l : S
   pub modules : Accepted
   pub said : SaysOfModules kernel text modules
   pub catalog : l.catalog ≡ catalog_with modules (listed text)
-  pub kept : l.kept ≡ kept_counts modules (listed text)
+  pub kept : l.kept ≡ kept_in_text text modules
   pub skipped : l.skipped.by_place ≡ symbol_counts (lines_of text)
   pub hidden : l.hidden ≡ are_symbols_hidden (lines_of text)
   pub usual : l.usual ≡ usual_bounds_of (listed text)
-  pub note : l.note ≡ symbol_note kernel text (kept_counts modules (listed text)).symbols
+  pub note : l.note ≡ symbol_note kernel text (kept_in_text text modules).symbols
 
 -- how many modules and regions were found, and where the lines went
 abbrev pub counts_text_of : KeptCounts → List ℕ → List ℕ
@@ -122,7 +128,7 @@ symbol_lookup_text form i a =
     let symbols = listed i.kallsyms in
     let c = catalog_with a symbols in
     flat_map (line_by form c i.rule) (map (answer_at c i.rule) i.addresses)
-    ++ found_counts_by form (kept_counts a symbols) (symbol_counts (lines_of i.kallsyms))
+    ++ found_counts_by form (kept_in_text i.kallsyms a) (symbol_counts (lines_of i.kallsyms))
 
 -- this holds of the catalog that the listing says
 abbrev pub HoldsOfCatalog : (CatalogEntries → Type 0) → SymbolInputs → Type 0
@@ -142,7 +148,7 @@ IsWrittenBySymbols contents form w w' i notes =
     × HasFewRegions (catalog_with a (listed i.kallsyms))
     × Appends (contents (device_of w)) (contents (device_of w')) (symbol_lookup_text form i a)
     × (notes
-    ≡ notes_with (symbol_note i.kernel i.kallsyms (kept_counts a (listed i.kallsyms)).symbols))
+    ≡ notes_with (symbol_note i.kernel i.kallsyms (kept_in_text i.kallsyms a).symbols))
 
 -- What is returned for these inputs, from one state of the writer to another. Every fault but a
 -- failed write leaves the writer as it was, and a call of it failed then alone.

@@ -67,6 +67,8 @@ pub struct LookupOptions<'a> {
     pub kernel: KernelBounds<'a>,
     /// How the addresses are taken that are looked up.
     pub rule: AddressRule,
+    /// Whether mapping symbols are kept, as other symbols are.
+    pub with_mapping: bool,
 }
 
 /// What a lookup is asked over.
@@ -258,11 +260,11 @@ pub fn listings_in<'a>(
         (IsBuildRefusal (region_lines_of_inputs (inputs_in inputs.now))) }
 {
     let (module_lines, skipped_modules) = read_modules(alloc, inputs.modules)?;
-    let symbols = read_kallsyms(alloc, inputs.kallsyms, true)?;
+    let symbols = read_kallsyms(alloc, inputs.kallsyms, inputs.options.with_mapping)?;
     let modules_hidden = are_modules_hidden(module_lines.len(), &skipped_modules);
     let symbols_hidden = are_symbols_hidden(symbols.listed, &symbols.skipped);
     let regions = region_lines_of(inputs);
-    let (catalog, built) = Catalog::build(
+    let (catalog, counts) = Catalog::build(
         alloc,
         Some(&inputs.options.kernel),
         &module_lines,
@@ -270,6 +272,7 @@ pub fn listings_in<'a>(
         symbols.lines,
         asked,
     )?;
+    let built = counts.of_listed(symbols.listed);
     let facts = SymbolFacts {
         hidden: symbols_hidden,
         kept: built.symbols,

@@ -98,6 +98,7 @@ fn open_by_modules<'a>(
     let options = LookupOptions {
         kernel: bounds_or_usual(kernel),
         rule: AddressRule::AS_GIVEN,
+        with_mapping: false,
     };
     let inputs = LookupInputs {
         options: &options,

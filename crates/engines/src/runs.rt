@@ -105,6 +105,7 @@ fn run_from<T: Threads + Wait + Sync, S: Read, W: Write>(
             end: kernel.end,
         },
         rule: AddressRule::AS_GIVEN,
+        with_mapping: true,
     };
     let inputs = LookupInputs {
         options: &options,

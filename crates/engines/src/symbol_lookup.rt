@@ -173,12 +173,13 @@ pub fn symbol_listing_in<'a>(
         lines,
         listed,
         skipped,
-    } = read_kallsyms(alloc, kallsyms, true)?;
+    } = read_kallsyms(alloc, kallsyms, false)?;
     let hidden = are_symbols_hidden(listed, &skipped);
     let usual = lines.usual_bounds();
     let names = kernel.unwrap_or(&usual);
     let has_kernel = lines.has_region(names);
-    let (catalog, kept) = Catalog::from_symbols(alloc, kernel, lines, asked)?;
+    let (catalog, counts) = Catalog::from_symbols(alloc, kernel, lines, asked)?;
+    let kept = counts.of_listed(listed);
     let facts = SymbolFacts {
         hidden,
         kept: kept.symbols,

@@ -84,6 +84,7 @@ fn check_modules<W: Write>(
     let options = LookupOptions {
         kernel: bounds_or_usual(kernel),
         rule: AddressRule::AS_GIVEN,
+        with_mapping: false,
     };
     let inputs = LookupInputs {
         options: &options,

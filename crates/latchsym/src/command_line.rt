@@ -542,6 +542,7 @@ fn listed_lookup_job<'a>(
         options: LookupOptions {
             kernel,
             rule: asked.rule,
+            with_mapping: true,
         },
         addresses: asked.listed,
         form: asked.form,

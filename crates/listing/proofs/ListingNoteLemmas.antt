@@ -1,11 +1,11 @@
 -- Where a note on a listing does not apply.
-use Rattle.std.proofs.Common.{◌≡◌, ◌<◌, ℕ, zero, suc, ◌+◌, Bool, true, false, not, ◌&&◌, ◌||◌, cond, nat_lt, List, [], ◌∷◌, length, map, take, Option, Some, None, refl, sym, ap, ◌∙◌, arith}
+use Rattle.std.proofs.Common.{◌≡◌, ◌<◌, ℕ, zero, suc, ◌+◌, Bool, true, false, not, ◌&&◌, ◌||◌, cond, nat_lt, List, [], ◌∷◌, length, map, take, Option, Some, None, refl, sym, ap, ◌∙◌, ⊎_elim, filter, arith}
 use Rattle.std.specs.Borrow.{Bor}
 use Rattle.std.specs.Prelude.{find, is_none, is_some, nat_eq, slice_get, unwrap_or}
 use Rattle.std.specs.List.{list_any}
 use Rattle.std.specs.Option.{option_and_then, option_copied, option_map, option_to_list}
 use Rattle.std.specs.Str.{bytes_eq}
-use Rattle.std.proofs.lemmas.Bool.{lt-ltb, ne_eqb, or_parts}
+use Rattle.std.proofs.lemmas.Bool.{lt-ltb, ne_eqb, or_cases, or_left, or_parts, or_right}
 use Rattle.std.proofs.lemmas.List.{take_all}
 use Rattle.listing.specs.Looks.{is_kernel_symbol, is_of_kernel}
 use Rattle.modules.specs.Entries.{CatalogEntries, ModuleEntry}
@@ -14,7 +14,8 @@ use Rattle.modules.specs.Lines.{bounds_for, built_in_region, first_address, kern
 use Rattle.modules.specs.Listed.{BoundNames, ListedModule, ListedRegion, ListedSymbol}
 use Rattle.modules.proofs.SoundnessLemmas.{built_in_of_accepted}
 use Rattle.listing.specs.declared.listing_notes.ListingNote.TheVariants.{NoEnd, NoStart}
-use Rattle.listing.specs.ListingNotes.{has_symbols, lacks_symbol, lacks_symbols}
+use Rattle.listing.specs.SymbolListing.{is_mapping, symbols_with}
+use Rattle.listing.specs.ListingNotes.{HasBounds, has_symbols, lacks_symbol, lacks_symbols}
 
 -- ---- the bounds of the kernel
 
@@ -30,28 +31,43 @@ both_named None end some = absurd (cc)
 both_named (Some s) None some = absurd (cc)
 both_named (Some s) (Some e) some = (refl, refl)
 
-not_lacked : (name : List ℕ) (symbols : List ListedSymbol) → is_some (first_address name symbols) ≡ true → lacks_symbol name symbols ≡ false
-not_lacked name symbols some =
-    let named : list_any (is_kernel_symbol name) symbols ≡ true = sym (first_named name symbols) ∙ some in
+not_lacked : (name : List ℕ) (symbols : List ListedSymbol) → list_any (is_kernel_symbol name) symbols ≡ true → lacks_symbol name symbols ≡ false
+not_lacked name symbols named =
     ap (λ b. list_any is_of_kernel symbols && not b) named ∙ none (list_any is_of_kernel symbols)
   where
     none : (b : Bool) → (b && false) ≡ false
     none true = refl
     none false = refl
 
--- a kernel that has a region lacks neither bound
-kernel_named : (names : BoundNames) (symbols : List ListedSymbol) → is_some (built_in_region names symbols) ≡ true
-    → (lacks_symbol names.start symbols ≡ false) × (lacks_symbol names.end symbols ≡ false)
-kernel_named names symbols some =
-    let both = both_named (first_address names.start symbols) (first_address names.end symbols) some in
-    (not_lacked names.start symbols both.0, not_lacked names.end symbols both.1)
+-- what is listed without mapping symbols is listed
+any_passing : (p q : ListedSymbol → Bool) (symbols : List ListedSymbol) → list_any p (filter q symbols) ≡ true → list_any p symbols ≡ true
+any_passing p q [] h = h
+any_passing p q (s ∷ symbols) h =
+    elim (q s) as (λ b. list_any p (cond b (s ∷ filter q symbols) (filter q symbols)) ≡ true → (p s || list_any p symbols) ≡ true) [
+      | true ↦ λ e. ⊎_elim (λ here. or_left (p s) (list_any p symbols) here) (λ rest. or_right (p s) (list_any p symbols) (any_passing p q symbols rest)) (or_cases (p s) (list_any p (filter q symbols)) e)
+      | false ↦ λ e. or_right (p s) (list_any p symbols) (any_passing p q symbols e)
+    ] h
 
-pub nothing_lacked : (names : BoundNames) (symbols : List ListedSymbol) → is_some (built_in_region names symbols) ≡ true
+any_with : (p : ListedSymbol → Bool) (with_mapping : Bool) (symbols : List ListedSymbol) → list_any p (symbols_with with_mapping symbols) ≡ true → list_any p symbols ≡ true
+any_with p true symbols h = h
+any_with p false symbols h = any_passing p (λ s. not (is_mapping s.name)) symbols h
+
+-- a kernel that has a region has both bounds
+pub kernel_named : (with_mapping : Bool) (names : BoundNames) (symbols : List ListedSymbol) → is_some (built_in_region names (symbols_with with_mapping symbols)) ≡ true → HasBounds names symbols
+kernel_named with_mapping names symbols some =
+    let those = symbols_with with_mapping symbols in
+    let both = both_named (first_address names.start those) (first_address names.end those) some in (
+      any_with (is_kernel_symbol names.start) with_mapping symbols (sym (first_named names.start those) ∙ both.0),
+      any_with (is_kernel_symbol names.end) with_mapping symbols (sym (first_named names.end those) ∙ both.1),
+    )
+
+pub nothing_lacked : (names : BoundNames) (symbols : List ListedSymbol) → HasBounds names symbols
     → None ≡ cond (lacks_symbol names.start symbols) (Some NoStart) (cond (lacks_symbol names.end symbols) (Some NoEnd) None)
-nothing_lacked names symbols some =
-    let named = kernel_named names symbols some in
-    sym (ap (λ b. cond b (Some NoStart) (cond (lacks_symbol names.end symbols) (Some NoEnd) None)) named.0
-    ∙ ap (λ b. cond b (Some NoEnd) None) named.1)
+nothing_lacked names symbols has =
+    let start = not_lacked names.start symbols has.0 in
+    let end = not_lacked names.end symbols has.1 in
+    sym (ap (λ b. cond b (Some NoStart) (cond (lacks_symbol names.end symbols) (Some NoEnd) None)) start
+    ∙ ap (λ b. cond b (Some NoEnd) None) end)
 
 -- what is there is there as a copy
 pub copied_some : {T : Type 0} (o : Option (Bor T)) → is_some o ≡ is_some (option_copied o)

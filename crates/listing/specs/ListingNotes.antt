@@ -1,5 +1,5 @@
 -- What is noted of a listing of which nothing is of use.
-use Rattle.std.specs.Prelude.{ℕ, Bool, false, not, ◌&&◌, ◌||◌, nat_eq, nat_lt, List, [], ◌∷◌}
+use Rattle.std.specs.Prelude.{◌≡◌, ℕ, Bool, true, false, not, ◌&&◌, ◌||◌, nat_eq, nat_lt, List, [], ◌∷◌}
 use Rattle.std.specs.Prelude.{length, Option, Some, None, is_some}
 use Rattle.std.specs.List.{list_any}
 use Rattle.std.specs.Option.{option_map_or}
@@ -42,6 +42,12 @@ lacks_symbols c = not (has_no_module c) && not (list_any (λ m. has_symbols (Som
 abbrev pub lacks_symbol : List ℕ → List ListedSymbol → Bool
 lacks_symbol name symbols =
     list_any is_of_kernel symbols && not (list_any (is_kernel_symbol name) symbols)
+
+-- symbols have both names
+abbrev pub HasBounds : BoundNames → List ListedSymbol → Type 0
+HasBounds names symbols =
+    (list_any (is_kernel_symbol names.start) symbols ≡ true)
+    × (list_any (is_kernel_symbol names.end) symbols ≡ true)
 
 -- what is noted of a listing of modules with this text, where the catalog is this
 abbrev pub is_of_modules : List ℕ → CatalogEntries → ListingNote → Bool

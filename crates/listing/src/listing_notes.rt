@@ -3,14 +3,13 @@
 //!
 //! Notes are decided when the catalog is built, mostly from what was counted for it. A text is gone
 //! through again only where none of its lines is kept, or where the kernel itself has no region.
-ghost use Rattle.std.specs.Prelude.{◌≡◌, find, is_some, if◌then◌else◌, None, Some};
+ghost use Rattle.std.specs.Prelude.{◌≡◌, find, if◌then◌else◌, true, None, Some};
 ghost use Rattle.std.specs.Option.{option_copied};
 ghost use Rattle.texts.specs.Lines.{lines_of};
 ghost use Rattle.listing.specs.Looks.{are_modules_hidden, are_symbols_hidden};
 ghost use Rattle.listing.specs.SymbolListing.{symbols_in};
 ghost use Rattle.modules.specs.Entries.{CatalogEntries};
-ghost use Rattle.modules.specs.Lines.{built_in_region};
-ghost use Rattle.listing.specs.ListingNotes.{all_notes, has_no_module, has_symbols};
+ghost use Rattle.listing.specs.ListingNotes.{all_notes, has_no_module, has_symbols, HasBounds};
 ghost use Rattle.listing.specs.ListingNotes.{is_of_kallsyms, is_of_modules, is_some_noted};
 ghost use Rattle.listing.specs.ListingNotes.{lacks_symbol, lacks_symbols, no_notes};
 
@@ -185,8 +184,8 @@ pub fn note_of_kallsyms(
     facts: SymbolFacts,
 ) -> Option<ListingNote>
     requires hidden { facts.hidden ≡ are_symbols_hidden (lines_of text.now) }
-    requires kernel { facts.has_kernel
-        ≡ is_some (built_in_region names.now (symbols_in (lines_of text.now))) }
+    requires kernel { facts.has_kernel ≡ true
+        → HasBounds names.now (symbols_in (lines_of text.now)) }
     ensures { result ≡ find (is_of_kallsyms names.now text.now facts.kept) all_notes }
 {
     let none = facts.kept == 0;
@@ -210,8 +209,7 @@ pub fn note_of_kallsyms(
 /// Which of the names that bound the kernel no symbol has, where symbols of the kernel itself are
 /// listed. Where there is a region between them, both are.
 fn missing_bound(text: &[u8], names: &KernelBounds, has_kernel: bool) -> Option<ListingNote>
-    requires { has_kernel
-        ≡ is_some (built_in_region names.now (symbols_in (lines_of text.now))) }
+    requires { has_kernel ≡ true → HasBounds names.now (symbols_in (lines_of text.now)) }
     ensures { result
         ≡ (if lacks_symbol names.now.start (symbols_in (lines_of text.now))
         then Some ListingNote.NoStart

@@ -1,5 +1,5 @@
 -- The catalog of the listings, and what is asked of it.
-use Rattle.std.specs.Prelude.{◌≡◌, ◌⊎◌, ◌<◌, false, ℕ, ◌+◌, zero, suc, not, if◌then◌else◌}
+use Rattle.std.specs.Prelude.{◌≡◌, ◌⊎◌, ◌<◌, false, ℕ, ◌+◌, ◌-◌, zero, suc, not, if◌then◌else◌}
 use Rattle.std.specs.Prelude.{List, ◌++◌}
 use Rattle.std.specs.Prelude.{length, slice_get, map, count_by, codes, All, Option, None, unwrap_or}
 use Rattle.std.specs.List.{flat_map, position_from}
@@ -64,6 +64,13 @@ kept_counts a symbols = record {
   symbols = count_by (is_kept a) symbols;
   stray = count_by (λ s. not (is_kept a s)) symbols;
 }
+
+-- the counts where so many symbols are listed: those that are not kept are stray
+abbrev pub build_of_listed : ℕ → BuildCounts → BuildCounts
+build_of_listed listed b = record b { stray = listed - b.symbols }
+
+abbrev pub kept_of_listed : ℕ → KeptCounts → KeptCounts
+kept_of_listed listed k = record k { stray = listed - k.symbols }
 
 -- the kernel itself where it has regions, and then the modules
 abbrev pub entries_of : CatalogEntries → List ModuleEntry

@@ -6,7 +6,7 @@ ghost use Rattle.std.specs.Option.{option_copied};
 ghost use Rattle.modules.specs.Accepted.{Accepted};
 ghost use Rattle.modules.specs.Lines.{fits, region_fits};
 ghost use Rattle.modules.specs.Catalogs.{catalog_of, catalog_with, counts_of, IsBuildRefusal};
-ghost use Rattle.modules.specs.Catalogs.{kept_counts, module_of};
+ghost use Rattle.modules.specs.Catalogs.{build_of_listed, kept_counts, kept_of_listed, module_of};
 ghost use Rattle.modules.specs.Catalogs.{module_number_of, number_for, regions_of, IsNoneAbsent};
 ghost use Rattle.modules.specs.Catalogs.{IsSoundCatalog};
 ghost use Rattle.modules.specs.FromSymbols.{IsFromSymbols};
@@ -51,6 +51,24 @@ pub struct BuildCounts {
     pub stray: u64,
 }
 
+impl BuildCounts {
+    /// The same where so many symbols are listed, some of which were left out before: those that
+    /// are not kept are stray.
+    pub fn of_listed(self, listed: usize) -> BuildCounts
+        ensures { result ≡ build_of_listed listed self }
+    {
+        BuildCounts {
+            modules: self.modules,
+            double: self.double,
+            overlap: self.overlap,
+            regions: self.regions,
+            stray_regions: self.stray_regions,
+            symbols: self.symbols,
+            stray: (listed as u64).saturating_sub(self.symbols),
+        }
+    }
+}
+
 /// What a catalog of symbols alone has, and how many lines are not in it.
 #[derive(Clone, Copy, Debug, PartialEq, Eq, Drop)]
 pub struct KeptCounts {
@@ -62,6 +80,21 @@ pub struct KeptCounts {
     pub symbols: u64,
     /// Lines that are not kept.
     pub stray: u64,
+}
+
+impl KeptCounts {
+    /// The same where so many symbols are listed, some of which were left out before: those that
+    /// are not kept are stray.
+    pub fn of_listed(self, listed: usize) -> KeptCounts
+        ensures { result ≡ kept_of_listed listed self }
+    {
+        KeptCounts {
+            modules: self.modules,
+            regions: self.regions,
+            symbols: self.symbols,
+            stray: (listed as u64).saturating_sub(self.symbols),
+        }
+    }
 }
 
 /// What of a module a table holds.
