@@ -174,12 +174,14 @@ struct latchsym_listings {
 /* Opens the catalog of listings in a closed handle.
  *
  * Without a listing of modules these are the owners that the symbols name, [bpf] and the like among
- * them, and an address is a module's where the symbol below it is and lies less than 1 MiB below.
- * So each address goes to the symbol that is nearest; a listing of modules says less well where
- * they lie, since from Linux 6.4 on it gives the start of one memory and the size of all.
+ * them, and an address is a module's where the symbol below it is and lies in the same page of 4096
+ * bytes, or the symbol above it is that module's too and less than 1 MiB above the one below. A
+ * listing of modules says less well where they lie, since from Linux 6.4 on it gives the start of
+ * one memory and the size of all.
  *
- * The kernel itself lies from `start` up to `end`. Where neither is given these are _stext, and
- * _end or, where no symbol has that name, _einittext or else _etext.
+ * The kernel itself lies from `start` up to `end`. Where neither is given it lies from _stext up to
+ * _end or, where these are not listed in this order, from _stext up to _etext and from _sinittext up
+ * to _einittext.
  *
  * 0, LATCHSYM_OUT_OF_MEMORY, LATCHSYM_BAD_HANDLE, or LATCHSYM_BAD_LISTINGS where the size is not
  * that of this version, or there are bytes of modules or of regions and has_modules is 0. Of a

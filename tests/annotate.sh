@@ -39,12 +39,12 @@ done
 cat >"$work/kallsyms" <<'END'
 ffffffff81000000 T _stext
 ffffffff81000100 T do_one
-ffffffff81002000 T _einittext
+ffffffff81002000 T _etext
 ffffffffc0000010 t ext4_a	[ext4]
 ffffffffc0002000 t xfs_a	[xfs]
 END
 printf 'RIP: 0010:0xffffffff81000108\r\n[<ffffffffc0000018>] (ffffffffc0002004)' >"$work/log"
-printf 'RIP: 0010:0xffffffff81000108 do_one+0x8/0x1f00\r\n[<ffffffffc0000018>] ext4_a+0x8/0x1ff0 [ext4] (ffffffffc0002004) xfs_a+0x4/0x100000 [xfs]' >"$work/wanted"
+printf 'RIP: 0010:0xffffffff81000108 do_one+0x8/0x1f00\r\n[<ffffffffc0000018>] ext4_a+0x8/0xff0 [ext4] (ffffffffc0002004) xfs_a+0x4/0x1000 [xfs]' >"$work/wanted"
 writes "$work/wanted" --kallsyms "$work/kallsyms" "$work/log"
 sed 's/ do_one+0x8\/0x1f00//' "$work/wanted" >"$work/moved"
 writes "$work/moved" --kallsyms "$work/kallsyms" --kernel _stext do_one "$work/log"
@@ -63,7 +63,7 @@ writes "$work/none" --kallsyms "$work/kallsyms" "$work/none"
     head -c 10000000 /dev/zero | tr '\0' ' '
     printf "(0xffffffffc0000018)$(printf '\\%03o' $(seq 0 255))ffffffffc0000018\n"
 } >"$work/log"
-sed 's/ \(ffffffffc0000018\) / \1 ext4_a+0x8\/0x1ff0 [ext4] /; s/18)/& ext4_a+0x8\/0x1ff0 [ext4]/; s/18$/& ext4_a+0x8\/0x1ff0 [ext4]/' \
+sed 's/ \(ffffffffc0000018\) / \1 ext4_a+0x8\/0xff0 [ext4] /; s/18)/& ext4_a+0x8\/0xff0 [ext4]/; s/18$/& ext4_a+0x8\/0xff0 [ext4]/' \
     <"$work/log" >"$work/wanted"
 writes "$work/wanted" --kallsyms "$work/kallsyms" "$work/log"
 
@@ -71,7 +71,7 @@ writes "$work/wanted" --kallsyms "$work/kallsyms" "$work/log"
 for line in $(seq 1 20000); do
     echo "[$line.5] pid $line: from [<ffffffffc0000018>] by 0xffffffff81000108, at ffffffff82000000"
 done >"$work/log"
-sed 's/18>]/& ext4_a+0x8\/0x1ff0 [ext4]/; s/81000108/& do_one+0x8\/0x1f00/' "$work/log" >"$work/wanted"
+sed 's/18>]/& ext4_a+0x8\/0xff0 [ext4]/; s/81000108/& do_one+0x8\/0x1f00/' "$work/log" >"$work/wanted"
 # many FILE: the file as often as it takes for a log of 1 GB
 many() {
     local turn
@@ -104,7 +104,7 @@ waits "$work/err" "$work/note"
 [ ! -s "$work/out" ] || fail "a log that was not begun was written"
 for line in 1 2 3; do
     echo "[<ffffffffc0000018>]$line" >&3
-    echo "[<ffffffffc0000018>] ext4_a+0x8/0x1ff0 [ext4]$line" >>"$work/lines"
+    echo "[<ffffffffc0000018>] ext4_a+0x8/0xff0 [ext4]$line" >>"$work/lines"
     waits "$work/out" "$work/lines"
 done
 exec 3>&-
@@ -112,7 +112,7 @@ wait $reader || fail "a log that went on: status $?"
 
 # a reader that has gone ends the program
 yes 'at ffffffffc0000018' | timeout 60 "$program" annotate --kallsyms "$work/kallsyms" 2>"$work/err" | head -n 1 >"$work/out" || true
-echo 'at ffffffffc0000018 ext4_a+0x8/0x1ff0 [ext4]' | cmp -s - "$work/out" || fail "the first line of a log without an end"
+echo 'at ffffffffc0000018 ext4_a+0x8/0xff0 [ext4]' | cmp -s - "$work/out" || fail "the first line of a log without an end"
 
 # refused STATUS LINE ARGUMENT..: nothing on standard output, this line on standard error (any,
 # where it is empty), and this status

@@ -269,25 +269,25 @@ head -n 65536 "$work/more" >"$work/most"
 # the symbols alone say where modules lie: two take turns, one has no line in /proc/modules
 alone=(--modules-from-symbols --kallsyms alone.kallsyms)
 writes alone "${alone[@]}" --addresses alone.addresses
-writes alone "${alone[@]}" --kernel _stext _einittext --addresses alone.addresses
+writes alone "${alone[@]}" --kernel _stext _etext --addresses alone.addresses
 "$program" lookup "${alone[@]}" --callers --offset 0x10 0xffffffffc0001010 | head -n 1 |
     cmp -s - <(echo '0xffffffffc0001010 ext4_a+0x1000/0x1000 [ext4]') || fail "return addresses by the symbols alone"
 # they are as many as a table has nodes, the kernel among them, and one more
 awk 'BEGIN { print "1000 T _stext\n2000 T _end"; for (i = 1; i <= 65536; i++) printf "%x t run\t[m%d]\n", 65536 + i * 4096, i }' >"$work/owners"
 head -n 65537 "$work/owners" >"$work/few"
-"$program" lookup --modules-from-symbols --kallsyms "$work/few" 0x1000f000 2>"$work/err" | cmp -s - <(printf '0x1000f000 run+0x0/0x100000 [m65535]\nmodules 65535 regions 65535\nsymbols 65536 hidden 0 stray 1 long 0 malformed 0\n') || fail "65536 regions by the symbols alone"
+"$program" lookup --modules-from-symbols --kallsyms "$work/few" 0x1000f000 2>"$work/err" | cmp -s - <(printf '0x1000f000 run+0x0/0x1000 [m65535]\nmodules 65535 regions 65535\nsymbols 65536 hidden 0 stray 1 long 0 malformed 0\n') || fail "65536 regions by the symbols alone"
 # one module may have them all
 {
     printf '1000 T _stext\n2000 T _end\n'
     for ((i = 1; i <= 60000; i++)); do printf '%x t run\t[m]\n' $((i * 1048577)); done
 } >"$work/parts"
-"$program" lookup --modules-from-symbols --kallsyms "$work/parts" 0x100000 0x100001 0x200000 0x200001 2>"$work/err" | cmp -s - <(printf '0x100000 -\n0x100001 run+0x0/0x100000 [m]\n0x200000 run+0xfffff/0x100000 [m]\n0x200001 -\nmodules 1 regions 60000\nsymbols 60001 hidden 0 stray 1 long 0 malformed 0\n') || fail "60000 regions of one module"
+"$program" lookup --modules-from-symbols --kallsyms "$work/parts" 0x100000 0x100001 0x100fff 0x101000 2>"$work/err" | cmp -s - <(printf '0x100000 -\n0x100001 run+0x0/0xfff [m]\n0x100fff run+0xffe/0xfff [m]\n0x101000 -\nmodules 1 regions 60000\nsymbols 60001 hidden 0 stray 1 long 0 malformed 0\n') || fail "60000 regions of one module"
 # the size of a is the sum of memories that lie apart, and reaches into b: by the listing of modules
 # an address of b is told as a's, and by the symbols alone as b's
 printf 'a 36864 0 - Live 0x10000\nb 4096 0 - Live 0x14000\n' >"$work/sums"
 printf '10000 t a_run\t[a]\n14000 t b_run\t[b]\n18000 t a_data\t[a]\n' >"$work/sums.kallsyms"
 "$program" lookup --modules "$work/sums" --kallsyms "$work/sums.kallsyms" 0x14010 | cmp -s - <(printf '0x14010 a_run+0x4010/0x8000 [a]\nmodules 1 hidden 0 empty 0 wraps 0 overlap 1 double 0 long 0 malformed 0\nsymbols 2 hidden 0 stray 1 long 0 malformed 0\n') || fail "sums that overlap"
-"$program" lookup --modules-from-symbols --kallsyms "$work/sums.kallsyms" 0x14010 0x18010 | cmp -s - <(printf '0x14010 b_run+0x10/0x4000 [b]\n0x18010 a_data+0x10/0x100000 [a]\nmodules 2 regions 3\nsymbols 3 hidden 0 stray 0 long 0 malformed 0\n') || fail "sums that overlap, by the symbols alone"
+"$program" lookup --modules-from-symbols --kallsyms "$work/sums.kallsyms" 0x14010 0x18010 | cmp -s - <(printf '0x14010 b_run+0x10/0x1000 [b]\n0x18010 a_data+0x10/0x1000 [a]\nmodules 2 regions 3\nsymbols 3 hidden 0 stray 0 long 0 malformed 0\n') || fail "sums that overlap, by the symbols alone"
 if [ -r /proc/kallsyms ] && ! head -n 1 /proc/kallsyms | grep -q '^0* '; then
     "$program" lookup --modules-from-symbols --kallsyms /proc/kallsyms "0x$(grep -m 1 ' _stext$' /proc/kallsyms | cut -d' ' -f1)" >"$work/out" 2>"$work/err" && [ ! -s "$work/err" ] ||
         fail "the symbols of this machine alone: $(cat "$work/err")"

@@ -4,8 +4,11 @@
 use std::collections::HashMap;
 use std::io::{BufRead, BufReader, BufWriter, Write};
 
-/// How far behind its last symbol a module goes on where nothing tells it.
+/// How far apart two symbols of a module lie at least if nothing between them is the module's.
 const REACH: u64 = 1 << 20;
+
+/// A page less its first byte.
+const PAGE: u64 = 4095;
 
 struct Symbol<'a> {
     addr: u64,
@@ -51,33 +54,41 @@ fn symbol_in(line: &[u8]) -> Option<Symbol<'_>> {
     }
 }
 
-/// The regions of the kernel and of the modules: an address is the nearest symbol's below it.
+/// The regions of the kernel and of the modules: the page of a symbol, and what lies up to a near one.
 fn regions_of<'a>(symbols: &[Symbol<'a>]) -> Vec<Region<'a>> {
     let address_of = |name: &[u8]| {
         let mut own = symbols.iter().filter(|symbol| symbol.module.is_none());
         own.find(|symbol| symbol.name == name)
             .map(|symbol| symbol.addr)
     };
-    let start = address_of(b"_stext").unwrap();
-    let ends: [&[u8]; 3] = [b"_end", b"_einittext", b"_etext"];
-    let end = ends.into_iter().find_map(address_of).unwrap();
-    let kernel = start..end;
-    let mut marks = vec![(start, None)];
+    let between = |start, end| Some(address_of(start)?..address_of(end)?);
+    let kernel = match between(b"_stext", b"_end") {
+        Some(whole) => vec![whole],
+        None => [
+            between(b"_stext", b"_etext"),
+            between(b"_sinittext", b"_einittext"),
+        ]
+        .into_iter()
+        .flatten()
+        .collect(),
+    };
+    let of_kernel = |addr| kernel.iter().find(|region| region.contains(&addr));
+    let mut marks: Vec<_> = kernel.iter().map(|region| (region.start, None)).collect();
     marks.extend(
         symbols
             .iter()
-            .filter(|symbol| symbol.module.is_some() && !kernel.contains(&symbol.addr))
+            .filter(|symbol| symbol.module.is_some() && of_kernel(symbol.addr).is_none())
             .map(|symbol| (symbol.addr, symbol.module)),
     );
     marks.sort_by_key(|mark| mark.0);
     marks.dedup_by_key(|mark| mark.0);
     let mut regions: Vec<Region> = vec![];
     for (at, (from, module)) in marks.iter().enumerate() {
-        let next = marks.get(at + 1).map_or(u64::MAX, |mark| mark.0);
-        let end = if module.is_none() {
-            end
-        } else {
-            next.min(from.saturating_add(REACH))
+        let (next, owner) = marks.get(at + 1).copied().unwrap_or((u64::MAX, None));
+        let end = match of_kernel(*from) {
+            Some(region) => region.end,
+            None if owner == *module && next - from < REACH => next,
+            None => next.min((from | PAGE).saturating_add(1)),
         };
         match regions.last_mut() {
             Some(last) if last.end == *from && last.module == *module => last.end = end,

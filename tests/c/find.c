@@ -248,14 +248,14 @@ static void all_ways(void) {
     all_in_one_call(ADDRESSES); /* runs that rise, each anywhere; some addresses stand there often */
 }
 
-/* From the symbols alone: a module reaches from its first symbol up to that of the next, or 1 MiB beyond its last, and
- * has its number by the first line that names it. */
+/* From the symbols alone: a module reaches from its first symbol up to the end of the page of its last, and has its
+ * number by the first line that names it. */
 static void place_by_symbols(void) {
     int first[MODULES + 1];
     for (int k = 1; k <= MODULES; k++) {
         struct region *r = &regions[k];
         r->a = r->symbols[0].addr;
-        r->b = k < MODULES ? r[1].symbols[0].addr : r->symbols[EACH - 1].addr + 1048576;
+        r->b = (r->symbols[EACH - 1].addr | 4095) + 1;
         first[k] = r->symbols[0].line;
         for (int n = 1; n < EACH; n++) first[k] = r->symbols[n].line < first[k] ? r->symbols[n].line : first[k];
     }

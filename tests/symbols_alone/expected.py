@@ -16,6 +16,7 @@ import subprocess
 import sys
 
 REACH = 1048576
+PAGE = 4096
 GREATEST = 2**64 - 1
 LONGEST = 4096
 LINE = re.compile(rb"([0-9a-fA-F]{1,16}) ([^ \t]) ([^\t]+)(\t\[([^\t]+)\])?", re.DOTALL)
@@ -41,18 +42,23 @@ def read(text):
 
 
 def kernel_of(symbols, bounds):
-    """The region of the kernel itself, between the symbols of these names or else the usual ones."""
+    """The regions of the kernel itself: that between the symbols of these names, or else the usual ones."""
 
-    def first(name):
-        return next((s.address for s in symbols if s.module is None and s.name == name), None)
+    def between(*names):
+        found = [next((s.address for s in symbols if s.module is None and s.name == name), None) for name in names]
+        return [range(*found)] if None not in found and found[0] < found[1] else []
 
     if bounds:
-        start, end = map(first, bounds)
-    else:
-        start = first(b"_stext")
-        ends = map(first, (b"_end", b"_einittext", b"_etext"))
-        end = next((end for end in ends if end is not None), None)
-    return range(start, end) if start is not None and end is not None else range(0)
+        return between(*bounds)
+    code, start = between(b"_stext", b"_etext"), between(b"_sinittext", b"_einittext")
+    if code and start and code[0].start < start[0].stop and start[0].start < code[0].stop:
+        start = []
+    return between(b"_stext", b"_end") or code + start
+
+
+def page_end(address):
+    """Where the page of the address ends."""
+    return (address // PAGE + 1) * PAGE
 
 
 class Plain:
@@ -68,8 +74,13 @@ class Plain:
         self.posts = sorted(self.first_post)
         self.kept = [s for s in symbols if self.is_kept(s)]
         self.stray = len(symbols) - len(self.kept)
-        # where the owner may change: at a post, and where one reaches no further
-        self.edges = sorted({edge for post in self.posts for edge in (post, post + REACH)} | {GREATEST})
+        # where the owner may change: at a post, and where its page ends
+        self.edges = sorted({edge for post in self.posts for edge in (post, page_end(post)) if edge < GREATEST})
+        self.edges.append(GREATEST)
+
+    def region_of_kernel(self, address):
+        """The region of the kernel itself that the address lies in."""
+        return next((region for region in self.kernel if address in region), None)
 
     def is_narrow(self):
         """Whether the listing is that of a 32-bit kernel."""
@@ -77,8 +88,8 @@ class Plain:
 
     def is_post(self, symbol):
         if symbol.module is None:
-            return symbol.address in self.kernel
-        return symbol.address not in self.kernel and symbol.address < GREATEST
+            return self.region_of_kernel(symbol.address) is not None
+        return self.region_of_kernel(symbol.address) is None and symbol.address < GREATEST
 
     def owner(self, address):
         """The module whose the address is."""
@@ -86,7 +97,11 @@ class Plain:
         if below == 0 or address >= GREATEST:
             return None
         post = self.first_post[self.posts[below - 1]]
-        return post.module if address - post.address < REACH else None
+        if post.address // PAGE == address // PAGE:
+            return post.module
+        above = self.first_post[self.posts[below]] if below < len(self.posts) else None
+        goes_on = above is not None and above.module == post.module and above.address - post.address < REACH
+        return post.module if goes_on else None
 
     def is_kept(self, symbol):
         return self.is_post(symbol) and (symbol.module is None or self.owner(symbol.address) == symbol.module)
@@ -106,9 +121,9 @@ class Plain:
     def answer(self, address, told=None):
         """The text of the address's answer, or of TOLD, which is looked up by ADDRESS."""
         owner = self.owner(address)
-        if owner is None and address not in self.kernel:
+        region = self.region_of_kernel(address) if owner is None else self.region(address)
+        if region is None:
             return b"-"
-        region = self.kernel if owner is None else self.region(address)
         symbols = [s for s in self.kept if s.module == owner and s.address in region]
         nearest = max(s.address for s in symbols if s.address <= address)
         name = next(s.name for s in symbols if s.address == nearest)
@@ -128,10 +143,10 @@ class Plain:
         return b"".join(line + b"\n" for line in lines)
 
 
-STEPS = [0, 0, 1, 16, 4096, REACH - 1, REACH, REACH + 1, 2 * REACH]
+STEPS = [0, 0, 1, 16, 100, PAGE - 1, PAGE, 3 * PAGE, REACH - 1, REACH, REACH + 1, 2 * REACH]
 BASES = [1, 4096, 2**40, 2**63 - REACH, GREATEST - 4 * REACH, GREATEST - REACH - 3, GREATEST - 20]
 MODULES = [None, None, None, b"ext4", b"nfs", b"bpf", b"-", b"a]", b"__builtin__ftrace"]
-STARTS = [b"_stext", b"_text", b"a"]
+STARTS = [b"_stext", b"_sinittext", b"_text", b"a"]
 ENDS = [b"_end", b"_einittext", b"_etext", b"b"]
 NAMES = [b"run", b"init", b"data", b"a b [c]"] * 5 + STARTS + ENDS
 HIDDEN = [b"0 t a", b"0 T _stext", b"0000000000000000 t a\t[ext4]"]
@@ -156,14 +171,17 @@ def random_lines(draw):
 
 
 def with_kernel(draw, lines):
-    """The lines with names of bounds at the addresses of two of them, mostly in order."""
-    pair = [draw.choice(lines).split(b" ")[0] for _ in range(2)]
-    if draw.randrange(4):
-        pair.sort(key=lambda address: int(address, 16))
-    bounds = [pair[0] + b" T " + draw.choice(STARTS[:1] * 8 + STARTS), pair[1] + b" B " + draw.choice(ENDS)]
-    for line in bounds:
-        if draw.randrange(8):
-            lines.insert(draw.randrange(len(lines) // 2 + 1), line)
+    """The lines with names of bounds at the addresses of some of them, mostly in order."""
+    names = [(draw.choice(STARTS[:1] * 8 + STARTS), draw.choice(ENDS))]
+    if draw.randrange(2):
+        names = [(b"_stext", b"_etext"), (b"_sinittext", b"_einittext")]
+    for start, end in names:
+        pair = [draw.choice(lines).split(b" ")[0] for _ in range(2)]
+        if draw.randrange(4):
+            pair.sort(key=lambda address: int(address, 16))
+        for line in (pair[0] + b" T " + start, pair[1] + b" B " + end):
+            if draw.randrange(8):
+                lines.insert(draw.randrange(len(lines) // 2 + 1), line)
     return lines
 
 
@@ -180,8 +198,9 @@ def random_listing(draw):
 
 
 def asked(symbols):
-    """The addresses about each symbol, and about where it reaches no further."""
-    near = {s.address + far + by for s in symbols for far in (0, REACH) for by in (-1, 0, 1)}
+    """The addresses about each symbol, about the end of its page, and where none goes on."""
+    edges = {edge for s in symbols for edge in (s.address, page_end(s.address), s.address + REACH)}
+    near = {edge + by for edge in edges for by in (-1, 0, 1)}
     return sorted(address for address in near | {0, GREATEST} if 0 <= address <= GREATEST)
 
 

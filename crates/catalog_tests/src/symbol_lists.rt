@@ -41,7 +41,7 @@ pub(crate) fn small_catalog(rt: &impl Abort, alloc: Global) -> Result<Catalog<'s
     assert!(rt; modules.iter().all(|line| line.fits()));
     let (catalog, _) = Catalog::build(
         alloc,
-        &KernelBounds::usual(),
+        Some(&KernelBounds::usual()),
         &modules,
         &[],
         listed(alloc, SYMBOLS)?,

@@ -169,7 +169,7 @@ pub fn build_and_look_up<R: Print + Eprint + Clock>(
     let start = Instant::now(rt)?;
     let (catalog, counts) = Catalog::build(
         alloc,
-        &KernelBounds::usual(),
+        Some(&KernelBounds::usual()),
         &module_lines,
         &[],
         symbol_lines,

@@ -41,7 +41,7 @@ fn build<R: Print + Eprint + Clock>(
     let start = Instant::now(rt)?;
     let (_, counts) = Catalog::build(
         alloc,
-        &KernelBounds::usual(),
+        Some(&KernelBounds::usual()),
         &modules,
         &[],
         symbols.lines,

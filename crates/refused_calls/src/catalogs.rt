@@ -74,7 +74,7 @@ fn build<R: Threads + Wait + Print + Sync>(
     let names = KernelBounds::usual();
     let (catalog, counts) = match Catalog::build(
         alloc,
-        &names,
+        Some(&names),
         modules,
         regions,
         lines,
@@ -82,7 +82,7 @@ fn build<R: Threads + Wait + Print + Sync>(
     ) {
         Err(_) => {
             let lines = symbols(alloc, count)?;
-            Catalog::build(alloc, &names, modules, regions, lines, Asked::Any)?
+            Catalog::build(alloc, Some(&names), modules, regions, lines, Asked::Any)?
         }
         Ok(built) => built,
     };

@@ -57,7 +57,7 @@ pub(crate) fn catalog<'a>(
     symbols.push(symbol(KERNEL.b, b"_end"))?;
     let (catalog, _) = Catalog::build(
         alloc,
-        &KernelBounds::usual(),
+        Some(&KernelBounds::usual()),
         &modules,
         regions,
         symbols,
