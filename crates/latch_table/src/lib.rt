@@ -42,6 +42,12 @@
 //! loads the same number again knows that its whole attempt stood still, and its answer is that of
 //! the table after the updates that were shown.
 //!
+//! **A reader remembers** the item that it found last, and the generation that this was of. Where a
+//! load of the sequence gives that generation again, the reader knows the updates of it exactly, so
+//! the item is still in the table: for a key in the item [`Reader::recall`] answers by that one load,
+//! also in the midst of an update. [`Reader::look`] goes on with an attempt where the key is in no
+//! such item.
+//!
 //! **A larger table** ([`Writer::enlarge`]) is a new row of words. Between two updates the writer
 //! copies the words, puts those of the new nodes after them, and its seat of the new row begins
 //! with what its seat of the old one knew. New readers part from it; the old ones are given up with
