@@ -63,6 +63,18 @@ module _ {K : Type 0} (o : Order K) where
   pub looked_more : (k : K) (memory : Option (Item × ℕ)) (e e' : ReaderKnowledge) (t : Try) → Looked o k memory e e' t → KnowsMore e e'
   looked_more k memory e e' t h = ⊎_elim (λ r. r.2.more) (λ s. tried_more k e e' t s.3) h
 
+  -- what a look came to is an answer of the table that the reader then knows
+  abbrev pub AnswersOf : K → ReaderKnowledge → Try → Type 0
+  AnswersOf k e (Answered x g) = Answers o k e x g
+  AnswersOf k e Retry = Unit {0}
+
+  pub looked_answers : (k : K) (memory : Option (Item × ℕ)) (e e' : ReaderKnowledge) (t : Try) → Looked o k memory e e' t → AnswersOf k e' t
+  looked_answers k memory e e' t h = ⊎_elim (λ r. subst (AnswersOf k e') (sym r.1) r.2.answers) (λ s. tried_answers t s.3) h
+    where
+      tried_answers : (t : Try) → Tried o k e e' t → AnswersOf k e' t
+      tried_answers (Answered x g) t = t.5
+      tried_answers Retry t = tt
+
   -- the updates of a generation are known exactly: an item that was in their table is in the one
   -- that the reader now knows
   pub inside_now : (e : ReaderKnowledge) (s : ℕ) (known : List Update) (x : Item) (g : ℕ) → LoadsSequence o e s known → g ≡ generation_of s → Remembers o e x g → Contains (replay o [] known) x
