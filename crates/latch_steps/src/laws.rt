@@ -12,8 +12,8 @@ pub fn every_run_is_safe<O: TreeOrder>()
 {}
 
 /// An item that a lookup returned answers from memory, by one load of word 0: where this names the
-/// generation of that lookup, the item is for each key in it the lookup of the table that is current
-/// at that load, even when the writer stands inside an update.
+/// generation of that lookup, the item is for each key in it the lookup of the table that is
+/// current at that load, even when the writer stands inside an update.
 pub fn every_answer_is_remembered<O: TreeOrder>()
     ensures { AllRunsAreRemembered O.order }
 {}

@@ -124,7 +124,8 @@ impl<O: TreeOrder> Reader<O> {
         recalled::<O>(&self.memory, k, first)
     }
 
-    /// What a key lies in: recalled, or else sought by one attempt, which begins with the same load.
+    /// What a key lies in: recalled, or else sought by one attempt, which begins with the same
+    /// load.
     pub fn look(&mut self, k: O::Key) -> Try
         ensures place { self.new.place ≡ self.old.place }
         ensures memory { self.new.memory ≡ memory_after self.old.memory result }
