@@ -92,16 +92,17 @@ def clauses_of(file, function):
 # these words alone, `beyond` what the lists of these names have.
 PATHS = {
     "headline": "latch_steps/src/runs.rt run but IsTraceOf MayOpen IsOpeningRefused",
-    "steps": "latch_steps/src/runs.rt run drive_notes beyond headline",
+    "steps": """latch_steps/src/runs.rt run drive_notes
+        latch_steps/src/laws.rt every_answer_is_remembered beyond headline""",
     "lookup": "engines/src/lookup.rt lookup_engine but json_line json_counts notes_of",
     "json": "engines/src/lookup.rt lookup_engine beyond lookup",
     "annotate": "latchsym/src/annotations.rt annotate_engine beyond lookup json",
-    "table": """latch_table/src/readers/seated.rt try_find
+    "table": """latch_table/src/readers/seated.rt try_find recall
         latch_table/src/writers/updates.rt begin step finish latch_table/src/writers/lookups.rt find
         latch_table/src/meeting.rt meet latch_table/src/enlarging.rt enlarge
         latch_table/src/adding.rt add_reader beyond headline steps""",
-    "weak": """latch_weak/src/laws.rt every_attempt_is_right generations_never_fall
-        attempts_without_flip_return own_processor_returns rising_loads_are_right
+    "weak": """latch_weak/src/laws.rt every_attempt_is_right answers_from_memory_are_right
+        generations_never_fall attempts_without_flip_return own_processor_returns rising_loads_are_right
         write_barriers_are_needed orders_of_loads_are_needed beyond headline steps""",
     "library": """latchsym_ffi/src/catalogs.rt latchsym_catalog_open_nonnull latchsym_catalog_find
         latchsym_ffi/src/lookups.rt latchsym_reader_try_find

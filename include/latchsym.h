@@ -446,13 +446,14 @@ static inline void latchsym_writer_close(struct latchsym_writer *writer) {
     if (writer) latchsym_writer_close_nonnull(writer);
 }
 
-/* One attempt to find the item of an address. 0, LATCHSYM_NOTHING, LATCHSYM_RETRY (nothing is
- * written) or LATCHSYM_BAD_HANDLE. It is never LATCHSYM_RETRY beside a writer at rest. Handler. */
+/* The item of an address: from memory where the reader found it last and no update was shown since,
+ * else by one attempt. 0, LATCHSYM_NOTHING, LATCHSYM_RETRY (nothing is written) or
+ * LATCHSYM_BAD_HANDLE. It is never LATCHSYM_RETRY beside a writer at rest. Handler. */
 uint32_t latchsym_reader_try_find(struct latchsym_reader *, uint64_t addr,
                                   struct latchsym_found *out);
 
 /* The same, and the symbol in the item that was found, whose tag is taken as the number of a
- * module of the catalog. Also LATCHSYM_NO_SYMBOL. Where a handle is closed no attempt is made.
+ * module of the catalog. Also LATCHSYM_NO_SYMBOL. Where a handle is closed nothing is looked up.
  * Handler. */
 uint32_t latchsym_reader_find_name_nonnull(struct latchsym_reader *, struct latchsym_catalog *,
                                            uint64_t addr, struct latchsym_found *item,

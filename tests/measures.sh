@@ -18,7 +18,7 @@ gives "items 20 pairs 5 stores 399 words 11067153580527951182" stores 20 5
 gives "items 20 rounds 5 events 536 notes 5 sequence 60" drive 20 5
 gives "60" cw 20 40
 "$program" soak 0.2 >"$work/seen"
-grep -q ' wrong 0 ' "$work/seen"
+grep -q ' recalled [1-9].* wrong 0 ' "$work/seen"
 cc -O2 -o "$work/walk" "$top/benches/walk.c"
 "$program" words 20 >"$work/words"
 "$work/walk" "$work/words" 3 >"$work/seen"

@@ -2,6 +2,7 @@ mod LoadCaseLemmas
 mod SafeStepLemmas
 mod PendingLookupLemmas
 mod SafeRunLemmas
+mod MemoryLemmas
 mod LatchLemmas
 mod UndisturbedLemmas
 mod PatienceLemmas

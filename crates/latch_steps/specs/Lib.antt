@@ -5,6 +5,8 @@ pub mod Promises
 pub mod Runs
 -- each lookup that returned gives what was current
 pub mod Safe
+-- the item that a lookup returned answers by one load while its generation is current
+pub mod Memory
 -- a lookup that the writer leaves alone returns at its first attempt, soon
 pub mod Quiet
 -- the same within fewer loads, since the writer's trees are red-black

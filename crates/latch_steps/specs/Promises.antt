@@ -10,6 +10,7 @@ use Rattle.latch_steps.specs.declared.replies.Note.{Note}
 use Rattle.latch_steps.specs.Runs.{Done, history, opening}
 use Rattle.latch_steps.specs.Steps.{machine, Run}
 use Rattle.latch_steps.specs.Safe.{IsSafe}
+use Rattle.latch_steps.specs.Memory.{IsRemembered}
 use Rattle.latch_steps.specs.Quiet.{IsQuiet}
 use Rattle.latch_steps.specs.Near.{AreNear}
 use Rattle.latch_steps.specs.Plain.{IsPlain, ArePlain, AreLooksAfter}
@@ -71,6 +72,10 @@ AllRunsAre {K} o Right =
 -- every such run is safe
 abbrev pub AllRunsAreSafe : {K : Type 0} → Order K → Type 0
 AllRunsAreSafe o = AllRunsAre o (λ n start run. IsSafe o n start run)
+
+-- and remembered: what a lookup returned answers by one load while its generation is current
+abbrev pub AllRunsAreRemembered : {K : Type 0} → Order K → Type 0
+AllRunsAreRemembered o = AllRunsAre o (λ n start run. IsRemembered o n start run)
 
 -- and quiet
 abbrev pub AllRunsAreQuiet : {K : Type 0} → Order K → Type 0

@@ -1,7 +1,7 @@
 //! What holds of every run, whatever the events and whatever steps the writer chose.
 
 ghost use Rattle.latch_steps.specs.Promises.{AllRunsAreSafe, AllRunsAreQuiet, AllPlainRunsAreExact};
-ghost use Rattle.latch_steps.specs.Promises.{PlainCommandsRunPlainly};
+ghost use Rattle.latch_steps.specs.Promises.{AllRunsAreRemembered, PlainCommandsRunPlainly};
 
 use order_laws::TreeOrder;
 
@@ -9,6 +9,13 @@ use order_laws::TreeOrder;
 /// start and its last load, and names that table by its generation.
 pub fn every_run_is_safe<O: TreeOrder>()
     ensures { AllRunsAreSafe O.order }
+{}
+
+/// An item that a lookup returned answers from memory, by one load of word 0: where this names the
+/// generation of that lookup, the item is for each key in it the lookup of the table that is
+/// current at that load, even when the writer stands inside an update.
+pub fn every_answer_is_remembered<O: TreeOrder>()
+    ensures { AllRunsAreRemembered O.order }
 {}
 
 /// A lookup that the writer leaves alone returns at its first attempt, within four loads for each

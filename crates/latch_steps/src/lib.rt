@@ -19,7 +19,8 @@ pub use commands::Command;
 pub use drivers::Driver;
 pub use events::Event;
 pub use laws::{
-    every_plain_run_is_exact, every_run_is_quiet, every_run_is_safe, plain_commands_run_plainly,
+    every_answer_is_remembered, every_plain_run_is_exact, every_run_is_quiet, every_run_is_safe,
+    plain_commands_run_plainly,
 };
 pub use replies::{NextLoad, Note, Reply, Returned};
 pub use runs::{drive, drive_notes, run};

@@ -82,7 +82,7 @@ module _ {S K : Type 0} (o : Order K) (place : TableId) (readers : ℕ) (m : Me 
     }
 
     new_reader_is : new_reader place' seat'.0 ≡ reader_beside there
-    new_reader_is = λ i. record { place = place'; knowledge = blank_reader p.base (capacity_of l) (tied_wider.known i) }
+    new_reader_is = λ i. record { place = place'; knowledge = blank_reader p.base (capacity_of l) (tied_wider.known i); memory = None }
 
     enlarges_wider : (all : List ReaderState) → length all ≡ readers → All (λ x. x ≡ new_reader place' seat'.0) all → Enlarges here l there all
     enlarges_wider all count new = record {

@@ -5,5 +5,6 @@ pub mod FinishLemmas
 pub mod MeetingLemmas
 pub mod WalkLemmas
 pub mod LookupLemmas
+pub mod MemoryLemmas
 pub mod OpeningLemmas
 pub mod EnlargingLemmas

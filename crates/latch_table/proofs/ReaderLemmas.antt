@@ -100,6 +100,7 @@ module _ {K : Type 0} (o : Order K) where
     begins = see.begins;
     floored = see.floored;
     counted = ap (λ (z : ℕ). z + length known) see.based ∙ latched.counted;
+    is_table = latched.is_table;
     right = ended_right law n base m known e see.capacity latched see.steady;
   }
 

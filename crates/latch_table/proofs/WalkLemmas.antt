@@ -178,7 +178,7 @@ same_number s t AtEmptyLink a g e =
     ] refl e
 
 -- what a try gives, as an outcome
-abbrev outcome_of_try : Try → Outcome
+abbrev pub outcome_of_try : Try → Outcome
 outcome_of_try (Answered a g) = Answer a g
 outcome_of_try Retry = Again
 
@@ -208,6 +208,10 @@ module _ {T S K : Type 0} (table_of : T → TableId) (me_of : T → Me S Knowled
 
     pub reads_now : me_of s' ≡ (reader_knowledge (reader_of (me_of s').0), [])
     reads_now = h.ended.1.2 ∙ (λ i. (reader_knowledge (sym ends_is i), []))
+
+    -- the attempt began with that load
+    pub begun_now : IsPrefix (before.seen ++ first ∷ []) (reader_of (me_of s').0).seen
+    begun_now = (h.last ∷ [], sym (ap (λ (e : ReaderKnowledge). e.seen) ends_is ∙ ap (λ (e : ReaderKnowledge). e.seen ++ h.last ∷ []) there.1.same))
 
     pub tried_now : (t : Try) → outcome_of_try t ≡ out → Tried o k before (reader_of (me_of s').0) t
     tried_now (Answered a g) is =

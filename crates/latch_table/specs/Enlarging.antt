@@ -47,10 +47,11 @@ enlarged_state place l w =
       loads = [];
     }
 
--- a reader of the words at the place that has loaded nothing, and knows at least these updates
+-- a reader of the words at the place that has loaded and remembers nothing, and knows at least
+-- these updates
 abbrev pub reader_knowing : TableId → ℕ → ℕ → List Update → ReaderState
 reader_knowing place base capacity known =
-    record { place = place; knowledge = blank_reader base capacity known }
+    record { place = place; knowledge = blank_reader base capacity known; memory = None }
 
 -- a reader of these words that has loaded nothing, and will know at least what was shown
 abbrev pub reader_beside : WriterState → ReaderState

@@ -3,6 +3,7 @@ pub mod Seats
 pub mod Rule
 pub mod Writers
 pub mod Readers
+pub mod Memory
 pub mod Enlarging
 pub mod Adding
 pub mod Lookups

@@ -1,5 +1,6 @@
 -- A reader, and what its calls promise.
 use Rattle.std.specs.Prelude.{◌≡◌, ◌≢◌, ℕ, ◌+◌, ◌*◌, ◌≤◌, List, [], ◌∷◌, ◌++◌, length, Option}
+use Rattle.std.specs.Prelude.{None}
 use mathlib.Core.List.{IsPrefix}
 use Rattle.atomic_table.specs.Seated.{TableId}
 use Rattle.order_laws.specs.declared.items.Item.{Item}
@@ -16,10 +17,12 @@ use Rattle.latch_table.specs.declared.readers.Try.TheVariants.{Answered, Retry}
 use Rattle.latch_core.specs.Latched.{loads_of}
 use Rattle.latch_table.specs.Seats.{reader_of, writer_of, blank_reader}
 
--- a reader, as clauses see it
+-- a reader, as clauses see it; its memory is the item that it found last, with the generation of
+-- that answer
 pub record ReaderState : Type 0 where
   pub place : TableId
   pub knowledge : ReaderKnowledge
+  pub memory : Option (Item × ℕ)
 
 -- the reader now knows more updates, or the same ones
 pub record KnowsMore (e e' : ReaderKnowledge) : Type 0 where
@@ -83,12 +86,14 @@ Met e e' all =
     (s : ℕ) × (e'.seen ≡ e.seen ++ s ∷ []) × (e'.known ≡ all) × KnowsMore e e' × KnowsFloor e'
 
 -- the reader whose seat knows this, and one that the writer's seat parts with
-abbrev pub reader_at : TableId → Knowledge → ReaderState
-reader_at place v = record { place = place; knowledge = reader_of v }
+abbrev pub reader_at : TableId → Knowledge → Option (Item × ℕ) → ReaderState
+reader_at place v memory =
+    record { place = place; knowledge = reader_of v; memory = memory }
 
 abbrev pub new_reader : TableId → Knowledge → ReaderState
 new_reader place v =
     record {
       place = place;
       knowledge = blank_reader (writer_of v).base (writer_of v).capacity (writer_of v).known;
+      memory = None;
     }

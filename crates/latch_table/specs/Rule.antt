@@ -6,7 +6,7 @@ use mathlib.Core.List.{IsPrefix}
 use lib.ListN.{get_elem?}
 use Rattle.atomic_table.specs.Table.{State, Me, Step, opening}
 use Rattle.order_laws.specs.Orders.{Order}
-use Rattle.order_laws.specs.Tables.{look}
+use Rattle.order_laws.specs.Tables.{look, IsTable}
 use Rattle.word_layout.specs.Layouts.{capacity_of}
 use Rattle.word_layout.specs.Words.{at}
 use Rattle.table_updates.specs.declared.updates.Update.{Update}
@@ -103,6 +103,7 @@ pub record LoadsSequence {K : Type 0} (o : Order K) (e : ReaderKnowledge) (s : â
   pub begins : IsPrefix e.known known
   pub floored : IsPrefix e.floor known
   pub counted : e.base + length known â‰¡ generation_of s
+  pub is_table : IsTable o (replay o [] known)
   pub right : EndsRight o (with_sequence s known e)
 
 module _ {S : Type 0} where

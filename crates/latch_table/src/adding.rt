@@ -16,8 +16,9 @@ use std::sync::Arc;
 pub const MOST_READERS_IN_ALL: u32 = 65536;
 
 impl<O: TreeOrder> Writer<O> {
-    /// One more reader of the table, also beside a pending update. It has loaded nothing, and will
-    /// know at least what was shown. [`Writer::move_to`] counts it with the others.
+    /// One more reader of the table, also beside a pending update. It has loaded and remembers
+    /// nothing, and will know at least what was shown. [`Writer::move_to`] counts it with the
+    /// others.
     ///
     /// Refused by [`Refusal::BadCapacity`] where the table has 65536 readers already, and else by
     /// [`Refusal::OutOfMemory`]; a refusal changes nothing.
@@ -33,7 +34,7 @@ impl<O: TreeOrder> Writer<O> {
         let layout = self.core.layout();
         let seat = table.shared.split_seat::<NewReader>(&mut self.seat);
         self.readers += 1;
-        Ok(Reader::new(table, seat, layout))
+        Ok(Reader::new(table, seat, layout, None))
     }
 
     /// Gives up a reader of the table, which then has one fewer.

@@ -42,6 +42,19 @@
 //! loads the same number again knows that its whole attempt stood still, and its answer is that of
 //! the table after the updates that were shown.
 //!
+//! **A reader remembers** the item that it found last, and the generation of that answer. Where a
+//! load of the sequence gives that generation again and the key lies in the item, the item is the
+//! answer ([`Reader::recall`]), also in the midst of an update; [`Reader::look`] goes on with an
+//! attempt where it is not, which begins with the same load.
+//!
+//! ```text
+//! known at the answer    u1 u2 u3        generation 3
+//! known at the load      u1 u2 u3 ..     generation 3: so none more
+//! ```
+//!
+//! The updates that a reader knew at the answer begin those that it knows now, and both are as many
+//! as the generation says. So they are equal, and the item is still in the table.
+//!
 //! **A larger table** ([`Writer::enlarge`]) is a new row of words. Between two updates the writer
 //! copies the words, puts those of the new nodes after them, and its seat of the new row begins
 //! with what its seat of the old one knew. New readers part from it; the old ones are given up with

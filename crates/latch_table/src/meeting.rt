@@ -9,14 +9,15 @@ use crate::rule::{LoadSequence, Meeting};
 use crate::writers::Writer;
 use order_laws::TreeOrder;
 
-/// The reader then knows all updates that were shown.
+/// The reader then knows all updates that were shown, and remembers what it did.
 pub fn meet<O: TreeOrder>(reader: Reader<O>, writer: Writer<O>) -> (Reader<O>, Writer<O>)
     requires { reader.place ≡ writer.place }
     ensures reader { (result.0.place ≡ reader.place)
         × Met reader.knowledge result.0.knowledge (shown_updates writer) }
+    ensures memory { result.0.memory ≡ reader.memory }
     ensures writer { result.1 ≡ writer }
 {
-    let (its, other, layout) = reader.into_parts();
+    let (its, other, layout, memory) = reader.into_parts();
     let Writer {
         table,
         mut seat,
@@ -27,7 +28,7 @@ pub fn meet<O: TreeOrder>(reader: Reader<O>, writer: Writer<O>) -> (Reader<O>, W
     let _sequence = table.shared.load::<LoadSequence<O>>(&mut seat, 0);
     let back = table.shared.split_seat::<Meeting>(&mut seat);
     (
-        Reader::new(its, back, layout),
+        Reader::new(its, back, layout, memory),
         Writer {
             table,
             seat,

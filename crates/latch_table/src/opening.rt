@@ -55,7 +55,7 @@ pub(crate) fn build<O: TreeOrder>(
     let mut all = Vec::with_capacity(alloc, readers as usize)?;
     for _ in 0..readers {
         let place = table.shared.split_seat::<NewReader>(&mut seat);
-        all.push(Reader::new(Arc::try_clone(&table)?, place, l))?;
+        all.push(Reader::new(Arc::try_clone(&table)?, place, l, None))?;
     }
     Ok(BuiltTable {
         table,

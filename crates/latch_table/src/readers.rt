@@ -8,6 +8,7 @@ use order_laws::Item;
 
 mod attempts;
 mod lookups;
+mod memory;
 mod seated;
 mod words;
 

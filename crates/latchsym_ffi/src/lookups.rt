@@ -4,7 +4,6 @@ ghost use Rattle.std.specs.Prelude.{◌≡◌, ◌≢◌, ◌≤◌, ◌<◌, �
 ghost use Rattle.order_laws.specs.declared.items.Item.{Item};
 ghost use Rattle.order_laws.specs.Orders.{half_open};
 ghost use Rattle.latch_table.specs.declared.readers.Try.{Try};
-ghost use Rattle.latch_table.specs.Readers.{Tried};
 ghost use Rattle.latch_table.specs.Writers.{Finds};
 ghost use Rattle.modules.specs.Entries.{CatalogEntries};
 ghost use Rattle.latchsym_ffi.specs.Handles.{HoldsCatalog, HoldsReader, ReaderGoes, Stays};
@@ -12,8 +11,8 @@ ghost use Rattle.latchsym_ffi.specs.Handles.{WriterGoes};
 ghost use Rattle.latchsym_ffi.specs.Kinds.{catalog_kind, reader_kind, writer_kind};
 ghost use Rattle.latchsym_ffi.specs.Finding.{answer_of as told_of, copied, known_code, known_in};
 ghost use Rattle.latchsym_ffi.specs.Finding.{owner_named, symbol_named};
-ghost use Rattle.latchsym_ffi.specs.Lookups.{Copies, Names, Shows, answer_from, found_code};
-ghost use Rattle.latchsym_ffi.specs.Lookups.{name_code, try_code};
+ghost use Rattle.latchsym_ffi.specs.Lookups.{Copies, LooksUp, Names, Shows, answer_from};
+ghost use Rattle.latchsym_ffi.specs.Lookups.{found_code, name_code, try_code};
 
 use crate::answers::{BAD_HANDLE, DONE, NOTHING, RETRY};
 use crate::contents::{CATALOG, Content, READER, WRITER};
@@ -93,32 +92,29 @@ pub extern "C" fn latchsym_writer_find(writer: &mut Handle, addr: u64, out: &mut
     result
 }
 
-/// One attempt with the reader that a handle holds.
+/// What the reader that a handle holds remembers of an address, or else one attempt with it.
 fn try_find(reader: &mut Handle, addr: u64) -> Try
     requires { reader.old.kind ≡ reader_kind }
-    ensures { ReaderGoes
-        (λ r r'. (r'.place ≡ r.place) × Tried half_open addr r.knowledge r'.knowledge result)
-        reader.old reader.new }
+    ensures { ReaderGoes (λ r r'. LooksUp addr r r' result) reader.old reader.new }
 {
     let mut content = reader.take();
     let tried = match &mut *content {
-        Content::Reader(inner) => inner.try_find(addr),
+        Content::Reader(inner) => inner.look(addr),
         _ => Try::Retry,
     };
     reader.put(content);
     tried
 }
 
-/// One attempt to find the item that an address lies in.
+/// The item that an address lies in, by memory or by one attempt.
 #[unsafe(no_mangle)]
 pub extern "C" fn latchsym_reader_try_find(
     reader: &mut Handle,
     addr: u64,
     out: &mut TableAnswer,
 ) -> u32
-    ensures tried { ReaderGoes (λ r r'. (r'.place ≡ r.place) × ((t : Try)
-        × Tried half_open addr r.knowledge r'.knowledge t
-        × (result ≡ try_code t) × Shows t out.old out.new)) reader.old reader.new }
+    ensures tried { ReaderGoes (λ r r'. (t : Try) × LooksUp addr r r' t
+        × (result ≡ try_code t) × Shows t out.old out.new) reader.old reader.new }
     ensures other { reader.old.kind ≢ reader_kind
         → (result ≡ 101) × (reader.new ≡ reader.old) × (out.new ≡ out.old) }
 {
@@ -161,7 +157,8 @@ fn name_in(
     result
 }
 
-/// One attempt to find the item that an address lies in, and the symbol of the catalog in it.
+/// The item that an address lies in, by memory or by one attempt, and the symbol of the catalog in
+/// it.
 #[unsafe(no_mangle)]
 pub extern "C" fn latchsym_reader_find_name_nonnull(
     reader: &mut Handle,
@@ -174,11 +171,10 @@ pub extern "C" fn latchsym_reader_find_name_nonnull(
 ) -> u32
     ensures stays { Stays catalog.old catalog.new }
     ensures found { (c : CatalogEntries) → HoldsCatalog c catalog.old
-        → ReaderGoes (λ r r'. (r'.place ≡ r.place) × ((t : Try)
-        × Tried half_open addr r.knowledge r'.knowledge t
+        → ReaderGoes (λ r r'. (t : Try) × LooksUp addr r r' t
         × (result ≡ name_code c addr t) × Shows t item.old item.new
         × Names c addr t out.old out.new
-        × Copies c addr t name.old name.new owner.old owner.new)) reader.old reader.new }
+        × Copies c addr t name.old name.new owner.old owner.new) reader.old reader.new }
     ensures other { (reader.old.kind ≢ reader_kind) ⊎ (catalog.old.kind ≢ catalog_kind)
         → (result ≡ 101) × (reader.new ≡ reader.old) × (catalog.new ≡ catalog.old)
         × (item.new ≡ item.old) × (out.new ≡ out.old) × (name.new ≡ name.old)

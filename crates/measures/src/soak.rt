@@ -18,7 +18,7 @@ const SLOTS: u32 = 64;
 /// The table's nodes: one more, since a batch puts its item into a node that was free before it.
 const NODES: u32 = 65;
 
-/// How many addresses the readers look up by turns.
+/// How many addresses the readers look up by turns, each twice.
 const KEYS: u32 = 1024;
 
 /// How many readers there are.
@@ -146,8 +146,19 @@ fn beside<R: Threads + Clock + Sync>(
     Ok((written?, seen?))
 }
 
+/// These addresses, each twice: the second time from memory where no update came between.
+fn each_twice(alloc: Global, keys: &[u64]) -> Result<Vec<u64>, AllocError> {
+    let mut all = Vec::new(alloc);
+    for key in keys {
+        all.push(*key)?;
+        all.push(*key)?;
+    }
+    Ok(all)
+}
+
 /// A writer that goes through a schedule for so long, and readers that compare each answer. Writes
-/// how many answers, retries and wrong answers there were, and how many updates.
+/// how many answers there were, how many of them from memory, how many retries and wrong answers,
+/// and how many updates.
 pub fn soak<R: Threads + Clock + Print + AllocGlobal + Sync>(
     rt: &R,
     time: Duration,
@@ -157,6 +168,7 @@ pub fn soak<R: Threads + Clock + Print + AllocGlobal + Sync>(
         return Err(MeasureFault::Refused(Refusal::NoSuchItem));
     };
     let keys = addresses(rt.alloc(), &mut random, SLOTS, KEYS)?;
+    let keys = each_twice(rt.alloc(), &keys)?;
     let observer = Observer {
         schedule: &schedule,
         keys: &keys,
@@ -167,8 +179,8 @@ pub fn soak<R: Threads + Clock + Print + AllocGlobal + Sync>(
     let (updates, seen) = beside(rt, observer, &mut writer, readers, time)?;
     let tally = total(&seen);
     println!(rt;
-        "answers {} retries {} wrong {} updates {updates}",
-        tally.answers, tally.retries, tally.wrong
+        "answers {} recalled {} retries {} wrong {} updates {updates}",
+        tally.answers, tally.recalled, tally.retries, tally.wrong
     )?;
     Ok(())
 }

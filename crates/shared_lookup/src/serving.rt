@@ -156,6 +156,7 @@ fn layout_for(c: &Catalog<'_>) -> Result<Layout, Refusal>
 /// waits for them, and counts what is wrong.
 ///
 /// Each change is one [`SharedWriter::change`], each key one
+/// [`Reader::look`](latch_table::Reader::look), and where this gives no answer a
 /// [`Reader::find`](latch_table::Reader::find). Writers, readers and places are numbered from 0.
 /// The gate is told of each step of each update, and of each place before its lookup and after it.
 /// Where no thread can be made for a list, its changes are refused by [`Refusal::OutOfMemory`], or

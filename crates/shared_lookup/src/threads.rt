@@ -3,6 +3,8 @@
 ghost use Rattle.std.specs.Prelude.{◌≡◌, length, All, Err, IfOk};
 ghost use Rattle.std.specs.Option.{ForNone, ForSome};
 ghost use Rattle.order_laws.specs.declared.refusals.Refusal.TheVariants.{OutOfMemory};
+ghost use Rattle.order_laws.specs.Orders.{half_open};
+ghost use Rattle.latch_table.specs.Readers.{Answers, KnowsMore};
 ghost use Rattle.shared_lookup.specs.Readers.{IsHeard, IsReaderOf};
 ghost use Rattle.shared_lookup.specs.Servings.{AreOutcomesOf, HasOutcomes};
 
@@ -11,8 +13,8 @@ use crate::gates::{Gate, Point};
 use crate::served::Answer;
 use crate::shared::Changer;
 use core::thread::Stack;
-use latch_table::Reader;
-use order_laws::{HalfOpen, Refusal};
+use latch_table::{Reader, Try};
+use order_laws::{HalfOpen, Item, Refusal};
 use std::alloc::{AllocError, Global};
 use std::sync::Wait;
 use std::thread::{Promise, PromisedHandle, Scope, Threads};
@@ -142,6 +144,18 @@ fn make_changes<R: Wait, G: Gate, W: Changer>(
     outcomes
 }
 
+/// What a key lies in, by memory or by attempts, and the generation that this is of.
+fn look_until<R: Wait>(rt: &R, seat: &mut Reader<HalfOpen>, key: u64) -> (Option<Item>, u64)
+    ensures place { seat.new.place ≡ seat.old.place }
+    ensures more { KnowsMore seat.old.knowledge seat.new.knowledge }
+    ensures answers { Answers half_open key seat.new.knowledge result.0 result.1 }
+{
+    match seat.look(key) {
+        Try::Answered(item, generation) => (item, generation),
+        Try::Retry => seat.find(rt, key),
+    }
+}
+
 /// Looks the keys of one list up, by a reader of the changer's table.
 #[tactic(auto, using(crate::proofs::FoundLemmas::none_found))]
 fn look_up<R: Wait, G: Gate, W: Changer>(
@@ -168,7 +182,7 @@ fn look_up<R: Wait, G: Gate, W: Changer>(
         }
         let place = index as u64;
         g.tell(Point::ReaderStart { reader, place });
-        let (item, generation) = seat.find(rt, *key);
+        let (item, generation) = look_until(rt, &mut seat, *key);
         g.tell(Point::ReaderDone { reader, place });
         answers.push_reserved(Answer {
             reader,

@@ -9,8 +9,10 @@ use order_laws::{HalfOpen, Item};
 /// What a reader saw.
 #[derive(Clone, Copy, Debug, PartialEq, Eq, Drop)]
 pub struct Tally {
-    /// How many attempts gave an answer.
+    /// How many answers there were.
     pub answers: u64,
+    /// How many of them were from memory.
+    pub recalled: u64,
     /// How many attempts did not, since the writer flipped meanwhile.
     pub retries: u64,
     /// How many answers were not what the key lies in after as many updates as the generation
@@ -25,6 +27,7 @@ impl Tally {
     pub fn new() -> Tally {
         Tally {
             answers: 0,
+            recalled: 0,
             retries: 0,
             wrong: 0,
             latest: 0,
@@ -36,6 +39,7 @@ impl Tally {
         ensures wrong { self.new.wrong ≡ 0 → (self.old.wrong ≡ 0) × (other.now.wrong ≡ 0) }
     {
         self.answers = self.answers.saturating_add(other.answers);
+        self.recalled = self.recalled.saturating_add(other.recalled);
         self.retries = self.retries.saturating_add(other.retries);
         self.wrong = self.wrong.saturating_add(other.wrong);
         self.latest = self.latest.max(other.latest);
@@ -53,6 +57,19 @@ impl Tally {
             self.wrong = self.wrong.saturating_add(1);
         }
         self.latest = generation;
+    }
+}
+
+/// What the reader has of a key, from memory or else by an attempt.
+fn seek(reader: &mut Reader<HalfOpen>, key: u64, tally: &mut Tally) -> Try
+    ensures wrong { tally.new.wrong ≡ tally.old.wrong }
+{
+    match reader.recall(key) {
+        Some((item, generation)) => {
+            tally.recalled = tally.recalled.saturating_add(1);
+            Try::Answered(Some(item), generation)
+        }
+        None => reader.look(key),
     }
 }
 
@@ -75,7 +92,7 @@ impl Observer<'_> {
         ensures { tally.new.wrong ≡ 0 → tally.old.wrong ≡ 0 }
     {
         for (_, key) in (0..self.most).zip(self.keys.iter().cycle()) {
-            match reader.try_find(*key) {
+            match seek(reader, *key, tally) {
                 Try::Answered(answer, generation) => {
                     tally.count(self.schedule.look(*key, generation), answer, generation);
                     if generation >= self.until {

@@ -4,6 +4,8 @@ use Rattle.latch_table.specs.Seats.{reader_of, writer_of}
 use Rattle.latch_table.specs.Writers.{shown_updates}
 use Rattle.latch_table.proofs.MeetingLemmas.{met}
 use Rattle.latch_table.proofs.RuleLemmas.{allows_sequence, joins_meeting, splits_meeting}
+use Rattle.latch_table.proofs.MemoryLemmas.{remembers_more}
+use Rattle.latch_table.proofs.meeting.meet.Given as given
 use Rattle.latch_table.proofs.meeting.meet.Goals as goal
 
 pub join_seat-requires : goal.join_seat-requires
@@ -28,5 +30,17 @@ returns-clause-reader g c =
     let core = met g.O.TreeOrder.order own its.me.0 c.join_seat.new.seat.me c.load-sequence.new.seat.me c.load-sequence.result (writer_of own)
     (ap (λ m. m.0) c.join_seat.ensures.2) (ap (λ m. m.0.writer) c.writer.invariant.2.alone) c.load-sequence.ensures.2 in
     subst (IsMet c.args.reader) (sym c.new.ensures)
-    (subst (λ a. IsMet a (reader_at back.table_id back.me.0)) (sym c.into_parts-its.ensures.is)
+    (subst (λ a. IsMet a (reader_at back.table_id back.me.0 c.into_parts-its.result.3)) (sym c.into_parts-its.ensures.is)
     (place, rw (alone, sym known) core))
+
+-- what the reader knew, and knows once it has met the writer
+met_now : (g : given.Over) (c : goal.After-split_seat-back g) → Met (reader_of c.into_parts-its.result.1.me.0) (reader_of c.split_seat-back.result.me.0) (writer_of c.writer.inside.seat.me.0).known
+met_now g c =
+    let alone : reader_of c.split_seat-back.result.me.0 ≡ reader_of c.load-sequence.new.seat.me.0 = ap (λ m. reader_of m.0) c.split_seat-back.ensures.4 in
+    rw alone (met g.O.TreeOrder.order c.writer.inside.seat.me.0 c.into_parts-its.result.1.me.0 c.join_seat.new.seat.me c.load-sequence.new.seat.me c.load-sequence.result (writer_of c.writer.inside.seat.me.0)
+    (ap (λ m. m.0) c.join_seat.ensures.2) (ap (λ m. m.0.writer) c.writer.invariant.2.alone) c.load-sequence.ensures.2)
+
+pub new-requires-clause-memory : goal.new-requires-clause-memory
+new-requires-clause-memory g c =
+    remembers_more g.O.TreeOrder.order (reader_of c.into_parts-its.result.1.me.0) (reader_of c.split_seat-back.result.me.0) c.into_parts-its.result.3
+    (met_now g c).3 c.into_parts-its.ensures.memory

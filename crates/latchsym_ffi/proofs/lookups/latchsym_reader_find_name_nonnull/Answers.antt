@@ -2,7 +2,9 @@ use Rattle.std.proofs.Common.{◌≡◌, ◌∙◌, Option, Some, None, [], refl
 use Rattle.order_laws.specs.Orders.{half_open}
 use Rattle.order_laws.proofs.HalfOpenLemmas.{found_holds}
 use Rattle.table_updates.specs.Updates.{replay}
+use Rattle.latch_table.specs.declared.readers.Try.TheVariants.{Answered}
 use Rattle.latch_table.specs.Readers.{ReaderState}
+use Rattle.latch_table.proofs.MemoryLemmas.{looked_answers}
 use Rattle.latchsym_ffi.specs.declared.contents.Content.{Content}
 use Rattle.latchsym_ffi.specs.declared.contents.Content.TheVariants.{Catalog, Reader, Writer}
 use Rattle.latchsym_ffi.specs.Kinds.{kind_in, reader_kind}
@@ -20,5 +22,5 @@ name_in-requires-clause-there c =
     let is_one : reader.kind ≡ reader_kind = search rules in
     let held = reader_of reader.pointer.content (sym reader.tied ∙ is_one) in
     let t = c.in-Answered.ensures held.0 held.1 in
-    let tried = t.2.1 in
-    found_holds c.args.addr (replay half_open [] t.0.knowledge.known) c.in-Answered.found tried.5.found
+    found_holds c.args.addr (replay half_open [] t.0.knowledge.known) c.in-Answered.found
+    (looked_answers half_open c.args.addr held.0.memory held.0.knowledge t.0.knowledge (Answered c.in-Answered.found c.in-Answered.generation) t.2.looked).found

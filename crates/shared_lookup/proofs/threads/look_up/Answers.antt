@@ -27,21 +27,20 @@ answer_more reader keys old new before er ep ek place key a k h =
 pub loop-index-preserved : goal.loop-index-preserved
 loop-index-preserved g c =
     let i = c.loop-index.invariant in
-    let new : Answer = record { reader = c.args.reader; place = c.loop-index.index; key = get_or c.args.keys.now c.loop-index.index 0; generation = c.find-item.result.1; item = c.find-item.result.0 } in
+    let new : Answer = record { reader = c.args.reader; place = c.loop-index.index; key = get_or c.args.keys.now c.loop-index.index 0; generation = c.look_until-item.result.1; item = c.look_until-item.result.0 } in
     let old = c.loop-index.answers.items in
     let few = i.few in
-    let searched = c.find-item.ensures.found in
-    let more = searched.4 in
-    let answers = searched.6 in
+    let more = c.look_until-item.ensures.more in
+    let answers = c.look_until-item.ensures.answers in
     let base = i.reads.1 in
-    let known = c.find-item.new.self.knowledge.known in
-    let count : c.find-item.result.1 ≡ length known = (let counted = answers.counted in let same = more.base in omega (arith, counted, same, base)) in
+    let known = c.look_until-item.new.seat.knowledge.known in
+    let count : c.look_until-item.result.1 ≡ length known = (let counted = answers.counted in let same = more.base in omega (arith, counted, same, base)) in
     let items : c.push_reserved.new.self.items ≡ old ++ new ∷ [] = c.push_reserved.ensures.items ∙ ap (λ (xs : List Answer). xs ++ new ∷ []) c.reserve.ensures.items in
     record {
       few = ap length items ∙ (let n = length-append old (new ∷ []) in omega (arith, n, few));
       each = λ place key a k h.
           answer_more c.args.reader c.args.keys.now old new i.each refl (sym few) (ap (λ i. get_or c.args.keys.now i 0) (sym few)) place key a k
           (subst (λ (xs : List Answer). slice_get xs place ≡ Some a) items h);
-      reads = (λ it e. c.find-item.ensures.place ∙ i.reads.0 it e, more.base ∙ base);
+      reads = (λ it e. c.look_until-item.ensures.place ∙ i.reads.0 it e, more.base ∙ base);
       found = subst (AreFoundIn known) (sym items) (found_more c.loop-index.seat.knowledge.known known old new more.known i.found count answers.found);
     }

@@ -1,4 +1,4 @@
-use Rattle.std.proofs.Common.{rules, ap, subst, ◌∙◌, ◌<◌, List, length, arith}
+use Rattle.std.proofs.Common.{ap, subst, ◌∙◌, ◌<◌, List, length, arith}
 use lib.ListN.{get_or}
 use Rattle.std.proofs.lemmas.List.Elements.{All-get_or}
 use Rattle.atomic_table.specs.Seated.{TableId}
