@@ -11,9 +11,11 @@ use Rattle.latchsym.specs.declared.command_line.ListingFiles.{ListingFiles}
 use Rattle.engines.specs.declared.fault.Fault.{Fault}
 use Rattle.engines.specs.declared.fault.Fault.TheVariants.{Refused, BadLine, Read, TooLong, Write}
 use Rattle.engines.specs.declared.opened_catalogs.GivenTexts.{GivenTexts}
-use Rattle.engines.specs.declared.symbol_lookup.SymbolLookupOptions.{SymbolLookupOptions}
+use Rattle.latchsym.specs.declared.annotations.AnnotateOptions.{AnnotateOptions}
+use Rattle.listing.specs.SymbolListing.{is_narrow, symbols_in}
+use Rattle.texts.specs.Lines.{lines_of}
 
-module _ {L W E : Type 0} (remaining : L → Option (List ℕ)) (contents : W → Option (List ℕ)) (errors : E → Option (List ℕ)) (o : SymbolLookupOptions) (files : ListingFiles) where
+module _ {L W E : Type 0} (remaining : L → Option (List ℕ)) (contents : W → Option (List ℕ)) (errors : E → Option (List ℕ)) (o : AnnotateOptions) (files : ListingFiles) where
   -- a fault on the way
   pub ended : (known : Option Given) (counts : Failures) (l l' : Counted L) (w w' : Counted W) (e e' : Counted E) (result : Result (Unit {0}) Fault) (fault : Fault) → IsErrAnd result (λ f. f ≡ fault)
       → AnnotatesLog remaining contents errors o files known counts l l' w w' e e' (Err fault) → AnnotatesLog remaining contents errors o files known counts l l' w w' e e' result
@@ -37,7 +39,7 @@ module _ {L W E : Type 0} (remaining : L → Option (List ℕ)) (contents : W �
 
   module _ (l l' : Counted L) (w w' : Counted W) (e e' : Counted E) where
     abbrev Told : Option Given → Result (Unit {0}) Fault → Type 0
-    Told known r = IsTold errors o.kernel files known e e' (λ c. AnnotatesBy remaining contents (answered_by c o.rule) l l' w w' r)
+    Told known r = IsTold errors o.kernel files known e e' (λ c narrow. AnnotatesBy remaining contents (answered_by c o.rule narrow) l l' w w' r)
 
     -- the notes were told, and this came of the log
     pub log_annotated : (known : Option Given) (result : Result (Unit {0}) Fault) → Told known result
@@ -61,7 +63,9 @@ module _ {L W E : Type 0} (remaining : L → Option (List ℕ)) (contents : W �
       told_of : (r : Result (Unit {0}) Fault) → Told (Some g) r → Told known r
       told_of r t = record {
         catalog = t.catalog;
+        narrow = t.narrow;
         notes = t.notes;
+        sized = said_of (λ x. t.narrow ≡ is_narrow (symbols_in (lines_of x.kallsyms))) t.sized;
         said = said_of (λ x. IsCatalogOf o.kernel x t.catalog t.notes) t.said;
         told = t.told;
         holds = t.holds;

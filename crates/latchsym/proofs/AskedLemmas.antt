@@ -4,11 +4,12 @@ use Rattle.std.specs.Prelude.{IsErrAnd, is_none, is_some, option_and_then}
 use Rattle.std.specs.Borrow.{Bor}
 use Rattle.std.proofs.lemmas.Bool.{false≢true}
 use Rattle.clap.specs.Words.{Row, Text, first_of}
+use Rattle.listing.specs.declared.address_rules.Callers.{Callers}
 use Rattle.modules.specs.Listed.{BoundNames}
-use Rattle.latchsym.specs.Jobs.{AddressWords, AnswersAsked, Asked, ForLookup, ForNothing, ForRun, ForSymbolLookup, GivesAnyBounds, GivesAsked, GivesBounds, GivesOffset, WithRegionsAlone, annotate_in, are_regions_alone, asked_annotate, offset_asked, LookupWords, SymbolLookupWords, address_words, addresses_asked, alone_in, asked_run, bounds_asked, bounds_in, given_bounds, lacks_addresses, listed_lookup, lookup_in, run_in, symbol_lookup_in, values_in}
+use Rattle.latchsym.specs.Jobs.{AddressWords, AnswersAsked, Asked, ForLookup, ForNothing, ForRun, ForSymbolLookup, GivesAnyBounds, GivesAsked, GivesBounds, GivesOffset, WithCallersTwice, WithRegionsAlone, annotate_in, callers_in, are_regions_alone, asked_annotate, offset_asked, LookupWords, SymbolLookupWords, address_words, addresses_asked, alone_in, asked_run, bounds_asked, bounds_in, given_bounds, lacks_addresses, listed_lookup, lookup_in, run_in, symbol_lookup_in, values_in}
 use Rattle.latchsym.specs.declared.command_line.Job.{Job}
 use Rattle.latchsym.specs.declared.command_line.JobFault.{JobFault}
-use Rattle.latchsym.specs.declared.command_line.JobFault.TheVariants.{OutOfMemory, CommandLine, BadAddress, NoAddress, NoModules, ModulesTwice, RegionsAlone, BadOffset, BadEnd, BadReaders, NoJob}
+use Rattle.latchsym.specs.declared.command_line.JobFault.TheVariants.{OutOfMemory, CommandLine, BadAddress, NoAddress, NoModules, ModulesTwice, RegionsAlone, TakenTwice, BadOffset, BadEnd, BadReaders, NoJob}
 
 -- the answer that is a fault found on the way
 pub failed : (asked : Asked) (result : Result Job JobFault) (fault : JobFault) → IsErrAnd result (λ f. f ≡ fault) → AnswersAsked asked (Err fault) → AnswersAsked asked result
@@ -27,6 +28,7 @@ bounds_failed asked names same none NoAddress bad = absurd bad
 bounds_failed asked names same none NoModules bad = absurd bad
 bounds_failed asked names same none ModulesTwice bad = absurd bad
 bounds_failed asked names same none RegionsAlone bad = absurd bad
+bounds_failed asked names same none TakenTwice bad = absurd bad
 bounds_failed asked names same none (BadOffset word) bad = absurd bad
 bounds_failed asked names same none (BadReaders word) bad = absurd bad
 
@@ -43,6 +45,7 @@ module _ (with_names : Option (Option BoundNames) → Asked) (bounds_with : (nam
   any_bounds_failed NoModules bad = absurd bad
   any_bounds_failed ModulesTwice bad = absurd bad
   any_bounds_failed RegionsAlone bad = absurd bad
+  any_bounds_failed TakenTwice bad = absurd bad
   any_bounds_failed (BadOffset word) bad = absurd bad
   any_bounds_failed (BadReaders word) bad = absurd bad
 
@@ -62,6 +65,7 @@ asked_failed asked a are (BadEnd word) bad = absurd bad
 asked_failed asked a are NoModules bad = absurd bad
 asked_failed asked a are ModulesTwice bad = absurd bad
 asked_failed asked a are RegionsAlone bad = absurd bad
+asked_failed asked a are TakenTwice bad = absurd bad
 asked_failed asked a are (BadReaders word) bad = absurd bad
 asked_failed asked a are NoJob bad = absurd bad
 asked_failed asked a are (CommandLine e) bad = absurd bad
@@ -136,11 +140,21 @@ module _ (rows : List Row) (kallsyms : Text) (is_kallsyms : Some kallsyms ≡ fi
 
 -- a log that is annotated, where regions are not named alone
 module _ (rows : List Row) (together : are_regions_alone rows ≡ false) where
+  -- nor callers in two ways
+  pub taken_twice : callers_in rows ≡ None → asked_annotate rows ≡ WithCallersTwice
+  taken_twice none =
+      ap (λ b. cond b WithRegionsAlone (annotate_in rows (callers_in rows) (given_bounds (values_in (codes "kernel") rows)))) together
+      ∙ ap (λ o. annotate_in rows o (given_bounds (values_in (codes "kernel") rows))) none
+
+-- and callers in one way
+module _ (rows : List Row) (together : are_regions_alone rows ≡ false) (callers : Callers) (is_taken : callers_in rows ≡ Some callers) where
   abbrev annotation : Option (Option BoundNames) → Asked
-  annotation names = annotate_in rows names
+  annotation names = annotate_in rows (Some callers) names
 
   annotate_is : asked_annotate rows ≡ annotation (given_bounds (values_in (codes "kernel") rows))
-  annotate_is = ap (λ b. cond b WithRegionsAlone (annotation (given_bounds (values_in (codes "kernel") rows)))) together
+  annotate_is =
+      ap (λ b. cond b WithRegionsAlone (annotate_in rows (callers_in rows) (given_bounds (values_in (codes "kernel") rows)))) together
+      ∙ ap (λ o. annotate_in rows o (given_bounds (values_in (codes "kernel") rows))) is_taken
 
   bounds_of_annotation : (names : Option BoundNames) → bounds_asked (annotation (option_map (λ n. Some n) names)) ≡ names
   bounds_of_annotation None = refl
@@ -164,6 +178,7 @@ module _ (rows : List Row) (together : are_regions_alone rows ≡ false) where
     bad_annotate_offset NoModules bad = absurd bad
     bad_annotate_offset ModulesTwice bad = absurd bad
     bad_annotate_offset RegionsAlone bad = absurd bad
+    bad_annotate_offset TakenTwice bad = absurd bad
     bad_annotate_offset (BadEnd word) bad = absurd bad
     bad_annotate_offset (BadReaders word) bad = absurd bad
     bad_annotate_offset NoJob bad = absurd bad

@@ -1,5 +1,5 @@
 -- From listings that are checked to what is written of them.
-use Rattle.std.proofs.Common.{Bool, ◌≡◌, ◌∙◌, ℕ, ◌+◌, ◌<◌, List, [], ◌∷◌, ◌++◌, length, take, get_or, flat_map, Option, Some, None, Result, Ok, Err, sym, ap, subst}
+use Rattle.std.proofs.Common.{Bool, false, ◌≡◌, ◌∙◌, ℕ, ◌+◌, ◌<◌, List, [], ◌∷◌, ◌++◌, length, take, get_or, flat_map, Option, Some, None, Result, Ok, Err, sym, ap, subst}
 use Rattle.std.specs.Prelude.{IfSome, is_some, unwrap_or}
 use Rattle.std.specs.Io.KnownBytes.{Appends}
 use Rattle.std.proofs.KnownBytes.{Appends-trans}
@@ -11,10 +11,10 @@ use Rattle.texts.specs.Counted.{NoneFailed, device_of}
 use Rattle.texts.specs.Exact.{Wrote}
 use Rattle.texts.specs.Lines.{lines_of}
 use Rattle.listing.specs.ModuleListing.{module_counts, modules_in}
-use Rattle.listing.specs.SymbolListing.{symbol_counts, symbols_in}
+use Rattle.listing.specs.SymbolListing.{symbol_counts, symbols_in, symbols_with}
 use Rattle.modules.specs.declared.catalog.BuildCounts.{BuildCounts}
 use Rattle.modules.specs.declared.catalog.KeptCounts.{KeptCounts}
-use Rattle.modules.specs.Catalogs.{catalog_of, counts_of, kept_counts}
+use Rattle.modules.specs.Catalogs.{build_of_listed, catalog_of, counts_of}
 use Rattle.modules.specs.Entries.{CatalogEntries}
 use Rattle.modules.specs.Lines.{bounds_for, usual_bounds}
 use Rattle.modules.specs.Listed.{BoundNames, ListedRegion}
@@ -25,15 +25,14 @@ use Rattle.engines.specs.LookupInputs.{Inputs, catalog_in, counts_in, region_lin
 use Rattle.engines.specs.LookupTexts.{modules_line, symbols_line}
 use Rattle.engines.specs.Lookups.{AreListingsOf, regions_line_of}
 use Rattle.latchsym.specs.NoteTexts.{applying_lines, line_where, note_line}
-use Rattle.engines.specs.OpenedCatalogs.{Given, HasBadRegion, HasCrowdedRegions}
+use Rattle.engines.specs.OpenedCatalogs.{Given, HasBadRegion, HasCrowdedRegions, opening_options}
 use Rattle.engines.specs.Readings.{Failures, NoReaderFailed}
-use Rattle.engines.specs.SymbolLookups.{IsSymbolListing, counts_text_of, listed}
+use Rattle.engines.specs.SymbolLookups.{IsSymbolListing, counts_text_of, kept_in_text, listed}
 use Rattle.latchsym.specs.declared.command_line.ListingFiles.{ListingFiles}
 use Rattle.engines.specs.declared.fault.Fault.{Fault}
 use Rattle.engines.specs.declared.fault.Fault.TheVariants.{Refused, BadLine, Read, Write}
 use Rattle.listing.specs.declared.listing_notes.ListingNote.{ListingNote}
 use Rattle.engines.specs.declared.lookup.Listings.{Listings}
-use Rattle.engines.specs.declared.lookup.LookupOptions.{LookupOptions}
 use Rattle.engines.specs.declared.symbol_lookup.SymbolListing.{SymbolListing}
 
 -- the text of one element more was written
@@ -59,9 +58,9 @@ note_more contents applies names file notes n old mid new note below before none
 
 -- ---- where modules are listed
 
-module _ (kernel : Option BoundNames) (files : ListingFiles) (options : LookupOptions) (modules kallsyms : List ℕ) (text : Option (List ℕ)) (lines : Option (List ListedRegion)) (addresses : List ℕ) where
+module _ (kernel : Option BoundNames) (files : ListingFiles) (bounds : BoundNames) (modules kallsyms : List ℕ) (text : Option (List ℕ)) (lines : Option (List ListedRegion)) (addresses : List ℕ) where
   abbrev inputs : Inputs
-  inputs = record { options = options; modules = modules; kallsyms = kallsyms; regions = lines; addresses = addresses }
+  inputs = record { options = opening_options bounds; modules = modules; kallsyms = kallsyms; regions = lines; addresses = addresses }
 
   -- the text by the names of the bounds, the catalog and the counts
   abbrev text_by : BoundNames → CatalogEntries → BuildCounts → List ℕ → List ℕ → List ℕ → List ℕ
@@ -70,15 +69,15 @@ module _ (kernel : Option BoundNames) (files : ListingFiles) (options : LookupOp
       ++ applying_lines names files.kallsyms.now (is_of_kallsyms names kallsyms built.symbols)
       ++ (modules_line of_modules built ++ symbols_line of_symbols built.symbols built.stray ++ of_regions)
 
-  pub modules_reported : (l : Listings) → options.kernel ≡ unwrap_or kernel usual_bounds → region_lines text ≡ Ok lines → AreListingsOf inputs l
+  pub modules_reported : (l : Listings) → bounds ≡ unwrap_or kernel usual_bounds → region_lines text ≡ Ok lines → AreListingsOf inputs l
       → IsModulesReport kernel files modules kallsyms text (listings_report files inputs l) l.built.symbols
   unfolding catalog_in counts_in
   modules_reported l named read said =
       let of_modules = module_counts (lines_of modules) in
       let of_symbols = symbol_counts (lines_of kallsyms) in
-      let built : BoundNames → BuildCounts = λ names. counts_of (Some names) (modules_in (lines_of modules)) (unwrap_or lines []) (symbols_in (lines_of kallsyms)) in
-      let c : BoundNames → CatalogEntries = λ names. catalog_of (Some names) (modules_in (lines_of modules)) (unwrap_or lines []) (symbols_in (lines_of kallsyms)) in
-      let n = options.kernel in (
+      let built : BoundNames → BuildCounts = λ names. build_of_listed (length (symbols_in (lines_of kallsyms))) (counts_of (Some names) (modules_in (lines_of modules)) (unwrap_or lines []) (symbols_with false (symbols_in (lines_of kallsyms)))) in
+      let c : BoundNames → CatalogEntries = λ names. catalog_of (Some names) (modules_in (lines_of modules)) (unwrap_or lines []) (symbols_with false (symbols_in (lines_of kallsyms))) in
+      let n = bounds in (
         lines,
         read,
         said.few,
@@ -97,7 +96,7 @@ pub symbols_reported : (kernel : Option BoundNames) (file : Text) (text : List �
     → IsSymbolsReport kernel file text (symbol_listing_report names file text l) l.kept.symbols
 symbols_reported kernel file text l names is named =
     let n = bounds_for kernel (listed text) in
-    let kept : KeptCounts = kept_counts is.modules (listed text) in (
+    let kept : KeptCounts = kept_in_text text is.modules in (
       is.modules,
       is.said,
       ap (λ m. symbol_listing_report m file text l) named

@@ -10,7 +10,8 @@ use Rattle.latchsym.specs.Addresses.{AnswersGiven, AnswersNames, HasCatalog, Hol
 use Rattle.latchsym.specs.AddressTexts.{address_text}
 use Rattle.engines.specs.OpenedCatalogs.{AreReadAs, Given, HasBadRegion, HasCrowdedRegions, IsCatalogOf, OpensCatalog}
 use Rattle.engines.specs.Readings.{Failures, NoReaderFailed}
-use Rattle.engines.specs.SymbolLookups.{listed}
+use Rattle.listing.specs.SymbolListing.{symbols_in}
+use Rattle.texts.specs.Lines.{lines_of}
 use Rattle.engines.specs.declared.fault.Fault.{Fault}
 use Rattle.engines.specs.declared.fault.Fault.TheVariants.{Refused, BadLine, Read, Write}
 use Rattle.listing.specs.declared.listing_notes.ListingNotes.{ListingNotes}
@@ -22,7 +23,7 @@ module _ {W : Type 0} (contents : W → Option (List ℕ)) (json : Bool) (kernel
   ended (Ok done) fault is h = absurd is
   ended (Err f) fault is h = subst (λ x. AnswersGiven contents json kernel words g w w' (Err x)) (sym is) h
 
-  module _ {E : Type 0} (c : CatalogEntries) (notes : ListingNotes) (says : IsCatalogOf kernel g c notes) (text : List ℕ) (is_text : text ≡ address_text json c (listed g.kallsyms) words)
+  module _ {E : Type 0} (c : CatalogEntries) (notes : ListingNotes) (says : IsCatalogOf kernel g c notes) (text : List ℕ) (is_text : text ≡ address_text json c (symbols_in (lines_of g.kallsyms)) words)
       (r : Result (Unit {0}) E) (wrote : Wrote contents w w' r text) where
     pub was_written : (u : Unit {0}) → r ≡ Ok u → AnswersGiven contents json kernel words g w w' (Ok notes)
     was_written u is =

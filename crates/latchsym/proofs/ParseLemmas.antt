@@ -20,7 +20,7 @@ use Rattle.latchsym.specs.CommandLine.{IsCommand, IsPlainArg, latchsym_app}
 use Rattle.latchsym.specs.Jobs.{AnswersAsked, AnswersMatches, AnswersWords, IsFaultOf, asked_by}
 use Rattle.latchsym.specs.declared.command_line.Job.{Job}
 use Rattle.latchsym.specs.declared.command_line.JobFault.{JobFault}
-use Rattle.latchsym.specs.declared.command_line.JobFault.TheVariants.{OutOfMemory, CommandLine, BadAddress, NoAddress, NoModules, ModulesTwice, RegionsAlone, BadOffset, BadEnd, BadReaders, NoJob}
+use Rattle.latchsym.specs.declared.command_line.JobFault.TheVariants.{OutOfMemory, CommandLine, BadAddress, NoAddress, NoModules, ModulesTwice, RegionsAlone, TakenTwice, BadOffset, BadEnd, BadReaders, NoJob}
 
 is_simple_latchsym : is_simple latchsym_app ≡ true
 unfolding clap_on_literals
@@ -43,6 +43,7 @@ fails words e NoAddress is has = absurd is
 fails words e NoModules is has = absurd is
 fails words e ModulesTwice is has = absurd is
 fails words e RegionsAlone is has = absurd is
+fails words e TakenTwice is has = absurd is
 fails words e (BadOffset word) is has = absurd is
 fails words e (BadEnd word) is has = absurd is
 fails words e (BadReaders word) is has = absurd is
@@ -57,6 +58,7 @@ passes words (Err NoAddress) none is = (none, is)
 passes words (Err NoModules) none is = (none, is)
 passes words (Err ModulesTwice) none is = (none, is)
 passes words (Err RegionsAlone) none is = (none, is)
+passes words (Err TakenTwice) none is = (none, is)
 passes words (Err (BadOffset word)) none is = (none, is)
 passes words (Err (BadEnd word)) none is = (none, is)
 passes words (Err (BadReaders word)) none is = (none, is)

@@ -28,10 +28,10 @@ use Rattle.texts.specs.declared.counted.Counted.{Counted}
 use Rattle.texts.specs.Counted.{NoneFailed, device_of}
 use Rattle.texts.specs.Exact.{Wrote}
 use Rattle.texts.specs.Lines.{lines_of}
-use Rattle.listing.specs.SymbolListing.{symbol_of, symbols_in}
+use Rattle.listing.specs.SymbolListing.{is_mapping, symbol_of, symbols_in}
 use Rattle.latchsym.specs.AddressTexts.{symbols_text, word_text, words_text}
 use Rattle.latchsym.specs.AskedNames.{asked_of}
-use Rattle.latchsym.specs.KeptSymbols.{IsSought, Kept, end_of, found_by, is_owner, is_sought, kept_in, kept_line, kept_symbol, kept_symbols, named, sought}
+use Rattle.latchsym.specs.KeptSymbols.{IsSought, Kept, end_of, found_by, is_owner, is_sought, kept_at_its_address, kept_in, kept_line, kept_symbol, kept_symbols, named, sought}
 use Rattle.latchsym.proofs.AddressLemmas.{text_more, texts}
 
 same_bytes : (xs ys : List ℕ) → bytes_eq xs ys ≡ true → xs ≡ ys
@@ -162,7 +162,7 @@ same_entries words kept m n same holds = λ name.
 
 -- the name of a kept symbol is that of its line
 pub own_name : (c : CatalogEntries) (s : ListedSymbol) (k : Kept) → kept_symbol c s ≡ Some k → k.name ≡ s.name
-own_name c s k is = from_item (item_of_address c s.addr) is
+own_name c s k is = unmapped (is_mapping s.name) is
   where
     kept_at : Found → Kept
     kept_at f = record { addr = s.addr; end = end_of f; name = s.name; owner = s.owner }
@@ -175,6 +175,10 @@ own_name c s k is = from_item (item_of_address c s.addr) is
     from_item : (i : Option Item) → option_and_then (kept_in c s) i ≡ Some k → k.name ≡ s.name
     from_item None e = absurd (cc)
     from_item (Some i) e = by (is_owner c i.tag s.owner) (symbol_at c i s.addr) e
+
+    unmapped : (b : Bool) → cond b None (kept_at_its_address c s) ≡ Some k → k.name ≡ s.name
+    unmapped true e = absurd (cc)
+    unmapped false e = from_item (item_of_address c s.addr) e
 
 -- one line more: it is no symbol, or none that is kept
 module _ (words : List (List ℕ)) (kept : List Kept) (c : CatalogEntries) (line : List ℕ) (m : Symbols) (holds : IsSought words kept m) where

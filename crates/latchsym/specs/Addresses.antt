@@ -9,7 +9,8 @@ use Rattle.order_laws.specs.declared.refusals.Refusal.TheVariants as refusal
 use Rattle.latchsym.specs.AddressTexts.{address_text}
 use Rattle.engines.specs.OpenedCatalogs.{Given, HasBadRegion, HasCrowdedRegions, IsCatalogOf}
 use Rattle.engines.specs.Readings.{Failures, NoReaderFailed, OnlyFailed}
-use Rattle.engines.specs.SymbolLookups.{listed}
+use Rattle.listing.specs.SymbolListing.{symbols_in}
+use Rattle.texts.specs.Lines.{lines_of}
 use Rattle.engines.specs.declared.fault.Fault.{Fault}
 use Rattle.engines.specs.declared.fault.Fault.TheVariants.{Refused, BadLine, Read, Write}
 use Rattle.listing.specs.declared.listing_notes.ListingNotes.{ListingNotes}
@@ -21,7 +22,7 @@ abbrev pub IsAddressed : {W : Type 0} → (W → Option (List ℕ)) → Counted 
 IsAddressed contents w w' json kernel words g notes =
     (c : CatalogEntries) × IsCatalogOf kernel g c notes
     × Appends (contents (device_of w)) (contents (device_of w'))
-    (address_text json c (listed g.kallsyms) words)
+    (address_text json c (symbols_in (lines_of g.kallsyms)) words)
 
 -- the listings say a catalog
 abbrev pub HasCatalog : Option BoundNames → Given → Type 0

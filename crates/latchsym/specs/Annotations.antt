@@ -11,8 +11,8 @@ use Rattle.latchsym.specs.Reports.{IsNoted}
 use Rattle.listing.specs.ListingNotes.{is_some_noted}
 use Rattle.latchsym.specs.NoteTexts.{note_lines}
 use Rattle.engines.specs.OpenedCatalogs.{Given, HasBadRegion, HasCrowdedRegions, IsCatalogOf}
-use Rattle.engines.specs.SymbolLookups.{listed}
-use Rattle.listing.specs.SymbolListing.{is_narrow}
+use Rattle.listing.specs.SymbolListing.{is_narrow, symbols_in}
+use Rattle.texts.specs.Lines.{lines_of}
 use Rattle.engines.specs.Readings.{Failures, NoReaderFailed, OnlyFailed}
 use Rattle.latchsym.specs.declared.command_line.ListingFiles.{ListingFiles}
 use Rattle.engines.specs.declared.fault.Fault.{Fault}
@@ -45,7 +45,7 @@ pub record IsTold {E : Type 0} (contents : E → Option (List ℕ)) (kernel : Op
   pub narrow : Bool
   pub notes : ListingNotes
   pub said : IfSome known (λ g. IsCatalogOf kernel g catalog notes)
-  pub sized : IfSome known (λ g. narrow ≡ is_narrow (listed g.kallsyms))
+  pub sized : IfSome known (λ g. narrow ≡ is_narrow (symbols_in (lines_of g.kallsyms)))
   pub told : IsNoted contents e e' (is_some_noted notes) (note_lines kernel files notes)
   pub holds : P catalog narrow
 

@@ -9,7 +9,6 @@ use Rattle.texts.specs.Counted.{NoneFailed, Rose, device_of, failures_of}
 use Rattle.texts.specs.Lines.{lines_of}
 use Rattle.listing.specs.SymbolListing.{symbol_counts}
 use Rattle.modules.specs.Accepted.{Accepted}
-use Rattle.modules.specs.Catalogs.{kept_counts}
 use Rattle.modules.specs.Lines.{bounds_for}
 use Rattle.modules.specs.Listed.{BoundNames, ListedRegion}
 use Rattle.modules.specs.Placed.{are_few}
@@ -20,7 +19,8 @@ use Rattle.engines.specs.Lookups.{count_lines, counts_text}
 use Rattle.latchsym.specs.NoteTexts.{applying_lines}
 use Rattle.engines.specs.OpenedCatalogs.{Given, HasBadRegion, HasCrowdedRegions, inputs_by}
 use Rattle.engines.specs.Readings.{Failures, NoReaderFailed, OnlyFailed}
-use Rattle.engines.specs.SymbolLookups.{SaysOfModules, counts_text_of, found_counts_text, listed}
+use Rattle.engines.specs.SymbolLookups.{SaysOfModules, counts_text_of, found_counts_text}
+use Rattle.engines.specs.SymbolLookups.{kept_in_text, listed}
 use Rattle.latchsym.specs.declared.command_line.ListingFiles.{ListingFiles}
 use Rattle.engines.specs.declared.fault.Fault.{Fault}
 use Rattle.engines.specs.declared.fault.Fault.TheVariants.{Refused, BadLine, Read, Write}
@@ -52,7 +52,7 @@ listings_report files i l =
 abbrev pub symbols_report : Option BoundNames → Text → List ℕ → Accepted → List ℕ
 symbols_report kernel file text a =
     let names = bounds_for kernel (listed text) in
-    let kept = kept_counts a (listed text) in
+    let kept = kept_in_text text a in
     applying_lines names file (is_of_kallsyms names text kept.symbols)
     ++ counts_text_of kept (symbol_counts (lines_of text))
 
@@ -75,7 +75,7 @@ abbrev pub IsSymbolsReport : Option BoundNames → Text → List ℕ → List �
 IsSymbolsReport kernel file kallsyms text kept =
     (a : Accepted) × SaysOfModules kernel kallsyms a
     × (text ≡ symbols_report kernel file kallsyms a)
-    × (kept ≡ (kept_counts a (listed kallsyms)).symbols)
+    × (kept ≡ (kept_in_text kallsyms a).symbols)
 
 -- the same of the listings that are given
 abbrev pub IsReportBy : Option BoundNames → ListingFiles → Given → Option (List ℕ) → List ℕ → ℕ

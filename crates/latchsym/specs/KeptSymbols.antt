@@ -10,7 +10,7 @@ use Rattle.std.specs.Option.{option_map, option_map_or}
 use Rattle.std.specs.Ordering.{nat_cmp}
 use Rattle.std.specs.Result.{result_ok}
 use Rattle.std.specs.Str.{bytes_eq}
-use Rattle.listing.specs.SymbolListing.{symbol_of}
+use Rattle.listing.specs.SymbolListing.{is_mapping, symbol_of}
 use Rattle.order_laws.specs.declared.items.Item.{Item}
 use Rattle.modules.specs.Catalogs.{module_of}
 use Rattle.modules.specs.Entries.{CatalogEntries}
@@ -45,8 +45,12 @@ kept_in c s item =
     (symbol_at c item s.addr)
     else None
 
+abbrev pub kept_at_its_address : CatalogEntries → ListedSymbol → Option Kept
+kept_at_its_address c s = option_and_then (kept_in c s) (item_of_address c s.addr)
+
+-- mapping symbols are not kept
 abbrev pub kept_symbol : CatalogEntries → ListedSymbol → Option Kept
-kept_symbol c s = option_and_then (kept_in c s) (item_of_address c s.addr)
+kept_symbol c s = if is_mapping s.name then None else kept_at_its_address c s
 
 -- the kept symbol that a line is
 abbrev pub kept_line : CatalogEntries → List ℕ → Option Kept

@@ -7,11 +7,13 @@ ghost use Rattle.modules.specs.Entries.{CatalogEntries};
 ghost use Rattle.order_laws.specs.declared.items.Item.{Item};
 ghost use Rattle.latchsym.specs.AddressTexts.{size_of};
 ghost use Rattle.latchsym.specs.KeptSymbols.{IsSought, Kept, is_owner, kept_in};
-ghost use Rattle.latchsym.specs.KeptSymbols.{kept_line, kept_symbol, kept_symbols};
-ghost use Rattle.engines.specs.SymbolLookups.{listed};
+ghost use Rattle.latchsym.specs.KeptSymbols.{kept_at_its_address, kept_line, kept_symbol};
+ghost use Rattle.latchsym.specs.KeptSymbols.{kept_symbols};
+ghost use Rattle.listing.specs.SymbolListing.{symbols_in};
+ghost use Rattle.texts.specs.Lines.{lines_of};
 
 use crate::asked_names::symbol_asked;
-use listing::{cut_tabbed_line, symbol_of_line};
+use listing::{cut_tabbed_line, is_mapping, symbol_of_line};
 use modules::{Catalog, IndexedCatalog, SymbolLine, symbol_of};
 use order_laws::Item;
 use std::alloc::{AllocError, Global};
@@ -71,7 +73,8 @@ pub fn symbols_sought<'n, 'a>(
     words: &[&'n str],
 ) -> Result<SoughtSymbols<'n, 'a>, AllocError>
     ensures { IfOk result
-        (IsSought (map (λ w. w.now) words.now) (kept_symbols index.now (listed kallsyms.now))) }
+        (IsSought (map (λ w. w.now) words.now)
+        (kept_symbols index.now (symbols_in (lines_of kallsyms.now)))) }
 {
     let mut sought = names_sought(alloc, words)?;
     let mut rest = kallsyms;
@@ -124,10 +127,23 @@ fn take_line<'a>(
     Ok(())
 }
 
-/// The symbol as the catalog keeps it: where the region that holds its address is one of its
-/// module.
+/// The symbol as the catalog keeps it, which it does not where it is a mapping symbol.
 fn kept_symbol<'a>(index: &IndexedCatalog<'_>, symbol: &SymbolLine<'a>) -> Option<KeptSymbol<'a>>
     ensures { result ≡ kept_symbol index.now symbol.now }
+{
+    if is_mapping(symbol.name) {
+        None
+    } else {
+        kept_at_its_address(index, symbol)
+    }
+}
+
+/// The symbol where the region that holds its address is one of its module.
+fn kept_at_its_address<'a>(
+    index: &IndexedCatalog<'_>,
+    symbol: &SymbolLine<'a>,
+) -> Option<KeptSymbol<'a>>
+    ensures { result ≡ kept_at_its_address index.now symbol.now }
 {
     let item = index.find(symbol.addr)?;
     kept_in(index.catalog(), symbol, item)

@@ -219,7 +219,7 @@ pub struct ListedSymbols<'a> {
 
 /// Whether a name is that of a mapping symbol, which marks code or data within a function: the
 /// listings of arm64, arm and riscv are full of them, and the kernel never answers with one.
-fn is_mapping(name: &[u8]) -> bool
+pub fn is_mapping(name: &[u8]) -> bool
     ensures { result ≡ is_mapping name.now }
 {
     name.starts_with(b"$") || name.starts_with(b".L") || name.starts_with(b"L0")

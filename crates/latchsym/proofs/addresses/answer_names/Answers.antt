@@ -4,7 +4,8 @@ use Rattle.std.specs.Option.{option_copied}
 use Rattle.latchsym.specs.AddressTexts.{address_text, words_text}
 use Rattle.latchsym.specs.KeptSymbols.{IsSought, found_by, kept_symbols}
 use Rattle.engines.specs.OpenedCatalogs.{IsCatalogOf, given_in}
-use Rattle.engines.specs.SymbolLookups.{listed}
+use Rattle.listing.specs.SymbolListing.{symbols_in}
+use Rattle.texts.specs.Lines.{lines_of}
 use Rattle.latchsym.proofs.NameAnswerLemmas.{ended, not_opened, was_not_written, was_written}
 use Rattle.latchsym.proofs.SoughtLemmas.{text_by_map}
 use Rattle.latchsym.proofs.addresses.answer_names.Goals as goal
@@ -29,9 +30,9 @@ returns-in-Ok g c =
     let index = c.in_ok-index.index in
     let notes = c.in_ok-opened.opened.notes in
     let m = c.in_ok-sought.sought in
-    let kept = kept_symbols index (listed given.kallsyms) in
+    let kept = kept_symbols index (symbols_in (lines_of given.kallsyms)) in
     let says = subst (λ x. IsCatalogOf kernel given x notes) (sym c.in_ok-index.ensures) c.in_ok-opened.ensures in
-    let has = subst (λ text. IsSought words (kept_symbols index (listed text)) m) c.deref.ensures.value c.in_ok-sought.ensures in
+    let has = subst (λ text. IsSought words (kept_symbols index (symbols_in (lines_of text))) m) c.deref.ensures.value c.in_ok-sought.ensures in
     was_written g.W.Write.contents a.json kernel words given a.writer.now c.put_all.new.writer index notes says
     (words_text a.json (λ name. unwrap_or (found_by m name) []) words) (text_by_map a.json words kept m has)
     c.put_all.result c.put_all.ensures c.in-Ok.field-0 c.in-Ok.is
@@ -45,9 +46,9 @@ returns g c =
     let index = c.in_ok-index.index in
     let notes = c.in_ok-opened.opened.notes in
     let m = c.in_ok-sought.sought in
-    let kept = kept_symbols index (listed given.kallsyms) in
+    let kept = kept_symbols index (symbols_in (lines_of given.kallsyms)) in
     let says = subst (λ x. IsCatalogOf kernel given x notes) (sym c.in_ok-index.ensures) c.in_ok-opened.ensures in
-    let has = subst (λ text. IsSought words (kept_symbols index (listed text)) m) c.deref.ensures.value c.in_ok-sought.ensures in
+    let has = subst (λ text. IsSought words (kept_symbols index (symbols_in (lines_of text))) m) c.deref.ensures.value c.in_ok-sought.ensures in
     was_not_written g.W.Write.contents a.json kernel words given a.writer.now c.put_all.new.writer index notes says
     (words_text a.json (λ name. unwrap_or (found_by m name) []) words) (text_by_map a.json words kept m has)
     c.put_all.result c.put_all.ensures c.in-Err.field-0 c.in-Err.is

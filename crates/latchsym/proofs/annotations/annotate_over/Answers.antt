@@ -1,7 +1,9 @@
-use Rattle.std.proofs.Common.{[], Err, Some, inl, refl, subst, sym}
+use Rattle.std.proofs.Common.{[], ◌∙◌, ap, Err, Some, inl, refl, subst, sym}
 use Rattle.latchsym.specs.Reports.{IsNoted}
 use Rattle.listing.specs.ListingNotes.{is_some_noted}
 use Rattle.latchsym.specs.NoteTexts.{note_lines}
+use Rattle.listing.specs.SymbolListing.{is_narrow, symbols_in}
+use Rattle.texts.specs.Lines.{lines_of}
 use Rattle.engines.specs.OpenedCatalogs.{IsCatalogOf, OpensCatalog, given_in}
 use Rattle.engines.specs.declared.fault.Fault.TheVariants.{Refused}
 use Rattle.order_laws.specs.declared.refusals.Refusal.TheVariants as refusal
@@ -32,7 +34,9 @@ returns g c =
     log_annotated g.L.Read.remaining g.W.Write.contents g.E.Write.contents a.options.now a.files.now a.log.now c.annotate_by.new.log a.writer.now c.annotate_by.new.writer a.errors.now c.note_listings.new.writer
     (Some given) c.annotate_by.result (record {
       catalog = c.in_ok-index.index;
+      narrow = c.is_narrow-is_narrow.result;
       notes = opened.notes;
+      sized = c.is_narrow-is_narrow.ensures ∙ ap (λ t. is_narrow (symbols_in (lines_of t))) c.deref.ensures.value;
       said = subst (λ x. IsCatalogOf a.options.now.kernel given x opened.notes) (sym c.in_ok-index.ensures)
           (subst (λ k. IsCatalogOf k given opened.catalog opened.notes) c.as_ref.ensures.value c.in_ok-opened.ensures);
       told = subst (λ k. IsNoted g.E.Write.contents a.errors.now c.note_listings.new.writer (is_some_noted opened.notes) (note_lines k a.files.now opened.notes)) c.as_ref-2.ensures.value c.note_listings.ensures;
