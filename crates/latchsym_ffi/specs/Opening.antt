@@ -1,5 +1,5 @@
 -- What the bytes of the listings say.
-use Rattle.std.specs.Prelude.{◌≡◌, ℕ, List, [], true, false, Option, Some, None, Result, Ok, Err}
+use Rattle.std.specs.Prelude.{◌≡◌, ℕ, length, List, [], true, false, Option, Some, None, Result, Ok, Err}
 use Rattle.std.specs.Prelude.{find, slice_index}
 use Rattle.std.specs.Global.{Vec}
 use Rattle.std.specs.Option.{option_copied}
@@ -11,9 +11,10 @@ use Rattle.listing.specs.declared.symbol_listing.SkippedSymbol.TheVariants as sy
 use Rattle.texts.specs.Lines.{lines_of}
 use Rattle.listing.specs.ListingNotes.{all_notes, is_of_kallsyms, is_of_modules}
 use Rattle.listing.specs.ModuleListing.{module_counts, module_place, modules_in}
-use Rattle.listing.specs.SymbolListing.{symbol_counts, symbol_place, symbols_in}
+use Rattle.listing.specs.SymbolListing.{symbol_counts, symbol_place, symbols_in, symbols_with}
 use Rattle.modules.specs.Accepted.{Accepted}
-use Rattle.modules.specs.Catalogs.{catalog_of, catalog_with, counts_of, kept_counts}
+use Rattle.modules.specs.Catalogs.{build_of_listed, catalog_of, catalog_with, counts_of}
+use Rattle.modules.specs.Catalogs.{kept_counts, kept_of_listed}
 use Rattle.modules.specs.Entries.{CatalogEntries}
 use Rattle.modules.specs.FromSymbols.{IsFromSymbols}
 use Rattle.modules.specs.Lines.{bounds_for}
@@ -45,8 +46,12 @@ shown_texts t =
       regions = option_copied t.regions;
     }
 
+-- the symbols that are listed, and those of them that a catalog may keep: mapping symbols are stray
+abbrev pub all_symbols : ListingTexts → List ListedSymbol
+all_symbols t = symbols_in (lines_of t.kallsyms)
+
 abbrev pub symbols_of_text : ListingTexts → List ListedSymbol
-symbols_of_text t = symbols_in (lines_of t.kallsyms)
+symbols_of_text t = symbols_with false (all_symbols t)
 
 -- the names that are given, or else the usual ones as far as the listing of symbols has them
 abbrev pub bounds_of_texts : ListingTexts → BoundNames
@@ -124,7 +129,8 @@ pub record IsOpenedCatalog (t : ListingTexts) (modules : List ℕ) (lines : List
   pub built : BuildCounts
   pub counted :
       built
-      ≡ counts_of t.kernel (modules_in (lines_of modules)) lines (symbols_of_text t)
+      ≡ build_of_listed (length (all_symbols t))
+      (counts_of t.kernel (modules_in (lines_of modules)) lines (symbols_of_text t))
   pub counts :
       n ≡ counts_in (module_counts (lines_of modules)) (symbol_counts (lines_of t.kallsyms)) built
       (notes_on t modules c built.symbols)
@@ -144,7 +150,8 @@ pub record AreReadAlone (t : ListingTexts) (c : CatalogEntries) (n : CatalogCoun
   pub from_symbols : IsFromSymbols t.kernel (symbols_of_text t) accepted
   pub catalog : c ≡ catalog_with accepted (symbols_of_text t)
   pub counts :
-      let kept = kept_counts accepted (symbols_of_text t) in
+      let kept =
+      kept_of_listed (length (all_symbols t)) (kept_counts accepted (symbols_of_text t)) in
       n ≡ counts_alone (symbol_counts (lines_of t.kallsyms)) kept (symbols_note t kept.symbols)
 
 -- with a listing of modules, and without

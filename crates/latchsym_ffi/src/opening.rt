@@ -15,7 +15,7 @@ use crate::answers::{NOTHING, number_if_noted};
 use crate::contents::Content;
 use crate::open_catalogs::OpenCatalog;
 use listing::{
-    ListedSymbols, ListingNote, ListingNotes, ModuleCounts, SkippedModule, SkippedSymbol, SymbolCounts,
+    ListingNote, ListingNotes, ModuleCounts, SkippedModule, SkippedSymbol, SymbolCounts,
     SymbolFacts, are_modules_hidden, are_symbols_hidden, note_of_kallsyms, note_of_modules,
     read_kallsyms, read_modules, read_regions,
 };
@@ -212,23 +212,20 @@ fn catalog_between(
     ensures refusal { IfErr result (IsBuildRefusal regions.now) }
 {
     let (module_lines, skipped_modules) = read_modules(alloc, modules)?;
-    let ListedSymbols {
-        lines: symbol_lines,
-        listed,
-        skipped: skipped_symbols,
-    } = read_kallsyms(alloc, texts.kallsyms, true)?;
-    let names = bounds_for(&texts.kernel, &symbol_lines);
-    let has_kernel = symbol_lines.has_region(&names);
+    let symbols = read_kallsyms(alloc, texts.kallsyms, false)?;
+    let names = bounds_for(&texts.kernel, &symbols.lines);
+    let has_kernel = symbols.lines.has_region(&names);
     let modules_hidden = are_modules_hidden(module_lines.len(), &skipped_modules);
-    let symbols_hidden = are_symbols_hidden(listed, &skipped_symbols);
-    let (catalog, built) = Catalog::build(
+    let symbols_hidden = are_symbols_hidden(symbols.listed, &symbols.skipped);
+    let (catalog, counts) = Catalog::build(
         alloc,
         texts.kernel.as_ref(),
         &module_lines,
         regions,
-        symbol_lines,
+        symbols.lines,
         Asked::Any,
     )?;
+    let built = counts.of_listed(symbols.listed);
     let facts = SymbolFacts {
         hidden: symbols_hidden,
         kept: built.symbols,
@@ -238,7 +235,7 @@ fn catalog_between(
         modules: note_of_modules(modules, modules_hidden, &catalog),
         kallsyms: note_of_kallsyms(texts.kallsyms, &names, facts),
     };
-    let counts = counts_of(&skipped_modules, &skipped_symbols, &built, &notes);
+    let counts = counts_of(&skipped_modules, &symbols.skipped, &built, &notes);
     let indexed = IndexedCatalog::new(alloc, catalog)?;
     Ok((indexed, counts))
 }
@@ -250,27 +247,24 @@ fn catalog_alone(
 ) -> Result<(IndexedCatalog<'static>, CatalogCounts), AllocError>
     ensures { IfOk result (λ r. AreReadAlone (shown_texts texts.now) r.0 r.1) }
 {
-    let ListedSymbols {
-        lines: symbol_lines,
-        listed,
-        skipped: skipped_symbols,
-    } = read_kallsyms(alloc, texts.kallsyms, true)?;
-    let hidden = are_symbols_hidden(listed, &skipped_symbols);
-    let names = bounds_for(&texts.kernel, &symbol_lines);
-    let has_kernel = symbol_lines.has_region(&names);
-    let (catalog, kept) = Catalog::from_symbols(
+    let symbols = read_kallsyms(alloc, texts.kallsyms, false)?;
+    let hidden = are_symbols_hidden(symbols.listed, &symbols.skipped);
+    let names = bounds_for(&texts.kernel, &symbols.lines);
+    let has_kernel = symbols.lines.has_region(&names);
+    let (catalog, counts) = Catalog::from_symbols(
         alloc,
         texts.kernel.as_ref(),
-        symbol_lines,
+        symbols.lines,
         Asked::Any,
     )?;
+    let kept = counts.of_listed(symbols.listed);
     let facts = SymbolFacts {
         hidden,
         kept: kept.symbols,
         has_kernel,
     };
     let note = note_of_kallsyms(texts.kallsyms, &names, facts);
-    let counts = counts_alone(&skipped_symbols, &kept, note);
+    let counts = counts_alone(&symbols.skipped, &kept, note);
     let indexed = IndexedCatalog::new(alloc, catalog)?;
     Ok((indexed, counts))
 }
