@@ -3,11 +3,11 @@
 //! end of the page or to the next mark, whichever comes first.
 //!
 //! ```text
-//! pages:     |        |        |        |        |
-//! marks:       a1 a2     a3  b1            c1  kernel
-//!              |  |      |   |             |   |
-//! regions:     [ a          )[ b       )   [ c )
-//!                 <REACH>      <- page ->
+//! pages:    |         |         |         |         |
+//! marks:      a1  a2         a3   b1          kernel
+//!             |   |          |    |           |
+//! regions:    [ a               ) [ b     )
+//!                 | < REACH  |
 //! ```
 
 ghost use Rattle.std.specs.Prelude.{◌≡◌, ◌≢◌, ◌≤◌, ◌<◌, ◌+◌, ◌-◌, ◌^◌, ◌⊎◌, ◌↔◌, ℕ, All, IfOk};
