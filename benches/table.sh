@@ -1,7 +1,7 @@
 #!/usr/bin/env bash
 # The table for threads beside other programs of the same job: lookups and updates a second at 7,
-# 200, 1000 and 65536 items, alone and beside a writer, and the same with one reader and the writer
-# on one core. The programs take turns; each line has the median of REPEATS runs (7) of SECONDS
+# 200, 1000 and 65536 items, alone and beside a writer, lookups of which nine in ten lie in the range
+# found last, and the same with one reader and the writer on one core. The programs take turns; each line has the median of REPEATS runs (7) of SECONDS
 # (0.2), and the median of each run's ratio to the first program's of the same turn.
 #
 #     benches/table.sh [PEER ..]
@@ -46,6 +46,7 @@ measure() {
 
 for items in 7 200 1000 65536; do
     measure "$items items, lookups" 1 r "$items"
+    measure "$items items, 9 in 10 again" 1 h "$items"
     measure "$items items, updates" 2 w "$items"
     for readers in 1 2 3; do
         measure "$items items, $readers readers" 1 rw "$items" "$readers"

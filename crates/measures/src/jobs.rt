@@ -1,5 +1,6 @@
 //! What the program is asked for.
 
+use crate::lookups::Addressing;
 use std::time::Duration;
 
 /// What the writer does while readers look addresses up.
@@ -19,6 +20,7 @@ pub enum MeasureJob<'w> {
     /// So many lookups.
     Lookups {
         items: u32,
+        addressing: Addressing,
         count: u64,
     },
     /// So many updates.
@@ -26,9 +28,10 @@ pub enum MeasureJob<'w> {
         items: u32,
         count: u64,
     },
-    /// For so long, lookups each of which depends on the answer before.
-    Chain {
+    /// For so long, a reader alone.
+    Alone {
         items: u32,
+        addressing: Addressing,
         time: Duration,
     },
     /// For so long, readers on threads beside the writer.
@@ -118,6 +121,15 @@ fn counted(mode: &str, items: u32, rounds: u32) -> MeasureJob<'static> {
     }
 }
 
+/// The addresses of a job of one reader.
+fn addressing_of(mode: &str) -> Addressing {
+    match mode {
+        "d" => Addressing::Chained,
+        "h" | "ch" => Addressing::Recent,
+        _ => Addressing::Uniform,
+    }
+}
+
 /// A job of one thread, or of the writer or a reader alone.
 fn alone(mode: &str, items: u32, last: &str) -> Option<MeasureJob<'static>> {
     let beside = |readers, writing| {
@@ -131,12 +143,14 @@ fn alone(mode: &str, items: u32, last: &str) -> Option<MeasureJob<'static>> {
     match mode {
         "r" => beside(1, Writing::Nothing),
         "w" => beside(0, Writing::Steady),
-        "d" => Some(MeasureJob::Chain {
+        "d" | "h" => Some(MeasureJob::Alone {
             items,
+            addressing: addressing_of(mode),
             time: seconds(last)?,
         }),
-        "c" => Some(MeasureJob::Lookups {
+        "c" | "ch" => Some(MeasureJob::Lookups {
             items,
+            addressing: addressing_of(mode),
             count: last.parse::<u64>().ok()?,
         }),
         "cw" => Some(MeasureJob::Updates {

@@ -37,11 +37,25 @@ impl LookupCounts {
     }
 }
 
-/// What an address lies in, by as many attempts as it takes.
+/// How the addresses are drawn that are looked up.
+#[derive(Clone, Copy, PartialEq, Eq, Drop)]
+pub enum Addressing {
+    /// Anywhere in the slots.
+    Uniform,
+    /// Each depends on the answer before.
+    Chained,
+    /// Nine in ten lie in the range that was found last, the others anywhere.
+    Recent,
+}
+
+/// How long a range is, at least.
+const LENGTH: u64 = 4096;
+
+/// What an address lies in, from memory or by as many attempts as it takes.
 #[inline(always)]
 fn find(reader: &mut Reader<HalfOpen>, address: u64) -> Option<Item> {
     for _ in 0..u64::MAX {
-        if let Try::Answered(answer, _) = reader.try_find(address) {
+        if let Try::Answered(answer, _) = reader.look(address) {
             return answer;
         }
     }
@@ -72,7 +86,7 @@ pub fn look_up(
 }
 
 /// The same, where each address depends on the answer before.
-pub fn look_up_chain(
+fn look_up_chain(
     reader: &mut Reader<HalfOpen>,
     random: &mut Random,
     slots: u32,
@@ -95,4 +109,51 @@ pub fn look_up_chain(
         tags = tags.wrapping_add(tag);
     }
     tally.add(count, found, tags);
+}
+
+/// The same, where nine in ten addresses lie in the range that was found last.
+fn look_up_recent(
+    reader: &mut Reader<HalfOpen>,
+    random: &mut Random,
+    slots: u32,
+    count: u64,
+    tally: &mut LookupCounts,
+)
+    requires { 0 < slots }
+{
+    let mut numbers = random.split();
+    let (mut found, mut tags): (u64, u64) = (0, 0);
+    let mut last: u64 = 0;
+    for _ in 0..count {
+        let drawn = numbers.address(slots, 0);
+        let address = if drawn % 10 == 0 || last == 0 {
+            drawn
+        } else {
+            last.wrapping_add(drawn % LENGTH)
+        };
+        if let Some(item) = find(reader, address) {
+            found = found.wrapping_add(1);
+            tags = tags.wrapping_add(item.tag);
+            last = item.a;
+        }
+    }
+    tally.add(count, found, tags);
+}
+
+/// Looks so many addresses up that are drawn so.
+pub fn look_up_drawn(
+    addressing: Addressing,
+    reader: &mut Reader<HalfOpen>,
+    random: &mut Random,
+    slots: u32,
+    count: u64,
+    tally: &mut LookupCounts,
+)
+    requires { 0 < slots }
+{
+    match addressing {
+        Addressing::Uniform => look_up(reader, random, slots, count, tally),
+        Addressing::Chained => look_up_chain(reader, random, slots, count, tally),
+        Addressing::Recent => look_up_recent(reader, random, slots, count, tally),
+    }
 }

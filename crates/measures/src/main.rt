@@ -8,10 +8,12 @@
 //! ```text
 //! measures r ITEMS SECONDS             a reader alone
 //! measures d ITEMS SECONDS             the same, each address from the last answer
+//! measures h ITEMS SECONDS             the same, nine in ten addresses in the range found last
 //! measures w ITEMS SECONDS             the writer alone
 //! measures rw ITEMS READERS SECONDS    readers on threads beside a busy writer
 //! measures rp ITEMS READERS SECONDS    beside a writer of 10000 updates a second
 //! measures c ITEMS COUNT               so many lookups, for a count of instructions
+//! measures ch ITEMS COUNT              the same, nine in ten in the range found last
 //! measures cw ITEMS COUNT              so many updates, likewise
 //! measures soak SECONDS                three readers that compare each answer with the replay
 //! measures words ITEMS                 the words of a table, and 4096 random addresses
@@ -24,7 +26,7 @@
 //!                                      the symbol of an address
 //! ```
 //!
-//! The first five write lookups a second, updates a second, bytes of memory an item and the share
+//! The first six write lookups a second, updates a second, bytes of memory an item and the share
 //! of lookups that found a range; `walk`, `stores`, `drive`, `read` and `build` write counts that are
 //! the same on each machine, and the last two tell on standard error how long each part took.
 #![tactic(auto)]
@@ -48,14 +50,14 @@ use drives::count_events;
 use faults::MeasureFault;
 use jobs::{MeasureJob, job_of};
 use listings::read_and_build;
-use runs::{count_lookups, count_updates, measure_beside, measure_chain};
+use runs::{count_lookups, count_updates, measure_alone, measure_beside};
 use soak::soak;
 use std::{env, io};
 use stores::count_stores;
 use walks::{tell_words, walk};
 
 const USAGE: &str =
-    "usage: measures r|d|w ITEMS SECONDS, rw|rp ITEMS READERS SECONDS, c|cw ITEMS COUNT, \
+    "usage: measures r|d|h|w ITEMS SECONDS, rw|rp ITEMS READERS SECONDS, c|ch|cw ITEMS COUNT, \
      soak SECONDS, words ITEMS, walk|stores|drive ITEMS ROUNDS, read MODULES KALLSYMS, \
      build MODULES SYMBOLS LOOKUPS";
 
@@ -68,9 +70,17 @@ fn main(rt: HostRuntime) -> io::Result<()> {
         return eprintln!(rt; "{USAGE}");
     };
     let done = match job {
-        MeasureJob::Lookups { items, count } => count_lookups(&rt, items, count),
+        MeasureJob::Lookups {
+            items,
+            addressing,
+            count,
+        } => count_lookups(&rt, items, addressing, count),
         MeasureJob::Updates { items, count } => count_updates(&rt, items, count),
-        MeasureJob::Chain { items, time } => measure_chain(&rt, items, time),
+        MeasureJob::Alone {
+            items,
+            addressing,
+            time,
+        } => measure_alone(&rt, items, addressing, time),
         MeasureJob::Beside {
             items,
             readers,

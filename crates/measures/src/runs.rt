@@ -5,7 +5,7 @@ ghost use Rattle.word_layout.specs.Limits.{most_nodes};
 
 use crate::faults::MeasureFault;
 use crate::jobs::Writing;
-use crate::lookups::{LookupCounts, look_up, look_up_chain};
+use crate::lookups::{Addressing, LookupCounts, look_up, look_up_drawn};
 use crate::tables::{Measured, exchange, prepare};
 use crate::updates::{Written, write};
 use latch_table::Reader;
@@ -28,19 +28,21 @@ const STEP_OF_SEEDS: u64 = 0x9e37_79b9_7f4a_7c15;
 /// How many lookups a reader makes before it looks whether it is to stop.
 const BLOCK: u64 = 256;
 
-/// And where each depends on the answer before.
-const BLOCK_OF_CHAIN: u64 = 4096;
+/// And where it is alone.
+const BLOCK_ALONE: u64 = 4096;
 
 /// Writes how many of so many lookups found a range, and the sum of the tags.
 pub fn count_lookups<R: Print + Files + AllocGlobal>(
     rt: &R,
     items: u32,
+    addressing: Addressing,
     count: u64,
 ) -> Result<(), MeasureFault> {
     let mut table = prepare(rt, items, 1)?;
     let mut tally = LookupCounts::new();
     for reader in &mut table.readers {
-        look_up(
+        look_up_drawn(
+            addressing,
             reader,
             &mut Random::from_seed(SEED),
             items,
@@ -84,11 +86,12 @@ fn report(rt: &impl Print, written: Written, seen: &[LookupCounts], bytes: f64) 
     println!(rt; "{rate:.0} {updates:.0} {bytes:.1} {share:.3}")
 }
 
-/// Looks random addresses up for so long, each of which depends on the answer before.
-fn chain<R: Clock>(
+/// Looks addresses up for so long that are drawn so.
+fn look_up_alone<R: Clock>(
     rt: &R,
     reader: &mut Reader<HalfOpen>,
     items: u32,
+    addressing: Addressing,
     time: Duration,
 ) -> io::Result<LookupCounts>
     requires { 0 < items }
@@ -97,7 +100,14 @@ fn chain<R: Clock>(
     let mut random = Random::from_seed(SEED);
     let start = Instant::now(rt)?;
     for _ in 0..u64::MAX {
-        look_up_chain(reader, &mut random, items, BLOCK_OF_CHAIN, &mut tally);
+        look_up_drawn(
+            addressing,
+            reader,
+            &mut random,
+            items,
+            BLOCK_ALONE,
+            &mut tally,
+        );
         tally.time = start.elapsed(rt)?;
         if tally.time >= time {
             break;
@@ -107,29 +117,31 @@ fn chain<R: Clock>(
 }
 
 /// The same through each of these readers.
-fn chains<R: Clock + AllocGlobal>(
+fn each_alone<R: Clock + AllocGlobal>(
     rt: &R,
     readers: Vec<Reader<HalfOpen>>,
     items: u32,
+    addressing: Addressing,
     time: Duration,
 ) -> io::Result<Vec<LookupCounts>>
     requires { 0 < items }
 {
     let mut seen = Vec::new(rt.alloc());
     for mut reader in readers {
-        seen.push(chain(rt, &mut reader, items, time)?)?;
+        seen.push(look_up_alone(rt, &mut reader, items, addressing, time)?)?;
     }
     Ok(seen)
 }
 
-/// Measures one reader whose addresses depend on its answers.
-pub fn measure_chain<R: Clock + Print + Files + AllocGlobal>(
+/// Measures one reader alone, whose addresses are drawn so.
+pub fn measure_alone<R: Clock + Print + Files + AllocGlobal>(
     rt: &R,
     items: u32,
+    addressing: Addressing,
     time: Duration,
 ) -> Result<(), MeasureFault> {
     let table = prepare(rt, items, 1)?;
-    let seen = chains(rt, table.readers, items, time)?;
+    let seen = each_alone(rt, table.readers, items, addressing, time)?;
     let none = Written { updates: 0, time };
     report(rt, none, &seen, table.bytes)?;
     Ok(())
