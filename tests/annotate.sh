@@ -23,14 +23,16 @@ writes() {
     cmp -s "$work/out" "$wanted" || fail "$*: another log than $wanted"
 }
 
-# the listings of a log stand beside it, or are the basic ones
+# the listings of a log stand beside it, or are the basic ones; one without modules has none there
 for log in *.log; do
     name=${log%.log}
     listings=../listings/basic
     [ ! -e "$name.kallsyms" ] || listings=$name
-    options=(--modules "$listings.modules" --kallsyms "$listings.kallsyms")
+    options=(--kallsyms "$listings.kallsyms")
+    [ ! -e "$listings.modules" ] || options+=(--modules "$listings.modules")
     writes "$name.expected" "${options[@]}" "$log"
-    writes "$name.callers" "${options[@]}" --callers "$log"
+    writes "$name.exact" "${options[@]}" --exact "$log"
+    writes "$name.callers" --callers "${options[@]}" "$log"
     writes "$name.expected" "${options[@]}" <"$log"
     writes "$name.expected" "${options[@]}" - <"$log"
 done
@@ -53,6 +55,26 @@ sed 's/0xffffffff81000108/0xffffffff91000108/; s/ffffffffc0/ffffffffd0/g' "$work
 writes "$work/moved" --offset 0x10000000 --kallsyms "$work/kallsyms" "$work/high"
 : >"$work/none"
 writes "$work/none" --kallsyms "$work/kallsyms" "$work/none"
+
+# a line of a program's registers has no answer behind `User PSW`, however addresses are taken; the
+# next line has
+printf 'ffffffff81000100 User PSW : 0xffffffff81000100 lr: ffffffff81000100\n[<ffffffff81000101>]\nUser  PSW ffffffff81000108' >"$work/log"
+printf 'ffffffff81000100 do_one+0x0/0x1f00 User PSW : 0xffffffff81000100 lr: ffffffff81000100\n[<ffffffff81000101>] do_one+0x1/0x1f00\nUser  PSW ffffffff81000108 do_one+0x8/0x1f00' >"$work/wanted"
+writes "$work/wanted" --kallsyms "$work/kallsyms" "$work/log"
+writes "$work/wanted" --kallsyms "$work/kallsyms" --exact "$work/log"
+sed '1s/do_one+0x0\/0x1f00/_stext+0x100\/0x100/' "$work/wanted" >"$work/moved"
+writes "$work/moved" --kallsyms "$work/kallsyms" --callers "$work/log"
+
+# addresses of 8 digits, and no others, where the listing has none above 4294967295
+printf 'c0000000 T _stext\nc0000100 T do_one\nc0001000 T _etext\nbf000010 t ext4_a\t[ext4]\n' >"$work/narrow"
+printf 'c0000108 0xc0000108 0XC0000108 c000010 0c0000108 0x0c0000108 00000000c0000108 0x00000000c0000108 bf000018' >"$work/log"
+sed -E 's/^c0000108 0xc0000108 0XC0000108/c0000108 do_one+0x8\/0xf00 0xc0000108 do_one+0x8\/0xf00 0XC0000108 do_one+0x8\/0xf00/; s/bf000018/& ext4_a+0x8\/0xff0 [ext4]/' \
+    "$work/log" >"$work/wanted"
+writes "$work/wanted" --kallsyms "$work/narrow" "$work/log"
+# with one above, those of 9 to 16
+{ cat "$work/narrow"; echo '100000000 t far'; } >"$work/wide"
+sed -E 's/(0x0c0000108|00000000c0000108|0x00000000c0000108)\>/& do_one+0x8\/0xf00/g' "$work/log" | sed 's/0x00000000c0000108 do_one+0x8\/0xf00 do_one+0x8\/0xf00/0x00000000c0000108 do_one+0x8\/0xf00/' >"$work/wanted"
+writes "$work/wanted" --exact --kallsyms "$work/wide" "$work/log"
 
 # words and lines of any length, and bytes of any value
 {
@@ -136,6 +158,9 @@ refused 1 "$work/regions: line 2 is not understood" "${both[@]}" --regions "$wor
 refused 1 "refused 14" "${both[@]}" --regions "$work/regions" no_log
 refused 2 "--regions needs --modules" "${symbols[@]}" --regions "$work/regions"
 refused 2 "bad offset 1x" "${symbols[@]}" --offset 1x
+refused 2 "bad offset, 0x is missing before 1a600000" "${symbols[@]}" --offset 1a600000
+refused 2 "--callers and --exact exclude each other" "${symbols[@]}" --callers --exact
+refused 2 "--callers and --exact exclude each other" --exact "${symbols[@]}" --callers no_such
 refused 2 "--kernel takes two names of symbols, and its END is 0x10" "${symbols[@]}" --kernel _stext 0x10
 refused 2 "" "${symbols[@]}" x86_oops.log kasan.log
 refused 2 "" "${symbols[@]}" --kernel _stext

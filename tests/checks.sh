@@ -45,10 +45,10 @@ writes 'modules 1 regions 1\nsymbols 5 hidden 0 stray 1 long 0 malformed 0\n'
 checked 1 --modules empty.modules --kallsyms empty.kallsyms
 writes 'modules 0 hidden 0 empty 0 wraps 0 overlap 0 double 0 long 0 malformed 0\nsymbols 0 hidden 0 stray 0 long 0 malformed 0\n'
 
-# both notes on one listing; a bound that is named and missed
+# all notes on one listing; a bound that is named and missed
 printf '\037\213\r\n' >"$work/both"
 checked 1 --kallsyms "$work/both"
-writes "latchsym: note: $work/both: is compressed by gzip; unpack it first\nlatchsym: note: $work/both: lines end in CR LF\nmodules 0 regions 0\nsymbols 0 hidden 0 stray 0 long 0 malformed 1\n"
+writes "latchsym: note: $work/both: is compressed by gzip; unpack it first\nlatchsym: note: $work/both: lines end in CR LF\nlatchsym: note: $work/both: no line is of the form of /proc/kallsyms\nmodules 0 regions 0\nsymbols 0 hidden 0 stray 0 long 0 malformed 1\n"
 checked 0 --kallsyms basic.kallsyms --kernel _stext nowhere
 head -n 1 "$work/out" | cmp -s - <(echo 'latchsym: note: basic.kallsyms: has no symbol nowhere') || fail "a bound that is missed"
 

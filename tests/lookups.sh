@@ -71,10 +71,19 @@ notes '' "$s" ''
 notes '' '' ''
 # (a kernel whose symbols are not listed, and lines that are skipped for other causes alone)
 notes "$m" '3010 t a_run\t[a]\n' ''
-notes 'nonsense\n' 'nonsense\n' ''
+form_m='no line is of the form of /proc/modules\n'
+form_s='no line is of the form of /proc/kallsyms\n'
+notes 'nonsense\n' 'nonsense\n' "modules: ${form_m}kallsyms: $form_s"
+notes '\n' "$s" "modules: $form_m"
+# (compressed by xz and by zstd, and in UTF-16)
+notes '' '\375\67zXZ\0\n' "kallsyms: $form_s"
+notes '\50\265\57\375' "$s" "modules: $form_m"
+notes - '\377\3761\0 \0t\0' "kallsyms: $form_s"
+notes 'nonsense\nm 0 0 - Live 0x3000\n' "$s" ''
+notes - 'nonsense\n1000 t a\t[a]\n' ''
 notes '\037\213\010\n' "$s" "modules: $packed"
 notes '' '\037\213' "kallsyms: $packed"
-notes '' '\037' ''
+notes '' '\037' "kallsyms: $form_s"
 notes 'a 4096 0 - Live 0x0000000000000000\nnonsense\nb 0 0 - Live 0x0\n' "$s" "modules: $hidden"
 notes '' '0000000000000000 T _stext\n\n0000000000000000 t a_run\t[a]\n' "kallsyms: $hidden"
 # (one line that is shown, if it is of no use)
@@ -259,7 +268,7 @@ lines '0xffffffffc0001040 ext4_a+0x30/0x30 [ext4]\n0x1000 -\n' --offset 4096 --c
 printf 'm 1 0 - Live 0x1000 %04076d\n' 0 >"$work/whole"
 printf 'm 1 0 - Live 0x1000 %04077d\n' 0 >"$work/long"
 "$program" lookup --modules "$work/whole" --kallsyms empty.kallsyms 0x1000 2>"$work/err" | head -n 2 | cmp -s - <(printf '0x1000 ? [m]\nmodules 1 hidden 0 empty 0 wraps 0 overlap 0 double 0 long 0 malformed 0\n') || fail "a line of 4096 bytes"
-"$program" lookup --modules "$work/long" --kallsyms empty.kallsyms 0x1000 | head -n 2 | cmp -s - <(printf '0x1000 -\nmodules 0 hidden 0 empty 0 wraps 0 overlap 0 double 0 long 1 malformed 0\n') || fail "a line of 4097 bytes"
+"$program" lookup --modules "$work/long" --kallsyms empty.kallsyms 0x1000 2>"$work/err" | head -n 2 | cmp -s - <(printf '0x1000 -\nmodules 0 hidden 0 empty 0 wraps 0 overlap 0 double 0 long 1 malformed 0\n') || fail "a line of 4097 bytes"
 
 # a table has 65536 nodes at most
 awk 'BEGIN { for (i = 1; i <= 65537; i++) printf "m%d 4096 0 - Live 0x%x\n", i, i * 4096 }' >"$work/more"

@@ -101,7 +101,7 @@ same 'what README.md tries' "$(printf '%b' "${blocks[1]}")" \
 awk '/^    \[/ { print substr($0, 5); next } /^    /, 0 { exit }' "$top/README.md" >"$work/logs"
 half=$(($(wc -l <"$work/logs") / 2))
 same 'the log of README.md' "$(tail -n "$half" "$work/logs")" "$(head -n "$half" "$work/logs" |
-    "$program" annotate --callers --modules "$top/examples/listings/basic.modules" --kallsyms "$top/examples/listings/basic.kallsyms")"
+    "$program" annotate --modules "$top/examples/listings/basic.modules" --kallsyms "$top/examples/listings/basic.kallsyms")"
 python3 "$top/tests/links.py" "$top" >"$work/links" || fail "$(cat "$work/links")"
 
 # without the kit a script that builds says so, in one line

@@ -15,7 +15,7 @@ import sys
 sys.path.insert(0, os.path.join(os.path.dirname(os.path.abspath(__file__)), "..", "address"))
 import names as plain  # noqa: E402
 
-PIECES = [b'"', b"\\", b"/", b"a", b"_z", b"+0x", "é".encode(), "€".encode(), "\U0001f600".encode(), "\u2028".encode()]
+PIECES = [b"$", b".L", b"L0", b'"', b"\\", b"/", b"a", b"_z", b"+0x", "é".encode(), "€".encode(), "\U0001f600".encode(), "\u2028".encode()]
 ANSWER = re.compile(rb"(.*)\+0x([0-9a-f]+)/0x([0-9a-f]+)", re.S)
 
 

@@ -19,6 +19,7 @@ REACH = 1048576
 PAGE = 4096
 GREATEST = 2**64 - 1
 LONGEST = 4096
+MAPPING = (b"$", b".L", b"L0")
 LINE = re.compile(rb"([0-9a-fA-F]{1,16}) ([^ \t]) ([^\t]+)(\t\[([^\t]+)\])?", re.DOTALL)
 
 Symbol = collections.namedtuple("Symbol", "address name module")
@@ -67,12 +68,13 @@ class Plain:
     def __init__(self, text, bounds):
         symbols, self.skipped = read(text)
         self.listed = symbols
+        self.named = [symbol for symbol in symbols if not symbol.name.startswith(MAPPING)]
         self.kernel = kernel_of(symbols, bounds)
         self.first_post = {}
-        for symbol in filter(self.is_post, symbols):
+        for symbol in filter(self.is_post, self.named):
             self.first_post.setdefault(symbol.address, symbol)
         self.posts = sorted(self.first_post)
-        self.kept = [s for s in symbols if self.is_kept(s)]
+        self.kept = [s for s in self.named if self.is_kept(s)]
         self.stray = len(symbols) - len(self.kept)
         # where the owner may change: at a post, and where its page ends
         self.edges = sorted({edge for post in self.posts for edge in (post, page_end(post)) if edge < GREATEST})
@@ -148,7 +150,8 @@ BASES = [1, 4096, 2**40, 2**63 - REACH, GREATEST - 4 * REACH, GREATEST - REACH -
 MODULES = [None, None, None, b"ext4", b"nfs", b"bpf", b"-", b"a]", b"__builtin__ftrace"]
 STARTS = [b"_stext", b"_sinittext", b"_text", b"a"]
 ENDS = [b"_end", b"_einittext", b"_etext", b"b"]
-NAMES = [b"run", b"init", b"data", b"a b [c]"] * 5 + STARTS + ENDS
+NAMES = [b"run", b"init", b"data", b"a b [c]", b"L", b".", b"x$", b"1.L"] * 3 + STARTS + ENDS
+NAMES += [b"$x", b"$d", b".L12", b"L0", b"$a.1", b"$", b"L0\x01", b".L"]
 HIDDEN = [b"0 t a", b"0 T _stext", b"0000000000000000 t a\t[ext4]"]
 MALFORMED = [b"", b"1000 t", b"1000  a", b"10g0 t a", b"1000 t a\t[]", b"1000 t a\t[m] ", b"00000000000001000 t a"]
 LONG = [b"1000 t " + b"a" * (LONGEST - 7), b"1000 t " + b"a" * (LONGEST - 6)]
