@@ -3,7 +3,7 @@ use Rattle.std.proofs.Common.{◌≡◌, ℕ, List, ◌++◌, length, map, Optio
 use Rattle.std.specs.Prelude.{IfSome, flat_map, option_and_then}
 use Rattle.std.proofs.lemmas.List.{length-map}
 use Rattle.texts.specs.declared.counted.Counted.{Counted}
-use Rattle.modules.specs.Catalogs.{catalog_with, entry_for, kept_counts}
+use Rattle.modules.specs.Catalogs.{catalog_with, entry_for}
 use Rattle.modules.specs.Entries.{CatalogEntries}
 use Rattle.modules.specs.Listed.{BoundNames}
 use Rattle.modules.specs.declared.catalog.KeptCounts.{KeptCounts}

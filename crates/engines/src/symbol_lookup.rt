@@ -19,8 +19,8 @@ use crate::lookup::{KALLSYMS_PLACE, all_addresses, places_of, read_at};
 use crate::lookup_texts::{put_answers, put_found_modules, put_symbol_counts};
 use crate::table::{AddressAnswer, answers_of};
 use listing::{
-    AddressRule, ListedSymbols, ListingNote, ListingNotes, SymbolCounts, SymbolFacts, are_symbols_hidden,
-    note_of_kallsyms, read_kallsyms,
+    AddressRule, ListedSymbols, ListingNote, ListingNotes, SymbolCounts, SymbolFacts,
+    are_symbols_hidden, note_of_kallsyms, read_kallsyms,
 };
 use modules::{Asked, Catalog, KeptCounts, KernelBounds};
 use std::alloc::{AllocError, Global};

@@ -1,5 +1,5 @@
 -- Where the last byte of its kind stands, and where a symbol that was found ends.
-use Rattle.std.proofs.Common.{◌≡◌, ◌∙◌, ℕ, zero, suc, ◌+◌, ◌-◌, ◌<◌, ◌≤◌, ◌==◌, Bool, true, false, cond, List, [], ◌∷◌, length, take, drop, get_or, filter, Option, Some, None, refl, sym, ap, arith, subst, ◌&&◌, nat_le, nat_lt, ⊎_elim}
+use Rattle.std.proofs.Common.{◌≡◌, ◌∙◌, ℕ, zero, suc, ◌+◌, ◌-◌, ◌<◌, ◌≤◌, ◌==◌, true, false, cond, List, [], ◌∷◌, length, take, drop, Option, Some, None, refl, sym, ap, arith, subst, nat_le, nat_lt, ⊎_elim}
 use Rattle.std.specs.Prelude.{All, MatchOption, option_and_then}
 use Rattle.std.proofs.lemmas.Bool.{and_parts, false_from_ne_true, ltb-true}
 use Rattle.std.proofs.lemmas.List.Elements.{filter_passes}

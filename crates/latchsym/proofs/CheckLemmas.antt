@@ -19,7 +19,7 @@ use Rattle.modules.specs.Entries.{CatalogEntries}
 use Rattle.modules.specs.Lines.{bounds_for, usual_bounds}
 use Rattle.modules.specs.Listed.{BoundNames, ListedRegion}
 use Rattle.order_laws.specs.declared.refusals.Refusal.TheVariants as refusal
-use Rattle.latchsym.specs.Checks.{ChecksGiven, ChecksListings, ChecksTexts, HasReport, IsChecked, IsModulesReport, IsReport, IsSymbolsReport, listings_report, modules_name, modules_report, regions_beside, status_of_kept, symbol_listing_report, symbols_report}
+use Rattle.latchsym.specs.Checks.{ChecksGiven, ChecksListings, ChecksTexts, HasReport, IsChecked, IsModulesReport, IsReport, IsSymbolsReport, listings_report, modules_name, regions_beside, status_of_kept, symbol_listing_report}
 use Rattle.listing.specs.ListingNotes.{is_of_kallsyms, is_of_modules}
 use Rattle.engines.specs.LookupInputs.{Inputs, catalog_in, counts_in, region_lines}
 use Rattle.engines.specs.LookupTexts.{modules_line, symbols_line}
@@ -30,7 +30,7 @@ use Rattle.engines.specs.Readings.{Failures, NoReaderFailed}
 use Rattle.engines.specs.SymbolLookups.{IsSymbolListing, counts_text_of, kept_in_text, listed}
 use Rattle.latchsym.specs.declared.command_line.ListingFiles.{ListingFiles}
 use Rattle.engines.specs.declared.fault.Fault.{Fault}
-use Rattle.engines.specs.declared.fault.Fault.TheVariants.{Refused, BadLine, Read, Write}
+use Rattle.engines.specs.declared.fault.Fault.TheVariants.{Refused, BadLine, Write}
 use Rattle.listing.specs.declared.listing_notes.ListingNote.{ListingNote}
 use Rattle.engines.specs.declared.lookup.Listings.{Listings}
 use Rattle.engines.specs.declared.symbol_lookup.SymbolListing.{SymbolListing}

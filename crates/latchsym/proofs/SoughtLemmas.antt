@@ -1,12 +1,12 @@
 -- The kept symbols of the names that words ask for, symbol by symbol.
-use Rattle.std.proofs.Common.{◌≡◌, ◌∙◌, ℕ, List, [], ◌∷◌, ◌++◌, Bool, true, false, cond, ◌||◌, filter, filter_map, ◌+◌, ◌<◌, length, take, get_or, Option, Some, None, Result, Ok, option_map, refl, sym, ap, subst}
+use Rattle.std.proofs.Common.{◌≡◌, ◌∙◌, ℕ, List, [], ◌∷◌, ◌++◌, Bool, true, false, cond, ◌||◌, ◌+◌, ◌<◌, length, take, get_or, Option, Some, None, Result, Ok, option_map, refl, sym, ap, subst}
 use Rattle.std.specs.Prelude.{option_and_then, unwrap_or}
 use Rattle.std.specs.BTreeMap.{BTreeMap, UpdatesBy, get_by, is_at}
 use Rattle.std.specs.Borrow.{Bor}
 use Rattle.std.specs.Cmp.Lexicographic.{slice_cmp}
 use Rattle.std.specs.Global.{Vec}
 use Rattle.std.specs.Io.KnownBytes.{Appends}
-use Rattle.std.specs.List.{cons_option, list_any}
+use Rattle.std.specs.List.{cons_option}
 use Rattle.std.specs.Option.{option_to_list}
 use Rattle.std.specs.Map.{lookup}
 use Rattle.std.specs.Ordering.{nat_cmp}
@@ -29,6 +29,7 @@ use Rattle.texts.specs.Counted.{NoneFailed, device_of}
 use Rattle.texts.specs.Exact.{Wrote}
 use Rattle.texts.specs.Lines.{lines_of}
 use Rattle.listing.specs.SymbolListing.{is_mapping, symbol_of, symbols_in}
+use Rattle.latchsym.specs.declared.address_texts.AddressForm.{AddressForm}
 use Rattle.latchsym.specs.AddressTexts.{symbols_text, word_text, words_text}
 use Rattle.latchsym.specs.AskedNames.{asked_of}
 use Rattle.latchsym.specs.KeptSymbols.{IsSought, Kept, end_of, found_by, is_owner, is_sought, kept_at_its_address, kept_in, kept_line, kept_symbol, kept_symbols, named, sought}
@@ -238,18 +239,18 @@ own_is_sought (w ∷ ws) after word = ap (λ b. bytes_eq (asked_of word).symbol 
     or_true false = refl
 
 -- the text of words by a map that has the symbols of their names
-pub text_by_map : (json : Bool) (words : List (List ℕ)) (kept : List Kept) (m : Symbols) → IsSought words kept m
-    → words_text json (λ name. unwrap_or (found_by m name) []) words ≡ words_text json (named kept) words
-text_by_map json words kept m holds = from [] words refl
+pub text_by_map : (form : AddressForm) (words : List (List ℕ)) (kept : List Kept) (m : Symbols) → IsSought words kept m
+    → words_text form (λ name. unwrap_or (found_by m name) []) words ≡ words_text form (named kept) words
+text_by_map form words kept m holds = from [] words refl
   where
-    from : (before after : List (List ℕ)) → words ≡ before ++ after → words_text json (λ name. unwrap_or (found_by m name) []) after ≡ words_text json (named kept) after
+    from : (before after : List (List ℕ)) → words ≡ before ++ after → words_text form (λ name. unwrap_or (found_by m name) []) after ≡ words_text form (named kept) after
     from before [] is = refl
     from before (w ∷ ws) is =
         let symbol = (asked_of w).symbol in
         let asks : is_sought words symbol ≡ true = ap (λ all. is_sought all symbol) is ∙ own_is_sought before ws w in
         let has : unwrap_or (found_by m symbol) [] ≡ named kept symbol = ap (λ o. unwrap_or o []) (holds symbol ∙ ap (λ b. cond b (Some (named kept symbol)) None) asks) in
-        ap (λ ks. symbols_text json w (asked_of w) ks ++ words_text json (λ name. unwrap_or (found_by m name) []) ws) has
-        ∙ ap (λ text. symbols_text json w (asked_of w) (named kept symbol) ++ text) (from (before ++ w ∷ []) ws (is ∙ moved before w ws))
+        ap (λ ks. symbols_text form w (asked_of w) ks ++ words_text form (λ name. unwrap_or (found_by m name) []) ws) has
+        ∙ ap (λ text. symbols_text form w (asked_of w) (named kept symbol) ++ text) (from (before ++ w ∷ []) ws (is ∙ moved before w ws))
       where
         moved : (xs : List (List ℕ)) (x : List ℕ) (ys : List (List ℕ)) → xs ++ x ∷ ys ≡ (xs ++ x ∷ []) ++ ys
         moved [] x ys = refl
@@ -260,14 +261,14 @@ pub whole_text : (done : List (List ℕ)) (rest text : List ℕ) → done ++ lin
 whole_text done rest text joined none = sym (ap (λ r. done ++ lines_of r) none ∙ append-nil done) ∙ joined
 
 -- the text of one word more was written
-pub word_written : {W E : Type 0} (contents : W → Option (List ℕ)) (json : Bool) (found : List ℕ → List Kept) (words : List (Bor (List ℕ))) (i : ℕ) (d : Bor (List ℕ)) → i < length words → (old mid new : Counted W)
-    → Appends (contents (device_of old)) (contents (device_of mid)) (words_text json found (texts (take i words))) → NoneFailed old mid
-    → (r : Result (Unit {0}) E) (u : Unit {0}) → r ≡ Ok u → Wrote contents mid new r (word_text json found (get_or words i d).now)
-    → Appends (contents (device_of old)) (contents (device_of new)) (words_text json found (texts (take (i + 1) words))) × NoneFailed old new
-word_written contents json found words i d below old mid new before none r u ok wrote =
+pub word_written : {W E : Type 0} (contents : W → Option (List ℕ)) (form : AddressForm) (found : List ℕ → List Kept) (words : List (Bor (List ℕ))) (i : ℕ) (d : Bor (List ℕ)) → i < length words → (old mid new : Counted W)
+    → Appends (contents (device_of old)) (contents (device_of mid)) (words_text form found (texts (take i words))) → NoneFailed old mid
+    → (r : Result (Unit {0}) E) (u : Unit {0}) → r ≡ Ok u → Wrote contents mid new r (word_text form found (get_or words i d).now)
+    → Appends (contents (device_of old)) (contents (device_of new)) (words_text form found (texts (take (i + 1) words))) × NoneFailed old new
+word_written contents form found words i d below old mid new before none r u ok wrote =
     let w = (get_or words i d).now in
-    let done = subst (λ s. Wrote contents mid new s (word_text json found w)) ok wrote in
-    let longer : words_text json found (texts (take (i + 1) words)) ≡ words_text json found (texts (take i words)) ++ word_text json found w =
-    ap (words_text json found) (text_more words i d below) ∙ flat_map-append (word_text json found) (texts (take i words)) (w ∷ [])
-    ∙ ap (λ t. words_text json found (texts (take i words)) ++ t) (append-nil (word_text json found w)) in
+    let done = subst (λ s. Wrote contents mid new s (word_text form found w)) ok wrote in
+    let longer : words_text form found (texts (take (i + 1) words)) ≡ words_text form found (texts (take i words)) ++ word_text form found w =
+    ap (words_text form found) (text_more words i d below) ∙ flat_map-append (word_text form found) (texts (take i words)) (w ∷ [])
+    ∙ ap (λ t. words_text form found (texts (take i words)) ++ t) (append-nil (word_text form found w)) in
     (subst (λ t. Appends (contents (device_of old)) (contents (device_of new)) t) (sym longer) (Appends-trans (contents (device_of old)) (contents (device_of mid)) (contents (device_of new)) _ _ before done.ok), done.none_failed ∙ none)

@@ -1,5 +1,5 @@
 -- What is returned where names are asked for, and what is written of them.
-use Rattle.std.specs.Prelude.{◌≡◌, ℕ, Bool, List, Option, Result, Ok, Err, IfSome, is_some, true}
+use Rattle.std.specs.Prelude.{◌≡◌, ℕ, List, Option, Result, Ok, Err, IfSome, is_some, true}
 use Rattle.std.specs.Io.KnownBytes.{Appends}
 use Rattle.texts.specs.declared.counted.Counted.{Counted}
 use Rattle.texts.specs.Counted.{NoneFailed, Rose, device_of, failures_of}
@@ -7,6 +7,7 @@ use Rattle.modules.specs.Entries.{CatalogEntries}
 use Rattle.modules.specs.Listed.{BoundNames}
 use Rattle.order_laws.specs.declared.refusals.Refusal.TheVariants as refusal
 use Rattle.latchsym.specs.AddressTexts.{address_text}
+use Rattle.latchsym.specs.declared.address_texts.AddressForm.{AddressForm}
 use Rattle.engines.specs.OpenedCatalogs.{Given, HasBadRegion, HasCrowdedRegions, IsCatalogOf}
 use Rattle.engines.specs.Readings.{Failures, NoReaderFailed, OnlyFailed}
 use Rattle.listing.specs.SymbolListing.{symbols_in}
@@ -15,14 +16,14 @@ use Rattle.engines.specs.declared.fault.Fault.{Fault}
 use Rattle.engines.specs.declared.fault.Fault.TheVariants.{Refused, BadLine, Read, Write}
 use Rattle.listing.specs.declared.listing_notes.ListingNotes.{ListingNotes}
 
--- the writer has taken the lines of these words, as JSON or as text, by the catalog of the listings,
+-- the writer has taken the lines of these words, in this form, by the catalog of the listings,
 -- and this is noted
-abbrev pub IsAddressed : {W : Type 0} → (W → Option (List ℕ)) → Counted W → Counted W → Bool
+abbrev pub IsAddressed : {W : Type 0} → (W → Option (List ℕ)) → Counted W → Counted W → AddressForm
     → Option BoundNames → List (List ℕ) → Given → ListingNotes → Type 0
-IsAddressed contents w w' json kernel words g notes =
+IsAddressed contents w w' form kernel words g notes =
     (c : CatalogEntries) × IsCatalogOf kernel g c notes
     × Appends (contents (device_of w)) (contents (device_of w'))
-    (address_text json c (symbols_in (lines_of g.kallsyms)) words)
+    (address_text form c (symbols_in (lines_of g.kallsyms)) words)
 
 -- the listings say a catalog
 abbrev pub HasCatalog : Option BoundNames → Given → Type 0
@@ -34,36 +35,36 @@ HoldsOfRegions P g = (is_some g.modules ≡ true) × P g.regions
 
 -- What is returned for listings that were read, from one state of the writer to another. Every fault
 -- but a failed write leaves the writer as it was, and a call of it failed then alone.
-abbrev pub AnswersGiven : {W : Type 0} → (W → Option (List ℕ)) → Bool → Option BoundNames
+abbrev pub AnswersGiven : {W : Type 0} → (W → Option (List ℕ)) → AddressForm → Option BoundNames
     → List (List ℕ) → Given → Counted W → Counted W → Result ListingNotes Fault → Type 0
-AnswersGiven contents json kernel words g w w' (Ok notes) =
-    NoneFailed w w' × IsAddressed contents w w' json kernel words g notes
-AnswersGiven contents json kernel words g w w' (Err (Refused refusal.OutOfMemory)) = w' ≡ w
-AnswersGiven contents json kernel words g w w' (Err (Refused refusal.TooManyRegions)) =
+AnswersGiven contents form kernel words g w w' (Ok notes) =
+    NoneFailed w w' × IsAddressed contents w w' form kernel words g notes
+AnswersGiven contents form kernel words g w w' (Err (Refused refusal.OutOfMemory)) = w' ≡ w
+AnswersGiven contents form kernel words g w w' (Err (Refused refusal.TooManyRegions)) =
     (w' ≡ w) × HoldsOfRegions HasCrowdedRegions g
-AnswersGiven contents json kernel words g w w' (Err (BadLine place n)) =
+AnswersGiven contents form kernel words g w w' (Err (BadLine place n)) =
     (w' ≡ w) × (place ≡ 2) × HoldsOfRegions (HasBadRegion n) g
-AnswersGiven contents json kernel words g w w' (Err Write) =
+AnswersGiven contents form kernel words g w w' (Err Write) =
     Rose (failures_of w) (failures_of w') × HasCatalog kernel g
-AnswersGiven contents json kernel words g w w' (Err _) = ⊥
+AnswersGiven contents form kernel words g w w' (Err _) = ⊥
 
 -- What the engine returns that also read the listings, where these are known. A call of a reader or
 -- of the writer failed where the answer says so, and else none.
-abbrev pub AnswersNames : {W : Type 0} → (W → Option (List ℕ)) → Bool → Option BoundNames
+abbrev pub AnswersNames : {W : Type 0} → (W → Option (List ℕ)) → AddressForm → Option BoundNames
     → List (List ℕ) → Option Given → Failures → Counted W → Counted W
     → Result ListingNotes Fault → Type 0
-AnswersNames contents json kernel words known counts w w' (Ok notes) =
+AnswersNames contents form kernel words known counts w w' (Ok notes) =
     NoReaderFailed counts × NoneFailed w w'
-    × IfSome known (λ g. IsAddressed contents w w' json kernel words g notes)
-AnswersNames contents json kernel words known counts w w' (Err (Refused refusal.OutOfMemory)) =
+    × IfSome known (λ g. IsAddressed contents w w' form kernel words g notes)
+AnswersNames contents form kernel words known counts w w' (Err (Refused refusal.OutOfMemory)) =
     NoReaderFailed counts × (w' ≡ w)
-AnswersNames contents json kernel words known counts w w' (Err (Refused refusal.TooManyRegions)) =
+AnswersNames contents form kernel words known counts w w' (Err (Refused refusal.TooManyRegions)) =
     NoReaderFailed counts × (w' ≡ w) × IfSome known (HoldsOfRegions HasCrowdedRegions)
-AnswersNames contents json kernel words known counts w w' (Err (BadLine place n)) =
+AnswersNames contents form kernel words known counts w w' (Err (BadLine place n)) =
     NoReaderFailed counts × (w' ≡ w) × (place ≡ 2)
     × IfSome known (HoldsOfRegions (HasBadRegion n))
-AnswersNames contents json kernel words known counts w w' (Err (Read place)) =
+AnswersNames contents form kernel words known counts w w' (Err (Read place)) =
     (w' ≡ w) × OnlyFailed place counts
-AnswersNames contents json kernel words known counts w w' (Err Write) =
+AnswersNames contents form kernel words known counts w w' (Err Write) =
     NoReaderFailed counts × Rose (failures_of w) (failures_of w') × IfSome known (HasCatalog kernel)
-AnswersNames contents json kernel words known counts w w' (Err _) = ⊥
+AnswersNames contents form kernel words known counts w w' (Err _) = ⊥

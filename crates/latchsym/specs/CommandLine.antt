@@ -112,11 +112,12 @@ annotate_app =
 abbrev pub check_app : App
 check_app = with_listings (new_app (codes "check")) (optional_rule (codes "modules"))
 
--- address [--kallsyms FILE] [--modules FILE] [--regions FILE] [--kernel START END] [--json]
--- [--no-counts] NAME..
+-- address [--kallsyms FILE] [--modules FILE] [--regions FILE] [--kernel START END] [--offset N]
+-- [--json] [--no-counts] NAME..
 abbrev pub address_app : App
 address_app =
     with_rule
+    (with_rule
     (with_rule
     (with_rule
     (with_rule
@@ -126,6 +127,7 @@ address_app =
     (optional_rule (codes "modules")))
     (optional_rule (codes "regions")))
     (pair_rule (codes "kernel")))
+    (optional_rule (codes "offset")))
     (flag_rule (codes "json")))
     (flag_rule (codes "no-counts")))
     (some_words_rule (codes "name"))

@@ -116,15 +116,16 @@ pub record CheckWords : Type 0 where
   pub regions : Option Text
   pub kernel : Option BoundNames
 
--- to say, as JSON or as text, where the symbols of these names are, by listings of symbols, and of
--- modules and regions where these are named, where the given symbols bound the kernel, or else the
--- usual ones
+-- to say, as JSON or as text, where the symbols of these names are, higher by the number that a word
+-- is, by listings of symbols, and of modules and regions where these are named, where the given
+-- symbols bound the kernel, or else the usual ones
 pub record NameWords : Type 0 where
   pub modules : Option Text
   pub kallsyms : Text
   pub regions : Option Text
   pub kernel : Option BoundNames
   pub json : Bool
+  pub offset : Option Text
   pub names : List Text
 
 -- what a subcommand asks for: to run the trace in a file, to write its steps, a lookup, to run a
@@ -314,6 +315,7 @@ address_in rows (Some kernel) = ForAddress (record {
   regions = first_of (codes "regions") rows;
   kernel = kernel;
   json = has_flag (codes "json") rows;
+  offset = first_of (codes "offset") rows;
   names = values_in (codes "name") rows;
 })
 address_in rows None = ForNothing
@@ -466,20 +468,23 @@ pub record IsCheckFor (asked : Asked) (job : CheckJob) : Type 0 where
   pub asked_for : asked ≡ ForCheck (check_words_of job)
   pub named : are_named job.kernel ≡ true
 
--- what is asked for by this job
-abbrev pub name_words_of : AddressJob → NameWords
-name_words_of job = record {
+-- what is asked for by this job, with this offset
+abbrev pub name_words_of : AddressJob → Option Text → NameWords
+name_words_of job offset = record {
   modules = option_map (λ f. f.now) job.listings.modules;
   kallsyms = job.listings.kallsyms.now;
   regions = option_map (λ f. f.now) job.listings.regions;
   kernel = job.kernel;
-  json = job.json;
+  json = job.form.json;
+  offset = offset;
   names = map (λ n. n.now) job.names.items;
 }
 
 pub record IsAddressFor (asked : Asked) (job : AddressJob) : Type 0 where
-  pub asked_for : asked ≡ ForAddress (name_words_of job)
+  pub offset : Option Text
+  pub asked_for : asked ≡ ForAddress (name_words_of job offset)
   pub named : are_named job.kernel ≡ true
+  pub higher : offset_of offset ≡ Some job.form.higher
 
 -- the job is what is asked for
 abbrev pub IsAskedBy : Asked → Job → Type 0
@@ -513,11 +518,12 @@ abbrev pub HasBadReaders : Asked → Text → Type 0
 HasBadReaders asked word =
     (r : RunWords) × (asked ≡ ForRun r) × (r.readers ≡ word) × (readers_of word ≡ None)
 
--- the word that is asked to say how much lower addresses are looked up
+-- the word that is asked to say how much lower addresses are looked up, or higher they are told
 abbrev pub offset_asked : Asked → Option Text
 offset_asked (ForLookup l) = l.addresses.offset
 offset_asked (ForSymbolLookup l) = l.addresses.offset
 offset_asked (ForAnnotate a) = a.offset
+offset_asked (ForAddress n) = n.offset
 offset_asked _ = None
 
 -- an offset is asked for by this word, which is no number

@@ -1,6 +1,6 @@
 -- The symbols of a listing that a catalog keeps, with where they end.
 use Rattle.std.specs.Prelude.{◌≡◌, ℕ, ◌+◌, Bool, false, ◌&&◌, not, nat_eq, if◌then◌else◌}
-use Rattle.std.specs.Prelude.{List, [], Option, Some, None, filter, option_and_then}
+use Rattle.std.specs.Prelude.{List, Option, Some, None, filter, option_and_then}
 use Rattle.std.specs.BTreeMap.{BTreeMap, get_by}
 use Rattle.std.specs.Borrow.{Bor}
 use Rattle.std.specs.Cmp.Lexicographic.{slice_cmp}

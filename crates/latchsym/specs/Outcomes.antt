@@ -140,7 +140,7 @@ pub record AreNamesFound {F W : Type 0} (remaining : F → Option (List ℕ))
   pub after : ListingReaders F F F
   pub opened : AreListingFiles remaining held job.listings before
   pub result : Result ListingNotes Fault
-  pub answered : AnswersNames contents job.json job.kernel (map (λ n. n.now) job.names.items)
+  pub answered : AnswersNames contents job.form job.kernel (map (λ n. n.now) job.names.items)
       (known_given remaining remaining remaining before)
       (listing_failures before after) w w' result
   pub status : outcome ≡ with_status result

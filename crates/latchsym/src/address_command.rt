@@ -4,10 +4,11 @@ ghost use Rattle.clap.specs.Words.{found_of, rows_of};
 ghost use Rattle.latchsym.specs.CommandLine.{IsCommand, IsPlainArg, address_app, some_words_rule};
 ghost use Rattle.latchsym.specs.Jobs.{AnswersAsked, asked_address};
 
+use crate::address_texts::AddressForm;
 use crate::command_line::{
     GIVEN_BOUNDS_HELP, GIVEN_MODULES_HELP, Job, JobFault, KALLSYMS, ListingFiles, REGIONS_HELP,
-    described, flag, given_bounds, is_given, optional_option, optional_pair, value_of, value_or,
-    values_of,
+    described, flag, given_bounds, is_given, offset_in, optional_option, optional_pair, value_of,
+    value_or, values_of,
 };
 use clap::{Arg, ArgMatches, Command};
 use modules::KernelBounds;
@@ -20,8 +21,8 @@ pub struct AddressJob<'a> {
     pub listings: ListingFiles<'a>,
     /// The names of the symbols that bound the kernel's own region, where they are given.
     pub kernel: Option<KernelBounds<'a>>,
-    /// Objects of JSON are written, in place of lines of text.
-    pub json: bool,
+    /// How the addresses are told.
+    pub form: AddressForm,
     /// The names, in the order of their words.
     pub names: Vec<&'a str>,
 }
@@ -33,8 +34,10 @@ pub fn address_command<'a>(alloc: Global) -> Result<Command<'a>, AllocError>
     let kallsyms_help = "The symbols, instead of /proc/kallsyms";
     let json_help = "Write JSON, one object per line";
     let counts_help = "Accepted for compatibility with lookup; has no effect";
+    let higher_help = "Add N to each address, as for a kernel moved up by N at boot";
     let name_help =
-        "SYMBOL or SYMBOL+0xOFFSET, after MODULE: for one module, after -: for the kernel";
+        "SYMBOL, SYMBOL+0xOFFSET or SYMBOL+0xOFFSET/0xSIZE; of one module after MODULE: or before \
+' [MODULE]', of the kernel after -:";
     let command = described(
         alloc,
         "address",
@@ -45,6 +48,7 @@ pub fn address_command<'a>(alloc: Global) -> Result<Command<'a>, AllocError>
         .arg(optional_option(alloc, "modules", "FILE").help(GIVEN_MODULES_HELP))?
         .arg(optional_option(alloc, "regions", "FILE").help(REGIONS_HELP))?
         .arg(optional_pair(alloc, "kernel", &["START", "END"]).help(GIVEN_BOUNDS_HELP))?
+        .arg(optional_option(alloc, "offset", "N").help(higher_help))?
         .arg(flag(alloc, "json").help(json_help))?
         .arg(flag(alloc, "no-counts").help(counts_help))?
         .arg(some_words(alloc, "name", "NAME").help(name_help))
@@ -69,6 +73,7 @@ pub fn address_job<'a>(alloc: Global, found: &ArgMatches<'a>) -> Result<Job<'a>,
         return Err(JobFault::RegionsAlone);
     }
     let kernel = given_bounds(values_of(found, "kernel"))?;
+    let higher = offset_in(value_of(found, "offset"))?;
     let Ok(names) = Vec::from_slice(alloc, values_of(found, "name")) else {
         return Err(JobFault::OutOfMemory);
     };
@@ -79,7 +84,10 @@ pub fn address_job<'a>(alloc: Global, found: &ArgMatches<'a>) -> Result<Job<'a>,
             regions,
         },
         kernel,
-        json: is_given(found, "json"),
+        form: AddressForm {
+            json: is_given(found, "json"),
+            higher,
+        },
         names,
     }))
 }

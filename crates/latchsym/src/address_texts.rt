@@ -1,36 +1,45 @@
 //! The lines that are written for names, as text or as objects of JSON, byte for byte, with no memory
 //! taken.
-ghost use Rattle.std.specs.Prelude.{◌≡◌, ◌<◌, [], map, unwrap_or};
+ghost use Rattle.std.specs.Prelude.{◌≡◌, ◌+◌, ◌^◌, true, nat_lt, [], map, unwrap_or};
 ghost use Rattle.std.specs.List.{list_any};
 ghost use Rattle.std.specs.Option.{option_copied};
 ghost use Rattle.texts.specs.Exact.{Wrote};
 ghost use Rattle.latchsym.specs.AddressTexts.{address_line, address_object, asked_member};
 ghost use Rattle.latchsym.specs.AddressTexts.{asked_object, is_of, is_told, no_address};
-ghost use Rattle.latchsym.specs.AddressTexts.{owner_member, owner_text, size_of, symbols_text};
+ghost use Rattle.latchsym.specs.AddressTexts.{is_within, owner_member, owner_text, symbols_text, told_address};
 ghost use Rattle.latchsym.specs.AddressTexts.{told_line, told_lines, untold_line, word_text};
 ghost use Rattle.latchsym.specs.AddressTexts.{words_text};
 ghost use Rattle.latchsym.specs.KeptSymbols.{found_by};
 ghost use Rattle.latchsym.specs.NoteTexts.{line_where};
 
-use crate::asked_names::{AskedName, asked_name};
+use crate::asked_names::{AskedName, Distance, asked_name};
 use crate::kept_symbols::{KeptSymbol, SoughtSymbols};
 use engines::{put_address_member, put_named_module, put_offset_members, put_symbol_members};
 use std::io;
 use std::io::Write;
 use texts::{Counted, put, put_hexadecimal};
 
+/// How the addresses of names are told.
+#[derive(Clone, Copy, Debug, Drop)]
+pub struct AddressForm {
+    /// Objects of JSON are written, in place of lines of text.
+    pub json: bool,
+    /// How many bytes higher than the listings have them.
+    pub higher: u64,
+}
+
 /// Writes the lines of each word, in order, as objects of JSON or as text.
 pub fn put_words<W: Write>(
     writer: &mut Counted<W>,
-    json: bool,
+    form: AddressForm,
     sought: &SoughtSymbols<'_, '_>,
     words: &[&str],
 ) -> io::Result<()>
-    ensures { Wrote W.contents writer.old writer.new result (words_text json
+    ensures { Wrote W.contents writer.old writer.new result (words_text form
         (λ name. unwrap_or (found_by sought.now name) []) (map (λ w. w.now) words.now)) }
 {
     for word in words {
-        put_word(writer, json, sought, word.as_bytes())?;
+        put_word(writer, form, sought, word.as_bytes())?;
     }
     Ok(())
 }
@@ -38,57 +47,57 @@ pub fn put_words<W: Write>(
 /// Writes the lines of a word.
 fn put_word<W: Write>(
     writer: &mut Counted<W>,
-    json: bool,
+    form: AddressForm,
     sought: &SoughtSymbols<'_, '_>,
     word: &[u8],
 ) -> io::Result<()>
     ensures { Wrote W.contents writer.old writer.new result
-        (word_text json (λ name. unwrap_or (found_by sought.now name) []) word.now) }
+        (word_text form (λ name. unwrap_or (found_by sought.now name) []) word.now) }
 {
     let asked = asked_name(word);
     match sought.get(asked.symbol) {
-        Some(symbols) => put_symbols(writer, json, word, &asked, symbols),
-        None => put_untold(writer, json, word, &asked),
+        Some(symbols) => put_symbols(writer, form, word, &asked, symbols),
+        None => put_untold(writer, form, word, &asked),
     }
 }
 
 /// Writes the lines of a word, the symbols of whose name are these.
 fn put_symbols<W: Write>(
     writer: &mut Counted<W>,
-    json: bool,
+    form: AddressForm,
     word: &[u8],
     asked: &AskedName<'_>,
     symbols: &[KeptSymbol],
 ) -> io::Result<()>
     ensures { Wrote W.contents writer.old writer.new result
-        (symbols_text json word.now asked.now symbols.now) }
+        (symbols_text form word.now asked.now symbols.now) }
 {
-    if is_any_told(asked, symbols) {
-        put_all_told(writer, json, word, asked, symbols)
+    if is_any_told(form, asked, symbols) {
+        put_all_told(writer, form, word, asked, symbols)
     } else {
-        put_untold(writer, json, word, asked)
+        put_untold(writer, form, word, asked)
     }
 }
 
 /// Whether one of these symbols is told.
-fn is_any_told(asked: &AskedName<'_>, symbols: &[KeptSymbol]) -> bool
-    ensures { result ≡ list_any (is_told asked.now) symbols.now }
+fn is_any_told(form: AddressForm, asked: &AskedName<'_>, symbols: &[KeptSymbol]) -> bool
+    ensures { result ≡ list_any (is_told form asked.now) symbols.now }
 {
-    symbols.iter().any(|symbol| is_told(asked, symbol))
+    symbols.iter().any(|symbol| is_told(form, asked, symbol))
 }
 
 /// Writes the line of a word for which no symbol is told.
 #[tactic(auto, unfolding(crate::specs::AddressTexts::untold_line))]
 fn put_untold<W: Write>(
     writer: &mut Counted<W>,
-    json: bool,
+    form: AddressForm,
     word: &[u8],
     asked: &AskedName<'_>,
 ) -> io::Result<()>
     ensures { Wrote W.contents writer.old writer.new result
-        (untold_line json word.now asked.now) }
+        (untold_line form word.now asked.now) }
 {
-    if json {
+    if form.json {
         put_asked_object(writer, asked)
     } else {
         put_no_address(writer, word)
@@ -109,7 +118,7 @@ fn put_asked_object<W: Write>(writer: &mut Counted<W>, asked: &AskedName<'_>) ->
     ensures { Wrote W.contents writer.old writer.new result (asked_object asked.now) }
 {
     put(writer, b"{")?;
-    put_offset_members(writer, asked.symbol, asked.offset)?;
+    put_offset_members(writer, asked.symbol, asked.above.offset)?;
     put_asked_member(writer, asked.owner)?;
     put(writer, b"}\n")
 }
@@ -128,33 +137,33 @@ fn put_asked_member<W: Write>(writer: &mut Counted<W>, asked: Option<&[u8]>) -> 
 /// Writes a line for each of these symbols that is told.
 fn put_all_told<W: Write>(
     writer: &mut Counted<W>,
-    json: bool,
+    form: AddressForm,
     word: &[u8],
     asked: &AskedName<'_>,
     symbols: &[KeptSymbol],
 ) -> io::Result<()>
     ensures { Wrote W.contents writer.old writer.new result
-        (told_lines json word.now asked.now symbols.now) }
+        (told_lines form word.now asked.now symbols.now) }
 {
     for symbol in symbols {
-        put_if_told(writer, json, word, asked, symbol)?;
+        put_if_told(writer, form, word, asked, symbol)?;
     }
     Ok(())
 }
 
 fn put_if_told<W: Write>(
     writer: &mut Counted<W>,
-    json: bool,
+    form: AddressForm,
     word: &[u8],
     asked: &AskedName<'_>,
     symbol: &KeptSymbol,
 ) -> io::Result<()>
     ensures { Wrote W.contents writer.old writer.new result
-        (line_where (is_told asked.now symbol.now)
-        (told_line json word.now asked.now symbol.now)) }
+        (line_where (is_told form asked.now symbol.now)
+        (told_line form word.now asked.now symbol.now)) }
 {
-    if is_told(asked, symbol) {
-        put_told(writer, json, word, asked, symbol)
+    if is_told(form, asked, symbol) {
+        put_told(writer, form, word, asked, symbol)
     } else {
         Ok(())
     }
@@ -164,34 +173,35 @@ fn put_if_told<W: Write>(
 #[tactic(auto, unfolding(crate::specs::AddressTexts::told_line))]
 fn put_told<W: Write>(
     writer: &mut Counted<W>,
-    json: bool,
+    form: AddressForm,
     word: &[u8],
     asked: &AskedName<'_>,
     symbol: &KeptSymbol,
 ) -> io::Result<()>
-    requires { asked.now.offset < size_of symbol.now }
+    requires { is_told form asked.now symbol.now ≡ true }
     ensures { Wrote W.contents writer.old writer.new result
-        (told_line json word.now asked.now symbol.now) }
+        (told_line form word.now asked.now symbol.now) }
 {
-    if json {
-        put_address_object(writer, asked, symbol)
+    if form.json {
+        put_address_object(writer, form, asked, symbol)
     } else {
-        put_address(writer, word, asked, symbol)
+        put_address(writer, form, word, asked, symbol)
     }
 }
 
 /// Writes the object of the address that lies above the symbol as it is asked for.
 fn put_address_object<W: Write>(
     writer: &mut Counted<W>,
+    form: AddressForm,
     asked: &AskedName<'_>,
     symbol: &KeptSymbol,
 ) -> io::Result<()>
-    requires { asked.now.offset < size_of symbol.now }
+    requires { is_told form asked.now symbol.now ≡ true }
     ensures { Wrote W.contents writer.old writer.new result
-        (address_object asked.now symbol.now) }
+        (address_object form asked.now symbol.now) }
 {
-    put_address_member(writer, symbol.above(asked.offset))?;
-    put_symbol_members(writer, symbol.name, asked.offset, symbol.size())?;
+    put_address_member(writer, told_address(form, asked, symbol))?;
+    put_symbol_members(writer, symbol.name, asked.above.offset, symbol.size())?;
     put_owner_member(writer, symbol.owner)?;
     put(writer, b"}\n")
 }
@@ -210,15 +220,16 @@ fn put_owner_member<W: Write>(writer: &mut Counted<W>, owner: Option<&[u8]>) -> 
 /// Writes `NAME 0xADDRESS 0xSIZE [MODULE]`.
 fn put_address<W: Write>(
     writer: &mut Counted<W>,
+    form: AddressForm,
     word: &[u8],
     asked: &AskedName<'_>,
     symbol: &KeptSymbol,
 ) -> io::Result<()>
-    requires { asked.now.offset < size_of symbol.now }
+    requires { is_told form asked.now symbol.now ≡ true }
     ensures { Wrote W.contents writer.old writer.new result
-        (address_line word.now asked.now symbol.now) }
+        (address_line form word.now asked.now symbol.now) }
 {
-    let addr = symbol.above(asked.offset);
+    let addr = told_address(form, asked, symbol);
     put(writer, word)?;
     put(writer, b" ")?;
     put_hexadecimal(writer, addr)?;
@@ -241,11 +252,43 @@ fn put_owner<W: Write>(writer: &mut Counted<W>, owner: Option<&[u8]>) -> io::Res
     put(writer, b"]")
 }
 
-/// Whether the symbol is one of those asked for, and the offset is below its size.
-fn is_told(asked: &AskedName<'_>, symbol: &KeptSymbol) -> bool
-    ensures { result ≡ is_told asked.now symbol.now }
+/// The address that is told of a symbol.
+fn told_address(form: AddressForm, asked: &AskedName<'_>, symbol: &KeptSymbol) -> u64
+    requires { is_told form asked.now symbol.now ≡ true }
+    ensures { result ≡ told_address form asked.now symbol.now }
 {
-    is_of(asked.owner, symbol.owner) && asked.offset < symbol.size()
+    symbol.addr + asked.above.offset + form.higher
+}
+
+/// Whether the symbol is one of those asked for, the offset lies within it, and what is told is an
+/// address.
+fn is_told(form: AddressForm, asked: &AskedName<'_>, symbol: &KeptSymbol) -> bool
+    ensures { result ≡ is_told form asked.now symbol.now }
+{
+    is_of(asked.owner, symbol.owner)
+        && is_within(asked.above, symbol.size())
+        && is_address(symbol.addr, asked.above.offset, form.higher)
+}
+
+/// Whether the offset is below the size, or the size is the one that is said and the offset not
+/// above it.
+fn is_within(above: Distance, size: u64) -> bool
+    ensures { result ≡ is_within above size }
+{
+    match above.size {
+        Some(said) => said == size && above.offset <= size,
+        None => above.offset < size,
+    }
+}
+
+/// Whether an address that lies this much higher is one of 64 bits.
+fn is_address(addr: u64, offset: u64, higher: u64) -> bool
+    ensures { result ≡ nat_lt (addr + offset + higher) (2 ^ 64) }
+{
+    match addr.checked_add(offset) {
+        Some(addr) => addr.checked_add(higher).is_some(),
+        None => false,
+    }
 }
 
 /// Whether a symbol of this module is asked for, where one is named: `-` is the kernel itself

@@ -7,7 +7,7 @@ ghost use Rattle.latchsym.specs.AddressTexts.{words_text};
 ghost use Rattle.latchsym.specs.KeptSymbols.{found_by};
 ghost use Rattle.engines.specs.OpenedCatalogs.{given_in, known_given, listing_failures};
 
-use crate::address_texts::put_words;
+use crate::address_texts::{AddressForm, put_words};
 use crate::kept_symbols::{SoughtSymbols, symbols_sought};
 use engines::{Fault, GivenTexts, ListingReaders, open_catalog, read_given};
 use listing::ListingNotes;
@@ -26,36 +26,36 @@ use texts::Counted;
 pub fn address_engine<M: Read, K: Read, R: Read, W: Write>(
     alloc: Global,
     readers: &mut ListingReaders<M, K, R>,
-    json: bool,
+    form: AddressForm,
     kernel: Option<&KernelBounds>,
     words: &[&str],
     writer: &mut Counted<W>,
 ) -> Result<ListingNotes, Fault>
-    ensures { AnswersNames W.contents json (option_copied kernel.entry) (map (λ w. w.now) words.now)
+    ensures { AnswersNames W.contents form (option_copied kernel.entry) (map (λ w. w.now) words.now)
         (known_given M.remaining K.remaining R.remaining readers.old)
         (listing_failures readers.old readers.new) writer.old writer.new result }
 {
     let texts = read_given(alloc, readers)?;
-    answer_names(alloc, &texts, json, kernel, words, writer)
+    answer_names(alloc, &texts, form, kernel, words, writer)
 }
 
 /// Writes where they are in the listings that these texts are.
 fn answer_names<W: Write>(
     alloc: Global,
     texts: &GivenTexts,
-    json: bool,
+    form: AddressForm,
     kernel: Option<&KernelBounds>,
     words: &[&str],
     writer: &mut Counted<W>,
 ) -> Result<ListingNotes, Fault>
-    ensures { AnswersGiven W.contents json (option_copied kernel.entry) (map (λ w. w.now) words.now)
+    ensures { AnswersGiven W.contents form (option_copied kernel.entry) (map (λ w. w.now) words.now)
         (given_in texts.now) writer.old writer.new result }
 {
     let opened = open_catalog(alloc, kernel, texts)?;
     let notes = opened.notes;
     let index = IndexedCatalog::new(alloc, opened.catalog)?;
     let sought = symbols_sought(alloc, &index, &texts.kallsyms, words)?;
-    match put_all(writer, json, &sought, words) {
+    match put_all(writer, form, &sought, words) {
         Ok(()) => Ok(notes),
         Err(_) => Err(Fault::Write),
     }
@@ -64,13 +64,13 @@ fn answer_names<W: Write>(
 /// Writes the lines of all words, and lets the writer keep nothing back.
 fn put_all<W: Write>(
     writer: &mut Counted<W>,
-    json: bool,
+    form: AddressForm,
     sought: &SoughtSymbols<'_, '_>,
     words: &[&str],
 ) -> io::Result<()>
-    ensures { Wrote W.contents writer.old writer.new result (words_text json
+    ensures { Wrote W.contents writer.old writer.new result (words_text form
         (λ name. unwrap_or (found_by sought.now name) []) (map (λ w. w.now) words.now)) }
 {
-    put_words(writer, json, sought, words)?;
+    put_words(writer, form, sought, words)?;
     writer.flush()
 }

@@ -14,8 +14,8 @@ ghost use Rattle.latchsym.specs.Jobs.{symbol_lookup_in, values_in, AnswersAsked,
 ghost use Rattle.latchsym.specs.Jobs.{AnswersWords, GivesAnyBounds, GivesAsked, GivesBounds};
 ghost use Rattle.latchsym.specs.Jobs.{AreNumbers, GivesOffset, IsFaultOf};
 
-use crate::annotations::AnnotateOptions;
 use crate::address_command::{AddressJob, address_command, address_job};
+use crate::annotations::AnnotateOptions;
 use clap::error::ErrorKind;
 use clap::{Arg, ArgAction, ArgMatches, Command, Error};
 use engines::{AnswerForm, LookupOptions, SymbolLookupOptions};
@@ -51,7 +51,7 @@ pub enum Job<'a> {
     /// all that is noted of listings, and their counts.
     Check(CheckJob<'a>),
     /// `latchsym address [--kallsyms FILE] [--modules FILE [--regions FILE]] [--kernel START END]
-    /// [--json] [--no-counts] NAME..`: write where the symbols of these names are.
+    /// [--offset N] [--json] [--no-counts] NAME..`: write where the symbols of these names are.
     Address(AddressJob<'a>),
 }
 
@@ -318,7 +318,8 @@ const EVERY_CALLER_HELP: &str =
 
 const EXACT_HELP: &str = "Take no address as a return address";
 
-pub(crate) const OFFSET_HELP: &str = "Subtract N from each address, as for a kernel moved up by N at boot";
+pub(crate) const OFFSET_HELP: &str =
+    "Subtract N from each address, as for a kernel moved up by N at boot";
 
 /// The command with the options for the listings, which both `lookup` and `run` have. That for the
 /// modules is given, since a lookup can do without it.

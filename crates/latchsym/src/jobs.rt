@@ -223,7 +223,7 @@ fn do_address<F: FileSource, W: Write>(
 {
     let mut readers = open_listings(files, &job.listings)?;
     let kernel = job.kernel.as_ref();
-    let done = address_engine(alloc, &mut readers, job.json, kernel, &job.names, writer);
+    let done = address_engine(alloc, &mut readers, job.form, kernel, &job.names, writer);
     with_status(done)
 }
 

@@ -52,14 +52,6 @@ impl KeptSymbol<'_> {
     {
         self.end.saturating_sub(self.addr)
     }
-
-    /// The address so many bytes above its own, counted from its end, so that nothing wraps.
-    pub fn above(&self, offset: u64) -> u64
-        requires { offset < size_of self.now }
-        ensures { result ≡ self.now.addr + offset }
-    {
-        self.end - (self.size() - offset)
-    }
 }
 
 /// The kept symbols of each name that is sought, in the order listed.

@@ -40,9 +40,7 @@ pub fn refuse<P: Print + Eprint, E: Write>(
             errors,
         ),
         JobFault::RegionsAlone => misused(b"--regions needs --modules", "", errors),
-        JobFault::TakenTwice => {
-            misused(b"--callers and --exact exclude each other", "", errors)
-        }
+        JobFault::TakenTwice => { misused(b"--callers and --exact exclude each other", "", errors) }
         JobFault::BadOffset(word) => misused(offset_message(word), word, errors),
         JobFault::BadEnd(word) => misused(
             b"--kernel takes two names of symbols, and its END is ",

@@ -1,9 +1,8 @@
 -- What is kept of the bytes before a place of a log is enough.
 use Rattle.std.proofs.Common.{◌≡◌, ◌∙◌, ℕ, zero, suc, ◌<◌, ◌≤◌, Bool, true, false, cond, List, [], ◌∷◌, ◌++◌, length, take, drop, refl, sym, ap, subst, Option, Some, None, arith, true≢false, eqb-true, append_assoc, length-append, length-take, length-drop}
-use Rattle.std.specs.Prelude.{◌&&◌, ◌||◌, not, nat_lt, nat_le, nat_eq, reverse, codes, ◌==◌, option_and_then, is_some}
+use Rattle.std.specs.Prelude.{◌&&◌, ◌||◌, nat_lt, nat_le, nat_eq, reverse, codes, ◌==◌, option_and_then, is_some}
 use Rattle.std.specs.Str.{bytes_eq}
 use Rattle.std.proofs.lemmas.List.{take_all, take-append-le, length-take-le, reverse-append}
-use Rattle.texts.specs.Numbers.{numeral}
 use Rattle.listing.specs.LogPlaces.{across, label_across, label_behind, label_of, ends_user, first_place, next_place, start_behind, within_word}
 use Rattle.listing.specs.LogWords.{address_of_word, digits_between, has_prefix, is_closer, is_word_byte}
 use Rattle.listing.specs.AnnotatedLogs.{Answering, LogContext, annotated, annotated_behind, context_behind, ends_closed, inserted, insertion_at, last_word, place_behind, says_caller, text_behind, word_before}

@@ -38,6 +38,6 @@ pub use looks::{
 pub use module_listing::{ModuleCounts, SkippedModule, read_modules};
 pub use region_listing::read_regions;
 pub use symbol_listing::{
-    ListedSymbols, SkippedSymbol, SymbolCounts, cut, cut_tabbed_line, is_mapping, is_narrow, read_kallsyms,
-    symbol_of_line,
+    ListedSymbols, SkippedSymbol, SymbolCounts, cut, cut_tabbed_line, is_mapping, is_narrow,
+    read_kallsyms, symbol_of_line,
 };

@@ -1,8 +1,7 @@
-use Rattle.std.proofs.Common.{◌∙◌, ◌+◌, ap}
+use Rattle.std.proofs.Common.{ap}
 use Rattle.texts.specs.Exact.{hexadecimal}
 use Rattle.texts.proofs.WriteLemmas.{same_text, then}
 use Rattle.latchsym.specs.AddressTexts.{address_line, owner_text}
-use Rattle.latchsym.specs.AskedNames.{AskedSymbols}
 use Rattle.latchsym.specs.KeptSymbols.{Kept}
 use Rattle.latchsym.proofs.address_texts.put_address.Goals as goal
 
@@ -10,7 +9,7 @@ pub returns : goal.returns
 unfolding address_line
 returns g c =
     let k = c.args.symbol.now in
-    let addr = c.above-addr.ensures ∙ ap (λ (a : AskedSymbols). k.addr + a.offset) c.asked.view_is in
+    let addr = c.told_address-addr.ensures in
     let word = then c.in_ok-put.was c.put.ensures c.put-2.ensures in
     let at = then c.in_ok-put-2.was word (same_text (ap hexadecimal addr) c.put_hexadecimal.ensures) in
     let blank = then c.in_ok-put_hexadecimal.was at c.put-3.ensures in

@@ -1,4 +1,4 @@
-use Rattle.std.proofs.Common.{◌∙◌, ◌+◌, ap}
+use Rattle.std.proofs.Common.{◌∙◌, ap}
 use Rattle.texts.proofs.WriteLemmas.{same_text, then}
 use Rattle.latchsym.specs.AddressTexts.{address_object, owner_member}
 use Rattle.latchsym.specs.AskedNames.{AskedSymbols}
@@ -10,11 +10,11 @@ pub returns : goal.returns
 unfolding address_object
 returns g c =
     let k = c.args.symbol.now in
-    let addr = c.above.ensures ∙ ap (λ (a : AskedSymbols). k.addr + a.offset) c.asked.view_is in
+    let addr = c.told_address.ensures in
     let members =
-    ap (λ (x : Kept). symbol_members x.name c.asked.inside.offset c.size.result) c.symbol.view_is
-    ∙ ap (λ (a : AskedSymbols). symbol_members k.name a.offset c.size.result) c.asked.view_is
-    ∙ ap (symbol_members k.name c.args.asked.now.offset) c.size.ensures in
+    ap (λ (x : Kept). symbol_members x.name c.asked.inside.above.offset c.size.result) c.symbol.view_is
+    ∙ ap (λ (a : AskedSymbols). symbol_members k.name a.above.offset c.size.result) c.asked.view_is
+    ∙ ap (symbol_members k.name c.args.asked.now.above.offset) c.size.ensures in
     let at = same_text (ap address_member addr) c.put_address_member.ensures in
     let symbol = then c.in_ok-put_address_member.was at (same_text members c.put_symbol_members.ensures) in
     let owner = then c.in_ok-put_symbol_members.was symbol (same_text (ap (λ (x : Kept). owner_member x.owner) c.symbol.view_is) c.put_owner_member.ensures) in

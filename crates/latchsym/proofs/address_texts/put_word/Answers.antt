@@ -1,4 +1,4 @@
-use Rattle.std.proofs.Common.{◌≡◌, ◌∙◌, [], List, ℕ, Some, None, ap, option_map}
+use Rattle.std.proofs.Common.{◌≡◌, ◌∙◌, [], Some, None, ap, option_map}
 use Rattle.std.specs.Prelude.{unwrap_or}
 use Rattle.std.specs.Global.{Vec}
 use Rattle.texts.proofs.WriteLemmas.{same_text}
@@ -16,7 +16,7 @@ returns-in-Some g c =
     let name = ap (λ (a : AskedSymbols). a.symbol) (c.asked.view_is ∙ asked) in
     let has : Some v.items ≡ found_by m (asked_of word).symbol = ap (option_map (λ (x : Vec Kept). x.items)) c.in-Some.ensures.value ∙ ap (found_by m) name in
     same_text
-    (ap (λ a. symbols_text c.args.json word a c.deref.result.now) asked ∙ ap (symbols_text c.args.json word (asked_of word)) (c.deref.ensures.value ∙ ap (λ o. unwrap_or o []) has))
+    (ap (λ a. symbols_text c.args.form word a c.deref.result.now) asked ∙ ap (symbols_text c.args.form word (asked_of word)) (c.deref.ensures.value ∙ ap (λ o. unwrap_or o []) has))
     c.put_symbols.ensures
 
 pub returns-in-None : goal.returns-in-None
@@ -27,5 +27,5 @@ returns-in-None g c =
     let has : None ≡ found_by m (asked_of word).symbol = ap (option_map (λ (x : Vec Kept). x.items)) c.in-None.ensures.value ∙ ap (found_by m) name in
     let asked = c.asked_name-asked.ensures in
     same_text
-    (ap (λ a. symbols_text c.args.json word a []) asked ∙ ap (λ o. symbols_text c.args.json word (asked_of word) (unwrap_or o [])) has)
+    (ap (λ a. symbols_text c.args.form word a []) asked ∙ ap (λ o. symbols_text c.args.form word (asked_of word) (unwrap_or o [])) has)
     c.put_untold.ensures

@@ -9,6 +9,6 @@ use Rattle.latchsym.proofs.address_texts.put_words.Given as goal
 -- the lines of the words so far were written
 abbrev pub invariant-loop-word : goal.invariant-loop-word
 invariant-loop-word g l = record {
-  written : Appends (g.W.Write.contents (device_of l.fn.writer)) (g.W.Write.contents (device_of l.writer)) (words_text l.json (λ name. unwrap_or (found_by l.sought name) []) (map (λ w. w.now) (take l.word-index l.words)));
+  written : Appends (g.W.Write.contents (device_of l.fn.writer)) (g.W.Write.contents (device_of l.writer)) (words_text l.form (λ name. unwrap_or (found_by l.sought name) []) (map (λ w. w.now) (take l.word-index l.words)));
   none_failed : NoneFailed l.fn.writer l.writer;
 }

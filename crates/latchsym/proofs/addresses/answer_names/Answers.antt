@@ -1,7 +1,7 @@
 use Rattle.std.proofs.Common.{[], map, subst, sym}
 use Rattle.std.specs.Prelude.{unwrap_or}
 use Rattle.std.specs.Option.{option_copied}
-use Rattle.latchsym.specs.AddressTexts.{address_text, words_text}
+use Rattle.latchsym.specs.AddressTexts.{words_text}
 use Rattle.latchsym.specs.KeptSymbols.{IsSought, found_by, kept_symbols}
 use Rattle.engines.specs.OpenedCatalogs.{IsCatalogOf, given_in}
 use Rattle.listing.specs.SymbolListing.{symbols_in}
@@ -18,8 +18,8 @@ returns-in_err-opened g c =
     let words = map (λ w. w.now) a.words.now in
     let given = given_in a.texts.now in
     let fault = c.in_err-opened.field-0.0 in
-    ended contents a.json kernel words given a.writer.now a.writer.now c.from_residual.result fault c.from_residual.ensures.1
-    (not_opened contents a.json kernel words given a.writer.now fault c.in_err-opened.ensures)
+    ended contents a.form kernel words given a.writer.now a.writer.now c.from_residual.result fault c.from_residual.ensures.1
+    (not_opened contents a.form kernel words given a.writer.now fault c.in_err-opened.ensures)
 
 pub returns-in-Ok : goal.returns-in-Ok
 returns-in-Ok g c =
@@ -33,8 +33,8 @@ returns-in-Ok g c =
     let kept = kept_symbols index (symbols_in (lines_of given.kallsyms)) in
     let says = subst (λ x. IsCatalogOf kernel given x notes) (sym c.in_ok-index.ensures) c.in_ok-opened.ensures in
     let has = subst (λ text. IsSought words (kept_symbols index (symbols_in (lines_of text))) m) c.deref.ensures.value c.in_ok-sought.ensures in
-    was_written g.W.Write.contents a.json kernel words given a.writer.now c.put_all.new.writer index notes says
-    (words_text a.json (λ name. unwrap_or (found_by m name) []) words) (text_by_map a.json words kept m has)
+    was_written g.W.Write.contents a.form kernel words given a.writer.now c.put_all.new.writer index notes says
+    (words_text a.form (λ name. unwrap_or (found_by m name) []) words) (text_by_map a.form words kept m has)
     c.put_all.result c.put_all.ensures c.in-Ok.field-0 c.in-Ok.is
 
 pub returns : goal.returns
@@ -49,6 +49,6 @@ returns g c =
     let kept = kept_symbols index (symbols_in (lines_of given.kallsyms)) in
     let says = subst (λ x. IsCatalogOf kernel given x notes) (sym c.in_ok-index.ensures) c.in_ok-opened.ensures in
     let has = subst (λ text. IsSought words (kept_symbols index (symbols_in (lines_of text))) m) c.deref.ensures.value c.in_ok-sought.ensures in
-    was_not_written g.W.Write.contents a.json kernel words given a.writer.now c.put_all.new.writer index notes says
-    (words_text a.json (λ name. unwrap_or (found_by m name) []) words) (text_by_map a.json words kept m has)
+    was_not_written g.W.Write.contents a.form kernel words given a.writer.now c.put_all.new.writer index notes says
+    (words_text a.form (λ name. unwrap_or (found_by m name) []) words) (text_by_map a.form words kept m has)
     c.put_all.result c.put_all.ensures c.in-Err.field-0 c.in-Err.is

@@ -1,4 +1,4 @@
-use Rattle.std.proofs.Common.{None, Some, ap, option_map, subst, sym}
+use Rattle.std.proofs.Common.{None, ap, option_map, subst, sym}
 use Rattle.std.specs.Option.{option_copied}
 use Rattle.latchsym.specs.Checks.{ChecksTexts, IsModulesReport, IsReportBy, IsSymbolsReport, regions_beside}
 use Rattle.engines.specs.OpenedCatalogs.{given_in}

@@ -19,8 +19,8 @@ returns g c =
       opened = c.in_ok-readers.ensures.opened;
       result = c.address_engine-done.result;
       answered =
-          subst (λ kernel. AnswersNames contents job.json kernel (map (λ n. n.now) job.names.items) known counts c.args.writer.now c.address_engine-done.new.writer c.address_engine-done.result) c.as_ref-kernel.ensures.value
-          (subst (λ names. AnswersNames contents job.json (option_copied c.as_ref-kernel.result) (map (λ n. n.now) names) known counts c.args.writer.now c.address_engine-done.new.writer c.address_engine-done.result) c.deref.ensures.value
+          subst (λ kernel. AnswersNames contents job.form kernel (map (λ n. n.now) job.names.items) known counts c.args.writer.now c.address_engine-done.new.writer c.address_engine-done.result) c.as_ref-kernel.ensures.value
+          (subst (λ names. AnswersNames contents job.form (option_copied c.as_ref-kernel.result) (map (λ n. n.now) names) known counts c.args.writer.now c.address_engine-done.new.writer c.address_engine-done.result) c.deref.ensures.value
           c.address_engine-done.ensures);
       status = c.with_status.ensures;
     })

@@ -1,4 +1,4 @@
-use Rattle.std.proofs.Common.{◌≡◌, ◌∙◌, List, Option, None, Some, ap, codes, insert, map, sym}
+use Rattle.std.proofs.Common.{◌≡◌, ◌∙◌, List, None, Some, ap, codes, insert, map}
 use Rattle.std.specs.Borrow.{Bor}
 use Rattle.std.specs.Option.{option_map_or}
 use Rattle.std.proofs.lemmas.List.{take_all}

@@ -1,6 +1,6 @@
-use Rattle.std.proofs.Common.{◌≡◌, ℕ, ◌+◌, ◌-◌, ◌≤◌, List, get_or, length, drop, refl, subst, sym, ap, ◌∙◌, arith}
+use Rattle.std.proofs.Common.{◌≡◌, ℕ, ◌+◌, ◌-◌, ◌≤◌, List, length, drop, refl, subst, sym, ap, ◌∙◌, arith}
 use Rattle.std.proofs.lemmas.List.{take_rest}
-use Rattle.listing.specs.LogContexts.{GoOn, first_context, next_length}
+use Rattle.listing.specs.LogContexts.{GoOn, first_context}
 use Rattle.listing.specs.LogWords.{most_short}
 use Rattle.listing.proofs.LogPlainLemmas.{AreShort, all_short, first_short, plain_on, short_before, short_behind, short_few}
 use Rattle.listing.proofs.log_contexts.short_bytes.Goals as goal

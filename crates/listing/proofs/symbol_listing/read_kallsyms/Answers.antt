@@ -32,7 +32,7 @@ loop-rest-preserved c =
     let (taken, read, lines, listed) = c.loop-rest.invariant in (
       taken,
       subst (IsReadTo symbol_place symbol_causes symbol_of c.args.text.now c.cut_tabbed_line-tab.result.2.now taken) (sym c.add.ensures)
-      (one_skipped symbol_place symbol_causes symbol_of c.args.text.now c.loop-rest.rest.now c.cut_tabbed_line-tab.result.2.now c.cut_tabbed_line-tab.result.0.now taken _ read c.cut_tabbed_line-tab.ensures.line 3 refl c.in-Err.cause (sym c.in-Err.ensures)),
+          (one_skipped symbol_place symbol_causes symbol_of c.args.text.now c.loop-rest.rest.now c.cut_tabbed_line-tab.result.2.now c.cut_tabbed_line-tab.result.0.now taken _ read c.cut_tabbed_line-tab.ensures.line 3 refl c.in-Err.cause (sym c.in-Err.ensures)),
       lines,
       listed,
     )

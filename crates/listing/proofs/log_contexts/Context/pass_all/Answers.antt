@@ -1,4 +1,4 @@
-use Rattle.std.proofs.Common.{◌≡◌, ◌∙◌, get_or, ap, sym, refl, take, arith}
+use Rattle.std.proofs.Common.{◌≡◌, ◌∙◌, get_or, ap, sym, take, arith}
 use Rattle.std.proofs.lemmas.List.{take_all}
 use Rattle.listing.specs.LogContexts.{context_over, kept_in, next_context}
 use Rattle.listing.proofs.LogPassLemmas.{byte_more, line_alone}
