@@ -20,7 +20,7 @@ _latchsym() {
         run) options='--modules --kallsyms --regions --kernel --readers -h --help' ;;
         annotate) options='--kallsyms --modules --regions --kernel --callers --exact --offset -h --help' ;;
         check) options='--modules --kallsyms --regions --kernel -h --help' ;;
-        address) options='--kallsyms --modules --regions --kernel --json --no-counts -h --help' ;;
+        address) options='--kallsyms --modules --regions --kernel --offset --json --no-counts -h --help' ;;
         help)
             mapfile -t COMPREPLY < <(compgen -W 'trace lookup run annotate check address help' -- "$word")
             return
