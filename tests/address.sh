@@ -42,10 +42,11 @@ writes '-:do_one+0xFF 0xffffffff810001ff 0x1f00\n-:ext4_a -\n' --kallsyms basic.
 writes 'do_one 0xffffffff81000100 0x1f00\n-:do_two -\n--kernel -\n' --kallsyms=basic.kallsyms do_one -:do_two --kernel
 writes '-:do_one 0xffffffff81000100 0x1f00\n' --kallsyms basic.kallsyms -- -:do_one
 writes 'do_one -\n' --kallsyms basic.kallsyms --kernel do_one do_one do_one
-writes 'ext4_a+0x30/0x30 0xffffffffc0000040 0x30 [ext4]\next4_a+0x8/0x31 -\next4_a+0x31/0x30 -\n' "${both[@]}" ext4_a+0x30/0x30 ext4_a+0x8/0x31 ext4_a+0x31/0x30
-writes 'ext4_a+0x8/0x30 [ext4] 0xffffffffc0000018 0x30 [ext4]\next4_a [nfs] -\ndo_one [-] 0xffffffff81000100 0x1f00\next4:ext4_a [ext4] -\n' "${both[@]}" 'ext4_a+0x8/0x30 [ext4]' 'ext4_a [nfs]' 'do_one [-]' 'ext4:ext4_a [ext4]'
-writes 'do_one 0xffffffff81000110 0x1f00\n-:do_one+0xffffffff -\n' --offset 0x10 "${both[@]}" do_one -- -:do_one+0xffffffff
-writes 'do_one -\n' --offset 0xffffffffffffffff "${both[@]}" do_one
+writes 'ext4_a+0x8/0x30 [ext4] 0xffffffffc0000018 0x30 [ext4]\next4_a+0x30/0x30 0xffffffffc0000040 0x30 [ext4]\next4_a+0x8/0x20 -\n' "${both[@]}" 'ext4_a+0x8/0x30 [ext4]' ext4_a+0x30/0x30 ext4_a+0x8/0x20
+writes 'ext4_a [nfs] -\nvfs [-] -\ndo_one+0x1f00/0x1f00 0xffffffff81002000 0x1f00\n' "${both[@]}" 'ext4_a [nfs]' 'vfs [-]' do_one+0x1f00/0x1f00
+writes 'do_one 0xffffffff9b600100 0x1f00\n' "${both[@]}" --offset 0x1a600000 do_one
+writes 'do_one -\n' "${both[@]}" --offset 0xffffffffffffffff do_one
+writes 'ext4_a+0x31/0x30 -\next4:ext4_a [ext4] -\n' "${both[@]}" ext4_a+0x31/0x30 'ext4:ext4_a [ext4]'
 # (no name of a listing has the end of a line, and no file of words)
 writes '{"symbol":"a\\u000ab","offset":0}\n{"symbol":"","offset":1}\n' --kallsyms basic.kallsyms --json $'a\nb' +0x1
 
@@ -60,6 +61,7 @@ faulty 1 'latchsym: nowhere: cannot be read' --kallsyms nowhere do_one
 faulty 1 'latchsym: nowhere: cannot be read' --modules nowhere --kallsyms basic.kallsyms do_one
 faulty 1 'latchsym: basic.modules: line 1 is not understood' "${both[@]}" --regions basic.modules do_one
 faulty 2 'latchsym: bad offset, 0x is missing before 1a600000' --kallsyms basic.kallsyms --offset 1a600000 do_one
+faulty 2 'latchsym: bad offset low' --kallsyms basic.kallsyms --offset low do_one
 faulty 2 'latchsym: --regions needs --modules' --kallsyms basic.kallsyms --regions regions.regions do_one
 faulty 2 'latchsym: --kernel takes two names of symbols, and its END is 0x1' --kallsyms basic.kallsyms --kernel _stext 0x1 do_one
 status=0

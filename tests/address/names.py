@@ -19,33 +19,27 @@ import sys
 sys.path.insert(0, os.path.join(os.path.dirname(os.path.abspath(__file__)), "..", "symbols_alone"))
 import expected as plain  # noqa: E402
 
-OFFSETS = [b"", b"", b"+0x0", b"+0x1", b"+0xf", b"+0x10", b"+0xFFF", b"+0xfffff", b"+0x100000", b"+0x", b"+1", b"+0x12345678123456789"]
-OFFSETS += [b"+0x0/0x10", b"+0x10/0x10", b"+0x1/0x54", b"+0x1/0x1", b"+0x11/0x10", b"+0x0/", b"+0x0/0x", b"/0x10", b"+0x0/16"]
+OFFSETS = [b"+0x0/0x10", b"+0x1/0x1", b"+0x10/0x10", b"+0x1/1", b"+0x1000/0x1000", b"+0x11/0x10", b"/0x10"]
+OFFSETS += [b"", b"", b"", b"", b"+0x0", b"+0x1", b"+0xf", b"+0x10", b"+0xFFF", b"+0xfffff", b"+0x100000", b"+0x", b"+1", b"+0x12345678123456789"]
+BEHIND = [b"", b"", b"", b"", b" [ext4]", b" [nfs]", b" [-]", b" []", b"[ext4]", b" [ext4] "]
 OWNERS = [b"", b"", b"", b"-:", b"ext4:", b"nfs:", b"a]:", b"none:", b":"]
-BEHIND = [b""] * 6 + [b" [ext4]", b" [-]", b" []", b" [a]]", b"[ext4]", b" [ext4"]
-MOVED = [0, 0, 0, 1, plain.PAGE, 2**63]
 NAMES = plain.NAMES + [b"nothing", b"", b"a:b", b"a+b", b"-x"]
 BATCH = 4000
 
 
-def asked_for(word):
-    """The module, the symbol, the offset and the size (or none) that a word asks for."""
+def parts(word):
+    """The module, the symbol, the offset and the size that a word asks for."""
     behind = re.fullmatch(rb"(.*) \[([^\[]*)\]", word, re.DOTALL)
+    owner, colon, rest = word.partition(b":")
     if behind:
-        rest, owner = behind.groups()
-    else:
-        owner, colon, rest = word.partition(b":")
-        if not colon:
-            owner, rest = None, word
-    said = re.fullmatch(rb"(.*)\+0x([0-9a-fA-F]{1,16})(/0x([0-9a-fA-F]{1,16}))?", rest, re.DOTALL)
+        rest, owner = behind[1], behind[2]
+    elif not colon:
+        owner, rest = None, word
+    number = rb"0x([0-9a-fA-F]{1,16})"
+    said = re.fullmatch(rb"(.*)\+%s(?:/%s)?" % (number, number), rest, re.DOTALL)
     if not said:
         return owner, rest, 0, None
-    return owner, said[1], int(said[2], 16), int(said[4], 16) if said[4] else None
-
-
-def parts(word):
-    """The module, the symbol and the offset that a word asks for."""
-    return asked_for(word)[:3]
+    return owner, said[1], int(said[2], 16), said[3] and int(said[3], 16)
 
 
 def size_at(listing, symbol):
@@ -56,10 +50,9 @@ def size_at(listing, symbol):
     return int(answer.rpartition(b"/0x")[2], 16)
 
 
-def lines_of(word, symbols, size, moved=0):
-    """What has to be written for a word, where these are the kept symbols of its name, of a kernel
-    that was moved so far."""
-    owner, _, offset, wanted = asked_for(word)
+def lines_of(word, symbols, size, higher=0):
+    """What has to be written for a word, where these are the kept symbols of its name."""
+    owner, _, offset, wanted = parts(word)
     lines = []
     for symbol in symbols:
         if owner is not None and (symbol.module if symbol.module is not None else b"-") != owner:
@@ -68,18 +61,18 @@ def lines_of(word, symbols, size, moved=0):
             continue
         if offset >= size(symbol) if wanted is None else wanted != size(symbol) or offset > wanted:
             continue
-        if symbol.address + offset + moved > plain.GREATEST:
+        if symbol.address + offset + higher > plain.GREATEST:
             continue
-        line = b"%s 0x%x 0x%x" % (word, symbol.address + offset + moved, size(symbol))
+        line = b"%s 0x%x 0x%x" % (word, symbol.address + offset + higher, size(symbol))
         lines.append(line if symbol.module is None else line + b" [%s]" % symbol.module)
     return lines or [word + b" -"]
 
 
-def asked(program, folder, words, bounds=None, moved=0):
+def asked(program, folder, words, bounds=None, higher=0):
     """The lines that the program writes for words; this program ends where it fails."""
     line = [program, "address", "--kallsyms", "kallsyms"]
-    line += ["--offset", hex(moved)] if moved else []
     line += ["--kernel", *bounds] if bounds else []
+    line += ["--offset", hex(higher)] * bool(higher)
     done = subprocess.run(line + ["--", *words], cwd=folder, capture_output=True, timeout=600)
     noted = all(note.startswith(b"latchsym: note: kallsyms: ") for note in done.stderr.splitlines())
     if done.returncode != 0 or not noted:
@@ -106,17 +99,18 @@ def random_run(program, folder, draw, kinds):
     text, bounds = plain.random_listing(draw), plain.random_bounds(draw)
     put(folder, "kallsyms", text)
     listing = plain.Plain(text, bounds)
-    count, moved, expected = draw.randrange(1, 20), draw.choice(MOVED), []
-    words = [draw.choice(OWNERS) + draw.choice(NAMES) + draw.choice(OFFSETS) + draw.choice(BEHIND) for _ in range(count)]
-    # and as this program prints a symbol, in part
+    words = [draw.choice(OWNERS) + draw.choice(NAMES) + draw.choice(OFFSETS) + draw.choice(BEHIND) for _ in range(draw.randrange(1, 20))]
     for symbol in draw.sample(listing.kept, min(3, len(listing.kept))):
         size = size_at(listing, symbol)
-        owner = b"" if symbol.module is None else b" [%s]" % symbol.module
-        words.append(b"%s+0x%x/0x%x%s" % (symbol.name, draw.choice([0, size - 1, size, size + 1]), size, owner))
+        said = b"+0x%x/0x%x" % (draw.choice([0, max(size - 1, 0), size, size + 1]), size + (draw.randrange(8) == 0))
+        behind = b"" if symbol.module is None or draw.randrange(2) else b" [%s]" % symbol.module
+        words.append(symbol.name + said + behind)
+    higher = draw.choice([0, 0, 1, 2**32, 2**63])
+    expected = []
     for word in words:
         symbols = [s for s in listing.kept if s.name == parts(word)[1]]
-        expected += lines_of(word, symbols, lambda s: size_at(listing, s), moved)
-    compare(words, expected, asked(program, folder, words, bounds, moved))
+        expected += lines_of(word, symbols, lambda s: size_at(listing, s), higher)
+    compare(words, expected, asked(program, folder, words, bounds, higher))
     kinds["none"] += sum(line.endswith(b" -") for line in expected)
     kinds["some"] += sum(not line.endswith(b" -") for line in expected)
 
@@ -146,7 +140,7 @@ def whole_listing(program, folder, text):
         if not said:
             sys.exit(f"address: 0x{address:x} is looked up as {answers[b'0x%x' % address]!r}")
         sizes[address, module] = int(said[1], 16)
-    names = [name for name in by_name if b":" not in name and b"+" not in name and b" [" not in name]
+    names = [name for name in by_name if not re.search(rb"[:+]| \[", name)]
     for start in range(0, len(names), BATCH):
         words, expected = names[start : start + BATCH], []
         for word in words:

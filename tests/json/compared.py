@@ -101,7 +101,7 @@ def compare(program, arguments, addresses, last):
 
 def wanted_of(word, answer):
     """The members that a line of text for a word stands for, by what stands behind the word in it."""
-    owner, symbol, offset = plain.parts(word)
+    owner, symbol, offset, _ = plain.parts(word)
     members, size, module = [], [], None if owner == b"-" else owner
     if answer != b"-":
         address, size, *rest = answer.split(b" ", 2)
