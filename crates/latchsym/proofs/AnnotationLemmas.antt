@@ -17,7 +17,7 @@ use Rattle.texts.specs.Lines.{lines_of}
 
 module _ {L W E : Type 0} (remaining : L → Option (List ℕ)) (contents : W → Option (List ℕ)) (errors : E → Option (List ℕ)) (o : AnnotateOptions) (files : ListingFiles) where
   -- a fault on the way
-  pub ended : (known : Option Given) (counts : Failures) (l l' : Counted L) (w w' : Counted W) (e e' : Counted E) (result : Result (Unit {0}) Fault) (fault : Fault) → IsErrAnd result (λ f. f ≡ fault)
+  pub ended : (known : Option Given) (counts : Failures) (l l' : Counted L) (w w' : Counted W) (e e' : Counted E) (result : Result ℕ Fault) (fault : Fault) → IsErrAnd result (λ f. f ≡ fault)
       → AnnotatesLog remaining contents errors o files known counts l l' w w' e e' (Err fault) → AnnotatesLog remaining contents errors o files known counts l l' w w' e e' result
   ended known counts l l' w w' e e' (Ok done) fault is h = absurd is
   ended known counts l l' w w' e e' (Err f) fault is h = subst (λ x. AnnotatesLog remaining contents errors o files known counts l l' w w' e e' (Err x)) (sym is) h
@@ -38,11 +38,11 @@ module _ {L W E : Type 0} (remaining : L → Option (List ℕ)) (contents : W �
   not_read known counts l w e _ h = absurd h
 
   module _ (l l' : Counted L) (w w' : Counted W) (e e' : Counted E) where
-    abbrev Told : Option Given → Result (Unit {0}) Fault → Type 0
+    abbrev Told : Option Given → Result ℕ Fault → Type 0
     Told known r = IsTold errors o.kernel files known e e' (λ c narrow. AnnotatesBy remaining contents (answered_by c o.rule narrow) l l' w w' r)
 
     -- the notes were told, and this came of the log
-    pub log_annotated : (known : Option Given) (result : Result (Unit {0}) Fault) → Told known result
+    pub log_annotated : (known : Option Given) (result : Result ℕ Fault) → Told known result
         → AnnotatesLog remaining contents errors o files known [] l l' w w' e e' result
     log_annotated known (Ok done) t = (tt, t)
     log_annotated known (Err (Refused refusal.OutOfMemory)) t = (tt, inr t)
@@ -60,7 +60,7 @@ module _ {L W E : Type 0} (remaining : L → Option (List ℕ)) (contents : W �
           moved None h = tt
           moved (Some x) h = subst P h p
 
-      told_of : (r : Result (Unit {0}) Fault) → Told (Some g) r → Told known r
+      told_of : (r : Result ℕ Fault) → Told (Some g) r → Told known r
       told_of r t = record {
         catalog = t.catalog;
         narrow = t.narrow;
@@ -71,7 +71,7 @@ module _ {L W E : Type 0} (remaining : L → Option (List ℕ)) (contents : W �
         holds = t.holds;
       }
 
-      pub readers_known : (result : Result (Unit {0}) Fault) → AnnotatesLog remaining contents errors o files (Some g) [] l l' w w' e e' result
+      pub readers_known : (result : Result ℕ Fault) → AnnotatesLog remaining contents errors o files (Some g) [] l l' w w' e e' result
           → AnnotatesLog remaining contents errors o files known counts l l' w w' e e' result
       readers_known (Ok done) h = (none, told_of (Ok done) h.1)
       readers_known (Err (Refused refusal.OutOfMemory)) h = (none, ⊎_elim inl (λ t. inr (told_of (Err (Refused refusal.OutOfMemory)) t)) h.1)

@@ -20,11 +20,13 @@ use Rattle.engines.specs.declared.fault.Fault.TheVariants.{Refused, BadLine, Rea
 use Rattle.listing.specs.declared.listing_notes.ListingNotes.{ListingNotes}
 use Rattle.latchsym.specs.declared.annotations.AnnotateOptions.{AnnotateOptions}
 
--- how a fault of the log is told: the log is the file at place 3
+-- How the end of the log is told. A status of 1 stands for a reader of the output that is gone, of
+-- which nothing is said. The log is the file at place 3.
 abbrev pub AnnotatesBy : {L W : Type 0} → (L → Option (List ℕ)) → (W → Option (List ℕ))
-    → Answering → Counted L → Counted L → Counted W → Counted W → Result (Unit {0}) Fault → Type 0
-AnnotatesBy remaining contents answer l l' w w' (Ok done) =
-    Annotates remaining contents answer l l' w w' (Ok done)
+    → Answering → Counted L → Counted L → Counted W → Counted W → Result ℕ Fault → Type 0
+AnnotatesBy remaining contents answer l l' w w' (Ok status) =
+    ((status ≡ 0) × Annotates remaining contents answer l l' w w' (Ok tt))
+    ⊎ ((status ≡ 1) × Annotates remaining contents answer l l' w w' (Err log_fault.Closed))
 AnnotatesBy remaining contents answer l l' w w' (Err (Refused refusal.OutOfMemory)) =
     Annotates remaining contents answer l l' w w' (Err log_fault.OutOfMemory)
 AnnotatesBy remaining contents answer l l' w w' (Err (Read place)) =
@@ -57,8 +59,8 @@ IsUntouched l l' w w' e e' = (l' ≡ l) × (w' ≡ w) × (e' ≡ e)
 -- What is returned after listings were read, whose texts may be known: before anything else was
 -- touched, or after the notes were told, where `Told` says what came of the log. A call of a
 -- listing's reader failed where the answer says so, and else none.
-abbrev pub AnnotatesAfter : Option Given → Failures → Type 0 → (Result (Unit {0}) Fault → Type 0)
-    → Result (Unit {0}) Fault → Type 0
+abbrev pub AnnotatesAfter : Option Given → Failures → Type 0 → (Result ℕ Fault → Type 0)
+    → Result ℕ Fault → Type 0
 AnnotatesAfter known counts Untouched Told (Ok done) = NoReaderFailed counts × Told (Ok done)
 AnnotatesAfter known counts Untouched Told (Err (Refused refusal.OutOfMemory)) =
     NoReaderFailed counts × (Untouched ⊎ Told (Err (Refused refusal.OutOfMemory)))
@@ -81,7 +83,7 @@ AnnotatesAfter known counts Untouched Told (Err _) = ⊥
 abbrev pub AnnotatesLog : {L W E : Type 0} → (L → Option (List ℕ)) → (W → Option (List ℕ))
     → (E → Option (List ℕ)) → AnnotateOptions → ListingFiles → Option Given → Failures
     → Counted L → Counted L → Counted W → Counted W → Counted E → Counted E
-    → Result (Unit {0}) Fault → Type 0
+    → Result ℕ Fault → Type 0
 AnnotatesLog remaining contents errors o files known counts l l' w w' e e' result =
     AnnotatesAfter known counts (IsUntouched l l' w w' e e')
     (λ r. IsTold errors o.kernel files known e e'

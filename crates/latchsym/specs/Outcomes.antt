@@ -103,8 +103,8 @@ pub record IsScriptRun {F W : Type 0} (remaining : F → Option (List ℕ))
 abbrev pub IsNotOpened : {W : Type 0} → Counted W → Counted W → Result Finished Fault → Type 0
 IsNotOpened w w' outcome = (w' ≡ w) × (outcome ≡ Err (Refused refusal.OutOfMemory))
 
--- what the engine of annotations returned for the job's own files and options, whose success is
--- status 0; nothing is left to be noted
+-- what the engine of annotations returned for the job's own files and options; nothing is left to be
+-- noted
 pub record IsAnnotated {F W E : Type 0} (remaining : F → Option (List ℕ))
     (contents : W → Option (List ℕ)) (errors : E → Option (List ℕ)) (held : Held)
     (standard : Option (List ℕ)) (job : AnnotateJob) (w w' : Counted W) (e e' : Counted E)
@@ -112,11 +112,11 @@ pub record IsAnnotated {F W E : Type 0} (remaining : F → Option (List ℕ))
   pub before : AnnotateReaders F F F F
   pub after : AnnotateReaders F F F F
   pub opened : AreAnnotateFiles remaining held standard job before
-  pub result : Result (Unit {0}) Fault
+  pub result : Result ℕ Fault
   pub answered : AnnotatesLog remaining contents errors job.options job.listings
       (known_given remaining remaining remaining before.listings)
       (listing_failures before.listings after.listings) before.log after.log w w' e e' result
-  pub status : outcome ≡ with_status (without_notes result)
+  pub status : outcome ≡ with_notes no_notes result
 
 -- what the engine of checks returned for the job's own files and bounds, and nothing is left to be
 -- noted

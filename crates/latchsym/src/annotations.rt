@@ -10,7 +10,7 @@ ghost use Rattle.engines.specs.OpenedCatalogs.{given_in, known_given, listing_fa
 
 use crate::command_line::ListingFiles;
 use crate::reports::note_listings;
-use engines::{Fault, GivenTexts, ListingReaders, open_catalog, read_given};
+use engines::{FAILED, Fault, GivenTexts, ListingReaders, SUCCEEDED, open_catalog, read_given};
 use listing::{LogFault, LogRule, annotate, is_narrow};
 use modules::{IndexedCatalog, KernelBounds};
 use order_laws::Refusal;
@@ -47,7 +47,8 @@ const LOG_PLACE: u64 = 3;
 /// What is noted of the listings in these files is told to `errors` before the log is begun. Every
 /// fault that comes before that leaves the log, the writer and `errors` as they were. Of the log
 /// all that is decided is written, and the writer flushed, after each block that was read; so
-/// whatever ends it, what was written is a beginning of the annotated log. docs/FORMATS.md has the
+/// whatever ends it, what was written is a beginning of the annotated log. The status is 1 where
+/// nobody reads any more what is written, as before `head`. docs/FORMATS.md has the
 /// listings, and says what is inserted.
 pub fn annotate_engine<M: Read, K: Read, R: Read, L: Read, E: Write, W: Write>(
     alloc: Global,
@@ -56,7 +57,7 @@ pub fn annotate_engine<M: Read, K: Read, R: Read, L: Read, E: Write, W: Write>(
     files: &ListingFiles<'_>,
     errors: &mut Counted<E>,
     writer: &mut Counted<W>,
-) -> Result<(), Fault>
+) -> Result<u8, Fault>
     ensures { AnnotatesLog L.remaining W.contents E.contents options.now files.now
         (known_given M.remaining K.remaining R.remaining readers.old.listings)
         (listing_failures readers.old.listings readers.new.listings)
@@ -84,7 +85,7 @@ fn annotate_over<L: Read, E: Write, W: Write>(
     errors: &mut Counted<E>,
     log: &mut Counted<L>,
     writer: &mut Counted<W>,
-) -> Result<(), Fault>
+) -> Result<u8, Fault>
     ensures { AnnotatesLog L.remaining W.contents E.contents options.now files.now
         (Some (given_in texts.now)) [] log.old log.new writer.old writer.new
         errors.old errors.new result }
@@ -105,12 +106,13 @@ fn annotate_by<L: Read, W: Write>(
     is_narrow: bool,
     log: &mut Counted<L>,
     writer: &mut Counted<W>,
-) -> Result<(), Fault>
+) -> Result<u8, Fault>
     ensures { AnnotatesBy L.remaining W.contents (answered_by index.now rule is_narrow)
         log.old log.new writer.old writer.new result }
 {
     match annotate(alloc, index, rule, is_narrow, log, writer) {
-        Ok(()) => Ok(()),
+        Ok(()) => Ok(SUCCEEDED),
+        Err(LogFault::Closed) => Ok(FAILED),
         Err(LogFault::OutOfMemory) => Err(Fault::Refused(Refusal::OutOfMemory)),
         Err(LogFault::Read) => Err(Fault::Read { place: LOG_PLACE }),
         Err(LogFault::Write) => Err(Fault::Write),

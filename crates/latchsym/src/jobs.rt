@@ -191,7 +191,7 @@ fn do_annotate<F: FileSource, W: Write, E: Write>(
         errors,
         writer,
     );
-    with_status(without_notes(done))
+    with_notes(done, ListingNotes::none())
 }
 
 /// Checks the listings of a job. What is noted of them is written, so that nothing is left to be

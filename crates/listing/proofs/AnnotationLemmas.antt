@@ -126,6 +126,7 @@ module _ {R W : Type 0} (remaining : R → Option (List ℕ)) (contents : W → 
   not_put r' r'' w' w'' a a' n bytes fault.OutOfMemory on all took puts =
       subst (λ x. Annotates remaining contents answer r r'' w x (Err fault.OutOfMemory)) (sym puts) (all ∙ on.read_all, on.written_all, under_way r' r'' w' a n bytes on took)
   not_put r' r'' w' w'' a a' n bytes fault.Write on all took puts = (all ∙ on.read_all, subst (λ n. Rose n (failures_of w'')) on.written_all puts)
+  not_put r' r'' w' w'' a a' n bytes fault.Closed on all took puts = (all ∙ on.read_all, subst (λ n. Rose n (failures_of w'')) on.written_all puts)
   not_put r' r'' w' w'' a a' n bytes fault.Read on all took puts = absurd puts
   not_put r' r'' w' w'' a a' n bytes fault.TooLong on all took puts = absurd puts
 
@@ -150,5 +151,6 @@ module _ {R W : Type 0} (remaining : R → Option (List ℕ)) (contents : W → 
   ended r' r'' w' w'' a n (Err fault.OutOfMemory) on all took at_end puts =
       subst (λ x. Annotates remaining contents answer r r'' w x (Err fault.OutOfMemory)) (sym puts) (all ∙ on.read_all, on.written_all, under_way r' r'' w' a n [] on took)
   ended r' r'' w' w'' a n (Err fault.Write) on all took at_end puts = (all ∙ on.read_all, subst (λ n. Rose n (failures_of w'')) on.written_all puts)
+  ended r' r'' w' w'' a n (Err fault.Closed) on all took at_end puts = (all ∙ on.read_all, subst (λ n. Rose n (failures_of w'')) on.written_all puts)
   ended r' r'' w' w'' a n (Err fault.Read) on all took at_end puts = absurd puts
   ended r' r'' w' w'' a n (Err fault.TooLong) on all took at_end puts = absurd puts

@@ -24,6 +24,10 @@ pub record Decides (answer : Answering) (a a' : Annotator) (bytes text : List �
   pub same : (more : List ℕ) → text ++ owed answer a' more ≡ owed answer a (bytes ++ more)
   pub rest : (a'.held.items ≡ []) ⊎ IsWaiting answer (kept_in a'.context) a'.held.items
 
+-- the fault that a failed write is: nobody reads any more, or another one
+abbrev pub IsWriteFault : LogFault → Type 0
+IsWriteFault f = (f ≡ fault.Write) ⊎ (f ≡ fault.Closed)
+
 -- the text was written, or no call failed and nothing was, or a call failed
 abbrev pub PutsText : {W : Type 0} → (W → Option (List ℕ)) → List ℕ → Counted W → Counted W
     → Result (Unit {0}) LogFault → Type 0
@@ -31,6 +35,7 @@ PutsText contents text w w' (Ok _) =
     NoneFailed w w' × Appends (contents (device_of w)) (contents (device_of w')) text
 PutsText contents text w w' (Err fault.OutOfMemory) = w' ≡ w
 PutsText contents text w w' (Err fault.Write) = Rose (failures_of w) (failures_of w')
+PutsText contents text w w' (Err fault.Closed) = Rose (failures_of w) (failures_of w')
 PutsText contents text w w' (Err _) = ⊥
 
 -- the same of a text that is decided by these bytes
@@ -42,6 +47,8 @@ PutsMore contents answer a a' bytes w w' (Ok _) =
     × Decides answer a a' bytes text
 PutsMore contents answer a a' bytes w w' (Err fault.OutOfMemory) = w' ≡ w
 PutsMore contents answer a a' bytes w w' (Err fault.Write) = Rose (failures_of w) (failures_of w')
+PutsMore contents answer a a' bytes w w' (Err fault.Closed) =
+    Rose (failures_of w) (failures_of w')
 PutsMore contents answer a a' bytes w w' (Err _) = ⊥
 
 -- the annotated log begins with what was written, whatever comes behind what was read
@@ -109,4 +116,6 @@ Annotates remaining contents answer r r' w w' (Err fault.Read) =
     Rose (failures_of r) (failures_of r') × NoneFailed w w'
     × IsFollowing remaining contents answer r r' w w'
 Annotates remaining contents answer r r' w w' (Err fault.Write) =
+    NoneFailed r r' × Rose (failures_of w) (failures_of w')
+Annotates remaining contents answer r r' w w' (Err fault.Closed) =
     NoneFailed r r' × Rose (failures_of w) (failures_of w')

@@ -14,7 +14,7 @@ ghost use Rattle.texts.specs.Exact.{Wrote};
 ghost use Rattle.listing.specs.AnnotatedLogs.{answered_by};
 ghost use Rattle.listing.specs.LogContexts.{first_context, kept_in};
 ghost use Rattle.listing.specs.Insertions.{answering_of};
-ghost use Rattle.listing.specs.Annotation.{Annotates, Decides, PutsMore, PutsText, owed};
+ghost use Rattle.listing.specs.Annotation.{Annotates, Decides, IsWriteFault, PutsMore, PutsText, owed};
 
 use crate::LogRule;
 use crate::insertions::LogAnswers;
@@ -34,6 +34,8 @@ pub enum LogFault {
     Read,
     /// The writer failed.
     Write,
+    /// Nobody reads any more what is written.
+    Closed,
     /// The log has more bytes than a `u64` counts.
     TooLong,
 }
@@ -86,6 +88,16 @@ impl Annotator {
         answers.pass(&mut self.context, &self.held, true, &mut out)?;
         answers.insert(&self.context, &[], true, &mut out)?;
         Ok(out)
+    }
+}
+
+/// The fault that a failed write is.
+fn fault_of(error: &io::Error) -> LogFault
+    ensures { IsWriteFault result }
+{
+    match error.kind() {
+        io::ErrorKind::BrokenPipe => LogFault::Closed,
+        _ => LogFault::Write,
     }
 }
 
@@ -153,7 +165,7 @@ fn put_more<W: Write>(
     let out = annotator.pass_on(answers, bytes)?;
     match put_now(writer, &out) {
         Ok(()) => Ok(()),
-        Err(_) => Err(LogFault::Write),
+        Err(error) => Err(fault_of(&error)),
     }
 }
 
@@ -169,6 +181,6 @@ fn put_rest<W: Write>(
     let out = annotator.rest(answers)?;
     match put_now(writer, &out) {
         Ok(()) => Ok(()),
-        Err(_) => Err(LogFault::Write),
+        Err(error) => Err(fault_of(&error)),
     }
 }

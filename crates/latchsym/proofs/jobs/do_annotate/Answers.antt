@@ -1,5 +1,5 @@
 use Rattle.std.proofs.Common.{ap, inl, ◌∙◌}
-use Rattle.engines.specs.Faults.{with_status}
+use Rattle.engines.specs.Faults.{with_notes}
 use Rattle.latchsym.proofs.jobs.do_annotate.Goals as goal
 
 pub returns : goal.returns
@@ -9,5 +9,5 @@ returns g c = inl (record {
   opened = c.in_ok-readers.ensures.opened;
   result = c.annotate_engine-done.result;
   answered = c.annotate_engine-done.ensures;
-  status = c.with_status.ensures ∙ ap with_status c.without_notes.ensures;
+  status = c.with_notes.ensures ∙ ap (λ n. with_notes n c.annotate_engine-done.result) c.none.ensures;
 })
