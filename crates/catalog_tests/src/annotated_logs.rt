@@ -2,17 +2,17 @@
 
 use crate::portions::Portions;
 use crate::symbol_lists::small_catalog;
-use listing::{AddressRule, LogFault, annotate};
+use listing::{Callers, LogFault, LogRule, annotate};
 use modules::IndexedCatalog;
 use std::test::Fail;
 use texts::{BLOCK, Counted, FailAt};
 
-const CALLERS: AddressRule = AddressRule {
-    callers: true,
+const RULE: LogRule = LogRule {
+    callers: Callers::ByPlace,
     offset: 0,
 };
 
-/// A log of addresses behind markers, in their brackets and beside their texts, before the ends of
+/// A log of addresses behind names, in their brackets and beside their texts, before the ends of
 /// lines.
 const LOG: &[u8] = b"RIP: 0xffffffff81000100\n\
     [<ffffffff81000108>]\n\
@@ -21,7 +21,7 @@ const LOG: &[u8] = b"RIP: 0xffffffff81000100\n\
     0xffffffffc0000040) ext4_a+0x30/0x30 [\n\
     (0xffffffff81000100 pc :0xffffffffc0000044))";
 
-/// What is written for it, by the rule of return addresses.
+/// What is written for it, by the places of the addresses.
 const ANNOTATED: &[u8] = b"RIP: 0xffffffff81000100 do_one+0x0/0x1f00\n\
     [<ffffffff81000108>] do_one+0x8/0x1f00\n\
     [<ffffffff81000108>] do_one+0x8/0x1f00\n\
@@ -36,7 +36,7 @@ fn blocks_of_each_length(rt: HostRuntime) -> Result<(), Fail> {
     for most in 1..=LOG.len() {
         let mut reader = Counted::new(Portions { rest: LOG, most });
         let mut writer = Counted::new(Vec::new(rt.alloc()));
-        let answer = annotate(rt.alloc(), &index, CALLERS, &mut reader, &mut writer);
+        let answer = annotate(rt.alloc(), &index, RULE, false, &mut reader, &mut writer);
         assert_eq!(rt; answer, Ok(()));
         let written = writer.into_inner();
         assert_eq!(rt; written.as_slice(), ANNOTATED, "in blocks of {most}");
@@ -58,8 +58,7 @@ fn each_failing_read(rt: HostRuntime) -> Result<(), Fail> {
     ] {
         let mut reader = Counted::new(FailAt::new(log.as_slice(), call));
         let mut writer = Counted::new(Vec::new(rt.alloc()));
-        let rule = AddressRule::AS_GIVEN;
-        let answer = annotate(rt.alloc(), &index, rule, &mut reader, &mut writer);
+        let answer = annotate(rt.alloc(), &index, RULE, false, &mut reader, &mut writer);
         assert_eq!(rt; answer, Err(LogFault::Read), "at call {call}");
         assert_eq!(rt; (reader.failures(), writer.failures()), (1, 0));
         let written = writer.into_inner();
@@ -82,7 +81,7 @@ fn each_failing_write(rt: HostRuntime) -> Result<(), Fail> {
     ] {
         let mut reader = Counted::new(LOG);
         let mut writer = Counted::new(FailAt::new(Vec::new(rt.alloc()), call));
-        let answer = annotate(rt.alloc(), &index, CALLERS, &mut reader, &mut writer);
+        let answer = annotate(rt.alloc(), &index, RULE, false, &mut reader, &mut writer);
         assert_eq!(rt; answer, expected, "at call {call}");
         assert_eq!(rt; writer.failures(), u64::from(expected.is_err()));
     }
