@@ -26,8 +26,8 @@ for crate in $(grep -rl '#\[test\]' crates/*/src | cut -d/ -f2 | sort -u); do
 done
 wait "$built" || { cat "$work/built"; exit 1; }
 export UNPROVED=$work
-for script in cases traces lookups json annotate checks address runs refusals refused_calls measures \
-    random symbols_alone random_logs pages; do
+for script in cases traces lookups lines json annotate checks address runs refusals refused_calls \
+    measures random symbols_alone random_logs devices pages versions; do
     echo "== tests/$script.sh"
     "tests/$script.sh" >"$work/said" 2>&1 || { failed+=("tests/$script.sh"); tail -n 40 "$work/said"; }
 done
