@@ -19,7 +19,8 @@ with the files that it has, and a copy that fails leaves them as they are.
 --uninstall   takes these files away again, and leaves the folders
 --help        this text
 
-Where DESTDIR is set, it stands before PREFIX, and latchsym.pc does not name it.'
+Where DESTDIR is set, it stands before PREFIX, and latchsym.pc does not name it. Where LIBDIR is
+set, as to lib64 or lib/x86_64-linux-gnu, that folder of PREFIX takes the library in place of lib.'
 
 fault() {
     printf 'install.sh: %s\n\n%s\n' "$1" "$usage" >&2
@@ -56,17 +57,21 @@ while [ $# -gt 0 ]; do
 done
 [ -n "$prefix" ] || fault 'no PREFIX is given'
 to=${DESTDIR:-}${prefix%/}
+lib=${LIBDIR:-lib}
+case /$lib/ in
+    //* | */../*) fault 'LIBDIR is not a folder of PREFIX' ;;
+esac
 here=$(cd "$(dirname "${BASH_SOURCE[0]}")" && pwd)
 version=$(cat "$here/VERSION")
 
 files=(bin/latchsym include/latchsym.h include/latchsym.hpp
-    lib/liblatchsym.a "lib/liblatchsym.so.$version" lib/pkgconfig/latchsym.pc
+    "$lib"/{liblatchsym.a,"liblatchsym.so.$version",pkgconfig/latchsym.pc}
     share/bash-completion/completions/latchsym share/fish/vendor_completions.d/latchsym.fish
     share/man/man1/latchsym.1 share/man/man3/latchsym.3 share/zsh/site-functions/_latchsym)
 # each link, and the file beside it that it leads to
 declare -A links=(
-    [lib/liblatchsym.so.${version%%.*}]=liblatchsym.so.$version
-    [lib/liblatchsym.so]=liblatchsym.so.${version%%.*}
+    [$lib/liblatchsym.so.${version%%.*}]=liblatchsym.so.$version
+    [$lib/liblatchsym.so]=liblatchsym.so.${version%%.*}
 )
 all=("${files[@]}" "${!links[@]}")
 
@@ -79,8 +84,8 @@ fi
 source_of() {
     case $1 in
         bin/*) echo "$program" ;;
-        lib/*.a) echo "$library" ;;
-        lib/*.so.*) echo "$shared" ;;
+        *.a) echo "$library" ;;
+        *.so.*) echo "$shared" ;;
         */bash-completion/*) echo "$top/completions/latchsym.bash" ;;
         share/man/*) echo "$top/docs/${1##*/}" ;;
         share/*) echo "$top/completions/${1##*/}" ;;
@@ -90,7 +95,12 @@ source_of() {
 
 if [ -e "$here/bin/latchsym" ]; then
     [ -z "$processor" ] || fault 'a release is of one processor'
-    source_of() { echo "$here/$1"; }
+    source_of() {
+        case $1 in
+            "$lib"/*) echo "$here/lib/${1#"$lib"/}" ;;
+            *) echo "$here/$1" ;;
+        esac
+    }
     work=$(mktemp -d)
 else
     . "$here/tests/program.sh"
@@ -99,17 +109,23 @@ else
     build_library "$processor"
 fi
 
+# the loader looks into the system's own folders, and a path to them in a program is a fault there
+case $prefix in
+    / | /usr) rpath='' ;;
+    *) rpath=' -Wl,-rpath,"${libdir}"' ;;
+esac
 # (quotes, for a prefix with blanks)
 cat >"$work/latchsym.pc" <<END
 prefix=$prefix
 includedir=\${prefix}/include
-libdir=\${prefix}/lib
+libdir=\${prefix}/$lib
 
 Name: latchsym
 Description: A catalog of kernel symbols and a latched table of address ranges
+License: MIT OR Apache-2.0
 Version: $version
 Cflags: -I"\${includedir}"
-Libs: -L"\${libdir}" -Wl,-rpath,"\${libdir}" -llatchsym
+Libs: -L"\${libdir}"$rpath -llatchsym
 END
 
 new=.latchsym.new

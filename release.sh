@@ -36,7 +36,7 @@ work=$(mktemp -d)
 trap 'rm -rf "$work"' EXIT
 tree=$work/$name
 
-DESTDIR=$tree "$top/install.sh" --static --target "$processor" / >"$work/installed"
+DESTDIR=$tree LIBDIR=lib "$top/install.sh" --static --target "$processor" / >"$work/installed"
 rm -r "$tree/lib/pkgconfig" # which install.sh writes for each prefix
 cp "$top"/{VERSION,LICENSE-MIT,LICENSE-APACHE,CHANGELOG.md,SECURITY.md,install.sh} "$tree"
 # the pages, with a first one of the archive's own

@@ -2,9 +2,11 @@
 # Installs the program, the library for C, the man pages and the completions by install.sh, installs
 # them again while program and library are in use, behind a DESTDIR, below a prefix with blanks, with
 # a program without shared libraries, and where a folder cannot be made; and takes them away again.
-# Looks at what the shared library shows and asks for. Needs gcc and binutils.
+# Looks at what the shared library shows and asks for. Needs gcc and binutils; pkg-config is installed
+# from Debian's packages where it is not there, by root, or else passed over.
 set -euo pipefail
 . "$(dirname "$0")/program.sh"
+. "$top/tests/tools.sh"
 
 fail() {
     echo "install: $1"
@@ -55,7 +57,7 @@ grep -oE '^(uint32_t|void) latchsym_[a-z_]+' "$top/include/latchsym.h" | cut -d'
 
 # both wait for a file while all is installed once more
 read -ra flags <<<"-I$prefix/include -L$prefix/lib -Wl,-rpath,$prefix/lib -llatchsym"
-if command -v pkg-config >/dev/null; then
+if has 'command -v pkg-config' pkg-config; then
     read -ra flags < <(PKG_CONFIG_PATH=$prefix/lib/pkgconfig pkg-config --cflags --libs latchsym)
 fi
 gcc -std=gnu11 -Wall -Wextra -Werror "$top/tests/c/waits.c" "${flags[@]}" -o "$work/waits"
@@ -96,6 +98,25 @@ prefix=$work/prefix
 DESTDIR=$work/stage run /opt/latchsym
 [ $status = 0 ] && [ "$(installed "$work/stage/opt/latchsym")" = "$whole" ] || fail "DESTDIR: $(cat "$work/err")"
 [ "$(head -n 1 "$work/stage/opt/latchsym/lib/pkgconfig/latchsym.pc")" = 'prefix=/opt/latchsym' ] || fail 'DESTDIR: another prefix'
+
+# the system's own folders: a folder for the library, and no path to it in programs
+export LIBDIR=lib/x86_64-linux-gnu
+DESTDIR=$work/system run /usr
+[ $status = 0 ] && [ "$(installed "$work/system/usr" | sed 's,lib/x86_64-linux-gnu,lib,g')" = "$whole" ] ||
+    fail "LIBDIR: $(cat "$work/err") $(installed "$work/system/usr")"
+[ ! -e "$work/system/usr/lib/liblatchsym.a" ] || fail 'LIBDIR: the library lies in lib'
+if command -v pkg-config >/dev/null; then
+    export PKG_CONFIG_PATH=$work/system/usr/$LIBDIR/pkgconfig
+    words=$(PKG_CONFIG_ALLOW_SYSTEM_LIBS=1 pkg-config --libs latchsym)
+    [ "${words% }" = '-L/usr/lib/x86_64-linux-gnu -llatchsym' ] || fail "LIBDIR: $words"
+fi
+DESTDIR=$work/system run --uninstall /usr
+[ $status = 0 ] && [ -z "$(installed "$work/system")" ] || fail "LIBDIR: left: $(installed "$work/system")"
+for LIBDIR in /usr/lib64 ../lib lib/../..; do
+    run "$work/none"
+    [ $status = 2 ] && [ ! -e "$work/none" ] || fail "LIBDIR=$LIBDIR: status $status"
+done
+unset LIBDIR
 
 # no file is there where one cannot be
 mkdir "$work/narrow"

@@ -119,7 +119,7 @@ build_library() {
         "${tools}objcopy" --wildcard --keep-global-symbol='latchsym_*' latchsym.o
         "${tools}ar" rcsD "$library" latchsym.o
     )
-    "${tools}gcc" -shared -o "$shared" -Wl,-soname,liblatchsym.so.1 -Wl,-z,now -Wl,-z,relro \
+    "${tools}gcc" -shared -o "$shared" -Wl,-soname,"liblatchsym.so.$(cut -d. -f1 "$top/VERSION")" -Wl,-z,now -Wl,-z,relro \
         -Wl,-z,noexecstack -Wl,--version-script="$top/packaging/liblatchsym.map" \
         -Wl,--whole-archive "$library" -Wl,--no-whole-archive
 }
