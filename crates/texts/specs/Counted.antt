@@ -1,6 +1,7 @@
 -- What a clause reads of a counted device, and how its count moves.
 use Rattle.std.specs.Prelude.{◌≡◌, ℕ, ◌+◌, ◌-◌, ◌^◌, ◌<◌, ◌⊎◌, ◌&&◌, min, nat_eq, nat_lt}
-use Rattle.std.specs.Prelude.{if◌then◌else◌, length, List, Result, Ok, Err}
+use Rattle.std.specs.Prelude.{if◌then◌else◌, length, List, Option, Result, Ok, Err}
+use Rattle.std.specs.declared.io.Error.{Error}
 use Rattle.texts.specs.declared.counted.Counted.{Counted}
 
 -- the reader or writer inside
@@ -10,6 +11,10 @@ device_of c = c.device
 -- how many of its calls failed
 abbrev pub failures_of : {D : Type 0} → Counted D → ℕ
 failures_of c = c.failures
+
+-- the error that a call of it gave last, if one gave any
+abbrev pub error_of : {D : Type 0} → Counted D → Option Error
+error_of c = c.error
 
 -- one failure more, up to the greatest u64
 abbrev pub one_failure_more : ℕ → ℕ

@@ -1,5 +1,5 @@
-//! A device and the number of its failed calls.
-ghost use Rattle.std.specs.Prelude.{◌≡◌, ◌≤◌, ◌<◌, length, IfOk, OnErr};
+//! A device, the number of its failed calls, and the error of the last one.
+ghost use Rattle.std.specs.Prelude.{◌≡◌, ◌≤◌, ◌<◌, length, IfOk, IfErr, OnErr, None, Some};
 ghost use Rattle.std.specs.Io.{ReadsAtMost, WritesAtMost};
 ghost use Rattle.std.specs.Io.KnownBytes.{ReadConsumes, WriteAppends, Keeps};
 
@@ -9,7 +9,7 @@ use std::io::{Read, Write};
 /// How many bytes are asked of a reader, or gathered for a writer, at once.
 pub const BLOCK: usize = 65536;
 
-/// A reader or a writer, and how many of its calls failed.
+/// A reader or a writer, how many of its calls failed, and the error that it gave last.
 ///
 /// A failed call is an error of any kind, or a write of at least one byte that takes none. The
 /// count stays at the greatest `u64` once it is there. What the device has left to be read, or
@@ -18,19 +18,22 @@ pub const BLOCK: usize = 65536;
 pub struct Counted<D> {
     device: D,
     failures: u64,
+    error: Option<io::Error>,
 }
 
 impl<D> Counted<D> {
-    ghost use Rattle.texts.specs.Counted.{device_of, failures_of};
+    ghost use Rattle.texts.specs.Counted.{device_of, error_of, failures_of, one_failure_more};
 
     /// The device, with no call made.
     pub fn new(device: D) -> Counted<D>
         ensures device { device_of result ≡ device }
         ensures none { failures_of result ≡ 0 }
+        ensures no_error { error_of result ≡ None }
     {
         Counted {
             device,
             failures: 0,
+            error: None,
         }
     }
 
@@ -41,16 +44,35 @@ impl<D> Counted<D> {
         self.failures
     }
 
+    /// The error that a call gave last, if one gave any.
+    pub fn error(&self) -> Option<io::Error>
+        ensures { result ≡ error_of self.now }
+    {
+        self.error
+    }
+
     /// The device alone.
     pub fn into_inner(self) -> D
         ensures { result ≡ device_of self }
     {
         self.device
     }
+
+    /// Counts a call that gave this error.
+    #[cold]
+    fn note(&mut self, error: io::Error)
+        ensures device { device_of self.new ≡ device_of self.old }
+        ensures counted { failures_of self.new ≡ one_failure_more (failures_of self.old) }
+        ensures never_falls { failures_of self.old ≤ failures_of self.new }
+        ensures error { error_of self.new ≡ Some error }
+    {
+        self.failures = self.failures.saturating_add(1);
+        self.error = Some(error);
+    }
 }
 
 impl<R: Read> Read for Counted<R> {
-    ghost use Rattle.texts.specs.Counted.{device_of, failures_of, after_call, Rose};
+    ghost use Rattle.texts.specs.Counted.{device_of, error_of, failures_of, after_call, Rose};
 
     ghost remaining = { λ c. R.remaining (device_of c) };
 
@@ -62,17 +84,20 @@ impl<R: Read> Read for Counted<R> {
         ensures counted { failures_of self.new ≡ after_call (failures_of self.old) result }
         ensures failed { OnErr result (Rose (failures_of self.old) (failures_of self.new)) }
         ensures never_falls { failures_of self.old ≤ failures_of self.new }
+        ensures error { IfErr result (λ e. error_of self.new ≡ Some e) }
+        ensures no_error { IfOk result (λ _. error_of self.new ≡ error_of self.old) }
     {
         let result = self.device.read(buf);
-        if result.is_err() {
-            self.failures = self.failures.saturating_add(1);
+        if let Err(error) = &result {
+            self.note(*error);
         }
         result
     }
 }
 
 impl<W: Write> Write for Counted<W> {
-    ghost use Rattle.texts.specs.Counted.{device_of, failures_of, after_call, after_write, Rose};
+    ghost use Rattle.texts.specs.Counted.{device_of, error_of, failures_of};
+    ghost use Rattle.texts.specs.Counted.{after_call, after_write, Rose};
 
     ghost contents = { λ c. W.contents (device_of c) };
 
@@ -87,6 +112,8 @@ impl<W: Write> Write for Counted<W> {
         ensures none_taken { IfOk result (λ n. n ≡ 0 → 0 < length buf.now →
             Rose (failures_of self.old) (failures_of self.new)) }
         ensures never_falls { failures_of self.old ≤ failures_of self.new }
+        ensures error { IfErr result (λ e. error_of self.new ≡ Some e) }
+        ensures no_error { IfOk result (λ _. error_of self.new ≡ error_of self.old) }
     {
         let result = self.device.write(buf);
         match &result {
@@ -95,7 +122,7 @@ impl<W: Write> Write for Counted<W> {
                     self.failures = self.failures.saturating_add(1);
                 }
             }
-            Err(_) => self.failures = self.failures.saturating_add(1),
+            Err(error) => self.note(*error),
         }
         result
     }
@@ -106,10 +133,12 @@ impl<W: Write> Write for Counted<W> {
         ensures counted { failures_of self.new ≡ after_call (failures_of self.old) result }
         ensures failed { OnErr result (Rose (failures_of self.old) (failures_of self.new)) }
         ensures never_falls { failures_of self.old ≤ failures_of self.new }
+        ensures error { IfErr result (λ e. error_of self.new ≡ Some e) }
+        ensures no_error { IfOk result (λ _. error_of self.new ≡ error_of self.old) }
     {
         let result = self.device.flush();
-        if result.is_err() {
-            self.failures = self.failures.saturating_add(1);
+        if let Err(error) = &result {
+            self.note(*error);
         }
         result
     }
