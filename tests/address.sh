@@ -57,8 +57,8 @@ faulty() {
     "$program" address "$@" >"$work/out" 2>"$work/err" || status=$?
     [ $status = "$want" ] && [ ! -s "$work/out" ] && [ "$(head -n 1 "$work/err")" = "$line" ] || fail "address $*: status $status, $(cat "$work/err")"
 }
-faulty 1 'latchsym: nowhere: cannot be read' --kallsyms nowhere do_one
-faulty 1 'latchsym: nowhere: cannot be read' --modules nowhere --kallsyms basic.kallsyms do_one
+faulty 1 'latchsym: nowhere: cannot be read (No such file or directory)' --kallsyms nowhere do_one
+faulty 1 'latchsym: nowhere: cannot be read (No such file or directory)' --modules nowhere --kallsyms basic.kallsyms do_one
 faulty 1 'latchsym: basic.modules: line 1 is not understood' "${both[@]}" --regions basic.modules do_one
 faulty 2 'latchsym: bad offset, 0x is missing before 1a600000' --kallsyms basic.kallsyms --offset 1a600000 do_one
 faulty 2 'latchsym: bad offset low' --kallsyms basic.kallsyms --offset low do_one
@@ -71,7 +71,7 @@ if [ -e /dev/full ]; then
     faulty_device() { "$program" address --kallsyms basic.kallsyms do_one >/dev/full 2>"$work/err"; }
     status=0
     faulty_device || status=$?
-    [ $status = 1 ] && [ "$(cat "$work/err")" = 'latchsym: cannot write' ] || fail "a full device: status $status"
+    [ $status = 1 ] && [ "$(cat "$work/err")" = 'latchsym: cannot write (No space left on device)' ] || fail "a full device: status $status"
 fi
 
 # what is noted of the listings comes on standard error, and the lines stand

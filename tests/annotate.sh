@@ -147,11 +147,11 @@ refused() {
 }
 symbols=(--kallsyms "$work/kallsyms")
 both=("${symbols[@]}" --modules ../listings/basic.modules)
-refused 1 "no_such: cannot be read" "${symbols[@]}" no_such
-refused 1 ".: cannot be read" "${symbols[@]}" .
-refused 1 "no_such: cannot be read" --kallsyms no_such x86_oops.log
-refused 1 "no_such: cannot be read" --kallsyms . --modules no_such no_log
-refused 1 "no_such: cannot be read" "${both[@]}" --regions no_such no_log
+refused 1 "no_such: cannot be read (No such file or directory)" "${symbols[@]}" no_such
+refused 1 ".: cannot be read (Is a directory)" "${symbols[@]}" .
+refused 1 "no_such: cannot be read (No such file or directory)" --kallsyms no_such x86_oops.log
+refused 1 "no_such: cannot be read (No such file or directory)" --kallsyms . --modules no_such no_log
+refused 1 "no_such: cannot be read (No such file or directory)" "${both[@]}" --regions no_such no_log
 printf 'latchregions 1\nm core 0 1\n' >"$work/regions"
 refused 1 "$work/regions: line 2 is not understood" "${both[@]}" --regions "$work/regions" no_log
 { printf 'latchregions 1\n'; printf 'm core %d 1\n' 1 2 3 4 5 6 7 8; } >"$work/regions"
@@ -169,7 +169,7 @@ refused 2 "" "${symbols[@]}" --addresses x86_oops.log
 if [ -e /dev/full ]; then
     status=0
     "$program" annotate "${symbols[@]}" x86_oops.log >/dev/full 2>"$work/err" || status=$?
-    [ $status = 1 ] && [ "$(cat "$work/err")" = "latchsym: cannot write" ] || fail "a full device is not reported"
+    [ $status = 1 ] && [ "$(cat "$work/err")" = "latchsym: cannot write (No space left on device)" ] || fail "a full device is not reported"
     # notes that cannot be told of are no fault
     "$program" annotate --kallsyms "$work/other" x86_oops.log >"$work/out" 2>/dev/full || fail "notes on a full device: status $?"
 fi

@@ -64,15 +64,15 @@ faulty() {
     "$program" check "$@" >"$work/out" 2>"$work/err" || status=$?
     [ $status = "$want" ] && [ ! -s "$work/out" ] && [ "$(cat "$work/err")" = "$line" ] || fail "check $*: status $status, $(cat "$work/err")"
 }
-faulty 1 'latchsym: nowhere: cannot be read' --kallsyms nowhere
-faulty 1 'latchsym: nowhere: cannot be read' --modules nowhere --kallsyms basic.kallsyms
+faulty 1 'latchsym: nowhere: cannot be read (No such file or directory)' --kallsyms nowhere
+faulty 1 'latchsym: nowhere: cannot be read (No such file or directory)' --modules nowhere --kallsyms basic.kallsyms
 faulty 1 "latchsym: basic.modules: line 1 is not understood" --modules basic.modules --kallsyms basic.kallsyms --regions basic.modules
 faulty 2 'latchsym: --regions needs --modules' --kallsyms basic.kallsyms --regions regions.regions
 faulty 2 'latchsym: --kernel takes two names of symbols, and its END is 0x1' --kallsyms basic.kallsyms --kernel _stext 0x1
 if [ -e /dev/full ]; then
     status=0
     "$program" check --kallsyms basic.kallsyms >/dev/full 2>"$work/err" || status=$?
-    [ $status = 1 ] && [ "$(cat "$work/err")" = 'latchsym: cannot write' ] || fail "a full device: status $status"
+    [ $status = 1 ] && [ "$(cat "$work/err")" = 'latchsym: cannot write (No space left on device)' ] || fail "a full device: status $status"
 fi
 [ $failed = 1 ] || echo "checks: $(ls ./*.modules | wc -l) listings"
 exit $failed

@@ -36,15 +36,18 @@ is_begun() {
 # tried READS WRITES ARGUMENT..: each call of the run is failed; so many reads and writes there are at
 # least
 tried() {
-    local reads=$1 writes=$2 call name before=0
+    local reads=$1 writes=$2 call name before=0 reason=
     shift 2
+    case $1 in
+        annotate | address | check) reason=' (Input/output error)' ;;
+    esac
     "$program" "$@" <input >ample 2>err && [ ! -s err ] || fail "latchsym $*: $(cat err)"
     for ((call = 1; ; call++)); do
         once FAILED_READ=$call "$@"
         [ -e mark ] || break
         name=$(basename "$(cat mark)")
         [ "$name" != input ] || name=-
-        [ $status = 1 ] && [ "$(cat err)" = "latchsym: $name: cannot be read" ] && is_begun ||
+        [ $status = 1 ] && [ "$(cat err)" = "latchsym: $name: cannot be read$reason" ] && is_begun ||
             fail "latchsym $*: read $call fails: status $status, $(cat err)"
         if [ "$1" != annotate ]; then
             [ ! -s out ] || fail "latchsym $*: read $call fails: $(head -c 200 out)"
@@ -61,7 +64,7 @@ tried() {
     for ((call = 1; ; call++)); do
         once FAILED_WRITE=$call "$@"
         [ -e mark ] || break
-        [ $status = 1 ] && [ "$(cat err)" = "latchsym: cannot write" ] && is_begun ||
+        [ $status = 1 ] && [ "$(cat err)" = "latchsym: cannot write$reason" ] && is_begun ||
             fail "latchsym $*: write $call fails: status $status, $(cat err)"
     done
     [ $status = 0 ] && cmp -s out ample || fail "latchsym $*: no write fails: status $status, $(cat err)"

@@ -60,6 +60,13 @@ ln -s "$program" "$work/bin/latchsym"
 cp "$top/examples/listings/basic.modules" "$work/examples/modules"
 cp "$top/examples/listings/basic.kallsyms" "$work/examples/kallsyms"
 grep -v ext4 "$work/examples/kallsyms" >"$work/examples/System.map"
+ln -s "$top/examples" "$work/examples/examples"
+echo 'void demo_run(void) {}' | gcc -x c -c -o "$work/examples/demo.ko" -
+mkdir -p "$work/examples/.debug/[kernel.kallsyms]/0123" "$work/examples/scripts"
+cp "$work/examples/kallsyms" "$work/examples/.debug/[kernel.kallsyms]/0123"
+# (what the kernel's script does of a line that ends in a name, an offset and a size)
+printf '#!/bin/sh\nsed -E "s,.* ([a-z_]+)[+]0x9/0x1f00$,\\1 (init/one.c:8),"\n' >"$work/examples/scripts/decode_stacktrace.sh"
+chmod +x "$work/examples/scripts/decode_stacktrace.sh"
 examples=0
 # example COMMAND: the command writes the lines of $work/wanted
 example() {
@@ -69,7 +76,7 @@ example() {
         *)
             examples=$((examples + 1))
             echo "$1" >>"$work/commands"
-            (cd "$work/examples" && PATH=$work/bin:$PATH bash -c "$1") >"$work/out" 2>&1 || fail "status $? of the example $1"
+            (cd "$work/examples" && HOME=. PATH=$work/bin:$PATH bash -c "$1") >"$work/out" 2>&1 || fail "status $? of the example $1"
             cmp -s "$work/out" "$work/wanted" || fail "the example $1 writes $(cat "$work/out")"
             ;;
     esac
@@ -91,6 +98,16 @@ done < <(section EXAMPLES)
 for command in $helped; do
     grep -q "latchsym $command " "$work/commands" || fail "no example of $command"
 done
+
+# the recipes of docs/LISTINGS.md are among them
+joined() { sed -z 's/\\\n */ /g; s/|\n */| /g; s/  */ /g'; }
+joined <"$work/commands" >"$work/joined"
+recipes=0
+while IFS= read -r recipe; do
+    recipes=$((recipes + 1))
+    grep -qxF -- "$recipe" "$work/joined" || fail "no example of the page is the recipe $recipe"
+done < <(awk '/^## Recipes/ { here = 1; next } /^## / { here = 0 } here && sub(/^    /, "")' "$top/docs/LISTINGS.md" | joined)
+[ $recipes -ge 6 ] || fail "docs/LISTINGS.md has $recipes recipes"
 
 # README.md: its first command, from the top of the repository, and the log that it begins with
 mapfile -t blocks < <(awk '/^## Try it/ { here = 1 } /^As root/ { here = 0 } here' "$top/README.md" |

@@ -85,17 +85,30 @@ static void find_by_catalog(struct latchsym_catalog *catalog) {
     CHECK(kinds[0] > 10000 && kinds[2] > 2);
 }
 
-/* Rows of two rooms short of one, and of one with one too many: nothing is written. */
+static int are_filled(const void *room, size_t size) {
+    const unsigned char *bytes = room;
+    for (size_t i = 0; i < size; i++)
+        if (bytes[i] != 0x5a) return 0;
+    return 1;
+}
+
+/* Rows of each room short of one, and a closed catalog: nothing is written. */
 static void refusals(struct latchsym_catalog *catalog, struct latchsym_sizes sizes, struct latchsym_view_region *rows,
                      struct latchsym_view_symbol *symbols, uint64_t *starts) {
     struct latchsym_view view = {rows, 77};
     struct latchsym_catalog closed = {0};
     struct latchsym_sizes same = {5, 6};
+    memset(rows, 0x5a, sizes.regions * sizeof *rows);
+    memset(symbols, 0x5a, sizes.symbols * sizeof *symbols);
+    memset(starts, 0x5a, sizes.symbols * sizeof *starts);
     CHECK(latchsym_catalog_flatten(catalog, rows, sizes.regions - 1, symbols, sizes.symbols, starts, sizes.symbols, &view) == LATCHSYM_BAD_LENGTH);
     CHECK(latchsym_catalog_flatten(catalog, rows, sizes.regions, symbols, sizes.symbols - 1, starts, sizes.symbols, &view) == LATCHSYM_BAD_LENGTH);
     CHECK(latchsym_catalog_flatten(catalog, rows, sizes.regions, symbols, sizes.symbols, NULL, 0, &view) == LATCHSYM_BAD_LENGTH);
+    CHECK(latchsym_catalog_flatten(catalog, rows, sizes.regions, symbols, sizes.symbols, starts, sizes.symbols - 1, &view) == LATCHSYM_BAD_LENGTH);
     CHECK(latchsym_catalog_flatten(&closed, rows, sizes.regions, symbols, sizes.symbols, starts, sizes.symbols, &view) == LATCHSYM_BAD_HANDLE);
     CHECK(view.regions == rows && view.regions_len == 77);
+    CHECK(are_filled(rows, sizes.regions * sizeof *rows) && are_filled(symbols, sizes.symbols * sizeof *symbols));
+    CHECK(are_filled(starts, sizes.symbols * sizeof *starts));
     CHECK(latchsym_catalog_sizes(&closed, &same) == LATCHSYM_BAD_HANDLE && same.regions == 5 && same.symbols == 6);
 }
 

@@ -7,10 +7,14 @@ use Rattle.texts.specs.declared.counted.Counted.{Counted}
 use Rattle.texts.specs.Counted.{device_of}
 use Rattle.latchsym.specs.declared.annotations.AnnotateReaders.{AnnotateReaders}
 use Rattle.latchsym.specs.declared.command_line.AnnotateJob.{AnnotateJob}
+use Rattle.latchsym.specs.declared.command_line.Job.{Job}
+use Rattle.latchsym.specs.declared.command_line.Job.TheVariants as job
 use Rattle.latchsym.specs.declared.command_line.ListingFiles.{ListingFiles}
 use Rattle.latchsym.specs.declared.command_line.LookupJob.{LookupJob}
 use Rattle.latchsym.specs.declared.command_line.RunJob.{RunJob}
 use Rattle.latchsym.specs.declared.command_line.SymbolLookupJob.{SymbolLookupJob}
+use Rattle.latchsym.specs.declared.jobs.OpenedJob.{OpenedJob}
+use Rattle.latchsym.specs.declared.jobs.OpenedJob.TheVariants as opened
 use Rattle.engines.specs.declared.lookup.LookupReaders.{LookupReaders}
 use Rattle.engines.specs.declared.opened_catalogs.ListingReaders.{ListingReaders}
 use Rattle.engines.specs.declared.runs.RunReaders.{RunReaders}
@@ -71,3 +75,24 @@ pub record AreRunFiles {F : Type 0} (remaining : F → Option (List ℕ)) (held 
   pub kallsyms : IsOpened remaining held job.kallsyms.now r.kallsyms
   pub regions : IsOpenedIfGiven remaining held job.regions r.regions
   pub script : IsOpened remaining (or_standard standard held) job.script.now r.script
+
+-- the job is the one that is opened, over the readers of its own files
+abbrev pub IsOpenedFor : {F : Type 0} → (F → Option (List ℕ)) → Held → Option (List ℕ) → Job
+    → OpenedJob F → Type 0
+IsOpenedFor remaining held standard (job.Trace file) (opened.Trace r) =
+    IsOpened remaining held file.now r
+IsOpenedFor remaining held standard (job.Steps file) (opened.Steps r) =
+    IsOpened remaining held file.now r
+IsOpenedFor remaining held standard (job.Lookup j) (opened.Lookup o r) =
+    (o.now ≡ j) × AreLookupFiles remaining held standard j r
+IsOpenedFor remaining held standard (job.SymbolLookup j) (opened.SymbolLookup o r) =
+    (o.now ≡ j) × AreSymbolLookupFiles remaining held standard j r
+IsOpenedFor remaining held standard (job.Run j) (opened.Run o r) =
+    (o.now ≡ j) × AreRunFiles remaining held standard j r
+IsOpenedFor remaining held standard (job.Annotate j) (opened.Annotate o r) =
+    (o.now ≡ j) × AreAnnotateFiles remaining held standard j r
+IsOpenedFor remaining held standard (job.Check j) (opened.Check o r) =
+    (o.now ≡ j) × AreListingFiles remaining held j.listings r
+IsOpenedFor remaining held standard (job.Address j) (opened.Address o r) =
+    (o.now ≡ j) × AreListingFiles remaining held j.listings r
+IsOpenedFor remaining held standard _ _ = ⊥

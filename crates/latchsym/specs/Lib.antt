@@ -5,6 +5,8 @@ pub mod CommandLine
 pub mod Jobs
 -- the lines that say what is noted of listings
 pub mod NoteTexts
+-- what the system said of a call that failed, and where it is told
+pub mod Reasons
 -- what is said at the end of a run
 pub mod Reports
 -- what is said of a command line that gives no job
@@ -25,5 +27,5 @@ pub mod AddressTexts
 pub mod Addresses
 -- the files of a job: what their names hold, and the readers that are opened on them
 pub mod Files
--- what comes of a job: that of its engine over the job's own files
+-- what comes of a job: that of its engine over the job's own readers
 pub mod Outcomes

@@ -1,5 +1,5 @@
 -- What is said of a command line that gives no job, and the program's status.
-use Rattle.std.specs.Prelude.{◌≡◌, ◌≢◌, ◌⊎◌, ℕ, List, [], ◌++◌, Option, codes, is_some}
+use Rattle.std.specs.Prelude.{◌≡◌, ◌≢◌, ◌⊎◌, ℕ, List, [], ◌++◌, Option, None, codes, is_some}
 use Rattle.std.specs.Prelude.{if◌then◌else◌}
 use Rattle.texts.specs.Numbers.{numeral}
 use Rattle.clap.specs.Words.{Text, kind_of}
@@ -41,7 +41,7 @@ IsParseFault e = (kind_of e ≢ kind.DisplayHelp) × (kind_of e ≢ kind.Display
 abbrev pub IsHelped : {D : Type 0} → (D → Option (List ℕ)) → Counted D → Counted D → ℕ → Type 0
 IsHelped contents old new status =
     ((status ≡ 0) × (new ≡ old))
-    ⊎ ((status ≡ 1) × IsReported contents old new (fault_text [] Write))
+    ⊎ ((status ≡ 1) × IsReported contents old new (fault_text [] None Write))
 
 -- The status after the parser's own text, which goes to devices of its own: the writer is as it was
 -- but where help could not be printed.
@@ -55,7 +55,7 @@ IsExplained contents old new e status =
 abbrev pub IsNoJob : {D : Type 0} → (D → Option (List ℕ)) → Counted D → Counted D → JobFault
     → ℕ → Type 0
 IsNoJob contents old new OutOfMemory status =
-    (status ≡ 1) × IsReported contents old new (fault_text [] (Refused refusal.OutOfMemory))
+    (status ≡ 1) × IsReported contents old new (fault_text [] None (Refused refusal.OutOfMemory))
 IsNoJob contents old new (CommandLine e) status = IsExplained contents old new e status
 IsNoJob contents old new (BadAddress word) status =
     IsMisused contents old new (codes "bad address ") word.now status

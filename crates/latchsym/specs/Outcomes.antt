@@ -1,15 +1,10 @@
--- What comes of a job: that of its engine over the job's own files.
-use Rattle.std.specs.Prelude.{◌≡◌, ◌⊎◌, ℕ, List, map, Option, Result, Err}
-use Rattle.clap.specs.Words.{Text}
+-- What comes of a job: that of its engine over the job's own readers.
+use Rattle.std.specs.Prelude.{◌≡◌, ℕ, List, map, Option, Result}
 use Rattle.texts.specs.declared.counted.Counted.{Counted}
-use Rattle.order_laws.specs.declared.refusals.Refusal.TheVariants as refusal
 use Rattle.latchsym.specs.Addresses.{AnswersNames}
 use Rattle.latchsym.specs.Annotations.{AnnotatesLog}
 use Rattle.latchsym.specs.Checks.{ChecksListings}
 use Rattle.engines.specs.Faults.{with_notes, with_status, without_notes}
-use Rattle.latchsym.specs.Files.{AreAnnotateFiles, AreListingFiles}
-use Rattle.latchsym.specs.Files.{AreLookupFiles, AreRunFiles, AreSymbolLookupFiles, Held}
-use Rattle.latchsym.specs.Files.{IsOpened}
 use Rattle.listing.specs.ListingNotes.{no_notes}
 use Rattle.engines.specs.LookupInputs.{known_inputs}
 use Rattle.engines.specs.Lookups.{AnswersLookup, failures_between}
@@ -24,154 +19,112 @@ use Rattle.latchsym.specs.declared.address_command.AddressJob.{AddressJob}
 use Rattle.latchsym.specs.declared.annotations.AnnotateReaders.{AnnotateReaders}
 use Rattle.latchsym.specs.declared.command_line.AnnotateJob.{AnnotateJob}
 use Rattle.latchsym.specs.declared.command_line.CheckJob.{CheckJob}
-use Rattle.latchsym.specs.declared.command_line.Job.{Job}
-use Rattle.latchsym.specs.declared.command_line.Job.TheVariants.{Trace, Steps, Lookup, SymbolLookup}
-use Rattle.latchsym.specs.declared.command_line.Job.TheVariants.{Address, Annotate, Check, Run}
 use Rattle.latchsym.specs.declared.command_line.LookupJob.{LookupJob}
 use Rattle.latchsym.specs.declared.command_line.RunJob.{RunJob}
 use Rattle.latchsym.specs.declared.command_line.SymbolLookupJob.{SymbolLookupJob}
 use Rattle.engines.specs.declared.fault.Fault.{Fault}
 use Rattle.engines.specs.declared.fault.Finished.{Finished}
-use Rattle.engines.specs.declared.fault.Fault.TheVariants.{Refused}
 use Rattle.listing.specs.declared.listing_notes.ListingNotes.{ListingNotes}
 use Rattle.engines.specs.declared.lookup.LookupReaders.{LookupReaders}
 use Rattle.engines.specs.declared.opened_catalogs.ListingReaders.{ListingReaders}
 use Rattle.engines.specs.declared.symbol_lookup.SymbolLookupReaders.{SymbolLookupReaders}
 use Rattle.engines.specs.declared.runs.RunReaders.{RunReaders}
+use Rattle.latchsym.specs.declared.jobs.OpenedJob.{OpenedJob}
+use Rattle.latchsym.specs.declared.jobs.OpenedJob.TheVariants.{Trace, Steps, Lookup, SymbolLookup}
+use Rattle.latchsym.specs.declared.jobs.OpenedJob.TheVariants.{Address, Annotate, Check, Run}
 
--- what the trace engine returned for the file of this name, whose success is status 0
-pub record IsTraced {F W : Type 0} (remaining : F → Option (List ℕ))
-    (contents : W → Option (List ℕ)) (held : Held) (file : Text) (w w' : Counted W)
-    (outcome : Result Finished Fault) : Type 0 where
-  pub before : Counted F
-  pub after : Counted F
-  pub opened : IsOpened remaining held file before
-  pub result : Result (Unit {0}) Fault
-  pub answered : AnswersTrace remaining contents before after w w' result
-  pub status : outcome ≡ with_status (without_notes result)
+-- what the trace engine returned, whose success is status 0
+abbrev pub IsTraced : {R W : Type 0} → (R → Option (List ℕ)) → (W → Option (List ℕ))
+    → Counted R → Counted R → Counted W → Counted W → Result Finished Fault → Type 0
+IsTraced remaining contents r r' w w' outcome =
+    (result : Result (Unit {0}) Fault) × AnswersTrace remaining contents r r' w w' result
+    × (outcome ≡ with_status (without_notes result))
 
--- what the engine of steps returned for it
-pub record AreStepsTold {F W : Type 0} (remaining : F → Option (List ℕ))
-    (contents : W → Option (List ℕ)) (held : Held) (file : Text) (w w' : Counted W)
-    (outcome : Result Finished Fault) : Type 0 where
-  pub before : Counted F
-  pub after : Counted F
-  pub opened : IsOpened remaining held file before
-  pub result : Result (Unit {0}) Fault
-  pub answered : AnswersSteps remaining contents before after w w' result
-  pub status : outcome ≡ with_status (without_notes result)
+-- what the engine of steps returned
+abbrev pub AreStepsTold : {R W : Type 0} → (R → Option (List ℕ)) → (W → Option (List ℕ))
+    → Counted R → Counted R → Counted W → Counted W → Result Finished Fault → Type 0
+AreStepsTold remaining contents r r' w w' outcome =
+    (result : Result (Unit {0}) Fault) × AnswersSteps remaining contents r r' w w' result
+    × (outcome ≡ with_status (without_notes result))
 
--- what the engine of lookups returned for the job's own files, options and addresses, whose success
--- is status 0
-pub record IsLookedUp {F W : Type 0} (remaining : F → Option (List ℕ))
-    (contents : W → Option (List ℕ)) (held : Held) (standard : Option (List ℕ)) (job : LookupJob)
-    (w w' : Counted W) (outcome : Result Finished Fault) : Type 0 where
-  pub before : LookupReaders F F F F
-  pub after : LookupReaders F F F F
-  pub opened : AreLookupFiles remaining held standard job before
-  pub result : Result ListingNotes Fault
-  pub answered : AnswersLookup contents job.form
-      (known_inputs remaining remaining remaining remaining before job.options job.addresses.items)
-      (failures_between before after) w w' result
-  pub status : outcome ≡ with_status result
+-- what the engine of lookups returned for the job's own options and addresses, whose success is
+-- status 0
+abbrev pub IsLookedUp : {R W : Type 0} → (R → Option (List ℕ)) → (W → Option (List ℕ))
+    → LookupJob → LookupReaders R R R R → LookupReaders R R R R → Counted W → Counted W
+    → Result Finished Fault → Type 0
+IsLookedUp remaining contents job r r' w w' outcome =
+    (result : Result ListingNotes Fault) × AnswersLookup contents job.form
+    (known_inputs remaining remaining remaining remaining r job.options job.addresses.items)
+    (failures_between r r') w w' result
+    × (outcome ≡ with_status result)
 
 -- the same of the engine of lookups by symbols alone
-pub record IsLookedUpBySymbols {F W : Type 0} (remaining : F → Option (List ℕ))
-    (contents : W → Option (List ℕ)) (held : Held) (standard : Option (List ℕ))
-    (job : SymbolLookupJob) (w w' : Counted W) (outcome : Result Finished Fault) : Type 0 where
-  pub before : SymbolLookupReaders F F
-  pub after : SymbolLookupReaders F F
-  pub opened : AreSymbolLookupFiles remaining held standard job before
-  pub result : Result ListingNotes Fault
-  pub answered : AnswersSymbolLookup contents job.form
-      (known_symbol_inputs remaining remaining before job.options job.addresses.items)
-      (failures_of_symbols before after) w w' result
-  pub status : outcome ≡ with_status result
+abbrev pub IsLookedUpBySymbols : {R W : Type 0} → (R → Option (List ℕ)) → (W → Option (List ℕ))
+    → SymbolLookupJob → SymbolLookupReaders R R → SymbolLookupReaders R R → Counted W → Counted W
+    → Result Finished Fault → Type 0
+IsLookedUpBySymbols remaining contents job r r' w w' outcome =
+    (result : Result ListingNotes Fault) × AnswersSymbolLookup contents job.form
+    (known_symbol_inputs remaining remaining r job.options job.addresses.items)
+    (failures_of_symbols r r') w w' result
+    × (outcome ≡ with_status result)
 
--- what the engine of scripts returned for the job's own files, bounds and number of readers
-pub record IsScriptRun {F W : Type 0} (remaining : F → Option (List ℕ))
-    (contents : W → Option (List ℕ)) (held : Held) (standard : Option (List ℕ)) (job : RunJob)
-    (w w' : Counted W) (outcome : Result Finished Fault) : Type 0 where
-  pub before : RunReaders F F F F
-  pub after : RunReaders F F F F
-  pub opened : AreRunFiles remaining held standard job before
-  pub answered : AnswersRun contents job.readers
-      (known_run_inputs remaining remaining remaining remaining before job.kernel job.readers)
-      (run_failures_between before after) w w' outcome
+-- what the engine of scripts returned for the job's own bounds and number of readers
+abbrev pub IsScriptRun : {R W : Type 0} → (R → Option (List ℕ)) → (W → Option (List ℕ)) → RunJob
+    → RunReaders R R R R → RunReaders R R R R → Counted W → Counted W → Result Finished Fault
+    → Type 0
+IsScriptRun remaining contents job r r' w w' outcome =
+    AnswersRun contents job.readers
+    (known_run_inputs remaining remaining remaining remaining r job.kernel job.readers)
+    (run_failures_between r r') w w' outcome
 
--- memory ran out before the engine began
-abbrev pub IsNotOpened : {W : Type 0} → Counted W → Counted W → Result Finished Fault → Type 0
-IsNotOpened w w' outcome = (w' ≡ w) × (outcome ≡ Err (Refused refusal.OutOfMemory))
+-- what the engine of annotations returned for the job's own options; nothing is left to be noted
+abbrev pub IsAnnotated : {R W E : Type 0} → (R → Option (List ℕ)) → (W → Option (List ℕ))
+    → (E → Option (List ℕ)) → AnnotateJob → AnnotateReaders R R R R → AnnotateReaders R R R R
+    → Counted W → Counted W → Counted E → Counted E → Result Finished Fault → Type 0
+IsAnnotated remaining contents errors job r r' w w' e e' outcome =
+    (result : Result ℕ Fault) × AnnotatesLog remaining contents errors job.options job.listings
+    (known_given remaining remaining remaining r.listings)
+    (listing_failures r.listings r'.listings) r.log r'.log w w' e e' result
+    × (outcome ≡ with_notes no_notes result)
 
--- what the engine of annotations returned for the job's own files and options; nothing is left to be
--- noted
-pub record IsAnnotated {F W E : Type 0} (remaining : F → Option (List ℕ))
-    (contents : W → Option (List ℕ)) (errors : E → Option (List ℕ)) (held : Held)
-    (standard : Option (List ℕ)) (job : AnnotateJob) (w w' : Counted W) (e e' : Counted E)
-    (outcome : Result Finished Fault) : Type 0 where
-  pub before : AnnotateReaders F F F F
-  pub after : AnnotateReaders F F F F
-  pub opened : AreAnnotateFiles remaining held standard job before
-  pub result : Result ℕ Fault
-  pub answered : AnnotatesLog remaining contents errors job.options job.listings
-      (known_given remaining remaining remaining before.listings)
-      (listing_failures before.listings after.listings) before.log after.log w w' e e' result
-  pub status : outcome ≡ with_notes no_notes result
+-- what the engine of checks returned for the job's own bounds, and nothing is left to be noted
+abbrev pub IsListingsChecked : {R W : Type 0} → (R → Option (List ℕ)) → (W → Option (List ℕ))
+    → CheckJob → ListingReaders R R R → ListingReaders R R R → Counted W → Counted W
+    → Result Finished Fault → Type 0
+IsListingsChecked remaining contents job r r' w w' outcome =
+    (result : Result ℕ Fault) × ChecksListings contents job.kernel job.listings
+    (known_given remaining remaining remaining r) (listing_failures r r') w w' result
+    × (outcome ≡ with_notes no_notes result)
 
--- what the engine of checks returned for the job's own files and bounds, and nothing is left to be
--- noted
-pub record IsListingsChecked {F W : Type 0} (remaining : F → Option (List ℕ))
-    (contents : W → Option (List ℕ)) (held : Held) (job : CheckJob) (w w' : Counted W)
-    (outcome : Result Finished Fault) : Type 0 where
-  pub before : ListingReaders F F F
-  pub after : ListingReaders F F F
-  pub opened : AreListingFiles remaining held job.listings before
-  pub result : Result ℕ Fault
-  pub answered : ChecksListings contents job.kernel job.listings
-      (known_given remaining remaining remaining before)
-      (listing_failures before after) w w' result
-  pub status : outcome ≡ with_notes no_notes result
+-- what the engine of names returned for the job's own bounds, names and form
+abbrev pub AreNamesFound : {R W : Type 0} → (R → Option (List ℕ)) → (W → Option (List ℕ))
+    → AddressJob → ListingReaders R R R → ListingReaders R R R → Counted W → Counted W
+    → Result Finished Fault → Type 0
+AreNamesFound remaining contents job r r' w w' outcome =
+    (result : Result ListingNotes Fault) × AnswersNames contents job.form job.kernel
+    (map (λ n. n.now) job.names.items) (known_given remaining remaining remaining r)
+    (listing_failures r r') w w' result
+    × (outcome ≡ with_status result)
 
--- what the engine of names returned for the job's own files, bounds, names and form
-pub record AreNamesFound {F W : Type 0} (remaining : F → Option (List ℕ))
-    (contents : W → Option (List ℕ)) (held : Held) (job : AddressJob) (w w' : Counted W)
-    (outcome : Result Finished Fault) : Type 0 where
-  pub before : ListingReaders F F F
-  pub after : ListingReaders F F F
-  pub opened : AreListingFiles remaining held job.listings before
-  pub result : Result ListingNotes Fault
-  pub answered : AnswersNames contents job.form job.kernel (map (λ n. n.now) job.names.items)
-      (known_given remaining remaining remaining before)
-      (listing_failures before after) w w' result
-  pub status : outcome ≡ with_status result
-
--- The status or the fault of a job, over what the files hold that it names. Only an annotation says
--- something while it is done.
-abbrev pub IsOutcome : {F W E : Type 0} → (F → Option (List ℕ)) → (W → Option (List ℕ))
-    → (E → Option (List ℕ)) → Held → Option (List ℕ) → Job → Counted W → Counted W → Counted E
+-- The status or the fault of a job, over what its readers had. Only an annotation says something
+-- while it is done.
+abbrev pub IsOutcome : {R W E : Type 0} → (R → Option (List ℕ)) → (W → Option (List ℕ))
+    → (E → Option (List ℕ)) → OpenedJob R → OpenedJob R → Counted W → Counted W → Counted E
     → Counted E → Result Finished Fault → Type 0
-IsOutcome remaining contents errors held standard (Trace file) w w' e e' outcome =
-    (IsTraced remaining contents held file.now w w' outcome ⊎ IsNotOpened w w' outcome)
-    × (e' ≡ e)
-IsOutcome remaining contents errors held standard (Steps file) w w' e e' outcome =
-    (AreStepsTold remaining contents held file.now w w' outcome ⊎ IsNotOpened w w' outcome)
-    × (e' ≡ e)
-IsOutcome remaining contents errors held standard (Lookup job) w w' e e' outcome =
-    (IsLookedUp remaining contents held standard job w w' outcome ⊎ IsNotOpened w w' outcome)
-    × (e' ≡ e)
-IsOutcome remaining contents errors held standard (SymbolLookup job) w w' e e' outcome =
-    (IsLookedUpBySymbols remaining contents held standard job w w' outcome
-    ⊎ IsNotOpened w w' outcome)
-    × (e' ≡ e)
-IsOutcome remaining contents errors held standard (Run job) w w' e e' outcome =
-    (IsScriptRun remaining contents held standard job w w' outcome ⊎ IsNotOpened w w' outcome)
-    × (e' ≡ e)
-IsOutcome remaining contents errors held standard (Annotate job) w w' e e' outcome =
-    IsAnnotated remaining contents errors held standard job w w' e e' outcome
-    ⊎ (IsNotOpened w w' outcome × (e' ≡ e))
-IsOutcome remaining contents errors held standard (Check job) w w' e e' outcome =
-    (IsListingsChecked remaining contents held job w w' outcome ⊎ IsNotOpened w w' outcome)
-    × (e' ≡ e)
-IsOutcome remaining contents errors held standard (Address job) w w' e e' outcome =
-    (AreNamesFound remaining contents held job w w' outcome ⊎ IsNotOpened w w' outcome)
-    × (e' ≡ e)
+IsOutcome remaining contents errors (Trace r) (Trace r') w w' e e' outcome =
+    IsTraced remaining contents r r' w w' outcome × (e' ≡ e)
+IsOutcome remaining contents errors (Steps r) (Steps r') w w' e e' outcome =
+    AreStepsTold remaining contents r r' w w' outcome × (e' ≡ e)
+IsOutcome remaining contents errors (Lookup job r) (Lookup _ r') w w' e e' outcome =
+    IsLookedUp remaining contents job.now r r' w w' outcome × (e' ≡ e)
+IsOutcome remaining contents errors (SymbolLookup job r) (SymbolLookup _ r') w w' e e' outcome =
+    IsLookedUpBySymbols remaining contents job.now r r' w w' outcome × (e' ≡ e)
+IsOutcome remaining contents errors (Run job r) (Run _ r') w w' e e' outcome =
+    IsScriptRun remaining contents job.now r r' w w' outcome × (e' ≡ e)
+IsOutcome remaining contents errors (Annotate job r) (Annotate _ r') w w' e e' outcome =
+    IsAnnotated remaining contents errors job.now r r' w w' e e' outcome
+IsOutcome remaining contents errors (Check job r) (Check _ r') w w' e e' outcome =
+    IsListingsChecked remaining contents job.now r r' w w' outcome × (e' ≡ e)
+IsOutcome remaining contents errors (Address job r) (Address _ r') w w' e e' outcome =
+    AreNamesFound remaining contents job.now r r' w w' outcome × (e' ≡ e)
+IsOutcome remaining contents errors _ _ w w' e e' outcome = ⊥

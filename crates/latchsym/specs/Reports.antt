@@ -1,12 +1,14 @@
 -- What is said at the end of a run: what is noted of its listings, or why it failed.
 use Rattle.std.specs.Prelude.{◌≡◌, ℕ, List, [], ◌++◌, ◌≤◌, ◌⊎◌, Option, Result, Ok, Err}
-use Rattle.std.specs.Prelude.{Bool, true, false, codes, decimal, option_and_then, unwrap_or}
+use Rattle.std.specs.Prelude.{Bool, true, false, codes, decimal, is_some, option_and_then, unwrap_or}
 use Rattle.std.specs.Io.KnownBytes.{Appends}
+use Rattle.std.specs.declared.io.Error.{Error}
 use Rattle.clap.specs.Words.{Text}
 use Rattle.texts.specs.declared.counted.Counted.{Counted}
 use Rattle.texts.specs.Counted.{Rose, device_of, failures_of}
 use Rattle.order_laws.specs.Refusals.{refusal_number}
 use Rattle.latchsym.specs.Jobs.{file_at}
+use Rattle.latchsym.specs.Reasons.{reason_text}
 use Rattle.listing.specs.ListingNotes.{is_some_noted}
 use Rattle.latchsym.specs.NoteTexts.{notes_text}
 use Rattle.engines.specs.TraceTexts.{refused_text}
@@ -19,20 +21,24 @@ use Rattle.engines.specs.Faults.{fault_place}
 abbrev pub bad_line_text : Text → ℕ → List ℕ
 bad_line_text file line = file ++ codes ": line " ++ decimal line ++ codes " is not understood\n"
 
-abbrev pub unread_text : Text → List ℕ
-unread_text file = file ++ codes ": cannot be read\n"
+abbrev pub unread_text : Text → Option (List ℕ) → List ℕ
+unread_text file words = file ++ codes ": cannot be read" ++ reason_text words ++ codes "\n"
 
--- what is said of a fault that is about this file, after the program's name
-abbrev pub message_text : Text → Fault → List ℕ
-message_text file (Refused refusal) = refused_text (refusal_number refusal)
-message_text file (BadLine place line) = bad_line_text file line
-message_text file (Read place) = unread_text file
-message_text file (TooLong place) = file ++ codes ": is too long\n"
-message_text file Write = codes "cannot write\n"
+abbrev pub unwritten_text : Option (List ℕ) → List ℕ
+unwritten_text words = codes "cannot write" ++ reason_text words ++ codes "\n"
+
+-- what is said of a fault that is about this file, after the program's name, and what the system
+-- said of a call that failed
+abbrev pub message_text : Text → Option (List ℕ) → Fault → List ℕ
+message_text file words (Refused refusal) = refused_text (refusal_number refusal)
+message_text file words (BadLine place line) = bad_line_text file line
+message_text file words (Read place) = unread_text file words
+message_text file words (TooLong place) = file ++ codes ": is too long\n"
+message_text file words Write = unwritten_text words
 
 -- the line on the standard error
-abbrev pub fault_text : Text → Fault → List ℕ
-fault_text file fault = codes "latchsym: " ++ message_text file fault
+abbrev pub fault_text : Text → Option (List ℕ) → Fault → List ℕ
+fault_text file words fault = codes "latchsym: " ++ message_text file words fault
 
 -- the file of the job that the fault is about
 abbrev pub file_of : Job → Fault → Text
@@ -45,6 +51,14 @@ pub record IsReported {D : Type 0} (contents : D → Option (List ℕ)) (old new
       ⊎ Rose (failures_of old) (failures_of new)
   pub never_falls : failures_of old ≤ failures_of new
 
+-- the writer has taken the line of a fault, with what the system says of the error behind it, where
+-- there is one
+abbrev pub IsFaultTold : {D : Type 0} → (D → Option (List ℕ)) → Counted D → Counted D → Text
+    → Option Error → Fault → Type 0
+IsFaultTold contents old new file error fault =
+    (words : Option (List ℕ)) × (is_some words ≡ is_some error)
+    × IsReported contents old new (fault_text file words fault)
+
 -- where something is noted the writer has taken these lines, or a call of it failed, and else it
 -- was not called
 abbrev pub IsNoted : {D : Type 0} → (D → Option (List ℕ)) → Counted D → Counted D → Bool
@@ -53,11 +67,11 @@ IsNoted contents old new true lines = IsReported contents old new lines
 IsNoted contents old new false lines = new ≡ old
 
 -- The program's status after a job with this outcome, and what it has said of it: of a status that
--- the job itself came to, what is noted of its listings.
-abbrev pub IsConcluded : {D : Type 0} → (D → Option (List ℕ)) → Job → Counted D → Counted D
-    → Result Finished Fault → ℕ → Type 0
-IsConcluded contents job old new (Ok own) status =
+-- the job itself came to, what is noted of its listings, and else the fault and the error behind it.
+abbrev pub IsConcluded : {D : Type 0} → (D → Option (List ℕ)) → Job → Option Error → Counted D
+    → Counted D → Result Finished Fault → ℕ → Type 0
+IsConcluded contents job error old new (Ok own) status =
     (status ≡ own.status)
     × IsNoted contents old new (is_some_noted own.notes) (notes_text job own.notes)
-IsConcluded contents job old new (Err fault) status =
-    (status ≡ 1) × IsReported contents old new (fault_text (file_of job fault) fault)
+IsConcluded contents job error old new (Err fault) status =
+    (status ≡ 1) × IsFaultTold contents old new (file_of job fault) error fault

@@ -14,7 +14,7 @@ use texts::Counted;
 pub enum Input {
     Opened(File),
     Standard(Stdin),
-    Unopened,
+    Unopened(io::Error),
 }
 
 impl Read for Input {
@@ -22,7 +22,7 @@ impl Read for Input {
         match self {
             Input::Opened(file) => file.read(buf),
             Input::Standard(input) => input.read(buf),
-            Input::Unopened => Err(io::Error::from(ErrorKind::NotFound)),
+            Input::Unopened(error) => Err(*error),
         }
     }
 }
@@ -46,7 +46,7 @@ impl FileSource for FileSystem<'_> {
         match fs::open(self.rt, name) {
             Ok(opened) => Ok(Counted::new(Input::Opened(opened))),
             Err(error) if error.kind() == ErrorKind::OutOfMemory => Err(Refusal::OutOfMemory),
-            Err(_) => Ok(Counted::new(Input::Unopened)),
+            Err(error) => Ok(Counted::new(Input::Unopened(error))),
         }
     }
 

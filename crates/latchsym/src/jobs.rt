@@ -1,14 +1,13 @@
-//! A job from the names of its files to its status.
-ghost use Rattle.std.specs.Prelude.{◌≡◌, ◌⊎◌, IfOk, IfErr, List, ℕ, Option};
-ghost use Rattle.texts.specs.Counted.{device_of};
+//! A job from the names of its files to its status: its files are opened, and then its engine
+//! answers over their readers.
+ghost use Rattle.std.specs.Prelude.{◌≡◌, IfOk, IfErr, List, ℕ, Option};
+ghost use Rattle.texts.specs.Counted.{device_of, error_of};
 ghost use Rattle.latchsym.specs.Files.{AreAnnotateFiles, AreListingFiles, AreLookupFiles};
 ghost use Rattle.latchsym.specs.Files.{AreRunFiles, AreSymbolLookupFiles};
-ghost use Rattle.latchsym.specs.Files.{IsOpened, IsOpenedIfGiven, or_standard};
-ghost use Rattle.latchsym.specs.Outcomes.{IsAnnotated, IsLookedUp, IsLookedUpBySymbols};
-ghost use Rattle.latchsym.specs.Outcomes.{AreNamesFound, AreStepsTold, IsListingsChecked};
-ghost use Rattle.latchsym.specs.Outcomes.{IsNotOpened};
-ghost use Rattle.latchsym.specs.Outcomes.{IsOutcome};
-ghost use Rattle.latchsym.specs.Outcomes.{IsScriptRun, IsTraced};
+ghost use Rattle.latchsym.specs.Files.{IsOpened, IsOpenedFor, IsOpenedIfGiven, or_standard};
+ghost use Rattle.latchsym.specs.Outcomes.{AreNamesFound, IsAnnotated, IsListingsChecked};
+ghost use Rattle.latchsym.specs.Outcomes.{IsLookedUp, IsLookedUpBySymbols, IsOutcome};
+ghost use Rattle.latchsym.specs.Reasons.{error_if_given, error_of_listing};
 
 use crate::address_command::AddressJob;
 use crate::addresses::address_engine;
@@ -25,6 +24,7 @@ use engines::{
 use listing::ListingNotes;
 use order_laws::Refusal;
 use std::alloc::Global;
+use std::io;
 use std::io::{Read, Write};
 use std::sync::Wait;
 use std::thread::Threads;
@@ -52,140 +52,117 @@ pub trait FileSource {
         ensures { Self.File.remaining (device_of result) ≡ standard self.now };
 }
 
-/// Does the job over the files that it names: opens them, and has its engine answer with the job's
-/// own options, addresses and number of readers. Returns the program's status and what is noted of
-/// the listings, or why it failed. What is noted of the listings of a log is told to `errors` before
-/// the log is begun.
-pub fn do_job<T: Threads + Wait + Sync, F: FileSource, W: Write, E: Write>(
-    threads: &T,
-    alloc: Global,
+/// A job with the readers of the files that it names.
+#[derive(Drop)]
+pub enum OpenedJob<'j, 'a, R> {
+    Trace(Counted<R>),
+    Steps(Counted<R>),
+    Lookup(&'j LookupJob<'a>, LookupReaders<R, R, R, R>),
+    SymbolLookup(&'j SymbolLookupJob<'a>, SymbolLookupReaders<R, R>),
+    Run(&'j RunJob<'a>, RunReaders<R, R, R, R>),
+    Annotate(&'j AnnotateJob<'a>, AnnotateReaders<R, R, R, R>),
+    Check(&'j CheckJob<'a>, ListingReaders<R, R, R>),
+    Address(&'j AddressJob<'a>, ListingReaders<R, R, R>),
+}
+
+/// Opens the files that a job names.
+pub fn open_job<'j, 'a, F: FileSource>(
     files: &F,
-    job: &Job<'_>,
-    writer: &mut Counted<W>,
-    errors: &mut Counted<E>,
-) -> Result<Finished, Fault>
-    ensures { IsOutcome F.File.remaining W.contents E.contents (F.held files.now)
-        (F.standard files.now) job.now writer.old writer.new errors.old errors.new result }
+    job: &'j Job<'a>,
+) -> Result<OpenedJob<'j, 'a, F::File>, Refusal>
+    ensures opened { IfOk result
+        (IsOpenedFor F.File.remaining (F.held files.now) (F.standard files.now) job.now) }
+    ensures refusal { IfErr result (λ e. e ≡ Refusal.OutOfMemory) }
 {
     match job {
-        Job::Trace { file } => do_trace(alloc, files, file, writer),
-        Job::Steps { file } => do_steps(alloc, files, file, writer),
-        Job::Lookup(lookup) => do_lookup(alloc, files, lookup, writer),
-        Job::SymbolLookup(lookup) => do_symbol_lookup(alloc, files, lookup, writer),
-        Job::Run(script) => do_run(threads, alloc, files, script, writer),
-        Job::Annotate(log) => do_annotate(alloc, files, log, writer, errors),
-        Job::Check(check) => do_check(alloc, files, check, writer),
-        Job::Address(names) => do_address(alloc, files, names, writer),
+        Job::Trace { file } => Ok(OpenedJob::Trace(files.open(file)?)),
+        Job::Steps { file } => Ok(OpenedJob::Steps(files.open(file)?)),
+        Job::Lookup(job) => Ok(OpenedJob::Lookup(job, open_lookup(files, job)?)),
+        Job::SymbolLookup(job) => {
+            Ok(OpenedJob::SymbolLookup(job, open_symbol_lookup(files, job)?))
+        }
+        Job::Run(job) => Ok(OpenedJob::Run(job, open_run(files, job)?)),
+        Job::Annotate(job) => Ok(OpenedJob::Annotate(job, open_annotation(files, job)?)),
+        Job::Check(job) => Ok(OpenedJob::Check(job, open_listings(files, &job.listings)?)),
+        Job::Address(job) => Ok(OpenedJob::Address(job, open_listings(files, &job.listings)?)),
     }
 }
 
-/// Runs the trace in the file of this name.
-fn do_trace<F: FileSource, W: Write>(
+/// Does the job over its readers: has its engine answer with the job's own options, addresses and
+/// number of readers. Returns the program's status and what is noted of the listings, or why it
+/// failed. What is noted of the listings of a log is told to `errors` before the log is begun.
+pub fn do_job<T: Threads + Wait + Sync, R: Read, W: Write, E: Write>(
+    threads: &T,
     alloc: Global,
-    files: &F,
-    name: &str,
+    job: &mut OpenedJob<'_, '_, R>,
     writer: &mut Counted<W>,
+    errors: &mut Counted<E>,
 ) -> Result<Finished, Fault>
-    ensures { IsTraced F.File.remaining W.contents (F.held files.now) name.now
-        writer.old writer.new result ⊎ IsNotOpened writer.old writer.new result }
+    ensures { IsOutcome R.remaining W.contents E.contents job.old job.new
+        writer.old writer.new errors.old errors.new result }
 {
-    let mut reader = files.open(name)?;
-    with_status(without_notes(trace_engine(alloc, &mut reader, writer)))
-}
-
-/// Runs the trace in the file of this name, and writes its steps.
-fn do_steps<F: FileSource, W: Write>(
-    alloc: Global,
-    files: &F,
-    name: &str,
-    writer: &mut Counted<W>,
-) -> Result<Finished, Fault>
-    ensures { AreStepsTold F.File.remaining W.contents (F.held files.now) name.now
-        writer.old writer.new result ⊎ IsNotOpened writer.old writer.new result }
-{
-    let mut reader = files.open(name)?;
-    with_status(without_notes(steps_engine(alloc, &mut reader, writer)))
+    match job {
+        OpenedJob::Trace(reader) => {
+            with_status(without_notes(trace_engine(alloc, reader, writer)))
+        }
+        OpenedJob::Steps(reader) => {
+            with_status(without_notes(steps_engine(alloc, reader, writer)))
+        }
+        OpenedJob::Lookup(job, readers) => do_lookup(alloc, job, readers, writer),
+        OpenedJob::SymbolLookup(job, readers) => do_symbol_lookup(alloc, job, readers, writer),
+        OpenedJob::Run(job, readers) => {
+            run_engine(threads, alloc, readers, &job.kernel, job.readers, writer)
+        }
+        OpenedJob::Annotate(job, readers) => do_annotate(alloc, job, readers, writer, errors),
+        OpenedJob::Check(job, readers) => do_check(alloc, job, readers, writer),
+        OpenedJob::Address(job, readers) => do_address(alloc, job, readers, writer),
+    }
 }
 
 /// Looks up the addresses of a job.
-fn do_lookup<F: FileSource, W: Write>(
+fn do_lookup<R: Read, W: Write>(
     alloc: Global,
-    files: &F,
     job: &LookupJob<'_>,
+    readers: &mut LookupReaders<R, R, R, R>,
     writer: &mut Counted<W>,
 ) -> Result<Finished, Fault>
-    ensures { IsLookedUp F.File.remaining W.contents (F.held files.now) (F.standard files.now)
-        job.now writer.old writer.new result ⊎ IsNotOpened writer.old writer.new result }
+    ensures { IsLookedUp R.remaining W.contents job.now readers.old readers.new
+        writer.old writer.new result }
 {
-    let mut readers = open_lookup(files, job)?;
-    let form = job.form;
-    let done = lookup_engine(
-        alloc,
-        &mut readers,
-        &job.options,
-        &job.addresses,
-        form,
-        writer,
-    );
+    let options = &job.options;
+    let done = lookup_engine(alloc, readers, options, &job.addresses, job.form, writer);
     with_status(done)
 }
 
 /// Looks up the addresses of a job by the symbols alone.
-fn do_symbol_lookup<F: FileSource, W: Write>(
+fn do_symbol_lookup<R: Read, W: Write>(
     alloc: Global,
-    files: &F,
     job: &SymbolLookupJob<'_>,
+    readers: &mut SymbolLookupReaders<R, R>,
     writer: &mut Counted<W>,
 ) -> Result<Finished, Fault>
-    ensures { IsLookedUpBySymbols F.File.remaining W.contents (F.held files.now)
-        (F.standard files.now) job.now writer.old writer.new result
-        ⊎ IsNotOpened writer.old writer.new result }
+    ensures { IsLookedUpBySymbols R.remaining W.contents job.now readers.old readers.new
+        writer.old writer.new result }
 {
-    let mut readers = open_symbol_lookup(files, job)?;
     let options = &job.options;
-    let done = symbol_lookup_engine(
-        alloc,
-        &mut readers,
-        options,
-        &job.addresses,
-        job.form,
-        writer,
-    );
+    let done = symbol_lookup_engine(alloc, readers, options, &job.addresses, job.form, writer);
     with_status(done)
 }
 
-/// Runs the script of a job.
-fn do_run<T: Threads + Wait + Sync, F: FileSource, W: Write>(
-    threads: &T,
-    alloc: Global,
-    files: &F,
-    job: &RunJob<'_>,
-    writer: &mut Counted<W>,
-) -> Result<Finished, Fault>
-    ensures { IsScriptRun F.File.remaining W.contents (F.held files.now) (F.standard files.now)
-        job.now writer.old writer.new result ⊎ IsNotOpened writer.old writer.new result }
-{
-    let mut readers = open_run(files, job)?;
-    let kernel = &job.kernel;
-    run_engine(threads, alloc, &mut readers, kernel, job.readers, writer)
-}
-
 /// Annotates the log of a job.
-fn do_annotate<F: FileSource, W: Write, E: Write>(
+fn do_annotate<R: Read, W: Write, E: Write>(
     alloc: Global,
-    files: &F,
     job: &AnnotateJob<'_>,
+    readers: &mut AnnotateReaders<R, R, R, R>,
     writer: &mut Counted<W>,
     errors: &mut Counted<E>,
 ) -> Result<Finished, Fault>
-    ensures { IsAnnotated F.File.remaining W.contents E.contents (F.held files.now)
-        (F.standard files.now) job.now writer.old writer.new errors.old errors.new result
-        ⊎ (IsNotOpened writer.old writer.new result × (errors.new ≡ errors.old)) }
+    ensures { IsAnnotated R.remaining W.contents E.contents job.now readers.old readers.new
+        writer.old writer.new errors.old errors.new result }
 {
-    let mut readers = open_annotation(files, job)?;
     let done = annotate_engine(
         alloc,
-        &mut readers,
+        readers,
         &job.options,
         &job.listings,
         errors,
@@ -196,35 +173,106 @@ fn do_annotate<F: FileSource, W: Write, E: Write>(
 
 /// Checks the listings of a job. What is noted of them is written, so that nothing is left to be
 /// told.
-fn do_check<F: FileSource, W: Write>(
+fn do_check<R: Read, W: Write>(
     alloc: Global,
-    files: &F,
     job: &CheckJob<'_>,
+    readers: &mut ListingReaders<R, R, R>,
     writer: &mut Counted<W>,
 ) -> Result<Finished, Fault>
-    ensures { IsListingsChecked F.File.remaining W.contents (F.held files.now) job.now
-        writer.old writer.new result ⊎ IsNotOpened writer.old writer.new result }
+    ensures { IsListingsChecked R.remaining W.contents job.now readers.old readers.new
+        writer.old writer.new result }
 {
-    let mut readers = open_listings(files, &job.listings)?;
     let kernel = job.kernel.as_ref();
-    let status = check_engine(alloc, &mut readers, kernel, &job.listings, writer);
+    let status = check_engine(alloc, readers, kernel, &job.listings, writer);
     with_notes(status, ListingNotes::none())
 }
 
 /// Says where the symbols of a job's names are.
-fn do_address<F: FileSource, W: Write>(
+fn do_address<R: Read, W: Write>(
     alloc: Global,
-    files: &F,
     job: &AddressJob<'_>,
+    readers: &mut ListingReaders<R, R, R>,
     writer: &mut Counted<W>,
 ) -> Result<Finished, Fault>
-    ensures { AreNamesFound F.File.remaining W.contents (F.held files.now) job.now
-        writer.old writer.new result ⊎ IsNotOpened writer.old writer.new result }
+    ensures { AreNamesFound R.remaining W.contents job.now readers.old readers.new
+        writer.old writer.new result }
 {
-    let mut readers = open_listings(files, &job.listings)?;
     let kernel = job.kernel.as_ref();
-    let done = address_engine(alloc, &mut readers, job.form, kernel, &job.names, writer);
+    let done = address_engine(alloc, readers, job.form, kernel, &job.names, writer);
     with_status(done)
+}
+
+impl<R> OpenedJob<'_, '_, R> {
+    ghost use Rattle.latchsym.specs.Reasons.{error_at, error_behind, tells_errors};
+
+    /// The error behind a fault of a job that tells it: the one that the reader gave last which
+    /// failed, or the writer.
+    pub fn error_behind<W>(&self, fault: &Fault, writer: &Counted<W>) -> Option<io::Error>
+        ensures { result ≡ error_behind self.now (error_of writer.now) fault.now }
+    {
+        match fault {
+            Fault::Read { place } => self.error_at(*place),
+            Fault::Write if self.tells_errors() => writer.error(),
+            Fault::Write
+            | Fault::Refused(_)
+            | Fault::BadLine { .. }
+            | Fault::TooLong { .. } => None,
+        }
+    }
+
+    /// Whether the job is one that tells the errors behind its faults.
+    fn tells_errors(&self) -> bool
+        ensures { result ≡ tells_errors self.now }
+    {
+        match self {
+            OpenedJob::Annotate(..) | OpenedJob::Check(..) | OpenedJob::Address(..) => true,
+            OpenedJob::Trace(_)
+            | OpenedJob::Steps(_)
+            | OpenedJob::Lookup(..)
+            | OpenedJob::SymbolLookup(..)
+            | OpenedJob::Run(..) => false,
+        }
+    }
+
+    /// The error that the reader at this place gave last, in a job that tells it.
+    fn error_at(&self, place: u64) -> Option<io::Error>
+        ensures { result ≡ error_at self.now place }
+    {
+        match self {
+            OpenedJob::Annotate(_, readers) if place == 3 => readers.log.error(),
+            OpenedJob::Annotate(_, readers) => error_of_listing(&readers.listings, place),
+            OpenedJob::Check(_, readers) | OpenedJob::Address(_, readers) => {
+                error_of_listing(readers, place)
+            }
+            OpenedJob::Trace(_)
+            | OpenedJob::Steps(_)
+            | OpenedJob::Lookup(..)
+            | OpenedJob::SymbolLookup(..)
+            | OpenedJob::Run(..) => None,
+        }
+    }
+}
+
+/// The same of readers of listings.
+fn error_of_listing<R>(readers: &ListingReaders<R, R, R>, place: u64) -> Option<io::Error>
+    ensures { result ≡ error_of_listing readers.now place }
+{
+    match place {
+        0 => error_if_given(&readers.modules),
+        1 => readers.kallsyms.error(),
+        2 => error_if_given(&readers.regions),
+        _ => None,
+    }
+}
+
+/// The error that a reader gave last, where there is a reader.
+fn error_if_given<R>(reader: &Option<Counted<R>>) -> Option<io::Error>
+    ensures { result ≡ error_if_given reader.now }
+{
+    match reader {
+        Some(reader) => reader.error(),
+        None => None,
+    }
 }
 
 /// Opens the files of a lookup.

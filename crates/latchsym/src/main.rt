@@ -32,17 +32,20 @@ mod reports;
 use command_line::{Job, JobFault, job_of};
 use engines::Fault;
 use input::FileSystem;
-use jobs::do_job;
+use jobs::{do_job, open_job};
 use misuse::{misused, refuse};
 use operands::with_operands;
 use order_laws::Refusal;
-use reports::conclude;
+use reports::{conclude, report_before_job};
 use std::env;
-use std::io::{BufWriter, ErrorKind, Stderr};
+use std::io::{BufWriter, ErrorKind, Stderr, Write};
 use std::process::ExitCode;
 use std::sync::Wait;
 use std::thread::Threads;
 use texts::{BLOCK, Counted};
+
+/// Memory ran out before there was a job to do.
+const NO_MEMORY: Fault = Fault::Refused(Refusal::OutOfMemory);
 
 fn main(rt: HostRuntime) -> ExitCode {
     let mut errors = Counted::new(rt.stderr());
@@ -78,21 +81,18 @@ fn answer<T: Threads + Wait + Sync>(
     }
 }
 
-/// Does the job, and returns the program's status. The host that may start threads and wait for
-/// them is taken beside the one that reads and writes, since a script alone needs it. The engines
-/// of traces and of logs write blocks, so nothing gathers their output; for the others there is a
-/// buffer before anything is read.
+/// Does the job, and returns the program's status. The engines of traces and of logs write blocks, so
+/// nothing gathers their output; for the others there is a buffer before anything is read.
 fn run<T: Threads + Wait + Sync>(
     rt: &HostRuntime,
     threads: &T,
     job: &Job<'_>,
     errors: &mut Counted<Stderr>,
 ) -> u8 {
-    let files = FileSystem { rt };
-    let outcome = match job {
+    match job {
         Job::Trace { .. } | Job::Annotate(_) => {
             let mut writer = Counted::new(rt.stdout());
-            do_job(threads, rt.alloc(), &files, job, &mut writer, errors)
+            run_to(rt, threads, job, &mut writer, errors)
         }
         Job::Steps { .. }
         | Job::Lookup(_)
@@ -103,11 +103,31 @@ fn run<T: Threads + Wait + Sync>(
             match BufWriter::with_capacity(rt.alloc(), BLOCK, rt.stdout()) {
                 Ok(buffer) => {
                     let mut writer = Counted::new(buffer);
-                    do_job(threads, rt.alloc(), &files, job, &mut writer, errors)
+                    run_to(rt, threads, job, &mut writer, errors)
                 }
-                Err(_) => Err(Fault::Refused(Refusal::OutOfMemory)),
+                Err(_) => report_before_job(&NO_MEMORY, errors),
             }
         }
+    }
+}
+
+/// Opens the files of the job, does it, and says how it ended. The host that may start threads and
+/// wait for them is taken beside the one that reads and writes, since a script alone needs it.
+fn run_to<T: Threads + Wait + Sync, W: Write>(
+    rt: &HostRuntime,
+    threads: &T,
+    job: &Job<'_>,
+    writer: &mut Counted<W>,
+    errors: &mut Counted<Stderr>,
+) -> u8 {
+    let files = FileSystem { rt };
+    let Ok(mut opened) = open_job(&files, job) else {
+        return report_before_job(&NO_MEMORY, errors);
     };
-    conclude(outcome, job, errors)
+    let outcome = do_job(threads, rt.alloc(), &mut opened, writer, errors);
+    let error = match &outcome {
+        Ok(_) => None,
+        Err(fault) => opened.error_behind(fault, writer),
+    };
+    conclude(outcome, job, error, errors)
 }

@@ -1,36 +1,42 @@
 //! What is said at the end of a run: what is noted of its listings, or why it failed.
-ghost use Rattle.std.specs.Prelude.{◌≡◌, ◌++◌, []};
+ghost use Rattle.std.specs.Prelude.{◌≡◌, ◌++◌, [], None, option_map};
 ghost use Rattle.std.specs.Option.{option_copied};
 ghost use Rattle.texts.specs.Exact.{Wrote};
-ghost use Rattle.latchsym.specs.Reports.{IsConcluded, IsNoted, IsReported, bad_line_text};
-ghost use Rattle.latchsym.specs.Reports.{fault_text, file_of, message_text};
+ghost use Rattle.latchsym.specs.Reasons.{reason_text};
+ghost use Rattle.latchsym.specs.Reports.{IsConcluded, IsFaultTold, IsNoted, IsReported};
+ghost use Rattle.latchsym.specs.Reports.{bad_line_text, fault_text, file_of, message_text};
+ghost use Rattle.latchsym.specs.Reports.{unread_text, unwritten_text};
 ghost use Rattle.listing.specs.ListingNotes.{is_some_noted};
 ghost use Rattle.latchsym.specs.NoteTexts.{note_lines, notes_text};
 
 use crate::command_line::{Job, ListingFiles};
 use crate::note_texts::{put_job_notes, put_notes_of};
+use arrayvec::ArrayString;
 use engines::{FAILED, Fault, Finished, put_decimal, put_refused};
 use listing::ListingNotes;
 use modules::KernelBounds;
+use std::fmt::Write as _;
 use std::io;
 use std::io::Write;
 use texts::{Counted, put};
 
 /// Ends a job: returns the program's status, which is the job's own where it came to one. Writes
-/// what is noted of its listings, or, where it failed, the line that says why.
+/// what is noted of its listings, or, where it failed, the line that says why, with what the system
+/// said of the error behind it.
 pub fn conclude<W: Write>(
     outcome: Result<Finished, Fault>,
     job: &Job<'_>,
+    error: Option<io::Error>,
     writer: &mut Counted<W>,
 ) -> u8
-    ensures { IsConcluded W.contents job.now writer.old writer.new outcome result }
+    ensures { IsConcluded W.contents job.now error writer.old writer.new outcome result }
 {
     match outcome {
         Ok(finished) => {
             note(&finished.notes, job, writer);
             finished.status
         }
-        Err(fault) => report(&fault, job, writer),
+        Err(fault) => report(&fault, job, error, writer),
     }
 }
 
@@ -83,23 +89,58 @@ fn report_listing_notes<W: Write>(
 
 /// Writes the line that says why the job failed, and returns the program's status. Where the writer
 /// fails too, the status is all that there is to tell.
-pub fn report<W: Write>(fault: &Fault, job: &Job<'_>, writer: &mut Counted<W>) -> u8
+fn report<W: Write>(
+    fault: &Fault,
+    job: &Job<'_>,
+    error: Option<io::Error>,
+    writer: &mut Counted<W>,
+) -> u8
     ensures status { result ≡ 1 }
-    ensures line { IsReported W.contents writer.old writer.new
-        (fault_text (file_of job.now fault.now) fault.now) }
+    ensures line { IsFaultTold W.contents writer.old writer.new (file_of job.now fault.now) error
+        fault.now }
 {
-    let file = file_of(fault, job);
-    let _ = put_fault(fault, file.as_bytes(), writer);
+    let file = file_of(fault, job).as_bytes();
+    match error {
+        Some(error) => report_fault(fault, file, Some(&words_of(&error)), writer),
+        None => report_fault(fault, file, None, writer),
+    }
     FAILED
+}
+
+/// The most bytes that are told of what the system says.
+const LONGEST_WORDS: usize = 256;
+
+/// What the system says of an error, as `No space left on device`, without its number.
+fn words_of(error: &io::Error) -> ArrayString<LONGEST_WORDS> {
+    let mut words = ArrayString::new();
+    let _ = write!(words, "{error}");
+    if let Some(end) = words.find(" (os error ") {
+        words.truncate(end);
+    }
+    words
 }
 
 /// The same for a fault that came before there was a job. It is about no file.
 pub fn report_before_job<W: Write>(fault: &Fault, writer: &mut Counted<W>) -> u8
     ensures status { result ≡ 1 }
-    ensures line { IsReported W.contents writer.old writer.new (fault_text [] fault.now) }
+    ensures line { IsReported W.contents writer.old writer.new (fault_text [] None fault.now) }
 {
-    let _ = put_fault(fault, b"", writer);
+    report_fault(fault, b"", None, writer);
     FAILED
+}
+
+/// Writes the line of a fault, with what the system says of it. Where the writer fails, there is
+/// nobody to tell.
+fn report_fault<W: Write>(
+    fault: &Fault,
+    file: &[u8],
+    words: Option<&str>,
+    writer: &mut Counted<W>,
+)
+    ensures { IsReported W.contents writer.old writer.new
+        (fault_text file.now (option_map (λ w. w.now) words) fault.now) }
+{
+    let _ = put_fault(fault, file, words, writer);
 }
 
 /// The file that the fault is about, or an empty name.
@@ -112,22 +153,34 @@ fn file_of<'a>(fault: &Fault, job: &Job<'a>) -> &'a str
     }
 }
 
-fn put_fault<W: Write>(fault: &Fault, file: &[u8], writer: &mut Counted<W>) -> io::Result<()>
-    ensures { Wrote W.contents writer.old writer.new result (fault_text file.now fault.now) }
+fn put_fault<W: Write>(
+    fault: &Fault,
+    file: &[u8],
+    words: Option<&str>,
+    writer: &mut Counted<W>,
+) -> io::Result<()>
+    ensures { Wrote W.contents writer.old writer.new result
+        (fault_text file.now (option_map (λ w. w.now) words) fault.now) }
 {
     put(writer, b"latchsym: ")?;
-    put_message(fault, file, writer)
+    put_message(fault, file, words, writer)
 }
 
-fn put_message<W: Write>(fault: &Fault, file: &[u8], writer: &mut Counted<W>) -> io::Result<()>
-    ensures { Wrote W.contents writer.old writer.new result (message_text file.now fault.now) }
+fn put_message<W: Write>(
+    fault: &Fault,
+    file: &[u8],
+    words: Option<&str>,
+    writer: &mut Counted<W>,
+) -> io::Result<()>
+    ensures { Wrote W.contents writer.old writer.new result
+        (message_text file.now (option_map (λ w. w.now) words) fault.now) }
 {
     match fault {
         Fault::Refused(refusal) => put_refused(writer, *refusal),
         Fault::BadLine { line, .. } => put_bad_line(writer, file, *line),
-        Fault::Read { .. } => put_of_file(writer, file, b": cannot be read\n"),
+        Fault::Read { .. } => put_unread(writer, file, words),
         Fault::TooLong { .. } => put_of_file(writer, file, b": is too long\n"),
-        Fault::Write => put(writer, b"cannot write\n"),
+        Fault::Write => put_unwritten(writer, words),
     }
 }
 
@@ -146,4 +199,42 @@ fn put_of_file<W: Write>(writer: &mut Counted<W>, file: &[u8], message: &[u8]) -
 {
     put(writer, file)?;
     put(writer, message)
+}
+
+/// Writes that a file cannot be read, and what the system says of it.
+fn put_unread<W: Write>(
+    writer: &mut Counted<W>,
+    file: &[u8],
+    words: Option<&str>,
+) -> io::Result<()>
+    ensures { Wrote W.contents writer.old writer.new result
+        (unread_text file.now (option_map (λ w. w.now) words)) }
+{
+    put(writer, file)?;
+    put(writer, b": cannot be read")?;
+    put_reason(writer, words)?;
+    put(writer, b"\n")
+}
+
+/// Writes that nothing can be written, and what the system says of it.
+fn put_unwritten<W: Write>(writer: &mut Counted<W>, words: Option<&str>) -> io::Result<()>
+    ensures { Wrote W.contents writer.old writer.new result
+        (unwritten_text (option_map (λ w. w.now) words)) }
+{
+    put(writer, b"cannot write")?;
+    put_reason(writer, words)?;
+    put(writer, b"\n")
+}
+
+/// Writes what the system says, in brackets, where it says something.
+fn put_reason<W: Write>(writer: &mut Counted<W>, words: Option<&str>) -> io::Result<()>
+    ensures { Wrote W.contents writer.old writer.new result
+        (reason_text (option_map (λ w. w.now) words)) }
+{
+    let Some(words) = words else {
+        return Ok(());
+    };
+    put(writer, b" (")?;
+    put(writer, words.as_bytes())?;
+    put(writer, b")")
 }

@@ -1,0 +1,50 @@
+-- What the system said of a call that failed, and where it is told.
+use Rattle.std.specs.Prelude.{ℕ, Bool, true, false, nat_eq, List, [], ◌++◌, codes}
+use Rattle.std.specs.Prelude.{Option, Some, None, if◌then◌else◌}
+use Rattle.std.specs.declared.io.Error.{Error}
+use Rattle.texts.specs.declared.counted.Counted.{Counted}
+use Rattle.texts.specs.Counted.{error_of}
+use Rattle.engines.specs.declared.opened_catalogs.ListingReaders.{ListingReaders}
+use Rattle.engines.specs.declared.fault.Fault.{Fault}
+use Rattle.engines.specs.declared.fault.Fault.TheVariants.{Read, Write}
+use Rattle.latchsym.specs.declared.jobs.OpenedJob.{OpenedJob}
+use Rattle.latchsym.specs.declared.jobs.OpenedJob.TheVariants.{Address, Annotate, Check}
+
+-- the error that a reader gave last, where there is a reader
+abbrev pub error_if_given : {R : Type 0} → Option (Counted R) → Option Error
+error_if_given None = None
+error_if_given (Some r) = error_of r
+
+-- that of the reader at a place among those of listings
+abbrev pub error_of_listing : {R : Type 0} → ListingReaders R R R → ℕ → Option Error
+error_of_listing r place =
+    if nat_eq place 0 then error_if_given r.modules
+    else if nat_eq place 1 then error_of r.kallsyms
+    else if nat_eq place 2 then error_if_given r.regions
+    else None
+
+-- the jobs that tell what the system said
+abbrev pub tells_errors : {R : Type 0} → OpenedJob R → Bool
+tells_errors (Annotate job r) = true
+tells_errors (Check job r) = true
+tells_errors (Address job r) = true
+tells_errors _ = false
+
+-- the error that the reader at a place among those of such a job gave last
+abbrev pub error_at : {R : Type 0} → OpenedJob R → ℕ → Option Error
+error_at (Annotate job r) place =
+    if nat_eq place 3 then error_of r.log else error_of_listing r.listings place
+error_at (Check job r) place = error_of_listing r place
+error_at (Address job r) place = error_of_listing r place
+error_at _ place = None
+
+-- the error behind a fault of such a job, of its readers, or of its writer, which gave this one last
+abbrev pub error_behind : {R : Type 0} → OpenedJob R → Option Error → Fault → Option Error
+error_behind job written (Read place) = error_at job place
+error_behind job written Write = if tells_errors job then written else None
+error_behind job written _ = None
+
+-- what the system said, in brackets, where it said something
+abbrev pub reason_text : Option (List ℕ) → List ℕ
+reason_text None = []
+reason_text (Some words) = codes " (" ++ words ++ codes ")"

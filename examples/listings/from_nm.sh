@@ -1,0 +1,35 @@
+#!/usr/bin/env bash
+# Writes a listing of symbols in the form of /proc/kallsyms where only the files of a kernel's build
+# are at hand: those of System.map, and of each module the ones of its text, from where that was
+# loaded (the address in the last word of its line of /proc/modules, or in
+# /sys/module/NAME/sections/.text). A kernel that was moved at boot is told by OFFSET.
+#
+#     from_nm.sh [--offset OFFSET] SYSTEM.MAP [MODULE.ko ADDRESS]..
+#
+# Numbers are hexadecimal with 0x. Needs nm.
+set -euo pipefail
+offset=0
+if [ "${1-}" = --offset ]; then
+    offset=$2
+    shift 2
+fi
+[ $(($# % 2)) = 1 ] || { echo "usage: from_nm.sh [--offset OFFSET] SYSTEM.MAP [MODULE.ko ADDRESS].." >&2; exit 2; }
+
+# moved DISTANCE SUFFIX: lines of address, letter and name, so much higher and with this behind
+moved() {
+    local address letter name
+    while read -r address letter name; do
+        printf '%016x %s %s%s\n' $((16#$address + $1)) "$letter" "$name" "$2"
+    done
+}
+
+moved "$offset" '' <"$1"
+shift
+while [ $# -gt 0 ]; do
+    name=$(basename "$1")
+    name=${name%%.ko*}
+    nm --format=sysv --defined-only "$1" |
+        awk -F '|' '$7 ~ /^\.text *$/ { gsub(/ /, ""); print $2, $3, $1 }' |
+        moved "$2" $'\t'"[${name//-/_}]"
+    shift 2
+done
