@@ -1,3 +1,5 @@
+-- blanks that a line of a file of addresses ends in
+pub mod BlankEndLemmas
 -- what the first place of a byte says of a text that is cut there
 pub mod CutLemmas
 -- words that blanks and tabs part

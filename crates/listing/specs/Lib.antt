@@ -3,8 +3,6 @@
 pub mod AddressRules
 -- the text of an answer
 pub mod Answers
--- what a file of addresses says
-pub mod Addresses
 -- lines that are taken, or skipped for a cause
 pub mod Skipping
 -- the lines of a listing of modules, in the form of /proc/modules
@@ -19,6 +17,8 @@ pub mod ListingNotes
 pub mod RegionListing
 -- the words of a log, and the addresses that words are
 pub mod LogWords
+-- what a file of addresses says
+pub mod Addresses
 -- where an address word stands in its line
 pub mod LogPlaces
 -- a log with the text of the answer behind each address that stands in it

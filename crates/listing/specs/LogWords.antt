@@ -28,13 +28,17 @@ digits_between least most digits =
     if nat_le least (length digits) && nat_le (length digits) most then numeral 16 16 digits
     else None
 
+-- just 16 hexadecimal digits
+abbrev pub sixteen_digits : List ℕ → Option ℕ
+sixteen_digits digits = digits_between 16 16 digits
+
 -- the address that a word is: 9 to 16 hexadecimal digits behind the prefix, or just 16 without it;
 -- in a log of a 32-bit kernel just 8, behind the prefix or without it
 abbrev pub address_of_word : Bool → List ℕ → Option ℕ
 address_of_word true word =
     digits_between 8 8 (if has_prefix word then drop 2 word else word)
 address_of_word false word =
-    if has_prefix word then digits_between 9 16 (drop 2 word) else digits_between 16 16 word
+    if has_prefix word then digits_between 9 16 (drop 2 word) else sixteen_digits word
 
 -- the most bytes of a word that is too short for an address
 abbrev pub most_short : Bool → ℕ

@@ -1,12 +1,13 @@
 //! Files of addresses.
 //!
-//! Each line is a NUMBER, is empty, or is a comment that begins with `#`.
+//! Each line is an address, is empty, or is a comment that begins with `#`.
 ghost use Rattle.std.specs.Prelude.{◌≡◌, ◌≢◌, ◌≤◌, ◌<◌, Err, IfSome, IsErrOf};
 ghost use Rattle.texts.specs.Counted.{device_of, failures_of, Rose};
-ghost use Rattle.texts.specs.Numbers.{number_of};
 ghost use Rattle.texts.specs.Said.{Gives};
-ghost use Rattle.listing.specs.Addresses.{addresses_of};
+ghost use Rattle.listing.specs.Addresses.{address_in_line, addresses_of, is_blank_end};
+ghost use Rattle.listing.specs.Addresses.{without_blank_end};
 
+use crate::log_words::sixteen_digits;
 use std::alloc::{AllocError, Global};
 use std::io::Read;
 use texts::{Counted, Form, LineFault, entries_in, number, read_whole};
@@ -18,19 +19,48 @@ struct AddressForm;
 impl<'a> Form<'a> for AddressForm {
     type Entry = u64;
 
-    ghost entry_of = { λ _ line. number_of line };
+    ghost entry_of = { λ _ line. address_in_line line };
 
     fn entry(&self, line: &'a [u8]) -> Result<Option<u64>, AllocError> {
-        Ok(number(line))
+        Ok(address_in_line(line))
     }
+}
+
+/// The address that a line is.
+fn address_in_line(line: &[u8]) -> Option<u64>
+    ensures { result ≡ address_in_line line.now }
+{
+    let text = without_blank_end(line);
+    match sixteen_digits(text) {
+        Some(addr) => Some(addr),
+        None => number(text),
+    }
+}
+
+/// The text without the blanks, tabs and carriage returns that it ends in.
+fn without_blank_end(text: &[u8]) -> &[u8]
+    ensures { result.now ≡ without_blank_end text.now }
+{
+    let mut end = text.len();
+    while end > 0 && is_blank_end(text[end - 1]) {
+        end -= 1;
+    }
+    &text[..end]
+}
+
+/// Whether a line may end in the byte behind its address.
+fn is_blank_end(byte: u8) -> bool
+    ensures { result ≡ is_blank_end byte }
+{
+    byte == b' ' || byte == b'\t' || byte == b'\r'
 }
 
 /// Reads a file of addresses, in their order.
 ///
-/// Each line is a NUMBER (as [`number`] reads it), or is passed over: it is empty, or a comment
-/// that begins with `#`. No line, also no comment, has more than
-/// [`LONGEST_LINE`](texts::LONGEST_LINE) bytes. Bytes after the last line's end are a line too. A
-/// file of no bytes has no address.
+/// Each line is 16 hexadecimal digits, or a NUMBER (as [`number`] reads it), behind which blanks,
+/// tabs and carriage returns may stand; or it is passed over: it is empty, or a comment that begins
+/// with `#`. No line, also no comment, has more than [`LONGEST_LINE`](texts::LONGEST_LINE) bytes.
+/// Bytes after the last line's end are a line too. A file of no bytes has no address.
 pub fn read_addresses<R: Read>(
     alloc: Global,
     reader: &mut Counted<R>,

@@ -3,8 +3,7 @@ ghost use Rattle.std.specs.Prelude.{◌≡◌, ℕ, ◌+◌, List, length, sum, 
 ghost use Rattle.texts.specs.Lines.{lines_of};
 ghost use Rattle.listing.specs.ModuleListing.{module_counts, modules_in};
 ghost use Rattle.listing.specs.SymbolListing.{symbol_counts, symbols_in};
-ghost use Rattle.listing.specs.Addresses.{addresses_of};
-ghost use Rattle.texts.specs.Numbers.{number_of};
+ghost use Rattle.listing.specs.Addresses.{address_in_line, addresses_of};
 ghost use Rattle.listing.specs.RegionListing.{regions_of_text};
 ghost use Rattle.texts.specs.Understood.{AreSaidBy, IsFirstBadFrom};
 ghost use Rattle.listing.specs.RegionListing.{IsFirstBadRegion};
@@ -27,8 +26,8 @@ pub fn regions_by_their_lines()
 /// The same of a file of addresses.
 pub fn addresses_by_their_lines()
     ensures { (text : List ℕ)
-        → MatchResult (addresses_of text) (AreSaidBy number_of (lines_of text))
-        (IsFirstBadFrom number_of 1 (lines_of text)) }
+        → MatchResult (addresses_of text) (AreSaidBy address_in_line (lines_of text))
+        (IsFirstBadFrom address_in_line 1 (lines_of text)) }
 {}
 
 /// Each line of a listing is taken, or is counted for one cause for which it is skipped.

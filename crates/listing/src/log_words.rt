@@ -2,6 +2,7 @@
 ghost use Rattle.std.specs.Prelude.{◌≡◌};
 ghost use Rattle.listing.specs.LogWords.{address_of_word, digits_between, has_prefix};
 ghost use Rattle.listing.specs.LogWords.{is_closer, is_word_byte, kind_of, most_short};
+ghost use Rattle.listing.specs.LogWords.{sixteen_digits};
 
 use texts::hexadecimal;
 
@@ -65,8 +66,15 @@ pub(crate) fn address_of_word(is_narrow: bool, word: &[u8]) -> Option<u64>
         (true, true) => digits_between(NARROW_DIGITS, NARROW_DIGITS, &word[2..]),
         (true, false) => digits_between(NARROW_DIGITS, NARROW_DIGITS, word),
         (false, true) => digits_between(FEWEST_DIGITS, DIGITS, &word[2..]),
-        (false, false) => digits_between(DIGITS, DIGITS, word),
+        (false, false) => sixteen_digits(word),
     }
+}
+
+/// The number that just 16 hexadecimal digits write.
+pub(crate) fn sixteen_digits(text: &[u8]) -> Option<u64>
+    ensures { result ≡ sixteen_digits text.now }
+{
+    digits_between(DIGITS, DIGITS, text)
 }
 
 /// Whether the word begins with `0x` or `0X`.
